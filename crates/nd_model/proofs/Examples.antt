@@ -1,0 +1,39 @@
+-- Notebooks that compute.
+use Rattle.std.proofs.Common.{◌≡◌, ℕ, List, [], ◌∷◌, Option, Some, None, Ok, Err, refl, map, codes}
+use Rattle.nd_model.specs.Session.{Session, no_session}
+use Rattle.nd_model.specs.Fault.{ParseFault, BadToken, Refusal, Parse, Statement, OutOfBounds, NoName}
+use Rattle.nd_model.specs.Fault as fault
+use Rattle.nd_model.specs.Syntax.{Name, Integer, Negative, Arange, Item, Stmt, Bind, Assign, Delete, Print, Line, Parsed}
+use Rattle.nd_model.specs.Cell.{Ended, notebook}
+use Rattle.std.specs.Prelude.{pos}
+use Rattle.std.specs.Fmt.{digits}
+
+x : List ℕ
+x = 120 ∷ []
+
+y : List ℕ
+y = 121 ∷ []
+
+at : ℕ → Stmt → Line
+at n s = record { line = n; stmt = s }
+
+program : List (ℕ × Parsed)
+program = (7, Ok (at 1 (Bind x (Arange (Integer 4))) ∷ at 2 (Bind y (Name x)) ∷ []))
+    ∷ (8, Ok (at 1 (Assign (Name y) (Integer 0) (Integer 9)) ∷ at 2 (Print (Name x ∷ [])) ∷ []))
+    ∷ (9, Ok (at 2 (Print (Item (Name x) (Negative (Integer 1)) ∷ Integer 5 ∷ [])) ∷ at 4 (Assign (Name x) (Integer 4) (Integer 1)) ∷ at 5 (Delete x) ∷ []))
+    ∷ (10, Err (record { kind = BadToken; line = 3; column = 6 }))
+    ∷ (11, Ok (at 1 (Delete x) ∷ at 2 (Print (Name y ∷ [])) ∷ at 3 (Print (Name x ∷ [])) ∷ []))
+    ∷ []
+
+texts : List (Option (ℕ × Refusal) × List ℕ)
+texts = map (λ (e : Ended × Session). (e.0.refusal, e.0.text)) (notebook program (λ n. None) no_session)
+
+as_wanted : texts
+    ≡ (None, [])
+    ∷ (None, codes "[9 1 2 3]\n")
+    ∷ (Some (4, Statement (fault.Index (OutOfBounds 0 (pos 4) 4))), codes "3 5\n")
+    ∷ (Some (3, Parse BadToken 6), [])
+    ∷ (Some (3, Statement (fault.Stmt (NoName x))), codes "[9 1 2 3]\n")
+    ∷ []
+unfolding texts program at x y digits
+as_wanted = refl

@@ -1,0 +1,17 @@
+pub mod Values
+pub mod Lists
+pub mod Twins
+pub mod Frames
+pub mod Held
+pub mod Tracks
+pub mod Keeping
+pub mod Passing
+pub mod Renamed
+pub mod Labels
+pub mod Steps
+pub mod Bounds
+pub mod Examples
+pub mod Fresh
+pub mod EditLabels
+pub mod Parsing
+pub mod Books

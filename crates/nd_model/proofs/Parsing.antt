@@ -1,0 +1,14 @@
+pub mod Sets
+pub mod Laws
+pub mod Exact
+pub mod Whole
+pub mod Loops
+pub mod Answers
+pub mod Below
+pub mod Unique
+pub mod Looks
+pub mod Words
+pub mod Targets
+pub mod Alike
+pub mod Texts
+pub mod Examples

@@ -1,0 +1,49 @@
+-- Refusals by their groups, each with its arguments.
+use Rattle.std.specs.Prelude.{ℕ, ℤ, List}
+
+pub data ViewFault : Type 0 where
+  TooManyElements : ViewFault
+
+pub data IndexFault : Type 0 where
+  OutOfBounds : (axis : ℕ) → (index : ℤ) → (size : ℕ) → IndexFault
+  TooManyIndices : IndexFault
+  NotAnIndex : IndexFault
+
+pub data UfuncFault : Type 0 where
+  IntOutOfRange : ℤ → UfuncFault
+  ShapeMismatch : UfuncFault
+  ReadOnly : UfuncFault
+  NotNumbers : UfuncFault
+
+pub data StmtFault : Type 0 where
+  NoName : List ℕ → StmtFault
+  IntTooBig : StmtFault
+  NotAnArray : StmtFault
+  TextTooLong : StmtFault
+  BadArgument : StmtFault
+
+-- why a statement is refused
+pub data Fault : Type 0 where
+  View : ViewFault → Fault
+  Index : IndexFault → Fault
+  Ufunc : UfuncFault → Fault
+  Stmt : StmtFault → Fault
+
+pub data ParseKind : Type 0 where
+  BadToken : ParseKind
+  Unexpected : ParseKind
+  TooDeep : ParseKind
+  TooManyStatements : ParseKind
+  UnknownCall : ParseKind
+  LeftOut : ParseKind
+
+-- why a text is no cell, with the line and the column in bytes, both from 1
+pub record ParseFault : Type 0 where
+  pub kind : ParseKind
+  pub line : ℕ
+  pub column : ℕ
+
+-- why a cell is refused
+pub data Refusal : Type 0 where
+  Parse : ParseKind → (column : ℕ) → Refusal
+  Statement : Fault → Refusal

@@ -1,0 +1,392 @@
+-- Scripts: their lines, their commands, and what is answered.
+use Rattle.std.specs.Prelude.{◌≡◌, ℕ, ◌+◌, ◌-◌, ◌/◌, ◌%◌, ◌^◌, ◌==◌, ◌⊎◌, Bool, true, false, ◌&&◌, IsTrue, nat_lt, bytes_eq, is_none, if◌then◌else◌, List, [], ◌∷◌, ◌++◌, length, map, slice_index, codes, decimal, Option, Some, None, Result, Ok, Err}
+use Rattle.std.specs.Fmt.{signed_decimal}
+use Rattle.std.specs.Str.{is_utf8}
+use Rattle.std.specs.Str.Parse.{digits_value}
+use Rattle.std.specs.List.{slice_split, join_with_byte, flat_map}
+use Rattle.nd_model.specs.Element.{Kind, Boolean, Int8, Int16, Int32, Int64, UInt8, UInt16, UInt32, UInt64, Element, size_of}
+use Rattle.nd_model.specs.View.{Field, ElementType, One, Structure, item_size}
+use Rattle.nd_model.specs.Text.{truth_text, joined}
+use Rattle.nd_model.specs.Cell.{Saved}
+use Rattle.nd_model.specs.Fault.{ViewFault, TooManyElements, IndexFault, OutOfBounds, TooManyIndices, NotAnIndex, UfuncFault, IntOutOfRange, ShapeMismatch, ReadOnly, NotNumbers, StmtFault, NoName, IntTooBig, NotAnArray, TextTooLong, BadArgument, Fault, View, Index, Ufunc, Stmt, ParseKind, BadToken, Unexpected, TooDeep, TooManyStatements, UnknownCall, LeftOut, Refusal, Parse, Statement}
+use Rattle.nd_model.specs.Renaming.{Shown, ShownInt, ShownTruth, ShownScalar, ShownArray, ShownRow}
+use Rattle.nd_model.specs.Book as book
+use Rattle.nd_model.specs.Book.{Book, count_of, Edit, Insert, Change, Move, Remove, EditFault, TooManyCells, CellTooLong, refusal, after_edit, QueryFault, CellResult, source_at, result_at, names_at, value_at}
+
+-- ---- lines and words
+
+-- what stands behind the last newline is a line only where it is not empty
+abbrev pub last_line : List ℕ → List (List ℕ)
+last_line [] = []
+last_line (c ∷ cs) = (c ∷ cs) ∷ []
+
+abbrev pub without_empty_end : List (List ℕ) → List (List ℕ)
+without_empty_end [] = []
+without_empty_end (l ∷ []) = last_line l
+without_empty_end (l ∷ m ∷ ls) = l ∷ without_empty_end (m ∷ ls)
+
+-- the lines of a script: each ends with a newline, which the last may lack
+abbrev pub lines_of : List ℕ → List (List ℕ)
+lines_of script = without_empty_end (slice_split (λ c. c == 10) script)
+
+-- the words of a line: between two stands a single space, so that two spaces have an empty word between them
+abbrev pub words_of : List ℕ → List (List ℕ)
+words_of line = slice_split (λ c. c == 32) line
+
+-- A number is the decimal text of a number below 2^64.
+abbrev pub number_word : List ℕ → Option ℕ
+number_word word = let n = digits_value 10 word in if nat_lt n (2 ^ 64) && bytes_eq word (decimal n) then Some n else None
+
+-- ---- commands
+
+pub data Command : Type 0 where
+  Edits : Edit → Command
+  Shows : (at : ℕ) → Command
+  ShowsSource : (at : ℕ) → Command
+  ShowsNames : (at : ℕ) → Command
+  ShowsValue : (at : ℕ) → (name : List ℕ) → Command
+  Counts : Command
+  -- an empty line, or a comment
+  Silent : Command
+  Bad : Command
+
+-- an edit whose source stands in the lines that follow
+pub data Opening : Type 0 where
+  Inserting : (at : ℕ) → Opening
+  Changing : (at : ℕ) → Opening
+
+-- a line by itself: a whole command, or the opening of one
+pub data Line : Type 0 where
+  Whole : Command → Line
+  Opens : Opening → Line
+
+-- a word that is no number makes its line bad
+abbrev pub with_number : Option ℕ → (ℕ → Line) → Line
+with_number None line = Whole Bad
+with_number (Some n) line = line n
+
+-- a command of a word and a place
+abbrev pub placed_line : List ℕ → ℕ → Line
+placed_line word at =
+    if bytes_eq word (codes "insert") then Opens (Inserting at)
+    else if bytes_eq word (codes "edit") then Opens (Changing at)
+    else if bytes_eq word (codes "remove") then Whole (Edits (Remove at))
+    else if bytes_eq word (codes "show") then Whole (Shows at)
+    else if bytes_eq word (codes "source") then Whole (ShowsSource at)
+    else if bytes_eq word (codes "names") then Whole (ShowsNames at)
+    else Whole Bad
+
+abbrev pub move_line : ℕ → ℕ → Line
+move_line from to = Whole (Edits (Move from to))
+
+-- a name is any word but the empty one
+abbrev pub value_line : List ℕ → ℕ → Line
+value_line [] at = Whole Bad
+value_line (c ∷ cs) at = Whole (ShowsValue at (c ∷ cs))
+
+abbrev pub line_of_words : List (List ℕ) → Line
+line_of_words [] = Whole Bad
+line_of_words (word ∷ []) = if bytes_eq word (codes "count") then Whole Counts else Whole Bad
+line_of_words (word ∷ a ∷ []) = with_number (number_word a) (placed_line word)
+line_of_words (word ∷ a ∷ b ∷ []) =
+    if bytes_eq word (codes "move") then with_number (number_word a) (λ from. with_number (number_word b) (move_line from))
+    else if bytes_eq word (codes "value") then with_number (number_word a) (value_line b)
+    else Whole Bad
+line_of_words (word ∷ a ∷ b ∷ c ∷ more) = Whole Bad
+
+-- WHAT A LINE SAYS, outside a source. Behind a `#` (35) it is not looked at.
+abbrev pub read_line : List ℕ → Line
+read_line [] = Whole Silent
+read_line (c ∷ cs) =
+    if c == 35 then Whole Silent
+    else if is_utf8 (c ∷ cs) then line_of_words (words_of (c ∷ cs))
+    else Whole Bad
+
+-- the edit of an opening with its source
+abbrev pub with_source : Opening → List ℕ → Edit
+with_source (Inserting at) source = Insert at source
+with_source (Changing at) source = Change at source
+
+-- A source is its lines with a newline between two of them.
+abbrev pub source_of : List (List ℕ) → List ℕ
+source_of ls = join_with_byte 10 ls
+
+-- the command of an opening and the lines of its source
+abbrev pub closed : Opening → List (List ℕ) → Command
+closed o ls = if is_utf8 (source_of ls) then Edits (with_source o (source_of ls)) else Bad
+
+-- where a script stands: between two commands, or behind an opening and some lines of its source
+pub data Stage : Type 0 where
+  Between : Stage
+  Within : Opening → (before : List (List ℕ)) → Stage
+
+-- the line that ends a source
+abbrev pub is_dot : List ℕ → Bool
+is_dot l = bytes_eq l (codes ".")
+
+-- the commands that a line completes, and where the script stands behind it
+abbrev pub step_of_line : Line → List Command × Stage
+step_of_line (Whole c) = (c ∷ [], Between)
+step_of_line (Opens o) = ([], Within o [])
+
+abbrev pub step : Stage → List ℕ → List Command × Stage
+step Between l = step_of_line (read_line l)
+step (Within o before) l = if is_dot l then (closed o before ∷ [], Between) else ([], Within o (before ++ l ∷ []))
+
+-- a source without its end is no command
+abbrev pub left_open : Stage → List Command
+left_open Between = []
+left_open (Within o before) = Bad ∷ []
+
+-- the commands of the lines from here on
+abbrev pub commands_from : Stage → List (List ℕ) → List Command
+commands_from s [] = left_open s
+commands_from s (l ∷ ls) = (step s l).0 ++ commands_from (step s l).1 ls
+
+-- THE COMMANDS OF A SCRIPT
+abbrev pub commands : List ℕ → List Command
+commands script = commands_from Between (lines_of script)
+
+-- ---- texts of faults
+
+abbrev pub view_text : ViewFault → List ℕ
+view_text TooManyElements = codes "TooManyElements"
+
+abbrev pub index_text : IndexFault → List ℕ
+index_text (OutOfBounds axis index size) = codes "OutOfBounds " ++ decimal axis ++ codes " " ++ signed_decimal index ++ codes " " ++ decimal size
+index_text TooManyIndices = codes "TooManyIndices"
+index_text NotAnIndex = codes "NotAnIndex"
+
+abbrev pub ufunc_text : UfuncFault → List ℕ
+ufunc_text (IntOutOfRange number) = codes "IntOutOfRange " ++ signed_decimal number
+ufunc_text ShapeMismatch = codes "ShapeMismatch"
+ufunc_text ReadOnly = codes "ReadOnly"
+ufunc_text NotNumbers = codes "NotNumbers"
+
+abbrev pub stmt_text : StmtFault → List ℕ
+stmt_text (NoName name) = codes "NoName " ++ name
+stmt_text IntTooBig = codes "IntTooBig"
+stmt_text NotAnArray = codes "NotAnArray"
+stmt_text TextTooLong = codes "TextTooLong"
+stmt_text BadArgument = codes "BadArgument"
+
+abbrev pub fault_text : Fault → List ℕ
+fault_text (View f) = codes "View." ++ view_text f
+fault_text (Index f) = codes "Index." ++ index_text f
+fault_text (Ufunc f) = codes "Ufunc." ++ ufunc_text f
+fault_text (Stmt f) = codes "Stmt." ++ stmt_text f
+
+abbrev pub parse_text : ParseKind → List ℕ
+parse_text BadToken = codes "BadToken"
+parse_text Unexpected = codes "Unexpected"
+parse_text TooDeep = codes "TooDeep"
+parse_text TooManyStatements = codes "TooManyStatements"
+parse_text UnknownCall = codes "UnknownCall"
+parse_text LeftOut = codes "LeftOut"
+
+abbrev pub refusal_text : Refusal → List ℕ
+refusal_text (Parse kind column) = codes "Parse." ++ parse_text kind ++ codes " " ++ decimal column
+refusal_text (Statement f) = fault_text f
+
+abbrev pub edit_fault_text : EditFault → List ℕ
+edit_fault_text (book.NoCell at count) = codes "NoCell " ++ decimal at ++ codes " " ++ decimal count
+edit_fault_text TooManyCells = codes "TooManyCells"
+edit_fault_text CellTooLong = codes "CellTooLong"
+edit_fault_text book.OutOfMemory = codes "OutOfMemory"
+
+abbrev pub query_fault_text : QueryFault → List ℕ
+query_fault_text (book.NoCell at count) = codes "NoCell " ++ decimal at ++ codes " " ++ decimal count
+query_fault_text (book.NoName name) = codes "NoName " ++ name
+query_fault_text book.OutOfMemory = codes "OutOfMemory"
+
+-- ---- texts of values
+
+abbrev pub kind_text : Kind → List ℕ
+kind_text Boolean = codes "bool"
+kind_text Int8 = codes "int8"
+kind_text Int16 = codes "int16"
+kind_text Int32 = codes "int32"
+kind_text Int64 = codes "int64"
+kind_text UInt8 = codes "uint8"
+kind_text UInt16 = codes "uint16"
+kind_text UInt32 = codes "uint32"
+kind_text UInt64 = codes "uint64"
+
+-- the code of a kind in a format string (PEP 3118)
+abbrev pub kind_code : Kind → List ℕ
+kind_code Boolean = codes "?"
+kind_code Int8 = codes "b"
+kind_code Int16 = codes "h"
+kind_code Int32 = codes "i"
+kind_code Int64 = codes "q"
+kind_code UInt8 = codes "B"
+kind_code UInt16 = codes "H"
+kind_code UInt32 = codes "I"
+kind_code UInt64 = codes "Q"
+
+abbrev pub order_text : Bool → List ℕ
+order_text true = codes ">"
+order_text false = codes "<"
+
+-- a code of one byte stands alone, each larger one behind its order
+abbrev pub element_format : Element → List ℕ
+element_format e = if size_of e.kind == 1 then kind_code e.kind else order_text e.big ++ kind_code e.kind
+
+-- so many bytes without meaning
+abbrev pub pad_format : ℕ → List ℕ
+pad_format n = if n == 0 then [] else if n == 1 then codes "x" else decimal n ++ codes "x"
+
+-- the fields from a place of the structure on, and the bytes behind the last one
+abbrev pub fields_format : (place size : ℕ) → List Field → List ℕ
+fields_format place size [] = pad_format (size - place)
+fields_format place size (f ∷ fs) =
+    pad_format (f.at - place) ++ element_format f.element ++ codes ":" ++ f.name ++ codes ":" ++ fields_format (f.at + size_of f.element.kind) size fs
+
+-- the format string of an element type (PEP 3118)
+abbrev pub format_text : ElementType → List ℕ
+format_text (One e) = element_format e
+format_text (Structure fields size) = codes "T{" ++ fields_format 0 size fields ++ codes "}"
+
+abbrev pub hex_digit : ℕ → ℕ
+hex_digit n = slice_index (codes "0123456789abcdef") n
+
+abbrev pub hex_digits : List ℕ → List ℕ
+hex_digits [] = []
+hex_digits (b ∷ bs) = hex_digit (b / 16) ∷ hex_digit (b % 16) ∷ hex_digits bs
+
+-- no bytes are a dash
+abbrev pub hex_text : List ℕ → List ℕ
+hex_text [] = codes "-"
+hex_text (b ∷ bs) = hex_digits (b ∷ bs)
+
+abbrev pub shape_text : List ℕ → List ℕ
+shape_text [] = codes "()"
+shape_text (n ∷ ns) = joined (codes ",") (map decimal (n ∷ ns))
+
+abbrev pub shown_text : Shown → List ℕ
+shown_text (ShownInt z) = codes "int " ++ signed_decimal z
+shown_text (ShownTruth t) = codes "bool " ++ truth_text t
+shown_text (ShownScalar k z) = codes "scalar " ++ kind_text k ++ codes " " ++ signed_decimal z
+shown_text (ShownArray t shape bytes) = codes "array " ++ format_text t ++ codes " " ++ decimal (item_size t) ++ codes " " ++ shape_text shape ++ codes " " ++ hex_text bytes
+shown_text (ShownRow t bytes) = codes "row " ++ format_text t ++ codes " " ++ decimal (item_size t) ++ codes " " ++ hex_text bytes
+
+-- ---- answers
+
+abbrev pub refused_line : List ℕ → List ℕ
+refused_line fault = codes "refused " ++ fault ++ codes "\n"
+
+abbrev pub ok_or_refused : Option (ℕ × Refusal) → List ℕ
+ok_or_refused None = codes "ok\n"
+ok_or_refused (Some r) = refused_line (decimal r.0 ++ codes " " ++ refusal_text r.1)
+
+abbrev pub save_lines : Saved → List ℕ
+save_lines saves = flat_map (λ (f : List ℕ × List ℕ). codes "save " ++ f.0 ++ codes " " ++ decimal (length f.1) ++ codes "\n") saves
+
+abbrev pub result_answer : CellResult → List ℕ
+result_answer r = codes "text " ++ decimal (length r.text) ++ codes "\n" ++ r.text ++ ok_or_refused r.refusal ++ save_lines r.saves ++ codes "end\n"
+
+abbrev pub source_answer : List ℕ → List ℕ
+source_answer source = codes "source " ++ decimal (length source) ++ codes "\n" ++ source ++ codes "\n"
+
+abbrev pub name_lines : List (List ℕ) → List ℕ
+name_lines names = flat_map (λ n. n ++ codes "\n") names
+
+abbrev pub names_answer : List (List ℕ) → List ℕ
+names_answer names = codes "names " ++ decimal (length names) ++ codes "\n" ++ name_lines names
+
+abbrev pub value_answer : Shown → List ℕ
+value_answer v = shown_text v ++ codes "\n"
+
+abbrev pub count_answer : ℕ → List ℕ
+count_answer n = codes "count " ++ decimal n ++ codes "\n"
+
+abbrev pub edit_answer : Option EditFault → List ℕ
+edit_answer None = codes "ok\n"
+edit_answer (Some f) = refused_line (edit_fault_text f)
+
+abbrev pub query_answer : {X : Type 0} → (X → List ℕ) → Result X QueryFault → List ℕ
+query_answer text (Ok x) = text x
+query_answer text (Err f) = refused_line (query_fault_text f)
+
+-- the bytes that answer a command, memory aside
+abbrev pub answer : Command → Book → List ℕ
+answer (Edits e) b = edit_answer (refusal e b)
+answer (Shows at) b = query_answer result_answer (result_at b at)
+answer (ShowsSource at) b = query_answer source_answer (source_at b at)
+answer (ShowsNames at) b = query_answer names_answer (names_at b at)
+answer (ShowsValue at name) b = query_answer value_answer (value_at b at name)
+answer Counts b = count_answer (count_of b)
+answer Silent b = []
+answer Bad b = codes "bad command\n"
+
+-- the notebook after a command, memory aside
+abbrev pub after_command : Command → Book → Book
+after_command (Edits e) b = after_edit e b
+after_command (Shows at) b = b
+after_command (ShowsSource at) b = b
+after_command (ShowsNames at) b = b
+after_command (ShowsValue at name) b = b
+after_command Counts b = b
+after_command Silent b = b
+after_command Bad b = b
+
+abbrev pub succeeds : {X : Type 0} → Result X QueryFault → Bool
+succeeds (Ok x) = true
+succeeds (Err f) = false
+
+-- Memory may be wanted where an edit would be answered `ok`, and where names or a value would be shown.
+abbrev pub may_want_memory : Command → Book → Bool
+may_want_memory (Edits e) b = is_none (refusal e b)
+may_want_memory (Shows at) b = false
+may_want_memory (ShowsSource at) b = false
+may_want_memory (ShowsNames at) b = succeeds (names_at b at)
+may_want_memory (ShowsValue at name) b = succeeds (value_at b at name)
+may_want_memory Counts b = false
+may_want_memory Silent b = false
+may_want_memory Bad b = false
+
+-- WHAT A COMMAND MAY ANSWER, and the notebook after it: where memory is wanted, nothing changes
+abbrev pub Answer : Command → Book → List ℕ → Book → Type 0
+Answer c b text next =
+    ((text ≡ answer c b) × (next ≡ after_command c b))
+    ⊎ (IsTrue (may_want_memory c b) × (text ≡ refused_line (codes "OutOfMemory")) × (next ≡ b))
+
+-- WHAT COMMANDS MAY ANSWER, one after the other, and the notebook after them
+abbrev pub Answers : List Command → Book → List ℕ → Book → Type 0
+Answers [] b text last = (text ≡ []) × (last ≡ b)
+Answers (c ∷ cs) b text last =
+    (first : List ℕ) × (rest : List ℕ) × (next : Book) × (text ≡ first ++ rest) × Answer c b first next × Answers cs next rest last
+
+-- ---- running a script
+
+-- xs begins with the front
+abbrev pub IsFront : {X : Type 0} → List X → List X → Type 0
+IsFront {X} front xs = (rest : List X) × (xs ≡ front ++ rest)
+
+-- the same, but that the last answer may be cut off
+abbrev pub CutAnswers : List Command → Book → List ℕ → Book → Type 0
+CutAnswers [] b text last = (text ≡ []) × (last ≡ b)
+CutAnswers (c ∷ []) b text last = (whole : List ℕ) × IsFront text whole × Answer c b whole last
+CutAnswers (c ∷ d ∷ cs) b text last =
+    (first : List ℕ) × (rest : List ℕ) × (next : Book) × (text ≡ first ++ rest) × Answer c b first next × CutAnswers (d ∷ cs) next rest last
+
+-- a script of which these bytes were given: all of it where it had come to its end
+abbrev pub MayBeScript : (ended : Bool) → (given script : List ℕ) → Type 0
+MayBeScript true given script = script ≡ given
+MayBeScript false given script = IsFront given script
+
+-- whatever else such a script has, these are its first commands
+abbrev pub AreFirst : List Command → (ended : Bool) → (given : List ℕ) → Type 0
+AreFirst executed ended given = (script : List ℕ) → MayBeScript ended given script → IsFront executed (commands script)
+
+-- A RUN TO THE END of a script: what was written is the answers to all of it
+abbrev pub RunsWhole : (script : List ℕ) → Book → (written : List ℕ) → Book → Type 0
+RunsWhole script b written last = Answers (commands script) b written last
+
+-- A RUN THAT STOPPED after some commands, all of them answered
+abbrev pub RunsFront : (ended : Bool) → (given : List ℕ) → Book → (written : List ℕ) → Book → Type 0
+RunsFront ended given b written last = (executed : List Command) × AreFirst executed ended given × Answers executed b written last
+
+-- A RUN THAT STOPPED in the answer to the last of some commands
+abbrev pub RunsCut : (ended : Bool) → (given : List ℕ) → Book → (written : List ℕ) → Book → Type 0
+RunsCut ended given b written last = (executed : List Command) × AreFirst executed ended given × CutAnswers executed b written last

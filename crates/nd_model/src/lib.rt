@@ -1,0 +1,61 @@
+//! What a notebook means, and the laws of it.
+#![tactic(auto)]
+
+ghost use Rattle.nd_model.specs.Book.{LabelsStayDistinct, AnyLabels as AnyBookLabels};
+ghost use Rattle.nd_model.specs.Element.{RoundTrip};
+ghost use Rattle.nd_model.specs.Footprint.{Frame, EffectsAreAll, Replay};
+ghost use Rattle.nd_model.specs.Records.{Kept};
+ghost use Rattle.nd_model.specs.Renaming.{Rename, AnyLabels};
+ghost use Rattle.nd_model.specs.Scheduler.{AnyPass};
+
+pub mod grammar;
+
+/// A value of an element's kind is read back from its bytes.
+pub fn round_trip()
+    ensures { RoundTrip }
+{}
+
+/// Sessions and inputs that agree on what a cell reads in the first give it the same reads and effects.
+pub fn frame()
+    ensures { Frame }
+{}
+
+/// The session after a cell is the one before it with the cell's effects.
+pub fn effects_are_all()
+    ensures { EffectsAreAll }
+{}
+
+/// The effects of a run over one session give the session after a run over another that agrees on what it read.
+pub fn replay()
+    ensures { Replay }
+{}
+
+/// A record that still holds is the record of the run that it stands for.
+pub fn kept()
+    ensures { Kept }
+{}
+
+/// Whichever cells a pass runs, while the records of the others still hold, it gives what running all cells gives.
+pub fn any_pass()
+    ensures { AnyPass }
+{}
+
+/// Nothing that is told of a notebook depends on the labels of its cells.
+pub fn rename()
+    ensures { Rename }
+{}
+
+/// Two labellings that tell the cells apart give the same, whatever the labels are.
+pub fn any_labels()
+    ensures { AnyLabels }
+{}
+
+/// Nothing that a book of cells tells depends on their labels, as long as these are distinct.
+pub fn any_book_labels()
+    ensures { AnyBookLabels }
+{}
+
+/// The labels of a book's cells stay distinct, edit after edit.
+pub fn labels_stay_distinct()
+    ensures { LabelsStayDistinct }
+{}

@@ -129,15 +129,24 @@ moved cs from to d lt =
     inserted (remove cs from) to (slice_index_or cs from no_cell) (removed cs from d)
     (rw (label-at cs from, labels-remove cs from) (taken-out (labels_of cs) from d (rw (length-labels cs) lt)))
 
+pub insert_distinct : (cs : List Cell) (at : ℕ) (source : List ℕ) → AreDistinct (labels_of cs) → AreDistinct (labels_of (edited_cells (Insert at source) cs))
+insert_distinct cs at source d = inserted cs at _ d (sym (is_label-labels (fresh_label cs) cs) ∙ fresh cs)
+
+pub change_distinct : (cs : List Cell) (at : ℕ) (source : List ℕ) → AreDistinct (labels_of cs) → AreDistinct (labels_of (edited_cells (Change at source) cs))
+change_distinct cs at source d = of_equal _ _ (labels-set cs at source) d
+
+pub move_distinct : (cs : List Cell) (from to : ℕ) → AreDistinct (labels_of cs) → from < length cs → AreDistinct (labels_of (edited_cells (Move from to) cs))
+move_distinct cs from to d lt = moved cs from to d lt
+
+pub remove_distinct : (cs : List Cell) (at : ℕ) → AreDistinct (labels_of cs) → AreDistinct (labels_of (edited_cells (Remove at) cs))
+remove_distinct cs at d = removed cs at d
+
 pub labels_stay_distinct : LabelsStayDistinct
-labels_stay_distinct (Insert at source) b d =
-    unless (refusal (Insert at source) b) (edited (Insert at source) b) b
-    (inserted b.cells at _ d (sym (is_label-labels (fresh_label b.cells) b.cells) ∙ fresh b.cells)) d
-labels_stay_distinct (Change at source) b d =
-    unless (refusal (Change at source) b) (edited (Change at source) b) b (of_equal _ _ (labels-set b.cells at source) d) d
-labels_stay_distinct (Remove at) b d = unless (refusal (Remove at) b) (edited (Remove at) b) b (removed b.cells at d) d
+labels_stay_distinct (Insert at source) b d = unless (refusal (Insert at source) b) (edited (Insert at source) b) b (insert_distinct b.cells at source d) d
+labels_stay_distinct (Change at source) b d = unless (refusal (Change at source) b) (edited (Change at source) b) b (change_distinct b.cells at source d) d
+labels_stay_distinct (Remove at) b d = unless (refusal (Remove at) b) (edited (Remove at) b) b (remove_distinct b.cells at d) d
 labels_stay_distinct (Move from to) b d = elim (cases_Bool (ltb from (count_of b))) [
-  | inl lt ↦ unless (refusal (Move from to) b) (edited (Move from to) b) b (moved b.cells from to d (let below : from < length b.cells = grind (arith, nat_tests) in below)) d
+  | inl lt ↦ unless (refusal (Move from to) b) (edited (Move from to) b) b (move_distinct b.cells from to d (let below : from < length b.cells = grind (arith, nat_tests) in below)) d
   | inr past ↦ rw past d
 ]
 

@@ -15,3 +15,6 @@ pub mod Fresh
 pub mod EditLabels
 pub mod Parsing
 pub mod Books
+mod LexingExamples
+pub mod TokenLaws
+pub mod FewTokens

@@ -11,4 +11,5 @@ pub mod Words
 pub mod Targets
 pub mod Alike
 pub mod Texts
+pub mod Ends
 pub mod Examples

@@ -1,6 +1,6 @@
 -- The tokens of a cell's text, which is the list of its bytes: names and keywords as in Python 3.7, integers, texts in quotes,
 -- symbols, and the ends of statements.
-use Rattle.std.specs.Prelude.{ℕ, zero, suc, ◌+◌, ◌-◌, ◌^◌, ◌==◌, Bool, false, ◌&&◌, ◌||◌, not, nat_le, nat_eq, bytes_eq, if◌then◌else◌, List, [], ◌∷◌, ◌++◌, take, drop, length, slice_index, codes, Option, Some, None, Result, Ok, Err}
+use Rattle.std.specs.Prelude.{◌≡◌, ℕ, zero, suc, ◌+◌, ◌-◌, ◌^◌, ◌≤◌, ◌==◌, Bool, true, false, ◌&&◌, ◌||◌, not, nat_le, nat_eq, bytes_eq, if◌then◌else◌, List, [], ◌∷◌, ◌++◌, take, drop, length, slice_index, codes, Option, Some, None, Result, Ok, Err, IfOk}
 use Rattle.std.specs.Char.{is_ascii_alphabetic, is_ascii_digit}
 use Rattle.std.specs.List.{list_any, prefix_len, starts_with}
 use Rattle.std.specs.Option.{is_some, option_map}
@@ -234,3 +234,28 @@ tokens_from zero (b ∷ bs) s = reads (piece_at (b ∷ bs)) s (λ n. tokens_from
 -- THE TOKENS OF A TEXT, or the first place that is no token
 unfoldable pub tokens : List ℕ → Result (List Token) ParseFault
 tokens text = tokens_from 0 text at_first
+
+-- ---- laws
+
+abbrev pub is_end : Word → Bool
+is_end End = true
+is_end w = false
+
+-- how many tokens are more than the end of a statement
+abbrev pub words_in : List Token → ℕ
+words_in [] = 0
+words_in (t ∷ ts) = if is_end t.word then words_in ts else suc (words_in ts)
+
+-- a text has at most as many words as bytes
+abbrev pub FewWords : Type 0
+FewWords = (text : List ℕ) → IfOk (tokens text) (λ ts. words_in ts ≤ length text)
+
+-- The tokens are whole statements, each with its end: `begins` says whether one begins here, and only the first token of a
+-- statement starts it.
+abbrev pub AreStatements : (begins : Bool) → List Token → Type 0
+AreStatements begins [] = begins ≡ true
+AreStatements begins (t ∷ ts) = (t.starts ≡ begins) × AreStatements (is_end t.word) ts
+
+-- the tokens of a text are whole statements
+abbrev pub WholeStatements : Type 0
+WholeStatements = (text : List ℕ) → IfOk (tokens text) (AreStatements true)

@@ -17,6 +17,7 @@ pub mod Cells
 pub mod Factored
 pub mod Lexing
 pub mod Reading
+pub mod Few
 pub mod Meaning
 pub mod Cell
 pub mod Footprint

@@ -1,8 +1,16 @@
-//! The laws of the grammar of cells: what `reading` computes is what the grammar says, and it says one thing of each text.
-ghost use Rattle.std.specs.Prelude.{◌≡◌, ◌↔◌, ℕ, List, Ok, Err};
+//! The laws of the grammar of cells: what `reading` computes is what the grammar says, and it says one thing of each text. The
+//! laws of a text's tokens, and how many tokens its statements have.
+ghost use Rattle.std.specs.Prelude.{◌≡◌, ◌↔◌, ◌-◌, ℕ, true, List, length, slice_get, IsSome, Ok, Err};
+ghost use Rattle.nd_model.specs.Token.{Token};
+ghost use Rattle.nd_model.specs.Grammar.{Stop};
+ghost use Rattle.nd_model.specs.Faults.{HasFault};
+ghost use Rattle.nd_model.specs.Kinds.{kind};
+ghost use Rattle.nd_model.specs.Cells.{cell};
 ghost use Rattle.nd_model.specs.Syntax.{Line};
 ghost use Rattle.nd_model.specs.Fault.{ParseFault};
 ghost use Rattle.nd_model.specs.Reading.{reading, IsCell, HasCellFault};
+ghost use Rattle.nd_model.specs.Lexing.{AreStatements, FewWords, WholeStatements};
+ghost use Rattle.nd_model.specs.Few.{FewTokens};
 
 /// No text is a cell in two ways.
 pub fn one_meaning()
@@ -18,4 +26,25 @@ pub fn one_fault()
 pub fn reading_is_exact()
     ensures statements { (text : List ℕ) (ls : List Line) → (reading text ≡ Ok ls) ↔ IsCell text ls }
     ensures fault { (text : List ℕ) (f : ParseFault) → (reading text ≡ Err f) ↔ HasCellFault text f }
+{}
+
+/// Whole statements have their fault at one of their tokens: at the end of a statement, where nothing else is left.
+pub fn faults_are_at_tokens()
+    ensures { (ts : List Token) (s : Stop) → AreStatements true ts → HasFault kind cell ts s → IsSome (slice_get ts (length ts - s.left)) }
+{}
+
+/// A text has at most as many words as bytes. The ends of statements are not counted.
+pub fn few_words()
+    ensures { FewWords }
+{}
+
+/// The tokens of a text are whole statements: the last token, if there is one, is an end, and a token starts a statement
+/// where it is the first or stands directly behind an end, and nowhere else.
+pub fn whole_statements()
+    ensures { WholeStatements }
+{}
+
+/// The statements of a text have together at most as many tokens as the text has bytes.
+pub fn few_tokens()
+    ensures { FewTokens }
 {}

@@ -13,7 +13,7 @@ by_test P false m n p q = q
 by_name : (P : ℕ → Type 0) (n : List ℕ) → P 0 → P 3 → P 6 → P (kind_of_name n)
 by_name P n p0 p3 p6 = by_test P (bytes_eq n (codes "numpy")) 3 _ p3 (by_test P (bytes_eq n (codes "arange")) 6 0 p6 p0)
 
-by_keyword : (P : ℕ → Type 0) (k : List ℕ) → P 21 → P 22 → P 23 → P 62 → P (kind_of_keyword k)
+pub by_keyword : (P : ℕ → Type 0) (k : List ℕ) → P 21 → P 22 → P 23 → P 62 → P (kind_of_keyword k)
 by_keyword P k p21 p22 p23 p62 =
     by_test P (bytes_eq k (codes "import")) 21 _ p21 (by_test P (bytes_eq k (codes "as")) 22 _ p22 (by_test P (bytes_eq k (codes "del")) 23 62 p23 p62))
 
@@ -26,11 +26,11 @@ by_before P (t ∷ rest) p0 p1 p2 = go t.word
     go OpenParen = p2
     go _ = p0
 
-by_place : (P : ℕ → Type 0) (t : Token) (rest : List Token) → P 63 → P (kind_of_word t.word rest) → P (kind_of t rest)
+pub by_place : (P : ℕ → Type 0) (t : Token) (rest : List Token) → P 63 → P (kind_of_word t.word rest) → P (kind_of t rest)
 by_place P t rest p q = by_test P (t.starts && not (t.column == 1)) 63 _ p q
 
 -- a name has none of these kinds
-no_name : (set : ℕ) (n : List ℕ) (rest : List Token) → has set 0 ≡ false → has set 1 ≡ false → has set 2 ≡ false → has set 3 ≡ false → has set 4 ≡ false → has set 5 ≡ false → has set 6 ≡ false → has set 7 ≡ false → has set 8 ≡ false
+pub no_name : (set : ℕ) (n : List ℕ) (rest : List Token) → has set 0 ≡ false → has set 1 ≡ false → has set 2 ≡ false → has set 3 ≡ false → has set 4 ≡ false → has set 5 ≡ false → has set 6 ≡ false → has set 7 ≡ false → has set 8 ≡ false
     → has set (kind_of_name n + before_next rest) ≡ false
 no_name set n rest p0 p1 p2 p3 p4 p5 p6 p7 p8 =
     by_before (λ b. has set (kind_of_name n + b) ≡ false) rest

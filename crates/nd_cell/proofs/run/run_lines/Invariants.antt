@@ -1,0 +1,14 @@
+use Rattle.std.proofs.Common.{◌≡◌, ◌+◌, ◌<◌, ◌^◌, [], drop, string_bytes}
+use Rattle.nd_model.specs.Cell.{statements}
+use Rattle.nd_model.specs.Tokens.{tokens_of_lines}
+use Rattle.nd_parse.specs.Syntax.{lines_of}
+use Rattle.nd_heap.specs.Values.{inputs_of}
+use Rattle.nd_heap.specs.Live.{live}
+use Rattle.nd_cell.specs.Cells.{saves_of}
+use Rattle.nd_cell.proofs.run.run_lines.Given as goal
+
+abbrev pub invariant-loop-line : goal.invariant-loop-line
+invariant-loop-line l =
+    (statements (inputs_of l.fn.inputs.entries) (lines_of l.fn.lines) [] [] (live l.fn.session)
+        ≡ statements (inputs_of l.fn.inputs.entries) (lines_of (drop l.line-index l.fn.lines)) (string_bytes l.text) (saves_of l.saves.entries) (live l.session))
+    × ((live l.session).next + tokens_of_lines (lines_of (drop l.line-index l.fn.lines)) < 2 ^ 64)

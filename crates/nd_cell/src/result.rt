@@ -1,0 +1,29 @@
+//! What cells give.
+
+use indexmap::IndexMap;
+use nd_eval::StmtFault;
+use nd_parse::ParseKind;
+
+/// Why a cell is refused.
+#[derive(Debug, Drop)]
+pub enum CellFault {
+    /// The text is no cell. The column is in bytes, from 1.
+    Parse(ParseKind, usize),
+    /// A statement is refused; those before it stand.
+    Statement(StmtFault),
+}
+
+/// A cell's refusal: the line, from 1, on which the refused statement begins, or on which the text goes wrong.
+#[derive(Debug, Drop)]
+pub struct Refusal {
+    pub line: usize,
+    pub fault: CellFault,
+}
+
+/// What a cell gives: the text that it printed, why it was refused if it was, and the files that it saved by name.
+#[derive(Drop)]
+pub struct CellResult {
+    pub text: String,
+    pub refusal: Option<Refusal>,
+    pub saves: IndexMap<String, Vec<u8>>,
+}

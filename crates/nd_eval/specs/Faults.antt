@@ -1,0 +1,40 @@
+-- The refusals of the program as the definitions have them.
+use Rattle.std.specs.Prelude.{string_bytes}
+use Rattle.nd_model.specs.Fault as model
+use Rattle.nd_eval.specs.declared.fault.ViewFault.{ViewFault}
+use Rattle.nd_eval.specs.declared.fault.ViewFault.TheVariants.{TooManyElements}
+use Rattle.nd_eval.specs.declared.fault.IndexFault.{IndexFault}
+use Rattle.nd_eval.specs.declared.fault.IndexFault.TheVariants.{OutOfBounds, TooManyIndices, NotAnIndex}
+use Rattle.nd_eval.specs.declared.fault.UfuncFault.{UfuncFault}
+use Rattle.nd_eval.specs.declared.fault.UfuncFault.TheVariants.{IntOutOfRange, ShapeMismatch, ReadOnly, NotNumbers}
+use Rattle.nd_eval.specs.declared.fault.StmtError.{StmtError}
+use Rattle.nd_eval.specs.declared.fault.StmtError.TheVariants.{NoName, IntTooBig, NotAnArray, TextTooLong, BadArgument}
+use Rattle.nd_eval.specs.declared.fault.StmtFault.{StmtFault}
+use Rattle.nd_eval.specs.declared.fault.StmtFault.TheVariants.{View, Index, Ufunc, Stmt}
+
+abbrev pub view_fault_of : ViewFault → model.ViewFault
+view_fault_of TooManyElements = model.TooManyElements
+
+abbrev pub index_fault_of : IndexFault → model.IndexFault
+index_fault_of (OutOfBounds axis index size) = model.OutOfBounds axis index size
+index_fault_of TooManyIndices = model.TooManyIndices
+index_fault_of NotAnIndex = model.NotAnIndex
+
+abbrev pub ufunc_fault_of : UfuncFault → model.UfuncFault
+ufunc_fault_of (IntOutOfRange z) = model.IntOutOfRange z
+ufunc_fault_of ShapeMismatch = model.ShapeMismatch
+ufunc_fault_of ReadOnly = model.ReadOnly
+ufunc_fault_of NotNumbers = model.NotNumbers
+
+abbrev pub stmt_error_of : StmtError → model.StmtFault
+stmt_error_of (NoName n) = model.NoName (string_bytes n)
+stmt_error_of IntTooBig = model.IntTooBig
+stmt_error_of NotAnArray = model.NotAnArray
+stmt_error_of TextTooLong = model.TextTooLong
+stmt_error_of BadArgument = model.BadArgument
+
+abbrev pub fault_of : StmtFault → model.Fault
+fault_of (View f) = model.View (view_fault_of f)
+fault_of (Index f) = model.Index (index_fault_of f)
+fault_of (Ufunc f) = model.Ufunc (ufunc_fault_of f)
+fault_of (Stmt f) = model.Stmt (stmt_error_of f)

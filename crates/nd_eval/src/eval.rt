@@ -1,0 +1,100 @@
+//! Expressions.
+
+ghost use Rattle.std.specs.Prelude.{◌≡◌, ◌+◌, ◌<◌, ◌^◌, map};
+ghost use Rattle.std.specs.Prelude.{neg_ℤ};
+ghost use Rattle.nd_model.specs.Meaning as meaning;
+ghost use Rattle.nd_model.specs.Tokens.{tokens_of, tokens_of_all};
+ghost use Rattle.nd_parse.specs.Syntax.{expr_of};
+ghost use Rattle.nd_heap.specs.Values.{value_of, inputs_of};
+ghost use Rattle.nd_heap.specs.Live.{live};
+ghost use Rattle.nd_eval.specs.Contents.{values_of};
+ghost use Rattle.nd_eval.specs.Ends.{Ends, Says};
+
+use crate::arrays::{arange, used};
+use crate::fault::{StmtError, StmtFault};
+use crate::indexes::indexed;
+use crate::stop::Stop;
+use nd_heap::{Inputs, Session, Value};
+use nd_parse::Expr;
+use nd_types::Num;
+
+/// The value of a bound name.
+pub(crate) fn named(session: &mut Session, inputs: &Inputs, name: &str) -> Result<Value, Stop>
+    ensures { Ends value_of result (live session.new) (meaning.run (inputs_of inputs.now.entries) (meaning.name name.now) (live session.old)) }
+{
+    match session.lookup(name)? {
+        Some(value) => Ok(value),
+        None => {
+            let name = String::from_str(session.allocator(), name)?;
+            Err(Stop::Refused(StmtFault::Stmt(StmtError::NoName(name))))
+        }
+    }
+}
+
+/// The negative of a number, in the bounds of Python integers.
+fn negative(number: i128) -> Result<Value, StmtFault>
+    ensures { Says value_of result (meaning.python_int (neg_ℤ number)) }
+{
+    if number > 1 << 63 || number < -(u64::MAX as i128) {
+        return Err(StmtFault::Stmt(StmtError::IntTooBig));
+    }
+    Ok(Value::Number(Num::Int(-number)))
+}
+
+/// The negative of a value.
+fn negated(session: &mut Session, inputs: &Inputs, operand: &Value) -> Result<Value, Stop>
+    ensures { Ends value_of result (live session.new) (meaning.run (inputs_of inputs.now.entries) (meaning.negated (value_of operand.now)) (live session.old)) }
+{
+    match operand {
+        Value::Number(Num::Int(number)) => Ok(negative(*number)?),
+        Value::Number(Num::Bool(truth)) => Ok(negative(i128::from(*truth))?),
+        Value::Number(Num::Scalar(_, _)) => {
+            Err(Stop::Refused(StmtFault::Stmt(StmtError::BadArgument)))
+        }
+        Value::Array(array) => {
+            let _elements = used(session, inputs, array)?;
+            Err(Stop::Refused(StmtFault::Stmt(StmtError::BadArgument)))
+        }
+    }
+}
+
+/// The value of an expression.
+pub(crate) fn value(session: &mut Session, inputs: &Inputs, expr: &Expr) -> Result<Value, Stop>
+    requires { (live session.old).next + tokens_of (expr_of expr.now) < 2 ^ 64 }
+    ensures { Ends value_of result (live session.new) (meaning.run (inputs_of inputs.now.entries) (meaning.value (expr_of expr.now)) (live session.old)) }
+{
+    match expr {
+        Expr::Name(name) => named(session, inputs, name.as_str()),
+        Expr::Integer(number) => Ok(Value::Number(Num::Int(i128::from(*number)))),
+        Expr::Negative(operand) => {
+            let operand = value(session, inputs, operand)?;
+            negated(session, inputs, &operand)
+        }
+        Expr::Arange(end) => {
+            let end = value(session, inputs, end)?;
+            arange(session, inputs, &end)
+        }
+        Expr::Item(target, item) => {
+            let target = value(session, inputs, target)?;
+            let item = value(session, inputs, item)?;
+            indexed(session, inputs, &target, &item)
+        }
+    }
+}
+
+/// The values of expressions, from left to right.
+pub(crate) fn values(
+    session: &mut Session,
+    inputs: &Inputs,
+    exprs: &[Expr],
+) -> Result<Vec<Value>, Stop>
+    requires { (live session.old).next + tokens_of_all (map expr_of exprs.now) < 2 ^ 64 }
+    ensures { Ends values_of result (live session.new) (meaning.run (inputs_of inputs.now.entries) (meaning.values (map expr_of exprs.now)) (live session.old)) }
+{
+    let mut values = Vec::new(session.allocator());
+    for expr in exprs {
+        let found = value(session, inputs, expr)?;
+        values.push(found)?;
+    }
+    Ok(values)
+}

@@ -1,0 +1,56 @@
+//! Why a statement is refused.
+
+/// Why an array can not be made.
+#[derive(Clone, Copy, PartialEq, Eq, Debug)]
+pub enum ViewFault {
+    /// It would have more than 2^24 elements.
+    TooManyElements,
+}
+
+/// Why an index is none of this array.
+#[derive(Clone, Copy, PartialEq, Eq, Debug)]
+pub enum IndexFault {
+    /// The index is not below the size of its axis, nor from -size on. Axes are counted from 0.
+    OutOfBounds { axis: usize, index: i128, size: u64 },
+    /// There are more indexes than axes.
+    TooManyIndices,
+    /// It is neither an integer nor an array.
+    NotAnIndex,
+}
+
+/// Why numbers are not written, or have no result.
+#[derive(Clone, Copy, PartialEq, Eq, Debug)]
+pub enum UfuncFault {
+    /// A Python integer that the array's kind of number has not.
+    IntOutOfRange(i128),
+    /// The shapes do not broadcast (NumPy user guide, "Broadcasting").
+    ShapeMismatch,
+    /// The array may not be written.
+    ReadOnly,
+    /// The operand has no numbers.
+    NotNumbers,
+}
+
+/// Other refusals of a statement.
+#[derive(PartialEq, Eq, Debug, Drop)]
+pub enum StmtError {
+    /// No value is bound to this name.
+    NoName(String),
+    /// A Python integer below -2^63 or above 2^64 - 1.
+    IntTooBig,
+    /// What is indexed is no array.
+    NotAnArray,
+    /// The text of a cell would have more than 2^20 bytes.
+    TextTooLong,
+    /// A value that the operation does not take.
+    BadArgument,
+}
+
+/// Why a statement is refused.
+#[derive(PartialEq, Eq, Debug, Drop)]
+pub enum StmtFault {
+    View(ViewFault),
+    Index(IndexFault),
+    Ufunc(UfuncFault),
+    Stmt(StmtError),
+}

@@ -1,0 +1,47 @@
+//! Why an evaluation stops.
+
+ghost use Rattle.std.specs.Prelude.{◌≡◌};
+ghost use Rattle.nd_eval.specs.declared.stop.Stop.TheVariants.{Memory, Refused};
+
+use crate::fault::StmtFault;
+use nd_heap::OutOfMemory;
+use std::alloc::{AllocError, AllocFailed};
+
+/// Why an evaluation stops: a growth was refused, or the statement is.
+#[derive(Drop)]
+pub(crate) enum Stop {
+    Memory,
+    Refused(StmtFault),
+}
+
+impl From<StmtFault> for Stop {
+    ghost from_gives = { λ f e. e ≡ Refused f };
+
+    fn from(fault: StmtFault) -> Stop {
+        Stop::Refused(fault)
+    }
+}
+
+impl From<OutOfMemory> for Stop {
+    ghost from_gives = { λ _ e. e ≡ Memory };
+
+    fn from(_error: OutOfMemory) -> Stop {
+        Stop::Memory
+    }
+}
+
+impl From<AllocError> for Stop {
+    ghost from_gives = { λ _ e. e ≡ Memory };
+
+    fn from(_error: AllocError) -> Stop {
+        Stop::Memory
+    }
+}
+
+impl<T: Drop> From<AllocFailed<T>> for Stop {
+    ghost from_gives = { λ _ e. e ≡ Memory };
+
+    fn from(_failed: AllocFailed<T>) -> Stop {
+        Stop::Memory
+    }
+}

@@ -1,0 +1,4 @@
+pub mod Noting
+pub mod Names
+pub mod Bases
+pub mod Changes

@@ -1,0 +1,158 @@
+-- Reading a rule as its function does.
+use Rattle.std.proofs.Common.{cond, ◌≡◌, ◌≢◌, ◌<◌, ◌-◌, ℕ, zero, suc, Bool, true, false, List, [], ◌∷◌, ◌++◌, inl, inr, length, Result, Ok, Err, refl, sym, ap, ◌∙◌, arith}
+use Rattle.std.proofs.lemmas.List.{length-map}
+use Rattle.nd_model.specs.Grammar as grammar
+use Rattle.nd_model.specs.Grammar.{Gram, One, Then, Many, has}
+use Rattle.nd_model.specs.Predict.{◌>>=◌, next_in, stop, read, Look, look}
+use Rattle.nd_model.specs.Token as model
+use Rattle.nd_model.specs.Syntax.{Expr}
+use Rattle.nd_model.specs.Kinds.{kind, OPERAND, PLACE, COMMA, OPEN, CLOSE, OPEN_BRACKET, CLOSE_BRACKET, MINUS}
+use Rattle.nd_model.specs.Cells.{enter, under, between, grouped, index, operand, atom, postfix, negative, expr, items, token, exprs, comma_expr, printed}
+use Rattle.nd_model.specs.Factored.{place, last_item, indexes, target}
+use Rattle.nd_model.proofs.Parsing.Sets.{chosen, ok_is}
+use Rattle.nd_model.proofs.Parsing.Loops.{Shrinks, shrinks, many_err, mapped, fused, many_fuse, push_step}
+use Rattle.nd_model.proofs.Parsing.Looks.{seen, EXPR, known, look_index, look_expr}
+use Rattle.nd_token.specs.declared.token.Token.{Token}
+use Rattle.nd_parse.specs.declared.read.Reason.{Reason}
+use Rattle.nd_parse.specs.declared.read.Reason.TheVariants as reasons
+use Rattle.nd_parse.specs.declared.read.Failure.{Failure}
+use Rattle.nd_parse.specs.declared.read.Failure.TheVariants as failures
+use Rattle.nd_parse.specs.Gives.{tokens_of, reason_of, stop_of, Fails}
+use Rattle.nd_parse.specs.Readers.{signed}
+
+-- ---- steps that fail
+
+pub fails_on : {Y Z : Type 0} (e : Failure) (r : Result Y grammar.Stop) (k : Y → Result Z grammar.Stop) → Fails e r → Fails e (r >>= k)
+fails_on failures.Memory r k h = tt
+fails_on (failures.Stopped s) r k h = rw h refl
+
+pub many_fails : {A C : Type 0} (set : ℕ) (g : List A → C) (a : Gram model.Token A) (ts : List model.Token) (e : Failure) → Shrinks kind a → next_in kind set ts ≡ true
+    → Fails e (read kind a ts) → Fails e (read kind (Many set g a) ts)
+many_fails set g a ts failures.Memory s h f = tt
+many_fails set g a ts (failures.Stopped x) s h f = many_err kind set g a ts (stop_of x) s h f
+
+-- the same stop, as the code has it
+pub stop_is : (ts : List Token) (why : Reason) → stop (reason_of why) (tokens_of ts) ≡ stop_of (record { left = length ts; why = why })
+stop_is ts why = ap (λ n. record { left = n; why = reason_of why }) (length-map ts _)
+
+shut_is : (ts : List Token) (b : Bool) (why : Reason) → stop (cond b (reason_of why) 0) (tokens_of ts) ≡ stop_of (record { left = length ts; why = cond b why reasons.Itself })
+shut_is ts true why = stop_is ts why
+shut_is ts false why = stop_is ts reasons.Itself
+
+-- ---- levels
+
+pub enter_shut : {C : Type 0} (n set : ℕ) (k : Gram model.Token Expr → Gram model.Token C) (ts : List Token) → n ≡ 0
+    → read kind (enter (under n) set k) (tokens_of ts) ≡ Err (stop_of (record { left = length ts; why = cond (next_in kind set (tokens_of ts)) reasons.TooDeep reasons.Itself }))
+unfolding under
+enter_shut n set k ts z = rw z (ap (λ s. Err s) (shut_is ts (next_in kind set (tokens_of ts)) reasons.TooDeep))
+
+pub enter_in : {C : Type 0} (n set : ℕ) (k : Gram model.Token Expr → Gram model.Token C) (ts : List model.Token) → n ≢ 0
+    → read kind (enter (under n) set k) ts ≡ read kind (k (expr (under (n - 1)))) ts
+unfolding under
+enter_in zero set k ts z = absurd (z refl)
+enter_in (suc n) set k ts z = let e : suc n - 1 ≡ n = omega arith in rw e refl
+
+pub grouped_is : (n : ℕ) (ts : List model.Token) → n ≢ 0 → read kind (grouped (under n)) ts ≡ read kind (between OPEN (expr (under (n - 1))) CLOSE) ts
+unfolding grouped
+grouped_is n ts z = enter_in n OPEN (λ e. between OPEN e CLOSE) ts z
+
+pub index_is : (n : ℕ) (ts : List model.Token) → n ≢ 0 → read kind (index (under n)) ts ≡ read kind (between OPEN_BRACKET (expr (under (n - 1))) CLOSE_BRACKET) ts
+unfolding index
+index_is n ts z = enter_in n OPEN_BRACKET (λ e. between OPEN_BRACKET e CLOSE_BRACKET) ts z
+
+pub negative_is : (n : ℕ) (ts : List model.Token) → n ≢ 0 → read kind (negative (under n)) ts ≡ read kind (signed (expr (under (n - 1)))) ts
+unfolding negative
+negative_is n ts z = enter_in n MINUS (λ e. signed e) ts z
+
+-- ---- indexes
+
+pub index_shrinks : (levels : ℕ) → Shrinks kind (index (under levels))
+index_shrinks levels =
+    let e = look_index (under levels) (known levels) in
+    shrinks kind (index (under levels)) (ap (λ (l : Look). l.fits) e) (ap (λ (l : Look). l.empty) e)
+
+pub postfix_begins : (levels : ℕ) (ts rest : List model.Token) (left : Expr) → read kind (operand OPERAND (under levels)) ts ≡ Ok (left, rest)
+    → read kind (Many OPEN_BRACKET (items left) (index (under levels))) rest ≡ read kind (postfix (under levels)) ts
+unfolding postfix atom
+postfix_begins levels ts rest left e = sym (rw e (many_fuse kind OPEN_BRACKET (items left) (λ (is : List Expr). is) (index (under levels)) rest))
+
+pub postfix_fails : (levels : ℕ) (ts : List model.Token) (e : Failure) → Fails e (read kind (operand OPERAND (under levels)) ts) → Fails e (read kind (postfix (under levels)) ts)
+unfolding postfix atom
+postfix_fails levels ts e h = fails_on e _ _ h
+
+-- ---- one token, as a rule sees it
+
+pub one_is : {C : Type 0} (set : ℕ) (f : model.Token → C) (ts : List model.Token) (t : model.Token) (rest : List model.Token) → read kind (token set) ts ≡ Ok (t, rest) → read kind (One set f) ts ≡ Ok (f t, rest)
+one_is set f [] t rest e = absurd cc
+one_is {C} set f (u ∷ us) t rest e =
+    elim (chosen (has set (kind (u ∷ us))) (Ok (u, us)) (Err (stop 0 (u ∷ us))) (Ok (t, rest)) e) [
+      | inl c ↦ (let p = ok_is (u, us) (t, rest) c.1 in rw c.0 (ap (λ (q : model.Token × List model.Token). Ok (f q.0, q.1)) p))
+      | inr c ↦ absurd (let h = c.1 in cc)
+    ]
+
+-- ---- what is assigned to
+
+-- one part read, and then another
+then_ok : {A B C : Type 0} (f : A → B → C) (a : Gram model.Token A) (b : Gram model.Token B) (ts rest : List model.Token) (x : A) → read kind a ts ≡ Ok (x, rest) → read kind (Then f a b) ts ≡ mapped (f x) (read kind b rest)
+then_ok f a b ts rest x e = rw e refl
+
+pub target_begins : (levels : ℕ) (ts mid rest : List model.Token) (left at : Expr) → read kind (operand PLACE (under levels)) ts ≡ Ok (left, mid) → read kind (index (under levels)) mid ≡ Ok (at, rest)
+    → read kind (Many OPEN_BRACKET (last_item left at) (index (under levels))) rest ≡ read kind (target (under levels)) ts
+unfolding target place indexes
+target_begins levels ts mid rest left at e d =
+    let x = index (under levels) in
+    let all : Expr × List Expr → Expr × Expr = λ p. last_item left p.0 p.1 in
+    let first : List Expr → Expr × List Expr = λ is. (at, is) in
+    let many : Gram model.Token (List Expr) = Many OPEN_BRACKET (λ is. is) x in
+    sym (then_ok (λ t (p : Expr × List Expr). last_item t p.0 p.1) (operand PLACE (under levels)) (Then (λ i is. (i, is)) x many) ts mid left e
+    ∙ ap (mapped all) (then_ok (λ i is. (i, is)) x many mid rest at d)
+    ∙ fused all first (read kind many rest)
+    ∙ many_fuse kind OPEN_BRACKET (last_item left at) (λ (is : List Expr). is) x rest)
+
+pub target_fails : (levels : ℕ) (ts : List model.Token) (e : Failure) → Fails e (read kind (operand PLACE (under levels)) ts) → Fails e (read kind (target (under levels)) ts)
+unfolding target place
+target_fails levels ts e h = fails_on e _ _ h
+
+pub target_fails_at : (levels : ℕ) (ts mid : List model.Token) (left : Expr) (e : Failure) → read kind (operand PLACE (under levels)) ts ≡ Ok (left, mid) → Fails e (read kind (index (under levels)) mid)
+    → Fails e (read kind (target (under levels)) ts)
+unfolding target place indexes
+target_fails_at levels ts mid left e d h = rw d (fails_on e _ _ (fails_on e _ _ h))
+
+-- ---- expressions with commas
+
+expr_shrinks : (levels : ℕ) → Shrinks kind (comma_expr (expr (under levels)))
+expr_shrinks levels =
+    let e = look_comma (expr (under levels)) (look_expr (under levels) (known levels)) in
+    shrinks kind (comma_expr (expr (under levels))) (ap (λ (l : Look). l.fits) e) (ap (λ (l : Look). l.empty) e)
+  where
+    look_comma : (e : Gram model.Token Expr) → look e ≡ seen EXPR OPEN_BRACKET → look (comma_expr e) ≡ seen COMMA OPEN_BRACKET
+    look_comma e p = rw p refl
+
+pub exprs_begin : (levels : ℕ) (ts rest : List model.Token) (x : Expr) (xs : List Expr) → xs ≡ x ∷ [] → read kind (expr (under levels)) ts ≡ Ok (x, rest)
+    → read kind (Many COMMA (λ ys. xs ++ ys) (comma_expr (expr (under levels)))) rest ≡ read kind (exprs (expr (under levels))) ts
+unfolding exprs
+exprs_begin levels ts rest x xs is e =
+    rw is (sym (rw e (many_fuse kind COMMA (λ (ys : List Expr). x ∷ ys) (λ (ys : List Expr). ys) (comma_expr (expr (under levels))) rest)))
+
+pub exprs_fail : (levels : ℕ) (ts : List model.Token) (e : Failure) → Fails e (read kind (expr (under levels)) ts) → Fails e (read kind (exprs (expr (under levels))) ts)
+unfolding exprs
+exprs_fail levels ts e h = fails_on e _ _ h
+
+module _ (levels : ℕ) (before : List Expr) (ts after : List model.Token) (t : model.Token) (here : next_in kind COMMA ts ≡ true) (one : read kind (token COMMA) ts ≡ Ok (t, after)) where
+  pub exprs_go_on : (x : Expr) (rest : List model.Token) → read kind (expr (under levels)) after ≡ Ok (x, rest)
+      → read kind (Many COMMA (λ xs. before ++ xs) (comma_expr (expr (under levels)))) ts ≡ read kind (Many COMMA (λ xs. (before ++ x ∷ []) ++ xs) (comma_expr (expr (under levels)))) rest
+  exprs_go_on x rest d =
+      let p : read kind (comma_expr (expr (under levels))) ts ≡ Ok (x, rest) = rw (one, d) refl in
+      push_step kind COMMA (comma_expr (expr (under levels))) before ts x rest (expr_shrinks levels) here p
+
+  pub exprs_go_wrong : (e : Failure) → Fails e (read kind (expr (under levels)) after) → Fails e (read kind (Many COMMA (λ xs. before ++ xs) (comma_expr (expr (under levels)))) ts)
+  exprs_go_wrong e h = many_fails COMMA (λ (xs : List Expr). before ++ xs) (comma_expr (expr (under levels))) ts e (expr_shrinks levels) here (rw one (fails_on e _ _ h))
+
+  pub exprs_shorter : (x : Expr) (rest : List model.Token) → read kind (expr (under levels)) after ≡ Ok (x, rest) → length rest < length ts
+  exprs_shorter x rest d =
+      let p : read kind (comma_expr (expr (under levels))) ts ≡ Ok (x, rest) = rw (one, d) refl in
+      (expr_shrinks levels).less ts (x, rest) p
+
+pub printed_is : (n : ℕ) (ts : List model.Token) → n ≢ 0 → read kind (printed (under n)) ts ≡ read kind (between OPEN (exprs (expr (under (n - 1)))) CLOSE) ts
+unfolding printed
+printed_is n ts z = enter_in n OPEN (λ e. between OPEN (exprs e) CLOSE) ts z

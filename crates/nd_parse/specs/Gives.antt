@@ -1,0 +1,54 @@
+-- What a reader of tokens gives.
+use Rattle.std.specs.Prelude.{◌≡◌, ℕ, List, map, Result, Ok, Err, Vec}
+use Rattle.std.specs.Borrow.{Bor}
+use Rattle.std.specs.Global.{Global}
+use Rattle.nd_token.specs.declared.token.Token.{Token}
+use Rattle.nd_token.specs.Tokens.{token_of}
+use Rattle.nd_model.specs.Token as model
+use Rattle.nd_model.specs.Grammar as grammar
+use Rattle.nd_model.specs.Cells.{too_deep, left_out, too_many, unknown_call}
+use Rattle.nd_model.specs.Syntax as syntax
+use Rattle.nd_parse.specs.declared.tree.Expr.{Expr}
+use Rattle.nd_parse.specs.declared.read.Reason.{Reason}
+use Rattle.nd_parse.specs.declared.read.Reason.TheVariants as reasons
+use Rattle.nd_parse.specs.declared.read.Stop.{Stop}
+use Rattle.nd_parse.specs.declared.read.Failure.{Failure}
+use Rattle.nd_parse.specs.declared.read.Failure.TheVariants as failures
+use Rattle.nd_parse.specs.declared.tree.Line.{Line}
+use Rattle.nd_parse.specs.Syntax.{expr_of, lines_of}
+
+abbrev pub tokens_of : List Token → List model.Token
+tokens_of ts = map token_of ts
+
+abbrev pub reason_of : Reason → ℕ
+reason_of reasons.Itself = 0
+reason_of reasons.TooDeep = too_deep
+reason_of reasons.LeftOut = left_out
+reason_of reasons.TooMany = too_many
+reason_of reasons.UnknownCall = unknown_call
+
+abbrev pub stop_of : Stop → grammar.Stop
+stop_of s = record { left = s.left; why = reason_of s.why }
+
+-- What a function returned, seen by view, is what reading gives, unless memory ran out.
+abbrev pub Fails : {Y : Type 0} → Failure → Result Y grammar.Stop → Type 0
+Fails failures.Memory read = Unit {0}
+Fails (failures.Stopped s) read = read ≡ Err (stop_of s)
+
+abbrev pub Gives : {X Y : Type 0} → (X → Y) → Result X Failure → Result Y grammar.Stop → Type 0
+Gives view (Ok x) read = read ≡ Ok (view x)
+Gives view (Err e) read = Fails e read
+
+-- what was read, and the tokens after it
+abbrev pub with_rest : {X Y : Type 0} → (X → Y) → X × Bor (List Token) → Y × List model.Token
+with_rest view x = (view x.0, tokens_of x.1.now)
+
+abbrev pub exprs_of : Vec Expr Global → List syntax.Expr
+exprs_of es = map expr_of es.items
+
+-- what is assigned to, and its index
+abbrev pub target_of : Expr × Expr → syntax.Expr × syntax.Expr
+target_of t = (expr_of t.0, expr_of t.1)
+
+abbrev pub list_of : Vec Line Global → List syntax.Line
+list_of ls = lines_of ls.items

@@ -1,0 +1,171 @@
+//! Statements.
+ghost use Rattle.std.specs.Prelude.{◌≡◌, map};
+ghost use Rattle.nd_model.specs.Kinds.{kind, OPEN, CLOSE};
+ghost use Rattle.nd_model.specs.Predict.{read};
+ghost use Rattle.nd_model.specs.Cells.{under, between, expr, module_name, imports, delete, exprs, printed, print, value, line};
+ghost use Rattle.nd_model.specs.Factored.{bind, target, assign, stmt};
+ghost use Rattle.nd_token.specs.Tokens.{token_of};
+ghost use Rattle.nd_parse.specs.Syntax.{expr_of, stmt_of, line_of};
+ghost use Rattle.nd_parse.specs.Gives.{Gives, with_rest, tokens_of, exprs_of, target_of};
+
+use crate::expr::{expr, index, operand};
+use crate::kinds::{
+    AS, BOUND, CLOSE, COMMA, DEL, END, EQUAL, IMPORT, NP, NUMPY, NUMPY_CALLED, OPEN, OPEN_BRACKET,
+    PLACE, PRINT, next_in,
+};
+use crate::read::{Read, Reason, Tokens, line_at, name, name_of, shut, take};
+use crate::tree::{Expr, Line, Stmt};
+use nd_token::Token;
+use std::alloc::Global;
+
+#[tactic(auto, unfolding(nd_model::specs::Cells::module_name))]
+fn module_name<'t>(tokens: Tokens<'t>) -> Read<'t, Token<'t>>
+    ensures { Gives (with_rest token_of) result (read kind module_name (tokens_of tokens.now)) }
+{
+    if next_in(tokens, NUMPY) {
+        return take(tokens, NUMPY);
+    }
+    Err(shut(tokens, NUMPY_CALLED, Reason::UnknownCall))
+}
+
+/// `import numpy as np`
+#[tactic(auto, unfolding(nd_model::specs::Cells::imports))]
+fn imports<'t>(tokens: Tokens<'t>) -> Read<'t, Stmt>
+    ensures { Gives (with_rest stmt_of) result (read kind imports (tokens_of tokens.now)) }
+{
+    let (_, rest) = take(tokens, IMPORT)?;
+    let (_, rest) = module_name(rest)?;
+    let (_, rest) = take(rest, AS)?;
+    let (_, rest) = take(rest, NP)?;
+    Ok((Stmt::Import, rest))
+}
+
+/// `del NAME`
+#[tactic(auto, unfolding(nd_model::specs::Cells::delete))]
+fn delete<'t>(alloc: Global, tokens: Tokens<'t>) -> Read<'t, Stmt>
+    ensures { Gives (with_rest stmt_of) result (read kind delete (tokens_of tokens.now)) }
+{
+    let (_, rest) = take(tokens, DEL)?;
+    let (name, rest) = name(alloc, rest)?;
+    Ok((Stmt::Delete(name), rest))
+}
+
+/// `expr {"," expr}`
+fn exprs<'t>(alloc: Global, levels: u8, tokens: Tokens<'t>) -> Read<'t, Vec<Expr>>
+    ensures { Gives (with_rest exprs_of) result (read kind (exprs (expr (under levels))) (tokens_of tokens.now)) }
+{
+    let mut all = Vec::new(alloc);
+    let (first, mut rest) = expr(alloc, levels, tokens)?;
+    all.push(first)?;
+    'more: while next_in(rest, COMMA) {
+        let (_, after) = take(rest, COMMA)?;
+        let (next, after) = expr(alloc, levels, after)?;
+        all.push(next)?;
+        rest = after;
+    }
+    Ok((all, rest))
+}
+
+fn listed<'t>(alloc: Global, levels: u8, tokens: Tokens<'t>) -> Read<'t, Vec<Expr>>
+    ensures { Gives (with_rest exprs_of) result (read kind (between OPEN (exprs (expr (under levels))) CLOSE) (tokens_of tokens.now)) }
+{
+    let (_, rest) = take(tokens, OPEN)?;
+    let (all, rest) = exprs(alloc, levels, rest)?;
+    let (_, rest) = take(rest, CLOSE)?;
+    Ok((all, rest))
+}
+
+/// `(expr {"," expr})`
+fn printed<'t>(alloc: Global, levels: u8, tokens: Tokens<'t>) -> Read<'t, Vec<Expr>>
+    ensures { Gives (with_rest exprs_of) result (read kind (printed (under levels)) (tokens_of tokens.now)) }
+{
+    if levels == 0 {
+        return Err(shut(tokens, OPEN, Reason::TooDeep));
+    }
+    listed(alloc, levels - 1, tokens)
+}
+
+/// `print(expr {"," expr})`
+#[tactic(auto, unfolding(nd_model::specs::Cells::print))]
+fn print<'t>(alloc: Global, levels: u8, tokens: Tokens<'t>) -> Read<'t, Stmt>
+    ensures { Gives (with_rest stmt_of) result (read kind (print (under levels)) (tokens_of tokens.now)) }
+{
+    let (_, rest) = take(tokens, PRINT)?;
+    let (all, rest) = printed(alloc, levels, rest)?;
+    Ok((Stmt::Print(all), rest))
+}
+
+/// `= expr`
+#[tactic(auto, unfolding(nd_model::specs::Cells::value))]
+fn value<'t>(alloc: Global, levels: u8, tokens: Tokens<'t>) -> Read<'t, Expr>
+    ensures { Gives (with_rest expr_of) result (read kind (value (under levels)) (tokens_of tokens.now)) }
+{
+    let (_, rest) = take(tokens, EQUAL)?;
+    expr(alloc, levels, rest)
+}
+
+/// `NAME = expr`
+#[tactic(auto, unfolding(nd_model::specs::Factored::bind))]
+fn bind<'t>(alloc: Global, levels: u8, tokens: Tokens<'t>) -> Read<'t, Stmt>
+    ensures { Gives (with_rest stmt_of) result (read kind (bind (under levels)) (tokens_of tokens.now)) }
+{
+    let (token, rest) = take(tokens, BOUND)?;
+    let name = name_of(alloc, token)?;
+    let (value, rest) = value(alloc, levels, rest)?;
+    Ok((Stmt::Bind(name, value), rest))
+}
+
+/// What is assigned to: an expression, and its index.
+fn target<'t>(alloc: Global, levels: u8, tokens: Tokens<'t>) -> Read<'t, (Expr, Expr)>
+    ensures { Gives (with_rest target_of) result (read kind (target (under levels)) (tokens_of tokens.now)) }
+{
+    let (mut left, rest) = operand(alloc, levels, PLACE, tokens)?;
+    let (mut at, mut rest) = index(alloc, levels, rest)?;
+    'indexes: while next_in(rest, OPEN_BRACKET) {
+        let (next, after) = index(alloc, levels, rest)?;
+        left = Expr::Item(Box::new(alloc, left)?, Box::new(alloc, at)?);
+        at = next;
+        rest = after;
+    }
+    Ok(((left, at), rest))
+}
+
+/// `target = expr`
+#[tactic(auto, unfolding(nd_model::specs::Factored::assign))]
+fn assign<'t>(alloc: Global, levels: u8, tokens: Tokens<'t>) -> Read<'t, Stmt>
+    ensures { Gives (with_rest stmt_of) result (read kind (assign (under levels)) (tokens_of tokens.now)) }
+{
+    let ((array, at), rest) = target(alloc, levels, tokens)?;
+    let (value, rest) = value(alloc, levels, rest)?;
+    Ok((Stmt::Assign(array, at, value), rest))
+}
+
+#[tactic(auto, unfolding(nd_model::specs::Factored::stmt))]
+fn stmt<'t>(alloc: Global, levels: u8, tokens: Tokens<'t>) -> Read<'t, Stmt>
+    ensures { Gives (with_rest stmt_of) result (read kind (stmt (under levels)) (tokens_of tokens.now)) }
+{
+    if next_in(tokens, IMPORT) {
+        return imports(tokens);
+    }
+    if next_in(tokens, DEL) {
+        return delete(alloc, tokens);
+    }
+    if next_in(tokens, PRINT) {
+        return print(alloc, levels, tokens);
+    }
+    if next_in(tokens, BOUND) {
+        return bind(alloc, levels, tokens);
+    }
+    assign(alloc, levels, tokens)
+}
+
+/// A statement, which may open this many levels, with the line of its first token.
+#[tactic(auto, unfolding(nd_model::specs::Cells::line))]
+pub fn line<'t>(alloc: Global, levels: u8, tokens: Tokens<'t>) -> Read<'t, Line>
+    ensures { Gives (with_rest line_of) result (read kind (line (stmt (under levels))) (tokens_of tokens.now)) }
+{
+    let line = line_at(tokens);
+    let (stmt, rest) = stmt(alloc, levels, tokens)?;
+    let (_, rest) = take(rest, END)?;
+    Ok((Line { line, stmt }, rest))
+}

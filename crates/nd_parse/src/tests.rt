@@ -1,0 +1,243 @@
+use super::*;
+use std::alloc::Global;
+use std::test::*;
+
+// The text's fault is this one.
+fn has_fault(
+    alloc: Global,
+    text: &str,
+    line: usize,
+    kind: ParseKind,
+    column: usize,
+) -> Result<bool, Fail> {
+    match parse_cell(alloc, text)? {
+        Ok(_) => Ok(false),
+        Err(fault) => Ok(fault == ParseFault { kind, line, column }),
+    }
+}
+
+// The text is a cell of these statements.
+fn means(alloc: Global, text: &str, wanted: &str) -> Result<bool, Fail> {
+    match parse_cell(alloc, text)? {
+        Ok(lines) => Ok(format!(in alloc; "{lines:?}")?.as_str() == wanted),
+        Err(_) => Ok(false),
+    }
+}
+
+#[test]
+fn unexpected(rt: HostRuntime) -> Result<(), Fail> {
+    for (text, line, column) in [
+        ("x = np.arange(", 1, 15),
+        ("print()", 1, 7),
+        ("x = a b", 1, 7),
+        ("np = 3", 1, 4),
+        ("del x, y", 1, 6),
+        ("x = (1,)", 1, 7),
+        ("x = [1]", 1, 5),
+        ("print(x)[0]", 1, 9),
+        ("  x = 1", 1, 3),
+        ("  foo(3)", 1, 3),
+        ("\tx = 1", 1, 2),
+        ("x = (1,\n2)", 1, 7),
+        ("x = (1\n  2)", 2, 3),
+        ("x = (\n# c\n", 1, 6),
+        ("x = 1 2 3", 1, 7),
+        ("x ==1", 1, 3),
+        ("x = y = 1", 1, 7),
+        ("x", 1, 2),
+        ("x[0]", 1, 5),
+        ("x[0] + 1", 1, 6),
+        ("del +x", 1, 5),
+        ("x++", 1, 2),
+        ("x = a b(3)", 1, 7),
+        ("x[0](3)", 1, 5),
+        ("x = .5", 1, 5),
+        ("(x) = 1", 1, 5),
+        ("-x[0] = 1", 1, 1),
+        ("x[] = 1", 1, 3),
+        ("x = print(3)", 1, 5),
+        ("print(x,)", 1, 9),
+        ("print(x, end=\"\")", 1, 13),
+        ("print x", 1, 7),
+        ("import os", 1, 8),
+        ("del np", 1, 5),
+        ("del x[0]", 1, 6),
+        ("x = 1)", 1, 6),
+        ("x = (1]", 1, 7),
+        ("x = np.\nint8(1)", 1, 8),
+        ("x = y\n[0]", 2, 1),
+        ("x, y = 1, 2", 1, 2),
+        ("x = (1\n) y = 2", 2, 3),
+        ("import foo(", 1, 8),
+        ("import numpy as np np", 1, 20),
+        ("import numpy", 1, 13),
+        ("import numpy = 1", 1, 14),
+        ("del x = 1", 1, 7),
+        ("  +x", 1, 3),
+        ("np.arange = 3", 1, 11),
+        ("x = np.arange[0]", 1, 14),
+        ("x = y.foo", 1, 6),
+    ] {
+        assert!(rt;
+            has_fault(rt.alloc(), text, line, ParseKind::Unexpected, column)?,
+            "{text:?}"
+        );
+    }
+    Ok(())
+}
+
+#[test]
+fn other_faults(rt: HostRuntime) -> Result<(), Fail> {
+    for (text, line, kind, column) in [
+        ("x = 'a'[0]", 1, ParseKind::LeftOut, 5),
+        ("a = lambda", 1, ParseKind::LeftOut, 5),
+        ("  if x", 1, ParseKind::LeftOut, 3),
+        ("if x", 1, ParseKind::LeftOut, 1),
+        ("x = +1", 1, ParseKind::LeftOut, 5),
+        ("+x", 1, ParseKind::LeftOut, 1),
+        ("x =+ 1", 1, ParseKind::LeftOut, 4),
+        ("x = 1;y = 2", 1, ParseKind::LeftOut, 6),
+        ("x @ y", 1, ParseKind::LeftOut, 3),
+        ("x @= y", 1, ParseKind::LeftOut, 3),
+        ("x := 1", 1, ParseKind::LeftOut, 3),
+        ("x = np.linspace(3)", 1, ParseKind::UnknownCall, 8),
+        ("foo(3)", 1, ParseKind::UnknownCall, 1),
+        ("x (3)", 1, ParseKind::UnknownCall, 1),
+        ("x = np.add(a, b)", 1, ParseKind::UnknownCall, 8),
+        ("x = np.subtract(1,2)", 1, ParseKind::UnknownCall, 8),
+        ("x = np.newaxis", 1, ParseKind::UnknownCall, 8),
+        ("x = None", 1, ParseKind::LeftOut, 5),
+        ("None[0] = 1", 1, ParseKind::LeftOut, 1),
+        ("x = np.save(\"a\", 1)", 1, ParseKind::UnknownCall, 8),
+        ("import numpy(", 1, ParseKind::UnknownCall, 8),
+        ("from numpy import x", 1, ParseKind::LeftOut, 1),
+        ("x = y if z else w", 1, ParseKind::LeftOut, 7),
+        ("x = not y", 1, ParseKind::LeftOut, 5),
+        ("x = b'a'", 1, ParseKind::LeftOut, 6),
+        ("del foo(", 1, ParseKind::UnknownCall, 5),
+        ("as = 1", 1, ParseKind::LeftOut, 1),
+        ("x = arange(3)", 1, ParseKind::UnknownCall, 5),
+        ("x = numpy(3)", 1, ParseKind::UnknownCall, 5),
+        ("np.foo = 3", 1, ParseKind::UnknownCall, 4),
+        ("x[y(0)] = 1", 1, ParseKind::UnknownCall, 3),
+        ("x = 1\r\ny = 2\r", 2, ParseKind::BadToken, 6),
+        ("x = 1\ry = 2", 1, ParseKind::BadToken, 6),
+        ("x = 01", 1, ParseKind::BadToken, 5),
+        ("x = 1e5", 1, ParseKind::BadToken, 5),
+    ] {
+        assert!(rt;
+            has_fault(rt.alloc(), text, line, kind, column)?,
+            "{text:?}"
+        );
+    }
+    Ok(())
+}
+
+#[test]
+fn too_deep(rt: HostRuntime) -> Result<(), Fail> {
+    let alloc = rt.alloc();
+    let signs = "-".repeat(alloc, 64)?;
+    let open = "(".repeat(alloc, 64)?;
+    let close = ")".repeat(alloc, 64)?;
+    let deepest = format!(in alloc; "x = {signs}1")?;
+    assert!(rt; parse_cell(alloc, deepest.as_str())?.is_ok());
+    let deepest = format!(in alloc; "x = {open}1{close}")?;
+    assert!(rt; parse_cell(alloc, deepest.as_str())?.is_ok());
+    let deeper = format!(in alloc; "x = -{signs}1")?;
+    assert!(rt; has_fault(alloc, deeper.as_str(), 1, ParseKind::TooDeep, 69)?);
+    let deeper = format!(in alloc; "x = ({open}")?;
+    assert!(rt; has_fault(alloc, deeper.as_str(), 1, ParseKind::TooDeep, 69)?);
+    // it would go on no cell at any depth
+    let other = format!(in alloc; "x = {open}**")?;
+    assert!(rt; has_fault(alloc, other.as_str(), 1, ParseKind::Unexpected, 69)?);
+    let deepest = "(".repeat(alloc, 65000)?;
+    assert!(rt; has_fault(alloc, deepest.as_str(), 1, ParseKind::TooDeep, 65)?);
+    Ok(())
+}
+
+#[test]
+fn too_many_statements(rt: HostRuntime) -> Result<(), Fail> {
+    let alloc = rt.alloc();
+    let most = "x = 1\n".repeat(alloc, 1000)?;
+    assert!(rt; parse_cell(alloc, most.as_str())?.is_ok());
+    for next in ["x = 1", "if", "  y", "foo(3)", "$"] {
+        let more = format!(in alloc; "{most}{next}")?;
+        let (kind, column) = match next {
+            "$" => (ParseKind::BadToken, 1),
+            "  y" => (ParseKind::TooManyStatements, 3),
+            _ => (ParseKind::TooManyStatements, 1),
+        };
+        assert!(rt;
+            has_fault(alloc, more.as_str(), 1001, kind, column)?,
+            "{next:?}"
+        );
+    }
+    Ok(())
+}
+
+#[test]
+fn cells(rt: HostRuntime) -> Result<(), Fail> {
+    for text in [
+        "",
+        "# only",
+        "   # only",
+        "x = 1\r\ny = 2\r\n",
+        "x\t=\t1",
+        "x = ----------------------------------------------------------------1",
+        "np.arange(3)[0] = 1",
+        "1[0] = 2",
+        "(x)[0] = 1",
+        "sum = 1",
+        "numpy = arange",
+        "arange[numpy] = 1",
+        "x = numpy[arange]",
+        "import numpy as np\nx = np.arange(6)\nx[1] = -x[2][3]\nprint(x, (x[0]), -1)\ndel x",
+        "x = (1\n)",
+        "print(\nx\n)",
+    ] {
+        assert!(rt; parse_cell(rt.alloc(), text)?.is_ok(), "{text:?}");
+    }
+    Ok(())
+}
+
+#[test]
+fn trees(rt: HostRuntime) -> Result<(), Fail> {
+    let alloc = rt.alloc();
+    assert!(rt;
+        means(
+            alloc,
+            "import numpy as np",
+            "[Line { line: 1, stmt: Import }]"
+        )?
+    );
+    assert!(rt;
+        means(
+            alloc,
+            "\ndel sum # all",
+            "[Line { line: 2, stmt: Delete(\"sum\") }]"
+        )?
+    );
+    assert!(rt;
+        means(
+            alloc,
+            "x = -(7)",
+            "[Line { line: 1, stmt: Bind(\"x\", Negative(Integer(7))) }]"
+        )?
+    );
+    assert!(rt;
+        means(
+            alloc,
+            "y = -x[0][1]",
+            "[Line { line: 1, stmt: Bind(\"y\", Negative(Item(Item(Name(\"x\"), Integer(0)), Integer(1)))) }]",
+        )?
+    );
+    assert!(rt;
+        means(
+            alloc,
+            "print(np.arange(3),\n  a[-1])\na[b][1] = 2",
+            "[Line { line: 1, stmt: Print([Arange(Integer(3)), Item(Name(\"a\"), Negative(Integer(1)))]) }, \
+             Line { line: 3, stmt: Assign(Item(Name(\"a\"), Name(\"b\")), Integer(1), Integer(2)) }]",
+        )?
+    );
+    Ok(())
+}

@@ -1,0 +1,72 @@
+//! The text of one number.
+ghost use Rattle.std.specs.Prelude.{◌≡◌, ◌<◌, ◌++◌, length, replicate, string_bytes, OnOk, IfOk};
+ghost use Rattle.std.specs.Fmt.{signed_decimal};
+ghost use Rattle.nd_model.specs.Text.{number_text, aligned};
+ghost use Rattle.nd_types.specs.Types.{kind_of};
+ghost use Rattle.nd_print.specs.Texts.{num_text};
+
+use itoa::Buffer;
+use nd_types::{Kind, Num};
+use std::alloc::{AllocError, Global};
+
+/// Returns the text of a number outside arrays.
+pub fn scalar_text(alloc: Global, num: Num) -> Result<String, AllocError>
+    ensures { IfOk result (λ text. string_bytes text ≡ num_text num) }
+{
+    let mut text = String::new(alloc);
+    match num {
+        Num::Int(number) => push_decimal(&mut text, number)?,
+        Num::Bool(truth) => text.push_str(if truth { "True" } else { "False" })?,
+        Num::Scalar(kind, number) => push_number(&mut text, kind, number)?,
+    }
+    Ok(text)
+}
+
+// Appends the digits of a number.
+fn push_decimal(text: &mut String, number: i128) -> Result<(), AllocError>
+    ensures { OnOk result (string_bytes text.new ≡ string_bytes text.old ++ signed_decimal number) }
+{
+    text.push_str(Buffer::new().format(number))
+}
+
+// Appends a number of the kind.
+pub(crate) fn push_number(text: &mut String, kind: Kind, number: i128) -> Result<(), AllocError>
+    ensures { OnOk result (string_bytes text.new ≡ string_bytes text.old ++ number_text (kind_of kind) number) }
+{
+    match kind {
+        Kind::I64 => push_decimal(text, number),
+    }
+}
+
+// The number of bytes of a number's text.
+pub(crate) fn text_len(kind: Kind, number: i128) -> usize
+    ensures { result ≡ length (number_text (kind_of kind) number) }
+{
+    match kind {
+        Kind::I64 => Buffer::new().format(number).len(),
+    }
+}
+
+// Appends a number of the kind, aligned to the right.
+pub(crate) fn push_aligned(
+    text: &mut String,
+    width: usize,
+    kind: Kind,
+    number: i128,
+) -> Result<(), AllocError>
+    ensures { OnOk result (string_bytes text.new ≡ string_bytes text.old ++ aligned width (number_text (kind_of kind) number)) }
+{
+    push_times(text, ' ', width.saturating_sub(text_len(kind, number)))?;
+    push_number(text, kind, number)
+}
+
+// Appends a character so many times.
+pub(crate) fn push_times(text: &mut String, character: char, times: usize) -> Result<(), AllocError>
+    requires { character < 128 }
+    ensures { OnOk result (string_bytes text.new ≡ string_bytes text.old ++ replicate times character) }
+{
+    for _ in 0..times {
+        text.push(character)?;
+    }
+    Ok(())
+}

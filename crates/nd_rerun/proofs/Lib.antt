@@ -1,0 +1,4 @@
+pub mod Small
+pub mod Runs
+pub mod Changes
+pub mod Asked

@@ -1,0 +1,6 @@
+pub mod Edits
+pub mod EditsOf
+pub mod Labels
+pub mod Cells
+pub mod Passes
+pub mod Queries

@@ -1,0 +1,17 @@
+-- What a notebook keeps true of its fields.
+use Rattle.std.specs.Prelude.{◌≡◌, List}
+use Rattle.nd_model.specs.Renaming.{AreDistinct}
+use Rattle.nd_model.specs.Book.{Cell, labels_of, told_book}
+use Rattle.nd_rerun.specs.declared.notebook.Notebook.TheInside.{Inside}
+use Rattle.nd_rerun.specs.Edits.{book_of}
+use Rattle.nd_rerun.specs.Labels.{AreSmall}
+use Rattle.nd_rerun.specs.Cells.{cells_of, tolds_of}
+
+abbrev pub cells_in : Inside → List Cell
+cells_in n = cells_of n.cells.items
+
+-- What is kept of the runs is what running all cells in order from nothing tells. Labels are distinct, and small.
+pub record IsRun (n : Inside) : Type 0 where
+  pub told : tolds_of n.ran.items ≡ told_book (book_of (cells_in n))
+  pub distinct : AreDistinct (labels_of (cells_in n))
+  pub small : AreSmall (labels_of (cells_in n))

@@ -1,0 +1,40 @@
+//! Edits, and why they are refused.
+
+ghost use Rattle.std.specs.Prelude.{◌≡◌};
+ghost use Rattle.nd_rerun.specs.declared.edit.EditFault.TheVariants as edits;
+
+use nd_heap::OutOfMemory;
+use std::alloc::{AllocError, AllocFailed};
+
+/// An edit of a notebook. Places count from 0.
+#[derive(Clone, Copy)]
+pub enum Edit<'a> {
+    /// A new cell at the place, which may be behind the last one.
+    Insert(usize, &'a str),
+    /// Another text for the cell at the place.
+    Change(usize, &'a str),
+    /// The cell at the first place stands at the second afterwards.
+    Move(usize, usize),
+    Remove(usize),
+}
+
+/// Why an edit is refused. The first that holds is answered, and want of memory last.
+#[derive(Clone, Copy, PartialEq, Eq, Debug)]
+pub enum EditFault {
+    /// The place, and how many cells there are.
+    NoCell(usize, usize),
+    /// There are 10,000 already.
+    TooManyCells,
+    /// The text has more than 65,536 bytes.
+    CellTooLong,
+    /// A growth was refused. The notebook is as it was.
+    OutOfMemory,
+}
+
+impl From<OutOfMemory> for EditFault {
+    ghost from_gives = { λ _ e. e ≡ edits.OutOfMemory };
+
+    fn from(_e: OutOfMemory) -> EditFault {
+        EditFault::OutOfMemory
+    }
+}

@@ -1,0 +1,11 @@
+//! The notebook: a list of cells under edits, whose answers are those of running all cells in order from nothing.
+#![tactic(auto)]
+
+mod cells;
+mod edit;
+mod notebook;
+mod query;
+
+pub use edit::{Edit, EditFault};
+pub use notebook::Notebook;
+pub use query::{QueryFault, Shown};

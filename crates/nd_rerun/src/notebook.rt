@@ -1,0 +1,231 @@
+//! The notebook.
+
+ghost use Rattle.std.specs.Prelude.{◌≡◌, ◌⊎◌, [], OnErr, OnOk, length};
+ghost use Rattle.nd_model.specs.Book.{labels_of};
+ghost use Rattle.nd_model.specs.Renaming.{AreDistinct};
+ghost use Rattle.nd_model.specs.Book as model;
+ghost use Rattle.nd_rerun.specs.Edits.{Answers};
+ghost use Rattle.nd_rerun.specs.Labels.{AreSmall};
+
+use crate::cells::{Ran, Source, changed, inserted, moved, removed, run_all};
+use crate::edit::{Edit, EditFault};
+use crate::query::{QueryFault, Shown, names_of, what_shows};
+use indexmap::IndexMap;
+use nd_cell::{CellResult, Meter};
+use nd_heap::{Inputs, OutOfMemory};
+use std::alloc::Global;
+use std::marker::Model;
+
+/// The most cells of a notebook.
+const MOST_CELLS: usize = 10_000;
+
+/// The most bytes of a cell's text.
+const MOST_SOURCE: usize = 65_536;
+
+/// A list of cells with what running all of them in order from nothing gives. Places count from 0.
+#[derive(Drop)]
+pub struct Notebook {
+    cells: Vec<Source>,
+    ran: Vec<Ran>,
+    alloc: Global,
+}
+
+impl Model for Notebook {
+    ghost use Rattle.std.specs.Prelude.{List};
+    ghost use Rattle.nd_model.specs.Book.{Cell};
+
+    ghost Value = { List Cell };
+
+    ghost use Rattle.nd_rerun.specs.Passes.{cells_in, IsRun};
+
+    ghost view = { cells_in };
+
+    ghost invariant = { IsRun };
+}
+
+impl Notebook {
+    ghost use Rattle.nd_rerun.specs.Cells.{cells_of};
+
+    /// A notebook without cells. It takes no memory.
+    pub fn new(alloc: Global) -> Notebook
+        ensures { result ≡ [] }
+    {
+        Notebook {
+            cells: Vec::new(alloc),
+            ran: Vec::new(alloc),
+            alloc,
+        }
+    }
+
+    /// How many cells there are.
+    pub fn count(&self) -> usize
+        ensures { result ≡ length self.now }
+    {
+        self.cells.len()
+    }
+
+    /// Runs these cells, and puts them in the place of the present ones.
+    fn replace(&mut self, meter: &mut Meter, cells: Vec<Source>) -> Result<(), OutOfMemory>
+        requires distinct { AreDistinct (labels_of (cells_of cells.items)) }
+        requires small { AreSmall (labels_of (cells_of cells.items)) }
+        ensures ok { OnOk result (self.new ≡ cells_of cells.items) }
+        ensures err { OnErr result (self.new ≡ self.old) }
+    {
+        let inputs: Inputs = IndexMap::new(self.alloc);
+        let ran = run_all(self.alloc, meter, &inputs, &cells)?;
+        self.cells = cells;
+        self.ran = ran;
+        Ok(())
+    }
+}
+
+impl Notebook {
+    /// Puts a new cell at the place, which may be behind the last one. It is refused, in this order, where there is no such
+    /// place, where there are 10,000 cells, where the text has more than 65,536 bytes, and for want of memory.
+    pub fn insert(&mut self, meter: &mut Meter, at: usize, source: &str) -> Result<(), EditFault>
+        ensures { Answers (model.Insert at source.now) self.old result self.new }
+    {
+        let count = self.cells.len();
+        if count < at {
+            return Err(EditFault::NoCell(at, count));
+        }
+        if MOST_CELLS <= count {
+            return Err(EditFault::TooManyCells);
+        }
+        if source.len() > MOST_SOURCE {
+            return Err(EditFault::CellTooLong);
+        }
+        let cells = inserted(self.alloc, &self.cells, at, source)?;
+        self.replace(meter, cells)?;
+        Ok(())
+    }
+
+    /// Gives the cell at the place another text. It is refused, in this order, where there is no such cell, where the text has
+    /// more than 65,536 bytes, and for want of memory.
+    pub fn edit(&mut self, meter: &mut Meter, at: usize, source: &str) -> Result<(), EditFault>
+        ensures { Answers (model.Change at source.now) self.old result self.new }
+    {
+        let count = self.cells.len();
+        if count <= at {
+            return Err(EditFault::NoCell(at, count));
+        }
+        if source.len() > MOST_SOURCE {
+            return Err(EditFault::CellTooLong);
+        }
+        let cells = changed(self.alloc, &self.cells, at, source)?;
+        self.replace(meter, cells)?;
+        Ok(())
+    }
+
+    /// Moves the cell at the first place, so that it stands at the second afterwards. It is refused where there is no cell at one
+    /// of them, with the first such place, and for want of memory.
+    pub fn move_cell(&mut self, meter: &mut Meter, from: usize, to: usize) -> Result<(), EditFault>
+        ensures { Answers (model.Move from to) self.old result self.new }
+    {
+        let count = self.cells.len();
+        if count <= from {
+            return Err(EditFault::NoCell(from, count));
+        }
+        if count <= to {
+            return Err(EditFault::NoCell(to, count));
+        }
+        let cells = moved(self.alloc, &self.cells, from, to)?;
+        self.replace(meter, cells)?;
+        Ok(())
+    }
+
+    /// Takes the cell at the place out. It is refused where there is none, and for want of memory.
+    pub fn remove(&mut self, meter: &mut Meter, at: usize) -> Result<(), EditFault>
+        ensures { Answers (model.Remove at) self.old result self.new }
+    {
+        let count = self.cells.len();
+        if count <= at {
+            return Err(EditFault::NoCell(at, count));
+        }
+        let cells = removed(self.alloc, &self.cells, at)?;
+        self.replace(meter, cells)?;
+        Ok(())
+    }
+}
+
+impl Notebook {
+    ghost use Rattle.std.specs.Prelude.{map, string_bytes};
+    ghost use Rattle.nd_rerun.specs.Edits.{book_of};
+    ghost use Rattle.nd_rerun.specs.Queries as queries;
+    ghost use Rattle.nd_rerun.specs.Queries.{result_of, shown_of};
+
+    /// The text of the cell at the place. It takes no memory.
+    pub fn source(&self, at: usize) -> Result<&str, QueryFault>
+        ensures { queries.Gives (λ s. s.now) result (model.source_at (book_of self.now) at) }
+    {
+        match self.cells.get(at) {
+            Some(cell) => Ok(cell.text.as_str()),
+            None => Err(QueryFault::NoCell(at, self.cells.len())),
+        }
+    }
+
+    /// What the cell at the place gives. It takes no memory.
+    pub fn result(&self, at: usize) -> Result<&CellResult, QueryFault>
+        ensures { queries.Gives (λ r. result_of r.now) result (model.result_at (book_of self.now) at) }
+    {
+        match self.ran.get(at) {
+            Some(ran) => Ok(&ran.result),
+            None => Err(QueryFault::NoCell(at, self.cells.len())),
+        }
+    }
+
+    /// The names that are bound after the cell at the place, in order.
+    pub fn names(&self, at: usize) -> Result<Vec<String>, QueryFault>
+        ensures { queries.Answers [] (λ v. map string_bytes v.items) result (model.names_at (book_of self.now) at) }
+    {
+        match self.ran.get(at) {
+            Some(ran) => Ok(names_of(self.alloc, &ran.version)?),
+            None => Err(QueryFault::NoCell(at, self.cells.len())),
+        }
+    }
+
+    /// What shows of the value of a name after the cell at the place.
+    pub fn value(&self, at: usize, name: &str) -> Result<Shown, QueryFault>
+        ensures { queries.Answers name.now shown_of result (model.value_at (book_of self.now) at name.now) }
+    {
+        let Some(ran) = self.ran.get(at) else {
+            return Err(QueryFault::NoCell(at, self.cells.len()));
+        };
+        match ran.version.peek(name) {
+            Some(value) => Ok(what_shows(self.alloc, &ran.version, value)?),
+            None => Err(QueryFault::NoName),
+        }
+    }
+}
+
+impl Notebook {
+    ghost use Rattle.std.specs.Prelude.{map};
+    ghost use Rattle.nd_model.specs.Book.{AnswersUnderAnyLabels};
+    ghost use Rattle.nd_rerun.specs.Edits.{AreEdited, book_of};
+    ghost use Rattle.nd_rerun.specs.EditsOf.{edit_of};
+
+    /// Makes an edit, or refuses it.
+    pub fn apply(&mut self, meter: &mut Meter, edit: Edit) -> Result<(), EditFault>
+        ensures { Answers (edit_of edit.entry) self.old result self.new }
+    {
+        match edit {
+            Edit::Insert(at, source) => self.insert(meter, at, source),
+            Edit::Change(at, source) => self.edit(meter, at, source),
+            Edit::Move(from, to) => self.move_cell(meter, from, to),
+            Edit::Remove(at) => self.remove(meter, at),
+        }
+    }
+
+    /// Makes these edits, one after the other; a refused one changes nothing. Afterwards what the notebook answers (`source`,
+    /// `result`, `names`, `value`, `count`) is what running all present cells in order from nothing gives, whichever distinct
+    /// labels the cells have.
+    pub fn apply_all(&mut self, meter: &mut Meter, edits: &[Edit])
+        ensures edited { AreEdited (map edit_of edits.now) self.old self.new }
+        ensures any_labels { AnswersUnderAnyLabels (book_of self.new) }
+    {
+        for edit in edits {
+            let _ = self.apply(meter, *edit);
+        }
+        let _ = &self.cells;
+    }
+}

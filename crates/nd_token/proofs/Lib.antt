@@ -1,0 +1,3 @@
+pub mod Runs
+pub mod Pieces
+pub mod Scanning

@@ -1,0 +1,124 @@
+/// What a token is.
+#[derive(Clone, Copy, Debug, PartialEq, Eq)]
+pub enum Word<'a> {
+    /// A name that is neither reserved nor a keyword.
+    Name(&'a str),
+    Integer(u64),
+    /// The text between two quotes.
+    Quoted(&'a str),
+    /// A keyword of Python 3.7.
+    Keyword(&'a str),
+    /// The reserved name `np`.
+    Np,
+    /// The reserved name `print`.
+    Print,
+    /// The reserved name `abs`.
+    Abs,
+    /// The reserved name `buffer`.
+    Buffer,
+    /// `+`
+    Plus,
+    /// `-`
+    Minus,
+    /// `*`
+    Star,
+    /// `**`
+    DoubleStar,
+    /// `//`
+    DoubleSlash,
+    /// `/`
+    Slash,
+    /// `%`
+    Percent,
+    /// `<<`
+    ShiftLeft,
+    /// `>>`
+    ShiftRight,
+    /// `&`
+    Ampersand,
+    /// `|`
+    Bar,
+    /// `^`
+    Caret,
+    /// `~`
+    Tilde,
+    /// `<`
+    Less,
+    /// `<=`
+    LessEqual,
+    /// `>`
+    Greater,
+    /// `>=`
+    GreaterEqual,
+    /// `==`
+    DoubleEqual,
+    /// `!=`
+    NotEqual,
+    /// `=`
+    Equal,
+    /// `+=`
+    PlusEqual,
+    /// `-=`
+    MinusEqual,
+    /// `*=`
+    StarEqual,
+    /// `**=`
+    DoubleStarEqual,
+    /// `//=`
+    DoubleSlashEqual,
+    /// `/=`
+    SlashEqual,
+    /// `%=`
+    PercentEqual,
+    /// `<<=`
+    ShiftLeftEqual,
+    /// `>>=`
+    ShiftRightEqual,
+    /// `&=`
+    AmpersandEqual,
+    /// `|=`
+    BarEqual,
+    /// `^=`
+    CaretEqual,
+    /// `(`
+    OpenParen,
+    /// `)`
+    CloseParen,
+    /// `[`
+    OpenBracket,
+    /// `]`
+    CloseBracket,
+    /// `,`
+    Comma,
+    /// `:`
+    Colon,
+    /// `.`
+    Dot,
+    /// `...`
+    Ellipsis,
+    /// `;`
+    Semicolon,
+    /// `@`
+    At,
+    /// `:=`
+    ColonEqual,
+    /// The end of a statement.
+    End,
+}
+
+/// A token with its place: line and column in bytes, both from 1. The end of a statement stands just behind its last token.
+#[derive(Clone, Copy, Debug, PartialEq, Eq)]
+pub struct Token<'a> {
+    pub word: Word<'a>,
+    pub line: usize,
+    pub column: usize,
+    /// Whether it is the first of its statement.
+    pub starts: bool,
+}
+
+/// The first place of a text that is no token: line and column in bytes, both from 1.
+#[derive(Clone, Copy, Debug, PartialEq, Eq)]
+pub struct BadToken {
+    pub line: usize,
+    pub column: usize,
+}

@@ -1,0 +1,211 @@
+//! Names, numbers and texts in quotes.
+
+ghost use Rattle.std.specs.Prelude.{◌≡◌, ℕ, ◌+◌, ◌<◌, ◌≤◌, IsTrue, drop, length, slice_index, take};
+ghost use Rattle.std.specs.Char.{is_ascii_digit};
+ghost use Rattle.std.specs.List.{prefix_len};
+ghost use Rattle.std.specs.Option.{option_map};
+ghost use Rattle.std.specs.Str.{IsCharBoundary};
+ghost use Rattle.nd_model.specs.Lexing.{begins_name, integer_of, is_keyword, is_name_byte, is_plain, is_quotable, is_quote, joins_number, name_at, number_at, quoted_at, word_at, word_of_name};
+ghost use Rattle.nd_token.specs.Tokens.{lexed, word_of};
+
+use crate::symbol::symbol_at;
+use crate::token::Word;
+
+// The most bytes of a name.
+const MOST_NAME: usize = 64;
+
+// The keywords of Python 3.7.
+static KEYWORDS: [&str; 35] = [
+    "False", "None", "True", "and", "as", "assert", "async", "await", "break", "class", "continue",
+    "def", "del", "elif", "else", "except", "finally", "for", "from", "global", "if", "import",
+    "in", "is", "lambda", "nonlocal", "not", "or", "pass", "raise", "return", "try", "while",
+    "with", "yield",
+];
+
+fn begins_name(byte: u8) -> bool
+    ensures { result ≡ begins_name byte }
+{
+    byte.is_ascii_alphabetic() || byte == b'_'
+}
+
+fn is_name_byte(byte: u8) -> bool
+    ensures { result ≡ is_name_byte byte }
+{
+    begins_name(byte) || byte.is_ascii_digit()
+}
+
+// No number ends before this byte.
+fn joins_number(byte: u8) -> bool
+    ensures { result ≡ joins_number byte }
+{
+    is_name_byte(byte) || byte == b'.'
+}
+
+fn is_quote(byte: u8) -> bool
+    ensures { result ≡ is_quote byte }
+{
+    byte == b'"' || byte == b'\''
+}
+
+// The byte may stand between two of this quote.
+fn is_quotable(quote: u8, byte: u8) -> bool
+    ensures { result ≡ is_quotable quote byte }
+{
+    byte != quote && byte != b'\\' && byte != b'\n'
+}
+
+/// The bytes of a text from this place on.
+pub(crate) fn bytes_from(text: &str, at: usize) -> &[u8]
+    requires { at ≤ length text.now }
+    ensures { result.now ≡ drop at text.now }
+{
+    &text.as_bytes()[at..]
+}
+
+// The part of a text from this place on that has this many bytes.
+fn part(text: &str, at: usize, count: usize) -> &str
+    requires in_text { at + count ≤ length text.now }
+    requires begins { IsCharBoundary text.now at }
+    requires ends { IsCharBoundary text.now (at + count) }
+    ensures { result.now ≡ take count (drop at text.now) }
+{
+    &text[at..at + count]
+}
+
+// How many bytes of a name stand at the front.
+#[tactic(auto, using(crate::proofs::Runs::runs))]
+fn name_length(text: &[u8]) -> usize
+    ensures value { result ≡ prefix_len is_name_byte text.now }
+    ensures fits { result ≤ length text.now }
+{
+    text.iter().take_while(|byte| is_name_byte(**byte)).count()
+}
+
+// How many digits stand at the front.
+#[tactic(auto, using(crate::proofs::Runs::runs))]
+fn digit_count(text: &[u8]) -> usize
+    ensures value { result ≡ prefix_len is_ascii_digit text.now }
+    ensures fits { result ≤ length text.now }
+{
+    text.iter().take_while(|byte| byte.is_ascii_digit()).count()
+}
+
+// How many bytes at the front may stand between two of this quote.
+#[tactic(auto, using(crate::proofs::Runs::runs))]
+fn quotable_length(quote: u8, text: &[u8]) -> usize
+    ensures value { result ≡ prefix_len (is_quotable quote) text.now }
+    ensures fits { result ≤ length text.now }
+{
+    text.iter()
+        .take_while(|byte| is_quotable(quote, **byte))
+        .count()
+}
+
+#[tactic(auto, unfolding(nd_model::specs::Lexing::keywords))]
+fn is_keyword(name: &str) -> bool
+    ensures { result ≡ is_keyword name.now }
+{
+    KEYWORDS.contains(&name)
+}
+
+// The word of a name.
+fn word_of_name(name: &str) -> Word<'_>
+    ensures { word_of result ≡ word_of_name name.now }
+{
+    if is_keyword(name) {
+        return Word::Keyword(name);
+    }
+    match name {
+        "np" => Word::Np,
+        "print" => Word::Print,
+        "abs" => Word::Abs,
+        "buffer" => Word::Buffer,
+        _ => Word::Name(name),
+    }
+}
+
+// The name at this place, and how many bytes it has.
+fn name_at(text: &str, at: usize) -> Option<(Word<'_>, usize)>
+    requires in_text { at < length text.now }
+    requires begins { IsTrue (begins_name (slice_index text.now at)) }
+    ensures { option_map lexed result ≡ name_at (drop at text.now) }
+{
+    let length = name_length(bytes_from(text, at));
+    if length > MOST_NAME {
+        return None;
+    }
+    Some((word_of_name(part(text, at, length)), length))
+}
+
+// The digits are `0`, or the first one is another.
+fn is_plain(digits: &str) -> bool
+    requires { 0 < length digits.now }
+    ensures { result ≡ is_plain digits.now }
+{
+    digits.len() == 1 || digits.as_bytes()[0] != b'0'
+}
+
+// The integer that digits write. Zeros in front and a number that does not fit are refused.
+fn integer_of(digits: &str) -> Option<u64>
+    requires some { 0 < length digits.now }
+    requires digits { (k : ℕ) → k < length digits.now → IsTrue (is_ascii_digit (slice_index digits.now k)) }
+    ensures { result ≡ integer_of digits.now }
+{
+    if is_plain(digits) {
+        digits.parse().ok()
+    } else {
+        None
+    }
+}
+
+// The number at this place, and how many bytes it has.
+fn number_at(text: &str, at: usize) -> Option<(Word<'_>, usize)>
+    requires in_text { at < length text.now }
+    requires begins { IsTrue (is_ascii_digit (slice_index text.now at)) }
+    ensures { option_map lexed result ≡ number_at (drop at text.now) }
+{
+    let bytes = text.as_bytes();
+    let length = digit_count(bytes_from(text, at));
+    let end = at + length;
+    if end < bytes.len() && joins_number(bytes[end]) {
+        return None;
+    }
+    let value = integer_of(part(text, at, length))?;
+    Some((Word::Integer(value), length))
+}
+
+// The text in quotes whose first quote stands at this place, and how many bytes it has with its quotes.
+fn quoted_at(text: &str, at: usize) -> Option<(Word<'_>, usize)>
+    requires in_text { at < length text.now }
+    requires begins { IsTrue (is_quote (slice_index text.now at)) }
+    ensures { option_map lexed result ≡ quoted_at (drop at text.now) }
+{
+    let bytes = text.as_bytes();
+    let quote = bytes[at];
+    let start = at + 1;
+    let length = quotable_length(quote, bytes_from(text, start));
+    let end = start + length;
+    if end < bytes.len() && bytes[end] == quote {
+        Some((Word::Quoted(part(text, start, length)), length + 2))
+    } else {
+        None
+    }
+}
+
+/// The longest token that begins at this place, and how many bytes it has. `None`: no token begins here.
+#[tactic(auto, unfolding(nd_model::specs::Lexing::word_at))]
+pub(crate) fn word_at(text: &str, at: usize) -> Option<(Word<'_>, usize)>
+    requires { at < length text.now }
+    ensures { option_map lexed result ≡ word_at (drop at text.now) }
+{
+    let first = text.as_bytes()[at];
+    if begins_name(first) {
+        name_at(text, at)
+    } else if first.is_ascii_digit() {
+        number_at(text, at)
+    } else if is_quote(first) {
+        quoted_at(text, at)
+    } else {
+        symbol_at(bytes_from(text, at))
+    }
+}

@@ -1,0 +1,4 @@
+pub mod Indexes
+pub mod Limits
+pub mod Strides
+pub mod Views

@@ -1,0 +1,55 @@
+//! Index tuples in C order.
+ghost use Rattle.std.specs.Prelude.{◌≡◌, ◌+◌, ◌-◌, ◌^◌, ◌<◌, ◌≤◌, pos, ◌+ℤ◌, ◌*ℤ◌, ◌≤ℤ◌, ◌<ℤ◌, ◌++◌, length, take, drop, replicate, slice_index, false, IsTrue, ◌↔◌};
+ghost use Rattle.std.specs.List.{AllZip};
+ghost use Rattle.nd_model.specs.Tuple.{elements_of, number};
+ghost use Rattle.nd_view.specs.Indexes.{IsIndex};
+
+// The place of an element from that of another, so many strides before it on one axis.
+pub(crate) fn moved(place: u64, by: u64, stride: i128) -> u64
+    requires low { pos 0 ≤ℤ (pos place +ℤ (pos by *ℤ stride)) }
+    requires high { (pos place +ℤ (pos by *ℤ stride)) <ℤ pos (2 ^ 64) }
+    ensures { pos result ≡ pos place +ℤ (pos by *ℤ stride) }
+{
+    (i128::from(place) + i128::from(by) * stride) as u64
+}
+
+// Moves the tuple to the next one, and returns whether there is one. The last tuple stays.
+pub(crate) fn advance(shape: &[u64], index: &mut [u64]) -> bool
+    requires { IsIndex shape.now index.old }
+    ensures inside { IsIndex shape.now index.new }
+    ensures next { IsTrue result → number shape.now index.new ≡ number shape.now index.old + 1 }
+    ensures more { IsTrue result ↔ (number shape.now index.old + 1 < elements_of shape.now) }
+    ensures stays { result ≡ false → index.new ≡ index.old }
+{
+    let axes = unfinished(shape, index);
+    if axes == 0 {
+        return false;
+    }
+    index[axes - 1] += 1;
+    clear_from(index, axes);
+    true
+}
+
+// The number of axes up to the last one whose index is not at its end.
+fn unfinished(shape: &[u64], index: &[u64]) -> usize
+    requires { IsIndex shape.now index.now }
+    ensures inside { result ≤ length index.now }
+    ensures ends { AllZip (λ i n. i + 1 ≡ n) (drop result index.now) (drop result shape.now) }
+    ensures further { 0 < result → slice_index index.now (result - 1) + 1 < slice_index shape.now (result - 1) }
+{
+    let mut axes = shape.len();
+    while axes > 0 && index[axes - 1] + 1 == shape[axes - 1] {
+        axes -= 1;
+    }
+    axes
+}
+
+// Sets the indexes from an axis on to 0.
+fn clear_from(index: &mut [u64], from: usize)
+    requires { from ≤ length index.old }
+    ensures { index.new ≡ take from index.old ++ replicate (length index.old - from) 0 }
+{
+    for axis in from..index.len() {
+        index[axis] = 0;
+    }
+}

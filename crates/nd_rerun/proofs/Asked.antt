@@ -111,7 +111,7 @@ pub elements_more : (t : ElementType) (e : Element) (bytes seen : List ℕ) (pla
 elements_more t e bytes seen places i p all new one same lt at so_far is =
     is
     ∙ ap₂ (λ l m. l ++ m) so_far
-        (ap (bytes_of e) (ap₂ (number_at e) same at) ∙ sym (append-nil (shown_element (One e) bytes (slice_index places i))) ∙ ap (λ (u : ElementType). shown_element u bytes (slice_index places i) ++ []) (sym one))
+    (ap (bytes_of e) (ap₂ (number_at e) same at) ∙ sym (append-nil (shown_element (One e) bytes (slice_index places i))) ∙ ap (λ (u : ElementType). shown_element u bytes (slice_index places i) ++ []) (sym one))
     ∙ sym (flat_map-append (shown_element t bytes) (take i places) (slice_index places i ∷ []))
     ∙ ap (flat_map (shown_element t bytes)) (sym (take-more places i lt))
   where

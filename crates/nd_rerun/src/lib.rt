@@ -7,5 +7,6 @@ mod notebook;
 mod query;
 
 pub use edit::{Edit, EditFault};
+pub use nd_cell::{CellFault, CellResult, Meter, Refusal};
 pub use notebook::Notebook;
 pub use query::{QueryFault, Shown};

@@ -87,12 +87,7 @@ fn number(bytes: &[u8], place: usize, elem: Elem) -> i128
 }
 
 /// Adds the bytes of the number at a place of these bytes.
-fn push_number(
-    all: &mut Vec<u8>,
-    bytes: &[u8],
-    place: usize,
-    elem: Elem,
-) -> Result<(), AllocError>
+fn push_number(all: &mut Vec<u8>, bytes: &[u8], place: usize, elem: Elem) -> Result<(), AllocError>
     requires { place + 8 ≤ 2 ^ 27 }
     ensures { OnOk result (all.new.items ≡ all.old.items ++ bytes_of (elem_of elem) (number_at (elem_of elem) bytes.now place)) }
 {

@@ -1,0 +1,6 @@
+pub mod Chunks
+pub mod Lines
+pub mod Openings
+pub mod Pieces
+pub mod Progress
+pub mod Writing

@@ -1,0 +1,5 @@
+pub mod Answer
+pub mod Carry
+pub mod Ends
+pub mod Run
+pub mod Source

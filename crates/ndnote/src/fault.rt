@@ -1,0 +1,138 @@
+//! The texts of refusals.
+
+ghost use Rattle.std.specs.Prelude.{◌≡◌, ◌++◌, codes, decimal, OnOk};
+ghost use Rattle.std.specs.Fmt.{signed_decimal};
+ghost use Rattle.nd_model.specs.Script as script;
+ghost use Rattle.nd_parse.specs.Syntax.{kind_of};
+ghost use Rattle.nd_eval.specs.Faults.{view_fault_of, index_fault_of, ufunc_fault_of, stmt_error_of, fault_of};
+ghost use Rattle.nd_cell.specs.Cells.{cell_fault_of};
+
+use nd_eval::{IndexFault, StmtError, StmtFault, UfuncFault, ViewFault};
+use nd_parse::ParseKind;
+use nd_rerun::CellFault;
+use nd_script::{push_integer, push_number, push_text};
+use std::alloc::AllocError;
+
+/// Appends the fault of a cell, as `Stmt.NoName x`.
+pub fn push_cell_fault(out: &mut Vec<u8>, fault: &CellFault) -> Result<(), AllocError>
+    ensures { OnOk result (out.new.items ≡ out.old.items ++ script.refusal_text (cell_fault_of fault.now)) }
+{
+    match fault {
+        CellFault::Parse(kind, column) => push_parse_fault(out, *kind, *column),
+        CellFault::Statement(fault) => push_statement_fault(out, fault),
+    }
+}
+
+fn push_parse_fault(out: &mut Vec<u8>, kind: ParseKind, column: usize) -> Result<(), AllocError>
+    ensures { OnOk result (out.new.items ≡ out.old.items ++ (codes "Parse." ++ script.parse_text (kind_of kind) ++ codes " " ++ decimal column)) }
+{
+    push_text(out, "Parse.")?;
+    push_text(out, parse_name(kind))?;
+    push_text(out, " ")?;
+    push_number(out, column as u64)
+}
+
+fn parse_name(kind: ParseKind) -> &'static str
+    ensures { result.now ≡ script.parse_text (kind_of kind) }
+{
+    match kind {
+        ParseKind::BadToken => "BadToken",
+        ParseKind::Unexpected => "Unexpected",
+        ParseKind::TooDeep => "TooDeep",
+        ParseKind::TooManyStatements => "TooManyStatements",
+        ParseKind::UnknownCall => "UnknownCall",
+        ParseKind::LeftOut => "LeftOut",
+    }
+}
+
+fn push_statement_fault(out: &mut Vec<u8>, fault: &StmtFault) -> Result<(), AllocError>
+    ensures { OnOk result (out.new.items ≡ out.old.items ++ script.fault_text (fault_of fault.now)) }
+{
+    match fault {
+        StmtFault::View(fault) => {
+            push_text(out, "View.")?;
+            push_text(out, view_name(*fault))
+        }
+        StmtFault::Index(fault) => {
+            push_text(out, "Index.")?;
+            push_index_fault(out, *fault)
+        }
+        StmtFault::Ufunc(fault) => {
+            push_text(out, "Ufunc.")?;
+            push_ufunc_fault(out, *fault)
+        }
+        StmtFault::Stmt(fault) => {
+            push_text(out, "Stmt.")?;
+            push_statement_error(out, fault)
+        }
+    }
+}
+
+fn view_name(fault: ViewFault) -> &'static str
+    ensures { result.now ≡ script.view_text (view_fault_of fault) }
+{
+    match fault {
+        ViewFault::TooManyElements => "TooManyElements",
+    }
+}
+
+fn push_index_fault(out: &mut Vec<u8>, fault: IndexFault) -> Result<(), AllocError>
+    ensures { OnOk result (out.new.items ≡ out.old.items ++ script.index_text (index_fault_of fault)) }
+{
+    match fault {
+        IndexFault::OutOfBounds { axis, index, size } => push_out_of_bounds(out, axis, index, size),
+        IndexFault::TooManyIndices => push_text(out, "TooManyIndices"),
+        IndexFault::NotAnIndex => push_text(out, "NotAnIndex"),
+    }
+}
+
+fn push_out_of_bounds(
+    out: &mut Vec<u8>,
+    axis: usize,
+    index: i128,
+    size: u64,
+) -> Result<(), AllocError>
+    ensures { OnOk result (out.new.items ≡ out.old.items ++ (codes "OutOfBounds " ++ decimal axis ++ codes " " ++ signed_decimal index ++ codes " " ++ decimal size)) }
+{
+    push_axis_and_index(out, axis, index)?;
+    push_text(out, " ")?;
+    push_number(out, size)
+}
+
+fn push_axis_and_index(out: &mut Vec<u8>, axis: usize, index: i128) -> Result<(), AllocError>
+    ensures { OnOk result (out.new.items ≡ out.old.items ++ (codes "OutOfBounds " ++ decimal axis ++ codes " " ++ signed_decimal index)) }
+{
+    push_text(out, "OutOfBounds ")?;
+    push_number(out, axis as u64)?;
+    push_text(out, " ")?;
+    push_integer(out, index)
+}
+
+fn push_ufunc_fault(out: &mut Vec<u8>, fault: UfuncFault) -> Result<(), AllocError>
+    ensures { OnOk result (out.new.items ≡ out.old.items ++ script.ufunc_text (ufunc_fault_of fault)) }
+{
+    match fault {
+        UfuncFault::IntOutOfRange(number) => {
+            push_text(out, "IntOutOfRange ")?;
+            push_integer(out, number)
+        }
+        UfuncFault::ShapeMismatch => push_text(out, "ShapeMismatch"),
+        UfuncFault::ReadOnly => push_text(out, "ReadOnly"),
+        UfuncFault::NotNumbers => push_text(out, "NotNumbers"),
+    }
+}
+
+fn push_statement_error(out: &mut Vec<u8>, error: &StmtError) -> Result<(), AllocError>
+    ensures { OnOk result (out.new.items ≡ out.old.items ++ script.stmt_text (stmt_error_of error.now)) }
+{
+    match error {
+        StmtError::NoName(name) => {
+            push_text(out, "NoName ")?;
+            push_text(out, name.as_str())
+        }
+        StmtError::IntTooBig => push_text(out, "IntTooBig"),
+        StmtError::NotAnArray => push_text(out, "NotAnArray"),
+        StmtError::TextTooLong => push_text(out, "TextTooLong"),
+        StmtError::BadArgument => push_text(out, "BadArgument"),
+    }
+}

@@ -1,5 +1,5 @@
 -- The lines of a cell, one after another.
-use Rattle.std.proofs.Common.{◌≡◌, ℕ, suc, ◌+◌, ◌<◌, ◌≤◌, ◌^◌, true, false, cond, leb, List, [], ◌∷◌, ◌++◌, length, drop, get_or, Some, None, Result, Ok, Err, refl, sym, ap, ap₂, ◌∙◌, inl, inr, add-one, drop-cons, arith, String, string_bytes, Vec, Global}
+use Rattle.std.proofs.Common.{◌≡◌, ℕ, ◌+◌, ◌<◌, true, false, leb, List, [], ◌∷◌, ◌++◌, length, drop, get_or, Some, Result, Ok, Err, refl, sym, ap, ap₂, ◌∙◌, inl, inr, add-one, drop-cons, String, string_bytes, Vec, Global}
 use Rattle.std.specs.Prelude.{string_eq, bytes_eq}
 use Rattle.std.proofs.lemmas.Bool.{cases_Bool}
 use Rattle.indexmap.specs.IndexMap.{insert_entry}
@@ -7,7 +7,7 @@ use Rattle.nd_model.specs.Session.{bind}
 use Rattle.nd_model.specs.Running.{Running, Inputs, Output}
 use Rattle.nd_model.specs.Fault.{Fault, Statement, TextTooLong}
 use Rattle.nd_model.specs.Fault as fault
-use Rattle.nd_model.specs.Cell.{Saved, Ended, statement, statements, and_then, with_save, most_text}
+use Rattle.nd_model.specs.Cell.{Saved, statement, statements, and_then, with_save, most_text}
 use Rattle.nd_model.specs.Tokens.{tokens_of_stmt, tokens_of_lines}
 use Rattle.nd_parse.specs.declared.tree.Line.{Line}
 use Rattle.nd_parse.specs.Syntax.{stmt_of, lines_of}

@@ -1,5 +1,5 @@
 -- What is told of the cell at a place.
-use Rattle.std.proofs.Common.{◌≡◌, ℕ, zero, suc, ◌+◌, ◌<◌, ◌≤◌, get_or, add-one, arith, cond, Bool, String, string_bytes, Global, List, [], ◌∷◌, ◌++◌, map, length, take, Option, Some, None, option_map, Result, Ok, Err, ℤ, slice_index, append-nil, bytes_eq, refl, sym, ap, ap₂, ◌∙◌, inl, inr, slice_get, is_ok, true, IsErrAnd, subst}
+use Rattle.std.proofs.Common.{◌≡◌, ℕ, zero, suc, ◌+◌, ◌<◌, ◌≤◌, get_or, add-one, arith, String, string_bytes, Global, List, [], ◌∷◌, ◌++◌, map, length, take, Option, Some, None, option_map, Result, Ok, Err, slice_index, append-nil, bytes_eq, refl, sym, ap, ap₂, ◌∙◌, inl, inr, slice_get, is_ok, true, IsErrAnd, subst}
 use Rattle.std.proofs.lemmas.List.{map-append}
 use Rattle.std.proofs.lemmas.Bool.{cases_Bool}
 use Rattle.std.proofs.lemmas.Grind.{flat_map-append}

@@ -1,5 +1,5 @@
 -- Running the cells one after another.
-use Rattle.std.proofs.Common.{◌≡◌, ℕ, suc, ◌+◌, ◌<◌, length, drop, get_or, add-one, drop-cons, true, false, cond, List, [], ◌∷◌, ◌++◌, map, option_map, string_bytes, refl, sym, ap, ap₂, subst, ◌∙◌, inl, inr, append_assoc}
+use Rattle.std.proofs.Common.{◌≡◌, ℕ, ◌+◌, ◌<◌, length, drop, get_or, add-one, drop-cons, List, [], ◌∷◌, ◌++◌, option_map, string_bytes, refl, sym, ap, ap₂, ◌∙◌, inl, inr, append_assoc}
 use mathlib.Core.Path.{fun_ext}
 use Rattle.std.proofs.lemmas.Bool.{cases_Bool}
 use Rattle.nd_model.specs.Value.{Base}

@@ -1,6 +1,6 @@
 -- Small labels stay small.
-use Rattle.std.proofs.Common.{◌≡◌, ℕ, zero, suc, ◌+◌, ◌≤◌, ◌<◌, max, List, [], ◌∷◌, length, refl, sym, subst, arith}
-use Rattle.std.specs.Prelude.{insert, remove, slice_set, slice_index_or, ⊤}
+use Rattle.std.proofs.Common.{◌≡◌, ℕ, zero, suc, ◌≤◌, ◌<◌, List, [], ◌∷◌, length, sym, subst, arith}
+use Rattle.std.specs.Prelude.{insert, remove, slice_set, slice_index_or}
 use Rattle.nd_model.specs.Renaming.{AreDistinct}
 use Rattle.nd_model.specs.Book.{Cell, no_cell, labels_of, most_cells, above_labels, fresh_label, Insert, Move, edited_cells}
 use Rattle.nd_model.proofs.EditLabels.{fresh_small}

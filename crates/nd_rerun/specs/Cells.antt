@@ -1,5 +1,5 @@
 -- The cells of a notebook, and what is kept of their runs, as the definitions have them.
-use Rattle.std.specs.Prelude.{ℕ, List, [], ◌∷◌, map, option_map, string_bytes}
+use Rattle.std.specs.Prelude.{List, map, option_map, string_bytes}
 use Rattle.nd_model.specs.Book as model
 use Rattle.nd_model.specs.Renaming.{Told, shown_names}
 use Rattle.nd_heap.specs.Kept.{version_of}

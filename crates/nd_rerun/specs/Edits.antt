@@ -1,5 +1,5 @@
 -- What an edit of a notebook does, with the one choice: that memory is wanted.
-use Rattle.std.specs.Prelude.{◌≡◌, ◌⊎◌, List, [], ◌∷◌, Option, Some, None, Result, Ok, Err}
+use Rattle.std.specs.Prelude.{◌≡◌, ◌⊎◌, List, [], ◌∷◌, Some, None, Result, Ok, Err}
 use Rattle.nd_model.specs.Book as model
 use Rattle.nd_model.specs.Book.{Book, Cell, Edit, refusal, edited_cells, after_edit, EditFault}
 use Rattle.nd_rerun.specs.declared.edit.EditFault as declared

@@ -1,5 +1,5 @@
 -- The answers of queries as the definitions have them.
-use Rattle.std.specs.Prelude.{◌≡◌, ℕ, List, map, option_map, string_bytes, Result, Ok, Err, IsTrue, is_ok}
+use Rattle.std.specs.Prelude.{◌≡◌, ℕ, List, option_map, string_bytes, Result, Ok, Err, IsTrue, is_ok}
 use Rattle.nd_model.specs.Book as model
 use Rattle.nd_model.specs.Renaming as shown
 use Rattle.nd_types.specs.Types.{kind_of, type_of}

@@ -98,3 +98,78 @@ fn full_writer(rt: HostRuntime) {
         b"count 0\nbad ".as_slice()
     );
 }
+
+#[test]
+fn first_cell(rt: HostRuntime) -> Result<(), Fail> {
+    let script =
+        b"show 0\ncount\nfrob\ninsert 0\nx = np.arange(3)\nx[1] = 7\nprint(x)\n.\nshow 0\nsource 0\n";
+    let wanted =
+        b"refused NoCell 0 0\ncount 0\nbad command\nok\ntext 8\n[0 7 2]\nok\nend\nsource 34\nx = np.arange(3)\nx[1] = 7\nprint(x)\n";
+    assert_eq!(rt; answers(rt.alloc(), script)?.as_slice(), wanted.as_slice());
+    Ok(())
+}
+
+#[test]
+fn moved_cell(rt: HostRuntime) -> Result<(), Fail> {
+    let script =
+        b"insert 0\nx = np.arange(2)\n.\ninsert 1\nx[0] = 1\n.\ninsert 2\nprint(x)\n.\nshow 2\nmove 2 1\nshow 1\nnames 2\nvalue 1 x\nvalue 2 x\nvalue 0 k\nmove 3 0\n";
+    let wanted =
+        b"ok\nok\nok\ntext 6\n[1 1]\nok\nend\nok\ntext 6\n[0 1]\nok\nend\nnames 1\nx\narray <q 8 2 00000000000000000100000000000000\narray <q 8 2 01000000000000000100000000000000\nrefused NoName k\nrefused NoCell 3 3\n";
+    assert_eq!(rt; answers(rt.alloc(), script)?.as_slice(), wanted.as_slice());
+    Ok(())
+}
+
+#[test]
+fn refused_statements(rt: HostRuntime) -> Result<(), Fail> {
+    let script =
+        b"insert 0\nx = np.arange(2)\nx[2] = 1\n.\nshow 0\ninsert 1\nx = np.arange(2)\nx[0] = 9223372036854775808\n.\nshow 1\ninsert 2\nx = np.arange(16777217)\n.\nshow 2\ninsert 3\nx[0] = q\n.\nshow 3\ninsert 4\nprint(np.arange(200000))\n.\nshow 4\ninsert 5\nx = np.arange(3)\nx[0] = x\n.\nshow 5\ninsert 6\nx = 18446744073709551615\nx = -x\n.\nshow 6\n";
+    let wanted =
+        b"ok\ntext 0\nrefused 2 Index.OutOfBounds 0 2 2\nend\nok\ntext 0\nrefused 2 Ufunc.IntOutOfRange 9223372036854775808\nend\nok\ntext 0\nrefused 1 View.TooManyElements\nend\nok\ntext 0\nrefused 1 Stmt.NoName q\nend\nok\ntext 0\nrefused 1 Stmt.TextTooLong\nend\nok\ntext 0\nrefused 2 Ufunc.ShapeMismatch\nend\nok\ntext 0\nrefused 2 Stmt.IntTooBig\nend\n";
+    assert_eq!(rt; answers(rt.alloc(), script)?.as_slice(), wanted.as_slice());
+    Ok(())
+}
+
+#[test]
+fn names_and_values(rt: HostRuntime) -> Result<(), Fail> {
+    let script =
+        b"insert 0\nx = 1\ny = 2\ndel x\nx = 3\n.\nnames 0\ninsert 1\nz = np.arange(3)\nw = z[-1]\nprint(x, w, z[0])\n.\nshow 1\nvalue 1 w\nvalue 1 x\nvalue 0 w\ninsert 9\n.\n";
+    let wanted =
+        b"ok\nnames 2\ny\nx\nok\ntext 6\n3 2 0\nok\nend\nscalar int64 2\nint 3\nrefused NoName w\nrefused NoCell 9 2\n";
+    assert_eq!(rt; answers(rt.alloc(), script)?.as_slice(), wanted.as_slice());
+    Ok(())
+}
+
+#[test]
+fn forms_of_lines(rt: HostRuntime) -> Result<(), Fail> {
+    let bad =
+        b"insert 007\ninsert -1\ninsert +1\ninsert 1.\ninsert\ninsert 0 0\ninsert  0\n insert 0\ninsert 0 \ninsert 18446744073709551616\ncount \ncount x\nCOUNT\ncount\r\n \n\t\n\r\n # c\nvalue 0 x y\nrule python\nvalue 0\nmove 0\nremove\nshow x\n";
+    let mut wanted = Vec::new(rt.alloc());
+    for _ in 0..24 {
+        wanted.extend_from_slice(b"bad command\n")?;
+    }
+    assert_eq!(rt; answers(rt.alloc(), bad)?.as_slice(), wanted.as_slice());
+    let far = b"insert 18446744073709551615\nx = 1\n.\nvalue 9 x\n\n# \xff\ncount";
+    assert_eq!(rt;
+        answers(rt.alloc(), far)?.as_slice(),
+        b"refused NoCell 18446744073709551615 0\nrefused NoCell 9 0\ncount 0\n".as_slice()
+    );
+    Ok(())
+}
+
+#[test]
+fn long_sources(rt: HostRuntime) -> Result<(), Fail> {
+    let mut script = Vec::from_slice(rt.alloc(), b"insert 0\n")?;
+    for _ in 0..65536 {
+        script.push(b'#')?;
+    }
+    script.extend_from_slice(b"\n.\ninsert 0\n#")?;
+    for _ in 0..65536 {
+        script.push(b'#')?;
+    }
+    script.extend_from_slice(b"\n.\ncount\n")?;
+    assert_eq!(rt;
+        answers(rt.alloc(), &script)?.as_slice(),
+        b"ok\nrefused CellTooLong\ncount 1\n".as_slice()
+    );
+    Ok(())
+}

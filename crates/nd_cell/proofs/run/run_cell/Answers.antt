@@ -1,4 +1,4 @@
-use Rattle.std.proofs.Common.{◌≡◌, ℕ, ◌+◌, ◌<◌, ◌≤◌, ◌^◌, List, length, Ok, ap, sym, ◌∙◌, arith}
+use Rattle.std.proofs.Common.{◌≡◌, ℕ, ◌+◌, ◌<◌, ◌≤◌, ◌^◌, List, length, ap, ◌∙◌, arith}
 use Rattle.nd_model.specs.Running.{Running}
 use Rattle.nd_model.specs.Tokens.{tokens_of_lines}
 use Rattle.nd_model.proofs.FewTokens.{few_tokens}
@@ -13,4 +13,4 @@ few text next lines first short fewer = omega arith
 pub run_lines-requires : goal.run_lines-requires
 run_lines-requires c =
     few c.args.text.now (live c.start.new.self).next c.deref.result.now (ap (λ (r : Running). r.next) c.start.ensures) (let short : length c.as_bytes-bytes.result.now < 2 ^ 64 = c.as_bytes-bytes.type_inv.0 in omega (arith, c.as_bytes-bytes.ensures.len))
-        (rw c.deref.ensures.value (few_tokens c.args.text.now (lines_of c.in-Ok.lines.items) (c.in_ok-lines.ensures ∙ ap parsed_of c.in-Ok.is)))
+    (rw c.deref.ensures.value (few_tokens c.args.text.now (lines_of c.in-Ok.lines.items) (c.in_ok-lines.ensures ∙ ap parsed_of c.in-Ok.is)))

@@ -10,5 +10,5 @@ use Rattle.nd_cell.proofs.run.run_lines.Given as goal
 abbrev pub invariant-loop-line : goal.invariant-loop-line
 invariant-loop-line l =
     (statements (inputs_of l.fn.inputs.entries) (lines_of l.fn.lines) [] [] (live l.fn.session)
-        ≡ statements (inputs_of l.fn.inputs.entries) (lines_of (drop l.line-index l.fn.lines)) (string_bytes l.text) (saves_of l.saves.entries) (live l.session))
+    ≡ statements (inputs_of l.fn.inputs.entries) (lines_of (drop l.line-index l.fn.lines)) (string_bytes l.text) (saves_of l.saves.entries) (live l.session))
     × ((live l.session).next + tokens_of_lines (lines_of (drop l.line-index l.fn.lines)) < 2 ^ 64)

@@ -1,4 +1,4 @@
-use Rattle.std.proofs.Common.{◌≡◌, ◌+◌, ◌-◌, ◌<◌, ◌≤◌, ◌∙◌, sym, true, arith, Fits, w64}
+use Rattle.std.proofs.Common.{◌≡◌, ◌<◌, ◌≤◌, ◌∙◌, sym, true, arith}
 use Rattle.nd_model.specs.Book.{is_label, above_labels, most_cells}
 use Rattle.nd_model.proofs.EditLabels.{labelled, free_step}
 use Rattle.nd_rerun.specs.Cells.{cells_of}

@@ -1,4 +1,3 @@
-use Rattle.std.proofs.Common.{refl}
 use Rattle.nd_rerun.proofs.Changes.{is_moved, same_length}
 use Rattle.nd_rerun.proofs.cells.moved.Goals as goal
 

@@ -1,13 +1,7 @@
-use Rattle.std.proofs.Common.{◌≡◌, ◌+◌, ◌<◌, ◌++◌, ◌∷◌, [], List, ◌∙◌, ap, ap₂, sym, map, drop, append_assoc, string_bytes}
-use Rattle.nd_model.specs.Running.{session_of}
-use Rattle.nd_model.specs.Session.{Session, no_session}
-use Rattle.nd_model.specs.Renaming.{told, Told}
-use Rattle.nd_model.specs.Cell.{notebook}
-use Rattle.nd_model.specs.Book.{read_cells, Cell}
+use Rattle.std.proofs.Common.{◌++◌, ◌∙◌, ap}
 use Rattle.nd_heap.specs.Values.{inputs_of}
 use Rattle.nd_heap.specs.Live.{live}
-use Rattle.nd_heap.specs.Kept.{version_of}
-use Rattle.nd_rerun.specs.Cells.{cell_of, cells_of, told_of, tolds_of}
+use Rattle.nd_rerun.specs.Cells.{tolds_of}
 use Rattle.nd_rerun.proofs.Runs.{told_first, told_next, kept_more}
 use Rattle.nd_rerun.proofs.cells.run_all.Goals as goal
 

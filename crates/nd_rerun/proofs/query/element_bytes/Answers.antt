@@ -1,5 +1,4 @@
 use Rattle.std.proofs.Common.{◌≡◌, ◌<◌, ℕ, length, arith}
-use Rattle.nd_model.specs.Element.{Element}
 use Rattle.nd_heap.specs.Kept.{version_of}
 use Rattle.nd_heap.specs.Values.{base_of, geo_of}
 use Rattle.nd_types.specs.Types.{elem_of}

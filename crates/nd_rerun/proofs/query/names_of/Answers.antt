@@ -1,5 +1,4 @@
-use Rattle.std.proofs.Common.{List, ℕ, map, take, ap, ◌∙◌, sym, string_bytes, Vec, String, Global}
-use Rattle.nd_model.specs.Value.{Value}
+use Rattle.std.proofs.Common.{map, ap, ◌∙◌, sym}
 use Rattle.nd_model.specs.Session.{Names}
 use Rattle.nd_rerun.proofs.Asked.{names_more, names_end}
 use Rattle.nd_rerun.proofs.query.names_of.Goals as goal

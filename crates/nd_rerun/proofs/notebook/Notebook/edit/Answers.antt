@@ -1,4 +1,4 @@
-use Rattle.std.proofs.Common.{List, ap, ◌∙◌, arith}
+use Rattle.std.proofs.Common.{List, ap, ◌∙◌}
 use Rattle.nd_model.specs.Book.{Change, edited_cells}
 use Rattle.nd_model.proofs.EditLabels.{change_distinct}
 use Rattle.nd_rerun.specs.declared.cells.Source.{Source}

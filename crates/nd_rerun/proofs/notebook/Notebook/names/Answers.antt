@@ -1,12 +1,8 @@
-use Rattle.std.proofs.Common.{◌≡◌, ◌∙◌, sym, ap, Ok, map, string_bytes, length, arith}
+use Rattle.std.proofs.Common.{◌∙◌, sym, ap, Ok, map}
 use Rattle.std.proofs.lemmas.List.{length-map}
-use Rattle.nd_model.specs.Session.{lookup}
 use Rattle.nd_model.specs.Renaming.{Told}
-use Rattle.nd_model.specs.Book.{found_value}
 use Rattle.nd_heap.specs.Kept.{version_of}
-use Rattle.nd_heap.specs.Values.{value_of}
-use Rattle.nd_rerun.specs.Cells.{cell_of, cells_of}
-use Rattle.nd_rerun.specs.Queries.{shown_of}
+use Rattle.nd_rerun.specs.Cells.{cell_of}
 use Rattle.nd_rerun.proofs.Asked.{asked, not_asked, names_shown}
 use Rattle.nd_rerun.proofs.notebook.Notebook.names.Goals as goal
 

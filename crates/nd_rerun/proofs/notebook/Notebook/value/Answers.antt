@@ -1,11 +1,9 @@
-use Rattle.std.proofs.Common.{◌≡◌, ◌∙◌, ap, Ok, map, string_bytes, length, arith}
-use Rattle.std.proofs.lemmas.List.{length-map}
+use Rattle.std.proofs.Common.{◌∙◌}
 use Rattle.nd_model.specs.Session.{lookup}
 use Rattle.nd_model.specs.Renaming.{Told}
 use Rattle.nd_model.specs.Book.{found_value}
 use Rattle.nd_heap.specs.Kept.{version_of}
 use Rattle.nd_heap.specs.Values.{value_of}
-use Rattle.nd_rerun.specs.Cells.{cell_of, cells_of}
 use Rattle.nd_rerun.specs.Queries.{shown_of}
 use Rattle.nd_rerun.proofs.Asked.{asked, value_found, value_missing, value_is_ok, wants_memory}
 use Rattle.nd_rerun.proofs.notebook.Notebook.value.Goals as goal

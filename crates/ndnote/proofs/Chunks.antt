@@ -42,9 +42,9 @@ pub stops_end : (f : RunFault) (s : Stage) (line bytes : List ℕ) (t u : Stage)
 stops_end f s line bytes t u begun part grown rest all i old mid new was now then_now found same inside whole r longer stage l h =
     let within = in_line_extended rest begun part (begun ++ part) i found same inside refl in
     let l2 = rw (longer, stage) at l in
-    let r2 = runs_part s line bytes t begun part old mid was now r in
+    let gone = runs_part s line bytes t begun part old mid was now r in
     rw (cut_at rest bytes all i found whole, ← same, ← append_assoc bytes part (10 ∷ drop (i + 1) rest))
-    (stops_line f s line (bytes ++ part) t (begun ++ part) (drop (i + 1) rest) old mid new was now then_now h within r2 l2)
+    (stops_line f s line (bytes ++ part) t (begun ++ part) (drop (i + 1) rest) old mid new was now then_now h within gone l2)
 
 -- a line was answered
 pub line_more : (s : Stage) (line bytes : List ℕ) (t u v : Stage) (begun part grown rest all next : List ℕ) (i : ℕ) (old mid new : Book) (was now then_now : Option (List ℕ)) → position (λ c. c == 10) rest ≡ Some i → part ≡ take i rest → IsInLine begun
@@ -53,9 +53,9 @@ pub line_more : (s : Stage) (line bytes : List ℕ) (t u v : Stage) (begun part 
 line_more s line bytes t u v begun part grown rest all next i old mid new was now then_now found same inside whole r longer stage l empty =
     let within = in_line_extended rest begun part (begun ++ part) i found same inside refl in
     let l2 = rw (longer, stage) at l in
-    let r2 = runs_part s line bytes t begun part old mid was now r in
+    let gone = runs_part s line bytes t begun part old mid was now r in
     let joined : all ≡ ((bytes ++ part) ++ 10 ∷ []) ++ drop (i + 1) rest = cut_at rest bytes all i found whole ∙ rw (← same) (simp append_assoc) in
-    ((bytes ++ part) ++ 10 ∷ [], rw (take_rest rest (i + 1)) joined, rw empty (runs_line s line (bytes ++ part) t v (begun ++ part) old mid new was now then_now within r2 l2))
+    ((bytes ++ part) ++ 10 ∷ [], rw (take_rest rest (i + 1)) joined, rw empty (runs_line s line (bytes ++ part) t v (begun ++ part) old mid new was now then_now within gone l2))
 
 -- no newline is left
 pub last_runs : (r : Result (Unit {0}) RunFault) (s : Stage) (line bytes : List ℕ) (t u : Stage) (begun grown rest all : List ℕ) (old new : Book) (was now : Option (List ℕ)) → all ≡ bytes ++ rest → Runs s line bytes t begun old was now new

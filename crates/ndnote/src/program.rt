@@ -51,7 +51,7 @@ fn run_path(rt: &HostRuntime, path: Option<&str>) -> Result<(), RunFault> {
 }
 
 /// Runs the program, and gives its exit status; what is refused is said on standard error.
-pub fn status(rt: &HostRuntime) -> ExitCode {
+pub(crate) fn status(rt: &HostRuntime) -> ExitCode {
     let alloc = rt.alloc();
     let Ok(args) = env::args(rt) else {
         return ExitCode::from(REFUSED);

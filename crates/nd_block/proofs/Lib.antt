@@ -1,1 +1,5 @@
+pub mod Copied
 pub mod Puts
+pub mod Seen
+pub mod Steps
+pub mod Together

@@ -1,79 +1,115 @@
 //! `RawBlock`: raw memory, which a clause sees as the list of its bytes.
-ghost use Rattle.std.specs.Prelude.{◌≡◌, ℕ, ◌+◌, ◌^◌, ◌<◌, ◌≤◌, List, length, replicate, slice_set, IfOk, IsTrue, ◌↔◌};
+ghost use Rattle.std.specs.Prelude.{◌≡◌, ℕ, ◌+◌, ◌^◌, ◌<◌, ◌≤◌, List, [], length, replicate, IfOk, IsTrue, ◌↔◌};
 ghost use Rattle.std.specs.List.{zip};
+ghost use Rattle.std.specs.Borrow.{sem};
 ghost use Rattle.nd_model.specs.Element.{size_of, value_of, bytes_at, with_bytes, bytes_of, IsValue};
+ghost use Rattle.nd_model.specs.Runs.{AreWithin, AreApart, copied};
 ghost use Rattle.nd_model.specs.Session as session;
-ghost use Rattle.nd_types.specs.Types.{kind_of, elem_of};
 
 use crate::bytes::{store_at, value_at};
+use crate::memory::{Places, Right, Start, allocate, deallocate};
+use crate::runs::copy_elements;
 use nd_types::Elem;
 use std::alloc::{AllocError, Global};
 use std::marker::Model;
 
-/// A block of bytes. Places are in bytes from its start, and need not be aligned.
-#[derive(Drop)]
+/// A block of bytes: one allocation, which is given back when the block is dropped. Places are in bytes from its start,
+/// and need not be aligned.
 pub struct RawBlock {
-    bytes: Vec<u8>,
+    start: Start,
+    count: usize,
+    places: Places,
+    right: Right<Global>,
+    alloc: Global,
 }
 
 impl Model for RawBlock {
+    ghost use Rattle.std.specs.Prelude.{List, ℕ};
+
     ghost Value = { List ℕ };
 
-    ghost view = { λ b. b.bytes.items };
+    ghost use Rattle.nd_block.specs.Block.{block_bytes, IsBlock};
+
+    ghost view = { block_bytes };
+
+    ghost invariant = { IsBlock };
 }
 
+// The most bytes of an allocation, which is `isize::MAX`. Every allocator of Rust refuses more, so none is asked for more.
+const MOST_BYTES: usize = 0x7fff_ffff_ffff_ffff;
+
 impl RawBlock {
-    /// Returns a block of `n` zero bytes.
+    ghost use Rattle.nd_block.specs.BlockLends.{lends_bytes};
+
+    /// Returns a block of `n` zero bytes. It fails where there is no memory for them.
     pub fn zeroed(alloc: Global, n: usize) -> Result<RawBlock, AllocError>
         ensures { IfOk result (λ b. b ≡ replicate n 0) }
     {
+        if n > MOST_BYTES {
+            return Err(AllocError);
+        }
+        let (start, mut places, right) = allocate(&alloc, n)?;
+        fill_zero(&mut places, start, n);
         Ok(RawBlock {
-            bytes: vec![in alloc; 0; n]?,
+            start,
+            count: n,
+            places,
+            right,
+            alloc,
         })
     }
 
-    /// Returns a block with a copy of the bytes.
+    /// Returns a block with a copy of the bytes. It fails where there is no memory for them.
     pub fn from_slice(alloc: Global, bytes: &[u8]) -> Result<RawBlock, AllocError>
         ensures { IfOk result (λ b. b ≡ bytes.now) }
     {
+        let count = bytes.len();
+        let (start, mut places, right) = allocate(&alloc, count)?;
+        fill_from(&mut places, start, bytes);
         Ok(RawBlock {
-            bytes: Vec::from_slice(alloc, bytes)?,
+            start,
+            count,
+            places,
+            right,
+            alloc,
         })
     }
 
-    /// Returns a block of these bytes, without a copy.
-    pub fn from_vec(bytes: Vec<u8>) -> RawBlock
-        ensures { result ≡ bytes.items }
-    {
-        RawBlock { bytes }
-    }
-
-    /// Returns a block of its own with the same bytes.
+    /// Returns a block of its own with the same bytes. It fails where there is no memory for them.
     pub fn try_clone(&self) -> Result<RawBlock, AllocError>
         ensures { IfOk result (λ b. b ≡ self.now) }
     {
-        RawBlock::from_slice(*self.bytes.allocator(), self.as_slice())
+        RawBlock::from_slice(self.alloc, self.as_slice())
     }
 
     /// Returns the number of bytes.
     pub fn len(&self) -> usize
         ensures { (result ≡ length self.now) × (result < 2 ^ 63) }
     {
-        self.bytes.len()
+        self.count
     }
 
     /// Returns whether there are no bytes.
     pub fn is_empty(&self) -> bool
         ensures { IsTrue result ↔ (length self.now ≡ 0) }
     {
-        self.bytes.is_empty()
+        self.len() == 0
     }
 
     /// Returns the bytes.
     pub fn as_slice(&self) -> &[u8]
         ensures { result.now ≡ self.now }
     {
-        self.bytes.as_slice()
+        self.places.as_slice(self.start, self.len())
+    }
+
+    /// Returns the bytes, to write others in their places.
+    pub fn as_mut_slice(&mut self) -> &mut [u8]
+        ensures* writes_back { sem 𝓛 (lends_bytes self.entry result) }
+        ensures value { result.now ≡ self.old }
+    {
+        let len = self.len();
+        self.places.as_mut_slice(self.start, len)
     }
 
     /// Returns whether the `size` bytes from the place on lie in the block.
@@ -83,33 +119,26 @@ impl RawBlock {
         let len = self.len() as u64;
         size <= len && place <= len - size
     }
+}
 
+impl RawBlock {
     /// Returns the number of the element at the place.
     pub fn load(&self, place: u64, elem: Elem) -> i128
-        requires { place + size_of (kind_of elem.kind) ≤ length self.now }
-        ensures value { result ≡ value_of (elem_of elem) (bytes_at self.now place (size_of (kind_of elem.kind))) }
-        ensures in_range { IsValue (kind_of elem.kind) result }
+        requires { place + size_of elem.kind ≤ length self.now }
+        ensures value { result ≡ value_of elem (bytes_at self.now place (size_of elem.kind)) }
+        ensures in_range { IsValue elem.kind result }
     {
         value_at(self.as_slice(), place as usize, elem)
     }
 
     /// Writes the number to the element at the place.
     pub fn store(&mut self, place: u64, elem: Elem, value: i128)
-        requires inside { place + size_of (kind_of elem.kind) ≤ length self.old }
-        requires in_range { IsValue (kind_of elem.kind) value }
-        ensures bytes { self.new ≡ with_bytes self.old place (bytes_of (elem_of elem) value) }
+        requires inside { place + size_of elem.kind ≤ length self.old }
+        requires in_range { IsValue elem.kind value }
+        ensures bytes { self.new ≡ with_bytes self.old place (bytes_of elem value) }
         ensures len { length self.new ≡ length self.old }
     {
-        store_at(self.bytes.as_mut_slice(), place as usize, elem, value);
-    }
-
-    /// Writes a byte to the place.
-    pub fn set_byte(&mut self, place: usize, byte: u8)
-        requires { place < length self.old }
-        ensures bytes { self.new ≡ slice_set self.old place byte }
-        ensures len { length self.new ≡ length self.old }
-    {
-        self.bytes[place] = byte;
+        store_at(self.as_mut_slice(), place as usize, elem, value);
     }
 
     /// Writes each byte to the place of the same index. A place past the end is left out.
@@ -117,12 +146,74 @@ impl RawBlock {
         ensures bytes { self.new ≡ session.put (zip places.now bytes.now) self.old }
         ensures len { length self.new ≡ length self.old }
     {
-        let len = self.len() as u64;
-        for i in 0..places.len().min(bytes.len()) {
-            let place = places[i];
-            if place < len {
-                self.set_byte(place as usize, bytes[i]);
-            }
+        put_bytes(self.as_mut_slice(), places, bytes);
+    }
+
+    /// Copies `n` elements of `size` bytes. The first one is read at the place `src` and written at the place `dst`, and
+    /// each further one is `src_step` and `dst_step` bytes on, which may be negative. No byte that is written for an
+    /// element may belong to one that is read later.
+    pub fn copy_run(
+        &mut self,
+        dst: u64,
+        dst_step: i128,
+        src: u64,
+        src_step: i128,
+        size: u64,
+        n: u64,
+    )
+        requires dst { AreWithin dst dst_step size n (length self.old) }
+        requires src { AreWithin src src_step size n (length self.old) }
+        requires apart { AreApart dst dst_step src src_step size n }
+        ensures bytes { self.new ≡ copied dst dst_step src src_step size n self.old }
+        ensures len { length self.new ≡ length self.old }
+    {
+        let bytes = self.as_mut_slice();
+        copy_elements(bytes, dst, dst_step, src, src_step, size as usize, n);
+    }
+}
+
+impl Drop for RawBlock {
+    fn drop(self) {
+        let RawBlock {
+            start,
+            count,
+            places,
+            right,
+            alloc,
+        } = self;
+        deallocate(&alloc, start, count, places, right);
+    }
+}
+
+// Writes a zero to each place.
+fn fill_zero(places: &mut Places, start: Start, count: usize)
+    requires { (start.first ≡ places.old.first) × (places.old.written ≡ []) × (places.old.unwritten ≡ count) }
+    ensures { (places.new.first ≡ places.old.first) × (places.new.written ≡ replicate count 0) × (places.new.unwritten ≡ 0) }
+{
+    for i in 0..count {
+        places.write(start, i, 0);
+    }
+}
+
+// Writes the bytes to the places.
+fn fill_from(places: &mut Places, start: Start, bytes: &[u8])
+    requires { (start.first ≡ places.old.first) × (places.old.written ≡ []) × (places.old.unwritten ≡ length bytes.now) }
+    ensures { (places.new.first ≡ places.old.first) × (places.new.written ≡ bytes.now) × (places.new.unwritten ≡ 0) }
+{
+    for i in 0..bytes.len() {
+        places.write(start, i, bytes[i]);
+    }
+}
+
+fn put_bytes(target: &mut [u8], places: &[u64], bytes: &[u8])
+    ensures bytes { target.new ≡ session.put (zip places.now bytes.now) target.old }
+    ensures len { length target.new ≡ length target.old }
+{
+    let len = target.len() as u64;
+    for i in 0..places.len().min(bytes.len()) {
+        let place = places[i];
+        if place < len {
+            target[place as usize] = bytes[i];
         }
     }
 }

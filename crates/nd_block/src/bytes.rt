@@ -1,15 +1,42 @@
 //! Numbers in a run of bytes.
-ghost use Rattle.std.specs.Prelude.{◌≡◌, ◌+◌, ◌%◌, ◌^◌, ◌<◌, ◌≤◌, ◌++◌, length, take, drop, OnOk};
-ghost use Rattle.std.specs.Int.{w64, cast_unsigned};
-ghost use Rattle.nd_model.specs.Element.{bytes_at, number_in, with_bytes, bytes_in, size_of, value_of, bytes_of, IsValue};
-ghost use Rattle.nd_types.specs.Types.{kind_of, elem_of};
+ghost use Rattle.std.specs.Prelude.{◌≡◌, ◌+◌, ◌<◌, ◌≤◌, ◌++◌, length, OnOk};
+ghost use Rattle.nd_model.specs.Element.{Int8, Int16, Int32, Int64, width_of, residue, bytes_at, number_in, with_bytes, bytes_in, size_of, value_of, bytes_of, IsValue};
 
 use nd_types::{Elem, Kind};
 use std::alloc::AllocError;
 
+fn get16(bytes: &[u8], place: usize, big: bool) -> u16
+    requires { place + 2 ≤ length bytes.now }
+    ensures { result ≡ number_in (width_of Int16) big (bytes_at bytes.now place 2) }
+{
+    let run = [bytes[place], bytes[place + 1]];
+    if big {
+        u16::from_be_bytes(run)
+    } else {
+        u16::from_le_bytes(run)
+    }
+}
+
+fn get32(bytes: &[u8], place: usize, big: bool) -> u32
+    requires { place + 4 ≤ length bytes.now }
+    ensures { result ≡ number_in (width_of Int32) big (bytes_at bytes.now place 4) }
+{
+    let run = [
+        bytes[place],
+        bytes[place + 1],
+        bytes[place + 2],
+        bytes[place + 3],
+    ];
+    if big {
+        u32::from_be_bytes(run)
+    } else {
+        u32::from_le_bytes(run)
+    }
+}
+
 fn get64(bytes: &[u8], place: usize, big: bool) -> u64
     requires { place + 8 ≤ length bytes.now }
-    ensures { result ≡ number_in w64 big (bytes_at bytes.now place 8) }
+    ensures { result ≡ number_in (width_of Int64) big (bytes_at bytes.now place 8) }
 {
     let run = [
         bytes[place],
@@ -28,8 +55,8 @@ fn get64(bytes: &[u8], place: usize, big: bool) -> u64
     }
 }
 
-fn bytes64(word: u64, big: bool) -> [u8; 8]
-    ensures { result ≡ bytes_in w64 big word }
+fn bytes16(word: u16, big: bool) -> [u8; 2]
+    ensures { result ≡ bytes_in (width_of Int16) big word }
 {
     if big {
         word.to_be_bytes()
@@ -38,57 +65,125 @@ fn bytes64(word: u64, big: bool) -> [u8; 8]
     }
 }
 
+fn bytes32(word: u32, big: bool) -> [u8; 4]
+    ensures { result ≡ bytes_in (width_of Int32) big word }
+{
+    if big {
+        word.to_be_bytes()
+    } else {
+        word.to_le_bytes()
+    }
+}
+
+fn bytes64(word: u64, big: bool) -> [u8; 8]
+    ensures { result ≡ bytes_in (width_of Int64) big word }
+{
+    if big {
+        word.to_be_bytes()
+    } else {
+        word.to_le_bytes()
+    }
+}
+
+// The lowest bits of a number, in two's complement.
+fn low8(value: i128) -> u8
+    ensures { result ≡ residue (width_of Int8) value }
+{
+    value.rem_euclid(1 << 8) as u8
+}
+
+fn low16(value: i128) -> u16
+    ensures { result ≡ residue (width_of Int16) value }
+{
+    value.rem_euclid(1 << 16) as u16
+}
+
+fn low32(value: i128) -> u32
+    ensures { result ≡ residue (width_of Int32) value }
+{
+    value.rem_euclid(1 << 32) as u32
+}
+
+fn low64(value: i128) -> u64
+    ensures { result ≡ residue (width_of Int64) value }
+{
+    value.rem_euclid(1 << 64) as u64
+}
+
+// A single byte is the same in both orders.
+fn put8(bytes: &mut [u8], place: usize, word: u8, big: bool)
+    requires { place < length bytes.old }
+    ensures { bytes.new ≡ with_bytes bytes.old place (bytes_in (width_of Int8) big word) }
+{
+    let _big = big;
+    bytes[place] = word;
+}
+
+fn put16(bytes: &mut [u8], place: usize, word: u16, big: bool)
+    requires { place + 2 ≤ length bytes.old }
+    ensures { bytes.new ≡ with_bytes bytes.old place (bytes_in (width_of Int16) big word) }
+{
+    bytes[place..place + 2].copy_from_slice(&bytes16(word, big));
+}
+
+fn put32(bytes: &mut [u8], place: usize, word: u32, big: bool)
+    requires { place + 4 ≤ length bytes.old }
+    ensures { bytes.new ≡ with_bytes bytes.old place (bytes_in (width_of Int32) big word) }
+{
+    bytes[place..place + 4].copy_from_slice(&bytes32(word, big));
+}
+
 fn put64(bytes: &mut [u8], place: usize, word: u64, big: bool)
     requires { place + 8 ≤ length bytes.old }
-    ensures { bytes.new ≡ with_bytes bytes.old place (bytes_in w64 big word) }
+    ensures { bytes.new ≡ with_bytes bytes.old place (bytes_in (width_of Int64) big word) }
 {
     bytes[place..place + 8].copy_from_slice(&bytes64(word, big));
 }
 
-// The lowest 64 bits of a number, as far as it has a two's complement in them.
-fn word_of(value: i128) -> u64
-    ensures { result ≡ cast_unsigned w64 value % 2 ^ 64 }
-{
-    const END: i128 = 0x1_0000_0000_0000_0000;
-    if value >= 0 {
-        (value % END) as u64
-    } else if value >= -END {
-        (value + END) as u64
-    } else {
-        0
-    }
-}
-
-/// Returns the number of the element at the place, which is in bytes.
+/// Returns the number of the element at the place, which is in bytes and need not be aligned.
 #[inline(always)]
 pub fn value_at(bytes: &[u8], place: usize, elem: Elem) -> i128
-    requires { place + size_of (kind_of elem.kind) ≤ length bytes.now }
-    ensures value { result ≡ value_of (elem_of elem) (bytes_at bytes.now place (size_of (kind_of elem.kind))) }
-    ensures in_range { IsValue (kind_of elem.kind) result }
+    requires { place + size_of elem.kind ≤ length bytes.now }
+    ensures value { result ≡ value_of elem (bytes_at bytes.now place (size_of elem.kind)) }
+    ensures in_range { IsValue elem.kind result }
 {
-    match elem.kind {
-        Kind::I64 => i128::from(get64(bytes, place, elem.big).cast_signed()),
+    match elem.kind() {
+        Kind::Bool => i128::from(bytes[place] != 0),
+        Kind::I8 => i128::from(bytes[place].cast_signed()),
+        Kind::I16 => i128::from(get16(bytes, place, elem.big()).cast_signed()),
+        Kind::I32 => i128::from(get32(bytes, place, elem.big()).cast_signed()),
+        Kind::I64 => i128::from(get64(bytes, place, elem.big()).cast_signed()),
+        Kind::U8 => i128::from(bytes[place]),
+        Kind::U16 => i128::from(get16(bytes, place, elem.big())),
+        Kind::U32 => i128::from(get32(bytes, place, elem.big())),
+        Kind::U64 => i128::from(get64(bytes, place, elem.big())),
     }
 }
 
-/// Writes the number to the element at the place, which is in bytes.
+/// Writes the number to the element at the place, which is in bytes and need not be aligned. Of a number that the kind does not
+/// hold the lowest bits are kept.
 #[inline(always)]
-pub(crate) fn store_at(bytes: &mut [u8], place: usize, elem: Elem, value: i128)
-    requires inside { place + size_of (kind_of elem.kind) ≤ length bytes.old }
-    requires in_range { IsValue (kind_of elem.kind) value }
-    ensures bytes { bytes.new ≡ with_bytes bytes.old place (bytes_of (elem_of elem) value) }
+pub fn store_at(bytes: &mut [u8], place: usize, elem: Elem, value: i128)
+    requires { place + size_of elem.kind ≤ length bytes.old }
+    ensures bytes { bytes.new ≡ with_bytes bytes.old place (bytes_of elem value) }
     ensures len { length bytes.new ≡ length bytes.old }
 {
-    match elem.kind {
-        Kind::I64 => put64(bytes, place, (value as i64).cast_unsigned(), elem.big),
+    match elem.kind() {
+        Kind::Bool | Kind::I8 | Kind::U8 => put8(bytes, place, low8(value), elem.big()),
+        Kind::I16 | Kind::U16 => put16(bytes, place, low16(value), elem.big()),
+        Kind::I32 | Kind::U32 => put32(bytes, place, low32(value), elem.big()),
+        Kind::I64 | Kind::U64 => put64(bytes, place, low64(value), elem.big()),
     }
 }
 
 /// Appends the bytes of the number, of which an element keeps the lowest bits.
 pub fn push_bytes(bytes: &mut Vec<u8>, elem: Elem, value: i128) -> Result<(), AllocError>
-    ensures { OnOk result (bytes.new.items ≡ bytes.old.items ++ bytes_of (elem_of elem) value) }
+    ensures { OnOk result (bytes.new.items ≡ bytes.old.items ++ bytes_of elem value) }
 {
-    match elem.kind {
-        Kind::I64 => bytes.extend_from_slice(&bytes64(word_of(value), elem.big)),
+    match elem.kind() {
+        Kind::Bool | Kind::I8 | Kind::U8 => bytes.extend_from_slice(&[low8(value)]),
+        Kind::I16 | Kind::U16 => bytes.extend_from_slice(&bytes16(low16(value), elem.big())),
+        Kind::I32 | Kind::U32 => bytes.extend_from_slice(&bytes32(low32(value), elem.big())),
+        Kind::I64 | Kind::U64 => bytes.extend_from_slice(&bytes64(low64(value), elem.big())),
     }
 }

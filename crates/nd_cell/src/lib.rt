@@ -8,3 +8,6 @@ mod run;
 pub use meter::Meter;
 pub use result::{CellFault, CellResult, Refusal};
 pub use run::run_cell;
+
+#[cfg(test)]
+mod tests;

@@ -9,7 +9,7 @@ use Rattle.nd_model.specs.Tokens.{tokens_of, tokens_of_all, tokens_of_stmt}
 use Rattle.nd_model.specs.Running.{Inputs, Running, Lookup, Use, reply, after, Effect, Nothing, Prints, Saves, Binding, Unbinding, Storing, done}
 use Rattle.nd_model.specs.Meaning as meaning
 use Rattle.nd_model.specs.Meaning.{Eval, Gives, Refuses, Asks, run, when, ◌>>=◌}
-use Rattle.nd_eval.proofs.Steps.{goes_on, run_bind}
+use Rattle.nd_model.proofs.Steps.{goes_on, run_bind}
 
 -- at most so many, whatever the answers are
 pub record MakesAtMost {A : Type 0} (n : ℕ) (t : Eval A) : Type 0 where
@@ -184,6 +184,12 @@ of_meaning (Print es) = more (tokens_of_all es + (0 + 0)) _ _ (omega arith)
 -- what was evaluated to its end
 pub next_value : (i : Inputs) (e : Expr) (r s : Running) (o : Result Value Fault) → run i (meaning.value e) r ≡ (o, s) → s.next ≤ r.next + tokens_of e
 next_value i e r s o h = subst (λ (x : Result Value Fault × Running). x.1.next ≤ r.next + tokens_of e) h ((of_value e).bound i r)
+
+-- an index makes none
+pub next_indexed : (i : Inputs) (t x : Value) (r s : Running) (o : Result Value Fault) → run i (meaning.indexed t x) r ≡ (o, s) → s.next ≤ r.next
+next_indexed i t x r s o h =
+    let made = subst (λ (o : Result Value Fault × Running). o.1.next ≤ r.next + 0) h ((of_indexed t x).bound i r) in
+    omega arith
 
 done_next : (e : Effect) (r : Running) → (done e r).next ≡ r.next
 done_next Nothing r = refl

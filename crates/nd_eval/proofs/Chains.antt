@@ -3,7 +3,7 @@ use Rattle.std.proofs.Common.{◌≡◌, Result, Ok, Err, IsErrAnd, sym, ap, ◌
 use Rattle.std.proofs.lemmas.Result.{err_from_is_err_and}
 use Rattle.nd_model.specs.Running.{Running, Inputs}
 use Rattle.nd_model.specs.Meaning.{Eval, run, ◌>>=◌}
-use Rattle.nd_eval.proofs.Steps.{goes_on, run_bind}
+use Rattle.nd_model.proofs.Steps.{goes_on, run_bind}
 use Rattle.nd_eval.specs.declared.fault.StmtFault.{StmtFault}
 use Rattle.nd_eval.specs.declared.stop.Stop.{Stop}
 use Rattle.nd_eval.specs.declared.stop.Stop.TheVariants.{Memory, Refused}

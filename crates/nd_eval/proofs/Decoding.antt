@@ -1,10 +1,10 @@
 -- Numbers and the bytes of their elements, one after another.
-use Rattle.std.proofs.Common.{◌≡◌, ℕ, zero, suc, length, length-append, ◌+◌, ◌-◌, ◌*◌, ◌<◌, ◌≤◌, ◌^◌, ℤ, pos, map, List, [], ◌∷◌, ◌++◌, drop, refl, ap, arith, append_assoc}
+use Rattle.std.proofs.Common.{◌≡◌, ◌≢◌, ℕ, zero, suc, length, length-append, ◌+◌, ◌-◌, ◌*◌, ◌<◌, ◌≤◌, ◌^◌, ℤ, pos, map, List, [], ◌∷◌, ◌++◌, drop, refl, ap, arith, append_assoc}
 use Rattle.nd_model.specs.Element.{Element, size_of, value_of, bytes_of, bytes_at}
 use mir.Val.{to_z}
 use mir.Syntax.{w128}
 use Rattle.nd_model.specs.Tuple.{count_up}
-use Rattle.nd_model.specs.Meaning.{values_in, int64, bytes_of_all}
+use Rattle.nd_model.specs.Meaning.{values_in, first_of, bytes_of_all}
 use Rattle.std.proofs.lemmas.List.{drop-drop}
 use Rattle.std.proofs.lemmas.Int.{to_z_pos}
 
@@ -17,14 +17,6 @@ values_more e size count k bytes done z whole lt is at h =
     let next : (k + 1) * size ≡ k * size + size_of e.kind = omega (arith, is) in
     rw (next, append_assoc, at, ← drop-drop (size_of e.kind) (k * size) bytes) (rw left at h)
 
--- the bytes of one whole number more
-pub below_more : (n k : ℕ) (old new whole : List ℕ) → k < n → n ≤ 2 ^ 24 → new ≡ old ++ bytes_of int64 (to_z w128 k)
-    → old ++ bytes_of_all int64 (map pos (count_up k (n - k))) ≡ whole → new ++ bytes_of_all int64 (map pos (count_up (k + 1) (n - (k + 1)))) ≡ whole
-below_more n k old new whole lt most is h =
-    let left : n - k ≡ suc (n - (k + 1)) = omega arith in
-    let small : k < 2 ^ 127 = omega arith in
-    rw (is, to_z_pos w128 k small, append_assoc) (rw left at h)
-
 length-values_in : (e : Element) (n : ℕ) (bytes : List ℕ) → length (values_in e n bytes) ≡ n
 length-values_in e zero bytes = refl
 length-values_in e (suc n) bytes = ap suc (length-values_in e n (drop (size_of e.kind) bytes))
@@ -33,3 +25,8 @@ length-values_in e (suc n) bytes = ap suc (length-values_in e n (drop (size_of e
 pub values_all : (e : Element) (count k : ℕ) (bytes rest : List ℕ) (done : List ℤ) → count ≤ k → done ++ values_in e (count - k) rest ≡ values_in e count bytes → length done ≡ count
 values_all e count k bytes rest done end h =
     omega (arith, length-append done (values_in e (count - k) rest), length-values_in e (count - k) rest, length-values_in e count bytes, ap length h)
+
+-- the first number is that of the first bytes
+pub first_in : (e : Element) (count : ℕ) (bytes : List ℕ) → count ≢ 0 → value_of e (bytes_at bytes 0 (size_of e.kind)) ≡ first_of (values_in e count bytes)
+first_in e zero bytes some = absurd (some refl)
+first_in e (suc n) bytes some = refl

@@ -8,7 +8,7 @@ use Rattle.nd_eval.specs.declared.stop.Stop.{Stop}
 use Rattle.nd_eval.specs.Ends.{Ends}
 use Rattle.nd_eval.proofs.Chains.{exits, goes}
 
-regrouped : {A B C : Type 0} (i : Inputs) (t : Eval A) (f : A → Eval B) (g : B → Eval C) (r : Running) → run i ((t >>= f) >>= g) r ≡ run i (t >>= (λ x. f x >>= g)) r
+pub regrouped : {A B C : Type 0} (i : Inputs) (t : Eval A) (f : A → Eval B) (g : B → Eval C) (r : Running) → run i ((t >>= f) >>= g) r ≡ run i (t >>= (λ x. f x >>= g)) r
 regrouped i (Gives x) f g r = refl
 regrouped i (Refuses e) f g r = refl
 regrouped i (Asks a go) f g r = regrouped i (go (reply i a r)) f g (after a r)

@@ -1,7 +1,9 @@
-pub mod Steps
 pub mod Bounds
 pub mod Decoding
 pub mod Used
 pub mod Chains
 pub mod InTurn
 pub mod Written
+pub mod ElementTypes
+pub mod Indexing
+pub mod Filling

@@ -2,12 +2,13 @@
 use Rattle.std.specs.Prelude.{ℕ, ℤ, List, length, map, Vec, String, string_bytes}
 use Rattle.std.specs.Global.{Global}
 use Rattle.std.specs.List.{zip}
-use Rattle.nd_model.specs.Element.{Kind, Boolean}
+use Rattle.nd_model.specs.Element.{Kind, Boolean, Element}
+use Rattle.nd_model.specs.View.{ElementType, One, Structure}
 use Rattle.nd_model.specs.Tuple.{count_up}
 use Rattle.nd_model.specs.Fault as fault
 use Rattle.nd_model.specs.Running as running
 use Rattle.nd_model.specs.Meaning as meaning
-use Rattle.nd_types.specs.Types.{kind_of, elem_of}
+use Rattle.nd_types.specs.Kinds.{kind_of}
 use Rattle.nd_model.specs.Value as model
 use Rattle.nd_heap.specs.declared.value.Array.{Array}
 use Rattle.nd_heap.specs.declared.value.Value.{Value}
@@ -26,9 +27,9 @@ texts_in ts = map string_bytes ts.items
 
 abbrev pub numbers_of : Elements → meaning.Numbers
 numbers_of e = record {
-  kind = kind_of e.elem.kind;
+  kind = e.elem.kind;
   shape = e.shape.items;
-  values = meaning.values_in (elem_of e.elem) e.count e.bytes.items;
+  values = meaning.values_in e.elem e.count e.bytes.items;
 }
 
 abbrev pub target_of : Array → meaning.Target
@@ -39,6 +40,11 @@ content_of (Literal z) = meaning.Literal z
 content_of (Truth t) = meaning.single Boolean (meaning.truth_number t)
 content_of (Scalar k z) = meaning.single (kind_of k) z
 content_of (ElementsContent e) = meaning.Values (numbers_of e)
+
+-- the number that lies at each place: structures are not built yet
+abbrev pub element_in : ElementType → meaning.Eval Element
+element_in (One e) = meaning.Gives e
+element_in (Structure fields size) = meaning.Refuses (fault.Stmt fault.BadArgument)
 
 -- the number that an element of the kind gets
 abbrev pub number_for : Kind → meaning.Content → meaning.Eval ℤ

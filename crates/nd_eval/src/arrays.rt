@@ -1,19 +1,17 @@
 //! Whole arrays: how one is made, and how its elements are used.
 
 ghost use Rattle.std.specs.Prelude.{◌≡◌, ◌+◌, ◌<◌, ◌≤◌, ◌^◌, ◌/◌, length, IfOk};
-ghost use Rattle.nd_model.specs.View.{One};
 ghost use Rattle.nd_model.specs.Meaning as meaning;
-ghost use Rattle.nd_types.specs.Types.{kind_of, elem_of, type_of};
+ghost use Rattle.nd_types.specs.Types.{type_of};
 ghost use Rattle.nd_heap.specs.Values.{base_of, geo_of, value_of, inputs_of};
 ghost use Rattle.nd_heap.specs.Live.{live};
-ghost use Rattle.nd_eval.specs.Ends.{Ends};
-ghost use Rattle.nd_eval.specs.Contents.{numbers_of};
+ghost use Rattle.nd_eval.specs.Ends.{Ends, Says};
+ghost use Rattle.nd_eval.specs.Contents.{numbers_of, element_in};
 
 use crate::elements::Elements;
 use crate::fault::{StmtError, StmtFault, ViewFault};
-use crate::numbers::{INT64, numbers_below};
+use crate::numbers::{int64, numbers_below};
 use crate::stop::Stop;
-use nd_block::{RawBlock, value_at};
 use nd_heap::{Array, Inputs, Session, Value};
 use nd_types::{Elem, ElemType, Num};
 use nd_view::View;
@@ -21,12 +19,13 @@ use nd_view::View;
 /// The most elements of an array.
 const MOST_ELEMENTS: i128 = 1 << 24;
 
-/// The number that lies at each place.
-pub(crate) fn element_of(element: ElemType) -> Elem
-    ensures { type_of element ≡ One (elem_of result) }
+/// The number that lies at each place. An array of structures has none.
+pub(crate) fn element_of(element: &ElemType) -> Result<Elem, StmtFault>
+    ensures { Says (λ e. e) result (element_in (type_of element.now)) }
 {
     match element {
-        ElemType::One(elem) => elem,
+        ElemType::One(elem) => Ok(*elem),
+        ElemType::Rec(_) => Err(StmtFault::Stmt(StmtError::BadArgument)),
     }
 }
 
@@ -34,8 +33,8 @@ pub(crate) fn element_of(element: ElemType) -> Elem
 pub(crate) fn used(session: &mut Session, inputs: &Inputs, array: &Array) -> Result<Elements, Stop>
     ensures { Ends numbers_of result (live session.new) (meaning.run (inputs_of inputs.now.entries) (meaning.use_all (base_of array.now.base) (geo_of array.now)) (live session.old)) }
 {
-    let elem = element_of(array.view.elem());
     let bytes = session.use_all(array)?;
+    let elem = element_of(array.view.elem())?;
     let shape = Vec::from_slice(session.allocator(), array.view.shape())?;
     Ok(Elements {
         elem,
@@ -52,9 +51,10 @@ pub(crate) fn counted(session: &mut Session, inputs: &Inputs, count: usize) -> R
     ensures { Ends value_of result (live session.new) (meaning.run (inputs_of inputs.now.entries) (meaning.counted count) (live session.old)) }
 {
     let alloc = session.allocator();
-    let view = View::contiguous(alloc, ElemType::One(INT64), &[count as u64])?;
-    let bytes = numbers_below(alloc, count)?;
-    let base = session.new_block(RawBlock::from_vec(bytes))?;
+    let elem = int64();
+    let view = View::contiguous(alloc, ElemType::One(elem), &[count as u64])?;
+    let block = numbers_below(alloc, elem, count)?;
+    let base = session.new_block(block)?;
     Ok(Value::Array(Array { base, view }))
 }
 

@@ -3,7 +3,7 @@
 ghost use Rattle.std.specs.Prelude.{◌≡◌, ◌*◌, length};
 ghost use Rattle.nd_model.specs.Element.{size_of};
 ghost use Rattle.nd_model.specs.Tuple.{elements_of};
-ghost use Rattle.nd_types.specs.Types.{kind_of};
+ghost use Rattle.nd_types.specs.Kinds.{kind_of};
 
 use nd_types::Elem;
 
@@ -15,5 +15,5 @@ pub(crate) struct Elements {
     pub(crate) count: usize,
     pub(crate) bytes: Vec<u8>,
     ghost counted: { elements_of shape.items ≡ count },
-    ghost whole: { length bytes.items ≡ count * size_of (kind_of elem.kind) },
+    ghost whole: { length bytes.items ≡ count * size_of elem.kind },
 }

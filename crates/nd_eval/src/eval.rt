@@ -58,7 +58,8 @@ fn negated(session: &mut Session, inputs: &Inputs, operand: &Value) -> Result<Va
     }
 }
 
-/// The value of an expression.
+/// The value of an expression. It calls itself for the operand of a chain of indexes, and for each of them, but not once
+/// more for each that stands before: so only brackets and signs take it deeper.
 pub(crate) fn value(session: &mut Session, inputs: &Inputs, expr: &Expr) -> Result<Value, Stop>
     requires { (live session.old).next + tokens_of (expr_of expr.now) < 2 ^ 64 }
     ensures { Ends value_of result (live session.new) (meaning.run (inputs_of inputs.now.entries) (meaning.value (expr_of expr.now)) (live session.old)) }
@@ -74,10 +75,13 @@ pub(crate) fn value(session: &mut Session, inputs: &Inputs, expr: &Expr) -> Resu
             let end = value(session, inputs, end)?;
             arange(session, inputs, &end)
         }
-        Expr::Item(target, item) => {
-            let target = value(session, inputs, target)?;
-            let item = value(session, inputs, item)?;
-            indexed(session, inputs, &target, &item)
+        Expr::Indexed(operand, indexes) => {
+            let mut found = value(session, inputs, operand)?;
+            for index in indexes {
+                let item = value(session, inputs, index)?;
+                found = indexed(session, inputs, &found, &item)?;
+            }
+            Ok(found)
         }
     }
 }

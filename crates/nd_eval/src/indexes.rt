@@ -13,7 +13,7 @@ use crate::fault::{IndexFault, StmtError, StmtFault};
 use crate::stop::Stop;
 use nd_block::value_at;
 use nd_heap::{Array, Inputs, Session, Value};
-use nd_types::{ElemType, Num};
+use nd_types::{Kind, Num};
 use nd_view::View;
 
 /// Uses the elements of an item that is an array.
@@ -33,6 +33,7 @@ pub(crate) fn integer_of(item: &Value) -> Result<i128, StmtFault>
     match item {
         Value::Number(Num::Int(z)) => Ok(*z),
         Value::Number(Num::Bool(_)) => Err(StmtFault::Index(IndexFault::NotAnIndex)),
+        Value::Number(Num::Scalar(Kind::Bool, _)) => Err(StmtFault::Index(IndexFault::NotAnIndex)),
         Value::Number(Num::Scalar(_, z)) => Ok(*z),
         Value::Array(_) => Err(StmtFault::Stmt(StmtError::BadArgument)),
     }
@@ -81,9 +82,9 @@ pub(crate) fn scalar_at(
     requires { place + item_size (geo_of array.now).element < 2 ^ 64 }
     ensures { Ends value_of result (live session.new) (meaning.run (inputs_of inputs.now.entries) (meaning.scalar_at (base_of array.now.base) (geo_of array.now).element place) (live session.old)) }
 {
-    let elem = element_of(array.view.elem());
+    let elem = element_of(array.view.elem())?;
     let bytes = session.use_element(array.base, place, elem)?;
-    Ok(Value::Number(Num::Scalar(elem.kind, value_at(&bytes, 0, elem))))
+    Ok(Value::Number(Num::Scalar(elem.kind(), value_at(&bytes, 0, elem))))
 }
 
 /// The element of an array at an index.

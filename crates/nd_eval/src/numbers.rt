@@ -4,17 +4,17 @@ ghost use Rattle.std.specs.Prelude.{◌≡◌, ◌*◌, ◌/◌, ◌^◌, ◌≤
 ghost use Rattle.nd_model.specs.Element.{size_of};
 ghost use Rattle.nd_model.specs.Tuple.{count_up};
 ghost use Rattle.nd_model.specs.Meaning as meaning;
-ghost use Rattle.nd_types.specs.Types.{kind_of, elem_of};
 
-use nd_block::{push_bytes, value_at};
+use nd_block::{RawBlock, store_at, value_at};
 use nd_types::{Elem, Kind};
 use std::alloc::{AllocError, Global};
 
-/// The numbers that arrays are made of.
-pub const INT64: Elem = Elem {
-    kind: Kind::I64,
-    big: false,
-};
+/// The numbers that `np.arange` makes.
+pub(crate) fn int64() -> Elem
+    ensures { result ≡ meaning.int64 }
+{
+    Elem::little(Kind::I64)
+}
 
 /// Returns the numbers of `count` elements that stand one after another.
 pub fn numbers_in(
@@ -23,11 +23,11 @@ pub fn numbers_in(
     count: usize,
     bytes: &[u8],
 ) -> Result<Vec<i128>, AllocError>
-    requires { length bytes.now ≡ count * size_of (kind_of elem.kind) }
-    ensures numbers { IfOk result (λ v. v.items ≡ meaning.values_in (elem_of elem) count bytes.now) }
+    requires { length bytes.now ≡ count * size_of elem.kind }
+    ensures numbers { IfOk result (λ v. v.items ≡ meaning.values_in elem count bytes.now) }
     ensures len { IfOk result (λ v. length v.items ≡ count) }
 {
-    let size = elem.kind.size() as usize;
+    let size = elem.size() as usize;
     let mut numbers = Vec::with_capacity(alloc, count)?;
     for k in 0..count {
         numbers.push(value_at(bytes, k * size, elem))?;
@@ -35,16 +35,25 @@ pub fn numbers_in(
     Ok(numbers)
 }
 
-/// Returns the bytes of the numbers from 0 to n-1.
-pub fn numbers_below(alloc: Global, n: usize) -> Result<Vec<u8>, AllocError>
-    requires { n ≤ 2 ^ 24 }
-    ensures { IfOk result (λ v. v.items ≡ meaning.bytes_of_all meaning.int64 (map pos (count_up 0 n))) }
+/// Writes the numbers from 0 to n-1 to elements that stand one after another.
+fn fill_up(bytes: &mut [u8], elem: Elem, n: usize)
+    requires { (length bytes.old ≡ n * size_of elem.kind) × (n ≤ 2 ^ 24) }
+    ensures { bytes.new ≡ meaning.bytes_of_all elem (map pos (count_up 0 n)) }
 {
-    let mut bytes = Vec::with_capacity(alloc, n * 8)?;
+    let size = elem.size() as usize;
     for number in 0..n {
-        push_bytes(&mut bytes, INT64, number as i128)?;
+        store_at(bytes, number * size, elem, number as i128);
     }
-    Ok(bytes)
+}
+
+/// Returns a block of the numbers from 0 to n-1.
+pub fn numbers_below(alloc: Global, elem: Elem, n: usize) -> Result<RawBlock, AllocError>
+    requires { n ≤ 2 ^ 24 }
+    ensures { IfOk result (λ b. b ≡ meaning.bytes_of_all elem (map pos (count_up 0 n))) }
+{
+    let mut block = RawBlock::zeroed(alloc, n * elem.size() as usize)?;
+    fill_up(block.as_mut_slice(), elem, n);
+    Ok(block)
 }
 
 /// Returns whether the shape broadcasts to one element.

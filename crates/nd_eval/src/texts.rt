@@ -41,7 +41,7 @@ fn text_of(session: &mut Session, inputs: &Inputs, value: &Value) -> Result<Stri
             let elements = used(session, inputs, array)?;
             let alloc = session.allocator();
             let numbers = numbers_in(alloc, elements.elem, elements.count, &elements.bytes)?;
-            Ok(array_text(alloc, elements.elem.kind, &elements.shape, &numbers)?)
+            Ok(array_text(alloc, elements.elem.kind(), &elements.shape, &numbers)?)
         }
     }
 }

@@ -1,11 +1,10 @@
 //! What is written into arrays.
 
 ghost use Rattle.std.specs.Prelude.{◌≡◌, ◌+◌, ◌<◌, ◌^◌, length, IfOk};
-ghost use Rattle.std.specs.Int.{w64, cast_unsigned};
 ghost use Rattle.nd_model.specs.View.{One, item_size};
-ghost use Rattle.nd_model.specs.Element.{Int64, bytes_of, wrap};
+ghost use Rattle.nd_model.specs.Element.{bytes_of, wrap};
 ghost use Rattle.nd_model.specs.Meaning as meaning;
-ghost use Rattle.nd_types.specs.Types.{kind_of, elem_of};
+ghost use Rattle.nd_types.specs.Kinds.{kind_of};
 ghost use Rattle.nd_heap.specs.Values.{base_of, geo_of, value_of, inputs_of};
 ghost use Rattle.nd_heap.specs.Live.{live};
 ghost use Rattle.nd_eval.specs.Ends.{Ends, Says};
@@ -20,7 +19,7 @@ use crate::numbers::is_single;
 use crate::stop::Stop;
 use nd_block::{push_bytes, value_at};
 use nd_heap::{Array, Inputs, Session, Value};
-use nd_types::{Elem, Kind, Num, fits};
+use nd_types::{Elem, Kind, Num, fits, wrap};
 use std::alloc::{AllocError, Global};
 
 /// What is written: a Python integer has to fit, all else is converted.
@@ -55,13 +54,23 @@ fn first_of(elements: &Elements) -> i128
     }
 }
 
+/// Whether a kind takes a Python integer. A Boolean takes each.
+fn takes(kind: Kind, number: i128) -> bool
+    ensures { result ≡ meaning.takes (kind_of kind) number }
+{
+    match kind {
+        Kind::Bool => true,
+        _ => fits(kind, number),
+    }
+}
+
 /// The number that one element gets.
 fn number_for(elem: Elem, content: &Content) -> Result<i128, StmtFault>
-    ensures { Says (λ z. z) result (number_for (kind_of elem.kind) (content_of content.now)) }
+    ensures { Says (λ z. z) result (number_for elem.kind (content_of content.now)) }
 {
     match content {
         Content::Literal(z) => {
-            if fits(elem.kind, *z) {
+            if takes(elem.kind(), *z) {
                 Ok(*z)
             } else {
                 Err(StmtFault::Ufunc(UfuncFault::IntOutOfRange(*z)))
@@ -79,21 +88,12 @@ fn number_for(elem: Elem, content: &Content) -> Result<i128, StmtFault>
     }
 }
 
-/// The number below 2^64 that is equal to a number modulo 2^64.
-fn word_of(number: i128) -> u64
-    ensures { result ≡ cast_unsigned w64 (wrap Int64 number) }
-{
-    number.rem_euclid(1 << 64) as u64
-}
-
 /// The bytes that an element gets for a number.
 fn written_bytes(alloc: Global, elem: Elem, number: i128) -> Result<Vec<u8>, AllocError>
-    ensures { IfOk result (λ v. v.items ≡ bytes_of (elem_of elem) (wrap (kind_of elem.kind) number)) }
+    ensures { IfOk result (λ v. v.items ≡ bytes_of elem (wrap elem.kind number)) }
 {
     let mut bytes = Vec::new(alloc);
-    match elem.kind {
-        Kind::I64 => push_bytes(&mut bytes, elem, i128::from(word_of(number)))?,
-    }
+    push_bytes(&mut bytes, elem, wrap(elem.kind(), number))?;
     Ok(bytes)
 }
 
@@ -108,7 +108,7 @@ fn stored(
     requires { place + item_size (geo_of array.now).element < 2 ^ 64 }
     ensures { Ends effect_of result (live session.now) (meaning.run (inputs_of inputs.now.entries) (meaning.stored (target_of array.now) (geo_of array.now).element place (content_of content.now)) (live session.now)) }
 {
-    let elem = element_of(array.view.elem());
+    let elem = element_of(array.view.elem())?;
     if !array.view.writable() {
         return Err(Stop::Refused(StmtFault::Ufunc(UfuncFault::ReadOnly)));
     }

@@ -7,7 +7,6 @@ ghost use Rattle.nd_model.specs.Tuple.{count_up};
 ghost use Rattle.nd_model.specs.View.{One, byte_places, element_places};
 ghost use Rattle.nd_model.specs.Session as model;
 ghost use Rattle.nd_model.specs.Running as running;
-ghost use Rattle.nd_types.specs.Types.{kind_of, elem_of};
 ghost use Rattle.nd_heap.specs.Values.{base_of, geo_of, value_of, names_of};
 ghost use Rattle.nd_heap.specs.Live.{live};
 ghost use Rattle.nd_heap.specs.Kept.{version_of};
@@ -121,11 +120,11 @@ impl Session {
         place: u64,
         elem: Elem,
     ) -> Result<Vec<u8>, OutOfMemory>
-        requires { place + element.size_of (kind_of elem.kind) < 2 ^ 64 }
-        ensures bytes { IfOk result (λ v. v.items ≡ map (λ p. slice_index ((live self.old).bytes (base_of base)) p) (element_places (One (elem_of elem)) place)) }
-        ensures after { OnOk result (live self.new ≡ running.after (running.Use (base_of base) (element_places (One (elem_of elem)) place)) (live self.old)) }
+        requires { place + element.size_of elem.kind < 2 ^ 64 }
+        ensures bytes { IfOk result (λ v. v.items ≡ map (λ p. slice_index ((live self.old).bytes (base_of base)) p) (element_places (One elem) place)) }
+        ensures after { OnOk result (live self.new ≡ running.after (running.Use (base_of base) (element_places (One elem) place)) (live self.old)) }
     {
-        let places = places_from(self.alloc, place, elem.kind.size())?;
+        let places = places_from(self.alloc, place, elem.size())?;
         self.use_places(base, &places)
     }
 

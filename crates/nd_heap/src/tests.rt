@@ -7,18 +7,13 @@ use nd_view::View;
 use std::alloc::{Allocator, Global};
 use std::test::Fail;
 
-const LITTLE: Elem = Elem {
-    kind: Kind::I64,
-    big: false,
-};
-
 /// The int64 array with the numbers 1 and 2, under the name x.
 fn with_array(alloc: Global) -> Result<Session, OutOfMemory> {
     let mut session = Session::new(alloc);
     session.start(3);
     let block = RawBlock::from_slice(alloc, &[1, 0, 0, 0, 0, 0, 0, 0, 2, 0, 0, 0, 0, 0, 0, 0])?;
     let base = session.new_block(block)?;
-    let view = View::contiguous(alloc, ElemType::One(LITTLE), &[2])?;
+    let view = View::contiguous(alloc, ElemType::One(Elem::little(Kind::I64)), &[2])?;
     let name = String::from_str(alloc, "x")?;
     session.bind(name, Value::Array(Array { base, view }))?;
     Ok(session)
@@ -37,7 +32,7 @@ fn an_array_is_read_and_written(rt: HostRuntime) -> Result<(), Fail> {
         all.as_slice(),
         [1, 0, 0, 0, 0, 0, 0, 0, 7, 0, 0, 0, 0, 0, 0, 0].as_slice()
     );
-    let one = session.use_element(array.base, 8, LITTLE)?;
+    let one = session.use_element(array.base, 8, Elem::little(Kind::I64))?;
     assert_eq!(rt; one.as_slice(), [7, 0, 0, 0, 0, 0, 0, 0].as_slice());
     Ok(())
 }

@@ -1,4 +1,5 @@
 pub mod Values
+pub mod Puts
 pub mod Lists
 pub mod Twins
 pub mod Frames
@@ -9,7 +10,6 @@ pub mod Passing
 pub mod Renamed
 pub mod Labels
 pub mod Steps
-pub mod Bounds
 pub mod Examples
 pub mod Fresh
 pub mod EditLabels

@@ -1,206 +1,155 @@
--- What is stored is read back.
-use Rattle.std.proofs.Common.{◌≡◌, ℕ, zero, suc, ◌-◌, ◌%◌, ◌^◌, ◌<◌, ◌≤◌, Bool, true, false, ◌&&◌, leb, [], ◌∷◌, length, ℤ, pos, negsuc, neg_ℤ, ◌≤ℤ◌, refl, sym, ap, ◌∙◌, arith}
-use Rattle.std.specs.Int.{Width, w8, w16, w32, w64, cast_unsigned, byte_at}
+-- What is stored is read back, and what a number wraps to. Each lemma is one over the width.
+use Rattle.std.proofs.Common.{◌≡◌, ℕ, zero, suc, ◌-◌, ◌*◌, ◌%◌, ◌^◌, ◌<◌, ◌≤◌, Bool, true, false, length, ℤ, pos, negsuc, neg_ℤ, ◌≤ℤ◌, refl, sym, ap, ◌∙◌, subst, arith}
+use Rattle.std.specs.Prelude.{unsigned_abs, if◌then◌else◌}
+use Rattle.std.specs.Int.{Width, w8, w16, w32, w64, w128, byte_len, cast_signed, cast_unsigned, int_rem_euclid, int_wrap, bytes_low_first, bytes_high_first}
 use Rattle.std.specs.Int.RustNames.{FitsSigned}
-use lib.Dec.{leb→le, le→leb}
-use mir.Facts.{to_z-of_z}
+use mir.Val.{bits, hbits}
+use native.Mathlib.Nat.{mod-lt, mod-eq_of_lt}
+use lib.Dec.{leb→le}
+use lib.Pow.{pow_pos}
 use Rattle.std.proofs.lemmas.Nat.{from_le_bytes-to_le_bytes_2, from_be_bytes-to_be_bytes_2, from_le_bytes-to_le_bytes_4, from_be_bytes-to_be_bytes_4, from_le_bytes-to_le_bytes_8, from_be_bytes-to_be_bytes_8}
-use Rattle.std.proofs.lemmas.Bool.{leb-true}
-use Rattle.std.proofs.lemmas.Int.{of_z-to_z}
-use Rattle.nd_model.specs.Element.{Kind, Boolean, Int8, Int16, Int32, Int64, UInt8, UInt16, UInt32, UInt64, Element, width_of, size_of, IsValue, number_in, value_in, bytes_in, bytes_of, wrap, residue, RoundTrip}
-use Rattle.nd_model.specs.Meaning.{int64, is_python_int}
+use Rattle.std.proofs.lemmas.Int.{of_z-to_z, int_wrap_fits, SFits-int_wrap, ints}
+use borrow.Author.Differences.{fits_in}
+use Rattle.nd_model.specs.Element.{Kind, Boolean, Int8, Int16, Int32, Int64, UInt8, UInt16, UInt32, UInt64, Element, width_of, size_of, lowest, highest, IsValue, number_in, value_in, bytes_in, bytes_of, residue, wrap, RoundTrip}
 
-number8 : (big : Bool) (n : ℕ) → n < 2 ^ 8 → number_in w8 big (bytes_in w8 big n) ≡ n
-number8 true n lt = let small : n % 256 ≡ n = omega arith in small
-number8 false n lt = let small : n % 256 ≡ n = omega arith in small
+-- eight bits a byte
+bits_are : (w : Width) → 8 * byte_len w ≡ bits w
+bits_are w8 = refl
+bits_are w16 = refl
+bits_are w32 = refl
+bits_are w64 = refl
+bits_are w128 = refl
 
-number16 : (big : Bool) (n : ℕ) → n < 2 ^ 16 → number_in w16 big (bytes_in w16 big n) ≡ n
-number16 true n lt = from_be_bytes-to_be_bytes_2 n lt
-number16 false n lt = from_le_bytes-to_le_bytes_2 n lt
+pub residue_small : (w : Width) (z : ℤ) → residue w z < 2 ^ (8 * byte_len w)
+residue_small w (pos n) = mod-lt n (pow_pos (8 * byte_len w))
+residue_small w (negsuc n) = let some = pow_pos (8 * byte_len w) in omega arith
 
-number32 : (big : Bool) (n : ℕ) → n < 2 ^ 32 → number_in w32 big (bytes_in w32 big n) ≡ n
-number32 true n lt = from_be_bytes-to_be_bytes_4 n lt
-number32 false n lt = from_le_bytes-to_le_bytes_4 n lt
+-- ---- signed kinds
 
-number64 : (big : Bool) (n : ℕ) → n < 2 ^ 64 → number_in w64 big (bytes_in w64 big n) ≡ n
-number64 true n lt = from_be_bytes-to_be_bytes_8 n lt
-number64 false n lt = from_le_bytes-to_le_bytes_8 n lt
+signed_residue : (w : Width) (z : ℤ) → cast_signed w (residue w z) ≡ int_wrap w z
+unfolding int_wrap
+signed_residue w z = ap (λ k. cast_signed w (unsigned_abs (int_rem_euclid z (pos (2 ^ k))))) (bits_are w)
 
--- an unsigned value is its bits, and below the bound
-natural : (w : Width) (m : ℕ) (z : ℤ) → pos 0 ≤ℤ z → z ≤ℤ pos m → (z ≡ pos (cast_unsigned w z)) × (cast_unsigned w z ≤ m)
-natural w m (pos n) low high = (refl, leb→le n m high.le)
-natural w m (negsuc n) low high = absurd low.le
+-- the residue of a signed number is its two's complement
+pub residue_signed : (w : Width) (z : ℤ) → FitsSigned w z → residue w z ≡ cast_unsigned w z
+residue_signed w z fits =
+    let small : residue w z < 2 ^ bits w = subst (λ k. residue w z < 2 ^ k) (bits_are w) (residue_small w z) in
+    sym (of_z-to_z w (residue w z) small) ∙ ap (cast_unsigned w) (signed_residue w z ∙ int_wrap_fits w z fits)
 
-fits8 : (z : ℤ) → IsValue Int8 z → FitsSigned w8 z × (cast_unsigned w8 z < 2 ^ 8)
-fits8 (pos n) is = let high : n ≤ 2 ^ 7 - 1 = leb→le n (2 ^ 7 - 1) is.high.le in (record { sfits = omega arith }, omega arith)
-fits8 (negsuc n) is = let low : n ≤ 2 ^ 7 - 1 = leb→le n (2 ^ 7 - 1) is.low.le in (record { sfits = omega arith }, omega arith)
+fits_by_bounds : (w : Width) (z : ℤ) → neg_ℤ (pos (2 ^ hbits w)) ≤ℤ z → z ≤ℤ pos (2 ^ hbits w - 1) → FitsSigned w z
+fits_by_bounds w z low high = omega (arith, ints, fits_in, pow_pos (hbits w))
 
-fits16 : (z : ℤ) → IsValue Int16 z → FitsSigned w16 z × (cast_unsigned w16 z < 2 ^ 16)
-fits16 (pos n) is = let high : n ≤ 2 ^ 15 - 1 = leb→le n (2 ^ 15 - 1) is.high.le in (record { sfits = omega arith }, omega arith)
-fits16 (negsuc n) is = let low : n ≤ 2 ^ 15 - 1 = leb→le n (2 ^ 15 - 1) is.low.le in (record { sfits = omega arith }, omega arith)
+signed_value : (w : Width) (z : ℤ) → FitsSigned w z → cast_signed w (residue w z) ≡ z
+signed_value w z fits = signed_residue w z ∙ int_wrap_fits w z fits
 
-fits32 : (z : ℤ) → IsValue Int32 z → FitsSigned w32 z × (cast_unsigned w32 z < 2 ^ 32)
-fits32 (pos n) is = let high : n ≤ 2 ^ 31 - 1 = leb→le n (2 ^ 31 - 1) is.high.le in (record { sfits = omega arith }, omega arith)
-fits32 (negsuc n) is = let low : n ≤ 2 ^ 31 - 1 = leb→le n (2 ^ 31 - 1) is.low.le in (record { sfits = omega arith }, omega arith)
+signed_in : (w : Width) (z : ℤ) → (neg_ℤ (pos (2 ^ hbits w)) ≤ℤ cast_signed w (residue w z)) × (cast_signed w (residue w z) ≤ℤ pos (2 ^ hbits w - 1))
+signed_in w z =
+    let fits : FitsSigned w (cast_signed w (residue w z)) = subst (FitsSigned w) (sym (signed_residue w z)) (SFits-int_wrap w z) in
+    (omega (arith, ints, fits_in, pow_pos (hbits w)), omega (arith, ints, fits_in, pow_pos (hbits w)))
 
-fits64 : (z : ℤ) → IsValue Int64 z → FitsSigned w64 z × (cast_unsigned w64 z < 2 ^ 64)
-fits64 (pos n) is = let high : n ≤ 2 ^ 63 - 1 = leb→le n (2 ^ 63 - 1) is.high.le in (record { sfits = omega arith }, omega arith)
-fits64 (negsuc n) is = let low : n ≤ 2 ^ 63 - 1 = leb→le n (2 ^ 63 - 1) is.low.le in (record { sfits = omega arith }, omega arith)
+-- ---- unsigned kinds
 
--- the bits of a value are few enough
-bits_fit : (k : Kind) (big : Bool) (z : ℤ) → IsValue k z → number_in (width_of k) big (bytes_in (width_of k) big (cast_unsigned (width_of k) z)) ≡ cast_unsigned (width_of k) z
-bits_fit Boolean big z is = let low : cast_unsigned w8 z ≤ 1 = (natural w8 1 z is.low is.high).1 in number8 big _ (omega arith)
-bits_fit Int8 big z is = number8 big _ (fits8 z is).1
-bits_fit Int16 big z is = number16 big _ (fits16 z is).1
-bits_fit Int32 big z is = number32 big _ (fits32 z is).1
-bits_fit Int64 big z is = number64 big _ (fits64 z is).1
-bits_fit UInt8 big z is = let low : cast_unsigned w8 z ≤ 2 ^ 8 - 1 = (natural w8 _ z is.low is.high).1 in number8 big _ (omega arith)
-bits_fit UInt16 big z is = let low : cast_unsigned w16 z ≤ 2 ^ 16 - 1 = (natural w16 _ z is.low is.high).1 in number16 big _ (omega arith)
-bits_fit UInt32 big z is = let low : cast_unsigned w32 z ≤ 2 ^ 32 - 1 = (natural w32 _ z is.low is.high).1 in number32 big _ (omega arith)
-bits_fit UInt64 big z is = let low : cast_unsigned w64 z ≤ 2 ^ 64 - 1 = (natural w64 _ z is.low is.high).1 in number64 big _ (omega arith)
+unsigned_value : (w : Width) (z : ℤ) → pos 0 ≤ℤ z → z ≤ℤ pos (2 ^ (8 * byte_len w) - 1) → pos (residue w z) ≡ z
+unsigned_value w (pos n) low high =
+    let few : n ≤ 2 ^ (8 * byte_len w) - 1 = leb→le n _ high.le in let some = pow_pos (8 * byte_len w) in
+    ap pos (mod-eq_of_lt (omega arith))
+unsigned_value w (negsuc n) low high = absurd low.le
 
-truth : (z : ℤ) → IsValue Boolean z → value_in Boolean (cast_unsigned w8 z) ≡ z
-truth (pos zero) is = refl
-truth (pos (suc zero)) is = refl
-truth (pos (suc (suc n))) is = let low : suc (suc n) ≤ 1 = leb→le (suc (suc n)) 1 is.high.le in absurd (omega arith)
+unsigned_in : (w : Width) (z : ℤ) → (pos 0 ≤ℤ pos (residue w z)) × (pos (residue w z) ≤ℤ pos (2 ^ (8 * byte_len w) - 1))
+unsigned_in w z = let small = residue_small w z in (omega (arith, ints), omega (arith, ints))
+
+-- ---- Booleans
+
+truth : (z : ℤ) → IsValue Boolean z → (value_in Boolean (residue w8 z) ≡ z) × (wrap Boolean z ≡ z)
+truth (pos zero) is = (refl, refl)
+truth (pos (suc zero)) is = (refl, refl)
+truth (pos (suc (suc n))) is = let few : suc (suc n) ≤ 1 = leb→le (suc (suc n)) 1 is.high.le in absurd (omega arith)
 truth (negsuc n) is = absurd is.low.le
 
--- a value is what the kind makes of its bits
-pub value_in_bits : (k : Kind) (z : ℤ) → IsValue k z → value_in k (cast_unsigned (width_of k) z) ≡ z
-value_in_bits Boolean z is = truth z is
-value_in_bits Int8 z is = to_z-of_z (fits8 z is).0
-value_in_bits Int16 z is = to_z-of_z (fits16 z is).0
-value_in_bits Int32 z is = to_z-of_z (fits32 z is).0
-value_in_bits Int64 z is = to_z-of_z (fits64 z is).0
-value_in_bits UInt8 z is = sym (natural w8 _ z is.low is.high).0
-value_in_bits UInt16 z is = sym (natural w16 _ z is.low is.high).0
-value_in_bits UInt32 z is = sym (natural w32 _ z is.low is.high).0
-value_in_bits UInt64 z is = sym (natural w64 _ z is.low is.high).0
+-- ---- all kinds
+
+-- a value is what the kind makes of its residue
+pub value_residue : (k : Kind) (z : ℤ) → IsValue k z → value_in k (residue (width_of k) z) ≡ z
+value_residue Boolean z is = (truth z is).0
+value_residue Int8 z is = signed_value w8 z (fits_by_bounds w8 z is.low is.high)
+value_residue Int16 z is = signed_value w16 z (fits_by_bounds w16 z is.low is.high)
+value_residue Int32 z is = signed_value w32 z (fits_by_bounds w32 z is.low is.high)
+value_residue Int64 z is = signed_value w64 z (fits_by_bounds w64 z is.low is.high)
+value_residue UInt8 z is = unsigned_value w8 z is.low is.high
+value_residue UInt16 z is = unsigned_value w16 z is.low is.high
+value_residue UInt32 z is = unsigned_value w32 z is.low is.high
+value_residue UInt64 z is = unsigned_value w64 z is.low is.high
+
+-- a value of the kind wraps to itself
+pub wrap_value : (k : Kind) (z : ℤ) → IsValue k z → wrap k z ≡ z
+wrap_value Boolean z is = (truth z is).1
+wrap_value Int8 z is = value_residue Int8 z is
+wrap_value Int16 z is = value_residue Int16 z is
+wrap_value Int32 z is = value_residue Int32 z is
+wrap_value Int64 z is = value_residue Int64 z is
+wrap_value UInt8 z is = value_residue UInt8 z is
+wrap_value UInt16 z is = value_residue UInt16 z is
+wrap_value UInt32 z is = value_residue UInt32 z is
+wrap_value UInt64 z is = value_residue UInt64 z is
+
+truth_in : (b : Bool) → IsValue Boolean (if b then pos 0 else pos 1)
+truth_in true = record { low = record { le = tt }; high = record { le = tt } }
+truth_in false = record { low = record { le = tt }; high = record { le = tt } }
+
+both : (k : Kind) (z : ℤ) → (lowest k ≤ℤ z) × (z ≤ℤ highest k) → IsValue k z
+both k z is = record { low = is.0; high = is.1 }
+
+-- what a number wraps to is a value of the kind
+pub wrap_in_range : (k : Kind) (z : ℤ) → IsValue k (wrap k z)
+wrap_in_range Boolean z = truth_in _
+wrap_in_range Int8 z = both Int8 _ (signed_in w8 z)
+wrap_in_range Int16 z = both Int16 _ (signed_in w16 z)
+wrap_in_range Int32 z = both Int32 _ (signed_in w32 z)
+wrap_in_range Int64 z = both Int64 _ (signed_in w64 z)
+wrap_in_range UInt8 z = both UInt8 _ (unsigned_in w8 z)
+wrap_in_range UInt16 z = both UInt16 _ (unsigned_in w16 z)
+wrap_in_range UInt32 z = both UInt32 _ (unsigned_in w32 z)
+wrap_in_range UInt64 z = both UInt64 _ (unsigned_in w64 z)
+
+-- ---- bytes
+
+number_again : (w : Width) (big : Bool) (n : ℕ) → byte_len w ≤ 8 → n < 2 ^ (8 * byte_len w) → number_in w big (bytes_in w big n) ≡ n
+number_again w8 true n few lt = let small : n % 256 ≡ n = omega arith in small
+number_again w8 false n few lt = let small : n % 256 ≡ n = omega arith in small
+number_again w16 true n few lt = from_be_bytes-to_be_bytes_2 n lt
+number_again w16 false n few lt = from_le_bytes-to_le_bytes_2 n lt
+number_again w32 true n few lt = from_be_bytes-to_be_bytes_4 n lt
+number_again w32 false n few lt = from_le_bytes-to_le_bytes_4 n lt
+number_again w64 true n few lt = from_be_bytes-to_be_bytes_8 n lt
+number_again w64 false n few lt = from_le_bytes-to_le_bytes_8 n lt
+number_again w128 big n few lt = absurd (omega arith)
+
+pub few_bytes : (k : Kind) → size_of k ≤ 8
+few_bytes Boolean = omega arith
+few_bytes Int8 = omega arith
+few_bytes Int16 = omega arith
+few_bytes Int32 = omega arith
+few_bytes Int64 = omega arith
+few_bytes UInt8 = omega arith
+few_bytes UInt16 = omega arith
+few_bytes UInt32 = omega arith
+few_bytes UInt64 = omega arith
 
 pub round_trip : RoundTrip
-round_trip e z is = ap (value_in e.kind) (bits_fit e.kind e.big z is) ∙ value_in_bits e.kind z is
+round_trip e z is = let w = width_of e.kind in
+    ap (value_in e.kind) (number_again w e.big (residue w z) (few_bytes e.kind) (residue_small w z)) ∙ value_residue e.kind z is
 
-length_in : (k : Kind) (big : Bool) (n : ℕ) → length (bytes_in (width_of k) big n) ≡ size_of k
-length_in Boolean true n = refl
-length_in Boolean false n = refl
-length_in Int8 true n = refl
-length_in Int8 false n = refl
-length_in Int16 true n = refl
-length_in Int16 false n = refl
-length_in Int32 true n = refl
-length_in Int32 false n = refl
-length_in Int64 true n = refl
-length_in Int64 false n = refl
-length_in UInt8 true n = refl
-length_in UInt8 false n = refl
-length_in UInt16 true n = refl
-length_in UInt16 false n = refl
-length_in UInt32 true n = refl
-length_in UInt32 false n = refl
-length_in UInt64 true n = refl
-length_in UInt64 false n = refl
+length-low_first : (i k n : ℕ) → length (bytes_low_first i k n) ≡ k
+length-low_first i zero n = refl
+length-low_first i (suc k) n = ap suc (length-low_first (suc i) k n)
+
+length-high_first : (k n : ℕ) → length (bytes_high_first k n) ≡ k
+length-high_first zero n = refl
+length-high_first (suc k) n = ap suc (length-high_first k n)
+
+length-bytes_in : (w : Width) (big : Bool) (n : ℕ) → length (bytes_in w big n) ≡ byte_len w
+length-bytes_in w true n = length-high_first (byte_len w) n
+length-bytes_in w false n = length-low_first 0 (byte_len w) n
 
 pub length-bytes_of : (e : Element) (z : ℤ) → length (bytes_of e z) ≡ size_of e.kind
-length-bytes_of e z = length_in e.kind e.big (cast_unsigned (width_of e.kind) z)
-
-truth_wrap : (z : ℤ) → IsValue Boolean z → wrap Boolean z ≡ z
-truth_wrap (pos zero) is = refl
-truth_wrap (pos (suc zero)) is = refl
-truth_wrap (pos (suc (suc n))) is = let low : suc (suc n) ≤ 1 = leb→le (suc (suc n)) 1 is.high.le in absurd (omega arith)
-truth_wrap (negsuc n) is = absurd is.low.le
-
-same_bits8 : (z : ℤ) → IsValue Int8 z → residue w8 z ≡ cast_unsigned w8 z
-same_bits8 (pos n) is = let high : n ≤ 2 ^ 7 - 1 = leb→le n (2 ^ 7 - 1) is.high.le in omega arith
-same_bits8 (negsuc n) is = let low : n ≤ 2 ^ 7 - 1 = leb→le n (2 ^ 7 - 1) is.low.le in omega arith
-
-same_bits16 : (z : ℤ) → IsValue Int16 z → residue w16 z ≡ cast_unsigned w16 z
-same_bits16 (pos n) is = let high : n ≤ 2 ^ 15 - 1 = leb→le n (2 ^ 15 - 1) is.high.le in omega arith
-same_bits16 (negsuc n) is = let low : n ≤ 2 ^ 15 - 1 = leb→le n (2 ^ 15 - 1) is.low.le in omega arith
-
-same_bits32 : (z : ℤ) → IsValue Int32 z → residue w32 z ≡ cast_unsigned w32 z
-same_bits32 (pos n) is = let high : n ≤ 2 ^ 31 - 1 = leb→le n (2 ^ 31 - 1) is.high.le in omega arith
-same_bits32 (negsuc n) is = let low : n ≤ 2 ^ 31 - 1 = leb→le n (2 ^ 31 - 1) is.low.le in omega arith
-
-same_bits64 : (z : ℤ) → IsValue Int64 z → residue w64 z ≡ cast_unsigned w64 z
-same_bits64 (pos n) is = let high : n ≤ 2 ^ 63 - 1 = leb→le n (2 ^ 63 - 1) is.high.le in omega arith
-same_bits64 (negsuc n) is = let low : n ≤ 2 ^ 63 - 1 = leb→le n (2 ^ 63 - 1) is.low.le in omega arith
-
-same_natural8 : (z : ℤ) → IsValue UInt8 z → residue w8 z ≡ cast_unsigned w8 z
-same_natural8 (pos n) is = let high : n ≤ 2 ^ 8 - 1 = leb→le n (2 ^ 8 - 1) is.high.le in omega arith
-same_natural8 (negsuc n) is = absurd is.low.le
-
-same_natural16 : (z : ℤ) → IsValue UInt16 z → residue w16 z ≡ cast_unsigned w16 z
-same_natural16 (pos n) is = let high : n ≤ 2 ^ 16 - 1 = leb→le n (2 ^ 16 - 1) is.high.le in omega arith
-same_natural16 (negsuc n) is = absurd is.low.le
-
-same_natural32 : (z : ℤ) → IsValue UInt32 z → residue w32 z ≡ cast_unsigned w32 z
-same_natural32 (pos n) is = let high : n ≤ 2 ^ 32 - 1 = leb→le n (2 ^ 32 - 1) is.high.le in omega arith
-same_natural32 (negsuc n) is = absurd is.low.le
-
-same_natural64 : (z : ℤ) → IsValue UInt64 z → residue w64 z ≡ cast_unsigned w64 z
-same_natural64 (pos n) is = let high : n ≤ 2 ^ 64 - 1 = leb→le n (2 ^ 64 - 1) is.high.le in omega arith
-same_natural64 (negsuc n) is = absurd is.low.le
-
--- a value of the kind is itself
-pub wrap_value : (k : Kind) (z : ℤ) → IsValue k z → wrap k z ≡ z
-wrap_value Boolean z is = truth_wrap z is
-wrap_value Int8 z is = ap (value_in Int8) (same_bits8 z is) ∙ value_in_bits Int8 z is
-wrap_value Int16 z is = ap (value_in Int16) (same_bits16 z is) ∙ value_in_bits Int16 z is
-wrap_value Int32 z is = ap (value_in Int32) (same_bits32 z is) ∙ value_in_bits Int32 z is
-wrap_value Int64 z is = ap (value_in Int64) (same_bits64 z is) ∙ value_in_bits Int64 z is
-wrap_value UInt8 z is = ap (value_in UInt8) (same_natural8 z is) ∙ value_in_bits UInt8 z is
-wrap_value UInt16 z is = ap (value_in UInt16) (same_natural16 z is) ∙ value_in_bits UInt16 z is
-wrap_value UInt32 z is = ap (value_in UInt32) (same_natural32 z is) ∙ value_in_bits UInt32 z is
-wrap_value UInt64 z is = ap (value_in UInt64) (same_natural64 z is) ∙ value_in_bits UInt64 z is
-
--- what is written of a number is what is written of what it wraps to, down to -2 ^ 64
-small : (z : ℤ) → residue w64 z < 2 ^ 64
-small (pos n) = omega arith
-small (negsuc n) = omega arith
-
-same_le_bytes : (z : ℤ) → neg_ℤ (pos (2 ^ 64)) ≤ℤ z → bytes_in w64 false (residue w64 z) ≡ bytes_in w64 false (cast_unsigned w64 z)
-same_le_bytes (pos n) low = eight n
-  where
-    eight : (n : ℕ) → bytes_in w64 false (n % 2 ^ 64) ≡ bytes_in w64 false n
-    eight n = λ i. e0 n i ∷ e1 n i ∷ e2 n i ∷ e3 n i ∷ e4 n i ∷ e5 n i ∷ e6 n i ∷ e7 n i ∷ []
-      where
-        e0 : (n : ℕ) → byte_at 0 (n % 2 ^ 64) ≡ byte_at 0 n
-        e0 n = omega arith
-
-        e1 : (n : ℕ) → byte_at 1 (n % 2 ^ 64) ≡ byte_at 1 n
-        e1 n = omega arith
-
-        e2 : (n : ℕ) → byte_at 2 (n % 2 ^ 64) ≡ byte_at 2 n
-        e2 n = omega arith
-
-        e3 : (n : ℕ) → byte_at 3 (n % 2 ^ 64) ≡ byte_at 3 n
-        e3 n = omega arith
-
-        e4 : (n : ℕ) → byte_at 4 (n % 2 ^ 64) ≡ byte_at 4 n
-        e4 n = omega arith
-
-        e5 : (n : ℕ) → byte_at 5 (n % 2 ^ 64) ≡ byte_at 5 n
-        e5 n = omega arith
-
-        e6 : (n : ℕ) → byte_at 6 (n % 2 ^ 64) ≡ byte_at 6 n
-        e6 n = omega arith
-
-        e7 : (n : ℕ) → byte_at 7 (n % 2 ^ 64) ≡ byte_at 7 n
-        e7 n = omega arith
-same_le_bytes (negsuc n) low = let few : n ≤ 2 ^ 64 - 1 = leb→le n (2 ^ 64 - 1) low.le in
-    let e : residue w64 (negsuc n) ≡ cast_unsigned w64 (negsuc n) = omega arith in ap (bytes_in w64 false) e
-
-pub bytes_of-wrap : (z : ℤ) → neg_ℤ (pos (2 ^ 64)) ≤ℤ z → bytes_of int64 (wrap Int64 z) ≡ bytes_of int64 z
-bytes_of-wrap z low = ap (bytes_in w64 false) (of_z-to_z w64 (residue w64 z) (small z)) ∙ same_le_bytes z low
-
--- of each Python integer
-low_python : (z : ℤ) → is_python_int z ≡ true → neg_ℤ (pos (2 ^ 64)) ≤ℤ z
-low_python (pos n) h = record { le = tt }
-low_python (negsuc n) h = record { le = le→leb n (2 ^ 64 - 1) (below n (leb n (2 ^ 63 - 1)) refl h) }
-  where
-    below : (n : ℕ) (t : Bool) → leb n (2 ^ 63 - 1) ≡ t → (t && true) ≡ true → n ≤ 2 ^ 64 - 1
-    below n true e h = let l : n ≤ 2 ^ 63 - 1 = leb-true _ _ e in omega arith
-    below n false e h = absurd (cc)
-
-pub bytes_of-wrap_python : (z : ℤ) → is_python_int z ≡ true → bytes_of int64 (wrap Int64 z) ≡ bytes_of int64 z
-bytes_of-wrap_python z h = bytes_of-wrap z (low_python z h)
+length-bytes_of e z = let w = width_of e.kind in length-bytes_in w e.big (residue w z)

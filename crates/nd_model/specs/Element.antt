@@ -1,7 +1,7 @@
 -- Elements: what a kind of number is, and what the bytes of an element are worth. From PEP 3118 and NumPy's data types:
 -- a kind is a range and a number of bytes, and an element has its bytes in one of two orders.
-use Rattle.std.specs.Prelude.{◌≡◌, ◌==◌, ℕ, ◌+◌, ◌-◌, ◌*◌, ℤ, pos, neg_ℤ, ◌≤ℤ◌, int_le, unsigned_abs, ◌^◌, Bool, ◌&&◌, if◌then◌else◌, List, ◌++◌, take, drop, length}
-use Rattle.std.specs.Int.{Width, w8, w16, w32, w64, byte_len, to_le_bytes, to_be_bytes, from_le_bytes, from_be_bytes, cast_signed, cast_unsigned, int_rem_euclid}
+use Rattle.std.specs.Prelude.{◌≡◌, ◌==◌, ℕ, ◌+◌, ◌-◌, ◌*◌, ℤ, pos, neg_ℤ, ◌≤ℤ◌, int_le, unsigned_abs, ◌^◌, nat_lt, Bool, not, ◌&&◌, ◌||◌, if◌then◌else◌, List, ◌++◌, take, drop, length}
+use Rattle.std.specs.Int.{Width, w8, w16, w32, w64, byte_len, to_le_bytes, to_be_bytes, from_le_bytes, from_be_bytes, cast_signed, int_rem_euclid}
 
 pub data Kind : Type 0 where
   Boolean : Kind
@@ -19,6 +19,7 @@ pub record Element : Type 0 where
   pub kind : Kind
   pub big : Bool
 
+-- how many bytes hold a number of the kind
 abbrev pub width_of : Kind → Width
 width_of Boolean = w8
 width_of Int8 = w8
@@ -33,6 +34,10 @@ width_of UInt64 = w64
 -- how many bytes an element has
 abbrev pub size_of : Kind → ℕ
 size_of k = byte_len (width_of k)
+
+-- a single byte has no order, so it is never called big
+abbrev pub is_canonical : Kind → Bool → Bool
+is_canonical k big = not big || nat_lt 1 (size_of k)
 
 -- the range of a kind
 abbrev pub lowest : Kind → ℤ
@@ -89,17 +94,17 @@ value_of e bs = value_in e.kind (number_in (width_of e.kind) e.big bs)
 abbrev pub bytes_in : Width → Bool → ℕ → List ℕ
 bytes_in w big n = if big then to_be_bytes w n else to_le_bytes w n
 
--- the bytes of a value
+-- the number below 2 to the power of the width that is equal to z modulo that
+abbrev pub residue : Width → ℤ → ℕ
+residue w z = unsigned_abs (int_rem_euclid z (pos (2 ^ (8 * byte_len w))))
+
+-- the bytes of a value; of a number that the kind does not hold, those of its residue
 abbrev pub bytes_of : Element → ℤ → List ℕ
-bytes_of e z = let w = width_of e.kind in bytes_in w e.big (cast_unsigned w z)
+bytes_of e z = let w = width_of e.kind in bytes_in w e.big (residue w z)
 
 -- ROUND TRIP: a value is read back from its bytes
 abbrev pub RoundTrip : Type 0
 RoundTrip = (e : Element) (z : ℤ) → IsValue e.kind z → value_of e (bytes_of e z) ≡ z
-
--- the number below 2 to the power of the width that is equal to z modulo that
-abbrev pub residue : Width → ℤ → ℕ
-residue w z = unsigned_abs (int_rem_euclid z (pos (2 ^ (8 * byte_len w))))
 
 -- the number of the kind that is equal to z modulo 2 to the power of the width; for Booleans 0 for 0, and else 1
 abbrev pub wrap : Kind → ℤ → ℤ

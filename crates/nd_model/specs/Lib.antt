@@ -1,6 +1,9 @@
 pub mod Element
+pub mod Promotion
 pub mod Tuple
 pub mod View
+pub mod Structure
+pub mod Runs
 pub mod Value
 pub mod Session
 pub mod Running

@@ -147,6 +147,27 @@ commands_from s (l ∷ ls) = (step s l).0 ++ commands_from (step s l).1 ls
 abbrev pub commands : List ℕ → List Command
 commands script = commands_from Between (lines_of script)
 
+-- ---- a script of which some bytes were given
+
+-- all but the last
+abbrev pub without_last : {X : Type 0} → List X → List X
+without_last [] = []
+without_last (x ∷ []) = []
+without_last (x ∷ y ∷ ys) = x ∷ without_last (y ∷ ys)
+
+-- the lines of which the newline, too, is among the bytes: what stands behind the last newline is none of them
+abbrev pub ended_lines : List ℕ → List (List ℕ)
+ended_lines bytes = without_last (slice_split (λ c. c == 10) bytes)
+
+-- the commands that the lines from here on complete: a source without its end is no command yet
+abbrev pub completed_from : Stage → List (List ℕ) → List Command
+completed_from s [] = []
+completed_from s (l ∷ ls) = (step s l).0 ++ completed_from (step s l).1 ls
+
+-- THE COMMANDS THAT ARE COMPLETE in the bytes given: those of the lines that have ended
+abbrev pub completed : List ℕ → List Command
+completed given = completed_from Between (ended_lines given)
+
 -- ---- texts of faults
 
 abbrev pub view_text : ViewFault → List ℕ
@@ -236,11 +257,14 @@ element_format e = if size_of e.kind == 1 then kind_code e.kind else order_text 
 abbrev pub pad_format : ℕ → List ℕ
 pad_format n = if n == 0 then [] else if n == 1 then codes "x" else decimal n ++ codes "x"
 
+abbrev pub field_format : Field → List ℕ
+field_format f = element_format f.element ++ codes ":" ++ f.name ++ codes ":"
+
 -- the fields from a place of the structure on, and the bytes behind the last one
 abbrev pub fields_format : (place size : ℕ) → List Field → List ℕ
 fields_format place size [] = pad_format (size - place)
 fields_format place size (f ∷ fs) =
-    pad_format (f.at - place) ++ element_format f.element ++ codes ":" ++ f.name ++ codes ":" ++ fields_format (f.at + size_of f.element.kind) size fs
+    pad_format (f.at - place) ++ field_format f ++ fields_format (f.at + size_of f.element.kind) size fs
 
 -- the format string of an element type (PEP 3118)
 abbrev pub format_text : ElementType → List ℕ
@@ -383,9 +407,10 @@ AreFirst executed ended given = (script : List ℕ) → MayBeScript ended given 
 abbrev pub RunsWhole : (script : List ℕ) → Book → (written : List ℕ) → Book → Type 0
 RunsWhole script b written last = Answers (commands script) b written last
 
--- A RUN THAT STOPPED after some commands, all of them answered
-abbrev pub RunsFront : (ended : Bool) → (given : List ℕ) → Book → (written : List ℕ) → Book → Type 0
-RunsFront ended given b written last = (executed : List Command) × AreFirst executed ended given × Answers executed b written last
+-- A RUN THAT STOPPED for what it read: the commands that are complete in these bytes were carried out, all of them and no
+-- others, and what was written is their answers. Whatever else the script has, they are its first commands.
+abbrev pub RunsCompleted : (given : List ℕ) → Book → (written : List ℕ) → Book → Type 0
+RunsCompleted given b written last = AreFirst (completed given) false given × Answers (completed given) b written last
 
 -- A RUN THAT STOPPED in the answer to the last of some commands
 abbrev pub RunsCut : (ended : Bool) → (given : List ℕ) → Book → (written : List ℕ) → Book → Type 0

@@ -4,6 +4,7 @@
 ghost use Rattle.nd_model.specs.Book.{LabelsStayDistinct, AnyLabels as AnyBookLabels};
 ghost use Rattle.nd_model.specs.Element.{RoundTrip};
 ghost use Rattle.nd_model.specs.Footprint.{Frame, EffectsAreAll, Replay};
+ghost use Rattle.nd_model.specs.Promotion.{PromotionTable};
 ghost use Rattle.nd_model.specs.Records.{Kept};
 ghost use Rattle.nd_model.specs.Renaming.{Rename, AnyLabels};
 ghost use Rattle.nd_model.specs.Scheduler.{AnyPass};
@@ -13,6 +14,11 @@ pub mod grammar;
 /// A value of an element's kind is read back from its bytes.
 pub fn round_trip()
     ensures { RoundTrip }
+{}
+
+/// The rule of promotion gives the table of NEP 50, for each two of the nine kinds.
+pub fn promotion_table()
+    ensures { PromotionTable }
 {}
 
 /// Sessions and inputs that agree on what a cell reads in the first give it the same reads and effects.

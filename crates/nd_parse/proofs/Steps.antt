@@ -6,8 +6,8 @@ use Rattle.nd_model.specs.Grammar.{Gram, One, Then, Many, has}
 use Rattle.nd_model.specs.Predict.{◌>>=◌, next_in, stop, read, Look, look}
 use Rattle.nd_model.specs.Token as model
 use Rattle.nd_model.specs.Syntax.{Expr}
-use Rattle.nd_model.specs.Kinds.{kind, OPERAND, PLACE, COMMA, OPEN, CLOSE, OPEN_BRACKET, CLOSE_BRACKET, MINUS}
-use Rattle.nd_model.specs.Cells.{enter, under, between, grouped, index, operand, atom, postfix, negative, expr, items, token, exprs, comma_expr, printed}
+use Rattle.nd_model.specs.Kinds.{kind, PLACE, COMMA, OPEN, CLOSE, OPEN_BRACKET, CLOSE_BRACKET, MINUS}
+use Rattle.nd_model.specs.Cells.{enter, under, between, grouped, index, operand, negative, expr, items, token, exprs, comma_expr, printed}
 use Rattle.nd_model.specs.Factored.{place, last_item, indexes, target}
 use Rattle.nd_model.proofs.Parsing.Sets.{chosen, ok_is}
 use Rattle.nd_model.proofs.Parsing.Loops.{Shrinks, shrinks, many_err, mapped, fused, many_fuse, push_step}
@@ -18,7 +18,8 @@ use Rattle.nd_parse.specs.declared.read.Reason.TheVariants as reasons
 use Rattle.nd_parse.specs.declared.read.Failure.{Failure}
 use Rattle.nd_parse.specs.declared.read.Failure.TheVariants as failures
 use Rattle.nd_parse.specs.Gives.{tokens_of, reason_of, stop_of, Fails}
-use Rattle.nd_parse.specs.Readers.{signed}
+use Rattle.nd_parse.specs.Readers.{signed, before_last, chain}
+use Rattle.nd_parse.proofs.Chains.{items_push}
 
 -- ---- steps that fail
 
@@ -71,15 +72,6 @@ index_shrinks levels =
     let e = look_index (under levels) (known levels) in
     shrinks kind (index (under levels)) (ap (λ (l : Look). l.fits) e) (ap (λ (l : Look). l.empty) e)
 
-pub postfix_begins : (levels : ℕ) (ts rest : List model.Token) (left : Expr) → read kind (operand OPERAND (under levels)) ts ≡ Ok (left, rest)
-    → read kind (Many OPEN_BRACKET (items left) (index (under levels))) rest ≡ read kind (postfix (under levels)) ts
-unfolding postfix atom
-postfix_begins levels ts rest left e = sym (rw e (many_fuse kind OPEN_BRACKET (items left) (λ (is : List Expr). is) (index (under levels)) rest))
-
-pub postfix_fails : (levels : ℕ) (ts : List model.Token) (e : Failure) → Fails e (read kind (operand OPERAND (under levels)) ts) → Fails e (read kind (postfix (under levels)) ts)
-unfolding postfix atom
-postfix_fails levels ts e h = fails_on e _ _ h
-
 -- ---- one token, as a rule sees it
 
 pub one_is : {C : Type 0} (set : ℕ) (f : model.Token → C) (ts : List model.Token) (t : model.Token) (rest : List model.Token) → read kind (token set) ts ≡ Ok (t, rest) → read kind (One set f) ts ≡ Ok (f t, rest)
@@ -96,27 +88,51 @@ one_is {C} set f (u ∷ us) t rest e =
 then_ok : {A B C : Type 0} (f : A → B → C) (a : Gram model.Token A) (b : Gram model.Token B) (ts rest : List model.Token) (x : A) → read kind a ts ≡ Ok (x, rest) → read kind (Then f a b) ts ≡ mapped (f x) (read kind b rest)
 then_ok f a b ts rest x e = rw e refl
 
-pub target_begins : (levels : ℕ) (ts mid rest : List model.Token) (left at : Expr) → read kind (operand PLACE (under levels)) ts ≡ Ok (left, mid) → read kind (index (under levels)) mid ≡ Ok (at, rest)
-    → read kind (Many OPEN_BRACKET (last_item left at) (index (under levels))) rest ≡ read kind (target (under levels)) ts
+pub chain_begins : (levels : ℕ) (ts rest : List model.Token) (x : Expr) (before : List Expr) → before ≡ [] → read kind (index (under levels)) ts ≡ Ok (x, rest)
+    → read kind (Many OPEN_BRACKET (before_last before x) (index (under levels))) rest ≡ read kind (chain (under levels)) ts
+chain_begins levels ts rest x before none e = rw none (sym (rw e (many_fuse kind OPEN_BRACKET (before_last [] x) (λ (is : List Expr). is) (index (under levels)) rest)))
+
+pub chain_fails : (levels : ℕ) (ts : List model.Token) (e : Failure) → Fails e (read kind (index (under levels)) ts) → Fails e (read kind (chain (under levels)) ts)
+chain_fails levels ts e h = fails_on e _ _ h
+
+paired : {A B C : Type 0} (f : A → B → C) (a : Gram model.Token A) (b : Gram model.Token B) (ts : List model.Token) → read kind (Then f a b) ts ≡ mapped (λ (p : A × B). f p.0 p.1) (read kind (Then (λ x y. (x, y)) a b) ts)
+paired {A} {B} {C} f a b ts = go (read kind a ts)
+  where
+    go : (r : Result (A × List model.Token) grammar.Stop)
+        → (r >>= λ x. read kind b x.1 >>= λ y. Ok (f x.0 y.0, y.1)) ≡ mapped (λ (p : A × B). f p.0 p.1) (r >>= λ x. read kind b x.1 >>= λ y. Ok ((x.0, y.0), y.1))
+    go (Ok x) = sym (fused (λ (p : A × B). f p.0 p.1) (λ (y : B). (x.0, y)) (read kind b x.1))
+    go (Err s) = refl
+
+last_item_is : (e : Expr) (before : List Expr) (x : Expr) (xs : List Expr) → last_item (items e before) x xs ≡ (items e (before_last before x xs).0, (before_last before x xs).1)
+last_item_is e before x [] = refl
+last_item_is e before x (y ∷ ys) = rw (← items_push e before x) (last_item_is e (before ++ x ∷ []) y ys)
+
+regrouped : (e : Expr) (r : Result ((Expr × List Expr) × List model.Token) grammar.Stop)
+    → mapped (λ (p : Expr × List Expr). last_item e p.0 p.1) r ≡ mapped (λ (q : List Expr × Expr). (items e q.0, q.1)) (mapped (λ (p : Expr × List Expr). before_last [] p.0 p.1) r)
+regrouped e (Ok p) = ap (λ q. Ok (q, p.1)) (last_item_is e [] p.0.0 p.0.1)
+regrouped e (Err s) = refl
+
+target_is : (levels : ℕ) (ts mid : List model.Token) (e : Expr) → read kind (operand PLACE (under levels)) ts ≡ Ok (e, mid)
+    → read kind (target (under levels)) ts ≡ mapped (λ (q : List Expr × Expr). (items e q.0, q.1)) (read kind (chain (under levels)) mid)
 unfolding target place indexes
-target_begins levels ts mid rest left at e d =
+target_is levels ts mid e d =
     let x = index (under levels) in
-    let all : Expr × List Expr → Expr × Expr = λ p. last_item left p.0 p.1 in
-    let first : List Expr → Expr × List Expr = λ is. (at, is) in
     let many : Gram model.Token (List Expr) = Many OPEN_BRACKET (λ is. is) x in
-    sym (then_ok (λ t (p : Expr × List Expr). last_item t p.0 p.1) (operand PLACE (under levels)) (Then (λ i is. (i, is)) x many) ts mid left e
-    ∙ ap (mapped all) (then_ok (λ i is. (i, is)) x many mid rest at d)
-    ∙ fused all first (read kind many rest)
-    ∙ many_fuse kind OPEN_BRACKET (last_item left at) (λ (is : List Expr). is) x rest)
+    then_ok (λ t (p : Expr × List Expr). last_item t p.0 p.1) (operand PLACE (under levels)) (Then (λ i is. (i, is)) x many) ts mid e d
+    ∙ regrouped e (read kind (Then (λ i is. (i, is)) x many) mid)
+    ∙ ap (mapped (λ (q : List Expr × Expr). (items e q.0, q.1))) (sym (paired (λ i is. before_last [] i is) x many mid))
+
+pub target_ends : (levels : ℕ) (ts mid rest : List model.Token) (e : Expr) (before : List Expr) (last : Expr) → read kind (operand PLACE (under levels)) ts ≡ Ok (e, mid)
+    → read kind (chain (under levels)) mid ≡ Ok ((before, last), rest) → read kind (target (under levels)) ts ≡ Ok ((items e before, last), rest)
+target_ends levels ts mid rest e before last d h = rw (target_is levels ts mid e d, h) refl
 
 pub target_fails : (levels : ℕ) (ts : List model.Token) (e : Failure) → Fails e (read kind (operand PLACE (under levels)) ts) → Fails e (read kind (target (under levels)) ts)
 unfolding target place
 target_fails levels ts e h = fails_on e _ _ h
 
-pub target_fails_at : (levels : ℕ) (ts mid : List model.Token) (left : Expr) (e : Failure) → read kind (operand PLACE (under levels)) ts ≡ Ok (left, mid) → Fails e (read kind (index (under levels)) mid)
+pub target_fails_at : (levels : ℕ) (ts mid : List model.Token) (left : Expr) (e : Failure) → read kind (operand PLACE (under levels)) ts ≡ Ok (left, mid) → Fails e (read kind (chain (under levels)) mid)
     → Fails e (read kind (target (under levels)) ts)
-unfolding target place indexes
-target_fails_at levels ts mid left e d h = rw d (fails_on e _ _ (fails_on e _ _ h))
+target_fails_at levels ts mid left e d h = rw (target_is levels ts mid left d) (fails_on e _ _ h)
 
 -- ---- expressions with commas
 

@@ -46,6 +46,10 @@ with_rest view x = (view x.0, tokens_of x.1.now)
 abbrev pub exprs_of : Vec Expr Global → List syntax.Expr
 exprs_of es = map expr_of es.items
 
+-- the indexes before the last, and the last
+abbrev pub chain_of : Vec Expr Global × Expr → List syntax.Expr × syntax.Expr
+chain_of c = (exprs_of c.0, expr_of c.1)
+
 -- what is assigned to, and its index
 abbrev pub target_of : Expr × Expr → syntax.Expr × syntax.Expr
 target_of t = (expr_of t.0, expr_of t.1)

@@ -1,8 +1,9 @@
 -- What the trees of the program stand for.
-use Rattle.std.specs.Prelude.{List, map, Result, Ok, Err, string_bytes, Vec}
+use Rattle.std.specs.Prelude.{List, [], ◌∷◌, map, Result, Ok, Err, string_bytes, Vec}
 use Rattle.std.specs.Global.{Global}
 use Rattle.nd_model.specs.Syntax as model
 use Rattle.nd_model.specs.Fault as fault
+use Rattle.nd_model.specs.Cells.{items}
 use Rattle.nd_parse.specs.declared.tree.Expr as declared
 use Rattle.nd_parse.specs.declared.tree.Stmt.{Stmt}
 use Rattle.nd_parse.specs.declared.tree.Stmt.TheVariants as stmts
@@ -11,12 +12,18 @@ use Rattle.nd_parse.specs.declared.tree.ParseKind.{ParseKind}
 use Rattle.nd_parse.specs.declared.tree.ParseKind.TheVariants as kinds
 use Rattle.nd_parse.specs.declared.tree.ParseFault.{ParseFault}
 
-abbrev pub expr_of : declared.Expr → model.Expr
-expr_of (declared.Name n) = model.Name (string_bytes n)
-expr_of (declared.Integer n) = model.Integer n
-expr_of (declared.Negative' p e) = model.Negative (expr_of e)
-expr_of (declared.Arange' p e) = model.Arange (expr_of e)
-expr_of (declared.Item' p e q i) = model.Item (expr_of e) (expr_of i)
+abbrev mutual
+  pub expr_of : declared.Expr → model.Expr
+  expr_of (declared.Name n) = model.Name (string_bytes n)
+  expr_of (declared.Integer n) = model.Integer n
+  expr_of (declared.Negative' p e) = model.Negative (expr_of e)
+  expr_of (declared.Arange' p e) = model.Arange (expr_of e)
+  expr_of (declared.Indexed' p e shape is) = items (expr_of e) (indexes_of is)
+
+  -- those of a chain, from left to right
+  pub indexes_of : {n : _} → declared.Row_of-Expr n → List model.Expr
+  indexes_of declared.end_of-Expr = []
+  indexes_of (declared.more_of-Expr i is) = expr_of i ∷ indexes_of is
 
 abbrev pub stmt_of : Stmt → model.Stmt
 stmt_of stmts.Import = model.Import

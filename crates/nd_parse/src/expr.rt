@@ -1,10 +1,11 @@
 //! Expressions.
-ghost use Rattle.std.specs.Prelude.{◌≡◌};
-ghost use Rattle.nd_model.specs.Kinds.{kind};
+ghost use Rattle.std.specs.Prelude.{◌≡◌, IfOk};
+ghost use Rattle.nd_model.specs.Grammar.{Many};
+ghost use Rattle.nd_model.specs.Kinds.{kind, OPEN_BRACKET};
 ghost use Rattle.nd_model.specs.Predict.{read};
-ghost use Rattle.nd_model.specs.Cells.{under, between, grouped, index, function, arange, operand, atom, postfix, negative, expr};
+ghost use Rattle.nd_model.specs.Cells.{under, between, grouped, index, items, function, arange, operand, atom, postfix, negative, expr};
 ghost use Rattle.nd_parse.specs.Syntax.{expr_of};
-ghost use Rattle.nd_parse.specs.Gives.{Gives, with_rest, tokens_of};
+ghost use Rattle.nd_parse.specs.Gives.{Gives, with_rest, tokens_of, exprs_of};
 ghost use Rattle.nd_parse.specs.Readers.{signed};
 ghost use Rattle.nd_token.specs.Tokens.{token_of};
 
@@ -15,7 +16,7 @@ use crate::kinds::{
 use crate::read::{Read, Reason, Tokens, leaf, shut, stop_at, take};
 use crate::tree::Expr;
 use nd_token::Token;
-use std::alloc::Global;
+use std::alloc::{AllocError, Global};
 
 /// An expression, which may open this many levels.
 #[cycle(parser)]
@@ -51,16 +52,39 @@ fn signed<'t>(alloc: Global, levels: u8, tokens: Tokens<'t>) -> Read<'t, Expr>
 
 /// An operand with its indexes.
 #[cycle(parser)]
+#[tactic(auto, unfolding(nd_model::specs::Cells::postfix, nd_model::specs::Cells::atom))]
 fn postfix<'t>(alloc: Global, levels: u8, tokens: Tokens<'t>) -> Read<'t, Expr>
     ensures { Gives (with_rest expr_of) result (read kind (postfix (under levels)) (tokens_of tokens.now)) }
 {
-    let (mut left, mut rest) = operand(alloc, levels, OPERAND, tokens)?;
-    'indexes: while next_in(rest, OPEN_BRACKET) {
-        let (at, after) = index(alloc, levels, rest)?;
-        left = Expr::Item(Box::new(alloc, left)?, Box::new(alloc, at)?);
+    let (operand, rest) = operand(alloc, levels, OPERAND, tokens)?;
+    let (indexes, rest) = indexes(alloc, levels, rest)?;
+    Ok((indexed(alloc, operand, indexes)?, rest))
+}
+
+/// Any number of indexes.
+#[cycle(parser)]
+fn indexes<'t>(alloc: Global, levels: u8, tokens: Tokens<'t>) -> Read<'t, Vec<Expr>>
+    ensures { Gives (with_rest exprs_of) result (read kind (Many OPEN_BRACKET (λ is. is) (index (under levels))) (tokens_of tokens.now)) }
+{
+    let mut all = Vec::new(alloc);
+    // from the first token on
+    let (_, mut rest) = tokens.split_at(0);
+    'more: while next_in(rest, OPEN_BRACKET) {
+        let (next, after) = index(alloc, levels, rest)?;
+        all.push(next)?;
         rest = after;
     }
-    Ok((left, rest))
+    Ok((all, rest))
+}
+
+/// An operand with its indexes, if it has any.
+pub fn indexed(alloc: Global, operand: Expr, indexes: Vec<Expr>) -> Result<Expr, AllocError>
+    ensures { IfOk result (λ e. expr_of e ≡ items (expr_of operand) (exprs_of indexes)) }
+{
+    if indexes.is_empty() {
+        return Ok(operand);
+    }
+    Ok(Expr::Indexed(Box::new(alloc, operand)?, indexes))
 }
 
 /// An operand. The names and integers that may stand here are those of the set.

@@ -6,9 +6,10 @@ ghost use Rattle.nd_model.specs.Cells.{under, between, expr, module_name, import
 ghost use Rattle.nd_model.specs.Factored.{bind, target, assign, stmt};
 ghost use Rattle.nd_token.specs.Tokens.{token_of};
 ghost use Rattle.nd_parse.specs.Syntax.{expr_of, stmt_of, line_of};
-ghost use Rattle.nd_parse.specs.Gives.{Gives, with_rest, tokens_of, exprs_of, target_of};
+ghost use Rattle.nd_parse.specs.Gives.{Gives, with_rest, tokens_of, exprs_of, chain_of, target_of};
+ghost use Rattle.nd_parse.specs.Readers.{chain};
 
-use crate::expr::{expr, index, operand};
+use crate::expr::{expr, index, indexed, operand};
 use crate::kinds::{
     AS, BOUND, CLOSE, COMMA, DEL, END, EQUAL, IMPORT, NP, NUMPY, NUMPY_CALLED, OPEN, OPEN_BRACKET,
     PLACE, PRINT, next_in,
@@ -115,19 +116,28 @@ fn bind<'t>(alloc: Global, levels: u8, tokens: Tokens<'t>) -> Read<'t, Stmt>
     Ok((Stmt::Bind(name, value), rest))
 }
 
-/// What is assigned to: an expression, and its index.
+/// At least one index: those before the last, and the last.
+fn chain<'t>(alloc: Global, levels: u8, tokens: Tokens<'t>) -> Read<'t, (Vec<Expr>, Expr)>
+    ensures { Gives (with_rest chain_of) result (read kind (chain (under levels)) (tokens_of tokens.now)) }
+{
+    let mut before = Vec::new(alloc);
+    let (mut last, mut rest) = index(alloc, levels, tokens)?;
+    'indexes: while next_in(rest, OPEN_BRACKET) {
+        let (next, after) = index(alloc, levels, rest)?;
+        before.push(last)?;
+        last = next;
+        rest = after;
+    }
+    Ok(((before, last), rest))
+}
+
+/// What is assigned to: an operand with its indexes before the last, and the last.
 fn target<'t>(alloc: Global, levels: u8, tokens: Tokens<'t>) -> Read<'t, (Expr, Expr)>
     ensures { Gives (with_rest target_of) result (read kind (target (under levels)) (tokens_of tokens.now)) }
 {
-    let (mut left, rest) = operand(alloc, levels, PLACE, tokens)?;
-    let (mut at, mut rest) = index(alloc, levels, rest)?;
-    'indexes: while next_in(rest, OPEN_BRACKET) {
-        let (next, after) = index(alloc, levels, rest)?;
-        left = Expr::Item(Box::new(alloc, left)?, Box::new(alloc, at)?);
-        at = next;
-        rest = after;
-    }
-    Ok(((left, at), rest))
+    let (operand, rest) = operand(alloc, levels, PLACE, tokens)?;
+    let ((before, last), rest) = chain(alloc, levels, rest)?;
+    Ok(((indexed(alloc, operand, before)?, last), rest))
 }
 
 /// `target = expr`

@@ -156,6 +156,18 @@ fn too_deep(rt: HostRuntime) -> Result<(), Fail> {
 }
 
 #[test]
+fn long_chains(rt: HostRuntime) -> Result<(), Fail> {
+    let alloc = rt.alloc();
+    let indexes = "[0]".repeat(alloc, 21665)?;
+    let read = format!(in alloc; "x = y{indexes}")?;
+    assert!(rt; read.len() == 65000);
+    assert!(rt; parse_cell(alloc, read.as_str())?.is_ok());
+    let written = format!(in alloc; "y{indexes} = x")?;
+    assert!(rt; parse_cell(alloc, written.as_str())?.is_ok());
+    Ok(())
+}
+
+#[test]
 fn too_many_statements(rt: HostRuntime) -> Result<(), Fail> {
     let alloc = rt.alloc();
     let most = "x = 1\n".repeat(alloc, 1000)?;
@@ -228,15 +240,15 @@ fn trees(rt: HostRuntime) -> Result<(), Fail> {
         means(
             alloc,
             "y = -x[0][1]",
-            "[Line { line: 1, stmt: Bind(\"y\", Negative(Item(Item(Name(\"x\"), Integer(0)), Integer(1)))) }]",
+            "[Line { line: 1, stmt: Bind(\"y\", Negative(Indexed(Name(\"x\"), [Integer(0), Integer(1)]))) }]",
         )?
     );
     assert!(rt;
         means(
             alloc,
             "print(np.arange(3),\n  a[-1])\na[b][1] = 2",
-            "[Line { line: 1, stmt: Print([Arange(Integer(3)), Item(Name(\"a\"), Negative(Integer(1)))]) }, \
-             Line { line: 3, stmt: Assign(Item(Name(\"a\"), Name(\"b\")), Integer(1), Integer(2)) }]",
+            "[Line { line: 1, stmt: Print([Arange(Integer(3)), Indexed(Name(\"a\"), [Negative(Integer(1))])]) }, \
+             Line { line: 3, stmt: Assign(Indexed(Name(\"a\"), [Name(\"b\")]), Integer(1), Integer(2)) }]",
         )?
     );
     Ok(())

@@ -7,8 +7,9 @@ pub enum Expr {
     Integer(u64),
     Negative(Box<Expr>),
     Arange(Box<Expr>),
-    /// An expression, and its index.
-    Item(Box<Expr>, Box<Expr>),
+    /// An operand, and its indexes from left to right. There is one at least, and the operand has none of its own unless it
+    /// stood in parentheses.
+    Indexed(Box<Expr>, Vec<Expr>),
 }
 
 /// A statement of a cell.

@@ -3,9 +3,9 @@ use Rattle.std.specs.Prelude.{ℕ, ℤ, List, [], ◌∷◌, ◌++◌, map}
 use Rattle.std.specs.Fmt.{signed_decimal}
 use Rattle.nd_model.specs.Element.{Kind, Element, size_of, value_of, bytes_at}
 use Rattle.nd_model.specs.Text.{truth_text, number_text, aligned, joined}
-use Rattle.nd_types.specs.declared.Num.{Num}
-use Rattle.nd_types.specs.declared.Num.TheVariants.{Int, Bool, Scalar}
-use Rattle.nd_types.specs.Types.{kind_of}
+use Rattle.nd_types.specs.declared.num.Num.{Num}
+use Rattle.nd_types.specs.declared.num.Num.TheVariants.{Int, Bool, Scalar}
+use Rattle.nd_types.specs.Kinds.{kind_of}
 
 abbrev pub num_text : Num → List ℕ
 num_text (Int z) = signed_decimal z

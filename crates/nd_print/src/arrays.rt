@@ -1,16 +1,15 @@
 //! The text of an array.
 ghost use Rattle.std.specs.Prelude.{◌≡◌, ◌+◌, ◌^◌, ◌<◌, ◌≤◌, [], ◌∷◌, ◌++◌, map, max, length, replicate, string_bytes, OnOk, IfOk};
 ghost use Rattle.std.specs.List.{All};
-ghost use Rattle.nd_model.specs.Element.{Element};
 ghost use Rattle.nd_model.specs.View.{One, item_size};
 ghost use Rattle.nd_model.specs.Text as model;
 ghost use Rattle.nd_model.specs.Tuple.{elements_of};
-ghost use Rattle.nd_types.specs.Types.{kind_of, elem_of};
+ghost use Rattle.nd_types.specs.Kinds.{kind_of};
 ghost use Rattle.nd_print.specs.Texts.{padded, row_text, values_at};
 
 use crate::scalars::{push_aligned, push_number, push_times, text_len};
 use nd_block::RawBlock;
-use nd_types::{Elem, ElemType, Kind};
+use nd_types::{Elem, Kind};
 use nd_view::View;
 use std::alloc::{AllocError, Global};
 
@@ -37,17 +36,14 @@ pub fn array_text(
     Ok(text)
 }
 
-/// Returns the text of an array, the bytes of which are the block's.
-pub fn text(alloc: Global, view: &View, block: &RawBlock) -> Result<String, AllocError>
-    requires { All (λ p. p + item_size view.now.element ≤ length block.now) view.now.places }
-    ensures { (e : Element) → view.now.element ≡ One e → IfOk result (λ t. string_bytes t ≡ model.array_text e.kind view.now.shape (values_at e block.now view.now.places)) }
+/// Returns the text of an array of numbers, the bytes of which are the block's.
+pub fn text(alloc: Global, view: &View, elem: Elem, block: &RawBlock) -> Result<String, AllocError>
+    requires type_is { view.now.element ≡ One elem }
+    requires inside { All (λ p. p + item_size view.now.element ≤ length block.now) view.now.places }
+    ensures { IfOk result (λ t. string_bytes t ≡ model.array_text elem.kind view.now.shape (values_at elem block.now view.now.places)) }
 {
-    match view.elem() {
-        ElemType::One(elem) => {
-            let values = values_of(alloc, view, block, elem)?;
-            array_text(alloc, elem.kind, view.shape(), &values)
-        }
-    }
+    let values = values_of(alloc, view, block, elem)?;
+    array_text(alloc, elem.kind(), view.shape(), &values)
 }
 
 // The numbers of a view's elements.
@@ -57,9 +53,9 @@ fn values_of(
     block: &RawBlock,
     elem: Elem,
 ) -> Result<Vec<i128>, AllocError>
-    requires type_is { view.now.element ≡ One (elem_of elem) }
+    requires type_is { view.now.element ≡ One elem }
     requires inside { All (λ p. p + item_size view.now.element ≤ length block.now) view.now.places }
-    ensures items { IfOk result (λ v. v.items ≡ values_at (elem_of elem) block.now view.now.places) }
+    ensures items { IfOk result (λ v. v.items ≡ values_at elem block.now view.now.places) }
     ensures whole { IfOk result (λ v. elements_of view.now.shape ≡ length v.items) }
 {
     let count = view.count();
@@ -70,13 +66,21 @@ fn values_of(
     Ok(values)
 }
 
+// The width of the narrowest number: in an array a Boolean is as wide as False.
+fn least_width(kind: Kind) -> usize
+    ensures { result ≡ model.least_width (kind_of kind) }
+{
+    match kind {
+        Kind::Bool => 5,
+        _ => 0,
+    }
+}
+
 // The width of each number in an array.
 fn widest(kind: Kind, values: &[i128]) -> usize
     ensures { result ≡ max (model.least_width (kind_of kind)) (model.widest (map (model.number_text (kind_of kind)) values.now)) }
 {
-    let mut width = match kind {
-        Kind::I64 => 0,
-    };
+    let mut width = least_width(kind);
     for value in values {
         width = width.max(text_len(kind, *value));
     }

@@ -72,13 +72,10 @@ mod tests {
 
     #[test]
     fn an_array_of_a_block(rt: HostRuntime) -> Result<(), Fail> {
-        let words = ElemType::One(Elem {
-            kind: Kind::I64,
-            big: true,
-        });
+        let elem = Elem::new(Kind::I64, true);
         let block = RawBlock::from_slice(rt.alloc(), &[255, 255, 255, 255, 255, 255, 255, 246])?;
-        let view = View::contiguous(rt.alloc(), words, &[1])?;
-        assert_eq!(rt; text(rt.alloc(), &view, &block)?.as_str(), "[-10]");
+        let view = View::contiguous(rt.alloc(), ElemType::One(elem), &[1])?;
+        assert_eq!(rt; text(rt.alloc(), &view, elem, &block)?.as_str(), "[-10]");
         Ok(())
     }
 }

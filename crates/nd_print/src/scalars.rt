@@ -1,8 +1,9 @@
 //! The text of one number.
 ghost use Rattle.std.specs.Prelude.{◌≡◌, ◌<◌, ◌++◌, length, replicate, string_bytes, OnOk, IfOk};
 ghost use Rattle.std.specs.Fmt.{signed_decimal};
+ghost use Rattle.nd_model.specs.Text as model;
 ghost use Rattle.nd_model.specs.Text.{number_text, aligned};
-ghost use Rattle.nd_types.specs.Types.{kind_of};
+ghost use Rattle.nd_types.specs.Kinds.{kind_of};
 ghost use Rattle.nd_print.specs.Texts.{num_text};
 
 use itoa::Buffer;
@@ -16,10 +17,16 @@ pub fn scalar_text(alloc: Global, num: Num) -> Result<String, AllocError>
     let mut text = String::new(alloc);
     match num {
         Num::Int(number) => push_decimal(&mut text, number)?,
-        Num::Bool(truth) => text.push_str(if truth { "True" } else { "False" })?,
+        Num::Bool(truth) => text.push_str(truth_text(truth))?,
         Num::Scalar(kind, number) => push_number(&mut text, kind, number)?,
     }
     Ok(text)
+}
+
+fn truth_text(truth: bool) -> &'static str
+    ensures { result.now ≡ model.truth_text truth }
+{
+    if truth { "True" } else { "False" }
 }
 
 // Appends the digits of a number.
@@ -34,7 +41,8 @@ pub(crate) fn push_number(text: &mut String, kind: Kind, number: i128) -> Result
     ensures { OnOk result (string_bytes text.new ≡ string_bytes text.old ++ number_text (kind_of kind) number) }
 {
     match kind {
-        Kind::I64 => push_decimal(text, number),
+        Kind::Bool => text.push_str(truth_text(number != 0)),
+        _ => push_decimal(text, number),
     }
 }
 
@@ -43,7 +51,8 @@ pub(crate) fn text_len(kind: Kind, number: i128) -> usize
     ensures { result ≡ length (number_text (kind_of kind) number) }
 {
     match kind {
-        Kind::I64 => Buffer::new().format(number).len(),
+        Kind::Bool => truth_text(number != 0).len(),
+        _ => Buffer::new().format(number).len(),
     }
 }
 

@@ -4,11 +4,10 @@ use Rattle.std.proofs.lemmas.List.{map-append}
 use Rattle.std.proofs.lemmas.Bool.{cases_Bool}
 use Rattle.std.proofs.lemmas.Grind.{flat_map-append}
 use Rattle.std.specs.List.{flat_map}
-use Rattle.nd_model.specs.Element.{Element, bytes_of}
-use Rattle.nd_model.specs.View.{ElementType, One}
+use Rattle.nd_model.specs.View.{ElementType}
 use Rattle.nd_model.specs.Value.{Value}
 use Rattle.nd_model.specs.Session.{Session, Names, lookup}
-use Rattle.nd_model.specs.Renaming.{Told, Shown, shown, shown_names, shown_element, number_at}
+use Rattle.nd_model.specs.Renaming.{Told, Shown, shown, shown_names, shown_element}
 use Rattle.nd_model.specs.Book.{Cell, QueryFault, ask_cell, ask_told, told_book, found_value}
 use Rattle.nd_rerun.specs.declared.cells.Ran.{Ran}
 use Rattle.nd_rerun.specs.declared.query.QueryFault as declared
@@ -104,14 +103,14 @@ value_missing n s es h = ap (found_value n) (lookup-shown n s es ∙ ap (option_
 
 -- ---- the elements of an array, one after another
 
-pub elements_more : (t : ElementType) (e : Element) (bytes seen : List ℕ) (places : List ℕ) (i p : ℕ) (all new : List ℕ)
-    → t ≡ One e → seen ≡ bytes → i < length places → p ≡ slice_index places i
-    → all ≡ flat_map (shown_element t bytes) (take i places) → new ≡ all ++ bytes_of e (number_at e seen p)
+pub elements_more : (t : ElementType) (bytes seen : List ℕ) (places : List ℕ) (i p : ℕ) (all new : List ℕ)
+    → seen ≡ bytes → i < length places → p ≡ slice_index places i
+    → all ≡ flat_map (shown_element t bytes) (take i places) → new ≡ all ++ shown_element t seen p
     → new ≡ flat_map (shown_element t bytes) (take (i + 1) places)
-elements_more t e bytes seen places i p all new one same lt at so_far is =
+elements_more t bytes seen places i p all new same lt at so_far is =
     is
     ∙ ap₂ (λ l m. l ++ m) so_far
-    (ap (bytes_of e) (ap₂ (number_at e) same at) ∙ sym (append-nil (shown_element (One e) bytes (slice_index places i))) ∙ ap (λ (u : ElementType). shown_element u bytes (slice_index places i) ++ []) (sym one))
+    (ap₂ (shown_element t) same at ∙ sym (append-nil (shown_element t bytes (slice_index places i))))
     ∙ sym (flat_map-append (shown_element t bytes) (take i places) (slice_index places i ∷ []))
     ∙ ap (flat_map (shown_element t bytes)) (sym (take-more places i lt))
   where

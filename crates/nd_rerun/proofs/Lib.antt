@@ -1,4 +1,7 @@
 pub mod Small
+pub mod Counting
+pub mod Answered
 pub mod Runs
 pub mod Changes
 pub mod Asked
+mod Structures

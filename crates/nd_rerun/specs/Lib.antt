@@ -1,3 +1,4 @@
+pub mod Counts
 pub mod Edits
 pub mod EditsOf
 pub mod Labels

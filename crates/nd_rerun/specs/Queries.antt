@@ -2,7 +2,8 @@
 use Rattle.std.specs.Prelude.{◌≡◌, ℕ, List, option_map, string_bytes, Result, Ok, Err, IsTrue, is_ok}
 use Rattle.nd_model.specs.Book as model
 use Rattle.nd_model.specs.Renaming as shown
-use Rattle.nd_types.specs.Types.{kind_of, type_of}
+use Rattle.nd_types.specs.Kinds.{kind_of}
+use Rattle.nd_types.specs.Types.{type_of}
 use Rattle.nd_cell.specs.Cells.{refusal_of, saves_of}
 use Rattle.nd_cell.specs.declared.result.CellResult.{CellResult}
 use Rattle.nd_rerun.specs.declared.query.QueryFault as declared

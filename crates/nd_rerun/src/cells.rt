@@ -1,12 +1,13 @@
 //! The cells of a notebook, and what is kept of their runs.
 
-ghost use Rattle.std.specs.Prelude.{◌≡◌, ◌+◌, ◌<◌, ◌≤◌, IfOk, length};
+ghost use Rattle.std.specs.Prelude.{◌≡◌, ◌+◌, ◌<◌, ◌≤◌, IfOk, MatchResult, length};
 ghost use Rattle.nd_model.specs.Session.{no_session};
 ghost use Rattle.nd_model.specs.Cell.{notebook};
 ghost use Rattle.nd_model.specs.Renaming.{told};
 ghost use Rattle.nd_model.specs.Book.{is_label, labels_of, most_cells, read_cells};
 ghost use Rattle.nd_model.specs.Book as model;
 ghost use Rattle.nd_heap.specs.Values.{inputs_of};
+ghost use Rattle.nd_rerun.specs.Counts.{counted, CountsAtMost};
 ghost use Rattle.nd_rerun.specs.Labels.{AreSmall};
 ghost use Rattle.nd_rerun.specs.Cells.{cells_of, tolds_of};
 
@@ -128,14 +129,15 @@ pub fn removed(alloc: Global, cells: &[Source], at: usize) -> Result<Vec<Source>
     Ok(all)
 }
 
-/// Runs all cells in order, from nothing.
+/// Runs all cells in order, from nothing, and counts each run.
 pub fn run_all(
     alloc: Global,
     meter: &mut Meter,
     inputs: &Inputs,
     cells: &[Source],
 ) -> Result<Vec<Ran>, OutOfMemory>
-    ensures { IfOk result (λ v. tolds_of v.items ≡ told (notebook (read_cells (cells_of cells.now)) (inputs_of inputs.now.entries) no_session)) }
+    ensures told { IfOk result (λ v. tolds_of v.items ≡ told (notebook (read_cells (cells_of cells.now)) (inputs_of inputs.now.entries) no_session)) }
+    ensures counts { MatchResult result (λ _. meter.new ≡ counted (length cells.now) meter.old) (λ _. CountsAtMost (length cells.now) meter.old meter.new) }
 {
     let mut session = Session::new(alloc);
     let mut all = Vec::new(alloc);

@@ -5,8 +5,10 @@ mod cells;
 mod edit;
 mod notebook;
 mod query;
+mod shown;
 
 pub use edit::{Edit, EditFault};
 pub use nd_cell::{CellFault, CellResult, Meter, Refusal};
+pub use nd_heap::OutOfMemory;
 pub use notebook::Notebook;
 pub use query::{QueryFault, Shown};

@@ -1,10 +1,11 @@
 //! The notebook.
 
-ghost use Rattle.std.specs.Prelude.{◌≡◌, ◌⊎◌, [], OnErr, OnOk, length};
+ghost use Rattle.std.specs.Prelude.{◌≡◌, [], IfOk, MatchResult, OnErr, OnOk, length};
 ghost use Rattle.nd_model.specs.Book.{labels_of};
 ghost use Rattle.nd_model.specs.Renaming.{AreDistinct};
 ghost use Rattle.nd_model.specs.Book as model;
-ghost use Rattle.nd_rerun.specs.Edits.{Answers};
+ghost use Rattle.nd_rerun.specs.Counts.{counted, CountsAtMost};
+ghost use Rattle.nd_rerun.specs.Edits.{Answers, CountsRuns};
 ghost use Rattle.nd_rerun.specs.Labels.{AreSmall};
 
 use crate::cells::{Ran, Source, changed, inserted, moved, removed, run_all};
@@ -70,6 +71,7 @@ impl Notebook {
         requires small { AreSmall (labels_of (cells_of cells.items)) }
         ensures ok { OnOk result (self.new ≡ cells_of cells.items) }
         ensures err { OnErr result (self.new ≡ self.old) }
+        ensures counts { MatchResult result (λ _. meter.new ≡ counted (length cells.items) meter.old) (λ _. CountsAtMost (length cells.items) meter.old meter.new) }
     {
         let inputs: Inputs = IndexMap::new(self.alloc);
         let ran = run_all(self.alloc, meter, &inputs, &cells)?;
@@ -83,7 +85,8 @@ impl Notebook {
     /// Puts a new cell at the place, which may be behind the last one. It is refused, in this order, where there is no such
     /// place, where there are 10,000 cells, where the text has more than 65,536 bytes, and for want of memory.
     pub fn insert(&mut self, meter: &mut Meter, at: usize, source: &str) -> Result<(), EditFault>
-        ensures { Answers (model.Insert at source.now) self.old result self.new }
+        ensures answered { Answers (model.Insert at source.now) self.old result self.new }
+        ensures counts { CountsRuns (model.Insert at source.now) self.old result meter.old meter.new }
     {
         let count = self.cells.len();
         if count < at {
@@ -103,7 +106,8 @@ impl Notebook {
     /// Gives the cell at the place another text. It is refused, in this order, where there is no such cell, where the text has
     /// more than 65,536 bytes, and for want of memory.
     pub fn edit(&mut self, meter: &mut Meter, at: usize, source: &str) -> Result<(), EditFault>
-        ensures { Answers (model.Change at source.now) self.old result self.new }
+        ensures answered { Answers (model.Change at source.now) self.old result self.new }
+        ensures counts { CountsRuns (model.Change at source.now) self.old result meter.old meter.new }
     {
         let count = self.cells.len();
         if count <= at {
@@ -120,7 +124,8 @@ impl Notebook {
     /// Moves the cell at the first place, so that it stands at the second afterwards. It is refused where there is no cell at one
     /// of them, with the first such place, and for want of memory.
     pub fn move_cell(&mut self, meter: &mut Meter, from: usize, to: usize) -> Result<(), EditFault>
-        ensures { Answers (model.Move from to) self.old result self.new }
+        ensures answered { Answers (model.Move from to) self.old result self.new }
+        ensures counts { CountsRuns (model.Move from to) self.old result meter.old meter.new }
     {
         let count = self.cells.len();
         if count <= from {
@@ -136,7 +141,8 @@ impl Notebook {
 
     /// Takes the cell at the place out. It is refused where there is none, and for want of memory.
     pub fn remove(&mut self, meter: &mut Meter, at: usize) -> Result<(), EditFault>
-        ensures { Answers (model.Remove at) self.old result self.new }
+        ensures answered { Answers (model.Remove at) self.old result self.new }
+        ensures counts { CountsRuns (model.Remove at) self.old result meter.old meter.new }
     {
         let count = self.cells.len();
         if count <= at {
@@ -201,12 +207,13 @@ impl Notebook {
 impl Notebook {
     ghost use Rattle.std.specs.Prelude.{map};
     ghost use Rattle.nd_model.specs.Book.{AnswersUnderAnyLabels};
-    ghost use Rattle.nd_rerun.specs.Edits.{AreEdited, book_of};
+    ghost use Rattle.nd_rerun.specs.Edits.{AreAnswered, book_of};
     ghost use Rattle.nd_rerun.specs.EditsOf.{edit_of};
 
     /// Makes an edit, or refuses it.
     pub fn apply(&mut self, meter: &mut Meter, edit: Edit) -> Result<(), EditFault>
-        ensures { Answers (edit_of edit.entry) self.old result self.new }
+        ensures answered { Answers (edit_of edit.entry) self.old result self.new }
+        ensures counts { CountsRuns (edit_of edit.entry) self.old result meter.old meter.new }
     {
         match edit {
             Edit::Insert(at, source) => self.insert(meter, at, source),
@@ -216,16 +223,24 @@ impl Notebook {
         }
     }
 
-    /// Makes these edits, one after the other; a refused one changes nothing. Afterwards what the notebook answers (`source`,
-    /// `result`, `names`, `value`, `count`) is what running all present cells in order from nothing gives, whichever distinct
-    /// labels the cells have.
-    pub fn apply_all(&mut self, meter: &mut Meter, edits: &[Edit])
-        ensures edited { AreEdited (map edit_of edits.now) self.old self.new }
+    /// Makes these edits, one after the other, and answers each; a refused one changes nothing. Afterwards what the notebook
+    /// answers (`source`, `result`, `names`, `value`, `count`) is what running all present cells in order from nothing gives,
+    /// whichever distinct labels the cells have. Where there is no room for the answers, no edit is made.
+    pub fn apply_all(
+        &mut self,
+        meter: &mut Meter,
+        edits: &[Edit],
+    ) -> Result<Vec<Result<(), EditFault>>, OutOfMemory>
+        ensures answered { IfOk result (λ answers. AreAnswered (map edit_of edits.now) self.old meter.old answers.items self.new meter.new) }
+        ensures err { OnErr result (self.new ≡ self.old) }
+        ensures err_counts { OnErr result (meter.new ≡ meter.old) }
         ensures any_labels { AnswersUnderAnyLabels (book_of self.new) }
     {
+        let mut answers = Vec::with_capacity(self.alloc, edits.len())?;
         for edit in edits {
-            let _ = self.apply(meter, *edit);
+            let answer = self.apply(meter, *edit);
+            answers.push_reserved(answer);
         }
-        let _ = &self.cells;
+        Ok(answers)
     }
 }

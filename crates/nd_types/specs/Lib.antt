@@ -1,1 +1,4 @@
+pub mod Kinds
+pub mod Fields
+pub mod Structures
 pub mod Types

@@ -1,17 +1,18 @@
 -- What the types of the code stand for among the definitions.
 use Rattle.nd_model.specs.Element as element
 use Rattle.nd_model.specs.View as view
-use Rattle.nd_types.specs.declared.Kind.{Kind}
-use Rattle.nd_types.specs.declared.Kind.TheVariants.{I64}
-use Rattle.nd_types.specs.declared.Elem.{Elem}
-use Rattle.nd_types.specs.declared.ElemType.{ElemType}
-use Rattle.nd_types.specs.declared.ElemType.TheVariants.{One}
-
-abbrev pub kind_of : Kind → element.Kind
-kind_of I64 = element.Int64
-
-abbrev pub elem_of : Elem → element.Element
-elem_of e = record { kind = kind_of e.kind; big = e.big }
+use Rattle.std.specs.Prelude.{Option, Some, None, Result, Ok, Err}
+use Rattle.nd_types.specs.declared.kind.Kind.{Kind}
+use Rattle.nd_types.specs.declared.types.ElemType.{ElemType}
+use Rattle.nd_types.specs.declared.types.ElemType.TheVariants.{One, Rec}
+use Rattle.nd_types.specs.declared.promotion.FloatResult.{FloatResult}
+use Rattle.nd_types.specs.Kinds.{kind_of}
 
 abbrev pub type_of : ElemType → view.ElementType
-type_of (One e) = view.One (elem_of e)
+type_of (One e) = view.One e
+type_of (Rec r) = view.Structure r.0 r.1
+
+-- the kind that a promotion gave, none where it was refused
+abbrev pub kind_given : Result Kind FloatResult → Option element.Kind
+kind_given (Ok k) = Some (kind_of k)
+kind_given (Err e) = None

@@ -35,10 +35,6 @@ module _ (v : Inside) (is : IsView v) (g : Geo) (e : geo_of v ≡ g) where
       let last : (k + 1) * item_size (type_of v.elem) ≤ elements_of v.shape.items * item_size (type_of v.elem) = mul-le-mul_right (item_size (type_of v.elem)) more in
       omega (arith, is.limits.bytes)
 
--- the places of an element's bytes, for each type that there is
-pub run_of : (t : ElemType) (p : ℕ) → element_places (type_of t) p ≡ count_up p (item_size (type_of t))
-run_of (One e) p = refl
-
 -- a new view
 pub made : (t : ElementType) (shape lengths : List ℕ) (strides : List ℤ) → lengths ≡ shape → strides ≡ strides_of (item_size t) shape
     → ◌≡◌ {A = Geo} (record { element = t; shape = lengths; writable = true; places = places_by 0 strides lengths }) (contiguous t shape)

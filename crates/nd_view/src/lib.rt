@@ -1,6 +1,7 @@
 //! Views: what an array is apart from its bytes.
 #![tactic(auto)]
 
+mod elements;
 mod shapes;
 mod strided;
 mod walk;
@@ -13,14 +14,13 @@ mod tests {
     use nd_types::{Elem, ElemType, Kind};
     use std::test::Fail;
 
-    const WORDS: ElemType = ElemType::One(Elem {
-        kind: Kind::I64,
-        big: false,
-    });
+    fn words() -> ElemType {
+        ElemType::One(Elem::little(Kind::I64))
+    }
 
     #[test]
     fn a_view_is_made(rt: HostRuntime) -> Result<(), Fail> {
-        let view = View::contiguous(rt.alloc(), WORDS, &[3])?;
+        let view = View::contiguous(rt.alloc(), words(), &[3])?;
         let copy = view.try_clone()?;
         assert_eq!(rt; copy.shape(), [3].as_slice());
         assert_eq!(rt; copy.count(), 3);
@@ -31,7 +31,7 @@ mod tests {
 
     #[test]
     fn tuples_run_in_order(rt: HostRuntime) -> Result<(), Fail> {
-        let view = View::contiguous(rt.alloc(), WORDS, &[2, 1, 2])?;
+        let view = View::contiguous(rt.alloc(), words(), &[2, 1, 2])?;
         let mut index = view.first()?.ok_or("no tuple")?;
         assert_eq!(rt; view.place(&index), 0);
         assert!(rt; view.next(&mut index));
@@ -47,10 +47,10 @@ mod tests {
 
     #[test]
     fn no_axes_have_one_tuple(rt: HostRuntime) -> Result<(), Fail> {
-        let view = View::contiguous(rt.alloc(), WORDS, &[])?;
+        let view = View::contiguous(rt.alloc(), words(), &[])?;
         let index = view.first()?;
         assert_eq!(rt; index.map(|tuple| tuple.len()), Some(0));
-        let empty = View::contiguous(rt.alloc(), WORDS, &[3, 0])?;
+        let empty = View::contiguous(rt.alloc(), words(), &[3, 0])?;
         assert!(rt; empty.first()?.is_none());
         Ok(())
     }

@@ -6,6 +6,7 @@ ghost use Rattle.nd_types.specs.Types.{type_of};
 ghost use Rattle.nd_view.specs.Indexes.{IsIndex};
 ghost use Rattle.nd_view.specs.Limits.{IsInLimits};
 
+use crate::elements::push_element;
 use crate::shapes::{elements, steps};
 use crate::walk::{advance, moved};
 use nd_types::ElemType;
@@ -47,10 +48,11 @@ impl View {
         requires { IsInLimits (item_size (type_of elem)) shape.now }
         ensures { IfOk result (λ v. v ≡ contiguous (type_of elem) shape.now) }
     {
+        let strides = steps(alloc, elem.size(), shape)?;
         Ok(View {
             elem,
             shape: SmallVec::from_slice(alloc, shape)?,
-            strides: steps(alloc, elem.size(), shape)?,
+            strides,
             offset: 0,
             writable: true,
         })
@@ -62,7 +64,7 @@ impl View {
     {
         let alloc = *self.shape.allocator();
         Ok(View {
-            elem: self.elem,
+            elem: self.elem.try_clone(alloc)?,
             shape: SmallVec::from_slice(alloc, self.shape.as_slice())?,
             strides: SmallVec::from_slice(alloc, self.strides.as_slice())?,
             offset: self.offset,
@@ -71,10 +73,10 @@ impl View {
     }
 
     /// Returns what lies at each place.
-    pub fn elem(&self) -> ElemType
-        ensures { type_of result ≡ self.now.element }
+    pub fn elem(&self) -> &ElemType
+        ensures { type_of result.now ≡ self.now.element }
     {
-        self.elem
+        &self.elem
     }
 
     /// Returns the lengths of the axes.
@@ -161,22 +163,10 @@ impl View {
     pub fn byte_places(&self, alloc: Global) -> Result<Vec<u64>, AllocError>
         ensures { IfOk result (λ v. v.items ≡ byte_places self.now) }
     {
-        let size = self.elem.size();
         let mut places = Vec::new(alloc);
         for number in 0..self.count() {
-            push_run(&mut places, self.place_of(number as u64), size)?;
+            push_element(&mut places, &self.elem, self.place_of(number as u64))?;
         }
         Ok(places)
     }
-}
-
-// Appends `size` places from the first one on.
-fn push_run(places: &mut Vec<u64>, first: u64, size: u64) -> Result<(), AllocError>
-    requires { first + size < 2 ^ 64 }
-    ensures { OnOk result (places.new.items ≡ places.old.items ++ count_up first size) }
-{
-    for at in 0..size {
-        places.push(first + at)?;
-    }
-    Ok(())
 }

@@ -1,22 +1,23 @@
 -- How the runs of lines and bytes make one run.
-use Rattle.std.proofs.Common.{◌≡◌, ℕ, ◌<◌, ◌≤◌, ◌+◌, Bool, true, false, cond, List, [], ◌∷◌, ◌++◌, Option, None, length, take, inl, refl, sym, ap, ◌∙◌, append_assoc, append-nil, length-append, arith}
+use Rattle.std.proofs.Common.{◌≡◌, ℕ, ◌<◌, ◌≤◌, ◌+◌, Bool, true, false, cond, List, [], ◌∷◌, ◌++◌, Option, None, length, take, inl, inr, refl, sym, ap, ◌∙◌, append_assoc, append-nil, length-append, arith}
 use Rattle.std.specs.Prelude.{◌==◌, IsUtf8, Result, Ok, Err, is_ok, OnOk, OnErr, IfErr}
 use Rattle.std.specs.Str.{is_utf8}
 use Rattle.std.specs.declared.alloc.AllocError.{AllocError}
-use Rattle.std.specs.Io.KnownBytes.{Consumes, IsAtEnd}
+use Rattle.std.specs.Io.KnownBytes.{Consumes, ReadConsumes, IsAtEnd}
 use Rattle.std.specs.List.{slice_split}
-use Rattle.std.proofs.KnownBytes.{Appends-nil, Appends-trans, Consumes-trans}
+use Rattle.std.proofs.KnownBytes.{Appends-nil, Appends-trans, Consumes-kept, Consumes-trans}
 use Rattle.std.proofs.lemmas.Bool.{ne_eqb, false≢true, false_from_ne_true}
 use Rattle.std.proofs.lemmas.Str.{IsUtf8-from_is_utf8, is_utf8-from_IsUtf8}
 use Rattle.std.proofs.lemmas.List.Splits.{slice_split_at}
 use Rattle.nd_script.proofs.Words.{parts_are_some}
 use Rattle.nd_model.specs.Book.{Book}
-use Rattle.nd_model.specs.Script.{Command, Edits, Bad, Answer, Answers, CutAnswers, IsFront, AreFirst, RunsCut, Opening, Line, Whole, Opens, Stage, Between, Within, step, step_of_line, read_line, is_dot, closed, source_of, with_source, commands, commands_from, lines_of, last_line, left_open}
+use Rattle.nd_model.specs.Script.{Command, Edits, Bad, Answer, Answers, CutAnswers, IsFront, AreFirst, RunsCut, Opening, Line, Whole, Opens, Stage, Between, Within, step, step_of_line, read_line, is_dot, closed, source_of, with_source, commands, commands_from, completed, completed_from, lines_of, ended_lines, last_line, left_open}
 use Rattle.ndnote.specs.declared.run_fault.RunFault.{RunFault}
 use Rattle.ndnote.specs.declared.run_fault.RunFault.TheVariants.{ReadFault, WriteFault, LineTooLong, OutOfMemory}
 use Rattle.ndnote.specs.Carry.{CarriedLine}
-use Rattle.ndnote.specs.Run.{most_line, open_answer, IsInLine, IsInAnswer, Done, LineRuns, LineStops, Finishes, FinishStops, Runs, AnswersAt, Why, Stops, RanToEnd, RunsAt, StoppedAt, Wrote}
+use Rattle.ndnote.specs.Run.{most_line, open_answer, AreWholeLines, IsInLine, IsInAnswer, stage_behind, Done, LineRuns, LineStops, Finishes, FinishStops, Runs, AnswersAt, Before, Stops, RanToEnd, RunsAt, StoppedAt, Wrote}
 use Rattle.ndnote.proofs.Lines.{one_line}
+use Rattle.ndnote.proofs.Ended.{whole-append, ended_lines-append, ended_lines-open, ended_lines-one, completed_from-append, stage_behind-append, commands_behind, completed_are_first}
 
 -- ---- lines
 
@@ -114,15 +115,24 @@ line_unwritten s line old new was executed whole first answers = record {
   answers = cut_few executed old new whole [] whole (fewer_in_front executed (step s line).0 first (few_from_step s line)) answers refl;
 }
 
+-- ---- commands of some lines, and of more
+
+done_later : (s t : Stage) (cs ds : List Command) (first second : List (List ℕ)) → cs ≡ completed_from s first → t ≡ stage_behind s first → ds ≡ completed_from t second → cs ++ ds ≡ completed_from s (first ++ second)
+done_later s t cs ds first second before stage after =
+    let later : ds ≡ completed_from (stage_behind s first) second = after ∙ ap (λ v. completed_from v second) stage in
+    ap (λ xs. xs ++ ds) before ∙ ap (λ xs. completed_from s first ++ xs) later ∙ sym (completed_from-append s first second)
+
 -- ---- bytes that were run
 
 pub runs_none : (s : Stage) (line : List ℕ) (old : Book) (was : Option (List ℕ)) → Runs s line [] s line old was was old
 runs_none s line old was = record {
+  whole = [];
   executed = [];
   written = [];
-  behind = [];
   place = append-nil line;
-  splits = λ more. refl;
+  are_whole = inl refl;
+  stage = refl;
+  done = refl;
   appended = Appends-nil was;
   answers = (refl, refl);
 }
@@ -131,46 +141,66 @@ runs_none s line old was = record {
 pub runs_part : (s : Stage) (line bytes : List ℕ) (t : Stage) (begun part : List ℕ) (old new : Book) (was now : Option (List ℕ)) → Runs s line bytes t begun old was now new
     → Runs s line (bytes ++ part) t (begun ++ part) old was now new
 runs_part s line bytes t begun part old new was now r = record {
+  whole = r.whole;
   executed = r.executed;
   written = r.written;
-  behind = r.behind;
-  place = sym (append_assoc line bytes part) ∙ ap (λ xs. xs ++ part) r.place ∙ append_assoc r.behind begun part;
-  splits = λ more. rw (append_assoc bytes part more, append_assoc begun part more) (r.splits (part ++ more));
+  place = sym (append_assoc line bytes part) ∙ ap (λ xs. xs ++ part) r.place ∙ append_assoc r.whole begun part;
+  are_whole = r.are_whole;
+  stage = r.stage;
+  done = r.done;
   appended = r.appended;
   answers = r.answers;
-}
-
--- the end of a line
-pub runs_line : (s : Stage) (line bytes : List ℕ) (t u : Stage) (begun : List ℕ) (old mid new : Book) (was now then_now : Option (List ℕ)) → IsInLine begun
-    → Runs s line bytes t begun old was now mid → LineRuns t begun u mid now then_now new → Runs s line (bytes ++ 10 ∷ []) u [] old was then_now new
-runs_line s line bytes t u begun old mid new was now then_now inside r l = record {
-  executed = r.executed ++ (step t begun).0;
-  written = r.written ++ l.written;
-  behind = line ++ (bytes ++ 10 ∷ []);
-  place = sym (append-nil (line ++ (bytes ++ 10 ∷ [])));
-  splits = λ more.
-      let next : commands_from t (lines_of (begun ++ 10 ∷ more)) ≡ (step t begun).0 ++ commands_from u (lines_of more)
-      = ap (commands_from t) (lines_of-cons begun more inside) ∙ ap (λ v. (step t begun).0 ++ commands_from v (lines_of more)) (sym l.stage) in
-      ap (λ xs. commands_from s (lines_of (line ++ xs))) (append_assoc bytes (10 ∷ []) more) ∙ r.splits (10 ∷ more) ∙ ap (λ cs. r.executed ++ cs) next
-      ∙ sym (append_assoc r.executed (step t begun).0 (commands_from u (lines_of more)));
-  appended = Appends-trans was now then_now r.written l.written r.appended l.appended;
-  answers = Answers-append r.executed (step t begun).0 old mid new r.written l.written r.answers l.answers;
 }
 
 -- one run after another
 pub runs_runs : (s : Stage) (line bytes : List ℕ) (t : Stage) (begun more : List ℕ) (u : Stage) (rest : List ℕ) (old mid new : Book) (was now then_now : Option (List ℕ)) → Runs s line bytes t begun old was now mid
     → Runs t begun more u rest mid now then_now new → Runs s line (bytes ++ more) u rest old was then_now new
-runs_runs s line bytes t begun more u rest old mid new was now then_now r q = record {
-  executed = r.executed ++ q.executed;
-  written = r.written ++ q.written;
-  behind = r.behind ++ q.behind;
-  place = sym (append_assoc line bytes more) ∙ ap (λ xs. xs ++ more) r.place ∙ append_assoc r.behind begun more ∙ ap (λ xs. r.behind ++ xs) q.place ∙ sym (append_assoc r.behind q.behind rest);
-  splits = λ after.
-      ap (λ xs. commands_from s (lines_of (line ++ xs))) (append_assoc bytes more after) ∙ r.splits (more ++ after) ∙ ap (λ cs. r.executed ++ cs) (q.splits after)
-      ∙ sym (append_assoc r.executed q.executed (commands_from u (lines_of (rest ++ after))));
-  appended = Appends-trans was now then_now r.written q.written r.appended q.appended;
-  answers = Answers-append r.executed q.executed old mid new r.written q.written r.answers q.answers;
-}
+runs_runs s line bytes t begun more u rest old mid new was now then_now r q =
+    let first = ended_lines r.whole in
+    let second = ended_lines q.whole in
+    let both : ended_lines (r.whole ++ q.whole) ≡ first ++ second = ended_lines-append r.whole q.whole r.are_whole in
+    record {
+      whole = r.whole ++ q.whole;
+      executed = r.executed ++ q.executed;
+      written = r.written ++ q.written;
+      place = sym (append_assoc line bytes more) ∙ ap (λ xs. xs ++ more) r.place ∙ append_assoc r.whole begun more ∙ ap (λ xs. r.whole ++ xs) q.place ∙ sym (append_assoc r.whole q.whole rest);
+      are_whole = whole-append r.whole q.whole r.are_whole q.are_whole;
+      stage = q.stage ∙ ap (λ v. stage_behind v second) r.stage ∙ sym (ap (stage_behind s) both ∙ stage_behind-append s first second);
+      done = done_later s t r.executed q.executed first second r.done r.stage q.done ∙ sym (ap (completed_from s) both);
+      appended = Appends-trans was now then_now r.written q.written r.appended q.appended;
+      answers = Answers-append r.executed q.executed old mid new r.written q.written r.answers q.answers;
+    }
+
+-- the newline behind a line
+line_ended : (t u : Stage) (begun : List ℕ) (mid new : Book) (now then_now : Option (List ℕ)) → IsInLine begun → LineRuns t begun u mid now then_now new → Runs t begun (10 ∷ []) u [] mid now then_now new
+line_ended t u begun mid new now then_now inside l =
+    let ended : ended_lines (begun ++ 10 ∷ []) ≡ begun ∷ [] = ended_lines-one begun inside in
+    record {
+      whole = begun ++ 10 ∷ [];
+      executed = (step t begun).0;
+      written = l.written;
+      place = sym (append-nil (begun ++ 10 ∷ []));
+      are_whole = inr (begun, refl);
+      stage = l.stage ∙ sym (ap (stage_behind t) ended);
+      done = sym (ap (completed_from t) ended ∙ append-nil (step t begun).0);
+      appended = l.appended;
+      answers = l.answers;
+    }
+
+-- a whole line more
+pub runs_line : (s : Stage) (line bytes : List ℕ) (t u : Stage) (begun : List ℕ) (old mid new : Book) (was now then_now : Option (List ℕ)) → IsInLine begun → Runs s line bytes t begun old was now mid
+    → LineRuns t begun u mid now then_now new → Runs s line (bytes ++ 10 ∷ []) u [] old was then_now new
+runs_line s line bytes t u begun old mid new was now then_now inside r l =
+    runs_runs s line bytes t begun (10 ∷ []) u [] old mid new was now then_now r (line_ended t u begun mid new now then_now inside l)
+
+-- the commands of a script behind these bytes
+pub splits : {s t : Stage} {line bytes begun : List ℕ} {old new : Book} {was now : Option (List ℕ)} (r : Runs s line bytes t begun old was now new) (more : List ℕ)
+    → commands_from s (lines_of (line ++ (bytes ++ more))) ≡ r.executed ++ commands_from t (lines_of (begun ++ more))
+splits {s} {t} {line} {bytes} {begun} r more =
+    let place : line ++ (bytes ++ more) ≡ r.whole ++ (begun ++ more) = sym (append_assoc line bytes more) ∙ ap (λ xs. xs ++ more) r.place ∙ append_assoc r.whole begun more in
+    ap (λ xs. commands_from s (lines_of xs)) place ∙ commands_behind s r.whole (begun ++ more) r.are_whole
+    ∙ ap (λ cs. cs ++ commands_from (stage_behind s (ended_lines r.whole)) (lines_of (begun ++ more))) (sym r.done)
+    ∙ ap (λ v. r.executed ++ commands_from v (lines_of (begun ++ more))) (sym r.stage)
 
 -- ---- runs that stop
 
@@ -180,11 +210,11 @@ answers_at WriteFault cs old new text h cut = cut
 answers_at LineTooLong cs old new text h cut = absurd h
 answers_at OutOfMemory cs old new text h cut = cut
 
-why_at : (f : RunFault) (bytes : List ℕ) → IsInAnswer f → Why f bytes
-why_at ReadFault bytes h = absurd h
-why_at WriteFault bytes h = tt
-why_at LineTooLong bytes h = absurd h
-why_at OutOfMemory bytes h = tt
+before_at : (f : RunFault) (s : Stage) (cs : List Command) (bytes : List ℕ) → IsInAnswer f → Before f s cs bytes
+before_at ReadFault s cs bytes h = absurd h
+before_at WriteFault s cs bytes h = tt
+before_at LineTooLong s cs bytes h = absurd h
+before_at OutOfMemory s cs bytes h = tt
 
 -- within the answer to a line
 pub stops_line : (f : RunFault) (s : Stage) (line bytes : List ℕ) (t : Stage) (begun tail : List ℕ) (old mid new : Book) (was now then_now : Option (List ℕ)) → IsInAnswer f → IsInLine begun
@@ -197,12 +227,12 @@ stops_line f s line bytes t begun tail old mid new was now then_now h inside r l
       let next : commands_from t (lines_of (begun ++ 10 ∷ (tail ++ more))) ≡ (l.executed ++ l.first.0) ++ after
       = ap (commands_from t) (lines_of-cons begun (tail ++ more) inside) ∙ ap (λ cs. cs ++ after) l.first.1 in (
         l.first.0 ++ after,
-        ap (λ xs. commands_from s (lines_of (line ++ xs))) (append_assoc bytes (10 ∷ tail) more) ∙ r.splits (10 ∷ (tail ++ more)) ∙ ap (λ cs. r.executed ++ cs) next
+        ap (λ xs. commands_from s (lines_of (line ++ xs))) (append_assoc bytes (10 ∷ tail) more) ∙ splits r (10 ∷ (tail ++ more)) ∙ ap (λ cs. r.executed ++ cs) next
             ∙ ap (λ cs. r.executed ++ cs) (append_assoc l.executed l.first.0 after) ∙ sym (append_assoc r.executed l.executed (l.first.0 ++ after)),
       );
   appended = Appends-trans was now then_now r.written l.written r.appended l.appended;
   answers = answers_at f (r.executed ++ l.executed) old new (r.written ++ l.written) h (CutAnswers-append r.executed l.executed old mid new r.written l.written r.answers l.answers);
-  why = why_at f (line ++ (bytes ++ 10 ∷ tail)) h;
+  before = before_at f s (r.executed ++ l.executed) (line ++ (bytes ++ 10 ∷ tail)) h;
 }
 
 -- a line is too long
@@ -213,18 +243,22 @@ stops_long s line bytes t begun part tail old new was now inside long r = record
   written = r.written;
   first = λ more. (
     commands_from t (lines_of (begun ++ ((part ++ tail) ++ more))),
-    ap (λ xs. commands_from s (lines_of (line ++ xs))) (append_assoc bytes (part ++ tail) more) ∙ r.splits ((part ++ tail) ++ more),
+    ap (λ xs. commands_from s (lines_of (line ++ xs))) (append_assoc bytes (part ++ tail) more) ∙ splits r ((part ++ tail) ++ more),
   );
   appended = r.appended;
   answers = r.answers;
-  why = record {
-    front = r.behind;
-    line = begun ++ part;
-    rest = tail;
-    place = sym (append_assoc line bytes (part ++ tail)) ∙ ap (λ xs. xs ++ (part ++ tail)) r.place ∙ simp append_assoc;
-    in_line = inside;
-    long = long;
-  };
+  before = (
+    r.whole,
+    record {
+      line = begun ++ part;
+      rest = tail;
+      place = sym (append_assoc line bytes (part ++ tail)) ∙ ap (λ xs. xs ++ (part ++ tail)) r.place ∙ simp append_assoc;
+      are_whole = r.are_whole;
+      in_line = inside;
+      long = long;
+    },
+    r.done,
+  );
 }
 
 -- no memory for a line
@@ -234,11 +268,11 @@ stops_memory s line bytes t begun tail old new was now r = record {
   written = r.written;
   first = λ more. (
     commands_from t (lines_of (begun ++ (tail ++ more))),
-    ap (λ xs. commands_from s (lines_of (line ++ xs))) (append_assoc bytes tail more) ∙ r.splits (tail ++ more),
+    ap (λ xs. commands_from s (lines_of (line ++ xs))) (append_assoc bytes tail more) ∙ splits r (tail ++ more),
   );
   appended = r.appended;
   answers = cut_nowhere r.executed old new r.written r.answers;
-  why = tt;
+  before = tt;
 }
 
 -- ---- commands that are carried out
@@ -372,7 +406,7 @@ pub ran_to_end : (unread left : Option (List ℕ)) (given : List ℕ) (t : Stage
     → Runs Between [] given t begun old was now mid → Finishes t begun mid now then_now new → RanToEnd unread left old was then_now new
 ran_to_end unread left given t begun old mid new was now then_now taken ended r q =
     let all : commands given ≡ r.executed ++ commands_from t (lines_of begun)
-    = ap (λ xs. commands_from Between (lines_of xs)) (sym (append-nil given)) ∙ r.splits [] ∙ ap (λ xs. r.executed ++ commands_from t (lines_of xs)) (append-nil begun) in
+    = ap (λ xs. commands_from Between (lines_of xs)) (sym (append-nil given)) ∙ splits r [] ∙ ap (λ xs. r.executed ++ commands_from t (lines_of xs)) (append-nil begun) in
     record {
       script = given;
       written = r.written ++ q.written;
@@ -393,7 +427,7 @@ pub stopped_at_end : (f : RunFault) (unread left : Option (List ℕ)) (given : L
     → Runs Between [] given t begun old was now mid → FinishStops t begun mid now then_now new → StoppedAt f unread left old was then_now new
 stopped_at_end f unread left given t begun old mid new was now then_now h taken ended r q =
     let all : commands given ≡ r.executed ++ commands_from t (lines_of begun)
-    = ap (λ xs. commands_from Between (lines_of xs)) (sym (append-nil given)) ∙ r.splits [] ∙ ap (λ xs. r.executed ++ commands_from t (lines_of xs)) (append-nil begun) in
+    = ap (λ xs. commands_from Between (lines_of xs)) (sym (append-nil given)) ∙ splits r [] ∙ ap (λ xs. r.executed ++ commands_from t (lines_of xs)) (append-nil begun) in
     let fronts : commands given ≡ (r.executed ++ q.executed) ++ q.first.0 = all ∙ ap (λ cs. r.executed ++ cs) q.first.1 ∙ sym (append_assoc r.executed q.executed q.first.0) in
     record {
       given = given;
@@ -407,29 +441,35 @@ stopped_at_end f unread left given t begun old mid new was now then_now h taken 
         λ script same. (q.first.0, ap commands same ∙ fronts),
         CutAnswers-append r.executed q.executed old mid new r.written q.written r.answers q.answers,
       );
-      why = why_at f given h;
     }
 
 -- a read failed, or the turns ran out
-pub stopped_in_reading : (unread left : Option (List ℕ)) (given : List ℕ) (t : Stage) (begun : List ℕ) (old new : Book) (was now : Option (List ℕ)) → Consumes unread left given
+pub stopped_in_reading : (unread left : Option (List ℕ)) (given : List ℕ) (t : Stage) (begun : List ℕ) (old new : Book) (was now : Option (List ℕ)) → Consumes unread left given → IsInLine begun
     → Runs Between [] given t begun old was now new → StoppedAt ReadFault unread left old was now new
-stopped_in_reading unread left given t begun old new was now taken r = record {
-  given = given;
-  written = r.written;
-  ended = false;
-  taken = taken;
-  at_end = λ e. absurd (false≢true e);
-  appended = r.appended;
-  answers = (r.executed, λ script more. (commands_from t (lines_of (begun ++ more.0)), ap commands more.1 ∙ r.splits more.0), r.answers);
-  why = tt;
-}
+stopped_in_reading unread left given t begun old new was now taken inside r =
+    let ended : ended_lines given ≡ ended_lines r.whole
+    = ap ended_lines r.place ∙ ended_lines-append r.whole begun r.are_whole ∙ ap (λ ls. ended_lines r.whole ++ ls) (ended_lines-open begun inside) ∙ append-nil (ended_lines r.whole) in
+    let all : completed given ≡ r.executed = ap (completed_from Between) ended ∙ sym r.done in
+    record {
+      given = given;
+      written = r.written;
+      ended = false;
+      taken = taken;
+      at_end = λ e. absurd (false≢true e);
+      appended = r.appended;
+      answers = (
+        λ script more. (commands_from t (lines_of (begun ++ more.0)), ap commands more.1 ∙ splits r more.0 ∙ ap (λ cs. cs ++ commands_from t (lines_of (begun ++ more.0))) (sym all)),
+        rw all r.answers,
+      );
+    }
 
 -- the run stopped within the bytes
-runs_at : (f : RunFault) (given : List ℕ) (old new : Book) (written : List ℕ) (executed : List Command) → AreFirst executed false given → AnswersAt f executed old written new → RunsAt f false given old written new
-runs_at ReadFault given old new written executed first answers = (executed, first, answers)
-runs_at WriteFault given old new written executed first answers = (executed, first, answers)
-runs_at LineTooLong given old new written executed first answers = (executed, first, answers)
-runs_at OutOfMemory given old new written executed first answers = (executed, first, answers)
+runs_at : (f : RunFault) (given : List ℕ) (old new : Book) (written : List ℕ) (executed : List Command) → (f ≡ ReadFault → ⊥) → AreFirst executed false given → AnswersAt f executed old written new → Before f Between executed given
+    → RunsAt f false given old written new
+runs_at ReadFault given old new written executed other first answers before = absurd (other refl)
+runs_at WriteFault given old new written executed other first answers before = (executed, first, answers)
+runs_at LineTooLong given old new written executed other first answers before = (before.0, before.1, (completed_are_first before.0 before.1.are_whole, rw (sym before.2) answers))
+runs_at OutOfMemory given old new written executed other first answers before = (executed, first, answers)
 
 answers_before : (f : RunFault) (cs ds : List Command) (old mid new : Book) (one two : List ℕ) → Answers cs old one mid → AnswersAt f ds mid two new → AnswersAt f (cs ++ ds) old (one ++ two) new
 answers_before ReadFault cs ds old mid new one two first second = Answers-append cs ds old mid new one two first second
@@ -437,40 +477,53 @@ answers_before WriteFault cs ds old mid new one two first second = CutAnswers-ap
 answers_before LineTooLong cs ds old mid new one two first second = Answers-append cs ds old mid new one two first second
 answers_before OutOfMemory cs ds old mid new one two first second = CutAnswers-append cs ds old mid new one two first second
 
-why_later : (f : RunFault) (front bytes all : List ℕ) → all ≡ front ++ bytes → Why f bytes → Why f all
-why_later ReadFault front bytes all e why = tt
-why_later WriteFault front bytes all e why = tt
-why_later LineTooLong front bytes all e why = record {
-  front = front ++ why.front;
-  line = why.line;
-  rest = why.rest;
-  place = e ∙ ap (λ xs. front ++ xs) why.place ∙ simp append_assoc;
-  in_line = why.in_line;
-  long = why.long;
-}
-why_later OutOfMemory front bytes all e why = tt
+before_later : (f : RunFault) (s t : Stage) (cs ds : List Command) (whole bytes all : List ℕ) → all ≡ whole ++ bytes → AreWholeLines whole → cs ≡ completed_from s (ended_lines whole) → t ≡ stage_behind s (ended_lines whole)
+    → Before f t ds bytes → Before f s (cs ++ ds) all
+before_later ReadFault s t cs ds whole bytes all e w done stage before = tt
+before_later WriteFault s t cs ds whole bytes all e w done stage before = tt
+before_later LineTooLong s t cs ds whole bytes all e w done stage before =
+    let b = before.1 in (
+      whole ++ before.0,
+      record {
+        line = b.line;
+        rest = b.rest;
+        place = e ∙ ap (λ xs. whole ++ xs) b.place ∙ simp append_assoc;
+        are_whole = whole-append whole before.0 w b.are_whole;
+        in_line = b.in_line;
+        long = b.long;
+      },
+      done_later s t cs ds (ended_lines whole) (ended_lines before.0) done stage before.2 ∙ sym (ap (completed_from s) (ended_lines-append whole before.0 w)),
+    )
+before_later OutOfMemory s t cs ds whole bytes all e w done stage before = tt
 
-pub stopped_in_bytes : (f : RunFault) (unread left : Option (List ℕ)) (given bytes : List ℕ) (t : Stage) (begun : List ℕ) (old mid new : Book) (was now then_now : Option (List ℕ)) → Consumes unread left (given ++ bytes)
+pub stopped_in_bytes : (f : RunFault) (unread left : Option (List ℕ)) (given bytes : List ℕ) (t : Stage) (begun : List ℕ) (old mid new : Book) (was now then_now : Option (List ℕ)) → (f ≡ ReadFault → ⊥) → Consumes unread left (given ++ bytes)
     → Runs Between [] given t begun old was now mid → Stops f t begun bytes mid now then_now new → StoppedAt f unread left old was then_now new
-stopped_in_bytes f unread left given bytes t begun old mid new was now then_now taken r q = record {
-  given = given ++ bytes;
-  written = r.written ++ q.written;
-  ended = false;
-  taken = taken;
-  at_end = λ e. absurd (false≢true e);
-  appended = Appends-trans was now then_now r.written q.written r.appended q.appended;
-  answers = runs_at f (given ++ bytes) old new (r.written ++ q.written) (r.executed ++ q.executed)
-      (λ script more.
-      let next = q.first more.0 in (
-        next.0,
-        ap commands (more.1 ∙ append_assoc given bytes more.0) ∙ r.splits (bytes ++ more.0) ∙ ap (λ cs. r.executed ++ cs) next.1 ∙ sym (append_assoc r.executed q.executed next.0),
-      ))
-      (answers_before f r.executed q.executed old mid new r.written q.written r.answers q.answers);
-  why = why_later f r.behind (begun ++ bytes) (given ++ bytes) (ap (λ xs. xs ++ bytes) r.place ∙ append_assoc r.behind begun bytes) q.why;
-}
+stopped_in_bytes f unread left given bytes t begun old mid new was now then_now other taken r q =
+    let place : given ++ bytes ≡ r.whole ++ (begun ++ bytes) = ap (λ xs. xs ++ bytes) r.place ∙ append_assoc r.whole begun bytes in
+    record {
+      given = given ++ bytes;
+      written = r.written ++ q.written;
+      ended = false;
+      taken = taken;
+      at_end = λ e. absurd (false≢true e);
+      appended = Appends-trans was now then_now r.written q.written r.appended q.appended;
+      answers = runs_at f (given ++ bytes) old new (r.written ++ q.written) (r.executed ++ q.executed) other
+          (λ script more.
+          let next = q.first more.0 in (
+            next.0,
+            ap commands (more.1 ∙ append_assoc given bytes more.0) ∙ splits r (bytes ++ more.0) ∙ ap (λ cs. r.executed ++ cs) next.1 ∙ sym (append_assoc r.executed q.executed next.0),
+          ))
+          (answers_before f r.executed q.executed old mid new r.written q.written r.answers q.answers)
+          (before_later f Between t r.executed q.executed r.whole (begun ++ bytes) (given ++ bytes) place r.are_whole r.done r.stage q.before);
+    }
 
 -- the last read gave nothing
 pub consumes_none : (unread was left : Option (List ℕ)) (given buf : List ℕ) (n : ℕ) → Consumes unread was given → Consumes was left (take n buf) → n ≡ 0 → Consumes unread left given
 consumes_none unread was left given buf n before after zero =
     let same : given ++ take n buf ≡ given = rw zero (append-nil given) in
     rw (← same) (Consumes-trans unread was left given (take n buf) before after)
+
+-- a read that failed took nothing
+pub consumes_at_failure : {E : Type 0} (r : Result ℕ E) (unread was left : Option (List ℕ)) (given buf : List ℕ) → Consumes unread was given → ((n : ℕ) → r ≡ Ok n → ⊥) → ReadConsumes was left r buf → Consumes unread left given
+consumes_at_failure (Ok n) unread was left given buf before fails after = absurd (fails n refl)
+consumes_at_failure (Err e) unread was left given buf before fails after = Consumes-kept unread was left given before after

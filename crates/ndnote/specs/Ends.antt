@@ -1,13 +1,17 @@
--- The reader and the writer of a script, with what they tell of their failures.
-use Rattle.std.specs.Prelude.{ℕ, Bool}
+-- The reader and the writer of a script, with their counts.
+use Rattle.std.specs.Prelude.{ℕ, ◌+◌, ◌-◌, ◌^◌, min}
 
--- the reader, how many reads it has left, and whether one has failed
+-- a count that went on by so many, or as far as a `u64` goes
+abbrev pub counted_on : ℕ → ℕ → ℕ
+counted_on count more = count + min more (2 ^ 64 - 1 - count)
+
+-- the reader, how many reads it was asked for, and how many of them failed
 pub record ReaderState (R : Type 0) : Type 0 where
   pub reader : R
-  pub turns : ℕ
-  pub has_failed : Bool
+  pub reads : ℕ
+  pub failures : ℕ
 
--- the writer, and whether a write has failed or has taken nothing
+-- the writer, and how many of its writes failed or took nothing
 pub record WriterState (W : Type 0) : Type 0 where
   pub writer : W
-  pub has_failed : Bool
+  pub failures : ℕ

@@ -1,9 +1,9 @@
 -- Runs of scripts.
-use Rattle.std.specs.Prelude.{◌≡◌, ◌≢◌, ℕ, ◌^◌, ◌<◌, ◌≤◌, Bool, true, IsTrue, All, List, [], ◌++◌, length, codes, Option, Result, Ok, Err}
+use Rattle.std.specs.Prelude.{◌≡◌, ◌≢◌, ℕ, ◌^◌, ◌<◌, ◌≤◌, ◌⊎◌, Bool, true, IsTrue, All, List, [], ◌∷◌, ◌++◌, length, codes, Option, Result, Ok, Err}
 use Rattle.std.specs.Io.KnownBytes.{Appends, Consumes, IsAtEnd}
 use Rattle.std.specs.declared.alloc.AllocError.{AllocError}
 use Rattle.nd_model.specs.Book.{Book}
-use Rattle.nd_model.specs.Script.{Command, Answers, CutAnswers, IsFront, Stage, Between, Within, step, commands_from, lines_of, RunsWhole, RunsFront, RunsCut}
+use Rattle.nd_model.specs.Script.{Command, Answers, CutAnswers, IsFront, Stage, Between, Within, step, commands_from, completed_from, lines_of, ended_lines, RunsWhole, RunsCompleted, RunsCut}
 use Rattle.ndnote.specs.Source.{stage_of}
 use Rattle.ndnote.specs.declared.source.Source.{Source}
 use Rattle.ndnote.specs.declared.run_fault.RunFault.{RunFault}
@@ -85,23 +85,34 @@ IsInAnswer OutOfMemory = Unit {0}
 
 -- ---- some bytes
 
+-- bytes that are whole lines: none, or as far as some newline
+abbrev pub AreWholeLines : List ℕ → Type 0
+AreWholeLines bytes = (bytes ≡ []) ⊎ ((before : List ℕ) × (bytes ≡ before ++ 10 ∷ []))
+
+-- where a script stands behind these lines
+abbrev pub stage_behind : Stage → List (List ℕ) → Stage
+stage_behind s [] = s
+stage_behind s (l ∷ ls) = stage_behind (step s l).1 ls
+
 -- From a stage and the beginning of a line these bytes led to another stage and the beginning of another line; the commands
 -- that they completed were carried out and answered.
 pub record Runs (s : Stage) (line bytes : List ℕ) (t : Stage) (begun : List ℕ) (old : Book) (was now : Option (List ℕ)) (new : Book) : Type 0 where
+  pub whole : List ℕ
   pub executed : List Command
   pub written : List ℕ
-  pub behind : List ℕ
-  pub place : line ++ bytes ≡ behind ++ begun
-  pub splits : (more : List ℕ) → commands_from s (lines_of (line ++ (bytes ++ more))) ≡ executed ++ commands_from t (lines_of (begun ++ more))
+  pub place : line ++ bytes ≡ whole ++ begun
+  pub are_whole : AreWholeLines whole
+  pub stage : t ≡ stage_behind s (ended_lines whole)
+  pub done : executed ≡ completed_from s (ended_lines whole)
   pub appended : Appends was now written
   pub answers : Answers executed old written new
 
--- some line has too many bytes
-pub record HasLongLine (bytes : List ℕ) : Type 0 where
-  pub front : List ℕ
+-- behind these whole lines stands one that is too long
+pub record LongLineBehind (front bytes : List ℕ) : Type 0 where
   pub line : List ℕ
   pub rest : List ℕ
   pub place : bytes ≡ front ++ line ++ rest
+  pub are_whole : AreWholeLines front
   pub in_line : IsInLine line
   pub long : most_line < length line
 
@@ -112,12 +123,12 @@ AnswersAt WriteFault cs old written new = CutAnswers cs old written new
 AnswersAt LineTooLong cs old written new = Answers cs old written new
 AnswersAt OutOfMemory cs old written new = CutAnswers cs old written new
 
--- where the fault stands
-abbrev pub Why : RunFault → (bytes : List ℕ) → Type 0
-Why ReadFault bytes = Unit {0}
-Why WriteFault bytes = Unit {0}
-Why LineTooLong bytes = HasLongLine bytes
-Why OutOfMemory bytes = Unit {0}
+-- what was carried out before the fault: at a line that is too long, the commands of the lines before it
+abbrev pub Before : RunFault → Stage → (executed : List Command) → (bytes : List ℕ) → Type 0
+Before ReadFault s executed bytes = Unit {0}
+Before WriteFault s executed bytes = Unit {0}
+Before LineTooLong s executed bytes = (front : List ℕ) × LongLineBehind front bytes × (executed ≡ completed_from s (ended_lines front))
+Before OutOfMemory s executed bytes = Unit {0}
 
 -- The run stopped within these bytes.
 pub record Stops (f : RunFault) (s : Stage) (line bytes : List ℕ) (old : Book) (was now : Option (List ℕ)) (new : Book) : Type 0 where
@@ -126,7 +137,7 @@ pub record Stops (f : RunFault) (s : Stage) (line bytes : List ℕ) (old : Book)
   pub first : (more : List ℕ) → IsFront executed (commands_from s (lines_of (line ++ (bytes ++ more))))
   pub appended : Appends was now written
   pub answers : AnswersAt f executed old written new
-  pub why : Why f (line ++ bytes)
+  pub before : Before f s executed (line ++ bytes)
 
 -- ---- whole runs
 
@@ -139,11 +150,12 @@ pub record RanToEnd (unread left : Option (List ℕ)) (old : Book) (was now : Op
   pub appended : Appends was now written
   pub answers : RunsWhole script old written new
 
--- the commands that were carried out, by the fault
-abbrev pub RunsAt : RunFault → (ended : Bool) → (given : List ℕ) → Book → List ℕ → Book → Type 0
-RunsAt ReadFault ended given old written new = RunsFront ended given old written new
+-- the commands that were carried out, by the fault: where a read failed, exactly those that were complete; at a line that is
+-- too long, exactly those of the lines before it; where an answer was made or written, the last one's answer may be cut off
+abbrev pub RunsAt : RunFault → (ended : Bool) → (given : List ℕ) → Book → (written : List ℕ) → Book → Type 0
+RunsAt ReadFault ended given old written new = RunsCompleted given old written new
 RunsAt WriteFault ended given old written new = RunsCut ended given old written new
-RunsAt LineTooLong ended given old written new = RunsFront ended given old written new
+RunsAt LineTooLong ended given old written new = (front : List ℕ) × LongLineBehind front given × RunsCompleted front old written new
 RunsAt OutOfMemory ended given old written new = RunsCut ended given old written new
 
 -- A RUN THAT STOPPED, after these bytes were given: the commands that were carried out are the first ones of the script,
@@ -156,4 +168,3 @@ pub record StoppedAt (f : RunFault) (unread left : Option (List ℕ)) (old : Boo
   pub at_end : IsTrue ended → IsAtEnd left
   pub appended : Appends was now written
   pub answers : RunsAt f ended given old written new
-  pub why : Why f given

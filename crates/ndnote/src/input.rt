@@ -1,62 +1,74 @@
 //! Reading scripts.
 
-ghost use Rattle.std.specs.Prelude.{◌≡◌, ◌+◌, ◌^◌, ◌⊎◌, false, true, IfErr, OnOk, IfOk, ◌≤◌, length};
+ghost use Rattle.std.specs.Prelude.{◌≡◌, ℕ, List, Option, OnOk, OnErr};
+ghost use Rattle.std.specs.Io.{ReadsAtMost};
 ghost use Rattle.std.specs.Io.KnownBytes.{ReadConsumes};
-ghost use Rattle.ndnote.specs.Ends.{ReaderState};
+ghost use Rattle.ndnote.specs.Ends.{counted_on, ReaderState};
 
-use crate::run_fault::RunFault;
+use std::io;
 use std::io::Read;
 use std::marker::Model;
 
-// The most reads of a script.
-const MOST_TURNS: u64 = 1 << 32;
+/// A reader that counts its reads, and those of them that failed.
+pub trait CountedRead {
+    /// The bytes that reads give from here on, where they are known.
+    ghost remaining: { Self → Option (List ℕ) };
 
-/// A reader of a script. It counts its reads down, and tells whether one has failed.
+    /// How many reads it was asked for.
+    ghost reads: { Self → ℕ };
+
+    /// How many of them failed.
+    ghost failures: { Self → ℕ };
+
+    /// Reads some bytes, and none only at the end or where the buffer has no room.
+    fn read_counted(&mut self, buffer: &mut [u8]) -> io::Result<usize>
+        ensures bound { ReadsAtMost result buffer.new }
+        ensures bytes { ReadConsumes (remaining self.old) (remaining self.new) result buffer.new }
+        ensures turn { reads self.new ≡ counted_on (reads self.old) 1 }
+        ensures kept { OnOk result (failures self.new ≡ failures self.old) }
+        ensures failed { OnErr result (failures self.new ≡ counted_on (failures self.old) 1) };
+}
+
+/// Counts the reads of any reader, and takes its word for which of them failed.
 #[derive(Drop)]
 pub struct ScriptReader<R> {
     reader: R,
-    turns: u64,
-    has_failed: bool,
+    reads: u64,
+    failures: u64,
 }
 
 impl<R> Model for ScriptReader<R> {
     ghost Value = { ReaderState R };
 
-    ghost view = { λ s. record { reader = s.reader; turns = s.turns; has_failed = s.has_failed } };
+    ghost view = { λ s. record { reader = s.reader; reads = s.reads; failures = s.failures } };
 }
 
 impl<R> ScriptReader<R> {
-    /// Returns a reader of a script that has 2^32 reads.
+    /// Returns a reader of which nothing is read yet.
     pub fn new(reader: R) -> ScriptReader<R>
-        ensures { result ≡ record { reader = reader; turns = 2 ^ 32; has_failed = false } }
+        ensures { result ≡ record { reader = reader; reads = 0; failures = 0 } }
     {
         ScriptReader {
             reader,
-            turns: MOST_TURNS,
-            has_failed: false,
+            reads: 0,
+            failures: 0,
         }
     }
 }
 
-impl<R: Read> ScriptReader<R> {
-    /// Reads some bytes, and none only at the end. A failed read is not tried again.
-    pub fn read(&mut self, buf: &mut [u8]) -> Result<usize, RunFault>
-        ensures bound { IfOk result (λ n. n ≤ length buf.new) }
-        ensures bytes { ReadConsumes (R.remaining self.old.reader) (R.remaining self.new.reader) result buf.new }
-        ensures turn { OnOk result (self.new.turns + 1 ≡ self.old.turns) }
-        ensures kept { OnOk result (self.new.has_failed ≡ self.old.has_failed) }
-        ensures fault { IfErr result (λ f. (f ≡ RunFault.ReadFault) × ((self.new.turns ≡ 0) ⊎ (self.new.has_failed ≡ true))) }
-    {
-        if self.turns == 0 {
-            return Err(RunFault::ReadFault);
+impl<R: Read> CountedRead for ScriptReader<R> {
+    ghost remaining = { λ s. R.remaining s.reader };
+
+    ghost reads = { λ s. s.reads };
+
+    ghost failures = { λ s. s.failures };
+
+    fn read_counted(&mut self, buffer: &mut [u8]) -> io::Result<usize> {
+        self.reads = self.reads.saturating_add(1);
+        let result = self.reader.read(buffer);
+        if result.is_err() {
+            self.failures = self.failures.saturating_add(1);
         }
-        self.turns -= 1;
-        match self.reader.read(buf) {
-            Ok(n) => Ok(n),
-            Err(_) => {
-                self.has_failed = true;
-                Err(RunFault::ReadFault)
-            }
-        }
+        result
     }
 }

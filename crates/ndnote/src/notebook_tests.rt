@@ -64,7 +64,7 @@ fn moves_and_tells(rt: HostRuntime) -> Result<(), Fail> {
 fn applies_a_list(rt: HostRuntime) -> Result<(), Fail> {
     let mut meter = Meter::new();
     let mut notebook = Notebook::new(rt.alloc());
-    notebook.apply_all(
+    let answers = notebook.apply_all(
         &mut meter,
         &[
             Edit::Insert(0, "x = np.arange(3)"),
@@ -73,7 +73,13 @@ fn applies_a_list(rt: HostRuntime) -> Result<(), Fail> {
             Edit::Remove(2),
             Edit::Change(0, "x = np.arange(4)"),
         ],
-    );
+    )?;
+    assert_eq!(rt; answers.len(), 5);
+    assert!(rt; answers[0] == Ok(()));
+    assert!(rt; answers[1] == Err(EditFault::NoCell(7, 1)));
+    assert!(rt; answers[2] == Ok(()));
+    assert!(rt; answers[3] == Err(EditFault::NoCell(2, 2)));
+    assert!(rt; answers[4] == Ok(()));
     assert_eq!(rt; notebook.count(), 2);
     assert_eq!(rt; printed(&notebook, 1), "3\n");
     assert_eq!(rt; meter.runs(), 5);

@@ -4,12 +4,13 @@ use crate::input::ScriptReader;
 use crate::output::ScriptWriter;
 use crate::run_fault::RunFault;
 use crate::runner::run;
+use clap::error::ErrorKind;
 use clap::{Arg, ArgAction, Command, Error};
 use nd_rerun::Notebook;
 use std::alloc::Global;
 use std::io::Read;
 use std::process::ExitCode;
-use std::{env, fs};
+use std::{env, fs, io};
 
 /// The script ended.
 const ENDED: u8 = 0;
@@ -19,6 +20,50 @@ const STOPPED: u8 = 1;
 
 /// The command line is refused.
 const REFUSED: u8 = 2;
+
+/// Why the program did not run a script to its end.
+#[derive(Debug, Drop, thiserror::Error)]
+enum ProgramFault {
+    /// An argument is not UTF-8.
+    #[error("the arguments are not text")]
+    NotText,
+    /// The arguments are not those of the program.
+    #[error("{0}")]
+    Refused(Error),
+    /// The script was not run to its end, or memory ran out before it began.
+    #[error("{0}")]
+    Stopped(RunFault),
+}
+
+impl ProgramFault {
+    /// Want of memory is no fault of the command line.
+    fn status(&self) -> u8 {
+        match self {
+            ProgramFault::NotText | ProgramFault::Refused(_) => REFUSED,
+            ProgramFault::Stopped(_) => STOPPED,
+        }
+    }
+
+    fn of_arguments(error: &io::Error) -> ProgramFault {
+        match error.kind() {
+            io::ErrorKind::OutOfMemory => ProgramFault::Stopped(RunFault::OutOfMemory),
+            _ => ProgramFault::NotText,
+        }
+    }
+
+    fn of_command_line(error: Error) -> ProgramFault {
+        match error.kind() {
+            ErrorKind::OutOfMemory => ProgramFault::Stopped(RunFault::OutOfMemory),
+            _ => ProgramFault::Refused(error),
+        }
+    }
+}
+
+/// The words of the command line.
+fn words_of(rt: &HostRuntime) -> io::Result<Vec<String>> {
+    let words = env::args(rt)?.collect::<Vec<String>>(rt.alloc())?;
+    Ok(words)
+}
 
 /// The path of the script, if one is given. Whatever else stands on the command line is refused.
 fn script_of<'a>(alloc: Global, words: &'a [String]) -> Result<Option<&'a str>, Error> {
@@ -50,27 +95,23 @@ fn run_path(rt: &HostRuntime, path: Option<&str>) -> Result<(), RunFault> {
     }
 }
 
-/// Runs the program, and gives its exit status; what is refused is said on standard error.
+/// Runs the script that the command line names.
+fn run_command_line(rt: &HostRuntime) -> Result<(), ProgramFault> {
+    let words = match words_of(rt) {
+        Ok(words) => words,
+        Err(error) => return Err(ProgramFault::of_arguments(&error)),
+    };
+    let path = script_of(rt.alloc(), &words).map_err(ProgramFault::of_command_line)?;
+    run_path(rt, path).map_err(ProgramFault::Stopped)
+}
+
+/// Runs the program, and gives its exit status; why it is not 0 is said on standard error.
 pub(crate) fn status(rt: &HostRuntime) -> ExitCode {
-    let alloc = rt.alloc();
-    let Ok(args) = env::args(rt) else {
-        return ExitCode::from(REFUSED);
-    };
-    let Ok(words) = args.collect::<Vec<String>>(alloc) else {
-        return ExitCode::from(REFUSED);
-    };
-    let path = match script_of(alloc, &words) {
-        Ok(path) => path,
-        Err(error) => {
-            let _ = eprintln!(rt; "{error}");
-            return ExitCode::from(REFUSED);
-        }
-    };
-    match run_path(rt, path) {
+    match run_command_line(rt) {
         Ok(()) => ExitCode::from(ENDED),
         Err(fault) => {
             let _ = eprintln!(rt; "{fault}");
-            ExitCode::from(STOPPED)
+            ExitCode::from(fault.status())
         }
     }
 }

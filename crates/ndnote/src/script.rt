@@ -1,18 +1,18 @@
 //! A script that is run, as far as its bytes have come.
 
-ghost use Rattle.std.specs.Prelude.{◌≡◌, ◌≢◌, true, ◌==◌, ◌++◌, [], ◌≤◌, length, position, OnOk, OnErr, IfErr, is_ok};
+ghost use Rattle.std.specs.Prelude.{◌≡◌, ◌≢◌, ◌==◌, ◌++◌, [], ◌≤◌, length, position, OnOk, OnErr, IfErr, is_ok};
 ghost use Rattle.nd_rerun.specs.Edits.{book_of};
+ghost use Rattle.ndnote.specs.Ends.{counted_on};
 ghost use Rattle.ndnote.specs.Source.{stage_of};
 ghost use Rattle.ndnote.specs.Run.{most_line, open_answer, FinishStops, Finishes, FitsLine, IsInAnswer, IsInLine, IsTooLong, LineRuns, LineStops, Runs, Stops, Wrote};
 
 use crate::line::answer_line;
-use crate::output::ScriptWriter;
+use crate::output::{CountedWrite, write_answer};
 use crate::run_fault::RunFault;
 use crate::source::Source;
 use nd_rerun::{Meter, Notebook};
 use nd_script::push_text;
 use std::alloc::Global;
-use std::io::Write;
 
 // The most bytes of a line.
 const MOST_LINE: usize = 1 << 28;
@@ -61,48 +61,48 @@ impl Script {
     }
 
     // Ends the open line: what it says is carried out and answered.
-    fn end_line<W: Write>(
+    fn end_line<W: CountedWrite>(
         &mut self,
         alloc: Global,
         meter: &mut Meter,
         notebook: &mut Notebook,
-        writer: &mut ScriptWriter<W>,
+        writer: &mut W,
     ) -> Result<(), RunFault>
         requires { IsInLine self.old.line.items }
         ensures ok { OnOk result (LineRuns (stage_of self.old.source) self.old.line.items (stage_of self.new.source)
-            (book_of notebook.old) (W.contents writer.old.writer) (W.contents writer.new.writer) (book_of notebook.new)) }
+            (book_of notebook.old) (W.contents writer.old) (W.contents writer.new) (book_of notebook.new)) }
         ensures line { OnOk result (self.new.line.items ≡ []) }
         ensures err { OnErr result (LineStops (stage_of self.old.source) self.old.line.items
-            (book_of notebook.old) (W.contents writer.old.writer) (W.contents writer.new.writer) (book_of notebook.new)) }
+            (book_of notebook.old) (W.contents writer.old) (W.contents writer.new) (book_of notebook.new)) }
         ensures fault { IfErr result IsInAnswer }
-        ensures kept { OnOk result (writer.new.has_failed ≡ writer.old.has_failed) }
-        ensures failed { IfErr result (λ f. f ≡ RunFault.WriteFault → writer.new.has_failed ≡ true) }
+        ensures kept { OnOk result (W.failures writer.new ≡ W.failures writer.old) }
+        ensures failed { IfErr result (λ f. f ≡ RunFault.WriteFault → W.failures writer.new ≡ counted_on (W.failures writer.old) 1) }
     {
         let mut answer = Vec::new(alloc);
         let source = self.source.take();
         self.source = answer_line(alloc, source, &self.line, &mut answer, meter, notebook)?;
         self.line.clear();
-        writer.write_answer(&answer)
+        write_answer(writer, &answer)
     }
 
     /// Runs the bytes that come next.
-    pub fn take_bytes<W: Write>(
+    pub fn take_bytes<W: CountedWrite>(
         &mut self,
         alloc: Global,
         bytes: &[u8],
         meter: &mut Meter,
         notebook: &mut Notebook,
-        writer: &mut ScriptWriter<W>,
+        writer: &mut W,
     ) -> Result<(), RunFault>
         requires { FitsLine self.old.line.items }
         ensures ok { OnOk result (Runs (stage_of self.old.source) self.old.line.items bytes.now (stage_of self.new.source) self.new.line.items
-            (book_of notebook.old) (W.contents writer.old.writer) (W.contents writer.new.writer) (book_of notebook.new)) }
+            (book_of notebook.old) (W.contents writer.old) (W.contents writer.new) (book_of notebook.new)) }
         ensures fits { OnOk result (FitsLine self.new.line.items) }
         ensures err { IfErr result (λ f. Stops f (stage_of self.old.source) self.old.line.items bytes.now
-            (book_of notebook.old) (W.contents writer.old.writer) (W.contents writer.new.writer) (book_of notebook.new)) }
-        ensures kept { OnOk result (writer.new.has_failed ≡ writer.old.has_failed) }
+            (book_of notebook.old) (W.contents writer.old) (W.contents writer.new) (book_of notebook.new)) }
+        ensures kept { OnOk result (W.failures writer.new ≡ W.failures writer.old) }
         ensures unread { IfErr result (λ f. f ≢ RunFault.ReadFault) }
-        ensures failed { IfErr result (λ f. f ≡ RunFault.WriteFault → writer.new.has_failed ≡ true) }
+        ensures failed { IfErr result (λ f. f ≡ RunFault.WriteFault → W.failures writer.new ≡ counted_on (W.failures writer.old) 1) }
     {
         let mut rest = bytes;
         while let Some(end) = newline_in(rest) {
@@ -114,39 +114,39 @@ impl Script {
     }
 
     // Answers a source without its end.
-    fn answer_open_source<W: Write>(
+    fn answer_open_source<W: CountedWrite>(
         &self,
         alloc: Global,
-        writer: &mut ScriptWriter<W>,
+        writer: &mut W,
     ) -> Result<(), RunFault>
-        ensures answer { Wrote (W.contents writer.old.writer) (open_answer (stage_of self.now.source)) (is_ok result) (W.contents writer.new.writer) }
+        ensures answer { Wrote (W.contents writer.old) (open_answer (stage_of self.now.source)) (is_ok result) (W.contents writer.new) }
         ensures fault { IfErr result IsInAnswer }
-        ensures kept { OnOk result (writer.new.has_failed ≡ writer.old.has_failed) }
-        ensures failed { IfErr result (λ f. f ≡ RunFault.WriteFault → writer.new.has_failed ≡ true) }
+        ensures kept { OnOk result (W.failures writer.new ≡ W.failures writer.old) }
+        ensures failed { IfErr result (λ f. f ≡ RunFault.WriteFault → W.failures writer.new ≡ counted_on (W.failures writer.old) 1) }
     {
         let mut answer = Vec::new(alloc);
         if self.source.is_some() {
             push_text(&mut answer, "bad command\n")?;
         }
-        writer.write_answer(&answer)
+        write_answer(writer, &answer)
     }
 
     /// Runs what is left at the end of the script.
-    pub fn finish<W: Write>(
+    pub fn finish<W: CountedWrite>(
         &mut self,
         alloc: Global,
         meter: &mut Meter,
         notebook: &mut Notebook,
-        writer: &mut ScriptWriter<W>,
+        writer: &mut W,
     ) -> Result<(), RunFault>
         requires { IsInLine self.old.line.items }
         ensures ok { OnOk result (Finishes (stage_of self.old.source) self.old.line.items
-            (book_of notebook.old) (W.contents writer.old.writer) (W.contents writer.new.writer) (book_of notebook.new)) }
+            (book_of notebook.old) (W.contents writer.old) (W.contents writer.new) (book_of notebook.new)) }
         ensures err { OnErr result (FinishStops (stage_of self.old.source) self.old.line.items
-            (book_of notebook.old) (W.contents writer.old.writer) (W.contents writer.new.writer) (book_of notebook.new)) }
+            (book_of notebook.old) (W.contents writer.old) (W.contents writer.new) (book_of notebook.new)) }
         ensures fault { IfErr result IsInAnswer }
-        ensures kept { OnOk result (writer.new.has_failed ≡ writer.old.has_failed) }
-        ensures failed { IfErr result (λ f. f ≡ RunFault.WriteFault → writer.new.has_failed ≡ true) }
+        ensures kept { OnOk result (W.failures writer.new ≡ W.failures writer.old) }
+        ensures failed { IfErr result (λ f. f ≡ RunFault.WriteFault → W.failures writer.new ≡ counted_on (W.failures writer.old) 1) }
     {
         if !self.line.is_empty() {
             self.end_line(alloc, meter, notebook, writer)?;

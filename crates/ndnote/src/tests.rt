@@ -1,42 +1,66 @@
 use crate::input::ScriptReader;
 use crate::output::ScriptWriter;
 use crate::run_fault::RunFault;
-use crate::runner::run;
+use crate::runner::{run, run_turns};
 use nd_rerun::Notebook;
 use std::alloc::Global;
 use std::io;
 use std::io::{Read, Write};
 use std::test::Fail;
 
-// Gives a byte a call, and fails behind the last one.
+// Gives a byte a call. Behind the last one it ends, or fails.
 #[derive(Drop)]
-struct Broken<'a> {
+struct Dripping<'a> {
     bytes: &'a [u8],
+    fails: bool,
 }
 
-impl Read for Broken<'_> {
-    fn read(&mut self, buf: &mut [u8]) -> io::Result<usize> {
-        if self.bytes.is_empty() || buf.is_empty() {
-            return Err(io::ErrorKind::Interrupted.into());
+impl Read for Dripping<'_> {
+    fn read(&mut self, buffer: &mut [u8]) -> io::Result<usize> {
+        if self.bytes.is_empty() || buffer.is_empty() {
+            if self.fails {
+                return Err(io::ErrorKind::Interrupted.into());
+            }
+            return Ok(0);
         }
-        buf[0] = self.bytes[0];
+        buffer[0] = self.bytes[0];
         self.bytes = &self.bytes[1..];
         Ok(1)
     }
 }
 
-// Takes two bytes a call, and none once it has `most`.
+// Gives the same line again and again.
 #[derive(Drop)]
-struct Full {
-    got: Vec<u8>,
-    most: usize,
+struct Endless;
+
+impl Read for Endless {
+    fn read(&mut self, buffer: &mut [u8]) -> io::Result<usize> {
+        let line = b"count\n";
+        let count = buffer.len().min(line.len());
+        for i in 0..count {
+            buffer[i] = line[i];
+        }
+        Ok(count)
+    }
 }
 
-impl Write for Full {
-    fn write(&mut self, buf: &[u8]) -> io::Result<usize> {
-        let most = if self.got.len() < self.most { 2 } else { 0 };
-        let count = buf.len().min(most);
-        self.got.extend_from_slice(&buf[..count])?;
+// Takes a few bytes a call. Once it has `most` it takes none, or fails.
+#[derive(Drop)]
+struct Narrow {
+    got: Vec<u8>,
+    width: usize,
+    most: usize,
+    fails: bool,
+}
+
+impl Write for Narrow {
+    fn write(&mut self, buffer: &[u8]) -> io::Result<usize> {
+        let room = self.most.saturating_sub(self.got.len());
+        if room == 0 && self.fails {
+            return Err(io::ErrorKind::BrokenPipe.into());
+        }
+        let count = buffer.len().min(self.width).min(room);
+        self.got.extend_from_slice(&buffer[..count])?;
         Ok(count)
     }
 
@@ -68,10 +92,36 @@ fn empty_notebook(rt: HostRuntime) -> Result<(), Fail> {
     Ok(())
 }
 
+// What a writer got of a script's answers, and how the run ended.
+fn written(alloc: Global, script: &[u8], writer: Narrow) -> (Result<(), RunFault>, Vec<u8>) {
+    let mut reader = ScriptReader::new(script);
+    let mut writer = ScriptWriter::new(writer);
+    let mut notebook = Notebook::new(alloc);
+    let ended = run(alloc, &mut reader, &mut writer, &mut notebook);
+    (ended, writer.into_inner().got)
+}
+
 #[test]
-fn broken_reader(rt: HostRuntime) {
-    let mut reader = ScriptReader::new(Broken {
-        bytes: b"count\nfrob\ncou",
+fn reader_of_single_bytes(rt: HostRuntime) {
+    let mut reader = ScriptReader::new(Dripping {
+        bytes: b"count\nfrob\ncount",
+        fails: false,
+    });
+    let mut writer = ScriptWriter::new(Vec::new(rt.alloc()));
+    let mut notebook = Notebook::new(rt.alloc());
+    let ended = run(rt.alloc(), &mut reader, &mut writer, &mut notebook);
+    assert!(rt; ended.is_ok());
+    assert_eq!(rt;
+        writer.into_inner().as_slice(),
+        b"count 0\nbad command\ncount 0\n".as_slice()
+    );
+}
+
+#[test]
+fn reader_that_fails(rt: HostRuntime) {
+    let mut reader = ScriptReader::new(Dripping {
+        bytes: b"count\ninsert 0\nx = 1\n.\ncount\ninsert 0\ny = 1\n",
+        fails: true,
     });
     let mut writer = ScriptWriter::new(Vec::new(rt.alloc()));
     let mut notebook = Notebook::new(rt.alloc());
@@ -79,24 +129,66 @@ fn broken_reader(rt: HostRuntime) {
     assert!(rt; matches!(ended, Err(RunFault::ReadFault)));
     assert_eq!(rt;
         writer.into_inner().as_slice(),
-        b"count 0\nbad command\n".as_slice()
+        b"count 0\nok\ncount 1\n".as_slice()
+    );
+    assert_eq!(rt; notebook.count(), 1);
+}
+
+#[test]
+fn reader_without_an_end(rt: HostRuntime) {
+    let mut reader = ScriptReader::new(Endless);
+    let mut writer = ScriptWriter::new(Vec::new(rt.alloc()));
+    let mut notebook = Notebook::new(rt.alloc());
+    let ended = run_turns(rt.alloc(), &mut reader, &mut writer, &mut notebook, 3);
+    assert!(rt; matches!(ended, Err(RunFault::ReadFault)));
+    assert_eq!(rt;
+        writer.into_inner().as_slice(),
+        b"count 0\ncount 0\ncount 0\n".as_slice()
     );
 }
 
 #[test]
-fn full_writer(rt: HostRuntime) {
-    let mut reader = ScriptReader::new(b"count\nfrob\ncount\n".as_slice());
-    let mut writer = ScriptWriter::new(Full {
+fn writer_of_single_bytes(rt: HostRuntime) {
+    let writer = Narrow {
         got: Vec::new(rt.alloc()),
-        most: 12,
-    });
-    let mut notebook = Notebook::new(rt.alloc());
-    let ended = run(rt.alloc(), &mut reader, &mut writer, &mut notebook);
-    assert!(rt; matches!(ended, Err(RunFault::WriteFault)));
+        width: 1,
+        most: 100,
+        fails: false,
+    };
+    let (ended, got) = written(rt.alloc(), b"count\nfrob\ncount\n", writer);
+    assert!(rt; ended.is_ok());
     assert_eq!(rt;
-        writer.into_inner().got.as_slice(),
-        b"count 0\nbad ".as_slice()
+        got.as_slice(),
+        b"count 0\nbad command\ncount 0\n".as_slice()
     );
+}
+
+#[test]
+fn writer_that_fails(rt: HostRuntime) {
+    let writer = Narrow {
+        got: Vec::new(rt.alloc()),
+        width: 2,
+        most: 12,
+        fails: true,
+    };
+    let (ended, got) = written(rt.alloc(), b"count\nfrob\ncount\n", writer);
+    assert!(rt; matches!(ended, Err(RunFault::WriteFault)));
+    assert_eq!(rt; got.as_slice(), b"count 0\nbad ".as_slice());
+}
+
+#[test]
+fn writer_that_takes_nothing(rt: HostRuntime) {
+    for most in [0, 3, 8] {
+        let writer = Narrow {
+            got: Vec::new(rt.alloc()),
+            width: 2,
+            most,
+            fails: false,
+        };
+        let (ended, got) = written(rt.alloc(), b"count\nfrob\ncount\n", writer);
+        assert!(rt; matches!(ended, Err(RunFault::WriteFault)));
+        assert_eq!(rt; got.as_slice(), &b"count 0\n"[..most]);
+    }
 }
 
 #[test]

@@ -3,12 +3,14 @@
 ghost use Rattle.std.specs.Prelude.{◌≡◌, ◌++◌, OnOk};
 ghost use Rattle.nd_model.specs.Script as script;
 ghost use Rattle.nd_model.specs.Text.{truth_text};
-ghost use Rattle.nd_types.specs.Types.{kind_of, elem_of, type_of};
+ghost use Rattle.nd_types.specs.Kinds.{kind_of};
+ghost use Rattle.nd_types.specs.Fields.{field_of, fields_of};
+ghost use Rattle.nd_types.specs.Types.{type_of};
 ghost use Rattle.nd_rerun.specs.Queries.{shown_of};
 
 use nd_rerun::Shown;
 use nd_script::{push_hex, push_integer, push_number, push_shape, push_text};
-use nd_types::{Elem, ElemType, Kind};
+use nd_types::{Elem, ElemType, Field, Kind};
 use std::alloc::AllocError;
 
 /// Appends the answer that shows a value, as `int 3`.
@@ -39,7 +41,7 @@ fn push_shown(out: &mut Vec<u8>, value: &Shown) -> Result<(), AllocError>
         }
         Shown::Array { elem, shape, bytes } => {
             push_text(out, "array ")?;
-            push_format(out, *elem)?;
+            push_format(out, elem)?;
             push_text(out, " ")?;
             push_number(out, elem.size())?;
             push_text(out, " ")?;
@@ -60,7 +62,15 @@ fn kind_name(kind: Kind) -> &'static str
     ensures { result.now ≡ script.kind_text (kind_of kind) }
 {
     match kind {
+        Kind::Bool => "bool",
+        Kind::I8 => "int8",
+        Kind::I16 => "int16",
+        Kind::I32 => "int32",
         Kind::I64 => "int64",
+        Kind::U8 => "uint8",
+        Kind::U16 => "uint16",
+        Kind::U32 => "uint32",
+        Kind::U64 => "uint64",
     }
 }
 
@@ -69,7 +79,15 @@ fn kind_code(kind: Kind) -> &'static str
     ensures { result.now ≡ script.kind_code (kind_of kind) }
 {
     match kind {
+        Kind::Bool => "?",
+        Kind::I8 => "b",
+        Kind::I16 => "h",
+        Kind::I32 => "i",
         Kind::I64 => "q",
+        Kind::U8 => "B",
+        Kind::U16 => "H",
+        Kind::U32 => "I",
+        Kind::U64 => "Q",
     }
 }
 
@@ -79,20 +97,61 @@ fn order_mark(big: bool) -> &'static str
     if big { ">" } else { "<" }
 }
 
-// A format string (PEP 3118).
-fn push_format(out: &mut Vec<u8>, elem: ElemType) -> Result<(), AllocError>
-    ensures { OnOk result (out.new.items ≡ out.old.items ++ script.format_text (type_of elem)) }
+fn push_element_format(out: &mut Vec<u8>, elem: Elem) -> Result<(), AllocError>
+    ensures { OnOk result (out.new.items ≡ out.old.items ++ script.element_format elem) }
 {
-    match elem {
-        ElemType::One(elem) => push_element_format(out, elem),
+    if elem.size() > 1 {
+        push_text(out, order_mark(elem.big()))?;
+    }
+    push_text(out, kind_code(elem.kind()))
+}
+
+// So many bytes without meaning.
+fn push_pads(out: &mut Vec<u8>, count: u64) -> Result<(), AllocError>
+    ensures { OnOk result (out.new.items ≡ out.old.items ++ script.pad_format count) }
+{
+    match count {
+        0 => Ok(()),
+        1 => push_text(out, "x"),
+        _ => {
+            push_number(out, count)?;
+            push_text(out, "x")
+        }
     }
 }
 
-fn push_element_format(out: &mut Vec<u8>, elem: Elem) -> Result<(), AllocError>
-    ensures { OnOk result (out.new.items ≡ out.old.items ++ script.element_format (elem_of elem)) }
+fn push_field(out: &mut Vec<u8>, field: &Field) -> Result<(), AllocError>
+    ensures { OnOk result (out.new.items ≡ out.old.items ++ script.field_format (field_of field.now)) }
 {
-    if elem.kind.size() > 1 {
-        push_text(out, order_mark(elem.big))?;
+    push_element_format(out, field.elem)?;
+    push_text(out, ":")?;
+    push_text(out, field.name.as_str())?;
+    push_text(out, ":")
+}
+
+// The fields of a structure of this size, with the pad bytes before and behind them.
+fn push_fields(out: &mut Vec<u8>, fields: &[Field], size: u64) -> Result<(), AllocError>
+    ensures { OnOk result (out.new.items ≡ out.old.items ++ script.fields_format 0 size (fields_of fields.now)) }
+{
+    let mut place = 0;
+    for field in fields {
+        push_pads(out, u64::from(field.at).saturating_sub(place))?;
+        push_field(out, field)?;
+        place = u64::from(field.at) + field.elem.size();
     }
-    push_text(out, kind_code(elem.kind))
+    push_pads(out, size.saturating_sub(place))
+}
+
+// A format string (PEP 3118).
+fn push_format(out: &mut Vec<u8>, elem: &ElemType) -> Result<(), AllocError>
+    ensures { OnOk result (out.new.items ≡ out.old.items ++ script.format_text (type_of elem.now)) }
+{
+    match elem {
+        ElemType::One(elem) => push_element_format(out, *elem),
+        ElemType::Rec(structure) => {
+            push_text(out, "T{")?;
+            push_fields(out, structure.fields(), u64::from(structure.size()))?;
+            push_text(out, "}")
+        }
+    }
 }

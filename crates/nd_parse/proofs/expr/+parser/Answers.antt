@@ -1,11 +1,11 @@
-use Rattle.std.proofs.Common.{sym, ◌∙◌}
-use Rattle.std.proofs.lemmas.Result.{err_from_is_err_and}
+use Rattle.std.proofs.Common.{refl, sym, ◌∙◌}
+use Rattle.std.proofs.lemmas.List.{map_push}
 use Rattle.nd_model.specs.Kinds.{kind, OPEN_BRACKET}
-use Rattle.nd_model.specs.Cells.{under, grouped, index, negative, items}
-use Rattle.nd_model.proofs.Parsing.Loops.{many_step}
+use Rattle.nd_model.specs.Cells.{under, grouped, index, negative}
+use Rattle.nd_model.proofs.Parsing.Loops.{push_step, push_end}
 use Rattle.nd_parse.specs.Syntax.{expr_of}
-use Rattle.nd_parse.specs.Gives.{tokens_of}
-use Rattle.nd_parse.proofs.Steps.{enter_shut, grouped_is, index_is, negative_is, index_shrinks, postfix_begins, postfix_fails}
+use Rattle.nd_parse.specs.Gives.{tokens_of, exprs_of}
+use Rattle.nd_parse.proofs.Steps.{enter_shut, grouped_is, index_is, negative_is, index_shrinks}
 use Rattle.nd_parse.proofs.expr.+parser.Goals as goal
 
 pub grouped-returns-then-levels-eq0 : goal.grouped-returns-then-levels-eq0
@@ -29,19 +29,17 @@ negative-returns-then-levels-eq0 t c = rw c.shut.ensures (enter_shut c.args.leve
 pub negative-returns : goal.negative-returns
 negative-returns t c = rw (negative_is c.args.levels (tokens_of c.args.tokens.now) c.if-levels-eq0.false) c.signed.ensures
 
-pub postfix-returns-in_err-left : goal.postfix-returns-in_err-left
-postfix-returns-in_err-left t c =
-    let p = err_from_is_err_and c.from_residual.result c.from_residual.ensures.1 in
-    rw (p.1, p.2) (postfix_fails c.args.levels (tokens_of c.args.tokens.now) _ c.in_err-left.ensures)
+pub indexes-more-init : goal.indexes-more-init
+indexes-more-init t c = rw (c.new-all.ensures.items, c.split_at.ensures.back) refl
 
-pub postfix-indexes-init : goal.postfix-indexes-init
-postfix-indexes-init t c = postfix_begins c.args.levels (tokens_of c.args.tokens.now) (tokens_of c.in_ok-left.rest.now) (expr_of c.in_ok-left.left) c.in_ok-left.ensures
+pub indexes-more-smaller : goal.indexes-more-smaller
+indexes-more-smaller t c = (index_shrinks c.args.levels).less (tokens_of c.more.rest.now) (expr_of c.in_ok-next.next, tokens_of c.in_ok-next.after.now) c.in_ok-next.ensures
 
-pub postfix-indexes-smaller : goal.postfix-indexes-smaller
-postfix-indexes-smaller t c = (index_shrinks c.args.levels).less (tokens_of c.indexes.rest.now) (expr_of c.in_ok-at.at, tokens_of c.in_ok-at.after.now) c.in_ok-at.ensures
+pub indexes-more-preserved : goal.indexes-more-preserved
+indexes-more-preserved t c =
+    let one = push_step kind OPEN_BRACKET (index (under c.args.levels)) (exprs_of c.more.all) (tokens_of c.more.rest.now) (expr_of c.in_ok-next.next) (tokens_of c.in_ok-next.after.now)
+    (index_shrinks c.args.levels) (sym c.next_in.ensures ∙ c.more-test.true) c.in_ok-next.ensures in
+    rw (c.in_ok-push.ensures.items, map_push expr_of c.more.all.items c.in_ok-next.next) (sym one ∙ c.more.invariant)
 
-pub postfix-indexes-preserved : goal.postfix-indexes-preserved
-postfix-indexes-preserved t c =
-    let one = many_step kind OPEN_BRACKET (items (expr_of c.indexes.left)) (index (under c.args.levels)) (tokens_of c.indexes.rest.now) (expr_of c.in_ok-at.at) (tokens_of c.in_ok-at.after.now)
-    (index_shrinks c.args.levels) (sym c.next_in.ensures ∙ c.indexes-test.true) c.in_ok-at.ensures in
-    rw (c.in_ok-new.ensures.ok, c.in_ok-new-2.ensures.ok) (sym one ∙ c.indexes.invariant)
+pub indexes-returns : goal.indexes-returns
+indexes-returns t c = sym c.more.invariant ∙ push_end kind OPEN_BRACKET (index (under c.args.levels)) (exprs_of c.more.all) (tokens_of c.more.rest.now) (sym c.next_in.ensures ∙ c.more-test.false)

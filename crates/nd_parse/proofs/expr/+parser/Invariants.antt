@@ -1,10 +1,9 @@
-use Rattle.std.proofs.Common.{◌≡◌, ◌+◌, ◌*◌, length}
+use Rattle.std.proofs.Common.{◌≡◌, ◌+◌, ◌*◌, ◌++◌, length}
 use Rattle.nd_model.specs.Grammar.{Many}
 use Rattle.nd_model.specs.Predict.{read}
 use Rattle.nd_model.specs.Kinds.{kind, OPEN_BRACKET}
-use Rattle.nd_model.specs.Cells.{under, items, index, postfix}
-use Rattle.nd_parse.specs.Syntax.{expr_of}
-use Rattle.nd_parse.specs.Gives.{tokens_of}
+use Rattle.nd_model.specs.Cells.{under, index}
+use Rattle.nd_parse.specs.Gives.{tokens_of, exprs_of}
 use Rattle.nd_parse.proofs.expr.+parser.Given as goal
 
 abbrev pub decreases-negative : goal.decreases-negative
@@ -34,9 +33,12 @@ decreases-signed l = l.levels * 8 + 5
 abbrev pub decreases-between : goal.decreases-between
 decreases-between l = l.levels * 8 + 5
 
-abbrev pub invariant-postfix-indexes : goal.invariant-postfix-indexes
-invariant-postfix-indexes l =
-    read kind (Many OPEN_BRACKET (items (expr_of l.left)) (index (under l.levels))) (tokens_of l.rest) ≡ read kind (postfix (under l.levels)) (tokens_of l.tokens)
+abbrev pub decreases-indexes : goal.decreases-indexes
+decreases-indexes l = l.levels * 8 + 1
 
-abbrev pub decreases-postfix-indexes : goal.decreases-postfix-indexes
-decreases-postfix-indexes l = length (tokens_of l.rest)
+abbrev pub invariant-indexes-more : goal.invariant-indexes-more
+invariant-indexes-more l =
+    read kind (Many OPEN_BRACKET (λ xs. exprs_of l.all ++ xs) (index (under l.levels))) (tokens_of l.rest) ≡ read kind (Many OPEN_BRACKET (λ xs. xs) (index (under l.levels))) (tokens_of l.tokens)
+
+abbrev pub decreases-indexes-more : goal.decreases-indexes-more
+decreases-indexes-more l = length (tokens_of l.rest)

@@ -1,6 +1,6 @@
 use Rattle.std.proofs.Common.{◌≡◌, ℕ, [], ◌∷◌, ◌+◌, ◌-◌, ◌*◌, ◌/◌, ◌++◌, List, length, get_or, take, drop, string_bytes, ap, sym, ◌∙◌, arith}
 use Rattle.std.proofs.lemmas.List.{append-nil}
-use Rattle.nd_types.specs.Types.{kind_of}
+use Rattle.nd_types.specs.Kinds.{kind_of}
 use Rattle.nd_print.proofs.Nested.{part, gap, further, further_more, further_none, row_is, nested_as, below_is, open_and_closed, after_gap, each_is}
 use Rattle.nd_print.proofs.arrays.+push_nested.Goals as goal
 

@@ -1,5 +1,5 @@
 use Rattle.std.proofs.Common.{◌≡◌, ◌+◌, ◌-◌, ◌*◌, ◌++◌, length, drop, string_bytes}
-use Rattle.nd_types.specs.Types.{kind_of}
+use Rattle.nd_types.specs.Kinds.{kind_of}
 use Rattle.nd_print.proofs.Nested.{further}
 use Rattle.nd_print.proofs.arrays.+push_nested.Given as goal
 

@@ -3,7 +3,7 @@ use Rattle.std.specs.Int.{w128}
 use Rattle.std.specs.Int.RustNames.{FitsSigned}
 use Rattle.std.proofs.lemmas.Int.{to_z-of_z}
 use Rattle.nd_model.specs.Text.{number_text, aligned, joined}
-use Rattle.nd_types.specs.Types.{kind_of}
+use Rattle.nd_types.specs.Kinds.{kind_of}
 use Rattle.nd_print.specs.Texts.{padded}
 use Rattle.nd_print.proofs.Rows.{row_first, row_more, regroup}
 use Rattle.nd_print.proofs.arrays.push_row.Goals as goal

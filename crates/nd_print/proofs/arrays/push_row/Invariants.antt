@@ -1,6 +1,6 @@
 use Rattle.std.proofs.Common.{◌≡◌, [], ◌∷◌, ◌++◌, take, string_bytes}
 use Rattle.nd_model.specs.Text.{joined}
-use Rattle.nd_types.specs.Types.{kind_of}
+use Rattle.nd_types.specs.Kinds.{kind_of}
 use Rattle.nd_print.specs.Texts.{padded}
 use Rattle.nd_print.proofs.arrays.push_row.Given as goal
 

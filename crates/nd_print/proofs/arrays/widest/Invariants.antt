@@ -1,6 +1,6 @@
 use Rattle.std.proofs.Common.{◌≡◌, max, map, drop}
 use Rattle.nd_model.specs.Text.{widest, least_width, number_text}
-use Rattle.nd_types.specs.Types.{kind_of}
+use Rattle.nd_types.specs.Kinds.{kind_of}
 use Rattle.nd_print.proofs.arrays.widest.Given as goal
 
 abbrev pub invariant-loop-value : goal.invariant-loop-value

@@ -7,9 +7,13 @@ use Rattle.nd_heap.specs.Values.{inputs_of}
 use Rattle.nd_model.specs.Session.{no_session}
 use Rattle.nd_model.specs.Book.{read_cells}
 use Rattle.nd_rerun.specs.Cells.{cells_of, tolds_of}
+use Rattle.nd_rerun.specs.Counts.{counted}
 use Rattle.nd_rerun.proofs.cells.run_all.Given as goal
 
 abbrev pub invariant-loop-cell : goal.invariant-loop-cell
-invariant-loop-cell l =
-    told (notebook (read_cells (cells_of l.cells)) (inputs_of l.fn.inputs.entries) no_session)
-    ≡ tolds_of l.all.items ++ told (notebook (read_cells (cells_of (drop l.cell-index l.cells))) (inputs_of l.fn.inputs.entries) (running.session_of (live l.session)))
+invariant-loop-cell l = record {
+  told :
+      told (notebook (read_cells (cells_of l.cells)) (inputs_of l.fn.inputs.entries) no_session)
+      ≡ tolds_of l.all.items ++ told (notebook (read_cells (cells_of (drop l.cell-index l.cells))) (inputs_of l.fn.inputs.entries) (running.session_of (live l.session)));
+  counts : l.meter ≡ counted l.cell-index l.fn.meter;
+}

@@ -1,8 +1,23 @@
-use Rattle.std.proofs.Common.{sym}
+use Rattle.std.proofs.Common.{rules, sym}
 use Rattle.nd_model.proofs.Books.{any_book_labels}
 use Rattle.nd_rerun.specs.Edits.{book_of}
+use Rattle.nd_rerun.proofs.Answered.{leads_to_end, leads_on, answer_distinct}
 use Rattle.nd_rerun.proofs.Small.{same_distinct}
 use Rattle.nd_rerun.proofs.notebook.Notebook.apply_all.Goals as goal
 
+pub loop-edit-preserved : goal.loop-edit-preserved
+loop-edit-preserved c = record {
+  leads = leads_on c.args.edits.now c.loop-edit.edit-index _ _ _ _ _ _ _ _ _ _ c.loop-edit-test.true c.apply-answer.ensures.answered c.apply-answer.ensures.counts c.push_reserved.ensures.items c.loop-edit.invariant.leads;
+  as_many = search rules;
+  has_room = search rules;
+  distinct = answer_distinct _ _ _ _ c.apply-answer.ensures.answered c.loop-edit.invariant.distinct;
+}
+
+pub returns-in_err-answers-clause-any_labels : goal.returns-in_err-answers-clause-any_labels
+returns-in_err-answers-clause-any_labels c = any_book_labels (book_of c.args.self.now) (same_distinct _ _ (sym c.self.view_is) c.self.invariant.distinct)
+
+pub returns-clause-answered : goal.returns-clause-answered
+returns-clause-answered c = leads_to_end c.args.edits.now _ _ _ _ _ _ c.loop-edit-test.false c.loop-edit.invariant.leads
+
 pub returns-clause-any_labels : goal.returns-clause-any_labels
-returns-clause-any_labels c = any_book_labels (book_of c.loop-edit.self) (same_distinct _ _ (sym c.self.view_is) c.self.invariant.distinct)
+returns-clause-any_labels c = any_book_labels (book_of c.loop-edit.self) c.loop-edit.invariant.distinct

@@ -1,8 +1,13 @@
-use Rattle.std.proofs.Common.{List, map, drop}
-use Rattle.nd_model.specs.Book.{Cell}
-use Rattle.nd_rerun.specs.Edits.{AreEdited}
-use Rattle.nd_rerun.specs.EditsOf.{edit_of}
+use Rattle.std.proofs.Common.{◌≡◌, ◌≤◌, length, vec_len, vec_capacity}
+use Rattle.nd_model.specs.Renaming.{AreDistinct}
+use Rattle.nd_model.specs.Book.{labels_of}
+use Rattle.nd_rerun.proofs.Answered.{Leads}
 use Rattle.nd_rerun.proofs.notebook.Notebook.apply_all.Given as goal
 
 abbrev pub invariant-loop-edit : goal.invariant-loop-edit
-invariant-loop-edit l = (new : List Cell) → AreEdited (map edit_of (drop l.edit-index l.edits)) l.self new → AreEdited (map edit_of l.edits) l.fn.self new
+invariant-loop-edit l = record {
+  leads : Leads l.edits l.edit-index l.fn.self l.fn.meter l.answers.items l.self l.meter;
+  as_many : vec_len l.answers ≡ l.edit-index;
+  has_room : length l.edits ≤ vec_capacity l.answers;
+  distinct : AreDistinct (labels_of l.self);
+}

@@ -6,5 +6,5 @@ use Rattle.nd_view.proofs.strided.View.contiguous.Goals as goal
 
 pub returns : goal.returns
 returns c =
-    made (type_of c.args.elem) c.args.shape.now c.in_ok-from_slice.field-0.items c.in_ok-steps.field-0.items c.in_ok-from_slice.ensures.ok
-    (c.in_ok-steps.ensures ∙ ap (λ n. strides_of n c.args.shape.now) c.size.ensures.value)
+    made (type_of c.args.elem) c.args.shape.now c.in_ok-from_slice.field-0.items c.in_ok-strides.strides.items c.in_ok-from_slice.ensures.ok
+    (c.in_ok-strides.ensures ∙ ap (λ n. strides_of n c.args.shape.now) c.size.ensures.value)

@@ -8,7 +8,7 @@ returns-in_err-self-clause-err g c =
     let done = rw (c.take-source.ensures.value, c.deref.ensures.value) at c.in_err-self.ensures in
     on_err_any c.from_residual.result (
     line_unwritten_from (stage_of c.args.self.now.source) c.args.self.now.line.items c.answer_line.new.answer.items (book_of c.args.notebook.now) (book_of c.answer_line.new.notebook)
-    (g.W.Write.contents c.args.writer.now.writer) c.in_err-self.field-0.0 done
+    (g.W.CountedWrite.contents c.args.writer.now) c.in_err-self.field-0.0 done
     )
 
 pub returns-clause-err : goal.returns-clause-err
@@ -16,4 +16,4 @@ returns-clause-err g c =
     let done = rw (c.take-source.ensures.value, c.deref.ensures.value) at c.in_ok-self.ensures in
     let wrote = rw c.deref-2.ensures.value at c.write_answer.ensures.front in
     line_stopped c.write_answer.result (stage_of c.args.self.now.source) c.args.self.now.line.items c.answer_line.new.answer.items (book_of c.args.notebook.now) (book_of c.answer_line.new.notebook)
-    (g.W.Write.contents c.args.writer.now.writer) (g.W.Write.contents c.write_answer.new.self.writer) done.1 wrote
+    (g.W.CountedWrite.contents c.args.writer.now) (g.W.CountedWrite.contents c.write_answer.new.writer) done.1 wrote

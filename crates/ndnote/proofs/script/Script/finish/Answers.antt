@@ -10,7 +10,7 @@ returns-in_err-end_line-clause-err g c =
     let some : 0 < length c.args.self.now.line.items = search rules in
     on_err_any c.from_residual.result (
     finish_stopped (stage_of c.args.self.now.source) c.args.self.now.line.items (book_of c.args.notebook.now) (book_of c.end_line.new.notebook)
-    (g.W.Write.contents c.args.writer.now.writer) (g.W.Write.contents c.end_line.new.writer.writer) c.requires some c.in_err-end_line.ensures.err
+    (g.W.CountedWrite.contents c.args.writer.now) (g.W.CountedWrite.contents c.end_line.new.writer) c.requires some c.in_err-end_line.ensures.err
     )
 
 pub returns-clause-ok : goal.returns-clause-ok
@@ -20,14 +20,14 @@ returns-clause-ok g c =
           let some : 0 < length c.args.self.now.line.items = search rules in
           let wrote = rw (w.self-is, w.writer-is) at c.answer_open_source.ensures.answer in
           rw w.notebook-is (finish_some c.answer_open_source.result (stage_of c.args.self.now.source) (stage_of w.end_line.new.self.source) c.args.self.now.line.items (book_of c.args.notebook.now)
-          (book_of w.end_line.new.notebook) (g.W.Write.contents c.args.writer.now.writer) (g.W.Write.contents w.end_line.new.writer.writer) (g.W.Write.contents c.answer_open_source.new.writer.writer)
+          (book_of w.end_line.new.notebook) (g.W.CountedWrite.contents c.args.writer.now) (g.W.CountedWrite.contents w.end_line.new.writer) (g.W.CountedWrite.contents c.answer_open_source.new.writer)
           c.requires some w.in_ok-end_line.ensures.ok wrote).0
       | else-not-is_empty w ↦
           let zero : length c.args.self.now.line.items ≡ 0 = search rules in
           let none = no_bytes c.args.self.now.line.items zero in
           let wrote = rw (w.self-is, w.writer-is) at c.answer_open_source.ensures.answer in
           rw w.notebook-is (finish_none c.answer_open_source.result (stage_of c.args.self.now.source) c.args.self.now.line.items (book_of c.args.notebook.now)
-          (g.W.Write.contents c.args.writer.now.writer) (g.W.Write.contents c.answer_open_source.new.writer.writer) none wrote).0
+          (g.W.CountedWrite.contents c.args.writer.now) (g.W.CountedWrite.contents c.answer_open_source.new.writer) none wrote).0
     ]
 
 pub returns-clause-err : goal.returns-clause-err
@@ -37,12 +37,12 @@ returns-clause-err g c =
           let some : 0 < length c.args.self.now.line.items = search rules in
           let wrote = rw (w.self-is, w.writer-is) at c.answer_open_source.ensures.answer in
           rw w.notebook-is (finish_some c.answer_open_source.result (stage_of c.args.self.now.source) (stage_of w.end_line.new.self.source) c.args.self.now.line.items (book_of c.args.notebook.now)
-          (book_of w.end_line.new.notebook) (g.W.Write.contents c.args.writer.now.writer) (g.W.Write.contents w.end_line.new.writer.writer) (g.W.Write.contents c.answer_open_source.new.writer.writer)
+          (book_of w.end_line.new.notebook) (g.W.CountedWrite.contents c.args.writer.now) (g.W.CountedWrite.contents w.end_line.new.writer) (g.W.CountedWrite.contents c.answer_open_source.new.writer)
           c.requires some w.in_ok-end_line.ensures.ok wrote).1
       | else-not-is_empty w ↦
           let zero : length c.args.self.now.line.items ≡ 0 = search rules in
           let none = no_bytes c.args.self.now.line.items zero in
           let wrote = rw (w.self-is, w.writer-is) at c.answer_open_source.ensures.answer in
           rw w.notebook-is (finish_none c.answer_open_source.result (stage_of c.args.self.now.source) c.args.self.now.line.items (book_of c.args.notebook.now)
-          (g.W.Write.contents c.args.writer.now.writer) (g.W.Write.contents c.answer_open_source.new.writer.writer) none wrote).1
+          (g.W.CountedWrite.contents c.args.writer.now) (g.W.CountedWrite.contents c.answer_open_source.new.writer) none wrote).1
     ]

@@ -8,8 +8,8 @@ abbrev pub invariant-loop-end : goal.invariant-loop-end
 invariant-loop-end g l = record {
   fits : FitsLine l.self.line.items;
   so_far : (taken : List ℕ) × (l.fn.bytes ≡ taken ++ l.rest)
-      × Runs (stage_of l.fn.self.source) l.fn.self.line.items taken (stage_of l.self.source) l.self.line.items (book_of l.fn.notebook) (g.W.Write.contents l.fn.writer.writer) (g.W.Write.contents l.writer.writer) (book_of l.notebook);
-  kept : l.writer.has_failed ≡ l.fn.writer.has_failed;
+      × Runs (stage_of l.fn.self.source) l.fn.self.line.items taken (stage_of l.self.source) l.self.line.items (book_of l.fn.notebook) (g.W.CountedWrite.contents l.fn.writer) (g.W.CountedWrite.contents l.writer) (book_of l.notebook);
+  kept : g.W.CountedWrite.failures l.writer ≡ g.W.CountedWrite.failures l.fn.writer;
 }
 
 abbrev pub decreases-loop-end : goal.decreases-loop-end

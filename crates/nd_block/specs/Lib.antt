@@ -1,0 +1,4 @@
+pub mod Block
+pub mod BlockLends
+pub mod Lends
+pub mod Ownership

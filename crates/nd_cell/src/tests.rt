@@ -1,0 +1,31 @@
+use super::*;
+use indexmap::IndexMap;
+use nd_eval::{StmtError, StmtFault};
+use nd_heap::{Inputs, Session};
+use std::test::*;
+
+// An element of an array is no array, however many indexes follow.
+#[test]
+fn long_chains(rt: HostRuntime) -> Result<(), Fail> {
+    let alloc = rt.alloc();
+    let indexes = "[0]".repeat(alloc, 21000)?;
+    let read = format!(in alloc; "x = np.arange(1)\ny = x{indexes}")?;
+    let written = format!(in alloc; "x = np.arange(1)\nx{indexes} = 1")?;
+    for text in [read.as_str(), written.as_str()] {
+        let mut meter = Meter::new();
+        let mut session = Session::new(alloc);
+        let inputs: Inputs = IndexMap::new(alloc);
+        let result = run_cell(&mut meter, &mut session, &inputs, 0, text)?;
+        let Some(refusal) = result.refusal else {
+            return Err("it is refused".into());
+        };
+        assert_eq!(rt; refusal.line, 2);
+        assert!(rt;
+            matches!(
+                refusal.fault,
+                CellFault::Statement(StmtFault::Stmt(StmtError::NotAnArray))
+            )
+        );
+    }
+    Ok(())
+}

@@ -1,0 +1,2 @@
+mod Sized
+mod Skipping

@@ -1,0 +1,7 @@
+use Rattle.std.proofs.Common.{◌≡◌, drop}
+use Rattle.nd_model.specs.Structure as structure
+use Rattle.nd_types.specs.Fields.{fields_of}
+use Rattle.nd_types.proofs.structure.are_named.Given as goal
+
+abbrev pub invariant-loop-field : goal.invariant-loop-field
+invariant-loop-field l = structure.are_named (fields_of (drop l.field-index l.fields)) ≡ structure.are_named (fields_of l.fields)

@@ -1,0 +1,72 @@
+//! Elements of arrays.
+ghost use Rattle.std.specs.Prelude.{◌≡◌, ◌<◌, ◌≤◌, ◌&&◌, nat_lt, false};
+ghost use Rattle.nd_model.specs.Element as element;
+ghost use Rattle.nd_types.specs.Kinds.{kind_of};
+
+use crate::kind::Kind;
+use std::marker::Model;
+
+/// A number in an array, and whether its highest byte comes first. A number of one byte is never called big, so that equal
+/// elements are equal values. A clause sees it as the definition's element.
+#[derive(Clone, Copy, PartialEq, Eq, Debug)]
+pub struct Elem {
+    kind: Kind,
+    big: bool,
+}
+
+impl Model for Elem {
+    ghost use Rattle.std.specs.Prelude.{IsTrue};
+    ghost use Rattle.nd_model.specs.Element.{Element, is_canonical};
+    ghost use Rattle.nd_types.specs.Kinds.{kind_of, kind_from, from_of};
+
+    ghost Value = { Element };
+
+    ghost view = { λ e. record { kind = kind_of e.kind; big = e.big } };
+
+    ghost invariant = { λ e. IsTrue (is_canonical (kind_of e.kind) e.big) };
+
+    ghost inverse = { λ e. record { kind = kind_from e.kind; big = e.big } };
+
+    ghost inverse_ok = { λ e h i. record { kind = from_of e.kind i; big = e.big } };
+}
+
+impl Elem {
+    /// Returns the element of the kind, big-endian if so asked and if there is more than one byte.
+    pub fn new(kind: Kind, big: bool) -> Elem
+        ensures { result ≡ record { kind = kind_of kind; big = big && nat_lt 1 (element.size_of (kind_of kind)) } }
+    {
+        Elem {
+            kind,
+            big: big && kind.size() > 1,
+        }
+    }
+
+    /// Returns the element of the kind whose lowest byte comes first.
+    pub fn little(kind: Kind) -> Elem
+        ensures { result ≡ record { kind = kind_of kind; big = false } }
+    {
+        Elem { kind, big: false }
+    }
+
+    /// Returns the kind.
+    pub fn kind(self) -> Kind
+        ensures { kind_of result ≡ self.kind }
+    {
+        self.kind
+    }
+
+    /// Returns whether the highest byte comes first.
+    pub fn big(self) -> bool
+        ensures { result ≡ self.big }
+    {
+        self.big
+    }
+
+    /// Returns the number of bytes.
+    pub fn size(self) -> u64
+        ensures value { result ≡ element.size_of self.kind }
+        ensures range { (0 < result) × (result ≤ 8) }
+    {
+        self.kind.size()
+    }
+}

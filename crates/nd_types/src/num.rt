@@ -1,0 +1,13 @@
+//! Numbers outside arrays.
+use crate::kind::Kind;
+
+/// A number outside an array, each in the range of its kind.
+#[derive(Clone, Copy, PartialEq, Eq, Debug)]
+pub enum Num {
+    /// A Python integer.
+    Int(i128),
+    /// A Python Boolean.
+    Bool(bool),
+    /// A NumPy scalar.
+    Scalar(Kind, i128),
+}

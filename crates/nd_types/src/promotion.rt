@@ -1,0 +1,70 @@
+//! Which kind two kinds give.
+ghost use Rattle.std.specs.Prelude.{◌≡◌, ◌&&◌};
+ghost use Rattle.nd_model.specs.Promotion as promotion;
+ghost use Rattle.nd_types.specs.Kinds.{kind_of};
+ghost use Rattle.nd_types.specs.Types.{kind_given};
+
+use crate::kind::{Kind, highest, lowest};
+
+/// Only a float would hold both ranges.
+#[derive(Clone, Copy, PartialEq, Eq, Debug)]
+pub struct FloatResult;
+
+// The order in which a kind for two others is looked for.
+const ORDER: [Kind; 9] = [
+    Kind::Bool,
+    Kind::U8,
+    Kind::I8,
+    Kind::U16,
+    Kind::I16,
+    Kind::U32,
+    Kind::I32,
+    Kind::U64,
+    Kind::I64,
+];
+
+// Whether the first kind has each number of the second.
+fn has_range_of(kind: Kind, of: Kind) -> bool
+    ensures { result ≡ promotion.has_range_of (kind_of kind) (kind_of of) }
+{
+    lowest(kind) <= lowest(of) && highest(of) <= highest(kind)
+}
+
+// Whether the kind has each number of both.
+fn has_both(kind: Kind, a: Kind, b: Kind) -> bool
+    ensures { result ≡ (promotion.has_range_of (kind_of kind) (kind_of a) && promotion.has_range_of (kind_of kind) (kind_of b)) }
+{
+    has_range_of(kind, a) && has_range_of(kind, b)
+}
+
+/// Returns the first kind, in the order of NEP 50's table, whose range holds the ranges of both. Refused for uint64 beside
+/// a signed kind, where NumPy would give a float.
+pub fn promote(a: Kind, b: Kind) -> Result<Kind, FloatResult>
+    ensures { kind_given result ≡ promotion.promoted (kind_of a) (kind_of b) }
+{
+    for kind in ORDER {
+        if has_both(kind, a, b) {
+            return Ok(kind);
+        }
+    }
+    Err(FloatResult)
+}
+
+// Booleans, then unsigned numbers, then signed ones.
+fn sort_of(kind: Kind) -> u8
+    ensures { result ≡ promotion.sort_of (kind_of kind) }
+{
+    match kind {
+        Kind::Bool => 0,
+        Kind::U8 | Kind::U16 | Kind::U32 | Kind::U64 => 1,
+        Kind::I8 | Kind::I16 | Kind::I32 | Kind::I64 => 2,
+    }
+}
+
+/// Returns whether a result of the first kind may be written in place into numbers of the second: Booleans go to each kind,
+/// unsigned numbers to unsigned and signed ones, signed numbers to signed ones (NumPy's `same_kind`).
+pub fn same_kind(from: Kind, to: Kind) -> bool
+    ensures { result ≡ promotion.same_kind (kind_of from) (kind_of to) }
+{
+    sort_of(from) <= sort_of(to)
+}

@@ -1,0 +1,139 @@
+//! Structures: several numbers at one place.
+ghost use Rattle.std.specs.Prelude.{◌≡◌, ◌+◌, ◌<◌, ◌≤◌, length, IfOk};
+ghost use Rattle.std.specs.List.{All};
+ghost use Rattle.nd_model.specs.Element.{size_of};
+ghost use Rattle.nd_model.specs.Structure as structure;
+ghost use Rattle.nd_types.specs.Fields.{field_of, fields_of};
+
+use crate::field::Field;
+use crate::name::is_field_name;
+use std::alloc::{AllocError, Global};
+use std::marker::Model;
+
+/// A structure: its fields in order, and its size in bytes, pad bytes among them. It has 1 to 256 fields, which lie apart inside
+/// the size, at most 65,536 bytes, and have distinct names of 1 to 64 bytes without colon, quote, backslash or control character.
+/// A clause sees it as the definition's fields and size.
+#[derive(Debug, Drop)]
+pub struct RecType {
+    fields: Vec<Field>,
+    size: u32,
+}
+
+impl Model for RecType {
+    ghost use Rattle.std.specs.Prelude.{List, ℕ, IsTrue};
+    ghost use Rattle.nd_model.specs.View.{Field};
+    ghost use Rattle.nd_model.specs.Structure.{is_structure};
+    ghost use Rattle.nd_types.specs.Fields.{fields_of};
+
+    ghost Value = { List Field × ℕ };
+
+    ghost view = { λ r. (fields_of r.fields.items, r.size) };
+
+    ghost invariant = { λ r. IsTrue (is_structure (fields_of r.fields.items) r.size) };
+}
+
+fn are_named(fields: &[Field]) -> bool
+    ensures { result ≡ structure.are_named (fields_of fields.now) }
+{
+    for field in fields {
+        if !is_field_name(&field.name) {
+            return false;
+        }
+    }
+    true
+}
+
+fn has_name(name: &str, fields: &[Field]) -> bool
+    ensures { result ≡ structure.has_name name.now (fields_of fields.now) }
+{
+    for field in fields {
+        if name == field.name.as_str() {
+            return true;
+        }
+    }
+    false
+}
+
+fn are_distinct(fields: &[Field]) -> bool
+    ensures { result ≡ structure.are_distinct (fields_of fields.now) }
+{
+    for (index, field) in fields.iter().enumerate() {
+        if has_name(&field.name, &fields[index + 1..]) {
+            return false;
+        }
+    }
+    true
+}
+
+fn are_apart(fields: &[Field], size: u32) -> bool
+    ensures { result ≡ structure.are_apart 0 (fields_of fields.now) size }
+{
+    let mut place = 0;
+    for field in fields {
+        if u64::from(field.at) < place {
+            return false;
+        }
+        place = u64::from(field.at) + field.elem.size();
+    }
+    place <= u64::from(size)
+}
+
+fn is_structure(fields: &[Field], size: u32) -> bool
+    ensures { result ≡ structure.is_structure (fields_of fields.now) size }
+{
+    !fields.is_empty()
+        && fields.len() <= 256
+        && size <= 65536
+        && are_apart(fields, size)
+        && are_named(fields)
+        && are_distinct(fields)
+}
+
+impl RecType {
+    ghost use Rattle.nd_types.specs.Structures.{made};
+
+    /// Returns the structure of these fields and this size in bytes, None where they are none.
+    pub fn new(fields: Vec<Field>, size: u32) -> Option<RecType>
+        ensures { result ≡ made (fields_of fields.items) size }
+    {
+        if is_structure(&fields, size) {
+            Some(RecType { fields, size })
+        } else {
+            None
+        }
+    }
+
+    /// Returns the fields, in the order of their places.
+    pub fn fields(&self) -> &[Field]
+        ensures value { fields_of result.now ≡ self.now.0 }
+        ensures inside { All (λ f. f.at + size_of f.element.kind ≤ self.now.1) self.now.0 }
+    {
+        self.fields.as_slice()
+    }
+
+    /// Returns the number of bytes, pad bytes among them.
+    pub fn size(&self) -> u32
+        ensures value { result ≡ self.now.1 }
+        ensures range { (0 < result) × (result ≤ 65536) }
+    {
+        self.size
+    }
+
+    /// Returns the same structure, with fields of its own.
+    pub fn try_clone(&self, alloc: Global) -> Result<RecType, AllocError>
+        ensures { IfOk result (λ r. r ≡ self.now) }
+    {
+        let mut fields = Vec::new(alloc);
+        for field in &self.fields {
+            fields.push(Field {
+                name: field.name.clone()?,
+                at: field.at,
+                elem: field.elem,
+            })?;
+        }
+        Ok(RecType {
+            fields,
+            size: self.size,
+        })
+    }
+}

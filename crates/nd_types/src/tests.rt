@@ -61,9 +61,10 @@ fn promotion_is_numpys(rt: HostRuntime) -> Result<(), Fail> {
     for (row, a) in ORDER.iter().enumerate() {
         for (column, b) in ORDER.iter().enumerate() {
             let found = promote(*a, *b).map_or(b'F', code);
-            assert_eq!(rt; found, PROMOTED[row].as_bytes()[2 * column]);
-            let allowed = SAME_KIND[row].as_bytes()[2 * column] == b'1';
-            assert_eq!(rt; same_kind(*a, *b), allowed);
+            let wanted = PROMOTED[row].as_bytes().get(2 * column).copied();
+            assert_eq!(rt; Some(found), wanted);
+            let allowed = SAME_KIND[row].as_bytes().get(2 * column).copied();
+            assert_eq!(rt; same_kind(*a, *b), allowed == Some(b'1'));
         }
     }
     Ok(())
@@ -128,7 +129,7 @@ fn structures_are_tested(rt: HostRuntime) -> Result<(), Fail> {
     let whole = RecType::new(pair(alloc, ("a", "b"), (0, 1))?, 5).ok_or("no structure")?;
     let copy = whole.try_clone(alloc)?;
     assert_eq!(rt; copy.size(), 5);
-    assert_eq!(rt; copy.fields()[1].name.as_str(), "b");
+    assert!(rt; matches!(copy.fields(), [_, second] if second.name.as_str() == "b"));
     let kept = ElemType::Rec(copy).try_clone(alloc)?;
     assert_eq!(rt; kept.size(), 5);
     assert_eq!(rt; ElemType::One(Elem::little(Kind::I64)).size(), 8);

@@ -8,6 +8,3 @@ mod run;
 pub use meter::Meter;
 pub use result::{CellFault, CellResult, Refusal};
 pub use run::run_cell;
-
-#[cfg(test)]
-mod tests;

@@ -5,8 +5,6 @@ mod blocks;
 mod input;
 mod memory;
 mod session;
-#[cfg(test)]
-mod tests;
 mod trace;
 mod value;
 mod version;

@@ -10,6 +10,3 @@ mod tree;
 
 pub use parse::parse_cell;
 pub use tree::{Expr, Line, ParseFault, ParseKind, Stmt};
-
-#[cfg(test)]
-mod tests;

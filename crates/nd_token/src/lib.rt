@@ -8,6 +8,3 @@ mod word;
 
 pub use scan::tokens;
 pub use token::{BadToken, Token, Word};
-
-#[cfg(test)]
-mod tests;

@@ -18,6 +18,3 @@ pub use num::Num;
 pub use promotion::{FloatResult, promote, same_kind};
 pub use structure::RecType;
 pub use types::ElemType;
-
-#[cfg(test)]
-mod tests;

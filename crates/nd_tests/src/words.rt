@@ -1,4 +1,6 @@
-use super::*;
+//! The tokens of texts, and the first places that are none.
+
+use nd_token::*;
 use std::alloc::Global;
 use std::test::Fail;
 
@@ -7,6 +9,11 @@ fn bad(alloc: Global, text: &str, line: usize, column: usize) -> Result<bool, Fa
         Ok(_) => Ok(false),
         Err(place) => Ok(place == BadToken { line, column }),
     }
+}
+
+// So many lines of one statement.
+fn lines(alloc: Global, count: usize) -> Result<String, Fail> {
+    Ok("x = 1\n".repeat(alloc, count)?)
 }
 
 // The words of a text, with their places as (line, column).
@@ -71,7 +78,7 @@ fn refused(rt: HostRuntime) -> Result<(), Fail> {
     ] {
         assert!(rt; bad(rt.alloc(), text, line, column)?, "{text:?}");
     }
-    let mut later = "x = 1\n".repeat(rt.alloc(), 1001)?;
+    let mut later = lines(rt.alloc(), 1001)?;
     later.push_str("$")?;
     assert!(rt; bad(rt.alloc(), later.as_str(), 1002, 1)?);
     Ok(())

@@ -1,7 +1,7 @@
-// Each call once, where memory is there.
+//! Each call of a session once, where memory is there.
 
-use crate::{Array, Base, OutOfMemory, Session, Value};
 use nd_block::RawBlock;
+use nd_heap::{Array, Base, OutOfMemory, Session, Value};
 use nd_types::{Elem, ElemType, Kind, Num};
 use nd_view::View;
 use std::alloc::{Allocator, Global};

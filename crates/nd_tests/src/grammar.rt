@@ -1,6 +1,8 @@
-use super::*;
+//! Texts that are cells and the faults of those that are none.
+
+use nd_parse::*;
 use std::alloc::Global;
-use std::test::*;
+use std::test::Fail;
 
 // The text's fault is this one.
 fn has_fault(
@@ -14,6 +16,11 @@ fn has_fault(
         Ok(_) => Ok(false),
         Err(fault) => Ok(fault == ParseFault { kind, line, column }),
     }
+}
+
+// The piece, again and again.
+fn repeated(alloc: Global, piece: &str, count: usize) -> Result<String, Fail> {
+    Ok(piece.repeat(alloc, count)?)
 }
 
 // The text is a cell of these statements.
@@ -136,9 +143,9 @@ fn other_faults(rt: HostRuntime) -> Result<(), Fail> {
 #[test]
 fn too_deep(rt: HostRuntime) -> Result<(), Fail> {
     let alloc = rt.alloc();
-    let signs = "-".repeat(alloc, 64)?;
-    let open = "(".repeat(alloc, 64)?;
-    let close = ")".repeat(alloc, 64)?;
+    let signs = repeated(alloc, "-", 64)?;
+    let open = repeated(alloc, "(", 64)?;
+    let close = repeated(alloc, ")", 64)?;
     let deepest = format!(in alloc; "x = {signs}1")?;
     assert!(rt; parse_cell(alloc, deepest.as_str())?.is_ok());
     let deepest = format!(in alloc; "x = {open}1{close}")?;
@@ -150,7 +157,7 @@ fn too_deep(rt: HostRuntime) -> Result<(), Fail> {
     // it would go on no cell at any depth
     let other = format!(in alloc; "x = {open}**")?;
     assert!(rt; has_fault(alloc, other.as_str(), 1, ParseKind::Unexpected, 69)?);
-    let deepest = "(".repeat(alloc, 65000)?;
+    let deepest = repeated(alloc, "(", 65000)?;
     assert!(rt; has_fault(alloc, deepest.as_str(), 1, ParseKind::TooDeep, 65)?);
     Ok(())
 }
@@ -158,7 +165,7 @@ fn too_deep(rt: HostRuntime) -> Result<(), Fail> {
 #[test]
 fn long_chains(rt: HostRuntime) -> Result<(), Fail> {
     let alloc = rt.alloc();
-    let indexes = "[0]".repeat(alloc, 21665)?;
+    let indexes = repeated(alloc, "[0]", 21665)?;
     let read = format!(in alloc; "x = y{indexes}")?;
     assert!(rt; read.len() == 65000);
     assert!(rt; parse_cell(alloc, read.as_str())?.is_ok());
@@ -170,7 +177,7 @@ fn long_chains(rt: HostRuntime) -> Result<(), Fail> {
 #[test]
 fn too_many_statements(rt: HostRuntime) -> Result<(), Fail> {
     let alloc = rt.alloc();
-    let most = "x = 1\n".repeat(alloc, 1000)?;
+    let most = repeated(alloc, "x = 1\n", 1000)?;
     assert!(rt; parse_cell(alloc, most.as_str())?.is_ok());
     for next in ["x = 1", "if", "  y", "foo(3)", "$"] {
         let more = format!(in alloc; "{most}{next}")?;

@@ -1,6 +1,6 @@
 //! Kinds, elements and structures beside NumPy's answers (version 1.24: `promote_types`, `can_cast(.., 'same_kind')`, `astype`).
 
-use super::*;
+use nd_types::*;
 use std::alloc::{AllocError, Global};
 use std::test::Fail;
 

@@ -4,8 +4,8 @@ use Rattle.nd_model.specs.Element.{Boolean, Int8, Int16, Int32, Int64, UInt8, UI
 use Rattle.nd_model.specs.View.{ElementType, One, Structure, Geo}
 use Rattle.nd_model.specs.Value.{Base, Value, Int, Truth, Scalar, Array, Row}
 use Rattle.nd_model.specs.Fault.{Fault}
-use Rattle.nd_model.specs.Syntax.{Expr, Name, Integer, Negative, Arange, Item, Stmt, Import, Bind, Assign, Delete, Print}
-use Rattle.nd_model.specs.Tokens.{tokens_of, tokens_of_all, tokens_of_stmt}
+use Rattle.nd_model.specs.Syntax.{Expr, Name, Integer, Unary, Negative, Arange, Item, Index, Items, AndItem, NoItem, At, Stmt, Import, Bind, Assign, Delete, Print}
+use Rattle.nd_model.specs.Tokens.{tokens_of, tokens_of_index, tokens_of_all, tokens_of_stmt}
 use Rattle.nd_model.specs.Running.{Inputs, Running, Lookup, Use, reply, after, Effect, Nothing, Prints, Saves, Binding, Unbinding, Storing, done}
 use Rattle.nd_model.specs.Meaning as meaning
 use Rattle.nd_model.specs.Meaning.{Eval, Gives, Refuses, Asks, run, when, ◌>>=◌}
@@ -139,15 +139,21 @@ of_assigned v t i =
     then 0 0 (meaning.place_in a.geo.shape a.geo.places z) _ (of_place a.geo.shape a.geo.places z) (λ p.
     of_stored a a.geo.element p c)))))
 
-of_value : (e : Expr) → MakesAtMost (tokens_of e) (meaning.value e)
-of_value (Name n) = more 0 1 _ (omega arith) (of_name n)
-of_value (Integer n) = gives 1 _
-of_value (Negative e) = more (tokens_of e + 0) _ _ (omega arith) (then (tokens_of e) 0 (meaning.value e) _ (of_value e) of_negated)
-of_value (Arange e) = more (tokens_of e + 1) _ _ (omega arith) (then (tokens_of e) 1 (meaning.value e) _ (of_value e) of_arange)
-of_value (Item t i) = more (tokens_of t + (tokens_of i + 0)) _ _ (omega arith)
-    (then (tokens_of t) (tokens_of i + 0) (meaning.value t) _ (of_value t) (λ target.
-    then (tokens_of i) 0 (meaning.value i) _ (of_value i) (λ item.
-    of_indexed target item)))
+mutual
+  of_value : (e : Expr) → MakesAtMost (tokens_of e) (meaning.value e)
+  of_value (Name n) = more 0 1 _ (omega arith) (of_name n)
+  of_value (Integer n) = gives 1 _
+  of_value (Unary Negative e) = more (tokens_of e + 0) _ _ (omega arith) (then (tokens_of e) 0 (meaning.value e) _ (of_value e) of_negated)
+  of_value (Arange e) = more (tokens_of e + 1) _ _ (omega arith) (then (tokens_of e) 1 (meaning.value e) _ (of_value e) of_arange)
+  of_value (Item t x) = more (tokens_of t + (tokens_of_index x + 0)) _ _ (omega arith)
+      (then (tokens_of t) (tokens_of_index x + 0) (meaning.value t) _ (of_value t) (λ target.
+      then (tokens_of_index x) 0 (meaning.item_value x) _ (of_item_value x) (λ item.
+      of_indexed target item)))
+  of_value e = refuses (tokens_of e) _
+
+  of_item_value : (x : Index) → MakesAtMost (tokens_of_index x) (meaning.item_value x)
+  of_item_value (Items (AndItem (At e) NoItem)) = more (tokens_of e) _ _ (omega arith) (of_value e)
+  of_item_value x = refuses (tokens_of_index x) _
 
 of_values : (es : List Expr) → MakesAtMost (tokens_of_all es) (meaning.values es)
 of_values [] = gives 0 _
@@ -169,21 +175,25 @@ of_texts (v ∷ vs) = then 0 0 (meaning.text_of v) _ (of_text v) (λ t. then 0 0
 of_meaning : (s : Stmt) → MakesAtMost (tokens_of_stmt s) (meaning.meaning s)
 of_meaning Import = gives 4 _
 of_meaning (Bind n e) = more (tokens_of e + 0) _ _ (omega arith) (then (tokens_of e) 0 (meaning.value e) _ (of_value e) (λ v. gives 0 _))
-of_meaning (Assign t i e) = more (tokens_of e + (tokens_of t + (tokens_of i + 0))) _ _ (omega arith)
-    (then (tokens_of e) (tokens_of t + (tokens_of i + 0)) (meaning.value e) _ (of_value e) (λ v.
-    then (tokens_of t) (tokens_of i + 0) (meaning.value t) _ (of_value t) (λ target.
-    then (tokens_of i) 0 (meaning.value i) _ (of_value i) (λ item.
+of_meaning (Assign t x e) = more (tokens_of e + (tokens_of t + (tokens_of_index x + 0))) _ _ (omega arith)
+    (then (tokens_of e) (tokens_of t + (tokens_of_index x + 0)) (meaning.value e) _ (of_value e) (λ v.
+    then (tokens_of t) (tokens_of_index x + 0) (meaning.value t) _ (of_value t) (λ target.
+    then (tokens_of_index x) 0 (meaning.item_value x) _ (of_item_value x) (λ item.
     of_assigned v target item))))
 of_meaning (Delete n) = more 0 2 _ (omega arith) (then 0 0 (meaning.name n) _ (of_name n) (λ v. gives 0 _))
 of_meaning (Print es) = more (tokens_of_all es + (0 + 0)) _ _ (omega arith)
     (then (tokens_of_all es) (0 + 0) (meaning.values es) _ (of_values es) (λ vs.
     then 0 0 (meaning.texts_of vs) _ (of_texts vs) (λ ts. gives 0 _)))
+of_meaning s = refuses (tokens_of_stmt s) _
 
 -- ---- the number after
 
 -- what was evaluated to its end
 pub next_value : (i : Inputs) (e : Expr) (r s : Running) (o : Result Value Fault) → run i (meaning.value e) r ≡ (o, s) → s.next ≤ r.next + tokens_of e
 next_value i e r s o h = subst (λ (x : Result Value Fault × Running). x.1.next ≤ r.next + tokens_of e) h ((of_value e).bound i r)
+
+pub next_item_value : (i : Inputs) (x : Index) (r s : Running) (o : Result Value Fault) → run i (meaning.item_value x) r ≡ (o, s) → s.next ≤ r.next + tokens_of_index x
+next_item_value i x r s o h = subst (λ (y : Result Value Fault × Running). y.1.next ≤ r.next + tokens_of_index x) h ((of_item_value x).bound i r)
 
 -- an index makes none
 pub next_indexed : (i : Inputs) (t x : Value) (r s : Running) (o : Result Value Fault) → run i (meaning.indexed t x) r ≡ (o, s) → s.next ≤ r.next

@@ -3,19 +3,24 @@
 ghost use Rattle.std.specs.Prelude.{◌≡◌, ◌+◌, ◌<◌, ◌^◌, map};
 ghost use Rattle.std.specs.Prelude.{neg_ℤ};
 ghost use Rattle.nd_model.specs.Meaning as meaning;
-ghost use Rattle.nd_model.specs.Tokens.{tokens_of, tokens_of_all};
-ghost use Rattle.nd_parse.specs.Syntax.{expr_of};
+ghost use Rattle.nd_model.specs.Cells.{items_of};
+ghost use Rattle.nd_model.specs.Syntax.{Items, AndItem, NoItem};
+ghost use Rattle.nd_model.specs.Tokens.{tokens_of, tokens_of_index, tokens_of_item, tokens_of_all};
+ghost use Rattle.nd_parse.specs.Syntax.{expr_of, index_of, item_of};
 ghost use Rattle.nd_heap.specs.Values.{value_of, inputs_of};
 ghost use Rattle.nd_heap.specs.Live.{live};
 ghost use Rattle.nd_eval.specs.Contents.{values_of};
 ghost use Rattle.nd_eval.specs.Ends.{Ends, Says};
+ghost use Rattle.nd_eval.specs.declared.stop.Stop.TheVariants.{Refused};
+ghost use Rattle.nd_eval.specs.declared.fault.StmtFault.TheVariants.{Stmt};
+ghost use Rattle.nd_eval.specs.declared.fault.StmtError.TheVariants.{BadArgument};
 
 use crate::arrays::{arange, used};
 use crate::fault::{StmtError, StmtFault};
 use crate::indexes::indexed;
 use crate::stop::Stop;
 use nd_heap::{Inputs, Session, Value};
-use nd_parse::Expr;
+use nd_parse::{Expr, Index, IndexItem, UnaryOp};
 use nd_types::Num;
 
 /// The value of a bound name.
@@ -58,8 +63,16 @@ fn negated(session: &mut Session, inputs: &Inputs, operand: &Value) -> Result<Va
     }
 }
 
+/// The refusal of a form that is not built yet.
+pub(crate) fn unbuilt() -> Stop
+    ensures { result ≡ Refused (Stmt BadArgument) }
+{
+    Stop::Refused(StmtFault::Stmt(StmtError::BadArgument))
+}
+
 /// The value of an expression. It calls itself for the operand of a chain of indexes, and for each of them, but not once
 /// more for each that stands before: so only brackets and signs take it deeper.
+#[cycle(value)]
 pub(crate) fn value(session: &mut Session, inputs: &Inputs, expr: &Expr) -> Result<Value, Stop>
     requires { (live session.old).next + tokens_of (expr_of expr.now) < 2 ^ 64 }
     ensures { Ends value_of result (live session.new) (meaning.run (inputs_of inputs.now.entries) (meaning.value (expr_of expr.now)) (live session.old)) }
@@ -67,10 +80,13 @@ pub(crate) fn value(session: &mut Session, inputs: &Inputs, expr: &Expr) -> Resu
     match expr {
         Expr::Name(name) => named(session, inputs, name.as_str()),
         Expr::Integer(number) => Ok(Value::Number(Num::Int(i128::from(*number)))),
-        Expr::Negative(operand) => {
-            let operand = value(session, inputs, operand)?;
-            negated(session, inputs, &operand)
-        }
+        Expr::Unary(op, operand) => match op {
+            UnaryOp::Negative => {
+                let operand = value(session, inputs, operand)?;
+                negated(session, inputs, &operand)
+            }
+            UnaryOp::Invert => Err(unbuilt()),
+        },
         Expr::Arange(end) => {
             let end = value(session, inputs, end)?;
             arange(session, inputs, &end)
@@ -78,11 +94,63 @@ pub(crate) fn value(session: &mut Session, inputs: &Inputs, expr: &Expr) -> Resu
         Expr::Indexed(operand, indexes) => {
             let mut found = value(session, inputs, operand)?;
             for index in indexes {
-                let item = value(session, inputs, index)?;
+                let item = item_value(session, inputs, index)?;
                 found = indexed(session, inputs, &found, &item)?;
             }
             Ok(found)
         }
+        Expr::Chain(operand, others) => {
+            if others.is_empty() {
+                return value(session, inputs, operand);
+            }
+            Err(unbuilt())
+        }
+        _ => Err(unbuilt()),
+    }
+}
+
+/// The value of what stands in the brackets of an index.
+#[cycle(value)]
+pub(crate) fn item_value(
+    session: &mut Session,
+    inputs: &Inputs,
+    index: &Index,
+) -> Result<Value, Stop>
+    requires { (live session.old).next + tokens_of_index (index_of index.now) < 2 ^ 64 }
+    ensures { Ends value_of result (live session.new) (meaning.run (inputs_of inputs.now.entries) (meaning.item_value (index_of index.now)) (live session.old)) }
+{
+    match index {
+        Index::Items(items) => only_item(session, inputs, items),
+        _ => Err(unbuilt()),
+    }
+}
+
+/// The value of the only item, if there is one.
+#[cycle(value)]
+fn only_item(session: &mut Session, inputs: &Inputs, items: &[IndexItem]) -> Result<Value, Stop>
+    requires { (live session.old).next + tokens_of_index (Items (items_of (map item_of items.now))) < 2 ^ 64 }
+    ensures { Ends value_of result (live session.new) (meaning.run (inputs_of inputs.now.entries) (meaning.item_value (Items (items_of (map item_of items.now)))) (live session.old)) }
+{
+    match items.split_first() {
+        Some((item, rest)) => {
+            if !rest.is_empty() {
+                return Err(unbuilt());
+            }
+            lone_item(session, inputs, item)
+        }
+        None => Err(unbuilt()),
+    }
+}
+
+/// The value of the item, if it is an expression.
+#[cycle(value)]
+fn lone_item(session: &mut Session, inputs: &Inputs, item: &IndexItem) -> Result<Value, Stop>
+    requires { (live session.old).next + tokens_of_item (item_of item.now) < 2 ^ 64 }
+    ensures { Ends value_of result (live session.new) (meaning.run (inputs_of inputs.now.entries) (meaning.item_value (Items (AndItem (item_of item.now) NoItem))) (live session.old)) }
+{
+    match item {
+        IndexItem::At(expr) => value(session, inputs, expr),
+        _ => Err(unbuilt()),
     }
 }
 

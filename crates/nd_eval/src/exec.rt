@@ -13,7 +13,7 @@ ghost use Rattle.nd_eval.specs.Contents.{effect_of};
 ghost use Rattle.nd_eval.specs.Done.{output_of, outcome_of};
 
 use crate::effect::Effect;
-use crate::eval::{named, value, values};
+use crate::eval::{item_value, named, unbuilt, value, values};
 use crate::fault::StmtFault;
 use crate::stop::Stop;
 use crate::texts::{line_of, texts_of};
@@ -43,7 +43,7 @@ fn evaluated(session: &mut Session, inputs: &Inputs, stmt: &Stmt) -> Result<Effe
         Stmt::Assign(target, item, expr) => {
             let written = value(session, inputs, expr)?;
             let target = value(session, inputs, target)?;
-            let item = value(session, inputs, item)?;
+            let item = item_value(session, inputs, item)?;
             assigned(session, inputs, &written, &target, &item)
         }
         Stmt::Delete(name) => {
@@ -56,6 +56,7 @@ fn evaluated(session: &mut Session, inputs: &Inputs, stmt: &Stmt) -> Result<Effe
             let texts = texts_of(session, inputs, &shown)?;
             Ok(Effect::Print(line_of(session.allocator(), &texts)?))
         }
+        _ => Err(unbuilt()),
     }
 }
 

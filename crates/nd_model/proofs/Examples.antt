@@ -3,7 +3,7 @@ use Rattle.std.proofs.Common.{◌≡◌, ℕ, List, [], ◌∷◌, Option, Some,
 use Rattle.nd_model.specs.Session.{Session, no_session}
 use Rattle.nd_model.specs.Fault.{ParseFault, BadToken, Refusal, Parse, Statement, OutOfBounds, NoName}
 use Rattle.nd_model.specs.Fault as fault
-use Rattle.nd_model.specs.Syntax.{Name, Integer, Negative, Arange, Item, Stmt, Bind, Assign, Delete, Print, Line, Parsed}
+use Rattle.nd_model.specs.Syntax.{Name, Integer, Unary, Negative, Arange, Expr, Item, Index, Items, AndItem, NoItem, At, Stmt, Bind, Assign, Delete, Print, Line, Parsed}
 use Rattle.nd_model.specs.Cell.{Ended, notebook}
 use Rattle.std.specs.Prelude.{pos}
 use Rattle.std.specs.Fmt.{digits}
@@ -14,13 +14,16 @@ x = 120 ∷ []
 y : List ℕ
 y = 121 ∷ []
 
+one : Expr → Index
+one e = Items (AndItem (At e) NoItem)
+
 at : ℕ → Stmt → Line
 at n s = record { line = n; stmt = s }
 
 program : List (ℕ × Parsed)
 program = (7, Ok (at 1 (Bind x (Arange (Integer 4))) ∷ at 2 (Bind y (Name x)) ∷ []))
-    ∷ (8, Ok (at 1 (Assign (Name y) (Integer 0) (Integer 9)) ∷ at 2 (Print (Name x ∷ [])) ∷ []))
-    ∷ (9, Ok (at 2 (Print (Item (Name x) (Negative (Integer 1)) ∷ Integer 5 ∷ [])) ∷ at 4 (Assign (Name x) (Integer 4) (Integer 1)) ∷ at 5 (Delete x) ∷ []))
+    ∷ (8, Ok (at 1 (Assign (Name y) (one (Integer 0)) (Integer 9)) ∷ at 2 (Print (Name x ∷ [])) ∷ []))
+    ∷ (9, Ok (at 2 (Print (Item (Name x) (one (Unary Negative (Integer 1))) ∷ Integer 5 ∷ [])) ∷ at 4 (Assign (Name x) (one (Integer 4)) (Integer 1)) ∷ at 5 (Delete x) ∷ []))
     ∷ (10, Err (record { kind = BadToken; line = 3; column = 6 }))
     ∷ (11, Ok (at 1 (Delete x) ∷ at 2 (Print (Name y ∷ [])) ∷ at 3 (Print (Name x ∷ [])) ∷ []))
     ∷ []
@@ -35,5 +38,5 @@ as_wanted : texts
     ∷ (Some (3, Parse BadToken 6), [])
     ∷ (Some (3, Statement (fault.Stmt (NoName x))), codes "[9 1 2 3]\n")
     ∷ []
-unfolding texts program at x y digits
+unfolding texts program at one x y digits
 as_wanted = refl

@@ -9,7 +9,7 @@ use Rattle.nd_model.specs.Value.{Base, same_base, Value, Int, Truth, Scalar, Arr
 use Rattle.nd_model.specs.Session.{Names, lookup, bind, unbind, is_held, Session, no_session, put}
 use Rattle.nd_model.specs.Running.{Key, Source, Inputs, Running, start, having_read, Lookup, Ask, Use, Make, reply, made, after, Effect, Nothing, Prints, Saves, Binding, Unbinding, Storing, done, Output, output}
 use Rattle.nd_model.specs.Fault.{Fault}
-use Rattle.nd_model.specs.Syntax.{Expr, Name, Integer, Negative, Arange, Item, Stmt, Import, Bind, Assign, Delete, Print, Line, Parsed}
+use Rattle.nd_model.specs.Syntax.{Expr, Name, Integer, Unary, Negative, Arange, Item, Index, Items, AndItem, NoItem, At, Stmt, Import, Bind, Assign, Delete, Print, Line, Parsed}
 use Rattle.nd_model.specs.Meaning
 use Rattle.nd_model.specs.Meaning.{Eval, Gives, Refuses, Asks, run, ◌>>=◌, Numbers, Target, Content, Literal, Values}
 use Rattle.nd_model.specs.Cell.{Saved, Ended, had, statement, most_text, with_save, and_then, statements, ran, cell, session_after, notebook}
@@ -185,12 +185,18 @@ module _ (r : ℕ → ℕ → Bool) where
       same_then SameEffect _ _ _ _ (at_content v v' e) (λ x. same_then SameEffect _ _ _ _ (at_item_used i i' d) (λ u.
       same_bind SameTarget SameEffect _ _ _ _ (at_array_of t t' f) (λ a b s. same_then SameEffect _ _ _ _ (at_integer_of i i' d) (λ z. at_write a b s z x))))
 
-  at_value : (e : Expr) → Same Value SameValue (Meaning.value e) (Meaning.value e)
-  at_value (Name n) = at_name n
-  at_value (Integer n) = gives _ _ (int _)
-  at_value (Negative e) = same_bind SameValue SameValue _ _ _ _ (at_value e) at_negated
-  at_value (Arange e) = same_bind SameValue SameValue _ _ _ _ (at_value e) at_arange
-  at_value (Item t i) = same_bind SameValue SameValue _ _ _ _ (at_value t) (λ v w e. same_bind SameValue SameValue _ _ _ _ (at_value i) (λ i j d. at_indexed v w i j e d))
+  mutual
+    at_value : (e : Expr) → Same Value SameValue (Meaning.value e) (Meaning.value e)
+    at_value (Name n) = at_name n
+    at_value (Integer n) = gives _ _ (int _)
+    at_value (Unary Negative e) = same_bind SameValue SameValue _ _ _ _ (at_value e) at_negated
+    at_value (Arange e) = same_bind SameValue SameValue _ _ _ _ (at_value e) at_arange
+    at_value (Item t x) = same_bind SameValue SameValue _ _ _ _ (at_value t) (λ v w e. same_bind SameValue SameValue _ _ _ _ (at_item_value x) (λ i j d. at_indexed v w i j e d))
+    at_value _ = refuses _
+
+    at_item_value : (x : Index) → Same Value SameValue (Meaning.item_value x) (Meaning.item_value x)
+    at_item_value (Items (AndItem (At e) NoItem)) = at_value e
+    at_item_value _ = refuses _
 
   at_values : (es : List Expr) → Same (List Value) SameValues (Meaning.values es) (Meaning.values es)
   at_values [] = gives _ _ no_value
@@ -210,10 +216,11 @@ module _ (r : ℕ → ℕ → Bool) where
   at_meaning : (s : Stmt) → Same Effect SameEffect (Meaning.meaning s) (Meaning.meaning s)
   at_meaning Import = gives _ _ nothing
   at_meaning (Bind n e) = same_bind SameValue SameEffect _ _ _ _ (at_value e) (λ v w s. gives _ _ (binding n v w s))
-  at_meaning (Assign t i e) =
-      same_bind SameValue SameEffect _ _ _ _ (at_value e) (λ v v' s. same_bind SameValue SameEffect _ _ _ _ (at_value t) (λ t t' f. same_bind SameValue SameEffect _ _ _ _ (at_value i) (λ i i' d. at_assigned v v' t t' i i' s f d)))
+  at_meaning (Assign t x e) =
+      same_bind SameValue SameEffect _ _ _ _ (at_value e) (λ v v' s. same_bind SameValue SameEffect _ _ _ _ (at_value t) (λ t t' f. same_bind SameValue SameEffect _ _ _ _ (at_item_value x) (λ i i' d. at_assigned v v' t t' i i' s f d)))
   at_meaning (Delete n) = same_bind SameValue SameEffect _ _ _ _ (at_name n) (λ v w s. gives _ _ (unbinding n))
   at_meaning (Print es) = same_bind SameValues SameEffect _ _ _ _ (at_values es) (λ vs ws s. same_then SameEffect _ _ _ _ (at_texts_of vs ws s) (λ ts. gives _ _ (prints _)))
+  at_meaning _ = refuses _
 
   -- SESSIONS
   -- the two are the same but for labels, as far as the session and the numbers go

@@ -9,7 +9,7 @@ use Rattle.nd_model.specs.Value.{Base, Value, Int, Truth, Scalar, Array, Row}
 use Rattle.nd_model.specs.Running.{Running, Inputs, Act, Lookup, Use, Make, Reply, reply, after, Effect, Nothing, Prints, Binding, Unbinding, Storing}
 use Rattle.nd_model.specs.Fault.{Fault, TooManyElements, OutOfBounds, TooManyIndices, NotAnIndex, IntOutOfRange, ShapeMismatch, ReadOnly, NoName, IntTooBig, NotAnArray, BadArgument}
 use Rattle.nd_model.specs.Fault as fault
-use Rattle.nd_model.specs.Syntax.{Expr, Name, Integer, Negative, Arange, Item, Stmt, Import, Bind, Assign, Delete, Print}
+use Rattle.nd_model.specs.Syntax.{Expr, Name, Integer, Unary, Negative, Arange, Item, Index, Items, AndItem, NoItem, At, Stmt, Import, Bind, Assign, Delete, Print}
 use Rattle.nd_model.specs.Text.{truth_text, number_text, array_text, joined}
 
 -- an evaluation: a value, a refusal, or a question and how it goes on with each answer
@@ -233,19 +233,27 @@ assigned v t i = do
 
 -- ---- expressions and statements
 
-abbrev pub value : Expr → Eval Value
-value (Name n) = name n
-value (Integer n) = Gives (Int (pos n))
-value (Negative e) = do
-  v ← value e
-  negated v
-value (Arange e) = do
-  v ← value e
-  arange v
-value (Item t i) = do
-  target ← value t
-  item ← value i
-  indexed target item
+abbrev mutual
+  pub value : Expr → Eval Value
+  value (Name n) = name n
+  value (Integer n) = Gives (Int (pos n))
+  value (Unary Negative e) = do
+    v ← value e
+    negated v
+  value (Arange e) = do
+    v ← value e
+    arange v
+  value (Item t x) = do
+    target ← value t
+    item ← item_value x
+    indexed target item
+  -- the forms that are not built yet
+  value _ = Refuses (fault.Stmt BadArgument)
+
+  -- an index of one expression; the other ones are not built yet
+  pub item_value : Index → Eval Value
+  item_value (Items (AndItem (At e) NoItem)) = value e
+  item_value _ = Refuses (fault.Stmt BadArgument)
 
 -- from left to right
 abbrev pub values : List Expr → Eval (List Value)
@@ -280,10 +288,10 @@ meaning Import = Gives Nothing
 meaning (Bind n e) = do
   v ← value e
   Gives (Binding n v)
-meaning (Assign t i e) = do
+meaning (Assign t x e) = do
   v ← value e
   target ← value t
-  item ← value i
+  item ← item_value x
   assigned v target item
 meaning (Delete n) = do
   v ← name n
@@ -292,3 +300,5 @@ meaning (Print es) = do
   vs ← values es
   ts ← texts_of vs
   Gives (Prints (joined (32 ∷ []) ts ++ 10 ∷ []))
+-- the forms that are not built yet
+meaning _ = Refuses (fault.Stmt BadArgument)

@@ -1,5 +1,6 @@
 -- What a reader of tokens gives.
-use Rattle.std.specs.Prelude.{◌≡◌, ℕ, List, map, Result, Ok, Err, Vec}
+use Rattle.std.specs.Prelude.{◌≡◌, ℕ, List, map, Option, Result, Ok, Err, Vec}
+use Rattle.std.specs.Option.{option_map}
 use Rattle.std.specs.Borrow.{Bor}
 use Rattle.std.specs.Global.{Global}
 use Rattle.nd_token.specs.declared.token.Token.{Token}
@@ -8,14 +9,21 @@ use Rattle.nd_model.specs.Token as model
 use Rattle.nd_model.specs.Grammar as grammar
 use Rattle.nd_model.specs.Cells.{too_deep, left_out, too_many, unknown_call}
 use Rattle.nd_model.specs.Syntax as syntax
+use Rattle.nd_parse.specs.declared.tree.BinaryOp.{BinaryOp}
 use Rattle.nd_parse.specs.declared.tree.Expr.{Expr}
+use Rattle.nd_parse.specs.declared.tree.Index.{Index}
+use Rattle.nd_parse.specs.declared.tree.IndexItem.{IndexItem}
+use Rattle.nd_parse.specs.declared.tree.Element.{Element}
+use Rattle.nd_parse.specs.declared.spot.Spot.{Spot}
+use Rattle.nd_parse.specs.declared.spot.Spot.TheVariants as spots
+use Rattle.nd_model.specs.Cells as cells
 use Rattle.nd_parse.specs.declared.read.Reason.{Reason}
 use Rattle.nd_parse.specs.declared.read.Reason.TheVariants as reasons
 use Rattle.nd_parse.specs.declared.read.Stop.{Stop}
 use Rattle.nd_parse.specs.declared.read.Failure.{Failure}
 use Rattle.nd_parse.specs.declared.read.Failure.TheVariants as failures
 use Rattle.nd_parse.specs.declared.tree.Line.{Line}
-use Rattle.nd_parse.specs.Syntax.{expr_of, lines_of}
+use Rattle.nd_parse.specs.Syntax.{binary_op, expr_of, index_of, item_of, bound_of, element_of, lines_of}
 
 abbrev pub tokens_of : List Token → List model.Token
 tokens_of ts = map token_of ts
@@ -46,13 +54,45 @@ with_rest view x = (view x.0, tokens_of x.1.now)
 abbrev pub exprs_of : Vec Expr Global → List syntax.Expr
 exprs_of es = map expr_of es.items
 
+abbrev pub operation_of : BinaryOp × Expr → syntax.BinaryOp × syntax.Expr
+operation_of x = (binary_op x.0, expr_of x.1)
+
+abbrev pub operations_of : Vec (BinaryOp × Expr) Global → List (syntax.BinaryOp × syntax.Expr)
+operations_of xs = map operation_of xs.items
+
+-- what is assigned, and how
+abbrev pub value_of : Option BinaryOp × Expr → Option syntax.BinaryOp × syntax.Expr
+value_of v = (option_map binary_op v.0, expr_of v.1)
+
+abbrev pub spot_of : Spot → cells.Spot
+spot_of spots.Anywhere = cells.Anywhere
+spot_of spots.Target = cells.Target
+spot_of spots.FirstItem = cells.FirstItem
+spot_of spots.LaterItem = cells.LaterItem
+
+abbrev pub indexes_of : Vec Index Global → List syntax.Index
+indexes_of is = map index_of is.items
+
+abbrev pub items_in : Vec IndexItem Global → List syntax.IndexItem
+items_in is = map item_of is.items
+
+abbrev pub list_of_elements : Vec Element Global → List syntax.Element
+list_of_elements es = map element_of es.items
+
+abbrev pub elements_in : Vec Element Global → syntax.Elements
+elements_in es = cells.elements_of (list_of_elements es)
+
+-- the stop and the step of a slice
+abbrev pub bounds_of : Option Expr × Option Expr → syntax.Bound × syntax.Bound
+bounds_of b = (bound_of b.0, bound_of b.1)
+
 -- the indexes before the last, and the last
-abbrev pub chain_of : Vec Expr Global × Expr → List syntax.Expr × syntax.Expr
-chain_of c = (exprs_of c.0, expr_of c.1)
+abbrev pub some_indexes_of : Vec Index Global × Index → List syntax.Index × syntax.Index
+some_indexes_of c = (indexes_of c.0, index_of c.1)
 
 -- what is assigned to, and its index
-abbrev pub target_of : Expr × Expr → syntax.Expr × syntax.Expr
-target_of t = (expr_of t.0, expr_of t.1)
+abbrev pub target_of : Expr × Index → syntax.Expr × syntax.Index
+target_of t = (expr_of t.0, index_of t.1)
 
 abbrev pub list_of : Vec Line Global → List syntax.Line
 list_of ls = lines_of ls.items

@@ -1,130 +1,272 @@
 //! The kinds of tokens, which are their places in a set.
-ghost use Rattle.std.specs.Prelude.{◌≡◌, ◌<◌, ◌≤◌};
+ghost use Rattle.std.specs.Prelude.{◌≡◌, ◌<◌, map};
 ghost use Rattle.nd_model.specs.Grammar.{has};
-ghost use Rattle.nd_model.specs.Kinds.{before_next, kind_of_name, kind_of_keyword, kind_of_word, kind_of, kind};
+ghost use Rattle.nd_model.specs.Kinds.{kind_of_symbol, kind_in, keyword_kinds, name_kinds, before_next, is_before, is_name, is_before_name, refined, kind_of_word, kind_of, kind};
 ghost use Rattle.nd_model.specs.Predict.{next_in};
 ghost use Rattle.nd_token.specs.Tokens.{word_of, token_of};
 ghost use Rattle.nd_parse.specs.Gives.{tokens_of};
+ghost use Rattle.nd_parse.specs.Readers.{entry};
 
 use nd_token::{Token, Word};
 
-/// A name that is not called.
-pub const NAME: u64 = 0b0_1101_1011;
-/// A name before `=`.
-pub const BOUND: u64 = 0b0_1001_0010;
-/// A name before `(`.
-pub const CALLED: u64 = 0b1_0010_0100;
-/// `numpy`, where it is not called.
-pub const NUMPY: u64 = 0b0_0001_1000;
-/// `numpy` before `(`.
-pub const NUMPY_CALLED: u64 = 0b0_0010_0000;
-/// `arange`, called or not.
-pub const ARANGE: u64 = 0b1_1100_0000;
-/// Any other name.
-pub const NOT_ARANGE: u64 = 0b0_0011_1111;
-/// An integer, or a name that is not called.
-pub const OPERAND: u64 = 0b10_1101_1011;
-/// An integer, or a name before neither `=` nor `(`.
-pub const PLACE: u64 = 0b10_0100_1001;
+pub const INTEGER: u64 = 1;
+/// `True`, `False`
+pub const TRUTH: u64 = 1 << 1;
 /// `-`
-pub const MINUS: u64 = 1 << 10;
+pub const MINUS: u64 = 1 << 2;
 /// `+`
-pub const PLUS: u64 = 1 << 11;
+pub const PLUS: u64 = 1 << 3;
+/// `~`
+pub const TILDE: u64 = 1 << 4;
+/// `**`
+pub const POWER: u64 = 1 << 5;
+/// `*`, `//`, `/`, `%`
+pub const PRODUCT: u64 = 1 << 6;
+/// `<<`, `>>`
+pub const SHIFT: u64 = 1 << 7;
+/// `&`
+pub const AMPERSAND: u64 = 1 << 8;
+/// `^`
+pub const CARET: u64 = 1 << 9;
+/// `|`
+pub const BAR: u64 = 1 << 10;
+/// `<`, `<=`, `>`, `>=`, `==`, `!=`
+pub const COMPARISON: u64 = 1 << 11;
+/// `(` that is not before `)`
+pub const OPEN_SOME: u64 = 1 << 12;
+/// `(` before `)`
+pub const OPEN_NONE: u64 = 1 << 31;
 /// `(`
-pub const OPEN: u64 = 1 << 12;
+pub const OPEN: u64 = OPEN_SOME | OPEN_NONE;
 /// `)`
 pub const CLOSE: u64 = 1 << 13;
 /// `[`
 pub const OPEN_BRACKET: u64 = 1 << 14;
 /// `]`
 pub const CLOSE_BRACKET: u64 = 1 << 15;
+/// `,` that is not before `]`
+pub const COMMA_MORE: u64 = 1 << 16;
+/// `,` before `]`
+pub const COMMA_LAST: u64 = 1 << 30;
 /// `,`
-pub const COMMA: u64 = 1 << 16;
-/// `=`
-pub const EQUAL: u64 = 1 << 17;
+pub const COMMA: u64 = COMMA_MORE | COMMA_LAST;
+/// `=`, and `+=` and the like
+pub const ASSIGNMENT: u64 = 0b11 << 17;
 /// `.`
-pub const DOT: u64 = 1 << 18;
+pub const DOT: u64 = 1 << 19;
+/// `np` that is not before `.newaxis`
+pub const NP_OTHER: u64 = 1 << 20;
+/// `np` before `.newaxis`
+pub const NP_NEWAXIS: u64 = 1 << 32;
 /// `np`
-pub const NP: u64 = 1 << 19;
+pub const NP: u64 = NP_OTHER | NP_NEWAXIS;
 /// `print`
-pub const PRINT: u64 = 1 << 20;
+pub const PRINT: u64 = 1 << 21;
 /// `import`
-pub const IMPORT: u64 = 1 << 21;
+pub const IMPORT: u64 = 1 << 22;
 /// `as`
-pub const AS: u64 = 1 << 22;
+pub const AS: u64 = 1 << 23;
 /// `del`
-pub const DEL: u64 = 1 << 23;
+pub const DEL: u64 = 1 << 24;
 /// The end of a statement.
-pub const END: u64 = 1 << 24;
+pub const END: u64 = 1 << 25;
+/// `:`
+pub const COLON: u64 = 1 << 26;
+/// `...`
+pub const ELLIPSIS: u64 = 1 << 27;
+/// `None`
+pub const NONE: u64 = 1 << 28;
+/// A text in quotes.
+pub const QUOTED: u64 = 1 << 29;
 /// Any token.
 pub const ANY: u64 = u64::MAX;
+/// A name before neither an operator of assignment nor `(`.
+pub const UNBOUND: u64 = 0b0010_0100_1001 << 40;
+/// A name before an operator of assignment.
+pub const BOUND: u64 = 0b0100_1001_0010 << 40;
+/// A name before `(`.
+pub const CALLED: u64 = 0b1001_0010_0100 << 40;
+/// A name that is not called.
+pub const NAME: u64 = UNBOUND | BOUND;
+/// `numpy`, where it is not called.
+pub const NUMPY: u64 = 0b011 << 43;
+/// `numpy` before `(`.
+pub const NUMPY_CALLED: u64 = 0b100 << 43;
+/// `arange`, called or not.
+pub const ARANGE: u64 = 0b111 << 46;
+/// Any other name.
+pub const NOT_ARANGE: u64 = 0b111_000_111_111 << 40;
+/// `newaxis`, where it is not called.
+pub const NEWAXIS: u64 = 0b011 << 49;
+/// An operand of one token.
+pub const OPERAND: u64 = NAME | INTEGER | TRUTH;
+/// An operand of one token that does not stand before an operator of assignment.
+pub const PLACE: u64 = UNBOUND | INTEGER | TRUTH;
+/// The signs.
+pub const SIGN: u64 = MINUS | TILDE;
+/// `+`, `-`
+pub const SUM: u64 = PLUS | MINUS;
+/// What an expression begins with.
+pub const EXPR: u64 = OPERAND | CALLED | PLUS | OPEN | NP | SIGN;
+/// What an element of a list begins with.
+pub const ELEMENT: u64 = EXPR | OPEN_BRACKET;
 /// What a statement begins with.
 pub const START: u64 = OPERAND | CALLED | PLUS | OPEN | NP | PRINT | IMPORT | DEL;
 
-/// Whether a name before these tokens is bound, 1, or called, 2.
-fn before_next(rest: &[Token]) -> u32
-    ensures place { result ≡ before_next (tokens_of rest.now) }
-    ensures below { result ≤ 2 }
-{
-    match rest.first() {
-        Some(token) => match token.word {
-            Word::Equal => 1,
-            Word::OpenParen => 2,
-            _ => 0,
-        },
-        None => 0,
-    }
-}
+static KEYWORDS: [(&str, u8); 6] = [
+    ("True", 1),
+    ("False", 1),
+    ("import", 22),
+    ("as", 23),
+    ("del", 24),
+    ("None", 28),
+];
 
-fn kind_of_name(name: &str) -> u32
-    ensures place { result ≡ kind_of_name name.now }
-    ensures below { result ≤ 6 }
-{
-    if name == "numpy" {
-        3
-    } else if name == "arange" {
-        6
-    } else {
-        0
-    }
-}
+/// The names that have kinds of their own.
+static NAMES: [(&str, u8); 3] = [("numpy", 43), ("arange", 46), ("newaxis", 49)];
 
-fn kind_of_keyword(keyword: &str) -> u32
-    ensures place { result ≡ kind_of_keyword keyword.now }
-    ensures below { result < 64 }
-{
-    if keyword == "import" {
-        21
-    } else if keyword == "as" {
-        22
-    } else if keyword == "del" {
-        23
-    } else {
-        62
-    }
-}
-
-fn kind_of_word(word: Word, rest: &[Token]) -> u32
-    ensures place { result ≡ kind_of_word (word_of word.entry) (tokens_of rest.now) }
-    ensures below { result < 64 }
+fn kind_of_symbol(word: Word) -> u8
+    ensures { result ≡ kind_of_symbol (word_of word.entry) }
 {
     match word {
-        Word::Name(name) => kind_of_name(name) + before_next(rest),
-        Word::Integer(_) => 9,
-        Word::Minus => 10,
-        Word::Plus => 11,
+        Word::Integer(_) => 0,
+        Word::Minus => 2,
+        Word::Plus => 3,
+        Word::Tilde => 4,
+        Word::DoubleStar => 5,
+        Word::Star | Word::DoubleSlash | Word::Slash | Word::Percent => 6,
+        Word::ShiftLeft | Word::ShiftRight => 7,
+        Word::Ampersand => 8,
+        Word::Caret => 9,
+        Word::Bar => 10,
+        Word::Less
+        | Word::LessEqual
+        | Word::Greater
+        | Word::GreaterEqual
+        | Word::DoubleEqual
+        | Word::NotEqual => 11,
         Word::OpenParen => 12,
         Word::CloseParen => 13,
         Word::OpenBracket => 14,
         Word::CloseBracket => 15,
         Word::Comma => 16,
         Word::Equal => 17,
-        Word::Dot => 18,
-        Word::Np => 19,
-        Word::Print => 20,
-        Word::Keyword(keyword) => kind_of_keyword(keyword),
-        Word::End => 24,
+        Word::PlusEqual
+        | Word::MinusEqual
+        | Word::StarEqual
+        | Word::DoubleStarEqual
+        | Word::DoubleSlashEqual
+        | Word::SlashEqual
+        | Word::PercentEqual
+        | Word::ShiftLeftEqual
+        | Word::ShiftRightEqual
+        | Word::AmpersandEqual
+        | Word::BarEqual
+        | Word::CaretEqual => 18,
+        Word::Dot => 19,
+        Word::Np => 20,
+        Word::Print => 21,
+        Word::End => 25,
+        Word::Colon => 26,
+        Word::Ellipsis => 27,
+        Word::Quoted(_) => 29,
         _ => 62,
+    }
+}
+
+/// The kind that the table has for a word, and of all other words.
+fn kind_in(table: &[(&str, u8)], other: u8, word: &str) -> u8
+    ensures { result ≡ kind_in (map entry table.now) other word.now }
+{
+    for (name, kind) in table {
+        if word == *name {
+            return *kind;
+        }
+    }
+    other
+}
+
+#[tactic(auto, unfolding(nd_model::specs::Kinds::keyword_kinds))]
+fn kind_of_keyword(keyword: &str) -> u8
+    ensures { result ≡ kind_in keyword_kinds 62 keyword.now }
+{
+    kind_in(&KEYWORDS, 62, keyword)
+}
+
+#[tactic(auto, unfolding(nd_model::specs::Kinds::name_kinds))]
+fn kind_of_name(name: &str) -> u8
+    ensures { result ≡ kind_in name_kinds 40 name.now }
+{
+    kind_in(&NAMES, 40, name)
+}
+
+/// What stands before these tokens, if it is a name: one that is bound, 1, one that is called, 2, or neither.
+fn before_next(rest: &[Token]) -> u8
+    ensures { result ≡ before_next (tokens_of rest.now) }
+{
+    match rest.first() {
+        Some(token) => match kind_of_symbol(token.word) {
+            17 | 18 => 1,
+            12 => 2,
+            _ => 0,
+        },
+        None => 0,
+    }
+}
+
+/// Whether the next token is a symbol of this kind.
+fn is_before(symbol: u8, rest: &[Token]) -> bool
+    ensures { result ≡ is_before symbol (tokens_of rest.now) }
+{
+    match rest.first() {
+        Some(token) => kind_of_symbol(token.word) == symbol,
+        None => false,
+    }
+}
+
+fn is_name(name: &str, word: Word) -> bool
+    ensures { result ≡ is_name name.now (word_of word.entry) }
+{
+    match word {
+        Word::Name(text) => text == name,
+        _ => false,
+    }
+}
+
+/// Whether the next tokens are a dot and this name, which is not called.
+fn is_before_name(name: &str, rest: &[Token]) -> bool
+    ensures { result ≡ is_before_name name.now (tokens_of rest.now) }
+{
+    match rest {
+        [dot, token, rest @ ..] => {
+            kind_of_symbol(dot.word) == 19 && is_name(name, token.word) && before_next(rest) != 2
+        }
+        _ => false,
+    }
+}
+
+/// The kind of a symbol before these tokens.
+fn refined(symbol: u8, rest: &[Token]) -> u8
+    ensures { result ≡ refined symbol (tokens_of rest.now) }
+{
+    if symbol == 16 && is_before(15, rest) {
+        30
+    } else if symbol == 12 && is_before(13, rest) {
+        31
+    } else if symbol == 20 && is_before_name("newaxis", rest) {
+        32
+    } else {
+        symbol
+    }
+}
+
+fn kind_of_word(word: Word, rest: &[Token]) -> u32
+    ensures { result ≡ kind_of_word (word_of word.entry) (tokens_of rest.now) }
+{
+    match word {
+        Word::Name(name) => u32::from(kind_of_name(name)) + u32::from(before_next(rest)),
+        Word::Keyword(keyword) => u32::from(kind_of_keyword(keyword)),
+        _ => u32::from(refined(kind_of_symbol(word), rest)),
     }
 }
 

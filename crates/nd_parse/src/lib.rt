@@ -3,10 +3,14 @@
 
 mod expr;
 mod kinds;
+mod operators;
 mod parse;
 mod read;
+mod spot;
 mod stmt;
 mod tree;
 
 pub use parse::parse_cell;
-pub use tree::{Expr, Line, ParseFault, ParseKind, Stmt};
+pub use tree::{
+    BinaryOp, Element, Expr, Index, IndexItem, Line, ParseFault, ParseKind, Stmt, UnaryOp,
+};

@@ -2,7 +2,7 @@
 ghost use Rattle.std.specs.Prelude.{◌≡◌, IfOk, length, if◌then◌else◌, string_bytes};
 ghost use Rattle.nd_model.specs.Kinds.{kind};
 ghost use Rattle.nd_model.specs.Predict.{read, next_in};
-ghost use Rattle.nd_model.specs.Cells.{token, leaf, name, name_of, line_at};
+ghost use Rattle.nd_model.specs.Cells.{token, leaf, name, name_of, quoted_of, line_at};
 ghost use Rattle.nd_token.specs.Tokens.{token_of};
 ghost use Rattle.nd_parse.specs.Syntax.{expr_of};
 ghost use Rattle.nd_parse.specs.Gives.{Gives, with_rest, tokens_of};
@@ -124,6 +124,7 @@ pub fn leaf(alloc: Global, token: Token) -> Result<Expr, AllocError>
 {
     match token.word {
         Word::Integer(number) => Ok(Expr::Integer(number)),
+        Word::Keyword(keyword) => Ok(Expr::Truth(keyword == "True")),
         _ => Ok(Expr::Name(name_of(alloc, token)?)),
     }
 }
@@ -138,4 +139,14 @@ pub fn name<'t>(alloc: Global, tokens: Tokens<'t>) -> Read<'t, String>
         return Ok((name_of(alloc, token)?, rest));
     }
     Err(shut(tokens, CALLED, Reason::UnknownCall))
+}
+
+/// The text between two quotes.
+pub fn quoted_of(alloc: Global, token: Token) -> Result<String, AllocError>
+    ensures { IfOk result (λ s. string_bytes s ≡ quoted_of (token_of token.entry).word) }
+{
+    match token.word {
+        Word::Quoted(text) => String::from_str(alloc, text),
+        _ => Ok(String::new(alloc)),
+    }
 }

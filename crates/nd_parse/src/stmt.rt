@@ -1,21 +1,24 @@
 //! Statements.
-ghost use Rattle.std.specs.Prelude.{◌≡◌, map};
+ghost use Rattle.std.specs.Prelude.{◌≡◌, string_bytes};
+ghost use Rattle.std.specs.Option.{option_map};
 ghost use Rattle.nd_model.specs.Kinds.{kind, OPEN, CLOSE};
 ghost use Rattle.nd_model.specs.Predict.{read};
-ghost use Rattle.nd_model.specs.Cells.{under, between, expr, module_name, imports, delete, exprs, printed, print, value, line};
+ghost use Rattle.nd_model.specs.Cells.{Anywhere, under, between, expr, module_name, imports, delete, exprs, printed, print, value, bound, written, line};
 ghost use Rattle.nd_model.specs.Factored.{bind, target, assign, stmt};
 ghost use Rattle.nd_token.specs.Tokens.{token_of};
-ghost use Rattle.nd_parse.specs.Syntax.{expr_of, stmt_of, line_of};
-ghost use Rattle.nd_parse.specs.Gives.{Gives, with_rest, tokens_of, exprs_of, chain_of, target_of};
-ghost use Rattle.nd_parse.specs.Readers.{chain};
+ghost use Rattle.nd_parse.specs.Syntax.{expr_of, index_of, binary_op, stmt_of, line_of};
+ghost use Rattle.nd_parse.specs.Gives.{Gives, with_rest, tokens_of, exprs_of, some_indexes_of, target_of, value_of};
+ghost use Rattle.nd_parse.specs.Readers.{some_indexes};
 
 use crate::expr::{expr, index, indexed, operand};
 use crate::kinds::{
-    AS, BOUND, CLOSE, COMMA, DEL, END, EQUAL, IMPORT, NP, NUMPY, NUMPY_CALLED, OPEN, OPEN_BRACKET,
-    PLACE, PRINT, next_in,
+    AS, ASSIGNMENT, BOUND, CLOSE, COMMA, DEL, END, IMPORT, NP, NUMPY, NUMPY_CALLED, OPEN,
+    OPEN_BRACKET, PRINT, next_in,
 };
+use crate::operators::augment_of;
 use crate::read::{Read, Reason, Tokens, line_at, name, name_of, shut, take};
-use crate::tree::{Expr, Line, Stmt};
+use crate::spot::Spot;
+use crate::tree::{BinaryOp, Expr, Index, Line, Stmt};
 use nd_token::Token;
 use std::alloc::Global;
 
@@ -53,14 +56,14 @@ fn delete<'t>(alloc: Global, tokens: Tokens<'t>) -> Read<'t, Stmt>
 
 /// `expr {"," expr}`
 fn exprs<'t>(alloc: Global, levels: u8, tokens: Tokens<'t>) -> Read<'t, Vec<Expr>>
-    ensures { Gives (with_rest exprs_of) result (read kind (exprs (expr (under levels))) (tokens_of tokens.now)) }
+    ensures { Gives (with_rest exprs_of) result (read kind (exprs (expr Anywhere (under levels))) (tokens_of tokens.now)) }
 {
     let mut all = Vec::new(alloc);
-    let (first, mut rest) = expr(alloc, levels, tokens)?;
+    let (first, mut rest) = expr(alloc, levels, Spot::Anywhere, tokens)?;
     all.push(first)?;
     'more: while next_in(rest, COMMA) {
         let (_, after) = take(rest, COMMA)?;
-        let (next, after) = expr(alloc, levels, after)?;
+        let (next, after) = expr(alloc, levels, Spot::Anywhere, after)?;
         all.push(next)?;
         rest = after;
     }
@@ -68,7 +71,7 @@ fn exprs<'t>(alloc: Global, levels: u8, tokens: Tokens<'t>) -> Read<'t, Vec<Expr
 }
 
 fn listed<'t>(alloc: Global, levels: u8, tokens: Tokens<'t>) -> Read<'t, Vec<Expr>>
-    ensures { Gives (with_rest exprs_of) result (read kind (between OPEN (exprs (expr (under levels))) CLOSE) (tokens_of tokens.now)) }
+    ensures { Gives (with_rest exprs_of) result (read kind (between OPEN (exprs (expr Anywhere (under levels))) CLOSE) (tokens_of tokens.now)) }
 {
     let (_, rest) = take(tokens, OPEN)?;
     let (all, rest) = exprs(alloc, levels, rest)?;
@@ -96,29 +99,50 @@ fn print<'t>(alloc: Global, levels: u8, tokens: Tokens<'t>) -> Read<'t, Stmt>
     Ok((Stmt::Print(all), rest))
 }
 
-/// `= expr`
+/// `= expr`, `op= expr`
 #[tactic(auto, unfolding(nd_model::specs::Cells::value))]
-fn value<'t>(alloc: Global, levels: u8, tokens: Tokens<'t>) -> Read<'t, Expr>
-    ensures { Gives (with_rest expr_of) result (read kind (value (under levels)) (tokens_of tokens.now)) }
+fn value<'t>(alloc: Global, levels: u8, tokens: Tokens<'t>) -> Read<'t, (Option<BinaryOp>, Expr)>
+    ensures { Gives (with_rest value_of) result (read kind (value (under levels)) (tokens_of tokens.now)) }
 {
-    let (_, rest) = take(tokens, EQUAL)?;
-    expr(alloc, levels, rest)
+    let (assignment, rest) = take(tokens, ASSIGNMENT)?;
+    let (value, rest) = expr(alloc, levels, Spot::Anywhere, rest)?;
+    Ok(((augment_of(assignment.word), value), rest))
 }
 
-/// `NAME = expr`
+/// What is assigned to a name.
+fn bound(name: String, op: Option<BinaryOp>, value: Expr) -> Stmt
+    ensures { stmt_of result ≡ bound (string_bytes name) (option_map binary_op op) (expr_of value) }
+{
+    match op {
+        None => Stmt::Bind(name, value),
+        Some(op) => Stmt::Augment(name, op, value),
+    }
+}
+
+/// What is assigned to an item of a target.
+fn written(target: Expr, item: Index, op: Option<BinaryOp>, value: Expr) -> Stmt
+    ensures { stmt_of result ≡ written (expr_of target) (index_of item) (option_map binary_op op) (expr_of value) }
+{
+    match op {
+        None => Stmt::Assign(target, item, value),
+        Some(op) => Stmt::AugmentItem(target, item, op, value),
+    }
+}
+
+/// `NAME = expr`, `NAME op= expr`
 #[tactic(auto, unfolding(nd_model::specs::Factored::bind))]
 fn bind<'t>(alloc: Global, levels: u8, tokens: Tokens<'t>) -> Read<'t, Stmt>
     ensures { Gives (with_rest stmt_of) result (read kind (bind (under levels)) (tokens_of tokens.now)) }
 {
     let (token, rest) = take(tokens, BOUND)?;
     let name = name_of(alloc, token)?;
-    let (value, rest) = value(alloc, levels, rest)?;
-    Ok((Stmt::Bind(name, value), rest))
+    let ((op, value), rest) = value(alloc, levels, rest)?;
+    Ok((bound(name, op, value), rest))
 }
 
 /// At least one index: those before the last, and the last.
-fn chain<'t>(alloc: Global, levels: u8, tokens: Tokens<'t>) -> Read<'t, (Vec<Expr>, Expr)>
-    ensures { Gives (with_rest chain_of) result (read kind (chain (under levels)) (tokens_of tokens.now)) }
+fn some_indexes<'t>(alloc: Global, levels: u8, tokens: Tokens<'t>) -> Read<'t, (Vec<Index>, Index)>
+    ensures { Gives (with_rest some_indexes_of) result (read kind (some_indexes (under levels)) (tokens_of tokens.now)) }
 {
     let mut before = Vec::new(alloc);
     let (mut last, mut rest) = index(alloc, levels, tokens)?;
@@ -132,22 +156,22 @@ fn chain<'t>(alloc: Global, levels: u8, tokens: Tokens<'t>) -> Read<'t, (Vec<Exp
 }
 
 /// What is assigned to: an operand with its indexes before the last, and the last.
-fn target<'t>(alloc: Global, levels: u8, tokens: Tokens<'t>) -> Read<'t, (Expr, Expr)>
+fn target<'t>(alloc: Global, levels: u8, tokens: Tokens<'t>) -> Read<'t, (Expr, Index)>
     ensures { Gives (with_rest target_of) result (read kind (target (under levels)) (tokens_of tokens.now)) }
 {
-    let (operand, rest) = operand(alloc, levels, PLACE, tokens)?;
-    let ((before, last), rest) = chain(alloc, levels, rest)?;
+    let (operand, rest) = operand(alloc, levels, Spot::Target, tokens)?;
+    let ((before, last), rest) = some_indexes(alloc, levels, rest)?;
     Ok(((indexed(alloc, operand, before)?, last), rest))
 }
 
-/// `target = expr`
+/// `target = expr`, `target op= expr`
 #[tactic(auto, unfolding(nd_model::specs::Factored::assign))]
 fn assign<'t>(alloc: Global, levels: u8, tokens: Tokens<'t>) -> Read<'t, Stmt>
     ensures { Gives (with_rest stmt_of) result (read kind (assign (under levels)) (tokens_of tokens.now)) }
 {
     let ((array, at), rest) = target(alloc, levels, tokens)?;
-    let (value, rest) = value(alloc, levels, rest)?;
-    Ok((Stmt::Assign(array, at, value), rest))
+    let ((op, value), rest) = value(alloc, levels, rest)?;
+    Ok((written(array, at, op, value), rest))
 }
 
 #[tactic(auto, unfolding(nd_model::specs::Factored::stmt))]

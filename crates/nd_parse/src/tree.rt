@@ -1,15 +1,80 @@
 //! The trees of a cell's text.
 
+/// An operator with one operand, by NumPy's name.
+#[derive(Clone, Copy, Debug, PartialEq, Eq)]
+pub enum UnaryOp {
+    Negative,
+    Invert,
+}
+
+/// An operator with two operands, by NumPy's name.
+#[derive(Clone, Copy, Debug, PartialEq, Eq)]
+pub enum BinaryOp {
+    Add,
+    Subtract,
+    Multiply,
+    FloorDivide,
+    Divide,
+    Remainder,
+    Power,
+    LeftShift,
+    RightShift,
+    BitAnd,
+    BitXor,
+    BitOr,
+    Less,
+    LessEqual,
+    Greater,
+    GreaterEqual,
+    Equal,
+    NotEqual,
+}
+
 /// An expression. Parentheses, blanks and spellings leave no trace in it.
 #[derive(Debug, Drop)]
+#[cycle(tree)]
 pub enum Expr {
     Name(String),
     Integer(u64),
-    Negative(Box<Expr>),
+    Truth(bool),
+    Unary(UnaryOp, Box<Expr>),
+    /// An operand, and operators that bind alike with their right operands, from left to right. There is one at least.
+    Chain(Box<Expr>, Vec<(BinaryOp, Expr)>),
     Arange(Box<Expr>),
     /// An operand, and its indexes from left to right. There is one at least, and the operand has none of its own unless it
     /// stood in parentheses.
-    Indexed(Box<Expr>, Vec<Expr>),
+    Indexed(Box<Expr>, Vec<Index>),
+}
+
+/// What stands in the brackets behind an operand.
+#[derive(Debug, Drop)]
+#[cycle(tree)]
+pub enum Index {
+    /// The name of a field.
+    Field(String),
+    /// The items between commas, none in `()`.
+    Items(Vec<IndexItem>),
+}
+
+/// An item of an index.
+#[derive(Debug, Drop)]
+#[cycle(tree)]
+pub enum IndexItem {
+    At(Expr),
+    /// The start, the stop and the step. A bound that is left out is none.
+    Slice(Option<Expr>, Option<Expr>, Option<Expr>),
+    Ellipsis,
+    /// `None` or `np.newaxis`
+    NewAxis,
+    List(Vec<Element>),
+}
+
+/// An element of a list.
+#[derive(Debug, Drop)]
+#[cycle(tree)]
+pub enum Element {
+    Single(Expr),
+    Nested(Vec<Element>),
 }
 
 /// A statement of a cell.
@@ -19,8 +84,12 @@ pub enum Stmt {
     Import,
     /// The name, and its value.
     Bind(String, Expr),
+    /// The name, the operator of `op=`, and the operand.
+    Augment(String, BinaryOp, Expr),
     /// The target, its index, and the value.
-    Assign(Expr, Expr, Expr),
+    Assign(Expr, Index, Expr),
+    /// The target, its index, the operator of `op=`, and the operand.
+    AugmentItem(Expr, Index, BinaryOp, Expr),
     Delete(String),
     Print(Vec<Expr>),
 }
@@ -38,7 +107,7 @@ pub enum ParseKind {
     /// It is no token.
     BadToken,
     Unexpected,
-    /// A bracket or a sign opens the 65th level.
+    /// A bracket, a sign or `**` opens the 65th level.
     TooDeep,
     /// It is the first token of the 1,001st statement.
     TooManyStatements,

@@ -35,3 +35,36 @@ fn long_chains(rt: HostRuntime) -> Result<(), Fail> {
     }
     Ok(())
 }
+
+// A form that is in the grammar and not built yet is refused on its line, and nothing before it is lost.
+#[test]
+fn forms_to_come(rt: HostRuntime) -> Result<(), Fail> {
+    let alloc = rt.alloc();
+    for text in [
+        "x = 1\ny = 1 + 2",
+        "x = 1\ny = ~x",
+        "x = 1\nx += 1",
+        "x = 1\nprint(x < 2)",
+        "x = np.arange(1)\nx[0] -= 1",
+        "x = 1\ny = (True)",
+        "x = np.arange(3)\ny = x[0:1]",
+        "x = np.arange(3)\ny = x[[0]]",
+        "x = np.arange(3)\nx[...] = 1",
+        "x = np.arange(3)\nx[0, 0] = 1",
+        "x = np.arange(3)\nprint(x[()], q)",
+    ] {
+        let mut meter = Meter::new();
+        let mut session = Session::new(alloc);
+        let inputs: Inputs = IndexMap::new(alloc);
+        let result = run_cell(&mut meter, &mut session, &inputs, 0, text)?;
+        let refused = matches!(
+            &result.refusal,
+            Some(Refusal {
+                line: 2,
+                fault: CellFault::Statement(StmtFault::Stmt(StmtError::BadArgument)),
+            })
+        );
+        assert!(rt; refused, "{text:?}");
+    }
+    Ok(())
+}

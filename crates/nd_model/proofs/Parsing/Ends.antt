@@ -1,6 +1,7 @@
 -- The fault of whole statements stands at a token: each front that ends with the tokens is a cell.
 use Rattle.std.proofs.Common.{◌≡◌, ◌+◌, ◌-◌, ◌^◌, ◌<◌, ◌⊎◌, inl, inr, ℕ, zero, suc, Bool, true, false, List, [], ◌∷◌, ◌++◌, length, refl, sym, ap, subst, ◌∙◌, arith}
-use Rattle.std.specs.Prelude.{slice_get, IsSome, ◌&&◌}
+use Rattle.std.specs.Prelude.{slice_get, IsSome, ◌&&◌, ◌==◌}
+use Rattle.std.proofs.lemmas.Bool.{eqb-true}
 use Rattle.std.proofs.lemmas.List.{length-append}
 use Rattle.std.proofs.lemmas.Option.{slice_get-get_or}
 use Rattle.nd_model.specs.Grammar.{Gram, Done, Here, One, Then, Or, Many, Shut, Stop, has, Repeats, Spans, Reaches}
@@ -8,13 +9,13 @@ use Rattle.nd_model.specs.Faults.{HasFault}
 use Rattle.nd_model.specs.Predict.{apart}
 use Rattle.nd_model.specs.Token.{Word, Name, Keyword, End, Token}
 use Rattle.nd_model.specs.Lexing.{is_end, AreStatements}
-use Rattle.nd_model.specs.Syntax.{Expr, Stmt, Line}
-use Rattle.nd_model.specs.Kinds.{kind, kind_of_word, END}
-use Rattle.nd_model.specs.Cells.{Level, Bottom, Under, name, grouped, index, function, arange, operand, atom, postfix, negative, expr, under, module_name, imports, delete, exprs, printed, print, value, line, lines}
+use Rattle.nd_model.specs.Syntax.{Expr, Elements, Stmt, Line}
+use Rattle.nd_model.specs.Kinds.{OPEN, OPEN_SOME, name_kinds, keyword_kinds, kind_of_symbol, kind, kind_of_word, END}
+use Rattle.nd_model.specs.Cells.{Level, Bottom, Under, Spot, Anywhere, FirstItem, LaterItem, name, grouped, bound_in, step_in, slice, newaxis, elements, list, part, item, nothing, contents, index, function, arange, operand, postfix, exponent, power, signed, unary, term, sum, shift, band, bxor, bor, comparison, expr, under, module_name, imports, delete, exprs, printed, print, value, line, lines}
 use Rattle.nd_model.specs.Cells as cells
 use Rattle.nd_model.specs.Factored.{bind, place, indexes, target, assign, stmt, cell}
 use Rattle.nd_model.proofs.Parsing.Sets.{and_true, apart_false}
-use Rattle.nd_model.proofs.Parsing.Words.{by_place, by_keyword, no_name}
+use Rattle.nd_model.proofs.Parsing.Words.{by_place, implied, so, by_both, no_keyword, no_name}
 use Rattle.nd_model.proofs.Parsing.Unique.{front_end}
 use Rattle.nd_model.proofs.Parsing.Answers.{same_fault}
 use Rattle.nd_model.proofs.Parsing.Alike.{cell_up, cell_down}
@@ -85,43 +86,77 @@ front_free kind set (Shut s why) ts rest a h = ([], h)
 -- ---- the end of a statement
 
 -- what no statement takes: an end, and a token that stands elsewhere
-abbrev NONE : ℕ
-NONE = END + 2 ^ 63
+abbrev ENDS : ℕ
+ENDS = END + 2 ^ 63
 
 data IsSafe : Level → Type 1 where
   bottom : IsSafe Bottom
-  below : {e : Gram Token Expr} → avoids NONE e ≡ true → IsSafe (Under e)
+  below : {l : Level} {e : Spot → Gram Token Expr} {u : Gram Token Expr} {s : Gram Token Elements} → IsSafe l
+      → ((s : Spot) → avoids ENDS (e s) ≡ true) → avoids ENDS u ≡ true → avoids ENDS s ≡ true → IsSafe (Under l e u s)
 
-safe_expr : (i : Level) → IsSafe i → avoids NONE (expr i) ≡ true
-unfolding expr negative postfix atom operand arange function grouped index
-safe_expr Bottom s = refl
-safe_expr (Under e) (below p) = rw p refl
+safe_list : (i : Level) → IsSafe i → avoids ENDS (list i) ≡ true
+unfolding list elements
+safe_list Bottom s = refl
+safe_list (Under l e u s) (below j p q r) = rw (p Anywhere, r) refl
+
+safe_nothing : (i : Level) → avoids ENDS (nothing i) ≡ true
+unfolding nothing
+safe_nothing Bottom = refl
+safe_nothing (Under l e u s) = refl
+
+safe_index : (i : Level) → IsSafe i → avoids ENDS (index i) ≡ true
+unfolding index contents item part slice bound_in step_in newaxis
+safe_index Bottom s = refl
+safe_index (Under l e u s) (below j p q r) = rw (p Anywhere, p FirstItem, p LaterItem, safe_list l j, safe_nothing l) refl
+
+safe_grouped : (i : Level) (opening : ℕ) → IsSafe i → apart ENDS opening ≡ true → avoids ENDS (grouped opening i) ≡ true
+unfolding grouped
+safe_grouped Bottom opening s h = refl
+safe_grouped (Under l e u s) opening (below j p q r) h = rw (p Anywhere, h) refl
+
+safe_operand : (s : Spot) (i : Level) → IsSafe i → avoids ENDS (operand s i) ≡ true
+unfolding operand arange function
+safe_operand FirstItem i k = rw (safe_grouped i OPEN k refl, safe_grouped i OPEN_SOME k refl) refl
+safe_operand s i k = rw (safe_grouped i OPEN k refl) refl
+
+safe_unary : (s : Spot) (i : Level) → IsSafe i → avoids ENDS (unary s i) ≡ true
+unfolding unary signed power exponent postfix
+safe_unary s Bottom k = rw (safe_index Bottom k, safe_operand s Bottom k) refl
+safe_unary s (Under l e u r) (below j p q o) = rw (safe_index (Under l e u r) (below j p q o), safe_operand s (Under l e u r) (below j p q o), q) refl
+
+safe_expr : (s : Spot) (i : Level) → IsSafe i → avoids ENDS (expr s i) ≡ true
+unfolding expr comparison bor bxor band shift sum term
+safe_expr s i k = rw (safe_unary s i k, safe_unary Anywhere i k) refl
 
 safe : (n : ℕ) → IsSafe (under n)
 unfolding under
 safe zero = bottom
-safe (suc n) = below (safe_expr (under n) (safe n))
+safe (suc n) = below (safe n) (λ s. safe_expr s (under n) (safe n)) (safe_unary Anywhere (under n) (safe n)) (safe_list (under n) (safe n))
 
-safe_stmt : (i : Level) → IsSafe i → avoids NONE (stmt i) ≡ true
-unfolding stmt imports module_name delete name print printed exprs bind assign target place indexes value operand arange function grouped index
-safe_stmt Bottom s = rw (safe_expr Bottom s) refl
-safe_stmt (Under e) (below p) = rw (safe_expr (Under e) (below p), p) refl
+safe_stmt : (i : Level) → IsSafe i → avoids ENDS (stmt i) ≡ true
+unfolding stmt imports module_name delete name print printed exprs bind assign target place indexes value operand arange function
+safe_stmt Bottom k = rw (safe_expr Anywhere Bottom k, safe_index Bottom k, safe_grouped Bottom OPEN k refl) refl
+safe_stmt (Under l e u s) (below j p q r) =
+    rw (safe_expr Anywhere (Under l e u s) (below j p q r), safe_index (Under l e u s) (below j p q r), safe_grouped (Under l e u s) OPEN (below j p q r) refl, p Anywhere) refl
 
-not_end_word : (w : Word) (rest : List Token) → has NONE (kind_of_word w rest) ≡ false → is_end w ≡ false
+not_end_word : (w : Word) (rest : List Token) → has ENDS (kind_of_word w rest) ≡ false → is_end w ≡ false
 unfolding has
 not_end_word End rest h = absurd cc
 not_end_word _ rest h = refl
 
-not_end : (t : Token) (rest : List Token) → has NONE (kind (t ∷ rest)) ≡ false → is_end t.word ≡ false
+not_end : (t : Token) (rest : List Token) → has ENDS (kind (t ∷ rest)) ≡ false → is_end t.word ≡ false
 unfolding has
-not_end t rest h = by_place (λ k. has NONE k ≡ false → is_end t.word ≡ false) t rest (λ h. absurd cc) (not_end_word t.word rest) h
+not_end t rest h = by_place (λ k. has ENDS k ≡ false → is_end t.word ≡ false) t rest (λ h. absurd cc) (not_end_word t.word rest) h
 
 an_end_word : (w : Word) (rest : List Token) → has END (kind_of_word w rest) ≡ true → is_end w ≡ true
-unfolding has
-an_end_word (Name n) rest h = absurd (let k = no_name END n rest refl refl refl refl refl refl refl refl refl in cc)
-an_end_word (Keyword k) rest h = by_keyword (λ i. has END i ≡ true → is_end (Keyword k) ≡ true) k (λ h. absurd cc) (λ h. absurd cc) (λ h. absurd cc) (λ h. absurd cc) h
-an_end_word End rest h = refl
-an_end_word _ rest h = absurd cc
+unfolding has name_kinds keyword_kinds
+an_end_word (Name n) rest h = absurd (let k = no_name END n rest refl in cc)
+an_end_word (Keyword k) rest h = absurd (let k = no_keyword END k refl in cc)
+an_end_word w rest h = is_end_of w (eqb-true _ _ (so _ _ (by_both (λ k m. implied (has END m) (k == 25)) w rest refl) h))
+  where
+    is_end_of : (w : Word) → kind_of_symbol w ≡ 25 → is_end w ≡ true
+    is_end_of End e = refl
+    is_end_of _ e = absurd (omega arith)
 
 an_end : (t : Token) (rest : List Token) → has END (kind (t ∷ rest)) ≡ true → is_end t.word ≡ true
 unfolding has
@@ -130,23 +165,23 @@ an_end t rest h = by_place (λ k. has END k ≡ true → is_end t.word ≡ true)
 -- ---- whole statements
 
 -- within a statement there is a token more
-unended : (front : List Token) (ts : List Token) → Repeats (Other kind NONE) ts [] front → AreStatements false ts → ⊥
+unended : (front : List Token) (ts : List Token) → Repeats (Other kind ENDS) ts [] front → AreStatements false ts → ⊥
 unended [] ts h a = let b = subst (λ l. AreStatements false l) (sym h) a in cc
 unended (t ∷ front) ts h a =
     let b : AreStatements false (t ∷ h.0) = subst (λ l. AreStatements false l) h.1.0 a in
     unended front h.0 h.2 (subst (λ e. AreStatements e h.0) (not_end t h.0 h.1.1) b.1)
 
-nothing_left : (ts : List Token) → IsFree kind NONE ts [] → AreStatements true ts → [] ≡ ts
+nothing_left : (ts : List Token) → IsFree kind ENDS ts [] → AreStatements true ts → [] ≡ ts
 nothing_left ts f a = go f.0 f.1
   where
-    go : (front : List Token) → Repeats (Other kind NONE) ts [] front → [] ≡ ts
+    go : (front : List Token) → Repeats (Other kind ENDS) ts [] front → [] ≡ ts
     go [] h = h
     go (t ∷ front) h =
         let b : AreStatements true (t ∷ h.0) = subst (λ l. AreStatements true l) h.1.0 a in
         absurd (unended front h.0 h.2 (subst (λ e. AreStatements e h.0) (not_end t h.0 h.1.1) b.1))
 
 -- what comes behind some tokens
-behind : (front : List Token) (b : Bool) (ts rest : List Token) → Repeats (Other kind NONE) ts rest front → AreStatements b ts → (c : Bool) × AreStatements c rest
+behind : (front : List Token) (b : Bool) (ts rest : List Token) → Repeats (Other kind ENDS) ts rest front → AreStatements b ts → (c : Bool) × AreStatements c rest
 behind [] b ts rest h a = (b, subst (λ l. AreStatements b l) (sym h) a)
 behind (t ∷ front) b ts rest h a =
     let d : AreStatements b (t ∷ h.0) = subst (λ l. AreStatements b l) h.1.0 a in
@@ -160,31 +195,31 @@ no_lines s zero ts e = inr (e, refl)
 no_lines s (suc n) ts e = inr (e, refl)
 
 -- behind a line a statement begins
-after_line : (s : Gram Token Stmt) (ts mid : List Token) (l : Line) → avoids NONE s ≡ true → AreStatements true ts → Spans kind (line s) ts mid l → AreStatements true mid
+after_line : (s : Gram Token Stmt) (ts mid : List Token) (l : Line) → avoids ENDS s ≡ true → AreStatements true ts → Spans kind (line s) ts mid l → AreStatements true mid
 unfolding line
 after_line s ts mid l free a h =
     let body = h.4 in
     let last = body.4 in
     let begin : AreStatements true h.0 = subst (λ x. AreStatements true x) (sym h.3.0) a in
-    let f = text_free kind NONE s h.0 body.0 body.1 free body.3 in
+    let f = text_free kind ENDS s h.0 body.0 body.1 free body.3 in
     let b = behind f.0 true h.0 body.0 f.1 begin in
     let d : AreStatements b.0 (last.0 ∷ mid) = subst (λ x. AreStatements b.0 x) last.1 b.1 in
     subst (λ e. AreStatements e mid) (an_end last.0 mid last.2) d.1
 
 -- the front of a line that ends with the tokens is nothing or the line
-last_line : (s : Gram Token Stmt) (ts : List Token) → avoids NONE s ≡ true → AreStatements true ts → Reaches kind (line s) ts [] → ([] ≡ ts) ⊎ ((l : Line) × Spans kind (line s) ts [] l)
+last_line : (s : Gram Token Stmt) (ts : List Token) → avoids ENDS s ≡ true → AreStatements true ts → Reaches kind (line s) ts [] → ([] ≡ ts) ⊎ ((l : Line) × Spans kind (line s) ts [] l)
 unfolding line
 last_line s ts free a (inl e) = inl e
 last_line s ts free a (inr h) = (let begin : AreStatements true h.0 = subst (λ x. AreStatements true x) (sym h.2.0) a in
     elim h.3 [
-      | inl r ↦ inl (nothing_left h.0 (front_free kind NONE s h.0 [] free r) begin ∙ h.2.0)
+      | inl r ↦ inl (nothing_left h.0 (front_free kind ENDS s h.0 [] free r) begin ∙ h.2.0)
       | inr r ↦ elim r.3 [
-        | inl e ↦ inl (nothing_left h.0 (text_free kind NONE s h.0 [] r.1 free (subst (λ m. Spans kind s h.0 m r.1) (sym e) r.2)) begin ∙ h.2.0)
+        | inl e ↦ inl (nothing_left h.0 (text_free kind ENDS s h.0 [] r.1 free (subst (λ m. Spans kind s h.0 m r.1) (sym e) r.2)) begin ∙ h.2.0)
         | inr t ↦ inr (record { line = h.1; stmt = r.1 }, (h.0, h.1, r.1, h.2, (r.0, r.1, t.0, r.2, (t.0, t.1, t.2, refl), refl), refl))
       ]
     ])
 
-whole_front : (s : Gram Token Stmt) → avoids NONE s ≡ true → (n : ℕ) (ts : List Token) → AreStatements true ts → Reaches kind (lines s n) ts [] → (ls : List Line) × Spans kind (lines s n) ts [] ls
+whole_front : (s : Gram Token Stmt) → avoids ENDS s ≡ true → (n : ℕ) (ts : List Token) → AreStatements true ts → Reaches kind (lines s n) ts [] → (ls : List Line) × Spans kind (lines s n) ts [] ls
 unfolding lines
 whole_front s free zero ts a (inl e) = ([], inr (e, refl))
 whole_front s free zero ts a (inr e) = ([], inr (e, refl))

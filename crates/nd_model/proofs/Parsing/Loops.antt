@@ -1,11 +1,12 @@
 -- Reading parts one after the other, as a loop does.
-use Rattle.std.proofs.Common.{◌≡◌, ℕ, zero, suc, ◌<◌, ◌≤◌, Bool, true, false, cond, List, [], ◌∷◌, length, ◌++◌, append_assoc, Result, Ok, Err, refl, sym, ap, ◌∙◌, arith, inl, inr}
-use Rattle.nd_model.specs.Grammar.{Stop, Gram, Many}
-use Rattle.nd_model.specs.Predict.{◌>>=◌, next_in, read_many, read, look}
-use Rattle.nd_model.proofs.Parsing.Sets.{true_false}
+use Rattle.std.proofs.Common.{◌≡◌, ℕ, zero, suc, ◌<◌, ◌≤◌, Bool, true, false, cond, List, [], ◌∷◌, length, ◌++◌, append_assoc, Result, Ok, Err, refl, sym, ap, subst, ◌∙◌, arith, inl, inr}
+use Rattle.nd_model.specs.Grammar.{Stop, Gram, One, Then, Many, Shut, has}
+use Rattle.nd_model.specs.Predict.{◌>>=◌, next_in, stop, read_many, read, look}
+use Rattle.nd_model.proofs.Parsing.Sets.{true_false, chosen, ok_is, bind_ok, left_of}
 use Rattle.std.proofs.lemmas.List.{append-nil}
 use Rattle.nd_model.proofs.Parsing.Laws.{front}
 use Rattle.nd_model.proofs.Parsing.Exact.{sound}
+use Rattle.nd_model.proofs.Parsing.Whole.{back}
 
 -- a part takes a token at least
 pub record Shrinks {T A : Type 0} (kind : List T → ℕ) (a : Gram T A) : Type 0 where
@@ -15,6 +16,32 @@ pub shrinks : {T A : Type 0} (kind : List T → ℕ) (a : Gram T A) → (look a)
 shrinks kind a fit ne = record {
   less = λ ts out e. elim (front kind a ts out.1 out.0 fit (sound kind a ts out e)) [ inl p ↦ true_false _ p.1 ne | inr p ↦ p.1 ];
 }
+
+-- ---- parts that take a token
+
+pub one_shrinks : {T C : Type 0} (kind : List T → ℕ) (set : ℕ) (f : T → C) → Shrinks kind (One set f)
+one_shrinks {T} {C} kind set f = record { less = λ ts out e. go ts out e }
+  where
+    go : (ts : List T) (out : C × List T) → read kind (One set f) ts ≡ Ok out → length out.1 < length ts
+    go [] out e = absurd cc
+    go (t ∷ ts) out e = elim (chosen (has set (kind (t ∷ ts))) (Ok (f t, ts)) (Err (stop 0 (t ∷ ts))) (Ok out) e) [
+      | inl c ↦ (let s = ap (λ (x : C × List T). length x.1) (ok_is (f t, ts) out c.1) in omega arith)
+      | inr c ↦ absurd (let h = c.1 in cc)
+    ]
+
+pub then_shrinks : {T A B C : Type 0} (kind : List T → ℕ) (f : A → B → C) (a : Gram T A) (b : Gram T B) → Shrinks kind a → Shrinks kind (Then f a b)
+then_shrinks {T} {A} {B} {C} kind f a b s = record {
+  less = λ ts out e. (
+      let p = bind_ok (read kind a ts) (λ x. read kind b x.1 >>= λ y. Ok (f x.0 y.0, y.1)) out e in
+      let q = bind_ok (read kind b p.0.1) (λ y. Ok (f p.0.0 y.0, y.1)) out p.2 in
+      let lt : length p.0.1 < length ts = s.less ts p.0 p.1 in
+      let le : length q.0.1 ≤ length p.0.1 = subst (λ (r : Result (B × List T) Stop). left_of r ≤ length p.0.1) q.1 (back kind b p.0.1) in
+      let same = ap (λ (x : C × List T). length x.1) (ok_is (f p.0.0 q.0.0, q.0.1) out q.2) in
+      omega arith);
+}
+
+pub shut_shrinks : {T C : Type 0} (kind : List T → ℕ) (set why : ℕ) → Shrinks kind (Shut {C = C} set why)
+shut_shrinks kind set why = record { less = λ ts out e. absurd cc }
 
 bind_same : {A B : Type 0} (r : Result A Stop) (f g : A → Result B Stop) → ((x : A) → r ≡ Ok x → f x ≡ g x) → (r >>= f) ≡ (r >>= g)
 bind_same (Ok x) f g h = h x refl

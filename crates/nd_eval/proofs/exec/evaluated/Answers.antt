@@ -2,7 +2,7 @@ use Rattle.std.proofs.Common.{◌∙◌, sym, ap, arith, ℕ, List, [], ◌∷�
 use Rattle.nd_model.specs.Text.{joined}
 use Rattle.nd_model.specs.Running as running
 use Rattle.nd_model.specs.Meaning as meaning
-use Rattle.nd_parse.specs.Syntax.{expr_of}
+use Rattle.nd_parse.specs.Syntax.{expr_of, index_of}
 use Rattle.nd_heap.specs.Values.{value_of, inputs_of}
 use Rattle.nd_heap.specs.Live.{live}
 use Rattle.nd_eval.specs.Contents.{effect_of, values_of, texts_in}
@@ -40,8 +40,8 @@ returns-in_err-target-in-Assign c = rw c.in-Assign.is
     (exits value_of effect_of (inputs_of c.args.inputs.now.entries) (meaning.value (expr_of c.in-Assign.target)) _ _ _ _ _
     c.from_residual-in_err-target-in-Assign.ensures.1 c.in_err-target-in-Assign.ensures))
 
-pub value-requires-in-Assign-3 : goal.value-requires-in-Assign-3
-value-requires-in-Assign-3 c =
+pub item_value-requires : goal.item_value-requires
+item_value-requires c =
     let i = inputs_of c.args.inputs.now.entries in
     let room = rw c.in-Assign.is at c.requires in
     let made = next_value i (expr_of c.in-Assign.expr) _ _ _ c.in_ok-written-in-Assign.ensures in
@@ -54,7 +54,7 @@ returns-in_err-item-in-Assign c = rw c.in-Assign.is
     c.in_ok-written-in-Assign.written _ c.in_ok-written-in-Assign.ensures
     (follows value_of effect_of (inputs_of c.args.inputs.now.entries) (meaning.value (expr_of c.in-Assign.target)) _ _ _ _
     c.in_ok-target-in-Assign.target _ c.in_ok-target-in-Assign.ensures
-    (exits value_of effect_of (inputs_of c.args.inputs.now.entries) (meaning.value (expr_of c.in-Assign.item)) _ _ _ _ _
+    (exits value_of effect_of (inputs_of c.args.inputs.now.entries) (meaning.item_value (index_of c.in-Assign.item)) _ _ _ _ _
     c.from_residual-in_err-item-in-Assign.ensures.1 c.in_err-item-in-Assign.ensures)))
 
 pub returns-in_ok-item-in-Assign : goal.returns-in_ok-item-in-Assign
@@ -63,7 +63,7 @@ returns-in_ok-item-in-Assign c = rw c.in-Assign.is
     c.in_ok-written-in-Assign.written _ c.in_ok-written-in-Assign.ensures
     (follows value_of effect_of (inputs_of c.args.inputs.now.entries) (meaning.value (expr_of c.in-Assign.target)) _ _ _ _
     c.in_ok-target-in-Assign.target _ c.in_ok-target-in-Assign.ensures
-    (follows value_of effect_of (inputs_of c.args.inputs.now.entries) (meaning.value (expr_of c.in-Assign.item)) _ _ _ _
+    (follows value_of effect_of (inputs_of c.args.inputs.now.entries) (meaning.item_value (index_of c.in-Assign.item)) _ _ _ _
     c.in_ok-item-in-Assign.item _ c.in_ok-item-in-Assign.ensures
     c.assigned.ensures)))
 

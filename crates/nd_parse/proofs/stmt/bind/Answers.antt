@@ -9,4 +9,4 @@ use Rattle.nd_parse.proofs.stmt.bind.Goals as goal
 
 pub returns : goal.returns
 unfolding bind
-returns c = rw (one_is BOUND name_of (tokens_of c.args.tokens.now) (token_of c.in_ok-token.token) (tokens_of c.in_ok-token.rest.now) c.in_ok-token.ensures, c.in_ok-value.ensures, c.in_ok-name.ensures) refl
+returns c = rw (c.bound.ensures, one_is BOUND name_of (tokens_of c.args.tokens.now) (token_of c.in_ok-token.token) (tokens_of c.in_ok-token.rest.now) c.in_ok-token.ensures, c.in_ok-op.ensures, c.in_ok-name.ensures) refl

@@ -1,0 +1,48 @@
+//! Where an expression begins.
+ghost use Rattle.std.specs.Prelude.{◌≡◌};
+ghost use Rattle.nd_model.specs.Cells.{leaves, modules, openings};
+ghost use Rattle.nd_parse.specs.Gives.{spot_of};
+
+use crate::kinds::{NP, NP_OTHER, OPEN, OPEN_SOME, OPERAND, PLACE};
+
+/// Where an expression begins.
+#[derive(Clone, Copy, Debug)]
+pub enum Spot {
+    Anywhere,
+    /// As the target of an assignment.
+    Target,
+    /// As the first item of an index, which may be `()` or `np.newaxis` instead.
+    FirstItem,
+    /// As another item, which may be `np.newaxis` instead.
+    LaterItem,
+}
+
+/// The operands of one token that may stand there.
+pub fn leaves(spot: Spot) -> u64
+    ensures { result ≡ leaves (spot_of spot) }
+{
+    match spot {
+        Spot::Target => PLACE,
+        _ => OPERAND,
+    }
+}
+
+/// The words `np` that may stand there.
+pub fn modules(spot: Spot) -> u64
+    ensures { result ≡ modules (spot_of spot) }
+{
+    match spot {
+        Spot::FirstItem | Spot::LaterItem => NP_OTHER,
+        _ => NP,
+    }
+}
+
+/// The opening brackets that may stand there.
+pub fn openings(spot: Spot) -> u64
+    ensures { result ≡ openings (spot_of spot) }
+{
+    match spot {
+        Spot::FirstItem => OPEN_SOME,
+        _ => OPEN,
+    }
+}

@@ -1,12 +1,8 @@
 -- Numbers and the bytes of their elements, one after another.
-use Rattle.std.proofs.Common.{◌≡◌, ◌≢◌, ℕ, zero, suc, length, length-append, ◌+◌, ◌-◌, ◌*◌, ◌<◌, ◌≤◌, ◌^◌, ℤ, pos, map, List, [], ◌∷◌, ◌++◌, drop, refl, ap, arith, append_assoc}
-use Rattle.nd_model.specs.Element.{Element, size_of, value_of, bytes_of, bytes_at}
-use mir.Val.{to_z}
-use mir.Syntax.{w128}
-use Rattle.nd_model.specs.Tuple.{count_up}
-use Rattle.nd_model.specs.Meaning.{values_in, first_of, bytes_of_all}
+use Rattle.std.proofs.Common.{◌≡◌, ◌≢◌, ℕ, zero, suc, length, length-append, ◌+◌, ◌-◌, ◌*◌, ◌<◌, ◌≤◌, ℤ, List, [], ◌∷◌, ◌++◌, drop, refl, ap, arith, append_assoc}
+use Rattle.nd_model.specs.Element.{Element, size_of, value_of, bytes_at}
+use Rattle.nd_model.specs.Meaning.{values_in, first_of}
 use Rattle.std.proofs.lemmas.List.{drop-drop}
-use Rattle.std.proofs.lemmas.Int.{to_z_pos}
 
 -- one number more
 pub values_more : (e : Element) (size count k : ℕ) (bytes : List ℕ) (done : List ℤ) (z : ℤ) (whole : List ℤ) → k < count → size ≡ size_of e.kind

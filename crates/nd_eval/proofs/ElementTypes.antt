@@ -3,7 +3,6 @@ use Rattle.std.proofs.Common.{◌≡◌, ℕ, List, length, refl, ap}
 use Rattle.nd_model.specs.Element.{Element}
 use Rattle.nd_model.specs.View.{ElementType, One, Structure, Geo}
 use Rattle.nd_model.specs.Value.{Base}
-use Rattle.nd_model.specs.Fault.{Fault}
 use Rattle.nd_model.specs.Meaning as meaning
 use Rattle.nd_model.specs.Meaning.{Eval, Gives, Refuses, Asks, ◌>>=◌}
 use Rattle.nd_eval.specs.Contents.{element_in}

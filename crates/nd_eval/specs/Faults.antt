@@ -1,8 +1,7 @@
 -- The refusals of the program as the definitions have them.
 use Rattle.std.specs.Prelude.{string_bytes}
 use Rattle.nd_model.specs.Fault as model
-use Rattle.nd_eval.specs.declared.fault.ViewFault.{ViewFault}
-use Rattle.nd_eval.specs.declared.fault.ViewFault.TheVariants.{TooManyElements}
+pub use Rattle.nd_view.specs.Faults.{view_fault_of}
 use Rattle.nd_eval.specs.declared.fault.IndexFault.{IndexFault}
 use Rattle.nd_eval.specs.declared.fault.IndexFault.TheVariants.{OutOfBounds, TooManyIndices, NotAnIndex}
 use Rattle.nd_eval.specs.declared.fault.UfuncFault.{UfuncFault}
@@ -11,9 +10,6 @@ use Rattle.nd_eval.specs.declared.fault.StmtError.{StmtError}
 use Rattle.nd_eval.specs.declared.fault.StmtError.TheVariants.{NoName, IntTooBig, NotAnArray, TextTooLong, BadArgument}
 use Rattle.nd_eval.specs.declared.fault.StmtFault.{StmtFault}
 use Rattle.nd_eval.specs.declared.fault.StmtFault.TheVariants.{View, Index, Ufunc, Stmt}
-
-abbrev pub view_fault_of : ViewFault → model.ViewFault
-view_fault_of TooManyElements = model.TooManyElements
 
 abbrev pub index_fault_of : IndexFault → model.IndexFault
 index_fault_of (OutOfBounds axis index size) = model.OutOfBounds axis index size

@@ -1,6 +1,6 @@
 //! Effects.
 
-ghost use Rattle.std.specs.Prelude.{◌+◌, ◌<◌, ◌^◌, length};
+ghost use Rattle.std.specs.Prelude.{◌+◌, ◌≤◌, ◌^◌, length};
 
 use nd_heap::{Base, Value};
 
@@ -10,7 +10,7 @@ pub(crate) struct Write {
     pub(crate) base: Base,
     pub(crate) place: u64,
     pub(crate) bytes: Vec<u8>,
-    ghost within: { place + length bytes.items < 2 ^ 64 },
+    ghost within: { place + length bytes.items ≤ 2 ^ 64 },
 }
 
 /// What a statement does once it is evaluated.

@@ -1,11 +1,6 @@
 //! Why a statement is refused.
 
-/// Why an array can not be made.
-#[derive(Clone, Copy, PartialEq, Eq, Debug)]
-pub enum ViewFault {
-    /// It would have more than 2^24 elements.
-    TooManyElements,
-}
+pub use nd_view::ViewFault;
 
 /// Why an index is none of this array.
 #[derive(Clone, Copy, PartialEq, Eq, Debug)]

@@ -52,7 +52,7 @@ pub(crate) fn array_of(target: &Value) -> Result<&Array, StmtFault>
 /// The place of the element at an index. Below zero it counts from the end.
 pub(crate) fn place_in(view: &View, index: i128) -> Result<u64, StmtFault>
     ensures place { Says (λ p. p) result (meaning.place_in view.now.shape view.now.places index) }
-    ensures limit { IfOk result (λ p. p + item_size view.now.element < 2 ^ 64) }
+    ensures limit { IfOk result (λ p. p + item_size view.now.element ≤ 2 ^ 64) }
 {
     match view.shape() {
         [] => Err(StmtFault::Index(IndexFault::TooManyIndices)),
@@ -79,7 +79,7 @@ pub(crate) fn scalar_at(
     array: &Array,
     place: u64,
 ) -> Result<Value, Stop>
-    requires { place + item_size (geo_of array.now).element < 2 ^ 64 }
+    requires { place + item_size (geo_of array.now).element ≤ 2 ^ 64 }
     ensures { Ends value_of result (live session.new) (meaning.run (inputs_of inputs.now.entries) (meaning.scalar_at (base_of array.now.base) (geo_of array.now).element place) (live session.old)) }
 {
     let elem = element_of(array.view.elem())?;

@@ -1,6 +1,6 @@
 //! What is written into arrays.
 
-ghost use Rattle.std.specs.Prelude.{◌≡◌, ◌+◌, ◌<◌, ◌^◌, length, IfOk};
+ghost use Rattle.std.specs.Prelude.{◌≡◌, ◌+◌, ◌≤◌, ◌^◌, length, IfOk};
 ghost use Rattle.nd_model.specs.View.{One, item_size};
 ghost use Rattle.nd_model.specs.Element.{bytes_of, wrap};
 ghost use Rattle.nd_model.specs.Meaning as meaning;
@@ -105,7 +105,7 @@ fn stored(
     place: u64,
     content: &Content,
 ) -> Result<Effect, Stop>
-    requires { place + item_size (geo_of array.now).element < 2 ^ 64 }
+    requires { place + item_size (geo_of array.now).element ≤ 2 ^ 64 }
     ensures { Ends effect_of result (live session.now) (meaning.run (inputs_of inputs.now.entries) (meaning.stored (target_of array.now) (geo_of array.now).element place (content_of content.now)) (live session.now)) }
 {
     let elem = element_of(array.view.elem())?;

@@ -1,6 +1,6 @@
 // Blocks and the values that lie in them.
 
-ghost use Rattle.std.specs.Prelude.{◌≡◌, ◌+◌, ◌<◌, ◌^◌, IfOk, OnOk, filter, map, slice_index, if◌then◌else◌};
+ghost use Rattle.std.specs.Prelude.{◌≡◌, ◌+◌, ◌≤◌, ◌^◌, IfOk, OnOk, filter, map, slice_index, if◌then◌else◌};
 ghost use Rattle.std.specs.List.{zip};
 ghost use Rattle.nd_model.specs.Tuple.{count_up};
 ghost use Rattle.nd_model.specs.Value as values;
@@ -26,7 +26,7 @@ pub(crate) fn bytes_of(blocks: &IndexMap<Base, RawBlock>, base: Base) -> &[u8]
 
 /// The places from the first one on.
 pub(crate) fn places_from(alloc: Global, first: u64, count: u64) -> Result<Vec<u64>, AllocError>
-    requires { first + count < 2 ^ 64 }
+    requires { first + count ≤ 2 ^ 64 }
     ensures { IfOk result (λ v. v.items ≡ count_up first count) }
 {
     let mut places = Vec::new(alloc);

@@ -1,6 +1,6 @@
 // Sessions.
 
-ghost use Rattle.std.specs.Prelude.{◌≡◌, ◌+◌, ◌<◌, ◌^◌, IfOk, OnOk, option_map, map, slice_index, length, string_bytes};
+ghost use Rattle.std.specs.Prelude.{◌≡◌, ◌+◌, ◌<◌, ◌≤◌, ◌^◌, IfOk, OnOk, option_map, map, slice_index, length, string_bytes};
 ghost use Rattle.std.specs.List.{zip};
 ghost use Rattle.nd_model.specs.Element as element;
 ghost use Rattle.nd_model.specs.Tuple.{count_up};
@@ -120,7 +120,7 @@ impl Session {
         place: u64,
         elem: Elem,
     ) -> Result<Vec<u8>, OutOfMemory>
-        requires { place + element.size_of elem.kind < 2 ^ 64 }
+        requires { place + element.size_of elem.kind ≤ 2 ^ 64 }
         ensures bytes { IfOk result (λ v. v.items ≡ map (λ p. slice_index ((live self.old).bytes (base_of base)) p) (element_places (One elem) place)) }
         ensures after { OnOk result (live self.new ≡ running.after (running.Use (base_of base) (element_places (One elem) place)) (live self.old)) }
     {
@@ -163,7 +163,7 @@ impl Session {
 
     /// Writes bytes from a place on. Those past the end of the block are passed over.
     pub fn store(&mut self, base: Base, place: u64, bytes: &[u8]) -> Result<(), OutOfMemory>
-        requires { place + length bytes.now < 2 ^ 64 }
+        requires { place + length bytes.now ≤ 2 ^ 64 }
         ensures { OnOk result (live self.new ≡ running.done (running.Storing (base_of base) (zip (count_up place (length bytes.now)) bytes.now)) (live self.old)) }
     {
         let places = places_from(self.alloc, place, bytes.len() as u64)?;

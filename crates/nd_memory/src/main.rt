@@ -1,6 +1,8 @@
-//! Edits whose allocations are refused: each is answered with want of memory and leaves the notebook as it was, or is done.
+//! Calls whose allocations are refused: each is answered with want of memory and leaves all as it was, or is done.
 //! Run it with one allocation refused at a time, and it prints the same whichever that is.
 #![tactic(auto)]
+
+mod views;
 
 use nd_rerun::{Edit, EditFault, Meter, Notebook, QueryFault, Shown};
 use std::io;
@@ -175,13 +177,12 @@ fn are_right(notebook: &mut Notebook, meter: &mut Meter) -> [bool; 9] {
     ]
 }
 
-fn main(rt: HostRuntime) -> io::Result<()> {
-    let mut meter = Meter::new();
-    let mut notebook = Notebook::new(rt.alloc());
-    for right in are_right(&mut notebook, &mut meter) {
+/// Says of each whether it was right.
+fn say(rt: &HostRuntime, all: &[bool]) -> io::Result<()> {
+    for right in all {
         println!(rt;
             "{}",
-            if right {
+            if *right {
                 "as before, or right"
             } else {
                 "wrong"
@@ -189,4 +190,11 @@ fn main(rt: HostRuntime) -> io::Result<()> {
         )?;
     }
     Ok(())
+}
+
+fn main(rt: HostRuntime) -> io::Result<()> {
+    say(&rt, &views::are_right(rt.alloc())?)?;
+    let mut meter = Meter::new();
+    let mut notebook = Notebook::new(rt.alloc());
+    say(&rt, &are_right(&mut notebook, &mut meter))
 }

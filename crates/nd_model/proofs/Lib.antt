@@ -1,5 +1,6 @@
 pub mod Values
 pub mod Puts
+pub mod Parts
 pub mod Lists
 pub mod Twins
 pub mod Frames

@@ -2,7 +2,10 @@
 use Rattle.std.specs.Prelude.{ℕ, ℤ, List}
 
 pub data ViewFault : Type 0 where
+  OutOfBlock : ViewFault
+  TooManyAxes : ViewFault
   TooManyElements : ViewFault
+  AxesDiffer : ViewFault
 
 pub data IndexFault : Type 0 where
   OutOfBounds : (axis : ℕ) → (index : ℤ) → (size : ℕ) → IndexFault

@@ -8,6 +8,7 @@ pub mod Value
 pub mod Session
 pub mod Running
 pub mod Fault
+pub mod Strides
 pub mod Syntax
 pub mod Text
 pub mod Tokens

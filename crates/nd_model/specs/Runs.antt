@@ -1,7 +1,8 @@
 -- Runs: elements at even steps, as one axis of a view has them, and a copy of one run over another. A step is in bytes, and may
 -- be 0 or negative (PEP 3118, "strides").
-use Rattle.std.specs.Prelude.{ℕ, zero, suc, ◌+◌, ◌<◌, ◌≤◌, ℤ, pos, ◌≤ℤ◌, ◌+ℤ◌, ◌*ℤ◌, unsigned_abs, List, ◌⊎◌}
+use Rattle.std.specs.Prelude.{ℕ, zero, suc, ◌+◌, ◌<◌, ◌≤◌, ℤ, pos, ◌≤ℤ◌, ◌+ℤ◌, ◌*ℤ◌, unsigned_abs, List, map, ◌⊎◌}
 use Rattle.nd_model.specs.Element.{bytes_at, with_bytes}
+use Rattle.nd_model.specs.Tuple.{count_up}
 
 -- where element k of a run begins, before it is known that this is no negative number
 abbrev pub place_at : ℕ → ℤ → ℕ → ℤ
@@ -10,6 +11,10 @@ place_at start step k = pos start +ℤ (pos k *ℤ step)
 -- the place where element k begins
 abbrev pub spot_at : ℕ → ℤ → ℕ → ℕ
 spot_at start step k = unsigned_abs (place_at start step k)
+
+-- the places where the elements begin
+abbrev pub run_places : ℕ → ℤ → ℕ → List ℕ
+run_places start step count = map (spot_at start step) (count_up 0 count)
 
 -- the `count` elements of `size` bytes lie within `len` bytes
 abbrev pub AreWithin : ℕ → ℤ → ℕ → ℕ → ℕ → Type 0

@@ -8,7 +8,7 @@ use Rattle.nd_model.specs.Element.{Kind, Boolean, Int8, Int16, Int32, Int64, UIn
 use Rattle.nd_model.specs.View.{Field, ElementType, One, Structure, item_size}
 use Rattle.nd_model.specs.Text.{truth_text, joined}
 use Rattle.nd_model.specs.Cell.{Saved}
-use Rattle.nd_model.specs.Fault.{ViewFault, TooManyElements, IndexFault, OutOfBounds, TooManyIndices, NotAnIndex, UfuncFault, IntOutOfRange, ShapeMismatch, ReadOnly, NotNumbers, StmtFault, NoName, IntTooBig, NotAnArray, TextTooLong, BadArgument, Fault, View, Index, Ufunc, Stmt, ParseKind, BadToken, Unexpected, TooDeep, TooManyStatements, UnknownCall, LeftOut, Refusal, Parse, Statement}
+use Rattle.nd_model.specs.Fault.{ViewFault, OutOfBlock, TooManyAxes, TooManyElements, AxesDiffer, IndexFault, OutOfBounds, TooManyIndices, NotAnIndex, UfuncFault, IntOutOfRange, ShapeMismatch, ReadOnly, NotNumbers, StmtFault, NoName, IntTooBig, NotAnArray, TextTooLong, BadArgument, Fault, View, Index, Ufunc, Stmt, ParseKind, BadToken, Unexpected, TooDeep, TooManyStatements, UnknownCall, LeftOut, Refusal, Parse, Statement}
 use Rattle.nd_model.specs.Renaming.{Shown, ShownInt, ShownTruth, ShownScalar, ShownArray, ShownRow}
 use Rattle.nd_model.specs.Book as book
 use Rattle.nd_model.specs.Book.{Book, count_of, Edit, Insert, Change, Move, Remove, EditFault, TooManyCells, CellTooLong, refusal, after_edit, QueryFault, CellResult, source_at, result_at, names_at, value_at}
@@ -171,7 +171,10 @@ completed given = completed_from Between (ended_lines given)
 -- ---- texts of faults
 
 abbrev pub view_text : ViewFault → List ℕ
+view_text OutOfBlock = codes "OutOfBlock"
+view_text TooManyAxes = codes "TooManyAxes"
 view_text TooManyElements = codes "TooManyElements"
+view_text AxesDiffer = codes "AxesDiffer"
 
 abbrev pub index_text : IndexFault → List ℕ
 index_text (OutOfBounds axis index size) = codes "OutOfBounds " ++ decimal axis ++ codes " " ++ signed_decimal index ++ codes " " ++ decimal size

@@ -8,6 +8,7 @@ ghost use Rattle.nd_model.specs.Promotion.{PromotionTable};
 ghost use Rattle.nd_model.specs.Records.{Kept};
 ghost use Rattle.nd_model.specs.Renaming.{Rename, AnyLabels};
 ghost use Rattle.nd_model.specs.Scheduler.{AnyPass};
+ghost use Rattle.nd_model.specs.Strides.{PartsAreHeld};
 
 pub mod grammar;
 
@@ -19,6 +20,11 @@ pub fn round_trip()
 /// The rule of promotion gives the table of NEP 50, for each two of the nine kinds.
 pub fn promotion_table()
     ensures { PromotionTable }
+{}
+
+/// A view that is made of parts has every byte of its elements in the block.
+pub fn parts_are_held()
+    ensures { PartsAreHeld }
 {}
 
 /// Sessions and inputs that agree on what a cell reads in the first give it the same reads and effects.

@@ -58,10 +58,12 @@ fn values_of(
     ensures items { IfOk result (λ v. v.items ≡ values_at elem block.now view.now.places) }
     ensures whole { IfOk result (λ v. elements_of view.now.shape ≡ length v.items) }
 {
-    let count = view.count();
-    let mut values = Vec::with_capacity(alloc, count)?;
-    for number in 0..count {
-        values.push(block.load(view.place_of(number as u64), elem))?;
+    let mut values = Vec::with_capacity(alloc, view.count())?;
+    let mut runs = view.runs();
+    while let Some(run) = runs.next() {
+        for number in 0..run.count() {
+            values.push(block.load(run.place(number), elem))?;
+        }
     }
     Ok(values)
 }

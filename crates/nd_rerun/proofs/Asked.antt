@@ -1,13 +1,10 @@
 -- What is told of the cell at a place.
-use Rattle.std.proofs.Common.{◌≡◌, ℕ, zero, suc, ◌+◌, ◌<◌, ◌≤◌, get_or, add-one, arith, String, string_bytes, Global, List, [], ◌∷◌, ◌++◌, map, length, take, Option, Some, None, option_map, Result, Ok, Err, slice_index, append-nil, bytes_eq, refl, sym, ap, ap₂, ◌∙◌, inl, inr, slice_get, is_ok, true, IsErrAnd, subst}
+use Rattle.std.proofs.Common.{◌≡◌, ℕ, zero, suc, ◌+◌, ◌<◌, ◌≤◌, get_or, add-one, arith, String, string_bytes, Global, List, [], ◌∷◌, ◌++◌, map, length, take, Option, Some, None, option_map, Result, Ok, Err, bytes_eq, refl, sym, ap, ap₂, ◌∙◌, inl, inr, slice_get, is_ok, true, IsErrAnd, subst}
 use Rattle.std.proofs.lemmas.List.{map-append}
 use Rattle.std.proofs.lemmas.Bool.{cases_Bool}
-use Rattle.std.proofs.lemmas.Grind.{flat_map-append}
-use Rattle.std.specs.List.{flat_map}
-use Rattle.nd_model.specs.View.{ElementType}
 use Rattle.nd_model.specs.Value.{Value}
 use Rattle.nd_model.specs.Session.{Session, Names, lookup}
-use Rattle.nd_model.specs.Renaming.{Told, Shown, shown, shown_names, shown_element}
+use Rattle.nd_model.specs.Renaming.{Told, Shown, shown, shown_names}
 use Rattle.nd_model.specs.Book.{Cell, QueryFault, ask_cell, ask_told, told_book, found_value}
 use Rattle.nd_rerun.specs.declared.cells.Ran.{Ran}
 use Rattle.nd_rerun.specs.declared.query.QueryFault as declared
@@ -100,24 +97,6 @@ value_found n s es v x h is = ap (found_value n) (lookup-shown n s es ∙ ap (op
 
 pub value_missing : (n : List ℕ) (s : Session) (es : Names) → None ≡ lookup n es → found_value n (lookup n (shown_names s es)) ≡ Err (QueryFault.NoName n)
 value_missing n s es h = ap (found_value n) (lookup-shown n s es ∙ ap (option_map (shown s)) (sym h))
-
--- ---- the elements of an array, one after another
-
-pub elements_more : (t : ElementType) (bytes seen : List ℕ) (places : List ℕ) (i p : ℕ) (all new : List ℕ)
-    → seen ≡ bytes → i < length places → p ≡ slice_index places i
-    → all ≡ flat_map (shown_element t bytes) (take i places) → new ≡ all ++ shown_element t seen p
-    → new ≡ flat_map (shown_element t bytes) (take (i + 1) places)
-elements_more t bytes seen places i p all new same lt at so_far is =
-    is
-    ∙ ap₂ (λ l m. l ++ m) so_far
-    (ap₂ (shown_element t) same at ∙ sym (append-nil (shown_element t bytes (slice_index places i))))
-    ∙ sym (flat_map-append (shown_element t bytes) (take i places) (slice_index places i ∷ []))
-    ∙ ap (flat_map (shown_element t bytes)) (sym (take-more places i lt))
-  where
-    take-more : (xs : List ℕ) (i : ℕ) → i < length xs → take (i + 1) xs ≡ take i xs ++ slice_index xs i ∷ []
-    take-more [] i lt = absurd (omega arith)
-    take-more (x ∷ xs) zero lt = refl
-    take-more (x ∷ xs) (suc i) lt = ap (λ k. take k (x ∷ xs)) (let e : suc i + 1 ≡ suc (i + 1) = omega arith in e) ∙ ap (λ l. x ∷ l) (take-more xs i (omega arith))
 
 pub value_is_ok : (n : List ℕ) (s : Session) (es : Names) (v : Value) (answer : Result Shown QueryFault)
     → Some v ≡ lookup n es → answer ≡ found_value n (lookup n (shown_names s es)) → is_ok answer ≡ true

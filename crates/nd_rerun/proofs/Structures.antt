@@ -1,8 +1,9 @@
 -- What is shown of a number, and of a structure field by field.
-use Rattle.std.proofs.Common.{◌≡◌, ℕ, ◌+◌, ◌<◌, ◌≤◌, ℤ, List, [], ◌∷◌, ◌++◌, length, take, map, get_or, sym, ap, ◌∙◌, arith, append-nil}
+use Rattle.std.proofs.Common.{◌≡◌, ℕ, ◌+◌, ◌<◌, ◌≤◌, ℤ, List, [], ◌∷◌, ◌++◌, length, take, drop, map, get_or, refl, sym, ap, ◌∙◌, arith, append-nil}
 use Rattle.std.specs.Prelude.{slice_index}
 use Rattle.std.specs.List.{zip, flat_map}
-use Rattle.std.proofs.lemmas.List.{take_more}
+use Rattle.std.proofs.lemmas.List.{take_more, get_or-drop}
+use Rattle.nd_view.proofs.Tuples.{shifted}
 use Rattle.std.proofs.lemmas.Grind.{flat_map-append}
 use Rattle.nd_model.specs.Element.{Element, size_of, bytes_at, bytes_of, with_bytes}
 use Rattle.nd_model.specs.Tuple.{count_up}
@@ -16,6 +17,15 @@ use Rattle.nd_model.proofs.Puts.{put-append, with_bytes-put, take-count_up}
 pub of_eight : (bytes : List ℕ) (p n : ℕ) (run : List ℕ) → n ≤ 8 → run ≡ map (λ q. slice_index bytes q) (count_up p 8)
     → bytes_at run 0 n ≡ map (λ q. slice_index bytes q) (count_up p n)
 of_eight bytes p n run few is = ap (take n) is ∙ take-count_up (λ q. slice_index bytes q) p 8 n few
+
+-- the same, of those from the place on
+pub of_rest : (bytes : List ℕ) (p n : ℕ) (run : List ℕ) → n ≤ 8 → run ≡ map (λ q. slice_index (drop p bytes) q) (count_up 0 8)
+    → bytes_at run 0 n ≡ map (λ q. slice_index bytes q) (count_up p n)
+of_rest bytes p n run few is = of_eight bytes p n run few (is ∙ from (count_up 0 8) ∙ ap (map (λ q. slice_index bytes q)) (shifted p 0 8 ∙ ap (λ k. count_up k 8) (omega arith)))
+  where
+    from : (qs : List ℕ) → map (λ q. slice_index (drop p bytes) q) qs ≡ map (λ q. slice_index bytes q) (map (λ q. p + q) qs)
+    from [] = refl
+    from (q ∷ qs) = λ i. get_or-drop p bytes q 0 i ∷ from qs i
 
 -- what a field writes
 abbrev pub writes : List ℕ → ℕ → Field → List (ℕ × ℕ)

@@ -1,8 +1,8 @@
 //! The elements of an array as they are shown.
 
-ghost use Rattle.std.specs.Prelude.{◌≡◌, ◌+◌, ◌<◌, ◌≤◌, ◌^◌, ◌++◌, IfOk, OnOk, slice_index};
+ghost use Rattle.std.specs.Prelude.{◌≡◌, ◌+◌, ◌≤◌, ◌^◌, ◌++◌, drop, IfOk, OnOk, slice_index};
 ghost use Rattle.nd_model.specs.Element.{bytes_of};
-ghost use Rattle.nd_model.specs.View.{Structure};
+ghost use Rattle.nd_model.specs.View.{Structure, item_size};
 ghost use Rattle.nd_model.specs.Renaming.{number_at, shown_bytes, shown_element};
 ghost use Rattle.nd_types.specs.Types.{type_of};
 ghost use Rattle.nd_heap.specs.Values.{base_of, geo_of};
@@ -20,20 +20,27 @@ fn byte_at(bytes: &[u8], place: usize) -> u8
     bytes.get(place).copied().unwrap_or(0)
 }
 
+/// The bytes from a place on, none past the end.
+fn bytes_from(bytes: &[u8], place: usize) -> &[u8]
+    ensures { result.now ≡ drop place bytes.now }
+{
+    bytes.get(place..).unwrap_or(&[])
+}
+
 /// The number at a place of these bytes, which are 0 past their end.
 fn number(bytes: &[u8], place: usize, elem: Elem) -> i128
-    requires { place < 2 ^ 40 }
     ensures { result ≡ number_at elem bytes.now place }
 {
+    let rest = bytes_from(bytes, place);
     let run = [
-        byte_at(bytes, place),
-        byte_at(bytes, place + 1),
-        byte_at(bytes, place + 2),
-        byte_at(bytes, place + 3),
-        byte_at(bytes, place + 4),
-        byte_at(bytes, place + 5),
-        byte_at(bytes, place + 6),
-        byte_at(bytes, place + 7),
+        byte_at(rest, 0),
+        byte_at(rest, 1),
+        byte_at(rest, 2),
+        byte_at(rest, 3),
+        byte_at(rest, 4),
+        byte_at(rest, 5),
+        byte_at(rest, 6),
+        byte_at(rest, 7),
     ];
     value_at(&run, 0, elem)
 }
@@ -45,7 +52,7 @@ fn structure_at(
     place: usize,
     structure: &RecType,
 ) -> Result<RawBlock, AllocError>
-    requires { place < 2 ^ 32 }
+    requires { place + structure.now.1 ≤ 2 ^ 64 }
     ensures { IfOk result (λ b. b ≡ shown_element (Structure structure.now.0 structure.now.1) bytes.now place) }
 {
     let mut block = RawBlock::zeroed(alloc, structure.size() as usize)?;
@@ -64,7 +71,7 @@ fn push_element(
     place: usize,
     elem: &ElemType,
 ) -> Result<(), AllocError>
-    requires { place < 2 ^ 32 }
+    requires { place + item_size (type_of elem.now) ≤ 2 ^ 64 }
     ensures { OnOk result (all.new.items ≡ all.old.items ++ shown_element (type_of elem.now) bytes.now place) }
 {
     match elem {
@@ -86,9 +93,12 @@ pub(crate) fn element_bytes(
 {
     let bytes = version.bytes(array.base);
     let mut all = Vec::new(alloc);
-    for i in 0..array.view.count() {
-        let place = array.view.place_of(i as u64);
-        push_element(alloc, &mut all, bytes, place as usize, array.view.elem())?;
+    let mut runs = array.view.runs();
+    while let Some(run) = runs.next() {
+        for number in 0..run.count() {
+            let place = run.place(number) as usize;
+            push_element(alloc, &mut all, bytes, place, array.view.elem())?;
+        }
     }
     Ok(all)
 }

@@ -1,12 +1,37 @@
 //! Views of blocks and the walk along them.
 
 use nd_types::{Elem, ElemType, Field, Kind, RecType};
-use nd_view::View;
-use std::alloc::Global;
+use nd_view::{View, ViewFault};
+use std::alloc::{AllocError, Global};
 use std::test::Fail;
 
 fn words() -> ElemType {
     ElemType::One(Elem::little(Kind::I64))
+}
+
+// The places of the elements, as the runs have them.
+fn walked(alloc: Global, view: &View) -> Result<Vec<u64>, AllocError> {
+    let mut places = Vec::new(alloc);
+    let mut runs = view.runs();
+    while let Some(run) = runs.next() {
+        for number in 0..run.count() {
+            places.push(run.place(number))?;
+        }
+    }
+    Ok(places)
+}
+
+// The places of the elements, as the index tuples have them.
+fn indexed(alloc: Global, view: &View) -> Result<Vec<u64>, AllocError> {
+    let mut places = Vec::new(alloc);
+    let Some(mut index) = view.first()? else {
+        return Ok(places);
+    };
+    places.push(view.place(&index))?;
+    while view.next(&mut index) {
+        places.push(view.place(&index))?;
+    }
+    Ok(places)
 }
 
 #[test]
@@ -15,7 +40,10 @@ fn a_view_is_made(rt: HostRuntime) -> Result<(), Fail> {
     let copy = view.try_clone()?;
     assert_eq!(rt; copy.shape(), [3].as_slice());
     assert_eq!(rt; copy.count(), 3);
-    assert_eq!(rt; copy.places(rt.alloc())?.as_slice(), [0, 8, 16].as_slice());
+    assert_eq!(rt;
+        walked(rt.alloc(), &copy)?.as_slice(),
+        [0, 8, 16].as_slice()
+    );
     assert_eq!(rt; copy.byte_places(rt.alloc())?.len(), 24);
     Ok(())
 }
@@ -63,10 +91,144 @@ fn pad_bytes_are_left_out(rt: HostRuntime) -> Result<(), Fail> {
     fields.push(field(alloc, "b", 4, Kind::I32)?)?;
     let pair = RecType::new(fields, 8).ok_or("no structure")?;
     let view = View::contiguous(alloc, ElemType::Rec(pair), &[2])?;
-    assert_eq!(rt; view.places(alloc)?.as_slice(), [0, 8].as_slice());
+    assert_eq!(rt; walked(alloc, &view)?.as_slice(), [0, 8].as_slice());
     assert_eq!(rt;
         view.byte_places(alloc)?.as_slice(),
         [0, 4, 5, 6, 7, 8, 12, 13, 14, 15].as_slice()
     );
+    Ok(())
+}
+
+// The view of a block of `len` bytes with elements of this kind.
+fn parts(
+    alloc: Global,
+    kind: Kind,
+    shape: &[u64],
+    strides: &[i64],
+    offset: u64,
+    len: u64,
+) -> Result<Result<View, ViewFault>, AllocError> {
+    let elem = ElemType::One(Elem::little(kind));
+    View::from_parts(alloc, elem, shape, strides, offset, len)
+}
+
+// The same, where there is one.
+fn held(
+    alloc: Global,
+    kind: Kind,
+    shape: &[u64],
+    strides: &[i64],
+    offset: u64,
+    len: u64,
+) -> Result<View, Fail> {
+    match parts(alloc, kind, shape, strides, offset, len)? {
+        Ok(view) => Ok(view),
+        Err(_) => Err("refused".into()),
+    }
+}
+
+#[test]
+fn parts_of_a_block(rt: HostRuntime) -> Result<(), Fail> {
+    let alloc = rt.alloc();
+    let back = held(alloc, Kind::I16, &[3], &[-2], 4, 6)?;
+    assert_eq!(rt; walked(alloc, &back)?.as_slice(), [4, 2, 0].as_slice());
+    assert_eq!(rt; indexed(alloc, &back)?.as_slice(), [4, 2, 0].as_slice());
+    assert_eq!(rt;
+        back.byte_places(alloc)?.as_slice(),
+        [4, 5, 2, 3, 0, 1].as_slice()
+    );
+    assert!(rt; back.writable());
+    let none = held(alloc, Kind::I16, &[0], &[9], 99, 0)?;
+    assert_eq!(rt; none.strides(), [0].as_slice());
+    assert_eq!(rt; none.offset(), 0);
+    assert!(rt; none.runs().next().is_none());
+    let one = held(alloc, Kind::I16, &[1], &[7], 2, 6)?;
+    assert_eq!(rt; one.strides(), [0].as_slice());
+    assert_eq!(rt; one.offset(), 2);
+    let rows = held(alloc, Kind::I16, &[2, 3], &[8, 2], 0, 14)?;
+    assert_eq!(rt;
+        walked(alloc, &rows)?.as_slice(),
+        [0, 2, 4, 8, 10, 12].as_slice()
+    );
+    assert_eq!(rt;
+        indexed(alloc, &rows)?.as_slice(),
+        [0, 2, 4, 8, 10, 12].as_slice()
+    );
+    assert_eq!(rt; rows.place_of(4), 10);
+    let columns = held(alloc, Kind::I16, &[3, 2], &[2, 6], 0, 12)?;
+    assert_eq!(rt;
+        walked(alloc, &columns)?.as_slice(),
+        [0, 6, 2, 8, 4, 10].as_slice()
+    );
+    let still = held(alloc, Kind::U8, &[2, 2], &[0, 1], 3, 5)?;
+    assert_eq!(rt; walked(alloc, &still)?.as_slice(), [3, 4, 3, 4].as_slice());
+    Ok(())
+}
+
+#[test]
+fn parts_of_no_block(rt: HostRuntime) -> Result<(), Fail> {
+    let alloc = rt.alloc();
+    for (shape, stride, offset, len) in [
+        (3, -2, 3, 6),
+        (2, 9223372036854775807, 0, 6),
+        (3, -9223372036854775808, 0, 6),
+        (
+            3,
+            -9223372036854775808,
+            18446744073709551615,
+            18446744073709551615,
+        ),
+        (1, 0, 18446744073709551615, 6),
+        (1, 0, 5, 6),
+        (1, 0, 0, 1),
+    ] {
+        let found = parts(alloc, Kind::I16, &[shape], &[stride], offset, len)?;
+        assert!(rt; matches!(found, Err(ViewFault::OutOfBlock)));
+    }
+    Ok(())
+}
+
+#[test]
+fn parts_above_the_limits(rt: HostRuntime) -> Result<(), Fail> {
+    let alloc = rt.alloc();
+    let long = [4294967296; 33];
+    let mut empty = [4294967296; 32];
+    empty[31] = 0;
+    let strides = [9; 33];
+    let found = parts(alloc, Kind::I8, &long, &strides[..32], 0, 0)?;
+    assert!(rt; matches!(found, Err(ViewFault::AxesDiffer)));
+    let found = parts(alloc, Kind::I8, &long, &strides, 0, 0)?;
+    assert!(rt; matches!(found, Err(ViewFault::TooManyAxes)));
+    let found = parts(alloc, Kind::I8, &long[..32], &strides[..32], 0, 0)?;
+    assert!(rt; matches!(found, Err(ViewFault::TooManyElements)));
+    let found = parts(alloc, Kind::I8, &[4294967297, 0], &[0, 0], 0, 0)?;
+    assert!(rt; matches!(found, Err(ViewFault::TooManyElements)));
+    let found = parts(alloc, Kind::I8, &[4294967296, 4294967296], &[0, 0], 0, 1)?;
+    assert!(rt; matches!(found, Err(ViewFault::TooManyElements)));
+    let found = parts(alloc, Kind::U8, &[16777217], &[0], 0, 1)?;
+    assert!(rt; matches!(found, Err(ViewFault::TooManyElements)));
+    let none = held(alloc, Kind::I8, &empty, &strides[..32], 5, 0)?;
+    assert_eq!(rt; none.count(), 0);
+    assert!(rt; none.first()?.is_none());
+    let most = held(alloc, Kind::I64, &[16777216], &[0], 0, 8)?;
+    assert_eq!(rt; most.count(), 16777216);
+    Ok(())
+}
+
+#[test]
+fn equal_views(rt: HostRuntime) -> Result<(), Fail> {
+    let alloc = rt.alloc();
+    let one = View::contiguous(alloc, words(), &[1])?;
+    let same = held(alloc, Kind::I64, &[1], &[7], 0, 8)?;
+    assert!(rt; one.is_same(&same));
+    let apart = held(alloc, Kind::I64, &[1], &[7], 8, 16)?;
+    assert!(rt; !one.is_same(&apart));
+    let other = held(alloc, Kind::U64, &[1], &[7], 0, 8)?;
+    assert!(rt; !one.is_same(&other));
+    let lone = View::contiguous(alloc, words(), &[1, 1])?;
+    assert!(rt; !one.is_same(&lone));
+    let none = View::contiguous(alloc, words(), &[2, 0])?;
+    let empty = held(alloc, Kind::I64, &[2, 0], &[3, -5], 11, 0)?;
+    assert!(rt; none.is_same(&empty));
     Ok(())
 }

@@ -1,2 +1,2 @@
-mod Sized
+pub mod Sized
 mod Skipping

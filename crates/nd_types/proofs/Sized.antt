@@ -10,7 +10,7 @@ both : (a b : Bool) → (a && b) ≡ true → (a ≡ true) × (b ≡ true)
 both true b h = (refl, h)
 both false b h = absurd (cc)
 
-some_bytes : (k : Kind) → 0 < size_of k
+pub some_bytes : (k : Kind) → 0 < size_of k
 some_bytes Boolean = omega arith
 some_bytes Int8 = omega arith
 some_bytes Int16 = omega arith

@@ -1,5 +1,5 @@
 -- A kind that does not have both ranges is passed over.
-use Rattle.std.proofs.Common.{◌≡◌, ◌&&◌, ℕ, zero, suc, ◌+◌, ◌<◌, false, List, [], ◌∷◌, length, map, drop, get_or, refl, ap, arith}
+use Rattle.std.proofs.Common.{◌≡◌, ◌&&◌, ℕ, zero, suc, ◌<◌, false, List, [], ◌∷◌, length, map, drop, get_or, refl, arith}
 use Rattle.nd_model.specs.Element as element
 use Rattle.nd_model.specs.Promotion.{first_for, has_range_of}
 use Rattle.nd_types.specs.Kinds.{kind_of}

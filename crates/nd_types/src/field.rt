@@ -1,4 +1,7 @@
 //! Fields of structures.
+ghost use Rattle.std.specs.Prelude.{◌≡◌, IsTrue, ◌↔◌};
+ghost use Rattle.nd_types.specs.Fields.{field_of};
+
 use crate::elem::Elem;
 
 /// A field of a structure: its name, the place of its first byte inside the structure, and its element.
@@ -7,4 +10,13 @@ pub struct Field {
     pub name: String,
     pub at: u32,
     pub elem: Elem,
+}
+
+impl Field {
+    // Whether both have the same name, place and element.
+    pub(crate) fn is_same(&self, other: &Field) -> bool
+        ensures { IsTrue result ↔ (field_of self.now ≡ field_of other.now) }
+    {
+        self.at == other.at && self.elem == other.elem && self.name.as_str() == other.name.as_str()
+    }
 }

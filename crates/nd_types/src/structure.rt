@@ -1,5 +1,5 @@
 //! Structures: several numbers at one place.
-ghost use Rattle.std.specs.Prelude.{◌≡◌, ◌+◌, ◌<◌, ◌≤◌, length, IfOk};
+ghost use Rattle.std.specs.Prelude.{◌≡◌, ◌+◌, ◌<◌, ◌≤◌, length, IfOk, IsTrue, ◌↔◌};
 ghost use Rattle.std.specs.List.{All};
 ghost use Rattle.nd_model.specs.Element.{size_of};
 ghost use Rattle.nd_model.specs.Structure as structure;
@@ -89,6 +89,20 @@ fn is_structure(fields: &[Field], size: u32) -> bool
         && are_distinct(fields)
 }
 
+fn are_same(these: &[Field], those: &[Field]) -> bool
+    ensures { IsTrue result ↔ (fields_of these.now ≡ fields_of those.now) }
+{
+    if these.len() != those.len() {
+        return false;
+    }
+    for (index, field) in these.iter().enumerate() {
+        if !field.is_same(&those[index]) {
+            return false;
+        }
+    }
+    true
+}
+
 impl RecType {
     ghost use Rattle.nd_types.specs.Structures.{made};
 
@@ -117,6 +131,13 @@ impl RecType {
         ensures range { (0 < result) × (result ≤ 65536) }
     {
         self.size
+    }
+
+    /// Returns whether both have the same fields, in the same order, and the same size.
+    pub fn is_same(&self, other: &RecType) -> bool
+        ensures { IsTrue result ↔ (self.now ≡ other.now) }
+    {
+        are_same(&self.fields, &other.fields) && self.size == other.size
     }
 
     /// Returns the same structure, with fields of its own.

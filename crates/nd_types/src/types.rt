@@ -1,5 +1,5 @@
 //! What lies at the places of an array.
-ghost use Rattle.std.specs.Prelude.{◌≡◌, ◌<◌, ◌≤◌, IfOk};
+ghost use Rattle.std.specs.Prelude.{◌≡◌, ◌<◌, ◌≤◌, IfOk, IsTrue, ◌↔◌};
 ghost use Rattle.nd_model.specs.View.{item_size};
 ghost use Rattle.nd_types.specs.Types.{type_of};
 
@@ -23,6 +23,17 @@ impl ElemType {
         match self {
             ElemType::One(elem) => elem.size(),
             ElemType::Rec(structure) => u64::from(structure.size()),
+        }
+    }
+
+    /// Returns whether both are the same type: of one number, or with the same fields and size.
+    pub fn is_same(&self, other: &ElemType) -> bool
+        ensures { IsTrue result ↔ (type_of self.now ≡ type_of other.now) }
+    {
+        match (self, other) {
+            (ElemType::One(this), ElemType::One(that)) => this == that,
+            (ElemType::Rec(this), ElemType::Rec(that)) => this.is_same(that),
+            _ => false,
         }
     }
 

@@ -7,7 +7,8 @@ use Rattle.std.proofs.lemmas.Int.{ints}
 use Rattle.nd_model.specs.Tuple.{count_up, elements_of, indices}
 use Rattle.nd_model.specs.View.{ElementType, contiguous, item_size}
 use Rattle.std.proofs.lemmas.List.{append-nil, length-map, get_or-map}
-use Rattle.nd_view.specs.Strides.{way_to, place_at, places_by, steps_of, strides_of}
+use Rattle.nd_model.specs.Strides.{way_to, place_at, places_by}
+use Rattle.nd_view.specs.Strides.{steps_of, strides_of}
 use Rattle.nd_view.proofs.Tuples.{map-map, map-flat_map, map_same, flat_map_same, length-count_up, get_or-count_up, shifted, runs, no_tuples}
 
 -- an axis moves all places below it

@@ -122,3 +122,25 @@ advanced shape t u (suc b) is some le further last e =
     let next : IsIndex shape (bumped b t) × (number shape (bumped b t) ≡ number shape t + 1) = number-bumped shape t b is (omega arith) (rw back at further) last in
     let same : u ≡ bumped b t = rw back at e ∙ bumped_suc t b (get_or t b 0 + 1) (omega arith) in
     rw same next
+
+pub whole_index : (shape t : List ℕ) → IsIndex shape t → IsIndex (take (length t) shape) t
+whole_index [] [] is = tt
+whole_index [] (i ∷ t) is = absurd is
+whole_index (n ∷ shape) [] is = absurd is
+whole_index (n ∷ shape) (i ∷ t) is = (is.0, whole_index shape t is.1)
+
+pub front_zeros : (shape : List ℕ) (m : ℕ) → 0 < elements_of shape → m ≤ length shape → IsIndex (take m shape) (replicate m 0) × (number shape (replicate m 0) ≡ 0)
+front_zeros [] zero some le = (tt, refl)
+front_zeros [] (suc m) some le = absurd (omega arith)
+front_zeros (n ∷ shape) zero some le = (tt, refl)
+front_zeros (n ∷ shape) (suc m) some le =
+    let rest = front_zeros shape m (rest_some n (elements_of shape) some) (omega arith) in ((omega (arith, first n (elements_of shape) some), rest.0), omega (arith, rest.1))
+  where
+    first : (k e : ℕ) → 0 < k * e → 0 < k
+    first zero e lt = absurd (omega arith)
+    first (suc k) e lt = omega arith
+
+pub take_zeros : (m n : ℕ) → m ≤ n → take m (replicate {A = ℕ} n 0) ≡ replicate m 0
+take_zeros zero n le = refl
+take_zeros (suc m) zero le = absurd (omega arith)
+take_zeros (suc m) (suc n) le = ap (λ l. 0 ∷ l) (take_zeros m n (omega arith))

@@ -1,4 +1,6 @@
 pub mod Indexes
-pub mod Limits
+pub mod Faults
+pub mod Paths
 pub mod Strides
 pub mod Views
+pub mod Walks

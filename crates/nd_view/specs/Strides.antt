@@ -1,20 +1,34 @@
--- Places by an offset and strides (PEP 3118), and the strides of an array without gaps.
-use Rattle.std.specs.Prelude.{ℕ, ◌*◌, ◌==◌, ℤ, pos, ◌+ℤ◌, ◌*ℤ◌, unsigned_abs, nat_le, if◌then◌else◌, List, [], ◌∷◌, length, map, replicate}
-use Rattle.nd_model.specs.Tuple.{elements_of, indices}
+-- What strides reach, the strides that a view keeps, and those of an array without gaps.
+use Rattle.std.specs.Prelude.{ℕ, ◌+◌, ◌-◌, ◌*◌, ◌==◌, ◌||◌, suc, ℤ, pos, negsuc, nat_le, if◌then◌else◌, List, [], ◌∷◌, length, replicate}
+use Rattle.nd_model.specs.Tuple.{elements_of}
 
--- how far the element of an index tuple is from the first one
-abbrev pub way_to : List ℕ → List ℤ → ℤ
-way_to [] strides = pos 0
-way_to (i ∷ t) [] = pos 0
-way_to (i ∷ t) (s ∷ strides) = (pos i *ℤ s) +ℤ way_to t strides
+-- how far the last element of an axis is before the first one, and behind it
+abbrev pub before : ℕ → ℤ → ℕ
+before n (pos s) = 0
+before n (negsuc s) = (n - 1) * suc s
 
--- the place of the element of an index tuple
-abbrev pub place_at : ℕ → List ℤ → List ℕ → ℕ
-place_at offset strides t = unsigned_abs (pos offset +ℤ way_to t strides)
+abbrev pub behind : ℕ → ℤ → ℕ
+behind n (pos s) = (n - 1) * s
+behind n (negsuc s) = 0
 
--- the places of all elements in C order
-abbrev pub places_by : ℕ → List ℤ → List ℕ → List ℕ
-places_by offset strides shape = map (place_at offset strides) (indices shape)
+abbrev pub before_of : List ℕ → List ℤ → ℕ
+before_of [] strides = 0
+before_of (n ∷ shape) [] = 0
+before_of (n ∷ shape) (s ∷ strides) = before n s + before_of shape strides
+
+abbrev pub behind_of : List ℕ → List ℤ → ℕ
+behind_of [] strides = 0
+behind_of (n ∷ shape) [] = 0
+behind_of (n ∷ shape) (s ∷ strides) = behind n s + behind_of shape strides
+
+-- the stride that is kept of an axis of length n, where there are so many elements
+abbrev pub kept : ℕ → ℕ → ℤ → ℤ
+kept count n s = if nat_le n 1 || count == 0 then pos 0 else s
+
+abbrev pub kept_all : ℕ → List ℕ → List ℤ → List ℤ
+kept_all count [] strides = []
+kept_all count (n ∷ shape) [] = []
+kept_all count (n ∷ shape) (s ∷ strides) = kept count n s ∷ kept_all count shape strides
 
 -- without gaps in C order: the stride of an axis is the size of all that lies below it, and 0 where the axis is not walked
 abbrev pub steps_of : ℕ → List ℕ → List ℤ

@@ -1,7 +1,9 @@
 //! The places of the bytes of an element.
-ghost use Rattle.std.specs.Prelude.{◌≡◌, ◌+◌, ◌<◌, ◌^◌, ◌++◌, OnOk};
+ghost use Rattle.std.specs.Prelude.{◌≡◌, ◌+◌, ◌≤◌, ◌^◌, ◌++◌, OnOk};
+ghost use Rattle.std.specs.List.{All};
+ghost use Rattle.nd_model.specs.Element.{size_of};
 ghost use Rattle.nd_model.specs.Tuple.{count_up};
-ghost use Rattle.nd_model.specs.View.{element_places, field_places};
+ghost use Rattle.nd_model.specs.View.{item_size, element_places, field_places};
 ghost use Rattle.nd_types.specs.Fields.{fields_of};
 ghost use Rattle.nd_types.specs.Types.{type_of};
 
@@ -10,7 +12,7 @@ use std::alloc::AllocError;
 
 // Appends `size` places from the first one on.
 fn push_run(places: &mut Vec<u64>, first: u64, size: u64) -> Result<(), AllocError>
-    requires { first + size < 2 ^ 64 }
+    requires { first + size ≤ 2 ^ 64 }
     ensures { OnOk result (places.new.items ≡ places.old.items ++ count_up first size) }
 {
     for at in 0..size {
@@ -21,11 +23,12 @@ fn push_run(places: &mut Vec<u64>, first: u64, size: u64) -> Result<(), AllocErr
 
 // Appends the places of the bytes of the fields of a structure that begins at the place.
 fn push_fields(places: &mut Vec<u64>, fields: &[Field], place: u64) -> Result<(), AllocError>
-    requires { place < 2 ^ 32 }
+    requires { All (λ f. place + (f.at + size_of f.element.kind) ≤ 2 ^ 64) (fields_of fields.now) }
     ensures { OnOk result (places.new.items ≡ places.old.items ++ field_places place (fields_of fields.now)) }
 {
     for field in fields {
-        push_run(places, place + u64::from(field.at), field.elem.size())?;
+        let size = field.elem.size();
+        push_run(places, place + u64::from(field.at), size)?;
     }
     Ok(())
 }
@@ -36,7 +39,7 @@ pub(crate) fn push_element(
     elem: &ElemType,
     place: u64,
 ) -> Result<(), AllocError>
-    requires { place < 2 ^ 32 }
+    requires { place + item_size (type_of elem.now) ≤ 2 ^ 64 }
     ensures { OnOk result (places.new.items ≡ places.old.items ++ element_places (type_of elem.now) place) }
 {
     match elem {

@@ -2,8 +2,13 @@
 #![tactic(auto)]
 
 mod elements;
+mod fault;
+mod parts;
+mod runs;
 mod shapes;
 mod strided;
 mod walk;
 
+pub use fault::ViewFault;
+pub use runs::{Run, Runs};
 pub use strided::{Index, Shape, View};

@@ -1,10 +1,25 @@
-//! Numbers of elements and strides.
-ghost use Rattle.std.specs.Prelude.{◌≡◌, ◌*◌, ◌^◌, ◌≤◌, IfOk};
+//! Numbers of elements, limits and strides.
+ghost use Rattle.std.specs.Prelude.{◌≡◌, ◌*◌, ◌^◌, ◌<◌, ◌≤◌, nat_lt, pos, slice_index_or, false, IfOk, MatchOption};
+ghost use Rattle.std.specs.List.{list_any};
+ghost use Rattle.std.specs.Option.{option_map};
+ghost use Rattle.nd_model.specs.Strides as model;
 ghost use Rattle.nd_model.specs.Tuple.{elements_of};
+ghost use Rattle.nd_view.specs.Faults.{view_fault_of};
 ghost use Rattle.nd_view.specs.Strides.{strides_of};
 
+use crate::fault::ViewFault;
 use smallvec::SmallVec;
 use std::alloc::{AllocError, Global};
+
+/// The most axes of an array.
+pub(crate) const MOST_AXES: usize = 32;
+
+// The most elements of an axis, of an array, and the most bytes of an array.
+const LONGEST_AXIS: u64 = 1 << 32;
+
+const MOST_ELEMENTS: u64 = 1 << 24;
+
+const MOST_BYTES: u64 = 1 << 27;
 
 // The number of elements of a shape.
 pub(crate) fn elements(shape: &[u64]) -> u64
@@ -19,6 +34,84 @@ pub(crate) fn elements(shape: &[u64]) -> u64
         count *= *length;
     }
     count
+}
+
+// The length of an axis, 1 where there is no such axis.
+pub(crate) fn length_of(shape: &[u64], axis: usize) -> u64
+    ensures { result ≡ slice_index_or shape.now axis 1 }
+{
+    match shape.get(axis) {
+        Some(length) => *length,
+        None => 1,
+    }
+}
+
+// The stride of an axis, 0 where there is no such axis.
+pub(crate) fn step_on(strides: &[i128], axis: usize) -> i128
+    ensures { result ≡ slice_index_or strides.now axis (pos 0) }
+{
+    match strides.get(axis) {
+        Some(stride) => *stride,
+        None => 0,
+    }
+}
+
+// Whether an axis has too many elements.
+fn has_long_axis(shape: &[u64]) -> bool
+    ensures { result ≡ list_any (nat_lt (2 ^ 32)) shape.now }
+{
+    for length in shape {
+        if *length > LONGEST_AXIS {
+            return true;
+        }
+    }
+    false
+}
+
+// The number of elements, `None` where they are too many.
+fn elements_within(shape: &[u64]) -> Option<u64>
+    requires { list_any (nat_lt (2 ^ 32)) shape.now ≡ false }
+    ensures { MatchOption result (2 ^ 24 < elements_of shape.now) (λ n. (n ≡ elements_of shape.now) × (n ≤ 2 ^ 24)) }
+{
+    if shape.contains(&0) {
+        return Some(0);
+    }
+    let mut count = 1;
+    for length in shape {
+        count *= *length;
+        if count > MOST_ELEMENTS {
+            return None;
+        }
+    }
+    Some(count)
+}
+
+// Whether an array with elements of `size` bytes is above the limits of its lengths.
+fn is_too_large(size: u64, shape: &[u64]) -> bool
+    requires { size ≤ 65536 }
+    ensures { result ≡ model.is_too_large size shape.now }
+{
+    if has_long_axis(shape) {
+        return true;
+    }
+    match elements_within(shape) {
+        Some(count) => count * size > MOST_BYTES,
+        None => true,
+    }
+}
+
+// Why there is no array of these lengths, with elements of `size` bytes.
+pub(crate) fn limit_fault(size: u64, shape: &[u64]) -> Option<ViewFault>
+    requires { size ≤ 65536 }
+    ensures { option_map view_fault_of result ≡ model.limit_fault size shape.now }
+{
+    if shape.len() > MOST_AXES {
+        return Some(ViewFault::TooManyAxes);
+    }
+    if is_too_large(size, shape) {
+        return Some(ViewFault::TooManyElements);
+    }
+    None
 }
 
 // The strides of an array without gaps, each element of which has `size` bytes.

@@ -1,14 +1,21 @@
 //! `View`: where the elements of an array lie in its bytes.
-ghost use Rattle.std.specs.Prelude.{◌≡◌, ◌+◌, ◌*◌, ◌^◌, ◌<◌, ◌≤◌, ◌++◌, length, slice_index, false, IsTrue, ◌↔◌, IfOk, OnOk, MatchOption};
-ghost use Rattle.nd_model.specs.Tuple.{count_up, elements_of, number};
+ghost use Rattle.std.specs.Prelude.{◌≡◌, ◌+◌, ◌-◌, ◌*◌, ◌^◌, ◌<◌, ◌≤◌, ◌++◌, length, take, drop, slice_index, slice_index_or, false, IsTrue, ◌↔◌, IfOk, OnOk, MatchOption};
+ghost use Rattle.std.specs.List.{All};
+ghost use Rattle.nd_model.specs.Strides as model;
+ghost use Rattle.nd_model.specs.Strides.{IsInLimits, places_by};
+ghost use Rattle.nd_model.specs.Tuple.{elements_of, number};
 ghost use Rattle.nd_model.specs.View.{Geo, item_size, byte_places, contiguous};
 ghost use Rattle.nd_types.specs.Types.{type_of};
+ghost use Rattle.nd_view.specs.Faults.{view_given};
 ghost use Rattle.nd_view.specs.Indexes.{IsIndex};
-ghost use Rattle.nd_view.specs.Limits.{IsInLimits};
+ghost use Rattle.nd_view.specs.Strides.{kept_all};
 
 use crate::elements::push_element;
-use crate::shapes::{elements, steps};
-use crate::walk::{advance, moved};
+use crate::fault::ViewFault;
+use crate::parts::{kept_offset, kept_strides, parts_fault};
+use crate::runs::{Run, Runs};
+use crate::shapes::{elements, length_of, step_on, steps};
+use crate::walk::{advance, moved, place_by};
 use nd_types::ElemType;
 use smallvec::SmallVec;
 use std::alloc::{AllocError, Global};
@@ -20,7 +27,9 @@ pub type Shape = SmallVec<u64, 8>;
 /// An index tuple: a number for each axis.
 pub type Index = SmallVec<u64, 8>;
 
-/// Where the elements of an array lie in its bytes: an offset, and for each axis a stride in bytes (PEP 3118).
+/// Where the elements of an array lie in its bytes: an offset, and for each axis a stride in bytes (PEP 3118). A stride is 0 on an
+/// axis of at most one element, and all of them and the offset are 0 where there are no elements, so that equal views have
+/// equal fields.
 #[derive(Drop)]
 pub struct View {
     elem: ElemType,
@@ -58,6 +67,31 @@ impl View {
         })
     }
 
+    /// Returns the view of a block of `block_len` bytes with these lengths, strides in bytes, and place of the first element, or
+    /// the first fault of: `AxesDiffer`, `TooManyAxes`, `TooManyElements`, `OutOfBlock`. It may be written to. A view without
+    /// elements lies in every block (PEP 3118, "strides").
+    pub fn from_parts(
+        alloc: Global,
+        elem: ElemType,
+        shape: &[u64],
+        strides: &[i64],
+        offset: u64,
+        block_len: u64,
+    ) -> Result<Result<View, ViewFault>, AllocError>
+        ensures { IfOk result (λ r. view_given r ≡ model.from_parts (type_of elem) shape.now strides.now offset block_len) }
+    {
+        if let Some(fault) = parts_fault(elem.size(), shape, strides, offset, block_len) {
+            return Ok(Err(fault));
+        }
+        Ok(Ok(View {
+            elem,
+            shape: SmallVec::from_slice(alloc, shape)?,
+            strides: kept_strides(alloc, shape, strides)?,
+            offset: kept_offset(shape, offset),
+            writable: true,
+        }))
+    }
+
     /// Returns a view of the same elements.
     pub fn try_clone(&self) -> Result<View, AllocError>
         ensures { IfOk result (λ v. v ≡ self.now) }
@@ -87,6 +121,41 @@ impl View {
         self.shape.as_slice()
     }
 
+    /// Returns how many bytes each axis goes on from one element to the next.
+    pub fn strides(&self) -> &[i128]
+        ensures axes { length result.now ≡ length self.now.shape }
+        ensures places { self.now.places ≡ places_by (slice_index self.now.places 0) result.now self.now.shape }
+        ensures kept { kept_all (length self.now.places) self.now.shape result.now ≡ result.now }
+    {
+        self.strides.as_slice()
+    }
+
+    /// Returns the place of the first element, 0 where there are none.
+    pub fn offset(&self) -> u64
+        ensures { result ≡ slice_index self.now.places 0 }
+    {
+        self.offset
+    }
+
+    /// Returns whether both have the same types, lengths, right to write, and places in the same order.
+    pub fn is_same(&self, other: &View) -> bool
+        ensures { IsTrue result ↔ (self.now ≡ other.now) }
+    {
+        if self.writable != other.writable {
+            return false;
+        }
+        if self.offset != other.offset {
+            return false;
+        }
+        if self.shape.as_slice() != other.shape.as_slice() {
+            return false;
+        }
+        if self.strides.as_slice() != other.strides.as_slice() {
+            return false;
+        }
+        self.elem.is_same(&other.elem)
+    }
+
     /// Returns whether the elements may be written to.
     pub fn writable(&self) -> bool
         ensures { result ≡ self.now.writable }
@@ -107,9 +176,18 @@ impl View {
     pub fn place_of(&self, number: u64) -> u64
         requires { number < length self.now.places }
         ensures value { result ≡ slice_index self.now.places number }
-        ensures limit { result + item_size self.now.element ≤ 2 ^ 27 }
+        ensures limit { result + item_size self.now.element ≤ 2 ^ 64 }
     {
-        number * self.elem.size()
+        let strides = self.strides.as_slice();
+        let mut each = elements(self.shape.as_slice());
+        let mut left = number;
+        let mut place = self.offset;
+        for (axis, length) in self.shape.as_slice().iter().enumerate() {
+            each /= *length;
+            place = moved(place, left / each, strides[axis]);
+            left %= each;
+        }
+        place
     }
 
     /// Returns the index tuple of the first element, or `None` where there are no elements.
@@ -128,12 +206,7 @@ impl View {
         requires { IsIndex self.now.shape index.now.items }
         ensures { result ≡ slice_index self.now.places (number self.now.shape index.now.items) }
     {
-        let strides = self.strides.as_slice();
-        let mut place = self.offset;
-        for (axis, by) in index.as_slice().iter().enumerate() {
-            place = moved(place, *by, strides[axis]);
-        }
-        place
+        place_by(self.offset, self.strides.as_slice(), index.as_slice())
     }
 
     /// Moves the index tuple to the next one in C order, and returns whether there is one. At the last one it stays.
@@ -147,16 +220,26 @@ impl View {
         advance(self.shape.as_slice(), index.as_mut_slice())
     }
 
-    /// Returns the places of the elements in C order.
-    pub fn places(&self, alloc: Global) -> Result<Vec<u64>, AllocError>
-        ensures { IfOk result (λ v. v.items ≡ self.now.places) }
+    /// Returns the runs of elements along the last axis, in C order. A view without axes has one run of one element.
+    pub fn runs(&self) -> Runs<'_>
+        ensures value { result ≡ self.now.places }
+        ensures ends { All (λ p. p + item_size self.now.element ≤ 2 ^ 64) self.now.places }
     {
-        let count = self.count();
-        let mut places = Vec::with_capacity(alloc, count)?;
-        for number in 0..count {
-            places.push(self.place_of(number as u64))?;
-        }
-        Ok(places)
+        Runs::new(self, self.shape.len())
+    }
+
+    // The run that begins at the index tuple of the axes before the last one.
+    pub(crate) fn run_at(&self, outer: &[u64]) -> Run
+        requires axes { length outer.now ≡ length self.now.shape - 1 }
+        requires inside { IsIndex (take (length outer.now) self.now.shape) outer.now }
+        requires some { 0 < length self.now.places }
+        ensures count { length result ≡ slice_index_or self.now.shape (length outer.now) 1 }
+        ensures places { result ≡ take (length result) (drop (number self.now.shape outer.now) self.now.places) }
+    {
+        let start = place_by(self.offset, self.strides.as_slice(), outer);
+        let step = step_on(self.strides.as_slice(), outer.len());
+        let count = length_of(self.shape.as_slice(), outer.len());
+        Run::new(start, step, count)
     }
 
     /// Returns the places of the bytes of all elements, without pad bytes.
@@ -164,8 +247,11 @@ impl View {
         ensures { IfOk result (λ v. v.items ≡ byte_places self.now) }
     {
         let mut places = Vec::new(alloc);
-        for number in 0..self.count() {
-            push_element(&mut places, &self.elem, self.place_of(number as u64))?;
+        let mut runs = self.runs();
+        while let Some(run) = runs.next() {
+            for number in 0..run.count() {
+                push_element(&mut places, &self.elem, run.place(number))?;
+            }
         }
         Ok(places)
     }

@@ -2,7 +2,9 @@
 ghost use Rattle.std.specs.Prelude.{◌≡◌, ◌+◌, ◌-◌, ◌^◌, ◌<◌, ◌≤◌, pos, ◌+ℤ◌, ◌*ℤ◌, ◌≤ℤ◌, ◌<ℤ◌, ◌++◌, length, take, drop, replicate, slice_index, false, IsTrue, ◌↔◌};
 ghost use Rattle.std.specs.List.{AllZip};
 ghost use Rattle.nd_model.specs.Tuple.{elements_of, number};
+ghost use Rattle.nd_model.specs.Strides.{place_at};
 ghost use Rattle.nd_view.specs.Indexes.{IsIndex};
+ghost use Rattle.nd_view.specs.Paths.{IsPath};
 
 // The place of an element from that of another, so many strides before it on one axis.
 pub(crate) fn moved(place: u64, by: u64, stride: i128) -> u64
@@ -11,6 +13,18 @@ pub(crate) fn moved(place: u64, by: u64, stride: i128) -> u64
     ensures { pos result ≡ pos place +ℤ (pos by *ℤ stride) }
 {
     (i128::from(place) + i128::from(by) * stride) as u64
+}
+
+// The place of the element of an index tuple. On the axes past the tuple's end its index is 0.
+pub(crate) fn place_by(offset: u64, strides: &[i128], index: &[u64]) -> u64
+    requires { IsPath offset strides.now index.now }
+    ensures { result ≡ place_at offset strides.now index.now }
+{
+    let mut place = offset;
+    for (axis, by) in index.iter().enumerate() {
+        place = moved(place, *by, strides[axis]);
+    }
+    place
 }
 
 // Moves the tuple to the next one, and returns whether there is one. The last tuple stays.

@@ -72,7 +72,10 @@ fn view_name(fault: ViewFault) -> &'static str
     ensures { result.now ≡ script.view_text (view_fault_of fault) }
 {
     match fault {
+        ViewFault::OutOfBlock => "OutOfBlock",
+        ViewFault::TooManyAxes => "TooManyAxes",
         ViewFault::TooManyElements => "TooManyElements",
+        ViewFault::AxesDiffer => "AxesDiffer",
     }
 }
 

@@ -8,6 +8,7 @@ use Rattle.nd_model.specs.Element.{size_of, bytes_of, with_bytes}
 use Rattle.nd_model.specs.View as view
 use Rattle.nd_types.specs.Fields.{field_of, fields_of}
 use Rattle.nd_types.specs.declared.field.Field.{Field}
+use Rattle.nd_types.proofs.Sized.{some_bytes}
 use Rattle.nd_rerun.proofs.Structures.{field_more}
 use Rattle.nd_rerun.proofs.shown.structure_at.Goals as goal
 
@@ -23,6 +24,13 @@ lies : (items : List Field) (fields : List view.Field) (size i : ℕ) (item : Fi
 lies items fields size i item same inside lt is =
     let all : All (λ (f : view.Field). f.at + size_of f.element.kind ≤ size) (fields_of items) = subst (All (λ (f : view.Field). f.at + size_of f.element.kind ≤ size)) (sym same) inside in
     subst (λ (f : view.Field). f.at + size_of f.element.kind ≤ size) (named items i item lt is) (all i (field_of item) (counted items i lt))
+
+pub overflow_add-place : goal.overflow_add-place
+overflow_add-place c =
+    let items = c.fields-field-items.result.now in
+    let fit : c.field-item.result.at + size_of c.field-item.result.elem.kind ≤ c.args.structure.now.1
+    = lies items c.args.structure.now.0 c.args.structure.now.1 c.loop-field.field-index c.field-item.result c.fields-field-items.ensures.value c.fields-field-items.ensures.inside c.loop-field-test.true c.field-item.is in
+    omega (arith, fit, some_bytes c.field-item.result.elem.kind, c.requires)
 
 pub store-requires-clause-inside : goal.store-requires-clause-inside
 store-requires-clause-inside c =

@@ -1,4 +1,4 @@
-use Rattle.std.proofs.Common.{◌≡◌, ◌+◌, suc, List, [], ◌∷◌, sym, ap, ◌∙◌, map, drop, arith}
+use Rattle.std.proofs.Common.{◌≡◌, ◌+◌, suc, [], ◌∷◌, sym, ap, ◌∙◌, map, drop, arith}
 use Rattle.nd_model.specs.Promotion as promotion
 use Rattle.nd_types.specs.Kinds.{kind_of}
 use Rattle.nd_types.specs.declared.kind.Kind.TheVariants as kind

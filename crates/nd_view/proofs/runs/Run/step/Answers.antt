@@ -1,0 +1,14 @@
+use Rattle.std.proofs.Common.{rules, sym, ◌∙◌}
+use Rattle.std.specs.Int.{w128}
+use Rattle.std.specs.Int.RustNames.{FitsSigned}
+use Rattle.std.proofs.lemmas.Int.{to_z-of_z}
+use Rattle.nd_model.specs.Runs.{place_at}
+use Rattle.nd_view.proofs.RunPlaces.{way, start_of}
+use Rattle.nd_view.proofs.runs.Run.step.Goals as goal
+
+pub returns : goal.returns
+returns c =
+    let fits : FitsSigned w128 c.self.inside.step = search rules in
+    let start = start_of c.self.inside c.self.invariant c.args.self.now c.self.view_is in
+    λ k lt. (λ i. place_at (sym start i) (to_z-of_z w128 c.self.inside.step fits i) k)
+    ∙ way c.self.inside c.self.invariant c.args.self.now c.self.view_is k lt

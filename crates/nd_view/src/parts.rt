@@ -1,0 +1,141 @@
+//! Whether an offset and strides make a view of a block.
+ghost use Rattle.std.specs.Prelude.{◌≡◌, ◌==◌, if◌then◌else◌, ◌*◌, ◌^◌, ◌<◌, ◌≤◌, length, IfOk};
+ghost use Rattle.std.specs.Option.{option_map};
+ghost use Rattle.nd_model.specs.Strides as model;
+ghost use Rattle.nd_model.specs.Tuple.{elements_of};
+ghost use Rattle.nd_view.specs.Faults.{view_fault_of};
+ghost use Rattle.nd_view.specs.Strides as strides;
+ghost use Rattle.nd_view.specs.Strides.{before_of, behind_of, kept_all};
+
+use crate::fault::ViewFault;
+use crate::shapes::{elements, limit_fault};
+use smallvec::SmallVec;
+use std::alloc::{AllocError, Global};
+
+// How far the elements of a view begin before its first one and behind it, in bytes.
+#[derive(Clone, Copy)]
+struct Extent {
+    before: u128,
+    behind: u128,
+}
+
+// How far the last element of an axis begins before the first one.
+fn before(length: u64, stride: i64) -> u128
+    requires { (0 < length) × (length ≤ 2 ^ 24) }
+    ensures { (result ≡ strides.before length stride) × (result ≤ 2 ^ 87) }
+{
+    if stride < 0 {
+        u128::from(length - 1) * u128::from(stride.unsigned_abs())
+    } else {
+        0
+    }
+}
+
+// How far the last element of an axis begins behind the first one.
+fn behind(length: u64, stride: i64) -> u128
+    requires { (0 < length) × (length ≤ 2 ^ 24) }
+    ensures { (result ≡ strides.behind length stride) × (result ≤ 2 ^ 87) }
+{
+    if stride < 0 {
+        0
+    } else {
+        u128::from(length - 1) * u128::from(stride.unsigned_abs())
+    }
+}
+
+// The extent of lengths and strides: each axis reaches as far as its last element.
+fn extent_of(shape: &[u64], strides: &[i64]) -> Extent
+    requires axes { length shape.now ≡ length strides.now }
+    requires most { length shape.now ≤ 32 }
+    requires some { 0 < elements_of shape.now }
+    requires elements { elements_of shape.now ≤ 2 ^ 24 }
+    ensures before { result.before ≡ before_of shape.now strides.now }
+    ensures behind { result.behind ≡ behind_of shape.now strides.now }
+    ensures limit { (result.before < 2 ^ 96) × (result.behind < 2 ^ 96) }
+{
+    let mut extent = Extent {
+        before: 0,
+        behind: 0,
+    };
+    for (axis, length) in shape.iter().enumerate() {
+        extent.before += before(*length, strides[axis]);
+        extent.behind += behind(*length, strides[axis]);
+    }
+    extent
+}
+
+// Whether every byte of every element lies in a block of so many bytes.
+fn are_held(size: u64, shape: &[u64], strides: &[i64], offset: u64, block_len: u64) -> bool
+    requires axes { length shape.now ≡ length strides.now }
+    requires size { size ≤ 65536 }
+    requires limits { model.IsInLimits size shape.now }
+    ensures { result ≡ model.are_held size block_len offset strides.now shape.now }
+{
+    if elements(shape) == 0 {
+        return true;
+    }
+    let extent = extent_of(shape, strides);
+    let offset = u128::from(offset);
+    extent.before <= offset && offset + extent.behind + u128::from(size) <= u128::from(block_len)
+}
+
+/// Returns why the parts make no view of a block of `block_len` bytes, if they make none.
+pub(crate) fn parts_fault(
+    size: u64,
+    shape: &[u64],
+    strides: &[i64],
+    offset: u64,
+    block_len: u64,
+) -> Option<ViewFault>
+    requires { size ≤ 65536 }
+    ensures { option_map view_fault_of result ≡ model.parts_fault size shape.now strides.now offset block_len }
+{
+    if shape.len() != strides.len() {
+        return Some(ViewFault::AxesDiffer);
+    }
+    if let Some(fault) = limit_fault(size, shape) {
+        return Some(fault);
+    }
+    if are_held(size, shape, strides, offset, block_len) {
+        None
+    } else {
+        Some(ViewFault::OutOfBlock)
+    }
+}
+
+// The stride that is kept of an axis, where there are so many elements.
+fn kept_stride(count: u64, length: u64, stride: i64) -> i128
+    ensures { result ≡ strides.kept count length stride }
+{
+    if length <= 1 || count == 0 {
+        0
+    } else {
+        i128::from(stride)
+    }
+}
+
+/// Returns the offset as a view keeps it: 0 where there are no elements.
+pub(crate) fn kept_offset(shape: &[u64], offset: u64) -> u64
+    requires { elements_of shape.now ≤ 2 ^ 24 }
+    ensures { result ≡ (if elements_of shape.now == 0 then 0 else offset) }
+{
+    if elements(shape) == 0 { 0 } else { offset }
+}
+
+/// Returns the strides as a view keeps them: 0 on an axis that is not walked, and 0 where there are no elements.
+pub(crate) fn kept_strides(
+    alloc: Global,
+    shape: &[u64],
+    strides: &[i64],
+) -> Result<SmallVec<i128, 8>, AllocError>
+    requires axes { length shape.now ≡ length strides.now }
+    requires elements { elements_of shape.now ≤ 2 ^ 24 }
+    ensures { IfOk result (λ v. v.items ≡ kept_all (elements_of shape.now) shape.now strides.now) }
+{
+    let count = elements(shape);
+    let mut all = SmallVec::new(alloc);
+    for (axis, length) in shape.iter().enumerate() {
+        all.push(kept_stride(count, *length, strides[axis]))?;
+    }
+    Ok(all)
+}

@@ -1,0 +1,122 @@
+//! Runs: elements one step apart, as the last axis of a view has them.
+ghost use Rattle.std.specs.Prelude.{◌≡◌, ℕ, pos, ◌≤ℤ◌, ◌<◌, ◌≤◌, ◌^◌, [], ◌++◌, length, slice_index, MatchOption};
+ghost use Rattle.nd_model.specs.Runs.{place_at, spot_at, run_places};
+
+use crate::shapes::MOST_AXES;
+use crate::strided::View;
+use crate::walk::{advance, moved};
+use std::marker::Model;
+
+/// Elements that begin one step apart, at least one. A clause sees the list of their places.
+#[derive(Drop)]
+pub struct Run {
+    start: u64,
+    step: i128,
+    count: u64,
+}
+
+impl Model for Run {
+    ghost use Rattle.std.specs.Prelude.{List, ℕ};
+
+    ghost Value = { List ℕ };
+
+    ghost use Rattle.nd_view.specs.Walks.{places_of, IsRun};
+
+    ghost view = { places_of };
+
+    ghost invariant = { IsRun };
+}
+
+impl Run {
+    pub(crate) fn new(start: u64, step: i128, count: u64) -> Run
+        requires some { 0 < count }
+        requires places { (k : ℕ) → k < count → (pos 0 ≤ℤ place_at start step k) × (spot_at start step k < 2 ^ 64) }
+        ensures { result ≡ run_places start step count }
+    {
+        Run { start, step, count }
+    }
+
+    /// Returns the place of the first element.
+    pub fn start(&self) -> u64
+        ensures { result ≡ slice_index self.now 0 }
+    {
+        self.start
+    }
+
+    /// Returns how many bytes it is from one element to the next, which may be negative.
+    pub fn step(&self) -> i128
+        ensures { (k : ℕ) → k < length self.now → place_at (slice_index self.now 0) result k ≡ pos (slice_index self.now k) }
+    {
+        self.step
+    }
+
+    /// Returns the number of elements.
+    pub fn count(&self) -> u64
+        ensures value { result ≡ length self.now }
+        ensures some { 0 < result }
+    {
+        self.count
+    }
+
+    /// Returns the place of the element of this number.
+    pub fn place(&self, number: u64) -> u64
+        requires { number < length self.now }
+        ensures { result ≡ slice_index self.now number }
+    {
+        moved(self.start, number, self.step)
+    }
+}
+
+/// A walk over the runs of a view in C order. It takes no memory. A clause sees the list of the places that are left.
+#[derive(Drop)]
+pub struct Runs<'v> {
+    view: &'v View,
+    // the index of the axes before the last one, and how many these are
+    index: [u64; MOST_AXES],
+    outer: usize,
+    // the number of the next element, and how many elements there are
+    at: u64,
+    count: u64,
+}
+
+impl<'v> Model for Runs<'v> {
+    ghost use Rattle.std.specs.Prelude.{List, ℕ};
+
+    ghost Value = { List ℕ };
+
+    ghost use Rattle.nd_view.specs.Walks.{left_of, IsWalk};
+
+    ghost view = { left_of };
+
+    ghost invariant = { IsWalk };
+}
+
+impl<'v> Runs<'v> {
+    pub(crate) fn new(view: &'v View, axes: usize) -> Runs<'v>
+        requires axes { axes ≡ length view.now.shape }
+        requires most { axes ≤ 32 }
+        ensures { result ≡ view.now.places }
+    {
+        Runs {
+            view,
+            index: [0; MOST_AXES],
+            outer: axes.saturating_sub(1),
+            at: 0,
+            count: view.count() as u64,
+        }
+    }
+
+    /// Returns the next run, or `None` where no element is left.
+    pub fn next(&mut self) -> Option<Run>
+        ensures { MatchOption result ((self.old ≡ []) × (self.new ≡ [])) (λ run. self.old ≡ run ++ self.new) }
+    {
+        if self.at == self.count {
+            return None;
+        }
+        let run = self.view.run_at(&self.index[..self.outer]);
+        self.at += run.count();
+        let outer = &self.view.shape()[..self.outer];
+        advance(outer, &mut self.index[..self.outer]);
+        Some(run)
+    }
+}

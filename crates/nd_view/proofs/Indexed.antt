@@ -50,10 +50,10 @@ module _ {X : Type 0} (p : X → Bool) where
   pub all_indexes : (f : List ℕ → X) (shape : List ℕ) → ((t : List ℕ) → IsIndex shape t → p (f t) ≡ true) → list_all p (map f (indices shape)) ≡ true
   all_indexes f [] each = rw (each [] tt) refl
   all_indexes f (n ∷ shape) each =
-      let row : ℕ → List X = λ k. map (λ u. f (k ∷ u)) (indices shape) in
-      let whole : map f (indices (n ∷ shape)) ≡ flat_map row (count_up 0 n)
-      = map-flat_map f (λ k. map (λ u. k ∷ u) (indices shape)) (count_up 0 n) ∙ flat_map_same _ row (λ k. map-map f (λ u. k ∷ u) (indices shape)) (count_up 0 n) in
-      rw whole (all_pieces row 0 n (λ i le lt. all_indexes (λ u. f (i ∷ u)) shape (λ t is. each (i ∷ t) (omega arith, is))))
+      let part : ℕ → List X = λ k. map (λ u. f (k ∷ u)) (indices shape) in
+      let whole : map f (indices (n ∷ shape)) ≡ flat_map part (count_up 0 n)
+      = map-flat_map f (λ k. map (λ u. k ∷ u) (indices shape)) (count_up 0 n) ∙ flat_map_same _ part (λ k. map-map f (λ u. k ∷ u) (indices shape)) (count_up 0 n) in
+      rw whole (all_pieces part 0 n (λ i le lt. all_indexes (λ u. f (i ∷ u)) shape (λ t is. each (i ∷ t) (omega arith, is))))
 
   all_at : (xs : List X) (k : ℕ) (d : X) → list_all p xs ≡ true → k < length xs → p (get_or xs k d) ≡ true
   all_at [] k d e lt = absurd (omega arith)

@@ -107,7 +107,7 @@ fn fault_at(tokens: &[Token], stop: Stop) -> ParseFault
 }
 
 /// The statements of a text, or its fault: the first place that is no token, or else the first token that continues no cell.
-/// It takes time in proportion to the text, and calls itself for 64 levels of brackets and signs at most.
+/// It takes time in proportion to the text, and calls itself for 64 levels of brackets, signs and `**` at most.
 #[tactic(auto, unfolding(nd_model::specs::Reading::reading))]
 pub fn parse_cell(alloc: Global, text: &str) -> Result<Result<Vec<Line>, ParseFault>, AllocError>
     ensures { IfOk result (λ r. reading text.now ≡ parsed_of r) }

@@ -4,7 +4,7 @@ use Rattle.std.proofs.Common.{Global}
 use Rattle.nd_model.specs.Running.{Running}
 use Rattle.nd_model.specs.Fault as model
 use Rattle.nd_model.specs.Cell.{Saved, Ended}
-use Rattle.nd_parse.specs.Syntax.{kind_of}
+use Rattle.nd_tree.specs.Syntax.{kind_of}
 use Rattle.nd_eval.specs.Faults.{fault_of}
 use Rattle.nd_cell.specs.declared.result.CellFault.{CellFault}
 use Rattle.nd_cell.specs.declared.result.CellFault.TheVariants.{Parse, Statement}

@@ -9,13 +9,13 @@ use Rattle.nd_model.specs.Tokens.{tokens_of, tokens_of_index}
 use Rattle.nd_model.specs.Value.{Value}
 use Rattle.nd_model.specs.Running.{Running, Inputs}
 use Rattle.nd_model.specs.Meaning.{Eval, Gives, Refuses, run, ◌>>=◌, value, item_value, indexed}
-use Rattle.nd_parse.specs.declared.tree.Expr as tree
-use Rattle.nd_parse.specs.declared.tree.BinaryOp.{BinaryOp}
-use Rattle.nd_parse.specs.declared.tree.Index as indexes
-use Rattle.nd_parse.specs.declared.tree.IndexItem as item
-use Rattle.nd_parse.specs.Syntax.{expr_of, index_of, item_of}
-use Rattle.nd_parse.specs.Gives.{operation_of}
-use Rattle.nd_parse.proofs.Chains.{row_of, indexed_is, item_row, index_is, chain_is}
+use Rattle.nd_tree.specs.declared.tree.Expr as tree
+use Rattle.nd_tree.specs.declared.tree.BinaryOp.{BinaryOp}
+use Rattle.nd_tree.specs.declared.tree.Index as indexes
+use Rattle.nd_tree.specs.declared.tree.IndexItem as item
+use Rattle.nd_tree.specs.Syntax.{expr_of, index_of, item_of}
+use Rattle.nd_tree.specs.Gives.{operation_of}
+use Rattle.nd_tree.proofs.Chains.{row_of, indexed_is, item_row, index_is, chain_is}
 use Rattle.nd_model.proofs.Steps.{goes_on, run_bind}
 use Rattle.nd_eval.proofs.InTurn.{regrouped}
 

@@ -19,7 +19,7 @@ use Rattle.nd_model.proofs.TokenLaws.{few_words}
 
 -- no token of the set is the end of a statement: not one in its place, nor one that begins elsewhere than in column 1
 abbrev HasNoEnd : ℕ → Type 0
-HasNoEnd set = (has set 25 ≡ false) × (has set 63 ≡ false)
+HasNoEnd set = (has set 25 ≡ false) × (has set 127 ≡ false)
 
 no_end_word : (set : ℕ) (w : Word) (rest : List Token) → has set 25 ≡ false → has set (kind_of_word w rest) ≡ true → is_end w ≡ false
 no_end_word set End rest outside h = true_false _ h outside
@@ -27,7 +27,7 @@ no_end_word set _ rest outside h = refl
 
 no_end : (set : ℕ) (t : Token) (rest : List Token) → HasNoEnd set → has set (kind (t ∷ rest)) ≡ true → is_end t.word ≡ false
 no_end set t rest outside =
-    cond_both (t.starts && not (t.column == 1)) 63 (kind_of_word t.word rest) (λ k. has set k ≡ true → is_end t.word ≡ false)
+    cond_both (t.starts && not (t.column == 1)) 127 (kind_of_word t.word rest) (λ k. has set k ≡ true → is_end t.word ≡ false)
     (λ _ h. true_false _ h outside.1) (λ _ h. no_end_word set t.word rest outside.0 h)
 
 one_more : (t : Token) (rest : List Token) → is_end t.word ≡ false → words_in (t ∷ rest) ≡ suc (words_in rest)

@@ -4,7 +4,7 @@ use Rattle.nd_model.specs.Token.{Word, Name, Integer, Keyword, Np, Print, Plus, 
 
 -- ---- groups of words
 
--- the kind of a symbol; the tokens that no rule has are 62
+-- the kind of a symbol; the tokens that no rule has are 126
 abbrev pub kind_of_symbol : Word → ℕ
 kind_of_symbol (Integer n) = 0
 kind_of_symbol Minus = 2
@@ -51,7 +51,7 @@ kind_of_symbol End = 25
 kind_of_symbol Colon = 26
 kind_of_symbol Ellipsis = 27
 kind_of_symbol (Quoted bs) = 29
-kind_of_symbol _ = 62
+kind_of_symbol _ = 126
 
 -- the kind that a table has for a word, and of all other words
 abbrev pub kind_in : List (List ℕ × ℕ) → ℕ → List ℕ → ℕ
@@ -97,15 +97,15 @@ refined k rest =
 
 abbrev pub kind_of_word : Word → List Token → ℕ
 kind_of_word (Name n) rest = kind_in name_kinds 40 n + before_next rest
-kind_of_word (Keyword k) rest = kind_in keyword_kinds 62 k
+kind_of_word (Keyword k) rest = kind_in keyword_kinds 126 k
 kind_of_word w rest = refined (kind_of_symbol w) rest
 
--- A statement begins in column 1: elsewhere its first token is 63, which no rule has.
+-- A statement begins in column 1: elsewhere its first token is 127, which no rule has.
 abbrev pub kind_of : Token → List Token → ℕ
-kind_of t rest = if t.starts && not (t.column == 1) then 63 else kind_of_word t.word rest
+kind_of t rest = if t.starts && not (t.column == 1) then 127 else kind_of_word t.word rest
 
 abbrev pub kind : List Token → ℕ
-kind [] = 62
+kind [] = 126
 kind (t ∷ rest) = kind_of t rest
 
 -- ---- sets
@@ -227,7 +227,7 @@ abbrev pub QUOTED : ℕ
 QUOTED = 2 ^ 29
 
 abbrev pub ANY : ℕ
-ANY = 2 ^ 64 - 1
+ANY = 2 ^ 128 - 1
 
 -- a name that is not called, one before an operator of assignment, one that is neither, and one that is called
 abbrev pub NAME : ℕ

@@ -1,3 +1,1 @@
-pub mod Syntax
-pub mod Gives
 pub mod Readers

@@ -1,16 +1,11 @@
 -- Parts of rules that have functions of their own.
 use Rattle.std.specs.Prelude.{ℕ, zero, suc, ◌==◌, nat_lt, ◌&&◌, Bool, List, [], ◌∷◌, ◌++◌}
-use Rattle.std.specs.Borrow.{Bor}
 use Rattle.nd_model.specs.Grammar.{Gram, Done, One, Then, Or, Many}
 use Rattle.nd_model.specs.Predict.{next_in}
 use Rattle.nd_model.specs.Token.{Token}
 use Rattle.nd_model.specs.Syntax.{Expr, Unary, Index, IndexItem}
 use Rattle.nd_model.specs.Kinds.{kind, SIGN, PRODUCT, SUM, SHIFT, AMPERSAND, CARET, BAR, OPEN_BRACKET, OPEN_NONE, CLOSE, COMMA_MORE, COMMA_LAST, START, ANY}
 use Rattle.nd_model.specs.Cells.{token, separated, Spot, Anywhere, FirstItem, LaterItem, Level, Inside, under, nothing, item, list, index, unary_of, unary, chain, expr}
-
--- a table's name with its kind
-abbrev pub entry : Bor (List ℕ) × ℕ → List ℕ × ℕ
-entry e = (e.0.now, e.1)
 
 -- a sign with its operand
 abbrev pub with_sign : Gram Token Expr → Gram Token Expr

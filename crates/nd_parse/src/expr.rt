@@ -5,28 +5,28 @@ ghost use Rattle.nd_model.specs.Kinds.{kind, OPEN_BRACKET, CLOSE_BRACKET, CLOSE,
 ghost use Rattle.nd_model.specs.Predict.{read};
 ghost use Rattle.nd_model.specs.Syntax.{Binary};
 ghost use Rattle.nd_model.specs.Cells.{Anywhere, FirstItem, LaterItem, under, between, mapped, separated, grouped, bound_in, step_in, slice, newaxis, element, elements, elements_of, list, part, item, nothing, contents, index, items, chained, function, arange, operand, postfix, exponent, power, signed, unary, operation, chain, bor, comparison, expr};
-ghost use Rattle.nd_parse.specs.Syntax.{expr_of, index_of, item_of, bound_of, element_of};
-ghost use Rattle.nd_parse.specs.Gives.{Gives, with_rest, tokens_of, spot_of, indexes_of, items_in, elements_in, list_of_elements, bounds_of, operation_of, operations_of};
+ghost use Rattle.nd_tree.specs.Syntax.{expr_of, index_of, item_of, bound_of, element_of};
+ghost use Rattle.nd_tree.specs.Gives.{Gives, with_rest, tokens_of, spot_of, indexes_of, items_in, elements_in, list_of_elements, bounds_of, operation_of, operations_of};
 ghost use Rattle.nd_parse.specs.Readers.{inside, with_sign, operators, ranked, items_of_index, closed, last_comma, behind_comma};
 ghost use Rattle.nd_token.specs.Tokens.{token_of};
 
-use crate::kinds::{
+use nd_token::Token;
+use nd_tree::kinds::{
     AMPERSAND, ARANGE, BAR, CALLED, CARET, CLOSE, CLOSE_BRACKET, COLON, COMMA_LAST, COMMA_MORE,
     COMPARISON, DOT, ELEMENT, ELLIPSIS, EXPR, NEWAXIS, NONE, NOT_ARANGE, NP_NEWAXIS, OPEN,
     OPEN_BRACKET, OPEN_NONE, PLUS, POWER, PRODUCT, QUOTED, SHIFT, SIGN, SUM, next_in,
 };
-use crate::operators::{binary_of, unary_of};
-use crate::read::{Read, Reason, Tokens, leaf, quoted_of, shut, stop_at, take};
-use crate::spot::{Spot, leaves, modules, openings};
-use crate::tree::{BinaryOp, Element, Expr, Index, IndexItem};
-use nd_token::Token;
+use nd_tree::operators::{binary_of, unary_of};
+use nd_tree::read::{Read, Reason, Tokens, leaf, quoted_of, shut, stop_at, take};
+use nd_tree::spot::{Spot, leaves, modules, openings};
+use nd_tree::{BinaryOp, Element, Expr, Index, IndexItem};
 use std::alloc::{AllocError, Global};
 
 /// How many ranks of operators are chained, from `*` to `|`.
 const RANKS: u8 = 6;
 
 /// The operators of a rank.
-fn operators(rank: u8) -> u64
+fn operators(rank: u8) -> u128
     ensures { result ≡ operators rank }
 {
     match rank {
@@ -93,7 +93,7 @@ fn chain<'t>(
     levels: u8,
     rank: u8,
     spot: Spot,
-    set: u64,
+    set: u128,
     tokens: Tokens<'t>,
 ) -> Read<'t, Expr>
     ensures { Gives (with_rest expr_of) result (read kind (chain set (ranked rank (spot_of spot) (under levels)) (ranked rank Anywhere (under levels))) (tokens_of tokens.now)) }
@@ -109,7 +109,7 @@ fn operations<'t>(
     alloc: Global,
     levels: u8,
     rank: u8,
-    set: u64,
+    set: u128,
     tokens: Tokens<'t>,
 ) -> Read<'t, Vec<(BinaryOp, Expr)>>
     ensures { Gives (with_rest operations_of) result (read kind (Many set (λ xs. xs) (operation set (ranked rank Anywhere (under levels)))) (tokens_of tokens.now)) }
@@ -131,7 +131,7 @@ fn operation<'t>(
     alloc: Global,
     levels: u8,
     rank: u8,
-    set: u64,
+    set: u128,
     tokens: Tokens<'t>,
 ) -> Read<'t, (BinaryOp, Expr)>
     ensures { Gives (with_rest operation_of) result (read kind (operation set (ranked rank Anywhere (under levels))) (tokens_of tokens.now)) }
@@ -302,7 +302,7 @@ fn function<'t>(tokens: Tokens<'t>) -> Read<'t, Token<'t>>
 /// `np.arange(expr)`
 #[cycle(parser)]
 #[tactic(auto, unfolding(nd_model::specs::Cells::arange))]
-fn arange<'t>(alloc: Global, levels: u8, np: u64, tokens: Tokens<'t>) -> Read<'t, Expr>
+fn arange<'t>(alloc: Global, levels: u8, np: u128, tokens: Tokens<'t>) -> Read<'t, Expr>
     ensures { Gives (with_rest expr_of) result (read kind (arange np (under levels)) (tokens_of tokens.now)) }
 {
     let (_, rest) = take(tokens, np)?;
@@ -314,7 +314,7 @@ fn arange<'t>(alloc: Global, levels: u8, np: u64, tokens: Tokens<'t>) -> Read<'t
 
 /// `(expr)`
 #[cycle(parser)]
-fn grouped<'t>(alloc: Global, levels: u8, opening: u64, tokens: Tokens<'t>) -> Read<'t, Expr>
+fn grouped<'t>(alloc: Global, levels: u8, opening: u128, tokens: Tokens<'t>) -> Read<'t, Expr>
     ensures { Gives (with_rest expr_of) result (read kind (grouped opening (under levels)) (tokens_of tokens.now)) }
 {
     if levels == 0 {
@@ -324,7 +324,7 @@ fn grouped<'t>(alloc: Global, levels: u8, opening: u64, tokens: Tokens<'t>) -> R
 }
 
 #[cycle(parser)]
-fn between<'t>(alloc: Global, levels: u8, opening: u64, tokens: Tokens<'t>) -> Read<'t, Expr>
+fn between<'t>(alloc: Global, levels: u8, opening: u128, tokens: Tokens<'t>) -> Read<'t, Expr>
     ensures { Gives (with_rest expr_of) result (read kind (between opening (expr Anywhere (under levels)) CLOSE) (tokens_of tokens.now)) }
 {
     let (_, rest) = take(tokens, opening)?;

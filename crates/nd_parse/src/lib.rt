@@ -2,15 +2,10 @@
 #![tactic(auto)]
 
 mod expr;
-mod kinds;
-mod operators;
 mod parse;
-mod read;
-mod spot;
 mod stmt;
-mod tree;
 
-pub use parse::parse_cell;
-pub use tree::{
+pub use nd_tree::{
     BinaryOp, Element, Expr, Index, IndexItem, Line, ParseFault, ParseKind, Stmt, UnaryOp,
 };
+pub use parse::parse_cell;

@@ -6,20 +6,20 @@ ghost use Rattle.nd_model.specs.Predict.{read};
 ghost use Rattle.nd_model.specs.Cells.{Anywhere, under, between, expr, module_name, imports, delete, exprs, printed, print, value, bound, written, line};
 ghost use Rattle.nd_model.specs.Factored.{bind, target, assign, stmt};
 ghost use Rattle.nd_token.specs.Tokens.{token_of};
-ghost use Rattle.nd_parse.specs.Syntax.{expr_of, index_of, binary_op, stmt_of, line_of};
-ghost use Rattle.nd_parse.specs.Gives.{Gives, with_rest, tokens_of, exprs_of, some_indexes_of, target_of, value_of};
+ghost use Rattle.nd_tree.specs.Syntax.{expr_of, index_of, binary_op, stmt_of, line_of};
+ghost use Rattle.nd_tree.specs.Gives.{Gives, with_rest, tokens_of, exprs_of, some_indexes_of, target_of, value_of};
 ghost use Rattle.nd_parse.specs.Readers.{some_indexes};
 
 use crate::expr::{expr, index, indexed, operand};
-use crate::kinds::{
+use nd_token::Token;
+use nd_tree::kinds::{
     AS, ASSIGNMENT, BOUND, CLOSE, COMMA, DEL, END, IMPORT, NP, NUMPY, NUMPY_CALLED, OPEN,
     OPEN_BRACKET, PRINT, next_in,
 };
-use crate::operators::augment_of;
-use crate::read::{Read, Reason, Tokens, line_at, name, name_of, shut, take};
-use crate::spot::Spot;
-use crate::tree::{BinaryOp, Expr, Index, Line, Stmt};
-use nd_token::Token;
+use nd_tree::operators::augment_of;
+use nd_tree::read::{Read, Reason, Tokens, line_at, name, name_of, shut, take};
+use nd_tree::spot::Spot;
+use nd_tree::{BinaryOp, Expr, Index, Line, Stmt};
 use std::alloc::Global;
 
 #[tactic(auto, unfolding(nd_model::specs::Cells::module_name))]

@@ -3,7 +3,7 @@
 ghost use Rattle.std.specs.Prelude.{◌≡◌, ◌++◌, codes, decimal, OnOk};
 ghost use Rattle.std.specs.Fmt.{signed_decimal};
 ghost use Rattle.nd_model.specs.Script as script;
-ghost use Rattle.nd_parse.specs.Syntax.{kind_of};
+ghost use Rattle.nd_tree.specs.Syntax.{kind_of};
 ghost use Rattle.nd_eval.specs.Faults.{view_fault_of, index_fault_of, ufunc_fault_of, stmt_error_of, fault_of};
 ghost use Rattle.nd_cell.specs.Cells.{cell_fault_of};
 

@@ -87,7 +87,7 @@ front_free kind set (Shut s why) ts rest a h = ([], h)
 
 -- what no statement takes: an end, and a token that stands elsewhere
 abbrev ENDS : ℕ
-ENDS = END + 2 ^ 63
+ENDS = END + 2 ^ 127
 
 data IsSafe : Level → Type 1 where
   bottom : IsSafe Bottom

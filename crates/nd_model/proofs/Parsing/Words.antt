@@ -50,19 +50,19 @@ by_kind f (suc n) k h lt = go (k == n) refl (λ s. by_kind f n k (and_true _ _ h
 
 -- the test holds of each kind of a symbol
 abbrev pub symbols : (ℕ → Bool) → Bool
-symbols f = f 62 && all_below 40 f
+symbols f = f 126 && all_below 40 f
 
 pub by_symbol : (f : ℕ → Bool) (w : Word) → symbols f ≡ true → f (kind_of_symbol w) ≡ true
 by_symbol f w h = let p = and_true _ _ h in go (kind_of_symbol w) (is_symbol w) p.0 p.1
   where
-    is_symbol : (w : Word) → (nat_lt (kind_of_symbol w) 40 || kind_of_symbol w == 62) ≡ true
+    is_symbol : (w : Word) → (nat_lt (kind_of_symbol w) 40 || kind_of_symbol w == 126) ≡ true
     is_symbol (Name n) = refl
     is_symbol _ = refl
 
-    go : (k : ℕ) → (nat_lt k 40 || k == 62) ≡ true → f 62 ≡ true → all_below 40 f ≡ true → f k ≡ true
+    go : (k : ℕ) → (nat_lt k 40 || k == 126) ≡ true → f 126 ≡ true → all_below 40 f ≡ true → f k ≡ true
     go k e p q = elim (which (nat_lt k 40)) [
       | inl l ↦ by_kind f 40 k q (ltb-true k 40 l)
-      | inr l ↦ (let s : k ≡ 62 = eqb-true _ _ (or_second _ _ l e) in rw s p)
+      | inr l ↦ (let s : k ≡ 126 = eqb-true _ _ (or_second _ _ l e) in rw s p)
     ]
 
 -- where the one holds the other does
@@ -98,8 +98,8 @@ by_before P [] p0 p1 p2 = p0
 by_before P (t ∷ rest) p0 p1 p2 =
     by_test P (kind_of_symbol t.word == 17 || kind_of_symbol t.word == 18) 1 _ p1 (by_test P (kind_of_symbol t.word == 12) 2 0 p2 p0)
 
-pub by_place : (P : ℕ → Type 0) (t : Token) (rest : List Token) → P 63 → P (kind_of_word t.word rest) → P (kind_of t rest)
-by_place P t rest p q = by_test P (t.starts && not (t.column == 1)) 63 _ p q
+pub by_place : (P : ℕ → Type 0) (t : Token) (rest : List Token) → P 127 → P (kind_of_word t.word rest) → P (kind_of t rest)
+by_place P t rest p q = by_test P (t.starts && not (t.column == 1)) 127 _ p q
 
 -- a kind of a name, and the two behind it, are not in the set
 abbrev pub outside : ℕ → ℕ → Bool
@@ -116,8 +116,8 @@ no_name set n rest h =
     by_before (λ b. has set (kind_in name_kinds 40 n + b) ≡ false) rest
     (let z : kind_in name_kinds 40 n + 0 ≡ kind_in name_kinds 40 n = omega arith in rw z (not_not _ q.0)) (not_not _ q.1) (not_not _ p.1)
 
-pub no_keyword : (set : ℕ) (k : List ℕ) → (not (has set 62) && each (λ k. not (has set k)) keyword_kinds) ≡ true → has set (kind_in keyword_kinds 62 k) ≡ false
-no_keyword set k h = not_not _ (by_table (λ k. not (has set k)) keyword_kinds 62 k h)
+pub no_keyword : (set : ℕ) (k : List ℕ) → (not (has set 126) && each (λ k. not (has set k)) keyword_kinds) ≡ true → has set (kind_in keyword_kinds 126 k) ≡ false
+no_keyword set k h = not_not _ (by_table (λ k. not (has set k)) keyword_kinds 126 k h)
 
 -- ---- the token after a name
 
@@ -126,13 +126,13 @@ module _ (set place : ℕ) where
   abbrev tells : ℕ → ℕ → Bool
   tells k m = implied (has set m) (before k == place)
 
-  told_by : (w : Word) (rest : List Token) → IsNameless set → (not (has set 62) && each (λ k. not (has set k)) keyword_kinds) ≡ true → both_kinds tells ≡ true
+  told_by : (w : Word) (rest : List Token) → IsNameless set → (not (has set 126) && each (λ k. not (has set k)) keyword_kinds) ≡ true → both_kinds tells ≡ true
       → has set (kind_of_word w rest) ≡ true → before (kind_of_symbol w) ≡ place
   told_by (Name n) rest a b c h = absurd (let k = no_name set n rest a in cc)
   told_by (Keyword k) rest a b c h = absurd (let k = no_keyword set k b in cc)
   told_by w rest a b c h = eqb-true _ _ (so (has set (refined (kind_of_symbol w) rest)) (before (kind_of_symbol w) == place) (by_both tells w rest c) h)
 
-  pub told : (ts : List Token) → has set 63 ≡ false → IsNameless set → (not (has set 62) && each (λ k. not (has set k)) keyword_kinds) ≡ true → both_kinds tells ≡ true
+  pub told : (ts : List Token) → has set 127 ≡ false → IsNameless set → (not (has set 126) && each (λ k. not (has set k)) keyword_kinds) ≡ true → both_kinds tells ≡ true
       → next_in kind set ts ≡ true → before_next ts ≡ place
   told [] o a b c h = absurd cc
   told (t ∷ rest) o a b c h = by_place (λ k. has set k ≡ true → before (kind_of_symbol t.word) ≡ place) t rest (λ h. absurd cc) (told_by t.word rest a b c) h
@@ -162,7 +162,7 @@ bound_name t rest n h =
 place_word : (w : Word) (rest : List Token) → before_next rest ≡ 0 → has OPERAND (kind_of_word w rest) ≡ true → has PLACE (kind_of_word w rest) ≡ true
 unfolding has name_kinds keyword_kinds
 place_word (Name n) rest e h = rw e (by_table (λ k. has PLACE (k + 0)) name_kinds 40 n refl)
-place_word (Keyword k) rest e h = so _ _ (by_table (λ k. implied (has OPERAND k) (has PLACE k)) keyword_kinds 62 k refl) h
+place_word (Keyword k) rest e h = so _ _ (by_table (λ k. implied (has OPERAND k) (has PLACE k)) keyword_kinds 126 k refl) h
 place_word w rest e h = so _ _ (by_both (λ k m. implied (has OPERAND m) (has PLACE m)) w rest refl) h
 
 -- an operand before an index
@@ -173,15 +173,15 @@ place_operand t rest n h =
 
 -- ---- how many kinds there are
 
-below_bits : (w : Word) (rest : List Token) → nat_lt (kind_of_word w rest) 64 ≡ true
+below_bits : (w : Word) (rest : List Token) → nat_lt (kind_of_word w rest) 128 ≡ true
 unfolding name_kinds keyword_kinds
 below_bits (Name n) rest =
-    by_before (λ b. nat_lt (kind_in name_kinds 40 n + b) 64 ≡ true) rest
-    (by_table (λ k. nat_lt (k + 0) 64) name_kinds 40 n refl)
-    (by_table (λ k. nat_lt (k + 1) 64) name_kinds 40 n refl)
-    (by_table (λ k. nat_lt (k + 2) 64) name_kinds 40 n refl)
-below_bits (Keyword k) rest = by_table (λ k. nat_lt k 64) keyword_kinds 62 k refl
-below_bits w rest = by_both (λ k m. nat_lt m 64) w rest refl
+    by_before (λ b. nat_lt (kind_in name_kinds 40 n + b) 128 ≡ true) rest
+    (by_table (λ k. nat_lt (k + 0) 128) name_kinds 40 n refl)
+    (by_table (λ k. nat_lt (k + 1) 128) name_kinds 40 n refl)
+    (by_table (λ k. nat_lt (k + 2) 128) name_kinds 40 n refl)
+below_bits (Keyword k) rest = by_table (λ k. nat_lt k 128) keyword_kinds 126 k refl
+below_bits w rest = by_both (λ k m. nat_lt m 128) w rest refl
 
-pub word_below : (w : Word) (rest : List Token) → kind_of_word w rest < 64
+pub word_below : (w : Word) (rest : List Token) → kind_of_word w rest < 128
 word_below w rest = ltb-true _ _ (below_bits w rest)

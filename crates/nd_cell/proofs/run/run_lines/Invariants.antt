@@ -1,7 +1,7 @@
 use Rattle.std.proofs.Common.{◌≡◌, ◌+◌, ◌<◌, ◌^◌, [], drop, string_bytes}
 use Rattle.nd_model.specs.Cell.{statements}
 use Rattle.nd_model.specs.Tokens.{tokens_of_lines}
-use Rattle.nd_parse.specs.Syntax.{lines_of}
+use Rattle.nd_tree.specs.Syntax.{lines_of}
 use Rattle.nd_heap.specs.Values.{inputs_of}
 use Rattle.nd_heap.specs.Live.{live}
 use Rattle.nd_cell.specs.Cells.{saves_of}

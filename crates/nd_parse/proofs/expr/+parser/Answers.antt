@@ -3,11 +3,11 @@ use Rattle.std.proofs.lemmas.List.{map_push}
 use Rattle.nd_model.specs.Kinds.{kind, OPEN_BRACKET, COMMA_MORE}
 use Rattle.nd_model.specs.Cells.{Anywhere, LaterItem, under, grouped, element, list, item, index, exponent, signed, operation}
 use Rattle.nd_model.proofs.Parsing.Loops.{push_step, push_end}
-use Rattle.nd_parse.specs.Syntax.{expr_of, index_of, item_of, element_of}
-use Rattle.nd_parse.specs.Gives.{tokens_of, spot_of, indexes_of, items_in, elements_in, list_of_elements, operation_of, operations_of}
+use Rattle.nd_tree.specs.Syntax.{index_of, item_of, element_of}
+use Rattle.nd_tree.specs.Gives.{tokens_of, spot_of, indexes_of, items_in, elements_in, list_of_elements, operation_of, operations_of}
 use Rattle.nd_parse.specs.Readers.{inside, behind_comma, ranked}
 use Rattle.nd_parse.proofs.Steps.{enter_shut, grouped_is, index_is, list_is, signed_is, exponent_is, ranked_none, ranked_some, bor_is, operation_shrinks, index_shrinks, comma_shrinks, contents_items, element_nested, item_listed}
-use Rattle.nd_parse.proofs.Chains as nodes
+use Rattle.nd_tree.proofs.Chains as nodes
 use Rattle.nd_parse.proofs.expr.+parser.Goals as goal
 
 pub grouped-returns-then-levels-eq0 : goal.grouped-returns-then-levels-eq0

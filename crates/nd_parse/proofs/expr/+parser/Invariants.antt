@@ -3,7 +3,7 @@ use Rattle.nd_model.specs.Grammar.{Many}
 use Rattle.nd_model.specs.Predict.{read}
 use Rattle.nd_model.specs.Kinds.{kind, OPEN_BRACKET, COMMA_MORE}
 use Rattle.nd_model.specs.Cells.{Anywhere, LaterItem, under, index, item, element, operation}
-use Rattle.nd_parse.specs.Gives.{tokens_of, indexes_of, items_in, list_of_elements, operations_of}
+use Rattle.nd_tree.specs.Gives.{tokens_of, indexes_of, items_in, list_of_elements, operations_of}
 use Rattle.nd_parse.specs.Readers.{inside, behind_comma, ranked}
 use Rattle.nd_parse.proofs.expr.+parser.Given as goal
 

@@ -1,8 +1,8 @@
 use Rattle.std.proofs.Common.{◌∙◌, ap}
 use Rattle.nd_model.specs.Cells.{items}
-use Rattle.nd_parse.specs.Syntax.{expr_of}
-use Rattle.nd_parse.specs.Gives.{indexes_of}
-use Rattle.nd_parse.proofs.Chains.{indexed_is}
+use Rattle.nd_tree.specs.Syntax.{expr_of}
+use Rattle.nd_tree.specs.Gives.{indexes_of}
+use Rattle.nd_tree.proofs.Chains.{indexed_is}
 use Rattle.nd_parse.proofs.expr.indexed.Goals as goal
 
 pub returns : goal.returns

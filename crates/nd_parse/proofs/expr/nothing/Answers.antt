@@ -1,5 +1,5 @@
 use Rattle.nd_model.specs.Cells.{nothing}
-use Rattle.nd_parse.specs.Gives.{tokens_of}
+use Rattle.nd_tree.specs.Gives.{tokens_of}
 use Rattle.nd_parse.proofs.Steps.{enter_shut, nothing_is}
 use Rattle.nd_parse.proofs.expr.nothing.Goals as goal
 

@@ -2,8 +2,8 @@ use Rattle.std.proofs.Common.{◌∙◌, map, ◌++◌, ◌∷◌, [], sym, ap}
 use Rattle.std.proofs.lemmas.Result.{err_from_is_err_and}
 use Rattle.std.proofs.lemmas.List.{map_push}
 use Rattle.nd_token.specs.Tokens.{token_of}
-use Rattle.nd_parse.specs.Syntax.{expr_of}
-use Rattle.nd_parse.specs.Gives.{tokens_of, exprs_of}
+use Rattle.nd_tree.specs.Syntax.{expr_of}
+use Rattle.nd_tree.specs.Gives.{tokens_of, exprs_of}
 use Rattle.nd_parse.proofs.Steps.{exprs_begin, exprs_fail, exprs_go_on, exprs_go_wrong, exprs_shorter}
 use Rattle.nd_parse.proofs.stmt.exprs.Goals as goal
 

@@ -3,7 +3,7 @@ use Rattle.nd_model.specs.Grammar.{Many}
 use Rattle.nd_model.specs.Predict.{read}
 use Rattle.nd_model.specs.Kinds.{kind, COMMA}
 use Rattle.nd_model.specs.Cells.{Anywhere, under, expr, exprs, comma_expr}
-use Rattle.nd_parse.specs.Gives.{tokens_of, exprs_of}
+use Rattle.nd_tree.specs.Gives.{tokens_of, exprs_of}
 use Rattle.nd_parse.proofs.stmt.exprs.Given as goal
 
 abbrev pub invariant-more : goal.invariant-more

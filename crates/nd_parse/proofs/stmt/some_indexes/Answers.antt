@@ -4,8 +4,8 @@ use Rattle.std.proofs.lemmas.List.{map_push}
 use Rattle.nd_model.specs.Kinds.{kind, OPEN_BRACKET}
 use Rattle.nd_model.specs.Cells.{under, index}
 use Rattle.nd_model.proofs.Parsing.Loops.{many_step}
-use Rattle.nd_parse.specs.Syntax.{index_of}
-use Rattle.nd_parse.specs.Gives.{tokens_of, indexes_of}
+use Rattle.nd_tree.specs.Syntax.{index_of}
+use Rattle.nd_tree.specs.Gives.{tokens_of, indexes_of}
 use Rattle.nd_parse.specs.Readers.{before_last}
 use Rattle.nd_parse.proofs.Steps.{index_shrinks, some_indexes_begin, some_indexes_fail}
 use Rattle.nd_parse.proofs.stmt.some_indexes.Goals as goal

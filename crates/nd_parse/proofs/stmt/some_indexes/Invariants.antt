@@ -3,8 +3,8 @@ use Rattle.nd_model.specs.Grammar.{Many}
 use Rattle.nd_model.specs.Predict.{read}
 use Rattle.nd_model.specs.Kinds.{kind, OPEN_BRACKET}
 use Rattle.nd_model.specs.Cells.{under, index}
-use Rattle.nd_parse.specs.Syntax.{index_of}
-use Rattle.nd_parse.specs.Gives.{tokens_of, indexes_of}
+use Rattle.nd_tree.specs.Syntax.{index_of}
+use Rattle.nd_tree.specs.Gives.{tokens_of, indexes_of}
 use Rattle.nd_parse.specs.Readers.{before_last, some_indexes}
 use Rattle.nd_parse.proofs.stmt.some_indexes.Given as goal
 

@@ -1,7 +1,7 @@
 use Rattle.std.proofs.Common.{◌≡◌, drop, map}
 use Rattle.nd_model.specs.Kinds.{kind_in}
-use Rattle.nd_parse.specs.Readers.{entry}
-use Rattle.nd_parse.proofs.kinds.kind_in.Given as goal
+use Rattle.nd_tree.specs.Tables.{entry}
+use Rattle.nd_tree.proofs.kinds.kind_in.Given as goal
 
 -- the words that are left give the answer
 abbrev pub invariant-loop-name : goal.invariant-loop-name

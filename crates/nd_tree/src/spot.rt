@@ -1,7 +1,7 @@
 //! Where an expression begins.
 ghost use Rattle.std.specs.Prelude.{◌≡◌};
 ghost use Rattle.nd_model.specs.Cells.{leaves, modules, openings};
-ghost use Rattle.nd_parse.specs.Gives.{spot_of};
+ghost use Rattle.nd_tree.specs.Gives.{spot_of};
 
 use crate::kinds::{NP, NP_OTHER, OPEN, OPEN_SOME, OPERAND, PLACE};
 
@@ -18,7 +18,7 @@ pub enum Spot {
 }
 
 /// The operands of one token that may stand there.
-pub fn leaves(spot: Spot) -> u64
+pub fn leaves(spot: Spot) -> u128
     ensures { result ≡ leaves (spot_of spot) }
 {
     match spot {
@@ -28,7 +28,7 @@ pub fn leaves(spot: Spot) -> u64
 }
 
 /// The words `np` that may stand there.
-pub fn modules(spot: Spot) -> u64
+pub fn modules(spot: Spot) -> u128
     ensures { result ≡ modules (spot_of spot) }
 {
     match spot {
@@ -38,7 +38,7 @@ pub fn modules(spot: Spot) -> u64
 }
 
 /// The opening brackets that may stand there.
-pub fn openings(spot: Spot) -> u64
+pub fn openings(spot: Spot) -> u128
     ensures { result ≡ openings (spot_of spot) }
 {
     match spot {

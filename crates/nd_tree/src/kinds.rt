@@ -4,114 +4,115 @@ ghost use Rattle.nd_model.specs.Grammar.{has};
 ghost use Rattle.nd_model.specs.Kinds.{kind_of_symbol, kind_in, keyword_kinds, name_kinds, before_next, is_before, is_name, is_before_name, refined, kind_of_word, kind_of, kind};
 ghost use Rattle.nd_model.specs.Predict.{next_in};
 ghost use Rattle.nd_token.specs.Tokens.{word_of, token_of};
-ghost use Rattle.nd_parse.specs.Gives.{tokens_of};
-ghost use Rattle.nd_parse.specs.Readers.{entry};
+ghost use Rattle.nd_tree.specs.Gives.{tokens_of};
+ghost use Rattle.nd_tree.specs.Tables.{entry};
 
 use nd_token::{Token, Word};
 
-pub const INTEGER: u64 = 1;
+/// An integer.
+pub const INTEGER: u128 = 1;
 /// `True`, `False`
-pub const TRUTH: u64 = 1 << 1;
+pub const TRUTH: u128 = 1 << 1;
 /// `-`
-pub const MINUS: u64 = 1 << 2;
+pub const MINUS: u128 = 1 << 2;
 /// `+`
-pub const PLUS: u64 = 1 << 3;
+pub const PLUS: u128 = 1 << 3;
 /// `~`
-pub const TILDE: u64 = 1 << 4;
+pub const TILDE: u128 = 1 << 4;
 /// `**`
-pub const POWER: u64 = 1 << 5;
+pub const POWER: u128 = 1 << 5;
 /// `*`, `//`, `/`, `%`
-pub const PRODUCT: u64 = 1 << 6;
+pub const PRODUCT: u128 = 1 << 6;
 /// `<<`, `>>`
-pub const SHIFT: u64 = 1 << 7;
+pub const SHIFT: u128 = 1 << 7;
 /// `&`
-pub const AMPERSAND: u64 = 1 << 8;
+pub const AMPERSAND: u128 = 1 << 8;
 /// `^`
-pub const CARET: u64 = 1 << 9;
+pub const CARET: u128 = 1 << 9;
 /// `|`
-pub const BAR: u64 = 1 << 10;
+pub const BAR: u128 = 1 << 10;
 /// `<`, `<=`, `>`, `>=`, `==`, `!=`
-pub const COMPARISON: u64 = 1 << 11;
+pub const COMPARISON: u128 = 1 << 11;
 /// `(` that is not before `)`
-pub const OPEN_SOME: u64 = 1 << 12;
+pub const OPEN_SOME: u128 = 1 << 12;
 /// `(` before `)`
-pub const OPEN_NONE: u64 = 1 << 31;
+pub const OPEN_NONE: u128 = 1 << 31;
 /// `(`
-pub const OPEN: u64 = OPEN_SOME | OPEN_NONE;
+pub const OPEN: u128 = OPEN_SOME | OPEN_NONE;
 /// `)`
-pub const CLOSE: u64 = 1 << 13;
+pub const CLOSE: u128 = 1 << 13;
 /// `[`
-pub const OPEN_BRACKET: u64 = 1 << 14;
+pub const OPEN_BRACKET: u128 = 1 << 14;
 /// `]`
-pub const CLOSE_BRACKET: u64 = 1 << 15;
+pub const CLOSE_BRACKET: u128 = 1 << 15;
 /// `,` that is not before `]`
-pub const COMMA_MORE: u64 = 1 << 16;
+pub const COMMA_MORE: u128 = 1 << 16;
 /// `,` before `]`
-pub const COMMA_LAST: u64 = 1 << 30;
+pub const COMMA_LAST: u128 = 1 << 30;
 /// `,`
-pub const COMMA: u64 = COMMA_MORE | COMMA_LAST;
+pub const COMMA: u128 = COMMA_MORE | COMMA_LAST;
 /// `=`, and `+=` and the like
-pub const ASSIGNMENT: u64 = 0b11 << 17;
+pub const ASSIGNMENT: u128 = 0b11 << 17;
 /// `.`
-pub const DOT: u64 = 1 << 19;
+pub const DOT: u128 = 1 << 19;
 /// `np` that is not before `.newaxis`
-pub const NP_OTHER: u64 = 1 << 20;
+pub const NP_OTHER: u128 = 1 << 20;
 /// `np` before `.newaxis`
-pub const NP_NEWAXIS: u64 = 1 << 32;
+pub const NP_NEWAXIS: u128 = 1 << 32;
 /// `np`
-pub const NP: u64 = NP_OTHER | NP_NEWAXIS;
+pub const NP: u128 = NP_OTHER | NP_NEWAXIS;
 /// `print`
-pub const PRINT: u64 = 1 << 21;
+pub const PRINT: u128 = 1 << 21;
 /// `import`
-pub const IMPORT: u64 = 1 << 22;
+pub const IMPORT: u128 = 1 << 22;
 /// `as`
-pub const AS: u64 = 1 << 23;
+pub const AS: u128 = 1 << 23;
 /// `del`
-pub const DEL: u64 = 1 << 24;
+pub const DEL: u128 = 1 << 24;
 /// The end of a statement.
-pub const END: u64 = 1 << 25;
+pub const END: u128 = 1 << 25;
 /// `:`
-pub const COLON: u64 = 1 << 26;
+pub const COLON: u128 = 1 << 26;
 /// `...`
-pub const ELLIPSIS: u64 = 1 << 27;
+pub const ELLIPSIS: u128 = 1 << 27;
 /// `None`
-pub const NONE: u64 = 1 << 28;
+pub const NONE: u128 = 1 << 28;
 /// A text in quotes.
-pub const QUOTED: u64 = 1 << 29;
+pub const QUOTED: u128 = 1 << 29;
 /// Any token.
-pub const ANY: u64 = u64::MAX;
+pub const ANY: u128 = u128::MAX;
 /// A name before neither an operator of assignment nor `(`.
-pub const UNBOUND: u64 = 0b0010_0100_1001 << 40;
+pub const UNBOUND: u128 = 0b0010_0100_1001 << 40;
 /// A name before an operator of assignment.
-pub const BOUND: u64 = 0b0100_1001_0010 << 40;
+pub const BOUND: u128 = 0b0100_1001_0010 << 40;
 /// A name before `(`.
-pub const CALLED: u64 = 0b1001_0010_0100 << 40;
+pub const CALLED: u128 = 0b1001_0010_0100 << 40;
 /// A name that is not called.
-pub const NAME: u64 = UNBOUND | BOUND;
+pub const NAME: u128 = UNBOUND | BOUND;
 /// `numpy`, where it is not called.
-pub const NUMPY: u64 = 0b011 << 43;
+pub const NUMPY: u128 = 0b011 << 43;
 /// `numpy` before `(`.
-pub const NUMPY_CALLED: u64 = 0b100 << 43;
+pub const NUMPY_CALLED: u128 = 0b100 << 43;
 /// `arange`, called or not.
-pub const ARANGE: u64 = 0b111 << 46;
+pub const ARANGE: u128 = 0b111 << 46;
 /// Any other name.
-pub const NOT_ARANGE: u64 = 0b111_000_111_111 << 40;
+pub const NOT_ARANGE: u128 = 0b111_000_111_111 << 40;
 /// `newaxis`, where it is not called.
-pub const NEWAXIS: u64 = 0b011 << 49;
+pub const NEWAXIS: u128 = 0b011 << 49;
 /// An operand of one token.
-pub const OPERAND: u64 = NAME | INTEGER | TRUTH;
+pub const OPERAND: u128 = NAME | INTEGER | TRUTH;
 /// An operand of one token that does not stand before an operator of assignment.
-pub const PLACE: u64 = UNBOUND | INTEGER | TRUTH;
+pub const PLACE: u128 = UNBOUND | INTEGER | TRUTH;
 /// The signs.
-pub const SIGN: u64 = MINUS | TILDE;
+pub const SIGN: u128 = MINUS | TILDE;
 /// `+`, `-`
-pub const SUM: u64 = PLUS | MINUS;
+pub const SUM: u128 = PLUS | MINUS;
 /// What an expression begins with.
-pub const EXPR: u64 = OPERAND | CALLED | PLUS | OPEN | NP | SIGN;
+pub const EXPR: u128 = OPERAND | CALLED | PLUS | OPEN | NP | SIGN;
 /// What an element of a list begins with.
-pub const ELEMENT: u64 = EXPR | OPEN_BRACKET;
+pub const ELEMENT: u128 = EXPR | OPEN_BRACKET;
 /// What a statement begins with.
-pub const START: u64 = OPERAND | CALLED | PLUS | OPEN | NP | PRINT | IMPORT | DEL;
+pub const START: u128 = OPERAND | CALLED | PLUS | OPEN | NP | PRINT | IMPORT | DEL;
 
 static KEYWORDS: [(&str, u8); 6] = [
     ("True", 1),
@@ -170,7 +171,7 @@ fn kind_of_symbol(word: Word) -> u8
         Word::Colon => 26,
         Word::Ellipsis => 27,
         Word::Quoted(_) => 29,
-        _ => 62,
+        _ => 126,
     }
 }
 
@@ -188,9 +189,9 @@ fn kind_in(table: &[(&str, u8)], other: u8, word: &str) -> u8
 
 #[tactic(auto, unfolding(nd_model::specs::Kinds::keyword_kinds))]
 fn kind_of_keyword(keyword: &str) -> u8
-    ensures { result ≡ kind_in keyword_kinds 62 keyword.now }
+    ensures { result ≡ kind_in keyword_kinds 126 keyword.now }
 {
-    kind_in(&KEYWORDS, 62, keyword)
+    kind_in(&KEYWORDS, 126, keyword)
 }
 
 #[tactic(auto, unfolding(nd_model::specs::Kinds::name_kinds))]
@@ -273,24 +274,24 @@ fn kind_of_word(word: Word, rest: &[Token]) -> u32
 /// The kind of a token before others. A statement begins in column 1.
 fn kind(token: Token, rest: &[Token]) -> u32
     ensures place { result ≡ kind_of (token_of token.entry) (tokens_of rest.now) }
-    ensures below { result < 64 }
+    ensures below { result < 128 }
 {
     if token.starts && token.column != 1 {
-        63
+        127
     } else {
         kind_of_word(token.word, rest)
     }
 }
 
 #[tactic(auto, unfolding(nd_model::specs::Grammar::has))]
-fn is_in(token: Token, rest: &[Token], set: u64) -> bool
+fn is_in(token: Token, rest: &[Token], set: u128) -> bool
     ensures { result ≡ has set (kind_of (token_of token.entry) (tokens_of rest.now)) }
 {
     (set >> kind(token, rest)) & 1 == 1
 }
 
 /// Whether the next token is in the set.
-pub fn next_in(tokens: &[Token], set: u64) -> bool
+pub fn next_in(tokens: &[Token], set: u128) -> bool
     ensures { result ≡ next_in kind set (tokens_of tokens.now) }
 {
     match tokens.split_first() {

@@ -4,10 +4,10 @@ ghost use Rattle.nd_model.specs.Kinds.{kind};
 ghost use Rattle.nd_model.specs.Predict.{read, next_in};
 ghost use Rattle.nd_model.specs.Cells.{token, leaf, name, name_of, quoted_of, line_at};
 ghost use Rattle.nd_token.specs.Tokens.{token_of};
-ghost use Rattle.nd_parse.specs.Syntax.{expr_of};
-ghost use Rattle.nd_parse.specs.Gives.{Gives, with_rest, tokens_of};
-ghost use Rattle.nd_parse.specs.declared.read.Failure.TheVariants.{Memory, Stopped};
-ghost use Rattle.nd_parse.specs.declared.read.Reason.TheVariants.{Itself};
+ghost use Rattle.nd_tree.specs.Syntax.{expr_of};
+ghost use Rattle.nd_tree.specs.Gives.{Gives, with_rest, tokens_of};
+ghost use Rattle.nd_tree.specs.declared.read.Failure.TheVariants.{Memory, Stopped};
+ghost use Rattle.nd_tree.specs.declared.read.Reason.TheVariants.{Itself};
 
 use crate::kinds::{CALLED, NAME, next_in};
 use crate::tree::Expr;
@@ -72,7 +72,7 @@ pub fn stop_at(tokens: &[Token], why: Reason) -> Failure
 }
 
 /// The next token is refused, for this reason if it is in the set.
-pub fn shut(tokens: &[Token], set: u64, why: Reason) -> Failure
+pub fn shut(tokens: &[Token], set: u128, why: Reason) -> Failure
     ensures { result ≡ Stopped (record { left = length tokens.now; why = (if next_in kind set (tokens_of tokens.now) then why else Itself) }) }
 {
     if next_in(tokens, set) {
@@ -83,7 +83,7 @@ pub fn shut(tokens: &[Token], set: u64, why: Reason) -> Failure
 }
 
 /// A token of the set.
-pub fn take<'t>(tokens: Tokens<'t>, set: u64) -> Read<'t, Token<'t>>
+pub fn take<'t>(tokens: Tokens<'t>, set: u128) -> Read<'t, Token<'t>>
     ensures { Gives (with_rest token_of) result (read kind (token set) (tokens_of tokens.now)) }
 {
     match tokens.split_first() {

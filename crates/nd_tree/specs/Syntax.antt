@@ -4,20 +4,20 @@ use Rattle.std.specs.Global.{Global}
 use Rattle.nd_model.specs.Syntax as model
 use Rattle.nd_model.specs.Fault as fault
 use Rattle.nd_model.specs.Cells.{chained, items, items_of, elements_of}
-use Rattle.nd_parse.specs.declared.tree.Expr as declared
-use Rattle.nd_parse.specs.declared.tree.Index as index
-use Rattle.nd_parse.specs.declared.tree.IndexItem as item
-use Rattle.nd_parse.specs.declared.tree.Element as element
-use Rattle.nd_parse.specs.declared.tree.UnaryOp.{UnaryOp}
-use Rattle.nd_parse.specs.declared.tree.UnaryOp.TheVariants as unary
-use Rattle.nd_parse.specs.declared.tree.BinaryOp.{BinaryOp}
-use Rattle.nd_parse.specs.declared.tree.BinaryOp.TheVariants as binary
-use Rattle.nd_parse.specs.declared.tree.Stmt.{Stmt}
-use Rattle.nd_parse.specs.declared.tree.Stmt.TheVariants as stmts
-use Rattle.nd_parse.specs.declared.tree.Line.{Line}
-use Rattle.nd_parse.specs.declared.tree.ParseKind.{ParseKind}
-use Rattle.nd_parse.specs.declared.tree.ParseKind.TheVariants as kinds
-use Rattle.nd_parse.specs.declared.tree.ParseFault.{ParseFault}
+use Rattle.nd_tree.specs.declared.tree.Expr as declared
+use Rattle.nd_tree.specs.declared.tree.Index as index
+use Rattle.nd_tree.specs.declared.tree.IndexItem as item
+use Rattle.nd_tree.specs.declared.tree.Element as element
+use Rattle.nd_tree.specs.declared.tree.UnaryOp.{UnaryOp}
+use Rattle.nd_tree.specs.declared.tree.UnaryOp.TheVariants as unary
+use Rattle.nd_tree.specs.declared.tree.BinaryOp.{BinaryOp}
+use Rattle.nd_tree.specs.declared.tree.BinaryOp.TheVariants as binary
+use Rattle.nd_tree.specs.declared.tree.Stmt.{Stmt}
+use Rattle.nd_tree.specs.declared.tree.Stmt.TheVariants as stmts
+use Rattle.nd_tree.specs.declared.tree.Line.{Line}
+use Rattle.nd_tree.specs.declared.tree.ParseKind.{ParseKind}
+use Rattle.nd_tree.specs.declared.tree.ParseKind.TheVariants as kinds
+use Rattle.nd_tree.specs.declared.tree.ParseFault.{ParseFault}
 
 abbrev pub unary_op : UnaryOp → model.UnaryOp
 unary_op unary.Negative = model.Negative

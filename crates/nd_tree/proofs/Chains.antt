@@ -3,15 +3,15 @@ use Rattle.std.proofs.Common.{◌≡◌, List, [], ◌∷◌, ◌++◌, Option, 
 use mathlib.Core.Former.{Count}
 use Rattle.nd_model.specs.Syntax as model
 use Rattle.nd_model.specs.Cells.{chained, items, items_of, elements_of}
-use Rattle.nd_parse.specs.declared.tree.Expr.{Expr, Indexed, Indexed', Row_of-Index, end_of-Index, more_of-Index, items-the_row-Index, items_hidden-the_row-Index-2, Chain, Chain', Row_of-Expr-Chain-1-2, end_of-Expr-Chain-1-2, more_of-Expr-Chain-1-2, items-the_row-Expr-Chain-1-2, items_hidden-the_row-Expr-Chain-1-2-1}
-use Rattle.nd_parse.specs.declared.tree.Index.{Index, Items, Items', Row_of-IndexItem, end_of-IndexItem, more_of-IndexItem, items-the_row-IndexItem, items_hidden-the_row-IndexItem-3}
-use Rattle.nd_parse.specs.declared.tree.IndexItem as tree
-use Rattle.nd_parse.specs.declared.tree.IndexItem.{IndexItem, Row_of-Element, end_of-Element, more_of-Element, items-the_row-Element, items_hidden-the_row-Element-0}
-use Rattle.nd_parse.specs.declared.tree.Element as element
-use Rattle.nd_parse.specs.declared.tree.Element.{Element}
-use Rattle.nd_parse.specs.declared.tree.BinaryOp.{BinaryOp}
-use Rattle.nd_parse.specs.Syntax.{expr_of, operations_in, row_of_indexes, index_of, row_of_items, item_of, bound_of, row_of_elements, element_of}
-use Rattle.nd_parse.specs.Gives.{operation_of}
+use Rattle.nd_tree.specs.declared.tree.Expr.{Expr, Indexed, Indexed', Row_of-Index, end_of-Index, more_of-Index, items-the_row-Index, items_hidden-the_row-Index-2, Chain, Chain', Row_of-Expr-Chain-1-2, end_of-Expr-Chain-1-2, more_of-Expr-Chain-1-2, items-the_row-Expr-Chain-1-2, items_hidden-the_row-Expr-Chain-1-2-1}
+use Rattle.nd_tree.specs.declared.tree.Index.{Index, Items, Items', Row_of-IndexItem, end_of-IndexItem, more_of-IndexItem, items-the_row-IndexItem, items_hidden-the_row-IndexItem-3}
+use Rattle.nd_tree.specs.declared.tree.IndexItem as tree
+use Rattle.nd_tree.specs.declared.tree.IndexItem.{IndexItem, Row_of-Element, end_of-Element, more_of-Element, items-the_row-Element, items_hidden-the_row-Element-0}
+use Rattle.nd_tree.specs.declared.tree.Element as element
+use Rattle.nd_tree.specs.declared.tree.Element.{Element}
+use Rattle.nd_tree.specs.declared.tree.BinaryOp.{BinaryOp}
+use Rattle.nd_tree.specs.Syntax.{expr_of, operations_in, row_of_indexes, index_of, row_of_items, item_of, bound_of, row_of_elements, element_of}
+use Rattle.nd_tree.specs.Gives.{operation_of}
 
 -- ---- indexes
 

@@ -9,21 +9,21 @@ use Rattle.nd_model.specs.Token as model
 use Rattle.nd_model.specs.Grammar as grammar
 use Rattle.nd_model.specs.Cells.{too_deep, left_out, too_many, unknown_call}
 use Rattle.nd_model.specs.Syntax as syntax
-use Rattle.nd_parse.specs.declared.tree.BinaryOp.{BinaryOp}
-use Rattle.nd_parse.specs.declared.tree.Expr.{Expr}
-use Rattle.nd_parse.specs.declared.tree.Index.{Index}
-use Rattle.nd_parse.specs.declared.tree.IndexItem.{IndexItem}
-use Rattle.nd_parse.specs.declared.tree.Element.{Element}
-use Rattle.nd_parse.specs.declared.spot.Spot.{Spot}
-use Rattle.nd_parse.specs.declared.spot.Spot.TheVariants as spots
+use Rattle.nd_tree.specs.declared.tree.BinaryOp.{BinaryOp}
+use Rattle.nd_tree.specs.declared.tree.Expr.{Expr}
+use Rattle.nd_tree.specs.declared.tree.Index.{Index}
+use Rattle.nd_tree.specs.declared.tree.IndexItem.{IndexItem}
+use Rattle.nd_tree.specs.declared.tree.Element.{Element}
+use Rattle.nd_tree.specs.declared.spot.Spot.{Spot}
+use Rattle.nd_tree.specs.declared.spot.Spot.TheVariants as spots
 use Rattle.nd_model.specs.Cells as cells
-use Rattle.nd_parse.specs.declared.read.Reason.{Reason}
-use Rattle.nd_parse.specs.declared.read.Reason.TheVariants as reasons
-use Rattle.nd_parse.specs.declared.read.Stop.{Stop}
-use Rattle.nd_parse.specs.declared.read.Failure.{Failure}
-use Rattle.nd_parse.specs.declared.read.Failure.TheVariants as failures
-use Rattle.nd_parse.specs.declared.tree.Line.{Line}
-use Rattle.nd_parse.specs.Syntax.{binary_op, expr_of, index_of, item_of, bound_of, element_of, lines_of}
+use Rattle.nd_tree.specs.declared.read.Reason.{Reason}
+use Rattle.nd_tree.specs.declared.read.Reason.TheVariants as reasons
+use Rattle.nd_tree.specs.declared.read.Stop.{Stop}
+use Rattle.nd_tree.specs.declared.read.Failure.{Failure}
+use Rattle.nd_tree.specs.declared.read.Failure.TheVariants as failures
+use Rattle.nd_tree.specs.declared.tree.Line.{Line}
+use Rattle.nd_tree.specs.Syntax.{binary_op, expr_of, index_of, item_of, bound_of, element_of, lines_of}
 
 abbrev pub tokens_of : List Token → List model.Token
 tokens_of ts = map token_of ts

@@ -3,7 +3,7 @@ ghost use Rattle.std.specs.Prelude.{◌≡◌};
 ghost use Rattle.std.specs.Option.{option_map};
 ghost use Rattle.nd_model.specs.Cells.{unary_of, binary_of, augment_of};
 ghost use Rattle.nd_token.specs.Tokens.{word_of};
-ghost use Rattle.nd_parse.specs.Syntax.{unary_op, binary_op};
+ghost use Rattle.nd_tree.specs.Syntax.{unary_op, binary_op};
 
 use crate::tree::{BinaryOp, UnaryOp};
 use nd_token::Word;

@@ -1,0 +1,3 @@
+pub mod Syntax
+pub mod Gives
+pub mod Tables

@@ -8,9 +8,13 @@ mod commands;
 #[cfg(test)]
 mod grammar;
 #[cfg(test)]
+mod notebooks;
+#[cfg(test)]
 mod pieces;
 #[cfg(test)]
 mod runs;
+#[cfg(test)]
+mod scripts;
 #[cfg(test)]
 mod sessions;
 #[cfg(test)]

@@ -1,12 +1,9 @@
-//! The program: its command line, and the status that it ends with.
+//! The command line, and the status that the program ends with.
 
-use crate::input::ScriptReader;
-use crate::output::ScriptWriter;
-use crate::run_fault::RunFault;
-use crate::runner::run;
 use clap::error::ErrorKind;
 use clap::{Arg, ArgAction, Command, Error};
 use nd_rerun::Notebook;
+use nd_run::{RunFault, ScriptReader, ScriptWriter, run};
 use std::alloc::Global;
 use std::io::Read;
 use std::process::ExitCode;

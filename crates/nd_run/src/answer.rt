@@ -1,0 +1,125 @@
+//! The answers to commands.
+
+ghost use Rattle.std.specs.Prelude.{◌≡◌, ◌++◌, codes, decimal, map, option_map, string_bytes, OnOk};
+ghost use Rattle.nd_model.specs.Script as script;
+ghost use Rattle.nd_cell.specs.Cells.{refusal_of, saves_of};
+ghost use Rattle.nd_rerun.specs.Queries.{result_of};
+ghost use Rattle.nd_run.specs.Answer.{edit_answer_of, edit_fault_of, query_fault_of};
+
+use crate::fault::push_cell_fault;
+use indexmap::IndexMap;
+use nd_rerun::{CellResult, EditFault, QueryFault, Refusal};
+use nd_script::{push_count_line, push_names, push_number, push_text};
+use std::alloc::AllocError;
+
+/// Appends the answer to an edit.
+pub fn push_edit_answer(out: &mut Vec<u8>, done: &Result<(), EditFault>) -> Result<(), AllocError>
+    ensures { OnOk result (out.new.items ≡ out.old.items ++ edit_answer_of done.now) }
+{
+    match done {
+        Ok(()) => push_text(out, "ok\n"),
+        Err(fault) => {
+            push_text(out, "refused ")?;
+            push_edit_fault(out, *fault)?;
+            push_text(out, "\n")
+        }
+    }
+}
+
+fn push_edit_fault(out: &mut Vec<u8>, fault: EditFault) -> Result<(), AllocError>
+    ensures { OnOk result (out.new.items ≡ out.old.items ++ script.edit_fault_text (edit_fault_of fault)) }
+{
+    match fault {
+        EditFault::NoCell(at, count) => push_no_cell(out, at, count),
+        EditFault::TooManyCells => push_text(out, "TooManyCells"),
+        EditFault::CellTooLong => push_text(out, "CellTooLong"),
+        EditFault::OutOfMemory => push_text(out, "OutOfMemory"),
+    }
+}
+
+/// Appends the answer to a query for a name that is refused.
+pub fn push_query_refusal(
+    out: &mut Vec<u8>,
+    name: &str,
+    fault: QueryFault,
+) -> Result<(), AllocError>
+    ensures { OnOk result (out.new.items ≡ out.old.items ++ script.refused_line (script.query_fault_text (query_fault_of name.now fault))) }
+{
+    push_text(out, "refused ")?;
+    push_query_fault(out, name, fault)?;
+    push_text(out, "\n")
+}
+
+fn push_query_fault(out: &mut Vec<u8>, name: &str, fault: QueryFault) -> Result<(), AllocError>
+    ensures { OnOk result (out.new.items ≡ out.old.items ++ script.query_fault_text (query_fault_of name.now fault)) }
+{
+    match fault {
+        QueryFault::NoCell(at, count) => push_no_cell(out, at, count),
+        QueryFault::NoName => {
+            push_text(out, "NoName ")?;
+            push_text(out, name)
+        }
+        QueryFault::OutOfMemory => push_text(out, "OutOfMemory"),
+    }
+}
+
+fn push_no_cell(out: &mut Vec<u8>, at: usize, count: usize) -> Result<(), AllocError>
+    ensures { OnOk result (out.new.items ≡ out.old.items ++ (codes "NoCell " ++ decimal at ++ codes " " ++ decimal count)) }
+{
+    push_text(out, "NoCell ")?;
+    push_number(out, at as u64)?;
+    push_text(out, " ")?;
+    push_number(out, count as u64)
+}
+
+/// Appends the answer that shows a cell's text, refusal and files.
+pub fn push_result_answer(out: &mut Vec<u8>, shown: &CellResult) -> Result<(), AllocError>
+    ensures { OnOk result (out.new.items ≡ out.old.items ++ script.result_answer (result_of shown.now)) }
+{
+    push_count_line(out, "text", shown.text.len())?;
+    push_text(out, shown.text.as_str())?;
+    push_refusal(out, &shown.refusal)?;
+    push_saves(out, &shown.saves)?;
+    push_text(out, "end\n")
+}
+
+fn push_refusal(out: &mut Vec<u8>, refusal: &Option<Refusal>) -> Result<(), AllocError>
+    ensures { OnOk result (out.new.items ≡ out.old.items ++ script.ok_or_refused (option_map refusal_of refusal.now)) }
+{
+    let Some(refusal) = refusal else {
+        return push_text(out, "ok\n");
+    };
+    push_text(out, "refused ")?;
+    push_number(out, refusal.line as u64)?;
+    push_text(out, " ")?;
+    push_cell_fault(out, &refusal.fault)?;
+    push_text(out, "\n")
+}
+
+// A line for each file.
+fn push_saves(out: &mut Vec<u8>, saves: &IndexMap<String, Vec<u8>>) -> Result<(), AllocError>
+    ensures { OnOk result (out.new.items ≡ out.old.items ++ script.save_lines (saves_of saves.now.entries)) }
+{
+    for (name, bytes) in saves {
+        push_text(out, "save ")?;
+        push_count_line(out, name.as_str(), bytes.len())?;
+    }
+    Ok(())
+}
+
+/// Appends the answer that shows a cell's source.
+pub fn push_source_answer(out: &mut Vec<u8>, source: &str) -> Result<(), AllocError>
+    ensures { OnOk result (out.new.items ≡ out.old.items ++ script.source_answer source.now) }
+{
+    push_count_line(out, "source", source.len())?;
+    push_text(out, source)?;
+    push_text(out, "\n")
+}
+
+/// Appends the answer that shows the names after a cell.
+pub fn push_names_answer(out: &mut Vec<u8>, names: &[String]) -> Result<(), AllocError>
+    ensures { OnOk result (out.new.items ≡ out.old.items ++ script.names_answer (map string_bytes names.now)) }
+{
+    push_count_line(out, "names", names.len())?;
+    push_names(out, names)
+}

@@ -1,0 +1,120 @@
+//! Lines of a script, carried out and answered.
+
+ghost use Rattle.std.specs.Prelude.{◌≡◌, [], Option};
+ghost use Rattle.nd_model.specs.Script as script;
+ghost use Rattle.nd_rerun.specs.Edits.{book_of};
+ghost use Rattle.nd_script.specs.Command.{line_of};
+ghost use Rattle.nd_run.specs.Carry.{Carried, CarriedLine};
+ghost use Rattle.nd_run.specs.Run.{Done, IsInLine};
+ghost use Rattle.nd_run.specs.Source.{lines_so_far, opening_of, stage_of};
+
+use crate::carry::{
+    edit_cell, insert_cell, move_cell, remove_cell, show_names, show_result, show_source,
+    show_value,
+};
+use crate::source::{Opening, Source};
+use nd_rerun::{Meter, Notebook};
+use nd_script::{LineCommand, command_of, is_end_of_source, push_count_line, push_text};
+use std::alloc::{AllocError, Global};
+
+/// Carries out what a line says, and appends its answer. The source that is open behind the line is returned.
+pub fn answer_line(
+    alloc: Global,
+    source: Option<Source>,
+    line: &[u8],
+    answer: &mut Vec<u8>,
+    meter: &mut Meter,
+    notebook: &mut Notebook,
+) -> Result<Option<Source>, AllocError>
+    requires inside { IsInLine line.now }
+    requires empty { answer.old.items ≡ [] }
+    ensures { Done (stage_of source) line.now (book_of notebook.old) result answer.new.items (book_of notebook.new) }
+{
+    match source {
+        None => answer_command(line, answer, meter, notebook),
+        Some(source) => continue_source(alloc, source, line, answer, meter, notebook),
+    }
+}
+
+// A line of a source, or its end.
+fn continue_source(
+    alloc: Global,
+    source: Source,
+    line: &[u8],
+    answer: &mut Vec<u8>,
+    meter: &mut Meter,
+    notebook: &mut Notebook,
+) -> Result<Option<Source>, AllocError>
+    requires inside { IsInLine line.now }
+    requires empty { answer.old.items ≡ [] }
+    ensures { Done (script.Within (opening_of source.opening) (lines_so_far source)) line.now (book_of notebook.old) result answer.new.items (book_of notebook.new) }
+{
+    if is_end_of_source(line) {
+        close_source(&source, answer, meter, notebook)?;
+        Ok(None)
+    } else {
+        let source = source.with_line(alloc, line)?;
+        Ok(Some(source))
+    }
+}
+
+// The edit of a whole source.
+fn close_source(
+    source: &Source,
+    answer: &mut Vec<u8>,
+    meter: &mut Meter,
+    notebook: &mut Notebook,
+) -> Result<(), AllocError>
+    ensures { Carried (script.closed (opening_of source.now.opening) (lines_so_far source.now)) (book_of notebook.old) answer.old.items result answer.new.items (book_of notebook.new) }
+{
+    match str::from_utf8(source.bytes()) {
+        Ok(text) => match source.opening {
+            Opening::Insert(at) => insert_cell(answer, meter, notebook, at, text),
+            Opening::Edit(at) => edit_cell(answer, meter, notebook, at, text),
+        },
+        Err(_) => push_text(answer, "bad command\n"),
+    }
+}
+
+// A line outside a source.
+fn answer_command(
+    line: &[u8],
+    answer: &mut Vec<u8>,
+    meter: &mut Meter,
+    notebook: &mut Notebook,
+) -> Result<Option<Source>, AllocError>
+    requires { answer.old.items ≡ [] }
+    ensures { Done script.Between line.now (book_of notebook.old) result answer.new.items (book_of notebook.new) }
+{
+    let command = command_of(line);
+    match command {
+        LineCommand::Insert(at) => Ok(Some(Source::new(Opening::Insert(at)))),
+        LineCommand::Edit(at) => Ok(Some(Source::new(Opening::Edit(at)))),
+        _ => {
+            answer_whole(command, answer, meter, notebook)?;
+            Ok(None)
+        }
+    }
+}
+
+// A command of one line. The opening of a source has no answer.
+fn answer_whole(
+    command: LineCommand<'_>,
+    answer: &mut Vec<u8>,
+    meter: &mut Meter,
+    notebook: &mut Notebook,
+) -> Result<(), AllocError>
+    ensures { CarriedLine (line_of command.entry) (book_of notebook.old) answer.old.items result answer.new.items (book_of notebook.new) }
+{
+    match command {
+        LineCommand::Remove(at) => remove_cell(answer, meter, notebook, at),
+        LineCommand::Move { from, to } => move_cell(answer, meter, notebook, from, to),
+        LineCommand::Show(at) => show_result(answer, notebook, at),
+        LineCommand::Source(at) => show_source(answer, notebook, at),
+        LineCommand::Names(at) => show_names(answer, notebook, at),
+        LineCommand::Value { at, name } => show_value(answer, notebook, at, name),
+        LineCommand::Count => push_count_line(answer, "count", notebook.count()),
+        LineCommand::Bad => push_text(answer, "bad command\n"),
+        LineCommand::Insert(_) | LineCommand::Edit(_) | LineCommand::Silent => Ok(()),
+    }
+}

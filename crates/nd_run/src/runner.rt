@@ -1,0 +1,72 @@
+//! Running a script from a reader.
+
+ghost use Rattle.std.specs.Prelude.{◌≡◌, ◌^◌, ◌⊎◌, IfErr, OnOk};
+ghost use Rattle.nd_rerun.specs.Edits.{book_of};
+ghost use Rattle.nd_run.specs.Ends.{counted_on};
+ghost use Rattle.nd_run.specs.Run.{RanToEnd, StoppedAt};
+
+use crate::input::CountedRead;
+use crate::output::CountedWrite;
+use crate::run_fault::RunFault;
+use crate::script::Script;
+use nd_rerun::{Meter, Notebook};
+use std::alloc::Global;
+
+// The most reads of a run.
+const MOST_TURNS: u64 = 1 << 32;
+
+/// Runs a script: its commands are carried out one after the other on the notebook, and the answer to each is written
+/// before the next one is carried out. At a fault the commands so far stand.
+pub fn run<R: CountedRead, W: CountedWrite>(
+    alloc: Global,
+    reader: &mut R,
+    writer: &mut W,
+    notebook: &mut Notebook,
+) -> Result<(), RunFault>
+    ensures to_end { OnOk result (RanToEnd (R.remaining reader.old) (R.remaining reader.new)
+        (book_of notebook.old) (W.contents writer.old) (W.contents writer.new) (book_of notebook.new)) }
+    ensures stopped { IfErr result (λ f. StoppedAt f (R.remaining reader.old) (R.remaining reader.new)
+        (book_of notebook.old) (W.contents writer.old) (W.contents writer.new) (book_of notebook.new)) }
+
+    // A read fault stands only where a read failed or 2^32 reads were made, a write fault only where a write failed.
+    ensures read { IfErr result (λ f. f ≡ RunFault.ReadFault →
+        (R.failures reader.new ≡ counted_on (R.failures reader.old) 1) ⊎ (R.reads reader.new ≡ counted_on (R.reads reader.old) (2 ^ 32))) }
+    ensures written { IfErr result (λ f. f ≡ RunFault.WriteFault → W.failures writer.new ≡ counted_on (W.failures writer.old) 1) }
+    ensures reader_kept { OnOk result (R.failures reader.new ≡ R.failures reader.old) }
+    ensures writer_kept { OnOk result (W.failures writer.new ≡ W.failures writer.old) }
+{
+    run_turns(alloc, reader, writer, notebook, MOST_TURNS)
+}
+
+/// Runs a script by at most so many reads.
+pub fn run_turns<R: CountedRead, W: CountedWrite>(
+    alloc: Global,
+    reader: &mut R,
+    writer: &mut W,
+    notebook: &mut Notebook,
+    turns: u64,
+) -> Result<(), RunFault>
+    ensures to_end { OnOk result (RanToEnd (R.remaining reader.old) (R.remaining reader.new)
+        (book_of notebook.old) (W.contents writer.old) (W.contents writer.new) (book_of notebook.new)) }
+    ensures stopped { IfErr result (λ f. StoppedAt f (R.remaining reader.old) (R.remaining reader.new)
+        (book_of notebook.old) (W.contents writer.old) (W.contents writer.new) (book_of notebook.new)) }
+    ensures read { IfErr result (λ f. f ≡ RunFault.ReadFault →
+        (R.failures reader.new ≡ counted_on (R.failures reader.old) 1) ⊎ (R.reads reader.new ≡ counted_on (R.reads reader.old) turns)) }
+    ensures written { IfErr result (λ f. f ≡ RunFault.WriteFault → W.failures writer.new ≡ counted_on (W.failures writer.old) 1) }
+    ensures reader_kept { OnOk result (R.failures reader.new ≡ R.failures reader.old) }
+    ensures writer_kept { OnOk result (W.failures writer.new ≡ W.failures writer.old) }
+{
+    let mut meter = Meter::new();
+    let mut script = Script::new(alloc);
+    let mut chunk = [0u8; 8192];
+    for _turn in 0..turns {
+        let Ok(n) = reader.read_counted(&mut chunk) else {
+            return Err(RunFault::ReadFault);
+        };
+        if n == 0 {
+            return script.finish(alloc, &mut meter, notebook, writer);
+        }
+        script.take_bytes(alloc, &chunk[..n], &mut meter, notebook, writer)?;
+    }
+    Err(RunFault::ReadFault)
+}

@@ -62,7 +62,7 @@ impl Session {
         }
     }
 
-    /// Where the session takes its memory.
+    /// Where the session takes its memory. No clause says which allocator that is: to a clause all values of `Global` are one.
     pub fn allocator(&self) -> Global {
         self.alloc
     }

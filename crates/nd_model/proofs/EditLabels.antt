@@ -217,7 +217,3 @@ labelled n cs h = elim (cases_lt n (above_labels cs)) [
 
 pub free_step : (many n : ℕ) (cs : List Cell) → n < many → is_label n cs ≡ true → first_free (many - n) n cs ≡ first_free (many - (n + 1)) (n + 1) cs
 free_step many n cs lt h = rw (let e : many - n ≡ suc (many - (n + 1)) = omega arith in e, h) refl
-
-pub free_stop : (many n : ℕ) (cs : List Cell) → is_label n cs ≡ false → first_free many n cs ≡ n
-free_stop zero n cs h = refl
-free_stop (suc many) n cs h = rw h refl

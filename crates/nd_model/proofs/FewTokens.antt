@@ -6,10 +6,10 @@ use Rattle.nd_model.specs.Grammar.{Gram, Done, Here, One, Then, Or, Many, Shut, 
 use Rattle.nd_model.specs.Token as words
 use Rattle.nd_model.specs.Token.{Word, End, Token}
 use Rattle.nd_model.specs.Lexing.{is_end, words_in}
-use Rattle.nd_model.specs.Syntax.{BinaryOp, Expr, Binary, Item, Index, Field, Items, IndexItems, NoItem, AndItem, IndexItem, At, Slice, Listed, Bound, Omitted, Given, Elements, NoElement, AndElement, Element, Single, Nested, Stmt}
+use Rattle.nd_model.specs.Syntax.{BinaryOp, Expr, Binary, Item, Index, Items, IndexItem, Listed, Bound, Omitted, Given, Elements, Element, Single, Nested, Stmt}
 use Rattle.nd_model.specs.Tokens.{tokens_of, tokens_of_index, tokens_of_items, tokens_of_item, tokens_of_bound, tokens_of_step, tokens_of_elements, tokens_of_others, tokens_of_element, tokens_of_all, tokens_of_stmt, tokens_of_lines}
-use Rattle.nd_model.specs.Kinds.{kind_of_word, kind, NAME, NUMPY, ARANGE, NEWAXIS, SIGN, POWER, PRODUCT, SUM, SHIFT, AMPERSAND, CARET, BAR, COMPARISON, OPEN, OPEN_SOME, OPEN_NONE, CLOSE, OPEN_BRACKET, CLOSE_BRACKET, COMMA, COMMA_MORE, COMMA_LAST, COLON, ELLIPSIS, NONE, QUOTED, ASSIGNMENT, DOT, NP, NP_OTHER, NP_NEWAXIS, PRINT, IMPORT, AS, DEL}
-use Rattle.nd_model.specs.Cells.{leaf_of, quoted_of, items, items_of, elements_of, sliced, chained, chained_once, bound, written, between, mapped, some, separated, operation, Spot, Anywhere, Target, FirstItem, LaterItem, leaves, modules, openings, Level, Bottom, Under, Inside, enter, name, grouped, bound_in, step_in, slice, newaxis, element, elements, list, part, item, nothing, contents, index, function, arange, operand, postfix, exponent, power, signed, unary, term, sum, shift, band, bxor, bor, comparison, expr, under, module_name, imports, delete, exprs, printed, print, value, bind, target, assign, stmt, line, lines, cell}
+use Rattle.nd_model.specs.Kinds.{kind_of_word, kind, NAME, NUMPY, ARANGE, NEWAXIS, SIGN, POWER, PRODUCT, SUM, SHIFT, AMPERSAND, CARET, BAR, COMPARISON, OPEN, OPEN_NONE, CLOSE, OPEN_BRACKET, CLOSE_BRACKET, COMMA, COMMA_MORE, COMMA_LAST, COLON, ELLIPSIS, NONE, QUOTED, ASSIGNMENT, DOT, NP, NP_NEWAXIS, PRINT, IMPORT, AS, DEL}
+use Rattle.nd_model.specs.Cells.{leaf_of, items, items_of, elements_of, sliced, chained, chained_once, bound, written, between, mapped, some, separated, operation, Spot, Anywhere, Target, FirstItem, LaterItem, leaves, modules, openings, Level, Bottom, Under, Inside, enter, name, grouped, bound_in, step_in, slice, newaxis, element, elements, list, part, item, nothing, contents, index, function, arange, operand, postfix, exponent, power, signed, unary, term, sum, shift, band, bxor, bor, comparison, expr, under, module_name, imports, delete, exprs, printed, print, value, bind, target, assign, stmt, line, lines, cell}
 use Rattle.nd_model.specs.Few.{FewTokens}
 use Rattle.nd_model.proofs.Parsing.Sets.{true_false}
 use Rattle.nd_model.proofs.Parsing.Texts.{read_is_cell}

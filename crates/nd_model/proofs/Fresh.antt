@@ -1,12 +1,12 @@
 -- A cell leaves no base of a label that was not there before, but its own: the relation of Renamed, at a test that tells
 -- each other label from that one.
-use Rattle.std.proofs.Common.{◌≡◌, ℕ, Bool, true, false, not, cond, ◌&&◌, eqb, eqb-true, eq-eqb, ne_eqb, List, [], ◌∷◌, refl, sym, ap, ap₂, subst, ◌∙◌, inl, inr}
+use Rattle.std.proofs.Common.{◌≡◌, ℕ, Bool, true, false, not, ◌&&◌, eqb, eqb-true, eq-eqb, ne_eqb, [], ◌∷◌, refl, sym, ap, ap₂, subst, ◌∙◌, inl, inr}
 use Rattle.std.proofs.lemmas.Bool.{cases_Bool, or_parts, or_from, and_from, not_from_false}
 use Rattle.nd_model.specs.Value.{Base, same_base, Value, Int, Truth, Scalar, Array, Row, lies_in}
-use Rattle.nd_model.specs.Session.{Names, is_held, Session, held_bytes, no_session}
+use Rattle.nd_model.specs.Session.{Names, is_held, Session}
 use Rattle.nd_model.specs.Running.{Inputs, start}
 use Rattle.nd_model.specs.Syntax.{Parsed}
-use Rattle.nd_model.specs.Cell.{Ended, cell, session_after}
+use Rattle.nd_model.specs.Cell.{cell, session_after}
 use Rattle.nd_model.specs.Footprint.{HasNone, with_effects}
 use Rattle.nd_model.specs.Records.{Record, StillHolds}
 use Rattle.nd_model.specs.Scheduler.{IsOfRun}
@@ -14,17 +14,6 @@ use Rattle.nd_model.specs.Renaming.{IsOneToOne}
 use Rattle.nd_model.proofs.Lists.{not_both}
 use Rattle.nd_model.proofs.Passing.{stands}
 use Rattle.nd_model.proofs.Renamed.{SameBase, SameValue, int, truth, scalar, array, row, SameNames, no_name, entry, LikeEnds, LikeSessions, same_ran, like_start}
-
--- what is in a session is held by it
-pub held_after : (e : Ended) (b : Base) → held_bytes (session_after e) b ≡ (session_after e).bytes b
-held_after e b = twice (is_held b e.running.names) (e.running.bytes b)
-  where
-    twice : (t : Bool) (l : List ℕ) → cond t (cond t l []) [] ≡ cond t l []
-    twice true l = refl
-    twice false l = refl
-
-pub has_none_at_first : (label : ℕ) → HasNone label no_session
-has_none_at_first label = record { none = λ b e. refl }
 
 module _ (label : ℕ) where
   -- each label stands for itself, but this one for none

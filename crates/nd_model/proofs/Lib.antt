@@ -1,6 +1,7 @@
 pub mod Values
 pub mod Puts
 pub mod Parts
+pub mod Pieces
 pub mod Lists
 pub mod Twins
 pub mod Frames

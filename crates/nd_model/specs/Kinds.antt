@@ -1,5 +1,5 @@
 -- The kinds of tokens, of which a set is a number by its bits. The kind of a name depends on the token after it.
-use Rattle.std.specs.Prelude.{ℕ, Bool, true, false, ◌+◌, ◌-◌, ◌^◌, ◌==◌, ◌&&◌, ◌||◌, not, bytes_eq, codes, if◌then◌else◌, List, [], ◌∷◌}
+use Rattle.std.specs.Prelude.{ℕ, Bool, false, ◌+◌, ◌-◌, ◌^◌, ◌==◌, ◌&&◌, ◌||◌, not, bytes_eq, codes, if◌then◌else◌, List, [], ◌∷◌}
 use Rattle.nd_model.specs.Token.{Word, Name, Integer, Keyword, Np, Print, Plus, Minus, Star, DoubleStar, DoubleSlash, Slash, Percent, ShiftLeft, ShiftRight, Ampersand, Bar, Caret, Tilde, Less, LessEqual, Greater, GreaterEqual, DoubleEqual, NotEqual, Equal, PlusEqual, MinusEqual, StarEqual, DoubleStarEqual, DoubleSlashEqual, SlashEqual, PercentEqual, ShiftLeftEqual, ShiftRightEqual, AmpersandEqual, BarEqual, CaretEqual, OpenParen, CloseParen, OpenBracket, CloseBracket, Comma, Colon, Dot, Ellipsis, Quoted, End, Token}
 
 -- ---- groups of words

@@ -1,8 +1,9 @@
 -- Runs: elements at even steps, as one axis of a view has them, and a copy of one run over another. A step is in bytes, and may
 -- be 0 or negative (PEP 3118, "strides").
-use Rattle.std.specs.Prelude.{ℕ, zero, suc, ◌+◌, ◌<◌, ◌≤◌, ℤ, pos, ◌≤ℤ◌, ◌+ℤ◌, ◌*ℤ◌, unsigned_abs, List, map, ◌⊎◌}
+use Rattle.std.specs.Prelude.{ℕ, zero, suc, ◌+◌, ◌-◌, ◌/◌, ◌<◌, ◌≤◌, ℤ, pos, ◌≤ℤ◌, ◌+ℤ◌, ◌*ℤ◌, unsigned_abs, List, [], ◌∷◌, length, take, drop, slice_index_or, map, ◌⊎◌}
 use Rattle.nd_model.specs.Element.{bytes_at, with_bytes}
 use Rattle.nd_model.specs.Tuple.{count_up}
+use Rattle.nd_model.specs.View.{Geo}
 
 -- where element k of a run begins, before it is known that this is no negative number
 abbrev pub place_at : ℕ → ℤ → ℕ → ℤ
@@ -15,6 +16,27 @@ spot_at start step k = unsigned_abs (place_at start step k)
 -- the places where the elements begin
 abbrev pub run_places : ℕ → ℤ → ℕ → List ℕ
 run_places start step count = map (spot_at start step) (count_up 0 count)
+
+-- ---- the runs of a view
+
+-- the first `count` pieces of n places each
+abbrev pub pieces : ℕ → ℕ → List ℕ → List (List ℕ)
+pieces n zero ps = []
+pieces n (suc count) ps = take n ps ∷ pieces n count (drop n ps)
+
+-- all pieces of n places
+abbrev pub in_pieces : ℕ → List ℕ → List (List ℕ)
+in_pieces n ps = pieces n (length ps / n) ps
+
+-- the length of the last axis, 1 where there is no axis
+abbrev pub last_length : List ℕ → ℕ
+last_length shape = slice_index_or shape (length shape - 1) 1
+
+-- the runs of a view in C order: each is the places along the last axis. Where there are no elements there are none
+abbrev pub runs_of : Geo → List (List ℕ)
+runs_of g = in_pieces (last_length g.shape) g.places
+
+-- ---- copies
 
 -- the `count` elements of `size` bytes lie within `len` bytes
 abbrev pub AreWithin : ℕ → ℤ → ℕ → ℕ → ℕ → Type 0

@@ -1,15 +1,14 @@
 -- The places of an array without gaps.
-use Rattle.std.proofs.Common.{◌≡◌, ℕ, zero, suc, ◌+◌, ◌*◌, ◌<◌, ◌≤◌, ◌==◌, true, false, List, [], ◌∷◌, ◌++◌, map, length, get_or, refl, sym, ap, ◌∙◌, inl, inr, arith}
+use Rattle.std.proofs.Common.{◌≡◌, ℕ, zero, suc, ◌+◌, ◌*◌, ◌≤◌, ◌==◌, true, false, List, [], ◌∷◌, ◌++◌, map, refl, sym, ap, ◌∙◌, inl, inr, arith}
 use Rattle.std.specs.Prelude.{ℤ, pos, ◌+ℤ◌, ◌*ℤ◌, unsigned_abs, nat_le}
 use Rattle.std.proofs.lemmas.Bool.{cases_lt}
 use Rattle.std.proofs.lemmas.Bool.Decides.{nat_tests}
 use Rattle.std.proofs.lemmas.Int.{ints}
 use Rattle.nd_model.specs.Tuple.{count_up, elements_of, indices}
-use Rattle.nd_model.specs.View.{ElementType, contiguous, item_size}
-use Rattle.std.proofs.lemmas.List.{append-nil, length-map, get_or-map}
+use Rattle.std.proofs.lemmas.List.{append-nil}
 use Rattle.nd_model.specs.Strides.{way_to, place_at, places_by}
 use Rattle.nd_view.specs.Strides.{steps_of, strides_of}
-use Rattle.nd_view.proofs.Tuples.{map-map, map-flat_map, map_same, flat_map_same, length-count_up, get_or-count_up, shifted, runs, no_tuples}
+use Rattle.nd_view.proofs.Tuples.{map-map, map-flat_map, map_same, flat_map_same, shifted, runs, no_tuples}
 
 -- an axis moves all places below it
 under : (off i s : ℕ) (strides : List ℤ) (t : List ℕ) → place_at off (pos s ∷ strides) (i ∷ t) ≡ place_at (off + i * s) strides t
@@ -80,11 +79,3 @@ places_by-strides_of size shape =
       | inr none ↦ let zero_of : elements_of shape ≡ 0 = omega arith in
           rw (no_tuples shape zero_of, zero_of) refl
     ]
-
-pub length-places : (t : ElementType) (shape : List ℕ) → length (contiguous t shape).places ≡ elements_of shape
-length-places t shape = length-map (count_up 0 (elements_of shape)) (λ k. k * item_size t) ∙ length-count_up 0 (elements_of shape)
-
-pub get_or-places : (t : ElementType) (shape : List ℕ) (k : ℕ) → k < elements_of shape → get_or (contiguous t shape).places k 0 ≡ k * item_size t
-get_or-places t shape k lt =
-    let n : ℕ = elements_of shape in let long : k < length (count_up 0 n) = omega (arith, length-count_up 0 n) in
-    get_or-map (λ j. j * item_size t) (count_up 0 n) k 0 0 long ∙ ap (λ j. j * item_size t) (get_or-count_up 0 n k 0 lt ∙ omega arith)

@@ -1,5 +1,5 @@
 -- The strides that a view keeps lead to the same places.
-use Rattle.std.proofs.Common.{◌≡◌, ℕ, suc, ◌-◌, ◌*◌, ◌<◌, ◌≤◌, ◌==◌, true, false, List, [], ◌∷◌, length, refl, sym, ap, ◌∙◌, inl, inr, arith}
+use Rattle.std.proofs.Common.{◌≡◌, ℕ, zero, suc, ◌-◌, ◌*◌, ◌<◌, ◌≤◌, ◌==◌, true, false, List, [], ◌∷◌, length, get_or, refl, sym, ap, ◌∙◌, inl, inr, arith}
 use Rattle.std.specs.Prelude.{ℤ, pos, ◌+ℤ◌, ◌*ℤ◌, ◌||◌, nat_le, unsigned_abs, if◌then◌else◌}
 use Rattle.std.proofs.lemmas.Bool.{cases_lt}
 use Rattle.std.proofs.lemmas.Bool.Decides.{nat_tests}
@@ -23,6 +23,13 @@ kept_long count n s lt some = let test : nat_le n 1 ≡ false = grind (arith, na
 
 pub kept_none : (n : ℕ) (s : ℤ) → kept 0 n s ≡ pos 0
 kept_none n s = elim (nat_le n 1) as (λ b. (if b || 0 == 0 then pos 0 else s) ≡ pos 0) [ true ↦ refl | false ↦ refl ]
+
+-- the stride that is kept of an axis of at most one element, or of none, is 0
+pub short_stride : (count : ℕ) (shape : List ℕ) (strides : List ℤ) (m : ℕ) → kept_all count shape strides ≡ strides → get_or shape m 1 ≤ 1 → get_or strides m (pos 0) ≡ pos 0
+short_stride count [] strides m e le = sym (ap (λ l. get_or l m (pos 0)) e)
+short_stride count (n ∷ shape) [] m e le = refl
+short_stride count (n ∷ shape) (s ∷ strides) zero e le = let first : kept count n s ≡ s = cc in sym first ∙ kept_short count n s le
+short_stride count (n ∷ shape) (s ∷ strides) (suc m) e le = let rest : kept_all count shape strides ≡ strides = cc in short_stride count shape strides m rest le
 
 before_kept : (count n : ℕ) (s : ℤ) → before n (kept count n s) ≤ before n s
 before_kept count n s = kept_is count n s (λ z. before n z ≤ before n s) (omega arith) (omega arith)

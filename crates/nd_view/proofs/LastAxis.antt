@@ -1,8 +1,9 @@
 -- The run that a view has from a tuple of the axes before the last one on.
-use Rattle.std.proofs.Common.{◌≡◌, ℕ, zero, suc, ◌-◌, ◌<◌, ◌^◌, List, [], ◌∷◌, length, take, drop, get_or, ap, ◌∙◌, arith}
+use Rattle.std.proofs.Common.{◌≡◌, ℕ, zero, suc, ◌-◌, ◌*◌, ◌<◌, ◌^◌, List, [], ◌∷◌, length, take, drop, get_or, refl, ap, ◌∙◌, arith}
 use Rattle.std.specs.Prelude.{ℤ, pos, ◌+ℤ◌, ◌*ℤ◌, ◌≤ℤ◌, unsigned_abs}
 use Rattle.std.proofs.lemmas.Int.{ints}
 use Rattle.nd_model.specs.Runs as runs
+use Rattle.nd_model.specs.Runs.{last_length}
 use Rattle.nd_model.specs.Strides.{place_at, places_by}
 use Rattle.nd_model.specs.Tuple.{elements_of, number}
 use Rattle.nd_view.specs.Indexes.{IsIndex}
@@ -58,3 +59,10 @@ module _ (size : ℕ) (offset : ℕ) (shape : List ℕ) (strides : List ℤ) (sa
 
     pub run_is : runs.run_places start step count ≡ take count (drop (number shape t) (places_by offset strides shape))
     run_is = run_of size offset some shape strides same lies t last is
+
+-- how many runs there are
+pub rows_of : (shape : List ℕ) → (count : ℕ) × (elements_of shape ≡ count * last_length shape)
+rows_of [] = (1, refl)
+rows_of (n ∷ shape) =
+    let last : length (n ∷ shape) - 1 ≡ length shape = omega arith in
+    (elements_of (take (length shape) (n ∷ shape)), rw last (rows.elements_outer (n ∷ shape) (length shape) refl))

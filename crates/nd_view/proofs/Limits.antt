@@ -32,13 +32,3 @@ limits_of size shape none =
   where
     below : (m n : ℕ) → nat_lt m n ≡ false → n ≤ m
     below m n e = grind (arith, nat_tests)
-
-pub in_limits : (size : ℕ) (shape : List ℕ) → AreLimited size shape → IsInLimits size shape
-in_limits size shape is =
-    let long : nat_lt 32 (length shape) ≡ false = not_below 32 (length shape) is.axes in
-    let many : nat_lt (2 ^ 24) (elements_of shape) ≡ false = not_below (2 ^ 24) (elements_of shape) is.elements in
-    let large : nat_lt (2 ^ 27) (elements_of shape * size) ≡ false = not_below (2 ^ 27) (elements_of shape * size) is.bytes in
-    rw (long, is.lengths, many, large) refl
-  where
-    not_below : (m n : ℕ) → n ≤ m → nat_lt m n ≡ false
-    not_below m n le = grind (arith, nat_tests)

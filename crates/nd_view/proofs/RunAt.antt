@@ -4,13 +4,14 @@ use Rattle.std.specs.Prelude.{ℤ, pos, ◌≤ℤ◌}
 use Rattle.std.proofs.lemmas.List.{length-map}
 use Rattle.nd_model.specs.Runs as runs
 use Rattle.nd_model.specs.Strides.{place_at}
-use Rattle.nd_model.specs.Tuple.{count_up, number}
+use Rattle.nd_model.specs.Tuple.{count_up, elements_of, number}
 use Rattle.nd_model.specs.View.{Geo, item_size}
 use Rattle.nd_types.specs.Types.{type_of}
 use Rattle.nd_view.specs.Indexes.{IsIndex}
 use Rattle.nd_view.specs.Views.{geo_of, IsView}
 use Rattle.nd_view.specs.declared.strided.View.TheInside.{Inside}
 use Rattle.nd_view.proofs.Fields.{shape_is, count_of, lies_of}
+use Rattle.nd_view.proofs.Kept.{short_stride}
 use Rattle.nd_view.proofs.LastAxis as last_axis
 use Rattle.nd_view.proofs.Tuples.{length-count_up}
 
@@ -27,6 +28,9 @@ module _ (v : Inside) (is : IsView v) (g : Geo) (e : geo_of v ≡ g) (t : List �
 
     pub spots : (k : ℕ) → k < count → (pos 0 ≤ℤ runs.place_at start step k) × (runs.spot_at start step k < 2 ^ 64)
     spots = rw (starts, steps, counts) (last_axis.spots (item_size (type_of v.elem)) v.offset v.shape.items v.strides.items is.axes (lies_of v is g e) is.some t here tuple)
+
+    pub alone : count ≡ 1 → step ≡ pos 0
+    alone one = steps ∙ short_stride (elements_of v.shape.items) v.shape.items v.strides.items (length t) is.strides (omega (arith, counts, one))
 
     pub length_is : (run : List ℕ) → run ≡ runs.run_places start step count → length run ≡ get_or g.shape (length t) 1
     length_is run made =

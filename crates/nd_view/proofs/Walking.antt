@@ -1,9 +1,11 @@
 -- One run further on a walk over a view.
-use Rattle.std.proofs.Common.{◌≡◌, ℕ, zero, suc, ◌+◌, ◌-◌, ◌*◌, ◌<◌, ◌≤◌, List, [], ◌∷◌, ◌++◌, length, take, drop, get_or, refl, sym, ap, ◌∙◌, inl, inr, arith, length-take}
+use Rattle.std.proofs.Common.{◌≡◌, ℕ, zero, suc, ◌+◌, ◌-◌, ◌*◌, ◌<◌, ◌≤◌, List, [], ◌∷◌, ◌++◌, length, take, drop, get_or, refl, sym, ap, ◌∙◌, inl, inr, arith, length-take, length-drop}
 use Rattle.std.proofs.Math.Nat.{mul-le-mul_right}
 use Rattle.std.proofs.lemmas.Bool.{cases_lt}
-use Rattle.std.proofs.lemmas.List.{take-append-drop, drop-drop}
+use Rattle.std.proofs.lemmas.List.{drop-drop}
+use Rattle.nd_model.specs.Runs.{in_pieces}
 use Rattle.nd_model.specs.Tuple.{elements_of, number}
+use Rattle.nd_model.proofs.Pieces.{first_piece}
 use Rattle.nd_view.specs.Indexes.{IsIndex}
 use Rattle.nd_view.proofs.Rows.{number_outer, elements_outer, row_inside}
 use Rattle.nd_view.proofs.Steps.{length-index}
@@ -40,8 +42,11 @@ front_of [] rest (suc m) e = absurd (omega arith)
 front_of (x ∷ u) rest zero e = absurd (omega arith)
 front_of (x ∷ u) rest (suc m) e = ap (λ l. x ∷ l) (front_of u rest m (omega arith))
 
-pub split : (ps run : List ℕ) (at n : ℕ) → run ≡ take n (drop at ps) → drop at ps ≡ run ++ drop (at + n) ps
-split ps run at n e = sym (ap (λ l. l ++ drop (at + n) ps) e ∙ ap (λ l. take n (drop at ps) ++ l) (sym (drop-drop n at ps)) ∙ take-append-drop n (drop at ps))
+-- the run that the walk is at is the first one that is left
+pub next_run : (ps run : List ℕ) (at n last : ℕ) → n ≡ last → 0 < n → at + n ≤ length ps → run ≡ take n (drop at ps) → in_pieces last (drop at ps) ≡ run ∷ in_pieces last (drop (at + n) ps)
+next_run ps run at n last same some le e =
+    let long : n ≤ length (drop at ps) = simp length-drop (omega arith) in
+    ap (λ m. in_pieces m (drop at ps)) (sym same) ∙ first_piece n (drop at ps) some long ∙ (λ i. sym e i ∷ in_pieces (same i) (drop-drop n at ps i))
 
 -- after one run more
 pub record Walked (shape : List ℕ) (outer number-of n count : ℕ) (t u : List ℕ) : Type 0 where

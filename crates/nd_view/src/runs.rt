@@ -1,6 +1,6 @@
 //! Runs: elements one step apart, as the last axis of a view has them.
-ghost use Rattle.std.specs.Prelude.{◌≡◌, ℕ, pos, ◌≤ℤ◌, ◌<◌, ◌≤◌, ◌^◌, [], ◌++◌, length, slice_index, MatchOption};
-ghost use Rattle.nd_model.specs.Runs.{place_at, spot_at, run_places};
+ghost use Rattle.std.specs.Prelude.{◌≡◌, ℕ, pos, ◌≤ℤ◌, ◌<◌, ◌≤◌, ◌^◌, [], ◌∷◌, length, slice_index, MatchOption};
+ghost use Rattle.nd_model.specs.Runs.{place_at, spot_at, run_places, runs_of};
 
 use crate::shapes::MOST_AXES;
 use crate::strided::View;
@@ -31,6 +31,7 @@ impl Run {
     pub(crate) fn new(start: u64, step: i128, count: u64) -> Run
         requires some { 0 < count }
         requires places { (k : ℕ) → k < count → (pos 0 ≤ℤ place_at start step k) × (spot_at start step k < 2 ^ 64) }
+        requires alone { count ≡ 1 → step ≡ pos 0 }
         ensures { result ≡ run_places start step count }
     {
         Run { start, step, count }
@@ -43,9 +44,10 @@ impl Run {
         self.start
     }
 
-    /// Returns how many bytes it is from one element to the next, which may be negative.
+    /// Returns how many bytes it is from one element to the next, which may be negative. It is 0 where there is one element.
     pub fn step(&self) -> i128
-        ensures { (k : ℕ) → k < length self.now → place_at (slice_index self.now 0) result k ≡ pos (slice_index self.now k) }
+        ensures places { (k : ℕ) → k < length self.now → place_at (slice_index self.now 0) result k ≡ pos (slice_index self.now k) }
+        ensures alone { length self.now ≡ 1 → result ≡ pos 0 }
     {
         self.step
     }
@@ -67,7 +69,7 @@ impl Run {
     }
 }
 
-/// A walk over the runs of a view in C order. It takes no memory. A clause sees the list of the places that are left.
+/// A walk over the runs of a view in C order. It takes no memory. A clause sees the list of the runs that are left.
 #[derive(Drop)]
 pub struct Runs<'v> {
     view: &'v View,
@@ -82,7 +84,7 @@ pub struct Runs<'v> {
 impl<'v> Model for Runs<'v> {
     ghost use Rattle.std.specs.Prelude.{List, ℕ};
 
-    ghost Value = { List ℕ };
+    ghost Value = { List (List ℕ) };
 
     ghost use Rattle.nd_view.specs.Walks.{left_of, IsWalk};
 
@@ -95,7 +97,7 @@ impl<'v> Runs<'v> {
     pub(crate) fn new(view: &'v View, axes: usize) -> Runs<'v>
         requires axes { axes ≡ length view.now.shape }
         requires most { axes ≤ 32 }
-        ensures { result ≡ view.now.places }
+        ensures { result ≡ runs_of view.now }
     {
         Runs {
             view,
@@ -106,9 +108,9 @@ impl<'v> Runs<'v> {
         }
     }
 
-    /// Returns the next run, or `None` where no element is left.
+    /// Returns the next run, or `None` where none is left.
     pub fn next(&mut self) -> Option<Run>
-        ensures { MatchOption result ((self.old ≡ []) × (self.new ≡ [])) (λ run. self.old ≡ run ++ self.new) }
+        ensures { MatchOption result ((self.old ≡ []) × (self.new ≡ [])) (λ run. self.old ≡ run ∷ self.new) }
     {
         if self.at == self.count {
             return None;

@@ -1,6 +1,7 @@
 //! `View`: where the elements of an array lie in its bytes.
 ghost use Rattle.std.specs.Prelude.{◌≡◌, ◌+◌, ◌-◌, ◌*◌, ◌^◌, ◌<◌, ◌≤◌, ◌++◌, length, take, drop, slice_index, slice_index_or, false, IsTrue, ◌↔◌, IfOk, OnOk, MatchOption};
-ghost use Rattle.std.specs.List.{All};
+ghost use Rattle.std.specs.List.{All, concat};
+ghost use Rattle.nd_model.specs.Runs.{runs_of};
 ghost use Rattle.nd_model.specs.Strides as model;
 ghost use Rattle.nd_model.specs.Strides.{IsInLimits, places_by};
 ghost use Rattle.nd_model.specs.Tuple.{elements_of, number};
@@ -222,7 +223,8 @@ impl View {
 
     /// Returns the runs of elements along the last axis, in C order. A view without axes has one run of one element.
     pub fn runs(&self) -> Runs<'_>
-        ensures value { result ≡ self.now.places }
+        ensures value { result ≡ runs_of self.now }
+        ensures places { concat result ≡ self.now.places }
         ensures ends { All (λ p. p + item_size self.now.element ≤ 2 ^ 64) self.now.places }
     {
         Runs::new(self, self.shape.len())

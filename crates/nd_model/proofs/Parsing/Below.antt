@@ -1,6 +1,6 @@
 -- Grammars with the same texts and fronts, part by part.
 use Rattle.std.proofs.Common.{ℕ, List, [], ◌∷◌, inl, inr}
-use Rattle.nd_model.specs.Grammar.{Gram, Then, Or, Many, Repeats, Spans}
+use Rattle.nd_model.specs.Grammar.{Gram, Then, Or, Repeats}
 use Rattle.nd_model.specs.Faults.{IsBelow}
 
 pub below_refl : {T C : Type 0} (kind : List T → ℕ) (g : Gram T C) → IsBelow kind g g
@@ -27,17 +27,3 @@ below_or kind s s' a a' b b' p q = record {
   reaches = λ ts rest h. elim h [ inl x ↦ inl (p.reaches ts rest x) | inr x ↦ inr (q.reaches ts rest x) ];
   opens = λ ts rest w h. elim h [ inl x ↦ inl (p.opens ts rest w x) | inr x ↦ inr (q.opens ts rest w x) ];
 }
-
-pub repeats_below : {T A : Type 0} (R S : List T → List T → A → Type 0) → ((ts rest : List T) (x : A) → R ts rest x → S ts rest x)
-    → (xs : List A) (ts rest : List T) → Repeats R ts rest xs → Repeats S ts rest xs
-repeats_below R S f [] ts rest h = h
-repeats_below R S f (x ∷ xs) ts rest h = (h.0, f ts h.0 x h.1, repeats_below R S f xs h.0 rest h.2)
-
-pub below_many : {T A C : Type 0} (kind : List T → ℕ) (s s' : ℕ) (f : List A → C) (a a' : Gram T A) → IsBelow kind a a' → IsBelow kind (Many s f a) (Many s' f a')
-below_many kind s s' f a a' p =
-    let each = repeats_below (Spans kind a) (Spans kind a') p.spans in
-    record {
-      spans = λ ts rest c h. (h.0, each h.0 ts rest h.1, h.2);
-      reaches = λ ts rest h. (h.0, h.1, each h.1 ts h.0 h.2, elim h.3 [ inl x ↦ inl x | inr x ↦ inr (p.reaches h.0 rest x) ]);
-      opens = λ ts rest w h. (h.0, h.1, each h.1 ts h.0 h.2, p.opens h.0 rest w h.3);
-    }

@@ -2,7 +2,7 @@
 use Rattle.std.proofs.Common.{◌≡◌, ◌++◌, ◌+◌, ◌-◌, ◌^◌, ℕ, true, List, [], ◌∷◌, Ok, Err, refl}
 use Rattle.std.specs.Prelude.{codes, bit_or}
 use Rattle.nd_model.specs.Lexing.{tokens, tokens_from, piece_at, word_at, keywords, symbols}
-use Rattle.nd_model.specs.Syntax.{Name, Integer, Truth, Unary, Negative, Binary, Multiply, Subtract, Power, Less, Arange, Expr, Item, Index, Field, Items, AndItem, NoItem, At, Slice, Ellipsis, NewAxis, Listed, Omitted, Given, AndElement, NoElement, Single, Nested, Import, Bind, Augment, Assign, AugmentItem, Delete, Print}
+use Rattle.nd_model.specs.Syntax.{Name, Integer, Truth, Unary, Negative, Binary, Multiply, Subtract, Power, Less, Arange, Expr, Item, Index, Items, AndItem, NoItem, At, Import, Bind, Augment, Assign, AugmentItem, Delete, Print}
 use Rattle.nd_model.specs.Fault.{ParseKind, BadToken, Unexpected, UnknownCall, LeftOut}
 use Rattle.nd_model.specs.Grammar.{has}
 use Rattle.nd_model.specs.Kinds.{keyword_kinds, name_kinds, NAME, CALLED, NUMPY, NUMPY_CALLED, ARANGE, NOT_ARANGE, OPERAND}

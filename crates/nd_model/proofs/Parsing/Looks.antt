@@ -4,8 +4,8 @@ use Rattle.nd_model.specs.Grammar.{Gram}
 use Rattle.nd_model.specs.Predict.{Look, look}
 use Rattle.nd_model.specs.Token.{Token}
 use Rattle.nd_model.specs.Syntax.{Expr, Elements, Stmt}
-use Rattle.nd_model.specs.Kinds.{OPERAND, CALLED, PLUS, SIGN, OPEN, OPEN_SOME, OPEN_NONE, NP, NP_OTHER, NP_NEWAXIS, OPEN_BRACKET, POWER, PRODUCT, SUM, SHIFT, AMPERSAND, CARET, BAR, COMPARISON, COMMA, COMMA_LAST, COLON, ELLIPSIS, NONE, QUOTED, ASSIGNMENT, EXPR, PLACE_START, START, ANY}
-use Rattle.nd_model.specs.Cells.{Spot, Anywhere, Target, FirstItem, LaterItem, leaves, Level, Bottom, Under, Inside, name, grouped, bound_in, step_in, slice, newaxis, elements, list, part, item, nothing, contents, index, function, arange, operand, postfix, exponent, power, signed, unary, term, sum, shift, band, bxor, bor, comparison, expr, under, module_name, imports, delete, exprs, printed, print, value, line, lines}
+use Rattle.nd_model.specs.Kinds.{OPERAND, CALLED, PLUS, SIGN, OPEN, OPEN_SOME, OPEN_NONE, NP, NP_OTHER, OPEN_BRACKET, POWER, PRODUCT, SUM, SHIFT, AMPERSAND, CARET, BAR, COMPARISON, COMMA, ASSIGNMENT, EXPR, PLACE_START, START, ANY}
+use Rattle.nd_model.specs.Cells.{Spot, Anywhere, Target, FirstItem, LaterItem, Level, Bottom, Under, name, grouped, bound_in, step_in, slice, newaxis, elements, list, part, item, nothing, contents, index, function, arange, operand, postfix, exponent, power, signed, unary, term, sum, shift, band, bxor, bor, comparison, expr, under, module_name, imports, delete, exprs, printed, print, value, line, lines}
 use Rattle.nd_model.specs.Factored.{bind, place, indexes, target, assign, stmt, cell}
 
 -- what begins with a token of `first`, and may go on with one of `ext`

@@ -94,9 +94,6 @@ also_right kind false a b ts p h = absurd (cc)
 pub apart_false : {T : Type 0} (kind : List T → ℕ) (a b : ℕ) (ts : List T) → apart a b ≡ true → next_in kind b ts ≡ true → next_in kind a ts ≡ false
 apart_false kind a b ts h q = not_true _ (λ p. next_apart kind a b ts h p q)
 
-pub apart_false' : {T : Type 0} (kind : List T → ℕ) (a b : ℕ) (ts : List T) → apart a b ≡ true → next_in kind a ts ≡ true → next_in kind b ts ≡ false
-apart_false' kind a b ts h p = not_true _ (λ q. next_apart kind a b ts h p q)
-
 pub also_not_left : {T : Type 0} (kind : List T → ℕ) (e : Bool) (a b : ℕ) (ts : List T) → next_in kind (also e a b) ts ≡ false → next_in kind a ts ≡ false
 also_not_left kind e a b ts h = not_true _ (λ p. true_false _ (also_left kind e a b ts p) h)
 

@@ -1,6 +1,7 @@
 use Rattle.std.proofs.Common.{rules, ◌≡◌, ◌+◌, ◌≤◌, ◌++◌, [], ◌∷◌, to_z, of_z, length, get_or, refl, ap, ◌∙◌, arith}
 use Rattle.std.specs.Int.{w128}
 use Rattle.std.specs.Int.RustNames.{FitsSigned}
+use Rattle.std.specs.List.{concat}
 use Rattle.std.proofs.lemmas.Int.{to_z-of_z}
 use Rattle.nd_model.specs.Element.{size_of, value_of, bytes_at}
 use Rattle.nd_model.specs.View.{item_size}
@@ -11,9 +12,9 @@ use Rattle.nd_print.proofs.arrays.values_of.Goals as goal
 
 pub loop-number-init : goal.loop-number-init
 loop-number-init c = record {
-  all = begun (values_at c.args.elem c.args.block.now) refl (values-parts c.args.elem c.args.block.now) (values_at c.args.elem c.args.block.now c.args.view.now.places) c.loop-run.values.items c.loop-run.runs c.in-Some.run' c.next.new.self c.in-Some.ensures c.loop-run.invariant.all;
-  inside = in_run (λ p. p + item_size c.args.view.now.element ≤ length c.args.block.now) c.in-Some.run' c.next.new.self c.loop-run.runs c.in-Some.ensures c.loop-run.invariant.inside;
-  rest = behind_run (λ p. p + item_size c.args.view.now.element ≤ length c.args.block.now) c.in-Some.run' c.next.new.self c.loop-run.runs c.in-Some.ensures c.loop-run.invariant.inside;
+  all = begun (values_at c.args.elem c.args.block.now) refl (values-parts c.args.elem c.args.block.now) (values_at c.args.elem c.args.block.now c.args.view.now.places) c.loop-run.values.items (concat c.loop-run.runs) c.in-Some.run' (concat c.next.new.self) (ap concat c.in-Some.ensures) c.loop-run.invariant.all;
+  inside = in_run (λ p. p + item_size c.args.view.now.element ≤ length c.args.block.now) c.in-Some.run' (concat c.next.new.self) (concat c.loop-run.runs) (ap concat c.in-Some.ensures) c.loop-run.invariant.inside;
+  rest = behind_run (λ p. p + item_size c.args.view.now.element ≤ length c.args.block.now) c.in-Some.run' (concat c.next.new.self) (concat c.loop-run.runs) (ap concat c.in-Some.ensures) c.loop-run.invariant.inside;
 }
 
 pub loop-run-preserved : goal.loop-run-preserved

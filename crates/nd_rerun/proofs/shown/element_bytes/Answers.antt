@@ -1,5 +1,5 @@
 use Rattle.std.proofs.Common.{◌+◌, ◌≤◌, ◌^◌, ◌++◌, get_or, refl, sym, ap, ◌∙◌, arith, append-nil}
-use Rattle.std.specs.List.{flat_map}
+use Rattle.std.specs.List.{concat, flat_map}
 use Rattle.std.proofs.lemmas.Grind.{flat_map-append}
 use Rattle.nd_model.specs.Renaming.{shown_element}
 use Rattle.nd_model.specs.View.{item_size}
@@ -10,9 +10,9 @@ use Rattle.nd_rerun.proofs.shown.element_bytes.Goals as goal
 
 pub loop-number-init : goal.loop-number-init
 loop-number-init c = record {
-  all = begun (flat_map (shown_element (geo_of c.args.array.now).element ((version_of c.args.version.now).bytes (base_of c.args.array.now.base)))) refl (flat_map-append (shown_element (geo_of c.args.array.now).element ((version_of c.args.version.now).bytes (base_of c.args.array.now.base)))) (flat_map (shown_element (geo_of c.args.array.now).element ((version_of c.args.version.now).bytes (base_of c.args.array.now.base))) (geo_of c.args.array.now).places) c.loop-run.all.items c.loop-run.runs c.in-Some.run' c.next.new.self c.in-Some.ensures c.loop-run.invariant.all;
-  ends = in_run (λ p. p + item_size (geo_of c.args.array.now).element ≤ 2 ^ 64) c.in-Some.run' c.next.new.self c.loop-run.runs c.in-Some.ensures c.loop-run.invariant.ends;
-  rest = behind_run (λ p. p + item_size (geo_of c.args.array.now).element ≤ 2 ^ 64) c.in-Some.run' c.next.new.self c.loop-run.runs c.in-Some.ensures c.loop-run.invariant.ends;
+  all = begun (flat_map (shown_element (geo_of c.args.array.now).element ((version_of c.args.version.now).bytes (base_of c.args.array.now.base)))) refl (flat_map-append (shown_element (geo_of c.args.array.now).element ((version_of c.args.version.now).bytes (base_of c.args.array.now.base)))) (flat_map (shown_element (geo_of c.args.array.now).element ((version_of c.args.version.now).bytes (base_of c.args.array.now.base))) (geo_of c.args.array.now).places) c.loop-run.all.items (concat c.loop-run.runs) c.in-Some.run' (concat c.next.new.self) (ap concat c.in-Some.ensures) c.loop-run.invariant.all;
+  ends = in_run (λ p. p + item_size (geo_of c.args.array.now).element ≤ 2 ^ 64) c.in-Some.run' (concat c.next.new.self) (concat c.loop-run.runs) (ap concat c.in-Some.ensures) c.loop-run.invariant.ends;
+  rest = behind_run (λ p. p + item_size (geo_of c.args.array.now).element ≤ 2 ^ 64) c.in-Some.run' (concat c.next.new.self) (concat c.loop-run.runs) (ap concat c.in-Some.ensures) c.loop-run.invariant.ends;
 }
 
 pub loop-run-preserved : goal.loop-run-preserved

@@ -1,7 +1,10 @@
-use Rattle.std.proofs.Common.{◌≡◌, ℕ, ◌+◌, ◌<◌, ◌++◌, List, length, take, drop, get_or, sym, ap, ◌∙◌, arith}
+use Rattle.std.proofs.Common.{◌≡◌, ℕ, ◌+◌, ◌<◌, ◌++◌, [], List, length, take, drop, get_or, sym, ap, ◌∙◌, arith}
+use Rattle.std.proofs.lemmas.List.{drop_all}
+use Rattle.nd_model.specs.Runs.{in_pieces, last_length}
 use Rattle.nd_model.specs.Tuple.{number}
+use Rattle.nd_model.proofs.Pieces.{no_pieces}
 use Rattle.nd_view.specs.Indexes.{IsIndex}
-use Rattle.nd_view.proofs.Walking.{Walked, walked, front_of, split, length-front}
+use Rattle.nd_view.proofs.Walking.{Walked, walked, front_of, next_run, length-front}
 use Rattle.nd_view.proofs.runs.Runs.next.Goals as goal
 
 -- where the walk was
@@ -39,9 +42,20 @@ invariant_of-self c =
       at = λ lt. rw front ((after c).at (omega (arith, lt, at)) ∙ ap (λ k. k + c.count.result) at);
     }
 
+-- no element is left
+none : (at count : ℕ) (shape ps : List ℕ) → at ≡ count → count ≡ length ps → in_pieces (last_length shape) (drop at ps) ≡ []
+none at count shape ps end all = ap (in_pieces (last_length shape)) (drop_all at ps (omega arith)) ∙ no_pieces (last_length shape)
+
+pub returns-then-self : goal.returns-then-self
+returns-then-self c =
+    let empty = sym c.self.view_is ∙ none c.self.inside.at c.self.inside.count c.self.inside.view.now.shape c.self.inside.view.now.places c.if-self.true c.self.invariant.count in
+    (empty, empty)
+
 pub returns : goal.returns
 returns c =
     let at : number c.self.inside.view.now.shape (take c.self.inside.outer c.self.inside.index) ≡ c.self.inside.at = c.self.invariant.at (here c) in
+    let last : c.count.result ≡ last_length c.self.inside.view.now.shape = count c ∙ ap (λ m. get_or c.self.inside.view.now.shape m 1) c.self.invariant.outer in
     sym c.self.view_is
-    ∙ split c.self.inside.view.now.places c.run_at-run.result c.self.inside.at c.count.result
+    ∙ next_run c.self.inside.view.now.places c.run_at-run.result c.self.inside.at c.count.result (last_length c.self.inside.view.now.shape) last c.count.ensures.some
+    (omega (arith, (after c).within, at, c.self.invariant.count))
     (c.run_at-run.ensures.places ∙ (λ i. take (sym c.count.ensures.value i) (drop (at i) c.self.inside.view.now.places)))

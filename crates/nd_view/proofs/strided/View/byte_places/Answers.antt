@@ -1,5 +1,5 @@
 use Rattle.std.proofs.Common.{◌≡◌, ◌+◌, ◌≤◌, ◌^◌, ◌++◌, get_or, refl, sym, ap, ◌∙◌, arith, append-nil}
-use Rattle.std.specs.List.{All, flat_map}
+use Rattle.std.specs.List.{All, concat, flat_map}
 use Rattle.std.proofs.lemmas.List.Elements.{All-from_get_or}
 use Rattle.std.proofs.lemmas.Grind.{flat_map-append}
 use Rattle.nd_model.specs.View.{element_places, item_size}
@@ -12,13 +12,13 @@ pub loop-run-init : goal.loop-run-init
 loop-run-init c =
     let all : All (λ p. p + item_size c.args.self.now.element ≤ 2 ^ 64) c.args.self.now.places
     = All-from_get_or (λ p. p + item_size c.args.self.now.element ≤ 2 ^ 64) c.args.self.now.places 0 (ends c.self.inside c.self.invariant c.args.self.now c.self.view_is) in
-    rw (c.new-places.ensures.items, c.runs-runs.ensures.value) (record { all = refl; ends = all })
+    rw (c.new-places.ensures.items, c.runs-runs.ensures.places) (record { all = refl; ends = all })
 
 pub loop-number-init : goal.loop-number-init
 loop-number-init c = record {
-  all = begun (flat_map (element_places c.args.self.now.element)) refl (flat_map-append (element_places c.args.self.now.element)) (flat_map (element_places c.args.self.now.element) c.args.self.now.places) c.loop-run.places.items c.loop-run.runs c.in-Some.run' c.next.new.self c.in-Some.ensures c.loop-run.invariant.all;
-  ends = in_run (λ p. p + item_size c.args.self.now.element ≤ 2 ^ 64) c.in-Some.run' c.next.new.self c.loop-run.runs c.in-Some.ensures c.loop-run.invariant.ends;
-  rest = behind_run (λ p. p + item_size c.args.self.now.element ≤ 2 ^ 64) c.in-Some.run' c.next.new.self c.loop-run.runs c.in-Some.ensures c.loop-run.invariant.ends;
+  all = begun (flat_map (element_places c.args.self.now.element)) refl (flat_map-append (element_places c.args.self.now.element)) (flat_map (element_places c.args.self.now.element) c.args.self.now.places) c.loop-run.places.items (concat c.loop-run.runs) c.in-Some.run' (concat c.next.new.self) (ap concat c.in-Some.ensures) c.loop-run.invariant.all;
+  ends = in_run (λ p. p + item_size c.args.self.now.element ≤ 2 ^ 64) c.in-Some.run' (concat c.next.new.self) (concat c.loop-run.runs) (ap concat c.in-Some.ensures) c.loop-run.invariant.ends;
+  rest = behind_run (λ p. p + item_size c.args.self.now.element ≤ 2 ^ 64) c.in-Some.run' (concat c.next.new.self) (concat c.loop-run.runs) (ap concat c.in-Some.ensures) c.loop-run.invariant.ends;
 }
 
 pub loop-run-preserved : goal.loop-run-preserved

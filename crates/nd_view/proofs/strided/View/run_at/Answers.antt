@@ -31,6 +31,15 @@ new-requires-clause-places c =
     (c.step_on-step.ensures ∙ ap (λ s. get_or s (length c.args.outer.now) (pos 0)) c.as_slice-2.ensures)
     (c.length_of-count.ensures ∙ ap (λ s. get_or s (length c.args.outer.now) 1) c.as_slice-3.ensures))
 
+pub new-requires-clause-alone : goal.new-requires-clause-alone
+new-requires-clause-alone c =
+    let fits : FitsSigned w128 c.step_on-step.result = search rules in
+    rw (to_z-of_z w128 c.step_on-step.result fits)
+    (run_at.alone c.self.inside c.self.invariant c.args.self.now c.self.view_is c.args.outer.now c.requires.axes c.requires.inside c.place_by-start.result c.step_on-step.result c.length_of-count.result
+    (c.place_by-start.ensures ∙ ap (λ s. place_at c.self.inside.offset s c.args.outer.now) c.as_slice.ensures)
+    (c.step_on-step.ensures ∙ ap (λ s. get_or s (length c.args.outer.now) (pos 0)) c.as_slice-2.ensures)
+    (c.length_of-count.ensures ∙ ap (λ s. get_or s (length c.args.outer.now) 1) c.as_slice-3.ensures))
+
 -- the run that is made
 made : (c : goal.After-new) → c.new.result ≡ run_places c.place_by-start.result c.step_on-step.result c.length_of-count.result
 made c =

@@ -1,18 +1,19 @@
-//! How long bulk work over blocks takes beside the same work of the standard library, in one process.
-//! `nd_bench copy` prints the times of both and their ratio; without a word it prints how it is called.
+//! How long bulk work takes. `nd_bench copy` prints the times of a copy within a block and of the standard library's, and their
+//! ratio; `nd_bench parse` those of reading large cells. Without a word it prints how it is called.
 #![tactic(auto)]
 
 ghost use Rattle.std.specs.Prelude.{◌≡◌, ◌*◌, ◌≤◌, ◌^◌, length};
 
 use nd_block::RawBlock;
-use std::alloc::Global;
+use nd_parse::parse_cell;
+use std::alloc::{AllocError, Global};
 use std::time::Instant;
 use std::{env, io};
 
 /// How many elements of eight bytes are copied.
 const ELEMENTS: u64 = 10_000_000;
 
-/// How often each copy is made; the shortest time counts.
+/// How often each work is done; the shortest time counts.
 const TURNS: u32 = 7;
 
 /// Copies the first half of a block over its second half, element by element.
@@ -53,10 +54,37 @@ fn measure_copy(rt: &HostRuntime, elements: u64) -> io::Result<()>
     )
 }
 
+/// A text with so many times another behind it.
+fn repeated(alloc: Global, first: &str, text: &str, times: u32) -> Result<String, AllocError> {
+    let mut all = String::from_str(alloc, first)?;
+    for _ in 0..times {
+        all.push_str(text)?;
+    }
+    Ok(all)
+}
+
+/// Prints how long it takes to read a cell of a text with so many times another behind it.
+fn measure_parse(rt: &HostRuntime, first: &str, text: &str, times: u32) -> io::Result<()> {
+    let cell = repeated(rt.alloc(), first, text, times)?;
+    let mut best = u128::MAX;
+    for _ in 0..TURNS {
+        let start = Instant::now(rt)?;
+        let parsed = parse_cell(rt.alloc(), cell.as_str())?;
+        best = best.min(start.elapsed(rt)?.as_micros());
+        drop(parsed);
+    }
+    println!(rt; "{first:?} and {times} times {text:?}: {best} microseconds")
+}
+
 fn main(rt: HostRuntime) -> io::Result<()> {
     let words: Vec<String> = env::args(&rt)?.collect(rt.alloc())?;
     match words.get(1).map(|word| word.as_str()) {
         Some("copy") => measure_copy(&rt, ELEMENTS),
-        _ => println!(rt; "usage: nd_bench copy"),
+        Some("parse") => {
+            measure_parse(&rt, "", "x = x + 1\n", 6_553)?;
+            measure_parse(&rt, "x = 1", " + x", 16_382)?;
+            measure_parse(&rt, "", "(", 65_000)
+        }
+        _ => println!(rt; "usage: nd_bench copy | parse"),
     }
 }

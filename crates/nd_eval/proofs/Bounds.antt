@@ -4,7 +4,7 @@ use Rattle.nd_model.specs.Element.{Boolean, Int8, Int16, Int32, Int64, UInt8, UI
 use Rattle.nd_model.specs.View.{ElementType, One, Structure, Geo}
 use Rattle.nd_model.specs.Value.{Base, Value, Int, Truth, Scalar, Array, Row}
 use Rattle.nd_model.specs.Fault.{Fault}
-use Rattle.nd_model.specs.Syntax.{Expr, Name, Integer, Unary, Negative, Arange, Item, Index, Items, AndItem, NoItem, At, Stmt, Import, Bind, Assign, Delete, Print}
+use Rattle.nd_model.specs.Syntax.{Expr, Name, Integer, Unary, Negative, Called, Arange, Omitted, Item, Attribute, Index, Items, AndItem, NoItem, At, Stmt, Import, Bind, Assign, Delete, Print}
 use Rattle.nd_model.specs.Tokens.{tokens_of, tokens_of_index, tokens_of_all, tokens_of_stmt}
 use Rattle.nd_model.specs.Running.{Inputs, Running, Lookup, Use, reply, after, Effect, Nothing, Prints, Saves, Binding, Unbinding, Storing, done}
 use Rattle.nd_model.specs.Meaning as meaning
@@ -144,11 +144,12 @@ mutual
   of_value (Name n) = more 0 1 _ (omega arith) (of_name n)
   of_value (Integer n) = gives 1 _
   of_value (Unary Negative e) = more (tokens_of e + 0) _ _ (omega arith) (then (tokens_of e) 0 (meaning.value e) _ (of_value e) of_negated)
-  of_value (Arange e) = more (tokens_of e + 1) _ _ (omega arith) (then (tokens_of e) 1 (meaning.value e) _ (of_value e) of_arange)
+  of_value (Called (Arange Omitted e Omitted None)) = more (tokens_of e + 1) _ _ (omega arith) (then (tokens_of e) 1 (meaning.value e) _ (of_value e) of_arange)
   of_value (Item t x) = more (tokens_of t + (tokens_of_index x + 0)) _ _ (omega arith)
       (then (tokens_of t) (tokens_of_index x + 0) (meaning.value t) _ (of_value t) (λ target.
       then (tokens_of_index x) 0 (meaning.item_value x) _ (of_item_value x) (λ item.
       of_indexed target item)))
+  of_value (Attribute e m) = more (tokens_of e + 0) _ _ (omega arith) (then (tokens_of e) 0 (meaning.value e) _ (of_value e) (λ v. refuses 0 _))
   of_value e = refuses (tokens_of e) _
 
   of_item_value : (x : Index) → MakesAtMost (tokens_of_index x) (meaning.item_value x)

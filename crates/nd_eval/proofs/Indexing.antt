@@ -1,71 +1,87 @@
--- An operand with its indexes, one after the other.
-use Rattle.std.proofs.Common.{◌≡◌, ◌≢◌, ℕ, ◌+◌, length, List, [], ◌∷◌, map, Result, Ok, Err, refl, sym, ap, ◌∙◌, arith, Box, Vec, Global}
+-- An operand and what goes on it, one after the other.
+use Rattle.std.proofs.Common.{◌≡◌, ◌≢◌, ℕ, ◌+◌, ◌<◌, length, get_or, drop, List, [], ◌∷◌, map, false, Option, None, Some, Result, Ok, Err, refl, sym, ap, ◌∙◌, arith, Box, Vec, Global}
+use Rattle.std.specs.Option.{is_some}
 use Rattle.nd_model.specs.Fault.{Fault, BadArgument}
 use Rattle.nd_model.specs.Fault as fault
-use Rattle.nd_model.specs.Syntax.{Expr, Item, Index}
+use Rattle.nd_model.specs.Syntax.{Expr, Item, Attribute, Index, Method}
 use Rattle.nd_model.specs.Syntax as model
-use Rattle.nd_model.specs.Cells.{chained, items, items_of}
-use Rattle.nd_model.specs.Tokens.{tokens_of, tokens_of_index}
+use Rattle.nd_model.specs.Cells.{chained, Suffix, AtIndex, OfMethod, suffixed, items_of}
+use Rattle.nd_model.specs.Tokens.{tokens_of, tokens_of_index, tokens_of_method}
 use Rattle.nd_model.specs.Value.{Value}
 use Rattle.nd_model.specs.Running.{Running, Inputs}
 use Rattle.nd_model.specs.Meaning.{Eval, Gives, Refuses, run, ◌>>=◌, value, item_value, indexed}
 use Rattle.nd_tree.specs.declared.tree.Expr as tree
 use Rattle.nd_tree.specs.declared.tree.BinaryOp.{BinaryOp}
+use Rattle.nd_tree.specs.declared.calls.DType.{DType}
+use Rattle.nd_tree.specs.declared.tree.Call as call
+use Rattle.nd_tree.specs.declared.tree.Suffix as suffix
 use Rattle.nd_tree.specs.declared.tree.Index as indexes
 use Rattle.nd_tree.specs.declared.tree.IndexItem as item
-use Rattle.nd_tree.specs.Syntax.{expr_of, index_of, item_of}
+use Rattle.nd_tree.specs.Syntax.{expr_of, call_of, suffix_of, index_of, item_of}
 use Rattle.nd_tree.specs.Gives.{operation_of}
-use Rattle.nd_tree.proofs.Chains.{row_of, indexed_is, item_row, index_is, chain_is}
+use Rattle.nd_tree.proofs.Chains.{row_of, postfix_is, item_row, index_is, chain_is}
 use Rattle.nd_model.proofs.Steps.{goes_on, run_bind}
-use Rattle.nd_eval.proofs.InTurn.{regrouped}
+use Rattle.nd_eval.proofs.InTurn.{regrouped, next_item}
 
--- the indexes into a value
-abbrev pub chain : Value → List Index → Eval Value
+-- what goes on a value: indexes, and methods, which are not built yet
+abbrev pub chain : Value → List Suffix → Eval Value
 chain v [] = Gives v
-chain v (x ∷ xs) = item_value x >>= (λ item. indexed v item >>= (λ w. chain w xs))
+chain v (AtIndex x ∷ xs) = item_value x >>= (λ item. indexed v item >>= (λ w. chain w xs))
+chain v (OfMethod m ∷ xs) = Refuses (fault.Stmt BadArgument)
 
-abbrev pub chain_tokens : List Index → ℕ
+abbrev pub chain_tokens : List Suffix → ℕ
 chain_tokens [] = 0
-chain_tokens (x ∷ xs) = 2 + tokens_of_index x + chain_tokens xs
+chain_tokens (AtIndex x ∷ xs) = 2 + tokens_of_index x + chain_tokens xs
+chain_tokens (OfMethod m ∷ xs) = 2 + tokens_of_method m + chain_tokens xs
 
-pub tokens_of_items : (e : Expr) (xs : List Index) → tokens_of (items e xs) ≡ tokens_of e + chain_tokens xs
-tokens_of_items e [] = omega arith
-tokens_of_items e (x ∷ xs) = omega (arith, tokens_of_items (Item e x) xs)
+pub tokens_of_suffixed : (e : Expr) (xs : List Suffix) → tokens_of (suffixed e xs) ≡ tokens_of e + chain_tokens xs
+tokens_of_suffixed e [] = omega arith
+tokens_of_suffixed e (AtIndex x ∷ xs) = omega (arith, tokens_of_suffixed (Item e x) xs)
+tokens_of_suffixed e (OfMethod m ∷ xs) = omega (arith, tokens_of_suffixed (Attribute e m) xs)
 
 none_left : (i : Inputs) (m : Result Value Fault × Running) → m ≡ goes_on i m (λ v. chain v [])
 none_left i (Ok v, r) = refl
 none_left i (Err f, r) = refl
 
-one_more : (i : Inputs) (x : Index) (xs : List Index) (m : Result Value Fault × Running)
-    → goes_on i (goes_on i m (λ t. item_value x >>= (λ item. indexed t item))) (λ v. chain v xs) ≡ goes_on i m (λ v. chain v (x ∷ xs))
+one_more : (i : Inputs) (x : Index) (xs : List Suffix) (m : Result Value Fault × Running)
+    → goes_on i (goes_on i m (λ t. item_value x >>= (λ item. indexed t item))) (λ v. chain v xs) ≡ goes_on i m (λ v. chain v (AtIndex x ∷ xs))
 one_more i x xs (Ok t, r) =
     sym (run_bind i (item_value x >>= (λ item. indexed t item)) (λ v. chain v xs) r) ∙ regrouped i (item_value x) (λ item. indexed t item) (λ v. chain v xs) r
 one_more i x xs (Err f, r) = refl
 
-in_steps : (i : Inputs) (e : Expr) (xs : List Index) (r : Running) → run i (value (items e xs)) r ≡ goes_on i (run i (value e) r) (λ v. chain v xs)
+refused_there : (i : Inputs) (a : Method) (xs : List Suffix) (m : Result Value Fault × Running)
+    → goes_on i (goes_on i m (λ v. Refuses (fault.Stmt BadArgument))) (λ v. chain v xs) ≡ goes_on i m (λ v. chain v (OfMethod a ∷ xs))
+refused_there i a xs (Ok t, r) = refl
+refused_there i a xs (Err f, r) = refl
+
+in_steps : (i : Inputs) (e : Expr) (xs : List Suffix) (r : Running) → run i (value (suffixed e xs)) r ≡ goes_on i (run i (value e) r) (λ v. chain v xs)
 in_steps i e [] r = none_left i (run i (value e) r)
-in_steps i e (x ∷ xs) r =
+in_steps i e (AtIndex x ∷ xs) r =
     in_steps i (Item e x) xs r
     ∙ ap (λ m. goes_on i m (λ v. chain v xs)) (run_bind i (value e) (λ t. item_value x >>= (λ item. indexed t item)) r)
     ∙ one_more i x xs (run i (value e) r)
+in_steps i e (OfMethod a ∷ xs) r =
+    in_steps i (Attribute e a) xs r
+    ∙ ap (λ m. goes_on i m (λ v. chain v xs)) (run_bind i (value e) (λ t. Refuses (fault.Stmt BadArgument)) r)
+    ∙ refused_there i a xs (run i (value e) r)
 
--- the operand first, and then its indexes
-pub run_items : (i : Inputs) (e : Expr) (xs : List Index) (r : Running) → run i (value (items e xs)) r ≡ run i (value e >>= (λ v. chain v xs)) r
-run_items i e xs r = in_steps i e xs r ∙ sym (run_bind i (value e) (λ v. chain v xs) r)
+-- the operand first, and then what goes on it
+pub run_suffixed : (i : Inputs) (e : Expr) (xs : List Suffix) (r : Running) → run i (value (suffixed e xs)) r ≡ run i (value e >>= (λ v. chain v xs)) r
+run_suffixed i e xs r = in_steps i e xs r ∙ sym (run_bind i (value e) (λ v. chain v xs) r)
 
 -- ---- one node of the code's tree
 
-pub run_indexed : (i : Inputs) (x : tree.Expr) (e : Box tree.Expr Global) (is : Vec indexes.Index Global) (r : Running) → x ≡ tree.Indexed e is
-    → run i (value (expr_of x)) r ≡ run i (value (expr_of e.value) >>= (λ v. chain v (map index_of is.items))) r
-run_indexed i x e is r same =
+pub run_postfix : (i : Inputs) (x : tree.Expr) (e : Box tree.Expr Global) (xs : Vec suffix.Suffix Global) (r : Running) → x ≡ tree.Postfix e xs
+    → run i (value (expr_of x)) r ≡ run i (value (expr_of e.value) >>= (λ v. chain v (map suffix_of xs.items))) r
+run_postfix i x e xs r same =
     ap (λ y. run i (value (expr_of y)) r) same
-    ∙ ap (λ y. run i (value y) r) (indexed_is e is)
-    ∙ run_items i (expr_of e.value) (map index_of is.items) r
+    ∙ ap (λ y. run i (value y) r) (postfix_is e xs)
+    ∙ run_suffixed i (expr_of e.value) (map suffix_of xs.items) r
 
-pub tokens_of_indexed : (x : tree.Expr) (e : Box tree.Expr Global) (is : Vec indexes.Index Global) → x ≡ tree.Indexed e is
-    → tokens_of (expr_of x) ≡ tokens_of (expr_of e.value) + chain_tokens (map index_of is.items)
-tokens_of_indexed x e is same =
-    ap (λ y. tokens_of (expr_of y)) same ∙ ap tokens_of (indexed_is e is) ∙ tokens_of_items (expr_of e.value) (map index_of is.items)
+pub tokens_of_postfix : (x : tree.Expr) (e : Box tree.Expr Global) (xs : Vec suffix.Suffix Global) → x ≡ tree.Postfix e xs
+    → tokens_of (expr_of x) ≡ tokens_of (expr_of e.value) + chain_tokens (map suffix_of xs.items)
+tokens_of_postfix x e xs same =
+    ap (λ y. tokens_of (expr_of y)) same ∙ ap tokens_of (postfix_is e xs) ∙ tokens_of_suffixed (expr_of e.value) (map suffix_of xs.items)
 
 -- how many nodes a tree has that are evaluated, which is the measure of its evaluation
 abbrev mutual
@@ -74,13 +90,21 @@ abbrev mutual
   nodes (tree.Integer n) = 1
   nodes (tree.Unary' op p e) = 1 + nodes e
   nodes (tree.Chain' p e shape xs) = 1 + nodes e
-  nodes (tree.Arange' p e) = 1 + nodes e
-  nodes (tree.Indexed' p e shape is) = 1 + nodes e + nodes_in is
+  nodes (tree.Call' p c) = 1 + nodes_of_call c
+  nodes (tree.Postfix' p e shape xs) = 1 + nodes e + nodes_in xs
   nodes e = 1
 
-  pub nodes_in : {n : _} → tree.Row_of-Index n → ℕ
-  nodes_in tree.end_of-Index = 0
-  nodes_in (tree.more_of-Index i is) = nodes_of_index i + nodes_in is
+  pub nodes_of_call : call.Call → ℕ
+  nodes_of_call (call.Arange' start e step t) = 1 + nodes e
+  nodes_of_call c = 1
+
+  pub nodes_in : {n : _} → tree.Row_of-Suffix n → ℕ
+  nodes_in tree.end_of-Suffix = 0
+  nodes_in (tree.more_of-Suffix x xs) = nodes_of_suffix x + nodes_in xs
+
+  pub nodes_of_suffix : suffix.Suffix → ℕ
+  nodes_of_suffix (suffix.Index i) = nodes_of_index i
+  nodes_of_suffix (suffix.Method m) = 1
 
   pub nodes_of_index : indexes.Index → ℕ
   nodes_of_index (indexes.Items' shape is) = 2 + nodes_in_items is
@@ -94,18 +118,32 @@ abbrev mutual
   nodes_of_item (item.At e) = 1 + nodes e
   nodes_of_item i = 1
 
-abbrev pub nodes_of_all : List indexes.Index → ℕ
+abbrev pub nodes_of_all : List suffix.Suffix → ℕ
 nodes_of_all [] = 0
-nodes_of_all (x ∷ xs) = nodes_of_index x + nodes_of_all xs
+nodes_of_all (x ∷ xs) = nodes_of_suffix x + nodes_of_all xs
 
-nodes_in_row : (n : _) (row : tree.Row_of-Index n) → nodes_in row ≡ nodes_of_all (tree.items-the_row-Index n row)
-nodes_in_row n tree.end_of-Index = refl
-nodes_in_row n (tree.more_of-Index i is) = ap (λ k. nodes_of_index i + k) (nodes_in_row _ is)
+nodes_in_row : (n : _) (row : tree.Row_of-Suffix n) → nodes_in row ≡ nodes_of_all (tree.items-the_row-Suffix n row)
+nodes_in_row n tree.end_of-Suffix = refl
+nodes_in_row n (tree.more_of-Suffix x xs) = ap (λ k. nodes_of_suffix x + k) (nodes_in_row _ xs)
 
-pub nodes_of_indexed : (x : tree.Expr) (e : Box tree.Expr Global) (is : Vec indexes.Index Global) → x ≡ tree.Indexed e is → nodes x ≡ 1 + nodes e.value + nodes_of_all is.items
-nodes_of_indexed x e is same =
-    let row = row_of (tree.Indexed e is) in
-    ap nodes same ∙ ap (λ k. 1 + nodes e.value + k) (nodes_in_row row.0 row.1 ∙ ap nodes_of_all (tree.items_hidden-the_row-Index-2 is))
+pub nodes_of_postfix : (x : tree.Expr) (e : Box tree.Expr Global) (xs : Vec suffix.Suffix Global) → x ≡ tree.Postfix e xs → nodes x ≡ 1 + nodes e.value + nodes_of_all xs.items
+nodes_of_postfix x e xs same =
+    let row = row_of (tree.Postfix e xs) in
+    ap nodes same ∙ ap (λ k. 1 + nodes e.value + k) (nodes_in_row row.0 row.1 ∙ ap nodes_of_all (tree.items_hidden-the_row-Suffix-3 xs))
+
+-- the index that comes next
+pub next_index : (xs : List suffix.Suffix) (k : ℕ) (x : suffix.Suffix) (i : indexes.Index) → k < length xs → x ≡ get_or xs k x → x ≡ suffix.Index i
+    → drop k xs ≡ suffix.Index i ∷ drop (k + 1) xs
+next_index xs k x i lt is same = next_item xs k x lt is ∙ ap (λ y. y ∷ drop (k + 1) xs) same
+
+none_if : {A : Type 0} (o : Option A) → is_some o ≡ false → o ≡ None
+none_if None h = refl
+none_if (Some x) h = absurd cc
+
+-- `np.arange` of the end alone
+pub arange_alone : (x : call.Call) (start : Option tree.Expr) (e : tree.Expr) (step : Option tree.Expr) (t : Option DType) → x ≡ call.Arange start e step t
+    → is_some start ≡ false → is_some step ≡ false → is_some t ≡ false → call_of x ≡ model.Arange model.Omitted (expr_of e) model.Omitted None
+arange_alone x start e step t same no_start no_step no_type = rw (same, none_if start no_start, none_if step no_step, none_if t no_type) refl
 
 -- ---- the items of an index
 
@@ -124,7 +162,7 @@ module _ (x : indexes.Index) (is : Vec item.IndexItem Global) (same : x ≡ inde
   pub nodes_of_its_items : nodes_of_index x ≡ 2 + nodes_of_items is.items
   nodes_of_its_items =
       let row = item_row (indexes.Items is) in
-      ap nodes_of_index same ∙ ap (λ k. 2 + k) (nodes_in_item_row row.0 row.1 ∙ ap nodes_of_items (indexes.items_hidden-the_row-IndexItem-3 is))
+      ap nodes_of_index same ∙ ap (λ k. 2 + k) (nodes_in_item_row row.0 row.1 ∙ ap nodes_of_items (indexes.items_hidden-the_row-IndexItem-4 is))
 
 -- items that are not one expression are not built yet
 pub lone_refused : (x : item.IndexItem) → ((e : tree.Expr) → x ≡ item.At e → ⊥) → item_value (model.Items (model.AndItem (item_of x) model.NoItem)) ≡ Refuses (fault.Stmt BadArgument)

@@ -4,9 +4,9 @@ ghost use Rattle.std.specs.Prelude.{◌≡◌, ◌+◌, ◌<◌, ◌^◌, map};
 ghost use Rattle.std.specs.Prelude.{neg_ℤ};
 ghost use Rattle.nd_model.specs.Meaning as meaning;
 ghost use Rattle.nd_model.specs.Cells.{items_of};
-ghost use Rattle.nd_model.specs.Syntax.{Items, AndItem, NoItem};
-ghost use Rattle.nd_model.specs.Tokens.{tokens_of, tokens_of_index, tokens_of_item, tokens_of_all};
-ghost use Rattle.nd_tree.specs.Syntax.{expr_of, index_of, item_of};
+ghost use Rattle.nd_model.specs.Syntax.{Called, Items, AndItem, NoItem};
+ghost use Rattle.nd_model.specs.Tokens.{tokens_of, tokens_of_call, tokens_of_index, tokens_of_item, tokens_of_all};
+ghost use Rattle.nd_tree.specs.Syntax.{expr_of, call_of, index_of, item_of};
 ghost use Rattle.nd_heap.specs.Values.{value_of, inputs_of};
 ghost use Rattle.nd_heap.specs.Live.{live};
 ghost use Rattle.nd_eval.specs.Contents.{values_of};
@@ -20,7 +20,7 @@ use crate::fault::{StmtError, StmtFault};
 use crate::indexes::indexed;
 use crate::stop::Stop;
 use nd_heap::{Inputs, Session, Value};
-use nd_tree::{Expr, Index, IndexItem, UnaryOp};
+use nd_tree::{Call, Expr, Index, IndexItem, Suffix, UnaryOp};
 use nd_types::Num;
 
 /// The value of a bound name.
@@ -70,8 +70,8 @@ pub(crate) fn unbuilt() -> Stop
     Stop::Refused(StmtFault::Stmt(StmtError::BadArgument))
 }
 
-/// The value of an expression. It calls itself for the operand of a chain of indexes, and for each of them, but not once
-/// more for each that stands before: so only brackets and signs take it deeper.
+/// The value of an expression. It calls itself for an operand, and for each index that goes on it, but not once more for
+/// each that stands before: so only brackets and signs take it deeper.
 #[cycle(value)]
 pub(crate) fn value(session: &mut Session, inputs: &Inputs, expr: &Expr) -> Result<Value, Stop>
     requires { (live session.old).next + tokens_of (expr_of expr.now) < 2 ^ 64 }
@@ -87,13 +87,13 @@ pub(crate) fn value(session: &mut Session, inputs: &Inputs, expr: &Expr) -> Resu
             }
             UnaryOp::Invert => Err(unbuilt()),
         },
-        Expr::Arange(end) => {
-            let end = value(session, inputs, end)?;
-            arange(session, inputs, &end)
-        }
-        Expr::Indexed(operand, indexes) => {
+        Expr::Call(call) => called(session, inputs, call),
+        Expr::Postfix(operand, suffixes) => {
             let mut found = value(session, inputs, operand)?;
-            for index in indexes {
+            for suffix in suffixes {
+                let Suffix::Index(index) = suffix else {
+                    return Err(unbuilt());
+                };
                 let item = item_value(session, inputs, index)?;
                 found = indexed(session, inputs, &found, &item)?;
             }
@@ -104,6 +104,24 @@ pub(crate) fn value(session: &mut Session, inputs: &Inputs, expr: &Expr) -> Resu
                 return value(session, inputs, operand);
             }
             Err(unbuilt())
+        }
+        _ => Err(unbuilt()),
+    }
+}
+
+/// What a call of a function gives.
+#[cycle(value)]
+fn called(session: &mut Session, inputs: &Inputs, call: &Call) -> Result<Value, Stop>
+    requires { (live session.old).next + tokens_of_call (call_of call.now) < 2 ^ 64 }
+    ensures { Ends value_of result (live session.new) (meaning.run (inputs_of inputs.now.entries) (meaning.value (Called (call_of call.now))) (live session.old)) }
+{
+    match call {
+        Call::Arange(start, end, step, dtype) => {
+            if start.is_some() || step.is_some() || dtype.is_some() {
+                return Err(unbuilt());
+            }
+            let end = value(session, inputs, end)?;
+            arange(session, inputs, &end)
         }
         _ => Err(unbuilt()),
     }

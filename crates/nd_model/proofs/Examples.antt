@@ -3,7 +3,7 @@ use Rattle.std.proofs.Common.{◌≡◌, ℕ, List, [], ◌∷◌, Option, Some,
 use Rattle.nd_model.specs.Session.{Session, no_session}
 use Rattle.nd_model.specs.Fault.{ParseFault, BadToken, Refusal, Parse, Statement, OutOfBounds, NoName}
 use Rattle.nd_model.specs.Fault as fault
-use Rattle.nd_model.specs.Syntax.{Name, Integer, Unary, Negative, Arange, Expr, Item, Index, Items, AndItem, NoItem, At, Stmt, Bind, Assign, Delete, Print, Line, Parsed}
+use Rattle.nd_model.specs.Syntax.{Name, Integer, Unary, Negative, Called, Arange, Omitted, Expr, Item, Index, Items, AndItem, NoItem, At, Stmt, Bind, Assign, Delete, Print, Line, Parsed}
 use Rattle.nd_model.specs.Cell.{Ended, notebook}
 use Rattle.std.specs.Prelude.{pos}
 use Rattle.std.specs.Fmt.{digits}
@@ -21,7 +21,7 @@ at : ℕ → Stmt → Line
 at n s = record { line = n; stmt = s }
 
 program : List (ℕ × Parsed)
-program = (7, Ok (at 1 (Bind x (Arange (Integer 4))) ∷ at 2 (Bind y (Name x)) ∷ []))
+program = (7, Ok (at 1 (Bind x (Called (Arange Omitted (Integer 4) Omitted None))) ∷ at 2 (Bind y (Name x)) ∷ []))
     ∷ (8, Ok (at 1 (Assign (Name y) (one (Integer 0)) (Integer 9)) ∷ at 2 (Print (Name x ∷ [])) ∷ []))
     ∷ (9, Ok (at 2 (Print (Item (Name x) (one (Unary Negative (Integer 1))) ∷ Integer 5 ∷ [])) ∷ at 4 (Assign (Name x) (one (Integer 4)) (Integer 1)) ∷ at 5 (Delete x) ∷ []))
     ∷ (10, Err (record { kind = BadToken; line = 3; column = 6 }))

@@ -19,4 +19,6 @@ pub mod Parsing
 pub mod Books
 mod LexingExamples
 pub mod TokenLaws
+pub mod Weights
+pub mod CallWeights
 pub mod FewTokens

@@ -9,7 +9,7 @@ use Rattle.nd_model.specs.Value.{Base, same_base, Value, Int, Truth, Scalar, Arr
 use Rattle.nd_model.specs.Session.{Names, lookup, bind, unbind, is_held, Session, no_session, put}
 use Rattle.nd_model.specs.Running.{Key, Source, Inputs, Running, start, having_read, Lookup, Ask, Use, Make, reply, made, after, Effect, Nothing, Prints, Saves, Binding, Unbinding, Storing, done, Output, output}
 use Rattle.nd_model.specs.Fault.{Fault}
-use Rattle.nd_model.specs.Syntax.{Expr, Name, Integer, Unary, Negative, Arange, Item, Index, Items, AndItem, NoItem, At, Stmt, Import, Bind, Assign, Delete, Print, Line, Parsed}
+use Rattle.nd_model.specs.Syntax.{Expr, Name, Integer, Unary, Negative, Called, Arange, Omitted, Item, Attribute, Index, Items, AndItem, NoItem, At, Stmt, Import, Bind, Assign, Delete, Print, Line, Parsed}
 use Rattle.nd_model.specs.Meaning
 use Rattle.nd_model.specs.Meaning.{Eval, Gives, Refuses, Asks, run, ◌>>=◌, Numbers, Target, Content, Literal, Values}
 use Rattle.nd_model.specs.Cell.{Saved, Ended, had, statement, most_text, with_save, and_then, statements, ran, cell, session_after, notebook}
@@ -190,8 +190,9 @@ module _ (r : ℕ → ℕ → Bool) where
     at_value (Name n) = at_name n
     at_value (Integer n) = gives _ _ (int _)
     at_value (Unary Negative e) = same_bind SameValue SameValue _ _ _ _ (at_value e) at_negated
-    at_value (Arange e) = same_bind SameValue SameValue _ _ _ _ (at_value e) at_arange
+    at_value (Called (Arange Omitted e Omitted None)) = same_bind SameValue SameValue _ _ _ _ (at_value e) at_arange
     at_value (Item t x) = same_bind SameValue SameValue _ _ _ _ (at_value t) (λ v w e. same_bind SameValue SameValue _ _ _ _ (at_item_value x) (λ i j d. at_indexed v w i j e d))
+    at_value (Attribute e m) = same_bind SameValue SameValue _ _ _ _ (at_value e) (λ v w s. refuses _)
     at_value _ = refuses _
 
     at_item_value : (x : Index) → Same Value SameValue (Meaning.item_value x) (Meaning.item_value x)

@@ -1,6 +1,6 @@
 -- The kinds of tokens, of which a set is a number by its bits. The kind of a name depends on the token after it.
-use Rattle.std.specs.Prelude.{ℕ, Bool, false, ◌+◌, ◌-◌, ◌^◌, ◌==◌, ◌&&◌, ◌||◌, not, bytes_eq, codes, if◌then◌else◌, List, [], ◌∷◌}
-use Rattle.nd_model.specs.Token.{Word, Name, Integer, Keyword, Np, Print, Plus, Minus, Star, DoubleStar, DoubleSlash, Slash, Percent, ShiftLeft, ShiftRight, Ampersand, Bar, Caret, Tilde, Less, LessEqual, Greater, GreaterEqual, DoubleEqual, NotEqual, Equal, PlusEqual, MinusEqual, StarEqual, DoubleStarEqual, DoubleSlashEqual, SlashEqual, PercentEqual, ShiftLeftEqual, ShiftRightEqual, AmpersandEqual, BarEqual, CaretEqual, OpenParen, CloseParen, OpenBracket, CloseBracket, Comma, Colon, Dot, Ellipsis, Quoted, End, Token}
+use Rattle.std.specs.Prelude.{ℕ, zero, suc, Bool, true, false, ◌+◌, ◌-◌, ◌^◌, ◌==◌, ◌&&◌, ◌||◌, not, bytes_eq, codes, if◌then◌else◌, List, [], ◌∷◌}
+use Rattle.nd_model.specs.Token.{Word, Name, Integer, Keyword, Np, Print, Abs, Buffer, Plus, Minus, Star, DoubleStar, DoubleSlash, Slash, Percent, ShiftLeft, ShiftRight, Ampersand, Bar, Caret, Tilde, Less, LessEqual, Greater, GreaterEqual, DoubleEqual, NotEqual, Equal, PlusEqual, MinusEqual, StarEqual, DoubleStarEqual, DoubleSlashEqual, SlashEqual, PercentEqual, ShiftLeftEqual, ShiftRightEqual, AmpersandEqual, BarEqual, CaretEqual, OpenParen, CloseParen, OpenBracket, CloseBracket, Comma, Colon, Dot, Ellipsis, Quoted, End, Token}
 
 -- ---- groups of words
 
@@ -51,6 +51,8 @@ kind_of_symbol End = 25
 kind_of_symbol Colon = 26
 kind_of_symbol Ellipsis = 27
 kind_of_symbol (Quoted bs) = 29
+kind_of_symbol Abs = 33
+kind_of_symbol Buffer = 34
 kind_of_symbol _ = 126
 
 -- the kind that a table has for a word, and of all other words
@@ -63,7 +65,36 @@ keyword_kinds = (codes "True", 1) ∷ (codes "False", 1) ∷ (codes "import", 22
 
 -- Some names have kinds of their own, and are plain names wherever a name may stand. Each has two more behind its own.
 unfoldable pub name_kinds : List (List ℕ × ℕ)
-name_kinds = (codes "numpy", 43) ∷ (codes "arange", 46) ∷ (codes "newaxis", 49) ∷ []
+name_kinds =
+    (codes "numpy", 43)
+    ∷ (codes "arange", 46)
+    ∷ (codes "newaxis", 49)
+    ∷ (codes "zeros", 52) ∷ (codes "ones", 52)
+    ∷ (codes "full", 55)
+    ∷ (codes "array", 58)
+    ∷ (codes "broadcast_to", 61)
+    ∷ (codes "add", 64) ∷ (codes "multiply", 64)
+    ∷ (codes "minimum", 67) ∷ (codes "maximum", 67)
+    ∷ (codes "absolute", 70)
+    ∷ (codes "load", 73)
+    ∷ (codes "save", 76)
+    ∷ (codes "bool", 79) ∷ (codes "bool_", 79)
+    ∷ (codes "int8", 79) ∷ (codes "int16", 79) ∷ (codes "int32", 79) ∷ (codes "int64", 79)
+    ∷ (codes "uint8", 79) ∷ (codes "uint16", 79) ∷ (codes "uint32", 79) ∷ (codes "uint64", 79)
+    ∷ (codes "T", 82)
+    ∷ (codes "transpose", 85)
+    ∷ (codes "reshape", 88)
+    ∷ (codes "copy", 91)
+    ∷ (codes "astype", 94) ∷ (codes "view", 94)
+    ∷ (codes "sum", 97) ∷ (codes "prod", 97) ∷ (codes "min", 97) ∷ (codes "max", 97)
+    ∷ (codes "any", 97) ∷ (codes "all", 97) ∷ (codes "argmin", 97) ∷ (codes "argmax", 97)
+    ∷ (codes "cumsum", 100) ∷ (codes "cumprod", 100)
+    ∷ (codes "reduce", 103)
+    ∷ (codes "accumulate", 106)
+    ∷ (codes "axis", 109)
+    ∷ (codes "keepdims", 112)
+    ∷ (codes "dtype", 115)
+    ∷ []
 
 -- a name stands before `=` or another operator of assignment, before `(`, where it is called, or neither
 abbrev pub before : ℕ → ℕ
@@ -82,18 +113,38 @@ abbrev pub is_name : List ℕ → Word → Bool
 is_name n (Name m) = bytes_eq m n
 is_name n w = false
 
--- the next tokens are a dot and this name, which is not called
+-- the next tokens are a dot and this name
 abbrev pub is_before_name : List ℕ → List Token → Bool
-is_before_name n (a ∷ b ∷ rest) = kind_of_symbol a.word == 19 && is_name n b.word && not (before_next rest == 2)
+is_before_name n (a ∷ b ∷ rest) = kind_of_symbol a.word == 19 && is_name n b.word
 is_before_name n ts = false
 
--- A comma before `]`, `(` before `)`, and `np` before `.newaxis` have kinds of their own.
+-- the token after the next one is called
+abbrev pub is_call : List Token → Bool
+is_call (a ∷ b ∷ rest) = before_next rest == 2
+is_call ts = false
+
+-- The bracket that is open here, n levels further out, has a comma of its own further on.
+abbrev pub holds_comma : ℕ → List Token → Bool
+holds_comma n [] = false
+holds_comma n (t ∷ rest) =
+    let k = kind_of_symbol t.word in
+    if k == 12 || k == 14 then holds_comma (suc n) rest
+    else (if k == 13 || k == 15 then (if n == 0 then false else holds_comma (n - 1) rest)
+    else (if k == 16 && n == 0 then true
+    else (if k == 25 then false
+    else holds_comma n rest)))
+
+-- A comma before `]` or `)`, `(` before `)` and `(` with a comma of its own, and `np` before `.newaxis` or `.save` have kinds of
+-- their own.
 abbrev pub refined : ℕ → List Token → ℕ
 refined k rest =
     if k == 16 && is_before 15 rest then 30
+    else (if k == 16 && is_before 13 rest then 37
     else (if k == 12 && is_before 13 rest then 31
-    else (if k == 20 && is_before_name (codes "newaxis") rest then 32
-    else k))
+    else (if k == 12 && holds_comma 0 rest then 36
+    else (if k == 20 && is_before_name (codes "newaxis") rest && not (is_call rest) then 32
+    else (if k == 20 && is_before_name (codes "save") rest then 35
+    else k)))))
 
 abbrev pub kind_of_word : Word → List Token → ℕ
 kind_of_word (Name n) rest = kind_in name_kinds 40 n + before_next rest
@@ -152,14 +203,21 @@ abbrev pub COMPARISON : ℕ
 COMPARISON = 2 ^ 11
 
 abbrev pub OPEN : ℕ
-OPEN = 2 ^ 12 + 2 ^ 31
+OPEN = 2 ^ 12 + 2 ^ 31 + 2 ^ 36
 
--- `(` that is not before `)`, and one that is
-abbrev pub OPEN_SOME : ℕ
-OPEN_SOME = 2 ^ 12
-
+-- `(` before `)`, `(` with a comma of its own, and any other
 abbrev pub OPEN_NONE : ℕ
 OPEN_NONE = 2 ^ 31
+
+abbrev pub OPEN_TUPLE : ℕ
+OPEN_TUPLE = 2 ^ 36
+
+abbrev pub OPEN_ONE : ℕ
+OPEN_ONE = 2 ^ 12
+
+-- `(` that is not before `)`
+abbrev pub OPEN_SOME : ℕ
+OPEN_SOME = OPEN_ONE + OPEN_TUPLE
 
 abbrev pub CLOSE : ℕ
 CLOSE = 2 ^ 13
@@ -171,31 +229,55 @@ abbrev pub CLOSE_BRACKET : ℕ
 CLOSE_BRACKET = 2 ^ 15
 
 abbrev pub COMMA : ℕ
-COMMA = 2 ^ 16 + 2 ^ 30
+COMMA = 2 ^ 16 + 2 ^ 30 + 2 ^ 37
 
--- a comma that is not before `]`, and one that is
-abbrev pub COMMA_MORE : ℕ
-COMMA_MORE = 2 ^ 16
-
+-- a comma before `]`, and one that is not
 abbrev pub COMMA_LAST : ℕ
 COMMA_LAST = 2 ^ 30
+
+abbrev pub COMMA_MORE : ℕ
+COMMA_MORE = 2 ^ 16 + 2 ^ 37
+
+-- a comma before `)`, and one that is not
+abbrev pub COMMA_CLOSING : ℕ
+COMMA_CLOSING = 2 ^ 37
+
+abbrev pub COMMA_INNER : ℕ
+COMMA_INNER = 2 ^ 16 + 2 ^ 30
 
 -- `=`, and `+=` and the like
 abbrev pub ASSIGNMENT : ℕ
 ASSIGNMENT = 2 ^ 17 + 2 ^ 18
 
+-- `=`
+abbrev pub EQUAL : ℕ
+EQUAL = 2 ^ 17
+
 abbrev pub DOT : ℕ
 DOT = 2 ^ 19
 
 abbrev pub NP : ℕ
-NP = 2 ^ 20 + 2 ^ 32
+NP = 2 ^ 20 + 2 ^ 32 + 2 ^ 35
 
--- `np` that is not before `.newaxis`, and one that is
-abbrev pub NP_OTHER : ℕ
-NP_OTHER = 2 ^ 20
-
+-- `np` before `.newaxis`, and one that is not
 abbrev pub NP_NEWAXIS : ℕ
 NP_NEWAXIS = 2 ^ 32
+
+abbrev pub NP_NO_NEWAXIS : ℕ
+NP_NO_NEWAXIS = 2 ^ 20 + 2 ^ 35
+
+-- `np` before `.save`, and one that is not
+abbrev pub NP_SAVE : ℕ
+NP_SAVE = 2 ^ 35
+
+abbrev pub NP_NO_SAVE : ℕ
+NP_NO_SAVE = 2 ^ 20 + 2 ^ 32
+
+abbrev pub ABS : ℕ
+ABS = 2 ^ 33
+
+abbrev pub BUFFER : ℕ
+BUFFER = 2 ^ 34
 
 abbrev pub PRINT : ℕ
 PRINT = 2 ^ 21
@@ -229,36 +311,170 @@ QUOTED = 2 ^ 29
 abbrev pub ANY : ℕ
 ANY = 2 ^ 128 - 1
 
--- a name that is not called, one before an operator of assignment, one that is neither, and one that is called
-abbrev pub NAME : ℕ
-NAME = 2 ^ 40 + 2 ^ 41 + 2 ^ 43 + 2 ^ 44 + 2 ^ 46 + 2 ^ 47 + 2 ^ 49 + 2 ^ 50
+-- one kind of each of n names: every third from this one on
+abbrev pub thirds : ℕ → ℕ → ℕ
+thirds zero k = 0
+thirds (suc n) k = 2 ^ k + thirds n (k + 3)
+
+-- names: before neither an operator of assignment nor `(`, before an operator of assignment, and called
+abbrev pub UNBOUND : ℕ
+UNBOUND = thirds 26 40
 
 abbrev pub BOUND : ℕ
-BOUND = 2 ^ 41 + 2 ^ 44 + 2 ^ 47 + 2 ^ 50
-
-abbrev pub UNBOUND : ℕ
-UNBOUND = 2 ^ 40 + 2 ^ 43 + 2 ^ 46 + 2 ^ 49
+BOUND = thirds 26 41
 
 abbrev pub CALLED : ℕ
-CALLED = 2 ^ 42 + 2 ^ 45 + 2 ^ 48 + 2 ^ 51
+CALLED = thirds 26 42
+
+-- a name that is not called, and any
+abbrev pub NAME : ℕ
+NAME = UNBOUND + BOUND
+
+abbrev pub ANY_NAME : ℕ
+ANY_NAME = NAME + CALLED
+
+-- the kinds of one name: where it is not called, and all
+abbrev pub plain : ℕ → ℕ
+plain k = 2 ^ k + 2 ^ (k + 1)
+
+abbrev pub each : ℕ → ℕ
+each k = plain k + 2 ^ (k + 2)
 
 -- `numpy`, and where it is called
 abbrev pub NUMPY : ℕ
-NUMPY = 2 ^ 43 + 2 ^ 44
+NUMPY = plain 43
 
 abbrev pub NUMPY_CALLED : ℕ
 NUMPY_CALLED = 2 ^ 45
 
--- `arange`, called or not, and all other names
-abbrev pub ARANGE : ℕ
-ARANGE = 2 ^ 46 + 2 ^ 47 + 2 ^ 48
-
-abbrev pub NOT_ARANGE : ℕ
-NOT_ARANGE = 2 ^ 40 + 2 ^ 41 + 2 ^ 42 + 2 ^ 43 + 2 ^ 44 + 2 ^ 45 + 2 ^ 49 + 2 ^ 50 + 2 ^ 51
-
 -- `newaxis`, where it is not called
 abbrev pub NEWAXIS : ℕ
-NEWAXIS = 2 ^ 49 + 2 ^ 50
+NEWAXIS = plain 49
+
+-- ---- names behind `np.`
+
+abbrev pub ARANGE : ℕ
+ARANGE = each 46
+
+-- `zeros`, `ones`
+abbrev pub FILL : ℕ
+FILL = each 52
+
+abbrev pub FULL : ℕ
+FULL = each 55
+
+abbrev pub ARRAY : ℕ
+ARRAY = each 58
+
+abbrev pub BROADCAST : ℕ
+BROADCAST = each 61
+
+-- `add`, `multiply`, `minimum`, `maximum`, where they are not called
+abbrev pub UFUNC : ℕ
+UFUNC = plain 64 + plain 67
+
+-- `minimum`, `maximum`, where they are called
+abbrev pub EXTREMUM : ℕ
+EXTREMUM = 2 ^ 69
+
+-- `abs`, `absolute`
+abbrev pub ABSOLUTE : ℕ
+ABSOLUTE = ABS + each 70
+
+abbrev pub LOAD : ℕ
+LOAD = each 73
+
+abbrev pub SAVE : ℕ
+SAVE = each 76
+
+-- the names of the kinds of numbers
+abbrev pub KIND : ℕ
+KIND = each 79
+
+-- all that may stand behind `np.` where an expression is
+abbrev pub FUNCTION : ℕ
+FUNCTION = ARANGE + FILL + FULL + ARRAY + BROADCAST + UFUNC + EXTREMUM + each 70 + LOAD + KIND
+
+abbrev pub NO_FUNCTION : ℕ
+NO_FUNCTION = ANY_NAME - FUNCTION
+
+-- the names of the kinds of numbers, where they are not called, and all other names
+abbrev pub KIND_PLAIN : ℕ
+KIND_PLAIN = plain 79
+
+abbrev pub NO_KIND : ℕ
+NO_KIND = ANY_NAME - KIND_PLAIN
+
+-- ---- names behind a ufunc
+
+abbrev pub REDUCE : ℕ
+REDUCE = each 103
+
+abbrev pub ACCUMULATE : ℕ
+ACCUMULATE = each 106
+
+abbrev pub NO_FOLD : ℕ
+NO_FOLD = ANY_NAME - (REDUCE + ACCUMULATE)
+
+-- ---- names of methods
+
+abbrev pub TRANSPOSED : ℕ
+TRANSPOSED = plain 82
+
+abbrev pub TRANSPOSE : ℕ
+TRANSPOSE = each 85
+
+abbrev pub RESHAPE : ℕ
+RESHAPE = each 88
+
+abbrev pub COPY : ℕ
+COPY = each 91
+
+-- `astype`, `view`
+abbrev pub CONVERSION : ℕ
+CONVERSION = each 94
+
+-- `sum` and the like
+abbrev pub REDUCTION : ℕ
+REDUCTION = each 97
+
+-- `cumsum`, `cumprod`
+abbrev pub ACCUMULATION : ℕ
+ACCUMULATION = each 100
+
+abbrev pub NO_METHOD : ℕ
+NO_METHOD = ANY_NAME - (TRANSPOSED + TRANSPOSE + RESHAPE + COPY + CONVERSION + REDUCTION + ACCUMULATION)
+
+-- ---- names of arguments: where they are not called, where they stand before `=` or an operator like it, and where they are called
+
+abbrev pub AXIS : ℕ
+AXIS = plain 109
+
+abbrev pub AXIS_BOUND : ℕ
+AXIS_BOUND = 2 ^ 110
+
+abbrev pub AXIS_CALLED : ℕ
+AXIS_CALLED = 2 ^ 111
+
+abbrev pub KEEPDIMS : ℕ
+KEEPDIMS = plain 112
+
+abbrev pub KEEPDIMS_BOUND : ℕ
+KEEPDIMS_BOUND = 2 ^ 113
+
+abbrev pub KEEPDIMS_CALLED : ℕ
+KEEPDIMS_CALLED = 2 ^ 114
+
+abbrev pub DTYPE : ℕ
+DTYPE = plain 115
+
+abbrev pub DTYPE_BOUND : ℕ
+DTYPE_BOUND = 2 ^ 116
+
+abbrev pub DTYPE_CALLED : ℕ
+DTYPE_CALLED = 2 ^ 117
+
+-- ---- what a part begins with
 
 -- an operand of one token; and those of them that do not stand before an operator of assignment
 abbrev pub OPERAND : ℕ
@@ -275,16 +491,24 @@ SIGN = MINUS + TILDE
 abbrev pub SUM : ℕ
 SUM = PLUS + MINUS
 
+-- what goes on an operand
+abbrev pub SUFFIX : ℕ
+SUFFIX = OPEN_BRACKET + DOT
+
 -- what an expression begins with, and an element of a list
 abbrev pub EXPR : ℕ
-EXPR = OPERAND + CALLED + PLUS + OPEN + NP + SIGN
+EXPR = OPERAND + CALLED + PLUS + NP + ABS + BUFFER + OPEN + SIGN
 
 abbrev pub ELEMENT : ℕ
 ELEMENT = EXPR + OPEN_BRACKET
 
+-- an axis that is not named, where a named one may stand
+abbrev pub FIRST_AXIS : ℕ
+FIRST_AXIS = EXPR - AXIS_BOUND - KEEPDIMS_BOUND + NONE
+
 -- what a place, and what a statement begins with
 abbrev pub PLACE_START : ℕ
-PLACE_START = PLACE + CALLED + PLUS + OPEN + NP
+PLACE_START = PLACE + CALLED + PLUS + NP_NO_SAVE + ABS + BUFFER + OPEN
 
 abbrev pub START : ℕ
-START = PLACE_START + BOUND + PRINT + IMPORT + DEL
+START = PLACE_START + NP_SAVE + BOUND + PRINT + IMPORT + DEL

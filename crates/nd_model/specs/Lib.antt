@@ -9,6 +9,7 @@ pub mod Session
 pub mod Running
 pub mod Fault
 pub mod Strides
+pub mod Calls
 pub mod Syntax
 pub mod Text
 pub mod Tokens

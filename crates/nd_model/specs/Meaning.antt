@@ -9,7 +9,7 @@ use Rattle.nd_model.specs.Value.{Base, Value, Int, Truth, Scalar, Array, Row}
 use Rattle.nd_model.specs.Running.{Running, Inputs, Act, Lookup, Use, Make, Reply, reply, after, Effect, Nothing, Prints, Binding, Unbinding, Storing}
 use Rattle.nd_model.specs.Fault.{Fault, TooManyElements, OutOfBounds, TooManyIndices, NotAnIndex, IntOutOfRange, ShapeMismatch, ReadOnly, NoName, IntTooBig, NotAnArray, BadArgument}
 use Rattle.nd_model.specs.Fault as fault
-use Rattle.nd_model.specs.Syntax.{Expr, Name, Integer, Unary, Negative, Arange, Item, Index, Items, AndItem, NoItem, At, Stmt, Import, Bind, Assign, Delete, Print}
+use Rattle.nd_model.specs.Syntax.{Expr, Name, Integer, Unary, Negative, Called, Arange, Omitted, Item, Attribute, Index, Items, AndItem, NoItem, At, Stmt, Import, Bind, Assign, Delete, Print}
 use Rattle.nd_model.specs.Text.{truth_text, number_text, array_text, joined}
 
 -- an evaluation: a value, a refusal, or a question and how it goes on with each answer
@@ -240,7 +240,7 @@ abbrev mutual
   value (Unary Negative e) = do
     v ← value e
     negated v
-  value (Arange e) = do
+  value (Called (Arange Omitted e Omitted None)) = do
     v ← value e
     arange v
   value (Item t x) = do
@@ -248,6 +248,9 @@ abbrev mutual
     item ← item_value x
     indexed target item
   -- the forms that are not built yet
+  value (Attribute e m) = do
+    v ← value e
+    Refuses (fault.Stmt BadArgument)
   value _ = Refuses (fault.Stmt BadArgument)
 
   -- an index of one expression; the other ones are not built yet

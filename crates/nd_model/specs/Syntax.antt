@@ -1,5 +1,7 @@
 -- What a cell's text means, without parentheses, blanks and spellings.
-use Rattle.std.specs.Prelude.{ℕ, Bool, List, Result}
+use Rattle.std.specs.Prelude.{ℕ, Bool, List, Option, Result}
+use Rattle.nd_model.specs.Element.{Kind}
+use Rattle.nd_model.specs.Calls.{Ufunc, Reduction, Accumulation, Fill, DType}
 use Rattle.nd_model.specs.Fault.{ParseFault}
 
 -- the operators, by NumPy's names
@@ -34,9 +36,60 @@ mutual
     Truth : Bool → Expr
     Unary : UnaryOp → Expr → Expr
     Binary : BinaryOp → Expr → Expr → Expr
-    Arange : Expr → Expr
+    Called : Call → Expr
     -- an operand and its index
     Item : Expr → Index → Expr
+    -- an operand and its method
+    Attribute : Expr → Method → Expr
+
+  -- a call of a function, by NumPy's name where it has one
+  pub data Call : Type 0 where
+    Arange : (start : Bound) → (stop : Expr) → (step : Bound) → Option DType → Call
+    -- `np.zeros`, `np.ones`
+    Filled : Fill → (shape : Exprs) → Option DType → Call
+    Full : (shape : Exprs) → Expr → Option DType → Call
+    -- `np.array`
+    NewArray : Element → Option DType → Call
+    -- `np.int8` and the like
+    Convert : Kind → Expr → Call
+    BroadcastTo : Expr → (shape : Exprs) → Call
+    Minimum : Expr → Expr → Call
+    Maximum : Expr → Expr → Call
+    -- `np.abs`, `np.absolute`
+    Absolute : Expr → Call
+    -- `abs`
+    PythonAbs : Expr → Call
+    -- `np.add.reduce` and the like
+    Folded : Ufunc → Fold → Call
+    Load : List ℕ → Call
+    Buffer : List ℕ → Call
+
+  pub data Fold : Type 0 where
+    Reduce : Expr → Axis → (keepdims : Bool) → Fold
+    Accumulate : Expr → (axis : Bound) → Fold
+
+  -- a method of an array, or an attribute
+  pub data Method : Type 0 where
+    -- `.T` has no axes
+    Transpose : (axes : Exprs) → Method
+    Reshape : (shape : Exprs) → Method
+    Copy : Method
+    AsType : DType → Method
+    ViewAs : DType → Method
+    -- `.sum` and the like
+    Reduced : Reduction → Axis → (keepdims : Bool) → Method
+    -- `.cumsum`, `.cumprod`
+    Accumulated : Accumulation → (axis : Bound) → Method
+
+  -- the axis of a reduction: none is written, `None`, or a number
+  pub data Axis : Type 0 where
+    DefaultAxis : Axis
+    AllAxes : Axis
+    AtAxis : Expr → Axis
+
+  pub data Exprs : Type 0 where
+    NoExpr : Exprs
+    AndExpr : Expr → Exprs → Exprs
 
   -- what stands in brackets: the name of a field, or items, none in `()`
   pub data Index : Type 0 where
@@ -78,6 +131,8 @@ pub data Stmt : Type 0 where
   AugmentItem : Expr → Index → BinaryOp → Expr → Stmt
   Delete : List ℕ → Stmt
   Print : List Expr → Stmt
+  -- `np.save`: the name, and the value
+  Save : List ℕ → Expr → Stmt
 
 -- a statement, and the line, from 1, on which it begins
 pub record Line : Type 0 where

@@ -1,11 +1,12 @@
 //! The syntax of cells: the statements of a text, or its fault.
 #![tactic(auto)]
 
-mod expr;
 mod parse;
 mod stmt;
 
 pub use nd_tree::{
-    BinaryOp, Element, Expr, Index, IndexItem, Line, ParseFault, ParseKind, Stmt, UnaryOp,
+    Accumulation, Axis, BinaryOp, Call, DType, Element, Expr, FieldType, Fill, Fold, Index,
+    IndexItem, Line, Method, ParseFault, ParseKind, Reduction, Stmt, Suffix, TypeName, Ufunc,
+    UnaryOp,
 };
 pub use parse::parse_cell;

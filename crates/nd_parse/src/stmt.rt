@@ -1,26 +1,28 @@
 //! Statements.
-ghost use Rattle.std.specs.Prelude.{◌≡◌, string_bytes};
+ghost use Rattle.std.specs.Prelude.{◌≡◌, ◌++◌, map, IfOk, string_bytes};
 ghost use Rattle.std.specs.Option.{option_map};
-ghost use Rattle.nd_model.specs.Kinds.{kind, OPEN, CLOSE};
+ghost use Rattle.nd_model.specs.Grammar.{Many};
+ghost use Rattle.nd_model.specs.Kinds.{kind, OPEN, CLOSE, DOT};
 ghost use Rattle.nd_model.specs.Predict.{read};
-ghost use Rattle.nd_model.specs.Cells.{Anywhere, under, between, expr, module_name, imports, delete, exprs, printed, print, value, bound, written, line};
-ghost use Rattle.nd_model.specs.Factored.{bind, target, assign, stmt};
+ghost use Rattle.nd_model.specs.Cells.{Anywhere, OfMethod, under, between, expr, exprs, method, module_name, imports, delete, printed, print, saved, save, value, bound, written, line};
+ghost use Rattle.nd_model.specs.Factored.{bind, group, target, assign, stmt};
 ghost use Rattle.nd_token.specs.Tokens.{token_of};
 ghost use Rattle.nd_tree.specs.Syntax.{expr_of, index_of, binary_op, stmt_of, line_of};
-ghost use Rattle.nd_tree.specs.Gives.{Gives, with_rest, tokens_of, exprs_of, some_indexes_of, target_of, value_of};
-ghost use Rattle.nd_parse.specs.Readers.{some_indexes};
+ghost use Rattle.nd_tree.specs.Gives.{Gives, with_rest, tokens_of, exprs_of, methods_of, suffixes_of, group_of, trailing_of, target_of, value_of};
+ghost use Rattle.nd_parse.specs.Readers.{trailing, saved_body};
 
-use crate::expr::{expr, index, indexed, operand};
+use nd_expr::{expr, exprs, index, method, operand, postfixed};
 use nd_token::Token;
 use nd_tree::kinds::{
-    AS, ASSIGNMENT, BOUND, CLOSE, COMMA, DEL, END, IMPORT, NP, NUMPY, NUMPY_CALLED, OPEN,
-    OPEN_BRACKET, PRINT, next_in,
+    AS, ASSIGNMENT, BOUND, CLOSE, COMMA, DEL, DOT, END, IMPORT, NP, NP_SAVE, NUMPY, NUMPY_CALLED,
+    OPEN, PRINT, SAVE, SUFFIX, next_in,
 };
 use nd_tree::operators::augment_of;
 use nd_tree::read::{Read, Reason, Tokens, line_at, name, name_of, shut, take};
 use nd_tree::spot::Spot;
-use nd_tree::{BinaryOp, Expr, Index, Line, Stmt};
-use std::alloc::Global;
+use nd_tree::types::quoted_text;
+use nd_tree::{BinaryOp, Expr, Index, Line, Method, Stmt, Suffix};
+use std::alloc::{AllocError, Global};
 
 #[tactic(auto, unfolding(nd_model::specs::Cells::module_name))]
 fn module_name<'t>(tokens: Tokens<'t>) -> Read<'t, Token<'t>>
@@ -54,27 +56,11 @@ fn delete<'t>(alloc: Global, tokens: Tokens<'t>) -> Read<'t, Stmt>
     Ok((Stmt::Delete(name), rest))
 }
 
-/// `expr {"," expr}`
-fn exprs<'t>(alloc: Global, levels: u8, tokens: Tokens<'t>) -> Read<'t, Vec<Expr>>
-    ensures { Gives (with_rest exprs_of) result (read kind (exprs (expr Anywhere (under levels))) (tokens_of tokens.now)) }
-{
-    let mut all = Vec::new(alloc);
-    let (first, mut rest) = expr(alloc, levels, Spot::Anywhere, tokens)?;
-    all.push(first)?;
-    'more: while next_in(rest, COMMA) {
-        let (_, after) = take(rest, COMMA)?;
-        let (next, after) = expr(alloc, levels, Spot::Anywhere, after)?;
-        all.push(next)?;
-        rest = after;
-    }
-    Ok((all, rest))
-}
-
 fn listed<'t>(alloc: Global, levels: u8, tokens: Tokens<'t>) -> Read<'t, Vec<Expr>>
-    ensures { Gives (with_rest exprs_of) result (read kind (between OPEN (exprs (expr Anywhere (under levels))) CLOSE) (tokens_of tokens.now)) }
+    ensures { Gives (with_rest exprs_of) result (read kind (between OPEN (exprs (expr Anywhere (under levels)) (expr Anywhere (under levels))) CLOSE) (tokens_of tokens.now)) }
 {
     let (_, rest) = take(tokens, OPEN)?;
-    let (all, rest) = exprs(alloc, levels, rest)?;
+    let (all, rest) = exprs(alloc, levels, Spot::Anywhere, rest)?;
     let (_, rest) = take(rest, CLOSE)?;
     Ok((all, rest))
 }
@@ -97,6 +83,38 @@ fn print<'t>(alloc: Global, levels: u8, tokens: Tokens<'t>) -> Read<'t, Stmt>
     let (_, rest) = take(tokens, PRINT)?;
     let (all, rest) = printed(alloc, levels, rest)?;
     Ok((Stmt::Print(all), rest))
+}
+
+/// `(STRING, expr)`
+fn saved<'t>(alloc: Global, levels: u8, tokens: Tokens<'t>) -> Read<'t, Stmt>
+    ensures { Gives (with_rest stmt_of) result (read kind (saved (under levels)) (tokens_of tokens.now)) }
+{
+    if levels == 0 {
+        return Err(shut(tokens, OPEN, Reason::TooDeep));
+    }
+    saved_in(alloc, levels - 1, tokens)
+}
+
+fn saved_in<'t>(alloc: Global, levels: u8, tokens: Tokens<'t>) -> Read<'t, Stmt>
+    ensures { Gives (with_rest stmt_of) result (read kind (between OPEN (saved_body (expr Anywhere (under levels))) CLOSE) (tokens_of tokens.now)) }
+{
+    let (_, rest) = take(tokens, OPEN)?;
+    let (name, rest) = quoted_text(alloc, rest)?;
+    let (_, rest) = take(rest, COMMA)?;
+    let (value, rest) = expr(alloc, levels, Spot::Anywhere, rest)?;
+    let (_, rest) = take(rest, CLOSE)?;
+    Ok((Stmt::Save(name, value), rest))
+}
+
+/// `np.save(STRING, expr)`
+#[tactic(auto, unfolding(nd_model::specs::Cells::save))]
+fn save<'t>(alloc: Global, levels: u8, tokens: Tokens<'t>) -> Read<'t, Stmt>
+    ensures { Gives (with_rest stmt_of) result (read kind (save (under levels)) (tokens_of tokens.now)) }
+{
+    let (_, rest) = take(tokens, NP_SAVE)?;
+    let (_, rest) = take(rest, DOT)?;
+    let (_, rest) = take(rest, SAVE)?;
+    saved(alloc, levels, rest)
 }
 
 /// `= expr`, `op= expr`
@@ -140,28 +158,65 @@ fn bind<'t>(alloc: Global, levels: u8, tokens: Tokens<'t>) -> Read<'t, Stmt>
     Ok((bound(name, op, value), rest))
 }
 
-/// At least one index: those before the last, and the last.
-fn some_indexes<'t>(alloc: Global, levels: u8, tokens: Tokens<'t>) -> Read<'t, (Vec<Index>, Index)>
-    ensures { Gives (with_rest some_indexes_of) result (read kind (some_indexes (under levels)) (tokens_of tokens.now)) }
+/// Any number of methods.
+fn methods<'t>(alloc: Global, levels: u8, tokens: Tokens<'t>) -> Read<'t, Vec<Method>>
+    ensures { Gives (with_rest methods_of) result (read kind (Many DOT (λ ms. ms) (method (under levels))) (tokens_of tokens.now)) }
+{
+    let mut all = Vec::new(alloc);
+    // from the first token on
+    let (_, mut rest) = tokens.split_at(0);
+    'more: while next_in(rest, DOT) {
+        let (next, after) = method(alloc, levels, rest)?;
+        all.push(next)?;
+        rest = after;
+    }
+    Ok((all, rest))
+}
+
+/// Methods, and an index behind them.
+#[tactic(auto, unfolding(nd_model::specs::Factored::group))]
+fn group<'t>(alloc: Global, levels: u8, tokens: Tokens<'t>) -> Read<'t, (Vec<Method>, Index)>
+    ensures { Gives (with_rest group_of) result (read kind (group (under levels)) (tokens_of tokens.now)) }
+{
+    let (methods, rest) = methods(alloc, levels, tokens)?;
+    let (index, rest) = index(alloc, levels, rest)?;
+    Ok(((methods, index), rest))
+}
+
+/// Puts methods behind what goes on an operand.
+fn add_methods(suffixes: &mut Vec<Suffix>, methods: Vec<Method>) -> Result<(), AllocError>
+    ensures { IfOk result (λ _. suffixes_of suffixes.new ≡ suffixes_of suffixes.old ++ map OfMethod (methods_of methods)) }
+{
+    for method in methods {
+        suffixes.push(Suffix::Method(method))?;
+    }
+    Ok(())
+}
+
+/// What goes on an operand, with an index at its end: what stands before that, and that.
+fn trailing<'t>(alloc: Global, levels: u8, tokens: Tokens<'t>) -> Read<'t, (Vec<Suffix>, Index)>
+    ensures { Gives (with_rest trailing_of) result (read kind (trailing (under levels)) (tokens_of tokens.now)) }
 {
     let mut before = Vec::new(alloc);
-    let (mut last, mut rest) = index(alloc, levels, tokens)?;
-    'indexes: while next_in(rest, OPEN_BRACKET) {
-        let (next, after) = index(alloc, levels, rest)?;
-        before.push(last)?;
+    let ((methods, mut last), mut rest) = group(alloc, levels, tokens)?;
+    add_methods(&mut before, methods)?;
+    'groups: while next_in(rest, SUFFIX) {
+        let ((methods, next), after) = group(alloc, levels, rest)?;
+        before.push(Suffix::Index(last))?;
+        add_methods(&mut before, methods)?;
         last = next;
         rest = after;
     }
     Ok(((before, last), rest))
 }
 
-/// What is assigned to: an operand with its indexes before the last, and the last.
+/// What is assigned to: an operand with what goes on it, and the last index.
 fn target<'t>(alloc: Global, levels: u8, tokens: Tokens<'t>) -> Read<'t, (Expr, Index)>
     ensures { Gives (with_rest target_of) result (read kind (target (under levels)) (tokens_of tokens.now)) }
 {
     let (operand, rest) = operand(alloc, levels, Spot::Target, tokens)?;
-    let ((before, last), rest) = some_indexes(alloc, levels, rest)?;
-    Ok(((indexed(alloc, operand, before)?, last), rest))
+    let ((before, last), rest) = trailing(alloc, levels, rest)?;
+    Ok(((postfixed(alloc, operand, before)?, last), rest))
 }
 
 /// `target = expr`, `target op= expr`
@@ -186,6 +241,9 @@ fn stmt<'t>(alloc: Global, levels: u8, tokens: Tokens<'t>) -> Read<'t, Stmt>
     }
     if next_in(tokens, PRINT) {
         return print(alloc, levels, tokens);
+    }
+    if next_in(tokens, NP_SAVE) {
+        return save(alloc, levels, tokens);
     }
     if next_in(tokens, BOUND) {
         return bind(alloc, levels, tokens);

@@ -138,15 +138,15 @@ fn trees(rt: HostRuntime) -> Result<(), Fail> {
         means(
             alloc,
             "y = -x[0][1]",
-            "[Line { line: 1, stmt: Bind(\"y\", Unary(Negative, Indexed(Name(\"x\"), [Items([At(Integer(0))]), Items([At(Integer(1))])]))) }]",
+            "[Line { line: 1, stmt: Bind(\"y\", Unary(Negative, Postfix(Name(\"x\"), [Index(Items([At(Integer(0))])), Index(Items([At(Integer(1))]))]))) }]",
         )?
     );
     assert!(rt;
         means(
             alloc,
             "print(np.arange(3),\n  a[-1])\na[b][1] = 2",
-            "[Line { line: 1, stmt: Print([Arange(Integer(3)), Indexed(Name(\"a\"), [Items([At(Unary(Negative, Integer(1)))])])]) }, \
-             Line { line: 3, stmt: Assign(Indexed(Name(\"a\"), [Items([At(Name(\"b\"))])]), Items([At(Integer(1))]), Integer(2)) }]",
+            "[Line { line: 1, stmt: Print([Call(Arange(None, Integer(3), None, None)), Postfix(Name(\"a\"), [Index(Items([At(Unary(Negative, Integer(1)))]))])]) }, \
+             Line { line: 3, stmt: Assign(Postfix(Name(\"a\"), [Index(Items([At(Name(\"b\"))]))]), Items([At(Integer(1))]), Integer(2)) }]",
         )?
     );
     Ok(())
@@ -204,7 +204,7 @@ fn operators(rt: HostRuntime) -> Result<(), Fail> {
         ),
         (
             "x = a[0] ** 2",
-            "Chain(Indexed(Name(\"a\"), [Items([At(Integer(0))])]), [(Power, Integer(2))])",
+            "Chain(Postfix(Name(\"a\"), [Index(Items([At(Integer(0))]))]), [(Power, Integer(2))])",
         ),
     ] {
         let wanted = format!(in alloc; "[Line {{ line: 1, stmt: Bind(\"x\", {wanted}) }}]")?;
@@ -233,7 +233,7 @@ fn operators(rt: HostRuntime) -> Result<(), Fail> {
         means(
             alloc,
             "a[b][1] **= 2",
-            "[Line { line: 1, stmt: AugmentItem(Indexed(Name(\"a\"), [Items([At(Name(\"b\"))])]), Items([At(Integer(1))]), Power, Integer(2)) }]",
+            "[Line { line: 1, stmt: AugmentItem(Postfix(Name(\"a\"), [Index(Items([At(Name(\"b\"))]))]), Items([At(Integer(1))]), Power, Integer(2)) }]",
         )?
     );
     Ok(())
@@ -267,9 +267,108 @@ fn indexes(rt: HostRuntime) -> Result<(), Fail> {
         ),
     ] {
         let wanted = format!(in alloc;
-            "[Line {{ line: 1, stmt: Bind(\"x\", Indexed(Name(\"a\"), [{wanted}])) }}]"
+            "[Line {{ line: 1, stmt: Bind(\"x\", Postfix(Name(\"a\"), [Index({wanted})])) }}]"
         )?;
         assert!(rt; means(alloc, text, wanted.as_str())?, "{text:?}");
     }
+    Ok(())
+}
+
+#[test]
+fn calls(rt: HostRuntime) -> Result<(), Fail> {
+    let alloc = rt.alloc();
+    for (text, wanted) in [
+        (
+            "x = np.arange(1, b, dtype='u1')",
+            "Call(Arange(Some(Integer(1)), Name(\"b\"), None, Some(Simple(Text(\"u1\")))))",
+        ),
+        (
+            "x = np.ones((2, 3,), dtype=np.int8)",
+            "Call(Filled(Ones, [Integer(2), Integer(3)], Some(Simple(Kind(I8)))))",
+        ),
+        (
+            "x = np.zeros((), dtype=[('a', np.bool_)])",
+            "Call(Filled(Zeros, [], Some(Packed([FieldType { name: \"a\", type_name: Kind(Bool) }]))))",
+        ),
+        (
+            "x = np.full((2), a)",
+            "Call(Full([Integer(2)], Name(\"a\"), None))",
+        ),
+        (
+            "x = np.array([[1], []])",
+            "Call(Array(Nested([Nested([Single(Integer(1))]), Nested([])]), None))",
+        ),
+        ("x = np.uint16(a)", "Call(Convert(U16, Name(\"a\")))"),
+        (
+            "x = np.broadcast_to(a, 3)",
+            "Call(BroadcastTo(Name(\"a\"), [Integer(3)]))",
+        ),
+        (
+            "x = np.maximum(a, abs(b))",
+            "Call(Maximum(Name(\"a\"), Call(PythonAbs(Name(\"b\")))))",
+        ),
+        (
+            "x = np.add.reduce(a, axis=None, keepdims=True)",
+            "Call(Fold(Add, Reduce(Name(\"a\"), All, true)))",
+        ),
+        (
+            "x = np.minimum.accumulate(a, axis=1)",
+            "Call(Fold(Minimum, Accumulate(Name(\"a\"), Some(Integer(1)))))",
+        ),
+        ("x = buffer('a')", "Call(Buffer(\"a\"))"),
+    ] {
+        let wanted = format!(in alloc; "[Line {{ line: 1, stmt: Bind(\"x\", {wanted}) }}]")?;
+        assert!(rt; means(alloc, text, wanted.as_str())?, "{text:?}");
+    }
+    Ok(())
+}
+
+#[test]
+fn methods(rt: HostRuntime) -> Result<(), Fail> {
+    let alloc = rt.alloc();
+    for (text, wanted) in [
+        ("x = a.T", "Method(Transpose([]))"),
+        (
+            "x = a.transpose(1, 0)",
+            "Method(Transpose([Integer(1), Integer(0)]))",
+        ),
+        (
+            "x = a.reshape((2, 3))",
+            "Method(Reshape([Integer(2), Integer(3)]))",
+        ),
+        (
+            "x = a.reshape(2, 3)",
+            "Method(Reshape([Integer(2), Integer(3)]))",
+        ),
+        ("x = a.copy()", "Method(Copy)"),
+        (
+            "x = a.astype(np.int64)",
+            "Method(AsType(Simple(Kind(I64))))",
+        ),
+        ("x = a.view('<u2')", "Method(View(Simple(Text(\"<u2\"))))"),
+        ("x = a.argmax()", "Method(Reduce(ArgMax, Default, false))"),
+        (
+            "x = a.sum(0, keepdims=True)",
+            "Method(Reduce(Sum, At(Integer(0)), true))",
+        ),
+        ("x = a.all(axis=None)", "Method(Reduce(All, All, false))"),
+        (
+            "x = a.cumprod(axis=1)",
+            "Method(Accumulate(CumProd, Some(Integer(1))))",
+        ),
+    ] {
+        let wanted = format!(in alloc;
+            "[Line {{ line: 1, stmt: Bind(\"x\", Postfix(Name(\"a\"), [{wanted}])) }}]"
+        )?;
+        assert!(rt; means(alloc, text, wanted.as_str())?, "{text:?}");
+    }
+    assert!(rt;
+        means(
+            alloc,
+            "a.T[0].copy()[1] = 2\nnp.save('f', a)",
+            "[Line { line: 1, stmt: Assign(Postfix(Name(\"a\"), [Method(Transpose([])), Index(Items([At(Integer(0))])), Method(Copy)]), Items([At(Integer(1))]), Integer(2)) }, \
+             Line { line: 2, stmt: Save(\"f\", Name(\"a\")) }]",
+        )?
+    );
     Ok(())
 }

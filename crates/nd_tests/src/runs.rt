@@ -52,6 +52,10 @@ fn forms_to_come(rt: HostRuntime) -> Result<(), Fail> {
         "x = np.arange(3)\nx[...] = 1",
         "x = np.arange(3)\nx[0, 0] = 1",
         "x = np.arange(3)\nprint(x[()], q)",
+        "x = np.arange(3)\ny = x.T",
+        "x = 1\ny = np.int8(x)",
+        "x = 1\ny = np.arange(0, 3)",
+        "x = 1\nnp.save('a', x)",
     ] {
         let mut meter = Meter::new();
         let mut session = Session::new(alloc);

@@ -2,37 +2,47 @@
 use Rattle.std.proofs.Common.{◌≡◌, List, [], ◌∷◌, ◌++◌, Option, None, Some, map, refl, ap, ◌∙◌, Box, Vec, Global}
 use mathlib.Core.Former.{Count}
 use Rattle.nd_model.specs.Syntax as model
-use Rattle.nd_model.specs.Cells.{chained, items, items_of, elements_of}
-use Rattle.nd_tree.specs.declared.tree.Expr.{Expr, Indexed, Indexed', Row_of-Index, end_of-Index, more_of-Index, items-the_row-Index, items_hidden-the_row-Index-2, Chain, Chain', Row_of-Expr-Chain-1-2, end_of-Expr-Chain-1-2, more_of-Expr-Chain-1-2, items-the_row-Expr-Chain-1-2, items_hidden-the_row-Expr-Chain-1-2-1}
-use Rattle.nd_tree.specs.declared.tree.Index.{Index, Items, Items', Row_of-IndexItem, end_of-IndexItem, more_of-IndexItem, items-the_row-IndexItem, items_hidden-the_row-IndexItem-3}
+use Rattle.nd_model.specs.Cells.{chained, Suffix, with_suffix, suffixed, items_of, elements_of}
+use Rattle.nd_tree.specs.declared.tree.Expr.{Expr, Postfix, Postfix', Row_of-Suffix, end_of-Suffix, more_of-Suffix, items-the_row-Suffix, items_hidden-the_row-Suffix-3, Chain, Chain', Row_of-Expr-Chain-1-2, end_of-Expr-Chain-1-2, more_of-Expr-Chain-1-2, items-the_row-Expr-Chain-1-2, items_hidden-the_row-Expr-Chain-1-2-2}
+use Rattle.nd_tree.specs.declared.tree.Suffix as tree_suffix
+use Rattle.nd_tree.specs.declared.tree.Call.{Row_of-Expr, end_of-Expr, more_of-Expr, items-the_row-Expr}
+use Rattle.nd_tree.specs.declared.tree.Index.{Index, Items, Items', Row_of-IndexItem, end_of-IndexItem, more_of-IndexItem, items-the_row-IndexItem, items_hidden-the_row-IndexItem-4}
 use Rattle.nd_tree.specs.declared.tree.IndexItem as tree
-use Rattle.nd_tree.specs.declared.tree.IndexItem.{IndexItem, Row_of-Element, end_of-Element, more_of-Element, items-the_row-Element, items_hidden-the_row-Element-0}
+use Rattle.nd_tree.specs.declared.tree.IndexItem.{IndexItem, Row_of-Element, end_of-Element, more_of-Element, items-the_row-Element, items_hidden-the_row-Element-1}
 use Rattle.nd_tree.specs.declared.tree.Element as element
 use Rattle.nd_tree.specs.declared.tree.Element.{Element}
 use Rattle.nd_tree.specs.declared.tree.BinaryOp.{BinaryOp}
-use Rattle.nd_tree.specs.Syntax.{expr_of, operations_in, row_of_indexes, index_of, row_of_items, item_of, bound_of, row_of_elements, element_of}
+use Rattle.nd_tree.specs.Syntax.{expr_of, operations_in, row_of_suffixes, suffix_of, row_of_exprs, index_of, row_of_items, item_of, bound_of, row_of_elements, element_of}
 use Rattle.nd_tree.specs.Gives.{operation_of}
 
--- ---- indexes
+-- ---- suffixes
 
-indexes_are : (n : _) (row : Row_of-Index n) → row_of_indexes row ≡ map index_of (items-the_row-Index n row)
-indexes_are n end_of-Index = refl
-indexes_are n (more_of-Index i is) = ap (λ xs. index_of i ∷ xs) (indexes_are _ is)
+suffixes_are : (n : _) (row : Row_of-Suffix n) → row_of_suffixes row ≡ map suffix_of (items-the_row-Suffix n row)
+suffixes_are n end_of-Suffix = refl
+suffixes_are n (more_of-Suffix x xs) = ap (λ l. suffix_of x ∷ l) (suffixes_are _ xs)
 
--- its indexes, as the tree has them
-abbrev pub row_of : Expr → (n : Count) × Row_of-Index n
-row_of (Indexed' p e shape is) = (_, is)
-row_of _ = (_, end_of-Index)
+-- its suffixes, as the tree has them
+abbrev pub row_of : Expr → (n : Count) × Row_of-Suffix n
+row_of (Postfix' p e shape xs) = (_, xs)
+row_of _ = (_, end_of-Suffix)
 
-pub indexed_is : (e : Box Expr Global) (is : Vec Index Global) → expr_of (Indexed e is) ≡ items (expr_of e.value) (map index_of is.items)
-indexed_is e is =
-    let row = row_of (Indexed e is) in
-    ap (items (expr_of e.value)) (indexes_are row.0 row.1 ∙ ap (map index_of) (items_hidden-the_row-Index-2 is))
+pub postfix_is : (e : Box Expr Global) (xs : Vec tree_suffix.Suffix Global) → expr_of (Postfix e xs) ≡ suffixed (expr_of e.value) (map suffix_of xs.items)
+postfix_is e xs =
+    let row = row_of (Postfix e xs) in
+    ap (suffixed (expr_of e.value)) (suffixes_are row.0 row.1 ∙ ap (map suffix_of) (items_hidden-the_row-Suffix-3 xs))
 
--- one index more
-pub items_push : (e : model.Expr) (done : List model.Index) (i : model.Index) → items e (done ++ i ∷ []) ≡ model.Item (items e done) i
-items_push e [] i = refl
-items_push e (x ∷ xs) i = items_push (model.Item e x) xs i
+-- one suffix more
+pub suffixed_push : (e : model.Expr) (done : List Suffix) (x : Suffix) → suffixed e (done ++ x ∷ []) ≡ with_suffix (suffixed e done) x
+suffixed_push e [] x = refl
+suffixed_push e (y ∷ ys) x = suffixed_push (with_suffix e y) ys x
+
+-- ---- numbers
+
+numbers_are : (n : _) (row : Row_of-Expr n) → row_of_exprs row ≡ map expr_of (items-the_row-Expr n row)
+numbers_are n end_of-Expr = refl
+numbers_are n (more_of-Expr e es) = ap (λ l. expr_of e ∷ l) (numbers_are _ es)
+
+-- ---- items
 
 items_are : (n : _) (row : Row_of-IndexItem n) → row_of_items row ≡ map item_of (items-the_row-IndexItem n row)
 items_are n end_of-IndexItem = refl
@@ -43,7 +53,7 @@ item_row (Items' shape is) = (_, is)
 item_row _ = (_, end_of-IndexItem)
 
 pub index_is : (is : Vec IndexItem Global) → index_of (Items is) ≡ model.Items (items_of (map item_of is.items))
-index_is is = let row = item_row (Items is) in ap (λ l. model.Items (items_of l)) (items_are row.0 row.1 ∙ ap (map item_of) (items_hidden-the_row-IndexItem-3 is))
+index_is is = let row = item_row (Items is) in ap (λ l. model.Items (items_of l)) (items_are row.0 row.1 ∙ ap (map item_of) (items_hidden-the_row-IndexItem-4 is))
 
 pub slice_is : (a b c : Option Expr) → item_of (tree.Slice a b c) ≡ model.Slice (bound_of a) (bound_of b) (bound_of c)
 slice_is None None None = refl
@@ -66,14 +76,14 @@ list_row (tree.List' shape es) = (_, es)
 list_row _ = (_, end_of-Element)
 
 pub list_is : (es : Vec Element Global) → item_of (tree.List es) ≡ model.Listed (elements_of (map element_of es.items))
-list_is es = let row = list_row (tree.List es) in ap (λ l. model.Listed (elements_of l)) (elements_are row.0 row.1 ∙ ap (map element_of) (items_hidden-the_row-Element-0 es))
+list_is es = let row = list_row (tree.List es) in ap (λ l. model.Listed (elements_of l)) (elements_are row.0 row.1 ∙ ap (map element_of) (items_hidden-the_row-Element-1 es))
 
 abbrev nested_row : Element → (n : Count) × Row_of-Element n
 nested_row (element.Nested' shape es) = (_, es)
 nested_row _ = (_, end_of-Element)
 
 pub nested_is : (es : Vec Element Global) → element_of (element.Nested es) ≡ model.Nested (elements_of (map element_of es.items))
-nested_is es = let row = nested_row (element.Nested es) in ap (λ l. model.Nested (elements_of l)) (elements_are row.0 row.1 ∙ ap (map element_of) (items_hidden-the_row-Element-0 es))
+nested_is es = let row = nested_row (element.Nested es) in ap (λ l. model.Nested (elements_of l)) (elements_are row.0 row.1 ∙ ap (map element_of) (items_hidden-the_row-Element-1 es))
 
 -- ---- operators
 
@@ -88,4 +98,4 @@ chain_row _ = (_, end_of-Expr-Chain-1-2)
 pub chain_is : (e : Box Expr Global) (xs : Vec (BinaryOp × Expr) Global) → expr_of (Chain e xs) ≡ chained (expr_of e.value) (map operation_of xs.items)
 chain_is e xs =
     let row = chain_row (Chain e xs) in
-    ap (chained (expr_of e.value)) (operations_are row.0 row.1 ∙ ap (map operation_of) (items_hidden-the_row-Expr-Chain-1-2-1 xs))
+    ap (chained (expr_of e.value)) (operations_are row.0 row.1 ∙ ap (map operation_of) (items_hidden-the_row-Expr-Chain-1-2-2 xs))

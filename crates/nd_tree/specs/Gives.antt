@@ -1,5 +1,5 @@
 -- What a reader of tokens gives.
-use Rattle.std.specs.Prelude.{◌≡◌, ℕ, List, map, Option, Result, Ok, Err, Vec}
+use Rattle.std.specs.Prelude.{◌≡◌, ℕ, Bool, List, map, Option, Result, Ok, Err, Vec}
 use Rattle.std.specs.Option.{option_map}
 use Rattle.std.specs.Borrow.{Bor}
 use Rattle.std.specs.Global.{Global}
@@ -12,6 +12,12 @@ use Rattle.nd_model.specs.Syntax as syntax
 use Rattle.nd_tree.specs.declared.tree.BinaryOp.{BinaryOp}
 use Rattle.nd_tree.specs.declared.tree.Expr.{Expr}
 use Rattle.nd_tree.specs.declared.tree.Index.{Index}
+use Rattle.nd_tree.specs.declared.tree.Suffix.{Suffix}
+use Rattle.nd_tree.specs.declared.tree.Method.{Method}
+use Rattle.nd_tree.specs.declared.tree.Axis.{Axis}
+use Rattle.nd_tree.specs.declared.calls.DType.{DType}
+use Rattle.nd_tree.specs.Calls.{dtype_of}
+use Rattle.nd_model.specs.Calls as model_calls
 use Rattle.nd_tree.specs.declared.tree.IndexItem.{IndexItem}
 use Rattle.nd_tree.specs.declared.tree.Element.{Element}
 use Rattle.nd_tree.specs.declared.spot.Spot.{Spot}
@@ -23,7 +29,7 @@ use Rattle.nd_tree.specs.declared.read.Stop.{Stop}
 use Rattle.nd_tree.specs.declared.read.Failure.{Failure}
 use Rattle.nd_tree.specs.declared.read.Failure.TheVariants as failures
 use Rattle.nd_tree.specs.declared.tree.Line.{Line}
-use Rattle.nd_tree.specs.Syntax.{binary_op, expr_of, index_of, item_of, bound_of, element_of, lines_of}
+use Rattle.nd_tree.specs.Syntax.{binary_op, expr_of, suffix_of, method_of, axis_of, index_of, item_of, bound_of, element_of, lines_of}
 
 abbrev pub tokens_of : List Token → List model.Token
 tokens_of ts = map token_of ts
@@ -69,9 +75,15 @@ spot_of spots.Anywhere = cells.Anywhere
 spot_of spots.Target = cells.Target
 spot_of spots.FirstItem = cells.FirstItem
 spot_of spots.LaterItem = cells.LaterItem
+spot_of spots.Length = cells.Length
+spot_of spots.Number = cells.Number
+spot_of spots.AxisNumber = cells.AxisNumber
 
-abbrev pub indexes_of : Vec Index Global → List syntax.Index
-indexes_of is = map index_of is.items
+abbrev pub suffixes_of : Vec Suffix Global → List cells.Suffix
+suffixes_of xs = map suffix_of xs.items
+
+abbrev pub methods_of : Vec Method Global → List syntax.Method
+methods_of ms = map method_of ms.items
 
 abbrev pub items_in : Vec IndexItem Global → List syntax.IndexItem
 items_in is = map item_of is.items
@@ -86,9 +98,42 @@ elements_in es = cells.elements_of (list_of_elements es)
 abbrev pub bounds_of : Option Expr × Option Expr → syntax.Bound × syntax.Bound
 bounds_of b = (bound_of b.0, bound_of b.1)
 
--- the indexes before the last, and the last
-abbrev pub some_indexes_of : Vec Index Global × Index → List syntax.Index × syntax.Index
-some_indexes_of c = (indexes_of c.0, index_of c.1)
+-- two expressions
+abbrev pub two_of : Expr × Expr → syntax.Expr × syntax.Expr
+two_of x = (expr_of x.0, expr_of x.1)
+
+abbrev pub typing_of : Option DType → Option model_calls.DType
+typing_of t = option_map dtype_of t
+
+-- lengths, and a type
+abbrev pub filled_of : Vec Expr Global × Option DType → List syntax.Expr × Option model_calls.DType
+filled_of x = (exprs_of x.0, typing_of x.1)
+
+-- a value, and a type
+abbrev pub typed_of : Expr × Option DType → syntax.Expr × Option model_calls.DType
+typed_of x = (expr_of x.0, typing_of x.1)
+
+-- what stands behind a second number, and behind a first one
+abbrev pub third_of : Option Expr × Option DType → Option syntax.Expr × Option model_calls.DType
+third_of x = (option_map expr_of x.0, typing_of x.1)
+
+abbrev pub both_of : Expr × Option Expr → syntax.Expr × Option syntax.Expr
+both_of x = (expr_of x.0, option_map expr_of x.1)
+
+abbrev pub second_of : Option (Expr × Option Expr) × Option DType → Option (syntax.Expr × Option syntax.Expr) × Option model_calls.DType
+second_of x = (option_map both_of x.0, typing_of x.1)
+
+-- an axis, and whether it is kept
+abbrev pub options_of : Axis × Bool → syntax.Axis × Bool
+options_of x = (axis_of x.0, x.1)
+
+-- methods, and an index
+abbrev pub group_of : Vec Method Global × Index → List syntax.Method × syntax.Index
+group_of g = (methods_of g.0, index_of g.1)
+
+-- what goes on an operand before the last index, and that
+abbrev pub trailing_of : Vec Suffix Global × Index → List cells.Suffix × syntax.Index
+trailing_of c = (suffixes_of c.0, index_of c.1)
 
 -- what is assigned to, and its index
 abbrev pub target_of : Expr × Index → syntax.Expr × syntax.Index
@@ -96,3 +141,7 @@ target_of t = (expr_of t.0, index_of t.1)
 
 abbrev pub list_of : Vec Line Global → List syntax.Line
 list_of ls = lines_of ls.items
+
+-- what a level has inside, where this many may still be opened
+abbrev pub inside : ℕ → cells.Inside
+inside n = record { level = cells.under n; expr = λ s. cells.expr s (cells.under n); unary = cells.unary cells.Anywhere (cells.under n); list = cells.list (cells.under n) }

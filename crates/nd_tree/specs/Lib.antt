@@ -1,3 +1,6 @@
+pub mod Calls
 pub mod Syntax
 pub mod Gives
 pub mod Tables
+pub mod Parts
+pub mod Openings

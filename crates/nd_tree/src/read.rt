@@ -109,6 +109,16 @@ pub fn line_at(tokens: &[Token]) -> usize
 }
 
 /// The text of a name.
+pub fn text_of<'t>(token: Token<'t>) -> &'t str
+    ensures { result.now ≡ name_of (token_of token.entry) }
+{
+    match token.word {
+        Word::Name(text) => text,
+        _ => "",
+    }
+}
+
+/// The text of a name, to keep.
 pub fn name_of(alloc: Global, token: Token) -> Result<String, AllocError>
     ensures { IfOk result (λ s. string_bytes s ≡ name_of (token_of token.entry)) }
 {

@@ -3,7 +3,10 @@ ghost use Rattle.std.specs.Prelude.{◌≡◌};
 ghost use Rattle.nd_model.specs.Cells.{leaves, modules, openings};
 ghost use Rattle.nd_tree.specs.Gives.{spot_of};
 
-use crate::kinds::{NP, NP_OTHER, OPEN, OPEN_SOME, OPERAND, PLACE};
+use crate::kinds::{
+    AXIS_BOUND, DTYPE_BOUND, KEEPDIMS_BOUND, NP, NP_NO_NEWAXIS, NP_NO_SAVE, OPEN, OPEN_ONE,
+    OPEN_SOME, OPERAND, PLACE,
+};
 
 /// Where an expression begins.
 #[derive(Clone, Copy, Debug)]
@@ -15,6 +18,12 @@ pub enum Spot {
     FirstItem,
     /// As another item, which may be `np.newaxis` instead.
     LaterItem,
+    /// As a length, where a tuple or `()` may stand instead.
+    Length,
+    /// As a number, where `dtype=` may stand instead.
+    Number,
+    /// As an axis, where `axis=` or `keepdims=` may stand instead.
+    AxisNumber,
 }
 
 /// The operands of one token that may stand there.
@@ -23,6 +32,8 @@ pub fn leaves(spot: Spot) -> u128
 {
     match spot {
         Spot::Target => PLACE,
+        Spot::Number => OPERAND & !DTYPE_BOUND,
+        Spot::AxisNumber => OPERAND & !(AXIS_BOUND | KEEPDIMS_BOUND),
         _ => OPERAND,
     }
 }
@@ -32,7 +43,8 @@ pub fn modules(spot: Spot) -> u128
     ensures { result ≡ modules (spot_of spot) }
 {
     match spot {
-        Spot::FirstItem | Spot::LaterItem => NP_OTHER,
+        Spot::Target => NP_NO_SAVE,
+        Spot::FirstItem | Spot::LaterItem => NP_NO_NEWAXIS,
         _ => NP,
     }
 }
@@ -43,6 +55,7 @@ pub fn openings(spot: Spot) -> u128
 {
     match spot {
         Spot::FirstItem => OPEN_SOME,
+        Spot::Length => OPEN_ONE,
         _ => OPEN,
     }
 }

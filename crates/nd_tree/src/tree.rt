@@ -1,4 +1,6 @@
 //! The trees of a cell's text.
+use crate::calls::{Accumulation, DType, Fill, Reduction, Ufunc};
+use nd_types::Kind;
 
 /// An operator with one operand, by NumPy's name.
 #[derive(Clone, Copy, Debug, PartialEq, Eq)]
@@ -40,10 +42,88 @@ pub enum Expr {
     Unary(UnaryOp, Box<Expr>),
     /// An operand, and operators that bind alike with their right operands, from left to right. There is one at least.
     Chain(Box<Expr>, Vec<(BinaryOp, Expr)>),
-    Arange(Box<Expr>),
-    /// An operand, and its indexes from left to right. There is one at least, and the operand has none of its own unless it
-    /// stood in parentheses.
-    Indexed(Box<Expr>, Vec<Index>),
+    Call(Box<Call>),
+    /// An operand, and its indexes and methods from left to right. There is one at least, and the operand has none of its own
+    /// unless it stood in parentheses.
+    Postfix(Box<Expr>, Vec<Suffix>),
+}
+
+/// A call of a function. A type that is left out is none.
+#[derive(Debug, Drop)]
+#[cycle(tree)]
+pub enum Call {
+    /// `np.arange`: the start, the stop and the step. A start or a step that is left out is none.
+    Arange(Option<Expr>, Expr, Option<Expr>, Option<DType>),
+    /// `np.zeros`, `np.ones`: the shape.
+    Filled(Fill, Vec<Expr>, Option<DType>),
+    /// `np.full`: the shape, and the value.
+    Full(Vec<Expr>, Expr, Option<DType>),
+    /// `np.array`
+    Array(Element, Option<DType>),
+    /// `np.int8` and the like.
+    Convert(Kind, Expr),
+    /// `np.broadcast_to`: the value, and the shape.
+    BroadcastTo(Expr, Vec<Expr>),
+    /// `np.minimum`
+    Minimum(Expr, Expr),
+    /// `np.maximum`
+    Maximum(Expr, Expr),
+    /// `np.abs`, `np.absolute`
+    Absolute(Expr),
+    /// `abs`
+    PythonAbs(Expr),
+    /// `np.add.reduce` and the like.
+    Fold(Ufunc, Fold),
+    /// `np.load`: the name of the input.
+    Load(String),
+    /// `buffer`: the name of the input.
+    Buffer(String),
+}
+
+/// What a universal function does to an array.
+#[derive(Debug, Drop)]
+#[cycle(tree)]
+pub enum Fold {
+    /// The array, the axis, and whether the reduced axes are kept.
+    Reduce(Expr, Axis, bool),
+    /// The array, and the axis. One that is left out is none.
+    Accumulate(Expr, Option<Expr>),
+}
+
+/// What goes on an operand.
+#[derive(Debug, Drop)]
+#[cycle(tree)]
+pub enum Suffix {
+    Index(Index),
+    Method(Method),
+}
+
+/// A method of an array, or its attribute `T`.
+#[derive(Debug, Drop)]
+#[cycle(tree)]
+pub enum Method {
+    /// The axes, none for `.T`.
+    Transpose(Vec<Expr>),
+    /// The lengths.
+    Reshape(Vec<Expr>),
+    Copy,
+    AsType(DType),
+    View(DType),
+    /// The axis, and whether the reduced axes are kept.
+    Reduce(Reduction, Axis, bool),
+    /// The axis. One that is left out is none.
+    Accumulate(Accumulation, Option<Expr>),
+}
+
+/// The axis of a reduction.
+#[derive(Debug, Drop)]
+#[cycle(tree)]
+pub enum Axis {
+    /// None is written.
+    Default,
+    /// `None`
+    All,
+    At(Expr),
 }
 
 /// What stands in the brackets behind an operand.
@@ -92,6 +172,8 @@ pub enum Stmt {
     AugmentItem(Expr, Index, BinaryOp, Expr),
     Delete(String),
     Print(Vec<Expr>),
+    /// `np.save`: the name, and the value.
+    Save(String, Expr),
 }
 
 /// A statement, and the line, from 1, on which it begins.

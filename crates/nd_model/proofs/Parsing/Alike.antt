@@ -8,18 +8,18 @@ use Rattle.nd_model.specs.Grammar.{Gram, One, Then, Or, Shut, Spans, Reaches, Op
 use Rattle.nd_model.specs.Predict.{Look, look, next_in}
 use Rattle.nd_model.specs.Faults.{IsBelow}
 use Rattle.nd_model.specs.Token.{Token}
-use Rattle.nd_model.specs.Syntax.{Expr, Index, Stmt}
-use Rattle.nd_model.specs.Kinds.{kind, CALLED, PLUS, OPEN, NP, NAME, BOUND, OPERAND, PLACE, UNBOUND, INTEGER, TRUTH, ASSIGNMENT, OPEN_BRACKET, START}
-use Rattle.nd_model.specs.Cells.{Anywhere, Target, Level, unknown_call, left_out, arange, grouped, name_of, written, name, operand, index, postfix, value, line, lines, under}
+use Rattle.nd_model.specs.Syntax.{Expr, Called, PythonAbs, Buffer, Index, Stmt}
+use Rattle.nd_model.specs.Kinds.{kind, CALLED, PLUS, OPEN, NP_NO_SAVE, ABS, BUFFER, NAME, BOUND, OPERAND, PLACE, UNBOUND, INTEGER, TRUTH, ASSIGNMENT, SUFFIX, START}
+use Rattle.nd_model.specs.Cells.{Statement, Target, Level, unknown_call, left_out, token, function, quoted, grouped, name_of, written, name, operand, index, method, suffix, postfix, value, line, lines, under}
 use Rattle.nd_model.specs.Cells as cells
-use Rattle.nd_model.specs.Factored.{place, indexes}
+use Rattle.nd_model.specs.Factored.{place, group, groups}
 use Rattle.nd_model.specs.Factored as factored
 use Rattle.nd_model.proofs.Parsing.Sets.{which, true_false, eq-true, has_left}
 use Rattle.nd_model.proofs.Parsing.Laws.{none, whole, front, starts, opens_first}
 use Rattle.nd_model.proofs.Parsing.Below.{below_refl, below_trans, below_then, below_or}
-use Rattle.nd_model.proofs.Parsing.Looks.{seen, MORE, known, look_value, look_indexes}
+use Rattle.nd_model.proofs.Parsing.Looks.{seen, MORE, known, look_value, look_groups}
 use Rattle.nd_model.proofs.Parsing.Words.{bound_name, place_operand}
-use Rattle.nd_model.proofs.Parsing.Targets.{indexed_once, many_after, indexed_up, indexed_down}
+use Rattle.nd_model.proofs.Parsing.Targets.{some_groups, grouped_index, target_up, target_down}
 
 -- ---- sets
 
@@ -48,19 +48,25 @@ one_below s s' f w = record {
 below_left : {C : Type 0} (s : ℕ) (g h : Gram Token C) → IsBelow kind g (Or s g h)
 below_left s g h = record { spans = λ ts rest c x. inl x; reaches = λ ts rest x. inl x; opens = λ ts rest w x. inl x }
 
--- an operand that is neither a name nor an integer
+-- an operand of several tokens
 abbrev others : Level → Gram Token Expr
-others i = Or CALLED (Shut CALLED unknown_call) (Or PLUS (Shut PLUS left_out) (Or NP (arange NP i) (grouped OPEN i)))
+others i =
+    Or CALLED (Shut CALLED unknown_call)
+    (Or PLUS (Shut PLUS left_out)
+    (Or NP_NO_SAVE (function NP_NO_SAVE i)
+    (Or ABS (Then (λ _ e. Called (PythonAbs e)) (token ABS) (grouped OPEN i))
+    (Or BUFFER (Then (λ _ n. Called (Buffer n)) (token BUFFER) (quoted i))
+    (grouped OPEN i)))))
 
 -- ---- a statement that begins with a name or a target
 
 -- a target that is read so
 abbrev targeted : (Gram Token Expr) → Level → Gram Token Stmt
-targeted a i = Then (λ t v. written t.0 t.1 v.0 v.1) (indexed_once a (index i)) (value i)
+targeted a i = Then (λ t v. written t.0 t.1 v.0 v.1) (grouped_index (method i) (index i) a) (value i)
 
-module _ (i : Level) (look_v : look (value i) ≡ seen ASSIGNMENT MORE) (look_x : look (many_after (index i)) ≡ seen OPEN_BRACKET OPEN_BRACKET) where
+module _ (i : Level) (look_v : look (value i) ≡ seen ASSIGNMENT MORE) (look_x : look (some_groups (method i) (index i)) ≡ seen SUFFIX SUFFIX) where
   abbrev published : Gram Token Stmt
-  published = Or 0 (cells.bind i) (targeted (operand Anywhere i) i)
+  published = Or 0 (cells.bind i) (targeted (operand Statement i) i)
 
   abbrev read_so : Gram Token Stmt
   read_so = Or BOUND (factored.bind i) (targeted (operand Target i) i)
@@ -89,8 +95,8 @@ module _ (i : Level) (look_v : look (value i) ≡ seen ASSIGNMENT MORE) (look_x 
   bound ts mid n (inl h) e = (h.0, h.1, bound_name h.0 mid e h.2, h.3)
   bound ts mid n (inr h) e = absurd h
 
-  -- an operand before an index
-  placed : (ts mid : List Token) (a : Expr) → Spans kind (operand Anywhere i) ts mid a → next_in kind OPEN_BRACKET mid ≡ true → Spans kind (operand Target i) ts mid a
+  -- an operand before an index or a method
+  placed : (ts mid : List Token) (a : Expr) → Spans kind (operand Statement i) ts mid a → next_in kind SUFFIX mid ≡ true → Spans kind (operand Target i) ts mid a
   unfolding operand
   placed ts mid a (inl h) e = inl (h.0, h.1, place_operand h.0 mid e h.2, h.3)
   placed ts mid a (inr h) e = inr h
@@ -108,13 +114,13 @@ module _ (i : Level) (look_v : look (value i) ≡ seen ASSIGNMENT MORE) (look_x 
   lone_name ts rest n (inl h) = lone ts rest h.0 h.1 (has_left NAME (INTEGER + TRUTH) _ h.2)
   lone_name ts rest n (inr h) = absurd h
 
-  lone_operand : (ts rest : List Token) (a : Expr) → Spans kind (operand Anywhere i) ts rest a → Reaches kind read_so ts rest
+  lone_operand : (ts rest : List Token) (a : Expr) → Spans kind (operand Statement i) ts rest a → Reaches kind read_so ts rest
   unfolding operand
   lone_operand ts rest a (inl h) = lone ts rest h.0 h.1 h.2
   lone_operand ts rest a (inr h) = inr (inl (inl (inr (whole kind (others i) ts rest a h))))
 
   -- the front of an operand
-  front_operand : (ts rest : List Token) → Reaches kind (operand Anywhere i) ts rest → Reaches kind read_so ts rest
+  front_operand : (ts rest : List Token) → Reaches kind (operand Statement i) ts rest → Reaches kind read_so ts rest
   unfolding operand
   front_operand ts rest (inl (inl e)) = nothing ts rest e
   front_operand ts rest (inl (inr h)) = lone ts rest h.0 h.1 h.2
@@ -126,7 +132,7 @@ module _ (i : Level) (look_v : look (value i) ≡ seen ASSIGNMENT MORE) (look_x 
   front_name ts rest (inl (inr h)) = lone ts rest h.0 h.1 (has_left NAME (INTEGER + TRUTH) _ h.2)
   front_name ts rest (inr e) = nothing ts rest e
 
-  open_operand : (ts rest : List Token) (w : ℕ) → Opens kind (operand Anywhere i) ts rest w → Opens kind read_so ts rest w
+  open_operand : (ts rest : List Token) (w : ℕ) → Opens kind (operand Statement i) ts rest w → Opens kind read_so ts rest w
   unfolding operand
   open_operand ts rest w (inl h) = absurd h
   open_operand ts rest w (inr h) = inr (inl (inl (inr h)))
@@ -137,20 +143,20 @@ module _ (i : Level) (look_v : look (value i) ≡ seen ASSIGNMENT MORE) (look_x 
   open_name ts rest w (inr h) = inr (inl (inl (inr (inl h))))
 
   -- a target
-  spans_target : (ts rest : List Token) (t : Expr × Index) → Spans kind (indexed_once (operand Anywhere i) (index i)) ts rest t → Spans kind (indexed_once (operand Target i) (index i)) ts rest t
-  spans_target ts rest t h = (h.0, h.1, h.2, placed ts h.0 h.1 h.3 (text_begins (many_after (index i)) _ _ look_x h.0 rest h.2 h.4), h.4, h.5)
+  spans_target : (ts rest : List Token) (t : Expr × Index) → Spans kind (grouped_index (method i) (index i) (operand Statement i)) ts rest t → Spans kind (grouped_index (method i) (index i) (operand Target i)) ts rest t
+  spans_target ts rest t h = (h.0, h.1, h.2, placed ts h.0 h.1 h.3 (text_begins (some_groups (method i) (index i)) _ _ look_x h.0 rest h.2 h.4), h.4, h.5)
 
-  front_target : (ts rest : List Token) → Reaches kind (indexed_once (operand Anywhere i) (index i)) ts rest → Reaches kind read_so ts rest
+  front_target : (ts rest : List Token) → Reaches kind (grouped_index (method i) (index i) (operand Statement i)) ts rest → Reaches kind read_so ts rest
   front_target ts rest (inl h) = front_operand ts rest h
-  front_target ts rest (inr h) = elim (front_begins (many_after (index i)) _ _ look_x h.0 rest h.3) [
-    | inl e ↦ lone_operand ts rest h.1 (subst (λ m. Spans kind (operand Anywhere i) ts m h.1) (sym e) h.2)
+  front_target ts rest (inr h) = elim (front_begins (some_groups (method i) (index i)) _ _ look_x h.0 rest h.3) [
+    | inl e ↦ lone_operand ts rest h.1 (subst (λ m. Spans kind (operand Statement i) ts m h.1) (sym e) h.2)
     | inr n ↦ inr (inl (inr (h.0, h.1, placed ts h.0 h.1 h.2 n, h.3)))
   ]
 
-  open_target : (ts rest : List Token) (w : ℕ) → Opens kind (indexed_once (operand Anywhere i) (index i)) ts rest w → Opens kind read_so ts rest w
+  open_target : (ts rest : List Token) (w : ℕ) → Opens kind (grouped_index (method i) (index i) (operand Statement i)) ts rest w → Opens kind read_so ts rest w
   open_target ts rest w (inl h) = open_operand ts rest w h
   open_target ts rest w (inr h) =
-      inr (inl (inr (h.0, h.1, placed ts h.0 h.1 h.2 (open_begins (many_after (index i)) _ _ look_x h.0 rest w h.3), h.3)))
+      inr (inl (inr (h.0, h.1, placed ts h.0 h.1 h.2 (open_begins (some_groups (method i) (index i)) _ _ look_x h.0 rest w h.3), h.3)))
 
   starts_up : IsBelow kind published read_so
   unfolding cells.bind factored.bind
@@ -176,7 +182,7 @@ module _ (i : Level) (look_v : look (value i) ≡ seen ASSIGNMENT MORE) (look_x 
     ];
   }
 
-starts_down : (i : Level) → IsBelow kind (Or BOUND (factored.bind i) (targeted (operand Target i) i)) (Or 0 (cells.bind i) (targeted (operand Anywhere i) i))
+starts_down : (i : Level) → IsBelow kind (Or BOUND (factored.bind i) (targeted (operand Target i) i)) (Or 0 (cells.bind i) (targeted (operand Statement i) i))
 unfolding cells.bind factored.bind name operand
 starts_down i =
     below_or kind BOUND 0 _ _ _ _
@@ -185,23 +191,25 @@ starts_down i =
 
 -- ---- statements and cells
 
-stmt_up : (i : Level) → look (value i) ≡ seen ASSIGNMENT MORE → look (indexes i) ≡ seen OPEN_BRACKET OPEN_BRACKET → IsBelow kind (cells.stmt i) (factored.stmt i)
-unfolding cells.stmt factored.stmt cells.assign factored.assign cells.target factored.target postfix place indexes
+stmt_up : (i : Level) → look (value i) ≡ seen ASSIGNMENT MORE → look (groups i) ≡ seen SUFFIX SUFFIX → IsBelow kind (cells.stmt i) (factored.stmt i)
+unfolding cells.stmt factored.stmt cells.assign factored.assign cells.target factored.target postfix suffix place group groups
 stmt_up i v x =
     below_or kind _ _ _ _ _ _ (below_refl kind _)
     (below_or kind _ _ _ _ _ _ (below_refl kind _)
     (below_or kind _ _ _ _ _ _ (below_refl kind _)
-    (below_trans kind _ _ _ (below_or kind 0 0 _ _ _ _ (below_refl kind _) (below_then kind _ _ _ _ _ (indexed_up (index i) (operand Anywhere i)) (below_refl kind _)))
-    (starts_up i v x))))
+    (below_or kind _ _ _ _ _ _ (below_refl kind _)
+    (below_trans kind _ _ _ (below_or kind 0 0 _ _ _ _ (below_refl kind _) (below_then kind _ _ _ _ _ (target_up (method i) (index i) (operand Statement i)) (below_refl kind _)))
+    (starts_up i v x)))))
 
 stmt_down : (i : Level) → IsBelow kind (factored.stmt i) (cells.stmt i)
-unfolding cells.stmt factored.stmt cells.assign factored.assign cells.target factored.target postfix place indexes
+unfolding cells.stmt factored.stmt cells.assign factored.assign cells.target factored.target postfix suffix place group groups
 stmt_down i =
     below_or kind _ _ _ _ _ _ (below_refl kind _)
     (below_or kind _ _ _ _ _ _ (below_refl kind _)
     (below_or kind _ _ _ _ _ _ (below_refl kind _)
+    (below_or kind _ _ _ _ _ _ (below_refl kind _)
     (below_trans kind _ _ _ (starts_down i)
-    (below_or kind 0 0 _ _ _ _ (below_refl kind _) (below_then kind _ _ _ _ _ (indexed_down (index i) (operand Anywhere i)) (below_refl kind _))))))
+    (below_or kind 0 0 _ _ _ _ (below_refl kind _) (below_then kind _ _ _ _ _ (target_down (method i) (index i) (operand Statement i)) (below_refl kind _)))))))
 
 lines_below : (r s : Gram Token Stmt) → IsBelow kind r s → (n : ℕ) → IsBelow kind (lines r n) (lines s n)
 unfolding lines line
@@ -213,7 +221,7 @@ lines_below r s b (suc n) =
 
 pub cell_up : IsBelow kind cells.cell factored.cell
 unfolding cells.cell factored.cell
-cell_up = lines_below _ _ (stmt_up (under 64) (look_value (under 64) (known 64)) (look_indexes (under 64) (known 64))) 1000
+cell_up = lines_below _ _ (stmt_up (under 64) (look_value (under 64) (known 64)) (look_groups (under 64) (known 64))) 1000
 
 pub cell_down : IsBelow kind factored.cell cells.cell
 unfolding cells.cell factored.cell

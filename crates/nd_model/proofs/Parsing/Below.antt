@@ -1,6 +1,6 @@
 -- Grammars with the same texts and fronts, part by part.
-use Rattle.std.proofs.Common.{ℕ, List, [], ◌∷◌, inl, inr}
-use Rattle.nd_model.specs.Grammar.{Gram, Then, Or, Repeats}
+use Rattle.std.proofs.Common.{ℕ, List, inl, inr}
+use Rattle.nd_model.specs.Grammar.{Gram, Then, Or}
 use Rattle.nd_model.specs.Faults.{IsBelow}
 
 pub below_refl : {T C : Type 0} (kind : List T → ℕ) (g : Gram T C) → IsBelow kind g g

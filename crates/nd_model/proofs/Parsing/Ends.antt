@@ -10,10 +10,10 @@ use Rattle.nd_model.specs.Predict.{apart}
 use Rattle.nd_model.specs.Token.{Word, Name, Keyword, End, Token}
 use Rattle.nd_model.specs.Lexing.{is_end, AreStatements}
 use Rattle.nd_model.specs.Syntax.{Expr, Elements, Stmt, Line}
-use Rattle.nd_model.specs.Kinds.{OPEN, OPEN_SOME, name_kinds, keyword_kinds, kind_of_symbol, kind, kind_of_word, END}
-use Rattle.nd_model.specs.Cells.{Level, Bottom, Under, Spot, Anywhere, FirstItem, LaterItem, name, grouped, bound_in, step_in, slice, newaxis, elements, list, part, item, nothing, contents, index, function, arange, operand, postfix, exponent, power, signed, unary, term, sum, shift, band, bxor, bor, comparison, expr, under, module_name, imports, delete, exprs, printed, print, value, line, lines}
+use Rattle.nd_model.specs.Kinds.{OPEN, OPEN_ONE, OPEN_SOME, DTYPE, DTYPE_BOUND, name_kinds, keyword_kinds, kind_of_symbol, kind, kind_of_word, END}
+use Rattle.nd_model.specs.Cells.{Level, Bottom, Under, Spot, Anywhere, FirstItem, LaterItem, Length, Number, AxisNumber, name, grouped, bound_in, step_in, slice, newaxis, elements, list, part, item, nothing, contents, index, exprs, quoted, no_lengths, tuple, shape, kind_name, type_name, pair, fields, dtype, typing, only_typing, comma_typing, named_axis, numbered_axis, named_keepdims, only_keepdims, comma_keepdims, options, comma_options, first_axis, third, second, arange, filled, full, new_array, broadcast_to, two, reduce, accumulate, fold, call, function, empty, type_argument, axes, lengths, reduction_options, reduction, accumulation, attribute, method, operand, suffix, postfix, exponent, power, signed, unary, term, sum, shift, band, bxor, bor, comparison, expr, under, module_name, imports, delete, printed, print, saved, save, value, line, lines}
 use Rattle.nd_model.specs.Cells as cells
-use Rattle.nd_model.specs.Factored.{bind, place, indexes, target, assign, stmt, cell}
+use Rattle.nd_model.specs.Factored.{bind, place, group, groups, target, assign, stmt, cell}
 use Rattle.nd_model.proofs.Parsing.Sets.{and_true, apart_false}
 use Rattle.nd_model.proofs.Parsing.Words.{by_place, implied, so, by_both, no_keyword, no_name}
 use Rattle.nd_model.proofs.Parsing.Unique.{front_end}
@@ -114,15 +114,141 @@ unfolding grouped
 safe_grouped Bottom opening s h = refl
 safe_grouped (Under l e u s) opening (below j p q r) h = rw (p Anywhere, h) refl
 
+-- ---- parts of calls
+
+safe_quoted : (i : Level) → avoids ENDS (quoted i) ≡ true
+unfolding quoted
+safe_quoted Bottom = refl
+safe_quoted (Under l e u s) = refl
+
+safe_no_lengths : (i : Level) → avoids ENDS (no_lengths i) ≡ true
+unfolding no_lengths
+safe_no_lengths Bottom = refl
+safe_no_lengths (Under l e u s) = refl
+
+safe_tuple : (i : Level) → IsSafe i → avoids ENDS (tuple i) ≡ true
+unfolding tuple
+safe_tuple Bottom s = refl
+safe_tuple (Under l e u s) (below j p q r) = rw (p Anywhere) refl
+
+safe_type_name : avoids ENDS type_name ≡ true
+unfolding type_name kind_name
+safe_type_name = refl
+
+safe_pair : (i : Level) → avoids ENDS (pair i) ≡ true
+unfolding pair
+safe_pair Bottom = refl
+safe_pair (Under l e u s) = rw safe_type_name refl
+
+safe_fields : (i : Level) → avoids ENDS (fields i) ≡ true
+unfolding fields
+safe_fields Bottom = refl
+safe_fields (Under l e u s) = rw (safe_pair l) refl
+
+safe_dtype : (i : Level) → avoids ENDS (dtype i) ≡ true
+unfolding dtype
+safe_dtype i = rw (safe_fields i, safe_type_name) refl
+
+safe_typing : (key : ℕ) (i : Level) → apart ENDS key ≡ true → avoids ENDS (typing key i) ≡ true
+unfolding typing
+safe_typing key i h = rw (h, safe_dtype i) refl
+
+safe_comma_typing : (i : Level) → avoids ENDS (comma_typing i) ≡ true
+unfolding comma_typing only_typing
+safe_comma_typing i = rw (safe_typing DTYPE i refl) refl
+
+-- ---- functions
+
+safe_arange : (i : Level) → IsSafe i → avoids ENDS (arange i) ≡ true
+unfolding arange second third
+safe_arange Bottom s = refl
+safe_arange (Under l e u s) (below j p q r) = rw (p Anywhere, p Number, safe_typing DTYPE_BOUND l refl, safe_comma_typing l) refl
+
+safe_filled : (i : Level) → IsSafe i → avoids ENDS (filled i) ≡ true
+unfolding filled shape
+safe_filled Bottom s = refl
+safe_filled (Under l e u s) (below j p q r) = rw (safe_tuple l j, safe_no_lengths l, p Length, safe_comma_typing l) refl
+
+safe_full : (i : Level) → IsSafe i → avoids ENDS (full i) ≡ true
+unfolding full shape
+safe_full Bottom s = refl
+safe_full (Under l e u s) (below j p q r) = rw (safe_tuple l j, safe_no_lengths l, p Length, p Anywhere, safe_comma_typing l) refl
+
+safe_new_array : (i : Level) → IsSafe i → avoids ENDS (new_array i) ≡ true
+unfolding new_array
+safe_new_array Bottom s = refl
+safe_new_array (Under l e u s) (below j p q r) = rw (r, p Anywhere, safe_comma_typing l) refl
+
+safe_broadcast_to : (i : Level) → IsSafe i → avoids ENDS (broadcast_to i) ≡ true
+unfolding broadcast_to shape
+safe_broadcast_to Bottom s = refl
+safe_broadcast_to (Under l e u s) (below j p q r) = rw (p Anywhere, safe_tuple l j, safe_no_lengths l, p Length) refl
+
+safe_two : (i : Level) → IsSafe i → avoids ENDS (two i) ≡ true
+unfolding two
+safe_two Bottom s = refl
+safe_two (Under l e u s) (below j p q r) = rw (p Anywhere) refl
+
+safe_fold : (i : Level) → IsSafe i → avoids ENDS (fold i) ≡ true
+unfolding fold reduce accumulate comma_options options numbered_axis named_axis comma_keepdims only_keepdims named_keepdims
+safe_fold Bottom s = refl
+safe_fold (Under l e u s) (below j p q r) = rw (p Anywhere) refl
+
+safe_call : (i : Level) → IsSafe i → avoids ENDS (call i) ≡ true
+unfolding call
+safe_call i k =
+    rw (safe_arange i k, safe_filled i k, safe_full i k, safe_new_array i k, safe_broadcast_to i k, safe_grouped i OPEN k refl, safe_two i k, safe_fold i k, safe_quoted i)
+    refl
+
+-- ---- methods
+
+safe_empty : (i : Level) → avoids ENDS (empty i) ≡ true
+unfolding empty
+safe_empty Bottom = refl
+safe_empty (Under l e u s) = refl
+
+safe_type_argument : (i : Level) → avoids ENDS (type_argument i) ≡ true
+unfolding type_argument
+safe_type_argument Bottom = refl
+safe_type_argument (Under l e u s) = rw (safe_dtype l) refl
+
+safe_axes : (i : Level) → IsSafe i → avoids ENDS (axes i) ≡ true
+unfolding axes exprs
+safe_axes Bottom s = refl
+safe_axes (Under l e u s) (below j p q r) = rw (p Anywhere) refl
+
+safe_lengths : (i : Level) → IsSafe i → avoids ENDS (lengths i) ≡ true
+unfolding lengths exprs
+safe_lengths Bottom s = refl
+safe_lengths (Under l e u s) (below j p q r) = rw (safe_tuple l j, safe_no_lengths l, p Length, p Anywhere) refl
+
+safe_reduction : (i : Level) → IsSafe i → avoids ENDS (reduction i) ≡ true
+unfolding reduction reduction_options first_axis named_axis comma_keepdims only_keepdims named_keepdims
+safe_reduction Bottom s = refl
+safe_reduction (Under l e u s) (below j p q r) = rw (p Anywhere, p AxisNumber) refl
+
+safe_accumulation : (i : Level) → IsSafe i → avoids ENDS (accumulation i) ≡ true
+unfolding accumulation numbered_axis
+safe_accumulation Bottom s = refl
+safe_accumulation (Under l e u s) (below j p q r) = rw (p Anywhere) refl
+
+safe_method : (i : Level) → IsSafe i → avoids ENDS (method i) ≡ true
+unfolding method attribute
+safe_method i k = rw (safe_axes i k, safe_lengths i k, safe_empty i, safe_type_argument i, safe_reduction i k, safe_accumulation i k) refl
+
+-- ---- expressions
+
 safe_operand : (s : Spot) (i : Level) → IsSafe i → avoids ENDS (operand s i) ≡ true
-unfolding operand arange function
-safe_operand FirstItem i k = rw (safe_grouped i OPEN k refl, safe_grouped i OPEN_SOME k refl) refl
-safe_operand s i k = rw (safe_grouped i OPEN k refl) refl
+unfolding operand function
+safe_operand FirstItem i k = rw (safe_call i k, safe_grouped i OPEN k refl, safe_grouped i OPEN_SOME k refl, safe_quoted i) refl
+safe_operand Length i k = rw (safe_call i k, safe_grouped i OPEN k refl, safe_grouped i OPEN_ONE k refl, safe_quoted i) refl
+safe_operand s i k = rw (safe_call i k, safe_grouped i OPEN k refl, safe_quoted i) refl
 
 safe_unary : (s : Spot) (i : Level) → IsSafe i → avoids ENDS (unary s i) ≡ true
-unfolding unary signed power exponent postfix
-safe_unary s Bottom k = rw (safe_index Bottom k, safe_operand s Bottom k) refl
-safe_unary s (Under l e u r) (below j p q o) = rw (safe_index (Under l e u r) (below j p q o), safe_operand s (Under l e u r) (below j p q o), q) refl
+unfolding unary signed power exponent postfix suffix
+safe_unary s Bottom k = rw (safe_index Bottom k, safe_method Bottom k, safe_operand s Bottom k) refl
+safe_unary s (Under l e u r) (below j p q o) =
+    rw (safe_index (Under l e u r) (below j p q o), safe_method (Under l e u r) (below j p q o), safe_operand s (Under l e u r) (below j p q o), q) refl
 
 safe_expr : (s : Spot) (i : Level) → IsSafe i → avoids ENDS (expr s i) ≡ true
 unfolding expr comparison bor bxor band shift sum term
@@ -133,11 +259,25 @@ unfolding under
 safe zero = bottom
 safe (suc n) = below (safe n) (λ s. safe_expr s (under n) (safe n)) (safe_unary Anywhere (under n) (safe n)) (safe_list (under n) (safe n))
 
+-- ---- statements
+
+safe_print : (i : Level) → IsSafe i → avoids ENDS (print i) ≡ true
+unfolding print printed exprs
+safe_print Bottom s = refl
+safe_print (Under l e u s) (below j p q r) = rw (p Anywhere) refl
+
+safe_save : (i : Level) → IsSafe i → avoids ENDS (save i) ≡ true
+unfolding save saved
+safe_save Bottom s = refl
+safe_save (Under l e u s) (below j p q r) = rw (p Anywhere) refl
+
+safe_assign : (i : Level) → IsSafe i → avoids ENDS (assign i) ≡ true
+unfolding assign target place groups group value
+safe_assign i k = rw (safe_operand cells.Target i k, safe_method i k, safe_index i k, safe_expr Anywhere i k) refl
+
 safe_stmt : (i : Level) → IsSafe i → avoids ENDS (stmt i) ≡ true
-unfolding stmt imports module_name delete name print printed exprs bind assign target place indexes value operand arange function
-safe_stmt Bottom k = rw (safe_expr Anywhere Bottom k, safe_index Bottom k, safe_grouped Bottom OPEN k refl) refl
-safe_stmt (Under l e u s) (below j p q r) =
-    rw (safe_expr Anywhere (Under l e u s) (below j p q r), safe_index (Under l e u s) (below j p q r), safe_grouped (Under l e u s) OPEN (below j p q r) refl, p Anywhere) refl
+unfolding stmt imports module_name delete name bind value
+safe_stmt i k = rw (safe_print i k, safe_save i k, safe_expr Anywhere i k, safe_assign i k) refl
 
 not_end_word : (w : Word) (rest : List Token) → has ENDS (kind_of_word w rest) ≡ false → is_end w ≡ false
 unfolding has

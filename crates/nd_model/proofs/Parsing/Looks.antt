@@ -1,30 +1,32 @@
 -- One token of lookahead tells how to read each rule, at each level.
 use Rattle.std.proofs.Common.{◌≡◌, ◌+◌, ℕ, zero, suc, true, false, refl, ap, ◌⊎◌, inl, inr}
+use Rattle.std.specs.Prelude.{bit_or}
 use Rattle.nd_model.specs.Grammar.{Gram}
 use Rattle.nd_model.specs.Predict.{Look, look}
 use Rattle.nd_model.specs.Token.{Token}
 use Rattle.nd_model.specs.Syntax.{Expr, Elements, Stmt}
-use Rattle.nd_model.specs.Kinds.{OPERAND, CALLED, PLUS, SIGN, OPEN, OPEN_SOME, OPEN_NONE, NP, NP_OTHER, OPEN_BRACKET, POWER, PRODUCT, SUM, SHIFT, AMPERSAND, CARET, BAR, COMPARISON, COMMA, ASSIGNMENT, EXPR, PLACE_START, START, ANY}
-use Rattle.nd_model.specs.Cells.{Spot, Anywhere, Target, FirstItem, LaterItem, Level, Bottom, Under, name, grouped, bound_in, step_in, slice, newaxis, elements, list, part, item, nothing, contents, index, function, arange, operand, postfix, exponent, power, signed, unary, term, sum, shift, band, bxor, bor, comparison, expr, under, module_name, imports, delete, exprs, printed, print, value, line, lines}
-use Rattle.nd_model.specs.Factored.{bind, place, indexes, target, assign, stmt, cell}
+use Rattle.nd_model.specs.Kinds.{CALLED, PLUS, SIGN, OPEN, OPEN_NONE, OPEN_TUPLE, ABS, BUFFER, NP, QUOTED, OPEN_BRACKET, DOT, ANY_NAME, DTYPE, DTYPE_BOUND, AXIS, AXIS_BOUND, KEEPDIMS_BOUND, FIRST_AXIS, SUFFIX, NP_SAVE, POWER, PRODUCT, SUM, SHIFT, AMPERSAND, CARET, BAR, COMPARISON, COMMA, ASSIGNMENT, EXPR, PLACE_START, START, ANY}
+use Rattle.nd_model.specs.Cells.{Spot, Anywhere, Statement, Target, FirstItem, LaterItem, Length, Number, AxisNumber, leaves, modules, openings, Level, Bottom, Under, Inside, name, grouped, bound_in, step_in, slice, newaxis, elements, list, part, item, nothing, contents, index, exprs, quoted, no_lengths, tuple, shape, kind_name, type_name, pair, fields, dtype, typing, only_typing, comma_typing, named_axis, numbered_axis, named_keepdims, only_keepdims, comma_keepdims, options, comma_options, first_axis, third, second, arange, filled, full, new_array, broadcast_to, two, reduce, accumulate, fold, call, function, empty, type_argument, axes, lengths, reduction_options, reduction, accumulation, attribute, method, operand, suffix, postfix, exponent, power, signed, unary, term, sum, shift, band, bxor, bor, comparison, expr, under, module_name, imports, delete, printed, print, saved, save, value, line, lines}
+use Rattle.nd_model.specs.Factored.{bind, place, group, groups, target, assign, stmt, cell}
 
 -- what begins with a token of `first`, and may go on with one of `ext`
 abbrev pub seen : ℕ → ℕ → Look
 seen first ext = record { first = first; ext = ext; empty = false; fits = true }
 
+-- the same, where it may be nothing
+abbrev pub perhaps : ℕ → ℕ → Look
+perhaps first ext = record { first = first; ext = ext; empty = true; fits = true }
+
 -- what an operand begins with
 abbrev pub atoms : Spot → ℕ
-atoms Anywhere = OPERAND + CALLED + PLUS + OPEN + NP
-atoms Target = PLACE_START
-atoms FirstItem = OPERAND + CALLED + PLUS + OPEN_SOME + NP_OTHER
-atoms LaterItem = OPERAND + CALLED + PLUS + OPEN + NP_OTHER
+atoms s = leaves s + CALLED + PLUS + modules s + ABS + BUFFER + openings s
 
 abbrev pub exprs_at : Spot → ℕ
 exprs_at s = atoms s + SIGN
 
 -- what may go on an operand, and an expression
 abbrev pub UNARY_MORE : ℕ
-UNARY_MORE = OPEN_BRACKET + POWER
+UNARY_MORE = SUFFIX + POWER
 
 abbrev pub BOR_MORE : ℕ
 BOR_MORE = UNARY_MORE + PRODUCT + SUM + SHIFT + AMPERSAND + CARET + BAR
@@ -38,15 +40,15 @@ pub data IsKnown : Level → Type 1 where
   below : {l : Level} {e : Spot → Gram Token Expr} {u : Gram Token Expr} {s : Gram Token Elements} → IsKnown l
       → ((s : Spot) → look (e s) ≡ seen (exprs_at s) MORE) → look u ≡ seen EXPR UNARY_MORE → look s ≡ seen OPEN_BRACKET 0 → IsKnown (Under l e u s)
 
-pub look_grouped : (i : Level) → IsKnown i → look (grouped OPEN i) ≡ seen OPEN 0
-unfolding grouped
-look_grouped Bottom k = refl
-look_grouped (Under l e u s) (below j p q r) = rw (p Anywhere) refl
+record IsKnownInside (inside : Inside) : Type 1 where
+  level : IsKnown inside.level
+  expr : (s : Spot) → look (inside.expr s) ≡ seen (exprs_at s) MORE
+  list : look inside.list ≡ seen OPEN_BRACKET 0
 
-pub look_grouped_some : (i : Level) → IsKnown i → look (grouped OPEN_SOME i) ≡ seen OPEN_SOME 0
+pub look_grouped : (opening : ℕ) (i : Level) → IsKnown i → look (grouped opening i) ≡ seen opening 0
 unfolding grouped
-look_grouped_some Bottom k = refl
-look_grouped_some (Under l e u s) (below j p q r) = rw (p Anywhere) refl
+look_grouped opening Bottom k = refl
+look_grouped opening (Under l e u s) (below j p q r) = rw (p Anywhere) refl
 
 -- ---- indexes
 
@@ -65,31 +67,212 @@ unfolding index contents item part slice bound_in step_in newaxis
 look_index Bottom k = refl
 look_index (Under l e u s) (below j p q r) = rw (p Anywhere, p FirstItem, p LaterItem, look_list l j, look_nothing l) refl
 
+-- ---- parts of calls
+
+pub look_exprs : (s : Spot) (f e : Gram Token Expr) → look f ≡ seen (exprs_at s) MORE → look e ≡ seen EXPR MORE → look (exprs f e) ≡ seen (exprs_at s) (MORE + COMMA)
+unfolding exprs
+look_exprs s f e p q = rw (p, q) refl
+
+look_quoted : (i : Level) → look (quoted i) ≡ seen OPEN 0
+unfolding quoted
+look_quoted Bottom = refl
+look_quoted (Under l e u s) = refl
+
+look_no_lengths : (i : Level) → look (no_lengths i) ≡ seen OPEN_NONE 0
+unfolding no_lengths
+look_no_lengths Bottom = refl
+look_no_lengths (Under l e u s) = refl
+
+look_tuple : (i : Level) → IsKnown i → look (tuple i) ≡ seen OPEN_TUPLE 0
+unfolding tuple
+look_tuple Bottom k = refl
+look_tuple (Under l e u s) (below j p q r) = rw (p Anywhere) refl
+
+look_shape : (inside : Inside) → IsKnownInside inside → look (shape inside) ≡ seen EXPR MORE
+unfolding shape
+look_shape inside k = rw (k.expr Length, look_tuple inside.level k.level, look_no_lengths inside.level) refl
+
+-- ---- types
+
+look_type_name : look type_name ≡ seen (NP + QUOTED) 0
+unfolding type_name kind_name
+look_type_name = refl
+
+look_pair : (i : Level) → look (pair i) ≡ seen OPEN 0
+unfolding pair
+look_pair Bottom = refl
+look_pair (Under l e u s) = rw look_type_name refl
+
+look_fields : (i : Level) → look (fields i) ≡ seen OPEN_BRACKET 0
+unfolding fields
+look_fields Bottom = refl
+look_fields (Under l e u s) = rw (look_pair l) refl
+
+look_dtype : (i : Level) → look (dtype i) ≡ seen (OPEN_BRACKET + NP + QUOTED) 0
+unfolding dtype
+look_dtype i = rw (look_fields i, look_type_name) refl
+
+look_typing : (key : ℕ) (i : Level) → look (typing key i) ≡ seen key 0
+unfolding typing
+look_typing key i = rw (look_dtype i) refl
+
+look_comma_typing : (i : Level) → look (comma_typing i) ≡ perhaps COMMA COMMA
+unfolding comma_typing only_typing
+look_comma_typing i = rw (look_typing DTYPE i) refl
+
+-- ---- axes
+
+look_named_axis : (key : ℕ) (inside : Inside) → IsKnownInside inside → look (named_axis key inside) ≡ seen key MORE
+unfolding named_axis
+look_named_axis key inside k = rw (k.expr Anywhere) refl
+
+look_numbered_axis : (inside : Inside) → IsKnownInside inside → look (numbered_axis inside) ≡ seen AXIS MORE
+unfolding numbered_axis
+look_numbered_axis inside k = rw (k.expr Anywhere) refl
+
+look_comma_keepdims : look comma_keepdims ≡ perhaps COMMA COMMA
+unfolding comma_keepdims only_keepdims named_keepdims
+look_comma_keepdims = refl
+
+look_comma_options : (inside : Inside) → IsKnownInside inside → look (comma_options inside) ≡ perhaps COMMA (MORE + COMMA)
+unfolding comma_options options only_keepdims named_keepdims
+look_comma_options inside k = rw (look_named_axis AXIS inside k, look_comma_keepdims) refl
+
+look_reduction_options : (inside : Inside) → IsKnownInside inside → look (reduction_options inside) ≡ perhaps (FIRST_AXIS + AXIS_BOUND + KEEPDIMS_BOUND) (bit_or (FIRST_AXIS + AXIS_BOUND + KEEPDIMS_BOUND) (MORE + COMMA))
+unfolding reduction_options first_axis named_keepdims
+look_reduction_options inside k = rw (look_named_axis AXIS_BOUND inside k, look_comma_keepdims, k.expr AxisNumber) refl
+
+-- ---- functions
+
+look_third : (inside : Inside) → IsKnownInside inside → look (third inside) ≡ perhaps COMMA (COMMA + MORE)
+unfolding third
+look_third inside k = rw (look_typing DTYPE_BOUND inside.level, look_comma_typing inside.level, k.expr Number) refl
+
+look_second : (inside : Inside) → IsKnownInside inside → look (second inside) ≡ perhaps COMMA (COMMA + MORE)
+unfolding second
+look_second inside k = rw (look_typing DTYPE_BOUND inside.level, look_third inside k, k.expr Number) refl
+
+module _ (l : Level) (e : Spot → Gram Token Expr) (u : Gram Token Expr) (s : Gram Token Elements) where
+  abbrev here : Inside
+  here = record { level = l; expr = e; unary = u; list = s }
+
+  known_here : IsKnown (Under l e u s) → IsKnownInside here
+  known_here (below j p q r) = record { level = j; expr = p; list = r }
+
+look_arange : (i : Level) → IsKnown i → look (arange i) ≡ seen OPEN 0
+unfolding arange
+look_arange Bottom k = refl
+look_arange (Under l e u s) (below j p q r) = rw (p Anywhere, look_second (here l e u s) (known_here l e u s (below j p q r))) refl
+
+look_filled : (i : Level) → IsKnown i → look (filled i) ≡ seen OPEN 0
+unfolding filled
+look_filled Bottom k = refl
+look_filled (Under l e u s) (below j p q r) = rw (look_shape (here l e u s) (known_here l e u s (below j p q r)), look_comma_typing l) refl
+
+look_full : (i : Level) → IsKnown i → look (full i) ≡ seen OPEN 0
+unfolding full
+look_full Bottom k = refl
+look_full (Under l e u s) (below j p q r) = rw (look_shape (here l e u s) (known_here l e u s (below j p q r)), p Anywhere, look_comma_typing l) refl
+
+look_new_array : (i : Level) → IsKnown i → look (new_array i) ≡ seen OPEN 0
+unfolding new_array
+look_new_array Bottom k = refl
+look_new_array (Under l e u s) (below j p q r) = rw (p Anywhere, r, look_comma_typing l) refl
+
+look_broadcast_to : (i : Level) → IsKnown i → look (broadcast_to i) ≡ seen OPEN 0
+unfolding broadcast_to
+look_broadcast_to Bottom k = refl
+look_broadcast_to (Under l e u s) (below j p q r) = rw (p Anywhere, look_shape (here l e u s) (known_here l e u s (below j p q r))) refl
+
+look_two : (i : Level) → IsKnown i → look (two i) ≡ seen OPEN 0
+unfolding two
+look_two Bottom k = refl
+look_two (Under l e u s) (below j p q r) = rw (p Anywhere) refl
+
+look_reduce : (i : Level) → IsKnown i → look (reduce i) ≡ seen OPEN 0
+unfolding reduce
+look_reduce Bottom k = refl
+look_reduce (Under l e u s) (below j p q r) = rw (p Anywhere, look_comma_options (here l e u s) (known_here l e u s (below j p q r))) refl
+
+look_accumulate : (i : Level) → IsKnown i → look (accumulate i) ≡ seen OPEN 0
+unfolding accumulate
+look_accumulate Bottom k = refl
+look_accumulate (Under l e u s) (below j p q r) = rw (p Anywhere, look_numbered_axis (here l e u s) (known_here l e u s (below j p q r))) refl
+
+look_fold : (i : Level) → IsKnown i → look (fold i) ≡ seen DOT 0
+unfolding fold
+look_fold i k = rw (look_reduce i k, look_accumulate i k) refl
+
+look_call : (i : Level) → IsKnown i → look (call i) ≡ seen (ANY_NAME + ABS) 0
+unfolding call
+look_call i k =
+    rw (look_arange i k, look_filled i k, look_full i k, look_new_array i k, look_broadcast_to i k, look_grouped OPEN i k, look_two i k, look_fold i k, look_quoted i) refl
+
+pub look_function : (np : ℕ) (i : Level) → IsKnown i → look (function np i) ≡ seen np 0
+unfolding function
+look_function np i k = rw (look_call i k) refl
+
+-- ---- methods
+
+look_empty : (i : Level) → look (empty i) ≡ seen OPEN 0
+unfolding empty
+look_empty Bottom = refl
+look_empty (Under l e u s) = refl
+
+look_type_argument : (i : Level) → look (type_argument i) ≡ seen OPEN 0
+unfolding type_argument
+look_type_argument Bottom = refl
+look_type_argument (Under l e u s) = rw (look_dtype l) refl
+
+look_axes : (i : Level) → IsKnown i → look (axes i) ≡ seen OPEN 0
+unfolding axes
+look_axes Bottom k = refl
+look_axes (Under l e u s) (below j p q r) = rw (look_exprs Anywhere (e Anywhere) (e Anywhere) (p Anywhere) (p Anywhere)) refl
+
+look_lengths : (i : Level) → IsKnown i → look (lengths i) ≡ seen OPEN 0
+unfolding lengths
+look_lengths Bottom k = refl
+look_lengths (Under l e u s) (below j p q r) = rw (look_exprs Length (e Length) (e Anywhere) (p Length) (p Anywhere), look_tuple l j, look_no_lengths l) refl
+
+look_reduction : (i : Level) → IsKnown i → look (reduction i) ≡ seen OPEN 0
+unfolding reduction
+look_reduction Bottom k = refl
+look_reduction (Under l e u s) (below j p q r) = rw (look_reduction_options (here l e u s) (known_here l e u s (below j p q r))) refl
+
+look_accumulation : (i : Level) → IsKnown i → look (accumulation i) ≡ seen OPEN 0
+unfolding accumulation
+look_accumulation Bottom k = refl
+look_accumulation (Under l e u s) (below j p q r) = rw (look_numbered_axis (here l e u s) (known_here l e u s (below j p q r))) refl
+
+pub look_method : (i : Level) → IsKnown i → look (method i) ≡ seen DOT 0
+unfolding method attribute
+look_method i k =
+    rw (look_axes i k, look_lengths i k, look_empty i, look_type_argument i, look_reduction i k, look_accumulation i k) refl
+
 -- ---- operands and operators
-
-pub look_arange : (i : Level) → IsKnown i → look (arange NP i) ≡ seen NP 0
-unfolding arange function
-look_arange i k = rw (look_grouped i k) refl
-
-pub look_arange_other : (i : Level) → IsKnown i → look (arange NP_OTHER i) ≡ seen NP_OTHER 0
-unfolding arange function
-look_arange_other i k = rw (look_grouped i k) refl
 
 pub look_operand : (s : Spot) (i : Level) → IsKnown i → look (operand s i) ≡ seen (atoms s) 0
 unfolding operand
-look_operand Anywhere i k = rw (look_arange i k, look_grouped i k) refl
-look_operand Target i k = rw (look_arange i k, look_grouped i k) refl
-look_operand FirstItem i k = rw (look_arange_other i k, look_grouped_some i k) refl
-look_operand LaterItem i k = rw (look_arange_other i k, look_grouped i k) refl
+look_operand Anywhere i k = rw (look_function (modules Anywhere) i k, look_quoted i, look_grouped OPEN i k) refl
+look_operand Statement i k = rw (look_function (modules Statement) i k, look_quoted i, look_grouped OPEN i k) refl
+look_operand Target i k = rw (look_function (modules Target) i k, look_quoted i, look_grouped OPEN i k) refl
+look_operand FirstItem i k = rw (look_function (modules FirstItem) i k, look_quoted i, look_grouped OPEN i k, look_grouped (openings FirstItem) i k) refl
+look_operand LaterItem i k = rw (look_function (modules LaterItem) i k, look_quoted i, look_grouped OPEN i k) refl
+look_operand Length i k = rw (look_function (modules Length) i k, look_quoted i, look_grouped OPEN i k, look_grouped (openings Length) i k) refl
+look_operand Number i k = rw (look_function (modules Number) i k, look_quoted i, look_grouped OPEN i k) refl
+look_operand AxisNumber i k = rw (look_function (modules AxisNumber) i k, look_quoted i, look_grouped OPEN i k) refl
 
 pub look_place : (i : Level) → IsKnown i → look (place i) ≡ seen PLACE_START 0
 unfolding place
 look_place i k = look_operand Target i k
 
-pub look_postfix : (s : Spot) (i : Level) → IsKnown i → look (postfix s i) ≡ seen (atoms s) OPEN_BRACKET
+pub look_suffix : (i : Level) → IsKnown i → look (suffix i) ≡ seen SUFFIX 0
+unfolding suffix
+look_suffix i k = rw (look_index i k, look_method i k) refl
+
+pub look_postfix : (s : Spot) (i : Level) → IsKnown i → look (postfix s i) ≡ seen (atoms s) SUFFIX
 unfolding postfix
-look_postfix Anywhere i k = rw (look_operand Anywhere i k, look_index i k) refl
-look_postfix s i k = rw (look_operand s i k, look_index i k) refl
+look_postfix s i k = rw (look_operand s i k, look_suffix i k) refl
 
 pub look_exponent : (i : Level) → IsKnown i → (look (exponent i) ≡ seen POWER 0) ⊎ (look (exponent i) ≡ seen POWER UNARY_MORE)
 unfolding exponent
@@ -155,26 +338,31 @@ pub look_value : (i : Level) → IsKnown i → look (value i) ≡ seen ASSIGNMEN
 unfolding value
 look_value i k = rw (look_expr Anywhere i k) refl
 
-pub look_exprs : (e : Gram Token Expr) → look e ≡ seen EXPR MORE → look (exprs e) ≡ seen EXPR (MORE + COMMA)
-unfolding exprs
-look_exprs e p = rw p refl
-
 pub look_printed : (i : Level) → IsKnown i → look (printed i) ≡ seen OPEN 0
 unfolding printed
 look_printed Bottom k = refl
-look_printed (Under l e u s) (below j p q r) = rw (look_exprs (e Anywhere) (p Anywhere)) refl
+look_printed (Under l e u s) (below j p q r) = rw (look_exprs Anywhere (e Anywhere) (e Anywhere) (p Anywhere) (p Anywhere)) refl
 
-pub look_indexes : (i : Level) → IsKnown i → look (indexes i) ≡ seen OPEN_BRACKET OPEN_BRACKET
-unfolding indexes
-look_indexes i k = rw (look_index i k) refl
+pub look_save : (i : Level) → IsKnown i → look (save i) ≡ seen NP_SAVE 0
+unfolding save saved
+look_save Bottom k = refl
+look_save (Under l e u s) (below j p q r) = rw (p Anywhere) refl
+
+pub look_group : (i : Level) → IsKnown i → look (group i) ≡ seen SUFFIX 0
+unfolding group
+look_group i k = rw (look_index i k, look_method i k) refl
+
+pub look_groups : (i : Level) → IsKnown i → look (groups i) ≡ seen SUFFIX SUFFIX
+unfolding groups
+look_groups i k = rw (look_group i k) refl
 
 pub look_assign : (i : Level) → IsKnown i → look (assign i) ≡ seen PLACE_START MORE
 unfolding assign target
-look_assign i k = rw (look_place i k, look_indexes i k, look_value i k) refl
+look_assign i k = rw (look_place i k, look_groups i k, look_value i k) refl
 
 pub look_stmt : (i : Level) → IsKnown i → look (stmt i) ≡ seen START MORE
 unfolding stmt imports module_name delete name print bind
-look_stmt i k = rw (look_printed i k, look_value i k, look_assign i k) refl
+look_stmt i k = rw (look_printed i k, look_save i k, look_value i k, look_assign i k) refl
 
 pub look_line : (s : Gram Token Stmt) → look s ≡ seen START MORE → look (line s) ≡ seen START 0
 unfolding line

@@ -5,7 +5,7 @@ use Rattle.std.proofs.lemmas.Bool.{eqb-true, eqb-false, ltb-true}
 use Rattle.nd_model.specs.Grammar.{has}
 use Rattle.nd_model.specs.Predict.{next_in}
 use Rattle.nd_model.specs.Token.{Word, Name, Keyword, Token}
-use Rattle.nd_model.specs.Kinds.{kind_of_symbol, kind_in, keyword_kinds, name_kinds, before, before_next, is_before, is_before_name, refined, kind_of_word, kind_of, kind, NAME, BOUND, OPERAND, PLACE, ASSIGNMENT, OPEN_BRACKET}
+use Rattle.nd_model.specs.Kinds.{kind_of_symbol, kind_in, keyword_kinds, name_kinds, before, before_next, is_before, is_before_name, is_call, holds_comma, refined, kind_of_word, kind_of, kind, NAME, BOUND, OPERAND, PLACE, ASSIGNMENT, SUFFIX}
 use Rattle.nd_model.proofs.Parsing.Sets.{which, and_true, not_not}
 
 -- ---- tests of kinds
@@ -75,23 +75,32 @@ so false b h e = absurd cc
 
 -- the test holds of each kind of a symbol, and of the kind that it has before some tokens
 abbrev pub both_kinds : (ℕ → ℕ → Bool) → Bool
-both_kinds f = symbols (λ k. f k k) && f 16 30 && f 12 31 && f 20 32
+both_kinds f = symbols (λ k. f k k) && f 16 30 && f 16 37 && f 12 31 && f 12 36 && f 20 32 && f 20 35
 
 pub by_both : (f : ℕ → ℕ → Bool) (w : Word) (rest : List Token) → both_kinds f ≡ true → f (kind_of_symbol w) (refined (kind_of_symbol w) rest) ≡ true
 by_both f w rest h =
     let p = and_true _ _ h in
     let q = and_true _ _ p.0 in
     let r = and_true _ _ q.0 in
-    go (kind_of_symbol w) (by_symbol (λ k. f k k) w r.0) r.1 q.1 p.1
+    let s = and_true _ _ r.0 in
+    let t = and_true _ _ s.0 in
+    let u = and_true _ _ t.0 in
+    go (kind_of_symbol w) (by_symbol (λ k. f k k) w u.0) u.1 t.1 s.1 r.1 q.1 p.1
   where
     at_kind : (k n m : ℕ) (b c : Bool) → f n m ≡ true → (k == n && b) ≡ c → c ≡ true → f k m ≡ true
     at_kind k n m b c h e t = let s : k ≡ n = eqb-true _ _ (and_true _ _ (e ∙ t)).0 in rw s h
 
-    go : (k : ℕ) → f k k ≡ true → f 16 30 ≡ true → f 12 31 ≡ true → f 20 32 ≡ true → f k (refined k rest) ≡ true
-    go k o a b c =
+    at_kind_if : (k n m : ℕ) (a b c : Bool) → f n m ≡ true → (k == n && a && b) ≡ c → c ≡ true → f k m ≡ true
+    at_kind_if k n m a b c h e t = let s : k ≡ n = eqb-true _ _ (and_true _ _ (and_true _ _ (e ∙ t)).0).0 in rw s h
+
+    go : (k : ℕ) → f k k ≡ true → f 16 30 ≡ true → f 16 37 ≡ true → f 12 31 ≡ true → f 12 36 ≡ true → f 20 32 ≡ true → f 20 35 ≡ true → f k (refined k rest) ≡ true
+    go k o a b c d x y =
         chosen_by (λ m. f k m ≡ true) (k == 16 && is_before 15 rest) 30 _ (at_kind k 16 30 _ _ a refl)
-        (chosen_by (λ m. f k m ≡ true) (k == 12 && is_before 13 rest) 31 _ (at_kind k 12 31 _ _ b refl)
-        (chosen_by (λ m. f k m ≡ true) (k == 20 && is_before_name (codes "newaxis") rest) 32 _ (at_kind k 20 32 _ _ c refl) o))
+        (chosen_by (λ m. f k m ≡ true) (k == 16 && is_before 13 rest) 37 _ (at_kind k 16 37 _ _ b refl)
+        (chosen_by (λ m. f k m ≡ true) (k == 12 && is_before 13 rest) 31 _ (at_kind k 12 31 _ _ c refl)
+        (chosen_by (λ m. f k m ≡ true) (k == 12 && holds_comma 0 rest) 36 _ (at_kind k 12 36 _ _ d refl)
+        (chosen_by (λ m. f k m ≡ true) (k == 20 && is_before_name (codes "newaxis") rest && not (is_call rest)) 32 _ (at_kind_if k 20 32 _ _ _ x refl)
+        (chosen_by (λ m. f k m ≡ true) (k == 20 && is_before_name (codes "save") rest) 35 _ (at_kind k 20 35 _ _ y refl) o)))))
 
 by_before : (P : ℕ → Type 0) (rest : List Token) → P 0 → P 1 → P 2 → P (before_next rest)
 by_before P [] p0 p1 p2 = p0
@@ -141,9 +150,9 @@ before_assignment : (ts : List Token) → next_in kind ASSIGNMENT ts ≡ true �
 unfolding has name_kinds keyword_kinds
 before_assignment ts h = told ASSIGNMENT 1 ts refl refl refl refl h
 
-before_bracket : (ts : List Token) → next_in kind OPEN_BRACKET ts ≡ true → before_next ts ≡ 0
+before_suffix : (ts : List Token) → next_in kind SUFFIX ts ≡ true → before_next ts ≡ 0
 unfolding has name_kinds keyword_kinds
-before_bracket ts h = told OPEN_BRACKET 0 ts refl refl refl refl h
+before_suffix ts h = told SUFFIX 0 ts refl refl refl refl h
 
 -- ---- the kind of a name
 
@@ -165,11 +174,11 @@ place_word (Name n) rest e h = rw e (by_table (λ k. has PLACE (k + 0)) name_kin
 place_word (Keyword k) rest e h = so _ _ (by_table (λ k. implied (has OPERAND k) (has PLACE k)) keyword_kinds 126 k refl) h
 place_word w rest e h = so _ _ (by_both (λ k m. implied (has OPERAND m) (has PLACE m)) w rest refl) h
 
--- an operand before an index
-pub place_operand : (t : Token) (rest : List Token) → next_in kind OPEN_BRACKET rest ≡ true → has OPERAND (kind (t ∷ rest)) ≡ true → has PLACE (kind (t ∷ rest)) ≡ true
+-- an operand before an index or a method
+pub place_operand : (t : Token) (rest : List Token) → next_in kind SUFFIX rest ≡ true → has OPERAND (kind (t ∷ rest)) ≡ true → has PLACE (kind (t ∷ rest)) ≡ true
 unfolding has
 place_operand t rest n h =
-    by_place (λ k. has OPERAND k ≡ true → has PLACE k ≡ true) t rest (λ h. absurd cc) (place_word t.word rest (before_bracket rest n)) h
+    by_place (λ k. has OPERAND k ≡ true → has PLACE k ≡ true) t rest (λ h. absurd cc) (place_word t.word rest (before_suffix rest n)) h
 
 -- ---- how many kinds there are
 

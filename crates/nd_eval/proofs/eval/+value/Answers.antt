@@ -3,14 +3,13 @@ use Rattle.std.specs.Vec.{vec_len}
 use Rattle.std.proofs.lemmas.Bool.{eqb-true, eqb-false}
 use Rattle.std.proofs.lemmas.List.{drop_all}
 use Rattle.nd_model.specs.Meaning as meaning
-use Rattle.nd_tree.specs.Syntax.{expr_of, index_of}
-use Rattle.nd_tree.specs.declared.tree.Index.{Index}
+use Rattle.nd_tree.specs.Syntax.{expr_of, suffix_of, index_of}
+use Rattle.nd_tree.specs.declared.tree.Suffix.{Suffix}
 use Rattle.nd_heap.specs.Values.{value_of, inputs_of}
 use Rattle.nd_heap.specs.Live.{live}
 use Rattle.nd_eval.proofs.Bounds.{next_value, next_item_value, next_indexed}
 use Rattle.nd_eval.proofs.Chains.{exits, follows, goes}
-use Rattle.nd_eval.proofs.Indexing.{chain, run_indexed, tokens_of_indexed, nodes_of_indexed, no_items, items_in_index, nodes_of_its_items, lone_refused, more_refused, chain_alone, nodes_of_chain, chain_refused}
-use Rattle.nd_eval.proofs.InTurn.{next_item}
+use Rattle.nd_eval.proofs.Indexing.{chain, next_index, run_postfix, tokens_of_postfix, nodes_of_postfix, arange_alone, no_items, items_in_index, nodes_of_its_items, more_refused, chain_alone, nodes_of_chain, chain_refused}
 use Rattle.nd_eval.proofs.eval.+value.Goals as goal
 
 pub value-value-requires : goal.value-value-requires
@@ -18,12 +17,6 @@ value-value-requires t c =
     let room = rw c.in-Unary.is at c.requires in
     let below = rw c.in-Unary.is at c.decreases in
     rw c.deref.ensures (omega arith, omega arith)
-
-pub value-value-requires-in-Arange : goal.value-value-requires-in-Arange
-value-value-requires-in-Arange t c =
-    let room = rw c.in-Arange.is at c.requires in
-    let below = rw c.in-Arange.is at c.decreases in
-    rw c.deref-in-Arange.ensures (omega arith, omega arith)
 
 pub value-returns-in_err-operand-in-Negative : goal.value-returns-in_err-operand-in-Negative
 value-returns-in_err-operand-in-Negative t c = rw (c.in-Unary.is, c.in-Negative.is)
@@ -35,99 +28,83 @@ value-returns-in_ok-operand-in-Negative t c = rw (c.in-Unary.is, c.in-Negative.i
     (follows value_of value_of (inputs_of c.args.inputs.now.entries) (meaning.value (expr_of c.in-Unary.operand.value)) _ _ _ _
     c.in_ok-operand-in-Negative.operand _ (rw c.deref.ensures at c.in_ok-operand-in-Negative.ensures) c.negated.ensures)
 
-pub value-returns-in_err-end-in-Arange : goal.value-returns-in_err-end-in-Arange
-value-returns-in_err-end-in-Arange t c = rw c.in-Arange.is
-    (exits value_of value_of (inputs_of c.args.inputs.now.entries) (meaning.value (expr_of c.in-Arange.end.value)) _ _ _ _ _
-    c.from_residual-in_err-end-in-Arange.ensures.1 (rw c.deref-in-Arange.ensures at c.in_err-end-in-Arange.ensures))
-
-pub value-arange-requires : goal.value-arange-requires
-value-arange-requires t c =
-    let room = rw c.in-Arange.is at c.requires in
-    let made = next_value (inputs_of c.args.inputs.now.entries) (expr_of c.in-Arange.end.value) _ _ _ (rw c.deref-in-Arange.ensures at c.in_ok-end-in-Arange.ensures) in
-    omega arith
-
-pub value-returns-in_ok-end-in-Arange : goal.value-returns-in_ok-end-in-Arange
-value-returns-in_ok-end-in-Arange t c = rw c.in-Arange.is
-    (follows value_of value_of (inputs_of c.args.inputs.now.entries) (meaning.value (expr_of c.in-Arange.end.value)) _ _ _ _
-    c.in_ok-end-in-Arange.end _ (rw c.deref-in-Arange.ensures at c.in_ok-end-in-Arange.ensures) c.arange.ensures)
-
-pub value-value-requires-in-Indexed : goal.value-value-requires-in-Indexed
-value-value-requires-in-Indexed t c =
-    let size = tokens_of_indexed c.args.expr.now c.in-Indexed.operand c.in-Indexed.indexes c.in-Indexed.is in
-    let more = nodes_of_indexed c.args.expr.now c.in-Indexed.operand c.in-Indexed.indexes c.in-Indexed.is in
+pub value-value-requires-in-Postfix : goal.value-value-requires-in-Postfix
+value-value-requires-in-Postfix t c =
+    let size = tokens_of_postfix c.args.expr.now c.in-Postfix.operand c.in-Postfix.suffixes c.in-Postfix.is in
+    let more = nodes_of_postfix c.args.expr.now c.in-Postfix.operand c.in-Postfix.suffixes c.in-Postfix.is in
     let below = c.decreases in
-    rw c.deref-in-Indexed.ensures (omega arith, omega arith)
+    rw c.deref-in-Postfix.ensures (omega arith, omega arith)
 
-pub value-returns-in_err-found-in-Indexed : goal.value-returns-in_err-found-in-Indexed
-value-returns-in_err-found-in-Indexed t c =
+pub value-returns-in_err-found-in-Postfix : goal.value-returns-in_err-found-in-Postfix
+value-returns-in_err-found-in-Postfix t c =
     let i = inputs_of c.args.inputs.now.entries in
-    rw (run_indexed i c.args.expr.now c.in-Indexed.operand c.in-Indexed.indexes (live c.args.session.now) c.in-Indexed.is)
-    (exits value_of value_of i (meaning.value (expr_of c.in-Indexed.operand.value)) _ _ _ _ _
-    c.from_residual-in_err-found-in-Indexed.ensures.1 (rw c.deref-in-Indexed.ensures at c.in_err-found-in-Indexed.ensures))
+    rw (run_postfix i c.args.expr.now c.in-Postfix.operand c.in-Postfix.suffixes (live c.args.session.now) c.in-Postfix.is)
+    (exits value_of value_of i (meaning.value (expr_of c.in-Postfix.operand.value)) _ _ _ _ _
+    c.from_residual-in_err-found-in-Postfix.ensures.1 (rw c.deref-in-Postfix.ensures at c.in_err-found-in-Postfix.ensures))
 
-pub value-loop-index-init : goal.value-loop-index-init
-value-loop-index-init t c =
+pub value-loop-suffix-init : goal.value-loop-suffix-init
+value-loop-suffix-init t c =
     let i = inputs_of c.args.inputs.now.entries in
-    let e = expr_of c.in-Indexed.operand.value in
-    let found = rw c.deref-in-Indexed.ensures at c.in_ok-found-in-Indexed.ensures in
-    let size = tokens_of_indexed c.args.expr.now c.in-Indexed.operand c.in-Indexed.indexes c.in-Indexed.is in
+    let e = expr_of c.in-Postfix.operand.value in
+    let found = rw c.deref-in-Postfix.ensures at c.in_ok-found-in-Postfix.ensures in
+    let size = tokens_of_postfix c.args.expr.now c.in-Postfix.operand c.in-Postfix.suffixes c.in-Postfix.is in
     let made = next_value i e _ _ _ found in
-    let more = nodes_of_indexed c.args.expr.now c.in-Indexed.operand c.in-Indexed.indexes c.in-Indexed.is in
+    let more = nodes_of_postfix c.args.expr.now c.in-Postfix.operand c.in-Postfix.suffixes c.in-Postfix.is in
     record {
-      same = run_indexed i c.args.expr.now c.in-Indexed.operand c.in-Indexed.indexes (live c.args.session.now) c.in-Indexed.is
-          ∙ goes value_of i (meaning.value e) (λ v. chain v (map index_of c.in-Indexed.indexes.items)) _ _ c.in_ok-found-in-Indexed.found found
-          ∙ ap (λ (es : List Index). meaning.run i (chain (value_of c.in_ok-found-in-Indexed.found) (map index_of es)) (live c.value-in-Indexed.new.session)) (sym c.deref-index-items.ensures.value);
-      room = rw c.deref-index-items.ensures.value (omega arith);
-      below = rw c.deref-index-items.ensures.value (omega arith);
+      same = run_postfix i c.args.expr.now c.in-Postfix.operand c.in-Postfix.suffixes (live c.args.session.now) c.in-Postfix.is
+          ∙ goes value_of i (meaning.value e) (λ v. chain v (map suffix_of c.in-Postfix.suffixes.items)) _ _ c.in_ok-found-in-Postfix.found found
+          ∙ ap (λ (es : List Suffix). meaning.run i (chain (value_of c.in_ok-found-in-Postfix.found) (map suffix_of es)) (live c.value-in-Postfix.new.session)) (sym c.deref-suffix-items.ensures.value);
+      room = rw c.deref-suffix-items.ensures.value (omega arith);
+      below = rw c.deref-suffix-items.ensures.value (omega arith);
     }
 
 pub value-item_value-requires : goal.value-item_value-requires
 value-item_value-requires t c =
-    let next = next_item c.deref-index-items.result.now c.loop-index.index-index c.index-item.result c.loop-index-test.true c.index-item.is in
-    let room = rw next at c.loop-index.invariant.room in
+    let next = next_index c.deref-suffix-items.result.now c.loop-suffix.suffix-index c.suffix-item.result c.in-Index.index c.loop-suffix-test.true c.suffix-item.is c.in-Index.is in
+    let room = rw next at c.loop-suffix.invariant.room in
     let below = c.decreases in
-    let few = rw next at c.loop-index.invariant.below in
+    let few = rw next at c.loop-suffix.invariant.below in
     (omega arith, omega arith)
 
-pub value-returns-in_err-item-in-Indexed : goal.value-returns-in_err-item-in-Indexed
-value-returns-in_err-item-in-Indexed t c =
-    let next = next_item c.deref-index-items.result.now c.loop-index.index-index c.index-item.result c.loop-index-test.true c.index-item.is in
-    rw (c.loop-index.invariant.same, next)
-    (exits value_of value_of (inputs_of c.args.inputs.now.entries) (meaning.item_value (index_of c.index-item.result)) _ _ _ _ _
-    c.from_residual-in_err-item-in-Indexed.ensures.1 c.in_err-item-in-Indexed.ensures)
+pub value-returns-in_err-item-in-Postfix : goal.value-returns-in_err-item-in-Postfix
+value-returns-in_err-item-in-Postfix t c =
+    let next = next_index c.deref-suffix-items.result.now c.loop-suffix.suffix-index c.suffix-item.result c.in-Index.index c.loop-suffix-test.true c.suffix-item.is c.in-Index.is in
+    rw (c.loop-suffix.invariant.same, next)
+    (exits value_of value_of (inputs_of c.args.inputs.now.entries) (meaning.item_value (index_of c.in-Index.index)) _ _ _ _ _
+    c.from_residual-in_err-item-in-Postfix.ensures.1 c.in_err-item-in-Postfix.ensures)
 
-pub value-returns-in_err-found-in-Indexed-2 : goal.value-returns-in_err-found-in-Indexed-2
-value-returns-in_err-found-in-Indexed-2 t c =
+pub value-returns-in_err-found-in-Postfix-2 : goal.value-returns-in_err-found-in-Postfix-2
+value-returns-in_err-found-in-Postfix-2 t c =
     let i = inputs_of c.args.inputs.now.entries in
-    let next = next_item c.deref-index-items.result.now c.loop-index.index-index c.index-item.result c.loop-index-test.true c.index-item.is in
-    rw (c.loop-index.invariant.same, next)
-    (follows value_of value_of i (meaning.item_value (index_of c.index-item.result)) _ _ _ _ c.in_ok-item-in-Indexed.item _ c.in_ok-item-in-Indexed.ensures
-    (exits value_of value_of i (meaning.indexed (value_of c.loop-index.found) (value_of c.in_ok-item-in-Indexed.item)) _ _ _ _ _
-    c.from_residual-in_err-found-in-Indexed-2.ensures.1 c.in_err-found-in-Indexed-2.ensures))
+    let next = next_index c.deref-suffix-items.result.now c.loop-suffix.suffix-index c.suffix-item.result c.in-Index.index c.loop-suffix-test.true c.suffix-item.is c.in-Index.is in
+    rw (c.loop-suffix.invariant.same, next)
+    (follows value_of value_of i (meaning.item_value (index_of c.in-Index.index)) _ _ _ _ c.in_ok-item-in-Postfix.item _ c.in_ok-item-in-Postfix.ensures
+    (exits value_of value_of i (meaning.indexed (value_of c.loop-suffix.found) (value_of c.in_ok-item-in-Postfix.item)) _ _ _ _ _
+    c.from_residual-in_err-found-in-Postfix-2.ensures.1 c.in_err-found-in-Postfix-2.ensures))
 
-pub value-loop-index-preserved : goal.value-loop-index-preserved
-value-loop-index-preserved t c =
+pub value-loop-suffix-preserved : goal.value-loop-suffix-preserved
+value-loop-suffix-preserved t c =
     let i = inputs_of c.args.inputs.now.entries in
-    let x = index_of c.index-item.result in
-    let rest = map index_of (drop (c.loop-index.index-index + 1) c.deref-index-items.result.now) in
-    let indexed = meaning.indexed (value_of c.loop-index.found) (value_of c.in_ok-item-in-Indexed.item) in
-    let next = next_item c.deref-index-items.result.now c.loop-index.index-index c.index-item.result c.loop-index-test.true c.index-item.is in
-    let room = rw next at c.loop-index.invariant.room in
-    let made = next_item_value i x _ _ _ c.in_ok-item-in-Indexed.ensures in
-    let few = rw next at c.loop-index.invariant.below in
-    let more = next_indexed i (value_of c.loop-index.found) (value_of c.in_ok-item-in-Indexed.item) _ _ _ c.in_ok-found-in-Indexed-2.ensures in
+    let x = index_of c.in-Index.index in
+    let rest = map suffix_of (drop (c.loop-suffix.suffix-index + 1) c.deref-suffix-items.result.now) in
+    let indexed = meaning.indexed (value_of c.loop-suffix.found) (value_of c.in_ok-item-in-Postfix.item) in
+    let next = next_index c.deref-suffix-items.result.now c.loop-suffix.suffix-index c.suffix-item.result c.in-Index.index c.loop-suffix-test.true c.suffix-item.is c.in-Index.is in
+    let room = rw next at c.loop-suffix.invariant.room in
+    let made = next_item_value i x _ _ _ c.in_ok-item-in-Postfix.ensures in
+    let few = rw next at c.loop-suffix.invariant.below in
+    let more = next_indexed i (value_of c.loop-suffix.found) (value_of c.in_ok-item-in-Postfix.item) _ _ _ c.in_ok-found-in-Postfix-2.ensures in
     record {
-      same = c.loop-index.invariant.same
-          ∙ ap (λ (es : List Index). meaning.run i (chain (value_of c.loop-index.found) (map index_of es)) (live c.loop-index.session)) next
-          ∙ goes value_of i (meaning.item_value x) _ _ _ c.in_ok-item-in-Indexed.item c.in_ok-item-in-Indexed.ensures
-          ∙ goes value_of i indexed (λ w. chain w rest) _ _ c.in_ok-found-in-Indexed-2.found c.in_ok-found-in-Indexed-2.ensures;
+      same = c.loop-suffix.invariant.same
+          ∙ ap (λ (es : List Suffix). meaning.run i (chain (value_of c.loop-suffix.found) (map suffix_of es)) (live c.loop-suffix.session)) next
+          ∙ goes value_of i (meaning.item_value x) _ _ _ c.in_ok-item-in-Postfix.item c.in_ok-item-in-Postfix.ensures
+          ∙ goes value_of i indexed (λ w. chain w rest) _ _ c.in_ok-found-in-Postfix-2.found c.in_ok-found-in-Postfix-2.ensures;
       room = omega arith;
       below = omega arith;
     }
 
-pub value-returns-after-loop-index : goal.value-returns-after-loop-index
-value-returns-after-loop-index t c =
-    rw (drop_all _ _ c.loop-index-test.false) at c.loop-index.invariant.same
+pub value-returns-after-loop-suffix : goal.value-returns-after-loop-suffix
+value-returns-after-loop-suffix t c =
+    rw (drop_all _ _ c.loop-suffix-test.false) at c.loop-suffix.invariant.same
 
 pub value-value-requires-then-is_empty : goal.value-value-requires-then-is_empty
 value-value-requires-then-is_empty t c =
@@ -152,6 +129,33 @@ value-returns-else-is_empty t c =
 
 pub value-returns-in_default : goal.value-returns-in_default
 value-returns-in_default t c = rw (c.in_default.is, c.unbuilt-in_default.ensures) refl
+
+pub called-arange-requires : goal.called-arange-requires
+called-arange-requires t c =
+    let a = c.in-Arange in
+    let alone = arange_alone c.args.call.now a.start a.end a.step a.dtype a.is
+    (sym c.is_some.ensures ∙ c.if-is_some.false) (sym c.is_some-else-is_some.ensures ∙ c.if-is_some-2.false) (sym c.is_some-else-is_some-2.ensures ∙ c.if-is_some-3.false) in
+    let room = rw alone at c.requires in
+    let made = next_value (inputs_of c.args.inputs.now.entries) (expr_of a.end) _ _ _ c.in_ok-end-in-Arange.ensures in
+    omega arith
+
+pub called-returns-in_err-end-in-Arange : goal.called-returns-in_err-end-in-Arange
+called-returns-in_err-end-in-Arange t c =
+    let a = c.in-Arange in
+    let alone = arange_alone c.args.call.now a.start a.end a.step a.dtype a.is
+    (sym c.is_some.ensures ∙ c.if-is_some.false) (sym c.is_some-else-is_some.ensures ∙ c.if-is_some-2.false) (sym c.is_some-else-is_some-2.ensures ∙ c.if-is_some-3.false) in
+    rw alone
+    (exits value_of value_of (inputs_of c.args.inputs.now.entries) (meaning.value (expr_of a.end)) _ _ _ _ _
+    c.from_residual.ensures.1 c.in_err-end-in-Arange.ensures)
+
+pub called-returns-in_ok-end-in-Arange : goal.called-returns-in_ok-end-in-Arange
+called-returns-in_ok-end-in-Arange t c =
+    let a = c.in-Arange in
+    let alone = arange_alone c.args.call.now a.start a.end a.step a.dtype a.is
+    (sym c.is_some.ensures ∙ c.if-is_some.false) (sym c.is_some-else-is_some.ensures ∙ c.if-is_some-2.false) (sym c.is_some-else-is_some-2.ensures ∙ c.if-is_some-3.false) in
+    rw alone
+    (follows value_of value_of (inputs_of c.args.inputs.now.entries) (meaning.value (expr_of a.end)) _ _ _ _
+    c.in_ok-end-in-Arange.end _ c.in_ok-end-in-Arange.ensures c.arange.ensures)
 
 pub item_value-only_item-requires : goal.item_value-only_item-requires
 item_value-only_item-requires t c =

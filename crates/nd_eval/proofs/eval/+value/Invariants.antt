@@ -1,13 +1,16 @@
 use Rattle.std.proofs.Common.{◌≡◌, ◌+◌, ◌<◌, ◌^◌, map, drop}
 use Rattle.nd_model.specs.Meaning as meaning
-use Rattle.nd_tree.specs.Syntax.{expr_of, index_of}
+use Rattle.nd_tree.specs.Syntax.{expr_of, suffix_of}
 use Rattle.nd_heap.specs.Values.{value_of, inputs_of}
 use Rattle.nd_heap.specs.Live.{live}
-use Rattle.nd_eval.proofs.Indexing.{chain, chain_tokens, nodes, nodes_of_index, nodes_of_items, nodes_of_item, nodes_of_all}
+use Rattle.nd_eval.proofs.Indexing.{chain, chain_tokens, nodes, nodes_of_call, nodes_of_index, nodes_of_items, nodes_of_item, nodes_of_all}
 use Rattle.nd_eval.proofs.eval.+value.Given as goal
 
 abbrev pub decreases-value : goal.decreases-value
 decreases-value l = nodes l.expr.now
+
+abbrev pub decreases-called : goal.decreases-called
+decreases-called l = nodes_of_call l.call.now
 
 abbrev pub decreases-item_value : goal.decreases-item_value
 decreases-item_value l = nodes_of_index l.index.now
@@ -18,12 +21,12 @@ decreases-only_item l = 1 + nodes_of_items l.items.now
 abbrev pub decreases-lone_item : goal.decreases-lone_item
 decreases-lone_item l = nodes_of_item l.item.now
 
-abbrev pub invariant-value-loop-index : goal.invariant-value-loop-index
-invariant-value-loop-index l =
-    let left = map index_of (drop l.index-index l.index-items) in
+abbrev pub invariant-value-loop-suffix : goal.invariant-value-loop-suffix
+invariant-value-loop-suffix l =
+    let left = map suffix_of (drop l.suffix-index l.suffix-items) in
     record {
       same : meaning.run (inputs_of l.inputs.entries) (meaning.value (expr_of l.expr)) (live l.fn.session)
           ≡ meaning.run (inputs_of l.inputs.entries) (chain (value_of l.found) left) (live l.session);
       room : (live l.session).next + chain_tokens left < 2 ^ 64;
-      below : nodes_of_all (drop l.index-index l.index-items) < nodes l.expr;
+      below : nodes_of_all (drop l.suffix-index l.suffix-items) < nodes l.expr;
     }

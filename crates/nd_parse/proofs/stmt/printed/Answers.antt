@@ -1,6 +1,7 @@
 use Rattle.nd_model.specs.Cells.{printed}
 use Rattle.nd_tree.specs.Gives.{tokens_of}
-use Rattle.nd_parse.proofs.Steps.{enter_shut, printed_is}
+use Rattle.nd_tree.proofs.Levels.{enter_shut}
+use Rattle.nd_parse.proofs.Steps.{printed_is}
 use Rattle.nd_parse.proofs.stmt.printed.Goals as goal
 
 pub returns-then-levels-eq0 : goal.returns-then-levels-eq0

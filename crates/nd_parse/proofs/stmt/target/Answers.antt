@@ -1,7 +1,7 @@
 use Rattle.std.proofs.Common.{◌∙◌, sym, ap, Ok}
 use Rattle.std.proofs.lemmas.Result.{err_from_is_err_and}
 use Rattle.nd_tree.specs.Syntax.{expr_of, index_of}
-use Rattle.nd_tree.specs.Gives.{tokens_of, indexes_of}
+use Rattle.nd_tree.specs.Gives.{tokens_of, suffixes_of}
 use Rattle.nd_parse.proofs.Steps.{target_ends, target_fails, target_fails_at}
 use Rattle.nd_parse.proofs.stmt.target.Goals as goal
 
@@ -18,5 +18,5 @@ returns-in_err-before c =
 pub returns : goal.returns
 returns c =
     target_ends c.args.levels (tokens_of c.args.tokens.now) (tokens_of c.in_ok-operand.rest.now) (tokens_of c.in_ok-before.rest.now)
-    (expr_of c.in_ok-operand.operand) (indexes_of c.in_ok-before.before) (index_of c.in_ok-before.last) c.in_ok-operand.ensures c.in_ok-before.ensures
-    ∙ ap (λ e. Ok ((e, index_of c.in_ok-before.last), tokens_of c.in_ok-before.rest.now)) (sym c.in_ok-indexed.ensures)
+    (expr_of c.in_ok-operand.operand) (suffixes_of c.in_ok-before.before) (index_of c.in_ok-before.last) c.in_ok-operand.ensures c.in_ok-before.ensures
+    ∙ ap (λ e. Ok ((e, index_of c.in_ok-before.last), tokens_of c.in_ok-before.rest.now)) (sym c.in_ok-postfixed.ensures)

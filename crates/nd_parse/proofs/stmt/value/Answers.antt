@@ -3,7 +3,7 @@ use Rattle.nd_model.specs.Kinds.{ASSIGNMENT}
 use Rattle.nd_model.specs.Cells.{augment, value}
 use Rattle.nd_token.specs.Tokens.{token_of}
 use Rattle.nd_tree.specs.Gives.{tokens_of}
-use Rattle.nd_parse.proofs.Steps.{one_is}
+use Rattle.nd_tree.proofs.Stops.{one_is}
 use Rattle.nd_parse.proofs.stmt.value.Goals as goal
 
 pub returns : goal.returns

@@ -1,0 +1,297 @@
+//! Indexes, and lists.
+ghost use Rattle.std.specs.Prelude.{◌≡◌};
+ghost use Rattle.nd_model.specs.Grammar.{Many};
+ghost use Rattle.nd_model.specs.Kinds.{kind, OPEN_BRACKET, CLOSE_BRACKET, COMMA_MORE, COMMA_LAST};
+ghost use Rattle.nd_model.specs.Predict.{read};
+ghost use Rattle.nd_model.specs.Cells.{FirstItem, LaterItem, under, between, mapped, separated, bound_in, step_in, slice, newaxis, element, elements, elements_of, list, part, item, nothing, contents, index};
+ghost use Rattle.nd_tree.specs.Syntax.{index_of, item_of, bound_of, element_of};
+ghost use Rattle.nd_tree.specs.Gives.{Gives, with_rest, tokens_of, spot_of, items_in, elements_in, list_of_elements, bounds_of, inside};
+ghost use Rattle.nd_tree.specs.Parts.{behind_comma};
+ghost use Rattle.nd_expr.specs.Readers.{items_of_index, no_items};
+
+use crate::expressions::expr;
+use nd_tree::kinds::{
+    CLOSE, CLOSE_BRACKET, COLON, COMMA_LAST, COMMA_MORE, DOT, ELEMENT, ELLIPSIS, EXPR, NEWAXIS,
+    NONE, NP_NEWAXIS, OPEN_BRACKET, OPEN_NONE, QUOTED, next_in,
+};
+use nd_tree::read::{Read, Reason, Tokens, quoted_of, shut, take};
+use nd_tree::spot::Spot;
+use nd_tree::types::last_comma;
+use nd_tree::{Element, Expr, Index, IndexItem};
+use std::alloc::Global;
+
+/// `[index]`, which may open this many levels.
+#[cycle(parser)]
+pub fn index<'t>(alloc: Global, levels: u8, tokens: Tokens<'t>) -> Read<'t, Index>
+    ensures { Gives (with_rest index_of) result (read kind (index (under levels)) (tokens_of tokens.now)) }
+{
+    if levels == 0 {
+        return Err(shut(tokens, OPEN_BRACKET, Reason::TooDeep));
+    }
+    bracketed(alloc, levels - 1, tokens)
+}
+
+#[cycle(parser)]
+fn bracketed<'t>(alloc: Global, levels: u8, tokens: Tokens<'t>) -> Read<'t, Index>
+    ensures { Gives (with_rest index_of) result (read kind (between OPEN_BRACKET (contents (inside levels)) CLOSE_BRACKET) (tokens_of tokens.now)) }
+{
+    let (_, rest) = take(tokens, OPEN_BRACKET)?;
+    let (inner, rest) = contents(alloc, levels, rest)?;
+    let (_, rest) = take(rest, CLOSE_BRACKET)?;
+    Ok((inner, rest))
+}
+
+/// What stands in the brackets of an index.
+#[cycle(parser)]
+#[tactic(auto, unfolding(nd_model::specs::Cells::contents))]
+fn contents<'t>(alloc: Global, levels: u8, tokens: Tokens<'t>) -> Read<'t, Index>
+    ensures { Gives (with_rest index_of) result (read kind (contents (inside levels)) (tokens_of tokens.now)) }
+{
+    if next_in(tokens, QUOTED) {
+        let (token, rest) = take(tokens, QUOTED)?;
+        return Ok((Index::Field(quoted_of(alloc, token)?), rest));
+    }
+    let (all, rest) = items(alloc, levels, tokens)?;
+    Ok((Index::Items(all), rest))
+}
+
+/// `()`, or the items of an index.
+#[cycle(parser)]
+fn items<'t>(alloc: Global, levels: u8, tokens: Tokens<'t>) -> Read<'t, Vec<IndexItem>>
+    ensures { Gives (with_rest items_in) result (read kind (items_of_index (inside levels)) (tokens_of tokens.now)) }
+{
+    if next_in(tokens, OPEN_NONE) {
+        return nothing(alloc, levels, tokens);
+    }
+    some_items(alloc, levels, tokens)
+}
+
+/// `()`
+fn nothing<'t>(alloc: Global, levels: u8, tokens: Tokens<'t>) -> Read<'t, Vec<IndexItem>>
+    ensures { Gives (with_rest items_in) result (read kind (nothing (under levels)) (tokens_of tokens.now)) }
+{
+    if levels == 0 {
+        return Err(shut(tokens, OPEN_NONE, Reason::TooDeep));
+    }
+    no_items(alloc, tokens)
+}
+
+fn no_items<'t>(alloc: Global, tokens: Tokens<'t>) -> Read<'t, Vec<IndexItem>>
+    ensures { Gives (with_rest items_in) result (read kind no_items (tokens_of tokens.now)) }
+{
+    let (_, rest) = take(tokens, OPEN_NONE)?;
+    let (_, rest) = take(rest, CLOSE)?;
+    Ok((Vec::new(alloc), rest))
+}
+
+#[cycle(parser)]
+fn some_items<'t>(alloc: Global, levels: u8, tokens: Tokens<'t>) -> Read<'t, Vec<IndexItem>>
+    ensures { Gives (with_rest items_in) result (read kind (separated COMMA_MORE COMMA_LAST (item FirstItem (inside levels)) (item LaterItem (inside levels))) (tokens_of tokens.now)) }
+{
+    let (first, rest) = item(alloc, levels, Spot::FirstItem, tokens)?;
+    let (mut all, rest) = other_items(alloc, levels, rest)?;
+    let (_, rest) = last_comma(COMMA_LAST, rest)?;
+    all.insert(0, first)?;
+    Ok((all, rest))
+}
+
+/// Any number of items, each behind a comma.
+#[cycle(parser)]
+fn other_items<'t>(alloc: Global, levels: u8, tokens: Tokens<'t>) -> Read<'t, Vec<IndexItem>>
+    ensures { Gives (with_rest items_in) result (read kind (Many COMMA_MORE (λ xs. xs) (behind_comma COMMA_MORE (item LaterItem (inside levels)))) (tokens_of tokens.now)) }
+{
+    let mut all = Vec::new(alloc);
+    // from the first token on
+    let (_, mut rest) = tokens.split_at(0);
+    'more: while next_in(rest, COMMA_MORE) {
+        let (next, after) = other_item(alloc, levels, rest)?;
+        all.push(next)?;
+        rest = after;
+    }
+    Ok((all, rest))
+}
+
+#[cycle(parser)]
+fn other_item<'t>(alloc: Global, levels: u8, tokens: Tokens<'t>) -> Read<'t, IndexItem>
+    ensures { Gives (with_rest item_of) result (read kind (behind_comma COMMA_MORE (item LaterItem (inside levels))) (tokens_of tokens.now)) }
+{
+    let (_, rest) = take(tokens, COMMA_MORE)?;
+    item(alloc, levels, Spot::LaterItem, rest)
+}
+
+/// An item of an index.
+#[cycle(parser)]
+#[tactic(auto, unfolding(nd_model::specs::Cells::item))]
+fn item<'t>(alloc: Global, levels: u8, spot: Spot, tokens: Tokens<'t>) -> Read<'t, IndexItem>
+    ensures { Gives (with_rest item_of) result (read kind (item (spot_of spot) (inside levels)) (tokens_of tokens.now)) }
+{
+    if next_in(tokens, COLON) {
+        let ((stop, step), rest) = slice(alloc, levels, tokens)?;
+        return Ok((IndexItem::Slice(None, stop, step), rest));
+    }
+    if next_in(tokens, ELLIPSIS) {
+        let (_, rest) = take(tokens, ELLIPSIS)?;
+        return Ok((IndexItem::Ellipsis, rest));
+    }
+    if next_in(tokens, NONE) {
+        let (_, rest) = take(tokens, NONE)?;
+        return Ok((IndexItem::NewAxis, rest));
+    }
+    if next_in(tokens, NP_NEWAXIS) {
+        return newaxis(tokens);
+    }
+    if next_in(tokens, OPEN_BRACKET) {
+        let (elements, rest) = list(alloc, levels, tokens)?;
+        return Ok((IndexItem::List(elements), rest));
+    }
+    part(alloc, levels, spot, tokens)
+}
+
+/// `np.newaxis`
+#[tactic(auto, unfolding(nd_model::specs::Cells::newaxis))]
+fn newaxis<'t>(tokens: Tokens<'t>) -> Read<'t, IndexItem>
+    ensures { Gives (with_rest item_of) result (read kind newaxis (tokens_of tokens.now)) }
+{
+    let (_, rest) = take(tokens, NP_NEWAXIS)?;
+    let (_, rest) = take(rest, DOT)?;
+    let (_, rest) = take(rest, NEWAXIS)?;
+    Ok((IndexItem::NewAxis, rest))
+}
+
+/// An expression, or a slice that begins with one.
+#[cycle(parser)]
+#[tactic(auto, unfolding(nd_model::specs::Cells::part))]
+fn part<'t>(alloc: Global, levels: u8, spot: Spot, tokens: Tokens<'t>) -> Read<'t, IndexItem>
+    ensures { Gives (with_rest item_of) result (read kind (part (spot_of spot) (inside levels)) (tokens_of tokens.now)) }
+{
+    let (first, rest) = expr(alloc, levels, spot, tokens)?;
+    if next_in(rest, COLON) {
+        let ((stop, step), rest) = slice(alloc, levels, rest)?;
+        return Ok((IndexItem::Slice(Some(first), stop, step), rest));
+    }
+    Ok((IndexItem::At(first), rest))
+}
+
+/// `:[expr][:[expr]]`: the stop and the step
+#[cycle(parser)]
+#[tactic(auto, unfolding(nd_model::specs::Cells::slice))]
+fn slice<'t>(
+    alloc: Global,
+    levels: u8,
+    tokens: Tokens<'t>,
+) -> Read<'t, (Option<Expr>, Option<Expr>)>
+    ensures { Gives (with_rest bounds_of) result (read kind (slice (inside levels)) (tokens_of tokens.now)) }
+{
+    let (_, rest) = take(tokens, COLON)?;
+    let (stop, rest) = bound(alloc, levels, rest)?;
+    let (step, rest) = step(alloc, levels, rest)?;
+    Ok(((stop, step), rest))
+}
+
+#[cycle(parser)]
+#[tactic(auto, unfolding(nd_model::specs::Cells::bound_in))]
+fn bound<'t>(alloc: Global, levels: u8, tokens: Tokens<'t>) -> Read<'t, Option<Expr>>
+    ensures { Gives (with_rest bound_of) result (read kind (bound_in (inside levels)) (tokens_of tokens.now)) }
+{
+    if next_in(tokens, EXPR) {
+        let (bound, rest) = expr(alloc, levels, Spot::Anywhere, tokens)?;
+        return Ok((Some(bound), rest));
+    }
+    let (_, rest) = tokens.split_at(0);
+    Ok((None, rest))
+}
+
+#[cycle(parser)]
+#[tactic(auto, unfolding(nd_model::specs::Cells::step_in))]
+fn step<'t>(alloc: Global, levels: u8, tokens: Tokens<'t>) -> Read<'t, Option<Expr>>
+    ensures { Gives (with_rest bound_of) result (read kind (step_in (inside levels)) (tokens_of tokens.now)) }
+{
+    if next_in(tokens, COLON) {
+        let (_, rest) = take(tokens, COLON)?;
+        return bound(alloc, levels, rest);
+    }
+    let (_, rest) = tokens.split_at(0);
+    Ok((None, rest))
+}
+
+/// `[elem, ..]`
+#[cycle(parser)]
+fn list<'t>(alloc: Global, levels: u8, tokens: Tokens<'t>) -> Read<'t, Vec<Element>>
+    ensures { Gives (with_rest elements_in) result (read kind (list (under levels)) (tokens_of tokens.now)) }
+{
+    if levels == 0 {
+        return Err(shut(tokens, OPEN_BRACKET, Reason::TooDeep));
+    }
+    listed(alloc, levels - 1, tokens)
+}
+
+#[cycle(parser)]
+fn listed<'t>(alloc: Global, levels: u8, tokens: Tokens<'t>) -> Read<'t, Vec<Element>>
+    ensures { Gives (with_rest elements_in) result (read kind (between OPEN_BRACKET (mapped elements_of (elements (inside levels))) CLOSE_BRACKET) (tokens_of tokens.now)) }
+{
+    let (_, rest) = take(tokens, OPEN_BRACKET)?;
+    let (all, rest) = elements(alloc, levels, rest)?;
+    let (_, rest) = take(rest, CLOSE_BRACKET)?;
+    Ok((all, rest))
+}
+
+/// The elements of a list, perhaps none.
+#[cycle(parser)]
+#[tactic(auto, unfolding(nd_model::specs::Cells::elements))]
+fn elements<'t>(alloc: Global, levels: u8, tokens: Tokens<'t>) -> Read<'t, Vec<Element>>
+    ensures { Gives (with_rest list_of_elements) result (read kind (elements (inside levels)) (tokens_of tokens.now)) }
+{
+    if next_in(tokens, ELEMENT) {
+        return some_elements(alloc, levels, tokens);
+    }
+    let (_, rest) = tokens.split_at(0);
+    Ok((Vec::new(alloc), rest))
+}
+
+#[cycle(parser)]
+fn some_elements<'t>(alloc: Global, levels: u8, tokens: Tokens<'t>) -> Read<'t, Vec<Element>>
+    ensures { Gives (with_rest list_of_elements) result (read kind (separated COMMA_MORE COMMA_LAST (element (inside levels)) (element (inside levels))) (tokens_of tokens.now)) }
+{
+    let (first, rest) = element(alloc, levels, tokens)?;
+    let (mut all, rest) = other_elements(alloc, levels, rest)?;
+    let (_, rest) = last_comma(COMMA_LAST, rest)?;
+    all.insert(0, first)?;
+    Ok((all, rest))
+}
+
+/// Any number of elements, each behind a comma.
+#[cycle(parser)]
+fn other_elements<'t>(alloc: Global, levels: u8, tokens: Tokens<'t>) -> Read<'t, Vec<Element>>
+    ensures { Gives (with_rest list_of_elements) result (read kind (Many COMMA_MORE (λ xs. xs) (behind_comma COMMA_MORE (element (inside levels)))) (tokens_of tokens.now)) }
+{
+    let mut all = Vec::new(alloc);
+    // from the first token on
+    let (_, mut rest) = tokens.split_at(0);
+    'more: while next_in(rest, COMMA_MORE) {
+        let (next, after) = other_element(alloc, levels, rest)?;
+        all.push(next)?;
+        rest = after;
+    }
+    Ok((all, rest))
+}
+
+#[cycle(parser)]
+fn other_element<'t>(alloc: Global, levels: u8, tokens: Tokens<'t>) -> Read<'t, Element>
+    ensures { Gives (with_rest element_of) result (read kind (behind_comma COMMA_MORE (element (inside levels))) (tokens_of tokens.now)) }
+{
+    let (_, rest) = take(tokens, COMMA_MORE)?;
+    element(alloc, levels, rest)
+}
+
+/// An element of a list.
+#[cycle(parser)]
+pub(crate) fn element<'t>(alloc: Global, levels: u8, tokens: Tokens<'t>) -> Read<'t, Element>
+    ensures { Gives (with_rest element_of) result (read kind (element (inside levels)) (tokens_of tokens.now)) }
+{
+    if next_in(tokens, OPEN_BRACKET) {
+        let (elements, rest) = list(alloc, levels, tokens)?;
+        return Ok((Element::Nested(elements), rest));
+    }
+    let (single, rest) = expr(alloc, levels, Spot::Anywhere, tokens)?;
+    Ok((Element::Single(single), rest))
+}

@@ -1,0 +1,17 @@
+use Rattle.std.proofs.Common.{◌≡◌, length}
+use Rattle.nd_model.specs.Grammar.{Many}
+use Rattle.nd_model.specs.Predict.{read}
+use Rattle.nd_model.specs.Kinds.{kind, SUFFIX}
+use Rattle.nd_model.specs.Cells.{under}
+use Rattle.nd_model.specs.Factored.{group}
+use Rattle.nd_tree.specs.Syntax.{index_of}
+use Rattle.nd_tree.specs.Gives.{tokens_of, suffixes_of}
+use Rattle.nd_parse.specs.Readers.{collected, trailing}
+use Rattle.nd_parse.proofs.stmt.trailing.Given as goal
+
+abbrev pub invariant-groups : goal.invariant-groups
+invariant-groups l =
+    read kind (Many SUFFIX (collected (suffixes_of l.before) (index_of l.last)) (group (under l.levels))) (tokens_of l.rest) ≡ read kind (trailing (under l.levels)) (tokens_of l.tokens)
+
+abbrev pub decreases-groups : goal.decreases-groups
+decreases-groups l = length (tokens_of l.rest)

@@ -1,12 +1,8 @@
-//! Tests of the crates below `ndnote`, so that no crate is proved once more for its tests.
+//! Tests of sessions, cells, notebooks and scripts, so that no crate is proved once more for its tests.
 #![tactic(auto)]
 
 #[cfg(test)]
-mod blocks;
-#[cfg(test)]
 mod commands;
-#[cfg(test)]
-mod grammar;
 #[cfg(test)]
 mod notebooks;
 #[cfg(test)]
@@ -17,11 +13,3 @@ mod runs;
 mod scripts;
 #[cfg(test)]
 mod sessions;
-#[cfg(test)]
-mod texts;
-#[cfg(test)]
-mod types;
-#[cfg(test)]
-mod views;
-#[cfg(test)]
-mod words;

@@ -1,5 +1,5 @@
 -- What the nodes of a tree stand for that hold numbers in a row.
-use Rattle.std.proofs.Common.{◌≡◌, List, ◌∷◌, Option, map, refl, ap, ◌∙◌, Vec, Global}
+use Rattle.std.proofs.Common.{◌≡◌, ◌∷◌, Option, map, refl, ap, ◌∙◌, Vec, Global}
 use Rattle.std.specs.Option.{option_map}
 use mathlib.Core.Former.{Count}
 use Rattle.nd_model.specs.Syntax as model

@@ -1,6 +1,6 @@
 -- Parts of rules, as the functions have them.
-use Rattle.std.specs.Prelude.{ℕ, zero, suc, ◌-◌, Bool, false, List, [], ◌∷◌, Option, None, Some}
-use Rattle.nd_model.specs.Grammar.{Gram, Done, One, Then, Or, Shut}
+use Rattle.std.specs.Prelude.{ℕ, zero, suc, List, [], ◌∷◌, Option, None, Some}
+use Rattle.nd_model.specs.Grammar.{Gram, Done, Then, Or, Shut}
 use Rattle.nd_model.specs.Token.{Token}
 use Rattle.nd_model.specs.Calls.{DType}
 use Rattle.nd_model.specs.Syntax.{Expr, Unary, Exprs, Call, Full, NewArray, Convert, BroadcastTo, Absolute, Folded, Load, Fold, Reduce, Accumulate, Method, Reduced, Accumulated, Bound, Omitted, IndexItem}

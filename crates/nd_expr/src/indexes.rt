@@ -3,7 +3,7 @@ ghost use Rattle.std.specs.Prelude.{◌≡◌};
 ghost use Rattle.nd_model.specs.Grammar.{Many};
 ghost use Rattle.nd_model.specs.Kinds.{kind, OPEN_BRACKET, CLOSE_BRACKET, COMMA_MORE, COMMA_LAST};
 ghost use Rattle.nd_model.specs.Predict.{read};
-ghost use Rattle.nd_model.specs.Cells.{FirstItem, LaterItem, under, between, mapped, separated, bound_in, step_in, slice, newaxis, element, elements, elements_of, list, part, item, nothing, contents, index};
+ghost use Rattle.nd_model.specs.Cells.{FirstItem, LaterItem, under, between, mapped, separated, bound_in, step_in, slice, newaxis_name, newaxis, element, elements, elements_of, list, part, item, nothing, contents, index};
 ghost use Rattle.nd_tree.specs.Syntax.{index_of, item_of, bound_of, element_of};
 ghost use Rattle.nd_tree.specs.Gives.{Gives, with_rest, tokens_of, spot_of, items_in, elements_in, list_of_elements, bounds_of, inside};
 ghost use Rattle.nd_tree.specs.Parts.{behind_comma};
@@ -12,7 +12,7 @@ ghost use Rattle.nd_expr.specs.Readers.{items_of_index, no_items};
 use crate::expressions::expr;
 use nd_tree::kinds::{
     CLOSE, CLOSE_BRACKET, COLON, COMMA_LAST, COMMA_MORE, DOT, ELEMENT, ELLIPSIS, EXPR, NEWAXIS,
-    NONE, NP_NEWAXIS, OPEN_BRACKET, OPEN_NONE, QUOTED, next_in,
+    NEWAXIS_CALLED, NONE, NP_NEWAXIS, OPEN_BRACKET, OPEN_NONE, QUOTED, next_in,
 };
 use nd_tree::read::{Read, Reason, Tokens, quoted_of, shut, take};
 use nd_tree::spot::Spot;
@@ -147,6 +147,18 @@ fn item<'t>(alloc: Global, levels: u8, spot: Spot, tokens: Tokens<'t>) -> Read<'
     part(alloc, levels, spot, tokens)
 }
 
+/// `newaxis`, which is not called
+#[tactic(auto, unfolding(nd_model::specs::Cells::newaxis_name))]
+fn newaxis_name<'t>(tokens: Tokens<'t>) -> Read<'t, IndexItem>
+    ensures { Gives (with_rest item_of) result (read kind newaxis_name (tokens_of tokens.now)) }
+{
+    if next_in(tokens, NEWAXIS) {
+        let (_, rest) = take(tokens, NEWAXIS)?;
+        return Ok((IndexItem::NewAxis, rest));
+    }
+    Err(shut(tokens, NEWAXIS_CALLED, Reason::UnknownCall))
+}
+
 /// `np.newaxis`
 #[tactic(auto, unfolding(nd_model::specs::Cells::newaxis))]
 fn newaxis<'t>(tokens: Tokens<'t>) -> Read<'t, IndexItem>
@@ -154,8 +166,7 @@ fn newaxis<'t>(tokens: Tokens<'t>) -> Read<'t, IndexItem>
 {
     let (_, rest) = take(tokens, NP_NEWAXIS)?;
     let (_, rest) = take(rest, DOT)?;
-    let (_, rest) = take(rest, NEWAXIS)?;
-    Ok((IndexItem::NewAxis, rest))
+    newaxis_name(rest)
 }
 
 /// An expression, or a slice that begins with one.

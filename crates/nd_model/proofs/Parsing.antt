@@ -7,6 +7,8 @@ pub mod Answers
 pub mod Below
 pub mod Unique
 pub mod Looks
+pub mod Settled
+pub mod Places
 pub mod Words
 pub mod Targets
 pub mod Alike

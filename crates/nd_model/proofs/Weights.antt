@@ -8,7 +8,7 @@ use Rattle.nd_model.specs.Lexing.{is_end, words_in}
 use Rattle.nd_model.specs.Syntax.{Expr, Items, IndexItem, Listed, Bound, Omitted, Given, Elements, Element, Single, Nested}
 use Rattle.nd_model.specs.Tokens.{tokens_of, tokens_of_index, tokens_of_items, tokens_of_item, tokens_of_bound, tokens_of_step, tokens_of_elements, tokens_of_others, tokens_of_element}
 use Rattle.nd_model.specs.Kinds.{kind_of_word, kind, NAME, NEWAXIS, OPEN, OPEN_NONE, CLOSE, OPEN_BRACKET, CLOSE_BRACKET, COMMA_MORE, COMMA_LAST, COLON, ELLIPSIS, NONE, QUOTED, DOT, NP_NEWAXIS}
-use Rattle.nd_model.specs.Cells.{items_of, elements_of, sliced, between, mapped, some, separated, Spot, Anywhere, FirstItem, LaterItem, Level, Bottom, Under, Inside, enter, name, grouped, bound_in, step_in, slice, newaxis, element, elements, list, part, item, nothing, contents, index}
+use Rattle.nd_model.specs.Cells.{items_of, elements_of, sliced, between, mapped, some, separated, Spot, Anywhere, FirstItem, LaterItem, Level, Bottom, Under, Inside, enter, name, grouped, bound_in, step_in, slice, newaxis_name, newaxis, element, elements, list, part, item, nothing, contents, index}
 use Rattle.nd_model.proofs.Parsing.Sets.{true_false}
 
 -- ---- words
@@ -160,10 +160,14 @@ unfolding slice has
 slice_weighs inside q =
     both slice_tokens (token_weighs COLON (refl, refl)) (both (λ b. slice_tokens b - 1) (bound_weighs inside q) (step_weighs inside q) (λ _ _. omega arith)) (λ _ b. omega arith)
 
+newaxis_name_weighs : Weighs newaxis_name (λ i. tokens_of_item i - 2)
+unfolding newaxis_name has
+newaxis_name_weighs = either (one NEWAXIS _ (λ i. tokens_of_item i - 2) (refl, refl) (λ t. omega arith)) shut
+
 newaxis_weighs : Weighs newaxis tokens_of_item
 unfolding newaxis has
 newaxis_weighs =
-    both tokens_of_item (token_weighs NP_NEWAXIS (refl, refl)) (both (λ i. tokens_of_item i - 1) (token_weighs DOT (refl, refl)) (token_weighs NEWAXIS (refl, refl)) (λ _ _. omega arith)) (λ _ i. omega arith)
+    both tokens_of_item (token_weighs NP_NEWAXIS (refl, refl)) (both (λ i. tokens_of_item i - 1) (token_weighs DOT (refl, refl)) newaxis_name_weighs (λ _ i. omega arith)) (λ _ i. omega arith)
 
 abbrev pub separated_tokens : {A : Type 0} → (A → ℕ) → List A → ℕ
 separated_tokens weight [] = 0

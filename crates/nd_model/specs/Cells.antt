@@ -38,7 +38,7 @@ use Rattle.nd_model.specs.Calls.{Ufunc, Reduction, Accumulation, CumSum, CumProd
 use Rattle.nd_model.specs.Calls as calls
 use Rattle.nd_model.specs.Syntax.{UnaryOp, BinaryOp, Expr, Name, Integer, Truth, Unary, Binary, Called, Item, Attribute, Call, Arange, Filled, Full, NewArray, Convert, BroadcastTo, Minimum, Maximum, Absolute, PythonAbs, Folded, Load, Buffer, Fold, Reduce, Accumulate, Method, Transpose, Reshape, Copy, AsType, ViewAs, Reduced, Accumulated, Axis, DefaultAxis, AllAxes, AtAxis, Exprs, NoExpr, AndExpr, Index, Field, Items, IndexItems, NoItem, AndItem, IndexItem, At, Slice, Ellipsis, NewAxis, Listed, Bound, Omitted, Given, Elements, NoElement, AndElement, Element, Single, Nested, Stmt, Import, Bind, Augment, Assign, AugmentItem, Delete, Print, Save, Line}
 use Rattle.nd_model.specs.Syntax as syntax
-use Rattle.nd_model.specs.Kinds.{NAME, CALLED, NUMPY, NUMPY_CALLED, NEWAXIS, ARANGE, FILL, FULL, ARRAY, BROADCAST, UFUNC, EXTREMUM, ABSOLUTE, LOAD, SAVE, KIND, NO_FUNCTION, KIND_PLAIN, NO_KIND, REDUCE, ACCUMULATE, NO_FOLD, TRANSPOSED, TRANSPOSE, RESHAPE, COPY, CONVERSION, REDUCTION, ACCUMULATION, NO_METHOD, AXIS, AXIS_BOUND, AXIS_CALLED, KEEPDIMS, KEEPDIMS_BOUND, KEEPDIMS_CALLED, DTYPE, DTYPE_BOUND, DTYPE_CALLED, OPERAND, TRUTH, PLACE, SIGN, PLUS, POWER, PRODUCT, SUM, SHIFT, AMPERSAND, CARET, BAR, COMPARISON, OPEN, OPEN_ONE, OPEN_SOME, OPEN_NONE, OPEN_TUPLE, CLOSE, OPEN_BRACKET, CLOSE_BRACKET, COMMA, COMMA_MORE, COMMA_LAST, COMMA_INNER, COMMA_CLOSING, COLON, ELLIPSIS, NONE, QUOTED, ASSIGNMENT, EQUAL, DOT, NP, NP_NO_NEWAXIS, NP_NEWAXIS, NP_SAVE, NP_NO_SAVE, ABS, BUFFER, PRINT, IMPORT, AS, DEL, END, ANY, SUFFIX, EXPR, FIRST_AXIS, ELEMENT, START}
+use Rattle.nd_model.specs.Kinds.{NAME, CALLED, NUMPY, NUMPY_CALLED, NEWAXIS, NEWAXIS_CALLED, ARANGE, FILL, FULL, ARRAY, BROADCAST, UFUNC, EXTREMUM, ABSOLUTE, LOAD, SAVE, KIND, NO_FUNCTION, KIND_PLAIN, NO_KIND, REDUCE, ACCUMULATE, NO_FOLD, TRANSPOSED, TRANSPOSE, RESHAPE, COPY, CONVERSION, REDUCTION, ACCUMULATION, NO_METHOD, AXIS, AXIS_BOUND, AXIS_CALLED, KEEPDIMS, KEEPDIMS_BOUND, KEEPDIMS_CALLED, DTYPE, DTYPE_BOUND, DTYPE_CALLED, OPERAND, TRUTH, PLACE, SIGN, PLUS, POWER, PRODUCT, SUM, SHIFT, AMPERSAND, CARET, BAR, COMPARISON, OPEN, OPEN_ONE, OPEN_SOME, OPEN_NONE, OPEN_TUPLE, CLOSE, OPEN_BRACKET, CLOSE_BRACKET, COMMA, COMMA_MORE, COMMA_LAST, COMMA_INNER, COMMA_CLOSING, COLON, ELLIPSIS, NONE, QUOTED, ASSIGNMENT, EQUAL, DOT, NP, NP_NO_NEWAXIS, NP_NEWAXIS, NP_SAVE, NP_NO_SAVE, ABS, BUFFER, PRINT, IMPORT, AS, DEL, END, ANY, SUFFIX, EXPR, FIRST_AXIS, ELEMENT, START}
 
 -- ---- why a token is refused
 
@@ -317,8 +317,11 @@ step_in inside = Or COLON (Then (λ _ b. b) (token COLON) (bound_in inside)) (Do
 unfoldable pub slice : Inside → Gram Token (Bound × Bound)
 slice inside = Then (λ _ b. b) (token COLON) (Then (λ stop step. (stop, step)) (bound_in inside) (step_in inside))
 
+unfoldable pub newaxis_name : Gram Token IndexItem
+newaxis_name = Or NEWAXIS (One NEWAXIS (λ _. NewAxis)) (Shut NEWAXIS_CALLED unknown_call)
+
 unfoldable pub newaxis : Gram Token IndexItem
-newaxis = Then (λ _ i. i) (token NP_NEWAXIS) (Then (λ _ _. NewAxis) (token DOT) (token NEWAXIS))
+newaxis = Then (λ _ i. i) (token NP_NEWAXIS) (Then (λ _ i. i) (token DOT) newaxis_name)
 
 abbrev pub element : Inside → Gram Token Element
 element inside = Or OPEN_BRACKET (mapped Nested inside.list) (mapped Single (inside.expr Anywhere))

@@ -118,11 +118,6 @@ abbrev pub is_before_name : List ℕ → List Token → Bool
 is_before_name n (a ∷ b ∷ rest) = kind_of_symbol a.word == 19 && is_name n b.word
 is_before_name n ts = false
 
--- the token after the next one is called
-abbrev pub is_call : List Token → Bool
-is_call (a ∷ b ∷ rest) = before_next rest == 2
-is_call ts = false
-
 -- The bracket that is open here, n levels further out, has a comma of its own further on.
 abbrev pub holds_comma : ℕ → List Token → Bool
 holds_comma n [] = false
@@ -142,7 +137,7 @@ refined k rest =
     else (if k == 16 && is_before 13 rest then 37
     else (if k == 12 && is_before 13 rest then 31
     else (if k == 12 && holds_comma 0 rest then 36
-    else (if k == 20 && is_before_name (codes "newaxis") rest && not (is_call rest) then 32
+    else (if k == 20 && is_before_name (codes "newaxis") rest then 32
     else (if k == 20 && is_before_name (codes "save") rest then 35
     else k)))))
 
@@ -347,9 +342,12 @@ NUMPY = plain 43
 abbrev pub NUMPY_CALLED : ℕ
 NUMPY_CALLED = 2 ^ 45
 
--- `newaxis`, where it is not called
+-- `newaxis`, and where it is called
 abbrev pub NEWAXIS : ℕ
 NEWAXIS = plain 49
+
+abbrev pub NEWAXIS_CALLED : ℕ
+NEWAXIS_CALLED = 2 ^ 51
 
 -- ---- names behind `np.`
 

@@ -20,6 +20,7 @@ pub mod Predict
 pub mod Kinds
 pub mod Cells
 pub mod Factored
+pub mod Lookahead
 pub mod Lexing
 pub mod Reading
 pub mod Few

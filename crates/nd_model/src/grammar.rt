@@ -9,6 +9,7 @@ ghost use Rattle.nd_model.specs.Cells.{cell};
 ghost use Rattle.nd_model.specs.Syntax.{Line};
 ghost use Rattle.nd_model.specs.Fault.{ParseFault};
 ghost use Rattle.nd_model.specs.Reading.{reading, IsCell, HasCellFault};
+ghost use Rattle.nd_model.specs.Lookahead.{LookaheadChooses};
 ghost use Rattle.nd_model.specs.Lexing.{AreStatements, FewWords, WholeStatements};
 ghost use Rattle.nd_model.specs.Few.{FewTokens};
 
@@ -47,4 +48,9 @@ pub fn whole_statements()
 /// The statements of a text have together at most as many tokens as the text has bytes.
 pub fn few_tokens()
     ensures { FewTokens }
+{}
+
+/// Wherever the grammar knows one kind of a token it knows all: each may stand there, or is refused for a reason of its own.
+pub fn lookahead_chooses()
+    ensures { LookaheadChooses }
 {}

@@ -1,18 +1,17 @@
 -- What the nodes of a tree stand for that hold other trees in a row.
-use Rattle.std.proofs.Common.{◌≡◌, List, [], ◌∷◌, ◌++◌, Option, None, Some, map, refl, ap, ◌∙◌, Box, Vec, Global}
+use Rattle.std.proofs.Common.{◌≡◌, ◌∷◌, map, refl, ap, ◌∙◌, Box, Vec, Global}
 use mathlib.Core.Former.{Count}
 use Rattle.nd_model.specs.Syntax as model
-use Rattle.nd_model.specs.Cells.{chained, Suffix, with_suffix, suffixed, items_of, elements_of}
+use Rattle.nd_model.specs.Cells.{chained, suffixed, items_of, elements_of}
 use Rattle.nd_tree.specs.declared.tree.Expr.{Expr, Postfix, Postfix', Row_of-Suffix, end_of-Suffix, more_of-Suffix, items-the_row-Suffix, items_hidden-the_row-Suffix-3, Chain, Chain', Row_of-Expr-Chain-1-2, end_of-Expr-Chain-1-2, more_of-Expr-Chain-1-2, items-the_row-Expr-Chain-1-2, items_hidden-the_row-Expr-Chain-1-2-2}
 use Rattle.nd_tree.specs.declared.tree.Suffix as tree_suffix
-use Rattle.nd_tree.specs.declared.tree.Call.{Row_of-Expr, end_of-Expr, more_of-Expr, items-the_row-Expr}
 use Rattle.nd_tree.specs.declared.tree.Index.{Index, Items, Items', Row_of-IndexItem, end_of-IndexItem, more_of-IndexItem, items-the_row-IndexItem, items_hidden-the_row-IndexItem-4}
 use Rattle.nd_tree.specs.declared.tree.IndexItem as tree
 use Rattle.nd_tree.specs.declared.tree.IndexItem.{IndexItem, Row_of-Element, end_of-Element, more_of-Element, items-the_row-Element, items_hidden-the_row-Element-1}
 use Rattle.nd_tree.specs.declared.tree.Element as element
 use Rattle.nd_tree.specs.declared.tree.Element.{Element}
 use Rattle.nd_tree.specs.declared.tree.BinaryOp.{BinaryOp}
-use Rattle.nd_tree.specs.Syntax.{expr_of, operations_in, row_of_suffixes, suffix_of, row_of_exprs, index_of, row_of_items, item_of, bound_of, row_of_elements, element_of}
+use Rattle.nd_tree.specs.Syntax.{expr_of, operations_in, row_of_suffixes, suffix_of, index_of, row_of_items, item_of, row_of_elements, element_of}
 use Rattle.nd_tree.specs.Gives.{operation_of}
 
 -- ---- suffixes
@@ -31,17 +30,6 @@ postfix_is e xs =
     let row = row_of (Postfix e xs) in
     ap (suffixed (expr_of e.value)) (suffixes_are row.0 row.1 ∙ ap (map suffix_of) (items_hidden-the_row-Suffix-3 xs))
 
--- one suffix more
-pub suffixed_push : (e : model.Expr) (done : List Suffix) (x : Suffix) → suffixed e (done ++ x ∷ []) ≡ with_suffix (suffixed e done) x
-suffixed_push e [] x = refl
-suffixed_push e (y ∷ ys) x = suffixed_push (with_suffix e y) ys x
-
--- ---- numbers
-
-numbers_are : (n : _) (row : Row_of-Expr n) → row_of_exprs row ≡ map expr_of (items-the_row-Expr n row)
-numbers_are n end_of-Expr = refl
-numbers_are n (more_of-Expr e es) = ap (λ l. expr_of e ∷ l) (numbers_are _ es)
-
 -- ---- items
 
 items_are : (n : _) (row : Row_of-IndexItem n) → row_of_items row ≡ map item_of (items-the_row-IndexItem n row)
@@ -54,16 +42,6 @@ item_row _ = (_, end_of-IndexItem)
 
 pub index_is : (is : Vec IndexItem Global) → index_of (Items is) ≡ model.Items (items_of (map item_of is.items))
 index_is is = let row = item_row (Items is) in ap (λ l. model.Items (items_of l)) (items_are row.0 row.1 ∙ ap (map item_of) (items_hidden-the_row-IndexItem-4 is))
-
-pub slice_is : (a b c : Option Expr) → item_of (tree.Slice a b c) ≡ model.Slice (bound_of a) (bound_of b) (bound_of c)
-slice_is None None None = refl
-slice_is None None (Some c) = refl
-slice_is None (Some b) None = refl
-slice_is None (Some b) (Some c) = refl
-slice_is (Some a) None None = refl
-slice_is (Some a) None (Some c) = refl
-slice_is (Some a) (Some b) None = refl
-slice_is (Some a) (Some b) (Some c) = refl
 
 -- ---- lists
 

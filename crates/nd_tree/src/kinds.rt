@@ -1,7 +1,7 @@
 //! The kinds of tokens, which are their places in a set.
 ghost use Rattle.std.specs.Prelude.{◌≡◌, ◌<◌, map};
 ghost use Rattle.nd_model.specs.Grammar.{has};
-ghost use Rattle.nd_model.specs.Kinds.{kind_of_symbol, kind_in, keyword_kinds, name_kinds, before_next, is_before, is_name, is_before_name, is_call, holds_comma, refined, kind_of_word, kind_of, kind};
+ghost use Rattle.nd_model.specs.Kinds.{kind_of_symbol, kind_in, keyword_kinds, name_kinds, before_next, is_before, is_name, is_before_name, holds_comma, refined, kind_of_word, kind_of, kind};
 ghost use Rattle.nd_model.specs.Predict.{next_in};
 ghost use Rattle.nd_token.specs.Tokens.{word_of, token_of};
 ghost use Rattle.nd_tree.specs.Gives.{tokens_of};
@@ -118,6 +118,9 @@ pub const NUMPY: u128 = 0b011 << 43;
 pub const NUMPY_CALLED: u128 = 0b100 << 43;
 /// `newaxis`, where it is not called.
 pub const NEWAXIS: u128 = 0b011 << 49;
+
+/// `newaxis`, where it is called.
+pub const NEWAXIS_CALLED: u128 = 1 << 51;
 /// `arange`
 pub const ARANGE: u128 = 0b111 << 46;
 /// `zeros`, `ones`
@@ -386,16 +389,6 @@ fn is_before_name(name: &str, rest: &[Token]) -> bool
     }
 }
 
-/// Whether the token after the next one is called.
-fn is_call(rest: &[Token]) -> bool
-    ensures { result ≡ is_call (tokens_of rest.now) }
-{
-    match rest {
-        [_, _, rest @ ..] => before_next(rest) == 2,
-        _ => false,
-    }
-}
-
 /// Whether the bracket that is open here has a comma of its own further on.
 fn holds_comma(tokens: &[Token]) -> bool
     ensures { result ≡ holds_comma 0 (tokens_of tokens.now) }
@@ -434,7 +427,7 @@ fn refined(symbol: u8, rest: &[Token]) -> u8
         31
     } else if symbol == 12 && holds_comma(rest) {
         36
-    } else if symbol == 20 && is_before_name("newaxis", rest) && !is_call(rest) {
+    } else if symbol == 20 && is_before_name("newaxis", rest) {
         32
     } else if symbol == 20 && is_before_name("save", rest) {
         35

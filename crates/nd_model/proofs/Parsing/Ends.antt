@@ -11,7 +11,7 @@ use Rattle.nd_model.specs.Token.{Word, Name, Keyword, End, Token}
 use Rattle.nd_model.specs.Lexing.{is_end, AreStatements}
 use Rattle.nd_model.specs.Syntax.{Expr, Elements, Stmt, Line}
 use Rattle.nd_model.specs.Kinds.{OPEN, OPEN_ONE, OPEN_SOME, DTYPE, DTYPE_BOUND, name_kinds, keyword_kinds, kind_of_symbol, kind, kind_of_word, END}
-use Rattle.nd_model.specs.Cells.{Level, Bottom, Under, Spot, Anywhere, FirstItem, LaterItem, Length, Number, AxisNumber, name, grouped, bound_in, step_in, slice, newaxis, elements, list, part, item, nothing, contents, index, exprs, quoted, no_lengths, tuple, shape, kind_name, type_name, pair, fields, dtype, typing, only_typing, comma_typing, named_axis, numbered_axis, named_keepdims, only_keepdims, comma_keepdims, options, comma_options, first_axis, third, second, arange, filled, full, new_array, broadcast_to, two, reduce, accumulate, fold, call, function, empty, type_argument, axes, lengths, reduction_options, reduction, accumulation, attribute, method, operand, suffix, postfix, exponent, power, signed, unary, term, sum, shift, band, bxor, bor, comparison, expr, under, module_name, imports, delete, printed, print, saved, save, value, line, lines}
+use Rattle.nd_model.specs.Cells.{Level, Bottom, Under, Spot, Anywhere, FirstItem, LaterItem, Length, Number, AxisNumber, name, grouped, bound_in, step_in, slice, newaxis_name, newaxis, elements, list, part, item, nothing, contents, index, exprs, quoted, no_lengths, tuple, shape, kind_name, type_name, pair, fields, dtype, typing, only_typing, comma_typing, named_axis, numbered_axis, named_keepdims, only_keepdims, comma_keepdims, options, comma_options, first_axis, third, second, arange, filled, full, new_array, broadcast_to, two, reduce, accumulate, fold, call, function, empty, type_argument, axes, lengths, reduction_options, reduction, accumulation, attribute, method, operand, suffix, postfix, exponent, power, signed, unary, term, sum, shift, band, bxor, bor, comparison, expr, under, module_name, imports, delete, printed, print, saved, save, value, line, lines}
 use Rattle.nd_model.specs.Cells as cells
 use Rattle.nd_model.specs.Factored.{bind, place, group, groups, target, assign, stmt, cell}
 use Rattle.nd_model.proofs.Parsing.Sets.{and_true, apart_false}
@@ -105,7 +105,7 @@ safe_nothing Bottom = refl
 safe_nothing (Under l e u s) = refl
 
 safe_index : (i : Level) → IsSafe i → avoids ENDS (index i) ≡ true
-unfolding index contents item part slice bound_in step_in newaxis
+unfolding index contents item part slice bound_in step_in newaxis_name newaxis
 safe_index Bottom s = refl
 safe_index (Under l e u s) (below j p q r) = rw (p Anywhere, p FirstItem, p LaterItem, safe_list l j, safe_nothing l) refl
 

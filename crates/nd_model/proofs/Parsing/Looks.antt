@@ -6,7 +6,7 @@ use Rattle.nd_model.specs.Predict.{Look, look}
 use Rattle.nd_model.specs.Token.{Token}
 use Rattle.nd_model.specs.Syntax.{Expr, Elements, Stmt}
 use Rattle.nd_model.specs.Kinds.{CALLED, PLUS, SIGN, OPEN, OPEN_NONE, OPEN_TUPLE, ABS, BUFFER, NP, QUOTED, OPEN_BRACKET, DOT, ANY_NAME, DTYPE, DTYPE_BOUND, AXIS, AXIS_BOUND, KEEPDIMS_BOUND, FIRST_AXIS, SUFFIX, NP_SAVE, POWER, PRODUCT, SUM, SHIFT, AMPERSAND, CARET, BAR, COMPARISON, COMMA, ASSIGNMENT, EXPR, PLACE_START, START, ANY}
-use Rattle.nd_model.specs.Cells.{Spot, Anywhere, Statement, Target, FirstItem, LaterItem, Length, Number, AxisNumber, leaves, modules, openings, Level, Bottom, Under, Inside, name, grouped, bound_in, step_in, slice, newaxis, elements, list, part, item, nothing, contents, index, exprs, quoted, no_lengths, tuple, shape, kind_name, type_name, pair, fields, dtype, typing, only_typing, comma_typing, named_axis, numbered_axis, named_keepdims, only_keepdims, comma_keepdims, options, comma_options, first_axis, third, second, arange, filled, full, new_array, broadcast_to, two, reduce, accumulate, fold, call, function, empty, type_argument, axes, lengths, reduction_options, reduction, accumulation, attribute, method, operand, suffix, postfix, exponent, power, signed, unary, term, sum, shift, band, bxor, bor, comparison, expr, under, module_name, imports, delete, printed, print, saved, save, value, line, lines}
+use Rattle.nd_model.specs.Cells.{Spot, Anywhere, Statement, Target, FirstItem, LaterItem, Length, Number, AxisNumber, leaves, modules, openings, Level, Bottom, Under, Inside, name, grouped, bound_in, step_in, slice, newaxis_name, newaxis, elements, list, part, item, nothing, contents, index, exprs, quoted, no_lengths, tuple, shape, kind_name, type_name, pair, fields, dtype, typing, only_typing, comma_typing, named_axis, numbered_axis, named_keepdims, only_keepdims, comma_keepdims, options, comma_options, first_axis, third, second, arange, filled, full, new_array, broadcast_to, two, reduce, accumulate, fold, call, function, empty, type_argument, axes, lengths, reduction_options, reduction, accumulation, attribute, method, operand, suffix, postfix, exponent, power, signed, unary, term, sum, shift, band, bxor, bor, comparison, expr, under, module_name, imports, delete, printed, print, saved, save, value, line, lines}
 use Rattle.nd_model.specs.Factored.{bind, place, group, groups, target, assign, stmt, cell}
 
 -- what begins with a token of `first`, and may go on with one of `ext`
@@ -40,10 +40,10 @@ pub data IsKnown : Level → Type 1 where
   below : {l : Level} {e : Spot → Gram Token Expr} {u : Gram Token Expr} {s : Gram Token Elements} → IsKnown l
       → ((s : Spot) → look (e s) ≡ seen (exprs_at s) MORE) → look u ≡ seen EXPR UNARY_MORE → look s ≡ seen OPEN_BRACKET 0 → IsKnown (Under l e u s)
 
-record IsKnownInside (inside : Inside) : Type 1 where
-  level : IsKnown inside.level
-  expr : (s : Spot) → look (inside.expr s) ≡ seen (exprs_at s) MORE
-  list : look inside.list ≡ seen OPEN_BRACKET 0
+pub record IsKnownInside (inside : Inside) : Type 1 where
+  pub level : IsKnown inside.level
+  pub expr : (s : Spot) → look (inside.expr s) ≡ seen (exprs_at s) MORE
+  pub list : look inside.list ≡ seen OPEN_BRACKET 0
 
 pub look_grouped : (opening : ℕ) (i : Level) → IsKnown i → look (grouped opening i) ≡ seen opening 0
 unfolding grouped
@@ -63,7 +63,7 @@ look_nothing Bottom = refl
 look_nothing (Under l e u s) = refl
 
 pub look_index : (i : Level) → IsKnown i → look (index i) ≡ seen OPEN_BRACKET 0
-unfolding index contents item part slice bound_in step_in newaxis
+unfolding index contents item part slice bound_in step_in newaxis_name newaxis
 look_index Bottom k = refl
 look_index (Under l e u s) (below j p q r) = rw (p Anywhere, p FirstItem, p LaterItem, look_list l j, look_nothing l) refl
 
@@ -73,137 +73,137 @@ pub look_exprs : (s : Spot) (f e : Gram Token Expr) → look f ≡ seen (exprs_a
 unfolding exprs
 look_exprs s f e p q = rw (p, q) refl
 
-look_quoted : (i : Level) → look (quoted i) ≡ seen OPEN 0
+pub look_quoted : (i : Level) → look (quoted i) ≡ seen OPEN 0
 unfolding quoted
 look_quoted Bottom = refl
 look_quoted (Under l e u s) = refl
 
-look_no_lengths : (i : Level) → look (no_lengths i) ≡ seen OPEN_NONE 0
+pub look_no_lengths : (i : Level) → look (no_lengths i) ≡ seen OPEN_NONE 0
 unfolding no_lengths
 look_no_lengths Bottom = refl
 look_no_lengths (Under l e u s) = refl
 
-look_tuple : (i : Level) → IsKnown i → look (tuple i) ≡ seen OPEN_TUPLE 0
+pub look_tuple : (i : Level) → IsKnown i → look (tuple i) ≡ seen OPEN_TUPLE 0
 unfolding tuple
 look_tuple Bottom k = refl
 look_tuple (Under l e u s) (below j p q r) = rw (p Anywhere) refl
 
-look_shape : (inside : Inside) → IsKnownInside inside → look (shape inside) ≡ seen EXPR MORE
+pub look_shape : (inside : Inside) → IsKnownInside inside → look (shape inside) ≡ seen EXPR MORE
 unfolding shape
 look_shape inside k = rw (k.expr Length, look_tuple inside.level k.level, look_no_lengths inside.level) refl
 
 -- ---- types
 
-look_type_name : look type_name ≡ seen (NP + QUOTED) 0
+pub look_type_name : look type_name ≡ seen (NP + QUOTED) 0
 unfolding type_name kind_name
 look_type_name = refl
 
-look_pair : (i : Level) → look (pair i) ≡ seen OPEN 0
+pub look_pair : (i : Level) → look (pair i) ≡ seen OPEN 0
 unfolding pair
 look_pair Bottom = refl
 look_pair (Under l e u s) = rw look_type_name refl
 
-look_fields : (i : Level) → look (fields i) ≡ seen OPEN_BRACKET 0
+pub look_fields : (i : Level) → look (fields i) ≡ seen OPEN_BRACKET 0
 unfolding fields
 look_fields Bottom = refl
 look_fields (Under l e u s) = rw (look_pair l) refl
 
-look_dtype : (i : Level) → look (dtype i) ≡ seen (OPEN_BRACKET + NP + QUOTED) 0
+pub look_dtype : (i : Level) → look (dtype i) ≡ seen (OPEN_BRACKET + NP + QUOTED) 0
 unfolding dtype
 look_dtype i = rw (look_fields i, look_type_name) refl
 
-look_typing : (key : ℕ) (i : Level) → look (typing key i) ≡ seen key 0
+pub look_typing : (key : ℕ) (i : Level) → look (typing key i) ≡ seen key 0
 unfolding typing
 look_typing key i = rw (look_dtype i) refl
 
-look_comma_typing : (i : Level) → look (comma_typing i) ≡ perhaps COMMA COMMA
+pub look_comma_typing : (i : Level) → look (comma_typing i) ≡ perhaps COMMA COMMA
 unfolding comma_typing only_typing
 look_comma_typing i = rw (look_typing DTYPE i) refl
 
 -- ---- axes
 
-look_named_axis : (key : ℕ) (inside : Inside) → IsKnownInside inside → look (named_axis key inside) ≡ seen key MORE
+pub look_named_axis : (key : ℕ) (inside : Inside) → IsKnownInside inside → look (named_axis key inside) ≡ seen key MORE
 unfolding named_axis
 look_named_axis key inside k = rw (k.expr Anywhere) refl
 
-look_numbered_axis : (inside : Inside) → IsKnownInside inside → look (numbered_axis inside) ≡ seen AXIS MORE
+pub look_numbered_axis : (inside : Inside) → IsKnownInside inside → look (numbered_axis inside) ≡ seen AXIS MORE
 unfolding numbered_axis
 look_numbered_axis inside k = rw (k.expr Anywhere) refl
 
-look_comma_keepdims : look comma_keepdims ≡ perhaps COMMA COMMA
+pub look_comma_keepdims : look comma_keepdims ≡ perhaps COMMA COMMA
 unfolding comma_keepdims only_keepdims named_keepdims
 look_comma_keepdims = refl
 
-look_comma_options : (inside : Inside) → IsKnownInside inside → look (comma_options inside) ≡ perhaps COMMA (MORE + COMMA)
+pub look_comma_options : (inside : Inside) → IsKnownInside inside → look (comma_options inside) ≡ perhaps COMMA (MORE + COMMA)
 unfolding comma_options options only_keepdims named_keepdims
 look_comma_options inside k = rw (look_named_axis AXIS inside k, look_comma_keepdims) refl
 
-look_reduction_options : (inside : Inside) → IsKnownInside inside → look (reduction_options inside) ≡ perhaps (FIRST_AXIS + AXIS_BOUND + KEEPDIMS_BOUND) (bit_or (FIRST_AXIS + AXIS_BOUND + KEEPDIMS_BOUND) (MORE + COMMA))
+pub look_reduction_options : (inside : Inside) → IsKnownInside inside → look (reduction_options inside) ≡ perhaps (FIRST_AXIS + AXIS_BOUND + KEEPDIMS_BOUND) (bit_or (FIRST_AXIS + AXIS_BOUND + KEEPDIMS_BOUND) (MORE + COMMA))
 unfolding reduction_options first_axis named_keepdims
 look_reduction_options inside k = rw (look_named_axis AXIS_BOUND inside k, look_comma_keepdims, k.expr AxisNumber) refl
 
 -- ---- functions
 
-look_third : (inside : Inside) → IsKnownInside inside → look (third inside) ≡ perhaps COMMA (COMMA + MORE)
+pub look_third : (inside : Inside) → IsKnownInside inside → look (third inside) ≡ perhaps COMMA (COMMA + MORE)
 unfolding third
 look_third inside k = rw (look_typing DTYPE_BOUND inside.level, look_comma_typing inside.level, k.expr Number) refl
 
-look_second : (inside : Inside) → IsKnownInside inside → look (second inside) ≡ perhaps COMMA (COMMA + MORE)
+pub look_second : (inside : Inside) → IsKnownInside inside → look (second inside) ≡ perhaps COMMA (COMMA + MORE)
 unfolding second
 look_second inside k = rw (look_typing DTYPE_BOUND inside.level, look_third inside k, k.expr Number) refl
 
 module _ (l : Level) (e : Spot → Gram Token Expr) (u : Gram Token Expr) (s : Gram Token Elements) where
-  abbrev here : Inside
+  abbrev pub here : Inside
   here = record { level = l; expr = e; unary = u; list = s }
 
-  known_here : IsKnown (Under l e u s) → IsKnownInside here
+  pub known_here : IsKnown (Under l e u s) → IsKnownInside here
   known_here (below j p q r) = record { level = j; expr = p; list = r }
 
-look_arange : (i : Level) → IsKnown i → look (arange i) ≡ seen OPEN 0
+pub look_arange : (i : Level) → IsKnown i → look (arange i) ≡ seen OPEN 0
 unfolding arange
 look_arange Bottom k = refl
 look_arange (Under l e u s) (below j p q r) = rw (p Anywhere, look_second (here l e u s) (known_here l e u s (below j p q r))) refl
 
-look_filled : (i : Level) → IsKnown i → look (filled i) ≡ seen OPEN 0
+pub look_filled : (i : Level) → IsKnown i → look (filled i) ≡ seen OPEN 0
 unfolding filled
 look_filled Bottom k = refl
 look_filled (Under l e u s) (below j p q r) = rw (look_shape (here l e u s) (known_here l e u s (below j p q r)), look_comma_typing l) refl
 
-look_full : (i : Level) → IsKnown i → look (full i) ≡ seen OPEN 0
+pub look_full : (i : Level) → IsKnown i → look (full i) ≡ seen OPEN 0
 unfolding full
 look_full Bottom k = refl
 look_full (Under l e u s) (below j p q r) = rw (look_shape (here l e u s) (known_here l e u s (below j p q r)), p Anywhere, look_comma_typing l) refl
 
-look_new_array : (i : Level) → IsKnown i → look (new_array i) ≡ seen OPEN 0
+pub look_new_array : (i : Level) → IsKnown i → look (new_array i) ≡ seen OPEN 0
 unfolding new_array
 look_new_array Bottom k = refl
 look_new_array (Under l e u s) (below j p q r) = rw (p Anywhere, r, look_comma_typing l) refl
 
-look_broadcast_to : (i : Level) → IsKnown i → look (broadcast_to i) ≡ seen OPEN 0
+pub look_broadcast_to : (i : Level) → IsKnown i → look (broadcast_to i) ≡ seen OPEN 0
 unfolding broadcast_to
 look_broadcast_to Bottom k = refl
 look_broadcast_to (Under l e u s) (below j p q r) = rw (p Anywhere, look_shape (here l e u s) (known_here l e u s (below j p q r))) refl
 
-look_two : (i : Level) → IsKnown i → look (two i) ≡ seen OPEN 0
+pub look_two : (i : Level) → IsKnown i → look (two i) ≡ seen OPEN 0
 unfolding two
 look_two Bottom k = refl
 look_two (Under l e u s) (below j p q r) = rw (p Anywhere) refl
 
-look_reduce : (i : Level) → IsKnown i → look (reduce i) ≡ seen OPEN 0
+pub look_reduce : (i : Level) → IsKnown i → look (reduce i) ≡ seen OPEN 0
 unfolding reduce
 look_reduce Bottom k = refl
 look_reduce (Under l e u s) (below j p q r) = rw (p Anywhere, look_comma_options (here l e u s) (known_here l e u s (below j p q r))) refl
 
-look_accumulate : (i : Level) → IsKnown i → look (accumulate i) ≡ seen OPEN 0
+pub look_accumulate : (i : Level) → IsKnown i → look (accumulate i) ≡ seen OPEN 0
 unfolding accumulate
 look_accumulate Bottom k = refl
 look_accumulate (Under l e u s) (below j p q r) = rw (p Anywhere, look_numbered_axis (here l e u s) (known_here l e u s (below j p q r))) refl
 
-look_fold : (i : Level) → IsKnown i → look (fold i) ≡ seen DOT 0
+pub look_fold : (i : Level) → IsKnown i → look (fold i) ≡ seen DOT 0
 unfolding fold
 look_fold i k = rw (look_reduce i k, look_accumulate i k) refl
 
-look_call : (i : Level) → IsKnown i → look (call i) ≡ seen (ANY_NAME + ABS) 0
+pub look_call : (i : Level) → IsKnown i → look (call i) ≡ seen (ANY_NAME + ABS) 0
 unfolding call
 look_call i k =
     rw (look_arange i k, look_filled i k, look_full i k, look_new_array i k, look_broadcast_to i k, look_grouped OPEN i k, look_two i k, look_fold i k, look_quoted i) refl
@@ -214,32 +214,32 @@ look_function np i k = rw (look_call i k) refl
 
 -- ---- methods
 
-look_empty : (i : Level) → look (empty i) ≡ seen OPEN 0
+pub look_empty : (i : Level) → look (empty i) ≡ seen OPEN 0
 unfolding empty
 look_empty Bottom = refl
 look_empty (Under l e u s) = refl
 
-look_type_argument : (i : Level) → look (type_argument i) ≡ seen OPEN 0
+pub look_type_argument : (i : Level) → look (type_argument i) ≡ seen OPEN 0
 unfolding type_argument
 look_type_argument Bottom = refl
 look_type_argument (Under l e u s) = rw (look_dtype l) refl
 
-look_axes : (i : Level) → IsKnown i → look (axes i) ≡ seen OPEN 0
+pub look_axes : (i : Level) → IsKnown i → look (axes i) ≡ seen OPEN 0
 unfolding axes
 look_axes Bottom k = refl
 look_axes (Under l e u s) (below j p q r) = rw (look_exprs Anywhere (e Anywhere) (e Anywhere) (p Anywhere) (p Anywhere)) refl
 
-look_lengths : (i : Level) → IsKnown i → look (lengths i) ≡ seen OPEN 0
+pub look_lengths : (i : Level) → IsKnown i → look (lengths i) ≡ seen OPEN 0
 unfolding lengths
 look_lengths Bottom k = refl
 look_lengths (Under l e u s) (below j p q r) = rw (look_exprs Length (e Length) (e Anywhere) (p Length) (p Anywhere), look_tuple l j, look_no_lengths l) refl
 
-look_reduction : (i : Level) → IsKnown i → look (reduction i) ≡ seen OPEN 0
+pub look_reduction : (i : Level) → IsKnown i → look (reduction i) ≡ seen OPEN 0
 unfolding reduction
 look_reduction Bottom k = refl
 look_reduction (Under l e u s) (below j p q r) = rw (look_reduction_options (here l e u s) (known_here l e u s (below j p q r))) refl
 
-look_accumulation : (i : Level) → IsKnown i → look (accumulation i) ≡ seen OPEN 0
+pub look_accumulation : (i : Level) → IsKnown i → look (accumulation i) ≡ seen OPEN 0
 unfolding accumulation
 look_accumulation Bottom k = refl
 look_accumulation (Under l e u s) (below j p q r) = rw (look_numbered_axis (here l e u s) (known_here l e u s (below j p q r))) refl
@@ -343,10 +343,14 @@ unfolding printed
 look_printed Bottom k = refl
 look_printed (Under l e u s) (below j p q r) = rw (look_exprs Anywhere (e Anywhere) (e Anywhere) (p Anywhere) (p Anywhere)) refl
 
+pub look_saved : (i : Level) → IsKnown i → look (saved i) ≡ seen OPEN 0
+unfolding saved
+look_saved Bottom k = refl
+look_saved (Under l e u s) (below j p q r) = rw (p Anywhere) refl
+
 pub look_save : (i : Level) → IsKnown i → look (save i) ≡ seen NP_SAVE 0
-unfolding save saved
-look_save Bottom k = refl
-look_save (Under l e u s) (below j p q r) = rw (p Anywhere) refl
+unfolding save
+look_save i k = rw (look_saved i k) refl
 
 pub look_group : (i : Level) → IsKnown i → look (group i) ≡ seen SUFFIX 0
 unfolding group

@@ -5,12 +5,12 @@ use Rattle.std.proofs.lemmas.Bool.{eqb-true, eqb-false, ltb-true}
 use Rattle.nd_model.specs.Grammar.{has}
 use Rattle.nd_model.specs.Predict.{next_in}
 use Rattle.nd_model.specs.Token.{Word, Name, Keyword, Token}
-use Rattle.nd_model.specs.Kinds.{kind_of_symbol, kind_in, keyword_kinds, name_kinds, before, before_next, is_before, is_before_name, is_call, holds_comma, refined, kind_of_word, kind_of, kind, NAME, BOUND, OPERAND, PLACE, ASSIGNMENT, SUFFIX}
+use Rattle.nd_model.specs.Kinds.{kind_of_symbol, kind_in, keyword_kinds, name_kinds, before, before_next, is_before, is_before_name, holds_comma, refined, kind_of_word, kind_of, kind, NAME, BOUND, OPERAND, PLACE, ASSIGNMENT, SUFFIX}
 use Rattle.nd_model.proofs.Parsing.Sets.{which, and_true, not_not}
 
 -- ---- tests of kinds
 
-or_second : (a b : Bool) → a ≡ false → (a || b) ≡ true → b ≡ true
+pub or_second : (a b : Bool) → a ≡ false → (a || b) ≡ true → b ≡ true
 or_second true b p h = absurd cc
 or_second false b p h = h
 
@@ -90,19 +90,16 @@ by_both f w rest h =
     at_kind : (k n m : ℕ) (b c : Bool) → f n m ≡ true → (k == n && b) ≡ c → c ≡ true → f k m ≡ true
     at_kind k n m b c h e t = let s : k ≡ n = eqb-true _ _ (and_true _ _ (e ∙ t)).0 in rw s h
 
-    at_kind_if : (k n m : ℕ) (a b c : Bool) → f n m ≡ true → (k == n && a && b) ≡ c → c ≡ true → f k m ≡ true
-    at_kind_if k n m a b c h e t = let s : k ≡ n = eqb-true _ _ (and_true _ _ (and_true _ _ (e ∙ t)).0).0 in rw s h
-
     go : (k : ℕ) → f k k ≡ true → f 16 30 ≡ true → f 16 37 ≡ true → f 12 31 ≡ true → f 12 36 ≡ true → f 20 32 ≡ true → f 20 35 ≡ true → f k (refined k rest) ≡ true
     go k o a b c d x y =
         chosen_by (λ m. f k m ≡ true) (k == 16 && is_before 15 rest) 30 _ (at_kind k 16 30 _ _ a refl)
         (chosen_by (λ m. f k m ≡ true) (k == 16 && is_before 13 rest) 37 _ (at_kind k 16 37 _ _ b refl)
         (chosen_by (λ m. f k m ≡ true) (k == 12 && is_before 13 rest) 31 _ (at_kind k 12 31 _ _ c refl)
         (chosen_by (λ m. f k m ≡ true) (k == 12 && holds_comma 0 rest) 36 _ (at_kind k 12 36 _ _ d refl)
-        (chosen_by (λ m. f k m ≡ true) (k == 20 && is_before_name (codes "newaxis") rest && not (is_call rest)) 32 _ (at_kind_if k 20 32 _ _ _ x refl)
+        (chosen_by (λ m. f k m ≡ true) (k == 20 && is_before_name (codes "newaxis") rest) 32 _ (at_kind k 20 32 _ _ x refl)
         (chosen_by (λ m. f k m ≡ true) (k == 20 && is_before_name (codes "save") rest) 35 _ (at_kind k 20 35 _ _ y refl) o)))))
 
-by_before : (P : ℕ → Type 0) (rest : List Token) → P 0 → P 1 → P 2 → P (before_next rest)
+pub by_before : (P : ℕ → Type 0) (rest : List Token) → P 0 → P 1 → P 2 → P (before_next rest)
 by_before P [] p0 p1 p2 = p0
 by_before P (t ∷ rest) p0 p1 p2 =
     by_test P (kind_of_symbol t.word == 17 || kind_of_symbol t.word == 18) 1 _ p1 (by_test P (kind_of_symbol t.word == 12) 2 0 p2 p0)

@@ -140,12 +140,18 @@ fn parts_from_the_end(rt: HostRuntime) -> Result<(), Fail> {
 }
 
 #[test]
-fn parts_that_do_not_matter(rt: HostRuntime) -> Result<(), Fail> {
+fn strides_of_no_elements(rt: HostRuntime) -> Result<(), Fail> {
     let alloc = rt.alloc();
     let none = held(alloc, Kind::I16, &[0], &[9], 99, 0)?;
     assert_eq!(rt; none.strides(), [0].as_slice());
     assert_eq!(rt; none.offset(), 0);
     assert!(rt; none.runs().next().is_none());
+    Ok(())
+}
+
+#[test]
+fn stride_of_one_element(rt: HostRuntime) -> Result<(), Fail> {
+    let alloc = rt.alloc();
     let one = held(alloc, Kind::I16, &[1], &[7], 2, 6)?;
     assert_eq!(rt; one.strides(), [0].as_slice());
     assert_eq!(rt; one.offset(), 2);
@@ -232,20 +238,42 @@ fn parts_with_too_many_elements(rt: HostRuntime) -> Result<(), Fail> {
     Ok(())
 }
 
+// The view has the fields of the view of these parts.
+fn has_parts(
+    alloc: Global,
+    view: &View,
+    kind: Kind,
+    strides: &[i64],
+    offset: u64,
+    len: u64,
+) -> Result<bool, Fail> {
+    let made = held(alloc, kind, view.shape(), strides, offset, len)?;
+    Ok(view.is_same(&made))
+}
+
 #[test]
 fn equal_views(rt: HostRuntime) -> Result<(), Fail> {
     let alloc = rt.alloc();
     let one = View::contiguous(alloc, words(), &[1])?;
-    let same = held(alloc, Kind::I64, &[1], &[7], 0, 8)?;
-    assert!(rt; one.is_same(&same));
-    let apart = held(alloc, Kind::I64, &[1], &[7], 8, 16)?;
-    assert!(rt; !one.is_same(&apart));
-    let other = held(alloc, Kind::U64, &[1], &[7], 0, 8)?;
-    assert!(rt; !one.is_same(&other));
+    assert!(rt; has_parts(alloc, &one, Kind::I64, &[7], 0, 8)?);
+    assert!(rt; !has_parts(alloc, &one, Kind::I64, &[7], 8, 16)?);
+    assert!(rt; !has_parts(alloc, &one, Kind::U64, &[7], 0, 8)?);
+    Ok(())
+}
+
+#[test]
+fn views_without_elements_are_equal(rt: HostRuntime) -> Result<(), Fail> {
+    let alloc = rt.alloc();
+    let none = View::contiguous(alloc, words(), &[2, 0])?;
+    assert!(rt; has_parts(alloc, &none, Kind::I64, &[3, -5], 11, 0)?);
+    Ok(())
+}
+
+#[test]
+fn views_of_other_shapes(rt: HostRuntime) -> Result<(), Fail> {
+    let alloc = rt.alloc();
+    let one = View::contiguous(alloc, words(), &[1])?;
     let lone = View::contiguous(alloc, words(), &[1, 1])?;
     assert!(rt; !one.is_same(&lone));
-    let none = View::contiguous(alloc, words(), &[2, 0])?;
-    let empty = held(alloc, Kind::I64, &[2, 0], &[3, -5], 11, 0)?;
-    assert!(rt; none.is_same(&empty));
     Ok(())
 }

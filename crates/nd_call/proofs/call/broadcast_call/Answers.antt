@@ -1,0 +1,5 @@
+use Rattle.nd_call.proofs.Nodes.{broadcast_is}
+use Rattle.nd_call.proofs.call.broadcast_call.Goals as goal
+
+pub returns : goal.returns
+returns c = broadcast_is c.args.value c.args.shape

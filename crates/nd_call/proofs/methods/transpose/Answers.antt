@@ -1,0 +1,5 @@
+use Rattle.nd_call.proofs.Nodes.{transpose_is}
+use Rattle.nd_call.proofs.methods.transpose.Goals as goal
+
+pub returns : goal.returns
+returns c = transpose_is c.args.axes

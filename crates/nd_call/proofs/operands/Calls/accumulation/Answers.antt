@@ -1,0 +1,12 @@
+use Rattle.nd_model.specs.Cells.{accumulation}
+use Rattle.nd_tree.specs.Gives.{tokens_of}
+use Rattle.nd_tree.proofs.Levels.{enter_shut}
+use Rattle.nd_call.proofs.Steps as steps
+use Rattle.nd_call.proofs.operands.Calls.accumulation.Goals as goal
+
+pub returns-then-levels-eq0 : goal.returns-then-levels-eq0
+unfolding accumulation
+returns-then-levels-eq0 g c = rw c.shut.ensures (enter_shut c.args.levels _ _ c.args.tokens.now c.if-levels-eq0.true)
+
+pub returns : goal.returns
+returns g c = rw (steps.accumulation_is c.args.levels (tokens_of c.args.tokens.now) c.if-levels-eq0.false) c.accumulation_in.ensures

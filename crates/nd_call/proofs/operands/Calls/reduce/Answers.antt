@@ -1,0 +1,12 @@
+use Rattle.nd_model.specs.Cells.{reduce}
+use Rattle.nd_tree.specs.Gives.{tokens_of}
+use Rattle.nd_tree.proofs.Levels.{enter_shut}
+use Rattle.nd_call.proofs.Steps as steps
+use Rattle.nd_call.proofs.operands.Calls.reduce.Goals as goal
+
+pub returns-then-levels-eq0 : goal.returns-then-levels-eq0
+unfolding reduce
+returns-then-levels-eq0 g c = rw c.shut.ensures (enter_shut c.args.levels _ _ c.args.tokens.now c.if-levels-eq0.true)
+
+pub returns : goal.returns
+returns g c = rw (steps.reduce_is c.args.levels (tokens_of c.args.tokens.now) c.if-levels-eq0.false) c.reduce_in.ensures

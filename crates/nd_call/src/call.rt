@@ -1,0 +1,399 @@
+//! Calls of functions.
+ghost use Rattle.std.specs.Prelude.{◌≡◌, ◌+◌};
+ghost use Rattle.nd_model.specs.Kinds.{kind, OPEN, CLOSE};
+ghost use Rattle.nd_model.specs.Predict.{read};
+ghost use Rattle.nd_model.specs.Syntax.{Filled, Full, BroadcastTo};
+ghost use Rattle.nd_model.specs.Cells.{under, between, extremum_named, ranged, second, third, arange, filled, full, new_array, broadcast_to, two, reduce, accumulate, fold, call, function};
+ghost use Rattle.nd_tree.specs.Calls.{fill_of};
+ghost use Rattle.nd_tree.specs.Syntax.{expr_of, call_of, fold_of};
+ghost use Rattle.nd_tree.specs.Gives.{Gives, with_rest, tokens_of, inside, exprs_of, typing_of, two_of, filled_of, second_of, third_of};
+ghost use Rattle.nd_rule.specs.Readers.{Operands};
+ghost use Rattle.nd_call.specs.Readers.{numbers, other_call, arange_body, second_number, third_number, filled_body, full_body, new_array_body, broadcast_to_body, two_body, reduce_body, accumulate_body};
+
+use crate::operands::Calls;
+use nd_tree::kinds::{
+    ABSOLUTE, ACCUMULATE, ARANGE, ARRAY, BROADCAST, CLOSE, COMMA, DOT, DTYPE_BOUND, EXTREMUM, FILL,
+    FULL, KIND, LOAD, NO_FOLD, NO_FUNCTION, OPEN, REDUCE, UFUNC, next_in,
+};
+use nd_tree::read::{Read, Reason, Tokens, shut, take, text_of};
+use nd_tree::spot::Spot;
+use nd_tree::types::{comma_typing, quoted, typing};
+use nd_tree::{Call, DType, Expr, Fill, Fold, fill_named, kind_named, ufunc_named};
+
+impl<'f, F: for<'t> Fn(u8, Spot, Tokens<'t>) -> Read<'t, Expr>> Calls<'f, F> {
+    /// `np.` and a call, where `np` is of the set
+    #[tactic(auto, unfolding(nd_model::specs::Cells::function))]
+    pub(crate) fn function<'t>(&self, levels: u8, np: u128, tokens: Tokens<'t>) -> Read<'t, Expr>
+        requires { Operands F.Fn self.now.rules.operand.now levels }
+        ensures { Gives (with_rest expr_of) result (read kind (function np (under levels)) (tokens_of tokens.now)) }
+    {
+        let (_, rest) = take(tokens, np)?;
+        let (_, rest) = take(rest, DOT)?;
+        let (call, rest) = self.call(levels, rest)?;
+        Ok((Expr::Call(Box::new(self.rules.alloc, call)?), rest))
+    }
+
+    /// What stands behind `np.`.
+    #[tactic(auto, unfolding(nd_model::specs::Cells::call))]
+    fn call<'t>(&self, levels: u8, tokens: Tokens<'t>) -> Read<'t, Call>
+        requires { Operands F.Fn self.now.rules.operand.now levels }
+        ensures { Gives (with_rest call_of) result (read kind (call (under levels)) (tokens_of tokens.now)) }
+    {
+        if next_in(tokens, ARANGE) {
+            let (_, rest) = take(tokens, ARANGE)?;
+            return self.arange(levels, rest);
+        }
+        if next_in(tokens, FILL) {
+            let (name, rest) = take(tokens, FILL)?;
+            let ((shape, dtype), rest) = self.filled(levels, rest)?;
+            return Ok((filled_call(fill_named(text_of(name)), shape, dtype), rest));
+        }
+        if next_in(tokens, FULL) {
+            let (_, rest) = take(tokens, FULL)?;
+            return self.full(levels, rest);
+        }
+        if next_in(tokens, ARRAY) {
+            let (_, rest) = take(tokens, ARRAY)?;
+            return self.new_array(levels, rest);
+        }
+        if next_in(tokens, BROADCAST) {
+            let (_, rest) = take(tokens, BROADCAST)?;
+            return self.broadcast_to(levels, rest);
+        }
+        self.other_call(levels, tokens)
+    }
+
+    fn other_call<'t>(&self, levels: u8, tokens: Tokens<'t>) -> Read<'t, Call>
+        requires { Operands F.Fn self.now.rules.operand.now levels }
+        ensures { Gives (with_rest call_of) result (read kind (other_call (under levels)) (tokens_of tokens.now)) }
+    {
+        if next_in(tokens, KIND) {
+            let (name, rest) = take(tokens, KIND)?;
+            let (number, rest) = self.rules.grouped(levels, OPEN, rest)?;
+            return Ok((Call::Convert(kind_named(text_of(name)), number), rest));
+        }
+        if next_in(tokens, EXTREMUM) {
+            let (name, rest) = take(tokens, EXTREMUM)?;
+            let ((left, right), rest) = self.two(levels, rest)?;
+            return Ok((extremum_named(text_of(name), left, right), rest));
+        }
+        if next_in(tokens, ABSOLUTE) {
+            let (_, rest) = take(tokens, ABSOLUTE)?;
+            let (number, rest) = self.rules.grouped(levels, OPEN, rest)?;
+            return Ok((Call::Absolute(number), rest));
+        }
+        if next_in(tokens, UFUNC) {
+            let (name, rest) = take(tokens, UFUNC)?;
+            let (fold, rest) = self.fold(levels, rest)?;
+            return Ok((Call::Fold(ufunc_named(text_of(name)), fold), rest));
+        }
+        if next_in(tokens, LOAD) {
+            let (_, rest) = take(tokens, LOAD)?;
+            let (name, rest) = quoted(self.rules.alloc, levels, rest)?;
+            return Ok((Call::Load(name), rest));
+        }
+        Err(shut(tokens, NO_FUNCTION, Reason::UnknownCall))
+    }
+
+    /// `np.arange`
+    fn arange<'t>(&self, levels: u8, tokens: Tokens<'t>) -> Read<'t, Call>
+        requires { Operands F.Fn self.now.rules.operand.now levels }
+        ensures { Gives (with_rest call_of) result (read kind (arange (under levels)) (tokens_of tokens.now)) }
+    {
+        if levels == 0 {
+            return Err(shut(tokens, OPEN, Reason::TooDeep));
+        }
+        self.arange_in(levels - 1, tokens)
+    }
+
+    fn arange_in<'t>(&self, levels: u8, tokens: Tokens<'t>) -> Read<'t, Call>
+        requires { Operands F.Fn self.now.rules.operand.now (levels + 1) }
+        ensures { Gives (with_rest call_of) result (read kind (between OPEN (arange_body (inside levels)) CLOSE) (tokens_of tokens.now)) }
+    {
+        let (_, rest) = take(tokens, OPEN)?;
+        let (first, rest) = self.rules.expr(levels, Spot::Anywhere, rest)?;
+        let ((more, dtype), rest) = self.second(levels, rest)?;
+        let (_, rest) = take(rest, CLOSE)?;
+        Ok((ranged(first, more, dtype), rest))
+    }
+
+    /// What stands behind the first number: a second one, a third one, a type.
+    #[tactic(auto, unfolding(nd_model::specs::Cells::second))]
+    fn second<'t>(
+        &self,
+        levels: u8,
+        tokens: Tokens<'t>,
+    ) -> Read<'t, (Option<(Expr, Option<Expr>)>, Option<DType>)>
+        requires { Operands F.Fn self.now.rules.operand.now (levels + 1) }
+        ensures { Gives (with_rest second_of) result (read kind (second (inside levels)) (tokens_of tokens.now)) }
+    {
+        if next_in(tokens, COMMA) {
+            let (_, rest) = take(tokens, COMMA)?;
+            return self.second_number(levels, rest);
+        }
+        let (_, rest) = tokens.split_at(0);
+        Ok(((None, None), rest))
+    }
+
+    fn second_number<'t>(
+        &self,
+        levels: u8,
+        tokens: Tokens<'t>,
+    ) -> Read<'t, (Option<(Expr, Option<Expr>)>, Option<DType>)>
+        requires { Operands F.Fn self.now.rules.operand.now (levels + 1) }
+        ensures { Gives (with_rest second_of) result (read kind (second_number (inside levels)) (tokens_of tokens.now)) }
+    {
+        if next_in(tokens, DTYPE_BOUND) {
+            let (dtype, rest) = typing(self.rules.alloc, levels, DTYPE_BOUND, tokens)?;
+            return Ok(((None, Some(dtype)), rest));
+        }
+        let (second, rest) = self.rules.expr(levels, Spot::Number, tokens)?;
+        let ((third, dtype), rest) = self.third(levels, rest)?;
+        Ok(((Some((second, third)), dtype), rest))
+    }
+
+    /// What stands behind the second number.
+    #[tactic(auto, unfolding(nd_model::specs::Cells::third))]
+    fn third<'t>(&self, levels: u8, tokens: Tokens<'t>) -> Read<'t, (Option<Expr>, Option<DType>)>
+        requires { Operands F.Fn self.now.rules.operand.now (levels + 1) }
+        ensures { Gives (with_rest third_of) result (read kind (third (inside levels)) (tokens_of tokens.now)) }
+    {
+        if next_in(tokens, COMMA) {
+            let (_, rest) = take(tokens, COMMA)?;
+            return self.third_number(levels, rest);
+        }
+        let (_, rest) = tokens.split_at(0);
+        Ok(((None, None), rest))
+    }
+
+    fn third_number<'t>(
+        &self,
+        levels: u8,
+        tokens: Tokens<'t>,
+    ) -> Read<'t, (Option<Expr>, Option<DType>)>
+        requires { Operands F.Fn self.now.rules.operand.now (levels + 1) }
+        ensures { Gives (with_rest third_of) result (read kind (third_number (inside levels)) (tokens_of tokens.now)) }
+    {
+        if next_in(tokens, DTYPE_BOUND) {
+            let (dtype, rest) = typing(self.rules.alloc, levels, DTYPE_BOUND, tokens)?;
+            return Ok(((None, Some(dtype)), rest));
+        }
+        let (third, rest) = self.rules.expr(levels, Spot::Number, tokens)?;
+        let (dtype, rest) = comma_typing(self.rules.alloc, levels, rest)?;
+        Ok(((Some(third), dtype), rest))
+    }
+
+    /// `(shape [, dtype = type])`
+    fn filled<'t>(&self, levels: u8, tokens: Tokens<'t>) -> Read<'t, (Vec<Expr>, Option<DType>)>
+        requires { Operands F.Fn self.now.rules.operand.now levels }
+        ensures { Gives (with_rest filled_of) result (read kind (filled (under levels)) (tokens_of tokens.now)) }
+    {
+        if levels == 0 {
+            return Err(shut(tokens, OPEN, Reason::TooDeep));
+        }
+        self.filled_in(levels - 1, tokens)
+    }
+
+    fn filled_in<'t>(&self, levels: u8, tokens: Tokens<'t>) -> Read<'t, (Vec<Expr>, Option<DType>)>
+        requires { Operands F.Fn self.now.rules.operand.now (levels + 1) }
+        ensures { Gives (with_rest filled_of) result (read kind (between OPEN (filled_body (inside levels)) CLOSE) (tokens_of tokens.now)) }
+    {
+        let (_, rest) = take(tokens, OPEN)?;
+        let (shape, rest) = self.rules.shape(levels, rest)?;
+        let (dtype, rest) = comma_typing(self.rules.alloc, levels, rest)?;
+        let (_, rest) = take(rest, CLOSE)?;
+        Ok(((shape, dtype), rest))
+    }
+
+    /// `np.full`
+    fn full<'t>(&self, levels: u8, tokens: Tokens<'t>) -> Read<'t, Call>
+        requires { Operands F.Fn self.now.rules.operand.now levels }
+        ensures { Gives (with_rest call_of) result (read kind (full (under levels)) (tokens_of tokens.now)) }
+    {
+        if levels == 0 {
+            return Err(shut(tokens, OPEN, Reason::TooDeep));
+        }
+        self.full_in(levels - 1, tokens)
+    }
+
+    fn full_in<'t>(&self, levels: u8, tokens: Tokens<'t>) -> Read<'t, Call>
+        requires { Operands F.Fn self.now.rules.operand.now (levels + 1) }
+        ensures { Gives (with_rest call_of) result (read kind (between OPEN (full_body (inside levels)) CLOSE) (tokens_of tokens.now)) }
+    {
+        let (_, rest) = take(tokens, OPEN)?;
+        let (shape, rest) = self.rules.shape(levels, rest)?;
+        let (_, rest) = take(rest, COMMA)?;
+        let (value, rest) = self.rules.expr(levels, Spot::Anywhere, rest)?;
+        let (dtype, rest) = comma_typing(self.rules.alloc, levels, rest)?;
+        let (_, rest) = take(rest, CLOSE)?;
+        Ok((full_call(shape, value, dtype), rest))
+    }
+
+    /// `np.array`
+    fn new_array<'t>(&self, levels: u8, tokens: Tokens<'t>) -> Read<'t, Call>
+        requires { Operands F.Fn self.now.rules.operand.now levels }
+        ensures { Gives (with_rest call_of) result (read kind (new_array (under levels)) (tokens_of tokens.now)) }
+    {
+        if levels == 0 {
+            return Err(shut(tokens, OPEN, Reason::TooDeep));
+        }
+        self.new_array_in(levels - 1, tokens)
+    }
+
+    fn new_array_in<'t>(&self, levels: u8, tokens: Tokens<'t>) -> Read<'t, Call>
+        requires { Operands F.Fn self.now.rules.operand.now (levels + 1) }
+        ensures { Gives (with_rest call_of) result (read kind (between OPEN (new_array_body (inside levels)) CLOSE) (tokens_of tokens.now)) }
+    {
+        let (_, rest) = take(tokens, OPEN)?;
+        let (element, rest) = self.rules.element(levels, rest)?;
+        let (dtype, rest) = comma_typing(self.rules.alloc, levels, rest)?;
+        let (_, rest) = take(rest, CLOSE)?;
+        Ok((Call::Array(element, dtype), rest))
+    }
+
+    /// `np.broadcast_to`
+    fn broadcast_to<'t>(&self, levels: u8, tokens: Tokens<'t>) -> Read<'t, Call>
+        requires { Operands F.Fn self.now.rules.operand.now levels }
+        ensures { Gives (with_rest call_of) result (read kind (broadcast_to (under levels)) (tokens_of tokens.now)) }
+    {
+        if levels == 0 {
+            return Err(shut(tokens, OPEN, Reason::TooDeep));
+        }
+        self.broadcast_to_in(levels - 1, tokens)
+    }
+
+    fn broadcast_to_in<'t>(&self, levels: u8, tokens: Tokens<'t>) -> Read<'t, Call>
+        requires { Operands F.Fn self.now.rules.operand.now (levels + 1) }
+        ensures { Gives (with_rest call_of) result (read kind (between OPEN (broadcast_to_body (inside levels)) CLOSE) (tokens_of tokens.now)) }
+    {
+        let (_, rest) = take(tokens, OPEN)?;
+        let (value, rest) = self.rules.expr(levels, Spot::Anywhere, rest)?;
+        let (_, rest) = take(rest, COMMA)?;
+        let (shape, rest) = self.rules.shape(levels, rest)?;
+        let (_, rest) = take(rest, CLOSE)?;
+        Ok((broadcast_call(value, shape), rest))
+    }
+
+    /// `(expr, expr)`
+    fn two<'t>(&self, levels: u8, tokens: Tokens<'t>) -> Read<'t, (Expr, Expr)>
+        requires { Operands F.Fn self.now.rules.operand.now levels }
+        ensures { Gives (with_rest two_of) result (read kind (two (under levels)) (tokens_of tokens.now)) }
+    {
+        if levels == 0 {
+            return Err(shut(tokens, OPEN, Reason::TooDeep));
+        }
+        self.two_in(levels - 1, tokens)
+    }
+
+    fn two_in<'t>(&self, levels: u8, tokens: Tokens<'t>) -> Read<'t, (Expr, Expr)>
+        requires { Operands F.Fn self.now.rules.operand.now (levels + 1) }
+        ensures { Gives (with_rest two_of) result (read kind (between OPEN (two_body (inside levels)) CLOSE) (tokens_of tokens.now)) }
+    {
+        let (_, rest) = take(tokens, OPEN)?;
+        let (left, rest) = self.rules.expr(levels, Spot::Anywhere, rest)?;
+        let (_, rest) = take(rest, COMMA)?;
+        let (right, rest) = self.rules.expr(levels, Spot::Anywhere, rest)?;
+        let (_, rest) = take(rest, CLOSE)?;
+        Ok(((left, right), rest))
+    }
+
+    /// `.reduce(..)`, `.accumulate(..)`
+    #[tactic(auto, unfolding(nd_model::specs::Cells::fold))]
+    fn fold<'t>(&self, levels: u8, tokens: Tokens<'t>) -> Read<'t, Fold>
+        requires { Operands F.Fn self.now.rules.operand.now levels }
+        ensures { Gives (with_rest fold_of) result (read kind (fold (under levels)) (tokens_of tokens.now)) }
+    {
+        let (_, rest) = take(tokens, DOT)?;
+        if next_in(rest, REDUCE) {
+            let (_, rest) = take(rest, REDUCE)?;
+            return self.reduce(levels, rest);
+        }
+        if next_in(rest, ACCUMULATE) {
+            let (_, rest) = take(rest, ACCUMULATE)?;
+            return self.accumulate(levels, rest);
+        }
+        Err(shut(rest, NO_FOLD, Reason::UnknownCall))
+    }
+
+    fn reduce<'t>(&self, levels: u8, tokens: Tokens<'t>) -> Read<'t, Fold>
+        requires { Operands F.Fn self.now.rules.operand.now levels }
+        ensures { Gives (with_rest fold_of) result (read kind (reduce (under levels)) (tokens_of tokens.now)) }
+    {
+        if levels == 0 {
+            return Err(shut(tokens, OPEN, Reason::TooDeep));
+        }
+        self.reduce_in(levels - 1, tokens)
+    }
+
+    fn reduce_in<'t>(&self, levels: u8, tokens: Tokens<'t>) -> Read<'t, Fold>
+        requires { Operands F.Fn self.now.rules.operand.now (levels + 1) }
+        ensures { Gives (with_rest fold_of) result (read kind (between OPEN (reduce_body (inside levels)) CLOSE) (tokens_of tokens.now)) }
+    {
+        let (_, rest) = take(tokens, OPEN)?;
+        let (array, rest) = self.rules.expr(levels, Spot::Anywhere, rest)?;
+        let ((axis, keepdims), rest) = self.rules.comma_options(levels, rest)?;
+        let (_, rest) = take(rest, CLOSE)?;
+        Ok((Fold::Reduce(array, axis, keepdims), rest))
+    }
+
+    fn accumulate<'t>(&self, levels: u8, tokens: Tokens<'t>) -> Read<'t, Fold>
+        requires { Operands F.Fn self.now.rules.operand.now levels }
+        ensures { Gives (with_rest fold_of) result (read kind (accumulate (under levels)) (tokens_of tokens.now)) }
+    {
+        if levels == 0 {
+            return Err(shut(tokens, OPEN, Reason::TooDeep));
+        }
+        self.accumulate_in(levels - 1, tokens)
+    }
+
+    fn accumulate_in<'t>(&self, levels: u8, tokens: Tokens<'t>) -> Read<'t, Fold>
+        requires { Operands F.Fn self.now.rules.operand.now (levels + 1) }
+        ensures { Gives (with_rest fold_of) result (read kind (between OPEN (accumulate_body (inside levels)) CLOSE) (tokens_of tokens.now)) }
+    {
+        let (_, rest) = take(tokens, OPEN)?;
+        let (array, rest) = self.rules.expr(levels, Spot::Anywhere, rest)?;
+        let (axis, rest) = self.rules.comma_axis(levels, rest)?;
+        let (_, rest) = take(rest, CLOSE)?;
+        Ok((Fold::Accumulate(array, axis), rest))
+    }
+}
+
+/// `np.zeros` or `np.ones` of a shape.
+fn filled_call(fill: Fill, shape: Vec<Expr>, dtype: Option<DType>) -> Call
+    ensures { call_of result ≡ Filled (fill_of fill) (numbers (exprs_of shape)) (typing_of dtype) }
+{
+    Call::Filled(fill, shape, dtype)
+}
+
+fn full_call(shape: Vec<Expr>, value: Expr, dtype: Option<DType>) -> Call
+    ensures { call_of result ≡ Full (numbers (exprs_of shape)) (expr_of value) (typing_of dtype) }
+{
+    Call::Full(shape, value, dtype)
+}
+
+fn broadcast_call(value: Expr, shape: Vec<Expr>) -> Call
+    ensures { call_of result ≡ BroadcastTo (expr_of value) (numbers (exprs_of shape)) }
+{
+    Call::BroadcastTo(value, shape)
+}
+
+/// `np.minimum` or `np.maximum`, by its name.
+fn extremum_named(name: &str, left: Expr, right: Expr) -> Call
+    ensures { call_of result ≡ extremum_named name.now (expr_of left) (expr_of right) }
+{
+    if name == "minimum" {
+        Call::Minimum(left, right)
+    } else {
+        Call::Maximum(left, right)
+    }
+}
+
+/// `np.arange` of a first number, those behind it, and a type.
+fn ranged(first: Expr, more: Option<(Expr, Option<Expr>)>, dtype: Option<DType>) -> Call
+    ensures { call_of result ≡ ranged (expr_of first) (second_of (more, dtype)) }
+{
+    match more {
+        None => Call::Arange(None, first, None, dtype),
+        Some((stop, step)) => Call::Arange(Some(first), stop, step, dtype),
+    }
+}

@@ -1,0 +1,258 @@
+//! Methods of arrays.
+ghost use Rattle.std.specs.Prelude.{◌≡◌, ◌+◌};
+ghost use Rattle.nd_model.specs.Kinds.{kind, OPEN, CLOSE};
+ghost use Rattle.nd_model.specs.Predict.{read};
+ghost use Rattle.nd_model.specs.Syntax.{Transpose, Reshape};
+ghost use Rattle.nd_model.specs.Cells.{under, between, conversion_named, axes, lengths, reduction_options, reduction, accumulation, attribute, method};
+ghost use Rattle.nd_tree.specs.Calls.{dtype_of};
+ghost use Rattle.nd_tree.specs.Syntax.{method_of, bound_of};
+ghost use Rattle.nd_tree.specs.Gives.{Gives, with_rest, tokens_of, inside, exprs_of, options_of};
+ghost use Rattle.nd_rule.specs.Readers.{Operands};
+ghost use Rattle.nd_call.specs.Readers.{numbers, other_attribute, axes_body, lengths_body, accumulation_body};
+
+use crate::operands::Calls;
+use nd_tree::kinds::{
+    ACCUMULATION, AXIS, AXIS_BOUND, AXIS_CALLED, CLOSE, CONVERSION, COPY, DOT, EXPR, FIRST_AXIS,
+    KEEPDIMS_BOUND, NO_METHOD, OPEN, OPEN_NONE, OPEN_TUPLE, REDUCTION, RESHAPE, TRANSPOSE,
+    TRANSPOSED, next_in,
+};
+use nd_tree::read::{Read, Reason, Tokens, shut, stop_at, take, text_of};
+use nd_tree::spot::Spot;
+use nd_tree::types::{comma_keepdims, empty, named_keepdims, no_lengths, type_argument};
+use nd_tree::{Axis, DType, Expr, Method, accumulation_named, reduction_named};
+
+impl<'f, F: for<'t> Fn(u8, Spot, Tokens<'t>) -> Read<'t, Expr>> Calls<'f, F> {
+    /// `.method`, which may open this many levels.
+    #[tactic(auto, unfolding(nd_model::specs::Cells::method))]
+    pub fn method<'t>(&self, levels: u8, tokens: Tokens<'t>) -> Read<'t, Method>
+        requires { Operands F.Fn self.now.rules.operand.now levels }
+        ensures { Gives (with_rest method_of) result (read kind (method (under levels)) (tokens_of tokens.now)) }
+    {
+        let (_, rest) = take(tokens, DOT)?;
+        self.attribute(levels, rest)
+    }
+
+    /// What stands behind the dot.
+    #[tactic(auto, unfolding(nd_model::specs::Cells::attribute))]
+    fn attribute<'t>(&self, levels: u8, tokens: Tokens<'t>) -> Read<'t, Method>
+        requires { Operands F.Fn self.now.rules.operand.now levels }
+        ensures { Gives (with_rest method_of) result (read kind (attribute (under levels)) (tokens_of tokens.now)) }
+    {
+        if next_in(tokens, TRANSPOSED) {
+            let (_, rest) = take(tokens, TRANSPOSED)?;
+            return Ok((transpose(Vec::new(self.rules.alloc)), rest));
+        }
+        if next_in(tokens, TRANSPOSE) {
+            let (_, rest) = take(tokens, TRANSPOSE)?;
+            let (axes, rest) = self.axes(levels, rest)?;
+            return Ok((transpose(axes), rest));
+        }
+        if next_in(tokens, RESHAPE) {
+            let (_, rest) = take(tokens, RESHAPE)?;
+            let (lengths, rest) = self.lengths(levels, rest)?;
+            return Ok((reshape(lengths), rest));
+        }
+        if next_in(tokens, COPY) {
+            let (_, rest) = take(tokens, COPY)?;
+            let (_, rest) = empty(levels, rest)?;
+            return Ok((Method::Copy, rest));
+        }
+        self.other_attribute(levels, tokens)
+    }
+
+    fn other_attribute<'t>(&self, levels: u8, tokens: Tokens<'t>) -> Read<'t, Method>
+        requires { Operands F.Fn self.now.rules.operand.now levels }
+        ensures { Gives (with_rest method_of) result (read kind (other_attribute (under levels)) (tokens_of tokens.now)) }
+    {
+        if next_in(tokens, CONVERSION) {
+            let (name, rest) = take(tokens, CONVERSION)?;
+            let (dtype, rest) = type_argument(self.rules.alloc, levels, rest)?;
+            return Ok((conversion_named(text_of(name), dtype), rest));
+        }
+        if next_in(tokens, REDUCTION) {
+            let (name, rest) = take(tokens, REDUCTION)?;
+            let ((axis, keepdims), rest) = self.reduction(levels, rest)?;
+            return Ok((
+                Method::Reduce(reduction_named(text_of(name)), axis, keepdims),
+                rest,
+            ));
+        }
+        if next_in(tokens, ACCUMULATION) {
+            let (name, rest) = take(tokens, ACCUMULATION)?;
+            let (axis, rest) = self.accumulation(levels, rest)?;
+            return Ok((
+                Method::Accumulate(accumulation_named(text_of(name)), axis),
+                rest,
+            ));
+        }
+        Err(shut(tokens, NO_METHOD, Reason::UnknownCall))
+    }
+
+    /// `([expr {"," expr}])`
+    fn axes<'t>(&self, levels: u8, tokens: Tokens<'t>) -> Read<'t, Vec<Expr>>
+        requires { Operands F.Fn self.now.rules.operand.now levels }
+        ensures { Gives (with_rest exprs_of) result (read kind (axes (under levels)) (tokens_of tokens.now)) }
+    {
+        if levels == 0 {
+            return Err(shut(tokens, OPEN, Reason::TooDeep));
+        }
+        self.axes_in(levels - 1, tokens)
+    }
+
+    fn axes_in<'t>(&self, levels: u8, tokens: Tokens<'t>) -> Read<'t, Vec<Expr>>
+        requires { Operands F.Fn self.now.rules.operand.now (levels + 1) }
+        ensures { Gives (with_rest exprs_of) result (read kind (between OPEN (axes_body (inside levels)) CLOSE) (tokens_of tokens.now)) }
+    {
+        let (_, rest) = take(tokens, OPEN)?;
+        let (all, rest) = self.perhaps_exprs(levels, rest)?;
+        let (_, rest) = take(rest, CLOSE)?;
+        Ok((all, rest))
+    }
+
+    fn perhaps_exprs<'t>(&self, levels: u8, tokens: Tokens<'t>) -> Read<'t, Vec<Expr>>
+        requires { Operands F.Fn self.now.rules.operand.now (levels + 1) }
+        ensures { Gives (with_rest exprs_of) result (read kind (axes_body (inside levels)) (tokens_of tokens.now)) }
+    {
+        if next_in(tokens, EXPR) {
+            return self.rules.exprs(levels, Spot::Anywhere, tokens);
+        }
+        let (_, rest) = tokens.split_at(0);
+        Ok((Vec::new(self.rules.alloc), rest))
+    }
+
+    /// `(shape)`, or several lengths
+    fn lengths<'t>(&self, levels: u8, tokens: Tokens<'t>) -> Read<'t, Vec<Expr>>
+        requires { Operands F.Fn self.now.rules.operand.now levels }
+        ensures { Gives (with_rest exprs_of) result (read kind (lengths (under levels)) (tokens_of tokens.now)) }
+    {
+        if levels == 0 {
+            return Err(shut(tokens, OPEN, Reason::TooDeep));
+        }
+        self.lengths_in(levels - 1, tokens)
+    }
+
+    fn lengths_in<'t>(&self, levels: u8, tokens: Tokens<'t>) -> Read<'t, Vec<Expr>>
+        requires { Operands F.Fn self.now.rules.operand.now (levels + 1) }
+        ensures { Gives (with_rest exprs_of) result (read kind (between OPEN (lengths_body (inside levels)) CLOSE) (tokens_of tokens.now)) }
+    {
+        let (_, rest) = take(tokens, OPEN)?;
+        let (all, rest) = self.some_lengths(levels, rest)?;
+        let (_, rest) = take(rest, CLOSE)?;
+        Ok((all, rest))
+    }
+
+    fn some_lengths<'t>(&self, levels: u8, tokens: Tokens<'t>) -> Read<'t, Vec<Expr>>
+        requires { Operands F.Fn self.now.rules.operand.now (levels + 1) }
+        ensures { Gives (with_rest exprs_of) result (read kind (lengths_body (inside levels)) (tokens_of tokens.now)) }
+    {
+        if next_in(tokens, OPEN_TUPLE) {
+            return self.rules.tuple(levels, tokens);
+        }
+        if next_in(tokens, OPEN_NONE) {
+            return no_lengths(self.rules.alloc, levels, tokens);
+        }
+        self.rules.exprs(levels, Spot::Length, tokens)
+    }
+
+    /// The axis, and whether it is kept, in brackets.
+    fn reduction<'t>(&self, levels: u8, tokens: Tokens<'t>) -> Read<'t, (Axis, bool)>
+        requires { Operands F.Fn self.now.rules.operand.now levels }
+        ensures { Gives (with_rest options_of) result (read kind (reduction (under levels)) (tokens_of tokens.now)) }
+    {
+        if levels == 0 {
+            return Err(shut(tokens, OPEN, Reason::TooDeep));
+        }
+        self.reduction_in(levels - 1, tokens)
+    }
+
+    fn reduction_in<'t>(&self, levels: u8, tokens: Tokens<'t>) -> Read<'t, (Axis, bool)>
+        requires { Operands F.Fn self.now.rules.operand.now (levels + 1) }
+        ensures { Gives (with_rest options_of) result (read kind (between OPEN (reduction_options (inside levels)) CLOSE) (tokens_of tokens.now)) }
+    {
+        let (_, rest) = take(tokens, OPEN)?;
+        let (options, rest) = self.reduction_options(levels, rest)?;
+        let (_, rest) = take(rest, CLOSE)?;
+        Ok((options, rest))
+    }
+
+    #[tactic(auto, unfolding(nd_model::specs::Cells::reduction_options))]
+    fn reduction_options<'t>(&self, levels: u8, tokens: Tokens<'t>) -> Read<'t, (Axis, bool)>
+        requires { Operands F.Fn self.now.rules.operand.now (levels + 1) }
+        ensures { Gives (with_rest options_of) result (read kind (reduction_options (inside levels)) (tokens_of tokens.now)) }
+    {
+        if next_in(tokens, AXIS_BOUND) {
+            let (axis, rest) = self.rules.named_axis(levels, AXIS_BOUND, tokens)?;
+            let (keepdims, rest) = comma_keepdims(rest)?;
+            return Ok(((axis, keepdims), rest));
+        }
+        if next_in(tokens, KEEPDIMS_BOUND) {
+            let (keepdims, rest) = named_keepdims(KEEPDIMS_BOUND, tokens)?;
+            return Ok(((Axis::Default, keepdims), rest));
+        }
+        if next_in(tokens, FIRST_AXIS) {
+            let (axis, rest) = self.rules.first_axis(levels, tokens)?;
+            let (keepdims, rest) = comma_keepdims(rest)?;
+            return Ok(((axis, keepdims), rest));
+        }
+        let (_, rest) = tokens.split_at(0);
+        Ok(((Axis::Default, false), rest))
+    }
+
+    /// `([axis = expr])`
+    fn accumulation<'t>(&self, levels: u8, tokens: Tokens<'t>) -> Read<'t, Option<Expr>>
+        requires { Operands F.Fn self.now.rules.operand.now levels }
+        ensures { Gives (with_rest bound_of) result (read kind (accumulation (under levels)) (tokens_of tokens.now)) }
+    {
+        if levels == 0 {
+            return Err(shut(tokens, OPEN, Reason::TooDeep));
+        }
+        self.accumulation_in(levels - 1, tokens)
+    }
+
+    fn accumulation_in<'t>(&self, levels: u8, tokens: Tokens<'t>) -> Read<'t, Option<Expr>>
+        requires { Operands F.Fn self.now.rules.operand.now (levels + 1) }
+        ensures { Gives (with_rest bound_of) result (read kind (between OPEN (accumulation_body (inside levels)) CLOSE) (tokens_of tokens.now)) }
+    {
+        let (_, rest) = take(tokens, OPEN)?;
+        let (axis, rest) = self.perhaps_axis(levels, rest)?;
+        let (_, rest) = take(rest, CLOSE)?;
+        Ok((axis, rest))
+    }
+
+    fn perhaps_axis<'t>(&self, levels: u8, tokens: Tokens<'t>) -> Read<'t, Option<Expr>>
+        requires { Operands F.Fn self.now.rules.operand.now (levels + 1) }
+        ensures { Gives (with_rest bound_of) result (read kind (accumulation_body (inside levels)) (tokens_of tokens.now)) }
+    {
+        if next_in(tokens, AXIS) {
+            return self.rules.numbered_axis(levels, tokens);
+        }
+        if next_in(tokens, AXIS_CALLED) {
+            return Err(stop_at(tokens, Reason::UnknownCall));
+        }
+        let (_, rest) = tokens.split_at(0);
+        Ok((None, rest))
+    }
+}
+
+fn transpose(axes: Vec<Expr>) -> Method
+    ensures { method_of result ≡ Transpose (numbers (exprs_of axes)) }
+{
+    Method::Transpose(axes)
+}
+
+fn reshape(lengths: Vec<Expr>) -> Method
+    ensures { method_of result ≡ Reshape (numbers (exprs_of lengths)) }
+{
+    Method::Reshape(lengths)
+}
+
+/// `astype` or `view`, by its name.
+fn conversion_named(name: &str, dtype: DType) -> Method
+    ensures { method_of result ≡ conversion_named name.now (dtype_of dtype) }
+{
+    if name == "astype" {
+        Method::AsType(dtype)
+    } else {
+        Method::View(dtype)
+    }
+}

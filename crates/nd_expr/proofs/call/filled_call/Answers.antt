@@ -1,5 +1,0 @@
-use Rattle.nd_expr.proofs.Nodes.{filled_is}
-use Rattle.nd_expr.proofs.call.filled_call.Goals as goal
-
-pub returns : goal.returns
-returns c = filled_is c.args.fill c.args.shape c.args.dtype

@@ -1,5 +1,0 @@
-use Rattle.nd_expr.proofs.Nodes.{transpose_is}
-use Rattle.nd_expr.proofs.methods.transpose.Goals as goal
-
-pub returns : goal.returns
-returns c = transpose_is c.args.axes

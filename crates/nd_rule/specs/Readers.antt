@@ -1,0 +1,71 @@
+-- What reads operands, and parts of rules, as the functions have them.
+use Rattle.std.specs.Prelude.{ℕ, zero, suc, ◌<◌, List, [], ◌∷◌, Result}
+use Rattle.std.specs.Borrow.{Bor}
+use Rattle.std.specs.Fn.{Shared}
+use Rattle.nd_token.specs.declared.token.Token.{Token}
+use Rattle.nd_model.specs.Token as model
+use Rattle.nd_model.specs.Grammar.{Gram, Done, Then, Or, Shut}
+use Rattle.nd_model.specs.Predict.{read}
+use Rattle.nd_model.specs.Syntax.{Bound, Omitted, IndexItem}
+use Rattle.nd_model.specs.Syntax as syntax
+use Rattle.nd_model.specs.Kinds.{kind, PRODUCT, SUM, SHIFT, AMPERSAND, CARET, BAR, OPEN_NONE, CLOSE, COMMA, COMMA_MORE, COMMA_LAST, COMMA_INNER, COMMA_CLOSING, AXIS, AXIS_CALLED}
+use Rattle.nd_model.specs.Cells.{Anywhere, FirstItem, LaterItem, Length, Level, Inside, under, token, unknown_call, mapped, separated, unary, chain, nothing, item, numbered_axis}
+use Rattle.nd_model.specs.Cells as cells
+use Rattle.nd_tree.specs.declared.spot.Spot.{Spot}
+use Rattle.nd_tree.specs.declared.tree.Expr.{Expr}
+use Rattle.nd_tree.specs.declared.read.Failure.{Failure}
+use Rattle.nd_tree.specs.Syntax.{expr_of}
+use Rattle.nd_tree.specs.Gives.{Gives, with_rest, tokens_of, spot_of}
+
+-- f reads a signed operand exactly, if fewer than n levels may be opened
+module _ {F : Type 0} (g : Shared F (ℕ × (Spot × (Bor (List Token) × Unit {0}))) (Result (Expr × Bor (List Token)) Failure)) (f : F) where
+  -- it may be called
+  abbrev pub MayRead : ℕ → Type 0
+  MayRead n = (l : ℕ) (s : Spot) (ts : Bor (List Token)) → l < n → g.pre f (l, (s, (ts, tt)))
+
+  -- it gives what the rule reads
+  abbrev pub ReadsExactly : ℕ → Type 0
+  ReadsExactly n = (l : ℕ) (s : Spot) (ts : Bor (List Token)) (r : Result (Expr × Bor (List Token)) Failure) → l < n → g.post f (l, (s, (ts, tt))) r
+      → Gives (with_rest expr_of) r (read kind (unary (spot_of s) (under l)) (tokens_of ts.now))
+
+  abbrev pub Operands : ℕ → Type 0
+  Operands n = MayRead n × ReadsExactly n
+
+-- ---- operators
+
+-- the operators of a rank, from `*` to `|`
+abbrev pub operators : ℕ → ℕ
+operators (suc zero) = PRODUCT
+operators (suc (suc zero)) = SUM
+operators (suc (suc (suc zero))) = SHIFT
+operators (suc (suc (suc (suc zero)))) = AMPERSAND
+operators (suc (suc (suc (suc (suc zero))))) = CARET
+operators n = BAR
+
+-- operands with operators of a rank, and those below it, between them
+unfoldable pub ranked : ℕ → cells.Spot → Level → Gram model.Token syntax.Expr
+ranked zero s i = unary s i
+ranked (suc n) s i = chain (operators (suc n)) (ranked n s i) (ranked n Anywhere i)
+
+-- ---- indexes
+
+-- `()` without its level
+abbrev pub no_items : Gram model.Token (List IndexItem)
+no_items = Then (λ _ _. []) (token OPEN_NONE) (token CLOSE)
+
+abbrev pub items_of_index : Inside → Gram model.Token (List IndexItem)
+items_of_index i = Or OPEN_NONE (nothing i.level) (separated COMMA_MORE COMMA_LAST (item FirstItem i) (item LaterItem i))
+
+-- ---- arguments
+
+abbrev pub one_length : Inside → Gram model.Token (List syntax.Expr)
+one_length inside = mapped (λ e. e ∷ []) (inside.expr Length)
+
+abbrev pub tuple_body : Inside → Gram model.Token (List syntax.Expr)
+tuple_body inside = separated COMMA_INNER COMMA_CLOSING (inside.expr Anywhere) (inside.expr Anywhere)
+
+abbrev pub only_axis : Inside → Gram model.Token Bound
+only_axis inside = Or AXIS (numbered_axis inside) (Shut AXIS_CALLED unknown_call)
+
+abbrev pub comma_axis : Inside → Gram model.Token Bound
+comma_axis inside = Or COMMA (Then (λ _ a. a) (token COMMA) (only_axis inside)) (Done Omitted)

@@ -1,0 +1,225 @@
+//! Arguments that hold expressions.
+ghost use Rattle.std.specs.Prelude.{◌≡◌, ◌+◌};
+ghost use Rattle.nd_model.specs.Grammar.{Many};
+ghost use Rattle.nd_model.specs.Kinds.{kind, OPEN_TUPLE, CLOSE};
+ghost use Rattle.nd_model.specs.Predict.{read};
+ghost use Rattle.nd_model.specs.Cells.{Anywhere, under, between, grouped, expr, exprs, tuple, shape, named_axis, numbered_axis, options, comma_options, first_axis};
+ghost use Rattle.nd_tree.specs.Syntax.{expr_of, axis_of, bound_of};
+ghost use Rattle.nd_tree.specs.Gives.{Gives, with_rest, tokens_of, spot_of, inside, exprs_of, options_of};
+ghost use Rattle.nd_tree.specs.Parts.{behind_comma};
+ghost use Rattle.nd_rule.specs.Readers.{Operands, one_length, tuple_body, comma_axis, only_axis};
+
+use crate::operators::Rules;
+use nd_tree::kinds::{
+    AXIS, AXIS_CALLED, CLOSE, COMMA, COMMA_CLOSING, COMMA_INNER, EQUAL, NONE, OPEN_NONE,
+    OPEN_TUPLE, next_in,
+};
+use nd_tree::read::{Read, Reason, Tokens, shut, stop_at, take};
+use nd_tree::spot::Spot;
+use nd_tree::types::{comma_keepdims, last_comma, no_lengths, only_keepdims};
+use nd_tree::{Axis, Expr};
+
+impl<'f, F: for<'t> Fn(u8, Spot, Tokens<'t>) -> Read<'t, Expr>> Rules<'f, F> {
+    /// The lengths of a shape.
+    #[tactic(auto, unfolding(nd_model::specs::Cells::shape))]
+    pub fn shape<'t>(&self, levels: u8, tokens: Tokens<'t>) -> Read<'t, Vec<Expr>>
+        requires { Operands F.Fn self.now.operand.now (levels + 1) }
+        ensures { Gives (with_rest exprs_of) result (read kind (shape (inside levels)) (tokens_of tokens.now)) }
+    {
+        if next_in(tokens, OPEN_TUPLE) {
+            return self.tuple(levels, tokens);
+        }
+        if next_in(tokens, OPEN_NONE) {
+            return no_lengths(self.alloc, levels, tokens);
+        }
+        self.one_length(levels, tokens)
+    }
+
+    fn one_length<'t>(&self, levels: u8, tokens: Tokens<'t>) -> Read<'t, Vec<Expr>>
+        requires { Operands F.Fn self.now.operand.now (levels + 1) }
+        ensures { Gives (with_rest exprs_of) result (read kind (one_length (inside levels)) (tokens_of tokens.now)) }
+    {
+        let mut all = Vec::new(self.alloc);
+        let (length, rest) = self.expr(levels, Spot::Length, tokens)?;
+        all.push(length)?;
+        Ok((all, rest))
+    }
+
+    /// `(expr, ..)`
+    pub fn tuple<'t>(&self, levels: u8, tokens: Tokens<'t>) -> Read<'t, Vec<Expr>>
+        requires { Operands F.Fn self.now.operand.now levels }
+        ensures { Gives (with_rest exprs_of) result (read kind (tuple (under levels)) (tokens_of tokens.now)) }
+    {
+        if levels == 0 {
+            return Err(shut(tokens, OPEN_TUPLE, Reason::TooDeep));
+        }
+        self.tuple_in(levels - 1, tokens)
+    }
+
+    fn tuple_in<'t>(&self, levels: u8, tokens: Tokens<'t>) -> Read<'t, Vec<Expr>>
+        requires { Operands F.Fn self.now.operand.now (levels + 1) }
+        ensures { Gives (with_rest exprs_of) result (read kind (between OPEN_TUPLE (tuple_body (inside levels)) CLOSE) (tokens_of tokens.now)) }
+    {
+        let (_, rest) = take(tokens, OPEN_TUPLE)?;
+        let (first, rest) = self.expr(levels, Spot::Anywhere, rest)?;
+        let (mut all, rest) = self.others(levels, COMMA_INNER, rest)?;
+        let (_, rest) = last_comma(COMMA_CLOSING, rest)?;
+        let (_, rest) = take(rest, CLOSE)?;
+        all.insert(0, first)?;
+        Ok((all, rest))
+    }
+
+    /// `expr {"," expr}`, where the first expression stands at the spot
+    #[tactic(auto, unfolding(nd_model::specs::Cells::exprs))]
+    pub fn exprs<'t>(&self, levels: u8, spot: Spot, tokens: Tokens<'t>) -> Read<'t, Vec<Expr>>
+        requires { Operands F.Fn self.now.operand.now (levels + 1) }
+        ensures { Gives (with_rest exprs_of) result (read kind (exprs (expr (spot_of spot) (under levels)) (expr Anywhere (under levels))) (tokens_of tokens.now)) }
+    {
+        let (first, rest) = self.expr(levels, spot, tokens)?;
+        let (mut all, rest) = self.others(levels, COMMA, rest)?;
+        all.insert(0, first)?;
+        Ok((all, rest))
+    }
+
+    /// Any number of expressions, each behind a comma of the set.
+    fn others<'t>(&self, levels: u8, comma: u128, tokens: Tokens<'t>) -> Read<'t, Vec<Expr>>
+        requires { Operands F.Fn self.now.operand.now (levels + 1) }
+        ensures { Gives (with_rest exprs_of) result (read kind (Many comma (λ xs. xs) (behind_comma comma (expr Anywhere (under levels)))) (tokens_of tokens.now)) }
+    {
+        let mut all = Vec::new(self.alloc);
+        // from the first token on
+        let (_, mut rest) = tokens.split_at(0);
+        'more: while next_in(rest, comma) {
+            let (next, after) = self.other(levels, comma, rest)?;
+            all.push(next)?;
+            rest = after;
+        }
+        Ok((all, rest))
+    }
+
+    fn other<'t>(&self, levels: u8, comma: u128, tokens: Tokens<'t>) -> Read<'t, Expr>
+        requires { Operands F.Fn self.now.operand.now (levels + 1) }
+        ensures { Gives (with_rest expr_of) result (read kind (behind_comma comma (expr Anywhere (under levels))) (tokens_of tokens.now)) }
+    {
+        let (_, rest) = take(tokens, comma)?;
+        self.expr(levels, Spot::Anywhere, rest)
+    }
+
+    /// `axis = ..`, where the name is of the set
+    #[tactic(auto, unfolding(nd_model::specs::Cells::named_axis))]
+    pub fn named_axis<'t>(&self, levels: u8, key: u128, tokens: Tokens<'t>) -> Read<'t, Axis>
+        requires { Operands F.Fn self.now.operand.now (levels + 1) }
+        ensures { Gives (with_rest axis_of) result (read kind (named_axis key (inside levels)) (tokens_of tokens.now)) }
+    {
+        let (_, rest) = take(tokens, key)?;
+        let (_, rest) = take(rest, EQUAL)?;
+        if next_in(rest, NONE) {
+            let (_, rest) = take(rest, NONE)?;
+            return Ok((Axis::All, rest));
+        }
+        let (axis, rest) = self.expr(levels, Spot::Anywhere, rest)?;
+        Ok((Axis::At(axis), rest))
+    }
+
+    /// `axis = expr`
+    #[tactic(auto, unfolding(nd_model::specs::Cells::numbered_axis))]
+    pub fn numbered_axis<'t>(&self, levels: u8, tokens: Tokens<'t>) -> Read<'t, Option<Expr>>
+        requires { Operands F.Fn self.now.operand.now (levels + 1) }
+        ensures { Gives (with_rest bound_of) result (read kind (numbered_axis (inside levels)) (tokens_of tokens.now)) }
+    {
+        let (_, rest) = take(tokens, AXIS)?;
+        let (_, rest) = take(rest, EQUAL)?;
+        let (axis, rest) = self.expr(levels, Spot::Anywhere, rest)?;
+        Ok((Some(axis), rest))
+    }
+
+    /// `, axis = expr`, if it is there
+    pub fn comma_axis<'t>(&self, levels: u8, tokens: Tokens<'t>) -> Read<'t, Option<Expr>>
+        requires { Operands F.Fn self.now.operand.now (levels + 1) }
+        ensures { Gives (with_rest bound_of) result (read kind (comma_axis (inside levels)) (tokens_of tokens.now)) }
+    {
+        if next_in(tokens, COMMA) {
+            let (_, rest) = take(tokens, COMMA)?;
+            return self.only_axis(levels, rest);
+        }
+        let (_, rest) = tokens.split_at(0);
+        Ok((None, rest))
+    }
+
+    fn only_axis<'t>(&self, levels: u8, tokens: Tokens<'t>) -> Read<'t, Option<Expr>>
+        requires { Operands F.Fn self.now.operand.now (levels + 1) }
+        ensures { Gives (with_rest bound_of) result (read kind (only_axis (inside levels)) (tokens_of tokens.now)) }
+    {
+        if next_in(tokens, AXIS) {
+            return self.numbered_axis(levels, tokens);
+        }
+        Err(shut(tokens, AXIS_CALLED, Reason::UnknownCall))
+    }
+
+    /// `axis = .. [, keepdims = ..]`, or `keepdims = ..`
+    #[tactic(auto, unfolding(nd_model::specs::Cells::options))]
+    fn options<'t>(&self, levels: u8, tokens: Tokens<'t>) -> Read<'t, (Axis, bool)>
+        requires { Operands F.Fn self.now.operand.now (levels + 1) }
+        ensures { Gives (with_rest options_of) result (read kind (options (inside levels)) (tokens_of tokens.now)) }
+    {
+        if next_in(tokens, AXIS) {
+            let (axis, rest) = self.named_axis(levels, AXIS, tokens)?;
+            let (keepdims, rest) = comma_keepdims(rest)?;
+            return Ok(((axis, keepdims), rest));
+        }
+        if next_in(tokens, AXIS_CALLED) {
+            return Err(stop_at(tokens, Reason::UnknownCall));
+        }
+        let (keepdims, rest) = only_keepdims(tokens)?;
+        Ok(((Axis::Default, keepdims), rest))
+    }
+
+    /// The same behind a comma, if it is there.
+    #[tactic(auto, unfolding(nd_model::specs::Cells::comma_options))]
+    pub fn comma_options<'t>(&self, levels: u8, tokens: Tokens<'t>) -> Read<'t, (Axis, bool)>
+        requires { Operands F.Fn self.now.operand.now (levels + 1) }
+        ensures { Gives (with_rest options_of) result (read kind (comma_options (inside levels)) (tokens_of tokens.now)) }
+    {
+        if next_in(tokens, COMMA) {
+            let (_, rest) = take(tokens, COMMA)?;
+            return self.options(levels, rest);
+        }
+        let (_, rest) = tokens.split_at(0);
+        Ok(((Axis::Default, false), rest))
+    }
+
+    /// `None`, or a number
+    #[tactic(auto, unfolding(nd_model::specs::Cells::first_axis))]
+    pub fn first_axis<'t>(&self, levels: u8, tokens: Tokens<'t>) -> Read<'t, Axis>
+        requires { Operands F.Fn self.now.operand.now (levels + 1) }
+        ensures { Gives (with_rest axis_of) result (read kind (first_axis (inside levels)) (tokens_of tokens.now)) }
+    {
+        if next_in(tokens, NONE) {
+            let (_, rest) = take(tokens, NONE)?;
+            return Ok((Axis::All, rest));
+        }
+        let (axis, rest) = self.expr(levels, Spot::AxisNumber, tokens)?;
+        Ok((Axis::At(axis), rest))
+    }
+
+    /// `(expr)`
+    pub fn grouped<'t>(&self, levels: u8, opening: u128, tokens: Tokens<'t>) -> Read<'t, Expr>
+        requires { Operands F.Fn self.now.operand.now levels }
+        ensures { Gives (with_rest expr_of) result (read kind (grouped opening (under levels)) (tokens_of tokens.now)) }
+    {
+        if levels == 0 {
+            return Err(shut(tokens, opening, Reason::TooDeep));
+        }
+        self.between(levels - 1, opening, tokens)
+    }
+
+    fn between<'t>(&self, levels: u8, opening: u128, tokens: Tokens<'t>) -> Read<'t, Expr>
+        requires { Operands F.Fn self.now.operand.now (levels + 1) }
+        ensures { Gives (with_rest expr_of) result (read kind (between opening (expr Anywhere (under levels)) CLOSE) (tokens_of tokens.now)) }
+    {
+        let (_, rest) = take(tokens, opening)?;
+        let (inner, rest) = self.expr(levels, Spot::Anywhere, rest)?;
+        let (_, rest) = take(rest, CLOSE)?;
+        Ok((inner, rest))
+    }
+}

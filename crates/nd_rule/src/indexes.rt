@@ -1,0 +1,313 @@
+//! Indexes, and lists.
+ghost use Rattle.std.specs.Prelude.{◌≡◌, ◌+◌};
+ghost use Rattle.nd_model.specs.Grammar.{Many};
+ghost use Rattle.nd_model.specs.Kinds.{kind, OPEN_BRACKET, CLOSE_BRACKET, COMMA_MORE, COMMA_LAST};
+ghost use Rattle.nd_model.specs.Predict.{read};
+ghost use Rattle.nd_model.specs.Cells.{FirstItem, LaterItem, under, between, mapped, separated, bound_in, step_in, slice, newaxis_name, newaxis, element, elements, elements_of, list, part, item, nothing, contents, index};
+ghost use Rattle.nd_tree.specs.Syntax.{index_of, item_of, bound_of, element_of};
+ghost use Rattle.nd_tree.specs.Gives.{Gives, with_rest, tokens_of, spot_of, items_in, elements_in, list_of_elements, bounds_of, inside};
+ghost use Rattle.nd_tree.specs.Parts.{behind_comma};
+ghost use Rattle.nd_rule.specs.Readers.{Operands, items_of_index, no_items};
+
+use crate::operators::Rules;
+use nd_tree::kinds::{
+    CLOSE, CLOSE_BRACKET, COLON, COMMA_LAST, COMMA_MORE, DOT, ELEMENT, ELLIPSIS, EXPR, NEWAXIS,
+    NEWAXIS_CALLED, NONE, NP_NEWAXIS, OPEN_BRACKET, OPEN_NONE, QUOTED, next_in,
+};
+use nd_tree::read::{Read, Reason, Tokens, quoted_of, shut, take};
+use nd_tree::spot::Spot;
+use nd_tree::types::last_comma;
+use nd_tree::{Element, Expr, Index, IndexItem};
+use std::alloc::Global;
+
+impl<'f, F: for<'t> Fn(u8, Spot, Tokens<'t>) -> Read<'t, Expr>> Rules<'f, F> {
+    /// `[index]`, which may open this many levels.
+    pub fn index<'t>(&self, levels: u8, tokens: Tokens<'t>) -> Read<'t, Index>
+        requires { Operands F.Fn self.now.operand.now levels }
+        ensures { Gives (with_rest index_of) result (read kind (index (under levels)) (tokens_of tokens.now)) }
+    {
+        if levels == 0 {
+            return Err(shut(tokens, OPEN_BRACKET, Reason::TooDeep));
+        }
+        self.bracketed(levels - 1, tokens)
+    }
+
+    fn bracketed<'t>(&self, levels: u8, tokens: Tokens<'t>) -> Read<'t, Index>
+        requires { Operands F.Fn self.now.operand.now (levels + 1) }
+        ensures { Gives (with_rest index_of) result (read kind (between OPEN_BRACKET (contents (inside levels)) CLOSE_BRACKET) (tokens_of tokens.now)) }
+    {
+        let (_, rest) = take(tokens, OPEN_BRACKET)?;
+        let (inner, rest) = self.contents(levels, rest)?;
+        let (_, rest) = take(rest, CLOSE_BRACKET)?;
+        Ok((inner, rest))
+    }
+
+    /// What stands in the brackets of an index.
+    #[tactic(auto, unfolding(nd_model::specs::Cells::contents))]
+    fn contents<'t>(&self, levels: u8, tokens: Tokens<'t>) -> Read<'t, Index>
+        requires { Operands F.Fn self.now.operand.now (levels + 1) }
+        ensures { Gives (with_rest index_of) result (read kind (contents (inside levels)) (tokens_of tokens.now)) }
+    {
+        if next_in(tokens, QUOTED) {
+            let (token, rest) = take(tokens, QUOTED)?;
+            return Ok((Index::Field(quoted_of(self.alloc, token)?), rest));
+        }
+        let (all, rest) = self.items(levels, tokens)?;
+        Ok((Index::Items(all), rest))
+    }
+
+    /// `()`, or the items of an index.
+    fn items<'t>(&self, levels: u8, tokens: Tokens<'t>) -> Read<'t, Vec<IndexItem>>
+        requires { Operands F.Fn self.now.operand.now (levels + 1) }
+        ensures { Gives (with_rest items_in) result (read kind (items_of_index (inside levels)) (tokens_of tokens.now)) }
+    {
+        if next_in(tokens, OPEN_NONE) {
+            return nothing(self.alloc, levels, tokens);
+        }
+        self.some_items(levels, tokens)
+    }
+
+    fn some_items<'t>(&self, levels: u8, tokens: Tokens<'t>) -> Read<'t, Vec<IndexItem>>
+        requires { Operands F.Fn self.now.operand.now (levels + 1) }
+        ensures { Gives (with_rest items_in) result (read kind (separated COMMA_MORE COMMA_LAST (item FirstItem (inside levels)) (item LaterItem (inside levels))) (tokens_of tokens.now)) }
+    {
+        let (first, rest) = self.item(levels, Spot::FirstItem, tokens)?;
+        let (mut all, rest) = self.other_items(levels, rest)?;
+        let (_, rest) = last_comma(COMMA_LAST, rest)?;
+        all.insert(0, first)?;
+        Ok((all, rest))
+    }
+
+    /// Any number of items, each behind a comma.
+    fn other_items<'t>(&self, levels: u8, tokens: Tokens<'t>) -> Read<'t, Vec<IndexItem>>
+        requires { Operands F.Fn self.now.operand.now (levels + 1) }
+        ensures { Gives (with_rest items_in) result (read kind (Many COMMA_MORE (λ xs. xs) (behind_comma COMMA_MORE (item LaterItem (inside levels)))) (tokens_of tokens.now)) }
+    {
+        let mut all = Vec::new(self.alloc);
+        // from the first token on
+        let (_, mut rest) = tokens.split_at(0);
+        'more: while next_in(rest, COMMA_MORE) {
+            let (next, after) = self.other_item(levels, rest)?;
+            all.push(next)?;
+            rest = after;
+        }
+        Ok((all, rest))
+    }
+
+    fn other_item<'t>(&self, levels: u8, tokens: Tokens<'t>) -> Read<'t, IndexItem>
+        requires { Operands F.Fn self.now.operand.now (levels + 1) }
+        ensures { Gives (with_rest item_of) result (read kind (behind_comma COMMA_MORE (item LaterItem (inside levels))) (tokens_of tokens.now)) }
+    {
+        let (_, rest) = take(tokens, COMMA_MORE)?;
+        self.item(levels, Spot::LaterItem, rest)
+    }
+
+    /// An item of an index.
+    #[tactic(auto, unfolding(nd_model::specs::Cells::item))]
+    fn item<'t>(&self, levels: u8, spot: Spot, tokens: Tokens<'t>) -> Read<'t, IndexItem>
+        requires { Operands F.Fn self.now.operand.now (levels + 1) }
+        ensures { Gives (with_rest item_of) result (read kind (item (spot_of spot) (inside levels)) (tokens_of tokens.now)) }
+    {
+        if next_in(tokens, COLON) {
+            let ((stop, step), rest) = self.slice(levels, tokens)?;
+            return Ok((IndexItem::Slice(None, stop, step), rest));
+        }
+        if next_in(tokens, ELLIPSIS) {
+            let (_, rest) = take(tokens, ELLIPSIS)?;
+            return Ok((IndexItem::Ellipsis, rest));
+        }
+        if next_in(tokens, NONE) {
+            let (_, rest) = take(tokens, NONE)?;
+            return Ok((IndexItem::NewAxis, rest));
+        }
+        if next_in(tokens, NP_NEWAXIS) {
+            return newaxis(tokens);
+        }
+        if next_in(tokens, OPEN_BRACKET) {
+            let (elements, rest) = self.list(levels, tokens)?;
+            return Ok((IndexItem::List(elements), rest));
+        }
+        self.part(levels, spot, tokens)
+    }
+
+    /// An expression, or a slice that begins with one.
+    #[tactic(auto, unfolding(nd_model::specs::Cells::part))]
+    fn part<'t>(&self, levels: u8, spot: Spot, tokens: Tokens<'t>) -> Read<'t, IndexItem>
+        requires { Operands F.Fn self.now.operand.now (levels + 1) }
+        ensures { Gives (with_rest item_of) result (read kind (part (spot_of spot) (inside levels)) (tokens_of tokens.now)) }
+    {
+        let (first, rest) = self.expr(levels, spot, tokens)?;
+        if next_in(rest, COLON) {
+            let ((stop, step), rest) = self.slice(levels, rest)?;
+            return Ok((IndexItem::Slice(Some(first), stop, step), rest));
+        }
+        Ok((IndexItem::At(first), rest))
+    }
+
+    /// `:[expr][:[expr]]`: the stop and the step
+    #[tactic(auto, unfolding(nd_model::specs::Cells::slice))]
+    fn slice<'t>(&self, levels: u8, tokens: Tokens<'t>) -> Read<'t, (Option<Expr>, Option<Expr>)>
+        requires { Operands F.Fn self.now.operand.now (levels + 1) }
+        ensures { Gives (with_rest bounds_of) result (read kind (slice (inside levels)) (tokens_of tokens.now)) }
+    {
+        let (_, rest) = take(tokens, COLON)?;
+        let (stop, rest) = self.bound(levels, rest)?;
+        let (step, rest) = self.step(levels, rest)?;
+        Ok(((stop, step), rest))
+    }
+
+    #[tactic(auto, unfolding(nd_model::specs::Cells::bound_in))]
+    fn bound<'t>(&self, levels: u8, tokens: Tokens<'t>) -> Read<'t, Option<Expr>>
+        requires { Operands F.Fn self.now.operand.now (levels + 1) }
+        ensures { Gives (with_rest bound_of) result (read kind (bound_in (inside levels)) (tokens_of tokens.now)) }
+    {
+        if next_in(tokens, EXPR) {
+            let (bound, rest) = self.expr(levels, Spot::Anywhere, tokens)?;
+            return Ok((Some(bound), rest));
+        }
+        let (_, rest) = tokens.split_at(0);
+        Ok((None, rest))
+    }
+
+    #[tactic(auto, unfolding(nd_model::specs::Cells::step_in))]
+    fn step<'t>(&self, levels: u8, tokens: Tokens<'t>) -> Read<'t, Option<Expr>>
+        requires { Operands F.Fn self.now.operand.now (levels + 1) }
+        ensures { Gives (with_rest bound_of) result (read kind (step_in (inside levels)) (tokens_of tokens.now)) }
+    {
+        if next_in(tokens, COLON) {
+            let (_, rest) = take(tokens, COLON)?;
+            return self.bound(levels, rest);
+        }
+        let (_, rest) = tokens.split_at(0);
+        Ok((None, rest))
+    }
+
+    /// `[elem, ..]`
+    #[cycle(lists)]
+    fn list<'t>(&self, levels: u8, tokens: Tokens<'t>) -> Read<'t, Vec<Element>>
+        requires { Operands F.Fn self.now.operand.now levels }
+        ensures { Gives (with_rest elements_in) result (read kind (list (under levels)) (tokens_of tokens.now)) }
+    {
+        if levels == 0 {
+            return Err(shut(tokens, OPEN_BRACKET, Reason::TooDeep));
+        }
+        self.listed(levels - 1, tokens)
+    }
+
+    #[cycle(lists)]
+    fn listed<'t>(&self, levels: u8, tokens: Tokens<'t>) -> Read<'t, Vec<Element>>
+        requires { Operands F.Fn self.now.operand.now (levels + 1) }
+        ensures { Gives (with_rest elements_in) result (read kind (between OPEN_BRACKET (mapped elements_of (elements (inside levels))) CLOSE_BRACKET) (tokens_of tokens.now)) }
+    {
+        let (_, rest) = take(tokens, OPEN_BRACKET)?;
+        let (all, rest) = self.elements(levels, rest)?;
+        let (_, rest) = take(rest, CLOSE_BRACKET)?;
+        Ok((all, rest))
+    }
+
+    /// The elements of a list, perhaps none.
+    #[tactic(auto, unfolding(nd_model::specs::Cells::elements))]
+    #[cycle(lists)]
+    fn elements<'t>(&self, levels: u8, tokens: Tokens<'t>) -> Read<'t, Vec<Element>>
+        requires { Operands F.Fn self.now.operand.now (levels + 1) }
+        ensures { Gives (with_rest list_of_elements) result (read kind (elements (inside levels)) (tokens_of tokens.now)) }
+    {
+        if next_in(tokens, ELEMENT) {
+            return self.some_elements(levels, tokens);
+        }
+        let (_, rest) = tokens.split_at(0);
+        Ok((Vec::new(self.alloc), rest))
+    }
+
+    #[cycle(lists)]
+    fn some_elements<'t>(&self, levels: u8, tokens: Tokens<'t>) -> Read<'t, Vec<Element>>
+        requires { Operands F.Fn self.now.operand.now (levels + 1) }
+        ensures { Gives (with_rest list_of_elements) result (read kind (separated COMMA_MORE COMMA_LAST (element (inside levels)) (element (inside levels))) (tokens_of tokens.now)) }
+    {
+        let (first, rest) = self.element(levels, tokens)?;
+        let (mut all, rest) = self.other_elements(levels, rest)?;
+        let (_, rest) = last_comma(COMMA_LAST, rest)?;
+        all.insert(0, first)?;
+        Ok((all, rest))
+    }
+
+    /// Any number of elements, each behind a comma.
+    #[cycle(lists)]
+    fn other_elements<'t>(&self, levels: u8, tokens: Tokens<'t>) -> Read<'t, Vec<Element>>
+        requires { Operands F.Fn self.now.operand.now (levels + 1) }
+        ensures { Gives (with_rest list_of_elements) result (read kind (Many COMMA_MORE (λ xs. xs) (behind_comma COMMA_MORE (element (inside levels)))) (tokens_of tokens.now)) }
+    {
+        let mut all = Vec::new(self.alloc);
+        // from the first token on
+        let (_, mut rest) = tokens.split_at(0);
+        'more: while next_in(rest, COMMA_MORE) {
+            let (next, after) = self.other_element(levels, rest)?;
+            all.push(next)?;
+            rest = after;
+        }
+        Ok((all, rest))
+    }
+
+    #[cycle(lists)]
+    fn other_element<'t>(&self, levels: u8, tokens: Tokens<'t>) -> Read<'t, Element>
+        requires { Operands F.Fn self.now.operand.now (levels + 1) }
+        ensures { Gives (with_rest element_of) result (read kind (behind_comma COMMA_MORE (element (inside levels))) (tokens_of tokens.now)) }
+    {
+        let (_, rest) = take(tokens, COMMA_MORE)?;
+        self.element(levels, rest)
+    }
+
+    /// An element of a list.
+    #[cycle(lists)]
+    pub fn element<'t>(&self, levels: u8, tokens: Tokens<'t>) -> Read<'t, Element>
+        requires { Operands F.Fn self.now.operand.now (levels + 1) }
+        ensures { Gives (with_rest element_of) result (read kind (element (inside levels)) (tokens_of tokens.now)) }
+    {
+        if next_in(tokens, OPEN_BRACKET) {
+            let (elements, rest) = self.list(levels, tokens)?;
+            return Ok((Element::Nested(elements), rest));
+        }
+        let (single, rest) = self.expr(levels, Spot::Anywhere, tokens)?;
+        Ok((Element::Single(single), rest))
+    }
+}
+
+/// `()`
+fn nothing<'t>(alloc: Global, levels: u8, tokens: Tokens<'t>) -> Read<'t, Vec<IndexItem>>
+    ensures { Gives (with_rest items_in) result (read kind (nothing (under levels)) (tokens_of tokens.now)) }
+{
+    if levels == 0 {
+        return Err(shut(tokens, OPEN_NONE, Reason::TooDeep));
+    }
+    no_items(alloc, tokens)
+}
+
+fn no_items<'t>(alloc: Global, tokens: Tokens<'t>) -> Read<'t, Vec<IndexItem>>
+    ensures { Gives (with_rest items_in) result (read kind no_items (tokens_of tokens.now)) }
+{
+    let (_, rest) = take(tokens, OPEN_NONE)?;
+    let (_, rest) = take(rest, CLOSE)?;
+    Ok((Vec::new(alloc), rest))
+}
+
+/// `newaxis`, which is not called
+#[tactic(auto, unfolding(nd_model::specs::Cells::newaxis_name))]
+fn newaxis_name<'t>(tokens: Tokens<'t>) -> Read<'t, IndexItem>
+    ensures { Gives (with_rest item_of) result (read kind newaxis_name (tokens_of tokens.now)) }
+{
+    if next_in(tokens, NEWAXIS) {
+        let (_, rest) = take(tokens, NEWAXIS)?;
+        return Ok((IndexItem::NewAxis, rest));
+    }
+    Err(shut(tokens, NEWAXIS_CALLED, Reason::UnknownCall))
+}
+
+/// `np.newaxis`
+#[tactic(auto, unfolding(nd_model::specs::Cells::newaxis))]
+fn newaxis<'t>(tokens: Tokens<'t>) -> Read<'t, IndexItem>
+    ensures { Gives (with_rest item_of) result (read kind newaxis (tokens_of tokens.now)) }
+{
+    let (_, rest) = take(tokens, NP_NEWAXIS)?;
+    let (_, rest) = take(rest, DOT)?;
+    newaxis_name(rest)
+}

@@ -55,7 +55,7 @@ fn measure_copy(rt: &HostRuntime, elements: u64) -> io::Result<()>
 }
 
 /// A text with so many times another behind it.
-fn repeated(alloc: Global, first: &str, text: &str, times: u32) -> Result<String, AllocError> {
+fn repeat(alloc: Global, first: &str, text: &str, times: u32) -> Result<String, AllocError> {
     let mut all = String::from_str(alloc, first)?;
     for _ in 0..times {
         all.push_str(text)?;
@@ -65,7 +65,7 @@ fn repeated(alloc: Global, first: &str, text: &str, times: u32) -> Result<String
 
 /// Prints how long it takes to read a cell of a text with so many times another behind it.
 fn measure_parse(rt: &HostRuntime, first: &str, text: &str, times: u32) -> io::Result<()> {
-    let cell = repeated(rt.alloc(), first, text, times)?;
+    let cell = repeat(rt.alloc(), first, text, times)?;
     let mut best = u128::MAX;
     for _ in 0..TURNS {
         let start = Instant::now(rt)?;

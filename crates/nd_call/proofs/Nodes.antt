@@ -4,15 +4,15 @@ use Rattle.std.specs.Option.{option_map}
 use mathlib.Core.Former.{Count}
 use Rattle.nd_model.specs.Syntax as model
 use Rattle.nd_model.specs.Cells.{exprs_of}
-use Rattle.nd_tree.specs.declared.tree.Expr.{Expr}
-use Rattle.nd_tree.specs.declared.tree.Call as call
-use Rattle.nd_tree.specs.declared.tree.Call.{Call, Row_of-Expr, end_of-Expr, more_of-Expr, items-the_row-Expr}
-use Rattle.nd_tree.specs.declared.tree.Method as method
-use Rattle.nd_tree.specs.declared.tree.Method.{Method}
-use Rattle.nd_tree.specs.declared.calls.Fill.{Fill}
-use Rattle.nd_tree.specs.declared.calls.DType.{DType}
-use Rattle.nd_tree.specs.Calls.{fill_of, dtype_of}
-use Rattle.nd_tree.specs.Syntax.{expr_of, call_of, method_of, row_of_exprs}
+use Rattle.nd_syntax.specs.declared.tree.Expr.{Expr}
+use Rattle.nd_syntax.specs.declared.tree.Call as call
+use Rattle.nd_syntax.specs.declared.tree.Call.{Call, Row_of-Expr, end_of-Expr, more_of-Expr, items-the_row-Expr}
+use Rattle.nd_syntax.specs.declared.tree.Method as method
+use Rattle.nd_syntax.specs.declared.tree.Method.{Method}
+use Rattle.nd_syntax.specs.declared.calls.Fill.{Fill}
+use Rattle.nd_syntax.specs.declared.calls.DType.{DType}
+use Rattle.nd_syntax.specs.Calls.{fill_of, dtype_of}
+use Rattle.nd_syntax.specs.Syntax.{expr_of, call_of, method_of, row_of_exprs}
 
 numbers_are : (n : _) (row : Row_of-Expr n) → row_of_exprs row ≡ map expr_of (items-the_row-Expr n row)
 numbers_are n end_of-Expr = refl

@@ -6,8 +6,8 @@ use Rattle.nd_model.specs.Kinds.{kind, OPEN, CLOSE, SIGN, POWER}
 use Rattle.nd_model.specs.Cells.{Anywhere, under, between, suffix, exponent, signed, unary, operation, arange, filled, full, new_array, broadcast_to, two, reduce, accumulate, axes, lengths, reduction, reduction_options, accumulation}
 use Rattle.nd_model.proofs.Parsing.Looks.{look_suffix, known}
 use Rattle.nd_model.proofs.Parsing.Loops.{Shrinks, shrinks}
-use Rattle.nd_tree.specs.Gives.{inside}
-use Rattle.nd_tree.proofs.Levels.{enter_in}
+use Rattle.nd_read.specs.Gives.{inside}
+use Rattle.nd_read.proofs.Levels.{enter_in}
 use Rattle.nd_call.specs.Readers.{with_sign, arange_body, filled_body, full_body, new_array_body, broadcast_to_body, two_body, reduce_body, accumulate_body, axes_body, lengths_body, accumulation_body}
 
 -- ---- levels

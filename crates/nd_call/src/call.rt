@@ -4,21 +4,22 @@ ghost use Rattle.nd_model.specs.Kinds.{kind, OPEN, CLOSE};
 ghost use Rattle.nd_model.specs.Predict.{read};
 ghost use Rattle.nd_model.specs.Syntax.{Filled, Full, BroadcastTo};
 ghost use Rattle.nd_model.specs.Cells.{under, between, extremum_named, ranged, second, third, arange, filled, full, new_array, broadcast_to, two, reduce, accumulate, fold, call, function};
-ghost use Rattle.nd_tree.specs.Calls.{fill_of};
-ghost use Rattle.nd_tree.specs.Syntax.{expr_of, call_of, fold_of};
-ghost use Rattle.nd_tree.specs.Gives.{Gives, with_rest, tokens_of, inside, exprs_of, typing_of, two_of, filled_of, second_of, third_of};
+ghost use Rattle.nd_syntax.specs.Calls.{fill_of};
+ghost use Rattle.nd_syntax.specs.Syntax.{expr_of, call_of, fold_of};
+ghost use Rattle.nd_read.specs.Gives.{Gives, with_rest, tokens_of, inside, exprs_of, typing_of, two_of, filled_of, second_of, third_of};
 ghost use Rattle.nd_rule.specs.Readers.{Operands};
 ghost use Rattle.nd_call.specs.Readers.{numbers, other_call, arange_body, second_number, third_number, filled_body, full_body, new_array_body, broadcast_to_body, two_body, reduce_body, accumulate_body};
 
 use crate::operands::Calls;
-use nd_tree::kinds::{
+use nd_read::kinds::{
     ABSOLUTE, ACCUMULATE, ARANGE, ARRAY, BROADCAST, CLOSE, COMMA, DOT, DTYPE_BOUND, EXTREMUM, FILL,
     FULL, KIND, LOAD, NO_FOLD, NO_FUNCTION, OPEN, REDUCE, UFUNC, next_in,
 };
-use nd_tree::read::{Read, Reason, Tokens, shut, take, text_of};
-use nd_tree::spot::Spot;
-use nd_tree::types::{comma_typing, quoted, typing};
-use nd_tree::{Call, DType, Expr, Fill, Fold, fill_named, kind_named, ufunc_named};
+use nd_read::names::{fill_named, kind_named, ufunc_named};
+use nd_read::read::{Read, Reason, Tokens, shut, take, text_of};
+use nd_read::spot::Spot;
+use nd_read::types::{comma_typing, quoted, typing};
+use nd_syntax::{Call, DType, Expr, Fill, Fold};
 
 impl<'f, F: for<'t> Fn(u8, Spot, Tokens<'t>) -> Read<'t, Expr>> Calls<'f, F> {
     /// `np.` and a call, where `np` is of the set

@@ -4,22 +4,23 @@ ghost use Rattle.nd_model.specs.Kinds.{kind, OPEN, CLOSE};
 ghost use Rattle.nd_model.specs.Predict.{read};
 ghost use Rattle.nd_model.specs.Syntax.{Transpose, Reshape};
 ghost use Rattle.nd_model.specs.Cells.{under, between, conversion_named, axes, lengths, reduction_options, reduction, accumulation, attribute, method};
-ghost use Rattle.nd_tree.specs.Calls.{dtype_of};
-ghost use Rattle.nd_tree.specs.Syntax.{method_of, bound_of};
-ghost use Rattle.nd_tree.specs.Gives.{Gives, with_rest, tokens_of, inside, exprs_of, options_of};
+ghost use Rattle.nd_syntax.specs.Calls.{dtype_of};
+ghost use Rattle.nd_syntax.specs.Syntax.{method_of, bound_of};
+ghost use Rattle.nd_read.specs.Gives.{Gives, with_rest, tokens_of, inside, exprs_of, options_of};
 ghost use Rattle.nd_rule.specs.Readers.{Operands};
 ghost use Rattle.nd_call.specs.Readers.{numbers, other_attribute, axes_body, lengths_body, accumulation_body};
 
 use crate::operands::Calls;
-use nd_tree::kinds::{
+use nd_read::kinds::{
     ACCUMULATION, AXIS, AXIS_BOUND, AXIS_CALLED, CLOSE, CONVERSION, COPY, DOT, EXPR, FIRST_AXIS,
     KEEPDIMS_BOUND, NO_METHOD, OPEN, OPEN_NONE, OPEN_TUPLE, REDUCTION, RESHAPE, TRANSPOSE,
     TRANSPOSED, next_in,
 };
-use nd_tree::read::{Read, Reason, Tokens, shut, stop_at, take, text_of};
-use nd_tree::spot::Spot;
-use nd_tree::types::{comma_keepdims, empty, named_keepdims, no_lengths, type_argument};
-use nd_tree::{Axis, DType, Expr, Method, accumulation_named, reduction_named};
+use nd_read::names::{accumulation_named, reduction_named};
+use nd_read::read::{Read, Reason, Tokens, shut, stop_at, take, text_of};
+use nd_read::spot::Spot;
+use nd_read::types::{comma_keepdims, empty, named_keepdims, no_lengths, type_argument};
+use nd_syntax::{Axis, DType, Expr, Method};
 
 impl<'f, F: for<'t> Fn(u8, Spot, Tokens<'t>) -> Read<'t, Expr>> Calls<'f, F> {
     /// `.method`, which may open this many levels.

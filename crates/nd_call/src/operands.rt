@@ -4,18 +4,18 @@ ghost use Rattle.nd_model.specs.Grammar.{Many};
 ghost use Rattle.nd_model.specs.Kinds.{kind, SUFFIX, POWER};
 ghost use Rattle.nd_model.specs.Predict.{read};
 ghost use Rattle.nd_model.specs.Cells.{Anywhere, under, suffixed, suffix, operand, postfix, exponent, power, signed, unary, operation};
-ghost use Rattle.nd_tree.specs.Syntax.{expr_of, suffix_of};
-ghost use Rattle.nd_tree.specs.Gives.{Gives, with_rest, tokens_of, spot_of, suffixes_of, operation_of};
+ghost use Rattle.nd_syntax.specs.Syntax.{expr_of, suffix_of};
+ghost use Rattle.nd_read.specs.Gives.{Gives, with_rest, tokens_of, spot_of, suffixes_of, operation_of};
 ghost use Rattle.nd_rule.specs.Readers.{Operands};
 ghost use Rattle.nd_call.specs.Readers.{with_sign};
 
+use nd_read::kinds::{ABS, BUFFER, CALLED, OPEN, OPEN_BRACKET, PLUS, POWER, SIGN, SUFFIX, next_in};
+use nd_read::operators::{binary_of, unary_of};
+use nd_read::read::{Read, Reason, Tokens, leaf, shut, stop_at, take};
+use nd_read::spot::{Spot, leaves, modules, openings};
+use nd_read::types::quoted;
 use nd_rule::{Rules, operated};
-use nd_tree::kinds::{ABS, BUFFER, CALLED, OPEN, OPEN_BRACKET, PLUS, POWER, SIGN, SUFFIX, next_in};
-use nd_tree::operators::{binary_of, unary_of};
-use nd_tree::read::{Read, Reason, Tokens, leaf, shut, stop_at, take};
-use nd_tree::spot::{Spot, leaves, modules, openings};
-use nd_tree::types::quoted;
-use nd_tree::{BinaryOp, Call, Expr, Suffix};
+use nd_syntax::{BinaryOp, Call, Expr, Suffix};
 use std::alloc::{AllocError, Global};
 
 /// Operands, calls and methods, over the rules of what stands in their brackets.

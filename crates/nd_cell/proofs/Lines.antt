@@ -9,9 +9,9 @@ use Rattle.nd_model.specs.Fault.{Fault, Statement, TextTooLong}
 use Rattle.nd_model.specs.Fault as fault
 use Rattle.nd_model.specs.Cell.{Saved, statement, statements, and_then, with_save, most_text}
 use Rattle.nd_model.specs.Tokens.{tokens_of_stmt, tokens_of_lines}
-use Rattle.nd_tree.specs.declared.tree.Line.{Line}
-use Rattle.nd_tree.specs.Syntax.{stmt_of, lines_of}
-use Rattle.nd_cell.specs.Cells.{saved_of, saves_of}
+use Rattle.nd_syntax.specs.declared.tree.Line.{Line}
+use Rattle.nd_syntax.specs.Syntax.{stmt_of, lines_of}
+use Rattle.nd_cell.specs.Results.{saved_of, saves_of}
 
 more : (lines : List Line) (k : ℕ) (d : Line) → k < length lines → d ≡ get_or lines k d → drop k lines ≡ d ∷ drop (k + 1) lines
 more lines k d lt is = drop-cons lines k d lt ∙ ap₂ (λ (e : Line) (n : ℕ). e ∷ drop n lines) (sym is) (sym (add-one k))

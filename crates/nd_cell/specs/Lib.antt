@@ -1,1 +1,3 @@
-pub mod Cells
+pub mod Results
+pub use Rattle.nd_eval.specs.Faults
+pub use Rattle.nd_syntax.specs.Syntax

@@ -5,7 +5,7 @@ use nd_eval::StmtFault;
 use nd_parse::ParseKind;
 
 /// Why a cell is refused.
-#[derive(Debug, Drop)]
+#[derive(Drop)]
 pub enum CellFault {
     /// The text is no cell. The column is in bytes, from 1.
     Parse(ParseKind, usize),
@@ -14,7 +14,7 @@ pub enum CellFault {
 }
 
 /// A cell's refusal: the line, from 1, on which the refused statement begins, or on which the text goes wrong.
-#[derive(Debug, Drop)]
+#[derive(Drop)]
 pub struct Refusal {
     pub line: usize,
     pub fault: CellFault,

@@ -6,10 +6,10 @@ ghost use Rattle.nd_model.specs.Running as running;
 ghost use Rattle.nd_model.specs.Cell.{cell, statements, with_save};
 ghost use Rattle.nd_model.specs.Tokens.{tokens_of_lines};
 ghost use Rattle.nd_model.specs.Reading.{reading};
-ghost use Rattle.nd_tree.specs.Syntax.{kind_of, lines_of};
+ghost use Rattle.nd_syntax.specs.Syntax.{kind_of, lines_of};
 ghost use Rattle.nd_heap.specs.Values.{inputs_of};
 ghost use Rattle.nd_heap.specs.Live.{live};
-ghost use Rattle.nd_cell.specs.Cells.{ended_of, refusal_of, saved_of, saves_of};
+ghost use Rattle.nd_cell.specs.Results.{ended_of, refusal_of, saved_of, saves_of};
 
 use crate::meter::Meter;
 use crate::result::{CellFault, CellResult, Refusal};

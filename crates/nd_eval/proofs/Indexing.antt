@@ -10,16 +10,16 @@ use Rattle.nd_model.specs.Tokens.{tokens_of, tokens_of_index, tokens_of_method}
 use Rattle.nd_model.specs.Value.{Value}
 use Rattle.nd_model.specs.Running.{Running, Inputs}
 use Rattle.nd_model.specs.Meaning.{Eval, Gives, Refuses, run, ◌>>=◌, value, item_value, indexed}
-use Rattle.nd_tree.specs.declared.tree.Expr as tree
-use Rattle.nd_tree.specs.declared.tree.BinaryOp.{BinaryOp}
-use Rattle.nd_tree.specs.declared.calls.DType.{DType}
-use Rattle.nd_tree.specs.declared.tree.Call as call
-use Rattle.nd_tree.specs.declared.tree.Suffix as suffix
-use Rattle.nd_tree.specs.declared.tree.Index as indexes
-use Rattle.nd_tree.specs.declared.tree.IndexItem as item
-use Rattle.nd_tree.specs.Syntax.{expr_of, call_of, suffix_of, index_of, item_of}
-use Rattle.nd_tree.specs.Gives.{operation_of}
-use Rattle.nd_tree.proofs.Chains.{row_of, postfix_is, item_row, index_is, chain_is}
+use Rattle.nd_syntax.specs.declared.tree.Expr as tree
+use Rattle.nd_syntax.specs.declared.tree.BinaryOp.{BinaryOp}
+use Rattle.nd_syntax.specs.declared.calls.DType.{DType}
+use Rattle.nd_syntax.specs.declared.tree.Call as call
+use Rattle.nd_syntax.specs.declared.tree.Suffix as suffix
+use Rattle.nd_syntax.specs.declared.tree.Index as indexes
+use Rattle.nd_syntax.specs.declared.tree.IndexItem as item
+use Rattle.nd_syntax.specs.Syntax.{expr_of, call_of, suffix_of, index_of, item_of}
+use Rattle.nd_syntax.specs.Lists.{operation_of}
+use Rattle.nd_syntax.proofs.Chains.{row_of, postfix_is, item_row, index_is, chain_is}
 use Rattle.nd_model.proofs.Steps.{goes_on, run_bind}
 use Rattle.nd_eval.proofs.InTurn.{regrouped, next_item}
 

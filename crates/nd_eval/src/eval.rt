@@ -6,7 +6,7 @@ ghost use Rattle.nd_model.specs.Meaning as meaning;
 ghost use Rattle.nd_model.specs.Cells.{items_of};
 ghost use Rattle.nd_model.specs.Syntax.{Called, Items, AndItem, NoItem};
 ghost use Rattle.nd_model.specs.Tokens.{tokens_of, tokens_of_call, tokens_of_index, tokens_of_item, tokens_of_all};
-ghost use Rattle.nd_tree.specs.Syntax.{expr_of, call_of, index_of, item_of};
+ghost use Rattle.nd_syntax.specs.Syntax.{expr_of, call_of, index_of, item_of};
 ghost use Rattle.nd_heap.specs.Values.{value_of, inputs_of};
 ghost use Rattle.nd_heap.specs.Live.{live};
 ghost use Rattle.nd_eval.specs.Contents.{values_of};
@@ -20,7 +20,7 @@ use crate::fault::{StmtError, StmtFault};
 use crate::indexes::indexed;
 use crate::stop::Stop;
 use nd_heap::{Inputs, Session, Value};
-use nd_tree::{Call, Expr, Index, IndexItem, Suffix, UnaryOp};
+use nd_syntax::{Call, Expr, Index, IndexItem, Suffix, UnaryOp};
 use nd_types::Num;
 
 /// The value of a bound name.

@@ -5,7 +5,7 @@ ghost use Rattle.nd_model.specs.Running as running;
 ghost use Rattle.nd_model.specs.Meaning as meaning;
 ghost use Rattle.nd_model.specs.Cell.{statement};
 ghost use Rattle.nd_model.specs.Tokens.{tokens_of_stmt};
-ghost use Rattle.nd_tree.specs.Syntax.{stmt_of};
+ghost use Rattle.nd_syntax.specs.Syntax.{stmt_of};
 ghost use Rattle.nd_heap.specs.Values.{inputs_of};
 ghost use Rattle.nd_heap.specs.Live.{live};
 ghost use Rattle.nd_eval.specs.Ends.{Ends};
@@ -19,10 +19,10 @@ use crate::stop::Stop;
 use crate::texts::{line_of, texts_of};
 use crate::writes::assigned;
 use nd_heap::{Inputs, OutOfMemory, Session};
-use nd_tree::Stmt;
+use nd_syntax::Stmt;
 
 /// What a statement gives to its cell: the text that it prints, and perhaps a file that it saves, by its name.
-#[derive(Drop, Debug)]
+#[derive(Drop)]
 pub struct Output {
     pub text: String,
     pub save: Option<(String, Vec<u8>)>,

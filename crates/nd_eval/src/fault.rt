@@ -3,7 +3,7 @@
 pub use nd_view::ViewFault;
 
 /// Why an index is none of this array.
-#[derive(Clone, Copy, PartialEq, Eq, Debug)]
+#[derive(Clone, Copy)]
 pub enum IndexFault {
     /// The index is not below the size of its axis, nor from -size on. Axes are counted from 0.
     OutOfBounds { axis: usize, index: i128, size: u64 },
@@ -14,7 +14,7 @@ pub enum IndexFault {
 }
 
 /// Why numbers are not written, or have no result.
-#[derive(Clone, Copy, PartialEq, Eq, Debug)]
+#[derive(Clone, Copy)]
 pub enum UfuncFault {
     /// A Python integer that the array's kind of number has not.
     IntOutOfRange(i128),
@@ -27,7 +27,7 @@ pub enum UfuncFault {
 }
 
 /// Other refusals of a statement.
-#[derive(PartialEq, Eq, Debug, Drop)]
+#[derive(Drop)]
 pub enum StmtError {
     /// No value is bound to this name.
     NoName(String),
@@ -42,7 +42,7 @@ pub enum StmtError {
 }
 
 /// Why a statement is refused.
-#[derive(PartialEq, Eq, Debug, Drop)]
+#[derive(Drop)]
 pub enum StmtFault {
     View(ViewFault),
     Index(IndexFault),

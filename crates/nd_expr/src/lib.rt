@@ -5,14 +5,14 @@ ghost use Rattle.std.specs.Prelude.{◌≡◌, ◌<◌};
 ghost use Rattle.nd_model.specs.Kinds.{kind};
 ghost use Rattle.nd_model.specs.Predict.{read};
 ghost use Rattle.nd_model.specs.Cells.{Anywhere, under, unary, operand, expr, exprs, index, method};
-ghost use Rattle.nd_tree.specs.Syntax.{expr_of, index_of, method_of};
-ghost use Rattle.nd_tree.specs.Gives.{Gives, with_rest, tokens_of, spot_of, exprs_of};
+ghost use Rattle.nd_syntax.specs.Syntax.{expr_of, index_of, method_of};
+ghost use Rattle.nd_read.specs.Gives.{Gives, with_rest, tokens_of, spot_of, exprs_of};
 
 use nd_call::Calls;
+use nd_read::read::{Read, Tokens};
+use nd_read::spot::Spot;
 use nd_rule::Rules;
-use nd_tree::read::{Read, Tokens};
-use nd_tree::spot::Spot;
-use nd_tree::{Expr, Index, Method};
+use nd_syntax::{Expr, Index, Method};
 use std::alloc::Global;
 
 /// A signed operand, which may open this many levels. What stands in its brackets is read by this function, with fewer of them.

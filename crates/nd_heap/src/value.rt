@@ -8,7 +8,7 @@ use nd_types::Num;
 use nd_view::View;
 
 /// The name of a block: the label of the cell that made it, and its number within that cell.
-#[derive(Clone, Copy, PartialEq, Eq, Hash, Debug)]
+#[derive(Clone, Copy, PartialEq, Eq, Hash)]
 pub struct Base {
     pub label: u64,
     pub number: u64,

@@ -11,10 +11,10 @@ use Rattle.nd_model.specs.Kinds.{kind, START, ANY}
 use Rattle.nd_model.specs.Cells.{too_many, line, lines}
 use Rattle.nd_model.proofs.Parsing.Sets.{which, and_true, and_both, true_false}
 use Rattle.nd_model.proofs.Parsing.Loops.{mapped}
-use Rattle.nd_tree.specs.declared.read.Failure.{Failure}
-use Rattle.nd_tree.specs.Gives.{Fails}
+use Rattle.nd_read.specs.declared.read.Failure.{Failure}
+use Rattle.nd_read.specs.Gives.{Fails}
 use Rattle.nd_parse.specs.Readers.{goes_on, is_over}
-use Rattle.nd_tree.proofs.Stops.{fails_on}
+use Rattle.nd_read.proofs.Stops.{fails_on}
 
 -- what is left to read, behind these lines
 abbrev pub after : Gram Token Stmt → List Line → ℕ → List Token → Result (List Line × List Token) grammar.Stop

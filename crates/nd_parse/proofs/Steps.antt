@@ -10,10 +10,10 @@ use Rattle.nd_model.specs.Cells.{Anywhere, Target, Suffix, AtIndex, OfMethod, su
 use Rattle.nd_model.specs.Factored.{Group, attributed, placed, place, group, groups, target}
 use Rattle.nd_model.proofs.Parsing.Looks.{look_method, look_group, known}
 use Rattle.nd_model.proofs.Parsing.Loops.{Shrinks, shrinks, mapped, fused, many_fuse}
-use Rattle.nd_tree.specs.declared.read.Failure.{Failure}
-use Rattle.nd_tree.specs.Gives.{Fails}
-use Rattle.nd_tree.proofs.Levels.{enter_in}
-use Rattle.nd_tree.proofs.Stops.{fails_on}
+use Rattle.nd_read.specs.declared.read.Failure.{Failure}
+use Rattle.nd_read.specs.Gives.{Fails}
+use Rattle.nd_read.proofs.Levels.{enter_in}
+use Rattle.nd_read.proofs.Stops.{fails_on}
 use Rattle.nd_parse.specs.Readers.{collected, trailing, saved_body}
 
 -- ---- levels

@@ -4,9 +4,5 @@
 mod parse;
 mod stmt;
 
-pub use nd_tree::{
-    Accumulation, Axis, BinaryOp, Call, DType, Element, Expr, FieldType, Fill, Fold, Index,
-    IndexItem, Line, Method, ParseFault, ParseKind, Reduction, Stmt, Suffix, TypeName, Ufunc,
-    UnaryOp,
-};
+pub use nd_syntax::{Line, ParseFault, ParseKind};
 pub use parse::parse_cell;

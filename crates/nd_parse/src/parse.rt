@@ -5,15 +5,15 @@ ghost use Rattle.nd_model.specs.Predict.{read, read_all};
 ghost use Rattle.nd_model.specs.Factored.{cell};
 ghost use Rattle.nd_model.specs.Reading.{fault_of_word, fault_kind, fault_at, reading};
 ghost use Rattle.nd_token.specs.Tokens.{word_of};
-ghost use Rattle.nd_tree.specs.Syntax.{kind_of, fault_of, lines_of, parsed_of};
+ghost use Rattle.nd_syntax.specs.Syntax.{kind_of, fault_of, lines_of, parsed_of};
 ghost use Rattle.nd_parse.specs.Readers.{goes_on, is_over};
-ghost use Rattle.nd_tree.specs.Gives.{Gives, with_rest, tokens_of, reason_of, stop_of, list_of};
+ghost use Rattle.nd_read.specs.Gives.{Gives, with_rest, tokens_of, reason_of, stop_of, list_of};
 
 use crate::stmt::line;
+use nd_read::kinds::{ANY, START, next_in};
+use nd_read::read::{Failure, Read, Reason, Stop, Tokens, stop_at};
+use nd_syntax::{Line, ParseFault, ParseKind};
 use nd_token::{BadToken, Token, Word};
-use nd_tree::kinds::{ANY, START, next_in};
-use nd_tree::read::{Failure, Read, Reason, Stop, Tokens, stop_at};
-use nd_tree::{Line, ParseFault, ParseKind};
 use std::alloc::{AllocError, Global};
 
 /// The most levels that brackets and signs open.

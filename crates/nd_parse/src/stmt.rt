@@ -7,22 +7,22 @@ ghost use Rattle.nd_model.specs.Predict.{read};
 ghost use Rattle.nd_model.specs.Cells.{Anywhere, OfMethod, under, between, expr, exprs, method, module_name, imports, delete, printed, print, saved, save, value, bound, written, line};
 ghost use Rattle.nd_model.specs.Factored.{bind, group, target, assign, stmt};
 ghost use Rattle.nd_token.specs.Tokens.{token_of};
-ghost use Rattle.nd_tree.specs.Syntax.{expr_of, index_of, binary_op, stmt_of, line_of};
-ghost use Rattle.nd_tree.specs.Gives.{Gives, with_rest, tokens_of, exprs_of, methods_of, suffixes_of, group_of, trailing_of, target_of, value_of};
+ghost use Rattle.nd_syntax.specs.Syntax.{expr_of, index_of, binary_op, stmt_of, line_of};
+ghost use Rattle.nd_read.specs.Gives.{Gives, with_rest, tokens_of, exprs_of, methods_of, suffixes_of, group_of, trailing_of, target_of, value_of};
 ghost use Rattle.nd_parse.specs.Readers.{trailing, saved_body};
 
 use nd_call::postfixed;
 use nd_expr::{expr, exprs, index, method, operand};
-use nd_token::Token;
-use nd_tree::kinds::{
+use nd_read::kinds::{
     AS, ASSIGNMENT, BOUND, CLOSE, COMMA, DEL, DOT, END, IMPORT, NP, NP_SAVE, NUMPY, NUMPY_CALLED,
     OPEN, PRINT, SAVE, SUFFIX, next_in,
 };
-use nd_tree::operators::augment_of;
-use nd_tree::read::{Read, Reason, Tokens, line_at, name, name_of, shut, take};
-use nd_tree::spot::Spot;
-use nd_tree::types::quoted_text;
-use nd_tree::{BinaryOp, Expr, Index, Line, Method, Stmt, Suffix};
+use nd_read::operators::augment_of;
+use nd_read::read::{Read, Reason, Tokens, line_at, name, name_of, shut, take};
+use nd_read::spot::Spot;
+use nd_read::types::quoted_text;
+use nd_syntax::{BinaryOp, Expr, Index, Line, Method, Stmt, Suffix};
+use nd_token::Token;
 use std::alloc::{AllocError, Global};
 
 #[tactic(auto, unfolding(nd_model::specs::Cells::module_name))]

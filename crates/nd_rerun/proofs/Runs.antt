@@ -12,7 +12,7 @@ use Rattle.nd_model.specs.Cell.{Ended, cell, session_after, notebook}
 use Rattle.nd_model.specs.Renaming.{Told, told, shown_names}
 use Rattle.nd_model.specs.Book.{Cell, read_cells}
 use Rattle.nd_cell.specs.declared.result.CellResult.{CellResult}
-use Rattle.nd_cell.specs.Cells.{refusal_of, saves_of, ended_of}
+use Rattle.nd_cell.specs.Results.{refusal_of, saves_of, ended_of}
 use Rattle.nd_rerun.specs.declared.cells.Source.{Source}
 use Rattle.nd_rerun.specs.declared.cells.Ran.{Ran}
 use Rattle.nd_rerun.specs.Cells.{cell_of, cells_of, told_of, tolds_of}

@@ -3,7 +3,7 @@ use Rattle.std.specs.Prelude.{List, map, option_map, string_bytes}
 use Rattle.nd_model.specs.Book as model
 use Rattle.nd_model.specs.Renaming.{Told, shown_names}
 use Rattle.nd_heap.specs.Kept.{version_of}
-use Rattle.nd_cell.specs.Cells.{refusal_of, saves_of}
+use Rattle.nd_cell.specs.Results.{refusal_of, saves_of}
 use Rattle.nd_rerun.specs.declared.cells.Source.{Source}
 use Rattle.nd_rerun.specs.declared.cells.Ran.{Ran}
 

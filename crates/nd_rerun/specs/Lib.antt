@@ -5,3 +5,9 @@ pub mod Labels
 pub mod Cells
 pub mod Passes
 pub mod Queries
+pub use Rattle.nd_types.specs.Kinds
+pub use Rattle.nd_types.specs.Fields
+pub use Rattle.nd_types.specs.Types
+pub use Rattle.nd_cell.specs.Syntax
+pub use Rattle.nd_cell.specs.Faults
+pub use Rattle.nd_cell.specs.Results

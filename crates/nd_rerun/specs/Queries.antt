@@ -4,7 +4,7 @@ use Rattle.nd_model.specs.Book as model
 use Rattle.nd_model.specs.Renaming as shown
 use Rattle.nd_types.specs.Kinds.{kind_of}
 use Rattle.nd_types.specs.Types.{type_of}
-use Rattle.nd_cell.specs.Cells.{refusal_of, saves_of}
+use Rattle.nd_cell.specs.Results.{refusal_of, saves_of}
 use Rattle.nd_cell.specs.declared.result.CellResult.{CellResult}
 use Rattle.nd_rerun.specs.declared.query.QueryFault as declared
 use Rattle.nd_rerun.specs.declared.query.QueryFault.TheVariants as faults

@@ -19,7 +19,7 @@ pub enum Edit<'a> {
 }
 
 /// Why an edit is refused. The first that holds is answered, and want of memory last.
-#[derive(Clone, Copy, PartialEq, Eq, Debug)]
+#[derive(Clone, Copy, Debug)]
 pub enum EditFault {
     /// The place, and how many cells there are.
     NoCell(usize, usize),

@@ -8,7 +8,11 @@ mod query;
 mod shown;
 
 pub use edit::{Edit, EditFault};
-pub use nd_cell::{CellFault, CellResult, Meter, Refusal};
+pub use nd_cell::{
+    CellFault, CellResult, IndexFault, Meter, ParseKind, Refusal, StmtError, StmtFault, UfuncFault,
+    ViewFault,
+};
 pub use nd_heap::OutOfMemory;
+pub use nd_types::{Elem, ElemType, Field, Kind, RecType};
 pub use notebook::Notebook;
 pub use query::{QueryFault, Shown};

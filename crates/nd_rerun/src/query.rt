@@ -13,7 +13,7 @@ use nd_types::{ElemType, Kind, Num};
 use std::alloc::Global;
 
 /// Why a query is refused.
-#[derive(Clone, Copy, PartialEq, Eq, Debug)]
+#[derive(Clone, Copy, PartialEq, Eq)]
 pub enum QueryFault {
     /// The place, and how many cells there are.
     NoCell(usize, usize),

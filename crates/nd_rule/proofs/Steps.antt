@@ -8,8 +8,8 @@ use Rattle.nd_model.specs.Kinds.{kind, COLON, ELLIPSIS, NONE, NP_NEWAXIS, QUOTED
 use Rattle.nd_model.specs.Cells.{Spot, Anywhere, Level, under, between, grouped, elements, elements_of, list, nothing, item, items_of, contents, index, suffix, exponent, signed, unary, operation, chain, term, sum, shift, band, bxor, bor, expr, tuple, arange, filled, full, new_array, broadcast_to, two, reduce, accumulate, axes, lengths, reduction, reduction_options, accumulation}
 use Rattle.nd_model.specs.Cells as cells
 use Rattle.nd_model.proofs.Parsing.Loops.{Shrinks, one_shrinks, then_shrinks}
-use Rattle.nd_tree.specs.Gives.{inside}
-use Rattle.nd_tree.proofs.Levels.{enter_in}
+use Rattle.nd_read.specs.Gives.{inside}
+use Rattle.nd_read.proofs.Levels.{enter_in}
 use Rattle.nd_rule.specs.Readers.{items_of_index, no_items, operators, ranked, tuple_body}
 
 -- ---- levels

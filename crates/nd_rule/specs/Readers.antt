@@ -11,11 +11,11 @@ use Rattle.nd_model.specs.Syntax as syntax
 use Rattle.nd_model.specs.Kinds.{kind, PRODUCT, SUM, SHIFT, AMPERSAND, CARET, BAR, OPEN_NONE, CLOSE, COMMA, COMMA_MORE, COMMA_LAST, COMMA_INNER, COMMA_CLOSING, AXIS, AXIS_CALLED}
 use Rattle.nd_model.specs.Cells.{Anywhere, FirstItem, LaterItem, Length, Level, Inside, under, token, unknown_call, mapped, separated, unary, chain, nothing, item, numbered_axis}
 use Rattle.nd_model.specs.Cells as cells
-use Rattle.nd_tree.specs.declared.spot.Spot.{Spot}
-use Rattle.nd_tree.specs.declared.tree.Expr.{Expr}
-use Rattle.nd_tree.specs.declared.read.Failure.{Failure}
-use Rattle.nd_tree.specs.Syntax.{expr_of}
-use Rattle.nd_tree.specs.Gives.{Gives, with_rest, tokens_of, spot_of}
+use Rattle.nd_read.specs.declared.spot.Spot.{Spot}
+use Rattle.nd_syntax.specs.declared.tree.Expr.{Expr}
+use Rattle.nd_read.specs.declared.read.Failure.{Failure}
+use Rattle.nd_syntax.specs.Syntax.{expr_of}
+use Rattle.nd_read.specs.Gives.{Gives, with_rest, tokens_of, spot_of}
 
 -- f reads a signed operand exactly, if fewer than n levels may be opened
 module _ {F : Type 0} (g : Shared F (ℕ × (Spot × (Bor (List Token) × Unit {0}))) (Result (Expr × Bor (List Token)) Failure)) (f : F) where

@@ -4,20 +4,20 @@ ghost use Rattle.nd_model.specs.Grammar.{Many};
 ghost use Rattle.nd_model.specs.Kinds.{kind, OPEN_TUPLE, CLOSE};
 ghost use Rattle.nd_model.specs.Predict.{read};
 ghost use Rattle.nd_model.specs.Cells.{Anywhere, under, between, grouped, expr, exprs, tuple, shape, named_axis, numbered_axis, options, comma_options, first_axis};
-ghost use Rattle.nd_tree.specs.Syntax.{expr_of, axis_of, bound_of};
-ghost use Rattle.nd_tree.specs.Gives.{Gives, with_rest, tokens_of, spot_of, inside, exprs_of, options_of};
-ghost use Rattle.nd_tree.specs.Parts.{behind_comma};
+ghost use Rattle.nd_syntax.specs.Syntax.{expr_of, axis_of, bound_of};
+ghost use Rattle.nd_read.specs.Gives.{Gives, with_rest, tokens_of, spot_of, inside, exprs_of, options_of};
+ghost use Rattle.nd_read.specs.Parts.{behind_comma};
 ghost use Rattle.nd_rule.specs.Readers.{Operands, one_length, tuple_body, comma_axis, only_axis};
 
 use crate::operators::Rules;
-use nd_tree::kinds::{
+use nd_read::kinds::{
     AXIS, AXIS_CALLED, CLOSE, COMMA, COMMA_CLOSING, COMMA_INNER, EQUAL, NONE, OPEN_NONE,
     OPEN_TUPLE, next_in,
 };
-use nd_tree::read::{Read, Reason, Tokens, shut, stop_at, take};
-use nd_tree::spot::Spot;
-use nd_tree::types::{comma_keepdims, last_comma, no_lengths, only_keepdims};
-use nd_tree::{Axis, Expr};
+use nd_read::read::{Read, Reason, Tokens, shut, stop_at, take};
+use nd_read::spot::Spot;
+use nd_read::types::{comma_keepdims, last_comma, no_lengths, only_keepdims};
+use nd_syntax::{Axis, Expr};
 
 impl<'f, F: for<'t> Fn(u8, Spot, Tokens<'t>) -> Read<'t, Expr>> Rules<'f, F> {
     /// The lengths of a shape.

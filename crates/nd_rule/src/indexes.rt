@@ -4,20 +4,20 @@ ghost use Rattle.nd_model.specs.Grammar.{Many};
 ghost use Rattle.nd_model.specs.Kinds.{kind, OPEN_BRACKET, CLOSE_BRACKET, COMMA_MORE, COMMA_LAST};
 ghost use Rattle.nd_model.specs.Predict.{read};
 ghost use Rattle.nd_model.specs.Cells.{FirstItem, LaterItem, under, between, mapped, separated, bound_in, step_in, slice, newaxis_name, newaxis, element, elements, elements_of, list, part, item, nothing, contents, index};
-ghost use Rattle.nd_tree.specs.Syntax.{index_of, item_of, bound_of, element_of};
-ghost use Rattle.nd_tree.specs.Gives.{Gives, with_rest, tokens_of, spot_of, items_in, elements_in, list_of_elements, bounds_of, inside};
-ghost use Rattle.nd_tree.specs.Parts.{behind_comma};
+ghost use Rattle.nd_syntax.specs.Syntax.{index_of, item_of, bound_of, element_of};
+ghost use Rattle.nd_read.specs.Gives.{Gives, with_rest, tokens_of, spot_of, items_in, elements_in, list_of_elements, bounds_of, inside};
+ghost use Rattle.nd_read.specs.Parts.{behind_comma};
 ghost use Rattle.nd_rule.specs.Readers.{Operands, items_of_index, no_items};
 
 use crate::operators::Rules;
-use nd_tree::kinds::{
+use nd_read::kinds::{
     CLOSE, CLOSE_BRACKET, COLON, COMMA_LAST, COMMA_MORE, DOT, ELEMENT, ELLIPSIS, EXPR, NEWAXIS,
     NEWAXIS_CALLED, NONE, NP_NEWAXIS, OPEN_BRACKET, OPEN_NONE, QUOTED, next_in,
 };
-use nd_tree::read::{Read, Reason, Tokens, quoted_of, shut, take};
-use nd_tree::spot::Spot;
-use nd_tree::types::last_comma;
-use nd_tree::{Element, Expr, Index, IndexItem};
+use nd_read::read::{Read, Reason, Tokens, quoted_of, shut, take};
+use nd_read::spot::Spot;
+use nd_read::types::last_comma;
+use nd_syntax::{Element, Expr, Index, IndexItem};
 use std::alloc::Global;
 
 impl<'f, F: for<'t> Fn(u8, Spot, Tokens<'t>) -> Read<'t, Expr>> Rules<'f, F> {

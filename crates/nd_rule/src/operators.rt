@@ -5,15 +5,15 @@ ghost use Rattle.nd_model.specs.Kinds.{kind};
 ghost use Rattle.nd_model.specs.Predict.{read};
 ghost use Rattle.nd_model.specs.Syntax.{Binary};
 ghost use Rattle.nd_model.specs.Cells.{Anywhere, under, chained, unary, operation, chain, bor, comparison, expr};
-ghost use Rattle.nd_tree.specs.Syntax.{expr_of};
-ghost use Rattle.nd_tree.specs.Gives.{Gives, with_rest, tokens_of, spot_of, operation_of, operations_of};
+ghost use Rattle.nd_syntax.specs.Syntax.{expr_of};
+ghost use Rattle.nd_read.specs.Gives.{Gives, with_rest, tokens_of, spot_of, operation_of, operations_of};
 ghost use Rattle.nd_rule.specs.Readers.{Operands, operators, ranked};
 
-use nd_tree::kinds::{AMPERSAND, BAR, CARET, COMPARISON, PRODUCT, SHIFT, SUM, next_in};
-use nd_tree::operators::binary_of;
-use nd_tree::read::{Read, Reason, Tokens, stop_at, take};
-use nd_tree::spot::Spot;
-use nd_tree::{BinaryOp, Expr};
+use nd_read::kinds::{AMPERSAND, BAR, CARET, COMPARISON, PRODUCT, SHIFT, SUM, next_in};
+use nd_read::operators::binary_of;
+use nd_read::read::{Read, Reason, Tokens, stop_at, take};
+use nd_read::spot::Spot;
+use nd_syntax::{BinaryOp, Expr};
 use std::alloc::{AllocError, Global};
 
 /// How many ranks of operators are chained, from `*` to `|`.

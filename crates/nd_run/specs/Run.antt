@@ -4,6 +4,7 @@ use Rattle.std.specs.Io.KnownBytes.{Appends, Consumes, IsAtEnd}
 use Rattle.std.specs.declared.alloc.AllocError.{AllocError}
 use Rattle.nd_model.specs.Book.{Book}
 use Rattle.nd_model.specs.Script.{Command, Answers, CutAnswers, IsFront, Stage, Between, Within, step, commands_from, completed_from, lines_of, ended_lines, RunsWhole, RunsCompleted, RunsCut}
+use Rattle.nd_rerun.specs.Edits.{book_of}
 use Rattle.nd_run.specs.Source.{stage_of}
 use Rattle.nd_run.specs.declared.source.Source.{Source}
 use Rattle.nd_run.specs.declared.run_fault.RunFault.{RunFault}
@@ -168,3 +169,11 @@ pub record StoppedAt (f : RunFault) (unread left : Option (List ℕ)) (old : Boo
   pub at_end : IsTrue ended → IsAtEnd left
   pub appended : Appends was now written
   pub answers : RunsAt f ended given old written new
+
+-- ---- whole runs on a notebook without cells
+
+abbrev pub RanFromNothing : (unread left was now : Option (List ℕ)) → Type 0
+RanFromNothing unread left was now = (new : Book) × RanToEnd unread left (book_of []) was now new
+
+abbrev pub StoppedFromNothing : RunFault → (unread left was now : Option (List ℕ)) → Type 0
+StoppedFromNothing f unread left was now = (new : Book) × StoppedAt f unread left (book_of []) was now new

@@ -2,7 +2,7 @@
 
 ghost use Rattle.std.specs.Prelude.{◌≡◌, ◌++◌, codes, decimal, map, option_map, string_bytes, OnOk};
 ghost use Rattle.nd_model.specs.Script as script;
-ghost use Rattle.nd_cell.specs.Cells.{refusal_of, saves_of};
+ghost use Rattle.nd_rerun.specs.Results.{refusal_of, saves_of};
 ghost use Rattle.nd_rerun.specs.Queries.{result_of};
 ghost use Rattle.nd_run.specs.Answer.{edit_answer_of, edit_fault_of, query_fault_of};
 

@@ -3,13 +3,13 @@
 ghost use Rattle.std.specs.Prelude.{◌≡◌, ◌++◌, codes, decimal, OnOk};
 ghost use Rattle.std.specs.Fmt.{signed_decimal};
 ghost use Rattle.nd_model.specs.Script as script;
-ghost use Rattle.nd_tree.specs.Syntax.{kind_of};
-ghost use Rattle.nd_eval.specs.Faults.{view_fault_of, index_fault_of, ufunc_fault_of, stmt_error_of, fault_of};
-ghost use Rattle.nd_cell.specs.Cells.{cell_fault_of};
+ghost use Rattle.nd_rerun.specs.Syntax.{kind_of};
+ghost use Rattle.nd_rerun.specs.Faults.{view_fault_of, index_fault_of, ufunc_fault_of, stmt_error_of, fault_of};
+ghost use Rattle.nd_rerun.specs.Results.{cell_fault_of};
 
-use nd_eval::{IndexFault, StmtError, StmtFault, UfuncFault, ViewFault};
-use nd_parse::ParseKind;
-use nd_rerun::CellFault;
+use nd_rerun::{
+    CellFault, IndexFault, ParseKind, StmtError, StmtFault, UfuncFault, ViewFault,
+};
 use nd_script::{push_integer, push_number, push_text};
 use std::alloc::AllocError;
 

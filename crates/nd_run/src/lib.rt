@@ -16,4 +16,4 @@ mod value;
 pub use input::{CountedRead, ScriptReader};
 pub use output::{CountedWrite, ScriptWriter};
 pub use run_fault::RunFault;
-pub use runner::{run, run_turns};
+pub use runner::{run, run_script, run_turns};

@@ -3,7 +3,7 @@
 ghost use Rattle.std.specs.Prelude.{◌≡◌, ◌^◌, ◌⊎◌, IfErr, OnOk};
 ghost use Rattle.nd_rerun.specs.Edits.{book_of};
 ghost use Rattle.nd_run.specs.Ends.{counted_on};
-ghost use Rattle.nd_run.specs.Run.{RanToEnd, StoppedAt};
+ghost use Rattle.nd_run.specs.Run.{RanFromNothing, RanToEnd, StoppedAt, StoppedFromNothing};
 
 use crate::input::CountedRead;
 use crate::output::CountedWrite;
@@ -36,6 +36,26 @@ pub fn run<R: CountedRead, W: CountedWrite>(
     ensures writer_kept { OnOk result (W.failures writer.new ≡ W.failures writer.old) }
 {
     run_turns(alloc, reader, writer, notebook, MOST_TURNS)
+}
+
+/// Runs a script as `run` does, on a notebook without cells, which is let go at the end.
+pub fn run_script<R: CountedRead, W: CountedWrite>(
+    alloc: Global,
+    reader: &mut R,
+    writer: &mut W,
+) -> Result<(), RunFault>
+    ensures to_end { OnOk result (RanFromNothing (R.remaining reader.old) (R.remaining reader.new)
+        (W.contents writer.old) (W.contents writer.new)) }
+    ensures stopped { IfErr result (λ f. StoppedFromNothing f (R.remaining reader.old) (R.remaining reader.new)
+        (W.contents writer.old) (W.contents writer.new)) }
+    ensures read { IfErr result (λ f. f ≡ RunFault.ReadFault →
+        (R.failures reader.new ≡ counted_on (R.failures reader.old) 1) ⊎ (R.reads reader.new ≡ counted_on (R.reads reader.old) (2 ^ 32))) }
+    ensures written { IfErr result (λ f. f ≡ RunFault.WriteFault → W.failures writer.new ≡ counted_on (W.failures writer.old) 1) }
+    ensures reader_kept { OnOk result (R.failures reader.new ≡ R.failures reader.old) }
+    ensures writer_kept { OnOk result (W.failures writer.new ≡ W.failures writer.old) }
+{
+    let mut notebook = Notebook::new(alloc);
+    run(alloc, reader, writer, &mut notebook)
 }
 
 /// Runs a script by at most so many reads.

@@ -3,14 +3,13 @@
 ghost use Rattle.std.specs.Prelude.{◌≡◌, ◌++◌, OnOk};
 ghost use Rattle.nd_model.specs.Script as script;
 ghost use Rattle.nd_model.specs.Text.{truth_text};
-ghost use Rattle.nd_types.specs.Kinds.{kind_of};
-ghost use Rattle.nd_types.specs.Fields.{field_of, fields_of};
-ghost use Rattle.nd_types.specs.Types.{type_of};
+ghost use Rattle.nd_rerun.specs.Kinds.{kind_of};
+ghost use Rattle.nd_rerun.specs.Fields.{field_of, fields_of};
+ghost use Rattle.nd_rerun.specs.Types.{type_of};
 ghost use Rattle.nd_rerun.specs.Queries.{shown_of};
 
-use nd_rerun::Shown;
+use nd_rerun::{Elem, ElemType, Field, Kind, Shown};
 use nd_script::{push_hex, push_integer, push_number, push_shape, push_text};
-use nd_types::{Elem, ElemType, Field, Kind};
 use std::alloc::AllocError;
 
 /// Appends the answer that shows a value, as `int 3`.

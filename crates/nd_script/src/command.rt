@@ -7,7 +7,7 @@ ghost use Rattle.nd_script.specs.Command.{line_of, words_behind};
 use itoa::Buffer;
 
 /// What a line of a script says, outside a source. Places count from 0.
-#[derive(Clone, Copy, Debug)]
+#[derive(Clone, Copy)]
 pub enum LineCommand<'a> {
     /// The source of a new cell stands in the lines that follow.
     Insert(usize),

@@ -1,5 +1,5 @@
 /// What a token is.
-#[derive(Clone, Copy, Debug, PartialEq, Eq)]
+#[derive(Clone, Copy, Debug)]
 pub enum Word<'a> {
     /// A name that is neither reserved nor a keyword.
     Name(&'a str),
@@ -107,7 +107,7 @@ pub enum Word<'a> {
 }
 
 /// A token with its place: line and column in bytes, both from 1. The end of a statement stands just behind its last token.
-#[derive(Clone, Copy, Debug, PartialEq, Eq)]
+#[derive(Clone, Copy)]
 pub struct Token<'a> {
     pub word: Word<'a>,
     pub line: usize,
@@ -117,7 +117,7 @@ pub struct Token<'a> {
 }
 
 /// The first place of a text that is no token: line and column in bytes, both from 1.
-#[derive(Clone, Copy, Debug, PartialEq, Eq)]
+#[derive(Clone, Copy)]
 pub struct BadToken {
     pub line: usize,
     pub column: usize,

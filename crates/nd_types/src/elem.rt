@@ -8,7 +8,7 @@ use std::marker::Model;
 
 /// A number in an array, and whether its highest byte comes first. A number of one byte is never called big, so that equal
 /// elements are equal values. A clause sees it as the definition's element.
-#[derive(Clone, Copy, PartialEq, Eq, Debug)]
+#[derive(Clone, Copy, PartialEq, Eq)]
 pub struct Elem {
     kind: Kind,
     big: bool,

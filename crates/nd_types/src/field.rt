@@ -5,7 +5,7 @@ ghost use Rattle.nd_types.specs.Fields.{field_of};
 use crate::elem::Elem;
 
 /// A field of a structure: its name, the place of its first byte inside the structure, and its element.
-#[derive(PartialEq, Eq, Debug, Drop)]
+#[derive(Drop)]
 pub struct Field {
     pub name: String,
     pub at: u32,

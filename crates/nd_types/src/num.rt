@@ -2,7 +2,7 @@
 use crate::kind::Kind;
 
 /// A number outside an array, each in the range of its kind.
-#[derive(Clone, Copy, PartialEq, Eq, Debug)]
+#[derive(Clone, Copy)]
 pub enum Num {
     /// A Python integer.
     Int(i128),

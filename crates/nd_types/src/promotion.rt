@@ -7,7 +7,7 @@ ghost use Rattle.nd_types.specs.Types.{kind_given};
 use crate::kind::{Kind, highest, lowest};
 
 /// Only a float would hold both ranges.
-#[derive(Clone, Copy, PartialEq, Eq, Debug)]
+#[derive(Clone, Copy)]
 pub struct FloatResult;
 
 // The order in which a kind for two others is looked for.

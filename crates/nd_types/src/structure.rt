@@ -13,7 +13,7 @@ use std::marker::Model;
 /// A structure: its fields in order, and its size in bytes, pad bytes among them. It has 1 to 256 fields, which lie apart inside
 /// the size, at most 65,536 bytes, and have distinct names of 1 to 64 bytes without colon, quote, backslash or control character.
 /// A clause sees it as the definition's fields and size.
-#[derive(Debug, Drop)]
+#[derive(Drop)]
 pub struct RecType {
     fields: Vec<Field>,
     size: u32,

@@ -8,7 +8,7 @@ use crate::structure::RecType;
 use std::alloc::{AllocError, Global};
 
 /// What lies at each place of an array: one number, or a structure.
-#[derive(Debug, Drop)]
+#[derive(Drop)]
 pub enum ElemType {
     One(Elem),
     Rec(RecType),

@@ -1,7 +1,7 @@
 //! Why a view cannot be made.
 
 /// Why there is no array, or no view of a block, with these parts.
-#[derive(Clone, Copy, PartialEq, Eq, Debug)]
+#[derive(Clone, Copy)]
 pub enum ViewFault {
     /// A byte of an element would lie outside the block.
     OutOfBlock,

@@ -1,10 +1,8 @@
 //! The program: it runs the script that its command line names.
 #![tactic(auto)]
 
-mod program;
-
 use std::process::ExitCode;
 
 fn main(rt: HostRuntime) -> ExitCode {
-    program::status(&rt)
+    nd_program::status(&rt)
 }

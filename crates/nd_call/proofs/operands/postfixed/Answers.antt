@@ -1,8 +1,8 @@
 use Rattle.std.proofs.Common.{◌∙◌, ap}
 use Rattle.nd_model.specs.Cells.{suffixed}
-use Rattle.nd_tree.specs.Syntax.{expr_of}
-use Rattle.nd_tree.specs.Gives.{suffixes_of}
-use Rattle.nd_tree.proofs.Chains.{postfix_is}
+use Rattle.nd_syntax.specs.Syntax.{expr_of}
+use Rattle.nd_read.specs.Gives.{suffixes_of}
+use Rattle.nd_syntax.proofs.Chains.{postfix_is}
 use Rattle.nd_call.proofs.operands.postfixed.Goals as goal
 
 pub returns : goal.returns

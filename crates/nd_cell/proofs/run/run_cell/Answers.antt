@@ -2,8 +2,8 @@ use Rattle.std.proofs.Common.{◌≡◌, ℕ, ◌+◌, ◌<◌, ◌≤◌, ◌^�
 use Rattle.nd_model.specs.Running.{Running}
 use Rattle.nd_model.specs.Tokens.{tokens_of_lines}
 use Rattle.nd_model.proofs.FewTokens.{few_tokens}
-use Rattle.nd_tree.specs.declared.tree.Line.{Line}
-use Rattle.nd_tree.specs.Syntax.{lines_of, parsed_of}
+use Rattle.nd_syntax.specs.declared.tree.Line.{Line}
+use Rattle.nd_syntax.specs.Syntax.{lines_of, parsed_of}
 use Rattle.nd_heap.specs.Live.{live}
 use Rattle.nd_cell.proofs.run.run_cell.Goals as goal
 

@@ -1,10 +1,10 @@
 use Rattle.std.proofs.Common.{◌≡◌, ◌+◌, ◌<◌, ◌^◌, [], drop, string_bytes}
 use Rattle.nd_model.specs.Cell.{statements}
 use Rattle.nd_model.specs.Tokens.{tokens_of_lines}
-use Rattle.nd_tree.specs.Syntax.{lines_of}
+use Rattle.nd_syntax.specs.Syntax.{lines_of}
 use Rattle.nd_heap.specs.Values.{inputs_of}
 use Rattle.nd_heap.specs.Live.{live}
-use Rattle.nd_cell.specs.Cells.{saves_of}
+use Rattle.nd_cell.specs.Results.{saves_of}
 use Rattle.nd_cell.proofs.run.run_lines.Given as goal
 
 abbrev pub invariant-loop-line : goal.invariant-loop-line

@@ -3,8 +3,8 @@ use Rattle.std.specs.Vec.{vec_len}
 use Rattle.std.proofs.lemmas.Bool.{eqb-true, eqb-false}
 use Rattle.std.proofs.lemmas.List.{drop_all}
 use Rattle.nd_model.specs.Meaning as meaning
-use Rattle.nd_tree.specs.Syntax.{expr_of, suffix_of, index_of}
-use Rattle.nd_tree.specs.declared.tree.Suffix.{Suffix}
+use Rattle.nd_syntax.specs.Syntax.{expr_of, suffix_of, index_of}
+use Rattle.nd_syntax.specs.declared.tree.Suffix.{Suffix}
 use Rattle.nd_heap.specs.Values.{value_of, inputs_of}
 use Rattle.nd_heap.specs.Live.{live}
 use Rattle.nd_eval.proofs.Bounds.{next_value, next_item_value, next_indexed}

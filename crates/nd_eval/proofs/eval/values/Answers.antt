@@ -1,7 +1,7 @@
 use Rattle.std.proofs.Common.{◌+◌, List, ap, ◌∙◌, sym, map, drop, arith}
 use Rattle.nd_model.specs.Meaning as meaning
-use Rattle.nd_tree.specs.Syntax.{expr_of}
-use Rattle.nd_tree.specs.declared.tree.Expr.{Expr}
+use Rattle.nd_syntax.specs.Syntax.{expr_of}
+use Rattle.nd_syntax.specs.declared.tree.Expr.{Expr}
 use Rattle.nd_heap.specs.Values.{value_of, inputs_of}
 use Rattle.nd_heap.specs.Live.{live}
 use Rattle.nd_eval.specs.Contents.{values_of}

@@ -1,7 +1,7 @@
 use Rattle.std.proofs.Common.{◌≡◌, ◌+◌, ◌<◌, ◌^◌, map, drop}
 use Rattle.nd_model.specs.Meaning as meaning
 use Rattle.nd_model.specs.Tokens.{tokens_of_all}
-use Rattle.nd_tree.specs.Syntax.{expr_of}
+use Rattle.nd_syntax.specs.Syntax.{expr_of}
 use Rattle.nd_heap.specs.Values.{value_of, inputs_of}
 use Rattle.nd_heap.specs.Live.{live}
 use Rattle.nd_eval.proofs.InTurn.{onto}

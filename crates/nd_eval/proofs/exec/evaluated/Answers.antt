@@ -2,7 +2,7 @@ use Rattle.std.proofs.Common.{◌∙◌, sym, ap, arith, ℕ, List, [], ◌∷�
 use Rattle.nd_model.specs.Text.{joined}
 use Rattle.nd_model.specs.Running as running
 use Rattle.nd_model.specs.Meaning as meaning
-use Rattle.nd_tree.specs.Syntax.{expr_of, index_of}
+use Rattle.nd_syntax.specs.Syntax.{expr_of, index_of}
 use Rattle.nd_heap.specs.Values.{value_of, inputs_of}
 use Rattle.nd_heap.specs.Live.{live}
 use Rattle.nd_eval.specs.Contents.{effect_of, values_of, texts_in}

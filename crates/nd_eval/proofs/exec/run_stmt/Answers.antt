@@ -1,4 +1,4 @@
-use Rattle.nd_tree.specs.Syntax.{stmt_of}
+use Rattle.nd_syntax.specs.Syntax.{stmt_of}
 use Rattle.nd_heap.specs.Values.{inputs_of}
 use Rattle.nd_heap.specs.Live.{live}
 use Rattle.nd_eval.specs.Contents.{effect_of}

@@ -3,10 +3,10 @@ use Rattle.std.proofs.lemmas.Result.{err_from_is_err_and}
 use Rattle.std.proofs.lemmas.List.{map_push}
 use Rattle.nd_model.specs.Cells.{under}
 use Rattle.nd_model.specs.Factored.{stmt, cell}
-use Rattle.nd_tree.specs.Syntax.{line_of, lines_of}
-use Rattle.nd_tree.specs.Gives.{tokens_of, list_of}
-use Rattle.nd_tree.specs.declared.read.Reason.TheVariants.{TooMany}
-use Rattle.nd_tree.proofs.Stops.{stop_is}
+use Rattle.nd_syntax.specs.Syntax.{line_of, lines_of}
+use Rattle.nd_read.specs.Gives.{tokens_of, list_of}
+use Rattle.nd_read.specs.declared.read.Reason.TheVariants.{TooMany}
+use Rattle.nd_read.proofs.Stops.{stop_is}
 use Rattle.nd_parse.proofs.Lines.{lines_begin, lines_go_on, lines_fail, lines_over, lines_end}
 use Rattle.nd_parse.proofs.parse.cell.Goals as goal
 

@@ -3,7 +3,7 @@ use Rattle.nd_model.specs.Predict.{read}
 use Rattle.nd_model.specs.Kinds.{kind}
 use Rattle.nd_model.specs.Cells.{under}
 use Rattle.nd_model.specs.Factored.{stmt, cell}
-use Rattle.nd_tree.specs.Gives.{tokens_of, list_of}
+use Rattle.nd_read.specs.Gives.{tokens_of, list_of}
 use Rattle.nd_parse.proofs.Lines.{after}
 use Rattle.nd_parse.proofs.parse.cell.Given as goal
 

@@ -1,7 +1,7 @@
 use Rattle.std.proofs.Common.{◌≡◌, ◌++◌, map}
 use Rattle.nd_model.specs.Cells.{OfMethod}
-use Rattle.nd_tree.specs.Syntax.{method_of}
-use Rattle.nd_tree.specs.Gives.{methods_of, suffixes_of}
+use Rattle.nd_syntax.specs.Syntax.{method_of}
+use Rattle.nd_read.specs.Gives.{methods_of, suffixes_of}
 use Rattle.nd_parse.proofs.stmt.add_methods.Given as goal
 
 -- what was put, and what is left

@@ -3,8 +3,8 @@ use Rattle.nd_model.specs.Kinds.{BOUND}
 use Rattle.nd_model.specs.Cells.{name_of}
 use Rattle.nd_model.specs.Factored.{bind}
 use Rattle.nd_token.specs.Tokens.{token_of}
-use Rattle.nd_tree.specs.Gives.{tokens_of}
-use Rattle.nd_tree.proofs.Stops.{one_is}
+use Rattle.nd_read.specs.Gives.{tokens_of}
+use Rattle.nd_read.proofs.Stops.{one_is}
 use Rattle.nd_parse.proofs.stmt.bind.Goals as goal
 
 pub returns : goal.returns

@@ -3,8 +3,8 @@ use Rattle.std.proofs.lemmas.List.{map_push}
 use Rattle.nd_model.specs.Kinds.{kind, DOT}
 use Rattle.nd_model.specs.Cells.{under, method}
 use Rattle.nd_model.proofs.Parsing.Loops.{push_step, push_end}
-use Rattle.nd_tree.specs.Syntax.{method_of}
-use Rattle.nd_tree.specs.Gives.{tokens_of, methods_of}
+use Rattle.nd_syntax.specs.Syntax.{method_of}
+use Rattle.nd_read.specs.Gives.{tokens_of, methods_of}
 use Rattle.nd_parse.proofs.Steps.{method_shrinks}
 use Rattle.nd_parse.proofs.stmt.methods.Goals as goal
 

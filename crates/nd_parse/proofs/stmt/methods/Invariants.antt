@@ -3,7 +3,7 @@ use Rattle.nd_model.specs.Grammar.{Many}
 use Rattle.nd_model.specs.Predict.{read}
 use Rattle.nd_model.specs.Kinds.{kind, DOT}
 use Rattle.nd_model.specs.Cells.{under, method}
-use Rattle.nd_tree.specs.Gives.{tokens_of, methods_of}
+use Rattle.nd_read.specs.Gives.{tokens_of, methods_of}
 use Rattle.nd_parse.proofs.stmt.methods.Given as goal
 
 abbrev pub invariant-more : goal.invariant-more

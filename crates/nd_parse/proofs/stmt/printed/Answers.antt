@@ -1,6 +1,6 @@
 use Rattle.nd_model.specs.Cells.{printed}
-use Rattle.nd_tree.specs.Gives.{tokens_of}
-use Rattle.nd_tree.proofs.Levels.{enter_shut}
+use Rattle.nd_read.specs.Gives.{tokens_of}
+use Rattle.nd_read.proofs.Levels.{enter_shut}
 use Rattle.nd_parse.proofs.Steps.{printed_is}
 use Rattle.nd_parse.proofs.stmt.printed.Goals as goal
 

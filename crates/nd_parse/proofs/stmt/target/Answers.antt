@@ -1,7 +1,7 @@
 use Rattle.std.proofs.Common.{◌∙◌, sym, ap, Ok}
 use Rattle.std.proofs.lemmas.Result.{err_from_is_err_and}
-use Rattle.nd_tree.specs.Syntax.{expr_of, index_of}
-use Rattle.nd_tree.specs.Gives.{tokens_of, suffixes_of}
+use Rattle.nd_syntax.specs.Syntax.{expr_of, index_of}
+use Rattle.nd_read.specs.Gives.{tokens_of, suffixes_of}
 use Rattle.nd_parse.proofs.Steps.{target_ends, target_fails, target_fails_at}
 use Rattle.nd_parse.proofs.stmt.target.Goals as goal
 

@@ -4,9 +4,9 @@ use Rattle.nd_model.specs.Kinds.{kind, SUFFIX}
 use Rattle.nd_model.specs.Cells.{under}
 use Rattle.nd_model.specs.Factored.{group}
 use Rattle.nd_model.proofs.Parsing.Loops.{many_step}
-use Rattle.nd_tree.specs.declared.tree.Suffix as suffix
-use Rattle.nd_tree.specs.Syntax.{suffix_of, index_of}
-use Rattle.nd_tree.specs.Gives.{tokens_of, suffixes_of, group_of}
+use Rattle.nd_syntax.specs.declared.tree.Suffix as suffix
+use Rattle.nd_syntax.specs.Syntax.{suffix_of, index_of}
+use Rattle.nd_read.specs.Gives.{tokens_of, suffixes_of, group_of}
 use Rattle.nd_parse.specs.Readers.{collected}
 use Rattle.nd_parse.proofs.Steps.{group_shrinks}
 use Rattle.nd_parse.proofs.stmt.trailing.Goals as goal

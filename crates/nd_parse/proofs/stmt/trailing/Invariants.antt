@@ -4,8 +4,8 @@ use Rattle.nd_model.specs.Predict.{read}
 use Rattle.nd_model.specs.Kinds.{kind, SUFFIX}
 use Rattle.nd_model.specs.Cells.{under}
 use Rattle.nd_model.specs.Factored.{group}
-use Rattle.nd_tree.specs.Syntax.{index_of}
-use Rattle.nd_tree.specs.Gives.{tokens_of, suffixes_of}
+use Rattle.nd_syntax.specs.Syntax.{index_of}
+use Rattle.nd_read.specs.Gives.{tokens_of, suffixes_of}
 use Rattle.nd_parse.specs.Readers.{collected, trailing}
 use Rattle.nd_parse.proofs.stmt.trailing.Given as goal
 

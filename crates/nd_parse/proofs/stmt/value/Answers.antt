@@ -2,8 +2,8 @@ use Rattle.std.proofs.Common.{refl}
 use Rattle.nd_model.specs.Kinds.{ASSIGNMENT}
 use Rattle.nd_model.specs.Cells.{augment, value}
 use Rattle.nd_token.specs.Tokens.{token_of}
-use Rattle.nd_tree.specs.Gives.{tokens_of}
-use Rattle.nd_tree.proofs.Stops.{one_is}
+use Rattle.nd_read.specs.Gives.{tokens_of}
+use Rattle.nd_read.proofs.Stops.{one_is}
 use Rattle.nd_parse.proofs.stmt.value.Goals as goal
 
 pub returns : goal.returns

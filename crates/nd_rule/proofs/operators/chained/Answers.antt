@@ -1,8 +1,8 @@
 use Rattle.std.proofs.Common.{◌∙◌, ap}
 use Rattle.nd_model.specs.Cells.{chained}
-use Rattle.nd_tree.specs.Syntax.{expr_of}
-use Rattle.nd_tree.specs.Gives.{operations_of}
-use Rattle.nd_tree.proofs.Chains.{chain_is}
+use Rattle.nd_syntax.specs.Syntax.{expr_of}
+use Rattle.nd_read.specs.Gives.{operations_of}
+use Rattle.nd_syntax.proofs.Chains.{chain_is}
 use Rattle.nd_rule.proofs.operators.chained.Goals as goal
 
 pub returns : goal.returns

@@ -1,6 +1,6 @@
 use Rattle.std.proofs.Common.{◌≡◌, ◌++◌}
 use Rattle.nd_model.specs.Script as script
-use Rattle.nd_cell.specs.Cells.{saves_of}
+use Rattle.nd_rerun.specs.Results.{saves_of}
 use Rattle.nd_run.proofs.answer.push_saves.Given as goal
 
 abbrev pub invariant-loop-name : goal.invariant-loop-name

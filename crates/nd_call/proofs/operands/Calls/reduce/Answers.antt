@@ -1,6 +1,6 @@
 use Rattle.nd_model.specs.Cells.{reduce}
-use Rattle.nd_tree.specs.Gives.{tokens_of}
-use Rattle.nd_tree.proofs.Levels.{enter_shut}
+use Rattle.nd_read.specs.Gives.{tokens_of}
+use Rattle.nd_read.proofs.Levels.{enter_shut}
 use Rattle.nd_call.proofs.Steps as steps
 use Rattle.nd_call.proofs.operands.Calls.reduce.Goals as goal
 

@@ -3,8 +3,8 @@ use Rattle.std.proofs.lemmas.List.{map_push}
 use Rattle.nd_model.specs.Kinds.{kind, SUFFIX}
 use Rattle.nd_model.specs.Cells.{under, suffix}
 use Rattle.nd_model.proofs.Parsing.Loops.{push_step, push_end}
-use Rattle.nd_tree.specs.Syntax.{suffix_of}
-use Rattle.nd_tree.specs.Gives.{tokens_of, suffixes_of}
+use Rattle.nd_syntax.specs.Syntax.{suffix_of}
+use Rattle.nd_read.specs.Gives.{tokens_of, suffixes_of}
 use Rattle.nd_call.proofs.Steps.{suffix_shrinks}
 use Rattle.nd_call.proofs.operands.Calls.suffixes.Goals as goal
 

@@ -3,7 +3,7 @@ use Rattle.nd_model.specs.Grammar.{Many}
 use Rattle.nd_model.specs.Predict.{read}
 use Rattle.nd_model.specs.Kinds.{kind, SUFFIX}
 use Rattle.nd_model.specs.Cells.{under, suffix}
-use Rattle.nd_tree.specs.Gives.{tokens_of, suffixes_of}
+use Rattle.nd_read.specs.Gives.{tokens_of, suffixes_of}
 use Rattle.nd_call.proofs.operands.Calls.suffixes.Given as goal
 
 abbrev pub invariant-more : goal.invariant-more

@@ -3,13 +3,13 @@ use Rattle.std.proofs.lemmas.List.{map_push}
 use Rattle.nd_model.specs.Kinds.{kind, COMMA_MORE}
 use Rattle.nd_model.specs.Cells.{element, list}
 use Rattle.nd_model.proofs.Parsing.Loops.{push_step, push_end}
-use Rattle.nd_tree.specs.Syntax.{element_of}
-use Rattle.nd_tree.specs.Gives.{inside, tokens_of, elements_in, list_of_elements}
-use Rattle.nd_tree.specs.Parts.{behind_comma}
-use Rattle.nd_tree.proofs.Levels.{enter_shut, comma_shrinks}
+use Rattle.nd_syntax.specs.Syntax.{element_of}
+use Rattle.nd_read.specs.Gives.{inside, tokens_of, elements_in, list_of_elements}
+use Rattle.nd_read.specs.Parts.{behind_comma}
+use Rattle.nd_read.proofs.Levels.{enter_shut, comma_shrinks}
 use Rattle.nd_rule.proofs.Steps as steps
 use Rattle.nd_rule.proofs.Steps.{element_nested}
-use Rattle.nd_tree.proofs.Chains as nodes
+use Rattle.nd_syntax.proofs.Chains as nodes
 use Rattle.nd_rule.proofs.operators.Rules.+lists.Goals as goal
 
 pub list-returns-then-levels-eq0 : goal.list-returns-then-levels-eq0

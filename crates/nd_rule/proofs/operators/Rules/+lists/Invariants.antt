@@ -3,8 +3,8 @@ use Rattle.nd_model.specs.Grammar.{Many}
 use Rattle.nd_model.specs.Predict.{read}
 use Rattle.nd_model.specs.Kinds.{kind, COMMA_MORE}
 use Rattle.nd_model.specs.Cells.{element}
-use Rattle.nd_tree.specs.Gives.{inside, tokens_of, list_of_elements}
-use Rattle.nd_tree.specs.Parts.{behind_comma}
+use Rattle.nd_read.specs.Gives.{inside, tokens_of, list_of_elements}
+use Rattle.nd_read.specs.Parts.{behind_comma}
 use Rattle.nd_rule.proofs.operators.Rules.+lists.Given as goal
 
 abbrev pub decreases-list : goal.decreases-list

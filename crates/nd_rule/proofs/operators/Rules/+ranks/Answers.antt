@@ -3,7 +3,7 @@ use Rattle.std.proofs.lemmas.List.{map_push}
 use Rattle.nd_model.specs.Kinds.{kind}
 use Rattle.nd_model.specs.Cells.{Anywhere, under, operation}
 use Rattle.nd_model.proofs.Parsing.Loops.{push_step, push_end}
-use Rattle.nd_tree.specs.Gives.{tokens_of, spot_of, operation_of, operations_of}
+use Rattle.nd_read.specs.Gives.{tokens_of, spot_of, operation_of, operations_of}
 use Rattle.nd_rule.specs.Readers.{ranked}
 use Rattle.nd_rule.proofs.Steps.{ranked_none, ranked_some, operation_shrinks}
 use Rattle.nd_rule.proofs.operators.Rules.+ranks.Goals as goal

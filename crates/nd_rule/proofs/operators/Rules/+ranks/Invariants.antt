@@ -3,7 +3,7 @@ use Rattle.nd_model.specs.Grammar.{Many}
 use Rattle.nd_model.specs.Predict.{read}
 use Rattle.nd_model.specs.Kinds.{kind}
 use Rattle.nd_model.specs.Cells.{Anywhere, under, operation}
-use Rattle.nd_tree.specs.Gives.{tokens_of, operations_of}
+use Rattle.nd_read.specs.Gives.{tokens_of, operations_of}
 use Rattle.nd_rule.specs.Readers.{ranked}
 use Rattle.nd_rule.proofs.operators.Rules.+ranks.Given as goal
 

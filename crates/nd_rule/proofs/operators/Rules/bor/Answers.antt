@@ -1,5 +1,5 @@
 use Rattle.nd_model.specs.Cells.{under}
-use Rattle.nd_tree.specs.Gives.{tokens_of, spot_of}
+use Rattle.nd_read.specs.Gives.{tokens_of, spot_of}
 use Rattle.nd_rule.proofs.Steps.{bor_is}
 use Rattle.nd_rule.proofs.operators.Rules.bor.Goals as goal
 

@@ -1,7 +1,7 @@
 use Rattle.std.proofs.Common.{Ok, sym, ap, ◌∙◌}
-use Rattle.nd_tree.specs.Gives.{tokens_of, items_in}
+use Rattle.nd_read.specs.Gives.{tokens_of, items_in}
 use Rattle.nd_rule.proofs.Steps.{contents_items}
-use Rattle.nd_tree.proofs.Chains as nodes
+use Rattle.nd_syntax.proofs.Chains as nodes
 use Rattle.nd_rule.proofs.operators.Rules.contents.Goals as goal
 
 pub returns : goal.returns

@@ -1,7 +1,7 @@
 use Rattle.std.proofs.Common.{Ok, sym, ap, ◌∙◌}
-use Rattle.nd_tree.specs.Gives.{tokens_of, spot_of, elements_in}
+use Rattle.nd_read.specs.Gives.{tokens_of, spot_of, elements_in}
 use Rattle.nd_rule.proofs.Steps.{item_listed}
-use Rattle.nd_tree.proofs.Chains as nodes
+use Rattle.nd_syntax.proofs.Chains as nodes
 use Rattle.nd_rule.proofs.operators.Rules.item.Goals as goal
 
 pub returns-then-next_in-5 : goal.returns-then-next_in-5

@@ -3,10 +3,10 @@ use Rattle.std.proofs.lemmas.List.{map_push}
 use Rattle.nd_model.specs.Kinds.{kind, COMMA_MORE}
 use Rattle.nd_model.specs.Cells.{LaterItem, item}
 use Rattle.nd_model.proofs.Parsing.Loops.{push_step, push_end}
-use Rattle.nd_tree.specs.Syntax.{item_of}
-use Rattle.nd_tree.specs.Gives.{inside, tokens_of, items_in}
-use Rattle.nd_tree.specs.Parts.{behind_comma}
-use Rattle.nd_tree.proofs.Levels.{comma_shrinks}
+use Rattle.nd_syntax.specs.Syntax.{item_of}
+use Rattle.nd_read.specs.Gives.{inside, tokens_of, items_in}
+use Rattle.nd_read.specs.Parts.{behind_comma}
+use Rattle.nd_read.proofs.Levels.{comma_shrinks}
 use Rattle.nd_rule.proofs.operators.Rules.other_items.Goals as goal
 
 pub more-init : goal.more-init

@@ -3,8 +3,8 @@ use Rattle.nd_model.specs.Grammar.{Many}
 use Rattle.nd_model.specs.Predict.{read}
 use Rattle.nd_model.specs.Kinds.{kind, COMMA_MORE}
 use Rattle.nd_model.specs.Cells.{LaterItem, item}
-use Rattle.nd_tree.specs.Gives.{inside, tokens_of, items_in}
-use Rattle.nd_tree.specs.Parts.{behind_comma}
+use Rattle.nd_read.specs.Gives.{inside, tokens_of, items_in}
+use Rattle.nd_read.specs.Parts.{behind_comma}
 use Rattle.nd_rule.proofs.operators.Rules.other_items.Given as goal
 
 abbrev pub invariant-more : goal.invariant-more

@@ -3,10 +3,10 @@ use Rattle.std.proofs.lemmas.List.{map_push}
 use Rattle.nd_model.specs.Kinds.{kind}
 use Rattle.nd_model.specs.Cells.{Anywhere, under, expr}
 use Rattle.nd_model.proofs.Parsing.Loops.{push_step, push_end}
-use Rattle.nd_tree.specs.Syntax.{expr_of}
-use Rattle.nd_tree.specs.Gives.{tokens_of, exprs_of}
-use Rattle.nd_tree.specs.Parts.{behind_comma}
-use Rattle.nd_tree.proofs.Levels.{comma_shrinks}
+use Rattle.nd_syntax.specs.Syntax.{expr_of}
+use Rattle.nd_read.specs.Gives.{tokens_of, exprs_of}
+use Rattle.nd_read.specs.Parts.{behind_comma}
+use Rattle.nd_read.proofs.Levels.{comma_shrinks}
 use Rattle.nd_rule.proofs.operators.Rules.others.Goals as goal
 
 pub more-init : goal.more-init

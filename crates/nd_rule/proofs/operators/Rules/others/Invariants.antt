@@ -3,8 +3,8 @@ use Rattle.nd_model.specs.Grammar.{Many}
 use Rattle.nd_model.specs.Predict.{read}
 use Rattle.nd_model.specs.Kinds.{kind}
 use Rattle.nd_model.specs.Cells.{Anywhere, under, expr}
-use Rattle.nd_tree.specs.Gives.{tokens_of, exprs_of}
-use Rattle.nd_tree.specs.Parts.{behind_comma}
+use Rattle.nd_read.specs.Gives.{tokens_of, exprs_of}
+use Rattle.nd_read.specs.Parts.{behind_comma}
 use Rattle.nd_rule.proofs.operators.Rules.others.Given as goal
 
 abbrev pub invariant-more : goal.invariant-more

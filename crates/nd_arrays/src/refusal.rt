@@ -1,0 +1,60 @@
+//! Why a line has no answer.
+
+use nd_view::ViewFault;
+use std::alloc::{AllocError, AllocFailed};
+use std::fmt;
+
+/// Why a line has no answer.
+#[derive(Clone, Copy)]
+pub enum Refusal {
+    /// The line is no call.
+    BadLine,
+    /// The call may not be made with these numbers.
+    NotHeld,
+    /// The fields and the size make no structure.
+    NoStructure,
+    /// The parts make no view.
+    NoView(ViewFault),
+    /// The memory ran out.
+    Memory,
+}
+
+impl From<AllocError> for Refusal {
+    fn from(_error: AllocError) -> Refusal {
+        Refusal::Memory
+    }
+}
+
+impl<T: Drop> From<AllocFailed<T>> for Refusal {
+    fn from(_failed: AllocFailed<T>) -> Refusal {
+        Refusal::Memory
+    }
+}
+
+impl From<ViewFault> for Refusal {
+    fn from(fault: ViewFault) -> Refusal {
+        Refusal::NoView(fault)
+    }
+}
+
+/// The word of a fault.
+fn fault_word(fault: ViewFault) -> &'static str {
+    match fault {
+        ViewFault::OutOfBlock => "out of block",
+        ViewFault::TooManyAxes => "too many axes",
+        ViewFault::TooManyElements => "too many elements",
+        ViewFault::AxesDiffer => "axes differ",
+    }
+}
+
+impl fmt::Display for Refusal {
+    fn fmt<W: fmt::Write>(&self, f: &mut fmt::Formatter<W>) -> fmt::Result {
+        match self {
+            Refusal::BadLine => f.write_str("bad line"),
+            Refusal::NotHeld => f.write_str("not held"),
+            Refusal::NoStructure => f.write_str("no structure"),
+            Refusal::NoView(fault) => f.write_str(fault_word(*fault)),
+            Refusal::Memory => f.write_str("out of memory"),
+        }
+    }
+}

@@ -1,0 +1,91 @@
+//! Calls that print numbers and arrays.
+
+ghost use Rattle.std.specs.Prelude.{◌+◌, ◌≤◌, length, IsTrue};
+ghost use Rattle.std.specs.List.{All};
+ghost use Rattle.nd_model.specs.View.{item_size};
+
+use crate::blocks::block_of;
+use crate::kinds::kind_of;
+use crate::refusal::Refusal;
+use crate::views::{still_view, view_of};
+use crate::words::{number, numbers, pair, triple};
+use nd_block::RawBlock;
+use nd_print::{array_text, scalar_text, text};
+use nd_types::{Elem, ElemType, Kind, Num, fits};
+use nd_view::View;
+use std::alloc::Global;
+
+/// The number of a kind that holds it.
+fn scalar_of(kind: Kind, value: i128) -> Result<Num, Refusal> {
+    if fits(kind, value) {
+        Ok(Num::Scalar(kind, value))
+    } else {
+        Err(Refusal::NotHeld)
+    }
+}
+
+/// The number of a word for its sort and another for its value.
+fn num_of(sort: &str, value: &str) -> Result<Num, Refusal> {
+    match sort {
+        "truth" => Ok(Num::Bool(number(value)?)),
+        "integer" => Ok(Num::Int(number(value)?)),
+        kind => scalar_of(kind_of(kind)?, number(value)?),
+    }
+}
+
+/// The text of a number outside arrays.
+pub(crate) fn print_scalar(alloc: Global, words: &str) -> Result<String, Refusal> {
+    let (sort, value) = pair(words)?;
+    Ok(scalar_text(alloc, num_of(sort, value)?)?)
+}
+
+/// The text of an array of these numbers, as many as the view has elements.
+fn text_of(alloc: Global, kind: Kind, view: &View, values: &str) -> Result<String, Refusal> {
+    let values = numbers(alloc, values)?;
+    if view.count() != values.len() {
+        return Err(Refusal::NotHeld);
+    }
+    Ok(array_text(alloc, kind, view.shape(), &values)?)
+}
+
+/// The text of an array of numbers.
+pub(crate) fn print_array(alloc: Global, words: &str) -> Result<String, Refusal> {
+    let (kind, shape, values) = triple(words)?;
+    let (kind, shape) = (kind_of(kind)?, numbers(alloc, shape)?);
+    let still = still_view(alloc, ElemType::One(Elem::little(kind)), &shape)?;
+    text_of(alloc, kind, &still, values)
+}
+
+/// Whether the block has each element of the view.
+fn holds_view(block: &RawBlock, view: &View) -> bool
+    ensures { IsTrue result → All (λ p. p + item_size view.now.element ≤ length block.now) view.now.places }
+{
+    let size = view.elem().size();
+    for number in 0..view.count() as u64 {
+        if !block.holds_place(view.place_of(number), size) {
+            return false;
+        }
+    }
+    true
+}
+
+/// The text of a view of a block.
+fn text_in(alloc: Global, block: &RawBlock, view: &View) -> Result<String, Refusal> {
+    match view.elem() {
+        ElemType::One(elem) if holds_view(block, view) => Ok(text(alloc, view, *elem, block)?),
+        _ => Err(Refusal::NotHeld),
+    }
+}
+
+/// The text of the view of some words.
+fn text_by(alloc: Global, block: &RawBlock, words: &str) -> Result<String, Refusal> {
+    let view = view_of(alloc, words)?;
+    text_in(alloc, block, &view)
+}
+
+/// The text of a view of a block.
+pub(crate) fn print_view(alloc: Global, words: &str) -> Result<String, Refusal> {
+    let (block, view) = pair(words)?;
+    let block = block_of(alloc, block)?;
+    text_by(alloc, &block, view)
+}

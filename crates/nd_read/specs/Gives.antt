@@ -1,0 +1,56 @@
+-- What a reader of tokens gives.
+use Rattle.std.specs.Prelude.{◌≡◌, ℕ, List, map, Result, Ok, Err}
+use Rattle.std.specs.Borrow.{Bor}
+use Rattle.nd_token.specs.declared.token.Token.{Token}
+use Rattle.nd_token.specs.Tokens.{token_of}
+use Rattle.nd_model.specs.Token as model
+use Rattle.nd_model.specs.Grammar as grammar
+use Rattle.nd_model.specs.Cells.{too_deep, left_out, too_many, unknown_call}
+use Rattle.nd_read.specs.declared.spot.Spot.{Spot}
+use Rattle.nd_read.specs.declared.spot.Spot.TheVariants as spots
+use Rattle.nd_model.specs.Cells as cells
+use Rattle.nd_read.specs.declared.read.Reason.{Reason}
+use Rattle.nd_read.specs.declared.read.Reason.TheVariants as reasons
+use Rattle.nd_read.specs.declared.read.Stop.{Stop}
+use Rattle.nd_read.specs.declared.read.Failure.{Failure}
+use Rattle.nd_read.specs.declared.read.Failure.TheVariants as failures
+pub use Rattle.nd_syntax.specs.Lists.{exprs_of, operation_of, operations_of, value_of, suffixes_of, methods_of, items_in, list_of_elements, elements_in, bounds_of, two_of, typing_of, filled_of, typed_of, third_of, both_of, second_of, options_of, group_of, trailing_of, target_of, list_of}
+
+abbrev pub tokens_of : List Token → List model.Token
+tokens_of ts = map token_of ts
+
+abbrev pub reason_of : Reason → ℕ
+reason_of reasons.Itself = 0
+reason_of reasons.TooDeep = too_deep
+reason_of reasons.LeftOut = left_out
+reason_of reasons.TooMany = too_many
+reason_of reasons.UnknownCall = unknown_call
+
+abbrev pub stop_of : Stop → grammar.Stop
+stop_of s = record { left = s.left; why = reason_of s.why }
+
+-- What a function returned, seen by view, is what reading gives, unless memory ran out.
+abbrev pub Fails : {Y : Type 0} → Failure → Result Y grammar.Stop → Type 0
+Fails failures.Memory read = Unit {0}
+Fails (failures.Stopped s) read = read ≡ Err (stop_of s)
+
+abbrev pub Gives : {X Y : Type 0} → (X → Y) → Result X Failure → Result Y grammar.Stop → Type 0
+Gives view (Ok x) read = read ≡ Ok (view x)
+Gives view (Err e) read = Fails e read
+
+-- what was read, and the tokens after it
+abbrev pub with_rest : {X Y : Type 0} → (X → Y) → X × Bor (List Token) → Y × List model.Token
+with_rest view x = (view x.0, tokens_of x.1.now)
+
+abbrev pub spot_of : Spot → cells.Spot
+spot_of spots.Anywhere = cells.Anywhere
+spot_of spots.Target = cells.Target
+spot_of spots.FirstItem = cells.FirstItem
+spot_of spots.LaterItem = cells.LaterItem
+spot_of spots.Length = cells.Length
+spot_of spots.Number = cells.Number
+spot_of spots.AxisNumber = cells.AxisNumber
+
+-- what a level has inside, where this many may still be opened
+abbrev pub inside : ℕ → cells.Inside
+inside n = record { level = cells.under n; expr = λ s. cells.expr s (cells.under n); unary = cells.unary cells.Anywhere (cells.under n); list = cells.list (cells.under n) }

@@ -1,0 +1,4 @@
+pub mod Gives
+pub mod Tables
+pub mod Parts
+pub mod Openings

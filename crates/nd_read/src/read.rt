@@ -1,0 +1,162 @@
+//! Reading one token, and where a reader stops.
+ghost use Rattle.std.specs.Prelude.{◌≡◌, IfOk, length, if◌then◌else◌, string_bytes};
+ghost use Rattle.nd_model.specs.Kinds.{kind};
+ghost use Rattle.nd_model.specs.Predict.{read, next_in};
+ghost use Rattle.nd_model.specs.Cells.{token, leaf, name, name_of, quoted_of, line_at};
+ghost use Rattle.nd_token.specs.Tokens.{token_of};
+ghost use Rattle.nd_syntax.specs.Syntax.{expr_of};
+ghost use Rattle.nd_read.specs.Gives.{Gives, with_rest, tokens_of};
+ghost use Rattle.nd_read.specs.declared.read.Failure.TheVariants.{Memory, Stopped};
+ghost use Rattle.nd_read.specs.declared.read.Reason.TheVariants.{Itself};
+
+use crate::kinds::{CALLED, NAME, next_in};
+use nd_syntax::Expr;
+use nd_token::{Token, Word};
+use std::alloc::{AllocError, AllocFailed, Global};
+
+/// The tokens that are left.
+pub type Tokens<'t> = &'t [Token<'t>];
+
+/// What was read, and the tokens after it.
+pub type Read<'t, X> = Result<(X, Tokens<'t>), Failure>;
+
+/// Why a token is refused.
+#[derive(Clone, Copy)]
+pub enum Reason {
+    /// For what it is.
+    Itself,
+    TooDeep,
+    LeftOut,
+    TooMany,
+    UnknownCall,
+}
+
+/// Where a reader stops: how many tokens are left, and why the next one is refused.
+#[derive(Clone, Copy)]
+pub struct Stop {
+    pub left: usize,
+    pub why: Reason,
+}
+
+/// Why nothing was read.
+#[derive(Drop)]
+pub enum Failure {
+    Memory,
+    Stopped(Stop),
+}
+
+impl From<AllocError> for Failure {
+    ghost from_gives = { λ _ e. e ≡ Memory };
+
+    fn from(_e: AllocError) -> Failure {
+        Failure::Memory
+    }
+}
+
+impl<T: Drop> From<AllocFailed<T>> for Failure {
+    ghost from_gives = { λ _ e. e ≡ Memory };
+
+    fn from(_e: AllocFailed<T>) -> Failure {
+        Failure::Memory
+    }
+}
+
+/// The next token is refused.
+pub fn stop_at(tokens: &[Token], why: Reason) -> Failure
+    ensures { result ≡ Stopped (record { left = length tokens.now; why = why }) }
+{
+    Failure::Stopped(Stop {
+        left: tokens.len(),
+        why,
+    })
+}
+
+/// The next token is refused, for this reason if it is in the set.
+pub fn shut(tokens: &[Token], set: u128, why: Reason) -> Failure
+    ensures { result ≡ Stopped (record { left = length tokens.now; why = (if next_in kind set (tokens_of tokens.now) then why else Itself) }) }
+{
+    if next_in(tokens, set) {
+        stop_at(tokens, why)
+    } else {
+        stop_at(tokens, Reason::Itself)
+    }
+}
+
+/// A token of the set.
+pub fn take<'t>(tokens: Tokens<'t>, set: u128) -> Read<'t, Token<'t>>
+    ensures { Gives (with_rest token_of) result (read kind (token set) (tokens_of tokens.now)) }
+{
+    match tokens.split_first() {
+        Some((token, rest)) => {
+            if next_in(tokens, set) {
+                Ok((*token, rest))
+            } else {
+                Err(stop_at(tokens, Reason::Itself))
+            }
+        }
+        None => Err(stop_at(tokens, Reason::Itself)),
+    }
+}
+
+/// The line of the next token, or 0.
+pub fn line_at(tokens: &[Token]) -> usize
+    ensures { result ≡ line_at (tokens_of tokens.now) }
+{
+    match tokens.first() {
+        Some(token) => token.line,
+        None => 0,
+    }
+}
+
+/// The text of a name.
+pub fn text_of<'t>(token: Token<'t>) -> &'t str
+    ensures { result.now ≡ name_of (token_of token.entry) }
+{
+    match token.word {
+        Word::Name(text) => text,
+        _ => "",
+    }
+}
+
+/// The text of a name, to keep.
+pub fn name_of(alloc: Global, token: Token) -> Result<String, AllocError>
+    ensures { IfOk result (λ s. string_bytes s ≡ name_of (token_of token.entry)) }
+{
+    match token.word {
+        Word::Name(text) => String::from_str(alloc, text),
+        _ => Ok(String::new(alloc)),
+    }
+}
+
+/// An operand of one token.
+pub fn leaf(alloc: Global, token: Token) -> Result<Expr, AllocError>
+    ensures { IfOk result (λ e. expr_of e ≡ leaf (token_of token.entry)) }
+{
+    match token.word {
+        Word::Integer(number) => Ok(Expr::Integer(number)),
+        Word::Keyword(keyword) => Ok(Expr::Truth(keyword == "True")),
+        _ => Ok(Expr::Name(name_of(alloc, token)?)),
+    }
+}
+
+/// A name that is not called.
+#[tactic(auto, unfolding(nd_model::specs::Cells::name))]
+pub fn name<'t>(alloc: Global, tokens: Tokens<'t>) -> Read<'t, String>
+    ensures { Gives (with_rest string_bytes) result (read kind name (tokens_of tokens.now)) }
+{
+    if next_in(tokens, NAME) {
+        let (token, rest) = take(tokens, NAME)?;
+        return Ok((name_of(alloc, token)?, rest));
+    }
+    Err(shut(tokens, CALLED, Reason::UnknownCall))
+}
+
+/// The text between two quotes.
+pub fn quoted_of(alloc: Global, token: Token) -> Result<String, AllocError>
+    ensures { IfOk result (λ s. string_bytes s ≡ quoted_of (token_of token.entry).word) }
+{
+    match token.word {
+        Word::Quoted(text) => String::from_str(alloc, text),
+        _ => Ok(String::new(alloc)),
+    }
+}

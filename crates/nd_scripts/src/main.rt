@@ -1,0 +1,63 @@
+//! Rows of scripts, and of calls that no script shows. On standard input stands a script below each line `= TITLE`, whose lines may
+//! have the escapes of `nd_rows`, and a list of edits below each line `= edits: TITLE`. Each argument is a command line of the program,
+//! which is run, and its exit status printed; that of the last one is this program's. With the one word `memory` it makes calls that are
+//! to be run with refused allocations, and those alone.
+#![tactic(auto)]
+
+mod edits;
+mod memory;
+mod pieces;
+mod scripts;
+mod sessions;
+mod streams;
+mod views;
+
+use std::env;
+use std::io::{self, Read};
+use std::process::ExitCode;
+
+/// What stands before the title of a row.
+const TITLE: &str = "\n= ";
+
+/// Runs the rows of standard input.
+fn run_rows(rt: &HostRuntime) -> io::Result<()> {
+    let mut table = String::new(rt.alloc());
+    rt.stdin().read_to_string(&mut table)?;
+    for row in table.split(TITLE).skip(1) {
+        let (title, lines) = row.split_once('\n').unwrap_or((row, ""));
+        match title.strip_prefix("edits: ") {
+            Some(title) => edits::run_row(rt, title, lines)?,
+            None => scripts::run_row(rt, title, lines)?,
+        }
+    }
+    Ok(())
+}
+
+/// Makes the calls that need no row.
+fn make_calls(rt: &HostRuntime) -> io::Result<()> {
+    streams::print_runs(rt)?;
+    pieces::print_pieces(rt)?;
+    sessions::print_sessions(rt)?;
+    println!(rt; "= memory")?;
+    memory::print_calls(rt)
+}
+
+/// Runs the program with each of the command lines.
+fn run_command_lines(rt: &HostRuntime, lines: &[String]) -> io::Result<ExitCode> {
+    let mut status = ExitCode::SUCCESS;
+    for line in lines {
+        status = scripts::run_program(rt, line.as_str())?;
+    }
+    Ok(status)
+}
+
+fn main(rt: HostRuntime) -> io::Result<ExitCode> {
+    let lines: Vec<String> = env::args(&rt)?.skip(1).collect(rt.alloc())?;
+    if matches!(lines.as_slice(), [word] if word.as_str() == "memory") {
+        memory::print_calls(&rt)?;
+        return Ok(ExitCode::SUCCESS);
+    }
+    make_calls(&rt)?;
+    run_rows(&rt)?;
+    run_command_lines(&rt, &lines)
+}

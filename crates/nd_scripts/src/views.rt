@@ -1,0 +1,59 @@
+//! Views with more axes than lie in the value itself, so that they take memory.
+
+use nd_types::{Elem, ElemType, Kind};
+use nd_view::{Index, View, ViewFault};
+use std::alloc::{AllocError, Global};
+
+const LENGTHS: [u64; 9] = [1, 1, 1, 1, 1, 1, 1, 2, 3];
+
+/// The strides of these lengths for elements of two bytes, without gaps. Those of the short axes do not matter.
+const STRIDES: [i64; 9] = [5, -5, 9, 0, 1, 12, -12, 6, 2];
+
+fn element() -> ElemType {
+    ElemType::One(Elem::little(Kind::I16))
+}
+
+/// The array without gaps, asked for again where memory was wanted.
+fn contiguous(alloc: Global) -> Result<View, AllocError> {
+    match View::contiguous(alloc, element(), &LENGTHS) {
+        Err(AllocError) => View::contiguous(alloc, element(), &LENGTHS),
+        made => made,
+    }
+}
+
+/// The same view, of a block.
+fn view_of_parts(alloc: Global) -> Result<Result<View, ViewFault>, AllocError> {
+    match View::from_parts(alloc, element(), &LENGTHS, &STRIDES, 0, 12) {
+        Err(AllocError) => View::from_parts(alloc, element(), &LENGTHS, &STRIDES, 0, 12),
+        made => made,
+    }
+}
+
+fn clone_of(view: &View) -> Result<View, AllocError> {
+    match view.try_clone() {
+        Err(AllocError) => view.try_clone(),
+        made => made,
+    }
+}
+
+fn first(view: &View) -> Result<Option<Index>, AllocError> {
+    match view.first() {
+        Err(AllocError) => view.first(),
+        found => found,
+    }
+}
+
+/// Whether each call was right, where one of them was refused its memory.
+pub(crate) fn are_right(alloc: Global) -> Result<[bool; 3], AllocError> {
+    let view = contiguous(alloc)?;
+    let is_parted = match view_of_parts(alloc)? {
+        Ok(same) => view.is_same(&same),
+        Err(_) => false,
+    };
+    let is_cloned = clone_of(&view)?.is_same(&view);
+    let is_first = match first(&view)? {
+        Some(index) => index.as_slice() == [0; 9].as_slice(),
+        None => false,
+    };
+    Ok([is_parted, is_cloned, is_first])
+}

@@ -1,0 +1,63 @@
+//! The functions and methods of arrays by NumPy's names, and types as a cell writes them.
+
+use nd_types::Kind;
+
+/// A universal function that reduces and accumulates.
+#[derive(Clone, Copy, Debug)]
+pub enum Ufunc {
+    Add,
+    Multiply,
+    Minimum,
+    Maximum,
+}
+
+/// A method that reduces.
+#[derive(Clone, Copy, Debug)]
+pub enum Reduction {
+    Sum,
+    Prod,
+    Min,
+    Max,
+    Any,
+    All,
+    ArgMin,
+    ArgMax,
+}
+
+/// A method that accumulates.
+#[derive(Clone, Copy, Debug)]
+pub enum Accumulation {
+    CumSum,
+    CumProd,
+}
+
+/// What a new array is filled with.
+#[derive(Clone, Copy, Debug)]
+pub enum Fill {
+    Zeros,
+    Ones,
+}
+
+/// The type of a number, or of a field.
+#[derive(Debug, Drop)]
+pub enum TypeName {
+    /// `np.int8` and the like.
+    Kind(Kind),
+    /// A text, which is not read yet.
+    Text(String),
+}
+
+/// A field of a structure.
+#[derive(Debug, Drop)]
+pub struct FieldType {
+    pub name: String,
+    pub type_name: TypeName,
+}
+
+/// A type of elements.
+#[derive(Debug, Drop)]
+pub enum DType {
+    Simple(TypeName),
+    /// The fields of a structure, without pads.
+    Packed(Vec<FieldType>),
+}

@@ -1,6 +1,0 @@
-pub mod Calls
-pub mod Syntax
-pub mod Gives
-pub mod Tables
-pub mod Parts
-pub mod Openings

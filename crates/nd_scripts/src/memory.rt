@@ -83,117 +83,169 @@ fn is_shown(notebook: &Notebook, cells: &[Cell]) -> bool {
 }
 
 /// Makes an edit, a second time where memory was wanted: whether the notebook was as before then, and is right now.
-fn is_right(
-    notebook: &mut Notebook,
-    meter: &mut Meter,
-    edit: Edit,
-    before: &[Cell],
-    after: &[Cell],
-) -> bool {
-    match notebook.apply(meter, edit) {
-        Ok(()) => is_shown(notebook, after),
+fn is_right(notebook: &mut Notebook, meter: &mut Meter, step: Step) -> bool {
+    match notebook.apply(meter, step.edit) {
+        Ok(()) => is_shown(notebook, step.after),
         Err(EditFault::OutOfMemory) => {
-            is_shown(notebook, before)
-                && notebook.apply(meter, edit).is_ok()
-                && is_shown(notebook, after)
+            is_shown(notebook, step.before)
+                && notebook.apply(meter, step.edit).is_ok()
+                && is_shown(notebook, step.after)
         }
         Err(_) => false,
     }
 }
 
-const MADE: &str = "x = np.arange(4)";
-
-const MADE_AGAIN: &str = "y = np.arange(4)";
+/// An edit, with the cells before it and behind it.
+#[derive(Clone, Copy)]
+struct Step {
+    edit: Edit<'static>,
+    before: &'static [Cell<'static>],
+    after: &'static [Cell<'static>],
+}
 
 const COUNTED: [u8; 4] = [0, 1, 2, 3];
 
-/// A cell after which `x` and `y` are bound, to arrays of these elements.
-fn with_both<'a>(source: &'a str, text: &'a str, x: [u8; 4], y: [u8; 4]) -> Cell<'a> {
-    Cell {
-        source,
-        text,
-        x,
-        y: Some(y),
-    }
-}
+/// The cell that binds `x`.
+const MADE: Cell<'static> = Cell {
+    source: "x = np.arange(4)",
+    text: "",
+    x: COUNTED,
+    y: None,
+};
 
-/// Makes the edits, one after the other: whether each was right.
-fn are_right(notebook: &mut Notebook, meter: &mut Meter) -> [bool; 9] {
-    let (nine, eight, five) = ([9, 1, 2, 3], [8, 1, 2, 3], [5, 1, 2, 3]);
-    let made = Cell {
-        source: MADE,
-        text: "",
-        x: COUNTED,
-        y: None,
+/// The cells behind which `y` is bound too, to the same array or to another.
+const SHARED: Cell<'static> = Cell {
+    source: "y = x",
+    text: "",
+    x: COUNTED,
+    y: Some(COUNTED),
+};
+
+const AGAIN: Cell<'static> = Cell {
+    source: "y = np.arange(4)",
+    text: "",
+    x: COUNTED,
+    y: Some(COUNTED),
+};
+
+const PRINTED: Cell<'static> = Cell {
+    source: "print(x)",
+    text: "[0 1 2 3]\n",
+    x: COUNTED,
+    y: Some(COUNTED),
+};
+
+const NINES: Cell<'static> = Cell {
+    source: "y[0] = 9",
+    text: "",
+    x: [9, 1, 2, 3],
+    y: Some([9, 1, 2, 3]),
+};
+
+const NINES_PRINTED: Cell<'static> = Cell {
+    source: "print(x)",
+    text: "[9 1 2 3]\n",
+    x: [9, 1, 2, 3],
+    y: Some([9, 1, 2, 3]),
+};
+
+const EIGHTS: Cell<'static> = Cell {
+    source: "y[0] = 8",
+    text: "",
+    x: [8, 1, 2, 3],
+    y: Some([8, 1, 2, 3]),
+};
+
+const EIGHTS_PRINTED: Cell<'static> = Cell {
+    source: "print(x)",
+    text: "[8 1 2 3]\n",
+    x: [8, 1, 2, 3],
+    y: Some([8, 1, 2, 3]),
+};
+
+const APART: Cell<'static> = Cell {
+    source: "y[0] = 5",
+    text: "",
+    x: COUNTED,
+    y: Some([5, 1, 2, 3]),
+};
+
+const APART_PRINTED: Cell<'static> = Cell {
+    source: "print(x)",
+    text: "[0 1 2 3]\n",
+    x: COUNTED,
+    y: Some([5, 1, 2, 3]),
+};
+
+/// The edits, one after the other.
+static STEPS: [Step; 9] = [
+    Step {
+        edit: Edit::Insert(0, "x = np.arange(4)"),
+        before: &[],
+        after: &[MADE],
+    },
+    Step {
+        edit: Edit::Insert(1, "y = x"),
+        before: &[MADE],
+        after: &[MADE, SHARED],
+    },
+    Step {
+        edit: Edit::Insert(2, "y[0] = 9"),
+        before: &[MADE, SHARED],
+        after: &[MADE, SHARED, NINES],
+    },
+    Step {
+        edit: Edit::Insert(3, "print(x)"),
+        before: &[MADE, SHARED, NINES],
+        after: &[MADE, SHARED, NINES, NINES_PRINTED],
+    },
+    Step {
+        edit: Edit::Change(2, "y[0] = 8"),
+        before: &[MADE, SHARED, NINES, NINES_PRINTED],
+        after: &[MADE, SHARED, EIGHTS, EIGHTS_PRINTED],
+    },
+    Step {
+        edit: Edit::Remove(2),
+        before: &[MADE, SHARED, EIGHTS, EIGHTS_PRINTED],
+        after: &[MADE, SHARED, PRINTED],
+    },
+    Step {
+        edit: Edit::Change(1, "y = np.arange(4)"),
+        before: &[MADE, SHARED, PRINTED],
+        after: &[MADE, AGAIN, PRINTED],
+    },
+    Step {
+        edit: Edit::Insert(2, "y[0] = 5"),
+        before: &[MADE, AGAIN, PRINTED],
+        after: &[MADE, AGAIN, APART, APART_PRINTED],
+    },
+    Step {
+        edit: Edit::Move(2, 3),
+        before: &[MADE, AGAIN, APART, APART_PRINTED],
+        after: &[MADE, AGAIN, PRINTED, APART],
+    },
+];
+
+/// Says whether a call was right.
+fn say(rt: &HostRuntime, is_right: bool) -> io::Result<()> {
+    let answer = if is_right {
+        "as before, or right"
+    } else {
+        "wrong"
     };
-    let shared = with_both("y = x", "", COUNTED, COUNTED);
-    let again = with_both(MADE_AGAIN, "", COUNTED, COUNTED);
-    let printed = with_both("print(x)", "[0 1 2 3]\n", COUNTED, COUNTED);
-    let nines = with_both("y[0] = 9", "", nine, nine);
-    let nines_printed = with_both("print(x)", "[9 1 2 3]\n", nine, nine);
-    let eights = with_both("y[0] = 8", "", eight, eight);
-    let eights_printed = with_both("print(x)", "[8 1 2 3]\n", eight, eight);
-    let apart = with_both("y[0] = 5", "", COUNTED, five);
-    let apart_printed = with_both("print(x)", "[0 1 2 3]\n", COUNTED, five);
-    let one = [made];
-    let two = [made, shared];
-    let three = [made, shared, nines];
-    let four = [made, shared, nines, nines_printed];
-    let changed = [made, shared, eights, eights_printed];
-    let removed = [made, shared, printed];
-    let unshared = [made, again, printed];
-    let inserted = [made, again, apart, apart_printed];
-    let moved = [made, again, printed, apart];
-    [
-        is_right(notebook, meter, Edit::Insert(0, MADE), &[], &one),
-        is_right(notebook, meter, Edit::Insert(1, "y = x"), &one, &two),
-        is_right(notebook, meter, Edit::Insert(2, "y[0] = 9"), &two, &three),
-        is_right(notebook, meter, Edit::Insert(3, "print(x)"), &three, &four),
-        is_right(
-            notebook,
-            meter,
-            Edit::Change(2, "y[0] = 8"),
-            &four,
-            &changed,
-        ),
-        is_right(notebook, meter, Edit::Remove(2), &changed, &removed),
-        is_right(
-            notebook,
-            meter,
-            Edit::Change(1, MADE_AGAIN),
-            &removed,
-            &unshared,
-        ),
-        is_right(
-            notebook,
-            meter,
-            Edit::Insert(2, "y[0] = 5"),
-            &unshared,
-            &inserted,
-        ),
-        is_right(notebook, meter, Edit::Move(2, 3), &inserted, &moved),
-    ]
-}
-
-/// Says of each whether it was right.
-fn say(rt: &HostRuntime, all: &[bool]) -> io::Result<()> {
-    for right in all {
-        println!(rt;
-            "{}",
-            if *right {
-                "as before, or right"
-            } else {
-                "wrong"
-            }
-        )?;
-    }
-    Ok(())
+    println!(rt; "{answer}")
 }
 
 /// Makes the calls, and says of each whether it was right.
 pub(crate) fn print_calls(rt: &HostRuntime) -> io::Result<()> {
-    say(rt, &views::are_right(rt.alloc())?)?;
+    for is_view_right in views::are_right(rt.alloc())? {
+        say(rt, is_view_right)?;
+    }
     let mut meter = Meter::new();
     let mut notebook = Notebook::new(rt.alloc());
-    say(rt, &are_right(&mut notebook, &mut meter))
+    for step in &STEPS {
+        let is_step_right = is_right(&mut notebook, &mut meter, *step);
+        say(rt, is_step_right)?;
+    }
+    Ok(())
 }

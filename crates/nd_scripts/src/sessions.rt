@@ -1,5 +1,8 @@
 //! Each call of a session once, where memory is there.
 
+ghost use Rattle.std.specs.Prelude.{◌≡◌};
+ghost use Rattle.nd_heap.specs.Live.{live};
+
 use nd_block::RawBlock;
 use nd_heap::{Array, Base, OutOfMemory, Session, Value};
 use nd_types::{Elem, ElemType, Kind, Num};
@@ -7,72 +10,111 @@ use nd_view::View;
 use std::alloc::Global;
 use std::io;
 
-/// The int64 array with the numbers 1 and 2, under the name x.
-fn with_array(alloc: Global) -> Result<Session, OutOfMemory> {
+/// The base that a cell of label 3 makes first.
+const BASE: Base = Base {
+    label: 3,
+    number: 0,
+};
+
+/// A session in which a cell of label 3 has begun.
+fn begun_session(alloc: Global) -> Session
+    ensures { (live result).next ≡ 0 }
+{
     let mut session = Session::new(alloc);
     session.start(3);
+    session
+}
+
+fn bind(alloc: Global, session: &mut Session, name: &str, value: Value) -> Result<(), OutOfMemory> {
+    session.bind(String::from_str(alloc, name)?, value)
+}
+
+/// Binds the int64 array with the numbers 1 and 2 to the name x.
+fn bind_array(alloc: Global, session: &mut Session) -> Result<(), OutOfMemory>
+    requires { (live session.old).next ≡ 0 }
+{
     let block = RawBlock::from_slice(alloc, &[1, 0, 0, 0, 0, 0, 0, 0, 2, 0, 0, 0, 0, 0, 0, 0])?;
     let base = session.new_block(block)?;
     let view = View::contiguous(alloc, ElemType::One(Elem::little(Kind::I64)), &[2])?;
-    let name = String::from_str(alloc, "x")?;
-    session.bind(name, Value::Array(Array { base, view }))?;
-    Ok(session)
+    bind(alloc, session, "x", Value::Array(Array { base, view }))
+}
+
+/// All bytes of an array, and those of its last element.
+fn describe_array(
+    alloc: Global,
+    session: &mut Session,
+    array: &Array,
+) -> Result<String, OutOfMemory> {
+    session.store(array.base, 8, &[7, 0])?;
+    let all = session.use_all(array)?;
+    let mut text = format!(in alloc; "all: {all:?}")?;
+    let last = session.use_element(array.base, 8, Elem::little(Kind::I64))?;
+    text.push_str(format!(in alloc; ", the last: {last:?}")?.as_str())?;
+    Ok(text)
 }
 
 /// An array that is read and written.
-fn uses(alloc: Global) -> Result<String, OutOfMemory> {
-    let mut session = with_array(alloc)?;
-    let next = session.next_number();
-    let Some(Value::Array(array)) = session.lookup("x")? else {
-        return Ok(String::from_str(alloc, "x is no array")?);
-    };
-    session.store(array.base, 8, &[7, 0])?;
-    let all = session.use_all(&array)?;
-    let last = session.use_element(array.base, 8, Elem::little(Kind::I64))?;
-    Ok(format!(in alloc; "the next number is {next}, all: {all:?}, the last: {last:?}")?)
+fn describe_uses(alloc: Global, session: &mut Session) -> Result<String, OutOfMemory>
+    requires { (live session.old).next ≡ 0 }
+{
+    bind_array(alloc, session)?;
+    match session.lookup("x")? {
+        Some(Value::Array(array)) => describe_array(alloc, session, &array),
+        _ => Ok(String::from_str(alloc, "x is no array")?),
+    }
 }
 
-/// Names in order, that are bound again.
-fn names(alloc: Global) -> Result<String, OutOfMemory> {
-    let mut session = with_array(alloc)?;
-    session.bind(String::from_str(alloc, "y")?, Value::Number(Num::Int(5)))?;
-    session.bind(
-        String::from_str(alloc, "x")?,
-        Value::Number(Num::Bool(true)),
-    )?;
+/// The names of a session in order.
+fn describe_names(alloc: Global, session: &mut Session) -> Result<String, OutOfMemory> {
     let version = session.freeze()?;
-    let count = version.count();
-    let first = version.name_at(0);
-    Ok(format!(in alloc; "{count} names, the first {first:?}")?)
+    let (count, first) = (version.count(), version.name_at(0));
+    let (is_x, is_y) = (version.peek("x").is_some(), version.peek("y").is_some());
+    Ok(format!(in alloc; "{count} names, the first {first:?}, x: {is_x}, y: {is_y}")?)
 }
 
-/// A name that is unbound.
-fn unbound_name(alloc: Global) -> Result<String, OutOfMemory> {
-    let mut session = with_array(alloc)?;
-    session.bind(String::from_str(alloc, "y")?, Value::Number(Num::Int(5)))?;
+/// Names in order: the first is bound again.
+fn describe_bound_again(alloc: Global, session: &mut Session) -> Result<String, OutOfMemory>
+    requires { (live session.old).next ≡ 0 }
+{
+    bind_array(alloc, session)?;
+    bind(alloc, session, "y", Value::Number(Num::Int(5)))?;
+    bind(alloc, session, "x", Value::Number(Num::Bool(true)))?;
+    describe_names(alloc, session)
+}
+
+/// Names in order: the first is unbound.
+fn describe_unbound(alloc: Global, session: &mut Session) -> Result<String, OutOfMemory>
+    requires { (live session.old).next ≡ 0 }
+{
+    bind_array(alloc, session)?;
+    bind(alloc, session, "y", Value::Number(Num::Int(5)))?;
     session.unbind("x")?;
-    let is_found = session.lookup("x")?.is_some();
-    let version = session.freeze()?;
-    let first = version.name_at(0);
-    let is_kept = version.peek("x").is_some();
-    let is_other = version.peek("y").is_some();
-    Ok(format!(in alloc; "the first {first:?}, x: {is_found}, {is_kept}, y: {is_other}")?)
+    describe_names(alloc, session)
+}
+
+/// How many bytes of the first base a version keeps.
+fn count_kept(session: &mut Session) -> Result<usize, OutOfMemory> {
+    Ok(session.freeze()?.bytes(BASE).len())
+}
+
+fn is_found(session: &mut Session, name: &str) -> Result<bool, OutOfMemory> {
+    Ok(session.lookup(name)?.is_some())
 }
 
 /// A version has the blocks that names hold.
-fn blocks(alloc: Global) -> Result<String, OutOfMemory> {
-    let mut session = with_array(alloc)?;
-    let base = Base {
-        label: 3,
-        number: 0,
-    };
-    let before = session.freeze()?.bytes(base).len();
+fn describe_blocks(alloc: Global, session: &mut Session) -> Result<String, OutOfMemory>
+    requires { (live session.old).next ≡ 0 }
+{
+    bind_array(alloc, session)?;
+    let before = count_kept(session)?;
     session.unbind("x")?;
-    let after = session.freeze()?.bytes(base).len();
-    Ok(format!(in alloc; "a block of {before} bytes, without its name {after}")?)
+    let after = count_kept(session)?;
+    let is_found = is_found(session, "x")?;
+    let next = session.next_number();
+    Ok(format!(in alloc; "{before} bytes, without a name {after}, x: {is_found}, next {next}")?)
 }
 
-/// Prints what the calls gave.
+/// Prints what calls gave.
 fn print_text(rt: &HostRuntime, text: Result<String, OutOfMemory>) -> io::Result<()> {
     match text {
         Ok(text) => println!(rt; "{text}"),
@@ -82,9 +124,10 @@ fn print_text(rt: &HostRuntime, text: Result<String, OutOfMemory>) -> io::Result
 
 /// Prints what each of them gives.
 pub(crate) fn print_sessions(rt: &HostRuntime) -> io::Result<()> {
+    let alloc = rt.alloc();
     println!(rt; "= sessions")?;
-    print_text(rt, uses(rt.alloc()))?;
-    print_text(rt, names(rt.alloc()))?;
-    print_text(rt, unbound_name(rt.alloc()))?;
-    print_text(rt, blocks(rt.alloc()))
+    print_text(rt, describe_uses(alloc, &mut begun_session(alloc)))?;
+    print_text(rt, describe_bound_again(alloc, &mut begun_session(alloc)))?;
+    print_text(rt, describe_unbound(alloc, &mut begun_session(alloc)))?;
+    print_text(rt, describe_blocks(alloc, &mut begun_session(alloc)))
 }

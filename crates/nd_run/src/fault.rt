@@ -7,9 +7,7 @@ ghost use Rattle.nd_rerun.specs.Syntax.{kind_of};
 ghost use Rattle.nd_rerun.specs.Faults.{view_fault_of, index_fault_of, ufunc_fault_of, stmt_error_of, fault_of};
 ghost use Rattle.nd_rerun.specs.Results.{cell_fault_of};
 
-use nd_rerun::{
-    CellFault, IndexFault, ParseKind, StmtError, StmtFault, UfuncFault, ViewFault,
-};
+use nd_rerun::{CellFault, IndexFault, ParseKind, StmtError, StmtFault, UfuncFault, ViewFault};
 use nd_script::{push_integer, push_number, push_text};
 use std::alloc::AllocError;
 

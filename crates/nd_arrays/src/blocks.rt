@@ -44,7 +44,7 @@ fn change(alloc: Global, block: &mut RawBlock, call: &str, text: &str) -> Result
     match call {
         "store" => store(block, text),
         "store_at" => store_lowest(block, text),
-        "put" => put(alloc, block, text),
+        "put" => put_bytes(alloc, block, text),
         _ => copy_case(block, text),
     }
 }
@@ -107,7 +107,7 @@ fn store_lowest(block: &mut RawBlock, text: &str) -> Result<(), Refusal> {
 }
 
 /// Puts bytes to their places.
-fn put(alloc: Global, block: &mut RawBlock, text: &str) -> Result<(), Refusal> {
+fn put_bytes(alloc: Global, block: &mut RawBlock, text: &str) -> Result<(), Refusal> {
     let (places, bytes) = pair(text)?;
     block.put(&numbers(alloc, places)?, &numbers(alloc, bytes)?);
     Ok(())

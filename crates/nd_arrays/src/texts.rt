@@ -1,8 +1,7 @@
 //! Calls that print numbers and arrays.
 
-ghost use Rattle.std.specs.Prelude.{◌+◌, ◌≤◌, length, IsTrue};
-ghost use Rattle.std.specs.List.{All};
-ghost use Rattle.nd_model.specs.View.{item_size};
+ghost use Rattle.std.specs.Prelude.{length, IsTrue};
+ghost use Rattle.nd_arrays.specs.Held.{IsHeld};
 
 use crate::blocks::block_of;
 use crate::kinds::kind_of;
@@ -58,7 +57,7 @@ pub(crate) fn print_array(alloc: Global, words: &str) -> Result<String, Refusal>
 
 /// Whether the block has each element of the view.
 fn holds_view(block: &RawBlock, view: &View) -> bool
-    ensures { IsTrue result → All (λ p. p + item_size view.now.element ≤ length block.now) view.now.places }
+    ensures { IsTrue result → IsHeld (length block.now) view.now }
 {
     let size = view.elem().size();
     for number in 0..view.count() as u64 {

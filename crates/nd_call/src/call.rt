@@ -10,13 +10,13 @@ ghost use Rattle.nd_read.specs.Gives.{Gives, with_rest, tokens_of, inside, exprs
 ghost use Rattle.nd_rule.specs.Readers.{Operands};
 ghost use Rattle.nd_call.specs.Readers.{numbers, other_call, arange_body, second_number, third_number, filled_body, full_body, new_array_body, broadcast_to_body, two_body, reduce_body, accumulate_body};
 
-use crate::operands::Calls;
+use crate::operands::{Calls, call_node, next_token};
 use nd_read::kinds::{
     ABSOLUTE, ACCUMULATE, ARANGE, ARRAY, BROADCAST, CLOSE, COMMA, DOT, DTYPE_BOUND, EXTREMUM, FILL,
     FULL, KIND, LOAD, NO_FOLD, NO_FUNCTION, OPEN, REDUCE, UFUNC, next_in,
 };
 use nd_read::names::{fill_named, kind_named, ufunc_named};
-use nd_read::read::{Read, Reason, Tokens, shut, take, text_of};
+use nd_read::read::{Read, Reason, Tokens, close, shut, skip, text_of};
 use nd_read::spot::Spot;
 use nd_read::types::{comma_typing, quoted, typing};
 use nd_syntax::{Call, DType, Expr, Fill, Fold};
@@ -28,10 +28,10 @@ impl<'f, F: for<'t> Fn(u8, Spot, Tokens<'t>) -> Read<'t, Expr>> Calls<'f, F> {
         requires { Operands F.Fn self.now.rules.operand.now levels }
         ensures { Gives (with_rest expr_of) result (read kind (function np (under levels)) (tokens_of tokens.now)) }
     {
-        let (_, rest) = take(tokens, np)?;
-        let (_, rest) = take(rest, DOT)?;
+        let rest = skip(tokens, np)?;
+        let rest = skip(rest, DOT)?;
         let (call, rest) = self.call(levels, rest)?;
-        Ok((Expr::Call(Box::new(self.rules.alloc, call)?), rest))
+        Ok((call_node(self.rules.alloc, call)?, rest))
     }
 
     /// What stands behind `np.`.
@@ -41,24 +41,24 @@ impl<'f, F: for<'t> Fn(u8, Spot, Tokens<'t>) -> Read<'t, Expr>> Calls<'f, F> {
         ensures { Gives (with_rest call_of) result (read kind (call (under levels)) (tokens_of tokens.now)) }
     {
         if next_in(tokens, ARANGE) {
-            let (_, rest) = take(tokens, ARANGE)?;
+            let (_, rest) = next_token(tokens, ARANGE);
             return self.arange(levels, rest);
         }
         if next_in(tokens, FILL) {
-            let (name, rest) = take(tokens, FILL)?;
+            let (name, rest) = next_token(tokens, FILL);
             let ((shape, dtype), rest) = self.filled(levels, rest)?;
             return Ok((filled_call(fill_named(text_of(name)), shape, dtype), rest));
         }
         if next_in(tokens, FULL) {
-            let (_, rest) = take(tokens, FULL)?;
+            let (_, rest) = next_token(tokens, FULL);
             return self.full(levels, rest);
         }
         if next_in(tokens, ARRAY) {
-            let (_, rest) = take(tokens, ARRAY)?;
+            let (_, rest) = next_token(tokens, ARRAY);
             return self.new_array(levels, rest);
         }
         if next_in(tokens, BROADCAST) {
-            let (_, rest) = take(tokens, BROADCAST)?;
+            let (_, rest) = next_token(tokens, BROADCAST);
             return self.broadcast_to(levels, rest);
         }
         self.other_call(levels, tokens)
@@ -69,27 +69,27 @@ impl<'f, F: for<'t> Fn(u8, Spot, Tokens<'t>) -> Read<'t, Expr>> Calls<'f, F> {
         ensures { Gives (with_rest call_of) result (read kind (other_call (under levels)) (tokens_of tokens.now)) }
     {
         if next_in(tokens, KIND) {
-            let (name, rest) = take(tokens, KIND)?;
+            let (name, rest) = next_token(tokens, KIND);
             let (number, rest) = self.rules.grouped(levels, OPEN, rest)?;
             return Ok((Call::Convert(kind_named(text_of(name)), number), rest));
         }
         if next_in(tokens, EXTREMUM) {
-            let (name, rest) = take(tokens, EXTREMUM)?;
+            let (name, rest) = next_token(tokens, EXTREMUM);
             let ((left, right), rest) = self.two(levels, rest)?;
             return Ok((extremum_named(text_of(name), left, right), rest));
         }
         if next_in(tokens, ABSOLUTE) {
-            let (_, rest) = take(tokens, ABSOLUTE)?;
+            let (_, rest) = next_token(tokens, ABSOLUTE);
             let (number, rest) = self.rules.grouped(levels, OPEN, rest)?;
             return Ok((Call::Absolute(number), rest));
         }
         if next_in(tokens, UFUNC) {
-            let (name, rest) = take(tokens, UFUNC)?;
+            let (name, rest) = next_token(tokens, UFUNC);
             let (fold, rest) = self.fold(levels, rest)?;
             return Ok((Call::Fold(ufunc_named(text_of(name)), fold), rest));
         }
         if next_in(tokens, LOAD) {
-            let (_, rest) = take(tokens, LOAD)?;
+            let (_, rest) = next_token(tokens, LOAD);
             let (name, rest) = quoted(self.rules.alloc, levels, rest)?;
             return Ok((Call::Load(name), rest));
         }
@@ -111,11 +111,10 @@ impl<'f, F: for<'t> Fn(u8, Spot, Tokens<'t>) -> Read<'t, Expr>> Calls<'f, F> {
         requires { Operands F.Fn self.now.rules.operand.now (levels + 1) }
         ensures { Gives (with_rest call_of) result (read kind (between OPEN (arange_body (inside levels)) CLOSE) (tokens_of tokens.now)) }
     {
-        let (_, rest) = take(tokens, OPEN)?;
+        let rest = skip(tokens, OPEN)?;
         let (first, rest) = self.rules.expr(levels, Spot::Anywhere, rest)?;
         let ((more, dtype), rest) = self.second(levels, rest)?;
-        let (_, rest) = take(rest, CLOSE)?;
-        Ok((ranged(first, more, dtype), rest))
+        close(ranged(first, more, dtype), CLOSE, rest)
     }
 
     /// What stands behind the first number: a second one, a third one, a type.
@@ -129,11 +128,10 @@ impl<'f, F: for<'t> Fn(u8, Spot, Tokens<'t>) -> Read<'t, Expr>> Calls<'f, F> {
         ensures { Gives (with_rest second_of) result (read kind (second (inside levels)) (tokens_of tokens.now)) }
     {
         if next_in(tokens, COMMA) {
-            let (_, rest) = take(tokens, COMMA)?;
+            let (_, rest) = next_token(tokens, COMMA);
             return self.second_number(levels, rest);
         }
-        let (_, rest) = tokens.split_at(0);
-        Ok(((None, None), rest))
+        Ok(((None, None), tokens))
     }
 
     fn second_number<'t>(
@@ -160,11 +158,10 @@ impl<'f, F: for<'t> Fn(u8, Spot, Tokens<'t>) -> Read<'t, Expr>> Calls<'f, F> {
         ensures { Gives (with_rest third_of) result (read kind (third (inside levels)) (tokens_of tokens.now)) }
     {
         if next_in(tokens, COMMA) {
-            let (_, rest) = take(tokens, COMMA)?;
+            let (_, rest) = next_token(tokens, COMMA);
             return self.third_number(levels, rest);
         }
-        let (_, rest) = tokens.split_at(0);
-        Ok(((None, None), rest))
+        Ok(((None, None), tokens))
     }
 
     fn third_number<'t>(
@@ -199,11 +196,10 @@ impl<'f, F: for<'t> Fn(u8, Spot, Tokens<'t>) -> Read<'t, Expr>> Calls<'f, F> {
         requires { Operands F.Fn self.now.rules.operand.now (levels + 1) }
         ensures { Gives (with_rest filled_of) result (read kind (between OPEN (filled_body (inside levels)) CLOSE) (tokens_of tokens.now)) }
     {
-        let (_, rest) = take(tokens, OPEN)?;
+        let rest = skip(tokens, OPEN)?;
         let (shape, rest) = self.rules.shape(levels, rest)?;
         let (dtype, rest) = comma_typing(self.rules.alloc, levels, rest)?;
-        let (_, rest) = take(rest, CLOSE)?;
-        Ok(((shape, dtype), rest))
+        close((shape, dtype), CLOSE, rest)
     }
 
     /// `np.full`
@@ -221,13 +217,12 @@ impl<'f, F: for<'t> Fn(u8, Spot, Tokens<'t>) -> Read<'t, Expr>> Calls<'f, F> {
         requires { Operands F.Fn self.now.rules.operand.now (levels + 1) }
         ensures { Gives (with_rest call_of) result (read kind (between OPEN (full_body (inside levels)) CLOSE) (tokens_of tokens.now)) }
     {
-        let (_, rest) = take(tokens, OPEN)?;
+        let rest = skip(tokens, OPEN)?;
         let (shape, rest) = self.rules.shape(levels, rest)?;
-        let (_, rest) = take(rest, COMMA)?;
+        let rest = skip(rest, COMMA)?;
         let (value, rest) = self.rules.expr(levels, Spot::Anywhere, rest)?;
         let (dtype, rest) = comma_typing(self.rules.alloc, levels, rest)?;
-        let (_, rest) = take(rest, CLOSE)?;
-        Ok((full_call(shape, value, dtype), rest))
+        close(full_call(shape, value, dtype), CLOSE, rest)
     }
 
     /// `np.array`
@@ -245,11 +240,10 @@ impl<'f, F: for<'t> Fn(u8, Spot, Tokens<'t>) -> Read<'t, Expr>> Calls<'f, F> {
         requires { Operands F.Fn self.now.rules.operand.now (levels + 1) }
         ensures { Gives (with_rest call_of) result (read kind (between OPEN (new_array_body (inside levels)) CLOSE) (tokens_of tokens.now)) }
     {
-        let (_, rest) = take(tokens, OPEN)?;
+        let rest = skip(tokens, OPEN)?;
         let (element, rest) = self.rules.element(levels, rest)?;
         let (dtype, rest) = comma_typing(self.rules.alloc, levels, rest)?;
-        let (_, rest) = take(rest, CLOSE)?;
-        Ok((Call::Array(element, dtype), rest))
+        close(Call::Array(element, dtype), CLOSE, rest)
     }
 
     /// `np.broadcast_to`
@@ -267,12 +261,11 @@ impl<'f, F: for<'t> Fn(u8, Spot, Tokens<'t>) -> Read<'t, Expr>> Calls<'f, F> {
         requires { Operands F.Fn self.now.rules.operand.now (levels + 1) }
         ensures { Gives (with_rest call_of) result (read kind (between OPEN (broadcast_to_body (inside levels)) CLOSE) (tokens_of tokens.now)) }
     {
-        let (_, rest) = take(tokens, OPEN)?;
+        let rest = skip(tokens, OPEN)?;
         let (value, rest) = self.rules.expr(levels, Spot::Anywhere, rest)?;
-        let (_, rest) = take(rest, COMMA)?;
+        let rest = skip(rest, COMMA)?;
         let (shape, rest) = self.rules.shape(levels, rest)?;
-        let (_, rest) = take(rest, CLOSE)?;
-        Ok((broadcast_call(value, shape), rest))
+        close(broadcast_call(value, shape), CLOSE, rest)
     }
 
     /// `(expr, expr)`
@@ -290,12 +283,11 @@ impl<'f, F: for<'t> Fn(u8, Spot, Tokens<'t>) -> Read<'t, Expr>> Calls<'f, F> {
         requires { Operands F.Fn self.now.rules.operand.now (levels + 1) }
         ensures { Gives (with_rest two_of) result (read kind (between OPEN (two_body (inside levels)) CLOSE) (tokens_of tokens.now)) }
     {
-        let (_, rest) = take(tokens, OPEN)?;
+        let rest = skip(tokens, OPEN)?;
         let (left, rest) = self.rules.expr(levels, Spot::Anywhere, rest)?;
-        let (_, rest) = take(rest, COMMA)?;
+        let rest = skip(rest, COMMA)?;
         let (right, rest) = self.rules.expr(levels, Spot::Anywhere, rest)?;
-        let (_, rest) = take(rest, CLOSE)?;
-        Ok(((left, right), rest))
+        close((left, right), CLOSE, rest)
     }
 
     /// `.reduce(..)`, `.accumulate(..)`
@@ -304,13 +296,13 @@ impl<'f, F: for<'t> Fn(u8, Spot, Tokens<'t>) -> Read<'t, Expr>> Calls<'f, F> {
         requires { Operands F.Fn self.now.rules.operand.now levels }
         ensures { Gives (with_rest fold_of) result (read kind (fold (under levels)) (tokens_of tokens.now)) }
     {
-        let (_, rest) = take(tokens, DOT)?;
+        let rest = skip(tokens, DOT)?;
         if next_in(rest, REDUCE) {
-            let (_, rest) = take(rest, REDUCE)?;
+            let (_, rest) = next_token(rest, REDUCE);
             return self.reduce(levels, rest);
         }
         if next_in(rest, ACCUMULATE) {
-            let (_, rest) = take(rest, ACCUMULATE)?;
+            let (_, rest) = next_token(rest, ACCUMULATE);
             return self.accumulate(levels, rest);
         }
         Err(shut(rest, NO_FOLD, Reason::UnknownCall))
@@ -330,11 +322,10 @@ impl<'f, F: for<'t> Fn(u8, Spot, Tokens<'t>) -> Read<'t, Expr>> Calls<'f, F> {
         requires { Operands F.Fn self.now.rules.operand.now (levels + 1) }
         ensures { Gives (with_rest fold_of) result (read kind (between OPEN (reduce_body (inside levels)) CLOSE) (tokens_of tokens.now)) }
     {
-        let (_, rest) = take(tokens, OPEN)?;
+        let rest = skip(tokens, OPEN)?;
         let (array, rest) = self.rules.expr(levels, Spot::Anywhere, rest)?;
         let ((axis, keepdims), rest) = self.rules.comma_options(levels, rest)?;
-        let (_, rest) = take(rest, CLOSE)?;
-        Ok((Fold::Reduce(array, axis, keepdims), rest))
+        close(Fold::Reduce(array, axis, keepdims), CLOSE, rest)
     }
 
     fn accumulate<'t>(&self, levels: u8, tokens: Tokens<'t>) -> Read<'t, Fold>
@@ -351,11 +342,10 @@ impl<'f, F: for<'t> Fn(u8, Spot, Tokens<'t>) -> Read<'t, Expr>> Calls<'f, F> {
         requires { Operands F.Fn self.now.rules.operand.now (levels + 1) }
         ensures { Gives (with_rest fold_of) result (read kind (between OPEN (accumulate_body (inside levels)) CLOSE) (tokens_of tokens.now)) }
     {
-        let (_, rest) = take(tokens, OPEN)?;
+        let rest = skip(tokens, OPEN)?;
         let (array, rest) = self.rules.expr(levels, Spot::Anywhere, rest)?;
         let (axis, rest) = self.rules.comma_axis(levels, rest)?;
-        let (_, rest) = take(rest, CLOSE)?;
-        Ok((Fold::Accumulate(array, axis), rest))
+        close(Fold::Accumulate(array, axis), CLOSE, rest)
     }
 }
 

@@ -10,14 +10,14 @@ ghost use Rattle.nd_read.specs.Gives.{Gives, with_rest, tokens_of, inside, exprs
 ghost use Rattle.nd_rule.specs.Readers.{Operands};
 ghost use Rattle.nd_call.specs.Readers.{numbers, other_attribute, axes_body, lengths_body, accumulation_body};
 
-use crate::operands::Calls;
+use crate::operands::{Calls, next_token};
 use nd_read::kinds::{
     ACCUMULATION, AXIS, AXIS_BOUND, AXIS_CALLED, CLOSE, CONVERSION, COPY, DOT, EXPR, FIRST_AXIS,
     KEEPDIMS_BOUND, NO_METHOD, OPEN, OPEN_NONE, OPEN_TUPLE, REDUCTION, RESHAPE, TRANSPOSE,
     TRANSPOSED, next_in,
 };
 use nd_read::names::{accumulation_named, reduction_named};
-use nd_read::read::{Read, Reason, Tokens, shut, stop_at, take, text_of};
+use nd_read::read::{Read, Reason, Tokens, close, shut, skip, stop_at, text_of};
 use nd_read::spot::Spot;
 use nd_read::types::{comma_keepdims, empty, named_keepdims, no_lengths, type_argument};
 use nd_syntax::{Axis, DType, Expr, Method};
@@ -29,7 +29,7 @@ impl<'f, F: for<'t> Fn(u8, Spot, Tokens<'t>) -> Read<'t, Expr>> Calls<'f, F> {
         requires { Operands F.Fn self.now.rules.operand.now levels }
         ensures { Gives (with_rest method_of) result (read kind (method (under levels)) (tokens_of tokens.now)) }
     {
-        let (_, rest) = take(tokens, DOT)?;
+        let rest = skip(tokens, DOT)?;
         self.attribute(levels, rest)
     }
 
@@ -40,21 +40,21 @@ impl<'f, F: for<'t> Fn(u8, Spot, Tokens<'t>) -> Read<'t, Expr>> Calls<'f, F> {
         ensures { Gives (with_rest method_of) result (read kind (attribute (under levels)) (tokens_of tokens.now)) }
     {
         if next_in(tokens, TRANSPOSED) {
-            let (_, rest) = take(tokens, TRANSPOSED)?;
+            let (_, rest) = next_token(tokens, TRANSPOSED);
             return Ok((transpose(Vec::new(self.rules.alloc)), rest));
         }
         if next_in(tokens, TRANSPOSE) {
-            let (_, rest) = take(tokens, TRANSPOSE)?;
+            let (_, rest) = next_token(tokens, TRANSPOSE);
             let (axes, rest) = self.axes(levels, rest)?;
             return Ok((transpose(axes), rest));
         }
         if next_in(tokens, RESHAPE) {
-            let (_, rest) = take(tokens, RESHAPE)?;
+            let (_, rest) = next_token(tokens, RESHAPE);
             let (lengths, rest) = self.lengths(levels, rest)?;
             return Ok((reshape(lengths), rest));
         }
         if next_in(tokens, COPY) {
-            let (_, rest) = take(tokens, COPY)?;
+            let (_, rest) = next_token(tokens, COPY);
             let (_, rest) = empty(levels, rest)?;
             return Ok((Method::Copy, rest));
         }
@@ -66,12 +66,12 @@ impl<'f, F: for<'t> Fn(u8, Spot, Tokens<'t>) -> Read<'t, Expr>> Calls<'f, F> {
         ensures { Gives (with_rest method_of) result (read kind (other_attribute (under levels)) (tokens_of tokens.now)) }
     {
         if next_in(tokens, CONVERSION) {
-            let (name, rest) = take(tokens, CONVERSION)?;
+            let (name, rest) = next_token(tokens, CONVERSION);
             let (dtype, rest) = type_argument(self.rules.alloc, levels, rest)?;
             return Ok((conversion_named(text_of(name), dtype), rest));
         }
         if next_in(tokens, REDUCTION) {
-            let (name, rest) = take(tokens, REDUCTION)?;
+            let (name, rest) = next_token(tokens, REDUCTION);
             let ((axis, keepdims), rest) = self.reduction(levels, rest)?;
             return Ok((
                 Method::Reduce(reduction_named(text_of(name)), axis, keepdims),
@@ -79,7 +79,7 @@ impl<'f, F: for<'t> Fn(u8, Spot, Tokens<'t>) -> Read<'t, Expr>> Calls<'f, F> {
             ));
         }
         if next_in(tokens, ACCUMULATION) {
-            let (name, rest) = take(tokens, ACCUMULATION)?;
+            let (name, rest) = next_token(tokens, ACCUMULATION);
             let (axis, rest) = self.accumulation(levels, rest)?;
             return Ok((
                 Method::Accumulate(accumulation_named(text_of(name)), axis),
@@ -104,10 +104,9 @@ impl<'f, F: for<'t> Fn(u8, Spot, Tokens<'t>) -> Read<'t, Expr>> Calls<'f, F> {
         requires { Operands F.Fn self.now.rules.operand.now (levels + 1) }
         ensures { Gives (with_rest exprs_of) result (read kind (between OPEN (axes_body (inside levels)) CLOSE) (tokens_of tokens.now)) }
     {
-        let (_, rest) = take(tokens, OPEN)?;
+        let rest = skip(tokens, OPEN)?;
         let (all, rest) = self.perhaps_exprs(levels, rest)?;
-        let (_, rest) = take(rest, CLOSE)?;
-        Ok((all, rest))
+        close(all, CLOSE, rest)
     }
 
     fn perhaps_exprs<'t>(&self, levels: u8, tokens: Tokens<'t>) -> Read<'t, Vec<Expr>>
@@ -117,8 +116,7 @@ impl<'f, F: for<'t> Fn(u8, Spot, Tokens<'t>) -> Read<'t, Expr>> Calls<'f, F> {
         if next_in(tokens, EXPR) {
             return self.rules.exprs(levels, Spot::Anywhere, tokens);
         }
-        let (_, rest) = tokens.split_at(0);
-        Ok((Vec::new(self.rules.alloc), rest))
+        Ok((Vec::new(self.rules.alloc), tokens))
     }
 
     /// `(shape)`, or several lengths
@@ -136,10 +134,9 @@ impl<'f, F: for<'t> Fn(u8, Spot, Tokens<'t>) -> Read<'t, Expr>> Calls<'f, F> {
         requires { Operands F.Fn self.now.rules.operand.now (levels + 1) }
         ensures { Gives (with_rest exprs_of) result (read kind (between OPEN (lengths_body (inside levels)) CLOSE) (tokens_of tokens.now)) }
     {
-        let (_, rest) = take(tokens, OPEN)?;
+        let rest = skip(tokens, OPEN)?;
         let (all, rest) = self.some_lengths(levels, rest)?;
-        let (_, rest) = take(rest, CLOSE)?;
-        Ok((all, rest))
+        close(all, CLOSE, rest)
     }
 
     fn some_lengths<'t>(&self, levels: u8, tokens: Tokens<'t>) -> Read<'t, Vec<Expr>>
@@ -170,10 +167,9 @@ impl<'f, F: for<'t> Fn(u8, Spot, Tokens<'t>) -> Read<'t, Expr>> Calls<'f, F> {
         requires { Operands F.Fn self.now.rules.operand.now (levels + 1) }
         ensures { Gives (with_rest options_of) result (read kind (between OPEN (reduction_options (inside levels)) CLOSE) (tokens_of tokens.now)) }
     {
-        let (_, rest) = take(tokens, OPEN)?;
+        let rest = skip(tokens, OPEN)?;
         let (options, rest) = self.reduction_options(levels, rest)?;
-        let (_, rest) = take(rest, CLOSE)?;
-        Ok((options, rest))
+        close(options, CLOSE, rest)
     }
 
     #[tactic(auto, unfolding(nd_model::specs::Cells::reduction_options))]
@@ -195,8 +191,7 @@ impl<'f, F: for<'t> Fn(u8, Spot, Tokens<'t>) -> Read<'t, Expr>> Calls<'f, F> {
             let (keepdims, rest) = comma_keepdims(rest)?;
             return Ok(((axis, keepdims), rest));
         }
-        let (_, rest) = tokens.split_at(0);
-        Ok(((Axis::Default, false), rest))
+        Ok(((Axis::Default, false), tokens))
     }
 
     /// `([axis = expr])`
@@ -214,10 +209,9 @@ impl<'f, F: for<'t> Fn(u8, Spot, Tokens<'t>) -> Read<'t, Expr>> Calls<'f, F> {
         requires { Operands F.Fn self.now.rules.operand.now (levels + 1) }
         ensures { Gives (with_rest bound_of) result (read kind (between OPEN (accumulation_body (inside levels)) CLOSE) (tokens_of tokens.now)) }
     {
-        let (_, rest) = take(tokens, OPEN)?;
+        let rest = skip(tokens, OPEN)?;
         let (axis, rest) = self.perhaps_axis(levels, rest)?;
-        let (_, rest) = take(rest, CLOSE)?;
-        Ok((axis, rest))
+        close(axis, CLOSE, rest)
     }
 
     fn perhaps_axis<'t>(&self, levels: u8, tokens: Tokens<'t>) -> Read<'t, Option<Expr>>
@@ -230,8 +224,7 @@ impl<'f, F: for<'t> Fn(u8, Spot, Tokens<'t>) -> Read<'t, Expr>> Calls<'f, F> {
         if next_in(tokens, AXIS_CALLED) {
             return Err(stop_at(tokens, Reason::UnknownCall));
         }
-        let (_, rest) = tokens.split_at(0);
-        Ok((None, rest))
+        Ok((None, tokens))
     }
 }
 

@@ -1,21 +1,26 @@
 //! Operands: signs, powers, indexes and methods on them.
-ghost use Rattle.std.specs.Prelude.{◌≡◌, ◌+◌, IfOk};
+ghost use Rattle.std.specs.Prelude.{◌≡◌, ◌+◌, true, IfOk, Ok};
 ghost use Rattle.nd_model.specs.Grammar.{Many};
 ghost use Rattle.nd_model.specs.Kinds.{kind, SUFFIX, POWER};
-ghost use Rattle.nd_model.specs.Predict.{read};
-ghost use Rattle.nd_model.specs.Cells.{Anywhere, under, suffixed, suffix, operand, postfix, exponent, power, signed, unary, operation};
-ghost use Rattle.nd_syntax.specs.Syntax.{expr_of, suffix_of};
+ghost use Rattle.nd_model.specs.Predict.{read, next_in};
+ghost use Rattle.nd_model.specs.Syntax.{Called};
+ghost use Rattle.nd_model.specs.Cells.{Anywhere, token, under, suffixed, suffix, operand, postfix, exponent, power, signed, unary, operation};
+ghost use Rattle.nd_token.specs.Tokens.{token_of};
+ghost use Rattle.nd_syntax.specs.Syntax.{expr_of, call_of, suffix_of};
 ghost use Rattle.nd_read.specs.Gives.{Gives, with_rest, tokens_of, spot_of, suffixes_of, operation_of};
 ghost use Rattle.nd_rule.specs.Readers.{Operands};
 ghost use Rattle.nd_call.specs.Readers.{with_sign};
 
-use nd_read::kinds::{ABS, BUFFER, CALLED, OPEN, OPEN_BRACKET, PLUS, POWER, SIGN, SUFFIX, next_in};
+use nd_read::kinds::{
+    ABS, BUFFER, CALLED, CLOSE, OPEN, OPEN_BRACKET, PLUS, POWER, SIGN, SUFFIX, next_in,
+};
 use nd_read::operators::{binary_of, unary_of};
 use nd_read::read::{Read, Reason, Tokens, leaf, shut, stop_at, take};
 use nd_read::spot::{Spot, leaves, modules, openings};
 use nd_read::types::quoted;
 use nd_rule::{Rules, operated};
 use nd_syntax::{BinaryOp, Call, Expr, Suffix};
+use nd_token::Token;
 use std::alloc::{AllocError, Global};
 
 /// Operands, calls and methods, over the rules of what stands in their brackets.
@@ -150,7 +155,7 @@ impl<'f, F: for<'t> Fn(u8, Spot, Tokens<'t>) -> Read<'t, Expr>> Calls<'f, F> {
     {
         let set = leaves(spot);
         if next_in(tokens, set) {
-            let (token, rest) = take(tokens, set)?;
+            let (token, rest) = next_token(tokens, set);
             return Ok((leaf(self.rules.alloc, token)?, rest));
         }
         if next_in(tokens, CALLED) {
@@ -164,23 +169,35 @@ impl<'f, F: for<'t> Fn(u8, Spot, Tokens<'t>) -> Read<'t, Expr>> Calls<'f, F> {
             return self.function(levels, np, tokens);
         }
         if next_in(tokens, ABS) {
-            let (_, rest) = take(tokens, ABS)?;
+            let (_, rest) = next_token(tokens, ABS);
             let (number, rest) = self.rules.grouped(levels, OPEN, rest)?;
-            return Ok((
-                Expr::Call(Box::new(self.rules.alloc, Call::PythonAbs(number))?),
-                rest,
-            ));
+            return Ok((call_node(self.rules.alloc, Call::PythonAbs(number))?, rest));
         }
         if next_in(tokens, BUFFER) {
-            let (_, rest) = take(tokens, BUFFER)?;
+            let (_, rest) = next_token(tokens, BUFFER);
             let (name, rest) = quoted(self.rules.alloc, levels, rest)?;
-            return Ok((
-                Expr::Call(Box::new(self.rules.alloc, Call::Buffer(name))?),
-                rest,
-            ));
+            return Ok((call_node(self.rules.alloc, Call::Buffer(name))?, rest));
         }
         self.rules.grouped(levels, openings(spot), tokens)
     }
+}
+
+/// The next token, which is of the set, and the tokens after it.
+pub(crate) fn next_token<'t>(tokens: Tokens<'t>, set: u128) -> (Token<'t>, Tokens<'t>)
+    requires { next_in kind set (tokens_of tokens.now) ≡ true }
+    ensures { read kind (token set) (tokens_of tokens.now) ≡ Ok (with_rest token_of result) }
+{
+    match tokens.split_first() {
+        Some((token, rest)) => (*token, rest),
+        None => unreachable!(),
+    }
+}
+
+/// A call as an expression. It allocates one node.
+pub(crate) fn call_node(alloc: Global, call: Call) -> Result<Expr, AllocError>
+    ensures { IfOk result (λ e. expr_of e ≡ Called (call_of call)) }
+{
+    Ok(Expr::Call(Box::new(alloc, call)?))
 }
 
 /// An operand with its indexes and methods, if it has any. It allocates one node.

@@ -1,5 +1,5 @@
 -- The results of cells as the definitions have them.
-use Rattle.std.specs.Prelude.{ℕ, List, [], ◌∷◌, option_map, String, string_bytes, Vec}
+use Rattle.std.specs.Prelude.{ℕ, List, [], ◌∷◌, Option, None, Some, option_map, String, string_bytes, Vec}
 use Rattle.std.proofs.Common.{Global}
 use Rattle.nd_model.specs.Running.{Running}
 use Rattle.nd_model.specs.Fault as model
@@ -29,3 +29,8 @@ saves_of (e ∷ es) = saved_of e ∷ saves_of es
 
 abbrev pub ended_of : CellResult → Running → Ended
 ended_of c r = record { text = string_bytes c.text; refusal = option_map refusal_of c.refusal; saves = saves_of c.saves.entries; running = r }
+
+-- how a cell goes on behind a line: by what comes after it, or to its end where the line is refused
+abbrev pub after_line : Option Refusal → List ℕ → Saved → Running → (List ℕ → Saved → Running → Ended) → Ended
+after_line None text saves r rest = rest text saves r
+after_line (Some f) text saves r rest = record { text = text; refusal = Some (refusal_of f); saves = saves; running = r }

@@ -1,20 +1,22 @@
 //! Running a cell.
 
-ghost use Rattle.std.specs.Prelude.{◌≡◌, ◌+◌, ◌-◌, ◌<◌, ◌^◌, min, [], Some, IfOk, OnOk, option_map, string_bytes};
+ghost use Rattle.std.specs.Prelude.{◌≡◌, ◌+◌, ◌-◌, ◌<◌, ◌≤◌, ◌^◌, ℕ, List, min, [], Ok, Some, IfOk, OnOk, option_map, string_bytes};
 ghost use Rattle.nd_model.specs.Fault as refusals;
 ghost use Rattle.nd_model.specs.Running as running;
-ghost use Rattle.nd_model.specs.Cell.{cell, statements, with_save};
-ghost use Rattle.nd_model.specs.Tokens.{tokens_of_lines};
+ghost use Rattle.nd_model.specs.Running.{Running};
+ghost use Rattle.nd_model.specs.Cell.{Ended, Saved, and_then, cell, statement, statements, with_save};
+ghost use Rattle.nd_model.specs.Tokens.{tokens_of_lines, tokens_of_stmt};
 ghost use Rattle.nd_model.specs.Reading.{reading};
-ghost use Rattle.nd_syntax.specs.Syntax.{kind_of, lines_of};
+ghost use Rattle.nd_syntax.specs.Syntax.{kind_of, lines_of, stmt_of};
 ghost use Rattle.nd_heap.specs.Values.{inputs_of};
 ghost use Rattle.nd_heap.specs.Live.{live};
-ghost use Rattle.nd_cell.specs.Results.{ended_of, refusal_of, saved_of, saves_of};
+ghost use Rattle.nd_eval.specs.Done.{output_of};
+ghost use Rattle.nd_cell.specs.Results.{after_line, ended_of, refusal_of, saved_of, saves_of};
 
 use crate::meter::Meter;
 use crate::result::{CellFault, CellResult, Refusal};
 use indexmap::IndexMap;
-use nd_eval::{StmtError, StmtFault, run_stmt};
+use nd_eval::{Output, StmtError, StmtFault, run_stmt};
 use nd_heap::{Inputs, OutOfMemory, Session};
 use nd_parse::{Line, ParseFault, parse_cell};
 use std::alloc::Global;
@@ -35,6 +37,53 @@ fn keep(
     Ok(())
 }
 
+/// Adds what the statement of a line gave to what its cell gave before. A text that gets too long refuses the line.
+fn add_output(
+    text: &mut String,
+    saves: &mut IndexMap<String, Vec<u8>>,
+    line: usize,
+    output: Output,
+) -> Result<Option<Refusal>, OutOfMemory>
+    ensures { IfOk result (λ o. (x : Running) → (rest : List ℕ → Saved → Running → Ended)
+        → and_then line (string_bytes text.old) (saves_of saves.old.entries) (Ok (output_of output), x) rest
+        ≡ after_line o (string_bytes text.new) (saves_of saves.new.entries) x rest) }
+{
+    if text.len() + output.text.len() > MOST_TEXT {
+        return Ok(Some(Refusal {
+            line,
+            fault: CellFault::Statement(StmtFault::Stmt(StmtError::TextTooLong)),
+        }));
+    }
+    text.push_str(output.text.as_str())?;
+    keep(saves, output.save)?;
+    Ok(None)
+}
+
+/// Runs a line of a cell: what it gives is added to what the lines before it gave, or it is refused.
+fn run_line(
+    session: &mut Session,
+    inputs: &Inputs,
+    line: &Line,
+    text: &mut String,
+    saves: &mut IndexMap<String, Vec<u8>>,
+) -> Result<Option<Refusal>, OutOfMemory>
+    requires { (live session.old).next + tokens_of_stmt (stmt_of line.now.stmt) < 2 ^ 64 }
+    ensures meaning { IfOk result (λ o. (rest : List ℕ → Saved → Running → Ended)
+        → and_then line.now.line (string_bytes text.old) (saves_of saves.old.entries)
+        (statement (inputs_of inputs.now.entries) (stmt_of line.now.stmt) (live session.old)) rest
+        ≡ after_line o (string_bytes text.new) (saves_of saves.new.entries) (live session.new) rest) }
+    ensures numbers { OnOk result ((live session.new).next
+        ≤ (live session.old).next + tokens_of_stmt (stmt_of line.now.stmt)) }
+{
+    match run_stmt(session, inputs, &line.stmt)? {
+        Ok(output) => add_output(text, saves, line.line, output),
+        Err(fault) => Ok(Some(Refusal {
+            line: line.line,
+            fault: CellFault::Statement(fault),
+        })),
+    }
+}
+
 /// Runs the lines of a cell, up to the first refusal.
 fn run_lines(
     session: &mut Session,
@@ -48,25 +97,14 @@ fn run_lines(
     let mut text = String::new(alloc);
     let mut saves = IndexMap::new(alloc);
     for line in lines {
-        let fault = match run_stmt(session, inputs, &line.stmt)? {
-            Ok(output) => {
-                if text.len() + output.text.len() <= MOST_TEXT {
-                    text.push_str(output.text.as_str())?;
-                    keep(&mut saves, output.save)?;
-                    continue;
-                }
-                StmtFault::Stmt(StmtError::TextTooLong)
-            }
-            Err(fault) => fault,
-        };
-        return Ok(CellResult {
-            text,
-            refusal: Some(Refusal {
-                line: line.line,
-                fault: CellFault::Statement(fault),
-            }),
-            saves,
-        });
+        let refusal = run_line(session, inputs, line, &mut text, &mut saves)?;
+        if refusal.is_some() {
+            return Ok(CellResult {
+                text,
+                refusal,
+                saves,
+            });
+        }
     }
     Ok(CellResult {
         text,

@@ -193,13 +193,11 @@ of_meaning s = refuses (tokens_of_stmt s) _
 pub next_value : (i : Inputs) (e : Expr) (r s : Running) (o : Result Value Fault) → run i (meaning.value e) r ≡ (o, s) → s.next ≤ r.next + tokens_of e
 next_value i e r s o h = subst (λ (x : Result Value Fault × Running). x.1.next ≤ r.next + tokens_of e) h ((of_value e).bound i r)
 
-pub next_item_value : (i : Inputs) (x : Index) (r s : Running) (o : Result Value Fault) → run i (meaning.item_value x) r ≡ (o, s) → s.next ≤ r.next + tokens_of_index x
-next_item_value i x r s o h = subst (λ (y : Result Value Fault × Running). y.1.next ≤ r.next + tokens_of_index x) h ((of_item_value x).bound i r)
-
--- an index makes none
-pub next_indexed : (i : Inputs) (t x : Value) (r s : Running) (o : Result Value Fault) → run i (meaning.indexed t x) r ≡ (o, s) → s.next ≤ r.next
-next_indexed i t x r s o h =
-    let made = subst (λ (o : Result Value Fault × Running). o.1.next ≤ r.next + 0) h ((of_indexed t x).bound i r) in
+-- an index makes no more than what it is made of
+pub next_at_index : (i : Inputs) (t : Value) (x : Index) (r s : Running) (o : Result Value Fault) → run i (meaning.item_value x >>= meaning.indexed t) r ≡ (o, s) → s.next ≤ r.next + tokens_of_index x
+next_at_index i t x r s o h =
+    let bound = then (tokens_of_index x) 0 (meaning.item_value x) (meaning.indexed t) (of_item_value x) (of_indexed t) in
+    let made = subst (λ (y : Result Value Fault × Running). y.1.next ≤ r.next + (tokens_of_index x + 0)) h (bound.bound i r) in
     omega arith
 
 done_next : (e : Effect) (r : Running) → (done e r).next ≡ r.next

@@ -21,12 +21,12 @@ use Rattle.nd_syntax.specs.Syntax.{expr_of, call_of, suffix_of, index_of, item_o
 use Rattle.nd_syntax.specs.Lists.{operation_of}
 use Rattle.nd_syntax.proofs.Chains.{row_of, postfix_is, item_row, index_is, chain_is}
 use Rattle.nd_model.proofs.Steps.{goes_on, run_bind}
-use Rattle.nd_eval.proofs.InTurn.{regrouped, next_item}
+use Rattle.nd_eval.proofs.InTurn.{next_item}
 
 -- what goes on a value: indexes, and methods, which are not built yet
 abbrev pub chain : Value → List Suffix → Eval Value
 chain v [] = Gives v
-chain v (AtIndex x ∷ xs) = item_value x >>= (λ item. indexed v item >>= (λ w. chain w xs))
+chain v (AtIndex x ∷ xs) = (item_value x >>= indexed v) >>= (λ w. chain w xs)
 chain v (OfMethod m ∷ xs) = Refuses (fault.Stmt BadArgument)
 
 abbrev pub chain_tokens : List Suffix → ℕ
@@ -45,8 +45,7 @@ none_left i (Err f, r) = refl
 
 one_more : (i : Inputs) (x : Index) (xs : List Suffix) (m : Result Value Fault × Running)
     → goes_on i (goes_on i m (λ t. item_value x >>= (λ item. indexed t item))) (λ v. chain v xs) ≡ goes_on i m (λ v. chain v (AtIndex x ∷ xs))
-one_more i x xs (Ok t, r) =
-    sym (run_bind i (item_value x >>= (λ item. indexed t item)) (λ v. chain v xs) r) ∙ regrouped i (item_value x) (λ item. indexed t item) (λ v. chain v xs) r
+one_more i x xs (Ok t, r) = sym (run_bind i (item_value x >>= indexed t) (λ v. chain v xs) r)
 one_more i x xs (Err f, r) = refl
 
 refused_there : (i : Inputs) (a : Method) (xs : List Suffix) (m : Result Value Fault × Running)
@@ -88,7 +87,7 @@ abbrev mutual
   pub nodes : tree.Expr → ℕ
   nodes (tree.Name n) = 1
   nodes (tree.Integer n) = 1
-  nodes (tree.Unary' op p e) = 1 + nodes e
+  nodes (tree.Unary' op p e) = 2 + nodes e
   nodes (tree.Chain' p e shape xs) = 1 + nodes e
   nodes (tree.Call' p c) = 1 + nodes_of_call c
   nodes (tree.Postfix' p e shape xs) = 1 + nodes e + nodes_in xs
@@ -103,7 +102,7 @@ abbrev mutual
   nodes_in (tree.more_of-Suffix x xs) = nodes_of_suffix x + nodes_in xs
 
   pub nodes_of_suffix : suffix.Suffix → ℕ
-  nodes_of_suffix (suffix.Index i) = nodes_of_index i
+  nodes_of_suffix (suffix.Index i) = 1 + nodes_of_index i
   nodes_of_suffix (suffix.Method m) = 1
 
   pub nodes_of_index : indexes.Index → ℕ

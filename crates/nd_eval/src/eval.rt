@@ -4,7 +4,7 @@ ghost use Rattle.std.specs.Prelude.{◌≡◌, ◌+◌, ◌<◌, ◌^◌, map};
 ghost use Rattle.std.specs.Prelude.{neg_ℤ};
 ghost use Rattle.nd_model.specs.Meaning as meaning;
 ghost use Rattle.nd_model.specs.Cells.{items_of};
-ghost use Rattle.nd_model.specs.Syntax.{Called, Items, AndItem, NoItem};
+ghost use Rattle.nd_model.specs.Syntax.{Called, Items, AndItem, Negative, NoItem, Unary};
 ghost use Rattle.nd_model.specs.Tokens.{tokens_of, tokens_of_call, tokens_of_index, tokens_of_item, tokens_of_all};
 ghost use Rattle.nd_syntax.specs.Syntax.{expr_of, call_of, index_of, item_of};
 ghost use Rattle.nd_heap.specs.Values.{value_of, inputs_of};
@@ -81,10 +81,7 @@ pub(crate) fn value(session: &mut Session, inputs: &Inputs, expr: &Expr) -> Resu
         Expr::Name(name) => named(session, inputs, name.as_str()),
         Expr::Integer(number) => Ok(Value::Number(Num::Int(i128::from(*number)))),
         Expr::Unary(op, operand) => match op {
-            UnaryOp::Negative => {
-                let operand = value(session, inputs, operand)?;
-                negated(session, inputs, &operand)
-            }
+            UnaryOp::Negative => negative_value(session, inputs, operand),
             UnaryOp::Invert => Err(unbuilt()),
         },
         Expr::Call(call) => called(session, inputs, call),
@@ -94,8 +91,7 @@ pub(crate) fn value(session: &mut Session, inputs: &Inputs, expr: &Expr) -> Resu
                 let Suffix::Index(index) = suffix else {
                     return Err(unbuilt());
                 };
-                let item = item_value(session, inputs, index)?;
-                found = indexed(session, inputs, &found, &item)?;
+                found = index_into(session, inputs, &found, index)?;
             }
             Ok(found)
         }
@@ -107,6 +103,34 @@ pub(crate) fn value(session: &mut Session, inputs: &Inputs, expr: &Expr) -> Resu
         }
         _ => Err(unbuilt()),
     }
+}
+
+/// The negative of an expression's value.
+#[cycle(value)]
+fn negative_value(session: &mut Session, inputs: &Inputs, operand: &Expr) -> Result<Value, Stop>
+    requires { (live session.old).next + tokens_of (expr_of operand.now) < 2 ^ 64 }
+    ensures { Ends value_of result (live session.new) (meaning.run (inputs_of inputs.now.entries)
+        (meaning.value (Unary Negative (expr_of operand.now))) (live session.old)) }
+{
+    let operand = value(session, inputs, operand)?;
+    negated(session, inputs, &operand)
+}
+
+/// What an index gives of a value that was found before.
+#[cycle(value)]
+fn index_into(
+    session: &mut Session,
+    inputs: &Inputs,
+    found: &Value,
+    index: &Index,
+) -> Result<Value, Stop>
+    requires { (live session.old).next + tokens_of_index (index_of index.now) < 2 ^ 64 }
+    ensures { Ends value_of result (live session.new) (meaning.run (inputs_of inputs.now.entries)
+        (meaning.◌>>=◌ (meaning.item_value (index_of index.now)) (meaning.indexed (value_of found.now)))
+        (live session.old)) }
+{
+    let item = item_value(session, inputs, index)?;
+    indexed(session, inputs, found, &item)
 }
 
 /// What a call of a function gives.

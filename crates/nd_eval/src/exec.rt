@@ -1,11 +1,12 @@
 //! Statements.
 
-ghost use Rattle.std.specs.Prelude.{◌≡◌, ◌+◌, ◌<◌, ◌≤◌, ◌^◌, IfOk, OnOk};
+ghost use Rattle.std.specs.Prelude.{◌≡◌, ◌+◌, ◌<◌, ◌≤◌, ◌^◌, IfOk, OnOk, map};
 ghost use Rattle.nd_model.specs.Running as running;
 ghost use Rattle.nd_model.specs.Meaning as meaning;
 ghost use Rattle.nd_model.specs.Cell.{statement};
-ghost use Rattle.nd_model.specs.Tokens.{tokens_of_stmt};
-ghost use Rattle.nd_syntax.specs.Syntax.{stmt_of};
+ghost use Rattle.nd_model.specs.Syntax.{Assign, Bind, Delete, Print};
+ghost use Rattle.nd_model.specs.Tokens.{tokens_of, tokens_of_all, tokens_of_stmt};
+ghost use Rattle.nd_syntax.specs.Syntax.{expr_of, index_of, stmt_of};
 ghost use Rattle.nd_heap.specs.Values.{inputs_of};
 ghost use Rattle.nd_heap.specs.Live.{live};
 ghost use Rattle.nd_eval.specs.Ends.{Ends};
@@ -19,13 +20,70 @@ use crate::stop::Stop;
 use crate::texts::{line_of, texts_of};
 use crate::writes::assigned;
 use nd_heap::{Inputs, OutOfMemory, Session};
-use nd_syntax::Stmt;
+use nd_syntax::{Expr, Index, Stmt};
 
 /// What a statement gives to its cell: the text that it prints, and perhaps a file that it saves, by its name.
 #[derive(Drop)]
 pub struct Output {
     pub text: String,
     pub save: Option<(String, Vec<u8>)>,
+}
+
+/// What a binding comes to.
+fn binding_effect(
+    session: &mut Session,
+    inputs: &Inputs,
+    name: &str,
+    expr: &Expr,
+) -> Result<Effect, Stop>
+    requires { (live session.old).next + tokens_of (expr_of expr.now) < 2 ^ 64 }
+    ensures { Ends effect_of result (live session.new) (meaning.run (inputs_of inputs.now.entries)
+        (meaning.meaning (Bind name.now (expr_of expr.now))) (live session.old)) }
+{
+    let bound = value(session, inputs, expr)?;
+    let name = String::from_str(session.allocator(), name)?;
+    Ok(Effect::Bind(name, bound))
+}
+
+/// What an assignment to an element comes to: the value, the target and the index are evaluated in this order.
+fn assignment_effect(
+    session: &mut Session,
+    inputs: &Inputs,
+    target: &Expr,
+    item: &Index,
+    expr: &Expr,
+) -> Result<Effect, Stop>
+    requires { (live session.old).next + tokens_of_stmt (Assign (expr_of target.now)
+        (index_of item.now) (expr_of expr.now)) < 2 ^ 64 }
+    ensures { Ends effect_of result (live session.new) (meaning.run (inputs_of inputs.now.entries)
+        (meaning.meaning (Assign (expr_of target.now) (index_of item.now) (expr_of expr.now)))
+        (live session.old)) }
+{
+    let written = value(session, inputs, expr)?;
+    let target = value(session, inputs, target)?;
+    let item = item_value(session, inputs, item)?;
+    assigned(session, inputs, &written, &target, &item)
+}
+
+/// What a deletion comes to.
+fn deletion_effect(session: &mut Session, inputs: &Inputs, name: &str) -> Result<Effect, Stop>
+    ensures { Ends effect_of result (live session.new) (meaning.run (inputs_of inputs.now.entries)
+        (meaning.meaning (Delete name.now)) (live session.old)) }
+{
+    let _bound = named(session, inputs, name)?;
+    let name = String::from_str(session.allocator(), name)?;
+    Ok(Effect::Unbind(name))
+}
+
+/// What `print` comes to.
+fn print_effect(session: &mut Session, inputs: &Inputs, exprs: &[Expr]) -> Result<Effect, Stop>
+    requires { (live session.old).next + tokens_of_all (map expr_of exprs.now) < 2 ^ 64 }
+    ensures { Ends effect_of result (live session.new) (meaning.run (inputs_of inputs.now.entries)
+        (meaning.meaning (Print (map expr_of exprs.now))) (live session.old)) }
+{
+    let shown = values(session, inputs, exprs)?;
+    let texts = texts_of(session, inputs, &shown)?;
+    Ok(Effect::Print(line_of(session.allocator(), &texts)?))
 }
 
 /// What a statement comes to.
@@ -35,27 +93,12 @@ fn evaluated(session: &mut Session, inputs: &Inputs, stmt: &Stmt) -> Result<Effe
 {
     match stmt {
         Stmt::Import => Ok(Effect::Nothing),
-        Stmt::Bind(name, expr) => {
-            let bound = value(session, inputs, expr)?;
-            let name = String::from_str(session.allocator(), name.as_str())?;
-            Ok(Effect::Bind(name, bound))
-        }
+        Stmt::Bind(name, expr) => binding_effect(session, inputs, name.as_str(), expr),
         Stmt::Assign(target, item, expr) => {
-            let written = value(session, inputs, expr)?;
-            let target = value(session, inputs, target)?;
-            let item = item_value(session, inputs, item)?;
-            assigned(session, inputs, &written, &target, &item)
+            assignment_effect(session, inputs, target, item, expr)
         }
-        Stmt::Delete(name) => {
-            let _bound = named(session, inputs, name.as_str())?;
-            let name = String::from_str(session.allocator(), name.as_str())?;
-            Ok(Effect::Unbind(name))
-        }
-        Stmt::Print(exprs) => {
-            let shown = values(session, inputs, exprs)?;
-            let texts = texts_of(session, inputs, &shown)?;
-            Ok(Effect::Print(line_of(session.allocator(), &texts)?))
-        }
+        Stmt::Delete(name) => deletion_effect(session, inputs, name.as_str()),
+        Stmt::Print(exprs) => print_effect(session, inputs, exprs),
         _ => Err(unbuilt()),
     }
 }

@@ -1,12 +1,13 @@
 // Sessions.
 
-ghost use Rattle.std.specs.Prelude.{◌≡◌, ◌+◌, ◌<◌, ◌≤◌, ◌^◌, IfOk, OnOk, option_map, map, slice_index, length, string_bytes};
+ghost use Rattle.std.specs.Prelude.{◌≡◌, ◌+◌, ◌++◌, ◌∷◌, ◌<◌, ◌≤◌, ◌^◌, [], IfOk, OnOk, option_map, map, slice_index, length, string_bytes};
 ghost use Rattle.std.specs.List.{zip};
 ghost use Rattle.nd_model.specs.Element as element;
 ghost use Rattle.nd_model.specs.Tuple.{count_up};
 ghost use Rattle.nd_model.specs.View.{One, byte_places, element_places};
 ghost use Rattle.nd_model.specs.Session as model;
 ghost use Rattle.nd_model.specs.Running as running;
+ghost use Rattle.nd_heap.specs.Fields.{event_of};
 ghost use Rattle.nd_heap.specs.Values.{base_of, geo_of, value_of, names_of};
 ghost use Rattle.nd_heap.specs.Live.{live};
 ghost use Rattle.nd_heap.specs.Kept.{version_of};
@@ -84,14 +85,12 @@ impl Session {
         ensures value { IfOk result (λ o. option_map value_of o ≡ model.lookup name.now (live self.old).names) }
         ensures after { OnOk result (live self.new ≡ running.after (running.Lookup name.now) (live self.old)) }
     {
-        let key = String::from_str(self.alloc, name)?;
-        self.trace.note(Key::Name(key))?;
+        self.trace.note_name(self.alloc, name)?;
         let Some(found) = self.names.get(name) else {
             return Ok(None);
         };
-        let value = found.try_clone()?;
-        self.trace.note_length(&value)?;
-        Ok(Some(value))
+        self.trace.note_length(found)?;
+        Ok(Some(found.try_clone()?))
     }
 
     /// The bytes at these places of a block, 0 past its end.
@@ -144,10 +143,8 @@ impl Session {
     pub fn bind(&mut self, name: String, value: Value) -> Result<(), OutOfMemory>
         ensures { OnOk result (live self.new ≡ running.done (running.Binding (string_bytes name) (value_of value)) (live self.old)) }
     {
-        let bound = String::from_str(self.alloc, name.as_str())?;
-        let kept = value.try_clone()?;
+        push_binding(self.alloc, &mut self.trace.events, name.as_str(), &value)?;
         self.names.insert(name, value)?;
-        self.trace.events.push(Event::Binds(bound, kept))?;
         Ok(())
     }
 
@@ -196,6 +193,22 @@ impl Session {
     {
         Version::of(self.alloc, &self.names, &self.blocks)
     }
+}
+
+/// Notes that a name is bound to the value.
+fn push_binding(
+    alloc: Global,
+    events: &mut Vec<Event>,
+    name: &str,
+    value: &Value,
+) -> Result<(), OutOfMemory>
+    ensures ok { OnOk result (map event_of events.new.items ≡ map event_of events.old.items
+        ++ running.Binds name.now (value_of value.now) ∷ []) }
+{
+    let name = String::from_str(alloc, name)?;
+    let value = value.try_clone()?;
+    events.push(Event::Binds(name, value))?;
+    Ok(())
 }
 
 /// The names without this one.

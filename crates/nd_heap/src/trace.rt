@@ -10,6 +10,7 @@ ghost use Rattle.nd_heap.specs.Fields.{key_of, event_of, written_of, trace_of};
 
 use crate::memory::OutOfMemory;
 use crate::value::{Base, Value};
+use std::alloc::Global;
 
 /// What a cell can read.
 #[derive(Drop)]
@@ -57,6 +58,15 @@ impl Trace {
             self.reads.push(key)?;
         }
         Ok(())
+    }
+
+    /// Notes that the name is looked up.
+    pub(crate) fn note_name(&mut self, alloc: Global, name: &str) -> Result<(), OutOfMemory>
+        ensures ok { OnOk result (trace_of self.new
+            ≡ running.having_read (running.is_name name.now) (trace_of self.old)) }
+    {
+        let key = String::from_str(alloc, name)?;
+        self.note(Key::Name(key))
     }
 
     /// Notes that the length of the block is read that the value lies in, if it lies in one.

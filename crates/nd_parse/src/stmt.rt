@@ -259,6 +259,11 @@ pub fn line<'t>(alloc: Global, levels: u8, tokens: Tokens<'t>) -> Read<'t, Line>
 {
     let line = line_at(tokens);
     let (stmt, rest) = stmt(alloc, levels, tokens)?;
-    let (_, rest) = take(rest, END)?;
-    Ok((Line { line, stmt }, rest))
+    match take(rest, END) {
+        Ok((_, rest)) => Ok((Line { line, stmt }, rest)),
+        Err(failure) => {
+            drop(stmt);
+            Err(failure)
+        }
+    }
 }

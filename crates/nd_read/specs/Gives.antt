@@ -1,11 +1,13 @@
 -- What a reader of tokens gives.
-use Rattle.std.specs.Prelude.{◌≡◌, ℕ, List, map, Result, Ok, Err}
+use Rattle.std.specs.Prelude.{◌≡◌, ℕ, true, false, Option, Some, None, List, [], ◌∷◌, map, Result, Ok, Err}
 use Rattle.std.specs.Borrow.{Bor}
 use Rattle.nd_token.specs.declared.token.Token.{Token}
 use Rattle.nd_token.specs.Tokens.{token_of}
 use Rattle.nd_model.specs.Token as model
 use Rattle.nd_model.specs.Grammar as grammar
-use Rattle.nd_model.specs.Cells.{too_deep, left_out, too_many, unknown_call}
+use Rattle.nd_model.specs.Kinds.{kind}
+use Rattle.nd_model.specs.Predict.{read, next_in}
+use Rattle.nd_model.specs.Cells.{token, too_deep, left_out, too_many, unknown_call}
 use Rattle.nd_read.specs.declared.spot.Spot.{Spot}
 use Rattle.nd_read.specs.declared.spot.Spot.TheVariants as spots
 use Rattle.nd_model.specs.Cells as cells
@@ -38,6 +40,11 @@ abbrev pub Gives : {X Y : Type 0} → (X → Y) → Result X Failure → Result 
 Gives view (Ok x) read = read ≡ Ok (view x)
 Gives view (Err e) read = Fails e read
 
+-- the first token, if there is one
+abbrev pub front : List model.Token → model.Token
+front [] = record { word = model.End; line = 0; column = 0; starts = false }
+front (t ∷ ts) = t
+
 -- what was read, and the tokens after it
 abbrev pub with_rest : {X Y : Type 0} → (X → Y) → X × Bor (List Token) → Y × List model.Token
 with_rest view x = (view x.0, tokens_of x.1.now)
@@ -54,3 +61,8 @@ spot_of spots.AxisNumber = cells.AxisNumber
 -- what a level has inside, where this many may still be opened
 abbrev pub inside : ℕ → cells.Inside
 inside n = record { level = cells.under n; expr = λ s. cells.expr s (cells.under n); unary = cells.unary cells.Anywhere (cells.under n); list = cells.list (cells.under n) }
+
+-- the tokens behind one of the set, if that is the next
+abbrev pub Behind : ℕ → List model.Token → Option (Bor (List Token)) → Type 0
+Behind set ts (Some rest) = (next_in kind set ts ≡ true) × (read kind (token set) ts ≡ Ok (front ts, tokens_of rest.now))
+Behind set ts None = next_in kind set ts ≡ false

@@ -3,12 +3,15 @@ use Rattle.std.specs.Prelude.{ℕ, List, []}
 use Rattle.nd_model.specs.Grammar.{Gram, Done, One, Then, Or}
 use Rattle.nd_model.specs.Token.{Token}
 use Rattle.nd_model.specs.Syntax.{Expr}
-use Rattle.nd_model.specs.Calls.{FieldType}
+use Rattle.nd_model.specs.Calls.{TypeName, TypeText, FieldType}
 use Rattle.nd_model.specs.Kinds.{OPEN, OPEN_NONE, CLOSE, COMMA, COMMA_MORE, COMMA_LAST, QUOTED}
 use Rattle.nd_model.specs.Cells.{token, quoted_of, separated, type_name, pair, Level}
 
 abbrev pub quoted_text : Gram Token (List ℕ)
 quoted_text = One QUOTED (λ t. quoted_of t.word)
+
+abbrev pub text_type : Gram Token TypeName
+text_type = One QUOTED (λ t. TypeText (quoted_of t.word))
 
 -- `()` without its level
 abbrev pub closed : Gram Token (List Expr)

@@ -5,7 +5,7 @@ ghost use Rattle.nd_model.specs.Predict.{read, next_in};
 ghost use Rattle.nd_model.specs.Cells.{token, leaf, name, name_of, quoted_of, line_at};
 ghost use Rattle.nd_token.specs.Tokens.{token_of};
 ghost use Rattle.nd_syntax.specs.Syntax.{expr_of};
-ghost use Rattle.nd_read.specs.Gives.{Gives, with_rest, tokens_of};
+ghost use Rattle.nd_read.specs.Gives.{Gives, with_rest, tokens_of, front, Behind};
 ghost use Rattle.nd_read.specs.declared.read.Failure.TheVariants.{Memory, Stopped};
 ghost use Rattle.nd_read.specs.declared.read.Reason.TheVariants.{Itself};
 
@@ -96,6 +96,49 @@ pub fn take<'t>(tokens: Tokens<'t>, set: u128) -> Read<'t, Token<'t>>
         }
         None => Err(stop_at(tokens, Reason::Itself)),
     }
+}
+
+/// The tokens behind a token of the set.
+pub fn skip<'t>(tokens: Tokens<'t>, set: u128) -> Result<Tokens<'t>, Failure>
+    ensures { Gives (λ rest. (front (tokens_of tokens.now), tokens_of rest.now)) result
+        (read kind (token set) (tokens_of tokens.now)) }
+{
+    match tokens.split_first() {
+        Some((_, rest)) => {
+            if next_in(tokens, set) {
+                Ok(rest)
+            } else {
+                Err(stop_at(tokens, Reason::Itself))
+            }
+        }
+        None => Err(stop_at(tokens, Reason::Itself)),
+    }
+}
+
+/// The tokens behind the next one, if that is of the set.
+pub fn behind<'t>(tokens: Tokens<'t>, set: u128) -> Option<Tokens<'t>>
+    ensures { Behind set (tokens_of tokens.now) result }
+{
+    match tokens.split_first() {
+        Some((_, rest)) => {
+            if next_in(tokens, set) {
+                Some(rest)
+            } else {
+                None
+            }
+        }
+        None => None,
+    }
+}
+
+/// What was read, where a token of the set ends it.
+pub fn close<'t, X: Drop>(inner: X, set: u128, tokens: Tokens<'t>) -> Read<'t, X>
+    ensures read { Gives (λ x. (front (tokens_of tokens.now), tokens_of x.1.now)) result
+        (read kind (token set) (tokens_of tokens.now)) }
+    ensures kept { IfOk result (λ x. x.0 ≡ inner) }
+{
+    let rest = skip(tokens, set)?;
+    Ok((inner, rest))
 }
 
 /// The line of the next token, or 0.

@@ -1,5 +1,5 @@
 //! Types and other parts of calls that hold no expression.
-ghost use Rattle.std.specs.Prelude.{◌≡◌, string_bytes};
+ghost use Rattle.std.specs.Prelude.{◌≡◌, Ok, string_bytes};
 ghost use Rattle.nd_model.specs.Kinds.{kind, OPEN, OPEN_NONE, CLOSE, OPEN_BRACKET, CLOSE_BRACKET, COMMA_MORE};
 ghost use Rattle.nd_model.specs.Grammar.{Many};
 ghost use Rattle.nd_model.specs.Predict.{read};
@@ -7,7 +7,7 @@ ghost use Rattle.nd_model.specs.Cells.{between, under, quoted, no_lengths, empty
 ghost use Rattle.nd_token.specs.Tokens.{token_of};
 ghost use Rattle.nd_syntax.specs.Calls.{type_name_of, field_type_of, field_types_of, dtype_of};
 ghost use Rattle.nd_read.specs.Gives.{Gives, with_rest, tokens_of, exprs_of, typing_of};
-ghost use Rattle.nd_read.specs.Parts.{quoted_text, closed, opened, field, some_fields, behind_comma, last_comma};
+ghost use Rattle.nd_read.specs.Parts.{quoted_text, closed, opened, field, some_fields, behind_comma, last_comma, text_type};
 
 use crate::kinds::{
     CLOSE, CLOSE_BRACKET, COMMA, COMMA_LAST, COMMA_MORE, DOT, DTYPE, DTYPE_CALLED, EQUAL, KEEPDIMS,
@@ -15,7 +15,7 @@ use crate::kinds::{
     next_in,
 };
 use crate::names::kind_named;
-use crate::read::{Read, Reason, Tokens, quoted_of, shut, take, text_of};
+use crate::read::{Read, Reason, Tokens, behind, close, quoted_of, shut, skip, take, text_of};
 use nd_syntax::{DType, Expr, FieldType, TypeName};
 use nd_token::{Token, Word};
 use std::alloc::Global;
@@ -41,10 +41,9 @@ pub fn quoted<'t>(alloc: Global, levels: u8, tokens: Tokens<'t>) -> Read<'t, Str
 fn in_brackets<'t>(alloc: Global, tokens: Tokens<'t>) -> Read<'t, String>
     ensures { Gives (with_rest string_bytes) result (read kind (between OPEN quoted_text CLOSE) (tokens_of tokens.now)) }
 {
-    let (_, rest) = take(tokens, OPEN)?;
+    let rest = skip(tokens, OPEN)?;
     let (text, rest) = quoted_text(alloc, rest)?;
-    let (_, rest) = take(rest, CLOSE)?;
-    Ok((text, rest))
+    close(text, CLOSE, rest)
 }
 
 /// `()`, for a shape without axes
@@ -60,8 +59,8 @@ pub fn no_lengths<'t>(alloc: Global, levels: u8, tokens: Tokens<'t>) -> Read<'t,
 fn closed<'t>(alloc: Global, tokens: Tokens<'t>) -> Read<'t, Vec<Expr>>
     ensures { Gives (with_rest exprs_of) result (read kind closed (tokens_of tokens.now)) }
 {
-    let (_, rest) = take(tokens, OPEN_NONE)?;
-    let (_, rest) = take(rest, CLOSE)?;
+    let rest = skip(tokens, OPEN_NONE)?;
+    let rest = skip(rest, CLOSE)?;
     Ok((Vec::new(alloc), rest))
 }
 
@@ -78,8 +77,8 @@ pub fn empty<'t>(levels: u8, tokens: Tokens<'t>) -> Read<'t, ()>
 fn opened<'t>(tokens: Tokens<'t>) -> Read<'t, ()>
     ensures { Gives (with_rest (λ u. u)) result (read kind opened (tokens_of tokens.now)) }
 {
-    let (_, rest) = take(tokens, OPEN)?;
-    let (_, rest) = take(rest, CLOSE)?;
+    let rest = skip(tokens, OPEN)?;
+    let rest = skip(rest, CLOSE)?;
     Ok(((), rest))
 }
 
@@ -100,11 +99,17 @@ fn kind_name<'t>(tokens: Tokens<'t>) -> Read<'t, TypeName>
 pub fn type_name<'t>(alloc: Global, tokens: Tokens<'t>) -> Read<'t, TypeName>
     ensures { Gives (with_rest type_name_of) result (read kind type_name (tokens_of tokens.now)) }
 {
-    if next_in(tokens, NP) {
-        let (_, rest) = take(tokens, NP)?;
-        let (_, rest) = take(rest, DOT)?;
+    if let Some(rest) = behind(tokens, NP) {
+        let rest = skip(rest, DOT)?;
         return kind_name(rest);
     }
+    text_type(alloc, tokens)
+}
+
+/// A text in quotes that names a type.
+fn text_type<'t>(alloc: Global, tokens: Tokens<'t>) -> Read<'t, TypeName>
+    ensures { Gives (with_rest type_name_of) result (read kind text_type (tokens_of tokens.now)) }
+{
     let (token, rest) = take(tokens, QUOTED)?;
     Ok((TypeName::Text(quoted_of(alloc, token)?), rest))
 }
@@ -122,30 +127,35 @@ fn pair<'t>(alloc: Global, levels: u8, tokens: Tokens<'t>) -> Read<'t, FieldType
 fn field<'t>(alloc: Global, tokens: Tokens<'t>) -> Read<'t, FieldType>
     ensures { Gives (with_rest field_type_of) result (read kind (between OPEN field CLOSE) (tokens_of tokens.now)) }
 {
-    let (_, rest) = take(tokens, OPEN)?;
-    let (name, rest) = quoted_text(alloc, rest)?;
-    let (_, rest) = take(rest, COMMA)?;
+    let rest = skip(tokens, OPEN)?;
+    let (field, rest) = name_and_type(alloc, rest)?;
+    close(field, CLOSE, rest)
+}
+
+/// `STRING, type`
+fn name_and_type<'t>(alloc: Global, tokens: Tokens<'t>) -> Read<'t, FieldType>
+    ensures { Gives (with_rest field_type_of) result (read kind field (tokens_of tokens.now)) }
+{
+    let (name, rest) = quoted_text(alloc, tokens)?;
+    let rest = skip(rest, COMMA)?;
     let (type_name, rest) = type_name(alloc, rest)?;
-    let (_, rest) = take(rest, CLOSE)?;
     Ok((FieldType { name, type_name }, rest))
 }
 
-/// A comma before the closing bracket, if there is one.
-pub fn last_comma<'t>(last: u128, tokens: Tokens<'t>) -> Read<'t, ()>
-    ensures { Gives (with_rest (λ u. u)) result (read kind (last_comma last) (tokens_of tokens.now)) }
+/// The tokens behind a comma before the closing bracket, if there is one.
+pub fn behind_last<'t>(last: u128, tokens: Tokens<'t>) -> Tokens<'t>
+    ensures { read kind (last_comma last) (tokens_of tokens.now) ≡ Ok (tt, tokens_of result.now) }
 {
-    if next_in(tokens, last) {
-        let (_, rest) = take(tokens, last)?;
-        return Ok(((), rest));
+    if let Some(rest) = behind(tokens, last) {
+        return rest;
     }
-    let (_, rest) = tokens.split_at(0);
-    Ok(((), rest))
+    tokens
 }
 
 fn other_field<'t>(alloc: Global, levels: u8, tokens: Tokens<'t>) -> Read<'t, FieldType>
     ensures { Gives (with_rest field_type_of) result (read kind (behind_comma COMMA_MORE (pair (under levels))) (tokens_of tokens.now)) }
 {
-    let (_, rest) = take(tokens, COMMA_MORE)?;
+    let rest = skip(tokens, COMMA_MORE)?;
     pair(alloc, levels, rest)
 }
 
@@ -167,11 +177,19 @@ fn other_fields<'t>(alloc: Global, levels: u8, tokens: Tokens<'t>) -> Read<'t, V
 fn some_fields<'t>(alloc: Global, levels: u8, tokens: Tokens<'t>) -> Read<'t, Vec<FieldType>>
     ensures { Gives (with_rest field_types_of) result (read kind (between OPEN_BRACKET (some_fields (under levels)) CLOSE_BRACKET) (tokens_of tokens.now)) }
 {
-    let (_, rest) = take(tokens, OPEN_BRACKET)?;
-    let (first, rest) = pair(alloc, levels, rest)?;
+    let rest = skip(tokens, OPEN_BRACKET)?;
+    let (all, rest) = pairs(alloc, levels, rest)?;
+    close(all, CLOSE_BRACKET, rest)
+}
+
+/// `pair {"," pair} [","]`
+fn pairs<'t>(alloc: Global, levels: u8, tokens: Tokens<'t>) -> Read<'t, Vec<FieldType>>
+    ensures { Gives (with_rest field_types_of) result
+        (read kind (some_fields (under levels)) (tokens_of tokens.now)) }
+{
+    let (first, rest) = pair(alloc, levels, tokens)?;
     let (mut all, rest) = other_fields(alloc, levels, rest)?;
-    let (_, rest) = last_comma(COMMA_LAST, rest)?;
-    let (_, rest) = take(rest, CLOSE_BRACKET)?;
+    let rest = behind_last(COMMA_LAST, rest);
     all.insert(0, first)?;
     Ok((all, rest))
 }
@@ -204,8 +222,8 @@ pub fn dtype<'t>(alloc: Global, levels: u8, tokens: Tokens<'t>) -> Read<'t, DTyp
 pub fn typing<'t>(alloc: Global, levels: u8, key: u128, tokens: Tokens<'t>) -> Read<'t, DType>
     ensures { Gives (with_rest dtype_of) result (read kind (typing key (under levels)) (tokens_of tokens.now)) }
 {
-    let (_, rest) = take(tokens, key)?;
-    let (_, rest) = take(rest, EQUAL)?;
+    let rest = skip(tokens, key)?;
+    let rest = skip(rest, EQUAL)?;
     dtype(alloc, levels, rest)
 }
 
@@ -224,13 +242,11 @@ fn only_typing<'t>(alloc: Global, levels: u8, tokens: Tokens<'t>) -> Read<'t, DT
 pub fn comma_typing<'t>(alloc: Global, levels: u8, tokens: Tokens<'t>) -> Read<'t, Option<DType>>
     ensures { Gives (with_rest typing_of) result (read kind (comma_typing (under levels)) (tokens_of tokens.now)) }
 {
-    if next_in(tokens, COMMA) {
-        let (_, rest) = take(tokens, COMMA)?;
+    if let Some(rest) = behind(tokens, COMMA) {
         let (dtype, rest) = only_typing(alloc, levels, rest)?;
         return Ok((Some(dtype), rest));
     }
-    let (_, rest) = tokens.split_at(0);
-    Ok((None, rest))
+    Ok((None, tokens))
 }
 
 /// `(type)`
@@ -246,10 +262,9 @@ pub fn type_argument<'t>(alloc: Global, levels: u8, tokens: Tokens<'t>) -> Read<
 fn type_in_brackets<'t>(alloc: Global, levels: u8, tokens: Tokens<'t>) -> Read<'t, DType>
     ensures { Gives (with_rest dtype_of) result (read kind (between OPEN (dtype (under levels)) CLOSE) (tokens_of tokens.now)) }
 {
-    let (_, rest) = take(tokens, OPEN)?;
+    let rest = skip(tokens, OPEN)?;
     let (dtype, rest) = dtype(alloc, levels, rest)?;
-    let (_, rest) = take(rest, CLOSE)?;
-    Ok((dtype, rest))
+    close(dtype, CLOSE, rest)
 }
 
 /// Whether a token is `True`.
@@ -267,8 +282,8 @@ fn truth_of(token: Token) -> bool
 pub fn named_keepdims<'t>(key: u128, tokens: Tokens<'t>) -> Read<'t, bool>
     ensures { Gives (with_rest (λ k. k)) result (read kind (named_keepdims key) (tokens_of tokens.now)) }
 {
-    let (_, rest) = take(tokens, key)?;
-    let (_, rest) = take(rest, EQUAL)?;
+    let rest = skip(tokens, key)?;
+    let rest = skip(rest, EQUAL)?;
     let (token, rest) = take(rest, TRUTH)?;
     Ok((truth_of(token), rest))
 }
@@ -289,10 +304,8 @@ pub fn only_keepdims<'t>(tokens: Tokens<'t>) -> Read<'t, bool>
 pub fn comma_keepdims<'t>(tokens: Tokens<'t>) -> Read<'t, bool>
     ensures { Gives (with_rest (λ k. k)) result (read kind comma_keepdims (tokens_of tokens.now)) }
 {
-    if next_in(tokens, COMMA) {
-        let (_, rest) = take(tokens, COMMA)?;
-        return only_keepdims(rest);
+    match behind(tokens, COMMA) {
+        Some(rest) => only_keepdims(rest),
+        None => Ok((false, tokens)),
     }
-    let (_, rest) = tokens.split_at(0);
-    Ok((false, rest))
 }

@@ -1,12 +1,18 @@
 //! The cells of a notebook, and what is kept of their runs.
 
-ghost use Rattle.std.specs.Prelude.{◌≡◌, ◌+◌, ◌<◌, ◌≤◌, IfOk, MatchResult, length};
-ghost use Rattle.nd_model.specs.Session.{no_session};
+ghost use Rattle.std.specs.Prelude.{◌≡◌, ◌+◌, ◌-◌, ◌<◌, ◌≤◌, ◌^◌, IfOk, MatchResult, length, min, string_bytes};
+ghost use Rattle.nd_model.specs.Session.{collected, no_session};
+ghost use Rattle.nd_model.specs.Running as running;
+ghost use Rattle.nd_model.specs.Reading.{reading};
+ghost use Rattle.nd_model.specs.Cell as model_cell;
 ghost use Rattle.nd_model.specs.Cell.{notebook};
 ghost use Rattle.nd_model.specs.Renaming.{told};
 ghost use Rattle.nd_model.specs.Book.{is_label, labels_of, most_cells, read_cells};
 ghost use Rattle.nd_model.specs.Book as model;
 ghost use Rattle.nd_heap.specs.Values.{inputs_of};
+ghost use Rattle.nd_heap.specs.Live.{live};
+ghost use Rattle.nd_heap.specs.Kept.{version_of};
+ghost use Rattle.nd_cell.specs.Results.{ended_of};
 ghost use Rattle.nd_rerun.specs.Counts.{counted, CountsAtMost};
 ghost use Rattle.nd_rerun.specs.Labels.{AreSmall};
 ghost use Rattle.nd_rerun.specs.Cells.{cells_of, tolds_of};
@@ -129,6 +135,26 @@ pub fn removed(alloc: Global, cells: &[Source], at: usize) -> Result<Vec<Source>
     Ok(all)
 }
 
+/// Runs a cell over a session, counts the run, and keeps the session after it.
+fn run_kept(
+    meter: &mut Meter,
+    session: &mut Session,
+    inputs: &Inputs,
+    cell: &Source,
+) -> Result<Ran, OutOfMemory>
+    ensures ended { IfOk result (λ r.
+        model_cell.cell cell.now.label (reading (string_bytes cell.now.text))
+        (inputs_of inputs.now.entries) (running.session_of (live session.old))
+        ≡ ended_of r.result (live session.new)) }
+    ensures kept { IfOk result (λ r. version_of r.version
+        ≡ collected (running.session_of (live session.new))) }
+    ensures counted { meter.new ≡ min (meter.old + 1) (2 ^ 64 - 1) }
+{
+    let result = run_cell(meter, session, inputs, cell.label, cell.text.as_str())?;
+    let version = session.freeze()?;
+    Ok(Ran { result, version })
+}
+
 /// Runs all cells in order, from nothing, and counts each run.
 pub fn run_all(
     alloc: Global,
@@ -142,9 +168,7 @@ pub fn run_all(
     let mut session = Session::new(alloc);
     let mut all = Vec::new(alloc);
     for cell in cells {
-        let result = run_cell(meter, &mut session, inputs, cell.label, cell.text.as_str())?;
-        let version = session.freeze()?;
-        all.push(Ran { result, version })?;
+        all.push(run_kept(meter, &mut session, inputs, cell)?)?;
     }
     Ok(all)
 }

@@ -4,13 +4,13 @@ use Rattle.nd_model.specs.Grammar.{Gram}
 use Rattle.nd_model.specs.Predict.{next_in, read}
 use Rattle.nd_model.specs.Token as model
 use Rattle.nd_model.specs.Syntax.{Expr, Items, IndexItem, Listed, Elements, Nested}
-use Rattle.nd_model.specs.Kinds.{kind, COLON, ELLIPSIS, NONE, NP_NEWAXIS, QUOTED, OPEN_NONE, OPEN_TUPLE, OPEN_BRACKET, CLOSE, CLOSE_BRACKET}
-use Rattle.nd_model.specs.Cells.{Spot, Anywhere, Level, under, between, grouped, elements, elements_of, list, nothing, item, items_of, contents, index, suffix, exponent, signed, unary, operation, chain, term, sum, shift, band, bxor, bor, expr, tuple, arange, filled, full, new_array, broadcast_to, two, reduce, accumulate, axes, lengths, reduction, reduction_options, accumulation}
+use Rattle.nd_model.specs.Kinds.{kind, QUOTED, OPEN_NONE, OPEN_TUPLE, OPEN_BRACKET, CLOSE, CLOSE_BRACKET}
+use Rattle.nd_model.specs.Cells.{Spot, Anywhere, Level, under, between, grouped, elements, elements_of, list, nothing, items_of, contents, index, unary, operation, chain, term, sum, shift, band, bxor, bor, expr, tuple}
 use Rattle.nd_model.specs.Cells as cells
 use Rattle.nd_model.proofs.Parsing.Loops.{Shrinks, one_shrinks, then_shrinks}
 use Rattle.nd_read.specs.Gives.{inside}
 use Rattle.nd_read.proofs.Levels.{enter_in}
-use Rattle.nd_rule.specs.Readers.{items_of_index, no_items, operators, ranked, tuple_body}
+use Rattle.nd_rule.specs.Readers.{items_of_index, no_items, list_item, operators, ranked, tuple_body}
 
 -- ---- levels
 
@@ -66,7 +66,5 @@ module _ (levels : ℕ) (ts rest : List model.Token) where
       → read kind (cells.element (inside levels)) ts ≡ Ok (Nested es, rest)
   element_nested es n e = rw (n, e) refl
 
-  pub item_listed : (s : Spot) (es : Elements) → next_in kind COLON ts ≡ false → next_in kind ELLIPSIS ts ≡ false → next_in kind NONE ts ≡ false → next_in kind NP_NEWAXIS ts ≡ false
-      → next_in kind OPEN_BRACKET ts ≡ true → read kind (list (under levels)) ts ≡ Ok (es, rest) → read kind (item s (inside levels)) ts ≡ Ok (Listed es, rest)
-  unfolding item
-  item_listed s es a b c d n e = rw (a, b, c, d, n, e) refl
+  pub list_item_is : (es : Elements) → read kind (list (under levels)) ts ≡ Ok (es, rest) → read kind (list_item (inside levels)) ts ≡ Ok (Listed es, rest)
+  list_item_is es e = rw e refl

@@ -1,15 +1,15 @@
 -- What reads operands, and parts of rules, as the functions have them.
-use Rattle.std.specs.Prelude.{ℕ, zero, suc, ◌<◌, List, [], ◌∷◌, Result}
+use Rattle.std.specs.Prelude.{ℕ, zero, suc, ◌<◌, Bool, List, [], ◌∷◌, Result}
 use Rattle.std.specs.Borrow.{Bor}
 use Rattle.std.specs.Fn.{Shared}
 use Rattle.nd_token.specs.declared.token.Token.{Token}
 use Rattle.nd_model.specs.Token as model
-use Rattle.nd_model.specs.Grammar.{Gram, Done, Then, Or, Shut}
+use Rattle.nd_model.specs.Grammar.{Gram, Done, One, Then, Or, Shut}
 use Rattle.nd_model.specs.Predict.{read}
-use Rattle.nd_model.specs.Syntax.{Bound, Omitted, IndexItem}
+use Rattle.nd_model.specs.Syntax.{Bound, Omitted, Index, Field, IndexItem, Slice, Listed, Axis, AllAxes, AtAxis}
 use Rattle.nd_model.specs.Syntax as syntax
-use Rattle.nd_model.specs.Kinds.{kind, PRODUCT, SUM, SHIFT, AMPERSAND, CARET, BAR, OPEN_NONE, CLOSE, COMMA, COMMA_MORE, COMMA_LAST, COMMA_INNER, COMMA_CLOSING, AXIS, AXIS_CALLED}
-use Rattle.nd_model.specs.Cells.{Anywhere, FirstItem, LaterItem, Length, Level, Inside, under, token, unknown_call, mapped, separated, unary, chain, nothing, item, numbered_axis}
+use Rattle.nd_model.specs.Kinds.{kind, PRODUCT, SUM, SHIFT, AMPERSAND, CARET, BAR, OPEN_NONE, CLOSE, COMMA, COMMA_MORE, COMMA_LAST, COMMA_INNER, COMMA_CLOSING, AXIS, AXIS_CALLED, NONE, QUOTED}
+use Rattle.nd_model.specs.Cells.{Anywhere, FirstItem, LaterItem, Length, Level, Inside, under, token, unknown_call, mapped, separated, unary, chain, nothing, item, slice, list, quoted_of, named_axis, numbered_axis, comma_keepdims}
 use Rattle.nd_model.specs.Cells as cells
 use Rattle.nd_read.specs.declared.spot.Spot.{Spot}
 use Rattle.nd_syntax.specs.declared.tree.Expr.{Expr}
@@ -56,6 +56,15 @@ no_items = Then (λ _ _. []) (token OPEN_NONE) (token CLOSE)
 abbrev pub items_of_index : Inside → Gram model.Token (List IndexItem)
 items_of_index i = Or OPEN_NONE (nothing i.level) (separated COMMA_MORE COMMA_LAST (item FirstItem i) (item LaterItem i))
 
+abbrev pub open_slice : Inside → Gram model.Token IndexItem
+open_slice inside = mapped (λ b. Slice Omitted b.0 b.1) (slice inside)
+
+abbrev pub list_item : Inside → Gram model.Token IndexItem
+list_item inside = mapped Listed (list inside.level)
+
+abbrev pub field_name : Gram model.Token Index
+field_name = One QUOTED (λ t. Field (quoted_of t.word))
+
 -- ---- arguments
 
 abbrev pub one_length : Inside → Gram model.Token (List syntax.Expr)
@@ -63,6 +72,13 @@ one_length inside = mapped (λ e. e ∷ []) (inside.expr Length)
 
 abbrev pub tuple_body : Inside → Gram model.Token (List syntax.Expr)
 tuple_body inside = separated COMMA_INNER COMMA_CLOSING (inside.expr Anywhere) (inside.expr Anywhere)
+
+-- `None`, or an expression at a spot
+abbrev pub axis_at : cells.Spot → Inside → Gram model.Token Axis
+axis_at s inside = Or NONE (One NONE (λ _. AllAxes)) (mapped AtAxis (inside.expr s))
+
+abbrev pub axis_options : Inside → Gram model.Token (Axis × Bool)
+axis_options inside = Then (λ a k. (a, k)) (named_axis AXIS inside) comma_keepdims
 
 abbrev pub only_axis : Inside → Gram model.Token Bound
 only_axis inside = Or AXIS (numbered_axis inside) (Shut AXIS_CALLED unknown_call)

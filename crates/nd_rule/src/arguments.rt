@@ -7,16 +7,16 @@ ghost use Rattle.nd_model.specs.Cells.{Anywhere, under, between, grouped, expr, 
 ghost use Rattle.nd_syntax.specs.Syntax.{expr_of, axis_of, bound_of};
 ghost use Rattle.nd_read.specs.Gives.{Gives, with_rest, tokens_of, spot_of, inside, exprs_of, options_of};
 ghost use Rattle.nd_read.specs.Parts.{behind_comma};
-ghost use Rattle.nd_rule.specs.Readers.{Operands, one_length, tuple_body, comma_axis, only_axis};
+ghost use Rattle.nd_rule.specs.Readers.{Operands, one_length, tuple_body, axis_at, axis_options, comma_axis, only_axis};
 
 use crate::operators::Rules;
 use nd_read::kinds::{
     AXIS, AXIS_CALLED, CLOSE, COMMA, COMMA_CLOSING, COMMA_INNER, EQUAL, NONE, OPEN_NONE,
     OPEN_TUPLE, next_in,
 };
-use nd_read::read::{Read, Reason, Tokens, shut, stop_at, take};
+use nd_read::read::{Read, Reason, Tokens, behind, close, shut, skip, stop_at};
 use nd_read::spot::Spot;
-use nd_read::types::{comma_keepdims, last_comma, no_lengths, only_keepdims};
+use nd_read::types::{behind_last, comma_keepdims, no_lengths, only_keepdims};
 use nd_syntax::{Axis, Expr};
 
 impl<'f, F: for<'t> Fn(u8, Spot, Tokens<'t>) -> Read<'t, Expr>> Rules<'f, F> {
@@ -39,8 +39,8 @@ impl<'f, F: for<'t> Fn(u8, Spot, Tokens<'t>) -> Read<'t, Expr>> Rules<'f, F> {
         requires { Operands F.Fn self.now.operand.now (levels + 1) }
         ensures { Gives (with_rest exprs_of) result (read kind (one_length (inside levels)) (tokens_of tokens.now)) }
     {
-        let mut all = Vec::new(self.alloc);
         let (length, rest) = self.expr(levels, Spot::Length, tokens)?;
+        let mut all = Vec::new(self.alloc);
         all.push(length)?;
         Ok((all, rest))
     }
@@ -60,11 +60,20 @@ impl<'f, F: for<'t> Fn(u8, Spot, Tokens<'t>) -> Read<'t, Expr>> Rules<'f, F> {
         requires { Operands F.Fn self.now.operand.now (levels + 1) }
         ensures { Gives (with_rest exprs_of) result (read kind (between OPEN_TUPLE (tuple_body (inside levels)) CLOSE) (tokens_of tokens.now)) }
     {
-        let (_, rest) = take(tokens, OPEN_TUPLE)?;
-        let (first, rest) = self.expr(levels, Spot::Anywhere, rest)?;
+        let rest = skip(tokens, OPEN_TUPLE)?;
+        let (all, rest) = self.tuple_body(levels, rest)?;
+        close(all, CLOSE, rest)
+    }
+
+    /// `expr {"," expr} [","]`, where the commas are those of a tuple
+    fn tuple_body<'t>(&self, levels: u8, tokens: Tokens<'t>) -> Read<'t, Vec<Expr>>
+        requires { Operands F.Fn self.now.operand.now (levels + 1) }
+        ensures { Gives (with_rest exprs_of) result
+            (read kind (tuple_body (inside levels)) (tokens_of tokens.now)) }
+    {
+        let (first, rest) = self.expr(levels, Spot::Anywhere, tokens)?;
         let (mut all, rest) = self.others(levels, COMMA_INNER, rest)?;
-        let (_, rest) = last_comma(COMMA_CLOSING, rest)?;
-        let (_, rest) = take(rest, CLOSE)?;
+        let rest = behind_last(COMMA_CLOSING, rest);
         all.insert(0, first)?;
         Ok((all, rest))
     }
@@ -101,7 +110,7 @@ impl<'f, F: for<'t> Fn(u8, Spot, Tokens<'t>) -> Read<'t, Expr>> Rules<'f, F> {
         requires { Operands F.Fn self.now.operand.now (levels + 1) }
         ensures { Gives (with_rest expr_of) result (read kind (behind_comma comma (expr Anywhere (under levels))) (tokens_of tokens.now)) }
     {
-        let (_, rest) = take(tokens, comma)?;
+        let rest = skip(tokens, comma)?;
         self.expr(levels, Spot::Anywhere, rest)
     }
 
@@ -111,13 +120,21 @@ impl<'f, F: for<'t> Fn(u8, Spot, Tokens<'t>) -> Read<'t, Expr>> Rules<'f, F> {
         requires { Operands F.Fn self.now.operand.now (levels + 1) }
         ensures { Gives (with_rest axis_of) result (read kind (named_axis key (inside levels)) (tokens_of tokens.now)) }
     {
-        let (_, rest) = take(tokens, key)?;
-        let (_, rest) = take(rest, EQUAL)?;
-        if next_in(rest, NONE) {
-            let (_, rest) = take(rest, NONE)?;
+        let rest = skip(tokens, key)?;
+        let rest = skip(rest, EQUAL)?;
+        self.axis_at(levels, Spot::Anywhere, rest)
+    }
+
+    /// `None`, or an expression at the spot
+    fn axis_at<'t>(&self, levels: u8, spot: Spot, tokens: Tokens<'t>) -> Read<'t, Axis>
+        requires { Operands F.Fn self.now.operand.now (levels + 1) }
+        ensures { Gives (with_rest axis_of) result
+            (read kind (axis_at (spot_of spot) (inside levels)) (tokens_of tokens.now)) }
+    {
+        if let Some(rest) = behind(tokens, NONE) {
             return Ok((Axis::All, rest));
         }
-        let (axis, rest) = self.expr(levels, Spot::Anywhere, rest)?;
+        let (axis, rest) = self.expr(levels, spot, tokens)?;
         Ok((Axis::At(axis), rest))
     }
 
@@ -127,8 +144,8 @@ impl<'f, F: for<'t> Fn(u8, Spot, Tokens<'t>) -> Read<'t, Expr>> Rules<'f, F> {
         requires { Operands F.Fn self.now.operand.now (levels + 1) }
         ensures { Gives (with_rest bound_of) result (read kind (numbered_axis (inside levels)) (tokens_of tokens.now)) }
     {
-        let (_, rest) = take(tokens, AXIS)?;
-        let (_, rest) = take(rest, EQUAL)?;
+        let rest = skip(tokens, AXIS)?;
+        let rest = skip(rest, EQUAL)?;
         let (axis, rest) = self.expr(levels, Spot::Anywhere, rest)?;
         Ok((Some(axis), rest))
     }
@@ -138,12 +155,10 @@ impl<'f, F: for<'t> Fn(u8, Spot, Tokens<'t>) -> Read<'t, Expr>> Rules<'f, F> {
         requires { Operands F.Fn self.now.operand.now (levels + 1) }
         ensures { Gives (with_rest bound_of) result (read kind (comma_axis (inside levels)) (tokens_of tokens.now)) }
     {
-        if next_in(tokens, COMMA) {
-            let (_, rest) = take(tokens, COMMA)?;
-            return self.only_axis(levels, rest);
+        match behind(tokens, COMMA) {
+            Some(rest) => self.only_axis(levels, rest),
+            None => Ok((None, tokens)),
         }
-        let (_, rest) = tokens.split_at(0);
-        Ok((None, rest))
     }
 
     fn only_axis<'t>(&self, levels: u8, tokens: Tokens<'t>) -> Read<'t, Option<Expr>>
@@ -163,9 +178,7 @@ impl<'f, F: for<'t> Fn(u8, Spot, Tokens<'t>) -> Read<'t, Expr>> Rules<'f, F> {
         ensures { Gives (with_rest options_of) result (read kind (options (inside levels)) (tokens_of tokens.now)) }
     {
         if next_in(tokens, AXIS) {
-            let (axis, rest) = self.named_axis(levels, AXIS, tokens)?;
-            let (keepdims, rest) = comma_keepdims(rest)?;
-            return Ok(((axis, keepdims), rest));
+            return self.axis_options(levels, tokens);
         }
         if next_in(tokens, AXIS_CALLED) {
             return Err(stop_at(tokens, Reason::UnknownCall));
@@ -174,18 +187,27 @@ impl<'f, F: for<'t> Fn(u8, Spot, Tokens<'t>) -> Read<'t, Expr>> Rules<'f, F> {
         Ok(((Axis::Default, keepdims), rest))
     }
 
-    /// The same behind a comma, if it is there.
+    /// `axis = .. [, keepdims = ..]`
+    fn axis_options<'t>(&self, levels: u8, tokens: Tokens<'t>) -> Read<'t, (Axis, bool)>
+        requires { Operands F.Fn self.now.operand.now (levels + 1) }
+        ensures { Gives (with_rest options_of) result
+            (read kind (axis_options (inside levels)) (tokens_of tokens.now)) }
+    {
+        let (axis, rest) = self.named_axis(levels, AXIS, tokens)?;
+        let (keepdims, rest) = comma_keepdims(rest)?;
+        Ok(((axis, keepdims), rest))
+    }
+
+    /// The options behind a comma, if they are there.
     #[tactic(auto, unfolding(nd_model::specs::Cells::comma_options))]
     pub fn comma_options<'t>(&self, levels: u8, tokens: Tokens<'t>) -> Read<'t, (Axis, bool)>
         requires { Operands F.Fn self.now.operand.now (levels + 1) }
         ensures { Gives (with_rest options_of) result (read kind (comma_options (inside levels)) (tokens_of tokens.now)) }
     {
-        if next_in(tokens, COMMA) {
-            let (_, rest) = take(tokens, COMMA)?;
-            return self.options(levels, rest);
+        match behind(tokens, COMMA) {
+            Some(rest) => self.options(levels, rest),
+            None => Ok(((Axis::Default, false), tokens)),
         }
-        let (_, rest) = tokens.split_at(0);
-        Ok(((Axis::Default, false), rest))
     }
 
     /// `None`, or a number
@@ -194,12 +216,7 @@ impl<'f, F: for<'t> Fn(u8, Spot, Tokens<'t>) -> Read<'t, Expr>> Rules<'f, F> {
         requires { Operands F.Fn self.now.operand.now (levels + 1) }
         ensures { Gives (with_rest axis_of) result (read kind (first_axis (inside levels)) (tokens_of tokens.now)) }
     {
-        if next_in(tokens, NONE) {
-            let (_, rest) = take(tokens, NONE)?;
-            return Ok((Axis::All, rest));
-        }
-        let (axis, rest) = self.expr(levels, Spot::AxisNumber, tokens)?;
-        Ok((Axis::At(axis), rest))
+        self.axis_at(levels, Spot::AxisNumber, tokens)
     }
 
     /// `(expr)`
@@ -217,9 +234,8 @@ impl<'f, F: for<'t> Fn(u8, Spot, Tokens<'t>) -> Read<'t, Expr>> Rules<'f, F> {
         requires { Operands F.Fn self.now.operand.now (levels + 1) }
         ensures { Gives (with_rest expr_of) result (read kind (between opening (expr Anywhere (under levels)) CLOSE) (tokens_of tokens.now)) }
     {
-        let (_, rest) = take(tokens, opening)?;
+        let rest = skip(tokens, opening)?;
         let (inner, rest) = self.expr(levels, Spot::Anywhere, rest)?;
-        let (_, rest) = take(rest, CLOSE)?;
-        Ok((inner, rest))
+        close(inner, CLOSE, rest)
     }
 }

@@ -7,16 +7,16 @@ ghost use Rattle.nd_model.specs.Cells.{FirstItem, LaterItem, under, between, map
 ghost use Rattle.nd_syntax.specs.Syntax.{index_of, item_of, bound_of, element_of};
 ghost use Rattle.nd_read.specs.Gives.{Gives, with_rest, tokens_of, spot_of, items_in, elements_in, list_of_elements, bounds_of, inside};
 ghost use Rattle.nd_read.specs.Parts.{behind_comma};
-ghost use Rattle.nd_rule.specs.Readers.{Operands, items_of_index, no_items};
+ghost use Rattle.nd_rule.specs.Readers.{Operands, items_of_index, no_items, open_slice, list_item, field_name};
 
 use crate::operators::Rules;
 use nd_read::kinds::{
     CLOSE, CLOSE_BRACKET, COLON, COMMA_LAST, COMMA_MORE, DOT, ELEMENT, ELLIPSIS, EXPR, NEWAXIS,
     NEWAXIS_CALLED, NONE, NP_NEWAXIS, OPEN_BRACKET, OPEN_NONE, QUOTED, next_in,
 };
-use nd_read::read::{Read, Reason, Tokens, quoted_of, shut, take};
+use nd_read::read::{Read, Reason, Tokens, behind, close, quoted_of, shut, skip, take};
 use nd_read::spot::Spot;
-use nd_read::types::last_comma;
+use nd_read::types::behind_last;
 use nd_syntax::{Element, Expr, Index, IndexItem};
 use std::alloc::Global;
 
@@ -36,10 +36,9 @@ impl<'f, F: for<'t> Fn(u8, Spot, Tokens<'t>) -> Read<'t, Expr>> Rules<'f, F> {
         requires { Operands F.Fn self.now.operand.now (levels + 1) }
         ensures { Gives (with_rest index_of) result (read kind (between OPEN_BRACKET (contents (inside levels)) CLOSE_BRACKET) (tokens_of tokens.now)) }
     {
-        let (_, rest) = take(tokens, OPEN_BRACKET)?;
+        let rest = skip(tokens, OPEN_BRACKET)?;
         let (inner, rest) = self.contents(levels, rest)?;
-        let (_, rest) = take(rest, CLOSE_BRACKET)?;
-        Ok((inner, rest))
+        close(inner, CLOSE_BRACKET, rest)
     }
 
     /// What stands in the brackets of an index.
@@ -49,8 +48,7 @@ impl<'f, F: for<'t> Fn(u8, Spot, Tokens<'t>) -> Read<'t, Expr>> Rules<'f, F> {
         ensures { Gives (with_rest index_of) result (read kind (contents (inside levels)) (tokens_of tokens.now)) }
     {
         if next_in(tokens, QUOTED) {
-            let (token, rest) = take(tokens, QUOTED)?;
-            return Ok((Index::Field(quoted_of(self.alloc, token)?), rest));
+            return field_name(self.alloc, tokens);
         }
         let (all, rest) = self.items(levels, tokens)?;
         Ok((Index::Items(all), rest))
@@ -67,13 +65,14 @@ impl<'f, F: for<'t> Fn(u8, Spot, Tokens<'t>) -> Read<'t, Expr>> Rules<'f, F> {
         self.some_items(levels, tokens)
     }
 
+    /// `item {"," item} [","]`
     fn some_items<'t>(&self, levels: u8, tokens: Tokens<'t>) -> Read<'t, Vec<IndexItem>>
         requires { Operands F.Fn self.now.operand.now (levels + 1) }
         ensures { Gives (with_rest items_in) result (read kind (separated COMMA_MORE COMMA_LAST (item FirstItem (inside levels)) (item LaterItem (inside levels))) (tokens_of tokens.now)) }
     {
         let (first, rest) = self.item(levels, Spot::FirstItem, tokens)?;
         let (mut all, rest) = self.other_items(levels, rest)?;
-        let (_, rest) = last_comma(COMMA_LAST, rest)?;
+        let rest = behind_last(COMMA_LAST, rest);
         all.insert(0, first)?;
         Ok((all, rest))
     }
@@ -98,7 +97,7 @@ impl<'f, F: for<'t> Fn(u8, Spot, Tokens<'t>) -> Read<'t, Expr>> Rules<'f, F> {
         requires { Operands F.Fn self.now.operand.now (levels + 1) }
         ensures { Gives (with_rest item_of) result (read kind (behind_comma COMMA_MORE (item LaterItem (inside levels))) (tokens_of tokens.now)) }
     {
-        let (_, rest) = take(tokens, COMMA_MORE)?;
+        let rest = skip(tokens, COMMA_MORE)?;
         self.item(levels, Spot::LaterItem, rest)
     }
 
@@ -109,25 +108,41 @@ impl<'f, F: for<'t> Fn(u8, Spot, Tokens<'t>) -> Read<'t, Expr>> Rules<'f, F> {
         ensures { Gives (with_rest item_of) result (read kind (item (spot_of spot) (inside levels)) (tokens_of tokens.now)) }
     {
         if next_in(tokens, COLON) {
-            let ((stop, step), rest) = self.slice(levels, tokens)?;
-            return Ok((IndexItem::Slice(None, stop, step), rest));
+            return self.open_slice(levels, tokens);
         }
-        if next_in(tokens, ELLIPSIS) {
-            let (_, rest) = take(tokens, ELLIPSIS)?;
+        if let Some(rest) = behind(tokens, ELLIPSIS) {
             return Ok((IndexItem::Ellipsis, rest));
         }
-        if next_in(tokens, NONE) {
-            let (_, rest) = take(tokens, NONE)?;
+        if let Some(rest) = behind(tokens, NONE) {
             return Ok((IndexItem::NewAxis, rest));
         }
         if next_in(tokens, NP_NEWAXIS) {
             return newaxis(tokens);
         }
         if next_in(tokens, OPEN_BRACKET) {
-            let (elements, rest) = self.list(levels, tokens)?;
-            return Ok((IndexItem::List(elements), rest));
+            return self.list_item(levels, tokens);
         }
         self.part(levels, spot, tokens)
+    }
+
+    /// A slice with no start.
+    fn open_slice<'t>(&self, levels: u8, tokens: Tokens<'t>) -> Read<'t, IndexItem>
+        requires { Operands F.Fn self.now.operand.now (levels + 1) }
+        ensures { Gives (with_rest item_of) result
+            (read kind (open_slice (inside levels)) (tokens_of tokens.now)) }
+    {
+        let ((stop, step), rest) = self.slice(levels, tokens)?;
+        Ok((IndexItem::Slice(None, stop, step), rest))
+    }
+
+    /// A list as an item.
+    fn list_item<'t>(&self, levels: u8, tokens: Tokens<'t>) -> Read<'t, IndexItem>
+        requires { Operands F.Fn self.now.operand.now (levels + 1) }
+        ensures { Gives (with_rest item_of) result
+            (read kind (list_item (inside levels)) (tokens_of tokens.now)) }
+    {
+        let (elements, rest) = self.list(levels, tokens)?;
+        Ok((IndexItem::List(elements), rest))
     }
 
     /// An expression, or a slice that begins with one.
@@ -150,7 +165,7 @@ impl<'f, F: for<'t> Fn(u8, Spot, Tokens<'t>) -> Read<'t, Expr>> Rules<'f, F> {
         requires { Operands F.Fn self.now.operand.now (levels + 1) }
         ensures { Gives (with_rest bounds_of) result (read kind (slice (inside levels)) (tokens_of tokens.now)) }
     {
-        let (_, rest) = take(tokens, COLON)?;
+        let rest = skip(tokens, COLON)?;
         let (stop, rest) = self.bound(levels, rest)?;
         let (step, rest) = self.step(levels, rest)?;
         Ok(((stop, step), rest))
@@ -165,8 +180,7 @@ impl<'f, F: for<'t> Fn(u8, Spot, Tokens<'t>) -> Read<'t, Expr>> Rules<'f, F> {
             let (bound, rest) = self.expr(levels, Spot::Anywhere, tokens)?;
             return Ok((Some(bound), rest));
         }
-        let (_, rest) = tokens.split_at(0);
-        Ok((None, rest))
+        Ok((None, tokens))
     }
 
     #[tactic(auto, unfolding(nd_model::specs::Cells::step_in))]
@@ -174,12 +188,10 @@ impl<'f, F: for<'t> Fn(u8, Spot, Tokens<'t>) -> Read<'t, Expr>> Rules<'f, F> {
         requires { Operands F.Fn self.now.operand.now (levels + 1) }
         ensures { Gives (with_rest bound_of) result (read kind (step_in (inside levels)) (tokens_of tokens.now)) }
     {
-        if next_in(tokens, COLON) {
-            let (_, rest) = take(tokens, COLON)?;
-            return self.bound(levels, rest);
+        match behind(tokens, COLON) {
+            Some(rest) => self.bound(levels, rest),
+            None => Ok((None, tokens)),
         }
-        let (_, rest) = tokens.split_at(0);
-        Ok((None, rest))
     }
 
     /// `[elem, ..]`
@@ -199,10 +211,9 @@ impl<'f, F: for<'t> Fn(u8, Spot, Tokens<'t>) -> Read<'t, Expr>> Rules<'f, F> {
         requires { Operands F.Fn self.now.operand.now (levels + 1) }
         ensures { Gives (with_rest elements_in) result (read kind (between OPEN_BRACKET (mapped elements_of (elements (inside levels))) CLOSE_BRACKET) (tokens_of tokens.now)) }
     {
-        let (_, rest) = take(tokens, OPEN_BRACKET)?;
+        let rest = skip(tokens, OPEN_BRACKET)?;
         let (all, rest) = self.elements(levels, rest)?;
-        let (_, rest) = take(rest, CLOSE_BRACKET)?;
-        Ok((all, rest))
+        close(all, CLOSE_BRACKET, rest)
     }
 
     /// The elements of a list, perhaps none.
@@ -215,10 +226,10 @@ impl<'f, F: for<'t> Fn(u8, Spot, Tokens<'t>) -> Read<'t, Expr>> Rules<'f, F> {
         if next_in(tokens, ELEMENT) {
             return self.some_elements(levels, tokens);
         }
-        let (_, rest) = tokens.split_at(0);
-        Ok((Vec::new(self.alloc), rest))
+        Ok((Vec::new(self.alloc), tokens))
     }
 
+    /// `elem {"," elem} [","]`
     #[cycle(lists)]
     fn some_elements<'t>(&self, levels: u8, tokens: Tokens<'t>) -> Read<'t, Vec<Element>>
         requires { Operands F.Fn self.now.operand.now (levels + 1) }
@@ -226,7 +237,7 @@ impl<'f, F: for<'t> Fn(u8, Spot, Tokens<'t>) -> Read<'t, Expr>> Rules<'f, F> {
     {
         let (first, rest) = self.element(levels, tokens)?;
         let (mut all, rest) = self.other_elements(levels, rest)?;
-        let (_, rest) = last_comma(COMMA_LAST, rest)?;
+        let rest = behind_last(COMMA_LAST, rest);
         all.insert(0, first)?;
         Ok((all, rest))
     }
@@ -253,7 +264,7 @@ impl<'f, F: for<'t> Fn(u8, Spot, Tokens<'t>) -> Read<'t, Expr>> Rules<'f, F> {
         requires { Operands F.Fn self.now.operand.now (levels + 1) }
         ensures { Gives (with_rest element_of) result (read kind (behind_comma COMMA_MORE (element (inside levels))) (tokens_of tokens.now)) }
     {
-        let (_, rest) = take(tokens, COMMA_MORE)?;
+        let rest = skip(tokens, COMMA_MORE)?;
         self.element(levels, rest)
     }
 
@@ -272,6 +283,14 @@ impl<'f, F: for<'t> Fn(u8, Spot, Tokens<'t>) -> Read<'t, Expr>> Rules<'f, F> {
     }
 }
 
+/// A text in quotes that names a field.
+fn field_name<'t>(alloc: Global, tokens: Tokens<'t>) -> Read<'t, Index>
+    ensures { Gives (with_rest index_of) result (read kind field_name (tokens_of tokens.now)) }
+{
+    let (token, rest) = take(tokens, QUOTED)?;
+    Ok((Index::Field(quoted_of(alloc, token)?), rest))
+}
+
 /// `()`
 fn nothing<'t>(alloc: Global, levels: u8, tokens: Tokens<'t>) -> Read<'t, Vec<IndexItem>>
     ensures { Gives (with_rest items_in) result (read kind (nothing (under levels)) (tokens_of tokens.now)) }
@@ -285,8 +304,8 @@ fn nothing<'t>(alloc: Global, levels: u8, tokens: Tokens<'t>) -> Read<'t, Vec<In
 fn no_items<'t>(alloc: Global, tokens: Tokens<'t>) -> Read<'t, Vec<IndexItem>>
     ensures { Gives (with_rest items_in) result (read kind no_items (tokens_of tokens.now)) }
 {
-    let (_, rest) = take(tokens, OPEN_NONE)?;
-    let (_, rest) = take(rest, CLOSE)?;
+    let rest = skip(tokens, OPEN_NONE)?;
+    let rest = skip(rest, CLOSE)?;
     Ok((Vec::new(alloc), rest))
 }
 
@@ -295,8 +314,7 @@ fn no_items<'t>(alloc: Global, tokens: Tokens<'t>) -> Read<'t, Vec<IndexItem>>
 fn newaxis_name<'t>(tokens: Tokens<'t>) -> Read<'t, IndexItem>
     ensures { Gives (with_rest item_of) result (read kind newaxis_name (tokens_of tokens.now)) }
 {
-    if next_in(tokens, NEWAXIS) {
-        let (_, rest) = take(tokens, NEWAXIS)?;
+    if let Some(rest) = behind(tokens, NEWAXIS) {
         return Ok((IndexItem::NewAxis, rest));
     }
     Err(shut(tokens, NEWAXIS_CALLED, Reason::UnknownCall))
@@ -307,7 +325,7 @@ fn newaxis_name<'t>(tokens: Tokens<'t>) -> Read<'t, IndexItem>
 fn newaxis<'t>(tokens: Tokens<'t>) -> Read<'t, IndexItem>
     ensures { Gives (with_rest item_of) result (read kind newaxis (tokens_of tokens.now)) }
 {
-    let (_, rest) = take(tokens, NP_NEWAXIS)?;
-    let (_, rest) = take(rest, DOT)?;
+    let rest = skip(tokens, NP_NEWAXIS)?;
+    let rest = skip(rest, DOT)?;
     newaxis_name(rest)
 }

@@ -30,8 +30,10 @@ pub fn run<R: CountedRead, W: CountedWrite>(
 
     // A read fault stands only where a read failed or 2^32 reads were made, a write fault only where a write failed.
     ensures read { IfErr result (λ f. f ≡ RunFault.ReadFault →
-        (R.failures reader.new ≡ counted_on (R.failures reader.old) 1) ⊎ (R.reads reader.new ≡ counted_on (R.reads reader.old) (2 ^ 32))) }
-    ensures written { IfErr result (λ f. f ≡ RunFault.WriteFault → W.failures writer.new ≡ counted_on (W.failures writer.old) 1) }
+        (R.failures reader.new ≡ counted_on (R.failures reader.old) 1)
+        ⊎ (R.reads reader.new ≡ counted_on (R.reads reader.old) (2 ^ 32))) }
+    ensures written { IfErr result (λ f. f ≡ RunFault.WriteFault →
+        W.failures writer.new ≡ counted_on (W.failures writer.old) 1) }
     ensures reader_kept { OnOk result (R.failures reader.new ≡ R.failures reader.old) }
     ensures writer_kept { OnOk result (W.failures writer.new ≡ W.failures writer.old) }
 {
@@ -49,8 +51,10 @@ pub fn run_script<R: CountedRead, W: CountedWrite>(
     ensures stopped { IfErr result (λ f. StoppedFromNothing f (R.remaining reader.old) (R.remaining reader.new)
         (W.contents writer.old) (W.contents writer.new)) }
     ensures read { IfErr result (λ f. f ≡ RunFault.ReadFault →
-        (R.failures reader.new ≡ counted_on (R.failures reader.old) 1) ⊎ (R.reads reader.new ≡ counted_on (R.reads reader.old) (2 ^ 32))) }
-    ensures written { IfErr result (λ f. f ≡ RunFault.WriteFault → W.failures writer.new ≡ counted_on (W.failures writer.old) 1) }
+        (R.failures reader.new ≡ counted_on (R.failures reader.old) 1)
+        ⊎ (R.reads reader.new ≡ counted_on (R.reads reader.old) (2 ^ 32))) }
+    ensures written { IfErr result (λ f. f ≡ RunFault.WriteFault →
+        W.failures writer.new ≡ counted_on (W.failures writer.old) 1) }
     ensures reader_kept { OnOk result (R.failures reader.new ≡ R.failures reader.old) }
     ensures writer_kept { OnOk result (W.failures writer.new ≡ W.failures writer.old) }
 {
@@ -71,8 +75,10 @@ pub fn run_turns<R: CountedRead, W: CountedWrite>(
     ensures stopped { IfErr result (λ f. StoppedAt f (R.remaining reader.old) (R.remaining reader.new)
         (book_of notebook.old) (W.contents writer.old) (W.contents writer.new) (book_of notebook.new)) }
     ensures read { IfErr result (λ f. f ≡ RunFault.ReadFault →
-        (R.failures reader.new ≡ counted_on (R.failures reader.old) 1) ⊎ (R.reads reader.new ≡ counted_on (R.reads reader.old) turns)) }
-    ensures written { IfErr result (λ f. f ≡ RunFault.WriteFault → W.failures writer.new ≡ counted_on (W.failures writer.old) 1) }
+        (R.failures reader.new ≡ counted_on (R.failures reader.old) 1)
+        ⊎ (R.reads reader.new ≡ counted_on (R.reads reader.old) turns)) }
+    ensures written { IfErr result (λ f. f ≡ RunFault.WriteFault →
+        W.failures writer.new ≡ counted_on (W.failures writer.old) 1) }
     ensures reader_kept { OnOk result (R.failures reader.new ≡ R.failures reader.old) }
     ensures writer_kept { OnOk result (W.failures writer.new ≡ W.failures writer.old) }
 {

@@ -122,12 +122,37 @@ fn print_text(rt: &HostRuntime, text: Result<String, OutOfMemory>) -> io::Result
     }
 }
 
+/// What is done with a session.
+#[derive(Clone, Copy)]
+enum Use {
+    Elements,
+    BoundAgain,
+    Unbound,
+    Blocks,
+}
+
+/// What a use gives in a session that has just begun.
+fn describe(alloc: Global, session: &mut Session, what: Use) -> Result<String, OutOfMemory>
+    requires { (live session.old).next ≡ 0 }
+{
+    match what {
+        Use::Elements => describe_uses(alloc, session),
+        Use::BoundAgain => describe_bound_again(alloc, session),
+        Use::Unbound => describe_unbound(alloc, session),
+        Use::Blocks => describe_blocks(alloc, session),
+    }
+}
+
+/// What a use gives in a session of its own.
+fn describe_begun(alloc: Global, what: Use) -> Result<String, OutOfMemory> {
+    describe(alloc, &mut begun_session(alloc), what)
+}
+
 /// Prints what each of them gives.
 pub(crate) fn print_sessions(rt: &HostRuntime) -> io::Result<()> {
-    let alloc = rt.alloc();
     println!(rt; "= sessions")?;
-    print_text(rt, describe_uses(alloc, &mut begun_session(alloc)))?;
-    print_text(rt, describe_bound_again(alloc, &mut begun_session(alloc)))?;
-    print_text(rt, describe_unbound(alloc, &mut begun_session(alloc)))?;
-    print_text(rt, describe_blocks(alloc, &mut begun_session(alloc)))
+    for what in [Use::Elements, Use::BoundAgain, Use::Unbound, Use::Blocks] {
+        print_text(rt, describe_begun(rt.alloc(), what))?;
+    }
+    Ok(())
 }

@@ -149,12 +149,16 @@ fn long_script(alloc: Global) -> Result<String, AllocError> {
     "# one byte a call\n".repeat(alloc, 500)
 }
 
+fn print_long_dripping(rt: &HostRuntime) -> io::Result<()> {
+    let mut long = long_script(rt.alloc())?;
+    long.push_str("count\n")?;
+    print_dripping(rt, "9,006 single bytes", long.as_bytes(), false)
+}
+
 /// Runs each of them, and prints how it ended.
 pub(crate) fn print_runs(rt: &HostRuntime) -> io::Result<()> {
     print_dripping(rt, "single bytes", b"count\nfrob\ncount", false)?;
-    let mut long = long_script(rt.alloc())?;
-    long.push_str("count\n")?;
-    print_dripping(rt, "9,006 single bytes", long.as_bytes(), false)?;
+    print_long_dripping(rt)?;
     print_dripping(rt, "a reader that fails at once", b"", true)?;
     print_kept(rt)?;
     print_endless(rt)?;

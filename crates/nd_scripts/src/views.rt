@@ -43,17 +43,32 @@ fn first(view: &View) -> Result<Option<Index>, AllocError> {
     }
 }
 
+fn is_parted(alloc: Global, view: &View) -> Result<bool, AllocError> {
+    match view_of_parts(alloc)? {
+        Ok(same) => Ok(view.is_same(&same)),
+        Err(_) => Ok(false),
+    }
+}
+
+fn is_cloned(view: &View) -> Result<bool, AllocError> {
+    Ok(clone_of(view)?.is_same(view))
+}
+
+fn is_first(view: &View) -> Result<bool, AllocError> {
+    match first(view)? {
+        Some(index) => Ok(index.as_slice() == [0; 9].as_slice()),
+        None => Ok(false),
+    }
+}
+
+/// Whether each call was right over this view.
+fn are_right_over(alloc: Global, view: &View) -> Result<[bool; 3], AllocError> {
+    let is_parted = is_parted(alloc, view)?;
+    let is_cloned = is_cloned(view)?;
+    Ok([is_parted, is_cloned, is_first(view)?])
+}
+
 /// Whether each call was right, where one of them was refused its memory.
 pub(crate) fn are_right(alloc: Global) -> Result<[bool; 3], AllocError> {
-    let view = contiguous(alloc)?;
-    let is_parted = match view_of_parts(alloc)? {
-        Ok(same) => view.is_same(&same),
-        Err(_) => false,
-    };
-    let is_cloned = clone_of(&view)?.is_same(&view);
-    let is_first = match first(&view)? {
-        Some(index) => index.as_slice() == [0; 9].as_slice(),
-        None => false,
-    };
-    Ok([is_parted, is_cloned, is_first])
+    are_right_over(alloc, &contiguous(alloc)?)
 }

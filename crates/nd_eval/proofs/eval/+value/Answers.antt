@@ -7,29 +7,39 @@ use Rattle.nd_syntax.specs.Syntax.{expr_of, suffix_of, index_of}
 use Rattle.nd_syntax.specs.declared.tree.Suffix.{Suffix}
 use Rattle.nd_heap.specs.Values.{value_of, inputs_of}
 use Rattle.nd_heap.specs.Live.{live}
-use Rattle.nd_eval.proofs.Bounds.{next_value, next_item_value, next_indexed}
+use Rattle.nd_eval.proofs.Bounds.{next_value, next_at_index}
 use Rattle.nd_eval.proofs.Chains.{exits, follows, goes}
 use Rattle.nd_eval.proofs.Indexing.{chain, next_index, run_postfix, tokens_of_postfix, nodes_of_postfix, arange_alone, no_items, items_in_index, nodes_of_its_items, more_refused, chain_alone, nodes_of_chain, chain_refused}
 use Rattle.nd_eval.proofs.eval.+value.Goals as goal
 
-pub value-value-requires : goal.value-value-requires
-value-value-requires t c =
+pub value-negative_value-requires : goal.value-negative_value-requires
+value-negative_value-requires t c =
     let room = rw c.in-Unary.is at c.requires in
     let below = rw c.in-Unary.is at c.decreases in
     rw c.deref.ensures (omega arith, omega arith)
 
-pub value-returns-in_err-operand-in-Negative : goal.value-returns-in_err-operand-in-Negative
-value-returns-in_err-operand-in-Negative t c = rw (c.in-Unary.is, c.in-Negative.is)
-    (exits value_of value_of (inputs_of c.args.inputs.now.entries) (meaning.value (expr_of c.in-Unary.operand.value)) _ _ _ _ _
-    c.from_residual.ensures.1 (rw c.deref.ensures at c.in_err-operand-in-Negative.ensures))
+pub negative_value-returns-in_err-operand : goal.negative_value-returns-in_err-operand
+negative_value-returns-in_err-operand t c =
+    exits value_of value_of (inputs_of c.args.inputs.now.entries) (meaning.value (expr_of c.args.operand.now)) _ _ _ _ _
+    c.from_residual.ensures.1 c.in_err-operand.ensures
 
-pub value-returns-in_ok-operand-in-Negative : goal.value-returns-in_ok-operand-in-Negative
-value-returns-in_ok-operand-in-Negative t c = rw (c.in-Unary.is, c.in-Negative.is)
-    (follows value_of value_of (inputs_of c.args.inputs.now.entries) (meaning.value (expr_of c.in-Unary.operand.value)) _ _ _ _
-    c.in_ok-operand-in-Negative.operand _ (rw c.deref.ensures at c.in_ok-operand-in-Negative.ensures) c.negated.ensures)
+pub negative_value-returns : goal.negative_value-returns
+negative_value-returns t c =
+    follows value_of value_of (inputs_of c.args.inputs.now.entries) (meaning.value (expr_of c.args.operand.now)) _ _ _ _
+    c.in_ok-operand.operand _ c.in_ok-operand.ensures c.negated.ensures
 
-pub value-value-requires-in-Postfix : goal.value-value-requires-in-Postfix
-value-value-requires-in-Postfix t c =
+pub index_into-returns-in_err-item : goal.index_into-returns-in_err-item
+index_into-returns-in_err-item t c =
+    exits value_of value_of (inputs_of c.args.inputs.now.entries) (meaning.item_value (index_of c.args.index.now)) _ _ _ _ _
+    c.from_residual.ensures.1 c.in_err-item.ensures
+
+pub index_into-returns : goal.index_into-returns
+index_into-returns t c =
+    follows value_of value_of (inputs_of c.args.inputs.now.entries) (meaning.item_value (index_of c.args.index.now)) _ _ _ _
+    c.in_ok-item.item _ c.in_ok-item.ensures c.indexed.ensures
+
+pub value-value-requires : goal.value-value-requires
+value-value-requires t c =
     let size = tokens_of_postfix c.args.expr.now c.in-Postfix.operand c.in-Postfix.suffixes c.in-Postfix.is in
     let more = nodes_of_postfix c.args.expr.now c.in-Postfix.operand c.in-Postfix.suffixes c.in-Postfix.is in
     let below = c.decreases in
@@ -40,7 +50,7 @@ value-returns-in_err-found-in-Postfix t c =
     let i = inputs_of c.args.inputs.now.entries in
     rw (run_postfix i c.args.expr.now c.in-Postfix.operand c.in-Postfix.suffixes (live c.args.session.now) c.in-Postfix.is)
     (exits value_of value_of i (meaning.value (expr_of c.in-Postfix.operand.value)) _ _ _ _ _
-    c.from_residual-in_err-found-in-Postfix.ensures.1 (rw c.deref-in-Postfix.ensures at c.in_err-found-in-Postfix.ensures))
+    c.from_residual.ensures.1 (rw c.deref-in-Postfix.ensures at c.in_err-found-in-Postfix.ensures))
 
 pub value-loop-suffix-init : goal.value-loop-suffix-init
 value-loop-suffix-init t c =
@@ -53,51 +63,41 @@ value-loop-suffix-init t c =
     record {
       same = run_postfix i c.args.expr.now c.in-Postfix.operand c.in-Postfix.suffixes (live c.args.session.now) c.in-Postfix.is
           ∙ goes value_of i (meaning.value e) (λ v. chain v (map suffix_of c.in-Postfix.suffixes.items)) _ _ c.in_ok-found-in-Postfix.found found
-          ∙ ap (λ (es : List Suffix). meaning.run i (chain (value_of c.in_ok-found-in-Postfix.found) (map suffix_of es)) (live c.value-in-Postfix.new.session)) (sym c.deref-suffix-items.ensures.value);
+          ∙ ap (λ (es : List Suffix). meaning.run i (chain (value_of c.in_ok-found-in-Postfix.found) (map suffix_of es)) (live c.value.new.session)) (sym c.deref-suffix-items.ensures.value);
       room = rw c.deref-suffix-items.ensures.value (omega arith);
       below = rw c.deref-suffix-items.ensures.value (omega arith);
     }
 
-pub value-item_value-requires : goal.value-item_value-requires
-value-item_value-requires t c =
+pub value-index_into-requires : goal.value-index_into-requires
+value-index_into-requires t c =
     let next = next_index c.deref-suffix-items.result.now c.loop-suffix.suffix-index c.suffix-item.result c.in-Index.index c.loop-suffix-test.true c.suffix-item.is c.in-Index.is in
     let room = rw next at c.loop-suffix.invariant.room in
     let below = c.decreases in
     let few = rw next at c.loop-suffix.invariant.below in
     (omega arith, omega arith)
 
-pub value-returns-in_err-item-in-Postfix : goal.value-returns-in_err-item-in-Postfix
-value-returns-in_err-item-in-Postfix t c =
-    let next = next_index c.deref-suffix-items.result.now c.loop-suffix.suffix-index c.suffix-item.result c.in-Index.index c.loop-suffix-test.true c.suffix-item.is c.in-Index.is in
-    rw (c.loop-suffix.invariant.same, next)
-    (exits value_of value_of (inputs_of c.args.inputs.now.entries) (meaning.item_value (index_of c.in-Index.index)) _ _ _ _ _
-    c.from_residual-in_err-item-in-Postfix.ensures.1 c.in_err-item-in-Postfix.ensures)
-
 pub value-returns-in_err-found-in-Postfix-2 : goal.value-returns-in_err-found-in-Postfix-2
 value-returns-in_err-found-in-Postfix-2 t c =
-    let i = inputs_of c.args.inputs.now.entries in
     let next = next_index c.deref-suffix-items.result.now c.loop-suffix.suffix-index c.suffix-item.result c.in-Index.index c.loop-suffix-test.true c.suffix-item.is c.in-Index.is in
     rw (c.loop-suffix.invariant.same, next)
-    (follows value_of value_of i (meaning.item_value (index_of c.in-Index.index)) _ _ _ _ c.in_ok-item-in-Postfix.item _ c.in_ok-item-in-Postfix.ensures
-    (exits value_of value_of i (meaning.indexed (value_of c.loop-suffix.found) (value_of c.in_ok-item-in-Postfix.item)) _ _ _ _ _
-    c.from_residual-in_err-found-in-Postfix-2.ensures.1 c.in_err-found-in-Postfix-2.ensures))
+    (exits value_of value_of (inputs_of c.args.inputs.now.entries)
+    (meaning.◌>>=◌ (meaning.item_value (index_of c.in-Index.index)) (meaning.indexed (value_of c.loop-suffix.found))) _ _ _ _ _
+    c.from_residual-in_err-found-in-Postfix-2.ensures.1 c.in_err-found-in-Postfix-2.ensures)
 
 pub value-loop-suffix-preserved : goal.value-loop-suffix-preserved
 value-loop-suffix-preserved t c =
     let i = inputs_of c.args.inputs.now.entries in
     let x = index_of c.in-Index.index in
     let rest = map suffix_of (drop (c.loop-suffix.suffix-index + 1) c.deref-suffix-items.result.now) in
-    let indexed = meaning.indexed (value_of c.loop-suffix.found) (value_of c.in_ok-item-in-Postfix.item) in
     let next = next_index c.deref-suffix-items.result.now c.loop-suffix.suffix-index c.suffix-item.result c.in-Index.index c.loop-suffix-test.true c.suffix-item.is c.in-Index.is in
     let room = rw next at c.loop-suffix.invariant.room in
-    let made = next_item_value i x _ _ _ c.in_ok-item-in-Postfix.ensures in
+    let made = next_at_index i (value_of c.loop-suffix.found) x _ _ _ c.in_ok-found-in-Postfix-2.ensures in
     let few = rw next at c.loop-suffix.invariant.below in
-    let more = next_indexed i (value_of c.loop-suffix.found) (value_of c.in_ok-item-in-Postfix.item) _ _ _ c.in_ok-found-in-Postfix-2.ensures in
     record {
       same = c.loop-suffix.invariant.same
           ∙ ap (λ (es : List Suffix). meaning.run i (chain (value_of c.loop-suffix.found) (map suffix_of es)) (live c.loop-suffix.session)) next
-          ∙ goes value_of i (meaning.item_value x) _ _ _ c.in_ok-item-in-Postfix.item c.in_ok-item-in-Postfix.ensures
-          ∙ goes value_of i indexed (λ w. chain w rest) _ _ c.in_ok-found-in-Postfix-2.found c.in_ok-found-in-Postfix-2.ensures;
+          ∙ goes value_of i (meaning.◌>>=◌ (meaning.item_value x) (meaning.indexed (value_of c.loop-suffix.found))) (λ w. chain w rest) _ _
+          c.in_ok-found-in-Postfix-2.found c.in_ok-found-in-Postfix-2.ensures;
       room = omega arith;
       below = omega arith;
     }

@@ -9,6 +9,12 @@ use Rattle.nd_eval.proofs.eval.+value.Given as goal
 abbrev pub decreases-value : goal.decreases-value
 decreases-value l = nodes l.expr.now
 
+abbrev pub decreases-negative_value : goal.decreases-negative_value
+decreases-negative_value l = 1 + nodes l.operand.now
+
+abbrev pub decreases-index_into : goal.decreases-index_into
+decreases-index_into l = 1 + nodes_of_index l.index.now
+
 abbrev pub decreases-called : goal.decreases-called
 decreases-called l = nodes_of_call l.call.now
 

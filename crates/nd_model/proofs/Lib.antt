@@ -1,4 +1,5 @@
 pub mod Values
+pub mod Residues
 pub mod Puts
 pub mod Parts
 pub mod Pieces

@@ -13,7 +13,7 @@ use borrow.Author.Differences.{fits_in}
 use Rattle.nd_model.specs.Element.{Kind, Boolean, Int8, Int16, Int32, Int64, UInt8, UInt16, UInt32, UInt64, Element, width_of, size_of, lowest, highest, IsValue, number_in, value_in, bytes_in, bytes_of, residue, wrap, RoundTrip}
 
 -- eight bits a byte
-bits_are : (w : Width) → 8 * byte_len w ≡ bits w
+pub bits_are : (w : Width) → 8 * byte_len w ≡ bits w
 bits_are w8 = refl
 bits_are w16 = refl
 bits_are w32 = refl
@@ -26,7 +26,7 @@ residue_small w (negsuc n) = let some = pow_pos (8 * byte_len w) in omega arith
 
 -- ---- signed kinds
 
-signed_residue : (w : Width) (z : ℤ) → cast_signed w (residue w z) ≡ int_wrap w z
+pub signed_residue : (w : Width) (z : ℤ) → cast_signed w (residue w z) ≡ int_wrap w z
 unfolding int_wrap
 signed_residue w z = ap (λ k. cast_signed w (unsigned_abs (int_rem_euclid z (pos (2 ^ k))))) (bits_are w)
 

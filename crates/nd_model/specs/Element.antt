@@ -1,6 +1,7 @@
 -- Elements: what a kind of number is, and what the bytes of an element are worth. From PEP 3118 and NumPy's data types:
 -- a kind is a range and a number of bytes, and an element has its bytes in one of two orders.
-use Rattle.std.specs.Prelude.{◌≡◌, ◌==◌, ℕ, ◌+◌, ◌-◌, ◌*◌, ℤ, pos, neg_ℤ, ◌≤ℤ◌, int_le, unsigned_abs, ◌^◌, nat_lt, Bool, not, ◌&&◌, ◌||◌, if◌then◌else◌, List, ◌++◌, take, drop, length}
+use Rattle.std.specs.Prelude.{◌≡◌, ◌≢◌, ◌↔◌, ◌==◌, ℕ, ◌<◌, ◌+◌, ◌-◌, ◌*◌, ℤ, pos, neg_ℤ, ◌≤ℤ◌, int_le, unsigned_abs, ◌^◌, nat_lt, Bool, not, ◌&&◌, ◌||◌, if◌then◌else◌, List, ◌++◌, take, drop, length}
+use Rattle.std.specs.List.{All}
 use Rattle.std.specs.Int.{Width, w8, w16, w32, w64, byte_len, to_le_bytes, to_be_bytes, from_le_bytes, from_be_bytes, cast_signed, int_rem_euclid}
 
 pub data Kind : Type 0 where
@@ -106,10 +107,18 @@ bytes_of e z = let w = width_of e.kind in bytes_in w e.big (residue w z)
 abbrev pub RoundTrip : Type 0
 RoundTrip = (e : Element) (z : ℤ) → IsValue e.kind z → value_of e (bytes_of e z) ≡ z
 
+-- BYTES AGAIN: the bytes of an element are those of its value. A Boolean may have other bytes than 0 and 1, so it is left out.
+abbrev pub BytesRoundTrip : Type 0
+BytesRoundTrip = (e : Element) (bs : List ℕ) → e.kind ≢ Boolean → length bs ≡ size_of e.kind → All (λ b. b < 256) bs → bytes_of e (value_of e bs) ≡ bs
+
 -- the number of the kind that is equal to z modulo 2 to the power of the width; for Booleans 0 for 0, and else 1
 abbrev pub wrap : Kind → ℤ → ℤ
 wrap Boolean z = if unsigned_abs z == 0 then pos 0 else pos 1
 wrap k z = value_in k (residue (width_of k) z)
+
+-- ONE WRAP: what a number wraps to is the one number of the kind that is equal to it modulo 2 to the power of the width
+abbrev pub OneWrap : Type 0
+OneWrap = (k : Kind) (z w : ℤ) → k ≢ Boolean → (w ≡ wrap k z) ↔ (IsValue k w × (residue (width_of k) w ≡ residue (width_of k) z))
 
 -- the n bytes from place p on
 abbrev pub bytes_at : List ℕ → ℕ → ℕ → List ℕ

@@ -2,7 +2,7 @@
 #![tactic(auto)]
 
 ghost use Rattle.nd_model.specs.Book.{LabelsStayDistinct, AnyLabels as AnyBookLabels};
-ghost use Rattle.nd_model.specs.Element.{RoundTrip};
+ghost use Rattle.nd_model.specs.Element.{BytesRoundTrip, OneWrap, RoundTrip};
 ghost use Rattle.nd_model.specs.Footprint.{Frame, EffectsAreAll, Replay};
 ghost use Rattle.nd_model.specs.Promotion.{PromotionTable};
 ghost use Rattle.nd_model.specs.Records.{Kept};
@@ -15,6 +15,16 @@ pub mod grammar;
 /// A value of an element's kind is read back from its bytes.
 pub fn round_trip()
     ensures { RoundTrip }
+{}
+
+/// The bytes of an element that is no Boolean are those of its value.
+pub fn bytes_round_trip()
+    ensures { BytesRoundTrip }
+{}
+
+/// What a number wraps to is the one number of the kind that is equal to it modulo 2 to the power of the width.
+pub fn one_wrap()
+    ensures { OneWrap }
 {}
 
 /// The rule of promotion gives the table of NEP 50, for each two of the nine kinds.

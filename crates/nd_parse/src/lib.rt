@@ -1,6 +1,7 @@
 //! The syntax of cells: the statements of a text, or its fault.
 #![tactic(auto)]
 
+mod expr;
 mod parse;
 mod stmt;
 

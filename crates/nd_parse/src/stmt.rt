@@ -11,8 +11,8 @@ ghost use Rattle.nd_syntax.specs.Syntax.{expr_of, index_of, binary_op, stmt_of, 
 ghost use Rattle.nd_read.specs.Gives.{Gives, with_rest, tokens_of, exprs_of, methods_of, suffixes_of, group_of, trailing_of, target_of, value_of};
 ghost use Rattle.nd_parse.specs.Readers.{trailing, saved_body};
 
+use crate::expr::{expr, exprs, index, method, operand};
 use nd_call::postfixed;
-use nd_expr::{expr, exprs, index, method, operand};
 use nd_read::kinds::{
     AS, ASSIGNMENT, BOUND, CLOSE, COMMA, DEL, DOT, END, IMPORT, NP, NP_SAVE, NUMPY, NUMPY_CALLED,
     OPEN, PRINT, SAVE, SUFFIX, next_in,

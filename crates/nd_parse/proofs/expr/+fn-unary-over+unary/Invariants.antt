@@ -1,5 +1,5 @@
 use Rattle.std.proofs.Common.{◌+◌, ◌*◌}
-use Rattle.nd_expr.proofs.+fn-unary-over+unary.Given as goal
+use Rattle.nd_parse.proofs.expr.+fn-unary-over+unary.Given as goal
 
 abbrev pub decreases-unary : goal.decreases-unary
 decreases-unary l = l.levels * 2

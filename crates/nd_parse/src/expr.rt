@@ -1,5 +1,4 @@
 //! Expressions of cells, as deep as brackets, signs and `**` may go.
-#![tactic(auto)]
 
 ghost use Rattle.std.specs.Prelude.{◌≡◌, ◌<◌};
 ghost use Rattle.nd_model.specs.Kinds.{kind};
@@ -34,7 +33,7 @@ fn unary<'t>(alloc: Global, levels: u8, spot: Spot, tokens: Tokens<'t>) -> Read<
 }
 
 /// An expression, which may open this many levels.
-pub fn expr<'t>(alloc: Global, levels: u8, spot: Spot, tokens: Tokens<'t>) -> Read<'t, Expr>
+pub(crate) fn expr<'t>(alloc: Global, levels: u8, spot: Spot, tokens: Tokens<'t>) -> Read<'t, Expr>
     ensures { Gives (with_rest expr_of) result (read kind (expr (spot_of spot) (under levels)) (tokens_of tokens.now)) }
 {
     Rules::over(
@@ -45,7 +44,12 @@ pub fn expr<'t>(alloc: Global, levels: u8, spot: Spot, tokens: Tokens<'t>) -> Re
 }
 
 /// `expr {"," expr}`, where the first expression stands at the spot
-pub fn exprs<'t>(alloc: Global, levels: u8, spot: Spot, tokens: Tokens<'t>) -> Read<'t, Vec<Expr>>
+pub(crate) fn exprs<'t>(
+    alloc: Global,
+    levels: u8,
+    spot: Spot,
+    tokens: Tokens<'t>,
+) -> Read<'t, Vec<Expr>>
     ensures { Gives (with_rest exprs_of) result (read kind (exprs (expr (spot_of spot) (under levels)) (expr Anywhere (under levels))) (tokens_of tokens.now)) }
 {
     Rules::over(
@@ -56,7 +60,7 @@ pub fn exprs<'t>(alloc: Global, levels: u8, spot: Spot, tokens: Tokens<'t>) -> R
 }
 
 /// `[index]`, which may open this many levels.
-pub fn index<'t>(alloc: Global, levels: u8, tokens: Tokens<'t>) -> Read<'t, Index>
+pub(crate) fn index<'t>(alloc: Global, levels: u8, tokens: Tokens<'t>) -> Read<'t, Index>
     ensures { Gives (with_rest index_of) result (read kind (index (under levels)) (tokens_of tokens.now)) }
 {
     Rules::over(
@@ -67,7 +71,7 @@ pub fn index<'t>(alloc: Global, levels: u8, tokens: Tokens<'t>) -> Read<'t, Inde
 }
 
 /// `.method`, which may open this many levels.
-pub fn method<'t>(alloc: Global, levels: u8, tokens: Tokens<'t>) -> Read<'t, Method>
+pub(crate) fn method<'t>(alloc: Global, levels: u8, tokens: Tokens<'t>) -> Read<'t, Method>
     ensures { Gives (with_rest method_of) result (read kind (method (under levels)) (tokens_of tokens.now)) }
 {
     Calls::over(
@@ -78,7 +82,12 @@ pub fn method<'t>(alloc: Global, levels: u8, tokens: Tokens<'t>) -> Read<'t, Met
 }
 
 /// An operand, which may open this many levels.
-pub fn operand<'t>(alloc: Global, levels: u8, spot: Spot, tokens: Tokens<'t>) -> Read<'t, Expr>
+pub(crate) fn operand<'t>(
+    alloc: Global,
+    levels: u8,
+    spot: Spot,
+    tokens: Tokens<'t>,
+) -> Read<'t, Expr>
     ensures { Gives (with_rest expr_of) result (read kind (operand (spot_of spot) (under levels)) (tokens_of tokens.now)) }
 {
     Calls::over(

@@ -31,4 +31,6 @@ pub mod Records
 pub mod Scheduler
 pub mod Renaming
 pub mod Book
+pub mod FaultText
+pub mod Format
 pub mod Script

@@ -4,14 +4,14 @@ use Rattle.std.specs.Fmt.{signed_decimal}
 use Rattle.std.specs.Str.{is_utf8}
 use Rattle.std.specs.Str.Parse.{digits_value}
 use Rattle.std.specs.List.{slice_split, join_with_byte, flat_map}
-use Rattle.nd_model.specs.Element.{Kind, Boolean, Int8, Int16, Int32, Int64, UInt8, UInt16, UInt32, UInt64, Element, size_of}
-use Rattle.nd_model.specs.View.{Field, ElementType, One, Structure, item_size}
+use Rattle.nd_model.specs.View.{item_size}
 use Rattle.nd_model.specs.Text.{truth_text, joined}
 use Rattle.nd_model.specs.Cell.{Saved}
-use Rattle.nd_model.specs.Fault.{ViewFault, OutOfBlock, TooManyAxes, TooManyElements, AxesDiffer, IndexFault, OutOfBounds, TooManyIndices, NotAnIndex, UfuncFault, IntOutOfRange, ShapeMismatch, ReadOnly, NotNumbers, StmtFault, NoName, IntTooBig, NotAnArray, TextTooLong, BadArgument, Fault, View, Index, Ufunc, Stmt, ParseKind, BadToken, Unexpected, TooDeep, TooManyStatements, UnknownCall, LeftOut, Refusal, Parse, Statement}
+use Rattle.nd_model.specs.Fault.{Refusal}
+use Rattle.nd_model.specs.FaultText.{edit_fault_text, query_fault_text, refusal_text}
+use Rattle.nd_model.specs.Format.{format_text, kind_text}
 use Rattle.nd_model.specs.Renaming.{Shown, ShownInt, ShownTruth, ShownScalar, ShownArray, ShownRow}
-use Rattle.nd_model.specs.Book as book
-use Rattle.nd_model.specs.Book.{Book, count_of, Edit, Insert, Change, Move, Remove, EditFault, TooManyCells, CellTooLong, refusal, after_edit, QueryFault, CellResult, source_at, result_at, names_at, value_at}
+use Rattle.nd_model.specs.Book.{Book, count_of, Edit, Insert, Change, Move, Remove, EditFault, refusal, after_edit, QueryFault, CellResult, source_at, result_at, names_at, value_at}
 
 -- ---- lines and words
 
@@ -168,111 +168,7 @@ completed_from s (l ∷ ls) = (step s l).0 ++ completed_from (step s l).1 ls
 abbrev pub completed : List ℕ → List Command
 completed given = completed_from Between (ended_lines given)
 
--- ---- texts of faults
-
-abbrev pub view_text : ViewFault → List ℕ
-view_text OutOfBlock = codes "OutOfBlock"
-view_text TooManyAxes = codes "TooManyAxes"
-view_text TooManyElements = codes "TooManyElements"
-view_text AxesDiffer = codes "AxesDiffer"
-
-abbrev pub index_text : IndexFault → List ℕ
-index_text (OutOfBounds axis index size) = codes "OutOfBounds " ++ decimal axis ++ codes " " ++ signed_decimal index ++ codes " " ++ decimal size
-index_text TooManyIndices = codes "TooManyIndices"
-index_text NotAnIndex = codes "NotAnIndex"
-
-abbrev pub ufunc_text : UfuncFault → List ℕ
-ufunc_text (IntOutOfRange number) = codes "IntOutOfRange " ++ signed_decimal number
-ufunc_text ShapeMismatch = codes "ShapeMismatch"
-ufunc_text ReadOnly = codes "ReadOnly"
-ufunc_text NotNumbers = codes "NotNumbers"
-
-abbrev pub stmt_text : StmtFault → List ℕ
-stmt_text (NoName name) = codes "NoName " ++ name
-stmt_text IntTooBig = codes "IntTooBig"
-stmt_text NotAnArray = codes "NotAnArray"
-stmt_text TextTooLong = codes "TextTooLong"
-stmt_text BadArgument = codes "BadArgument"
-
-abbrev pub fault_text : Fault → List ℕ
-fault_text (View f) = codes "View." ++ view_text f
-fault_text (Index f) = codes "Index." ++ index_text f
-fault_text (Ufunc f) = codes "Ufunc." ++ ufunc_text f
-fault_text (Stmt f) = codes "Stmt." ++ stmt_text f
-
-abbrev pub parse_text : ParseKind → List ℕ
-parse_text BadToken = codes "BadToken"
-parse_text Unexpected = codes "Unexpected"
-parse_text TooDeep = codes "TooDeep"
-parse_text TooManyStatements = codes "TooManyStatements"
-parse_text UnknownCall = codes "UnknownCall"
-parse_text LeftOut = codes "LeftOut"
-
-abbrev pub refusal_text : Refusal → List ℕ
-refusal_text (Parse kind column) = codes "Parse." ++ parse_text kind ++ codes " " ++ decimal column
-refusal_text (Statement f) = fault_text f
-
-abbrev pub edit_fault_text : EditFault → List ℕ
-edit_fault_text (book.NoCell at count) = codes "NoCell " ++ decimal at ++ codes " " ++ decimal count
-edit_fault_text TooManyCells = codes "TooManyCells"
-edit_fault_text CellTooLong = codes "CellTooLong"
-edit_fault_text book.OutOfMemory = codes "OutOfMemory"
-
-abbrev pub query_fault_text : QueryFault → List ℕ
-query_fault_text (book.NoCell at count) = codes "NoCell " ++ decimal at ++ codes " " ++ decimal count
-query_fault_text (book.NoName name) = codes "NoName " ++ name
-query_fault_text book.OutOfMemory = codes "OutOfMemory"
-
 -- ---- texts of values
-
-abbrev pub kind_text : Kind → List ℕ
-kind_text Boolean = codes "bool"
-kind_text Int8 = codes "int8"
-kind_text Int16 = codes "int16"
-kind_text Int32 = codes "int32"
-kind_text Int64 = codes "int64"
-kind_text UInt8 = codes "uint8"
-kind_text UInt16 = codes "uint16"
-kind_text UInt32 = codes "uint32"
-kind_text UInt64 = codes "uint64"
-
--- the code of a kind in a format string (PEP 3118)
-abbrev pub kind_code : Kind → List ℕ
-kind_code Boolean = codes "?"
-kind_code Int8 = codes "b"
-kind_code Int16 = codes "h"
-kind_code Int32 = codes "i"
-kind_code Int64 = codes "q"
-kind_code UInt8 = codes "B"
-kind_code UInt16 = codes "H"
-kind_code UInt32 = codes "I"
-kind_code UInt64 = codes "Q"
-
-abbrev pub order_text : Bool → List ℕ
-order_text true = codes ">"
-order_text false = codes "<"
-
--- a code of one byte stands alone, each larger one behind its order
-abbrev pub element_format : Element → List ℕ
-element_format e = if size_of e.kind == 1 then kind_code e.kind else order_text e.big ++ kind_code e.kind
-
--- so many bytes without meaning
-abbrev pub pad_format : ℕ → List ℕ
-pad_format n = if n == 0 then [] else if n == 1 then codes "x" else decimal n ++ codes "x"
-
-abbrev pub field_format : Field → List ℕ
-field_format f = element_format f.element ++ codes ":" ++ f.name ++ codes ":"
-
--- the fields from a place of the structure on, and the bytes behind the last one
-abbrev pub fields_format : (place size : ℕ) → List Field → List ℕ
-fields_format place size [] = pad_format (size - place)
-fields_format place size (f ∷ fs) =
-    pad_format (f.at - place) ++ field_format f ++ fields_format (f.at + size_of f.element.kind) size fs
-
--- the format string of an element type (PEP 3118)
-abbrev pub format_text : ElementType → List ℕ
-format_text (One e) = element_format e
-format_text (Structure fields size) = codes "T{" ++ fields_format 0 size fields ++ codes "}"
 
 abbrev pub hex_digit : ℕ → ℕ
 hex_digit n = slice_index (codes "0123456789abcdef") n

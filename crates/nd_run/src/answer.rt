@@ -1,6 +1,7 @@
 //! The answers to commands.
 
 ghost use Rattle.std.specs.Prelude.{◌≡◌, ◌++◌, codes, decimal, map, option_map, string_bytes, OnOk};
+ghost use Rattle.nd_model.specs.FaultText as texts;
 ghost use Rattle.nd_model.specs.Script as script;
 ghost use Rattle.nd_rerun.specs.Results.{refusal_of, saves_of};
 ghost use Rattle.nd_rerun.specs.Queries.{result_of};
@@ -27,7 +28,7 @@ pub fn push_edit_answer(out: &mut Vec<u8>, done: &Result<(), EditFault>) -> Resu
 }
 
 fn push_edit_fault(out: &mut Vec<u8>, fault: EditFault) -> Result<(), AllocError>
-    ensures { OnOk result (out.new.items ≡ out.old.items ++ script.edit_fault_text (edit_fault_of fault)) }
+    ensures { OnOk result (out.new.items ≡ out.old.items ++ texts.edit_fault_text (edit_fault_of fault)) }
 {
     match fault {
         EditFault::NoCell(at, count) => push_no_cell(out, at, count),
@@ -43,7 +44,7 @@ pub fn push_query_refusal(
     name: &str,
     fault: QueryFault,
 ) -> Result<(), AllocError>
-    ensures { OnOk result (out.new.items ≡ out.old.items ++ script.refused_line (script.query_fault_text (query_fault_of name.now fault))) }
+    ensures { OnOk result (out.new.items ≡ out.old.items ++ script.refused_line (texts.query_fault_text (query_fault_of name.now fault))) }
 {
     push_text(out, "refused ")?;
     push_query_fault(out, name, fault)?;
@@ -51,7 +52,7 @@ pub fn push_query_refusal(
 }
 
 fn push_query_fault(out: &mut Vec<u8>, name: &str, fault: QueryFault) -> Result<(), AllocError>
-    ensures { OnOk result (out.new.items ≡ out.old.items ++ script.query_fault_text (query_fault_of name.now fault)) }
+    ensures { OnOk result (out.new.items ≡ out.old.items ++ texts.query_fault_text (query_fault_of name.now fault)) }
 {
     match fault {
         QueryFault::NoCell(at, count) => push_no_cell(out, at, count),

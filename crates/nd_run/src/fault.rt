@@ -2,7 +2,7 @@
 
 ghost use Rattle.std.specs.Prelude.{◌≡◌, ◌++◌, codes, decimal, OnOk};
 ghost use Rattle.std.specs.Fmt.{signed_decimal};
-ghost use Rattle.nd_model.specs.Script as script;
+ghost use Rattle.nd_model.specs.FaultText as texts;
 ghost use Rattle.nd_rerun.specs.Syntax.{kind_of};
 ghost use Rattle.nd_rerun.specs.Faults.{view_fault_of, index_fault_of, ufunc_fault_of, stmt_error_of, fault_of};
 ghost use Rattle.nd_rerun.specs.Results.{cell_fault_of};
@@ -13,7 +13,7 @@ use std::alloc::AllocError;
 
 /// Appends the fault of a cell, as `Stmt.NoName x`.
 pub fn push_cell_fault(out: &mut Vec<u8>, fault: &CellFault) -> Result<(), AllocError>
-    ensures { OnOk result (out.new.items ≡ out.old.items ++ script.refusal_text (cell_fault_of fault.now)) }
+    ensures { OnOk result (out.new.items ≡ out.old.items ++ texts.refusal_text (cell_fault_of fault.now)) }
 {
     match fault {
         CellFault::Parse(kind, column) => push_parse_fault(out, *kind, *column),
@@ -22,7 +22,7 @@ pub fn push_cell_fault(out: &mut Vec<u8>, fault: &CellFault) -> Result<(), Alloc
 }
 
 fn push_parse_fault(out: &mut Vec<u8>, kind: ParseKind, column: usize) -> Result<(), AllocError>
-    ensures { OnOk result (out.new.items ≡ out.old.items ++ (codes "Parse." ++ script.parse_text (kind_of kind) ++ codes " " ++ decimal column)) }
+    ensures { OnOk result (out.new.items ≡ out.old.items ++ (codes "Parse." ++ texts.parse_text (kind_of kind) ++ codes " " ++ decimal column)) }
 {
     push_text(out, "Parse.")?;
     push_text(out, parse_name(kind))?;
@@ -31,7 +31,7 @@ fn push_parse_fault(out: &mut Vec<u8>, kind: ParseKind, column: usize) -> Result
 }
 
 fn parse_name(kind: ParseKind) -> &'static str
-    ensures { result.now ≡ script.parse_text (kind_of kind) }
+    ensures { result.now ≡ texts.parse_text (kind_of kind) }
 {
     match kind {
         ParseKind::BadToken => "BadToken",
@@ -44,7 +44,7 @@ fn parse_name(kind: ParseKind) -> &'static str
 }
 
 fn push_statement_fault(out: &mut Vec<u8>, fault: &StmtFault) -> Result<(), AllocError>
-    ensures { OnOk result (out.new.items ≡ out.old.items ++ script.fault_text (fault_of fault.now)) }
+    ensures { OnOk result (out.new.items ≡ out.old.items ++ texts.fault_text (fault_of fault.now)) }
 {
     match fault {
         StmtFault::View(fault) => {
@@ -67,7 +67,7 @@ fn push_statement_fault(out: &mut Vec<u8>, fault: &StmtFault) -> Result<(), Allo
 }
 
 fn view_name(fault: ViewFault) -> &'static str
-    ensures { result.now ≡ script.view_text (view_fault_of fault) }
+    ensures { result.now ≡ texts.view_text (view_fault_of fault) }
 {
     match fault {
         ViewFault::OutOfBlock => "OutOfBlock",
@@ -78,7 +78,7 @@ fn view_name(fault: ViewFault) -> &'static str
 }
 
 fn push_index_fault(out: &mut Vec<u8>, fault: IndexFault) -> Result<(), AllocError>
-    ensures { OnOk result (out.new.items ≡ out.old.items ++ script.index_text (index_fault_of fault)) }
+    ensures { OnOk result (out.new.items ≡ out.old.items ++ texts.index_text (index_fault_of fault)) }
 {
     match fault {
         IndexFault::OutOfBounds { axis, index, size } => push_out_of_bounds(out, axis, index, size),
@@ -110,7 +110,7 @@ fn push_axis_and_index(out: &mut Vec<u8>, axis: usize, index: i128) -> Result<()
 }
 
 fn push_ufunc_fault(out: &mut Vec<u8>, fault: UfuncFault) -> Result<(), AllocError>
-    ensures { OnOk result (out.new.items ≡ out.old.items ++ script.ufunc_text (ufunc_fault_of fault)) }
+    ensures { OnOk result (out.new.items ≡ out.old.items ++ texts.ufunc_text (ufunc_fault_of fault)) }
 {
     match fault {
         UfuncFault::IntOutOfRange(number) => {
@@ -124,7 +124,7 @@ fn push_ufunc_fault(out: &mut Vec<u8>, fault: UfuncFault) -> Result<(), AllocErr
 }
 
 fn push_statement_error(out: &mut Vec<u8>, error: &StmtError) -> Result<(), AllocError>
-    ensures { OnOk result (out.new.items ≡ out.old.items ++ script.stmt_text (stmt_error_of error.now)) }
+    ensures { OnOk result (out.new.items ≡ out.old.items ++ texts.stmt_text (stmt_error_of error.now)) }
 {
     match error {
         StmtError::NoName(name) => {

@@ -1,6 +1,7 @@
 //! The texts of values.
 
 ghost use Rattle.std.specs.Prelude.{◌≡◌, ◌++◌, OnOk};
+ghost use Rattle.nd_model.specs.Format as formats;
 ghost use Rattle.nd_model.specs.Script as script;
 ghost use Rattle.nd_model.specs.Text.{truth_text};
 ghost use Rattle.nd_rerun.specs.Kinds.{kind_of};
@@ -58,7 +59,7 @@ fn truth_name(truth: bool) -> &'static str
 }
 
 fn kind_name(kind: Kind) -> &'static str
-    ensures { result.now ≡ script.kind_text (kind_of kind) }
+    ensures { result.now ≡ formats.kind_text (kind_of kind) }
 {
     match kind {
         Kind::Bool => "bool",
@@ -75,7 +76,7 @@ fn kind_name(kind: Kind) -> &'static str
 
 // The code of a kind in a format string (PEP 3118).
 fn kind_code(kind: Kind) -> &'static str
-    ensures { result.now ≡ script.kind_code (kind_of kind) }
+    ensures { result.now ≡ formats.kind_code (kind_of kind) }
 {
     match kind {
         Kind::Bool => "?",
@@ -91,13 +92,13 @@ fn kind_code(kind: Kind) -> &'static str
 }
 
 fn order_mark(big: bool) -> &'static str
-    ensures { result.now ≡ script.order_text big }
+    ensures { result.now ≡ formats.order_text big }
 {
     if big { ">" } else { "<" }
 }
 
 fn push_element_format(out: &mut Vec<u8>, elem: Elem) -> Result<(), AllocError>
-    ensures { OnOk result (out.new.items ≡ out.old.items ++ script.element_format elem) }
+    ensures { OnOk result (out.new.items ≡ out.old.items ++ formats.element_format elem) }
 {
     if elem.size() > 1 {
         push_text(out, order_mark(elem.big()))?;
@@ -107,7 +108,7 @@ fn push_element_format(out: &mut Vec<u8>, elem: Elem) -> Result<(), AllocError>
 
 // So many bytes without meaning.
 fn push_pads(out: &mut Vec<u8>, count: u64) -> Result<(), AllocError>
-    ensures { OnOk result (out.new.items ≡ out.old.items ++ script.pad_format count) }
+    ensures { OnOk result (out.new.items ≡ out.old.items ++ formats.pad_format count) }
 {
     match count {
         0 => Ok(()),
@@ -120,7 +121,7 @@ fn push_pads(out: &mut Vec<u8>, count: u64) -> Result<(), AllocError>
 }
 
 fn push_field(out: &mut Vec<u8>, field: &Field) -> Result<(), AllocError>
-    ensures { OnOk result (out.new.items ≡ out.old.items ++ script.field_format (field_of field.now)) }
+    ensures { OnOk result (out.new.items ≡ out.old.items ++ formats.field_format (field_of field.now)) }
 {
     push_element_format(out, field.elem)?;
     push_text(out, ":")?;
@@ -130,7 +131,7 @@ fn push_field(out: &mut Vec<u8>, field: &Field) -> Result<(), AllocError>
 
 // The fields of a structure of this size, with the pad bytes before and behind them.
 fn push_fields(out: &mut Vec<u8>, fields: &[Field], size: u64) -> Result<(), AllocError>
-    ensures { OnOk result (out.new.items ≡ out.old.items ++ script.fields_format 0 size (fields_of fields.now)) }
+    ensures { OnOk result (out.new.items ≡ out.old.items ++ formats.fields_format 0 size (fields_of fields.now)) }
 {
     let mut place = 0;
     for field in fields {
@@ -143,7 +144,7 @@ fn push_fields(out: &mut Vec<u8>, fields: &[Field], size: u64) -> Result<(), All
 
 // A format string (PEP 3118).
 fn push_format(out: &mut Vec<u8>, elem: &ElemType) -> Result<(), AllocError>
-    ensures { OnOk result (out.new.items ≡ out.old.items ++ script.format_text (type_of elem.now)) }
+    ensures { OnOk result (out.new.items ≡ out.old.items ++ formats.format_text (type_of elem.now)) }
 {
     match elem {
         ElemType::One(elem) => push_element_format(out, *elem),

@@ -1,5 +1,5 @@
 use Rattle.std.proofs.Common.{◌≡◌, ◌++◌, drop}
-use Rattle.nd_model.specs.Script.{fields_format}
+use Rattle.nd_model.specs.Format.{fields_format}
 use Rattle.nd_rerun.specs.Fields.{fields_of}
 use Rattle.nd_run.proofs.value.push_fields.Given as goal
 

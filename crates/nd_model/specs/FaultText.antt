@@ -1,0 +1,59 @@
+-- The texts of refusals, as a script is answered.
+use Rattle.std.specs.Prelude.{ℕ, List, ◌++◌, codes, decimal}
+use Rattle.std.specs.Fmt.{signed_decimal}
+use Rattle.nd_model.specs.Fault.{ViewFault, OutOfBlock, TooManyAxes, TooManyElements, AxesDiffer, IndexFault, OutOfBounds, TooManyIndices, NotAnIndex, UfuncFault, IntOutOfRange, ShapeMismatch, ReadOnly, NotNumbers, StmtFault, NoName, IntTooBig, NotAnArray, TextTooLong, BadArgument, Fault, View, Index, Ufunc, Stmt, ParseKind, BadToken, Unexpected, TooDeep, TooManyStatements, UnknownCall, LeftOut, Refusal, Parse, Statement}
+use Rattle.nd_model.specs.Book as book
+use Rattle.nd_model.specs.Book.{EditFault, TooManyCells, CellTooLong, QueryFault}
+
+abbrev pub view_text : ViewFault → List ℕ
+view_text OutOfBlock = codes "OutOfBlock"
+view_text TooManyAxes = codes "TooManyAxes"
+view_text TooManyElements = codes "TooManyElements"
+view_text AxesDiffer = codes "AxesDiffer"
+
+abbrev pub index_text : IndexFault → List ℕ
+index_text (OutOfBounds axis index size) = codes "OutOfBounds " ++ decimal axis ++ codes " " ++ signed_decimal index ++ codes " " ++ decimal size
+index_text TooManyIndices = codes "TooManyIndices"
+index_text NotAnIndex = codes "NotAnIndex"
+
+abbrev pub ufunc_text : UfuncFault → List ℕ
+ufunc_text (IntOutOfRange number) = codes "IntOutOfRange " ++ signed_decimal number
+ufunc_text ShapeMismatch = codes "ShapeMismatch"
+ufunc_text ReadOnly = codes "ReadOnly"
+ufunc_text NotNumbers = codes "NotNumbers"
+
+abbrev pub stmt_text : StmtFault → List ℕ
+stmt_text (NoName name) = codes "NoName " ++ name
+stmt_text IntTooBig = codes "IntTooBig"
+stmt_text NotAnArray = codes "NotAnArray"
+stmt_text TextTooLong = codes "TextTooLong"
+stmt_text BadArgument = codes "BadArgument"
+
+abbrev pub fault_text : Fault → List ℕ
+fault_text (View f) = codes "View." ++ view_text f
+fault_text (Index f) = codes "Index." ++ index_text f
+fault_text (Ufunc f) = codes "Ufunc." ++ ufunc_text f
+fault_text (Stmt f) = codes "Stmt." ++ stmt_text f
+
+abbrev pub parse_text : ParseKind → List ℕ
+parse_text BadToken = codes "BadToken"
+parse_text Unexpected = codes "Unexpected"
+parse_text TooDeep = codes "TooDeep"
+parse_text TooManyStatements = codes "TooManyStatements"
+parse_text UnknownCall = codes "UnknownCall"
+parse_text LeftOut = codes "LeftOut"
+
+abbrev pub refusal_text : Refusal → List ℕ
+refusal_text (Parse kind column) = codes "Parse." ++ parse_text kind ++ codes " " ++ decimal column
+refusal_text (Statement f) = fault_text f
+
+abbrev pub edit_fault_text : EditFault → List ℕ
+edit_fault_text (book.NoCell at count) = codes "NoCell " ++ decimal at ++ codes " " ++ decimal count
+edit_fault_text TooManyCells = codes "TooManyCells"
+edit_fault_text CellTooLong = codes "CellTooLong"
+edit_fault_text book.OutOfMemory = codes "OutOfMemory"
+
+abbrev pub query_fault_text : QueryFault → List ℕ
+query_fault_text (book.NoCell at count) = codes "NoCell " ++ decimal at ++ codes " " ++ decimal count
+query_fault_text (book.NoName name) = codes "NoName " ++ name
+query_fault_text book.OutOfMemory = codes "OutOfMemory"

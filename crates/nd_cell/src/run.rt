@@ -29,7 +29,8 @@ fn keep(
     saves: &mut IndexMap<String, Vec<u8>>,
     save: Option<(String, Vec<u8>)>,
 ) -> Result<(), OutOfMemory>
-    ensures { OnOk result (saves_of saves.new.entries ≡ with_save (option_map saved_of save) (saves_of saves.old.entries)) }
+    ensures { OnOk result (saves_of saves.new.entries
+        ≡ with_save (option_map saved_of save) (saves_of saves.old.entries)) }
 {
     if let Some((name, file)) = save {
         saves.insert(name, file)?;
@@ -45,7 +46,8 @@ fn add_output(
     output: Output,
 ) -> Result<Option<Refusal>, OutOfMemory>
     ensures { IfOk result (λ o. (x : Running) → (rest : List ℕ → Saved → Running → Ended)
-        → and_then line (string_bytes text.old) (saves_of saves.old.entries) (Ok (output_of output), x) rest
+        → and_then line (string_bytes text.old) (saves_of saves.old.entries)
+        (Ok (output_of output), x) rest
         ≡ after_line o (string_bytes text.new) (saves_of saves.new.entries) x rest) }
 {
     if text.len() + output.text.len() > MOST_TEXT {
@@ -71,7 +73,8 @@ fn run_line(
     ensures meaning { IfOk result (λ o. (rest : List ℕ → Saved → Running → Ended)
         → and_then line.now.line (string_bytes text.old) (saves_of saves.old.entries)
         (statement (inputs_of inputs.now.entries) (stmt_of line.now.stmt) (live session.old)) rest
-        ≡ after_line o (string_bytes text.new) (saves_of saves.new.entries) (live session.new) rest) }
+        ≡ after_line o (string_bytes text.new) (saves_of saves.new.entries) (live session.new)
+        rest) }
     ensures numbers { OnOk result ((live session.new).next
         ≤ (live session.old).next + tokens_of_stmt (stmt_of line.now.stmt)) }
 {
@@ -91,7 +94,9 @@ fn run_lines(
     lines: &[Line],
 ) -> Result<CellResult, OutOfMemory>
     requires { (live session.old).next + tokens_of_lines (lines_of lines.now) < 2 ^ 64 }
-    ensures { IfOk result (λ r. statements (inputs_of inputs.now.entries) (lines_of lines.now) [] [] (live session.old) ≡ ended_of r (live session.new)) }
+    ensures { IfOk result (λ r.
+        statements (inputs_of inputs.now.entries) (lines_of lines.now) [] [] (live session.old)
+        ≡ ended_of r (live session.new)) }
 {
     let alloc = session.allocator();
     let mut text = String::new(alloc);
@@ -116,7 +121,8 @@ fn run_lines(
 /// Of a text that is no cell.
 fn unread(alloc: Global, fault: ParseFault) -> CellResult
     ensures text { string_bytes result.text ≡ [] }
-    ensures refusal { option_map refusal_of result.refusal ≡ Some (fault.line, refusals.Parse (kind_of fault.kind) fault.column) }
+    ensures refusal { option_map refusal_of result.refusal
+        ≡ Some (fault.line, refusals.Parse (kind_of fault.kind) fault.column) }
     ensures saves { saves_of result.saves.entries ≡ [] }
 {
     CellResult {
@@ -138,7 +144,10 @@ pub fn run_cell(
     label: u64,
     text: &str,
 ) -> Result<CellResult, OutOfMemory>
-    ensures ended { IfOk result (λ r. cell label (reading text.now) (inputs_of inputs.now.entries) (running.session_of (live session.old)) ≡ ended_of r (live session.new)) }
+    ensures ended { IfOk result (λ r.
+        cell label (reading text.now) (inputs_of inputs.now.entries)
+        (running.session_of (live session.old))
+        ≡ ended_of r (live session.new)) }
     ensures counted { meter.new ≡ min (meter.old + 1) (2 ^ 64 - 1) }
 {
     let _bytes = text.as_bytes();

@@ -16,13 +16,15 @@ use std::alloc::Global;
 
 /// A signed operand, which may open this many levels. What stands in its brackets is read by this function, with fewer of them.
 fn unary<'t>(alloc: Global, levels: u8, spot: Spot, tokens: Tokens<'t>) -> Read<'t, Expr>
-    ensures { Gives (with_rest expr_of) result (read kind (unary (spot_of spot) (under levels)) (tokens_of tokens.now)) }
+    ensures { Gives (with_rest expr_of) result
+        (read kind (unary (spot_of spot) (under levels)) (tokens_of tokens.now)) }
 {
     Calls::over(
         alloc,
         &|left, spot: Spot, tokens|
             requires { left < levels }
-            ensures { Gives (with_rest expr_of) result (read kind (unary (spot_of spot) (under left)) (tokens_of tokens.now)) }
+            ensures { Gives (with_rest expr_of) result
+                (read kind (unary (spot_of spot) (under left)) (tokens_of tokens.now)) }
         {
             // the clause above names it
             let _ = &levels;
@@ -34,7 +36,8 @@ fn unary<'t>(alloc: Global, levels: u8, spot: Spot, tokens: Tokens<'t>) -> Read<
 
 /// An expression, which may open this many levels.
 pub(crate) fn expr<'t>(alloc: Global, levels: u8, spot: Spot, tokens: Tokens<'t>) -> Read<'t, Expr>
-    ensures { Gives (with_rest expr_of) result (read kind (expr (spot_of spot) (under levels)) (tokens_of tokens.now)) }
+    ensures { Gives (with_rest expr_of) result
+        (read kind (expr (spot_of spot) (under levels)) (tokens_of tokens.now)) }
 {
     Rules::over(
         alloc,
@@ -50,7 +53,9 @@ pub(crate) fn exprs<'t>(
     spot: Spot,
     tokens: Tokens<'t>,
 ) -> Read<'t, Vec<Expr>>
-    ensures { Gives (with_rest exprs_of) result (read kind (exprs (expr (spot_of spot) (under levels)) (expr Anywhere (under levels))) (tokens_of tokens.now)) }
+    ensures { Gives (with_rest exprs_of) result
+        (read kind (exprs (expr (spot_of spot) (under levels)) (expr Anywhere (under levels)))
+        (tokens_of tokens.now)) }
 {
     Rules::over(
         alloc,
@@ -61,7 +66,8 @@ pub(crate) fn exprs<'t>(
 
 /// `[index]`, which may open this many levels.
 pub(crate) fn index<'t>(alloc: Global, levels: u8, tokens: Tokens<'t>) -> Read<'t, Index>
-    ensures { Gives (with_rest index_of) result (read kind (index (under levels)) (tokens_of tokens.now)) }
+    ensures { Gives (with_rest index_of) result
+        (read kind (index (under levels)) (tokens_of tokens.now)) }
 {
     Rules::over(
         alloc,
@@ -72,7 +78,8 @@ pub(crate) fn index<'t>(alloc: Global, levels: u8, tokens: Tokens<'t>) -> Read<'
 
 /// `.method`, which may open this many levels.
 pub(crate) fn method<'t>(alloc: Global, levels: u8, tokens: Tokens<'t>) -> Read<'t, Method>
-    ensures { Gives (with_rest method_of) result (read kind (method (under levels)) (tokens_of tokens.now)) }
+    ensures { Gives (with_rest method_of) result
+        (read kind (method (under levels)) (tokens_of tokens.now)) }
 {
     Calls::over(
         alloc,
@@ -88,7 +95,8 @@ pub(crate) fn operand<'t>(
     spot: Spot,
     tokens: Tokens<'t>,
 ) -> Read<'t, Expr>
-    ensures { Gives (with_rest expr_of) result (read kind (operand (spot_of spot) (under levels)) (tokens_of tokens.now)) }
+    ensures { Gives (with_rest expr_of) result
+        (read kind (operand (spot_of spot) (under levels)) (tokens_of tokens.now)) }
 {
     Calls::over(
         alloc,

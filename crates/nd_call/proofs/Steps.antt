@@ -1,14 +1,17 @@
 -- Reading a rule as its function does.
-use Rattle.std.proofs.Common.{◌≡◌, ◌≢◌, ◌-◌, ℕ, List, ap}
-use Rattle.nd_model.specs.Predict.{Look, read}
+use Rattle.std.proofs.Common.{◌≡◌, ◌≢◌, ◌+◌, ◌-◌, ℕ, zero, suc, List, Result, Ok, Err, refl, ap, ◌∙◌, arith}
+use Rattle.nd_model.specs.Grammar.{Gram, Then}
+use Rattle.nd_model.specs.Predict.{Look, read, ◌>>=◌}
 use Rattle.nd_model.specs.Token as model
 use Rattle.nd_model.specs.Kinds.{kind, OPEN, CLOSE, SIGN, POWER}
-use Rattle.nd_model.specs.Cells.{Anywhere, under, between, suffix, exponent, signed, unary, operation, arange, filled, full, new_array, broadcast_to, two, reduce, accumulate, axes, lengths, reduction, reduction_options, accumulation}
+use Rattle.nd_model.specs.Cells.{Anywhere, Level, Inside, enter, token, under, between, suffix, exponent, signed, unary, operation, arange, filled, full, new_array, broadcast_to, two, reduce, accumulate, axes, lengths, reduction, reduction_options, accumulation}
 use Rattle.nd_model.proofs.Parsing.Looks.{look_suffix, known}
 use Rattle.nd_model.proofs.Parsing.Loops.{Shrinks, shrinks}
-use Rattle.nd_read.specs.Gives.{inside}
+use Rattle.nd_read.specs.declared.read.Failure.{Failure}
+use Rattle.nd_read.specs.Gives.{Fails, inside}
 use Rattle.nd_read.proofs.Levels.{enter_in}
-use Rattle.nd_call.specs.Readers.{with_sign, arange_body, filled_body, full_body, new_array_body, broadcast_to_body, two_body, reduce_body, accumulate_body, axes_body, lengths_body, accumulation_body}
+use Rattle.nd_read.proofs.Stops.{fails_on}
+use Rattle.nd_call.specs.Readers.{opens, with_sign, arange_body, filled_body, full_body, new_array_body, broadcast_to_body, two_body, reduce_body, accumulate_body, axes_body, lengths_body, accumulation_body}
 
 -- ---- levels
 
@@ -20,53 +23,133 @@ pub exponent_is : (n : ℕ) (ts : List model.Token) → n ≢ 0 → read kind (e
 unfolding exponent
 exponent_is n ts z = enter_in n POWER (λ i. operation POWER i.unary) ts z
 
-pub arange_is : (n : ℕ) (ts : List model.Token) → n ≢ 0 → read kind (arange (under n)) ts ≡ read kind (between OPEN (arange_body (inside (n - 1))) CLOSE) ts
+-- what stands in brackets, with the one that ends it
+abbrev pub ends : {A : Type 0} → Gram model.Token A → Gram model.Token A
+ends part = Then (λ x _. x) part (token CLOSE)
+
+ok_again : {A E : Type 0} (r : Result A E) → (r >>= λ x. Ok x) ≡ r
+ok_again (Ok x) = refl
+ok_again (Err e) = refl
+
+opened : {A : Type 0} (body : Inside → Gram model.Token A) (n : ℕ) (ts : List model.Token)
+    → read kind (enter (under n) OPEN (λ i. between OPEN (body i) CLOSE)) ts ≡ (read kind (opens OPEN (under n)) ts >>= λ x. read kind (ends (body (inside (n - 1)))) x.1 >>= λ y. Ok y)
+unfolding under
+opened body zero ts = refl
+opened body (suc n) ts = let e : suc n - 1 ≡ n = omega arith in rw e refl
+
+-- A rule in brackets, behind the one that opens its level.
+abbrev pub Enters : {A : Type 0} → (Level → Gram model.Token A) → (Inside → Gram model.Token A) → Type 0
+Enters rule body =
+    (n m : ℕ) (ts : List model.Token) (t : model.Token) (rest : List model.Token) → n ≡ m + 1 → read kind (opens OPEN (under n)) ts ≡ Ok (t, rest)
+    → read kind (rule (under n)) ts ≡ read kind (ends (body (inside m))) rest
+
+enters : {A : Type 0} (body : Inside → Gram model.Token A) → Enters (λ l. enter l OPEN (λ i. between OPEN (body i) CLOSE)) body
+enters body n m ts t rest e r =
+    let d : n - 1 ≡ m = omega (arith, e) in
+    opened body n ts ∙ rw (r, d) (ok_again (read kind (ends (body (inside m))) rest))
+
+-- A rule in brackets is refused where the one that opens its level is.
+abbrev pub Refuses : {A : Type 0} → (Level → Gram model.Token A) → Type 0
+Refuses rule = (n : ℕ) (ts : List model.Token) (e : Failure) → Fails e (read kind (opens OPEN (under n)) ts) → Fails e (read kind (rule (under n)) ts)
+
+refuses : {A : Type 0} (body : Inside → Gram model.Token A) → Refuses (λ l. enter l OPEN (λ i. between OPEN (body i) CLOSE))
+refuses body n ts e h = rw (opened body n ts) (fails_on e (read kind (opens OPEN (under n)) ts) (λ x. read kind (ends (body (inside (n - 1)))) x.1 >>= λ y. Ok y) h)
+
+pub arange_is : Enters arange arange_body
 unfolding arange
-arange_is n ts z = enter_in n OPEN (λ i. between OPEN (arange_body i) CLOSE) ts z
+arange_is = enters arange_body
 
-pub filled_is : (n : ℕ) (ts : List model.Token) → n ≢ 0 → read kind (filled (under n)) ts ≡ read kind (between OPEN (filled_body (inside (n - 1))) CLOSE) ts
+pub arange_refused : Refuses arange
+unfolding arange
+arange_refused = refuses arange_body
+
+pub filled_is : Enters filled filled_body
 unfolding filled
-filled_is n ts z = enter_in n OPEN (λ i. between OPEN (filled_body i) CLOSE) ts z
+filled_is = enters filled_body
 
-pub full_is : (n : ℕ) (ts : List model.Token) → n ≢ 0 → read kind (full (under n)) ts ≡ read kind (between OPEN (full_body (inside (n - 1))) CLOSE) ts
+pub filled_refused : Refuses filled
+unfolding filled
+filled_refused = refuses filled_body
+
+pub full_is : Enters full full_body
 unfolding full
-full_is n ts z = enter_in n OPEN (λ i. between OPEN (full_body i) CLOSE) ts z
+full_is = enters full_body
 
-pub new_array_is : (n : ℕ) (ts : List model.Token) → n ≢ 0 → read kind (new_array (under n)) ts ≡ read kind (between OPEN (new_array_body (inside (n - 1))) CLOSE) ts
+pub full_refused : Refuses full
+unfolding full
+full_refused = refuses full_body
+
+pub new_array_is : Enters new_array new_array_body
 unfolding new_array
-new_array_is n ts z = enter_in n OPEN (λ i. between OPEN (new_array_body i) CLOSE) ts z
+new_array_is = enters new_array_body
 
-pub broadcast_to_is : (n : ℕ) (ts : List model.Token) → n ≢ 0 → read kind (broadcast_to (under n)) ts ≡ read kind (between OPEN (broadcast_to_body (inside (n - 1))) CLOSE) ts
+pub new_array_refused : Refuses new_array
+unfolding new_array
+new_array_refused = refuses new_array_body
+
+pub broadcast_to_is : Enters broadcast_to broadcast_to_body
 unfolding broadcast_to
-broadcast_to_is n ts z = enter_in n OPEN (λ i. between OPEN (broadcast_to_body i) CLOSE) ts z
+broadcast_to_is = enters broadcast_to_body
 
-pub two_is : (n : ℕ) (ts : List model.Token) → n ≢ 0 → read kind (two (under n)) ts ≡ read kind (between OPEN (two_body (inside (n - 1))) CLOSE) ts
+pub broadcast_to_refused : Refuses broadcast_to
+unfolding broadcast_to
+broadcast_to_refused = refuses broadcast_to_body
+
+pub two_is : Enters two two_body
 unfolding two
-two_is n ts z = enter_in n OPEN (λ i. between OPEN (two_body i) CLOSE) ts z
+two_is = enters two_body
 
-pub reduce_is : (n : ℕ) (ts : List model.Token) → n ≢ 0 → read kind (reduce (under n)) ts ≡ read kind (between OPEN (reduce_body (inside (n - 1))) CLOSE) ts
+pub two_refused : Refuses two
+unfolding two
+two_refused = refuses two_body
+
+pub reduce_is : Enters reduce reduce_body
 unfolding reduce
-reduce_is n ts z = enter_in n OPEN (λ i. between OPEN (reduce_body i) CLOSE) ts z
+reduce_is = enters reduce_body
 
-pub accumulate_is : (n : ℕ) (ts : List model.Token) → n ≢ 0 → read kind (accumulate (under n)) ts ≡ read kind (between OPEN (accumulate_body (inside (n - 1))) CLOSE) ts
+pub reduce_refused : Refuses reduce
+unfolding reduce
+reduce_refused = refuses reduce_body
+
+pub accumulate_is : Enters accumulate accumulate_body
 unfolding accumulate
-accumulate_is n ts z = enter_in n OPEN (λ i. between OPEN (accumulate_body i) CLOSE) ts z
+accumulate_is = enters accumulate_body
 
-pub axes_is : (n : ℕ) (ts : List model.Token) → n ≢ 0 → read kind (axes (under n)) ts ≡ read kind (between OPEN (axes_body (inside (n - 1))) CLOSE) ts
+pub accumulate_refused : Refuses accumulate
+unfolding accumulate
+accumulate_refused = refuses accumulate_body
+
+pub axes_is : Enters axes axes_body
 unfolding axes
-axes_is n ts z = enter_in n OPEN (λ i. between OPEN (axes_body i) CLOSE) ts z
+axes_is = enters axes_body
 
-pub lengths_is : (n : ℕ) (ts : List model.Token) → n ≢ 0 → read kind (lengths (under n)) ts ≡ read kind (between OPEN (lengths_body (inside (n - 1))) CLOSE) ts
+pub axes_refused : Refuses axes
+unfolding axes
+axes_refused = refuses axes_body
+
+pub lengths_is : Enters lengths lengths_body
 unfolding lengths
-lengths_is n ts z = enter_in n OPEN (λ i. between OPEN (lengths_body i) CLOSE) ts z
+lengths_is = enters lengths_body
 
-pub accumulation_is : (n : ℕ) (ts : List model.Token) → n ≢ 0 → read kind (accumulation (under n)) ts ≡ read kind (between OPEN (accumulation_body (inside (n - 1))) CLOSE) ts
-unfolding accumulation
-accumulation_is n ts z = enter_in n OPEN (λ i. between OPEN (accumulation_body i) CLOSE) ts z
+pub lengths_refused : Refuses lengths
+unfolding lengths
+lengths_refused = refuses lengths_body
 
-pub reduction_is : (n : ℕ) (ts : List model.Token) → n ≢ 0 → read kind (reduction (under n)) ts ≡ read kind (between OPEN (reduction_options (inside (n - 1))) CLOSE) ts
+pub reduction_is : Enters reduction reduction_options
 unfolding reduction
-reduction_is n ts z = enter_in n OPEN (λ i. between OPEN (reduction_options i) CLOSE) ts z
+reduction_is = enters reduction_options
+
+pub reduction_refused : Refuses reduction
+unfolding reduction
+reduction_refused = refuses reduction_options
+
+pub accumulation_is : Enters accumulation accumulation_body
+unfolding accumulation
+accumulation_is = enters accumulation_body
+
+pub accumulation_refused : Refuses accumulation
+unfolding accumulation
+accumulation_refused = refuses accumulation_body
 
 -- ---- parts that take a token
 

@@ -1,12 +1,29 @@
 -- Parts of rules, as the functions have them.
-use Rattle.std.specs.Prelude.{List, [], Option, None, Some}
+use Rattle.std.specs.Prelude.{◌≡◌, ℕ, List, [], Option, Result, Ok, Err, IfOk}
+use Rattle.std.specs.Borrow.{Bor}
+use Rattle.nd_token.specs.declared.token.Token as rust
 use Rattle.nd_model.specs.Grammar.{Gram, Done, Then, Or, Shut}
+use Rattle.nd_model.specs.Predict.{read}
 use Rattle.nd_model.specs.Token.{Token}
 use Rattle.nd_model.specs.Calls.{DType}
-use Rattle.nd_model.specs.Syntax.{Expr, Unary, Exprs, Call, Full, NewArray, Convert, BroadcastTo, Absolute, Folded, Load, Fold, Reduce, Accumulate, Method, Reduced, Accumulated, Bound, Omitted}
-use Rattle.nd_model.specs.Kinds.{SIGN, OPEN, OPEN_NONE, OPEN_TUPLE, COMMA, KIND, EXTREMUM, ABSOLUTE, UFUNC, LOAD, NO_FUNCTION, DTYPE_BOUND, AXIS, AXIS_CALLED, CONVERSION, REDUCTION, ACCUMULATION, NO_METHOD, EXPR}
+use Rattle.nd_model.specs.Syntax.{Expr, Unary, Exprs, Call, Full, NewArray, BroadcastTo, Fold, Reduce, Accumulate, Bound, Omitted}
+use Rattle.nd_model.specs.Kinds.{kind, SIGN, OPEN_NONE, OPEN_TUPLE, COMMA, AXIS, AXIS_CALLED, EXPR}
+use Rattle.nd_model.specs.Cells.{unknown_call, token, enter, Anywhere, Length, Level, Inside, exprs_of, ranged, element, comma_expr, exprs, no_lengths, tuple, shape, comma_typing, numbered_axis, comma_options, second, unary_of}
+use Rattle.nd_read.specs.declared.read.Failure.{Failure}
+use Rattle.nd_read.specs.Gives.{Gives, tokens_of, front}
 use Rattle.nd_rule.specs.Readers.{comma_axis}
-use Rattle.nd_model.specs.Cells.{unknown_call, token, mapped, Anywhere, Length, Number, Level, Inside, name_of, exprs_of, kind_named, extremum_named, ufunc_named, conversion_named, reduction_named, accumulation_named, ranged, element, comma_expr, exprs, grouped, quoted, no_lengths, tuple, shape, typing, comma_typing, numbered_axis, comma_options, third, second, two, fold, type_argument, reduction, accumulation, unary_of}
+
+-- a token of the set, which opens a level
+abbrev pub opens : ℕ → Level → Gram Token Token
+opens set i = enter i set (λ _. token set)
+
+-- what was read, where a token of the set ends it
+abbrev pub Closes : {X : Type 0} → ℕ
+    → Result (X × Bor (List rust.Token)) Failure → Result (X × Bor (List rust.Token)) Failure → Type 0
+Closes set (Ok x) result =
+    Gives (λ y. (front (tokens_of x.1.now), tokens_of y.1.now)) result
+    (read kind (token set) (tokens_of x.1.now)) × IfOk result (λ y. y.0 ≡ x.0)
+Closes set (Err e) result = result ≡ Err e
 
 -- a sign with its operand
 abbrev pub with_sign : Gram Token Expr → Gram Token Expr
@@ -17,25 +34,6 @@ with_sign e = Then (λ t x. Unary (unary_of t.word) x) (token SIGN) e
 -- numbers between commas, as a tree has them
 abbrev pub numbers : List Expr → Exprs
 numbers es = exprs_of es
-
-abbrev pub other_call : Level → Gram Token Call
-other_call i =
-    Or KIND (Then (λ t e. Convert (kind_named (name_of t)) e) (token KIND) (grouped OPEN i))
-    (Or EXTREMUM (Then (λ t x. extremum_named (name_of t) x.0 x.1) (token EXTREMUM) (two i))
-    (Or ABSOLUTE (Then (λ _ e. Absolute e) (token ABSOLUTE) (grouped OPEN i))
-    (Or UFUNC (Then (λ t f. Folded (ufunc_named (name_of t)) f) (token UFUNC) (fold i))
-    (Or LOAD (Then (λ _ n. Load n) (token LOAD) (quoted i))
-    (Shut NO_FUNCTION unknown_call)))))
-
-abbrev pub third_number : Inside → Gram Token (Option Expr × Option DType)
-third_number inside =
-    Or DTYPE_BOUND (mapped (λ t. (None, Some t)) (typing DTYPE_BOUND inside.level))
-    (Then (λ c t. (Some c, t)) (inside.expr Number) (comma_typing inside.level))
-
-abbrev pub second_number : Inside → Gram Token (Option (Expr × Option Expr) × Option DType)
-second_number inside =
-    Or DTYPE_BOUND (mapped (λ t. (None, Some t)) (typing DTYPE_BOUND inside.level))
-    (Then (λ b x. (Some (b, x.0), x.1)) (inside.expr Number) (third inside))
 
 abbrev pub arange_body : Inside → Gram Token Call
 arange_body inside = Then ranged (inside.expr Anywhere) (second inside)
@@ -64,13 +62,6 @@ abbrev pub accumulate_body : Inside → Gram Token Fold
 accumulate_body inside = Then Accumulate (inside.expr Anywhere) (comma_axis inside)
 
 -- ---- methods
-
-abbrev pub other_attribute : Level → Gram Token Method
-other_attribute i =
-    Or CONVERSION (Then (λ t d. conversion_named (name_of t) d) (token CONVERSION) (type_argument i))
-    (Or REDUCTION (Then (λ t o. Reduced (reduction_named (name_of t)) o.0 o.1) (token REDUCTION) (reduction i))
-    (Or ACCUMULATION (Then (λ t a. Accumulated (accumulation_named (name_of t)) a) (token ACCUMULATION) (accumulation i))
-    (Shut NO_METHOD unknown_call)))
 
 abbrev pub axes_body : Inside → Gram Token (List Expr)
 axes_body inside = Or EXPR (exprs (inside.expr Anywhere) (inside.expr Anywhere)) (Done [])

@@ -1,22 +1,23 @@
 //! Calls of functions.
 ghost use Rattle.std.specs.Prelude.{◌≡◌, ◌+◌};
-ghost use Rattle.nd_model.specs.Kinds.{kind, OPEN, CLOSE};
+ghost use Rattle.nd_model.specs.Kinds.{kind};
 ghost use Rattle.nd_model.specs.Predict.{read};
 ghost use Rattle.nd_model.specs.Syntax.{Filled, Full, BroadcastTo};
-ghost use Rattle.nd_model.specs.Cells.{under, between, extremum_named, ranged, second, third, arange, filled, full, new_array, broadcast_to, two, reduce, accumulate, fold, call, function};
+ghost use Rattle.nd_model.specs.Cells.{under, extremum_named, ranged, second, third, arange, filled, full, new_array, broadcast_to, two, reduce, accumulate, fold, call, function};
 ghost use Rattle.nd_syntax.specs.Calls.{fill_of};
 ghost use Rattle.nd_syntax.specs.Syntax.{expr_of, call_of, fold_of};
 ghost use Rattle.nd_read.specs.Gives.{Gives, with_rest, tokens_of, inside, exprs_of, typing_of, two_of, filled_of, second_of, third_of};
 ghost use Rattle.nd_rule.specs.Readers.{Operands};
-ghost use Rattle.nd_call.specs.Readers.{numbers, other_call, arange_body, second_number, third_number, filled_body, full_body, new_array_body, broadcast_to_body, two_body, reduce_body, accumulate_body};
+ghost use Rattle.nd_call.specs.Readers.{numbers};
 
-use crate::operands::{Calls, call_node, next_token};
+use crate::level::{close_read, open};
+use crate::operands::{Calls, next_token};
 use nd_read::kinds::{
     ABSOLUTE, ACCUMULATE, ARANGE, ARRAY, BROADCAST, CLOSE, COMMA, DOT, DTYPE_BOUND, EXTREMUM, FILL,
     FULL, KIND, LOAD, NO_FOLD, NO_FUNCTION, OPEN, REDUCE, UFUNC, next_in,
 };
 use nd_read::names::{fill_named, kind_named, ufunc_named};
-use nd_read::read::{Read, Reason, Tokens, close, shut, skip, text_of};
+use nd_read::read::{Read, Reason, Tokens, behind, close, pair, shut, skip, text_of};
 use nd_read::spot::Spot;
 use nd_read::types::{comma_typing, quoted, typing};
 use nd_syntax::{Call, DType, Expr, Fill, Fold};
@@ -31,7 +32,7 @@ impl<'f, F: for<'t> Fn(u8, Spot, Tokens<'t>) -> Read<'t, Expr>> Calls<'f, F> {
         let rest = skip(tokens, np)?;
         let rest = skip(rest, DOT)?;
         let (call, rest) = self.call(levels, rest)?;
-        Ok((call_node(self.rules.alloc, call)?, rest))
+        Ok((Expr::Call(Box::new(self.rules.alloc, call)?), rest))
     }
 
     /// What stands behind `np.`.
@@ -40,8 +41,7 @@ impl<'f, F: for<'t> Fn(u8, Spot, Tokens<'t>) -> Read<'t, Expr>> Calls<'f, F> {
         requires { Operands F.Fn self.now.rules.operand.now levels }
         ensures { Gives (with_rest call_of) result (read kind (call (under levels)) (tokens_of tokens.now)) }
     {
-        if next_in(tokens, ARANGE) {
-            let (_, rest) = next_token(tokens, ARANGE);
+        if let Some(rest) = behind(tokens, ARANGE) {
             return self.arange(levels, rest);
         }
         if next_in(tokens, FILL) {
@@ -49,25 +49,15 @@ impl<'f, F: for<'t> Fn(u8, Spot, Tokens<'t>) -> Read<'t, Expr>> Calls<'f, F> {
             let ((shape, dtype), rest) = self.filled(levels, rest)?;
             return Ok((filled_call(fill_named(text_of(name)), shape, dtype), rest));
         }
-        if next_in(tokens, FULL) {
-            let (_, rest) = next_token(tokens, FULL);
+        if let Some(rest) = behind(tokens, FULL) {
             return self.full(levels, rest);
         }
-        if next_in(tokens, ARRAY) {
-            let (_, rest) = next_token(tokens, ARRAY);
+        if let Some(rest) = behind(tokens, ARRAY) {
             return self.new_array(levels, rest);
         }
-        if next_in(tokens, BROADCAST) {
-            let (_, rest) = next_token(tokens, BROADCAST);
+        if let Some(rest) = behind(tokens, BROADCAST) {
             return self.broadcast_to(levels, rest);
         }
-        self.other_call(levels, tokens)
-    }
-
-    fn other_call<'t>(&self, levels: u8, tokens: Tokens<'t>) -> Read<'t, Call>
-        requires { Operands F.Fn self.now.rules.operand.now levels }
-        ensures { Gives (with_rest call_of) result (read kind (other_call (under levels)) (tokens_of tokens.now)) }
-    {
         if next_in(tokens, KIND) {
             let (name, rest) = next_token(tokens, KIND);
             let (number, rest) = self.rules.grouped(levels, OPEN, rest)?;
@@ -78,8 +68,7 @@ impl<'f, F: for<'t> Fn(u8, Spot, Tokens<'t>) -> Read<'t, Expr>> Calls<'f, F> {
             let ((left, right), rest) = self.two(levels, rest)?;
             return Ok((extremum_named(text_of(name), left, right), rest));
         }
-        if next_in(tokens, ABSOLUTE) {
-            let (_, rest) = next_token(tokens, ABSOLUTE);
+        if let Some(rest) = behind(tokens, ABSOLUTE) {
             let (number, rest) = self.rules.grouped(levels, OPEN, rest)?;
             return Ok((Call::Absolute(number), rest));
         }
@@ -88,8 +77,7 @@ impl<'f, F: for<'t> Fn(u8, Spot, Tokens<'t>) -> Read<'t, Expr>> Calls<'f, F> {
             let (fold, rest) = self.fold(levels, rest)?;
             return Ok((Call::Fold(ufunc_named(text_of(name)), fold), rest));
         }
-        if next_in(tokens, LOAD) {
-            let (_, rest) = next_token(tokens, LOAD);
+        if let Some(rest) = behind(tokens, LOAD) {
             let (name, rest) = quoted(self.rules.alloc, levels, rest)?;
             return Ok((Call::Load(name), rest));
         }
@@ -101,19 +89,9 @@ impl<'f, F: for<'t> Fn(u8, Spot, Tokens<'t>) -> Read<'t, Expr>> Calls<'f, F> {
         requires { Operands F.Fn self.now.rules.operand.now levels }
         ensures { Gives (with_rest call_of) result (read kind (arange (under levels)) (tokens_of tokens.now)) }
     {
-        if levels == 0 {
-            return Err(shut(tokens, OPEN, Reason::TooDeep));
-        }
-        self.arange_in(levels - 1, tokens)
-    }
-
-    fn arange_in<'t>(&self, levels: u8, tokens: Tokens<'t>) -> Read<'t, Call>
-        requires { Operands F.Fn self.now.rules.operand.now (levels + 1) }
-        ensures { Gives (with_rest call_of) result (read kind (between OPEN (arange_body (inside levels)) CLOSE) (tokens_of tokens.now)) }
-    {
-        let rest = skip(tokens, OPEN)?;
+        let (levels, rest) = open(levels, OPEN, tokens)?;
         let (first, rest) = self.rules.expr(levels, Spot::Anywhere, rest)?;
-        let ((more, dtype), rest) = self.second(levels, rest)?;
+        let ((first, (more, dtype)), rest) = pair(first, self.second(levels, rest))?;
         close(ranged(first, more, dtype), CLOSE, rest)
     }
 
@@ -125,29 +103,18 @@ impl<'f, F: for<'t> Fn(u8, Spot, Tokens<'t>) -> Read<'t, Expr>> Calls<'f, F> {
         tokens: Tokens<'t>,
     ) -> Read<'t, (Option<(Expr, Option<Expr>)>, Option<DType>)>
         requires { Operands F.Fn self.now.rules.operand.now (levels + 1) }
-        ensures { Gives (with_rest second_of) result (read kind (second (inside levels)) (tokens_of tokens.now)) }
+        ensures { Gives (with_rest second_of) result
+            (read kind (second (inside levels)) (tokens_of tokens.now)) }
     {
-        if next_in(tokens, COMMA) {
-            let (_, rest) = next_token(tokens, COMMA);
-            return self.second_number(levels, rest);
-        }
-        Ok(((None, None), tokens))
-    }
-
-    fn second_number<'t>(
-        &self,
-        levels: u8,
-        tokens: Tokens<'t>,
-    ) -> Read<'t, (Option<(Expr, Option<Expr>)>, Option<DType>)>
-        requires { Operands F.Fn self.now.rules.operand.now (levels + 1) }
-        ensures { Gives (with_rest second_of) result (read kind (second_number (inside levels)) (tokens_of tokens.now)) }
-    {
-        if next_in(tokens, DTYPE_BOUND) {
-            let (dtype, rest) = typing(self.rules.alloc, levels, DTYPE_BOUND, tokens)?;
+        let Some(rest) = behind(tokens, COMMA) else {
+            return Ok(((None, None), tokens));
+        };
+        if next_in(rest, DTYPE_BOUND) {
+            let (dtype, rest) = typing(self.rules.alloc, levels, DTYPE_BOUND, rest)?;
             return Ok(((None, Some(dtype)), rest));
         }
-        let (second, rest) = self.rules.expr(levels, Spot::Number, tokens)?;
-        let ((third, dtype), rest) = self.third(levels, rest)?;
+        let (second, rest) = self.rules.expr(levels, Spot::Number, rest)?;
+        let ((second, (third, dtype)), rest) = pair(second, self.third(levels, rest))?;
         Ok(((Some((second, third)), dtype), rest))
     }
 
@@ -155,30 +122,18 @@ impl<'f, F: for<'t> Fn(u8, Spot, Tokens<'t>) -> Read<'t, Expr>> Calls<'f, F> {
     #[tactic(auto, unfolding(nd_model::specs::Cells::third))]
     fn third<'t>(&self, levels: u8, tokens: Tokens<'t>) -> Read<'t, (Option<Expr>, Option<DType>)>
         requires { Operands F.Fn self.now.rules.operand.now (levels + 1) }
-        ensures { Gives (with_rest third_of) result (read kind (third (inside levels)) (tokens_of tokens.now)) }
+        ensures { Gives (with_rest third_of) result
+            (read kind (third (inside levels)) (tokens_of tokens.now)) }
     {
-        if next_in(tokens, COMMA) {
-            let (_, rest) = next_token(tokens, COMMA);
-            return self.third_number(levels, rest);
-        }
-        Ok(((None, None), tokens))
-    }
-
-    fn third_number<'t>(
-        &self,
-        levels: u8,
-        tokens: Tokens<'t>,
-    ) -> Read<'t, (Option<Expr>, Option<DType>)>
-        requires { Operands F.Fn self.now.rules.operand.now (levels + 1) }
-        ensures { Gives (with_rest third_of) result (read kind (third_number (inside levels)) (tokens_of tokens.now)) }
-    {
-        if next_in(tokens, DTYPE_BOUND) {
-            let (dtype, rest) = typing(self.rules.alloc, levels, DTYPE_BOUND, tokens)?;
+        let Some(rest) = behind(tokens, COMMA) else {
+            return Ok(((None, None), tokens));
+        };
+        if next_in(rest, DTYPE_BOUND) {
+            let (dtype, rest) = typing(self.rules.alloc, levels, DTYPE_BOUND, rest)?;
             return Ok(((None, Some(dtype)), rest));
         }
-        let (third, rest) = self.rules.expr(levels, Spot::Number, tokens)?;
-        let (dtype, rest) = comma_typing(self.rules.alloc, levels, rest)?;
-        Ok(((Some(third), dtype), rest))
+        let (third, rest) = self.rules.expr(levels, Spot::Number, rest)?;
+        pair(Some(third), comma_typing(self.rules.alloc, levels, rest))
     }
 
     /// `(shape [, dtype = type])`
@@ -186,20 +141,10 @@ impl<'f, F: for<'t> Fn(u8, Spot, Tokens<'t>) -> Read<'t, Expr>> Calls<'f, F> {
         requires { Operands F.Fn self.now.rules.operand.now levels }
         ensures { Gives (with_rest filled_of) result (read kind (filled (under levels)) (tokens_of tokens.now)) }
     {
-        if levels == 0 {
-            return Err(shut(tokens, OPEN, Reason::TooDeep));
-        }
-        self.filled_in(levels - 1, tokens)
-    }
-
-    fn filled_in<'t>(&self, levels: u8, tokens: Tokens<'t>) -> Read<'t, (Vec<Expr>, Option<DType>)>
-        requires { Operands F.Fn self.now.rules.operand.now (levels + 1) }
-        ensures { Gives (with_rest filled_of) result (read kind (between OPEN (filled_body (inside levels)) CLOSE) (tokens_of tokens.now)) }
-    {
-        let rest = skip(tokens, OPEN)?;
+        let (levels, rest) = open(levels, OPEN, tokens)?;
         let (shape, rest) = self.rules.shape(levels, rest)?;
-        let (dtype, rest) = comma_typing(self.rules.alloc, levels, rest)?;
-        close((shape, dtype), CLOSE, rest)
+        let dtype = comma_typing(self.rules.alloc, levels, rest);
+        close_read(pair(shape, dtype), CLOSE)
     }
 
     /// `np.full`
@@ -207,21 +152,12 @@ impl<'f, F: for<'t> Fn(u8, Spot, Tokens<'t>) -> Read<'t, Expr>> Calls<'f, F> {
         requires { Operands F.Fn self.now.rules.operand.now levels }
         ensures { Gives (with_rest call_of) result (read kind (full (under levels)) (tokens_of tokens.now)) }
     {
-        if levels == 0 {
-            return Err(shut(tokens, OPEN, Reason::TooDeep));
-        }
-        self.full_in(levels - 1, tokens)
-    }
-
-    fn full_in<'t>(&self, levels: u8, tokens: Tokens<'t>) -> Read<'t, Call>
-        requires { Operands F.Fn self.now.rules.operand.now (levels + 1) }
-        ensures { Gives (with_rest call_of) result (read kind (between OPEN (full_body (inside levels)) CLOSE) (tokens_of tokens.now)) }
-    {
-        let rest = skip(tokens, OPEN)?;
+        let (levels, rest) = open(levels, OPEN, tokens)?;
         let (shape, rest) = self.rules.shape(levels, rest)?;
-        let rest = skip(rest, COMMA)?;
-        let (value, rest) = self.rules.expr(levels, Spot::Anywhere, rest)?;
-        let (dtype, rest) = comma_typing(self.rules.alloc, levels, rest)?;
+        let (shape, rest) = close(shape, COMMA, rest)?;
+        let (both, rest) = pair(shape, self.rules.expr(levels, Spot::Anywhere, rest))?;
+        let dtype = comma_typing(self.rules.alloc, levels, rest);
+        let (((shape, value), dtype), rest) = pair(both, dtype)?;
         close(full_call(shape, value, dtype), CLOSE, rest)
     }
 
@@ -230,19 +166,10 @@ impl<'f, F: for<'t> Fn(u8, Spot, Tokens<'t>) -> Read<'t, Expr>> Calls<'f, F> {
         requires { Operands F.Fn self.now.rules.operand.now levels }
         ensures { Gives (with_rest call_of) result (read kind (new_array (under levels)) (tokens_of tokens.now)) }
     {
-        if levels == 0 {
-            return Err(shut(tokens, OPEN, Reason::TooDeep));
-        }
-        self.new_array_in(levels - 1, tokens)
-    }
-
-    fn new_array_in<'t>(&self, levels: u8, tokens: Tokens<'t>) -> Read<'t, Call>
-        requires { Operands F.Fn self.now.rules.operand.now (levels + 1) }
-        ensures { Gives (with_rest call_of) result (read kind (between OPEN (new_array_body (inside levels)) CLOSE) (tokens_of tokens.now)) }
-    {
-        let rest = skip(tokens, OPEN)?;
+        let (levels, rest) = open(levels, OPEN, tokens)?;
         let (element, rest) = self.rules.element(levels, rest)?;
-        let (dtype, rest) = comma_typing(self.rules.alloc, levels, rest)?;
+        let dtype = comma_typing(self.rules.alloc, levels, rest);
+        let ((element, dtype), rest) = pair(element, dtype)?;
         close(Call::Array(element, dtype), CLOSE, rest)
     }
 
@@ -251,20 +178,10 @@ impl<'f, F: for<'t> Fn(u8, Spot, Tokens<'t>) -> Read<'t, Expr>> Calls<'f, F> {
         requires { Operands F.Fn self.now.rules.operand.now levels }
         ensures { Gives (with_rest call_of) result (read kind (broadcast_to (under levels)) (tokens_of tokens.now)) }
     {
-        if levels == 0 {
-            return Err(shut(tokens, OPEN, Reason::TooDeep));
-        }
-        self.broadcast_to_in(levels - 1, tokens)
-    }
-
-    fn broadcast_to_in<'t>(&self, levels: u8, tokens: Tokens<'t>) -> Read<'t, Call>
-        requires { Operands F.Fn self.now.rules.operand.now (levels + 1) }
-        ensures { Gives (with_rest call_of) result (read kind (between OPEN (broadcast_to_body (inside levels)) CLOSE) (tokens_of tokens.now)) }
-    {
-        let rest = skip(tokens, OPEN)?;
+        let (levels, rest) = open(levels, OPEN, tokens)?;
         let (value, rest) = self.rules.expr(levels, Spot::Anywhere, rest)?;
-        let rest = skip(rest, COMMA)?;
-        let (shape, rest) = self.rules.shape(levels, rest)?;
+        let (value, rest) = close(value, COMMA, rest)?;
+        let ((value, shape), rest) = pair(value, self.rules.shape(levels, rest))?;
         close(broadcast_call(value, shape), CLOSE, rest)
     }
 
@@ -273,21 +190,11 @@ impl<'f, F: for<'t> Fn(u8, Spot, Tokens<'t>) -> Read<'t, Expr>> Calls<'f, F> {
         requires { Operands F.Fn self.now.rules.operand.now levels }
         ensures { Gives (with_rest two_of) result (read kind (two (under levels)) (tokens_of tokens.now)) }
     {
-        if levels == 0 {
-            return Err(shut(tokens, OPEN, Reason::TooDeep));
-        }
-        self.two_in(levels - 1, tokens)
-    }
-
-    fn two_in<'t>(&self, levels: u8, tokens: Tokens<'t>) -> Read<'t, (Expr, Expr)>
-        requires { Operands F.Fn self.now.rules.operand.now (levels + 1) }
-        ensures { Gives (with_rest two_of) result (read kind (between OPEN (two_body (inside levels)) CLOSE) (tokens_of tokens.now)) }
-    {
-        let rest = skip(tokens, OPEN)?;
+        let (levels, rest) = open(levels, OPEN, tokens)?;
         let (left, rest) = self.rules.expr(levels, Spot::Anywhere, rest)?;
-        let rest = skip(rest, COMMA)?;
-        let (right, rest) = self.rules.expr(levels, Spot::Anywhere, rest)?;
-        close((left, right), CLOSE, rest)
+        let (left, rest) = close(left, COMMA, rest)?;
+        let right = self.rules.expr(levels, Spot::Anywhere, rest);
+        close_read(pair(left, right), CLOSE)
     }
 
     /// `.reduce(..)`, `.accumulate(..)`
@@ -297,12 +204,10 @@ impl<'f, F: for<'t> Fn(u8, Spot, Tokens<'t>) -> Read<'t, Expr>> Calls<'f, F> {
         ensures { Gives (with_rest fold_of) result (read kind (fold (under levels)) (tokens_of tokens.now)) }
     {
         let rest = skip(tokens, DOT)?;
-        if next_in(rest, REDUCE) {
-            let (_, rest) = next_token(rest, REDUCE);
+        if let Some(rest) = behind(rest, REDUCE) {
             return self.reduce(levels, rest);
         }
-        if next_in(rest, ACCUMULATE) {
-            let (_, rest) = next_token(rest, ACCUMULATE);
+        if let Some(rest) = behind(rest, ACCUMULATE) {
             return self.accumulate(levels, rest);
         }
         Err(shut(rest, NO_FOLD, Reason::UnknownCall))
@@ -312,19 +217,10 @@ impl<'f, F: for<'t> Fn(u8, Spot, Tokens<'t>) -> Read<'t, Expr>> Calls<'f, F> {
         requires { Operands F.Fn self.now.rules.operand.now levels }
         ensures { Gives (with_rest fold_of) result (read kind (reduce (under levels)) (tokens_of tokens.now)) }
     {
-        if levels == 0 {
-            return Err(shut(tokens, OPEN, Reason::TooDeep));
-        }
-        self.reduce_in(levels - 1, tokens)
-    }
-
-    fn reduce_in<'t>(&self, levels: u8, tokens: Tokens<'t>) -> Read<'t, Fold>
-        requires { Operands F.Fn self.now.rules.operand.now (levels + 1) }
-        ensures { Gives (with_rest fold_of) result (read kind (between OPEN (reduce_body (inside levels)) CLOSE) (tokens_of tokens.now)) }
-    {
-        let rest = skip(tokens, OPEN)?;
+        let (levels, rest) = open(levels, OPEN, tokens)?;
         let (array, rest) = self.rules.expr(levels, Spot::Anywhere, rest)?;
-        let ((axis, keepdims), rest) = self.rules.comma_options(levels, rest)?;
+        let options = self.rules.comma_options(levels, rest);
+        let ((array, (axis, keepdims)), rest) = pair(array, options)?;
         close(Fold::Reduce(array, axis, keepdims), CLOSE, rest)
     }
 
@@ -332,19 +228,9 @@ impl<'f, F: for<'t> Fn(u8, Spot, Tokens<'t>) -> Read<'t, Expr>> Calls<'f, F> {
         requires { Operands F.Fn self.now.rules.operand.now levels }
         ensures { Gives (with_rest fold_of) result (read kind (accumulate (under levels)) (tokens_of tokens.now)) }
     {
-        if levels == 0 {
-            return Err(shut(tokens, OPEN, Reason::TooDeep));
-        }
-        self.accumulate_in(levels - 1, tokens)
-    }
-
-    fn accumulate_in<'t>(&self, levels: u8, tokens: Tokens<'t>) -> Read<'t, Fold>
-        requires { Operands F.Fn self.now.rules.operand.now (levels + 1) }
-        ensures { Gives (with_rest fold_of) result (read kind (between OPEN (accumulate_body (inside levels)) CLOSE) (tokens_of tokens.now)) }
-    {
-        let rest = skip(tokens, OPEN)?;
+        let (levels, rest) = open(levels, OPEN, tokens)?;
         let (array, rest) = self.rules.expr(levels, Spot::Anywhere, rest)?;
-        let (axis, rest) = self.rules.comma_axis(levels, rest)?;
+        let ((array, axis), rest) = pair(array, self.rules.comma_axis(levels, rest))?;
         close(Fold::Accumulate(array, axis), CLOSE, rest)
     }
 }

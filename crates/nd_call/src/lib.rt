@@ -2,6 +2,7 @@
 #![tactic(auto)]
 
 mod call;
+mod level;
 mod methods;
 mod operands;
 

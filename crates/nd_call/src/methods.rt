@@ -1,15 +1,16 @@
 //! Methods of arrays.
 ghost use Rattle.std.specs.Prelude.{◌≡◌, ◌+◌};
-ghost use Rattle.nd_model.specs.Kinds.{kind, OPEN, CLOSE};
+ghost use Rattle.nd_model.specs.Kinds.{kind};
 ghost use Rattle.nd_model.specs.Predict.{read};
 ghost use Rattle.nd_model.specs.Syntax.{Transpose, Reshape};
-ghost use Rattle.nd_model.specs.Cells.{under, between, conversion_named, axes, lengths, reduction_options, reduction, accumulation, attribute, method};
+ghost use Rattle.nd_model.specs.Cells.{under, conversion_named, axes, lengths, reduction_options, reduction, accumulation, attribute, method};
 ghost use Rattle.nd_syntax.specs.Calls.{dtype_of};
 ghost use Rattle.nd_syntax.specs.Syntax.{method_of, bound_of};
 ghost use Rattle.nd_read.specs.Gives.{Gives, with_rest, tokens_of, inside, exprs_of, options_of};
 ghost use Rattle.nd_rule.specs.Readers.{Operands};
-ghost use Rattle.nd_call.specs.Readers.{numbers, other_attribute, axes_body, lengths_body, accumulation_body};
+ghost use Rattle.nd_call.specs.Readers.{numbers};
 
+use crate::level::{close_read, open};
 use crate::operands::{Calls, next_token};
 use nd_read::kinds::{
     ACCUMULATION, AXIS, AXIS_BOUND, AXIS_CALLED, CLOSE, CONVERSION, COPY, DOT, EXPR, FIRST_AXIS,
@@ -17,7 +18,7 @@ use nd_read::kinds::{
     TRANSPOSED, next_in,
 };
 use nd_read::names::{accumulation_named, reduction_named};
-use nd_read::read::{Read, Reason, Tokens, close, shut, skip, stop_at, text_of};
+use nd_read::read::{Read, Reason, Tokens, behind, close, pair, shut, skip, stop_at, text_of};
 use nd_read::spot::Spot;
 use nd_read::types::{comma_keepdims, empty, named_keepdims, no_lengths, type_argument};
 use nd_syntax::{Axis, DType, Expr, Method};
@@ -39,32 +40,21 @@ impl<'f, F: for<'t> Fn(u8, Spot, Tokens<'t>) -> Read<'t, Expr>> Calls<'f, F> {
         requires { Operands F.Fn self.now.rules.operand.now levels }
         ensures { Gives (with_rest method_of) result (read kind (attribute (under levels)) (tokens_of tokens.now)) }
     {
-        if next_in(tokens, TRANSPOSED) {
-            let (_, rest) = next_token(tokens, TRANSPOSED);
+        if let Some(rest) = behind(tokens, TRANSPOSED) {
             return Ok((transpose(Vec::new(self.rules.alloc)), rest));
         }
-        if next_in(tokens, TRANSPOSE) {
-            let (_, rest) = next_token(tokens, TRANSPOSE);
+        if let Some(rest) = behind(tokens, TRANSPOSE) {
             let (axes, rest) = self.axes(levels, rest)?;
             return Ok((transpose(axes), rest));
         }
-        if next_in(tokens, RESHAPE) {
-            let (_, rest) = next_token(tokens, RESHAPE);
+        if let Some(rest) = behind(tokens, RESHAPE) {
             let (lengths, rest) = self.lengths(levels, rest)?;
             return Ok((reshape(lengths), rest));
         }
-        if next_in(tokens, COPY) {
-            let (_, rest) = next_token(tokens, COPY);
+        if let Some(rest) = behind(tokens, COPY) {
             let (_, rest) = empty(levels, rest)?;
             return Ok((Method::Copy, rest));
         }
-        self.other_attribute(levels, tokens)
-    }
-
-    fn other_attribute<'t>(&self, levels: u8, tokens: Tokens<'t>) -> Read<'t, Method>
-        requires { Operands F.Fn self.now.rules.operand.now levels }
-        ensures { Gives (with_rest method_of) result (read kind (other_attribute (under levels)) (tokens_of tokens.now)) }
-    {
         if next_in(tokens, CONVERSION) {
             let (name, rest) = next_token(tokens, CONVERSION);
             let (dtype, rest) = type_argument(self.rules.alloc, levels, rest)?;
@@ -94,29 +84,11 @@ impl<'f, F: for<'t> Fn(u8, Spot, Tokens<'t>) -> Read<'t, Expr>> Calls<'f, F> {
         requires { Operands F.Fn self.now.rules.operand.now levels }
         ensures { Gives (with_rest exprs_of) result (read kind (axes (under levels)) (tokens_of tokens.now)) }
     {
-        if levels == 0 {
-            return Err(shut(tokens, OPEN, Reason::TooDeep));
+        let (levels, rest) = open(levels, OPEN, tokens)?;
+        if next_in(rest, EXPR) {
+            return close_read(self.rules.exprs(levels, Spot::Anywhere, rest), CLOSE);
         }
-        self.axes_in(levels - 1, tokens)
-    }
-
-    fn axes_in<'t>(&self, levels: u8, tokens: Tokens<'t>) -> Read<'t, Vec<Expr>>
-        requires { Operands F.Fn self.now.rules.operand.now (levels + 1) }
-        ensures { Gives (with_rest exprs_of) result (read kind (between OPEN (axes_body (inside levels)) CLOSE) (tokens_of tokens.now)) }
-    {
-        let rest = skip(tokens, OPEN)?;
-        let (all, rest) = self.perhaps_exprs(levels, rest)?;
-        close(all, CLOSE, rest)
-    }
-
-    fn perhaps_exprs<'t>(&self, levels: u8, tokens: Tokens<'t>) -> Read<'t, Vec<Expr>>
-        requires { Operands F.Fn self.now.rules.operand.now (levels + 1) }
-        ensures { Gives (with_rest exprs_of) result (read kind (axes_body (inside levels)) (tokens_of tokens.now)) }
-    {
-        if next_in(tokens, EXPR) {
-            return self.rules.exprs(levels, Spot::Anywhere, tokens);
-        }
-        Ok((Vec::new(self.rules.alloc), tokens))
+        close(Vec::new(self.rules.alloc), CLOSE, rest)
     }
 
     /// `(shape)`, or several lengths
@@ -124,32 +96,14 @@ impl<'f, F: for<'t> Fn(u8, Spot, Tokens<'t>) -> Read<'t, Expr>> Calls<'f, F> {
         requires { Operands F.Fn self.now.rules.operand.now levels }
         ensures { Gives (with_rest exprs_of) result (read kind (lengths (under levels)) (tokens_of tokens.now)) }
     {
-        if levels == 0 {
-            return Err(shut(tokens, OPEN, Reason::TooDeep));
+        let (levels, rest) = open(levels, OPEN, tokens)?;
+        if next_in(rest, OPEN_TUPLE) {
+            return close_read(self.rules.tuple(levels, rest), CLOSE);
         }
-        self.lengths_in(levels - 1, tokens)
-    }
-
-    fn lengths_in<'t>(&self, levels: u8, tokens: Tokens<'t>) -> Read<'t, Vec<Expr>>
-        requires { Operands F.Fn self.now.rules.operand.now (levels + 1) }
-        ensures { Gives (with_rest exprs_of) result (read kind (between OPEN (lengths_body (inside levels)) CLOSE) (tokens_of tokens.now)) }
-    {
-        let rest = skip(tokens, OPEN)?;
-        let (all, rest) = self.some_lengths(levels, rest)?;
-        close(all, CLOSE, rest)
-    }
-
-    fn some_lengths<'t>(&self, levels: u8, tokens: Tokens<'t>) -> Read<'t, Vec<Expr>>
-        requires { Operands F.Fn self.now.rules.operand.now (levels + 1) }
-        ensures { Gives (with_rest exprs_of) result (read kind (lengths_body (inside levels)) (tokens_of tokens.now)) }
-    {
-        if next_in(tokens, OPEN_TUPLE) {
-            return self.rules.tuple(levels, tokens);
+        if next_in(rest, OPEN_NONE) {
+            return close_read(no_lengths(self.rules.alloc, levels, rest), CLOSE);
         }
-        if next_in(tokens, OPEN_NONE) {
-            return no_lengths(self.rules.alloc, levels, tokens);
-        }
-        self.rules.exprs(levels, Spot::Length, tokens)
+        close_read(self.rules.exprs(levels, Spot::Length, rest), CLOSE)
     }
 
     /// The axis, and whether it is kept, in brackets.
@@ -157,39 +111,27 @@ impl<'f, F: for<'t> Fn(u8, Spot, Tokens<'t>) -> Read<'t, Expr>> Calls<'f, F> {
         requires { Operands F.Fn self.now.rules.operand.now levels }
         ensures { Gives (with_rest options_of) result (read kind (reduction (under levels)) (tokens_of tokens.now)) }
     {
-        if levels == 0 {
-            return Err(shut(tokens, OPEN, Reason::TooDeep));
-        }
-        self.reduction_in(levels - 1, tokens)
+        let (levels, rest) = open(levels, OPEN, tokens)?;
+        close_read(self.reduction_options(levels, rest), CLOSE)
     }
 
-    fn reduction_in<'t>(&self, levels: u8, tokens: Tokens<'t>) -> Read<'t, (Axis, bool)>
-        requires { Operands F.Fn self.now.rules.operand.now (levels + 1) }
-        ensures { Gives (with_rest options_of) result (read kind (between OPEN (reduction_options (inside levels)) CLOSE) (tokens_of tokens.now)) }
-    {
-        let rest = skip(tokens, OPEN)?;
-        let (options, rest) = self.reduction_options(levels, rest)?;
-        close(options, CLOSE, rest)
-    }
-
+    /// What stands in the brackets of a reduction.
     #[tactic(auto, unfolding(nd_model::specs::Cells::reduction_options))]
     fn reduction_options<'t>(&self, levels: u8, tokens: Tokens<'t>) -> Read<'t, (Axis, bool)>
         requires { Operands F.Fn self.now.rules.operand.now (levels + 1) }
-        ensures { Gives (with_rest options_of) result (read kind (reduction_options (inside levels)) (tokens_of tokens.now)) }
+        ensures { Gives (with_rest options_of) result
+            (read kind (reduction_options (inside levels)) (tokens_of tokens.now)) }
     {
         if next_in(tokens, AXIS_BOUND) {
             let (axis, rest) = self.rules.named_axis(levels, AXIS_BOUND, tokens)?;
-            let (keepdims, rest) = comma_keepdims(rest)?;
-            return Ok(((axis, keepdims), rest));
+            return pair(axis, comma_keepdims(rest));
         }
         if next_in(tokens, KEEPDIMS_BOUND) {
-            let (keepdims, rest) = named_keepdims(KEEPDIMS_BOUND, tokens)?;
-            return Ok(((Axis::Default, keepdims), rest));
+            return pair(Axis::Default, named_keepdims(KEEPDIMS_BOUND, tokens));
         }
         if next_in(tokens, FIRST_AXIS) {
             let (axis, rest) = self.rules.first_axis(levels, tokens)?;
-            let (keepdims, rest) = comma_keepdims(rest)?;
-            return Ok(((axis, keepdims), rest));
+            return pair(axis, comma_keepdims(rest));
         }
         Ok(((Axis::Default, false), tokens))
     }
@@ -199,32 +141,14 @@ impl<'f, F: for<'t> Fn(u8, Spot, Tokens<'t>) -> Read<'t, Expr>> Calls<'f, F> {
         requires { Operands F.Fn self.now.rules.operand.now levels }
         ensures { Gives (with_rest bound_of) result (read kind (accumulation (under levels)) (tokens_of tokens.now)) }
     {
-        if levels == 0 {
-            return Err(shut(tokens, OPEN, Reason::TooDeep));
+        let (levels, rest) = open(levels, OPEN, tokens)?;
+        if next_in(rest, AXIS) {
+            return close_read(self.rules.numbered_axis(levels, rest), CLOSE);
         }
-        self.accumulation_in(levels - 1, tokens)
-    }
-
-    fn accumulation_in<'t>(&self, levels: u8, tokens: Tokens<'t>) -> Read<'t, Option<Expr>>
-        requires { Operands F.Fn self.now.rules.operand.now (levels + 1) }
-        ensures { Gives (with_rest bound_of) result (read kind (between OPEN (accumulation_body (inside levels)) CLOSE) (tokens_of tokens.now)) }
-    {
-        let rest = skip(tokens, OPEN)?;
-        let (axis, rest) = self.perhaps_axis(levels, rest)?;
-        close(axis, CLOSE, rest)
-    }
-
-    fn perhaps_axis<'t>(&self, levels: u8, tokens: Tokens<'t>) -> Read<'t, Option<Expr>>
-        requires { Operands F.Fn self.now.rules.operand.now (levels + 1) }
-        ensures { Gives (with_rest bound_of) result (read kind (accumulation_body (inside levels)) (tokens_of tokens.now)) }
-    {
-        if next_in(tokens, AXIS) {
-            return self.rules.numbered_axis(levels, tokens);
+        if next_in(rest, AXIS_CALLED) {
+            return Err(stop_at(rest, Reason::UnknownCall));
         }
-        if next_in(tokens, AXIS_CALLED) {
-            return Err(stop_at(tokens, Reason::UnknownCall));
-        }
-        Ok((None, tokens))
+        close(None, CLOSE, rest)
     }
 }
 

@@ -3,10 +3,9 @@ ghost use Rattle.std.specs.Prelude.{◌≡◌, ◌+◌, true, IfOk, Ok};
 ghost use Rattle.nd_model.specs.Grammar.{Many};
 ghost use Rattle.nd_model.specs.Kinds.{kind, SUFFIX, POWER};
 ghost use Rattle.nd_model.specs.Predict.{read, next_in};
-ghost use Rattle.nd_model.specs.Syntax.{Called};
 ghost use Rattle.nd_model.specs.Cells.{Anywhere, token, under, suffixed, suffix, operand, postfix, exponent, power, signed, unary, operation};
 ghost use Rattle.nd_token.specs.Tokens.{token_of};
-ghost use Rattle.nd_syntax.specs.Syntax.{expr_of, call_of, suffix_of};
+ghost use Rattle.nd_syntax.specs.Syntax.{expr_of, suffix_of};
 ghost use Rattle.nd_read.specs.Gives.{Gives, with_rest, tokens_of, spot_of, suffixes_of, operation_of};
 ghost use Rattle.nd_rule.specs.Readers.{Operands};
 ghost use Rattle.nd_call.specs.Readers.{with_sign};
@@ -15,7 +14,7 @@ use nd_read::kinds::{
     ABS, BUFFER, CALLED, CLOSE, OPEN, OPEN_BRACKET, PLUS, POWER, SIGN, SUFFIX, next_in,
 };
 use nd_read::operators::{binary_of, unary_of};
-use nd_read::read::{Read, Reason, Tokens, leaf, shut, stop_at, take};
+use nd_read::read::{Read, Reason, Tokens, behind, leaf, pair, shut, stop_at, take};
 use nd_read::spot::{Spot, leaves, modules, openings};
 use nd_read::types::quoted;
 use nd_rule::{Rules, operated};
@@ -80,7 +79,7 @@ impl<'f, F: for<'t> Fn(u8, Spot, Tokens<'t>) -> Read<'t, Expr>> Calls<'f, F> {
     {
         let (base, rest) = self.postfix(levels, spot, tokens)?;
         if next_in(rest, POWER) {
-            let (exponent, rest) = self.exponent(levels, rest)?;
+            let ((base, exponent), rest) = pair(base, self.exponent(levels, rest))?;
             return Ok((operated(self.rules.alloc, base, exponent)?, rest));
         }
         Ok((base, rest))
@@ -113,7 +112,7 @@ impl<'f, F: for<'t> Fn(u8, Spot, Tokens<'t>) -> Read<'t, Expr>> Calls<'f, F> {
         ensures { Gives (with_rest expr_of) result (read kind (postfix (spot_of spot) (under levels)) (tokens_of tokens.now)) }
     {
         let (operand, rest) = self.operand(levels, spot, tokens)?;
-        let (suffixes, rest) = self.suffixes(levels, rest)?;
+        let ((operand, suffixes), rest) = pair(operand, self.suffixes(levels, rest))?;
         Ok((postfixed(self.rules.alloc, operand, suffixes)?, rest))
     }
 
@@ -168,15 +167,15 @@ impl<'f, F: for<'t> Fn(u8, Spot, Tokens<'t>) -> Read<'t, Expr>> Calls<'f, F> {
         if next_in(tokens, np) {
             return self.function(levels, np, tokens);
         }
-        if next_in(tokens, ABS) {
-            let (_, rest) = next_token(tokens, ABS);
+        if let Some(rest) = behind(tokens, ABS) {
             let (number, rest) = self.rules.grouped(levels, OPEN, rest)?;
-            return Ok((call_node(self.rules.alloc, Call::PythonAbs(number))?, rest));
+            let call = Box::new(self.rules.alloc, Call::PythonAbs(number))?;
+            return Ok((Expr::Call(call), rest));
         }
-        if next_in(tokens, BUFFER) {
-            let (_, rest) = next_token(tokens, BUFFER);
+        if let Some(rest) = behind(tokens, BUFFER) {
             let (name, rest) = quoted(self.rules.alloc, levels, rest)?;
-            return Ok((call_node(self.rules.alloc, Call::Buffer(name))?, rest));
+            let call = Box::new(self.rules.alloc, Call::Buffer(name))?;
+            return Ok((Expr::Call(call), rest));
         }
         self.rules.grouped(levels, openings(spot), tokens)
     }
@@ -191,13 +190,6 @@ pub(crate) fn next_token<'t>(tokens: Tokens<'t>, set: u128) -> (Token<'t>, Token
         Some((token, rest)) => (*token, rest),
         None => unreachable!(),
     }
-}
-
-/// A call as an expression. It allocates one node.
-pub(crate) fn call_node(alloc: Global, call: Call) -> Result<Expr, AllocError>
-    ensures { IfOk result (λ e. expr_of e ≡ Called (call_of call)) }
-{
-    Ok(Expr::Call(Box::new(alloc, call)?))
 }
 
 /// An operand with its indexes and methods, if it has any. It allocates one node.

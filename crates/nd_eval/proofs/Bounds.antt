@@ -1,15 +1,25 @@
 -- How many bases an evaluation makes.
-use Rattle.std.proofs.Common.{◌≡◌, ℕ, ◌+◌, ◌≤◌, Bool, true, false, List, [], ◌∷◌, Result, Ok, Err, Option, None, Some, refl, sym, subst, arith, ℤ}
-use Rattle.nd_model.specs.Element.{Boolean, Int8, Int16, Int32, Int64, UInt8, UInt16, UInt32, UInt64}
-use Rattle.nd_model.specs.View.{ElementType, One, Structure, Geo}
+use Rattle.std.proofs.Common.{◌≡◌, ℕ, zero, suc, ◌+◌, ◌≤◌, Bool, true, false, List, [], ◌∷◌, length, Result, Ok, Err, Option, None, Some, refl, sym, subst, arith}
+use Rattle.nd_model.specs.View.{ElementType, One, Structure, Geo, contiguous}
+use Rattle.nd_model.specs.Broadcast.{broadcast_view}
+use Rattle.nd_model.specs.Content.{Content, contents_in, content_in_order}
 use Rattle.nd_model.specs.Value.{Base, Value, Int, Truth, Scalar, Array, Row}
-use Rattle.nd_model.specs.Fault.{Fault}
+use Rattle.nd_model.specs.Fault.{Fault, ViewFault}
 use Rattle.nd_model.specs.Syntax.{Expr, Name, Integer, Unary, Negative, Called, Arange, Omitted, Item, Attribute, Index, Items, AndItem, NoItem, At, Stmt, Import, Bind, Assign, Delete, Print}
 use Rattle.nd_model.specs.Tokens.{tokens_of, tokens_of_index, tokens_of_all, tokens_of_stmt}
-use Rattle.nd_model.specs.Running.{Inputs, Running, Lookup, Use, reply, after, Effect, Nothing, Prints, Saves, Binding, Unbinding, Storing, done}
+use Rattle.nd_model.specs.Running.{Inputs, Running, Lookup, Use, Make, reply, after, Effect, Nothing, Prints, Saves, Binding, Unbinding, Storing, done}
+use Rattle.nd_model.specs.Evaluation.{Eval, Gives, Refuses, Asks, run, ◌>>=◌, decide}
+use Rattle.nd_model.specs.Operand.{Operand, Usage, Whole, ArraysOnly, Unused, is_used, Made, ANumber, AnArray, Chosen, AnElement, AView, ACopy, Stretched, Deed, NoDeed, PrintsText, SavesFile, BindsFirst, BindsMade, Unbinds, Writes, MakesAndWrites}
+use Rattle.nd_model.specs.Operators.{negative}
+use Rattle.nd_model.specs.Creation.{arange}
+use Rattle.nd_model.specs.Printing.{print_deed}
+use Rattle.nd_model.specs.Viewing.{Indexed, choose}
+use Rattle.nd_model.specs.Operation as operation
+use Rattle.nd_model.specs.Operation.{operands, Operation, Computes, Views, perform}
 use Rattle.nd_model.specs.Meaning as meaning
-use Rattle.nd_model.specs.Meaning.{Eval, Gives, Refuses, Asks, run, when, ◌>>=◌}
 use Rattle.nd_model.proofs.Steps.{goes_on, run_bind}
+use Rattle.nd_eval.specs.Parts.{item_value, element_value}
+use Rattle.nd_eval.proofs.Parts.{item_with, item_all}
 
 -- at most so many, whatever the answers are
 pub record MakesAtMost {A : Type 0} (n : ℕ) (t : Eval A) : Type 0 where
@@ -35,156 +45,143 @@ then n m t f h g = record { bound = λ i r. subst (λ o. o.1.next ≤ r.next + (
 uses : {A : Type 0} (n : ℕ) (b : Base) (ps : List ℕ) (go : List ℕ → Eval A) → ((bytes : List ℕ) → MakesAtMost n (go bytes)) → MakesAtMost n (Asks (Use b ps) go)
 uses n b ps go h = record { bound = λ i r. (h _).bound i (after (Use b ps) r) }
 
-tested : {A : Type 0} (n : ℕ) (b : Bool) (f : Fault) (t : Eval A) → MakesAtMost n t → MakesAtMost n (when b f t)
-tested n true f t h = h
-tested n false f t h = refuses n f
+makes : {A : Type 0} (n : ℕ) (bytes : List ℕ) (go : Base → Eval A) → ((b : Base) → MakesAtMost n (go b)) → MakesAtMost (1 + n) (Asks (Make bytes) go)
+makes n bytes go h = record { bound = λ i r. omega (arith, (h (reply i (Make bytes) r)).bound i (after (Make bytes) r)) }
 
--- ---- each part of the meaning
+decided : {A B : Type 0} (n : ℕ) (t : Result A Fault) (f : A → Eval B) → ((x : A) → MakesAtMost n (f x)) → MakesAtMost n (decide t >>= f)
+decided n (Ok x) f h = h x
+decided n (Err e) f h = refuses n e
 
-of_name : (n : List ℕ) → MakesAtMost 0 (meaning.name n)
+-- ---- operations
+
+of_name : (n : List ℕ) → MakesAtMost 0 (operation.name n)
 of_name n = record { bound = λ i r. of_bound n (reply i (Lookup n) r) i (after (Lookup n) r) }
   where
-    of_bound : (n : List ℕ) (o : Option Value) (i : Inputs) (r : Running) → (run i (meaning.bound n o) r).1.next ≤ r.next + 0
+    of_bound : (n : List ℕ) (o : Option Value) (i : Inputs) (r : Running) → (run i (operation.bound_value n o) r).1.next ≤ r.next + 0
     of_bound n None i r = omega arith
     of_bound n (Some v) i r = omega arith
 
-of_numbers : (g : Geo) (t : ElementType) (bytes : List ℕ) → MakesAtMost 0 (meaning.numbers_in g t bytes)
-of_numbers g (One e) bytes = gives 0 _
-of_numbers g (Structure fields size) bytes = refuses 0 _
+of_elements : (used row : Bool) (b : Base) (g : Geo) → MakesAtMost 0 (operation.elements used row b g)
+of_elements true row b g = uses 0 b _ _ (λ bytes. gives 0 _)
+of_elements false row b g = gives 0 _
 
-of_use_all : (b : Base) (g : Geo) → MakesAtMost 0 (meaning.use_all b g)
-of_use_all b g = uses 0 b _ _ (of_numbers g g.element)
+of_use : (u : Usage) (v : Value) → MakesAtMost 0 (operation.use_operand u v)
+of_use u (Int z) = gives 0 _
+of_use u (Truth t) = gives 0 _
+of_use u (Scalar k z) = gives 0 _
+of_use u (Array b g) = of_elements (is_used u false) false b g
+of_use u (Row b g) = of_elements (is_used u true) true b g
 
-of_negated : (v : Value) → MakesAtMost 0 (meaning.negated v)
-of_negated (Int z) = tested 0 _ _ _ (gives 0 _)
-of_negated (Truth t) = tested 0 _ _ _ (gives 0 _)
-of_negated (Scalar k z) = refuses 0 _
-of_negated (Array b g) = then 0 0 (meaning.use_all b g) _ (of_use_all b g) (λ n. refuses 0 _)
-of_negated (Row b g) = then 0 0 (meaning.use_all b g) _ (of_use_all b g) (λ n. refuses 0 _)
+of_operands : {A : Type 0} (n : ℕ) (vs : List (Usage × Value)) (go : List Operand → Eval A) → ((os : List Operand) → MakesAtMost n (go os)) → MakesAtMost n (operands vs go)
+of_operands n [] go h = h []
+of_operands n (v ∷ vs) go h = more (0 + n) n _ (omega arith) (then 0 n (operation.use_operand v.0 v.1) _ (of_use v.0 v.1) (λ o. of_operands n vs _ (λ os. h (o ∷ os))))
 
-of_fresh : (t : ElementType) (shape bytes : List ℕ) → MakesAtMost 1 (meaning.fresh t shape bytes)
-of_fresh t shape bytes = record { bound = λ i r. omega arith }
+of_limits : {A : Type 0} (n : ℕ) (f : Option ViewFault) (t : Eval A) → MakesAtMost n t → MakesAtMost n (operation.unless_too_large f t)
+of_limits n None t h = h
+of_limits n (Some f) t h = refuses n _
 
-of_arange : (v : Value) → MakesAtMost 1 (meaning.arange v)
-of_arange (Int z) = tested 1 _ _ _ (of_fresh _ _ _)
-of_arange (Truth t) = refuses 1 _
-of_arange (Scalar k z) = refuses 1 _
-of_arange (Array b g) = refuses 1 _
-of_arange (Row b g) = refuses 1 _
+of_fresh : (t : ElementType) (shape : List ℕ) (f : List ℕ → Content) → MakesAtMost 1 (operation.fresh_array t shape f)
+of_fresh t shape f = of_limits 1 _ _ (makes 0 _ _ (λ b. gives 0 _))
 
-of_item_used : (v : Value) → MakesAtMost 0 (meaning.item_used v)
-of_item_used (Int z) = gives 0 _
-of_item_used (Truth t) = gives 0 _
-of_item_used (Scalar k z) = gives 0 _
-of_item_used (Array b g) = uses 0 b _ _ (λ bytes. gives 0 _)
-of_item_used (Row b g) = gives 0 _
+of_give : (m : Made) → MakesAtMost 1 (operation.give m)
+of_give (ANumber n) = gives 1 _
+of_give (AnArray t shape f) = of_fresh t shape f
 
-of_array : (v : Value) → MakesAtMost 0 (meaning.array_of v)
-of_array (Int z) = refuses 0 _
-of_array (Truth t) = refuses 0 _
-of_array (Scalar k z) = refuses 0 _
-of_array (Array b g) = gives 0 _
-of_array (Row b g) = refuses 0 _
+of_view : (as_value : Base → Geo → Value) (b : Base) (g : Geo) → MakesAtMost 0 (operation.view_value as_value b g)
+of_view as_value b g = of_limits 0 _ _ (gives 0 _)
 
-of_integer : (v : Value) → MakesAtMost 0 (meaning.integer_of v)
-of_integer (Int z) = gives 0 _
-of_integer (Truth t) = refuses 0 _
-of_integer (Scalar Boolean z) = refuses 0 _
-of_integer (Scalar Int8 z) = gives 0 _
-of_integer (Scalar Int16 z) = gives 0 _
-of_integer (Scalar Int32 z) = gives 0 _
-of_integer (Scalar Int64 z) = gives 0 _
-of_integer (Scalar UInt8 z) = gives 0 _
-of_integer (Scalar UInt16 z) = gives 0 _
-of_integer (Scalar UInt32 z) = gives 0 _
-of_integer (Scalar UInt64 z) = gives 0 _
-of_integer (Array b g) = refuses 0 _
-of_integer (Row b g) = refuses 0 _
+of_element : (b : Base) (writable : Bool) (t : ElementType) (p : ℕ) → MakesAtMost 0 (operation.element_of b writable t p)
+of_element b writable (One e) p = uses 0 b _ _ (λ bytes. gives 0 _)
+of_element b writable (Structure fields size) p = of_view Row b (record { element = Structure fields size; shape = []; writable = writable; places = p ∷ [] })
 
-of_place : (shape places : List ℕ) (z : ℤ) → MakesAtMost 0 (meaning.place_in shape places z)
-of_place [] places z = refuses 0 _
-of_place (n ∷ []) places z = tested 0 _ _ _ (gives 0 _)
-of_place (n ∷ m ∷ shape) places z = refuses 0 _
+of_stretch : (t : ElementType) (c : Content) (shape : List ℕ) → MakesAtMost 1 (operation.stretch_content t c shape)
+of_stretch t c shape = of_limits 1 _ _ (makes 0 _ _ (λ b. of_view Array b (broadcast_view (contiguous t []) shape)))
 
-of_scalar : (b : Base) (t : ElementType) (p : ℕ) → MakesAtMost 0 (meaning.scalar_at b t p)
-of_scalar b (One e) p = uses 0 b _ _ (λ bytes. gives 0 _)
-of_scalar b (Structure fields size) p = refuses 0 _
+of_choose_in : (b : Base) (g : Geo) (c : Chosen) → MakesAtMost 1 (operation.choose_in b g c)
+of_choose_in b g (AnElement t p) = more 0 1 _ (omega arith) (of_element b g.writable t p)
+of_choose_in b g (AView h) = more 0 1 _ (omega arith) (of_view Array b h)
+of_choose_in b g (ACopy h) = uses 1 b _ _ (λ bytes. of_fresh h.element h.shape (content_in_order h.shape (contents_in h.element (length h.places) bytes)))
+of_choose_in b g (Stretched t c shape) = of_stretch t c shape
 
-of_indexed : (t i : Value) → MakesAtMost 0 (meaning.indexed t i)
-of_indexed t i =
-    then 0 0 (meaning.item_used i) _ (of_item_used i) (λ used.
-    then 0 0 (meaning.array_of t) _ (of_array t) (λ a.
-    then 0 0 (meaning.integer_of i) _ (of_integer i) (λ z.
-    then 0 0 (meaning.place_in a.geo.shape a.geo.places z) _ (of_place a.geo.shape a.geo.places z) (λ p.
-    of_scalar a.base a.geo.element p))))
+of_choose_number : (c : Chosen) → MakesAtMost 1 (operation.choose_of_number c)
+of_choose_number (AnElement t p) = refuses 1 _
+of_choose_number (AView h) = refuses 1 _
+of_choose_number (ACopy h) = refuses 1 _
+of_choose_number (Stretched t c shape) = of_stretch t c shape
 
-of_content : (v : Value) → MakesAtMost 0 (meaning.content v)
-of_content (Int z) = gives 0 _
-of_content (Truth t) = gives 0 _
-of_content (Scalar k z) = gives 0 _
-of_content (Array b g) = then 0 0 (meaning.use_all b g) _ (of_use_all b g) (λ n. gives 0 _)
-of_content (Row b g) = then 0 0 (meaning.use_all b g) _ (of_use_all b g) (λ n. gives 0 _)
+of_choose : (v : Value) (c : Chosen) → MakesAtMost 1 (operation.choose_of v c)
+of_choose (Int z) c = of_choose_number c
+of_choose (Truth t) c = of_choose_number c
+of_choose (Scalar k z) c = of_choose_number c
+of_choose (Array b g) c = of_choose_in b g c
+of_choose (Row b g) c = of_choose_in b g c
 
-of_stored : (a : meaning.Target) (t : ElementType) (p : ℕ) (c : meaning.Content) → MakesAtMost 0 (meaning.stored a t p c)
-of_stored a (Structure fields size) p c = refuses 0 _
-of_stored a (One e) p (meaning.Literal z) = tested 0 _ _ _ (tested 0 _ _ _ (gives 0 _))
-of_stored a (One e) p (meaning.Values n) = tested 0 _ _ _ (tested 0 _ _ _ (gives 0 _))
+of_value_at : {A : Type 0} (n : ℕ) (vs : List (Usage × Value)) (k : ℕ) (go : Value → Eval A) → ((v : Value) → MakesAtMost n (go v)) → MakesAtMost n (operation.with_value vs k go)
+of_value_at n [] k go h = refuses n _
+of_value_at n (v ∷ vs) zero go h = h v.1
+of_value_at n (v ∷ vs) (suc k) go h = of_value_at n vs k go h
 
-of_assigned : (v t i : Value) → MakesAtMost 0 (meaning.assigned v t i)
-of_assigned v t i =
-    then 0 0 (meaning.content v) _ (of_content v) (λ c.
-    then 0 0 (meaning.item_used i) _ (of_item_used i) (λ used.
-    then 0 0 (meaning.array_of t) _ (of_array t) (λ a.
-    then 0 0 (meaning.integer_of i) _ (of_integer i) (λ z.
-    then 0 0 (meaning.place_in a.geo.shape a.geo.places z) _ (of_place a.geo.shape a.geo.places z) (λ p.
-    of_stored a a.geo.element p c)))))
+-- an operation makes one at most
+of_perform : (o : Operation) (vs : List (Usage × Value)) → MakesAtMost 1 (perform o vs)
+of_perform (Computes f) vs = of_operands 1 vs _ (λ os. decided 1 (f os) operation.give of_give)
+of_perform (Views w) vs = of_operands 1 vs _ (λ os. decided 1 (choose w os) _ (λ c. of_value_at 1 vs 0 _ (λ v. of_choose v c)))
+
+of_store : (ws : List (ℕ × ℕ)) (v : Value) → MakesAtMost 0 (operation.store_in ws v)
+of_store ws (Int z) = refuses 0 _
+of_store ws (Truth t) = refuses 0 _
+of_store ws (Scalar k z) = refuses 0 _
+of_store ws (Array b g) = gives 0 _
+of_store ws (Row b g) = gives 0 _
+
+of_deed : (vs : List (Usage × Value)) (d : Deed) → MakesAtMost 1 (operation.do_deed vs d)
+of_deed vs NoDeed = gives 1 _
+of_deed vs (PrintsText text) = gives 1 _
+of_deed vs (SavesFile n file) = gives 1 _
+of_deed vs (BindsFirst n) = of_value_at 1 vs 0 _ (λ v. gives 1 _)
+of_deed vs (BindsMade n m) = more (1 + 0) 1 _ (omega arith) (then 1 0 (operation.give m) _ (of_give m) (λ v. gives 0 _))
+of_deed vs (Unbinds n) = gives 1 _
+of_deed vs (Writes k ws) = of_value_at 1 vs k _ (λ v. more 0 1 _ (omega arith) (of_store ws v))
+of_deed vs (MakesAndWrites m k ws) = more (1 + 0) 1 _ (omega arith) (then 1 0 (operation.give m) _ (of_give m) (λ v. of_value_at 0 vs k _ (of_store ws)))
+
+of_act : (f : List Operand → Result Deed Fault) (vs : List (Usage × Value)) → MakesAtMost 1 (operation.act_on f vs)
+of_act f vs = of_operands 1 vs _ (λ os. decided 1 (f os) (operation.do_deed vs) (of_deed vs))
+
+-- ---- expressions and statements
 
 mutual
   of_value : (e : Expr) → MakesAtMost (tokens_of e) (meaning.value e)
   of_value (Name n) = more 0 1 _ (omega arith) (of_name n)
   of_value (Integer n) = gives 1 _
-  of_value (Unary Negative e) = more (tokens_of e + 0) _ _ (omega arith) (then (tokens_of e) 0 (meaning.value e) _ (of_value e) of_negated)
-  of_value (Called (Arange Omitted e Omitted None)) = more (tokens_of e + 1) _ _ (omega arith) (then (tokens_of e) 1 (meaning.value e) _ (of_value e) of_arange)
-  of_value (Item t x) = more (tokens_of t + (tokens_of_index x + 0)) _ _ (omega arith)
-      (then (tokens_of t) (tokens_of_index x + 0) (meaning.value t) _ (of_value t) (λ target.
-      then (tokens_of_index x) 0 (meaning.item_value x) _ (of_item_value x) (λ item.
-      of_indexed target item)))
-  of_value (Attribute e m) = more (tokens_of e + 0) _ _ (omega arith) (then (tokens_of e) 0 (meaning.value e) _ (of_value e) (λ v. refuses 0 _))
+  of_value (Unary Negative e) = more (tokens_of e + 1) _ _ (omega arith) (then (tokens_of e) 1 (meaning.value e) _ (of_value e) (λ v. of_perform (Computes (meaning.one negative)) ((Whole, v) ∷ [])))
+  of_value (Called (Arange Omitted e Omitted None)) = more (tokens_of e + 1) _ _ (omega arith)
+      (then (tokens_of e) 1 (meaning.value e) _ (of_value e) (λ v. of_perform (Computes (meaning.one arange)) ((Unused, v) ∷ [])))
+  of_value (Item t x) = more (tokens_of t + (tokens_of_index x + 1)) _ _ (omega arith)
+      (then (tokens_of t) (tokens_of_index x + 1) (meaning.value t) _ (of_value t) (λ v.
+      subst (MakesAtMost (tokens_of_index x + 1)) (sym (item_with x (λ vs. perform (Views Indexed) ((Unused, v) ∷ vs))))
+      (then (tokens_of_index x) 1 (item_value x) _ (of_item_value x) (λ i. of_perform (Views Indexed) ((Unused, v) ∷ (ArraysOnly, i) ∷ [])))))
+  of_value (Attribute e m) = more (tokens_of e + 1) _ _ (omega arith)
+      (then (tokens_of e) 1 (meaning.value e) _ (of_value e) (λ v. of_perform (Computes meaning.unbuilt_form) ((Unused, v) ∷ [])))
   of_value e = refuses (tokens_of e) _
 
-  of_item_value : (x : Index) → MakesAtMost (tokens_of_index x) (meaning.item_value x)
+  of_item_value : (x : Index) → MakesAtMost (tokens_of_index x) (item_value x)
   of_item_value (Items (AndItem (At e) NoItem)) = more (tokens_of e) _ _ (omega arith) (of_value e)
   of_item_value x = refuses (tokens_of_index x) _
 
-of_values : (es : List Expr) → MakesAtMost (tokens_of_all es) (meaning.values es)
-of_values [] = gives 0 _
-of_values (e ∷ es) = more (tokens_of e + (tokens_of_all es + 0)) _ _ (omega arith)
-    (then (tokens_of e) (tokens_of_all es + 0) (meaning.value e) _ (of_value e) (λ v.
-    then (tokens_of_all es) 0 (meaning.values es) _ (of_values es) (λ vs. gives 0 _)))
-
-of_text : (v : Value) → MakesAtMost 0 (meaning.text_of v)
-of_text (Int z) = gives 0 _
-of_text (Truth t) = gives 0 _
-of_text (Scalar k z) = gives 0 _
-of_text (Array b g) = then 0 0 (meaning.use_all b g) _ (of_use_all b g) (λ n. gives 0 _)
-of_text (Row b g) = then 0 0 (meaning.use_all b g) _ (of_use_all b g) (λ n. gives 0 _)
-
-of_texts : (vs : List Value) → MakesAtMost 0 (meaning.texts_of vs)
-of_texts [] = gives 0 _
-of_texts (v ∷ vs) = then 0 0 (meaning.text_of v) _ (of_text v) (λ t. then 0 0 (meaning.texts_of vs) _ (of_texts vs) (λ ts. gives 0 _))
+of_all : (es : List Expr) (go : List (Usage × Value) → Eval Effect) → ((vs : List (Usage × Value)) → MakesAtMost 1 (go vs)) → MakesAtMost (tokens_of_all es + 1) (operation.evaluate_all (meaning.whole_plans es) go)
+of_all [] go h = h []
+of_all (e ∷ es) go h = more (tokens_of e + (tokens_of_all es + 1)) _ _ (omega arith)
+    (then (tokens_of e) (tokens_of_all es + 1) (meaning.value e) _ (of_value e) (λ v. of_all es _ (λ vs. h ((Whole, v) ∷ vs))))
 
 of_meaning : (s : Stmt) → MakesAtMost (tokens_of_stmt s) (meaning.meaning s)
 of_meaning Import = gives 4 _
-of_meaning (Bind n e) = more (tokens_of e + 0) _ _ (omega arith) (then (tokens_of e) 0 (meaning.value e) _ (of_value e) (λ v. gives 0 _))
-of_meaning (Assign t x e) = more (tokens_of e + (tokens_of t + (tokens_of_index x + 0))) _ _ (omega arith)
-    (then (tokens_of e) (tokens_of t + (tokens_of_index x + 0)) (meaning.value e) _ (of_value e) (λ v.
-    then (tokens_of t) (tokens_of_index x + 0) (meaning.value t) _ (of_value t) (λ target.
-    then (tokens_of_index x) 0 (meaning.item_value x) _ (of_item_value x) (λ item.
-    of_assigned v target item))))
-of_meaning (Delete n) = more 0 2 _ (omega arith) (then 0 0 (meaning.name n) _ (of_name n) (λ v. gives 0 _))
-of_meaning (Print es) = more (tokens_of_all es + (0 + 0)) _ _ (omega arith)
-    (then (tokens_of_all es) (0 + 0) (meaning.values es) _ (of_values es) (λ vs.
-    then 0 0 (meaning.texts_of vs) _ (of_texts vs) (λ ts. gives 0 _)))
+of_meaning (Bind n e) = more (tokens_of e + 1) _ _ (omega arith) (then (tokens_of e) 1 (meaning.value e) _ (of_value e) (λ v. of_act (λ os. Ok (BindsFirst n)) ((Unused, v) ∷ [])))
+of_meaning (Assign t x e) = more (tokens_of e + (tokens_of t + (tokens_of_index x + 1))) _ _ (omega arith)
+    (then (tokens_of e) (tokens_of t + (tokens_of_index x + 1)) (meaning.value e) _ (of_value e) (λ v.
+    then (tokens_of t) (tokens_of_index x + 1) (meaning.value t) _ (of_value t) (λ w.
+    subst (MakesAtMost (tokens_of_index x + 1)) (sym (item_all x (λ vs. operation.act_on meaning.assignment_deed ((Whole, v) ∷ (Unused, w) ∷ vs))))
+    (then (tokens_of_index x) 1 (item_value x) _ (of_item_value x) (λ i. of_act meaning.assignment_deed ((Whole, v) ∷ (Unused, w) ∷ (ArraysOnly, i) ∷ []))))))
+of_meaning (Delete n) = more (0 + 1) 2 _ (omega arith) (then 0 1 (operation.name n) _ (of_name n) (λ v. of_act (λ os. Ok (Unbinds n)) ((Unused, v) ∷ [])))
+of_meaning (Print es) = more (tokens_of_all es + 1) _ _ (omega arith) (of_all es _ (of_act print_deed))
 of_meaning s = refuses (tokens_of_stmt s) _
 
 -- ---- the number after
@@ -193,12 +190,15 @@ of_meaning s = refuses (tokens_of_stmt s) _
 pub next_value : (i : Inputs) (e : Expr) (r s : Running) (o : Result Value Fault) → run i (meaning.value e) r ≡ (o, s) → s.next ≤ r.next + tokens_of e
 next_value i e r s o h = subst (λ (x : Result Value Fault × Running). x.1.next ≤ r.next + tokens_of e) h ((of_value e).bound i r)
 
--- an index makes no more than what it is made of
-pub next_at_index : (i : Inputs) (t : Value) (x : Index) (r s : Running) (o : Result Value Fault) → run i (meaning.item_value x >>= meaning.indexed t) r ≡ (o, s) → s.next ≤ r.next + tokens_of_index x
+-- a use makes none
+pub next_used : (i : Inputs) (u : Usage) (v : Value) (r s : Running) (o : Result Operand Fault) → run i (operation.use_operand u v) r ≡ (o, s) → s.next ≤ r.next + 0
+next_used i u v r s o h = subst (λ (x : Result Operand Fault × Running). x.1.next ≤ r.next + 0) h ((of_use u v).bound i r)
+
+-- an index makes one more than what it is made of at most
+pub next_at_index : (i : Inputs) (t : Value) (x : Index) (r s : Running) (o : Result Value Fault) → run i (item_value x >>= element_value t) r ≡ (o, s) → s.next ≤ r.next + (tokens_of_index x + 1)
 next_at_index i t x r s o h =
-    let bound = then (tokens_of_index x) 0 (meaning.item_value x) (meaning.indexed t) (of_item_value x) (of_indexed t) in
-    let made = subst (λ (y : Result Value Fault × Running). y.1.next ≤ r.next + (tokens_of_index x + 0)) h (bound.bound i r) in
-    omega arith
+    let bound = then (tokens_of_index x) 1 (item_value x) (element_value t) (of_item_value x) (λ v. of_perform (Views Indexed) ((Unused, t) ∷ (ArraysOnly, v) ∷ [])) in
+    subst (λ (y : Result Value Fault × Running). y.1.next ≤ r.next + (tokens_of_index x + 1)) h (bound.bound i r)
 
 done_next : (e : Effect) (r : Running) → (done e r).next ≡ r.next
 done_next Nothing r = refl

@@ -1,13 +1,15 @@
--- An evaluation after another.
+-- An evaluation after another, and what is worked out after another.
 use Rattle.std.proofs.Common.{◌≡◌, Result, Ok, Err, IsErrAnd, sym, ap, ◌∙◌, subst}
 use Rattle.std.proofs.lemmas.Result.{err_from_is_err_and}
+use Rattle.nd_model.specs.Fault.{Fault}
 use Rattle.nd_model.specs.Running.{Running, Inputs}
-use Rattle.nd_model.specs.Meaning.{Eval, run, ◌>>=◌}
+use Rattle.nd_model.specs.Refusing as refusing
+use Rattle.nd_model.specs.Evaluation.{Eval, run, ◌>>=◌, decide}
 use Rattle.nd_model.proofs.Steps.{goes_on, run_bind}
 use Rattle.nd_eval.specs.declared.fault.StmtFault.{StmtFault}
 use Rattle.nd_eval.specs.declared.stop.Stop.{Stop}
 use Rattle.nd_eval.specs.declared.stop.Stop.TheVariants.{Memory, Refused}
-use Rattle.nd_eval.specs.Ends.{Ends, Says}
+use Rattle.nd_eval.specs.Ends.{Ends, Says, Makes}
 
 stops : {A B X Y : Type 0} (v : X → A) (w : Y → B) (i : Inputs) (t : Eval A) (f : A → Eval B) (r s : Running) (e : Stop)
     → Ends v (Err e) s (run i t r) → Ends w (Err e) s (run i (t >>= f) r)
@@ -32,15 +34,45 @@ pub goes : {A B X : Type 0} (v : X → A) (i : Inputs) (t : Eval A) (f : A → E
     → Ends v (Ok x) s (run i t r) → run i (t >>= f) r ≡ run i (f (v x)) s
 goes v i t f r s x first = run_bind i t f r ∙ ap (λ m. goes_on i m f) first
 
--- the same where the first part asks nothing
-pub exits_saying : {A B X Y : Type 0} (v : X → A) (w : Y → B) (i : Inputs) (t : Eval A) (f : A → Eval B) (r : Running) (e : StmtFault) (o : Result Y Stop)
-    → IsErrAnd o (λ x. x ≡ Refused e) → Says v (Err e) t → Ends w o r (run i (t >>= f) r)
-exits_saying {A} {B} {X} {Y} v w i t f r e o is h = exits v w i t f r r (Refused e) o is (ap (λ t. run i t r) h)
+-- of two evaluations that are the same
+pub ends_as : {Y B : Type 0} (w : Y → B) (i : Inputs) (r s : Running) (o : Result Y Stop) {a b : Eval B} → a ≡ b → Ends w o s (run i b r) → Ends w o s (run i a r)
+ends_as w i r s o same h = subst (λ e. Ends w o s (run i e r)) (sym same) h
 
-pub follows_saying : {A B X Y : Type 0} (v : X → A) (w : Y → B) (i : Inputs) (t : Eval A) (f : A → Eval B) (r u : Running) (x : X) (o : Result Y Stop)
-    → Says v (Ok x) t → Ends w o u (run i (f (v x)) r) → Ends w o u (run i (t >>= f) r)
-follows_saying v w i t f r u x o first rest = follows v w i t f r r u x o (ap (λ t. run i t r) first) rest
+-- of two that come to the same
+pub ends_alike : {Y B : Type 0} (w : Y → B) (o : Result Y Stop) (s : Running) {a b : Result B Fault × Running} → a ≡ b → Ends w o s b → Ends w o s a
+ends_alike w o s same h = subst (λ e. Ends w o s e) (sym same) h
 
-pub goes_saying : {A B X : Type 0} (v : X → A) (i : Inputs) (t : Eval A) (f : A → Eval B) (r : Running) (x : X)
-    → Says v (Ok x) t → run i (t >>= f) r ≡ run i (f (v x)) r
-goes_saying v i t f r x first = goes v i t f r r x (ap (λ t. run i t r) first)
+-- ---- where the first part asks nothing
+
+pub exits_saying : {A B X Y : Type 0} (v : X → A) (w : Y → B) (i : Inputs) (t : Result A Fault) (f : A → Eval B) (r : Running) (e : StmtFault) (o : Result Y Stop)
+    → IsErrAnd o (λ x. x ≡ Refused e) → Says v (Err e) t → Ends w o r (run i (decide t >>= f) r)
+exits_saying v w i t f r e o is h = exits v w i (decide t) f r r (Refused e) o is (ap (λ t. run i (decide t) r) h)
+
+pub follows_saying : {A B X Y : Type 0} (v : X → A) (w : Y → B) (i : Inputs) (t : Result A Fault) (f : A → Eval B) (r u : Running) (x : X) (o : Result Y Stop)
+    → Says v (Ok x) t → Ends w o u (run i (f (v x)) r) → Ends w o u (run i (decide t >>= f) r)
+follows_saying v w i t f r u x o first rest = follows v w i (decide t) f r r u x o (ap (λ t. run i (decide t) r) first) rest
+
+-- where what is made takes memory
+made_ends : {A X : Type 0} (v : X → A) (i : Inputs) (t : Result A Fault) (r : Running) (e : Stop) → Makes v (Err e) t → Ends v (Err e) r (run i (decide t) r)
+made_ends v i t r Memory h = tt
+made_ends v i t r (Refused f) h = ap (λ t. run i (decide t) r) h
+
+pub exits_making : {A B X Y : Type 0} (v : X → A) (w : Y → B) (i : Inputs) (t : Result A Fault) (f : A → Eval B) (r : Running) (e : Stop) (o : Result Y Stop)
+    → IsErrAnd o (λ x. x ≡ e) → Makes v (Err e) t → Ends w o r (run i (decide t >>= f) r)
+exits_making v w i t f r e o is h = exits v w i (decide t) f r r e o is (made_ends v i t r e h)
+
+pub goes_making : {A B X : Type 0} (v : X → A) (i : Inputs) (t : Result A Fault) (f : A → Eval B) (r : Running) (x : X)
+    → Makes v (Ok x) t → run i (decide t >>= f) r ≡ run i (f (v x)) r
+goes_making v i t f r x first = goes v i (decide t) f r r x (ap (λ t. run i (decide t) r) first)
+
+-- ---- one part worked out after another
+
+pub fails : {A B X Y : Type 0} (v : X → A) (w : Y → B) (t : Result A Fault) (f : A → Result B Fault) (e : Stop) → Makes v (Err e) t → Makes w (Err e) (refusing.◌>>=◌ t f)
+fails v w t f Memory h = tt
+fails v w t f (Refused e) h = ap (λ m. refusing.◌>>=◌ m f) h
+
+pub makes_not : {A B X Y : Type 0} (v : X → A) (w : Y → B) (t : Result A Fault) (f : A → Result B Fault) (e : Stop) (o : Result Y Stop)
+    → IsErrAnd o (λ x. x ≡ e) → Makes v (Err e) t → Makes w o (refusing.◌>>=◌ t f)
+makes_not {A} {B} {X} {Y} v w t f e o is h =
+    let p : (x : Stop) × (o ≡ Err x) × (x ≡ e) = err_from_is_err_and o is in
+    subst (λ (o : Result Y Stop). Makes w o (refusing.◌>>=◌ t f)) (sym (p.1 ∙ ap Err p.2)) (fails v w t f e h)

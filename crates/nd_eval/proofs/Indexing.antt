@@ -9,7 +9,11 @@ use Rattle.nd_model.specs.Cells.{chained, Suffix, AtIndex, OfMethod, suffixed, i
 use Rattle.nd_model.specs.Tokens.{tokens_of, tokens_of_index, tokens_of_method}
 use Rattle.nd_model.specs.Value.{Value}
 use Rattle.nd_model.specs.Running.{Running, Inputs}
-use Rattle.nd_model.specs.Meaning.{Eval, Gives, Refuses, run, ◌>>=◌, value, item_value, indexed}
+use Rattle.nd_model.specs.Evaluation.{Eval, Gives, Refuses, run, ◌>>=◌}
+use Rattle.nd_model.specs.Operand.{Unused}
+use Rattle.nd_model.specs.Viewing.{Indexed}
+use Rattle.nd_model.specs.Operation.{Computes, Views, perform, with_values}
+use Rattle.nd_model.specs.Meaning.{value, item_plans, unbuilt_form}
 use Rattle.nd_syntax.specs.declared.tree.Expr as tree
 use Rattle.nd_syntax.specs.declared.tree.BinaryOp.{BinaryOp}
 use Rattle.nd_syntax.specs.declared.calls.DType.{DType}
@@ -21,12 +25,14 @@ use Rattle.nd_syntax.specs.Syntax.{expr_of, call_of, suffix_of, index_of, item_o
 use Rattle.nd_syntax.specs.Lists.{operation_of}
 use Rattle.nd_syntax.proofs.Chains.{row_of, postfix_is, item_row, index_is, chain_is}
 use Rattle.nd_model.proofs.Steps.{goes_on, run_bind}
+use Rattle.nd_eval.specs.Parts.{item_value, element_value}
 use Rattle.nd_eval.proofs.InTurn.{next_item}
+use Rattle.nd_eval.proofs.Parts.{goes_same, item_with, attribute_refused}
 
 -- what goes on a value: indexes, and methods, which are not built yet
 abbrev pub chain : Value → List Suffix → Eval Value
 chain v [] = Gives v
-chain v (AtIndex x ∷ xs) = (item_value x >>= indexed v) >>= (λ w. chain w xs)
+chain v (AtIndex x ∷ xs) = (item_value x >>= element_value v) >>= (λ w. chain w xs)
 chain v (OfMethod m ∷ xs) = Refuses (fault.Stmt BadArgument)
 
 abbrev pub chain_tokens : List Suffix → ℕ
@@ -44,8 +50,8 @@ none_left i (Ok v, r) = refl
 none_left i (Err f, r) = refl
 
 one_more : (i : Inputs) (x : Index) (xs : List Suffix) (m : Result Value Fault × Running)
-    → goes_on i (goes_on i m (λ t. item_value x >>= (λ item. indexed t item))) (λ v. chain v xs) ≡ goes_on i m (λ v. chain v (AtIndex x ∷ xs))
-one_more i x xs (Ok t, r) = sym (run_bind i (item_value x >>= indexed t) (λ v. chain v xs) r)
+    → goes_on i (goes_on i m (λ t. item_value x >>= element_value t)) (λ v. chain v xs) ≡ goes_on i m (λ v. chain v (AtIndex x ∷ xs))
+one_more i x xs (Ok t, r) = sym (run_bind i (item_value x >>= element_value t) (λ v. chain v xs) r)
 one_more i x xs (Err f, r) = refl
 
 refused_there : (i : Inputs) (a : Method) (xs : List Suffix) (m : Result Value Fault × Running)
@@ -53,16 +59,22 @@ refused_there : (i : Inputs) (a : Method) (xs : List Suffix) (m : Result Value F
 refused_there i a xs (Ok t, r) = refl
 refused_there i a xs (Err f, r) = refl
 
+-- an index, and a method, on a value
+run_item : (i : Inputs) (e : Expr) (x : Index) (r : Running) → run i (value (Item e x)) r ≡ goes_on i (run i (value e) r) (λ t. item_value x >>= element_value t)
+run_item i e x r =
+    run_bind i (value e) (λ t. with_values (item_plans x) (λ vs. perform (Views Indexed) ((Unused, t) ∷ vs))) r
+    ∙ goes_same i (run i (value e) r) _ (λ t. item_value x >>= element_value t) (λ t s. ap (λ a. run i a s) (item_with x (λ vs. perform (Views Indexed) ((Unused, t) ∷ vs))))
+
+run_attribute : (i : Inputs) (e : Expr) (a : Method) (r : Running) → run i (value (Attribute e a)) r ≡ goes_on i (run i (value e) r) (λ t. Refuses (fault.Stmt BadArgument))
+run_attribute i e a r =
+    run_bind i (value e) (λ t. perform (Computes unbuilt_form) ((Unused, t) ∷ [])) r
+    ∙ goes_same i (run i (value e) r) _ (λ t. Refuses (fault.Stmt BadArgument)) (λ t s. ap (λ a. run i a s) (attribute_refused t))
+
 in_steps : (i : Inputs) (e : Expr) (xs : List Suffix) (r : Running) → run i (value (suffixed e xs)) r ≡ goes_on i (run i (value e) r) (λ v. chain v xs)
 in_steps i e [] r = none_left i (run i (value e) r)
-in_steps i e (AtIndex x ∷ xs) r =
-    in_steps i (Item e x) xs r
-    ∙ ap (λ m. goes_on i m (λ v. chain v xs)) (run_bind i (value e) (λ t. item_value x >>= (λ item. indexed t item)) r)
-    ∙ one_more i x xs (run i (value e) r)
+in_steps i e (AtIndex x ∷ xs) r = in_steps i (Item e x) xs r ∙ ap (λ m. goes_on i m (λ v. chain v xs)) (run_item i e x r) ∙ one_more i x xs (run i (value e) r)
 in_steps i e (OfMethod a ∷ xs) r =
-    in_steps i (Attribute e a) xs r
-    ∙ ap (λ m. goes_on i m (λ v. chain v xs)) (run_bind i (value e) (λ t. Refuses (fault.Stmt BadArgument)) r)
-    ∙ refused_there i a xs (run i (value e) r)
+    in_steps i (Attribute e a) xs r ∙ ap (λ m. goes_on i m (λ v. chain v xs)) (run_attribute i e a r) ∙ refused_there i a xs (run i (value e) r)
 
 -- the operand first, and then what goes on it
 pub run_suffixed : (i : Inputs) (e : Expr) (xs : List Suffix) (r : Running) → run i (value (suffixed e xs)) r ≡ run i (value e >>= (λ v. chain v xs)) r

@@ -1,9 +1,9 @@
 pub mod Bounds
-pub mod Decoding
-pub mod Used
 pub mod Chains
-pub mod InTurn
-pub mod Written
-pub mod ElementTypes
-pub mod Indexing
+pub mod Decoding
 pub mod Filling
+pub mod NewArrays
+pub mod InTurn
+pub mod Indexing
+pub mod Parts
+pub mod Writes

@@ -1,23 +1,28 @@
 -- What the parts of an evaluation stand for.
-use Rattle.std.specs.Prelude.{ℕ, ℤ, List, length, map, Vec, String, string_bytes}
+use Rattle.std.specs.Prelude.{ℕ, ◌*◌, ℤ, List, [], length, map, false, Vec, String, string_bytes}
 use Rattle.std.specs.Global.{Global}
-use Rattle.std.specs.List.{zip}
-use Rattle.nd_model.specs.Element.{Kind, Boolean, Element}
-use Rattle.nd_model.specs.View.{ElementType, One, Structure}
+use Rattle.nd_model.specs.Element.{Element, size_of}
+use Rattle.nd_model.specs.View.{One}
 use Rattle.nd_model.specs.Tuple.{count_up}
-use Rattle.nd_model.specs.Fault as fault
-use Rattle.nd_model.specs.Running as running
-use Rattle.nd_model.specs.Meaning as meaning
-use Rattle.nd_types.specs.Kinds.{kind_of}
 use Rattle.nd_model.specs.Value as model
-use Rattle.nd_heap.specs.declared.value.Array.{Array}
+use Rattle.nd_model.specs.Content.{number_at, contents_in, number_writes}
+use Rattle.nd_model.specs.Operand as operand
+use Rattle.nd_model.specs.Creation.{numbers_below, at_least_zero}
+use Rattle.nd_model.specs.Running as running
+use Rattle.nd_types.specs.Kinds.{kind_of}
+use Rattle.nd_types.specs.declared.num.Num.{Num}
+use Rattle.nd_types.specs.declared.num.Num.TheVariants as num
 use Rattle.nd_heap.specs.declared.value.Value.{Value}
+use Rattle.nd_heap.specs.declared.value.Value.TheVariants as value
 use Rattle.nd_heap.specs.Values.{base_of, geo_of, value_of}
-use Rattle.nd_eval.specs.declared.elements.Elements.{Elements}
+use Rattle.nd_eval.specs.declared.operand.Operand.{Operand}
+use Rattle.nd_eval.specs.declared.operand.Operand.TheVariants.{Number, Elements}
+use Rattle.nd_eval.specs.declared.operand.Made.{Made}
+use Rattle.nd_eval.specs.declared.operand.Made.TheVariants.{Number as MadeNumber, NumbersBelow}
+use Rattle.nd_eval.specs.declared.operand.ElementPlace.{ElementPlace}
+use Rattle.nd_eval.specs.declared.effect.ElementWrite.{ElementWrite}
 use Rattle.nd_eval.specs.declared.effect.Effect.{Effect}
 use Rattle.nd_eval.specs.declared.effect.Effect.TheVariants.{Nothing, Print, Bind, Unbind, Store}
-use Rattle.nd_eval.specs.declared.writes.Content.{Content}
-use Rattle.nd_eval.specs.declared.writes.Content.TheVariants.{Literal, Truth, Scalar, Elements as ElementsContent}
 
 abbrev pub values_of : Vec Value Global → List model.Value
 values_of vs = map value_of vs.items
@@ -25,35 +30,41 @@ values_of vs = map value_of vs.items
 abbrev pub texts_in : Vec (String Global) Global → List (List ℕ)
 texts_in ts = map string_bytes ts.items
 
-abbrev pub numbers_of : Elements → meaning.Numbers
-numbers_of e = record {
-  kind = e.elem.kind;
-  shape = e.shape.items;
-  values = meaning.values_in e.elem e.count e.bytes.items;
-}
+abbrev pub num_of : Num → operand.Number
+num_of (num.Int z) = operand.Int z
+num_of (num.Bool t) = operand.Truth t
+num_of (num.Scalar k z) = operand.Scalar (kind_of k) z
 
-abbrev pub target_of : Array → meaning.Target
-target_of a = record { base = base_of a.base; geo = geo_of a }
+-- an operand that is used
+abbrev pub operand_of : Operand → operand.Operand
+operand_of (Number n) = operand.Plain (num_of n)
+operand_of (Elements e) = operand.Elements false e.view.now (contents_in e.view.now.element (length e.view.now.places) e.bytes.items)
 
-abbrev pub content_of : Content → meaning.Content
-content_of (Literal z) = meaning.Literal z
-content_of (Truth t) = meaning.single Boolean (meaning.truth_number t)
-content_of (Scalar k z) = meaning.single (kind_of k) z
-content_of (ElementsContent e) = meaning.Values (numbers_of e)
+abbrev pub operands_of : Vec Operand Global → List operand.Operand
+operands_of os = map operand_of os.items
 
--- the number that lies at each place: structures are not built yet
-abbrev pub element_in : ElementType → meaning.Eval Element
-element_in (One e) = meaning.Gives e
-element_in (Structure fields size) = meaning.Refuses (fault.Stmt fault.BadArgument)
+-- an operand that is not used
+abbrev pub unused_of : Value → operand.Operand
+unused_of (value.Number n) = operand.Plain (num_of n)
+unused_of (value.Array a) = operand.Elements false (geo_of a) []
 
--- the number that an element of the kind gets
-abbrev pub number_for : Kind → meaning.Content → meaning.Eval ℤ
-number_for k (meaning.Literal z) = meaning.when (meaning.takes k z) (fault.Ufunc (fault.IntOutOfRange z)) (meaning.Gives z)
-number_for k (meaning.Values n) = meaning.when (meaning.is_single n.shape) (fault.Ufunc fault.ShapeMismatch) (meaning.Gives (meaning.first_of n.values))
+-- the numbers of n elements that stand one after another
+abbrev pub numbers_in : Element → ℕ → List ℕ → List ℤ
+numbers_in e n bytes = map (λ k. number_at e bytes (k * size_of e.kind)) (count_up 0 n)
+
+abbrev pub made_of : Made → operand.Made
+made_of (MadeNumber n) = operand.ANumber (num_of n)
+made_of (NumbersBelow z) = numbers_below (at_least_zero z)
+
+abbrev pub chosen_of : ElementPlace → operand.Chosen
+chosen_of c = operand.AnElement (One c.elem) c.place
+
+abbrev pub writes_of : ElementWrite → List (ℕ × ℕ)
+writes_of w = number_writes w.elem w.place w.number
 
 abbrev pub effect_of : Effect → running.Effect
 effect_of Nothing = running.Nothing
 effect_of (Print text) = running.Prints (string_bytes text)
 effect_of (Bind n v) = running.Binding (string_bytes n) (value_of v)
 effect_of (Unbind n) = running.Unbinding (string_bytes n)
-effect_of (Store w) = running.Storing (base_of w.base) (zip (count_up w.place (length w.bytes.items)) w.bytes.items)
+effect_of (Store b w) = running.Storing (base_of b) (writes_of w)

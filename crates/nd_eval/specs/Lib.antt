@@ -1,4 +1,5 @@
 pub mod Faults
 pub mod Ends
 pub mod Contents
+pub mod Parts
 pub mod Done

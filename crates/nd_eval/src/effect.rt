@@ -1,16 +1,18 @@
 //! Effects.
 
-ghost use Rattle.std.specs.Prelude.{◌+◌, ◌≤◌, ◌^◌, length};
+ghost use Rattle.std.specs.Prelude.{◌+◌, ◌≤◌, ◌^◌};
+ghost use Rattle.nd_model.specs.Element.{size_of};
 
 use nd_heap::{Base, Value};
+use nd_types::Elem;
 
-/// Bytes to be written from a place on.
-#[derive(Drop)]
-pub(crate) struct Write {
-    pub(crate) base: Base,
+/// A number for the element at a place.
+#[derive(Clone, Copy)]
+pub(crate) struct ElementWrite {
+    pub(crate) elem: Elem,
     pub(crate) place: u64,
-    pub(crate) bytes: Vec<u8>,
-    ghost within: { place + length bytes.items ≤ 2 ^ 64 },
+    pub(crate) number: i128,
+    ghost within: { place + size_of elem.kind ≤ 2 ^ 64 },
 }
 
 /// What a statement does once it is evaluated.
@@ -20,5 +22,5 @@ pub(crate) enum Effect {
     Print(String),
     Bind(String, Value),
     Unbind(String),
-    Store(Write),
+    Store(Base, ElementWrite),
 }

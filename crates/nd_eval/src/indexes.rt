@@ -1,57 +1,47 @@
 //! Indexes into arrays.
 
-ghost use Rattle.std.specs.Prelude.{◌≡◌, ◌+◌, ◌<◌, ◌≤◌, ◌^◌, length, IfOk};
+ghost use Rattle.std.specs.Prelude.{◌+◌, ◌≤◌, ◌^◌, IfOk};
 ghost use Rattle.nd_model.specs.View.{item_size};
-ghost use Rattle.nd_model.specs.Meaning as meaning;
-ghost use Rattle.nd_heap.specs.Values.{base_of, geo_of, value_of, inputs_of};
-ghost use Rattle.nd_heap.specs.Live.{live};
-ghost use Rattle.nd_eval.specs.Ends.{Ends, Says};
-ghost use Rattle.nd_eval.specs.Contents.{target_of};
+ghost use Rattle.nd_model.specs.Index as model;
+ghost use Rattle.nd_model.specs.Refusing as refusing;
+ghost use Rattle.nd_eval.specs.Contents.{chosen_of, operand_of, unused_of};
+ghost use Rattle.nd_eval.specs.Ends.{Says};
 
-use crate::arrays::element_of;
 use crate::fault::{IndexFault, StmtError, StmtFault};
-use crate::stop::Stop;
-use nd_block::value_at;
-use nd_heap::{Array, Inputs, Session, Value};
+use crate::operand::{ElementPlace, Operand};
+use crate::writing::number_type;
+use nd_heap::Value;
 use nd_types::{Kind, Num};
 use nd_view::View;
 
-/// Uses the elements of an item that is an array.
-pub(crate) fn item_used(session: &mut Session, inputs: &Inputs, item: &Value) -> Result<(), Stop>
-    ensures { Ends (λ u. u) result (live session.new) (meaning.run (inputs_of inputs.now.entries) (meaning.item_used (value_of item.now)) (live session.old)) }
-{
-    if let Value::Array(array) = item {
-        let _bytes = session.use_all(array)?;
-    }
-    Ok(())
-}
-
-/// The integer that an index is.
-pub(crate) fn integer_of(item: &Value) -> Result<i128, StmtFault>
-    ensures { Says (λ z. z) result (meaning.integer_of (value_of item.now)) }
-{
-    match item {
-        Value::Number(Num::Int(z)) => Ok(*z),
-        Value::Number(Num::Bool(_)) => Err(StmtFault::Index(IndexFault::NotAnIndex)),
-        Value::Number(Num::Scalar(Kind::Bool, _)) => Err(StmtFault::Index(IndexFault::NotAnIndex)),
-        Value::Number(Num::Scalar(_, z)) => Ok(*z),
-        Value::Array(_) => Err(StmtFault::Stmt(StmtError::BadArgument)),
-    }
-}
-
-/// The array that is indexed.
-pub(crate) fn array_of(target: &Value) -> Result<&Array, StmtFault>
-    ensures { Says (λ a. target_of a.now) result (meaning.array_of (value_of target.now)) }
+/// The array that is indexed, or written to.
+pub(crate) fn array_of(target: &Value) -> Result<&View, StmtFault>
+    ensures { Says (λ v. v.now) result (model.array_of (unused_of target.now)) }
 {
     match target {
         Value::Number(_) => Err(StmtFault::Stmt(StmtError::NotAnArray)),
-        Value::Array(array) => Ok(array),
+        Value::Array(array) => Ok(&array.view),
+    }
+}
+
+/// The integer that an index is.
+fn integer_of(item: &Operand<'_>) -> Result<i128, StmtFault>
+    ensures { Says (λ z. z) result (model.integer_of (operand_of item.now)) }
+{
+    match item {
+        Operand::Number(Num::Int(z)) => Ok(*z),
+        Operand::Number(Num::Bool(_)) => Err(StmtFault::Index(IndexFault::NotAnIndex)),
+        Operand::Number(Num::Scalar(Kind::Bool, _)) => {
+            Err(StmtFault::Index(IndexFault::NotAnIndex))
+        }
+        Operand::Number(Num::Scalar(_, z)) => Ok(*z),
+        Operand::Elements(_) => Err(StmtFault::Stmt(StmtError::BadArgument)),
     }
 }
 
 /// The place of the element at an index. Below zero it counts from the end.
-pub(crate) fn place_in(view: &View, index: i128) -> Result<u64, StmtFault>
-    ensures place { Says (λ p. p) result (meaning.place_in view.now.shape view.now.places index) }
+fn place_in(view: &View, index: i128) -> Result<u64, StmtFault>
+    ensures place { Says (λ p. p) result (model.place_in view.now.shape view.now.places index) }
     ensures limit { IfOk result (λ p. p + item_size view.now.element ≤ 2 ^ 64) }
 {
     match view.shape() {
@@ -72,33 +62,23 @@ pub(crate) fn place_in(view: &View, index: i128) -> Result<u64, StmtFault>
     }
 }
 
-/// The number at a place of an array.
-pub(crate) fn scalar_at(
-    session: &mut Session,
-    inputs: &Inputs,
-    array: &Array,
-    place: u64,
-) -> Result<Value, Stop>
-    requires { place + item_size (geo_of array.now).element ≤ 2 ^ 64 }
-    ensures { Ends value_of result (live session.new) (meaning.run (inputs_of inputs.now.entries) (meaning.scalar_at (base_of array.now.base) (geo_of array.now).element place) (live session.old)) }
+/// The place of the element that an operand chooses of an array.
+pub(crate) fn indexed_place(view: &View, item: &Operand<'_>) -> Result<u64, StmtFault>
+    ensures place { Says (λ p. p) result (refusing.◌>>=◌ (model.integer_of (operand_of item.now))
+        (model.place_in view.now.shape view.now.places)) }
+    ensures limit { IfOk result (λ p. p + item_size view.now.element ≤ 2 ^ 64) }
 {
-    let elem = element_of(array.view.elem())?;
-    let bytes = session.use_element(array.base, place, elem)?;
-    Ok(Value::Number(Num::Scalar(elem.kind(), value_at(&bytes, 0, elem))))
+    let index = integer_of(item)?;
+    place_in(view, index)
 }
 
-/// The element of an array at an index.
-pub(crate) fn indexed(
-    session: &mut Session,
-    inputs: &Inputs,
-    target: &Value,
-    item: &Value,
-) -> Result<Value, Stop>
-    ensures { Ends value_of result (live session.new) (meaning.run (inputs_of inputs.now.entries) (meaning.indexed (value_of target.now) (value_of item.now)) (live session.old)) }
+/// The element that `target[item]` chooses.
+pub(crate) fn index_array(target: &Value, item: &Operand<'_>) -> Result<ElementPlace, StmtFault>
+    ensures { Says chosen_of result
+        (model.index_array (unused_of target.now) (operand_of item.now)) }
 {
-    item_used(session, inputs, item)?;
-    let array = array_of(target)?;
-    let index = integer_of(item)?;
-    let place = place_in(&array.view, index)?;
-    scalar_at(session, inputs, array, place)
+    let view = array_of(target)?;
+    let place = indexed_place(view, item)?;
+    let elem = number_type(view.elem())?;
+    Ok(ElementPlace { elem, place })
 }

@@ -1,17 +1,19 @@
 //! Statements, evaluated over a session.
 #![tactic(auto)]
 
-mod arrays;
+mod creation;
 mod effect;
-mod elements;
 mod eval;
 mod exec;
 mod fault;
 mod indexes;
 mod numbers;
+mod operand;
+mod operation;
+mod operators;
+mod printing;
 mod stop;
-mod texts;
-mod writes;
+mod writing;
 
 pub use exec::{Output, run_stmt};
 pub use fault::{IndexFault, StmtError, StmtFault, UfuncFault, ViewFault};

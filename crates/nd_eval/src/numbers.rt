@@ -1,9 +1,12 @@
 //! Numbers as the bytes of elements, and back.
 
-ghost use Rattle.std.specs.Prelude.{◌≡◌, ◌*◌, ◌/◌, ◌^◌, ◌≤◌, pos, length, map, IfOk};
-ghost use Rattle.nd_model.specs.Element.{size_of};
+ghost use Rattle.std.specs.Prelude.{◌≡◌, ◌*◌, ◌^◌, ◌≤◌, pos, length, IfOk};
+ghost use Rattle.std.specs.List.{flat_map};
+ghost use Rattle.nd_model.specs.Element.{bytes_of, size_of};
 ghost use Rattle.nd_model.specs.Tuple.{count_up};
-ghost use Rattle.nd_model.specs.Meaning as meaning;
+ghost use Rattle.nd_model.specs.Creation as creation;
+ghost use Rattle.nd_model.specs.Writing as writing;
+ghost use Rattle.nd_eval.specs.Contents.{numbers_in};
 
 use nd_block::{RawBlock, store_at, value_at};
 use nd_types::{Elem, Kind};
@@ -11,21 +14,20 @@ use std::alloc::{AllocError, Global};
 
 /// The numbers that `np.arange` makes.
 pub(crate) fn int64() -> Elem
-    ensures { result ≡ meaning.int64 }
+    ensures { result ≡ creation.int64 }
 {
     Elem::little(Kind::I64)
 }
 
 /// Returns the numbers of `count` elements that stand one after another.
-pub fn numbers_in(
+pub(crate) fn numbers_in(
     alloc: Global,
     elem: Elem,
     count: usize,
     bytes: &[u8],
 ) -> Result<Vec<i128>, AllocError>
     requires { length bytes.now ≡ count * size_of elem.kind }
-    ensures numbers { IfOk result (λ v. v.items ≡ meaning.values_in elem count bytes.now) }
-    ensures len { IfOk result (λ v. length v.items ≡ count) }
+    ensures { IfOk result (λ v. v.items ≡ numbers_in elem count bytes.now) }
 {
     let size = elem.size() as usize;
     let mut numbers = Vec::with_capacity(alloc, count)?;
@@ -38,7 +40,7 @@ pub fn numbers_in(
 /// Writes the numbers from 0 to n-1 to elements that stand one after another.
 fn fill_up(bytes: &mut [u8], elem: Elem, n: usize)
     requires { (length bytes.old ≡ n * size_of elem.kind) × (n ≤ 2 ^ 24) }
-    ensures { bytes.new ≡ meaning.bytes_of_all elem (map pos (count_up 0 n)) }
+    ensures { bytes.new ≡ flat_map (λ k. bytes_of elem (pos k)) (count_up 0 n) }
 {
     let size = elem.size() as usize;
     for number in 0..n {
@@ -47,9 +49,9 @@ fn fill_up(bytes: &mut [u8], elem: Elem, n: usize)
 }
 
 /// Returns a block of the numbers from 0 to n-1.
-pub fn numbers_below(alloc: Global, elem: Elem, n: usize) -> Result<RawBlock, AllocError>
+pub(crate) fn numbers_below(alloc: Global, elem: Elem, n: usize) -> Result<RawBlock, AllocError>
     requires { n ≤ 2 ^ 24 }
-    ensures { IfOk result (λ b. b ≡ meaning.bytes_of_all elem (map pos (count_up 0 n))) }
+    ensures { IfOk result (λ b. b ≡ flat_map (λ k. bytes_of elem (pos k)) (count_up 0 n)) }
 {
     let mut block = RawBlock::zeroed(alloc, n * elem.size() as usize)?;
     fill_up(block.as_mut_slice(), elem, n);
@@ -57,8 +59,8 @@ pub fn numbers_below(alloc: Global, elem: Elem, n: usize) -> Result<RawBlock, Al
 }
 
 /// Returns whether the shape broadcasts to one element.
-pub fn is_single(shape: &[u64]) -> bool
-    ensures { result ≡ meaning.is_single shape.now }
+pub(crate) fn is_single(shape: &[u64]) -> bool
+    ensures { result ≡ writing.is_single shape.now }
 {
     for n in shape {
         if *n != 1 {

@@ -23,3 +23,13 @@ pub mod TokenLaws
 pub mod Weights
 pub mod CallWeights
 pub mod FewTokens
+pub mod Tuples
+pub mod Choosing
+pub mod Growing
+pub mod Soundness
+pub mod Taking
+pub mod Contents
+pub mod Uses
+pub mod Bases
+pub mod Noted
+mod Rows

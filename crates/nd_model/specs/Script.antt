@@ -39,13 +39,17 @@ number_word word = let n = digits_value 10 word in if nat_lt n (2 ^ 64) && bytes
 
 -- ---- commands
 
+-- what a script may ask of a notebook
+pub data Query : Type 0 where
+  Shows : (at : ℕ) → Query
+  ShowsSource : (at : ℕ) → Query
+  ShowsNames : (at : ℕ) → Query
+  ShowsValue : (at : ℕ) → (name : List ℕ) → Query
+  Counts : Query
+
 pub data Command : Type 0 where
   Edits : Edit → Command
-  Shows : (at : ℕ) → Command
-  ShowsSource : (at : ℕ) → Command
-  ShowsNames : (at : ℕ) → Command
-  ShowsValue : (at : ℕ) → (name : List ℕ) → Command
-  Counts : Command
+  Asks : Query → Command
   -- an empty line, or a comment
   Silent : Command
   Bad : Command
@@ -71,9 +75,9 @@ placed_line word at =
     if bytes_eq word (codes "insert") then Opens (Inserting at)
     else if bytes_eq word (codes "edit") then Opens (Changing at)
     else if bytes_eq word (codes "remove") then Whole (Edits (Remove at))
-    else if bytes_eq word (codes "show") then Whole (Shows at)
-    else if bytes_eq word (codes "source") then Whole (ShowsSource at)
-    else if bytes_eq word (codes "names") then Whole (ShowsNames at)
+    else if bytes_eq word (codes "show") then Whole (Asks (Shows at))
+    else if bytes_eq word (codes "source") then Whole (Asks (ShowsSource at))
+    else if bytes_eq word (codes "names") then Whole (Asks (ShowsNames at))
     else Whole Bad
 
 abbrev pub move_line : ℕ → ℕ → Line
@@ -82,11 +86,11 @@ move_line from to = Whole (Edits (Move from to))
 -- a name is any word but the empty one
 abbrev pub value_line : List ℕ → ℕ → Line
 value_line [] at = Whole Bad
-value_line (c ∷ cs) at = Whole (ShowsValue at (c ∷ cs))
+value_line (c ∷ cs) at = Whole (Asks (ShowsValue at (c ∷ cs)))
 
 abbrev pub line_of_words : List (List ℕ) → Line
 line_of_words [] = Whole Bad
-line_of_words (word ∷ []) = if bytes_eq word (codes "count") then Whole Counts else Whole Bad
+line_of_words (word ∷ []) = if bytes_eq word (codes "count") then Whole (Asks Counts) else Whole Bad
 line_of_words (word ∷ a ∷ []) = with_number (number_word a) (placed_line word)
 line_of_words (word ∷ a ∷ b ∷ []) =
     if bytes_eq word (codes "move") then with_number (number_word a) (λ from. with_number (number_word b) (move_line from))
@@ -227,29 +231,40 @@ abbrev pub edit_answer : Option EditFault → List ℕ
 edit_answer None = codes "ok\n"
 edit_answer (Some f) = refused_line (edit_fault_text f)
 
-abbrev pub query_answer : {X : Type 0} → (X → List ℕ) → Result X QueryFault → List ℕ
-query_answer text (Ok x) = text x
-query_answer text (Err f) = refused_line (query_fault_text f)
+-- the answer as bytes
+abbrev pub with_text : {X : Type 0} → (X → List ℕ) → Result X QueryFault → Result (List ℕ) QueryFault
+with_text text (Ok x) = Ok (text x)
+with_text text (Err f) = Err f
+
+-- WHAT A QUERY GIVES
+abbrev pub query : Query → Book → Result (List ℕ) QueryFault
+query (Shows at) b = with_text result_answer (result_at b at)
+query (ShowsSource at) b = with_text source_answer (source_at b at)
+query (ShowsNames at) b = with_text names_answer (names_at b at)
+query (ShowsValue at name) b = with_text value_answer (value_at b at name)
+query Counts b = Ok (count_answer (count_of b))
+
+-- names and values are made for their answer, which takes memory
+abbrev pub takes_memory : Query → Bool
+takes_memory (ShowsNames at) = true
+takes_memory (ShowsValue at name) = true
+takes_memory _ = false
+
+abbrev pub query_answer : Result (List ℕ) QueryFault → List ℕ
+query_answer (Ok text) = text
+query_answer (Err f) = refused_line (query_fault_text f)
 
 -- the bytes that answer a command, memory aside
 abbrev pub answer : Command → Book → List ℕ
 answer (Edits e) b = edit_answer (refusal e b)
-answer (Shows at) b = query_answer result_answer (result_at b at)
-answer (ShowsSource at) b = query_answer source_answer (source_at b at)
-answer (ShowsNames at) b = query_answer names_answer (names_at b at)
-answer (ShowsValue at name) b = query_answer value_answer (value_at b at name)
-answer Counts b = count_answer (count_of b)
+answer (Asks q) b = query_answer (query q b)
 answer Silent b = []
 answer Bad b = codes "bad command\n"
 
 -- the notebook after a command, memory aside
 abbrev pub after_command : Command → Book → Book
 after_command (Edits e) b = after_edit e b
-after_command (Shows at) b = b
-after_command (ShowsSource at) b = b
-after_command (ShowsNames at) b = b
-after_command (ShowsValue at name) b = b
-after_command Counts b = b
+after_command (Asks q) b = b
 after_command Silent b = b
 after_command Bad b = b
 
@@ -260,11 +275,7 @@ succeeds (Err f) = false
 -- Memory may be wanted where an edit would be answered `ok`, and where names or a value would be shown.
 abbrev pub may_want_memory : Command → Book → Bool
 may_want_memory (Edits e) b = is_none (refusal e b)
-may_want_memory (Shows at) b = false
-may_want_memory (ShowsSource at) b = false
-may_want_memory (ShowsNames at) b = succeeds (names_at b at)
-may_want_memory (ShowsValue at name) b = succeeds (value_at b at name)
-may_want_memory Counts b = false
+may_want_memory (Asks q) b = takes_memory q && succeeds (query q b)
 may_want_memory Silent b = false
 may_want_memory Bad b = false
 

@@ -1,9 +1,9 @@
 -- Views: what an array is, apart from the base that it lies in. There are no strides here: a view is the list of the
 -- places of its elements in C order (PEP 3118 gives the places by an offset and strides).
-use Rattle.std.specs.Prelude.{ℕ, ◌+◌, ◌*◌, Bool, true, List, map}
+use Rattle.std.specs.Prelude.{ℕ, ◌+◌, ◌*◌, Bool, true, List, map, slice_index}
 use Rattle.std.specs.List.{flat_map}
 use Rattle.nd_model.specs.Element.{Element, size_of}
-use Rattle.nd_model.specs.Tuple.{count_up, elements_of}
+use Rattle.nd_model.specs.Tuple.{count_up, elements_of, indices, number}
 
 -- a field of a structure: its name, its place inside, and its element
 pub record Field : Type 0 where
@@ -46,3 +46,11 @@ contiguous t shape = record {
   writable = true;
   places = map (λ k. k * item_size t) (count_up 0 (elements_of shape));
 }
+
+-- the place of the element at an index tuple
+abbrev pub place_of : Geo → List ℕ → ℕ
+place_of g t = slice_index g.places (number g.shape t)
+
+-- the view of this shape whose element at each index tuple is that of the old one at another tuple
+abbrev pub rearranged_view : Geo → (shape : List ℕ) → (List ℕ → List ℕ) → Geo
+rearranged_view g shape from = record { element = g.element; shape = shape; writable = g.writable; places = map (λ t. place_of g (from t)) (indices shape) }

@@ -1,13 +1,16 @@
 //! What a notebook means, and the laws of it.
 #![tactic(auto)]
 
+ghost use Rattle.nd_model.specs.Bases.{FewBases};
 ghost use Rattle.nd_model.specs.Book.{LabelsStayDistinct, AnyLabels as AnyBookLabels};
 ghost use Rattle.nd_model.specs.Element.{BytesRoundTrip, OneWrap, RoundTrip};
 ghost use Rattle.nd_model.specs.Footprint.{Frame, EffectsAreAll, Replay};
+ghost use Rattle.nd_model.specs.Noting.{WritesReadNoMore};
 ghost use Rattle.nd_model.specs.Promotion.{PromotionTable};
 ghost use Rattle.nd_model.specs.Records.{Kept};
 ghost use Rattle.nd_model.specs.Renaming.{Rename, AnyLabels};
 ghost use Rattle.nd_model.specs.Scheduler.{AnyPass};
+ghost use Rattle.nd_model.specs.Sound.{StaysSound};
 ghost use Rattle.nd_model.specs.Strides.{PartsAreHeld};
 
 pub mod grammar;
@@ -80,4 +83,19 @@ pub fn any_book_labels()
 /// The labels of a book's cells stay distinct, edit after edit.
 pub fn labels_stay_distinct()
     ensures { LabelsStayDistinct }
+{}
+
+/// A session in which each array and row lies in its base stays so, at a cell's start, after each statement and after a cell.
+pub fn stays_sound()
+    ensures { StaysSound }
+{}
+
+/// A statement, whether it is refused or not, makes at most as many bases as it has tokens.
+pub fn few_bases()
+    ensures { FewBases }
+{}
+
+/// What a statement's write notes as read was read before.
+pub fn writes_read_no_more()
+    ensures { WritesReadNoMore }
 {}

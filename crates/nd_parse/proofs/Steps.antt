@@ -11,7 +11,9 @@ use Rattle.nd_model.specs.Factored.{Group, attributed, placed, place, group, gro
 use Rattle.nd_model.proofs.Parsing.Looks.{look_method, look_group, known}
 use Rattle.nd_model.proofs.Parsing.Loops.{Shrinks, shrinks, mapped, fused, many_fuse}
 use Rattle.nd_read.specs.declared.read.Failure.{Failure}
-use Rattle.nd_read.specs.Gives.{Fails}
+use Rattle.std.specs.Borrow.{Bor}
+use Rattle.nd_token.specs.declared.token.Token as code
+use Rattle.nd_read.specs.Gives.{Fails, Gives, with_rest, tokens_of, paired}
 use Rattle.nd_read.proofs.Levels.{enter_in}
 use Rattle.nd_read.proofs.Stops.{fails_on}
 use Rattle.nd_parse.specs.Readers.{collected, trailing, saved_body}
@@ -45,8 +47,8 @@ group_shrinks levels =
 then_ok : {A B C : Type 0} (f : A → B → C) (a : Gram model.Token A) (b : Gram model.Token B) (ts rest : List model.Token) (x : A) → read kind a ts ≡ Ok (x, rest) → read kind (Then f a b) ts ≡ mapped (f x) (read kind b rest)
 then_ok f a b ts rest x e = rw e refl
 
-paired : {A B C : Type 0} (f : A → B → C) (a : Gram model.Token A) (b : Gram model.Token B) (ts : List model.Token) → read kind (Then f a b) ts ≡ mapped (λ (p : A × B). f p.0 p.1) (read kind (Then (λ x y. (x, y)) a b) ts)
-paired {A} {B} {C} f a b ts = go (read kind a ts)
+in_two : {A B C : Type 0} (f : A → B → C) (a : Gram model.Token A) (b : Gram model.Token B) (ts : List model.Token) → read kind (Then f a b) ts ≡ mapped (λ (p : A × B). f p.0 p.1) (read kind (Then (λ x y. (x, y)) a b) ts)
+in_two {A} {B} {C} f a b ts = go (read kind a ts)
   where
     go : (r : Result (A × List model.Token) grammar.Stop)
         → (r >>= λ x. read kind b x.1 >>= λ y. Ok (f x.0 y.0, y.1)) ≡ mapped (λ (p : A × B). f p.0 p.1) (r >>= λ x. read kind b x.1 >>= λ y. Ok ((x.0, y.0), y.1))
@@ -91,7 +93,7 @@ target_is levels ts mid e d =
     let many : Gram model.Token (List Group) = Many SUFFIX (λ gs. gs) g in
     then_ok (λ t (p : Group × List Group). placed t p.0.0 p.0.1 p.1) (operand Target (under levels)) (Then (λ i is. (i, is)) g many) ts mid e d
     ∙ regrouped e (read kind (Then (λ i is. (i, is)) g many) mid)
-    ∙ ap (mapped (λ (q : List Suffix × Index). (suffixed e q.0, q.1))) (sym (paired (λ (i : Group) is. collected (map OfMethod i.0) i.1 is) g many mid))
+    ∙ ap (mapped (λ (q : List Suffix × Index). (suffixed e q.0, q.1))) (sym (in_two (λ (i : Group) is. collected (map OfMethod i.0) i.1 is) g many mid))
 
 pub target_ends : (levels : ℕ) (ts mid rest : List model.Token) (e : Expr) (before : List Suffix) (last : Index) → read kind (operand Target (under levels)) ts ≡ Ok (e, mid)
     → read kind (trailing (under levels)) mid ≡ Ok ((before, last), rest) → read kind (target (under levels)) ts ≡ Ok ((suffixed e before, last), rest)
@@ -104,3 +106,27 @@ target_fails levels ts e h = fails_on e _ _ h
 pub target_fails_at : (levels : ℕ) (ts mid : List model.Token) (left : Expr) (e : Failure) → read kind (operand Target (under levels)) ts ≡ Ok (left, mid) → Fails e (read kind (trailing (under levels)) mid)
     → Fails e (read kind (target (under levels)) ts)
 target_fails_at levels ts mid left e d h = rw (target_is levels ts mid left d) (fails_on e _ _ h)
+
+-- ---- what was read first, with what was read second
+
+module _ {X Y B : Type 0} (view : Y → B) (first : X) (second : Result (Y × Bor (List code.Token)) Failure)
+    (r : Result (B × List model.Token) grammar.Stop) where
+  pub pair_reads : (x : X) (y : Y) (rest : Bor (List code.Token)) → Ok ((x, y), rest) ≡ paired first second
+      → Gives (with_rest view) second r → (r ≡ Ok (view y, tokens_of rest.now)) × (x ≡ first)
+  pair_reads x y rest e g = go second e g
+    where
+      go : (s : Result (Y × Bor (List code.Token)) Failure) → Ok ((x, y), rest) ≡ paired first s
+          → Gives (with_rest view) s r → (r ≡ Ok (view y, tokens_of rest.now)) × (x ≡ first)
+      go (Ok z) e g =
+          let p : ((x, y), rest) ≡ ((first, z.0), z.1) = cc in
+          let b : y ≡ z.0 = ap (λ (q : (X × Y) × Bor (List code.Token)). q.0.1) p in
+          let c : rest ≡ z.1 = ap (λ (q : (X × Y) × Bor (List code.Token)). q.1) p in
+          (rw (b, c) g, ap (λ (q : (X × Y) × Bor (List code.Token)). q.0.0) p)
+      go (Err f) e g = absurd cc
+
+  pub pair_fails : (e : Failure) → Err e ≡ paired first second → Gives (with_rest view) second r → Fails e r
+  pair_fails e h g = go second h g
+    where
+      go : (s : Result (Y × Bor (List code.Token)) Failure) → Err e ≡ paired first s → Gives (with_rest view) s r → Fails e r
+      go (Ok z) h g = absurd cc
+      go (Err f) h g = let same : e ≡ f = cc in rw same g

@@ -12,6 +12,7 @@ ghost use Rattle.nd_read.specs.Gives.{Gives, with_rest, tokens_of, reason_of, st
 use crate::stmt::line;
 use nd_read::kinds::{ANY, START, next_in};
 use nd_read::read::{Failure, Read, Reason, Stop, Tokens, stop_at};
+use nd_rule::append;
 use nd_syntax::{Line, ParseFault, ParseKind};
 use nd_token::{BadToken, Token, Word};
 use std::alloc::{AllocError, Global};
@@ -44,12 +45,13 @@ fn cell<'t>(alloc: Global, tokens: Tokens<'t>) -> Read<'t, Vec<Line>>
     let (_, mut rest) = tokens.split_at(0);
     let mut left = LINES;
     'lines: while goes_on(left, rest) {
-        let (next, after) = line(alloc, LEVELS, rest)?;
-        all.push(next)?;
+        let (more, after) = append(all, line(alloc, LEVELS, rest))?;
+        all = more;
         rest = after;
         left -= 1;
     }
     if is_over(left, rest) {
+        drop(all);
         return Err(stop_at(rest, Reason::TooMany));
     }
     Ok((all, rest))
@@ -62,6 +64,7 @@ fn whole(alloc: Global, tokens: &[Token]) -> Result<Vec<Line>, Failure>
     if rest.is_empty() {
         Ok(all)
     } else {
+        drop(all);
         Err(stop_at(rest, Reason::Itself))
     }
 }

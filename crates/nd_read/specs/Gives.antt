@@ -66,3 +66,8 @@ inside n = record { level = cells.under n; expr = λ s. cells.expr s (cells.unde
 abbrev pub Behind : ℕ → List model.Token → Option (Bor (List Token)) → Type 0
 Behind set ts (Some rest) = (next_in kind set ts ≡ true) × (read kind (token set) ts ≡ Ok (front ts, tokens_of rest.now))
 Behind set ts None = next_in kind set ts ≡ false
+
+-- what was read first, with what was read second
+abbrev pub paired : {X Y R E : Type 0} → X → Result (Y × R) E → Result ((X × Y) × R) E
+paired first (Ok second) = Ok ((first, second.0), second.1)
+paired first (Err e) = Err e

@@ -5,7 +5,7 @@ ghost use Rattle.nd_model.specs.Predict.{read, next_in};
 ghost use Rattle.nd_model.specs.Cells.{token, leaf, name, name_of, quoted_of, line_at};
 ghost use Rattle.nd_token.specs.Tokens.{token_of};
 ghost use Rattle.nd_syntax.specs.Syntax.{expr_of};
-ghost use Rattle.nd_read.specs.Gives.{Gives, with_rest, tokens_of, front, Behind};
+ghost use Rattle.nd_read.specs.Gives.{Gives, with_rest, tokens_of, front, Behind, paired};
 ghost use Rattle.nd_read.specs.declared.read.Failure.TheVariants.{Memory, Stopped};
 ghost use Rattle.nd_read.specs.declared.read.Reason.TheVariants.{Itself};
 
@@ -139,6 +139,14 @@ pub fn close<'t, X: Drop>(inner: X, set: u128, tokens: Tokens<'t>) -> Read<'t, X
 {
     let rest = skip(tokens, set)?;
     Ok((inner, rest))
+}
+
+/// What was read first, with what was read second.
+pub fn pair<'t, X: Drop, Y: Drop>(first: X, second: Read<'t, Y>) -> Read<'t, (X, Y)>
+    ensures { result ≡ paired first second.entry }
+{
+    let (second, rest) = second?;
+    Ok(((first, second), rest))
 }
 
 /// The line of the next token, or 0.

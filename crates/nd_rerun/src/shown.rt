@@ -1,9 +1,10 @@
 //! The elements of an array as they are shown.
 
 ghost use Rattle.std.specs.Prelude.{◌≡◌, ◌+◌, ◌≤◌, ◌^◌, ◌++◌, drop, IfOk, OnOk, slice_index};
-ghost use Rattle.nd_model.specs.Element.{bytes_of};
+ghost use Rattle.nd_model.specs.Element.{IsValue, bytes_of};
 ghost use Rattle.nd_model.specs.View.{Structure, item_size};
-ghost use Rattle.nd_model.specs.Renaming.{number_at, shown_bytes, shown_element};
+ghost use Rattle.nd_model.specs.Content.{number_at};
+ghost use Rattle.nd_model.specs.Renaming.{shown_bytes, shown_element};
 ghost use Rattle.nd_types.specs.Types.{type_of};
 ghost use Rattle.nd_heap.specs.Values.{base_of, geo_of};
 ghost use Rattle.nd_heap.specs.Kept.{version_of};
@@ -29,7 +30,8 @@ fn bytes_from(bytes: &[u8], place: usize) -> &[u8]
 
 /// The number at a place of these bytes, which are 0 past their end.
 fn number(bytes: &[u8], place: usize, elem: Elem) -> i128
-    ensures { result ≡ number_at elem bytes.now place }
+    ensures value { result ≡ number_at elem bytes.now place }
+    ensures fits { IsValue elem.kind result }
 {
     let rest = bytes_from(bytes, place);
     let run = [

@@ -10,11 +10,12 @@ ghost use Rattle.nd_read.specs.Parts.{behind_comma};
 ghost use Rattle.nd_rule.specs.Readers.{Operands, one_length, tuple_body, axis_at, axis_options, comma_axis, only_axis};
 
 use crate::operators::Rules;
+use crate::rows::{append, lead};
 use nd_read::kinds::{
     AXIS, AXIS_CALLED, CLOSE, COMMA, COMMA_CLOSING, COMMA_INNER, EQUAL, NONE, OPEN_NONE,
     OPEN_TUPLE, next_in,
 };
-use nd_read::read::{Read, Reason, Tokens, behind, close, shut, skip, stop_at};
+use nd_read::read::{Read, Reason, Tokens, behind, close, pair, shut, skip, stop_at};
 use nd_read::spot::Spot;
 use nd_read::types::{behind_last, comma_keepdims, no_lengths, only_keepdims};
 use nd_syntax::{Axis, Expr};
@@ -39,10 +40,8 @@ impl<'f, F: for<'t> Fn(u8, Spot, Tokens<'t>) -> Read<'t, Expr>> Rules<'f, F> {
         requires { Operands F.Fn self.now.operand.now (levels + 1) }
         ensures { Gives (with_rest exprs_of) result (read kind (one_length (inside levels)) (tokens_of tokens.now)) }
     {
-        let (length, rest) = self.expr(levels, Spot::Length, tokens)?;
-        let mut all = Vec::new(self.alloc);
-        all.push(length)?;
-        Ok((all, rest))
+        let none = Vec::new(self.alloc);
+        append(none, self.expr(levels, Spot::Length, tokens))
     }
 
     /// `(expr, ..)`
@@ -72,10 +71,8 @@ impl<'f, F: for<'t> Fn(u8, Spot, Tokens<'t>) -> Read<'t, Expr>> Rules<'f, F> {
             (read kind (tuple_body (inside levels)) (tokens_of tokens.now)) }
     {
         let (first, rest) = self.expr(levels, Spot::Anywhere, tokens)?;
-        let (mut all, rest) = self.others(levels, COMMA_INNER, rest)?;
-        let rest = behind_last(COMMA_CLOSING, rest);
-        all.insert(0, first)?;
-        Ok((all, rest))
+        let (all, rest) = lead(first, self.others(levels, COMMA_INNER, rest))?;
+        Ok((all, behind_last(COMMA_CLOSING, rest)))
     }
 
     /// `expr {"," expr}`, where the first expression stands at the spot
@@ -85,9 +82,7 @@ impl<'f, F: for<'t> Fn(u8, Spot, Tokens<'t>) -> Read<'t, Expr>> Rules<'f, F> {
         ensures { Gives (with_rest exprs_of) result (read kind (exprs (expr (spot_of spot) (under levels)) (expr Anywhere (under levels))) (tokens_of tokens.now)) }
     {
         let (first, rest) = self.expr(levels, spot, tokens)?;
-        let (mut all, rest) = self.others(levels, COMMA, rest)?;
-        all.insert(0, first)?;
-        Ok((all, rest))
+        lead(first, self.others(levels, COMMA, rest))
     }
 
     /// Any number of expressions, each behind a comma of the set.
@@ -99,8 +94,8 @@ impl<'f, F: for<'t> Fn(u8, Spot, Tokens<'t>) -> Read<'t, Expr>> Rules<'f, F> {
         // from the first token on
         let (_, mut rest) = tokens.split_at(0);
         'more: while next_in(rest, comma) {
-            let (next, after) = self.other(levels, comma, rest)?;
-            all.push(next)?;
+            let (more, after) = append(all, self.other(levels, comma, rest))?;
+            all = more;
             rest = after;
         }
         Ok((all, rest))
@@ -183,8 +178,7 @@ impl<'f, F: for<'t> Fn(u8, Spot, Tokens<'t>) -> Read<'t, Expr>> Rules<'f, F> {
         if next_in(tokens, AXIS_CALLED) {
             return Err(stop_at(tokens, Reason::UnknownCall));
         }
-        let (keepdims, rest) = only_keepdims(tokens)?;
-        Ok(((Axis::Default, keepdims), rest))
+        pair(Axis::Default, only_keepdims(tokens))
     }
 
     /// `axis = .. [, keepdims = ..]`
@@ -194,8 +188,7 @@ impl<'f, F: for<'t> Fn(u8, Spot, Tokens<'t>) -> Read<'t, Expr>> Rules<'f, F> {
             (read kind (axis_options (inside levels)) (tokens_of tokens.now)) }
     {
         let (axis, rest) = self.named_axis(levels, AXIS, tokens)?;
-        let (keepdims, rest) = comma_keepdims(rest)?;
-        Ok(((axis, keepdims), rest))
+        pair(axis, comma_keepdims(rest))
     }
 
     /// The options behind a comma, if they are there.

@@ -10,11 +10,12 @@ ghost use Rattle.nd_read.specs.Parts.{behind_comma};
 ghost use Rattle.nd_rule.specs.Readers.{Operands, items_of_index, no_items, open_slice, list_item, field_name};
 
 use crate::operators::Rules;
+use crate::rows::{append, lead};
 use nd_read::kinds::{
     CLOSE, CLOSE_BRACKET, COLON, COMMA_LAST, COMMA_MORE, DOT, ELEMENT, ELLIPSIS, EXPR, NEWAXIS,
     NEWAXIS_CALLED, NONE, NP_NEWAXIS, OPEN_BRACKET, OPEN_NONE, QUOTED, next_in,
 };
-use nd_read::read::{Read, Reason, Tokens, behind, close, quoted_of, shut, skip, take};
+use nd_read::read::{Read, Reason, Tokens, behind, close, pair, quoted_of, shut, skip, take};
 use nd_read::spot::Spot;
 use nd_read::types::behind_last;
 use nd_syntax::{Element, Expr, Index, IndexItem};
@@ -71,10 +72,8 @@ impl<'f, F: for<'t> Fn(u8, Spot, Tokens<'t>) -> Read<'t, Expr>> Rules<'f, F> {
         ensures { Gives (with_rest items_in) result (read kind (separated COMMA_MORE COMMA_LAST (item FirstItem (inside levels)) (item LaterItem (inside levels))) (tokens_of tokens.now)) }
     {
         let (first, rest) = self.item(levels, Spot::FirstItem, tokens)?;
-        let (mut all, rest) = self.other_items(levels, rest)?;
-        let rest = behind_last(COMMA_LAST, rest);
-        all.insert(0, first)?;
-        Ok((all, rest))
+        let (all, rest) = lead(first, self.other_items(levels, rest))?;
+        Ok((all, behind_last(COMMA_LAST, rest)))
     }
 
     /// Any number of items, each behind a comma.
@@ -86,8 +85,8 @@ impl<'f, F: for<'t> Fn(u8, Spot, Tokens<'t>) -> Read<'t, Expr>> Rules<'f, F> {
         // from the first token on
         let (_, mut rest) = tokens.split_at(0);
         'more: while next_in(rest, COMMA_MORE) {
-            let (next, after) = self.other_item(levels, rest)?;
-            all.push(next)?;
+            let (more, after) = append(all, self.other_item(levels, rest))?;
+            all = more;
             rest = after;
         }
         Ok((all, rest))
@@ -153,7 +152,7 @@ impl<'f, F: for<'t> Fn(u8, Spot, Tokens<'t>) -> Read<'t, Expr>> Rules<'f, F> {
     {
         let (first, rest) = self.expr(levels, spot, tokens)?;
         if next_in(rest, COLON) {
-            let ((stop, step), rest) = self.slice(levels, rest)?;
+            let ((first, (stop, step)), rest) = pair(first, self.slice(levels, rest))?;
             return Ok((IndexItem::Slice(Some(first), stop, step), rest));
         }
         Ok((IndexItem::At(first), rest))
@@ -167,8 +166,7 @@ impl<'f, F: for<'t> Fn(u8, Spot, Tokens<'t>) -> Read<'t, Expr>> Rules<'f, F> {
     {
         let rest = skip(tokens, COLON)?;
         let (stop, rest) = self.bound(levels, rest)?;
-        let (step, rest) = self.step(levels, rest)?;
-        Ok(((stop, step), rest))
+        pair(stop, self.step(levels, rest))
     }
 
     #[tactic(auto, unfolding(nd_model::specs::Cells::bound_in))]
@@ -236,10 +234,8 @@ impl<'f, F: for<'t> Fn(u8, Spot, Tokens<'t>) -> Read<'t, Expr>> Rules<'f, F> {
         ensures { Gives (with_rest list_of_elements) result (read kind (separated COMMA_MORE COMMA_LAST (element (inside levels)) (element (inside levels))) (tokens_of tokens.now)) }
     {
         let (first, rest) = self.element(levels, tokens)?;
-        let (mut all, rest) = self.other_elements(levels, rest)?;
-        let rest = behind_last(COMMA_LAST, rest);
-        all.insert(0, first)?;
-        Ok((all, rest))
+        let (all, rest) = lead(first, self.other_elements(levels, rest))?;
+        Ok((all, behind_last(COMMA_LAST, rest)))
     }
 
     /// Any number of elements, each behind a comma.
@@ -252,8 +248,8 @@ impl<'f, F: for<'t> Fn(u8, Spot, Tokens<'t>) -> Read<'t, Expr>> Rules<'f, F> {
         // from the first token on
         let (_, mut rest) = tokens.split_at(0);
         'more: while next_in(rest, COMMA_MORE) {
-            let (next, after) = self.other_element(levels, rest)?;
-            all.push(next)?;
+            let (more, after) = append(all, self.other_element(levels, rest))?;
+            all = more;
             rest = after;
         }
         Ok((all, rest))

@@ -4,5 +4,7 @@
 mod arguments;
 mod indexes;
 mod operators;
+mod rows;
 
 pub use operators::{Rules, operated};
+pub use rows::append;

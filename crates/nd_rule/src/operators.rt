@@ -9,9 +9,10 @@ ghost use Rattle.nd_syntax.specs.Syntax.{expr_of};
 ghost use Rattle.nd_read.specs.Gives.{Gives, with_rest, tokens_of, spot_of, operation_of, operations_of};
 ghost use Rattle.nd_rule.specs.Readers.{Operands, operators, ranked};
 
+use crate::rows::append;
 use nd_read::kinds::{AMPERSAND, BAR, CARET, COMPARISON, PRODUCT, SHIFT, SUM, next_in};
 use nd_read::operators::binary_of;
-use nd_read::read::{Read, Reason, Tokens, stop_at, take};
+use nd_read::read::{Read, Reason, Tokens, pair, stop_at, take};
 use nd_read::spot::Spot;
 use nd_syntax::{BinaryOp, Expr};
 use std::alloc::{AllocError, Global};
@@ -51,7 +52,7 @@ impl<'f, F: for<'t> Fn(u8, Spot, Tokens<'t>) -> Read<'t, Expr>> Rules<'f, F> {
     {
         let (first, rest) = self.bor(levels, spot, tokens)?;
         if next_in(rest, COMPARISON) {
-            let (other, rest) = self.comparison(levels, rest)?;
+            let ((first, other), rest) = pair(first, self.comparison(levels, rest))?;
             return Ok((operated(self.alloc, first, other)?, rest));
         }
         Ok((first, rest))
@@ -66,6 +67,7 @@ impl<'f, F: for<'t> Fn(u8, Spot, Tokens<'t>) -> Read<'t, Expr>> Rules<'f, F> {
         let (token, rest) = take(tokens, COMPARISON)?;
         let (operand, rest) = self.bor(levels, Spot::Anywhere, rest)?;
         if next_in(rest, COMPARISON) {
+            drop(operand);
             return Err(stop_at(rest, Reason::LeftOut));
         }
         Ok(((binary_of(token.word), operand), rest))
@@ -105,7 +107,7 @@ impl<'f, F: for<'t> Fn(u8, Spot, Tokens<'t>) -> Read<'t, Expr>> Rules<'f, F> {
         ensures { Gives (with_rest expr_of) result (read kind (chain set (ranked rank (spot_of spot) (under levels)) (ranked rank Anywhere (under levels))) (tokens_of tokens.now)) }
     {
         let (first, rest) = self.ranked(levels, rank, spot, tokens)?;
-        let (others, rest) = self.operations(levels, rank, set, rest)?;
+        let ((first, others), rest) = pair(first, self.operations(levels, rank, set, rest))?;
         Ok((chained(self.alloc, first, others)?, rest))
     }
 
@@ -125,8 +127,8 @@ impl<'f, F: for<'t> Fn(u8, Spot, Tokens<'t>) -> Read<'t, Expr>> Rules<'f, F> {
         // from the first token on
         let (_, mut rest) = tokens.split_at(0);
         'more: while next_in(rest, set) {
-            let (next, after) = self.operation(levels, rank, set, rest)?;
-            all.push(next)?;
+            let (more, after) = append(all, self.operation(levels, rank, set, rest))?;
+            all = more;
             rest = after;
         }
         Ok((all, rest))
@@ -145,8 +147,8 @@ impl<'f, F: for<'t> Fn(u8, Spot, Tokens<'t>) -> Read<'t, Expr>> Rules<'f, F> {
         ensures { Gives (with_rest operation_of) result (read kind (operation set (ranked rank Anywhere (under levels))) (tokens_of tokens.now)) }
     {
         let (token, rest) = take(tokens, set)?;
-        let (operand, rest) = self.ranked(levels, rank, Spot::Anywhere, rest)?;
-        Ok(((binary_of(token.word), operand), rest))
+        let op = binary_of(token.word);
+        pair(op, self.ranked(levels, rank, Spot::Anywhere, rest))
     }
 }
 
@@ -180,5 +182,5 @@ pub fn operated(alloc: Global, operand: Expr, other: (BinaryOp, Expr)) -> Result
 {
     let mut others = Vec::new(alloc);
     others.push(other)?;
-    Ok(Expr::Chain(Box::new(alloc, operand)?, others))
+    chained(alloc, operand, others)
 }

@@ -1,8 +1,4 @@
-pub mod Chunks
-pub mod Counts
-pub mod Ended
+pub mod Carried
 pub mod Lines
 pub mod Openings
 pub mod Pieces
-pub mod Progress
-pub mod Writing

@@ -1,19 +1,8 @@
--- Lines of a script.
-use Rattle.std.proofs.Common.{◌≡◌, ℕ, ◌+◌, ◌<◌, Bool, true, false, cond, List, [], ◌∷◌, ◌++◌, length, get_or, take, drop, Some, None, refl, sym, ap, ◌∙◌, append_assoc, arith, add-one, drop-cons}
-use Rattle.std.specs.Prelude.{◌==◌, ◌≢◌, All, position}
-use Rattle.std.specs.List.{slice_split, onto_first, position_or_len}
-use Rattle.std.proofs.lemmas.Bool.{ne_eqb, eqb-true, eqb-false, ltb-false}
-use Rattle.std.proofs.lemmas.List.{get_or-take, length-take, take-append-drop}
-use Rattle.std.proofs.lemmas.List.Elements.{All-append}
-use Rattle.std.proofs.lemmas.List.Quantifiers.{position-Some}
-use Rattle.std.proofs.lemmas.List.Sums.{fails_before_first}
-use Rattle.nd_run.specs.Run.{IsInLine}
-use Rattle.std.proofs.lemmas.List.Splits.{slice_split_none}
-use Rattle.nd_script.proofs.Words.{parts_are_some}
-
--- bytes without a newline are one line
-pub one_line : (l : List ℕ) → All (λ c. c ≢ 10) l → slice_split (λ c. c == 10) l ≡ l ∷ []
-one_line l none = slice_split_none (λ c. c == 10) l (λ k d h. ne_eqb _ 10 (none k d h))
+-- The lines of a source.
+use Rattle.std.proofs.Common.{◌≡◌, ℕ, true, false, cond, List, [], ◌∷◌, ◌++◌, refl, ap, ◌∙◌, append_assoc}
+use Rattle.std.specs.Prelude.{◌==◌, ◌≢◌, All}
+use Rattle.std.specs.List.{slice_split, onto_first}
+use Rattle.nd_lines.proofs.Lines.{one_line, parts_are_some}
 
 -- a line more
 pub split_line_more : (t l : List ℕ) → All (λ c. c ≢ 10) l → slice_split (λ c. c == 10) (t ++ 10 ∷ l) ≡ slice_split (λ c. c == 10) t ++ l ∷ []
@@ -32,29 +21,3 @@ pub grown_lines : (old mid new l : List ℕ) → All (λ c. c ≢ 10) l → mid 
 grown_lines old mid new l none first second =
     let whole : new ≡ old ++ 10 ∷ l = second ∙ ap (λ xs. xs ++ l) first ∙ append_assoc old (10 ∷ []) l in
     rw whole (split_line_more old l none)
-
--- up to the first newline
-in_line_before : (xs : List ℕ) (i : ℕ) → position (λ c. c == 10) xs ≡ Some i → IsInLine (take i xs)
-in_line_before xs i e = λ k d h.
-    let below : k < i = omega (arith, length-take i xs) in
-    let here = position-Some (λ c. c == 10) xs i d e in
-    rw (get_or-take i xs k d below) (eqb-false (get_or xs k d) 10 (here.2 k below))
-
-pub newline_at : (xs : List ℕ) (i : ℕ) → position (λ c. c == 10) xs ≡ Some i → (i < length xs) × IsInLine (take i xs) × (xs ≡ take i xs ++ 10 ∷ drop (i + 1) xs)
-newline_at xs i e =
-    let at = position-Some (λ c. c == 10) xs i 0 e in
-    let found : get_or xs i 0 ≡ 10 = eqb-true (get_or xs i 0) 10 at.1 in
-    let cut : drop i xs ≡ 10 ∷ drop (i + 1) xs = rw (drop-cons xs i 0 at.0, found, add-one) refl in
-    (at.0, in_line_before xs i e, sym (take-append-drop i xs) ∙ ap (λ ys. take i xs ++ ys) cut)
-
-none_found : (b : Bool) (i : ℕ) → cond b (Some i) None ≡ None → b ≡ false
-none_found true i e = cc
-none_found false i e = refl
-
-pub no_newline : (xs : List ℕ) → position (λ c. c == 10) xs ≡ None → IsInLine xs
-no_newline xs e = λ k d h.
-    let past = ltb-false (position_or_len (λ c. c == 10) xs) (length xs) (none_found _ _ e) in
-    eqb-false (get_or xs k d) 10 (fails_before_first (λ c. c == 10) xs k d (omega arith))
-
-pub in_line_append : (xs ys : List ℕ) → IsInLine xs → IsInLine ys → IsInLine (xs ++ ys)
-in_line_append xs ys first second = All-append (λ c. c ≢ 10) xs ys first second

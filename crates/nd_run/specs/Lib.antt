@@ -1,5 +1,4 @@
 pub mod Answer
 pub mod Carry
-pub mod Ends
 pub mod Run
 pub mod Source

@@ -70,7 +70,7 @@ pub fn remove_cell(
 
 /// Shows what a cell gives.
 pub fn show_result(out: &mut Vec<u8>, notebook: &Notebook, at: usize) -> Result<(), AllocError>
-    ensures { Carried (script.Shows at) (book_of notebook.now) out.old.items result out.new.items (book_of notebook.now) }
+    ensures { Carried (script.Asks (script.Shows at)) (book_of notebook.now) out.old.items result out.new.items (book_of notebook.now) }
 {
     match notebook.result(at) {
         Ok(shown) => push_result_answer(out, shown),
@@ -80,7 +80,7 @@ pub fn show_result(out: &mut Vec<u8>, notebook: &Notebook, at: usize) -> Result<
 
 /// Shows a cell's source.
 pub fn show_source(out: &mut Vec<u8>, notebook: &Notebook, at: usize) -> Result<(), AllocError>
-    ensures { Carried (script.ShowsSource at) (book_of notebook.now) out.old.items result out.new.items (book_of notebook.now) }
+    ensures { Carried (script.Asks (script.ShowsSource at)) (book_of notebook.now) out.old.items result out.new.items (book_of notebook.now) }
 {
     match notebook.source(at) {
         Ok(source) => push_source_answer(out, source),
@@ -90,7 +90,7 @@ pub fn show_source(out: &mut Vec<u8>, notebook: &Notebook, at: usize) -> Result<
 
 /// Shows the names that are bound after a cell.
 pub fn show_names(out: &mut Vec<u8>, notebook: &Notebook, at: usize) -> Result<(), AllocError>
-    ensures { Carried (script.ShowsNames at) (book_of notebook.now) out.old.items result out.new.items (book_of notebook.now) }
+    ensures { Carried (script.Asks (script.ShowsNames at)) (book_of notebook.now) out.old.items result out.new.items (book_of notebook.now) }
 {
     match notebook.names(at) {
         Ok(names) => push_names_answer(out, &names),
@@ -105,7 +105,7 @@ pub fn show_value(
     at: usize,
     name: &str,
 ) -> Result<(), AllocError>
-    ensures { Carried (script.ShowsValue at name.now) (book_of notebook.now) out.old.items result out.new.items (book_of notebook.now) }
+    ensures { Carried (script.Asks (script.ShowsValue at name.now)) (book_of notebook.now) out.old.items result out.new.items (book_of notebook.now) }
 {
     match notebook.value(at, name) {
         Ok(value) => push_value_answer(out, &value),

@@ -2,18 +2,13 @@
 #![tactic(auto)]
 
 mod answer;
+mod answerer;
 mod carry;
 mod fault;
-mod input;
 mod line;
-mod output;
-mod run_fault;
 mod runner;
-mod script;
 mod source;
 mod value;
 
-pub use input::{CountedRead, ScriptReader};
-pub use output::{CountedWrite, ScriptWriter};
-pub use run_fault::RunFault;
+pub use nd_lines::{CountedRead, CountedWrite, RunFault, ScriptReader, ScriptWriter};
 pub use runner::{run, run_script, run_turns};

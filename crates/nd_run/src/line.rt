@@ -1,11 +1,11 @@
 //! Lines of a script, carried out and answered.
 
-ghost use Rattle.std.specs.Prelude.{◌≡◌, [], Option};
+ghost use Rattle.std.specs.Prelude.{◌≡◌, [], IfOk, OnErr};
 ghost use Rattle.nd_model.specs.Script as script;
 ghost use Rattle.nd_rerun.specs.Edits.{book_of};
 ghost use Rattle.nd_script.specs.Command.{line_of};
+ghost use Rattle.nd_lines.specs.Run.{Done, DoneInPart, IsInLine};
 ghost use Rattle.nd_run.specs.Carry.{Carried, CarriedLine};
-ghost use Rattle.nd_run.specs.Run.{Done, IsInLine};
 ghost use Rattle.nd_run.specs.Source.{lines_so_far, opening_of, stage_of};
 
 use crate::carry::{
@@ -28,7 +28,9 @@ pub fn answer_line(
 ) -> Result<Option<Source>, AllocError>
     requires inside { IsInLine line.now }
     requires empty { answer.old.items ≡ [] }
-    ensures { Done (stage_of source) line.now (book_of notebook.old) result answer.new.items (book_of notebook.new) }
+    ensures done { IfOk result (λ t. Done (stage_of source) line.now (stage_of t)
+        (book_of notebook.old) answer.new.items (book_of notebook.new)) }
+    ensures part { OnErr result (DoneInPart (stage_of source) line.now (book_of notebook.old) (book_of notebook.new)) }
 {
     match source {
         None => answer_command(line, answer, meter, notebook),
@@ -47,7 +49,9 @@ fn continue_source(
 ) -> Result<Option<Source>, AllocError>
     requires inside { IsInLine line.now }
     requires empty { answer.old.items ≡ [] }
-    ensures { Done (script.Within (opening_of source.opening) (lines_so_far source)) line.now (book_of notebook.old) result answer.new.items (book_of notebook.new) }
+    ensures done { IfOk result (λ t. Done (script.Within (opening_of source.opening) (lines_so_far source)) line.now (stage_of t)
+        (book_of notebook.old) answer.new.items (book_of notebook.new)) }
+    ensures part { OnErr result (DoneInPart (script.Within (opening_of source.opening) (lines_so_far source)) line.now (book_of notebook.old) (book_of notebook.new)) }
 {
     if is_end_of_source(line) {
         close_source(&source, answer, meter, notebook)?;
@@ -84,7 +88,9 @@ fn answer_command(
     notebook: &mut Notebook,
 ) -> Result<Option<Source>, AllocError>
     requires { answer.old.items ≡ [] }
-    ensures { Done script.Between line.now (book_of notebook.old) result answer.new.items (book_of notebook.new) }
+    ensures done { IfOk result (λ t. Done script.Between line.now (stage_of t)
+        (book_of notebook.old) answer.new.items (book_of notebook.new)) }
+    ensures part { OnErr result (DoneInPart script.Between line.now (book_of notebook.old) (book_of notebook.new)) }
 {
     let command = command_of(line);
     match command {

@@ -2,13 +2,12 @@
 
 ghost use Rattle.std.specs.Prelude.{◌≡◌, ◌^◌, ◌⊎◌, IfErr, OnOk};
 ghost use Rattle.nd_rerun.specs.Edits.{book_of};
-ghost use Rattle.nd_run.specs.Ends.{counted_on};
-ghost use Rattle.nd_run.specs.Run.{RanFromNothing, RanToEnd, StoppedAt, StoppedFromNothing};
+ghost use Rattle.nd_lines.specs.Ends.{counted_on};
+ghost use Rattle.nd_lines.specs.Run.{RanToEnd, StoppedAt};
+ghost use Rattle.nd_run.specs.Run.{RanFromNothing, StoppedFromNothing};
 
-use crate::input::CountedRead;
-use crate::output::CountedWrite;
-use crate::run_fault::RunFault;
-use crate::script::Script;
+use crate::answerer::NotebookAnswerer;
+use nd_lines::{CountedRead, CountedWrite, RunFault, run_lines};
 use nd_rerun::{Meter, Notebook};
 use std::alloc::Global;
 
@@ -82,17 +81,12 @@ pub fn run_turns<R: CountedRead, W: CountedWrite>(
     ensures reader_kept { OnOk result (R.failures reader.new ≡ R.failures reader.old) }
     ensures writer_kept { OnOk result (W.failures writer.new ≡ W.failures writer.old) }
 {
-    let mut meter = Meter::new();
-    let mut script = Script::new(alloc);
-    let mut chunk = [0u8; 8192];
-    for _turn in 0..turns {
-        let Ok(n) = reader.read_counted(&mut chunk) else {
-            return Err(RunFault::ReadFault);
-        };
-        if n == 0 {
-            return script.finish(alloc, &mut meter, notebook, writer);
-        }
-        script.take_bytes(alloc, &chunk[..n], &mut meter, notebook, writer)?;
-    }
-    Err(RunFault::ReadFault)
+    let mut source = None;
+    let mut answerer = NotebookAnswerer {
+        alloc,
+        meter: Meter::new(),
+        notebook,
+        source: &mut source,
+    };
+    run_lines(alloc, reader, writer, &mut answerer, turns)
 }

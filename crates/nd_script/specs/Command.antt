@@ -10,11 +10,11 @@ line_of (Insert at) = script.Opens (script.Inserting at)
 line_of (Edit at) = script.Opens (script.Changing at)
 line_of (Remove at) = script.Whole (script.Edits (book.Remove at))
 line_of (Move from to) = script.Whole (script.Edits (book.Move from to))
-line_of (Show at) = script.Whole (script.Shows at)
-line_of (Source at) = script.Whole (script.ShowsSource at)
-line_of (Names at) = script.Whole (script.ShowsNames at)
-line_of (Value at name) = script.Whole (script.ShowsValue at name.now)
-line_of Count = script.Whole script.Counts
+line_of (Show at) = script.Whole (script.Asks (script.Shows at))
+line_of (Source at) = script.Whole (script.Asks (script.ShowsSource at))
+line_of (Names at) = script.Whole (script.Asks (script.ShowsNames at))
+line_of (Value at name) = script.Whole (script.Asks (script.ShowsValue at name.now))
+line_of Count = script.Whole (script.Asks script.Counts)
 line_of Silent = script.Whole script.Silent
 line_of Bad = script.Whole script.Bad
 

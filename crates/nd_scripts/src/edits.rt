@@ -1,6 +1,6 @@
 //! Lists of edits on a notebook without cells, with the meter.
 
-use nd_rerun::{Edit, Meter, Notebook};
+use nd_rerun::{Edit, EditFault, Meter, Notebook};
 use nd_rows::unescape;
 use std::alloc::Global;
 use std::io;
@@ -53,22 +53,32 @@ fn print_texts(rt: &HostRuntime, notebook: &Notebook) -> io::Result<()> {
     Ok(())
 }
 
-/// Makes the edits that stand below a title, and prints the answer to each, the runs that they took, and what the cells printed.
-pub(crate) fn run_row(rt: &HostRuntime, title: &str, lines: &str) -> io::Result<()> {
-    println!(rt; "= edits: {title}")?;
-    let texts = unescape_lines(rt.alloc(), lines)?;
-    let edits = edits_of(rt.alloc(), &texts)?;
-    let mut meter = Meter::new();
-    let mut notebook = Notebook::new(rt.alloc());
-    let Ok(answers) = notebook.apply_all(&mut meter, &edits) else {
-        return Err(io::ErrorKind::OutOfMemory.into());
-    };
-    for answer in &answers {
+/// Prints the answer to each edit.
+fn print_answers(rt: &HostRuntime, answers: &[Result<(), EditFault>]) -> io::Result<()> {
+    for answer in answers {
         match answer {
             Ok(()) => println!(rt; "ok")?,
             Err(fault) => println!(rt; "{fault:?}")?,
         }
     }
+    Ok(())
+}
+
+/// Makes the edits, and prints the answer to each, the runs that they took, and what the cells printed.
+fn print_edits(rt: &HostRuntime, notebook: &mut Notebook, edits: &[Edit]) -> io::Result<()> {
+    let mut meter = Meter::new();
+    let Ok(answers) = notebook.apply_all(&mut meter, edits) else {
+        return Err(io::ErrorKind::OutOfMemory.into());
+    };
+    print_answers(rt, &answers)?;
     println!(rt; "{} runs", meter.runs())?;
-    print_texts(rt, &notebook)
+    print_texts(rt, notebook)
+}
+
+/// Makes the edits that stand below a title on a notebook without cells, and prints what they give.
+pub(crate) fn run_row(rt: &HostRuntime, title: &str, lines: &str) -> io::Result<()> {
+    println!(rt; "= edits: {title}")?;
+    let texts = unescape_lines(rt.alloc(), lines)?;
+    let edits = edits_of(rt.alloc(), &texts)?;
+    print_edits(rt, &mut Notebook::new(rt.alloc()), &edits)
 }

@@ -19,10 +19,8 @@ use std::process::ExitCode;
 /// What stands before the title of a row.
 const TITLE: &str = "\n= ";
 
-/// Runs the rows of standard input.
-fn run_rows(rt: &HostRuntime) -> io::Result<()> {
-    let mut table = String::new(rt.alloc());
-    rt.stdin().read_to_string(&mut table)?;
+/// Runs the rows of a table.
+fn run_table(rt: &HostRuntime, table: &str) -> io::Result<()> {
     for row in table.split(TITLE).skip(1) {
         let (title, lines) = row.split_once('\n').unwrap_or((row, ""));
         match title.strip_prefix("edits: ") {
@@ -31,6 +29,13 @@ fn run_rows(rt: &HostRuntime) -> io::Result<()> {
         }
     }
     Ok(())
+}
+
+/// Runs the rows of standard input.
+fn run_rows(rt: &HostRuntime) -> io::Result<()> {
+    let mut table = String::new(rt.alloc());
+    rt.stdin().read_to_string(&mut table)?;
+    run_table(rt, &table)
 }
 
 /// Makes the calls that need no row.
@@ -51,13 +56,18 @@ fn run_command_lines(rt: &HostRuntime, lines: &[String]) -> io::Result<ExitCode>
     Ok(status)
 }
 
-fn main(rt: HostRuntime) -> io::Result<ExitCode> {
-    let lines: Vec<String> = env::args(&rt)?.skip(1).collect(rt.alloc())?;
-    if matches!(lines.as_slice(), [word] if word.as_str() == "memory") {
-        memory::print_calls(&rt)?;
+/// Does what the arguments ask.
+fn run(rt: &HostRuntime, lines: &[String]) -> io::Result<ExitCode> {
+    if matches!(lines, [word] if word.as_str() == "memory") {
+        memory::print_calls(rt)?;
         return Ok(ExitCode::SUCCESS);
     }
-    make_calls(&rt)?;
-    run_rows(&rt)?;
-    run_command_lines(&rt, &lines)
+    make_calls(rt)?;
+    run_rows(rt)?;
+    run_command_lines(rt, lines)
+}
+
+fn main(rt: HostRuntime) -> io::Result<ExitCode> {
+    let lines: Vec<String> = env::args(&rt)?.skip(1).collect(rt.alloc())?;
+    run(&rt, &lines)
 }

@@ -31,31 +31,47 @@ fn value_of(notebook: &Notebook, at: usize, name: &str) -> Result<Shown, QueryFa
     }
 }
 
-/// Whether the value of the name after the cell is an array of these elements.
-fn is_array(notebook: &Notebook, at: usize, name: &str, elements: [u8; 4]) -> bool {
-    let Ok(Shown::Array { shape, bytes, .. }) = value_of(notebook, at, name) else {
-        return false;
-    };
-    shape.as_slice() == [4].as_slice()
-        && bytes.len() == 32
+/// Whether the bytes are those of these elements.
+fn are_elements(bytes: &[u8], elements: [u8; 4]) -> bool {
+    bytes.len() == 32
         && bytes.chunks(8).zip(elements).all(|(chunk, element)| chunk
             == u64::from(element).to_le_bytes().as_slice())
 }
 
+/// Whether the value of the name after the cell is an array of these elements.
+fn is_array(notebook: &Notebook, at: usize, name: &str, elements: [u8; 4]) -> bool {
+    match value_of(notebook, at, name) {
+        Ok(Shown::Array { shape, bytes, .. }) => {
+            shape.as_slice() == [4].as_slice() && are_elements(&bytes, elements)
+        }
+        _ => false,
+    }
+}
+
+/// Whether the names are `x`, and behind it `y` where there is one.
+fn are_names(names: &[String], has_y: bool) -> bool {
+    match names {
+        [x] => !has_y && x.as_str() == "x",
+        [x, y] => has_y && x.as_str() == "x" && y.as_str() == "y",
+        _ => false,
+    }
+}
+
+/// Whether `x`, and `y` where there is one, are the names that are bound after the cell.
+fn are_named(notebook: &Notebook, at: usize, has_y: bool) -> bool {
+    match names_of(notebook, at) {
+        Ok(names) => are_names(&names, has_y),
+        Err(_) => false,
+    }
+}
+
 /// Whether `x`, and `y` where there is one, are the names that are bound after the cell, with these arrays.
 fn are_bound(notebook: &Notebook, at: usize, x: [u8; 4], y: Option<[u8; 4]>) -> bool {
-    let Ok(names) = names_of(notebook, at) else {
-        return false;
-    };
-    let are_named = match y {
-        Some(_) => names.len() == 2 && names[0].as_str() == "x" && names[1].as_str() == "y",
-        None => names.len() == 1 && names[0].as_str() == "x",
-    };
     let is_y = match y {
         Some(elements) => is_array(notebook, at, "y", elements),
         None => true,
     };
-    are_named && is_array(notebook, at, "x", x) && is_y
+    are_named(notebook, at, y.is_some()) && is_array(notebook, at, "x", x) && is_y
 }
 
 /// Whether the notebook shows this cell at the place, and the cell is not refused.
@@ -236,16 +252,20 @@ fn say(rt: &HostRuntime, is_right: bool) -> io::Result<()> {
     println!(rt; "{answer}")
 }
 
+/// Makes the edits, and says of each whether it was right.
+fn print_edits(rt: &HostRuntime, notebook: &mut Notebook) -> io::Result<()> {
+    let mut meter = Meter::new();
+    for step in &STEPS {
+        let is_step_right = is_right(notebook, &mut meter, *step);
+        say(rt, is_step_right)?;
+    }
+    Ok(())
+}
+
 /// Makes the calls, and says of each whether it was right.
 pub(crate) fn print_calls(rt: &HostRuntime) -> io::Result<()> {
     for is_view_right in views::are_right(rt.alloc())? {
         say(rt, is_view_right)?;
     }
-    let mut meter = Meter::new();
-    let mut notebook = Notebook::new(rt.alloc());
-    for step in &STEPS {
-        let is_step_right = is_right(&mut notebook, &mut meter, *step);
-        say(rt, is_step_right)?;
-    }
-    Ok(())
+    print_edits(rt, &mut Notebook::new(rt.alloc()))
 }

@@ -9,10 +9,9 @@ use std::process::ExitCode;
 
 /// Prints the answers to a script, below its title.
 fn print_answers(rt: &HostRuntime, title: &str, script: &[u8]) -> io::Result<()> {
-    let mut answers = Vec::new(rt.alloc());
-    write!(answers, "= {title}\n")?;
+    println!(rt; "= {title}")?;
     let mut reader = ScriptReader::new(script);
-    let mut writer = ScriptWriter::new(answers);
+    let mut writer = ScriptWriter::new(Vec::new(rt.alloc()));
     let ended = run_script(rt.alloc(), &mut reader, &mut writer);
     rt.stdout().write_all(writer.into_inner().as_slice())?;
     match ended {
@@ -52,8 +51,7 @@ fn words_of(alloc: Global, line: &str) -> Result<Vec<String>, AllocError> {
 /// Runs the program with this command line, and prints its exit status.
 pub(crate) fn run_program(rt: &HostRuntime, line: &str) -> io::Result<ExitCode> {
     println!(rt; "= ndnote {line}")?;
-    let words = words_of(rt.alloc(), line)?;
-    let status = status_of(rt, &words);
+    let status = status_of(rt, &words_of(rt.alloc(), line)?);
     println!(rt; "{status:?}")?;
     Ok(status)
 }

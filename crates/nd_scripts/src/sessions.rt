@@ -47,10 +47,8 @@ fn describe_array(
 ) -> Result<String, OutOfMemory> {
     session.store(array.base, 8, &[7, 0])?;
     let all = session.use_all(array)?;
-    let mut text = format!(in alloc; "all: {all:?}")?;
     let last = session.use_element(array.base, 8, Elem::little(Kind::I64))?;
-    text.push_str(format!(in alloc; ", the last: {last:?}")?.as_str())?;
-    Ok(text)
+    format!(in alloc; "all: {all:?}, the last: {last:?}").map_err(OutOfMemory::from)
 }
 
 /// An array that is read and written.
@@ -69,7 +67,9 @@ fn describe_names(alloc: Global, session: &mut Session) -> Result<String, OutOfM
     let version = session.freeze()?;
     let (count, first) = (version.count(), version.name_at(0));
     let (is_x, is_y) = (version.peek("x").is_some(), version.peek("y").is_some());
-    Ok(format!(in alloc; "{count} names, the first {first:?}, x: {is_x}, y: {is_y}")?)
+    format!(in alloc; "{count} names, the first {first:?}, x: {is_x}, y: {is_y}").map_err(
+        OutOfMemory::from,
+    )
 }
 
 /// Names in order: the first is bound again.
@@ -111,7 +111,9 @@ fn describe_blocks(alloc: Global, session: &mut Session) -> Result<String, OutOf
     let after = count_kept(session)?;
     let is_found = is_found(session, "x")?;
     let next = session.next_number();
-    Ok(format!(in alloc; "{before} bytes, without a name {after}, x: {is_found}, next {next}")?)
+    format!(in alloc; "{before} bytes, without a name {after}, x: {is_found}, next {next}").map_err(
+        OutOfMemory::from,
+    )
 }
 
 /// Prints what calls gave.

@@ -92,15 +92,14 @@ fn print_dripping(rt: &HostRuntime, title: &str, script: &[u8], fails: bool) -> 
     print_end(rt, title, ended, writer.into_inner().as_slice())
 }
 
-/// A script from a reader of single bytes that fails, and how many cells there are then.
-fn print_kept(rt: &HostRuntime) -> io::Result<()> {
+/// A script from a reader of single bytes that fails, and how many cells the notebook has then.
+fn print_cells_kept(rt: &HostRuntime, notebook: &mut Notebook) -> io::Result<()> {
     let mut reader = ScriptReader::new(Dripping {
         bytes: b"count\ninsert 0\nx = 1\n.\ncount\ninsert 0\ny = 1\n",
         fails: true,
     });
     let mut writer = ScriptWriter::new(Vec::new(rt.alloc()));
-    let mut notebook = Notebook::new(rt.alloc());
-    let ended = run(rt.alloc(), &mut reader, &mut writer, &mut notebook);
+    let ended = run(rt.alloc(), &mut reader, &mut writer, notebook);
     print_end(
         rt,
         "a reader that fails within a source",
@@ -108,6 +107,11 @@ fn print_kept(rt: &HostRuntime) -> io::Result<()> {
         writer.into_inner().as_slice(),
     )?;
     println!(rt; "{} cells", notebook.count())
+}
+
+/// The same on a notebook without cells.
+fn print_kept(rt: &HostRuntime) -> io::Result<()> {
+    print_cells_kept(rt, &mut Notebook::new(rt.alloc()))
 }
 
 /// Three reads of a script that has no end.

@@ -2,13 +2,21 @@ use Rattle.std.proofs.Common.{rules, ◌≡◌, ◌+◌, List, [], ◌∷◌, le
 use Rattle.std.specs.Vec.{vec_len}
 use Rattle.std.proofs.lemmas.Bool.{eqb-true, eqb-false}
 use Rattle.std.proofs.lemmas.List.{drop_all}
+use Rattle.nd_model.specs.Evaluation.{run, ◌>>=◌}
 use Rattle.nd_model.specs.Meaning as meaning
+use Rattle.nd_model.specs.Operand.{Whole}
+use Rattle.nd_model.specs.Operators.{negative}
+use Rattle.nd_model.specs.Creation.{arange}
+use Rattle.nd_model.specs.Operation.{use_operand, give}
 use Rattle.nd_syntax.specs.Syntax.{expr_of, suffix_of, index_of}
 use Rattle.nd_syntax.specs.declared.tree.Suffix.{Suffix}
 use Rattle.nd_heap.specs.Values.{value_of, inputs_of}
 use Rattle.nd_heap.specs.Live.{live}
-use Rattle.nd_eval.proofs.Bounds.{next_value, next_at_index}
-use Rattle.nd_eval.proofs.Chains.{exits, follows, goes}
+use Rattle.nd_eval.proofs.Bounds.{next_value, next_used, next_at_index}
+use Rattle.nd_eval.specs.Contents.{operand_of, made_of, unused_of}
+use Rattle.nd_eval.specs.Parts.{item_value, element_value}
+use Rattle.nd_eval.proofs.Chains.{exits, follows, goes, ends_as, exits_saying, follows_saying}
+use Rattle.nd_eval.proofs.Parts.{arange_parts}
 use Rattle.nd_eval.proofs.Indexing.{chain, next_index, run_postfix, tokens_of_postfix, nodes_of_postfix, arange_alone, no_items, items_in_index, nodes_of_its_items, more_refused, chain_alone, nodes_of_chain, chain_refused}
 use Rattle.nd_eval.proofs.eval.+value.Goals as goal
 
@@ -23,20 +31,36 @@ negative_value-returns-in_err-operand t c =
     exits value_of value_of (inputs_of c.args.inputs.now.entries) (meaning.value (expr_of c.args.operand.now)) _ _ _ _ _
     c.from_residual.ensures.1 c.in_err-operand.ensures
 
+pub negative_value-returns-in_err-negate : goal.negative_value-returns-in_err-negate
+negative_value-returns-in_err-negate t c =
+    let i = inputs_of c.args.inputs.now.entries in
+    follows value_of value_of i (meaning.value (expr_of c.args.operand.now)) _ _ _ _ c.in_ok-operand.operand _ c.in_ok-operand.ensures
+    (follows operand_of value_of i (use_operand Whole (value_of c.in_ok-operand.operand)) _ _ _ _ c.in_ok-operand-2.operand _ c.in_ok-operand-2.ensures
+    (exits_saying made_of value_of i (negative (operand_of c.in_ok-operand-2.operand)) give _ _ _ c.from_residual-in_err-negate.ensures.1 c.in_err-negate.ensures))
+
+pub negative_value-give-requires : goal.negative_value-give-requires
+negative_value-give-requires t c =
+    let i = inputs_of c.args.inputs.now.entries in
+    let made = next_value i (expr_of c.args.operand.now) _ _ _ c.in_ok-operand.ensures in
+    let none = next_used i Whole (value_of c.in_ok-operand.operand) _ _ _ c.in_ok-operand-2.ensures in
+    omega arith
+
 pub negative_value-returns : goal.negative_value-returns
 negative_value-returns t c =
-    follows value_of value_of (inputs_of c.args.inputs.now.entries) (meaning.value (expr_of c.args.operand.now)) _ _ _ _
-    c.in_ok-operand.operand _ c.in_ok-operand.ensures c.negated.ensures
+    let i = inputs_of c.args.inputs.now.entries in
+    follows value_of value_of i (meaning.value (expr_of c.args.operand.now)) _ _ _ _ c.in_ok-operand.operand _ c.in_ok-operand.ensures
+    (follows operand_of value_of i (use_operand Whole (value_of c.in_ok-operand.operand)) _ _ _ _ c.in_ok-operand-2.operand _ c.in_ok-operand-2.ensures
+    (follows_saying made_of value_of i (negative (operand_of c.in_ok-operand-2.operand)) give _ _ c.in_ok-negate.field-0 _ c.in_ok-negate.ensures c.give.ensures))
 
 pub index_into-returns-in_err-item : goal.index_into-returns-in_err-item
 index_into-returns-in_err-item t c =
-    exits value_of value_of (inputs_of c.args.inputs.now.entries) (meaning.item_value (index_of c.args.index.now)) _ _ _ _ _
+    exits value_of value_of (inputs_of c.args.inputs.now.entries) (item_value (index_of c.args.index.now)) _ _ _ _ _
     c.from_residual.ensures.1 c.in_err-item.ensures
 
 pub index_into-returns : goal.index_into-returns
 index_into-returns t c =
-    follows value_of value_of (inputs_of c.args.inputs.now.entries) (meaning.item_value (index_of c.args.index.now)) _ _ _ _
-    c.in_ok-item.item _ c.in_ok-item.ensures c.indexed.ensures
+    follows value_of value_of (inputs_of c.args.inputs.now.entries) (item_value (index_of c.args.index.now)) _ _ _ _
+    c.in_ok-item.item _ c.in_ok-item.ensures c.element_value.ensures
 
 pub value-value-requires : goal.value-value-requires
 value-value-requires t c =
@@ -63,7 +87,7 @@ value-loop-suffix-init t c =
     record {
       same = run_postfix i c.args.expr.now c.in-Postfix.operand c.in-Postfix.suffixes (live c.args.session.now) c.in-Postfix.is
           ∙ goes value_of i (meaning.value e) (λ v. chain v (map suffix_of c.in-Postfix.suffixes.items)) _ _ c.in_ok-found-in-Postfix.found found
-          ∙ ap (λ (es : List Suffix). meaning.run i (chain (value_of c.in_ok-found-in-Postfix.found) (map suffix_of es)) (live c.value.new.session)) (sym c.deref-suffix-items.ensures.value);
+          ∙ ap (λ (es : List Suffix). run i (chain (value_of c.in_ok-found-in-Postfix.found) (map suffix_of es)) (live c.value.new.session)) (sym c.deref-suffix-items.ensures.value);
       room = rw c.deref-suffix-items.ensures.value (omega arith);
       below = rw c.deref-suffix-items.ensures.value (omega arith);
     }
@@ -81,7 +105,7 @@ value-returns-in_err-found-in-Postfix-2 t c =
     let next = next_index c.deref-suffix-items.result.now c.loop-suffix.suffix-index c.suffix-item.result c.in-Index.index c.loop-suffix-test.true c.suffix-item.is c.in-Index.is in
     rw (c.loop-suffix.invariant.same, next)
     (exits value_of value_of (inputs_of c.args.inputs.now.entries)
-    (meaning.◌>>=◌ (meaning.item_value (index_of c.in-Index.index)) (meaning.indexed (value_of c.loop-suffix.found))) _ _ _ _ _
+    (item_value (index_of c.in-Index.index) >>= element_value (value_of c.loop-suffix.found)) _ _ _ _ _
     c.from_residual-in_err-found-in-Postfix-2.ensures.1 c.in_err-found-in-Postfix-2.ensures)
 
 pub value-loop-suffix-preserved : goal.value-loop-suffix-preserved
@@ -95,8 +119,8 @@ value-loop-suffix-preserved t c =
     let few = rw next at c.loop-suffix.invariant.below in
     record {
       same = c.loop-suffix.invariant.same
-          ∙ ap (λ (es : List Suffix). meaning.run i (chain (value_of c.loop-suffix.found) (map suffix_of es)) (live c.loop-suffix.session)) next
-          ∙ goes value_of i (meaning.◌>>=◌ (meaning.item_value x) (meaning.indexed (value_of c.loop-suffix.found))) (λ w. chain w rest) _ _
+          ∙ ap (λ (es : List Suffix). run i (chain (value_of c.loop-suffix.found) (map suffix_of es)) (live c.loop-suffix.session)) next
+          ∙ goes value_of i (item_value x >>= element_value (value_of c.loop-suffix.found)) (λ w. chain w rest) _ _
           c.in_ok-found-in-Postfix-2.found c.in_ok-found-in-Postfix-2.ensures;
       room = omega arith;
       below = omega arith;
@@ -125,22 +149,22 @@ pub value-returns-else-is_empty : goal.value-returns-else-is_empty
 value-returns-else-is_empty t c =
     let more = eqb-false (vec_len c.in-Chain.others) 0 (sym c.is_empty.ensures ∙ c.if-is_empty.false) in
     let some = λ (none : c.in-Chain.others.items ≡ []). (let n = ap length none in absurd (omega (arith, c.in-Chain.others.ok))) in
-    rw (chain_refused c.args.expr.now c.in-Chain.operand c.in-Chain.others c.in-Chain.is some, c.unbuilt-in-Chain.ensures) refl
+    rw (chain_refused c.args.expr.now c.in-Chain.operand c.in-Chain.others c.in-Chain.is some, c.unbuilt_form-in-Chain.ensures) refl
 
 pub value-returns-in_default : goal.value-returns-in_default
-value-returns-in_default t c = rw (c.in_default.is, c.unbuilt-in_default.ensures) refl
+value-returns-in_default t c = rw (c.in_default.is, c.unbuilt_form-in_default.ensures) refl
 
-pub called-arange-requires : goal.called-arange-requires
-called-arange-requires t c =
+pub call_value-value-requires : goal.call_value-value-requires
+call_value-value-requires t c =
     let a = c.in-Arange in
     let alone = arange_alone c.args.call.now a.start a.end a.step a.dtype a.is
     (sym c.is_some.ensures ∙ c.if-is_some.false) (sym c.is_some-else-is_some.ensures ∙ c.if-is_some-2.false) (sym c.is_some-else-is_some-2.ensures ∙ c.if-is_some-3.false) in
     let room = rw alone at c.requires in
-    let made = next_value (inputs_of c.args.inputs.now.entries) (expr_of a.end) _ _ _ c.in_ok-end-in-Arange.ensures in
-    omega arith
+    let below = rw a.is at c.decreases in
+    (omega arith, omega arith)
 
-pub called-returns-in_err-end-in-Arange : goal.called-returns-in_err-end-in-Arange
-called-returns-in_err-end-in-Arange t c =
+pub call_value-returns-in_err-end-in-Arange : goal.call_value-returns-in_err-end-in-Arange
+call_value-returns-in_err-end-in-Arange t c =
     let a = c.in-Arange in
     let alone = arange_alone c.args.call.now a.start a.end a.step a.dtype a.is
     (sym c.is_some.ensures ∙ c.if-is_some.false) (sym c.is_some-else-is_some.ensures ∙ c.if-is_some-2.false) (sym c.is_some-else-is_some-2.ensures ∙ c.if-is_some-3.false) in
@@ -148,14 +172,38 @@ called-returns-in_err-end-in-Arange t c =
     (exits value_of value_of (inputs_of c.args.inputs.now.entries) (meaning.value (expr_of a.end)) _ _ _ _ _
     c.from_residual.ensures.1 c.in_err-end-in-Arange.ensures)
 
-pub called-returns-in_ok-end-in-Arange : goal.called-returns-in_ok-end-in-Arange
-called-returns-in_ok-end-in-Arange t c =
+pub call_value-returns-in_err-make_arange-in-Arange : goal.call_value-returns-in_err-make_arange-in-Arange
+call_value-returns-in_err-make_arange-in-Arange t c =
     let a = c.in-Arange in
     let alone = arange_alone c.args.call.now a.start a.end a.step a.dtype a.is
     (sym c.is_some.ensures ∙ c.if-is_some.false) (sym c.is_some-else-is_some.ensures ∙ c.if-is_some-2.false) (sym c.is_some-else-is_some-2.ensures ∙ c.if-is_some-3.false) in
+    let i = inputs_of c.args.inputs.now.entries in
+    let v = c.in_ok-end-in-Arange.end in
     rw alone
-    (follows value_of value_of (inputs_of c.args.inputs.now.entries) (meaning.value (expr_of a.end)) _ _ _ _
-    c.in_ok-end-in-Arange.end _ c.in_ok-end-in-Arange.ensures c.arange.ensures)
+    (follows value_of value_of i (meaning.value (expr_of a.end)) _ _ _ _ v _ c.in_ok-end-in-Arange.ensures
+    (ends_as value_of i _ _ _ (arange_parts v)
+    (exits_saying made_of value_of i (arange (unused_of v)) give _ _ _ c.from_residual-in_err-make_arange-in-Arange.ensures.1 c.in_err-make_arange-in-Arange.ensures)))
+
+pub call_value-give-requires : goal.call_value-give-requires
+call_value-give-requires t c =
+    let a = c.in-Arange in
+    let alone = arange_alone c.args.call.now a.start a.end a.step a.dtype a.is
+    (sym c.is_some.ensures ∙ c.if-is_some.false) (sym c.is_some-else-is_some.ensures ∙ c.if-is_some-2.false) (sym c.is_some-else-is_some-2.ensures ∙ c.if-is_some-3.false) in
+    let room = rw alone at c.requires in
+    let made = next_value (inputs_of c.args.inputs.now.entries) (expr_of a.end) _ _ _ c.in_ok-end-in-Arange.ensures in
+    omega arith
+
+pub call_value-returns-in_ok-make_arange-in-Arange : goal.call_value-returns-in_ok-make_arange-in-Arange
+call_value-returns-in_ok-make_arange-in-Arange t c =
+    let a = c.in-Arange in
+    let alone = arange_alone c.args.call.now a.start a.end a.step a.dtype a.is
+    (sym c.is_some.ensures ∙ c.if-is_some.false) (sym c.is_some-else-is_some.ensures ∙ c.if-is_some-2.false) (sym c.is_some-else-is_some-2.ensures ∙ c.if-is_some-3.false) in
+    let i = inputs_of c.args.inputs.now.entries in
+    let v = c.in_ok-end-in-Arange.end in
+    rw alone
+    (follows value_of value_of i (meaning.value (expr_of a.end)) _ _ _ _ v _ c.in_ok-end-in-Arange.ensures
+    (ends_as value_of i _ _ _ (arange_parts v)
+    (follows_saying made_of value_of i (arange (unused_of v)) give _ _ c.in_ok-make_arange-in-Arange.field-0 _ c.in_ok-make_arange-in-Arange.ensures c.give.ensures)))
 
 pub item_value-only_item-requires : goal.item_value-only_item-requires
 item_value-only_item-requires t c =
@@ -173,4 +221,4 @@ pub only_item-returns-then-not-is_empty : goal.only_item-returns-then-not-is_emp
 only_item-returns-then-not-is_empty t c =
     let some = eqb-false (length c.in-Some.rest.now) 0 (sym c.is_empty.ensures ∙ c.if-not-is_empty.true) in
     let same : c.args.items.now ≡ c.in-Some.item.now ∷ c.in-Some.rest.now = search (rules, c.in-Some.ensures) in
-    rw (same, more_refused c.in-Some.item.now c.in-Some.rest.now some, c.unbuilt.ensures) refl
+    rw (same, more_refused c.in-Some.item.now c.in-Some.rest.now some, c.unbuilt_form.ensures) refl

@@ -1,4 +1,5 @@
 use Rattle.std.proofs.Common.{◌≡◌, ◌+◌, ◌<◌, ◌^◌, map, drop}
+use Rattle.nd_model.specs.Evaluation.{run}
 use Rattle.nd_model.specs.Meaning as meaning
 use Rattle.nd_syntax.specs.Syntax.{expr_of, suffix_of}
 use Rattle.nd_heap.specs.Values.{value_of, inputs_of}
@@ -15,8 +16,8 @@ decreases-negative_value l = 1 + nodes l.operand.now
 abbrev pub decreases-index_into : goal.decreases-index_into
 decreases-index_into l = 1 + nodes_of_index l.index.now
 
-abbrev pub decreases-called : goal.decreases-called
-decreases-called l = nodes_of_call l.call.now
+abbrev pub decreases-call_value : goal.decreases-call_value
+decreases-call_value l = nodes_of_call l.call.now
 
 abbrev pub decreases-item_value : goal.decreases-item_value
 decreases-item_value l = nodes_of_index l.index.now
@@ -31,8 +32,8 @@ abbrev pub invariant-value-loop-suffix : goal.invariant-value-loop-suffix
 invariant-value-loop-suffix l =
     let left = map suffix_of (drop l.suffix-index l.suffix-items) in
     record {
-      same : meaning.run (inputs_of l.inputs.entries) (meaning.value (expr_of l.expr)) (live l.fn.session)
-          ≡ meaning.run (inputs_of l.inputs.entries) (chain (value_of l.found) left) (live l.session);
+      same : run (inputs_of l.inputs.entries) (meaning.value (expr_of l.expr)) (live l.fn.session)
+          ≡ run (inputs_of l.inputs.entries) (chain (value_of l.found) left) (live l.session);
       room : (live l.session).next + chain_tokens left < 2 ^ 64;
       below : nodes_of_all (drop l.suffix-index l.suffix-items) < nodes l.expr;
     }

@@ -1,11 +1,15 @@
-use Rattle.std.proofs.Common.{◌∙◌, sym, ap, Ok}
+use Rattle.std.proofs.Common.{◌∙◌, sym, ap, Ok, [], ◌∷◌}
 use Rattle.nd_model.specs.Running as running
+use Rattle.nd_model.specs.Evaluation.{run}
 use Rattle.nd_model.specs.Meaning as meaning
+use Rattle.nd_model.specs.Operand.{Unused, BindsFirst}
+use Rattle.nd_model.specs.Operation.{act_on}
 use Rattle.nd_syntax.specs.Syntax.{expr_of}
 use Rattle.nd_heap.specs.Values.{value_of, inputs_of}
 use Rattle.nd_heap.specs.Live.{live}
 use Rattle.nd_eval.specs.Contents.{effect_of}
 use Rattle.nd_eval.proofs.Chains.{exits, goes}
+use Rattle.nd_eval.proofs.Parts.{binding_parts}
 use Rattle.nd_eval.proofs.exec.binding_effect.Goals as goal
 
 pub returns-in_err-bound : goal.returns-in_err-bound
@@ -15,6 +19,8 @@ returns-in_err-bound c =
 
 pub returns : goal.returns
 returns c =
-    goes value_of (inputs_of c.args.inputs.now.entries) (meaning.value (expr_of c.args.expr.now)) (λ v. meaning.Gives (running.Binding c.args.name.now v)) _ _
-    c.in_ok-bound.bound c.in_ok-bound.ensures
-    ∙ ap (λ n. (Ok (running.Binding n (value_of c.in_ok-bound.bound)), live c.value.new.session)) (sym c.in_ok-name.ensures.ok)
+    let i = inputs_of c.args.inputs.now.entries in
+    let v = value_of c.in_ok-bound.bound in
+    goes value_of i (meaning.value (expr_of c.args.expr.now)) (λ v. act_on (λ os. Ok (BindsFirst c.args.name.now)) ((Unused, v) ∷ [])) _ _ c.in_ok-bound.bound c.in_ok-bound.ensures
+    ∙ ap (λ t. run i t (live c.value.new.session)) (binding_parts c.args.name.now v)
+    ∙ ap (λ n. (Ok (running.Binding n v), live c.value.new.session)) (sym c.in_ok-name.ensures.ok)

@@ -1,12 +1,12 @@
 use Rattle.std.proofs.Common.{◌∙◌, sym, ap, Err}
 use Rattle.std.proofs.lemmas.Result.{err_from_is_err_and}
-use Rattle.std.proofs.lemmas.List.{map_push}
 use Rattle.nd_model.specs.Cells.{under}
 use Rattle.nd_model.specs.Factored.{stmt, cell}
 use Rattle.nd_syntax.specs.Syntax.{line_of, lines_of}
 use Rattle.nd_read.specs.Gives.{tokens_of, list_of}
 use Rattle.nd_read.specs.declared.read.Reason.TheVariants.{TooMany}
 use Rattle.nd_read.proofs.Stops.{stop_is}
+use Rattle.nd_rule.proofs.Appends.{appended, append_fails}
 use Rattle.nd_parse.proofs.Lines.{lines_begin, lines_go_on, lines_fail, lines_over, lines_end}
 use Rattle.nd_parse.proofs.parse.cell.Goals as goal
 
@@ -16,17 +16,19 @@ lines-init c =
     lines_begin (stmt (under 64)) (list_of c.new-all.result) 1000 (tokens_of c.args.tokens.now) (tokens_of c.split_at.result.1.now)
     (ap lines_of c.new-all.ensures.items) (ap tokens_of c.split_at.ensures.back)
 
-pub returns-in_err-next : goal.returns-in_err-next
-returns-in_err-next c =
+pub returns-in_err-more : goal.returns-in_err-more
+returns-in_err-more c =
     let p = err_from_is_err_and c.from_residual.result c.from_residual.ensures.1 in
     rw (p.1, p.2, ← c.lines.invariant)
-    (lines_fail (stmt (under 64)) (list_of c.lines.all) c.lines.left (tokens_of c.lines.rest.now) _ (sym c.goes_on.ensures ∙ c.lines-test.true) c.in_err-next.ensures)
+    (lines_fail (stmt (under 64)) (list_of c.lines.all) c.lines.left (tokens_of c.lines.rest.now) _ (sym c.goes_on.ensures ∙ c.lines-test.true)
+    (append_fails line_of c.lines.all c.line.result _ _ c.in_err-more.ensures c.line.ensures))
 
 pub lines-preserved : goal.lines-preserved
 lines-preserved c =
-    let one = lines_go_on (stmt (under 64)) (list_of c.lines.all) c.lines.left (tokens_of c.lines.rest.now) (tokens_of c.in_ok-next.after.now) (line_of c.in_ok-next.next)
-    (sym c.goes_on.ensures ∙ c.lines-test.true) c.in_ok-next.ensures in
-    rw (c.in_ok-push.ensures.items, map_push line_of c.lines.all.items c.in_ok-next.next) (sym one ∙ c.lines.invariant)
+    let one = appended line_of c.lines.all c.line.result c.in_ok-more.more c.in_ok-more.after _ c.in_ok-more.ensures c.line.ensures in
+    let step = lines_go_on (stmt (under 64)) (list_of c.lines.all) c.lines.left (tokens_of c.lines.rest.now) (tokens_of c.in_ok-more.after.now) one.0
+    (sym c.goes_on.ensures ∙ c.lines-test.true) one.1.0 in
+    rw one.1.1 (sym step ∙ c.lines.invariant)
 
 pub returns-then-is_over : goal.returns-then-is_over
 returns-then-is_over c =

@@ -1,5 +1,5 @@
-use Rattle.std.proofs.Common.{rules, ◌≡◌, ◌+◌, ◌<◌, ◌≤◌, ℕ, List, length, get_or, replicate, ℤ, sym, ap, ◌∙◌, subst, arith}
-use Rattle.std.specs.List.{All}
+use Rattle.std.proofs.Common.{rules, ◌≡◌, ◌+◌, ◌<◌, ◌≤◌, ℕ, List, length, get_or, take, replicate, take_all, ℤ, sym, ap, ◌∙◌, subst, arith}
+use Rattle.std.specs.List.{All, flat_map}
 use Rattle.std.specs.Int.{w128, cast_signed, cast_unsigned}
 use Rattle.std.specs.Int.RustNames.{FitsSigned}
 use Rattle.std.proofs.lemmas.List.{get_or-map, length-map}
@@ -9,7 +9,8 @@ use Rattle.nd_model.specs.View as view
 use Rattle.nd_types.specs.Fields.{field_of, fields_of}
 use Rattle.nd_types.specs.declared.field.Field.{Field}
 use Rattle.nd_types.proofs.Sized.{some_bytes}
-use Rattle.nd_rerun.proofs.Structures.{field_more}
+use Rattle.nd_model.specs.Session.{put}
+use Rattle.nd_rerun.proofs.Structures.{writes, field_more, fields_written}
 use Rattle.nd_rerun.proofs.shown.structure_at.Goals as goal
 
 -- the field at an index
@@ -52,7 +53,16 @@ loop-field-preserved c =
     let small : FitsSigned w128 z = search rules in (
       c.store.ensures.len ∙ long,
       field_more c.args.bytes.now c.args.place (fields_of items) i (field_of item) (field_of item) z (replicate c.args.structure.now.1 0) c.loop-field.block c.store.new.self
-          (counted items i lt) (named items i item lt c.field-item.is) c.number-value.ensures (omega arith) c.loop-field.invariant.1
+          (counted items i lt) (named items i item lt c.field-item.is) c.number-value.ensures.value (omega arith) c.loop-field.invariant.1
           (c.store.ensures.bytes ∙ ap (λ n. with_bytes c.loop-field.block n (bytes_of item.elem (cast_signed w128 (cast_unsigned w128 z)))) c.from.ensures
           ∙ ap (λ z. with_bytes c.loop-field.block item.at (bytes_of item.elem z)) (to_z-of_z w128 z small)),
     )
+
+pub returns : goal.returns
+returns c =
+    let items = c.fields-field-items.result.now in
+    let all : take c.loop-field.field-index (fields_of items) ≡ c.args.structure.now.0
+    = take_all c.loop-field.field-index (fields_of items) (omega (arith, c.loop-field-test.false, length-map items field_of)) ∙ c.fields-field-items.ensures.value in
+    c.loop-field.invariant.1
+    ∙ ap (λ ws. put ws (replicate c.args.structure.now.1 0))
+    (ap (flat_map (writes c.args.bytes.now c.args.place)) all ∙ sym (fields_written c.args.bytes.now c.args.place c.args.structure.now.0))

@@ -3,19 +3,19 @@ use Rattle.std.proofs.lemmas.Result.{err_from_is_err_and}
 use Rattle.nd_rerun.specs.Edits.{book_of}
 use Rattle.nd_script.specs.Command.{line_of}
 use Rattle.nd_run.proofs.Openings.{not_opening}
-use Rattle.nd_run.proofs.Progress.{done_whole, done_whole_err}
+use Rattle.nd_run.proofs.Carried.{done_whole, whole_in_part}
 use Rattle.nd_run.proofs.line.answer_command.Goals as goal
 
-pub returns-in_err-answer_whole-in_default : goal.returns-in_err-answer_whole-in_default
-returns-in_err-answer_whole-in_default c =
+pub returns-in_err-answer_whole-in_default-clause-part : goal.returns-in_err-answer_whole-in_default-clause-part
+returns-in_err-answer_whole-in_default-clause-part c =
     let p = err_from_is_err_and c.from_residual.result c.from_residual.ensures.1 in
     rw p.1 (
-    done_whole_err (line_of c.command_of-command.result) c.args.line.now c.args.answer.now.items c.answer_whole.new.answer.items (book_of c.args.notebook.now)
-    (book_of c.answer_whole.new.notebook) _ p.0 (sym c.command_of-command.ensures) c.in_err-answer_whole-in_default.ensures
+    whole_in_part (line_of c.command_of-command.result) c.args.line.now c.args.answer.now.items c.answer_whole.new.answer.items (book_of c.args.notebook.now)
+    (book_of c.answer_whole.new.notebook) _ (sym c.command_of-command.ensures) c.in_err-answer_whole-in_default.ensures
     )
 
-pub returns-in_ok-answer_whole-in_default : goal.returns-in_ok-answer_whole-in_default
-returns-in_ok-answer_whole-in_default c =
+pub returns-in_ok-answer_whole-in_default-clause-done : goal.returns-in_ok-answer_whole-in_default-clause-done
+returns-in_ok-answer_whole-in_default-clause-done c =
     let command = c.command_of-command.result in
     let opens = not_opening command c.in_default.not-Insert c.in_default.not-Edit in
     let carried = rw c.requires at c.in_ok-answer_whole-in_default.ensures in

@@ -1,7 +1,7 @@
 use Rattle.std.proofs.Common.{◌∙◌, refl, inl}
 use Rattle.std.specs.Prelude.{codes}
 use Rattle.nd_run.specs.Source.{lines_so_far, opening_of}
-use Rattle.nd_run.proofs.Progress.{closed_text, closed_bytes}
+use Rattle.nd_run.proofs.Carried.{closed_text, closed_bytes}
 use Rattle.nd_run.proofs.line.close_source.Goals as goal
 
 pub returns-in-Insert : goal.returns-in-Insert

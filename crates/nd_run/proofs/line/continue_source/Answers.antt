@@ -2,15 +2,15 @@ use Rattle.std.proofs.Common.{sym}
 use Rattle.std.proofs.lemmas.Result.{err_from_is_err_and}
 use Rattle.nd_rerun.specs.Edits.{book_of}
 use Rattle.nd_run.specs.Source.{lines_so_far, opening_of}
-use Rattle.nd_run.proofs.Progress.{done_closed_err}
+use Rattle.nd_run.proofs.Carried.{closed_in_part}
 use Rattle.nd_run.proofs.line.continue_source.Goals as goal
 
-pub returns-in_err-close_source : goal.returns-in_err-close_source
-returns-in_err-close_source c =
+pub returns-in_err-close_source-clause-part : goal.returns-in_err-close_source-clause-part
+returns-in_err-close_source-clause-part c =
     let p = err_from_is_err_and c.from_residual.result c.from_residual.ensures.1 in
     let s = c.args.source in
     let given = c.in_err-close_source.ensures in
     rw p.1 (
-    done_closed_err (opening_of s.opening) (lines_so_far s) c.args.line.now c.close_source.new.answer.items (book_of c.args.notebook.now) (book_of c.close_source.new.notebook)
-    given.0 p.0 (sym c.if-is_end_of_source.ensures) given.1
+    closed_in_part (opening_of s.opening) (lines_so_far s) c.args.line.now (book_of c.args.notebook.now) (book_of c.close_source.new.notebook)
+    given.0 (sym c.if-is_end_of_source.ensures) given.1
     )

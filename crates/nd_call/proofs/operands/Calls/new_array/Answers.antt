@@ -1,12 +1,21 @@
-use Rattle.nd_model.specs.Cells.{new_array}
+use Rattle.std.proofs.Common.{rules}
 use Rattle.nd_read.specs.Gives.{tokens_of}
-use Rattle.nd_read.proofs.Levels.{enter_shut}
 use Rattle.nd_call.proofs.Steps as steps
 use Rattle.nd_call.proofs.operands.Calls.new_array.Goals as goal
 
-pub returns-then-levels-eq0 : goal.returns-then-levels-eq0
-unfolding new_array
-returns-then-levels-eq0 g c = rw c.shut.ensures (enter_shut c.args.levels _ _ c.args.tokens.now c.if-levels-eq0.true)
+pub returns-in_err-levels : goal.returns-in_err-levels
+returns-in_err-levels g c =
+    let h = steps.new_array_refused c.args.levels (tokens_of c.args.tokens.now) c.in_err-levels.field-0.0 c.in_err-levels.ensures.read in
+    search rules
+
+pub returns-in_err-element : goal.returns-in_err-element
+returns-in_err-element g c =
+    rw (steps.new_array_is c.args.levels c.in_ok-levels.levels (tokens_of c.args.tokens.now) _ (tokens_of c.in_ok-levels.rest.now) c.in_ok-levels.ensures.deeper c.in_ok-levels.ensures.read) (search rules)
+
+pub returns-in_err-element-2 : goal.returns-in_err-element-2
+returns-in_err-element-2 g c =
+    rw (steps.new_array_is c.args.levels c.in_ok-levels.levels (tokens_of c.args.tokens.now) _ (tokens_of c.in_ok-levels.rest.now) c.in_ok-levels.ensures.deeper c.in_ok-levels.ensures.read) (search rules)
 
 pub returns : goal.returns
-returns g c = rw (steps.new_array_is c.args.levels (tokens_of c.args.tokens.now) c.if-levels-eq0.false) c.new_array_in.ensures
+returns g c =
+    rw (steps.new_array_is c.args.levels c.in_ok-levels.levels (tokens_of c.args.tokens.now) _ (tokens_of c.in_ok-levels.rest.now) c.in_ok-levels.ensures.deeper c.in_ok-levels.ensures.read) (search rules)

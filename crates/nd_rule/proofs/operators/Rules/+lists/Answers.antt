@@ -1,5 +1,4 @@
 use Rattle.std.proofs.Common.{Ok, refl, sym, ap, ◌∙◌}
-use Rattle.std.proofs.lemmas.List.{map_push}
 use Rattle.nd_model.specs.Kinds.{kind, COMMA_MORE}
 use Rattle.nd_model.specs.Cells.{element, list}
 use Rattle.nd_model.proofs.Parsing.Loops.{push_step, push_end}
@@ -10,6 +9,7 @@ use Rattle.nd_read.proofs.Levels.{enter_shut, comma_shrinks}
 use Rattle.nd_rule.proofs.Steps as steps
 use Rattle.nd_rule.proofs.Steps.{element_nested}
 use Rattle.nd_syntax.proofs.Chains as nodes
+use Rattle.nd_rule.proofs.Appends.{appended}
 use Rattle.nd_rule.proofs.operators.Rules.+lists.Goals as goal
 
 pub list-returns-then-levels-eq0 : goal.list-returns-then-levels-eq0
@@ -23,13 +23,16 @@ pub other_elements-more-init : goal.other_elements-more-init
 other_elements-more-init g t c = rw (c.new-all.ensures.items, c.split_at.ensures.back) refl
 
 pub other_elements-more-smaller : goal.other_elements-more-smaller
-other_elements-more-smaller g t c = (comma_shrinks COMMA_MORE (element (inside c.args.levels))).less (tokens_of c.more.rest.now) (element_of c.in_ok-next.next, tokens_of c.in_ok-next.after.now) c.in_ok-next.ensures
+other_elements-more-smaller g t c =
+    let one = appended element_of c.more.all c.other_element.result c.in_ok-more.more c.in_ok-more.after _ c.in_ok-more.ensures c.other_element.ensures in
+    (comma_shrinks COMMA_MORE (element (inside c.args.levels))).less (tokens_of c.more.rest.now) (one.0, tokens_of c.in_ok-more.after.now) one.1.0
 
 pub other_elements-more-preserved : goal.other_elements-more-preserved
 other_elements-more-preserved g t c =
-    let one = push_step kind COMMA_MORE (behind_comma COMMA_MORE (element (inside c.args.levels))) (list_of_elements c.more.all) (tokens_of c.more.rest.now) (element_of c.in_ok-next.next) (tokens_of c.in_ok-next.after.now)
-    (comma_shrinks COMMA_MORE (element (inside c.args.levels))) (sym c.next_in.ensures ∙ c.more-test.true) c.in_ok-next.ensures in
-    rw (c.in_ok-push.ensures.items, map_push element_of c.more.all.items c.in_ok-next.next) (sym one ∙ c.more.invariant)
+    let one = appended element_of c.more.all c.other_element.result c.in_ok-more.more c.in_ok-more.after _ c.in_ok-more.ensures c.other_element.ensures in
+    let step = push_step kind COMMA_MORE (behind_comma COMMA_MORE (element (inside c.args.levels))) (list_of_elements c.more.all) (tokens_of c.more.rest.now) one.0 (tokens_of c.in_ok-more.after.now)
+    (comma_shrinks COMMA_MORE (element (inside c.args.levels))) (sym c.next_in.ensures ∙ c.more-test.true) one.1.0 in
+    rw one.1.1 (sym step ∙ c.more.invariant)
 
 pub other_elements-returns : goal.other_elements-returns
 other_elements-returns g t c = sym c.more.invariant ∙ push_end kind COMMA_MORE (behind_comma COMMA_MORE (element (inside c.args.levels))) (list_of_elements c.more.all) (tokens_of c.more.rest.now) (sym c.next_in.ensures ∙ c.more-test.false)

@@ -1,10 +1,10 @@
 use Rattle.std.proofs.Common.{refl, sym, ◌∙◌}
-use Rattle.std.proofs.lemmas.List.{map_push}
 use Rattle.nd_model.specs.Kinds.{kind}
 use Rattle.nd_model.specs.Cells.{Anywhere, under, operation}
 use Rattle.nd_model.proofs.Parsing.Loops.{push_step, push_end}
 use Rattle.nd_read.specs.Gives.{tokens_of, spot_of, operation_of, operations_of}
 use Rattle.nd_rule.specs.Readers.{ranked}
+use Rattle.nd_rule.proofs.Appends.{appended}
 use Rattle.nd_rule.proofs.Steps.{ranked_none, ranked_some, operation_shrinks}
 use Rattle.nd_rule.proofs.operators.Rules.+ranks.Goals as goal
 
@@ -18,13 +18,16 @@ pub operations-more-init : goal.operations-more-init
 operations-more-init g t c = rw (c.new-all.ensures.items, c.split_at.ensures.back) refl
 
 pub operations-more-smaller : goal.operations-more-smaller
-operations-more-smaller g t c = (operation_shrinks c.args.set (ranked c.args.rank Anywhere (under c.args.levels))).less (tokens_of c.more.rest.now) (operation_of c.in_ok-next.next, tokens_of c.in_ok-next.after.now) c.in_ok-next.ensures
+operations-more-smaller g t c =
+    let one = appended operation_of c.more.all c.operation.result c.in_ok-more.more c.in_ok-more.after _ c.in_ok-more.ensures c.operation.ensures in
+    (operation_shrinks c.args.set (ranked c.args.rank Anywhere (under c.args.levels))).less (tokens_of c.more.rest.now) (one.0, tokens_of c.in_ok-more.after.now) one.1.0
 
 pub operations-more-preserved : goal.operations-more-preserved
 operations-more-preserved g t c =
-    let one = push_step kind c.args.set (operation c.args.set (ranked c.args.rank Anywhere (under c.args.levels))) (operations_of c.more.all) (tokens_of c.more.rest.now) (operation_of c.in_ok-next.next) (tokens_of c.in_ok-next.after.now)
-    (operation_shrinks c.args.set (ranked c.args.rank Anywhere (under c.args.levels))) (sym c.next_in.ensures ∙ c.more-test.true) c.in_ok-next.ensures in
-    rw (c.in_ok-push.ensures.items, map_push operation_of c.more.all.items c.in_ok-next.next) (sym one ∙ c.more.invariant)
+    let one = appended operation_of c.more.all c.operation.result c.in_ok-more.more c.in_ok-more.after _ c.in_ok-more.ensures c.operation.ensures in
+    let step = push_step kind c.args.set (operation c.args.set (ranked c.args.rank Anywhere (under c.args.levels))) (operations_of c.more.all) (tokens_of c.more.rest.now) one.0 (tokens_of c.in_ok-more.after.now)
+    (operation_shrinks c.args.set (ranked c.args.rank Anywhere (under c.args.levels))) (sym c.next_in.ensures ∙ c.more-test.true) one.1.0 in
+    rw one.1.1 (sym step ∙ c.more.invariant)
 
 pub operations-returns : goal.operations-returns
 operations-returns g t c = sym c.more.invariant ∙ push_end kind c.args.set (operation c.args.set (ranked c.args.rank Anywhere (under c.args.levels))) (operations_of c.more.all) (tokens_of c.more.rest.now) (sym c.next_in.ensures ∙ c.more-test.false)

@@ -1,4 +1,5 @@
-use Rattle.nd_run.proofs.Lines.{one_line, grown_lines}
+use Rattle.nd_lines.proofs.Lines.{one_line}
+use Rattle.nd_run.proofs.Lines.{grown_lines}
 use Rattle.nd_run.proofs.source.Source.with_line.Goals as goal
 use Rattle.nd_run.proofs.source.Source.with_line.Goals.{in-None+in_ok-text-in-None, in-Some+in_ok-push-in-Some+in_ok-extend_from_slice-in-Some}
 

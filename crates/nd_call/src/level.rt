@@ -1,0 +1,34 @@
+//! Opening a level, and what ends it.
+ghost use Rattle.std.specs.Prelude.{◌≡◌, ◌+◌, IfOk};
+ghost use Rattle.nd_model.specs.Kinds.{kind};
+ghost use Rattle.nd_model.specs.Predict.{read};
+ghost use Rattle.nd_model.specs.Cells.{under};
+ghost use Rattle.nd_read.specs.Gives.{Gives, tokens_of, front};
+ghost use Rattle.nd_call.specs.Readers.{opens, Closes};
+
+use nd_read::read::{Failure, Read, Reason, Tokens, close, shut, skip};
+
+/// How many levels may be opened behind a token of the set, which opens one, and the tokens there.
+pub(crate) fn open<'t>(
+    levels: u8,
+    set: u128,
+    tokens: Tokens<'t>,
+) -> Result<(u8, Tokens<'t>), Failure>
+    ensures deeper { IfOk result (λ x. levels ≡ x.0 + 1) }
+    ensures read { Gives (λ x. (front (tokens_of tokens.now), tokens_of x.1.now)) result
+        (read kind (opens set (under levels)) (tokens_of tokens.now)) }
+{
+    if levels == 0 {
+        return Err(shut(tokens, set, Reason::TooDeep));
+    }
+    let rest = skip(tokens, set)?;
+    Ok((levels - 1, rest))
+}
+
+/// What was read, where a token of the set ends it.
+pub(crate) fn close_read<'t, X: Drop>(inner: Read<'t, X>, set: u128) -> Read<'t, X>
+    ensures { Closes set inner.entry result }
+{
+    let (inner, rest) = inner?;
+    close(inner, set, rest)
+}

@@ -1,0 +1,122 @@
+-- The operands of an operation, one after the other.
+use Rattle.std.proofs.Common.{◌≡◌, ℕ, List, [], ◌∷◌, Result, Ok, Err, refl, sym, ap, ◌∙◌}
+use Rattle.nd_model.specs.Fault.{Fault, BadArgument}
+use Rattle.nd_model.specs.Fault as fault
+use Rattle.nd_model.specs.Syntax.{Expr, Index, Items, AndItem, NoItem, At}
+use Rattle.nd_model.specs.Value as model
+use Rattle.nd_model.specs.Running.{Running, Inputs, Effect, Binding}
+use Rattle.nd_model.specs.Evaluation.{Eval, Gives, Refuses, run, ◌>>=◌, decide}
+use Rattle.nd_model.specs.Operand.{Operand, Plain, Usage, Whole, ArraysOnly, Unused, BindsFirst}
+use Rattle.nd_model.specs.Creation.{arange}
+use Rattle.nd_model.specs.Index.{index_array}
+use Rattle.nd_model.specs.Operation.{use_operand, operands, Computes, perform, give, choose_of, act_on, with_values, evaluate_all}
+use Rattle.nd_model.specs.Meaning.{value, one, unbuilt_form, item_plans, whole_plans}
+use Rattle.nd_types.specs.declared.num.Num.{Num}
+use Rattle.nd_types.specs.declared.num.Num.TheVariants as num
+use Rattle.nd_heap.specs.declared.value.Value.{Value}
+use Rattle.nd_heap.specs.declared.value.Value.TheVariants.{Number, Array}
+use Rattle.nd_heap.specs.Values.{value_of}
+use Rattle.nd_model.proofs.Steps.{goes_on, run_bind}
+use Rattle.nd_eval.specs.Contents.{num_of, unused_of}
+use Rattle.nd_eval.specs.Parts.{item_value, element_value, values_then, values, wholes, use_values}
+
+-- ---- the code's values
+
+pub use_number : (u : Usage) (n : Num) → use_operand u (value_of (Number n)) ≡ Gives (Plain (num_of n))
+use_number u (num.Int z) = refl
+use_number u (num.Bool t) = refl
+use_number u (num.Scalar k z) = refl
+
+not_used : (v : Value) → use_operand Unused (value_of v) ≡ Gives (unused_of v)
+not_used (Number n) = use_number Unused n
+not_used (Array a) = refl
+
+-- the code has no rows
+arrays_used : (v : Value) → use_operand ArraysOnly (value_of v) ≡ use_operand Whole (value_of v)
+arrays_used (Number n) = use_number ArraysOnly n ∙ sym (use_number Whole n)
+arrays_used (Array a) = refl
+
+-- ---- operations
+
+pub arange_parts : (v : Value) → perform (Computes (one arange)) ((Unused, value_of v) ∷ []) ≡ (decide (arange (unused_of v)) >>= give)
+arange_parts v = ap (λ t. t >>= λ o. decide (arange o) >>= give) (not_used v)
+
+pub element_parts : (t i : Value)
+    → element_value (value_of t) (value_of i) ≡ (use_operand Whole (value_of i) >>= λ o. decide (index_array (unused_of t) o) >>= λ c. choose_of (value_of t) c)
+element_parts t i =
+    ap (λ s. s >>= λ a. use_operand ArraysOnly (value_of i) >>= λ o. decide (index_array a o) >>= λ c. choose_of (value_of t) c) (not_used t)
+    ∙ ap (λ s. s >>= λ o. decide (index_array (unused_of t) o) >>= λ c. choose_of (value_of t) c) (arrays_used i)
+
+pub target_parts : {A : Type 0} (t i : Value) (go : Operand → Operand → Eval A)
+    → (use_operand Unused (value_of t) >>= λ a. use_operand ArraysOnly (value_of i) >>= λ p. go a p) ≡ (use_operand Whole (value_of i) >>= λ p. go (unused_of t) p)
+target_parts t i go =
+    ap (λ s. s >>= λ a. use_operand ArraysOnly (value_of i) >>= λ p. go a p) (not_used t)
+    ∙ ap (λ s. s >>= λ p. go (unused_of t) p) (arrays_used i)
+
+-- a value that is not used stops nothing
+unused_only : {A : Type 0} (v : model.Value) (e : Eval A) → (use_operand Unused v >>= λ o. e) ≡ e
+unused_only (model.Int z) e = refl
+unused_only (model.Truth t) e = refl
+unused_only (model.Scalar k z) e = refl
+unused_only (model.Array b g) e = refl
+unused_only (model.Row b g) e = refl
+
+pub attribute_refused : (v : model.Value) → perform (Computes unbuilt_form) ((Unused, v) ∷ []) ≡ Refuses (fault.Stmt BadArgument)
+attribute_refused v = unused_only v (Refuses (fault.Stmt BadArgument))
+
+pub binding_parts : (n : List ℕ) (v : model.Value) → act_on (λ os. Ok (BindsFirst n)) ((Unused, v) ∷ []) ≡ Gives (Binding n v)
+binding_parts n v = unused_only v (Gives (Binding n v))
+
+-- ---- the plans of an index
+
+pub item_with : (x : Index) (go : List (Usage × model.Value) → Eval model.Value) → with_values (item_plans x) go ≡ (item_value x >>= λ v. go ((ArraysOnly, v) ∷ []))
+item_with (Items (AndItem (At e) NoItem)) go = refl
+item_with x go = refl
+
+pub item_all : (x : Index) (go : List (Usage × model.Value) → Eval Effect) → evaluate_all (item_plans x) go ≡ (item_value x >>= λ v. go ((ArraysOnly, v) ∷ []))
+item_all (Items (AndItem (At e) NoItem)) go = refl
+item_all x go = refl
+
+-- ---- all operands, and then what goes on
+
+pub goes_same : {A B : Type 0} (i : Inputs) (m : Result A Fault × Running) (f g : A → Eval B) → ((x : A) (r : Running) → run i (f x) r ≡ run i (g x) r) → goes_on i m f ≡ goes_on i m g
+goes_same i (Ok x, r) f g h = h x r
+goes_same i (Err e, r) f g h = refl
+
+twice : {A B C : Type 0} (i : Inputs) (m : Result A Fault × Running) (f : A → Eval B) (g : B → Eval C)
+    → goes_on i (goes_on i m f) g ≡ goes_on i m (λ x. f x >>= g)
+twice i (Ok x, r) f g = sym (run_bind i (f x) g r)
+twice i (Err e, r) f g = refl
+
+regrouped : {A B C : Type 0} (i : Inputs) (t : Eval A) (f : A → Eval B) (g : B → Eval C) (r : Running) → run i ((t >>= f) >>= g) r ≡ run i (t >>= (λ x. f x >>= g)) r
+regrouped i t f g r =
+    run_bind i (t >>= f) g r ∙ ap (λ m. goes_on i m g) (run_bind i t f r) ∙ twice i (run i t r) f g ∙ sym (run_bind i t (λ x. f x >>= g) r)
+
+then_same : {A B : Type 0} (i : Inputs) (t : Eval A) (f g : A → Eval B) (r : Running) → ((x : A) (s : Running) → run i (f x) s ≡ run i (g x) s) → run i (t >>= f) r ≡ run i (t >>= g) r
+then_same i t f g r h = run_bind i t f r ∙ goes_same i (run i t r) f g h ∙ sym (run_bind i t g r)
+
+all_values : (i : Inputs) (es : List Expr) (go : List (Usage × model.Value) → Eval Effect) (k : List model.Value → List model.Value) (g : List model.Value → Eval Effect) (r : Running)
+    → ((vs : List model.Value) → go (wholes vs) ≡ g (k vs)) → run i (evaluate_all (whole_plans es) go) r ≡ run i (values_then es (λ vs. Gives (k vs)) >>= g) r
+all_values i [] go k g r h = ap (λ t. run i t r) (h [])
+all_values i (e ∷ es) go k g r h =
+    then_same i (value e) (λ v. evaluate_all (whole_plans es) (λ vs. go ((Whole, v) ∷ vs))) (λ v. values_then es (λ vs. Gives (k (v ∷ vs))) >>= g) r
+    (λ v s. all_values i es (λ vs. go ((Whole, v) ∷ vs)) (λ vs. k (v ∷ vs)) g s (λ vs. h (v ∷ vs)))
+    ∙ sym (regrouped i (value e) (λ v. values_then es (λ vs. Gives (k (v ∷ vs)))) g r)
+
+-- expressions that are used whole: first all are evaluated
+pub values_first : (i : Inputs) (es : List Expr) (go : List (Usage × model.Value) → Eval Effect) (r : Running)
+    → run i (evaluate_all (whole_plans es) go) r ≡ run i (values es >>= λ vs. go (wholes vs)) r
+values_first i es go r = all_values i es go (λ vs. vs) (λ vs. go (wholes vs)) r (λ vs. refl)
+
+all_used : {A : Type 0} (i : Inputs) (vs : List (Usage × model.Value)) (go : List Operand → Eval A) (k : List Operand → List Operand) (g : List Operand → Eval A) (r : Running)
+    → ((os : List Operand) → go os ≡ g (k os)) → run i (operands vs go) r ≡ run i (operands vs (λ os. Gives (k os)) >>= g) r
+all_used i [] go k g r h = ap (λ t. run i t r) (h [])
+all_used i (v ∷ vs) go k g r h =
+    then_same i (use_operand v.0 v.1) (λ o. operands vs (λ os. go (o ∷ os))) (λ o. operands vs (λ os. Gives (k (o ∷ os))) >>= g) r
+    (λ o s. all_used i vs (λ os. go (o ∷ os)) (λ os. k (o ∷ os)) g s (λ os. h (o ∷ os)))
+    ∙ sym (regrouped i (use_operand v.0 v.1) (λ o. operands vs (λ os. Gives (k (o ∷ os)))) g r)
+
+-- then all are used
+pub operands_first : {A : Type 0} (i : Inputs) (vs : List model.Value) (go : List Operand → Eval A) (r : Running)
+    → run i (operands (wholes vs) go) r ≡ run i (use_values vs >>= go) r
+operands_first i vs go r = all_used i (wholes vs) go (λ os. os) go r (λ os. refl)

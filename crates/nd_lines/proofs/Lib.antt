@@ -1,0 +1,6 @@
+pub mod Chunks
+pub mod Counts
+pub mod Ended
+pub mod Lines
+pub mod Progress
+pub mod Writing

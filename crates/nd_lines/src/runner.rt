@@ -1,0 +1,52 @@
+//! Running a script from a reader.
+
+ghost use Rattle.std.specs.Prelude.{◌≡◌, ◌⊎◌, IfErr, OnOk};
+ghost use Rattle.nd_model.specs.Script.{Between};
+ghost use Rattle.nd_lines.specs.Ends.{counted_on};
+ghost use Rattle.nd_lines.specs.Run.{RanToEnd, StoppedAt};
+
+use crate::answerer::Answerer;
+use crate::input::CountedRead;
+use crate::output::CountedWrite;
+use crate::run_fault::RunFault;
+use crate::script::Script;
+use std::alloc::Global;
+
+/// Runs a script by at most so many reads: its lines are answered one after the other, and the answer to each is written
+/// before the next one is carried out. At a fault the commands so far stand.
+pub fn run_lines<R: CountedRead, W: CountedWrite, A: Answerer>(
+    alloc: Global,
+    reader: &mut R,
+    writer: &mut W,
+    answerer: &mut A,
+    turns: u64,
+) -> Result<(), RunFault>
+    requires { A.stage answerer.old ≡ Between }
+    ensures to_end { OnOk result (RanToEnd (R.remaining reader.old) (R.remaining reader.new)
+        (A.book answerer.old) (W.contents writer.old) (W.contents writer.new) (A.book answerer.new)) }
+    ensures stopped { IfErr result (λ f. StoppedAt f (R.remaining reader.old) (R.remaining reader.new)
+        (A.book answerer.old) (W.contents writer.old) (W.contents writer.new) (A.book answerer.new)) }
+
+    // A read fault stands only where a read failed or all reads were made, a write fault only where a write failed.
+    ensures read { IfErr result (λ f. f ≡ RunFault.ReadFault →
+        (R.failures reader.new ≡ counted_on (R.failures reader.old) 1)
+        ⊎ (R.reads reader.new ≡ counted_on (R.reads reader.old) turns)) }
+    ensures written { IfErr result (λ f. f ≡ RunFault.WriteFault →
+        W.failures writer.new ≡ counted_on (W.failures writer.old) 1) }
+    ensures reader_kept { OnOk result (R.failures reader.new ≡ R.failures reader.old) }
+    ensures writer_kept { OnOk result (W.failures writer.new ≡ W.failures writer.old) }
+    ensures same_reference { A.reference answerer.new ≡ A.reference answerer.old }
+{
+    let mut script = Script::new(alloc);
+    let mut chunk = [0u8; 8192];
+    for _turn in 0..turns {
+        let Ok(n) = reader.read_counted(&mut chunk) else {
+            return Err(RunFault::ReadFault);
+        };
+        if n == 0 {
+            return script.finish(alloc, answerer, writer);
+        }
+        script.take_bytes(alloc, &chunk[..n], answerer, writer)?;
+    }
+    Err(RunFault::ReadFault)
+}

@@ -1,0 +1,143 @@
+//! A script that is run, as far as its bytes have come.
+
+ghost use Rattle.std.specs.Prelude.{◌≡◌, ◌≢◌, ◌==◌, ◌++◌, [], ◌≤◌, length, position, OnOk, OnErr, IfErr, is_ok};
+ghost use Rattle.nd_lines.specs.Ends.{counted_on};
+ghost use Rattle.nd_lines.specs.Run.{most_line, open_answer, FinishStops, Finishes, FitsLine, IsInAnswer, IsInLine, IsTooLong, LineRuns, LineStops, Runs, Stops, Wrote};
+
+use crate::answerer::Answerer;
+use crate::output::{CountedWrite, write_answer};
+use crate::run_fault::RunFault;
+use std::alloc::Global;
+
+// The most bytes of a line.
+const MOST_LINE: usize = 1 << 28;
+
+/// The state of a script between two of its bytes, beside what its answerer knows.
+#[derive(Drop)]
+pub struct Script {
+    /// The line that is open, without a newline.
+    pub line: Vec<u8>,
+}
+
+// The place of the first newline.
+fn newline_in(bytes: &[u8]) -> Option<usize>
+    ensures { result ≡ position (λ c. c == 10) bytes.now }
+{
+    bytes.iter().position(|byte| *byte == b'\n')
+}
+
+// Answers the end of a script.
+fn answer_end<A: Answerer, W: CountedWrite>(
+    alloc: Global,
+    answerer: &A,
+    writer: &mut W,
+) -> Result<(), RunFault>
+    ensures answer { Wrote (W.contents writer.old) (open_answer (A.stage answerer.now)) (is_ok result) (W.contents writer.new) }
+    ensures fault { IfErr result IsInAnswer }
+    ensures kept { OnOk result (W.failures writer.new ≡ W.failures writer.old) }
+    ensures failed { IfErr result (λ f. f ≡ RunFault.WriteFault → W.failures writer.new ≡ counted_on (W.failures writer.old) 1) }
+{
+    let mut answer = Vec::new(alloc);
+    answerer.answer_end(&mut answer)?;
+    write_answer(writer, &answer)
+}
+
+impl Script {
+    /// Returns a script before its first byte.
+    pub fn new(alloc: Global) -> Script
+        ensures { result.line.items ≡ [] }
+    {
+        Script {
+            line: Vec::new(alloc),
+        }
+    }
+
+    // Adds bytes to the open line.
+    fn extend_line(&mut self, part: &[u8]) -> Result<(), RunFault>
+        requires { length self.old.line.items ≤ most_line }
+        ensures line { OnOk result (self.new.line.items ≡ self.old.line.items ++ part.now) }
+        ensures fits { OnOk result (length self.new.line.items ≤ most_line) }
+        ensures fault { IfErr result (IsTooLong (self.old.line.items ++ part.now)) }
+    {
+        if part.len() > MOST_LINE - self.line.len() {
+            return Err(RunFault::LineTooLong);
+        }
+        self.line.extend_from_slice(part)?;
+        Ok(())
+    }
+
+    // Ends the open line: what it says is carried out and answered.
+    fn end_line<A: Answerer, W: CountedWrite>(
+        &mut self,
+        alloc: Global,
+        answerer: &mut A,
+        writer: &mut W,
+    ) -> Result<(), RunFault>
+        requires { IsInLine self.old.line.items }
+        ensures ok { OnOk result (LineRuns (A.stage answerer.old) self.old.line.items (A.stage answerer.new)
+            (A.book answerer.old) (W.contents writer.old) (W.contents writer.new) (A.book answerer.new)) }
+        ensures line { OnOk result (self.new.line.items ≡ []) }
+        ensures err { OnErr result (LineStops (A.stage answerer.old) self.old.line.items
+            (A.book answerer.old) (W.contents writer.old) (W.contents writer.new) (A.book answerer.new)) }
+        ensures fault { IfErr result IsInAnswer }
+        ensures kept { OnOk result (W.failures writer.new ≡ W.failures writer.old) }
+        ensures failed { IfErr result (λ f. f ≡ RunFault.WriteFault → W.failures writer.new ≡ counted_on (W.failures writer.old) 1) }
+        ensures same_reference { A.reference answerer.new ≡ A.reference answerer.old }
+    {
+        let mut answer = Vec::new(alloc);
+        answerer.answer_line(&self.line, &mut answer)?;
+        self.line.clear();
+        write_answer(writer, &answer)
+    }
+
+    /// Runs the bytes that come next.
+    pub fn take_bytes<A: Answerer, W: CountedWrite>(
+        &mut self,
+        alloc: Global,
+        bytes: &[u8],
+        answerer: &mut A,
+        writer: &mut W,
+    ) -> Result<(), RunFault>
+        requires { FitsLine self.old.line.items }
+        ensures ok { OnOk result (Runs (A.stage answerer.old) self.old.line.items bytes.now (A.stage answerer.new) self.new.line.items
+            (A.book answerer.old) (W.contents writer.old) (W.contents writer.new) (A.book answerer.new)) }
+        ensures fits { OnOk result (FitsLine self.new.line.items) }
+        ensures err { IfErr result (λ f. Stops f (A.stage answerer.old) self.old.line.items bytes.now
+            (A.book answerer.old) (W.contents writer.old) (W.contents writer.new) (A.book answerer.new)) }
+        ensures kept { OnOk result (W.failures writer.new ≡ W.failures writer.old) }
+        ensures unread { IfErr result (λ f. f ≢ RunFault.ReadFault) }
+        ensures failed { IfErr result (λ f. f ≡ RunFault.WriteFault → W.failures writer.new ≡ counted_on (W.failures writer.old) 1) }
+        ensures same_reference { A.reference answerer.new ≡ A.reference answerer.old }
+    {
+        let mut rest = bytes;
+        while let Some(end) = newline_in(rest) {
+            self.extend_line(&rest[..end])?;
+            self.end_line(alloc, answerer, writer)?;
+            rest = &rest[end + 1..];
+        }
+        self.extend_line(rest)
+    }
+
+    /// Runs what is left at the end of the script.
+    pub fn finish<A: Answerer, W: CountedWrite>(
+        &mut self,
+        alloc: Global,
+        answerer: &mut A,
+        writer: &mut W,
+    ) -> Result<(), RunFault>
+        requires { IsInLine self.old.line.items }
+        ensures ok { OnOk result (Finishes (A.stage answerer.old) self.old.line.items
+            (A.book answerer.old) (W.contents writer.old) (W.contents writer.new) (A.book answerer.new)) }
+        ensures err { OnErr result (FinishStops (A.stage answerer.old) self.old.line.items
+            (A.book answerer.old) (W.contents writer.old) (W.contents writer.new) (A.book answerer.new)) }
+        ensures fault { IfErr result IsInAnswer }
+        ensures kept { OnOk result (W.failures writer.new ≡ W.failures writer.old) }
+        ensures failed { IfErr result (λ f. f ≡ RunFault.WriteFault → W.failures writer.new ≡ counted_on (W.failures writer.old) 1) }
+        ensures same_reference { A.reference answerer.new ≡ A.reference answerer.old }
+    {
+        if !self.line.is_empty() {
+            self.end_line(alloc, answerer, writer)?;
+        }
+        answer_end(alloc, answerer, writer)
+    }
+}

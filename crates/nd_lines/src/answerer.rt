@@ -25,7 +25,8 @@ pub trait Answerer {
         requires empty { answer.old.items ≡ [] }
         ensures done { OnOk result (Done (stage self.old) line.now (stage self.new)
             (book self.old) answer.new.items (book self.new)) }
-        ensures part { OnErr result (DoneInPart (stage self.old) line.now (book self.old) (book self.new)) }
+        ensures part { OnErr result (DoneInPart (stage self.old) line.now
+            (book self.old) (book self.new)) }
         ensures same_reference { reference self.new ≡ reference self.old };
 
     /// Appends the answer to the end of the script: a source that is open has lost its end.

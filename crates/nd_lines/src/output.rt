@@ -24,8 +24,10 @@ pub trait CountedWrite {
         ensures bound { WritesAtMost result buffer.now }
         ensures bytes { WriteAppends (contents self.old) (contents self.new) result buffer.now }
         ensures kept { IfOk result (λ n. 0 < n → failures self.new ≡ failures self.old) }
-        ensures kept_empty { OnOk result (length buffer.now ≡ 0 → failures self.new ≡ failures self.old) }
-        ensures took_none { IfOk result (λ n. n ≡ 0 → 0 < length buffer.now → failures self.new ≡ counted_on (failures self.old) 1) }
+        ensures kept_empty { OnOk result (length buffer.now ≡ 0
+            → failures self.new ≡ failures self.old) }
+        ensures took_none { IfOk result (λ n. n ≡ 0 → 0 < length buffer.now
+            → failures self.new ≡ counted_on (failures self.old) 1) }
         ensures failed { OnErr result (failures self.new ≡ counted_on (failures self.old) 1) };
 }
 
@@ -82,9 +84,11 @@ impl<W: Write> CountedWrite for ScriptWriter<W> {
 
 /// Writes an answer, by as many calls as it takes. At a fault a front of it may be written.
 pub fn write_answer<W: CountedWrite>(writer: &mut W, answer: &[u8]) -> Result<(), RunFault>
-    ensures front { Wrote (W.contents writer.old) answer.now (is_ok result) (W.contents writer.new) }
+    ensures front { Wrote (W.contents writer.old) answer.now (is_ok result)
+        (W.contents writer.new) }
     ensures kept { OnOk result (W.failures writer.new ≡ W.failures writer.old) }
-    ensures fault { IfErr result (λ f. (f ≡ RunFault.WriteFault) × (W.failures writer.new ≡ counted_on (W.failures writer.old) 1)) }
+    ensures fault { IfErr result (λ f. (f ≡ RunFault.WriteFault)
+        × (W.failures writer.new ≡ counted_on (W.failures writer.old) 1)) }
 {
     let mut rest = answer;
     while !rest.is_empty() {

@@ -23,9 +23,12 @@ pub fn run_lines<R: CountedRead, W: CountedWrite, A: Answerer>(
 ) -> Result<(), RunFault>
     requires { A.stage answerer.old ≡ Between }
     ensures to_end { OnOk result (RanToEnd (R.remaining reader.old) (R.remaining reader.new)
-        (A.book answerer.old) (W.contents writer.old) (W.contents writer.new) (A.book answerer.new)) }
-    ensures stopped { IfErr result (λ f. StoppedAt f (R.remaining reader.old) (R.remaining reader.new)
-        (A.book answerer.old) (W.contents writer.old) (W.contents writer.new) (A.book answerer.new)) }
+        (A.book answerer.old) (W.contents writer.old)
+        (W.contents writer.new) (A.book answerer.new)) }
+    ensures stopped { IfErr result (λ f. StoppedAt f
+        (R.remaining reader.old) (R.remaining reader.new)
+        (A.book answerer.old) (W.contents writer.old)
+        (W.contents writer.new) (A.book answerer.new)) }
 
     // A read fault stands only where a read failed or all reads were made, a write fault only where a write failed.
     ensures read { IfErr result (λ f. f ≡ RunFault.ReadFault →

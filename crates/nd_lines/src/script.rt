@@ -32,10 +32,12 @@ fn answer_end<A: Answerer, W: CountedWrite>(
     answerer: &A,
     writer: &mut W,
 ) -> Result<(), RunFault>
-    ensures answer { Wrote (W.contents writer.old) (open_answer (A.stage answerer.now)) (is_ok result) (W.contents writer.new) }
+    ensures answer { Wrote (W.contents writer.old) (open_answer (A.stage answerer.now))
+        (is_ok result) (W.contents writer.new) }
     ensures fault { IfErr result IsInAnswer }
     ensures kept { OnOk result (W.failures writer.new ≡ W.failures writer.old) }
-    ensures failed { IfErr result (λ f. f ≡ RunFault.WriteFault → W.failures writer.new ≡ counted_on (W.failures writer.old) 1) }
+    ensures failed { IfErr result (λ f. f ≡ RunFault.WriteFault
+        → W.failures writer.new ≡ counted_on (W.failures writer.old) 1) }
 {
     let mut answer = Vec::new(alloc);
     answerer.answer_end(&mut answer)?;
@@ -74,14 +76,18 @@ impl Script {
         writer: &mut W,
     ) -> Result<(), RunFault>
         requires { IsInLine self.old.line.items }
-        ensures ok { OnOk result (LineRuns (A.stage answerer.old) self.old.line.items (A.stage answerer.new)
-            (A.book answerer.old) (W.contents writer.old) (W.contents writer.new) (A.book answerer.new)) }
+        ensures ok { OnOk result (LineRuns (A.stage answerer.old) self.old.line.items
+            (A.stage answerer.new)
+            (A.book answerer.old) (W.contents writer.old)
+            (W.contents writer.new) (A.book answerer.new)) }
         ensures line { OnOk result (self.new.line.items ≡ []) }
         ensures err { OnErr result (LineStops (A.stage answerer.old) self.old.line.items
-            (A.book answerer.old) (W.contents writer.old) (W.contents writer.new) (A.book answerer.new)) }
+            (A.book answerer.old) (W.contents writer.old)
+            (W.contents writer.new) (A.book answerer.new)) }
         ensures fault { IfErr result IsInAnswer }
         ensures kept { OnOk result (W.failures writer.new ≡ W.failures writer.old) }
-        ensures failed { IfErr result (λ f. f ≡ RunFault.WriteFault → W.failures writer.new ≡ counted_on (W.failures writer.old) 1) }
+        ensures failed { IfErr result (λ f. f ≡ RunFault.WriteFault
+            → W.failures writer.new ≡ counted_on (W.failures writer.old) 1) }
         ensures same_reference { A.reference answerer.new ≡ A.reference answerer.old }
     {
         let mut answer = Vec::new(alloc);
@@ -99,14 +105,19 @@ impl Script {
         writer: &mut W,
     ) -> Result<(), RunFault>
         requires { FitsLine self.old.line.items }
-        ensures ok { OnOk result (Runs (A.stage answerer.old) self.old.line.items bytes.now (A.stage answerer.new) self.new.line.items
-            (A.book answerer.old) (W.contents writer.old) (W.contents writer.new) (A.book answerer.new)) }
+        ensures ok { OnOk result (Runs (A.stage answerer.old) self.old.line.items bytes.now
+            (A.stage answerer.new) self.new.line.items
+            (A.book answerer.old) (W.contents writer.old)
+            (W.contents writer.new) (A.book answerer.new)) }
         ensures fits { OnOk result (FitsLine self.new.line.items) }
-        ensures err { IfErr result (λ f. Stops f (A.stage answerer.old) self.old.line.items bytes.now
-            (A.book answerer.old) (W.contents writer.old) (W.contents writer.new) (A.book answerer.new)) }
+        ensures err { IfErr result (λ f. Stops f (A.stage answerer.old)
+            self.old.line.items bytes.now
+            (A.book answerer.old) (W.contents writer.old)
+            (W.contents writer.new) (A.book answerer.new)) }
         ensures kept { OnOk result (W.failures writer.new ≡ W.failures writer.old) }
         ensures unread { IfErr result (λ f. f ≢ RunFault.ReadFault) }
-        ensures failed { IfErr result (λ f. f ≡ RunFault.WriteFault → W.failures writer.new ≡ counted_on (W.failures writer.old) 1) }
+        ensures failed { IfErr result (λ f. f ≡ RunFault.WriteFault
+            → W.failures writer.new ≡ counted_on (W.failures writer.old) 1) }
         ensures same_reference { A.reference answerer.new ≡ A.reference answerer.old }
     {
         let mut rest = bytes;
@@ -127,12 +138,15 @@ impl Script {
     ) -> Result<(), RunFault>
         requires { IsInLine self.old.line.items }
         ensures ok { OnOk result (Finishes (A.stage answerer.old) self.old.line.items
-            (A.book answerer.old) (W.contents writer.old) (W.contents writer.new) (A.book answerer.new)) }
+            (A.book answerer.old) (W.contents writer.old)
+            (W.contents writer.new) (A.book answerer.new)) }
         ensures err { OnErr result (FinishStops (A.stage answerer.old) self.old.line.items
-            (A.book answerer.old) (W.contents writer.old) (W.contents writer.new) (A.book answerer.new)) }
+            (A.book answerer.old) (W.contents writer.old)
+            (W.contents writer.new) (A.book answerer.new)) }
         ensures fault { IfErr result IsInAnswer }
         ensures kept { OnOk result (W.failures writer.new ≡ W.failures writer.old) }
-        ensures failed { IfErr result (λ f. f ≡ RunFault.WriteFault → W.failures writer.new ≡ counted_on (W.failures writer.old) 1) }
+        ensures failed { IfErr result (λ f. f ≡ RunFault.WriteFault
+            → W.failures writer.new ≡ counted_on (W.failures writer.old) 1) }
         ensures same_reference { A.reference answerer.new ≡ A.reference answerer.old }
     {
         if !self.line.is_empty() {

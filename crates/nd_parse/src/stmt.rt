@@ -209,7 +209,7 @@ impl<'f, F: for<'t> Fn(u8, Spot, Tokens<'t>) -> Read<'t, Expr>> Statements<'f, F
     {
         let (target, rest) = self.target(levels, tokens)?;
         let (((array, at), (op, value)), rest) = pair(target, self.value(levels, rest))?;
-        Ok((written(array, at, op, value), rest))
+        Ok((item_assignment(array, at, op, value), rest))
     }
 
     #[tactic(auto, unfolding(nd_model::specs::Factored::stmt))]
@@ -304,7 +304,7 @@ fn bound(name: String, op: Option<BinaryOp>, value: Expr) -> Stmt
 }
 
 /// What is assigned to an item of a target.
-fn written(target: Expr, item: Index, op: Option<BinaryOp>, value: Expr) -> Stmt
+fn item_assignment(target: Expr, item: Index, op: Option<BinaryOp>, value: Expr) -> Stmt
     ensures { stmt_of result ≡
         written (expr_of target) (index_of item) (option_map binary_op op) (expr_of value) }
 {

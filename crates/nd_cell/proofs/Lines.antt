@@ -1,5 +1,5 @@
 -- The lines of a cell, one after another.
-use Rattle.std.proofs.Common.{◌≡◌, ℕ, ◌+◌, ◌<◌, true, false, leb, List, [], ◌∷◌, ◌++◌, length, drop, get_or, Option, Some, Ok, refl, sym, ap, ap₂, ◌∙◌, inl, inr, add-one, drop-cons, String, string_bytes, Vec, Global}
+use Rattle.std.proofs.Common.{◌≡◌, ℕ, ◌+◌, ◌<◌, true, false, leb, List, [], ◌∷◌, ◌++◌, length, drop, get_or, Option, None, Some, option_map, is_some, Ok, refl, sym, ap, ap₂, ◌∙◌, inl, inr, add-one, drop-cons, String, string_bytes, Vec, Global}
 use Rattle.std.specs.Prelude.{string_eq, bytes_eq}
 use Rattle.std.proofs.lemmas.Bool.{cases_Bool}
 use Rattle.indexmap.specs.IndexMap.{insert_entry}
@@ -12,7 +12,8 @@ use Rattle.nd_model.specs.Tokens.{tokens_of_stmt, tokens_of_lines}
 use Rattle.nd_syntax.specs.declared.tree.Line.{Line}
 use Rattle.nd_syntax.specs.Syntax.{stmt_of, lines_of}
 use Rattle.nd_cell.specs.declared.result.Refusal.{Refusal}
-use Rattle.nd_cell.specs.Results.{after_line, saved_of, saves_of}
+use Rattle.nd_cell.specs.declared.result.CellResult.{CellResult}
+use Rattle.nd_cell.specs.Results.{after_line, ended_of, refusal_of, saved_of, saves_of}
 
 more : (lines : List Line) (k : ℕ) (d : Line) → k < length lines → d ≡ get_or lines k d → drop k lines ≡ d ∷ drop (k + 1) lines
 more lines k d lt is = drop-cons lines k d lt ∙ ap₂ (λ (e : Line) (n : ℕ). e ∷ drop n lines) (sym is) (sym (add-one k))
@@ -24,6 +25,28 @@ pub line_gives : (i : Inputs) (lines : List Line) (k : ℕ) (d : Line) (text new
     → statements i (lines_of (drop k lines)) text saves r ≡ after_line o new kept x (statements i (lines_of (drop (k + 1) lines)))
 line_gives i lines k d text new saves kept r x o lt is ran =
     ap (λ (l : List Line). statements i (lines_of l) text saves r) (more lines k d lt is) ∙ ran (statements i (lines_of (drop (k + 1) lines)))
+
+-- where nothing refuses the line, the lines behind it follow
+pub line_goes_on : (i : Inputs) (lines : List Line) (k : ℕ) (d : Line) (text new : List ℕ) (saves kept : Saved) (r x : Running) (o : Option Refusal)
+    → k < length lines → d ≡ get_or lines k d → false ≡ is_some o
+    → ((rest : List ℕ → Saved → Running → Ended) → and_then d.line text saves (statement i (stmt_of d.stmt) r) rest ≡ after_line o new kept x rest)
+    → statements i (lines_of (drop k lines)) text saves r ≡ statements i (lines_of (drop (k + 1) lines)) new kept x
+line_goes_on i lines k d text new saves kept r x None lt is go ran = line_gives i lines k d text new saves kept r x None lt is ran
+line_goes_on i lines k d text new saves kept r x (Some f) lt is go ran = absurd (cc)
+
+-- where it is refused, the cell ends
+pub line_stops : (i : Inputs) (lines : List Line) (k : ℕ) (d : Line) (text : List ℕ) (saves : Saved) (r x : Running) (c : CellResult)
+    → k < length lines → d ≡ get_or lines k d → true ≡ is_some c.refusal
+    → ((rest : List ℕ → Saved → Running → Ended) → and_then d.line text saves (statement i (stmt_of d.stmt) r) rest ≡ after_line c.refusal (string_bytes c.text) (saves_of c.saves.entries) x rest)
+    → statements i (lines_of (drop k lines)) text saves r ≡ ended_of c x
+line_stops i lines k d text saves r x c lt is stop ran =
+    line_gives i lines k d text (string_bytes c.text) saves (saves_of c.saves.entries) r x c.refusal lt is ran
+    ∙ ends c.refusal (statements i (lines_of (drop (k + 1) lines))) stop
+  where
+    ends : (o : Option Refusal) (rest : List ℕ → Saved → Running → Ended) → true ≡ is_some o
+        → after_line o (string_bytes c.text) (saves_of c.saves.entries) x rest ≡ record { text = string_bytes c.text; refusal = option_map refusal_of o; saves = saves_of c.saves.entries; running = x }
+    ends None rest stop = absurd (cc)
+    ends (Some f) rest stop = refl
 
 -- the text of a line that stands, and of one whose text is too long
 pub text_stands : (line : ℕ) (text new : List ℕ) (saves kept : Saved) (o : Output) → leb (length (text ++ o.text)) most_text ≡ true → new ≡ text ++ o.text → kept ≡ with_save o.save saves

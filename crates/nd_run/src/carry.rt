@@ -21,7 +21,8 @@ pub fn insert_cell(
     at: usize,
     source: &str,
 ) -> Result<(), AllocError>
-    ensures { Carried (script.Edits (Insert at source.now)) (book_of notebook.old) out.old.items result out.new.items (book_of notebook.new) }
+    ensures { Carried (script.Edits (Insert at source.now)) (book_of notebook.old)
+        out.old.items result out.new.items (book_of notebook.new) }
 {
     let done = notebook.insert(meter, at, source);
     push_edit_answer(out, &done)
@@ -35,7 +36,8 @@ pub fn edit_cell(
     at: usize,
     source: &str,
 ) -> Result<(), AllocError>
-    ensures { Carried (script.Edits (Change at source.now)) (book_of notebook.old) out.old.items result out.new.items (book_of notebook.new) }
+    ensures { Carried (script.Edits (Change at source.now)) (book_of notebook.old)
+        out.old.items result out.new.items (book_of notebook.new) }
 {
     let done = notebook.edit(meter, at, source);
     push_edit_answer(out, &done)
@@ -49,7 +51,8 @@ pub fn move_cell(
     from: usize,
     to: usize,
 ) -> Result<(), AllocError>
-    ensures { Carried (script.Edits (Move from to)) (book_of notebook.old) out.old.items result out.new.items (book_of notebook.new) }
+    ensures { Carried (script.Edits (Move from to)) (book_of notebook.old)
+        out.old.items result out.new.items (book_of notebook.new) }
 {
     let done = notebook.move_cell(meter, from, to);
     push_edit_answer(out, &done)
@@ -62,7 +65,8 @@ pub fn remove_cell(
     notebook: &mut Notebook,
     at: usize,
 ) -> Result<(), AllocError>
-    ensures { Carried (script.Edits (Remove at)) (book_of notebook.old) out.old.items result out.new.items (book_of notebook.new) }
+    ensures { Carried (script.Edits (Remove at)) (book_of notebook.old)
+        out.old.items result out.new.items (book_of notebook.new) }
 {
     let done = notebook.remove(meter, at);
     push_edit_answer(out, &done)
@@ -70,7 +74,8 @@ pub fn remove_cell(
 
 /// Shows what a cell gives.
 pub fn show_result(out: &mut Vec<u8>, notebook: &Notebook, at: usize) -> Result<(), AllocError>
-    ensures { Carried (script.Asks (script.Shows at)) (book_of notebook.now) out.old.items result out.new.items (book_of notebook.now) }
+    ensures { Carried (script.Asks (script.Shows at)) (book_of notebook.now)
+        out.old.items result out.new.items (book_of notebook.now) }
 {
     match notebook.result(at) {
         Ok(shown) => push_result_answer(out, shown),
@@ -80,7 +85,8 @@ pub fn show_result(out: &mut Vec<u8>, notebook: &Notebook, at: usize) -> Result<
 
 /// Shows a cell's source.
 pub fn show_source(out: &mut Vec<u8>, notebook: &Notebook, at: usize) -> Result<(), AllocError>
-    ensures { Carried (script.Asks (script.ShowsSource at)) (book_of notebook.now) out.old.items result out.new.items (book_of notebook.now) }
+    ensures { Carried (script.Asks (script.ShowsSource at)) (book_of notebook.now)
+        out.old.items result out.new.items (book_of notebook.now) }
 {
     match notebook.source(at) {
         Ok(source) => push_source_answer(out, source),
@@ -90,7 +96,8 @@ pub fn show_source(out: &mut Vec<u8>, notebook: &Notebook, at: usize) -> Result<
 
 /// Shows the names that are bound after a cell.
 pub fn show_names(out: &mut Vec<u8>, notebook: &Notebook, at: usize) -> Result<(), AllocError>
-    ensures { Carried (script.Asks (script.ShowsNames at)) (book_of notebook.now) out.old.items result out.new.items (book_of notebook.now) }
+    ensures { Carried (script.Asks (script.ShowsNames at)) (book_of notebook.now)
+        out.old.items result out.new.items (book_of notebook.now) }
 {
     match notebook.names(at) {
         Ok(names) => push_names_answer(out, &names),
@@ -105,7 +112,8 @@ pub fn show_value(
     at: usize,
     name: &str,
 ) -> Result<(), AllocError>
-    ensures { Carried (script.Asks (script.ShowsValue at name.now)) (book_of notebook.now) out.old.items result out.new.items (book_of notebook.now) }
+    ensures { Carried (script.Asks (script.ShowsValue at name.now)) (book_of notebook.now)
+        out.old.items result out.new.items (book_of notebook.now) }
 {
     match notebook.value(at, name) {
         Ok(value) => push_value_answer(out, &value),

@@ -30,7 +30,8 @@ pub fn answer_line(
     requires empty { answer.old.items ≡ [] }
     ensures done { IfOk result (λ t. Done (stage_of source) line.now (stage_of t)
         (book_of notebook.old) answer.new.items (book_of notebook.new)) }
-    ensures part { OnErr result (DoneInPart (stage_of source) line.now (book_of notebook.old) (book_of notebook.new)) }
+    ensures part { OnErr result (DoneInPart (stage_of source) line.now
+        (book_of notebook.old) (book_of notebook.new)) }
 {
     match source {
         None => answer_command(line, answer, meter, notebook),
@@ -49,9 +50,12 @@ fn continue_source(
 ) -> Result<Option<Source>, AllocError>
     requires inside { IsInLine line.now }
     requires empty { answer.old.items ≡ [] }
-    ensures done { IfOk result (λ t. Done (script.Within (opening_of source.opening) (lines_so_far source)) line.now (stage_of t)
+    ensures done { IfOk result (λ t. Done
+        (script.Within (opening_of source.opening) (lines_so_far source)) line.now (stage_of t)
         (book_of notebook.old) answer.new.items (book_of notebook.new)) }
-    ensures part { OnErr result (DoneInPart (script.Within (opening_of source.opening) (lines_so_far source)) line.now (book_of notebook.old) (book_of notebook.new)) }
+    ensures part { OnErr result (DoneInPart
+        (script.Within (opening_of source.opening) (lines_so_far source)) line.now
+        (book_of notebook.old) (book_of notebook.new)) }
 {
     if is_end_of_source(line) {
         close_source(&source, answer, meter, notebook)?;
@@ -69,7 +73,8 @@ fn close_source(
     meter: &mut Meter,
     notebook: &mut Notebook,
 ) -> Result<(), AllocError>
-    ensures { Carried (script.closed (opening_of source.now.opening) (lines_so_far source.now)) (book_of notebook.old) answer.old.items result answer.new.items (book_of notebook.new) }
+    ensures { Carried (script.closed (opening_of source.now.opening) (lines_so_far source.now))
+        (book_of notebook.old) answer.old.items result answer.new.items (book_of notebook.new) }
 {
     match str::from_utf8(source.bytes()) {
         Ok(text) => match source.opening {
@@ -90,7 +95,8 @@ fn answer_command(
     requires { answer.old.items ≡ [] }
     ensures done { IfOk result (λ t. Done script.Between line.now (stage_of t)
         (book_of notebook.old) answer.new.items (book_of notebook.new)) }
-    ensures part { OnErr result (DoneInPart script.Between line.now (book_of notebook.old) (book_of notebook.new)) }
+    ensures part { OnErr result (DoneInPart script.Between line.now
+        (book_of notebook.old) (book_of notebook.new)) }
 {
     let command = command_of(line);
     match command {
@@ -110,7 +116,8 @@ fn answer_whole(
     meter: &mut Meter,
     notebook: &mut Notebook,
 ) -> Result<(), AllocError>
-    ensures { CarriedLine (line_of command.entry) (book_of notebook.old) answer.old.items result answer.new.items (book_of notebook.new) }
+    ensures { CarriedLine (line_of command.entry) (book_of notebook.old)
+        answer.old.items result answer.new.items (book_of notebook.new) }
 {
     match command {
         LineCommand::Remove(at) => remove_cell(answer, meter, notebook, at),

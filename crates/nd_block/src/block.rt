@@ -187,8 +187,10 @@ impl Drop for RawBlock {
 
 // Writes a zero to each place.
 fn fill_zero(places: &mut Places, start: Start, count: usize)
-    requires { (start.first ≡ places.old.first) × (places.old.written ≡ []) × (places.old.unwritten ≡ count) }
-    ensures { (places.new.first ≡ places.old.first) × (places.new.written ≡ replicate count 0) × (places.new.unwritten ≡ 0) }
+    requires { (start.first ≡ places.old.first) × (places.old.written ≡ [])
+        × (places.old.unwritten ≡ count) }
+    ensures { (places.new.first ≡ places.old.first) × (places.new.written ≡ replicate count 0)
+        × (places.new.unwritten ≡ 0) }
 {
     for i in 0..count {
         places.write(start, i, 0);
@@ -197,8 +199,10 @@ fn fill_zero(places: &mut Places, start: Start, count: usize)
 
 // Writes the bytes to the places.
 fn fill_from(places: &mut Places, start: Start, bytes: &[u8])
-    requires { (start.first ≡ places.old.first) × (places.old.written ≡ []) × (places.old.unwritten ≡ length bytes.now) }
-    ensures { (places.new.first ≡ places.old.first) × (places.new.written ≡ bytes.now) × (places.new.unwritten ≡ 0) }
+    requires { (start.first ≡ places.old.first) × (places.old.written ≡ [])
+        × (places.old.unwritten ≡ length bytes.now) }
+    ensures { (places.new.first ≡ places.old.first) × (places.new.written ≡ bytes.now)
+        × (places.new.unwritten ≡ 0) }
 {
     for i in 0..bytes.len() {
         places.write(start, i, bytes[i]);

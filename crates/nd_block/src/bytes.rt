@@ -5,6 +5,7 @@ ghost use Rattle.nd_model.specs.Element.{Int8, Int16, Int32, Int64, width_of, re
 use nd_types::{Elem, Kind};
 use std::alloc::AllocError;
 
+#[inline]
 fn get16(bytes: &[u8], place: usize, big: bool) -> u16
     requires { place + 2 ≤ length bytes.now }
     ensures { result ≡ number_in (width_of Int16) big (bytes_at bytes.now place 2) }
@@ -17,6 +18,7 @@ fn get16(bytes: &[u8], place: usize, big: bool) -> u16
     }
 }
 
+#[inline]
 fn get32(bytes: &[u8], place: usize, big: bool) -> u32
     requires { place + 4 ≤ length bytes.now }
     ensures { result ≡ number_in (width_of Int32) big (bytes_at bytes.now place 4) }
@@ -34,6 +36,7 @@ fn get32(bytes: &[u8], place: usize, big: bool) -> u32
     }
 }
 
+#[inline]
 fn get64(bytes: &[u8], place: usize, big: bool) -> u64
     requires { place + 8 ≤ length bytes.now }
     ensures { result ≡ number_in (width_of Int64) big (bytes_at bytes.now place 8) }

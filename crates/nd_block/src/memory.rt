@@ -50,7 +50,9 @@ pub(crate) fn allocate<A: Allocator>(
     count: usize,
 ) -> Result<(Start, Places, Right<A>), AllocError>
     requires { count < 2 ^ 63 }
-    ensures { IfOk result (λ r. (r.1.first ≡ r.0.first) × (r.1.written ≡ []) × (r.1.unwritten ≡ count) × (r.2.first ≡ r.0.first) × (r.2.count ≡ count) × (r.2.from ≡ alloc.now)) }
+    ensures { IfOk result (λ r. (r.1.first ≡ r.0.first) × (r.1.written ≡ [])
+        × (r.1.unwritten ≡ count) × (r.2.first ≡ r.0.first) × (r.2.count ≡ count)
+        × (r.2.from ≡ alloc.now)) }
 {
     match alloc.allocate(count, 1) {
         Ok(first) => Ok((Start { first }, Places {}, Right { mark: PhantomData })),
@@ -66,7 +68,8 @@ pub(crate) fn deallocate<A: Allocator>(
     places: Places,
     right: Right<A>,
 )
-    requires { (places.first ≡ start.first) × (length places.written + places.unwritten ≡ count) × (right.first ≡ start.first) × (right.count ≡ count) × (right.from ≡ alloc.now) }
+    requires { (places.first ≡ start.first) × (length places.written + places.unwritten ≡ count)
+        × (right.first ≡ start.first) × (right.count ≡ count) × (right.from ≡ alloc.now) }
 {
     let Places {} = places;
     let Right { mark: _ } = right;
@@ -78,8 +81,11 @@ impl Places {
 
     /// Writes a byte to the first place that is not written.
     pub(crate) fn write(&mut self, start: Start, index: usize, byte: u8)
-        requires { (start.first ≡ self.old.first) × (index ≡ length self.old.written) × (0 < self.old.unwritten) }
-        ensures { (self.new.first ≡ self.old.first) × (self.new.written ≡ self.old.written ++ (byte ∷ [])) × (self.new.unwritten + 1 ≡ self.old.unwritten) }
+        requires { (start.first ≡ self.old.first) × (index ≡ length self.old.written)
+            × (0 < self.old.unwritten) }
+        ensures { (self.new.first ≡ self.old.first)
+            × (self.new.written ≡ self.old.written ++ (byte ∷ []))
+            × (self.new.unwritten + 1 ≡ self.old.unwritten) }
     {
         unsafe { start.first.add(index).write(byte) }
     }

@@ -27,7 +27,8 @@ impl<'f, F: for<'t> Fn(u8, Spot, Tokens<'t>) -> Read<'t, Expr>> Calls<'f, F> {
     #[tactic(auto, unfolding(nd_model::specs::Cells::function))]
     pub(crate) fn function<'t>(&self, levels: u8, np: u128, tokens: Tokens<'t>) -> Read<'t, Expr>
         requires { Operands F.Fn self.now.rules.operand.now levels }
-        ensures { Gives (with_rest expr_of) result (read kind (function np (under levels)) (tokens_of tokens.now)) }
+        ensures { Gives (with_rest expr_of) result (read kind (function np (under levels))
+            (tokens_of tokens.now)) }
     {
         let rest = skip(tokens, np)?;
         let rest = skip(rest, DOT)?;
@@ -39,7 +40,8 @@ impl<'f, F: for<'t> Fn(u8, Spot, Tokens<'t>) -> Read<'t, Expr>> Calls<'f, F> {
     #[tactic(auto, unfolding(nd_model::specs::Cells::call))]
     fn call<'t>(&self, levels: u8, tokens: Tokens<'t>) -> Read<'t, Call>
         requires { Operands F.Fn self.now.rules.operand.now levels }
-        ensures { Gives (with_rest call_of) result (read kind (call (under levels)) (tokens_of tokens.now)) }
+        ensures { Gives (with_rest call_of) result (read kind (call (under levels))
+            (tokens_of tokens.now)) }
     {
         if let Some(rest) = behind(tokens, ARANGE) {
             return self.arange(levels, rest);
@@ -87,7 +89,8 @@ impl<'f, F: for<'t> Fn(u8, Spot, Tokens<'t>) -> Read<'t, Expr>> Calls<'f, F> {
     /// `np.arange`
     fn arange<'t>(&self, levels: u8, tokens: Tokens<'t>) -> Read<'t, Call>
         requires { Operands F.Fn self.now.rules.operand.now levels }
-        ensures { Gives (with_rest call_of) result (read kind (arange (under levels)) (tokens_of tokens.now)) }
+        ensures { Gives (with_rest call_of) result (read kind (arange (under levels))
+            (tokens_of tokens.now)) }
     {
         let (levels, rest) = open(levels, OPEN, tokens)?;
         let (first, rest) = self.rules.expr(levels, Spot::Anywhere, rest)?;
@@ -139,7 +142,8 @@ impl<'f, F: for<'t> Fn(u8, Spot, Tokens<'t>) -> Read<'t, Expr>> Calls<'f, F> {
     /// `(shape [, dtype = type])`
     fn filled<'t>(&self, levels: u8, tokens: Tokens<'t>) -> Read<'t, (Vec<Expr>, Option<DType>)>
         requires { Operands F.Fn self.now.rules.operand.now levels }
-        ensures { Gives (with_rest filled_of) result (read kind (filled (under levels)) (tokens_of tokens.now)) }
+        ensures { Gives (with_rest filled_of) result (read kind (filled (under levels))
+            (tokens_of tokens.now)) }
     {
         let (levels, rest) = open(levels, OPEN, tokens)?;
         let (shape, rest) = self.rules.shape(levels, rest)?;
@@ -150,7 +154,8 @@ impl<'f, F: for<'t> Fn(u8, Spot, Tokens<'t>) -> Read<'t, Expr>> Calls<'f, F> {
     /// `np.full`
     fn full<'t>(&self, levels: u8, tokens: Tokens<'t>) -> Read<'t, Call>
         requires { Operands F.Fn self.now.rules.operand.now levels }
-        ensures { Gives (with_rest call_of) result (read kind (full (under levels)) (tokens_of tokens.now)) }
+        ensures { Gives (with_rest call_of) result (read kind (full (under levels))
+            (tokens_of tokens.now)) }
     {
         let (levels, rest) = open(levels, OPEN, tokens)?;
         let (shape, rest) = self.rules.shape(levels, rest)?;
@@ -164,7 +169,8 @@ impl<'f, F: for<'t> Fn(u8, Spot, Tokens<'t>) -> Read<'t, Expr>> Calls<'f, F> {
     /// `np.array`
     fn new_array<'t>(&self, levels: u8, tokens: Tokens<'t>) -> Read<'t, Call>
         requires { Operands F.Fn self.now.rules.operand.now levels }
-        ensures { Gives (with_rest call_of) result (read kind (new_array (under levels)) (tokens_of tokens.now)) }
+        ensures { Gives (with_rest call_of) result (read kind (new_array (under levels))
+            (tokens_of tokens.now)) }
     {
         let (levels, rest) = open(levels, OPEN, tokens)?;
         let (element, rest) = self.rules.element(levels, rest)?;
@@ -176,7 +182,8 @@ impl<'f, F: for<'t> Fn(u8, Spot, Tokens<'t>) -> Read<'t, Expr>> Calls<'f, F> {
     /// `np.broadcast_to`
     fn broadcast_to<'t>(&self, levels: u8, tokens: Tokens<'t>) -> Read<'t, Call>
         requires { Operands F.Fn self.now.rules.operand.now levels }
-        ensures { Gives (with_rest call_of) result (read kind (broadcast_to (under levels)) (tokens_of tokens.now)) }
+        ensures { Gives (with_rest call_of) result (read kind (broadcast_to (under levels))
+            (tokens_of tokens.now)) }
     {
         let (levels, rest) = open(levels, OPEN, tokens)?;
         let (value, rest) = self.rules.expr(levels, Spot::Anywhere, rest)?;
@@ -188,7 +195,8 @@ impl<'f, F: for<'t> Fn(u8, Spot, Tokens<'t>) -> Read<'t, Expr>> Calls<'f, F> {
     /// `(expr, expr)`
     fn two<'t>(&self, levels: u8, tokens: Tokens<'t>) -> Read<'t, (Expr, Expr)>
         requires { Operands F.Fn self.now.rules.operand.now levels }
-        ensures { Gives (with_rest two_of) result (read kind (two (under levels)) (tokens_of tokens.now)) }
+        ensures { Gives (with_rest two_of) result (read kind (two (under levels))
+            (tokens_of tokens.now)) }
     {
         let (levels, rest) = open(levels, OPEN, tokens)?;
         let (left, rest) = self.rules.expr(levels, Spot::Anywhere, rest)?;
@@ -201,7 +209,8 @@ impl<'f, F: for<'t> Fn(u8, Spot, Tokens<'t>) -> Read<'t, Expr>> Calls<'f, F> {
     #[tactic(auto, unfolding(nd_model::specs::Cells::fold))]
     fn fold<'t>(&self, levels: u8, tokens: Tokens<'t>) -> Read<'t, Fold>
         requires { Operands F.Fn self.now.rules.operand.now levels }
-        ensures { Gives (with_rest fold_of) result (read kind (fold (under levels)) (tokens_of tokens.now)) }
+        ensures { Gives (with_rest fold_of) result (read kind (fold (under levels))
+            (tokens_of tokens.now)) }
     {
         let rest = skip(tokens, DOT)?;
         if let Some(rest) = behind(rest, REDUCE) {
@@ -215,7 +224,8 @@ impl<'f, F: for<'t> Fn(u8, Spot, Tokens<'t>) -> Read<'t, Expr>> Calls<'f, F> {
 
     fn reduce<'t>(&self, levels: u8, tokens: Tokens<'t>) -> Read<'t, Fold>
         requires { Operands F.Fn self.now.rules.operand.now levels }
-        ensures { Gives (with_rest fold_of) result (read kind (reduce (under levels)) (tokens_of tokens.now)) }
+        ensures { Gives (with_rest fold_of) result (read kind (reduce (under levels))
+            (tokens_of tokens.now)) }
     {
         let (levels, rest) = open(levels, OPEN, tokens)?;
         let (array, rest) = self.rules.expr(levels, Spot::Anywhere, rest)?;
@@ -226,7 +236,8 @@ impl<'f, F: for<'t> Fn(u8, Spot, Tokens<'t>) -> Read<'t, Expr>> Calls<'f, F> {
 
     fn accumulate<'t>(&self, levels: u8, tokens: Tokens<'t>) -> Read<'t, Fold>
         requires { Operands F.Fn self.now.rules.operand.now levels }
-        ensures { Gives (with_rest fold_of) result (read kind (accumulate (under levels)) (tokens_of tokens.now)) }
+        ensures { Gives (with_rest fold_of) result (read kind (accumulate (under levels))
+            (tokens_of tokens.now)) }
     {
         let (levels, rest) = open(levels, OPEN, tokens)?;
         let (array, rest) = self.rules.expr(levels, Spot::Anywhere, rest)?;

@@ -28,7 +28,8 @@ impl<'f, F: for<'t> Fn(u8, Spot, Tokens<'t>) -> Read<'t, Expr>> Calls<'f, F> {
     #[tactic(auto, unfolding(nd_model::specs::Cells::method))]
     pub fn method<'t>(&self, levels: u8, tokens: Tokens<'t>) -> Read<'t, Method>
         requires { Operands F.Fn self.now.rules.operand.now levels }
-        ensures { Gives (with_rest method_of) result (read kind (method (under levels)) (tokens_of tokens.now)) }
+        ensures { Gives (with_rest method_of) result (read kind (method (under levels))
+            (tokens_of tokens.now)) }
     {
         let rest = skip(tokens, DOT)?;
         self.attribute(levels, rest)
@@ -38,7 +39,8 @@ impl<'f, F: for<'t> Fn(u8, Spot, Tokens<'t>) -> Read<'t, Expr>> Calls<'f, F> {
     #[tactic(auto, unfolding(nd_model::specs::Cells::attribute))]
     fn attribute<'t>(&self, levels: u8, tokens: Tokens<'t>) -> Read<'t, Method>
         requires { Operands F.Fn self.now.rules.operand.now levels }
-        ensures { Gives (with_rest method_of) result (read kind (attribute (under levels)) (tokens_of tokens.now)) }
+        ensures { Gives (with_rest method_of) result (read kind (attribute (under levels))
+            (tokens_of tokens.now)) }
     {
         if let Some(rest) = behind(tokens, TRANSPOSED) {
             return Ok((transpose(Vec::new(self.rules.alloc)), rest));
@@ -82,7 +84,8 @@ impl<'f, F: for<'t> Fn(u8, Spot, Tokens<'t>) -> Read<'t, Expr>> Calls<'f, F> {
     /// `([expr {"," expr}])`
     fn axes<'t>(&self, levels: u8, tokens: Tokens<'t>) -> Read<'t, Vec<Expr>>
         requires { Operands F.Fn self.now.rules.operand.now levels }
-        ensures { Gives (with_rest exprs_of) result (read kind (axes (under levels)) (tokens_of tokens.now)) }
+        ensures { Gives (with_rest exprs_of) result (read kind (axes (under levels))
+            (tokens_of tokens.now)) }
     {
         let (levels, rest) = open(levels, OPEN, tokens)?;
         if next_in(rest, EXPR) {
@@ -94,7 +97,8 @@ impl<'f, F: for<'t> Fn(u8, Spot, Tokens<'t>) -> Read<'t, Expr>> Calls<'f, F> {
     /// `(shape)`, or several lengths
     fn lengths<'t>(&self, levels: u8, tokens: Tokens<'t>) -> Read<'t, Vec<Expr>>
         requires { Operands F.Fn self.now.rules.operand.now levels }
-        ensures { Gives (with_rest exprs_of) result (read kind (lengths (under levels)) (tokens_of tokens.now)) }
+        ensures { Gives (with_rest exprs_of) result (read kind (lengths (under levels))
+            (tokens_of tokens.now)) }
     {
         let (levels, rest) = open(levels, OPEN, tokens)?;
         if next_in(rest, OPEN_TUPLE) {
@@ -109,7 +113,8 @@ impl<'f, F: for<'t> Fn(u8, Spot, Tokens<'t>) -> Read<'t, Expr>> Calls<'f, F> {
     /// The axis, and whether it is kept, in brackets.
     fn reduction<'t>(&self, levels: u8, tokens: Tokens<'t>) -> Read<'t, (Axis, bool)>
         requires { Operands F.Fn self.now.rules.operand.now levels }
-        ensures { Gives (with_rest options_of) result (read kind (reduction (under levels)) (tokens_of tokens.now)) }
+        ensures { Gives (with_rest options_of) result (read kind (reduction (under levels))
+            (tokens_of tokens.now)) }
     {
         let (levels, rest) = open(levels, OPEN, tokens)?;
         close_read(self.reduction_options(levels, rest), CLOSE)
@@ -139,7 +144,8 @@ impl<'f, F: for<'t> Fn(u8, Spot, Tokens<'t>) -> Read<'t, Expr>> Calls<'f, F> {
     /// `([axis = expr])`
     fn accumulation<'t>(&self, levels: u8, tokens: Tokens<'t>) -> Read<'t, Option<Expr>>
         requires { Operands F.Fn self.now.rules.operand.now levels }
-        ensures { Gives (with_rest bound_of) result (read kind (accumulation (under levels)) (tokens_of tokens.now)) }
+        ensures { Gives (with_rest bound_of) result (read kind (accumulation (under levels))
+            (tokens_of tokens.now)) }
     {
         let (levels, rest) = open(levels, OPEN, tokens)?;
         if next_in(rest, AXIS) {

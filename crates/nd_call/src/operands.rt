@@ -42,7 +42,8 @@ impl<'f, F: for<'t> Fn(u8, Spot, Tokens<'t>) -> Read<'t, Expr>> Calls<'f, F> {
     #[tactic(auto, unfolding(nd_model::specs::Cells::unary))]
     pub fn unary<'t>(&self, levels: u8, spot: Spot, tokens: Tokens<'t>) -> Read<'t, Expr>
         requires { Operands F.Fn self.now.rules.operand.now levels }
-        ensures { Gives (with_rest expr_of) result (read kind (unary (spot_of spot) (under levels)) (tokens_of tokens.now)) }
+        ensures { Gives (with_rest expr_of) result (read kind (unary (spot_of spot) (under levels))
+            (tokens_of tokens.now)) }
     {
         if next_in(tokens, SIGN) {
             return self.signed(levels, tokens);
@@ -53,7 +54,8 @@ impl<'f, F: for<'t> Fn(u8, Spot, Tokens<'t>) -> Read<'t, Expr>> Calls<'f, F> {
     /// A sign with its operand.
     fn signed<'t>(&self, levels: u8, tokens: Tokens<'t>) -> Read<'t, Expr>
         requires { Operands F.Fn self.now.rules.operand.now levels }
-        ensures { Gives (with_rest expr_of) result (read kind (signed (under levels)) (tokens_of tokens.now)) }
+        ensures { Gives (with_rest expr_of) result (read kind (signed (under levels))
+            (tokens_of tokens.now)) }
     {
         if levels == 0 {
             return Err(shut(tokens, SIGN, Reason::TooDeep));
@@ -63,7 +65,8 @@ impl<'f, F: for<'t> Fn(u8, Spot, Tokens<'t>) -> Read<'t, Expr>> Calls<'f, F> {
 
     fn with_sign<'t>(&self, levels: u8, tokens: Tokens<'t>) -> Read<'t, Expr>
         requires { Operands F.Fn self.now.rules.operand.now (levels + 1) }
-        ensures { Gives (with_rest expr_of) result (read kind (with_sign (unary Anywhere (under levels))) (tokens_of tokens.now)) }
+        ensures { Gives (with_rest expr_of) result
+            (read kind (with_sign (unary Anywhere (under levels))) (tokens_of tokens.now)) }
     {
         let (sign, rest) = take(tokens, SIGN)?;
         let (operand, rest) = self.rules.unary(levels, Spot::Anywhere, rest)?;
@@ -75,7 +78,8 @@ impl<'f, F: for<'t> Fn(u8, Spot, Tokens<'t>) -> Read<'t, Expr>> Calls<'f, F> {
     #[tactic(auto, unfolding(nd_model::specs::Cells::power))]
     fn power<'t>(&self, levels: u8, spot: Spot, tokens: Tokens<'t>) -> Read<'t, Expr>
         requires { Operands F.Fn self.now.rules.operand.now levels }
-        ensures { Gives (with_rest expr_of) result (read kind (power (spot_of spot) (under levels)) (tokens_of tokens.now)) }
+        ensures { Gives (with_rest expr_of) result (read kind (power (spot_of spot) (under levels))
+            (tokens_of tokens.now)) }
     {
         let (base, rest) = self.postfix(levels, spot, tokens)?;
         if next_in(rest, POWER) {
@@ -88,7 +92,8 @@ impl<'f, F: for<'t> Fn(u8, Spot, Tokens<'t>) -> Read<'t, Expr>> Calls<'f, F> {
     /// `** unary`
     fn exponent<'t>(&self, levels: u8, tokens: Tokens<'t>) -> Read<'t, (BinaryOp, Expr)>
         requires { Operands F.Fn self.now.rules.operand.now levels }
-        ensures { Gives (with_rest operation_of) result (read kind (exponent (under levels)) (tokens_of tokens.now)) }
+        ensures { Gives (with_rest operation_of) result (read kind (exponent (under levels))
+            (tokens_of tokens.now)) }
     {
         if levels == 0 {
             return Err(shut(tokens, POWER, Reason::TooDeep));
@@ -98,7 +103,8 @@ impl<'f, F: for<'t> Fn(u8, Spot, Tokens<'t>) -> Read<'t, Expr>> Calls<'f, F> {
 
     fn raised<'t>(&self, levels: u8, tokens: Tokens<'t>) -> Read<'t, (BinaryOp, Expr)>
         requires { Operands F.Fn self.now.rules.operand.now (levels + 1) }
-        ensures { Gives (with_rest operation_of) result (read kind (operation POWER (unary Anywhere (under levels))) (tokens_of tokens.now)) }
+        ensures { Gives (with_rest operation_of) result
+            (read kind (operation POWER (unary Anywhere (under levels))) (tokens_of tokens.now)) }
     {
         let (token, rest) = take(tokens, POWER)?;
         let (operand, rest) = self.rules.unary(levels, Spot::Anywhere, rest)?;
@@ -109,7 +115,8 @@ impl<'f, F: for<'t> Fn(u8, Spot, Tokens<'t>) -> Read<'t, Expr>> Calls<'f, F> {
     #[tactic(auto, unfolding(nd_model::specs::Cells::postfix))]
     fn postfix<'t>(&self, levels: u8, spot: Spot, tokens: Tokens<'t>) -> Read<'t, Expr>
         requires { Operands F.Fn self.now.rules.operand.now levels }
-        ensures { Gives (with_rest expr_of) result (read kind (postfix (spot_of spot) (under levels)) (tokens_of tokens.now)) }
+        ensures { Gives (with_rest expr_of) result
+            (read kind (postfix (spot_of spot) (under levels)) (tokens_of tokens.now)) }
     {
         let (operand, rest) = self.operand(levels, spot, tokens)?;
         let ((operand, suffixes), rest) = pair(operand, self.suffixes(levels, rest))?;
@@ -119,7 +126,8 @@ impl<'f, F: for<'t> Fn(u8, Spot, Tokens<'t>) -> Read<'t, Expr>> Calls<'f, F> {
     /// Any number of indexes and methods.
     fn suffixes<'t>(&self, levels: u8, tokens: Tokens<'t>) -> Read<'t, Vec<Suffix>>
         requires { Operands F.Fn self.now.rules.operand.now levels }
-        ensures { Gives (with_rest suffixes_of) result (read kind (Many SUFFIX (λ xs. xs) (suffix (under levels))) (tokens_of tokens.now)) }
+        ensures { Gives (with_rest suffixes_of) result
+            (read kind (Many SUFFIX (λ xs. xs) (suffix (under levels))) (tokens_of tokens.now)) }
     {
         let mut all = Vec::new(self.rules.alloc);
         // from the first token on
@@ -136,7 +144,8 @@ impl<'f, F: for<'t> Fn(u8, Spot, Tokens<'t>) -> Read<'t, Expr>> Calls<'f, F> {
     #[tactic(auto, unfolding(nd_model::specs::Cells::suffix))]
     fn suffix<'t>(&self, levels: u8, tokens: Tokens<'t>) -> Read<'t, Suffix>
         requires { Operands F.Fn self.now.rules.operand.now levels }
-        ensures { Gives (with_rest suffix_of) result (read kind (suffix (under levels)) (tokens_of tokens.now)) }
+        ensures { Gives (with_rest suffix_of) result (read kind (suffix (under levels))
+            (tokens_of tokens.now)) }
     {
         if next_in(tokens, OPEN_BRACKET) {
             let (index, rest) = self.rules.index(levels, tokens)?;
@@ -150,7 +159,8 @@ impl<'f, F: for<'t> Fn(u8, Spot, Tokens<'t>) -> Read<'t, Expr>> Calls<'f, F> {
     #[tactic(auto, unfolding(nd_model::specs::Cells::operand))]
     pub fn operand<'t>(&self, levels: u8, spot: Spot, tokens: Tokens<'t>) -> Read<'t, Expr>
         requires { Operands F.Fn self.now.rules.operand.now levels }
-        ensures { Gives (with_rest expr_of) result (read kind (operand (spot_of spot) (under levels)) (tokens_of tokens.now)) }
+        ensures { Gives (with_rest expr_of) result
+            (read kind (operand (spot_of spot) (under levels)) (tokens_of tokens.now)) }
     {
         let set = leaves(spot);
         if next_in(tokens, set) {

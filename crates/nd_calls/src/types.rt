@@ -32,7 +32,8 @@ fn fields_of(alloc: Global, list: &str) -> Result<Vec<Field>, Refusal> {
 fn structure_of(alloc: Global, size: &str, list: &str) -> Result<ElemType, Refusal> {
     let size = number(size)?;
     let structure = RecType::new(fields_of(alloc, list)?, size);
-    structure.map(ElemType::Rec).ok_or(Refusal::NoStructure)
+    let structure = structure.ok_or(Refusal::NoStructure)?;
+    Ok(ElemType::of_structure(alloc, structure)?)
 }
 
 /// The type of a word.
@@ -65,7 +66,7 @@ fn push_type(text: &mut String, elem: &ElemType) -> Result<(), AllocError> {
 
 /// The size of a type, and the words of its clone.
 fn describe(alloc: Global, kept: &ElemType) -> Result<String, Refusal> {
-    let copy = kept.try_clone(alloc)?;
+    let copy = kept.try_clone()?;
     let mut text = format!(in alloc; "{}", kept.size())?;
     push_type(&mut text, &copy)?;
     Ok(text)

@@ -6,7 +6,7 @@ use crate::refusal::Refusal;
 use crate::types::type_of;
 use crate::words::{number, numbers};
 use nd_types::ElemType;
-use nd_view::{Index, Run, View, ViewFault};
+use nd_view::{Index, Run, Runs, View, ViewFault};
 use std::alloc::{AllocError, Global};
 use std::fmt::Write;
 
@@ -27,7 +27,7 @@ pub(crate) fn still_view(alloc: Global, elem: ElemType, shape: &[u64]) -> Result
 
 /// The view of an array of the same type and lengths, alone in its block.
 fn contiguous_like(alloc: Global, still: &View) -> Result<View, Refusal> {
-    let elem = still.elem().try_clone(alloc)?;
+    let elem = still.elem().try_clone()?;
     View::contiguous(alloc, elem, still.shape()).map_err(Refusal::from)
 }
 
@@ -69,9 +69,8 @@ fn push_run(text: &mut String, run: &Run) -> Result<(), AllocError> {
     Ok(())
 }
 
-/// Appends the runs of the elements.
-fn push_runs(text: &mut String, view: &View) -> Result<(), AllocError> {
-    let mut runs = view.runs();
+/// Appends the runs that are left of a walk.
+fn push_runs(text: &mut String, mut runs: Runs) -> Result<(), AllocError> {
     while let Some(run) = runs.next() {
         push_run(text, &run)?;
     }
@@ -108,8 +107,10 @@ fn push_tuples(text: &mut String, view: &View) -> Result<(), AllocError> {
 
 /// Appends the places of a view.
 fn push_places(alloc: Global, text: &mut String, view: &View) -> Result<(), AllocError> {
+    text.push_str("\nrows")?;
+    push_runs(text, view.rows())?;
     text.push_str("\nruns")?;
-    push_runs(text, view)?;
+    push_runs(text, view.runs())?;
     text.push_str("\nnumbers")?;
     push_numbered(text, view)?;
     text.push_str("\ntuples")?;

@@ -152,7 +152,7 @@ pub fn run_cell(
 {
     let _bytes = text.as_bytes();
     meter.advance();
-    session.start(label);
+    session.start(label)?;
     match parse_cell(session.allocator(), text)? {
         Ok(lines) => run_lines(session, inputs, &lines),
         Err(fault) => Ok(unread(session.allocator(), fault)),

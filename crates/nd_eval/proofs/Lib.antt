@@ -7,3 +7,4 @@ pub mod InTurn
 pub mod Indexing
 pub mod Parts
 pub mod Writes
+pub mod Runs

@@ -12,6 +12,7 @@ mod operand;
 mod operation;
 mod operators;
 mod printing;
+mod reading;
 mod stop;
 mod writing;
 

@@ -13,6 +13,7 @@ ghost use Rattle.nd_eval.specs.Parts.{use_values};
 use crate::fault::{StmtError, StmtFault, ViewFault};
 use crate::numbers::{int64, numbers_below};
 use crate::operand::{ElementPlace, Elements, Made, Operand};
+use crate::reading::{read_all, read_element};
 use crate::stop::Stop;
 use nd_block::value_at;
 use nd_heap::{Array, Inputs, Session, Value};
@@ -34,7 +35,7 @@ pub(crate) fn use_operand<'v>(
     match value {
         Value::Number(number) => Ok(Operand::Number(*number)),
         Value::Array(array) => {
-            let bytes = session.use_all(array)?;
+            let bytes = read_all(session, array)?;
             Ok(Operand::Elements(Elements {
                 view: &array.view,
                 bytes,
@@ -106,7 +107,7 @@ pub(crate) fn choose_of(
     let Value::Array(array) = value else {
         return Err(Stop::Refused(StmtFault::Stmt(StmtError::NotAnArray)));
     };
-    let bytes = session.use_element(array.base, chosen.place, chosen.elem)?;
+    let bytes = read_element(session, array.base, chosen.place, chosen.elem)?;
     let number = value_at(&bytes, 0, chosen.elem);
     Ok(Value::Number(Num::Scalar(chosen.elem.kind(), number)))
 }

@@ -1,39 +1,33 @@
 -- Blocks by their bases.
-use Rattle.std.proofs.Common.{◌≡◌, ℕ, zero, suc, ◌+◌, Bool, true, false, cond, ◌&&◌, nat_eq, List, [], ◌∷◌, ◌++◌, filter, drop, slice_get, Some, None, add-one, append_assoc, refl, sym, ap, ap₂, ◌∙◌, inl, inr, arith}
+use Rattle.std.proofs.Common.{◌≡◌, ◌≤◌, ℕ, zero, suc, length, slice_get, Bool, true, false, cond, ◌&&◌, nat_eq, List, [], ◌∷◌, filter, Some, None, Option, Global, refl, sym, ap, ap₂, ◌∙◌, inl, inr, arith}
 use mathlib.Core.Path.{fun_ext}
 use Rattle.std.specs.Map.{lookup as find}
-use Rattle.std.specs.Option.{option_map_or}
+use Rattle.std.specs.List.{AllZip}
+use Rattle.std.specs.declared.rc.Rc.{Rc}
 use Rattle.indexmap.specs.IndexMap.{insert_entry}
 use Rattle.std.proofs.lemmas.Bool.{cases_Bool, and_parts}
 use Rattle.std.proofs.lemmas.Bool.Decides.{nat_tests}
 use Rattle.nd_model.specs.Value as model
-use Rattle.nd_model.specs.Session.{is_held, Names}
 use Rattle.nd_model.specs.Running as running
 use Rattle.nd_heap.specs.declared.value.Base.{Base}
 use Rattle.nd_heap.specs.Values.{base_of}
 use Rattle.nd_heap.specs.Contents.{blocks_of}
 use Rattle.nd_heap.specs.Live.{bytes_at}
-use Rattle.nd_heap.proofs.Noting.{same_bases, read_none}
+use Rattle.nd_heap.proofs.Same.{same_bases}
+
+abbrev pub Shared : Type 0
+Shared = Rc (List ℕ) Global
 
 abbrev pub base_eq : Base → Base → Bool
 base_eq a b = nat_eq a.label b.label && nat_eq a.number b.number
 
-pub bytes_at-insert : (b : Base) (bytes : List ℕ) (es : List (Base × List ℕ)) (c : model.Base)
-    → bytes_at (blocks_of (insert_entry base_eq es b bytes)) c ≡ running.with_base (base_of b) bytes (bytes_at (blocks_of es)) c
-bytes_at-insert b bytes [] c = refl
-bytes_at-insert b bytes (e ∷ es) c = elim (cases_Bool (base_eq b e.0)) [
+pub bytes_at-insert : (b : Base) (block : Shared) (es : List (Base × Shared)) (c : model.Base)
+    → bytes_at (blocks_of (insert_entry base_eq es b block)) c ≡ running.with_base (base_of b) block.value (bytes_at (blocks_of es)) c
+bytes_at-insert b block [] c = refl
+bytes_at-insert b block (e ∷ es) c = elim (cases_Bool (base_eq b e.0)) [
   | inl is ↦ rw is (grind (arith, nat_tests, and_parts))
-  | inr other ↦ rw other (grind (arith, nat_tests, bytes_at-insert b bytes es c))
+  | inr other ↦ rw other (grind (arith, nat_tests, bytes_at-insert b block es c))
 ]
-
--- a new block
-pub made_block : (r : running.Running) (b : Base) (bytes : List ℕ) (es fs : List (Base × List ℕ)) → r.bytes ≡ bytes_at (blocks_of es) → base_of b ≡ record { label = r.label; number = r.next }
-    → fs ≡ insert_entry base_eq es b bytes → record r { bytes = bytes_at (blocks_of fs); next = r.next + 1 } ≡ running.after (running.Make bytes) r
-made_block r b bytes es fs old named is =
-    let none : r ≡ running.having_read (λ k. false) r = read_none (λ k. false) r (λ k. refl) in
-    let set : bytes_at (blocks_of fs) ≡ running.with_base (record { label = r.label; number = r.next }) bytes r.bytes =
-    ap (λ fs. bytes_at (blocks_of fs)) is ∙ fun_ext (bytes_at-insert b bytes es) ∙ ap₂ (λ b bs. running.with_base b bytes bs) named (sym old) in
-    λ j. record r { bytes = set j; next = r.next + 1; read = (none j).read }
 
 nat_eq_sym : (m n : ℕ) → nat_eq m n ≡ nat_eq n m
 nat_eq_sym m n = grind (arith, nat_tests)
@@ -41,45 +35,69 @@ nat_eq_sym m n = grind (arith, nat_tests)
 pub base_eq_sym : (a b : Base) → model.same_base (base_of a) (base_of b) ≡ base_eq b a
 base_eq_sym a b = ap₂ (λ x y. x && y) (nat_eq_sym a.label b.label) (nat_eq_sym a.number b.number)
 
-pub found_block : (b : Base) (es : List (Base × List ℕ)) → bytes_at (blocks_of es) (base_of b) ≡ option_map_or (λ v. v) (find (base_eq b) es) []
+-- the bytes of a block that is found
+abbrev pub found_bytes : Option Shared → List ℕ
+found_bytes None = []
+found_bytes (Some v) = v.value
+
+pub found_block : (b : Base) (es : List (Base × Shared)) → bytes_at (blocks_of es) (base_of b) ≡ found_bytes (find (base_eq b) es)
 found_block b [] = refl
 found_block b (e ∷ es) = rw (base_eq_sym e.0 b) (elim (cases_Bool (base_eq b e.0)) [ inl is ↦ rw is refl | inr other ↦ rw other (found_block b es) ])
 
 -- the blocks that are kept
-pub held_filter : (names : Names) (b : model.Base) (es : List (Base × List ℕ))
-    → bytes_at (blocks_of (filter (λ e. is_held (base_of e.0) names) es)) b ≡ cond (is_held b names) (bytes_at (blocks_of es) b) []
-held_filter names b [] = elim (is_held b names) as (λ h. ◌≡◌ {A = List ℕ} [] (cond h [] [])) [ true ↦ refl | false ↦ refl ]
-held_filter names b (e ∷ es) = elim (cases_Bool (model.same_base (base_of e.0) b)) [
-  | inl same ↦ rw (same_bases (base_of e.0) b same) (elim (cases_Bool (is_held b names)) [
+pub kept_filter : (f : model.Base → Bool) (b : model.Base) (es : List (Base × Shared))
+    → bytes_at (blocks_of (filter (λ e. f (base_of e.0)) es)) b ≡ cond (f b) (bytes_at (blocks_of es) b) []
+kept_filter f b [] = elim (f b) as (λ h. ◌≡◌ {A = List ℕ} [] (cond h [] [])) [ true ↦ refl | false ↦ refl ]
+kept_filter f b (e ∷ es) = elim (cases_Bool (model.same_base (base_of e.0) b)) [
+  | inl same ↦ rw (same_bases (base_of e.0) b same) (elim (cases_Bool (f b)) [
     | inl held ↦ grind (arith, nat_tests)
-    | inr other ↦ rw other (held_filter names b es ∙ rw other refl)
+    | inr other ↦ rw other (kept_filter f b es ∙ rw other refl)
   ])
-  | inr apart ↦ elim (cases_Bool (is_held (base_of e.0) names)) [
-    | inl held ↦ rw (held, apart) (held_filter names b es)
-    | inr other ↦ rw (other, apart) (held_filter names b es)
+  | inr apart ↦ elim (cases_Bool (f (base_of e.0))) [
+    | inl held ↦ rw (held, apart) (kept_filter f b es)
+    | inr other ↦ rw (other, apart) (kept_filter f b es)
   ]
 ]
 
-none_some : {P : Type 0} (e : Base × List ℕ) → None ≡ Some e → P
+-- a clone of the blocks
+pub cloned_blocks : (es fs : List (Base × Shared)) → AllZip (λ (p q : Base × Shared). (q.0 ≡ p.0) × (q.1.value ≡ p.1.value)) es fs → blocks_of fs ≡ blocks_of es
+cloned_blocks [] [] h = refl
+cloned_blocks [] (f ∷ fs) h = absurd h
+cloned_blocks (e ∷ es) [] h = absurd h
+cloned_blocks (e ∷ es) (f ∷ fs) h = λ i. (base_of (h.0.0 i), h.0.1 i) ∷ cloned_blocks es fs h.1 i
+
+-- a block is set
+pub set_block : (b : Base) (block : Shared) (bytes : List ℕ) (es fs gs : List (Base × Shared)) → block.value ≡ bytes → blocks_of fs ≡ blocks_of es → gs ≡ insert_entry base_eq fs b block
+    → bytes_at (blocks_of gs) ≡ running.with_base (base_of b) bytes (bytes_at (blocks_of es))
+set_block b block bytes es fs gs is same set =
+    ap (λ gs. bytes_at (blocks_of gs)) set ∙ fun_ext (bytes_at-insert b block fs) ∙ ap₂ (λ bytes bs. running.with_base (base_of b) bytes (bytes_at bs)) is same
+
+-- the block that was there
+pub was_block : (b : Base) (bytes : List ℕ) (o : Option Shared) (es fs : List (Base × Shared)) → blocks_of fs ≡ blocks_of es → o ≡ find (base_eq b) fs → bytes ≡ found_bytes o → bytes ≡ bytes_at (blocks_of es) (base_of b)
+was_block b bytes o es fs same found is = is ∙ ap found_bytes found ∙ sym (found_block b fs) ∙ ap (λ bs. bytes_at bs (base_of b)) same
+
+-- the blocks before this one are kept
+abbrev pub AreKept : (model.Base → Bool) → List (Base × Shared) → ℕ → Type 0
+AreKept f es zero = Unit {0}
+AreKept f [] (suc i) = Unit {0}
+AreKept f (e ∷ es) (suc i) = (f (base_of e.0) ≡ true) × AreKept f es i
+
+none_some : {P : Type 0} (e : Base × Shared) → None ≡ Some e → P
 none_some e h = cc
 
-some_same : (d e : Base × List ℕ) → Some d ≡ Some e → d ≡ e
-some_same d e h = cc
+pub kept_more : (f : model.Base → Bool) (es : List (Base × Shared)) (i : ℕ) (e : Base × Shared) → slice_get es i ≡ Some e → f (base_of e.0) ≡ true → AreKept f es i → AreKept f es (suc i)
+kept_more f [] i e at held before = none_some e at
+kept_more f (d ∷ es) zero e at held before = (ap (λ (o : Option (Base × Shared)). f (base_of (fst_of o e))) at ∙ held, tt)
+  where
+    fst_of : Option (Base × Shared) → Base × Shared → Base
+    fst_of None e = e.0
+    fst_of (Some d) e = d.0
+kept_more f (d ∷ es) (suc i) e at held before = (before.0, kept_more f es i e at held before.1)
 
-from_here : (es : List (Base × List ℕ)) (i : ℕ) (e : Base × List ℕ) → slice_get es i ≡ Some e → drop i es ≡ e ∷ drop (suc i) es
-from_here [] i e h = none_some e h
-from_here (d ∷ es) zero e h = ap (λ d. d ∷ es) (some_same d e h)
-from_here (d ∷ es) (suc i) e h = from_here es i e h
-
--- one more block is held
-pub held_more : (f : Base × List ℕ → Bool) (xs ys es : List (Base × List ℕ)) (i : ℕ) (e : Base × List ℕ) → slice_get es i ≡ Some e → f e ≡ true → ys ≡ xs ++ e ∷ []
-    → xs ++ filter f (drop i es) ≡ filter f es → ys ++ filter f (drop (i + 1) es) ≡ filter f es
-held_more f xs ys es i e at held push before =
-    let rest : filter f (drop i es) ≡ e ∷ filter f (drop (suc i) es) = ap (filter f) (from_here es i e at) ∙ rw held refl in
-    rw (push, add-one i) (append_assoc xs (e ∷ []) (filter f (drop (suc i) es)) ∙ sym (ap (λ bs. xs ++ bs) rest) ∙ before)
-
-pub held_less : (f : Base × List ℕ → Bool) (xs es : List (Base × List ℕ)) (i : ℕ) (e : Base × List ℕ) → slice_get es i ≡ Some e → f e ≡ false
-    → xs ++ filter f (drop i es) ≡ filter f es → xs ++ filter f (drop (i + 1) es) ≡ filter f es
-held_less f xs es i e at apart before =
-    let rest : filter f (drop i es) ≡ filter f (drop (suc i) es) = ap (filter f) (from_here es i e at) ∙ rw apart refl in
-    rw (add-one i) (sym (ap (λ bs. xs ++ bs) rest) ∙ before)
+pub kept_all : (f : model.Base → Bool) (es : List (Base × Shared)) (i : ℕ) → length es ≤ i → AreKept f es i → (b : model.Base) → bytes_at (blocks_of es) b ≡ cond (f b) (bytes_at (blocks_of es) b) []
+kept_all f [] i long h b = elim (f b) as (λ h. ◌≡◌ {A = List ℕ} [] (cond h [] [])) [ true ↦ refl | false ↦ refl ]
+kept_all f (e ∷ es) zero long h b = absurd (omega arith)
+kept_all f (e ∷ es) (suc i) long h b = elim (cases_Bool (model.same_base (base_of e.0) b)) [
+  | inl same ↦ let held : f b ≡ true = ap f (sym (same_bases (base_of e.0) b same)) ∙ h.0 in rw held refl
+  | inr apart ↦ rw apart (kept_all f es i (omega arith) h.1 b)
+]

@@ -1,4 +1,9 @@
-pub mod Noting
-pub mod Names
+pub mod Same
+pub mod NameLists
 pub mod Bases
-pub mod Changes
+pub mod Held
+pub mod Places
+pub mod Noting
+pub mod Traces
+pub mod Sessions
+pub mod Storing

@@ -1,6 +1,7 @@
 pub mod Values
+pub mod Contents
 pub mod State
 pub mod Live
-pub mod Fields
 pub mod Kept
-pub mod Contents
+pub mod Storing
+pub mod Fields

@@ -1,27 +1,182 @@
-// Blocks and the values that lie in them.
+// Blocks, which versions share.
 
-ghost use Rattle.std.specs.Prelude.{◌≡◌, ◌+◌, ◌≤◌, ◌^◌, IfOk, OnOk, filter, map, slice_index, if◌then◌else◌};
-ghost use Rattle.std.specs.List.{zip};
-ghost use Rattle.nd_model.specs.Tuple.{count_up};
+ghost use Rattle.std.specs.Prelude.{◌≡◌, ◌+◌, ◌≤◌, ◌^◌, ◌||◌, [], IsTrue, IfOk, OnOk, filter, if◌then◌else◌};
 ghost use Rattle.nd_model.specs.Value as values;
+ghost use Rattle.nd_model.specs.Tuple.{count_up};
 ghost use Rattle.nd_model.specs.Session as model;
+ghost use Rattle.nd_model.specs.Running as running;
 ghost use Rattle.nd_heap.specs.Values.{base_of, value_of, names_of};
-ghost use Rattle.nd_heap.specs.Live.{bytes_at};
-ghost use Rattle.nd_heap.specs.Contents.{blocks_of};
+ghost use Rattle.nd_heap.specs.Contents.{blocks_of, bases_of};
+ghost use Rattle.nd_heap.specs.Live.{bytes_at, is_base_among};
 
+use crate::memory::OutOfMemory;
+use crate::names::Names;
 use crate::value::{Base, Value};
 use indexmap::IndexMap;
 use nd_block::RawBlock;
 use std::alloc::{AllocError, Global};
+use std::rc::Rc;
+
+pub(crate) type Blocks = IndexMap<Base, Rc<RawBlock>>;
+
+/// A set of bases.
+type Bases = IndexMap<Base, ()>;
 
 /// The bytes of a block, none where there is no such block.
-pub(crate) fn bytes_of(blocks: &IndexMap<Base, RawBlock>, base: Base) -> &[u8]
+pub(crate) fn bytes_of(blocks: &Blocks, base: Base) -> &[u8]
     ensures { result.now ≡ bytes_at (blocks_of blocks.now.entries) (base_of base) }
 {
     match blocks.get(&base) {
-        Some(block) => block.as_slice(),
+        Some(block) => block.as_ref().as_slice(),
         None => &[],
     }
+}
+
+/// The block itself where it is alone, and else a copy of it.
+fn make_private(block: Rc<RawBlock>) -> Result<RawBlock, OutOfMemory>
+    ensures { IfOk result (λ b. b ≡ block.value) }
+{
+    match Rc::try_unwrap(block) {
+        Ok(own) => Ok(own),
+        Err(shared) => {
+            let copy = shared.as_ref().try_clone()?;
+            Ok(copy)
+        }
+    }
+}
+
+/// Sets a block.
+pub(crate) fn set_block(
+    alloc: Global,
+    blocks: &mut Rc<Blocks>,
+    base: Base,
+    block: RawBlock,
+) -> Result<(), OutOfMemory>
+    ensures { OnOk result (bytes_at (blocks_of blocks.new.value.entries)
+        ≡ running.with_base (base_of base) block (bytes_at (blocks_of blocks.old.value.entries))) }
+{
+    let kept = Rc::new(alloc, block)?;
+    let own = Rc::make_mut(blocks)?;
+    own.insert(base, kept)?;
+    Ok(())
+}
+
+/// Takes a block out, to be written. A block that is shared is copied. No bytes stay behind.
+pub(crate) fn take(
+    alloc: Global,
+    blocks: &mut Rc<Blocks>,
+    base: Base,
+) -> Result<RawBlock, OutOfMemory>
+    ensures block { IfOk result (λ b. b
+        ≡ bytes_at (blocks_of blocks.old.value.entries) (base_of base)) }
+    ensures after { OnOk result (bytes_at (blocks_of blocks.new.value.entries)
+        ≡ running.with_base (base_of base) [] (bytes_at (blocks_of blocks.old.value.entries))) }
+{
+    let nothing = Rc::new(alloc, RawBlock::zeroed(alloc, 0)?)?;
+    let own = Rc::make_mut(blocks)?;
+    match own.insert(base, nothing)? {
+        Some(block) => {
+            let taken = make_private(block)?;
+            Ok(taken)
+        }
+        None => {
+            let empty = RawBlock::zeroed(alloc, 0)?;
+            Ok(empty)
+        }
+    }
+}
+
+/// The bases that some bound value lies in.
+fn held_bases(alloc: Global, names: &Names) -> Result<Bases, OutOfMemory>
+    ensures { IfOk result (λ held. (b : values.Base)
+        → is_base_among (bases_of held.entries) b ≡ model.is_held b (names_of names.now.entries)) }
+{
+    let mut held = IndexMap::new(alloc);
+    for i in 0..names.len() {
+        let Some((_, value)) = names.get_index(i) else {
+            unreachable!();
+        };
+        note_base(&mut held, value)?;
+    }
+    Ok(held)
+}
+
+/// Puts the base that the value lies in among the others, if it lies in one.
+fn note_base(held: &mut Bases, value: &Value) -> Result<(), OutOfMemory>
+    ensures { OnOk result ((b : values.Base) → is_base_among (bases_of held.new.entries) b
+        ≡ (is_base_among (bases_of held.old.entries) b || values.lies_in b (value_of value.now))) }
+{
+    if let Value::Array(array) = value {
+        held.insert(array.base, ())?;
+    }
+    Ok(())
+}
+
+/// Whether the base is one of them.
+fn has_base(bases: &Bases, base: Base) -> bool
+    ensures { result ≡ is_base_among (bases_of bases.now.entries) (base_of base) }
+{
+    bases.contains_key(&base)
+}
+
+/// Only the blocks of these bases.
+fn retain_held(blocks: &mut Blocks, held: &Bases)
+    ensures { blocks.new.entries ≡ filter
+        (λ e. is_base_among (bases_of held.now.entries) (base_of e.0)) blocks.old.entries }
+{
+    blocks.retain(
+        |base: &Base, block: &mut Rc<RawBlock>| -> bool
+            ensures { (result ≡ is_base_among (bases_of held.entry.now.entries) (base_of base.now))
+                × (block.new ≡ block.old) }
+        { has_base(held, *base) },
+    );
+}
+
+/// Whether each block has one of these bases.
+fn are_held(blocks: &Blocks, held: &Bases) -> bool
+    ensures { IsTrue result → (b : values.Base) → bytes_at (blocks_of blocks.now.entries) b
+        ≡ (if is_base_among (bases_of held.now.entries) b
+        then bytes_at (blocks_of blocks.now.entries) b else []) }
+{
+    for i in 0..blocks.len() {
+        let Some((base, _)) = blocks.get_index(i) else {
+            unreachable!();
+        };
+        if !has_base(held, *base) {
+            return false;
+        }
+    }
+    true
+}
+
+/// Gives up the blocks of other bases. Blocks that are shared are not changed: then the others get a map of their own.
+fn keep_held(blocks: &mut Rc<Blocks>, held: &Bases) -> Result<(), OutOfMemory>
+    ensures { OnOk result ((b : values.Base) → bytes_at (blocks_of blocks.new.value.entries) b
+        ≡ (if is_base_among (bases_of held.now.entries) b
+        then bytes_at (blocks_of blocks.old.value.entries) b else [])) }
+{
+    let shared: &Rc<Blocks> = blocks;
+    if are_held(shared.as_ref(), held) {
+        return Ok(());
+    }
+    let own = Rc::make_mut(blocks)?;
+    retain_held(own, held);
+    Ok(())
+}
+
+/// Gives up the blocks that no bound value lies in.
+pub(crate) fn collect(
+    alloc: Global,
+    blocks: &mut Rc<Blocks>,
+    names: &Names,
+) -> Result<(), OutOfMemory>
+    ensures { OnOk result ((b : values.Base) → bytes_at (blocks_of blocks.new.value.entries) b
+        ≡ (if model.is_held b (names_of names.now.entries)
+        then bytes_at (blocks_of blocks.old.value.entries) b else [])) }
+{
+    let held = held_bases(alloc, names)?;
+    keep_held(blocks, &held)?;
+    Ok(())
 }
 
 /// The places from the first one on.
@@ -34,59 +189,4 @@ pub(crate) fn places_from(alloc: Global, first: u64, count: u64) -> Result<Vec<u
         places.push(first + i)?;
     }
     Ok(places)
-}
-
-/// The bytes at these places, 0 past the end.
-pub(crate) fn gathered(alloc: Global, bytes: &[u8], places: &[u64]) -> Result<Vec<u8>, AllocError>
-    ensures { IfOk result (λ v. v.items ≡ map (λ p. slice_index bytes.now p) places.now) }
-{
-    places
-        .iter()
-        .map(|p| bytes.get(*p as usize).copied().unwrap_or(0))
-        .collect(alloc)
-}
-
-/// Puts these bytes at these places of a block, where there is one. A place past its end is passed over.
-pub(crate) fn write(blocks: &mut IndexMap<Base, RawBlock>, base: Base, places: &[u64], bytes: &[u8])
-    ensures { bytes_at (blocks_of blocks.new.entries) ≡ (λ b. if values.same_base (base_of base) b then model.put (zip places.now bytes.now) (bytes_at (blocks_of blocks.old.entries) b) else bytes_at (blocks_of blocks.old.entries) b) }
-{
-    if let Some(block) = blocks.get_mut(&base) {
-        block.put(places, bytes);
-    }
-}
-
-/// Whether the value lies in the block.
-fn lies_in(base: Base, value: &Value) -> bool
-    ensures { result ≡ values.lies_in (base_of base) (value_of value.now) }
-{
-    match value {
-        Value::Number(_) => false,
-        Value::Array(array) => base == array.base,
-    }
-}
-
-/// Whether one of the bound values lies in the block.
-pub(crate) fn is_held(names: &IndexMap<String, Value>, base: Base) -> bool
-    ensures { result ≡ model.is_held (base_of base) (names_of names.now.entries) }
-{
-    for i in 0..names.len() {
-        let Some((_, value)) = names.get_index(i) else {
-            unreachable!();
-        };
-        if lies_in(base, value) {
-            return true;
-        }
-    }
-    false
-}
-
-/// Only the blocks that some bound value lies in.
-pub(crate) fn retain_held(blocks: &mut IndexMap<Base, RawBlock>, names: &IndexMap<String, Value>)
-    ensures { blocks.new.entries ≡ filter (λ e. model.is_held (base_of e.0) (names_of names.now.entries)) blocks.old.entries }
-{
-    blocks.retain(
-        |base: &Base, block: &mut RawBlock| -> bool
-            ensures { (result ≡ model.is_held (base_of base.now) (names_of names.entry.now.entries)) × (block.new ≡ block.old) }
-        { is_held(names, *base) },
-    );
 }

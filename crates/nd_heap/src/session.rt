@@ -1,34 +1,38 @@
 // Sessions.
 
-ghost use Rattle.std.specs.Prelude.{◌≡◌, ◌+◌, ◌++◌, ◌∷◌, ◌<◌, ◌≤◌, ◌^◌, [], IfOk, OnOk, option_map, map, slice_index, length, string_bytes};
+ghost use Rattle.std.specs.Prelude.{◌≡◌, ◌+◌, ◌<◌, ◌≤◌, ◌^◌, [], IfOk, OnOk, option_map, string_bytes, length};
 ghost use Rattle.std.specs.List.{zip};
-ghost use Rattle.nd_model.specs.Element as element;
 ghost use Rattle.nd_model.specs.Tuple.{count_up};
-ghost use Rattle.nd_model.specs.View.{One, byte_places, element_places};
 ghost use Rattle.nd_model.specs.Session as model;
 ghost use Rattle.nd_model.specs.Running as running;
-ghost use Rattle.nd_heap.specs.Fields.{event_of};
-ghost use Rattle.nd_heap.specs.Values.{base_of, geo_of, value_of, names_of};
+ghost use Rattle.nd_model.specs.View.{item_size, byte_places, element_places};
+ghost use Rattle.nd_types.specs.Types.{type_of};
+ghost use Rattle.nd_heap.specs.Values.{base_of, geo_of, value_of};
 ghost use Rattle.nd_heap.specs.Live.{live};
 ghost use Rattle.nd_heap.specs.Kept.{version_of};
+ghost use Rattle.nd_heap.specs.Fields.{trace_of};
+ghost use Rattle.nd_heap.specs.Storing.{having_written, having_block};
 
-use crate::blocks::{bytes_of, gathered, places_from, retain_held, write};
+use crate::blocks::{Blocks, bytes_of, collect, places_from, set_block, take};
 use crate::memory::OutOfMemory;
-use crate::trace::{Event, Key, Trace, note_written};
+use crate::names::{Names, bind, find, unbind};
+use crate::trace::{Event, Trace};
 use crate::value::{Array, Base, Value};
 use crate::version::Version;
 use indexmap::IndexMap;
 use nd_block::RawBlock;
-use nd_types::Elem;
+use nd_types::ElemType;
 use std::alloc::Global;
 use std::marker::Model;
+use std::rc::Rc;
 
-/// Names and blocks as they are while a cell runs, with what the cell has read and done. Once a call has answered out of
-/// memory, the session is only fit to be dropped.
+/// Names and blocks as they are while a cell runs, with what the cell has read and done. Names and blocks are shared with the
+/// versions that were made of them: the first write after that copies what it changes. Once a call has answered out of memory,
+/// the session is only fit to be dropped.
 #[derive(Drop)]
 pub struct Session {
-    names: IndexMap<String, Value>,
-    blocks: IndexMap<Base, RawBlock>,
+    names: Rc<Names>,
+    blocks: Rc<Blocks>,
     trace: Trace,
     next: u64,
     alloc: Global,
@@ -44,23 +48,35 @@ impl Model for Session {
     ghost view = { state_of };
 }
 
+/// The trace of a cell of this label that has read and done nothing.
+fn new_trace(alloc: Global, label: u64) -> Trace
+    ensures { trace_of result ≡ running.start label model.no_session }
+{
+    Trace {
+        label,
+        events: Vec::new(alloc),
+        written: IndexMap::new(alloc),
+        looked: Vec::new(alloc),
+        asked: Vec::new(alloc),
+        lengths: Vec::new(alloc),
+        used: IndexMap::new(alloc),
+    }
+}
+
 impl Session {
     /// A session with no names, as a cell of label 0 begins.
-    pub fn new(alloc: Global) -> Session
-        ensures { live result ≡ running.start 0 model.no_session }
+    pub fn new(alloc: Global) -> Result<Session, OutOfMemory>
+        ensures { IfOk result (λ s. live s ≡ running.start 0 model.no_session) }
     {
-        Session {
-            names: IndexMap::new(alloc),
-            blocks: IndexMap::new(alloc),
-            trace: Trace {
-                label: 0,
-                events: Vec::new(alloc),
-                written: Vec::new(alloc),
-                reads: Vec::new(alloc),
-            },
+        let names = Rc::new(alloc, IndexMap::new(alloc))?;
+        let blocks = Rc::new(alloc, IndexMap::new(alloc))?;
+        Ok(Session {
+            names,
+            blocks,
+            trace: new_trace(alloc, 0),
             next: 0,
             alloc,
-        }
+        })
     }
 
     /// Where the session takes its memory. No clause says which allocator that is: to a clause all values of `Global` are one.
@@ -68,109 +84,185 @@ impl Session {
         self.alloc
     }
 
-    /// A cell of this label begins. Blocks that no bound value lies in are given up. It takes no memory.
-    pub fn start(&mut self, label: u64)
-        ensures { live self.new ≡ running.start label (running.session_of (live self.old)) }
+    /// A cell of this label begins. Blocks that no bound value lies in are given up. No name and no byte is copied.
+    pub fn start(&mut self, label: u64) -> Result<(), OutOfMemory>
+        ensures { OnOk result (live self.new
+            ≡ running.start label (running.session_of (live self.old))) }
     {
-        retain_held(&mut self.blocks, &self.names);
-        self.trace.label = label;
-        self.trace.events.clear();
-        self.trace.written.clear();
-        self.trace.reads.clear();
+        collect(self.alloc, &mut self.blocks, self.names.as_ref())?;
+        self.trace = new_trace(self.alloc, label);
         self.next = 0;
+        Ok(())
+    }
+
+    /// The bytes of a block, none where there is no such block. It notes nothing: `mark_used` and `mark_element` do.
+    #[tactic(auto, unfolding(crate::specs::Live::live))]
+    pub fn bytes(&self, base: Base) -> &[u8]
+        ensures { result.now ≡ (live self.now).bytes (base_of base) }
+    {
+        bytes_of(self.blocks.as_ref(), base)
     }
 
     /// The value of a name.
     pub fn lookup(&mut self, name: &str) -> Result<Option<Value>, OutOfMemory>
-        ensures value { IfOk result (λ o. option_map value_of o ≡ model.lookup name.now (live self.old).names) }
-        ensures after { OnOk result (live self.new ≡ running.after (running.Lookup name.now) (live self.old)) }
+        ensures value { IfOk result (λ o. option_map value_of o
+            ≡ model.lookup name.now (live self.old).names) }
+        ensures after { OnOk result (live self.new
+            ≡ running.after (running.Lookup name.now) (live self.old)) }
     {
         self.trace.note_name(self.alloc, name)?;
-        let Some(found) = self.names.get(name) else {
+        let Some(found) = find(&self.names, name) else {
             return Ok(None);
         };
-        self.trace.note_length(found)?;
-        Ok(Some(found.try_clone()?))
+        let value = found.try_clone()?;
+        self.trace.note_length_of(&value)?;
+        Ok(Some(value))
     }
 
-    /// The bytes at these places of a block, 0 past its end.
-    fn use_places(&mut self, base: Base, places: &[u64]) -> Result<Vec<u8>, OutOfMemory>
-        ensures bytes { IfOk result (λ v. v.items ≡ map (λ p. slice_index ((live self.old).bytes (base_of base)) p) places.now) }
-        ensures after { OnOk result (live self.new ≡ running.after (running.Use (base_of base) places.now) (live self.old)) }
+    /// Notes that an input is asked for.
+    pub fn ask(&mut self, name: &str) -> Result<(), OutOfMemory>
+        ensures { OnOk result (live self.new
+            ≡ running.after (running.Ask name.now) (live self.old)) }
     {
-        self.trace.note_bytes(base, places)?;
-        let bytes = gathered(self.alloc, bytes_of(&self.blocks, base), places)?;
-        Ok(bytes)
+        self.trace.note_input(self.alloc, name)?;
+        Ok(())
     }
 
-    /// The bytes of all elements of an array, one element after another.
-    pub fn use_all(&mut self, array: &Array) -> Result<Vec<u8>, OutOfMemory>
-        ensures bytes { IfOk result (λ v. v.items ≡ map (λ p. slice_index ((live self.old).bytes (base_of array.now.base)) p) (byte_places (geo_of array.now))) }
-        ensures after { OnOk result (live self.new ≡ running.after (running.Use (base_of array.now.base) (byte_places (geo_of array.now))) (live self.old)) }
+    /// Notes that all elements of an array are read. `bytes` then lends them.
+    pub fn mark_used(&mut self, array: &Array) -> Result<(), OutOfMemory>
+        ensures { OnOk result (live self.new
+            ≡ running.after (running.Use (base_of array.now.base) (byte_places (geo_of array.now))) (live self.old)) }
     {
-        let places = array.view.byte_places(self.alloc)?;
-        self.use_places(array.base, &places)
+        self.trace.note_view(self.alloc, array)?;
+        Ok(())
     }
 
-    /// The bytes of one element.
-    pub fn use_element(
+    /// Notes that the element is read that begins at the place.
+    pub fn mark_element(
         &mut self,
         base: Base,
         place: u64,
-        elem: Elem,
-    ) -> Result<Vec<u8>, OutOfMemory>
-        requires { place + element.size_of elem.kind ≤ 2 ^ 64 }
-        ensures bytes { IfOk result (λ v. v.items ≡ map (λ p. slice_index ((live self.old).bytes (base_of base)) p) (element_places (One elem) place)) }
-        ensures after { OnOk result (live self.new ≡ running.after (running.Use (base_of base) (element_places (One elem) place)) (live self.old)) }
+        elem: &ElemType,
+    ) -> Result<(), OutOfMemory>
+        requires { place + item_size (type_of elem.now) ≤ 2 ^ 64 }
+        ensures { OnOk result (live self.new
+            ≡ running.after (running.Use (base_of base) (element_places (type_of elem.now) place)) (live self.old)) }
     {
-        let places = places_from(self.alloc, place, elem.size())?;
-        self.use_places(base, &places)
+        self.trace.note_element(self.alloc, base, place, elem)?;
+        Ok(())
+    }
+
+    /// Notes that all elements of an array are written.
+    pub fn mark_written(&mut self, array: &Array) -> Result<(), OutOfMemory>
+        ensures { OnOk result (live self.new
+            ≡ having_written (base_of array.now.base) (byte_places (geo_of array.now)) (live self.old)) }
+    {
+        self.trace.write_view(self.alloc, array)?;
+        Ok(())
+    }
+
+    /// Notes that the element is written that begins at the place.
+    pub fn mark_written_element(
+        &mut self,
+        base: Base,
+        place: u64,
+        elem: &ElemType,
+    ) -> Result<(), OutOfMemory>
+        requires { place + item_size (type_of elem.now) ≤ 2 ^ 64 }
+        ensures { OnOk result (live self.new
+            ≡ having_written (base_of base) (element_places (type_of elem.now) place) (live self.old)) }
+    {
+        self.trace.write_element(self.alloc, base, place, elem)?;
+        Ok(())
+    }
+
+    /// Takes a block out to be written: a copy of its own where a version shares it. The session then has no bytes there. The three
+    /// calls `mark_written`, `take_block` and `put_block` are one store, where the block that is put has the bytes of the store in it.
+    #[tactic(auto, unfolding(crate::specs::Live::live))]
+    pub fn take_block(&mut self, base: Base) -> Result<RawBlock, OutOfMemory>
+        ensures block { IfOk result (λ b. b ≡ (live self.old).bytes (base_of base)) }
+        ensures after { OnOk result (live self.new
+            ≡ having_block (base_of base) [] (live self.old)) }
+    {
+        let block = take(self.alloc, &mut self.blocks, base)?;
+        Ok(block)
+    }
+
+    /// Puts a block in its place.
+    #[tactic(auto, unfolding(crate::specs::Live::live))]
+    pub fn put_block(&mut self, base: Base, block: RawBlock) -> Result<(), OutOfMemory>
+        ensures { OnOk result (live self.new ≡ having_block (base_of base) block (live self.old)) }
+    {
+        set_block(self.alloc, &mut self.blocks, base, block)?;
+        Ok(())
+    }
+
+    /// Writes the bytes of one element from a place on. Those past the end of the block are passed over.
+    pub fn store(&mut self, base: Base, place: u64, bytes: &[u8]) -> Result<(), OutOfMemory>
+        requires { place + length bytes.now ≤ 2 ^ 64 }
+        ensures { OnOk result (live self.new
+            ≡ running.done (running.Storing (base_of base) (zip (count_up place (length bytes.now)) bytes.now)) (live self.old)) }
+    {
+        let count = bytes.len() as u64;
+        let places = places_from(self.alloc, place, count)?;
+        self.trace.write_run(self.alloc, base, place, count)?;
+        let mut block = take(self.alloc, &mut self.blocks, base)?;
+        block.put(&places, bytes);
+        set_block(self.alloc, &mut self.blocks, base, block)?;
+        Ok(())
     }
 
     /// Makes a block. Its base has the running cell's label and the next number.
+    #[tactic(auto, unfolding(crate::specs::Live::live))]
     pub fn new_block(&mut self, block: RawBlock) -> Result<Base, OutOfMemory>
         requires { (live self.old).next + 1 < 2 ^ 64 }
-        ensures base { IfOk result (λ b. base_of b ≡ record { label = (live self.old).label; number = (live self.old).next }) }
-        ensures after { OnOk result (live self.new ≡ running.after (running.Make block) (live self.old)) }
+        ensures base { IfOk result (λ b. base_of b
+            ≡ record { label = (live self.old).label; number = (live self.old).next }) }
+        ensures after { OnOk result (live self.new
+            ≡ running.after (running.Make block) (live self.old)) }
     {
         let base = self.next_base();
-        self.blocks.insert(base, block)?;
+        set_block(self.alloc, &mut self.blocks, base, block)?;
         self.next += 1;
         Ok(base)
     }
 
     /// Binds a name: one that is bound keeps its place, another goes last.
+    #[tactic(auto, unfolding(crate::specs::Live::live))]
     pub fn bind(&mut self, name: String, value: Value) -> Result<(), OutOfMemory>
-        ensures { OnOk result (live self.new ≡ running.done (running.Binding (string_bytes name) (value_of value)) (live self.old)) }
+        ensures { OnOk result (live self.new
+            ≡ running.done (running.Binding (string_bytes name) (value_of value)) (live self.old)) }
     {
-        push_binding(self.alloc, &mut self.trace.events, name.as_str(), &value)?;
-        self.names.insert(name, value)?;
+        let bound = String::from_str(self.alloc, name.as_str())?;
+        let kept = value.try_clone()?;
+        bind(&mut self.names, name, value)?;
+        self.trace.events.push(Event::Binds(bound, kept))?;
         Ok(())
     }
 
     /// Unbinds a name.
+    #[tactic(auto, unfolding(crate::specs::Live::live))]
     pub fn unbind(&mut self, name: &str) -> Result<(), OutOfMemory>
-        ensures { OnOk result (live self.new ≡ running.done (running.Unbinding name.now) (live self.old)) }
+        ensures { OnOk result (live self.new
+            ≡ running.done (running.Unbinding name.now) (live self.old)) }
     {
         let unbound = String::from_str(self.alloc, name)?;
-        forget(&mut self.names, name);
+        unbind(&mut self.names, name)?;
         self.trace.events.push(Event::Unbinds(unbound))?;
         Ok(())
     }
 
-    /// Writes bytes from a place on. Those past the end of the block are passed over.
-    pub fn store(&mut self, base: Base, place: u64, bytes: &[u8]) -> Result<(), OutOfMemory>
-        requires { place + length bytes.now ≤ 2 ^ 64 }
-        ensures { OnOk result (live self.new ≡ running.done (running.Storing (base_of base) (zip (count_up place (length bytes.now)) bytes.now)) (live self.old)) }
+    /// The value of a name. It notes nothing.
+    #[tactic(auto, unfolding(crate::specs::Live::live))]
+    pub fn peek(&self, name: &str) -> Option<&Value>
+        ensures { option_map (λ v. value_of v.now) result
+            ≡ model.lookup name.now (live self.now).names }
     {
-        let places = places_from(self.alloc, place, bytes.len() as u64)?;
-        self.trace.note(Key::Length(base))?;
-        note_written(&mut self.trace.written, base, &places)?;
-        write(&mut self.blocks, base, &places, bytes);
-        Ok(())
+        find(&self.names, name)
     }
 
     /// The number that the next new block gets.
+    #[tactic(auto, unfolding(crate::specs::Live::live))]
     pub fn next_number(&self) -> u64
         ensures { result ≡ (live self.now).next }
     {
@@ -178,8 +270,10 @@ impl Session {
     }
 
     /// The base of the next new block.
+    #[tactic(auto, unfolding(crate::specs::Live::live))]
     fn next_base(&self) -> Base
-        ensures { base_of result ≡ record { label = (live self.now).label; number = (live self.now).next } }
+        ensures { base_of result
+            ≡ record { label = (live self.now).label; number = (live self.now).next } }
     {
         Base {
             label: self.trace.label,
@@ -187,34 +281,14 @@ impl Session {
         }
     }
 
-    /// The names and blocks as they are now, kept.
+    /// The names and blocks as they are now, kept. No name and no byte is copied. Blocks that no bound value lies in are left out.
     pub fn freeze(&self) -> Result<Version, OutOfMemory>
-        ensures { IfOk result (λ v. version_of v ≡ model.collected (running.session_of (live self.now))) }
+        ensures { IfOk result (λ v. version_of v
+            ≡ model.collected (running.session_of (live self.now))) }
     {
-        Version::of(self.alloc, &self.names, &self.blocks)
+        let names = self.names.clone()?;
+        let mut blocks = self.blocks.clone()?;
+        collect(self.alloc, &mut blocks, self.names.as_ref())?;
+        Ok(Version { names, blocks })
     }
-}
-
-/// Notes that a name is bound to the value.
-fn push_binding(
-    alloc: Global,
-    events: &mut Vec<Event>,
-    name: &str,
-    value: &Value,
-) -> Result<(), OutOfMemory>
-    ensures ok { OnOk result (map event_of events.new.items ≡ map event_of events.old.items
-        ++ running.Binds name.now (value_of value.now) ∷ []) }
-{
-    let name = String::from_str(alloc, name)?;
-    let value = value.try_clone()?;
-    events.push(Event::Binds(name, value))?;
-    Ok(())
-}
-
-/// The names without this one.
-fn forget(names: &mut IndexMap<String, Value>, name: &str)
-    ensures { names_of names.new.entries ≡ model.unbind name.now (names_of names.old.entries) }
-{
-    let _ = names.get_index_of(name);
-    names.shift_remove(name);
 }

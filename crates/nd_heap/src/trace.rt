@@ -1,24 +1,21 @@
 // What the running cell has read and done.
 
-ghost use Rattle.std.specs.Prelude.{◌≡◌, OnOk, IfOk, Some, map, ◌||◌, ◌&&◌};
-ghost use Rattle.nd_model.specs.Session as model;
-ghost use Rattle.nd_model.specs.Value.{same_base};
+ghost use Rattle.std.specs.Prelude.{◌≡◌, ◌+◌, ◌≤◌, ◌^◌, OnOk, Some, map, string_bytes};
 ghost use Rattle.nd_model.specs.Running as running;
-ghost use Rattle.nd_heap.specs.Values.{base_of, value_of};
-ghost use Rattle.nd_heap.specs.Live.{is_key, is_written};
-ghost use Rattle.nd_heap.specs.Fields.{key_of, event_of, written_of, trace_of};
+ghost use Rattle.nd_model.specs.Tuple.{count_up};
+ghost use Rattle.nd_model.specs.View.{item_size, byte_places, element_places};
+ghost use Rattle.nd_types.specs.Types.{type_of};
+ghost use Rattle.nd_heap.specs.Values.{base_of, geo_of, value_of};
+ghost use Rattle.nd_heap.specs.Live.{is_among, is_base_among};
+ghost use Rattle.nd_heap.specs.Fields.{event_of, trace_of};
+ghost use Rattle.nd_heap.specs.Storing.{having_written};
 
+use crate::marking::{Footprint, mark_element, mark_run, mark_view, marks_in};
 use crate::memory::OutOfMemory;
-use crate::value::{Base, Value};
+use crate::value::{Array, Base, Value};
+use nd_marks::Marks;
+use nd_types::ElemType;
 use std::alloc::Global;
-
-/// What a cell can read.
-#[derive(Drop)]
-pub(crate) enum Key {
-    Name(String),
-    Length(Base),
-    Byte(Base, u64),
-}
 
 /// What a cell did to a name.
 #[derive(Drop)]
@@ -27,65 +24,149 @@ pub(crate) enum Event {
     Unbinds(String),
 }
 
-/// The running cell's label, and what it has read and done.
+/// The running cell's label, and what it has read and done: the names that it looked up and the inputs that it asked for, the
+/// bases whose length it read, and the bytes that it used and wrote. No byte of a base of its own is noted as used.
 #[derive(Drop)]
 pub(crate) struct Trace {
     pub(crate) label: u64,
     pub(crate) events: Vec<Event>,
-    pub(crate) written: Vec<(Base, u64)>,
-    pub(crate) reads: Vec<Key>,
+    pub(crate) written: Footprint,
+    pub(crate) looked: Vec<String>,
+    pub(crate) asked: Vec<String>,
+    pub(crate) lengths: Vec<Base>,
+    pub(crate) used: Footprint,
 }
 
 impl Trace {
-    /// Whether what stands at the key is the running cell's own doing.
-    fn is_own(&self, key: &Key) -> bool
-        ensures { result ≡ running.is_own (trace_of self.now) (key_of key.now) }
+    /// Notes that a name is looked up.
+    pub(crate) fn note_name(&mut self, alloc: Global, name: &str) -> Result<(), OutOfMemory>
+        ensures { OnOk result (trace_of self.new
+            ≡ running.having_read (running.is_name name.now) (trace_of self.old)) }
     {
-        match key {
-            Key::Name(name) => has_touched(&self.events, name.as_str()),
-            Key::Length(base) => base.label == self.label,
-            Key::Byte(base, place) => {
-                base.label == self.label || has_written(&self.written, *base, *place)
-            }
+        if has_touched(&self.events, name) || is_text_among(&self.looked, name) {
+            return Ok(());
         }
-    }
-
-    /// Notes what the cell reads.
-    pub(crate) fn note(&mut self, key: Key) -> Result<(), OutOfMemory>
-        ensures ok { OnOk result (trace_of self.new ≡ running.having_read (is_key (key_of key)) (trace_of self.old)) }
-    {
-        if !self.is_own(&key) {
-            self.reads.push(key)?;
-        }
+        let key = String::from_str(alloc, name)?;
+        self.looked.push(key)?;
         Ok(())
     }
 
-    /// Notes that the name is looked up.
-    pub(crate) fn note_name(&mut self, alloc: Global, name: &str) -> Result<(), OutOfMemory>
-        ensures ok { OnOk result (trace_of self.new
-            ≡ running.having_read (running.is_name name.now) (trace_of self.old)) }
+    /// Notes that an input is asked for.
+    pub(crate) fn note_input(&mut self, alloc: Global, name: &str) -> Result<(), OutOfMemory>
+        ensures { OnOk result (trace_of self.new
+            ≡ running.having_read (running.is_input name.now) (trace_of self.old)) }
     {
+        if is_text_among(&self.asked, name) {
+            return Ok(());
+        }
         let key = String::from_str(alloc, name)?;
-        self.note(Key::Name(key))
+        self.asked.push(key)?;
+        Ok(())
+    }
+
+    /// Notes that the length of a base is read.
+    pub(crate) fn note_length(&mut self, base: Base) -> Result<(), OutOfMemory>
+        ensures { OnOk result (trace_of self.new
+            ≡ running.having_read (running.is_length (base_of base)) (trace_of self.old)) }
+    {
+        if base.label == self.label || is_base_in(&self.lengths, base) {
+            return Ok(());
+        }
+        self.lengths.push(base)?;
+        Ok(())
     }
 
     /// Notes that the length of the block is read that the value lies in, if it lies in one.
-    pub(crate) fn note_length(&mut self, value: &Value) -> Result<(), OutOfMemory>
-        ensures ok { OnOk result (trace_of self.new ≡ running.having_read (running.is_length_of (Some (value_of value.now))) (trace_of self.old)) }
+    pub(crate) fn note_length_of(&mut self, value: &Value) -> Result<(), OutOfMemory>
+        ensures { OnOk result (trace_of self.new
+            ≡ running.having_read (running.is_length_of (Some (value_of value.now))) (trace_of self.old)) }
     {
         match value {
             Value::Number(_) => Ok(()),
-            Value::Array(array) => self.note(Key::Length(array.base)),
+            Value::Array(array) => self.note_length(array.base),
         }
     }
 
-    /// Notes that these bytes of a block are read.
-    pub(crate) fn note_bytes(&mut self, base: Base, places: &[u64]) -> Result<(), OutOfMemory>
-        ensures ok { OnOk result (trace_of self.new ≡ running.having_read (running.is_byte (base_of base) places.now) (trace_of self.old)) }
+    /// Notes that all elements of an array are read.
+    pub(crate) fn note_view(&mut self, alloc: Global, array: &Array) -> Result<(), OutOfMemory>
+        ensures { OnOk result (trace_of self.new
+            ≡ running.having_read (running.is_byte (base_of array.now.base) (byte_places (geo_of array.now))) (trace_of self.old)) }
     {
-        for place in places {
-            self.note(Key::Byte(base, *place))?;
+        let base = array.base;
+        if base.label == self.label {
+            return Ok(());
         }
+        let nothing = Marks::new(alloc);
+        let written = marks_in(&self.written, base, &nothing);
+        mark_view(alloc, &mut self.used, base, &array.view, written)?;
+        Ok(())
+    }
+
+    /// Notes that the element is read that begins at the place.
+    pub(crate) fn note_element(
+        &mut self,
+        alloc: Global,
+        base: Base,
+        place: u64,
+        elem: &ElemType,
+    ) -> Result<(), OutOfMemory>
+        requires { place + item_size (type_of elem.now) ≤ 2 ^ 64 }
+        ensures { OnOk result (trace_of self.new
+            ≡ running.having_read (running.is_byte (base_of base) (element_places (type_of elem.now) place)) (trace_of self.old)) }
+    {
+        if base.label == self.label {
+            return Ok(());
+        }
+        let nothing = Marks::new(alloc);
+        let written = marks_in(&self.written, base, &nothing);
+        mark_element(alloc, &mut self.used, base, elem, place, written)?;
+        Ok(())
+    }
+
+    /// Notes that all elements of an array are written.
+    pub(crate) fn write_view(&mut self, alloc: Global, array: &Array) -> Result<(), OutOfMemory>
+        ensures { OnOk result (trace_of self.new
+            ≡ having_written (base_of array.now.base) (byte_places (geo_of array.now)) (trace_of self.old)) }
+    {
+        self.note_length(array.base)?;
+        let nothing = Marks::new(alloc);
+        mark_view(alloc, &mut self.written, array.base, &array.view, &nothing)?;
+        Ok(())
+    }
+
+    /// Notes that the element is written that begins at the place.
+    pub(crate) fn write_element(
+        &mut self,
+        alloc: Global,
+        base: Base,
+        place: u64,
+        elem: &ElemType,
+    ) -> Result<(), OutOfMemory>
+        requires { place + item_size (type_of elem.now) ≤ 2 ^ 64 }
+        ensures { OnOk result (trace_of self.new
+            ≡ having_written (base_of base) (element_places (type_of elem.now) place) (trace_of self.old)) }
+    {
+        self.note_length(base)?;
+        let nothing = Marks::new(alloc);
+        mark_element(alloc, &mut self.written, base, elem, place, &nothing)?;
+        Ok(())
+    }
+
+    /// Notes that `size` bytes are written from a place on.
+    pub(crate) fn write_run(
+        &mut self,
+        alloc: Global,
+        base: Base,
+        first: u64,
+        size: u64,
+    ) -> Result<(), OutOfMemory>
+        requires { first + size ≤ 2 ^ 64 }
+        ensures { OnOk result (trace_of self.new
+            ≡ having_written (base_of base) (count_up first size) (trace_of self.old)) }
+    {
+        self.note_length(base)?;
+        let nothing = Marks::new(alloc);
+        mark_run(alloc, &mut self.written, base, first, size, &nothing)?;
         Ok(())
     }
 }
@@ -106,27 +187,24 @@ fn has_touched(events: &[Event], name: &str) -> bool
     false
 }
 
-fn has_written(written: &[(Base, u64)], base: Base, place: u64) -> bool
-    ensures { result ≡ is_written (written_of written.now) (base_of base) place }
+fn is_text_among(texts: &[String], text: &str) -> bool
+    ensures { result ≡ is_among (map string_bytes texts.now) text.now }
 {
-    for (other, at) in written {
-        if *other == base && place == *at {
+    for other in texts {
+        if other.as_str() == text {
             return true;
         }
     }
     false
 }
 
-/// Notes that these bytes of a block are written.
-pub(crate) fn note_written(
-    written: &mut Vec<(Base, u64)>,
-    base: Base,
-    places: &[u64],
-) -> Result<(), OutOfMemory>
-    ensures ok { OnOk result (is_written (written_of written.new.items) ≡ (λ c p. is_written (written_of written.old.items) c p || (same_base (base_of base) c && model.is_in p places.now))) }
+fn is_base_in(bases: &[Base], base: Base) -> bool
+    ensures { result ≡ is_base_among (map base_of bases.now) (base_of base) }
 {
-    for place in places {
-        written.push((base, *place))?;
+    for other in bases {
+        if *other == base {
+            return true;
+        }
     }
-    Ok(())
+    false
 }

@@ -6,7 +6,8 @@ use Rattle.nd_model.specs.Book.{Book}
 use Rattle.nd_model.specs.Script.{Stage, Between}
 use Rattle.nd_lines.specs.declared.run_fault.RunFault.{RunFault}
 use Rattle.nd_lines.specs.declared.run_fault.RunFault.TheVariants.{ReadFault, WriteFault, LineTooLong, OutOfMemory}
-use Rattle.nd_lines.specs.Run.{most_line, IsInLine, IsInAnswer, IsTooLong, FitsLine, LineRuns, LineStops, Runs, Stops}
+use Rattle.nd_model.specs.ScriptRuns.{most_line, IsInLine}
+use Rattle.nd_lines.specs.Run.{IsInAnswer, IsTooLong, FitsLine, LineRuns, LineStops, Runs, Stops}
 use Rattle.nd_lines.proofs.Lines.{newline_at, no_newline, in_line_append}
 use Rattle.nd_lines.proofs.Progress.{runs_none, runs_part, runs_line, stops_line, stops_long, stops_memory}
 

@@ -3,7 +3,8 @@ use Rattle.std.proofs.Common.{◌≡◌, ℕ, true, false, cond, List, [], ◌�
 use Rattle.std.specs.Prelude.{◌==◌}
 use Rattle.std.specs.List.{slice_split, onto_first}
 use Rattle.nd_model.specs.Script.{Stage, Between, step, commands, commands_from, completed, completed_from, lines_of, ended_lines, without_last, without_empty_end, AreFirst}
-use Rattle.nd_lines.specs.Run.{AreWholeLines, IsInLine, stage_behind}
+use Rattle.nd_model.specs.ScriptRuns.{AreWholeLines, IsInLine}
+use Rattle.nd_lines.specs.Run.{stage_behind}
 use Rattle.nd_lines.proofs.Lines.{one_line, parts_are_some}
 
 -- ---- lines

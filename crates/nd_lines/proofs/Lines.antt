@@ -7,7 +7,7 @@ use Rattle.std.proofs.lemmas.List.{get_or-take, length-take, take-append-drop}
 use Rattle.std.proofs.lemmas.List.Elements.{All-append}
 use Rattle.std.proofs.lemmas.List.Quantifiers.{position-Some}
 use Rattle.std.proofs.lemmas.List.Sums.{fails_before_first}
-use Rattle.nd_lines.specs.Run.{IsInLine}
+use Rattle.nd_model.specs.ScriptRuns.{IsInLine}
 use Rattle.std.proofs.lemmas.List.Splits.{length-slice_split, slice_split_none}
 
 is_cons : (ls : List (List ℕ)) → 0 < length ls → (part : List ℕ) × (parts : List (List ℕ)) × (ls ≡ part ∷ parts)

@@ -10,7 +10,8 @@ use Rattle.nd_model.specs.Book.{Book}
 use Rattle.nd_model.specs.Script.{Command, Bad, Answer, Answers, CutAnswers, IsFront, AreFirst, RunsCut, Line, Whole, Opens, Stage, Between, Within, step, step_of_line, read_line, is_dot, closed, commands, commands_from, completed, completed_from, lines_of, ended_lines, last_line, left_open}
 use Rattle.nd_lines.specs.declared.run_fault.RunFault.{RunFault}
 use Rattle.nd_lines.specs.declared.run_fault.RunFault.TheVariants.{ReadFault, WriteFault, LineTooLong, OutOfMemory}
-use Rattle.nd_lines.specs.Run.{most_line, open_answer, AreWholeLines, IsInLine, IsInAnswer, stage_behind, DoneInPart, LineRuns, LineStops, Finishes, FinishStops, Runs, AnswersAt, Before, Stops, RanToEnd, RunsAt, StoppedAt, Wrote}
+use Rattle.nd_model.specs.ScriptRuns.{most_line, AreWholeLines, IsInLine, RanToEnd, RunsAt, StoppedAt}
+use Rattle.nd_lines.specs.Run.{open_answer, run_fault_of, IsInAnswer, stage_behind, DoneInPart, LineRuns, LineStops, Finishes, FinishStops, Runs, AnswersAt, Before, Stops, Wrote}
 use Rattle.nd_lines.proofs.Lines.{one_line, parts_are_some}
 use Rattle.nd_lines.proofs.Ended.{whole-append, ended_lines-append, ended_lines-open, ended_lines-one, completed_from-append, stage_behind-append, commands_behind, completed_are_first}
 
@@ -386,14 +387,14 @@ ran_to_end unread left given t begun old mid new was now then_now taken ended r 
     }
 
 -- the run stopped at its end
-runs_cut_at : (f : RunFault) (ended : Bool) (given : List ℕ) (old new : Book) (written : List ℕ) → IsInAnswer f → RunsCut ended given old written new → RunsAt f ended given old written new
+runs_cut_at : (f : RunFault) (ended : Bool) (given : List ℕ) (old new : Book) (written : List ℕ) → IsInAnswer f → RunsCut ended given old written new → RunsAt (run_fault_of f) ended given old written new
 runs_cut_at ReadFault ended given old new written h cut = absurd h
 runs_cut_at WriteFault ended given old new written h cut = cut
 runs_cut_at LineTooLong ended given old new written h cut = absurd h
 runs_cut_at OutOfMemory ended given old new written h cut = cut
 
 pub stopped_at_end : (f : RunFault) (unread left : Option (List ℕ)) (given : List ℕ) (t : Stage) (begun : List ℕ) (old mid new : Book) (was now then_now : Option (List ℕ)) → IsInAnswer f → Consumes unread left given → IsAtEnd left
-    → Runs Between [] given t begun old was now mid → FinishStops t begun mid now then_now new → StoppedAt f unread left old was then_now new
+    → Runs Between [] given t begun old was now mid → FinishStops t begun mid now then_now new → StoppedAt (run_fault_of f) unread left old was then_now new
 stopped_at_end f unread left given t begun old mid new was now then_now h taken ended r q =
     let all : commands given ≡ r.executed ++ commands_from t (lines_of begun)
     = ap (λ xs. commands_from Between (lines_of xs)) (sym (append-nil given)) ∙ splits r [] ∙ ap (λ xs. r.executed ++ commands_from t (lines_of xs)) (append-nil begun) in
@@ -414,7 +415,7 @@ stopped_at_end f unread left given t begun old mid new was now then_now h taken 
 
 -- a read failed, or the turns ran out
 pub stopped_in_reading : (unread left : Option (List ℕ)) (given : List ℕ) (t : Stage) (begun : List ℕ) (old new : Book) (was now : Option (List ℕ)) → Consumes unread left given → IsInLine begun
-    → Runs Between [] given t begun old was now new → StoppedAt ReadFault unread left old was now new
+    → Runs Between [] given t begun old was now new → StoppedAt (run_fault_of ReadFault) unread left old was now new
 stopped_in_reading unread left given t begun old new was now taken inside r =
     let ended : ended_lines given ≡ ended_lines r.whole
     = ap ended_lines r.place ∙ ended_lines-append r.whole begun r.are_whole ∙ ap (λ ls. ended_lines r.whole ++ ls) (ended_lines-open begun inside) ∙ append-nil (ended_lines r.whole) in
@@ -434,7 +435,7 @@ stopped_in_reading unread left given t begun old new was now taken inside r =
 
 -- the run stopped within the bytes
 runs_at : (f : RunFault) (given : List ℕ) (old new : Book) (written : List ℕ) (executed : List Command) → (f ≡ ReadFault → ⊥) → AreFirst executed false given → AnswersAt f executed old written new → Before f Between executed given
-    → RunsAt f false given old written new
+    → RunsAt (run_fault_of f) false given old written new
 runs_at ReadFault given old new written executed other first answers before = absurd (other refl)
 runs_at WriteFault given old new written executed other first answers before = (executed, first, answers)
 runs_at LineTooLong given old new written executed other first answers before = (before.0, before.1, (completed_are_first before.0 before.1.are_whole, rw (sym before.2) answers))
@@ -466,7 +467,7 @@ before_later LineTooLong s t cs ds whole bytes all e w done stage before =
 before_later OutOfMemory s t cs ds whole bytes all e w done stage before = tt
 
 pub stopped_in_bytes : (f : RunFault) (unread left : Option (List ℕ)) (given bytes : List ℕ) (t : Stage) (begun : List ℕ) (old mid new : Book) (was now then_now : Option (List ℕ)) → (f ≡ ReadFault → ⊥) → Consumes unread left (given ++ bytes)
-    → Runs Between [] given t begun old was now mid → Stops f t begun bytes mid now then_now new → StoppedAt f unread left old was then_now new
+    → Runs Between [] given t begun old was now mid → Stops f t begun bytes mid now then_now new → StoppedAt (run_fault_of f) unread left old was then_now new
 stopped_in_bytes f unread left given bytes t begun old mid new was now then_now other taken r q =
     let place : given ++ bytes ≡ r.whole ++ (begun ++ bytes) = ap (λ xs. xs ++ bytes) r.place ∙ append_assoc r.whole begun bytes in
     record {

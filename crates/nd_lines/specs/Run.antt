@@ -1,18 +1,19 @@
--- Runs of scripts.
+-- Runs of scripts, as far as they have come.
 use Rattle.std.specs.Prelude.{◌≡◌, ◌≢◌, ℕ, ◌^◌, ◌<◌, ◌≤◌, ◌⊎◌, Bool, true, IsTrue, All, List, [], ◌∷◌, ◌++◌, length, codes, Option}
 use Rattle.std.specs.Io.KnownBytes.{Appends, Consumes, IsAtEnd}
 use Rattle.nd_model.specs.Book.{Book}
 use Rattle.nd_model.specs.Script.{Command, Answers, CutAnswers, IsFront, Stage, Between, Within, step, commands_from, completed_from, lines_of, ended_lines, RunsWhole, RunsCompleted, RunsCut}
+use Rattle.nd_model.specs.ScriptRuns.{most_line, AreWholeLines, IsInLine, LongLineBehind}
+use Rattle.nd_model.specs.ScriptRuns as model
 use Rattle.nd_lines.specs.declared.run_fault.RunFault.{RunFault}
 use Rattle.nd_lines.specs.declared.run_fault.RunFault.TheVariants.{ReadFault, WriteFault, LineTooLong, OutOfMemory}
 
--- the most bytes of a line
-abbrev pub most_line : ℕ
-most_line = 2 ^ 28
-
--- no newline is among the bytes
-abbrev pub IsInLine : List ℕ → Type 0
-IsInLine bytes = All (λ c. c ≢ 10) bytes
+-- the fault as the definitions have it
+abbrev pub run_fault_of : RunFault → model.RunFault
+run_fault_of ReadFault = model.ReadFault
+run_fault_of WriteFault = model.WriteFault
+run_fault_of LineTooLong = model.LineTooLong
+run_fault_of OutOfMemory = model.OutOfMemory
 
 -- the beginning of a line, not too long
 pub record FitsLine (line : List ℕ) : Type 0 where
@@ -85,10 +86,6 @@ IsInAnswer OutOfMemory = Unit {0}
 
 -- ---- some bytes
 
--- bytes that are whole lines: none, or as far as some newline
-abbrev pub AreWholeLines : List ℕ → Type 0
-AreWholeLines bytes = (bytes ≡ []) ⊎ ((before : List ℕ) × (bytes ≡ before ++ 10 ∷ []))
-
 -- where a script stands behind these lines
 abbrev pub stage_behind : Stage → List (List ℕ) → Stage
 stage_behind s [] = s
@@ -106,15 +103,6 @@ pub record Runs (s : Stage) (line bytes : List ℕ) (t : Stage) (begun : List �
   pub done : executed ≡ completed_from s (ended_lines whole)
   pub appended : Appends was now written
   pub answers : Answers executed old written new
-
--- behind these whole lines stands one that is too long
-pub record LongLineBehind (front bytes : List ℕ) : Type 0 where
-  pub line : List ℕ
-  pub rest : List ℕ
-  pub place : bytes ≡ front ++ line ++ rest
-  pub are_whole : AreWholeLines front
-  pub in_line : IsInLine line
-  pub long : most_line < length line
 
 -- the answers to some commands, by the fault that stopped the run: where an answer was made or written the last may be cut
 abbrev pub AnswersAt : RunFault → List Command → Book → List ℕ → Book → Type 0
@@ -138,33 +126,3 @@ pub record Stops (f : RunFault) (s : Stage) (line bytes : List ℕ) (old : Book)
   pub appended : Appends was now written
   pub answers : AnswersAt f executed old written new
   pub before : Before f s executed (line ++ bytes)
-
--- ---- whole runs
-
--- A RUN TO THE END: the reader gave a script and has nothing left, and what was written is the answers to all of it.
-pub record RanToEnd (unread left : Option (List ℕ)) (old : Book) (was now : Option (List ℕ)) (new : Book) : Type 0 where
-  pub script : List ℕ
-  pub written : List ℕ
-  pub given : Consumes unread left script
-  pub ended : IsAtEnd left
-  pub appended : Appends was now written
-  pub answers : RunsWhole script old written new
-
--- the commands that were carried out, by the fault: where a read failed, exactly those that were complete; at a line that is
--- too long, exactly those of the lines before it; where an answer was made or written, the last one's answer may be cut off
-abbrev pub RunsAt : RunFault → (ended : Bool) → (given : List ℕ) → Book → (written : List ℕ) → Book → Type 0
-RunsAt ReadFault ended given old written new = RunsCompleted given old written new
-RunsAt WriteFault ended given old written new = RunsCut ended given old written new
-RunsAt LineTooLong ended given old written new = (front : List ℕ) × LongLineBehind front given × RunsCompleted front old written new
-RunsAt OutOfMemory ended given old written new = RunsCut ended given old written new
-
--- A RUN THAT STOPPED, after these bytes were given: the commands that were carried out are the first ones of the script,
--- whatever else it has, and what was written is their answers, the last one perhaps cut off.
-pub record StoppedAt (f : RunFault) (unread left : Option (List ℕ)) (old : Book) (was now : Option (List ℕ)) (new : Book) : Type 0 where
-  pub given : List ℕ
-  pub written : List ℕ
-  pub ended : Bool
-  pub taken : Consumes unread left given
-  pub at_end : IsTrue ended → IsAtEnd left
-  pub appended : Appends was now written
-  pub answers : RunsAt f ended given old written new

@@ -4,7 +4,8 @@ ghost use Rattle.std.specs.Prelude.{◌≡◌, [], OnOk, OnErr};
 ghost use Rattle.std.specs.Borrow.{GName};
 ghost use Rattle.nd_model.specs.Book.{Book};
 ghost use Rattle.nd_model.specs.Script.{Stage};
-ghost use Rattle.nd_lines.specs.Run.{open_answer, Done, DoneInPart, IsInLine};
+ghost use Rattle.nd_model.specs.ScriptRuns.{IsInLine};
+ghost use Rattle.nd_lines.specs.Run.{open_answer, Done, DoneInPart};
 
 use std::alloc::AllocError;
 

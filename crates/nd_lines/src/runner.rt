@@ -3,7 +3,8 @@
 ghost use Rattle.std.specs.Prelude.{◌≡◌, ◌⊎◌, IfErr, OnOk};
 ghost use Rattle.nd_model.specs.Script.{Between};
 ghost use Rattle.nd_lines.specs.Ends.{counted_on};
-ghost use Rattle.nd_lines.specs.Run.{RanToEnd, StoppedAt};
+ghost use Rattle.nd_model.specs.ScriptRuns.{RanToEnd, StoppedAt};
+ghost use Rattle.nd_lines.specs.Run.{run_fault_of};
 
 use crate::answerer::Answerer;
 use crate::input::CountedRead;
@@ -25,7 +26,7 @@ pub fn run_lines<R: CountedRead, W: CountedWrite, A: Answerer>(
     ensures to_end { OnOk result (RanToEnd (R.remaining reader.old) (R.remaining reader.new)
         (A.book answerer.old) (W.contents writer.old)
         (W.contents writer.new) (A.book answerer.new)) }
-    ensures stopped { IfErr result (λ f. StoppedAt f
+    ensures stopped { IfErr result (λ f. StoppedAt (run_fault_of f)
         (R.remaining reader.old) (R.remaining reader.new)
         (A.book answerer.old) (W.contents writer.old)
         (W.contents writer.new) (A.book answerer.new)) }

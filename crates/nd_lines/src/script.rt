@@ -2,7 +2,8 @@
 
 ghost use Rattle.std.specs.Prelude.{◌≡◌, ◌≢◌, ◌==◌, ◌++◌, [], ◌≤◌, length, position, OnOk, OnErr, IfErr, is_ok};
 ghost use Rattle.nd_lines.specs.Ends.{counted_on};
-ghost use Rattle.nd_lines.specs.Run.{most_line, open_answer, FinishStops, Finishes, FitsLine, IsInAnswer, IsInLine, IsTooLong, LineRuns, LineStops, Runs, Stops, Wrote};
+ghost use Rattle.nd_model.specs.ScriptRuns.{most_line, IsInLine};
+ghost use Rattle.nd_lines.specs.Run.{open_answer, FinishStops, Finishes, FitsLine, IsInAnswer, IsTooLong, LineRuns, LineStops, Runs, Stops, Wrote};
 
 use crate::answerer::Answerer;
 use crate::output::{CountedWrite, write_answer};

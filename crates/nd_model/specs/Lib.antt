@@ -49,3 +49,5 @@ pub mod Book
 pub mod FaultText
 pub mod Format
 pub mod Script
+pub mod Notebook
+pub mod ScriptRuns

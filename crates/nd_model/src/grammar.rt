@@ -20,18 +20,22 @@ pub fn one_meaning()
 
 /// No text has two faults.
 pub fn one_fault()
-    ensures { (text : List ℕ) (f g : ParseFault) → HasCellFault text f → HasCellFault text g → f ≡ g }
+    ensures { (text : List ℕ) (f g : ParseFault) → HasCellFault text f → HasCellFault text g
+        → f ≡ g }
 {}
 
 /// What is read are the cells with their statements, and the faults of all other texts.
 pub fn reading_is_exact()
-    ensures statements { (text : List ℕ) (ls : List Line) → (reading text ≡ Ok ls) ↔ IsCell text ls }
-    ensures fault { (text : List ℕ) (f : ParseFault) → (reading text ≡ Err f) ↔ HasCellFault text f }
+    ensures statements { (text : List ℕ) (ls : List Line) → (reading text ≡ Ok ls)
+        ↔ IsCell text ls }
+    ensures fault { (text : List ℕ) (f : ParseFault) → (reading text ≡ Err f)
+        ↔ HasCellFault text f }
 {}
 
 /// Whole statements have their fault at one of their tokens: at the end of a statement, where nothing else is left.
 pub fn faults_are_at_tokens()
-    ensures { (ts : List Token) (s : Stop) → AreStatements true ts → HasFault kind cell ts s → IsSome (slice_get ts (length ts - s.left)) }
+    ensures { (ts : List Token) (s : Stop) → AreStatements true ts → HasFault kind cell ts s
+        → IsSome (slice_get ts (length ts - s.left)) }
 {}
 
 /// A text has at most as many words as bytes. The ends of statements are not counted.

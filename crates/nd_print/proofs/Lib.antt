@@ -1,3 +1,2 @@
-pub mod Decoded
 pub mod Nested
 pub mod Rows

@@ -1,7 +1,7 @@
 -- The text of a number outside arrays, and of a row of an array.
 use Rattle.std.specs.Prelude.{ℕ, ℤ, List, [], ◌∷◌, ◌++◌, map}
 use Rattle.std.specs.Fmt.{signed_decimal}
-use Rattle.nd_model.specs.Element.{Kind, Element, size_of, value_of, bytes_at}
+use Rattle.nd_model.specs.Element.{Kind}
 use Rattle.nd_model.specs.Text.{truth_text, number_text, aligned, joined}
 use Rattle.nd_types.specs.declared.num.Num.{Num}
 use Rattle.nd_types.specs.declared.num.Num.TheVariants.{Int, Bool, Scalar}
@@ -19,7 +19,3 @@ padded k width zs = map (aligned width) (map (number_text k) zs)
 -- the numbers of the last axis, in brackets
 abbrev pub row_text : Kind → ℕ → List ℤ → List ℕ
 row_text k width zs = 91 ∷ joined (32 ∷ []) (padded k width zs) ++ 93 ∷ []
-
--- the numbers of the elements at these places
-abbrev pub values_at : Element → List ℕ → List ℕ → List ℤ
-values_at e bytes places = map (λ p. value_of e (bytes_at bytes p (size_of e.kind))) places

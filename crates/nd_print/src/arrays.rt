@@ -5,10 +5,12 @@ ghost use Rattle.nd_model.specs.View.{One, item_size};
 ghost use Rattle.nd_model.specs.Text as model;
 ghost use Rattle.nd_model.specs.Tuple.{elements_of};
 ghost use Rattle.nd_types.specs.Kinds.{kind_of};
-ghost use Rattle.nd_print.specs.Texts.{padded, row_text, values_at};
+ghost use Rattle.nd_element.specs.Elements.{numbers_at};
+ghost use Rattle.nd_print.specs.Texts.{padded, row_text};
 
 use crate::scalars::{push_aligned, push_number, push_times, text_len};
 use nd_block::RawBlock;
+use nd_element::numbers_of;
 use nd_types::{Elem, Kind};
 use nd_view::View;
 use std::alloc::{AllocError, Global};
@@ -21,7 +23,8 @@ pub fn array_text(
     values: &[i128],
 ) -> Result<String, AllocError>
     requires { elements_of shape.now ≡ length values.now }
-    ensures { IfOk result (λ t. string_bytes t ≡ model.array_text (kind_of kind) shape.now values.now) }
+    ensures { IfOk result (λ t. string_bytes t
+        ≡ model.array_text (kind_of kind) shape.now values.now) }
 {
     if values.is_empty() {
         return String::from_str(alloc, "[]");
@@ -40,32 +43,11 @@ pub fn array_text(
 pub fn text(alloc: Global, view: &View, elem: Elem, block: &RawBlock) -> Result<String, AllocError>
     requires type_is { view.now.element ≡ One elem }
     requires inside { All (λ p. p + item_size view.now.element ≤ length block.now) view.now.places }
-    ensures { IfOk result (λ t. string_bytes t ≡ model.array_text elem.kind view.now.shape (values_at elem block.now view.now.places)) }
+    ensures { IfOk result (λ t. string_bytes t ≡ model.array_text elem.kind view.now.shape
+        (numbers_at elem block.now view.now.places)) }
 {
-    let values = values_of(alloc, view, block, elem)?;
+    let values = numbers_of(alloc, view, elem, block.as_slice())?;
     array_text(alloc, elem.kind(), view.shape(), &values)
-}
-
-// The numbers of a view's elements.
-fn values_of(
-    alloc: Global,
-    view: &View,
-    block: &RawBlock,
-    elem: Elem,
-) -> Result<Vec<i128>, AllocError>
-    requires type_is { view.now.element ≡ One elem }
-    requires inside { All (λ p. p + item_size view.now.element ≤ length block.now) view.now.places }
-    ensures items { IfOk result (λ v. v.items ≡ values_at elem block.now view.now.places) }
-    ensures whole { IfOk result (λ v. elements_of view.now.shape ≡ length v.items) }
-{
-    let mut values = Vec::with_capacity(alloc, view.count())?;
-    let mut runs = view.runs();
-    while let Some(run) = runs.next() {
-        for number in 0..run.count() {
-            values.push(block.load(run.place(number), elem))?;
-        }
-    }
-    Ok(values)
 }
 
 // The width of the narrowest number: in an array a Boolean is as wide as False.
@@ -80,7 +62,8 @@ fn least_width(kind: Kind) -> usize
 
 // The width of each number in an array.
 fn widest(kind: Kind, values: &[i128]) -> usize
-    ensures { result ≡ max (model.least_width (kind_of kind)) (model.widest (map (model.number_text (kind_of kind)) values.now)) }
+    ensures { result ≡ max (model.least_width (kind_of kind))
+        (model.widest (map (model.number_text (kind_of kind)) values.now)) }
 {
     let mut width = least_width(kind);
     for value in values {
@@ -91,7 +74,8 @@ fn widest(kind: Kind, values: &[i128]) -> usize
 
 // Appends the numbers in brackets.
 fn push_row(text: &mut String, width: usize, kind: Kind, values: &[i128]) -> Result<(), AllocError>
-    ensures { OnOk result (string_bytes text.new ≡ string_bytes text.old ++ row_text (kind_of kind) width values.now) }
+    ensures { OnOk result (string_bytes text.new ≡ string_bytes text.old ++ row_text
+        (kind_of kind) width values.now) }
 {
     text.push('[')?;
     for (i, value) in values.iter().enumerate() {
@@ -116,7 +100,9 @@ fn push_nested(
     requires deep { depth + length shape.now < 2 ^ 64 }
     requires whole { elements_of shape.now ≡ length values.now }
     requires some { 0 < length values.now }
-    ensures { OnOk result (string_bytes text.new ≡ string_bytes text.old ++ model.bracketed depth shape.now (padded (kind_of kind) width values.now)) }
+    ensures { OnOk result (string_bytes text.new
+        ≡ string_bytes text.old ++ model.bracketed depth shape.now
+        (padded (kind_of kind) width values.now)) }
 {
     if shape.len() == 1 {
         return push_row(text, width, kind, values);
@@ -143,7 +129,8 @@ fn push_nested(
 
 // Appends what stands between two parts of an axis.
 fn push_break(text: &mut String, lines: usize, blanks: usize) -> Result<(), AllocError>
-    ensures { OnOk result (string_bytes text.new ≡ string_bytes text.old ++ (replicate lines 10 ++ replicate blanks 32)) }
+    ensures { OnOk result (string_bytes text.new
+        ≡ string_bytes text.old ++ (replicate lines 10 ++ replicate blanks 32)) }
 {
     push_times(text, '\n', lines)?;
     push_times(text, ' ', blanks)

@@ -38,7 +38,8 @@ fn push_decimal(text: &mut String, number: i128) -> Result<(), AllocError>
 
 // Appends a number of the kind.
 pub(crate) fn push_number(text: &mut String, kind: Kind, number: i128) -> Result<(), AllocError>
-    ensures { OnOk result (string_bytes text.new ≡ string_bytes text.old ++ number_text (kind_of kind) number) }
+    ensures { OnOk result (string_bytes text.new ≡ string_bytes text.old ++ number_text
+        (kind_of kind) number) }
 {
     match kind {
         Kind::Bool => text.push_str(truth_text(number != 0)),
@@ -63,7 +64,8 @@ pub(crate) fn push_aligned(
     kind: Kind,
     number: i128,
 ) -> Result<(), AllocError>
-    ensures { OnOk result (string_bytes text.new ≡ string_bytes text.old ++ aligned width (number_text (kind_of kind) number)) }
+    ensures { OnOk result (string_bytes text.new ≡ string_bytes text.old ++ aligned width
+        (number_text (kind_of kind) number)) }
 {
     push_times(text, ' ', width.saturating_sub(text_len(kind, number)))?;
     push_number(text, kind, number)
@@ -72,7 +74,8 @@ pub(crate) fn push_aligned(
 // Appends a character so many times.
 pub(crate) fn push_times(text: &mut String, character: char, times: usize) -> Result<(), AllocError>
     requires { character < 128 }
-    ensures { OnOk result (string_bytes text.new ≡ string_bytes text.old ++ replicate times character) }
+    ensures { OnOk result (string_bytes text.new
+        ≡ string_bytes text.old ++ replicate times character) }
 {
     for _ in 0..times {
         text.push(character)?;

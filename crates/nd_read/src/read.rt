@@ -73,7 +73,11 @@ pub fn stop_at(tokens: &[Token], why: Reason) -> Failure
 
 /// The next token is refused, for this reason if it is in the set.
 pub fn shut(tokens: &[Token], set: u128, why: Reason) -> Failure
-    ensures { result ≡ Stopped (record { left = length tokens.now; why = (if next_in kind set (tokens_of tokens.now) then why else Itself) }) }
+    ensures { result ≡ Stopped
+        (record {
+          left = length tokens.now;
+          why = (if next_in kind set (tokens_of tokens.now) then why else Itself);
+        }) }
 {
     if next_in(tokens, set) {
         stop_at(tokens, why)

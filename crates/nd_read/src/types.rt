@@ -30,7 +30,8 @@ pub fn quoted_text<'t>(alloc: Global, tokens: Tokens<'t>) -> Read<'t, String>
 
 /// `(STRING)`
 pub fn quoted<'t>(alloc: Global, levels: u8, tokens: Tokens<'t>) -> Read<'t, String>
-    ensures { Gives (with_rest string_bytes) result (read kind (quoted (under levels)) (tokens_of tokens.now)) }
+    ensures { Gives (with_rest string_bytes) result (read kind (quoted (under levels))
+        (tokens_of tokens.now)) }
 {
     if levels == 0 {
         return Err(shut(tokens, OPEN, Reason::TooDeep));
@@ -39,7 +40,8 @@ pub fn quoted<'t>(alloc: Global, levels: u8, tokens: Tokens<'t>) -> Read<'t, Str
 }
 
 fn in_brackets<'t>(alloc: Global, tokens: Tokens<'t>) -> Read<'t, String>
-    ensures { Gives (with_rest string_bytes) result (read kind (between OPEN quoted_text CLOSE) (tokens_of tokens.now)) }
+    ensures { Gives (with_rest string_bytes) result (read kind (between OPEN quoted_text CLOSE)
+        (tokens_of tokens.now)) }
 {
     let rest = skip(tokens, OPEN)?;
     let (text, rest) = quoted_text(alloc, rest)?;
@@ -48,7 +50,8 @@ fn in_brackets<'t>(alloc: Global, tokens: Tokens<'t>) -> Read<'t, String>
 
 /// `()`, for a shape without axes
 pub fn no_lengths<'t>(alloc: Global, levels: u8, tokens: Tokens<'t>) -> Read<'t, Vec<Expr>>
-    ensures { Gives (with_rest exprs_of) result (read kind (no_lengths (under levels)) (tokens_of tokens.now)) }
+    ensures { Gives (with_rest exprs_of) result (read kind (no_lengths (under levels))
+        (tokens_of tokens.now)) }
 {
     if levels == 0 {
         return Err(shut(tokens, OPEN_NONE, Reason::TooDeep));
@@ -66,7 +69,8 @@ fn closed<'t>(alloc: Global, tokens: Tokens<'t>) -> Read<'t, Vec<Expr>>
 
 /// `()`
 pub fn empty<'t>(levels: u8, tokens: Tokens<'t>) -> Read<'t, ()>
-    ensures { Gives (with_rest (λ u. u)) result (read kind (empty (under levels)) (tokens_of tokens.now)) }
+    ensures { Gives (with_rest (λ u. u)) result (read kind (empty (under levels))
+        (tokens_of tokens.now)) }
 {
     if levels == 0 {
         return Err(shut(tokens, OPEN, Reason::TooDeep));
@@ -116,7 +120,8 @@ fn text_type<'t>(alloc: Global, tokens: Tokens<'t>) -> Read<'t, TypeName>
 
 /// `(STRING, type)`
 fn pair<'t>(alloc: Global, levels: u8, tokens: Tokens<'t>) -> Read<'t, FieldType>
-    ensures { Gives (with_rest field_type_of) result (read kind (pair (under levels)) (tokens_of tokens.now)) }
+    ensures { Gives (with_rest field_type_of) result (read kind (pair (under levels))
+        (tokens_of tokens.now)) }
 {
     if levels == 0 {
         return Err(shut(tokens, OPEN, Reason::TooDeep));
@@ -125,7 +130,8 @@ fn pair<'t>(alloc: Global, levels: u8, tokens: Tokens<'t>) -> Read<'t, FieldType
 }
 
 fn field<'t>(alloc: Global, tokens: Tokens<'t>) -> Read<'t, FieldType>
-    ensures { Gives (with_rest field_type_of) result (read kind (between OPEN field CLOSE) (tokens_of tokens.now)) }
+    ensures { Gives (with_rest field_type_of) result (read kind (between OPEN field CLOSE)
+        (tokens_of tokens.now)) }
 {
     let rest = skip(tokens, OPEN)?;
     let (field, rest) = name_and_type(alloc, rest)?;
@@ -153,7 +159,8 @@ pub fn behind_last<'t>(last: u128, tokens: Tokens<'t>) -> Tokens<'t>
 }
 
 fn other_field<'t>(alloc: Global, levels: u8, tokens: Tokens<'t>) -> Read<'t, FieldType>
-    ensures { Gives (with_rest field_type_of) result (read kind (behind_comma COMMA_MORE (pair (under levels))) (tokens_of tokens.now)) }
+    ensures { Gives (with_rest field_type_of) result
+        (read kind (behind_comma COMMA_MORE (pair (under levels))) (tokens_of tokens.now)) }
 {
     let rest = skip(tokens, COMMA_MORE)?;
     pair(alloc, levels, rest)
@@ -161,7 +168,9 @@ fn other_field<'t>(alloc: Global, levels: u8, tokens: Tokens<'t>) -> Read<'t, Fi
 
 /// Any number of fields, each behind a comma.
 fn other_fields<'t>(alloc: Global, levels: u8, tokens: Tokens<'t>) -> Read<'t, Vec<FieldType>>
-    ensures { Gives (with_rest field_types_of) result (read kind (Many COMMA_MORE (λ xs. xs) (behind_comma COMMA_MORE (pair (under levels)))) (tokens_of tokens.now)) }
+    ensures { Gives (with_rest field_types_of) result
+        (read kind (Many COMMA_MORE (λ xs. xs) (behind_comma COMMA_MORE (pair (under levels))))
+        (tokens_of tokens.now)) }
 {
     let mut all = Vec::new(alloc);
     // from the first token on
@@ -175,7 +184,9 @@ fn other_fields<'t>(alloc: Global, levels: u8, tokens: Tokens<'t>) -> Read<'t, V
 }
 
 fn some_fields<'t>(alloc: Global, levels: u8, tokens: Tokens<'t>) -> Read<'t, Vec<FieldType>>
-    ensures { Gives (with_rest field_types_of) result (read kind (between OPEN_BRACKET (some_fields (under levels)) CLOSE_BRACKET) (tokens_of tokens.now)) }
+    ensures { Gives (with_rest field_types_of) result
+        (read kind (between OPEN_BRACKET (some_fields (under levels)) CLOSE_BRACKET)
+        (tokens_of tokens.now)) }
 {
     let rest = skip(tokens, OPEN_BRACKET)?;
     let (all, rest) = pairs(alloc, levels, rest)?;
@@ -196,7 +207,8 @@ fn pairs<'t>(alloc: Global, levels: u8, tokens: Tokens<'t>) -> Read<'t, Vec<Fiel
 
 /// `[(STRING, type), ..]`
 fn fields<'t>(alloc: Global, levels: u8, tokens: Tokens<'t>) -> Read<'t, Vec<FieldType>>
-    ensures { Gives (with_rest field_types_of) result (read kind (fields (under levels)) (tokens_of tokens.now)) }
+    ensures { Gives (with_rest field_types_of) result (read kind (fields (under levels))
+        (tokens_of tokens.now)) }
 {
     if levels == 0 {
         return Err(shut(tokens, OPEN_BRACKET, Reason::TooDeep));
@@ -207,7 +219,8 @@ fn fields<'t>(alloc: Global, levels: u8, tokens: Tokens<'t>) -> Read<'t, Vec<Fie
 /// A type of elements.
 #[tactic(auto, unfolding(nd_model::specs::Cells::dtype))]
 pub fn dtype<'t>(alloc: Global, levels: u8, tokens: Tokens<'t>) -> Read<'t, DType>
-    ensures { Gives (with_rest dtype_of) result (read kind (dtype (under levels)) (tokens_of tokens.now)) }
+    ensures { Gives (with_rest dtype_of) result (read kind (dtype (under levels))
+        (tokens_of tokens.now)) }
 {
     if next_in(tokens, OPEN_BRACKET) {
         let (fields, rest) = fields(alloc, levels, tokens)?;
@@ -220,7 +233,8 @@ pub fn dtype<'t>(alloc: Global, levels: u8, tokens: Tokens<'t>) -> Read<'t, DTyp
 /// `dtype = type`, where the name is of the set
 #[tactic(auto, unfolding(nd_model::specs::Cells::typing))]
 pub fn typing<'t>(alloc: Global, levels: u8, key: u128, tokens: Tokens<'t>) -> Read<'t, DType>
-    ensures { Gives (with_rest dtype_of) result (read kind (typing key (under levels)) (tokens_of tokens.now)) }
+    ensures { Gives (with_rest dtype_of) result (read kind (typing key (under levels))
+        (tokens_of tokens.now)) }
 {
     let rest = skip(tokens, key)?;
     let rest = skip(rest, EQUAL)?;
@@ -229,7 +243,8 @@ pub fn typing<'t>(alloc: Global, levels: u8, key: u128, tokens: Tokens<'t>) -> R
 
 #[tactic(auto, unfolding(nd_model::specs::Cells::only_typing))]
 fn only_typing<'t>(alloc: Global, levels: u8, tokens: Tokens<'t>) -> Read<'t, DType>
-    ensures { Gives (with_rest dtype_of) result (read kind (only_typing (under levels)) (tokens_of tokens.now)) }
+    ensures { Gives (with_rest dtype_of) result (read kind (only_typing (under levels))
+        (tokens_of tokens.now)) }
 {
     if next_in(tokens, DTYPE) {
         return typing(alloc, levels, DTYPE, tokens);
@@ -240,7 +255,8 @@ fn only_typing<'t>(alloc: Global, levels: u8, tokens: Tokens<'t>) -> Read<'t, DT
 /// `, dtype = type`, if it is there
 #[tactic(auto, unfolding(nd_model::specs::Cells::comma_typing))]
 pub fn comma_typing<'t>(alloc: Global, levels: u8, tokens: Tokens<'t>) -> Read<'t, Option<DType>>
-    ensures { Gives (with_rest typing_of) result (read kind (comma_typing (under levels)) (tokens_of tokens.now)) }
+    ensures { Gives (with_rest typing_of) result (read kind (comma_typing (under levels))
+        (tokens_of tokens.now)) }
 {
     if let Some(rest) = behind(tokens, COMMA) {
         let (dtype, rest) = only_typing(alloc, levels, rest)?;
@@ -251,7 +267,8 @@ pub fn comma_typing<'t>(alloc: Global, levels: u8, tokens: Tokens<'t>) -> Read<'
 
 /// `(type)`
 pub fn type_argument<'t>(alloc: Global, levels: u8, tokens: Tokens<'t>) -> Read<'t, DType>
-    ensures { Gives (with_rest dtype_of) result (read kind (type_argument (under levels)) (tokens_of tokens.now)) }
+    ensures { Gives (with_rest dtype_of) result (read kind (type_argument (under levels))
+        (tokens_of tokens.now)) }
 {
     if levels == 0 {
         return Err(shut(tokens, OPEN, Reason::TooDeep));
@@ -260,7 +277,8 @@ pub fn type_argument<'t>(alloc: Global, levels: u8, tokens: Tokens<'t>) -> Read<
 }
 
 fn type_in_brackets<'t>(alloc: Global, levels: u8, tokens: Tokens<'t>) -> Read<'t, DType>
-    ensures { Gives (with_rest dtype_of) result (read kind (between OPEN (dtype (under levels)) CLOSE) (tokens_of tokens.now)) }
+    ensures { Gives (with_rest dtype_of) result
+        (read kind (between OPEN (dtype (under levels)) CLOSE) (tokens_of tokens.now)) }
 {
     let rest = skip(tokens, OPEN)?;
     let (dtype, rest) = dtype(alloc, levels, rest)?;
@@ -280,7 +298,8 @@ fn truth_of(token: Token) -> bool
 /// `keepdims = True`, where the name is of the set
 #[tactic(auto, unfolding(nd_model::specs::Cells::named_keepdims))]
 pub fn named_keepdims<'t>(key: u128, tokens: Tokens<'t>) -> Read<'t, bool>
-    ensures { Gives (with_rest (λ k. k)) result (read kind (named_keepdims key) (tokens_of tokens.now)) }
+    ensures { Gives (with_rest (λ k. k)) result (read kind (named_keepdims key)
+        (tokens_of tokens.now)) }
 {
     let rest = skip(tokens, key)?;
     let rest = skip(rest, EQUAL)?;

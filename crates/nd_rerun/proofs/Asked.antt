@@ -9,8 +9,8 @@ use Rattle.nd_model.specs.Book.{Cell, QueryFault, ask_cell, ask_told, told_book,
 use Rattle.nd_rerun.specs.declared.cells.Ran.{Ran}
 use Rattle.nd_rerun.specs.declared.query.QueryFault as declared
 use Rattle.nd_rerun.specs.declared.query.QueryFault.TheVariants as faults
-use Rattle.nd_rerun.specs.Queries.{Answers}
-use Rattle.nd_rerun.specs.Edits.{book_of}
+use Rattle.nd_rerun.specs.Queries.{answer_of}
+use Rattle.nd_model.specs.Notebook.{book_of, Tells}
 use Rattle.nd_rerun.specs.Cells.{told_of, tolds_of}
 
 slice_get-map : {A B : Type 0} (f : A → B) (xs : List A) (i : ℕ) → slice_get (map f xs) i ≡ option_map f (slice_get xs i)
@@ -104,6 +104,6 @@ value_is_ok n s es v answer h is = ap is_ok (is ∙ ap (found_value n) (lookup-s
 
 -- memory is wanted where there is a value
 pub wants_memory : {X Y : Type 0} (name : List ℕ) (view : X → Y) (r : Result X declared.QueryFault) (answer : Result Y QueryFault)
-    → IsErrAnd r (λ e. e ≡ faults.OutOfMemory) → is_ok answer ≡ true → Answers name view r answer
+    → IsErrAnd r (λ e. e ≡ faults.OutOfMemory) → is_ok answer ≡ true → Tells (answer_of name view r) answer
 wants_memory name view (Ok x) answer h ok = elim h [ ]
-wants_memory {X} name view (Err e) answer h ok = subst (λ (f : declared.QueryFault). Answers {X = X} name view (Err f) answer) (sym h) ok
+wants_memory {X} name view (Err e) answer h ok = subst (λ (f : declared.QueryFault). Tells (answer_of {X = X} name view (Err f)) answer) (sym h) ok

@@ -4,4 +4,3 @@ pub mod Answered
 pub mod Runs
 pub mod Changes
 pub mod Asked
-mod Structures

@@ -3,7 +3,7 @@ use Rattle.std.specs.Prelude.{◌≡◌, List}
 use Rattle.nd_model.specs.Renaming.{AreDistinct}
 use Rattle.nd_model.specs.Book.{Cell, labels_of, told_book}
 use Rattle.nd_rerun.specs.declared.notebook.Notebook.TheInside.{Inside}
-use Rattle.nd_rerun.specs.Edits.{book_of}
+use Rattle.nd_model.specs.Notebook.{book_of}
 use Rattle.nd_rerun.specs.Labels.{AreSmall}
 use Rattle.nd_rerun.specs.Cells.{cells_of, tolds_of}
 

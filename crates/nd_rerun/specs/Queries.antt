@@ -1,5 +1,5 @@
--- The answers of queries as the definitions have them.
-use Rattle.std.specs.Prelude.{◌≡◌, ℕ, List, option_map, string_bytes, Result, Ok, Err, IsTrue, is_ok}
+-- The answers to queries as the definitions have them.
+use Rattle.std.specs.Prelude.{ℕ, List, option_map, string_bytes, Result, Ok, Err}
 use Rattle.nd_model.specs.Book as model
 use Rattle.nd_model.specs.Renaming as shown
 use Rattle.nd_types.specs.Kinds.{kind_of}
@@ -20,16 +20,13 @@ shown_of (values.Bool t) = shown.ShownTruth t
 shown_of (values.Scalar k z) = shown.ShownScalar (kind_of k) z
 shown_of (values.Array elem shape bytes) = shown.ShownArray (type_of elem) shape.items bytes.items
 
--- The answer to a query that takes no memory, seen by view.
-abbrev pub Gives : {X Y : Type 0} → (X → Y) → Result X declared.QueryFault → Result Y model.QueryFault → Type 0
-Gives view (Ok x) answer = answer ≡ Ok (view x)
-Gives view (Err (faults.NoCell at count)) answer = answer ≡ Err (model.QueryFault.NoCell at count)
-Gives view (Err faults.NoName) answer = ⊥
-Gives view (Err faults.OutOfMemory) answer = ⊥
+-- the fault of a query for a name
+abbrev pub query_fault_of : List ℕ → declared.QueryFault → model.QueryFault
+query_fault_of name (faults.NoCell at count) = model.QueryFault.NoCell at count
+query_fault_of name faults.NoName = model.QueryFault.NoName name
+query_fault_of name faults.OutOfMemory = model.QueryFault.OutOfMemory
 
--- The answer to a query for a name, seen by view. Memory is wanted only where there is a value to answer.
-abbrev pub Answers : {X Y : Type 0} → List ℕ → (X → Y) → Result X declared.QueryFault → Result Y model.QueryFault → Type 0
-Answers name view (Ok x) answer = answer ≡ Ok (view x)
-Answers name view (Err (faults.NoCell at count)) answer = answer ≡ Err (model.QueryFault.NoCell at count)
-Answers name view (Err faults.NoName) answer = answer ≡ Err (model.QueryFault.NoName name)
-Answers name view (Err faults.OutOfMemory) answer = IsTrue (is_ok answer)
+-- the answer to a query for a name, seen by view
+abbrev pub answer_of : {X Y : Type 0} → List ℕ → (X → Y) → Result X declared.QueryFault → Result Y model.QueryFault
+answer_of name view (Ok x) = Ok (view x)
+answer_of name view (Err f) = Err (query_fault_of name f)

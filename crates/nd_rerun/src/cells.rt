@@ -13,7 +13,7 @@ ghost use Rattle.nd_heap.specs.Values.{inputs_of};
 ghost use Rattle.nd_heap.specs.Live.{live};
 ghost use Rattle.nd_heap.specs.Kept.{version_of};
 ghost use Rattle.nd_cell.specs.Results.{ended_of};
-ghost use Rattle.nd_rerun.specs.Counts.{counted, CountsAtMost};
+ghost use Rattle.nd_model.specs.Notebook.{counted, CountsAtMost};
 ghost use Rattle.nd_rerun.specs.Labels.{AreSmall};
 ghost use Rattle.nd_rerun.specs.Cells.{cells_of, tolds_of};
 
@@ -74,7 +74,7 @@ pub fn fresh_label(cells: &[Source]) -> u64
 }
 
 /// The cells with a new one at the place.
-pub fn inserted(
+pub fn insert_source(
     alloc: Global,
     cells: &[Source],
     at: usize,
@@ -82,7 +82,8 @@ pub fn inserted(
 ) -> Result<Vec<Source>, OutOfMemory>
     requires within { at ≤ length cells.now }
     requires small { AreSmall (labels_of (cells_of cells.now)) }
-    ensures { IfOk result (λ v. cells_of v.items ≡ model.edited_cells (model.Insert at source.now) (cells_of cells.now)) }
+    ensures { IfOk result (λ v. cells_of v.items ≡ model.edited_cells (model.Insert at source.now)
+        (cells_of cells.now)) }
 {
     let mut all = copies(alloc, cells)?;
     let label = fresh_label(cells);
@@ -92,14 +93,15 @@ pub fn inserted(
 }
 
 /// The cells with another text for the one at the place.
-pub fn changed(
+pub fn replace_source(
     alloc: Global,
     cells: &[Source],
     at: usize,
     source: &str,
 ) -> Result<Vec<Source>, OutOfMemory>
     requires { at < length cells.now }
-    ensures { IfOk result (λ v. cells_of v.items ≡ model.edited_cells (model.Change at source.now) (cells_of cells.now)) }
+    ensures { IfOk result (λ v. cells_of v.items ≡ model.edited_cells (model.Change at source.now)
+        (cells_of cells.now)) }
 {
     let mut all = copies(alloc, cells)?;
     let label = cells[at].label;
@@ -109,7 +111,7 @@ pub fn changed(
 }
 
 /// The cells with the one at the first place at the second.
-pub fn moved(
+pub fn move_source(
     alloc: Global,
     cells: &[Source],
     from: usize,
@@ -117,7 +119,8 @@ pub fn moved(
 ) -> Result<Vec<Source>, OutOfMemory>
     requires from { from < length cells.now }
     requires to { to < length cells.now }
-    ensures { IfOk result (λ v. cells_of v.items ≡ model.edited_cells (model.Move from to) (cells_of cells.now)) }
+    ensures { IfOk result (λ v. cells_of v.items ≡ model.edited_cells (model.Move from to)
+        (cells_of cells.now)) }
 {
     let mut all = copies(alloc, cells)?;
     let cell = all.remove(from);
@@ -126,9 +129,10 @@ pub fn moved(
 }
 
 /// The cells without the one at the place.
-pub fn removed(alloc: Global, cells: &[Source], at: usize) -> Result<Vec<Source>, OutOfMemory>
+pub fn remove_source(alloc: Global, cells: &[Source], at: usize) -> Result<Vec<Source>, OutOfMemory>
     requires { at < length cells.now }
-    ensures { IfOk result (λ v. cells_of v.items ≡ model.edited_cells (model.Remove at) (cells_of cells.now)) }
+    ensures { IfOk result (λ v. cells_of v.items ≡ model.edited_cells (model.Remove at)
+        (cells_of cells.now)) }
 {
     let mut all = copies(alloc, cells)?;
     let _gone = all.remove(at);
@@ -162,10 +166,13 @@ pub fn run_all(
     inputs: &Inputs,
     cells: &[Source],
 ) -> Result<Vec<Ran>, OutOfMemory>
-    ensures told { IfOk result (λ v. tolds_of v.items ≡ told (notebook (read_cells (cells_of cells.now)) (inputs_of inputs.now.entries) no_session)) }
-    ensures counts { MatchResult result (λ _. meter.new ≡ counted (length cells.now) meter.old) (λ _. CountsAtMost (length cells.now) meter.old meter.new) }
+    ensures told { IfOk result (λ v. tolds_of v.items
+        ≡ told (notebook (read_cells (cells_of cells.now)) (inputs_of inputs.now.entries)
+        no_session)) }
+    ensures counts { MatchResult result (λ _. meter.new ≡ counted (length cells.now) meter.old)
+        (λ _. CountsAtMost (length cells.now) meter.old meter.new) }
 {
-    let mut session = Session::new(alloc);
+    let mut session = Session::new(alloc)?;
     let mut all = Vec::new(alloc);
     for cell in cells {
         all.push(run_kept(meter, &mut session, inputs, cell)?)?;

@@ -5,7 +5,6 @@ mod cells;
 mod edit;
 mod notebook;
 mod query;
-mod shown;
 
 pub use edit::{Edit, EditFault};
 pub use nd_cell::{

@@ -4,11 +4,13 @@ ghost use Rattle.std.specs.Prelude.{◌≡◌, [], IfOk, MatchResult, OnErr, OnO
 ghost use Rattle.nd_model.specs.Book.{labels_of};
 ghost use Rattle.nd_model.specs.Renaming.{AreDistinct};
 ghost use Rattle.nd_model.specs.Book as model;
-ghost use Rattle.nd_rerun.specs.Counts.{counted, CountsAtMost};
-ghost use Rattle.nd_rerun.specs.Edits.{Answers, CountsRuns};
+ghost use Rattle.nd_model.specs.Notebook.{counted, Answers, CountsAtMost, CountsRuns};
+ghost use Rattle.nd_rerun.specs.Edits.{outcome_of};
 ghost use Rattle.nd_rerun.specs.Labels.{AreSmall};
 
-use crate::cells::{Ran, Source, changed, inserted, moved, removed, run_all};
+use crate::cells::{
+    Ran, Source, insert_source, move_source, remove_source, replace_source, run_all,
+};
 use crate::edit::{Edit, EditFault};
 use crate::query::{QueryFault, Shown, names_of, what_shows};
 use indexmap::IndexMap;
@@ -71,7 +73,9 @@ impl Notebook {
         requires small { AreSmall (labels_of (cells_of cells.items)) }
         ensures ok { OnOk result (self.new ≡ cells_of cells.items) }
         ensures err { OnErr result (self.new ≡ self.old) }
-        ensures counts { MatchResult result (λ _. meter.new ≡ counted (length cells.items) meter.old) (λ _. CountsAtMost (length cells.items) meter.old meter.new) }
+        ensures counts { MatchResult result
+            (λ _. meter.new ≡ counted (length cells.items) meter.old)
+            (λ _. CountsAtMost (length cells.items) meter.old meter.new) }
     {
         let inputs: Inputs = IndexMap::new(self.alloc);
         let ran = run_all(self.alloc, meter, &inputs, &cells)?;
@@ -85,8 +89,10 @@ impl Notebook {
     /// Puts a new cell at the place, which may be behind the last one. It is refused, in this order, where there is no such
     /// place, where there are 10,000 cells, where the text has more than 65,536 bytes, and for want of memory.
     pub fn insert(&mut self, meter: &mut Meter, at: usize, source: &str) -> Result<(), EditFault>
-        ensures answered { Answers (model.Insert at source.now) self.old result self.new }
-        ensures counts { CountsRuns (model.Insert at source.now) self.old result meter.old meter.new }
+        ensures answered { Answers (model.Insert at source.now) self.old
+            (outcome_of result) self.new }
+        ensures counts { CountsRuns (model.Insert at source.now) self.old (outcome_of result)
+            meter.old meter.new }
     {
         let count = self.cells.len();
         if count < at {
@@ -98,7 +104,7 @@ impl Notebook {
         if source.len() > MOST_SOURCE {
             return Err(EditFault::CellTooLong);
         }
-        let cells = inserted(self.alloc, &self.cells, at, source)?;
+        let cells = insert_source(self.alloc, &self.cells, at, source)?;
         self.replace(meter, cells)?;
         Ok(())
     }
@@ -106,8 +112,10 @@ impl Notebook {
     /// Gives the cell at the place another text. It is refused, in this order, where there is no such cell, where the text has
     /// more than 65,536 bytes, and for want of memory.
     pub fn edit(&mut self, meter: &mut Meter, at: usize, source: &str) -> Result<(), EditFault>
-        ensures answered { Answers (model.Change at source.now) self.old result self.new }
-        ensures counts { CountsRuns (model.Change at source.now) self.old result meter.old meter.new }
+        ensures answered { Answers (model.Change at source.now) self.old
+            (outcome_of result) self.new }
+        ensures counts { CountsRuns (model.Change at source.now) self.old (outcome_of result)
+            meter.old meter.new }
     {
         let count = self.cells.len();
         if count <= at {
@@ -116,7 +124,7 @@ impl Notebook {
         if source.len() > MOST_SOURCE {
             return Err(EditFault::CellTooLong);
         }
-        let cells = changed(self.alloc, &self.cells, at, source)?;
+        let cells = replace_source(self.alloc, &self.cells, at, source)?;
         self.replace(meter, cells)?;
         Ok(())
     }
@@ -124,8 +132,9 @@ impl Notebook {
     /// Moves the cell at the first place, so that it stands at the second afterwards. It is refused where there is no cell at one
     /// of them, with the first such place, and for want of memory.
     pub fn move_cell(&mut self, meter: &mut Meter, from: usize, to: usize) -> Result<(), EditFault>
-        ensures answered { Answers (model.Move from to) self.old result self.new }
-        ensures counts { CountsRuns (model.Move from to) self.old result meter.old meter.new }
+        ensures answered { Answers (model.Move from to) self.old (outcome_of result) self.new }
+        ensures counts { CountsRuns (model.Move from to) self.old (outcome_of result)
+            meter.old meter.new }
     {
         let count = self.cells.len();
         if count <= from {
@@ -134,21 +143,22 @@ impl Notebook {
         if count <= to {
             return Err(EditFault::NoCell(to, count));
         }
-        let cells = moved(self.alloc, &self.cells, from, to)?;
+        let cells = move_source(self.alloc, &self.cells, from, to)?;
         self.replace(meter, cells)?;
         Ok(())
     }
 
     /// Takes the cell at the place out. It is refused where there is none, and for want of memory.
     pub fn remove(&mut self, meter: &mut Meter, at: usize) -> Result<(), EditFault>
-        ensures answered { Answers (model.Remove at) self.old result self.new }
-        ensures counts { CountsRuns (model.Remove at) self.old result meter.old meter.new }
+        ensures answered { Answers (model.Remove at) self.old (outcome_of result) self.new }
+        ensures counts { CountsRuns (model.Remove at) self.old (outcome_of result)
+            meter.old meter.new }
     {
         let count = self.cells.len();
         if count <= at {
             return Err(EditFault::NoCell(at, count));
         }
-        let cells = removed(self.alloc, &self.cells, at)?;
+        let cells = remove_source(self.alloc, &self.cells, at)?;
         self.replace(meter, cells)?;
         Ok(())
     }
@@ -156,13 +166,12 @@ impl Notebook {
 
 impl Notebook {
     ghost use Rattle.std.specs.Prelude.{map, string_bytes};
-    ghost use Rattle.nd_rerun.specs.Edits.{book_of};
-    ghost use Rattle.nd_rerun.specs.Queries as queries;
-    ghost use Rattle.nd_rerun.specs.Queries.{result_of, shown_of};
+    ghost use Rattle.nd_model.specs.Notebook.{book_of, Tells};
+    ghost use Rattle.nd_rerun.specs.Queries.{answer_of, result_of, shown_of};
 
     /// The text of the cell at the place. It takes no memory.
     pub fn source(&self, at: usize) -> Result<&str, QueryFault>
-        ensures { queries.Gives (λ s. s.now) result (model.source_at (book_of self.now) at) }
+        ensures { answer_of [] (λ s. s.now) result ≡ model.source_at (book_of self.now) at }
     {
         match self.cells.get(at) {
             Some(cell) => Ok(cell.text.as_str()),
@@ -172,7 +181,8 @@ impl Notebook {
 
     /// What the cell at the place gives. It takes no memory.
     pub fn result(&self, at: usize) -> Result<&CellResult, QueryFault>
-        ensures { queries.Gives (λ r. result_of r.now) result (model.result_at (book_of self.now) at) }
+        ensures { answer_of [] (λ r. result_of r.now) result
+            ≡ model.result_at (book_of self.now) at }
     {
         match self.ran.get(at) {
             Some(ran) => Ok(&ran.result),
@@ -182,7 +192,8 @@ impl Notebook {
 
     /// The names that are bound after the cell at the place, in order.
     pub fn names(&self, at: usize) -> Result<Vec<String>, QueryFault>
-        ensures { queries.Answers [] (λ v. map string_bytes v.items) result (model.names_at (book_of self.now) at) }
+        ensures { Tells (answer_of [] (λ v. map string_bytes v.items) result)
+            (model.names_at (book_of self.now) at) }
     {
         match self.ran.get(at) {
             Some(ran) => Ok(names_of(self.alloc, &ran.version)?),
@@ -192,7 +203,8 @@ impl Notebook {
 
     /// What shows of the value of a name after the cell at the place.
     pub fn value(&self, at: usize, name: &str) -> Result<Shown, QueryFault>
-        ensures { queries.Answers name.now shown_of result (model.value_at (book_of self.now) at name.now) }
+        ensures { Tells (answer_of name.now shown_of result)
+            (model.value_at (book_of self.now) at name.now) }
     {
         let Some(ran) = self.ran.get(at) else {
             return Err(QueryFault::NoCell(at, self.cells.len()));
@@ -207,13 +219,14 @@ impl Notebook {
 impl Notebook {
     ghost use Rattle.std.specs.Prelude.{map};
     ghost use Rattle.nd_model.specs.Book.{AnswersUnderAnyLabels};
-    ghost use Rattle.nd_rerun.specs.Edits.{AreAnswered, book_of};
-    ghost use Rattle.nd_rerun.specs.EditsOf.{edit_of};
+    ghost use Rattle.nd_model.specs.Notebook.{book_of, AreAnswered};
+    ghost use Rattle.nd_rerun.specs.Edits.{edit_of};
 
     /// Makes an edit, or refuses it.
     pub fn apply(&mut self, meter: &mut Meter, edit: Edit) -> Result<(), EditFault>
-        ensures answered { Answers (edit_of edit.entry) self.old result self.new }
-        ensures counts { CountsRuns (edit_of edit.entry) self.old result meter.old meter.new }
+        ensures answered { Answers (edit_of edit.entry) self.old (outcome_of result) self.new }
+        ensures counts { CountsRuns (edit_of edit.entry) self.old (outcome_of result)
+            meter.old meter.new }
     {
         match edit {
             Edit::Insert(at, source) => self.insert(meter, at, source),
@@ -231,7 +244,9 @@ impl Notebook {
         meter: &mut Meter,
         edits: &[Edit],
     ) -> Result<Vec<Result<(), EditFault>>, OutOfMemory>
-        ensures answered { IfOk result (λ answers. AreAnswered (map edit_of edits.now) self.old meter.old answers.items self.new meter.new) }
+        ensures answered { IfOk result (λ answers. AreAnswered
+            (map edit_of edits.now) self.old meter.old
+            (map outcome_of answers.items) self.new meter.new) }
         ensures err { OnErr result (self.new ≡ self.old) }
         ensures err_counts { OnErr result (meter.new ≡ meter.old) }
         ensures any_labels { AnswersUnderAnyLabels (book_of self.new) }

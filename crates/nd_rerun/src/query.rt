@@ -7,7 +7,7 @@ ghost use Rattle.nd_heap.specs.Kept.{version_of};
 ghost use Rattle.nd_rerun.specs.Queries.{shown_of};
 ghost use Rattle.nd_rerun.specs.declared.query.QueryFault.TheVariants as faults;
 
-use crate::shown::element_bytes;
+use nd_element::canonical_bytes;
 use nd_heap::{OutOfMemory, Value, Version};
 use nd_types::{ElemType, Kind, Num};
 use std::alloc::Global;
@@ -46,7 +46,8 @@ impl From<OutOfMemory> for QueryFault {
 
 /// The names of a version, in order.
 pub fn names_of(alloc: Global, version: &Version) -> Result<Vec<String>, OutOfMemory>
-    ensures { IfOk result (λ v. map string_bytes v.items ≡ map (λ e. e.0) (version_of version.now).names) }
+    ensures { IfOk result (λ v. map string_bytes v.items
+        ≡ map (λ e. e.0) (version_of version.now).names) }
 {
     let mut names = Vec::new(alloc);
     for i in 0..version.count() {
@@ -59,16 +60,17 @@ pub fn names_of(alloc: Global, version: &Version) -> Result<Vec<String>, OutOfMe
 
 /// What shows of a value.
 pub fn what_shows(alloc: Global, version: &Version, value: &Value) -> Result<Shown, OutOfMemory>
-    ensures { IfOk result (λ s. shown_of s ≡ model.shown (version_of version.now) (value_of value.now)) }
+    ensures { IfOk result (λ s. shown_of s ≡ model.shown (version_of version.now)
+        (value_of value.now)) }
 {
     match value {
         Value::Number(Num::Int(n)) => Ok(Shown::Int(*n)),
         Value::Number(Num::Bool(b)) => Ok(Shown::Bool(*b)),
         Value::Number(Num::Scalar(kind, n)) => Ok(Shown::Scalar(*kind, *n)),
         Value::Array(array) => {
-            let elem = array.view.elem().try_clone(alloc)?;
+            let elem = array.view.elem().try_clone()?;
             let shape = Vec::from_slice(alloc, array.view.shape())?;
-            let bytes = element_bytes(alloc, version, array)?;
+            let bytes = canonical_bytes(alloc, &array.view, version.bytes(array.base))?;
             Ok(Shown::Array { elem, shape, bytes })
         }
     }

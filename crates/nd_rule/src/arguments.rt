@@ -25,7 +25,8 @@ impl<'f, F: for<'t> Fn(u8, Spot, Tokens<'t>) -> Read<'t, Expr>> Rules<'f, F> {
     #[tactic(auto, unfolding(nd_model::specs::Cells::shape))]
     pub fn shape<'t>(&self, levels: u8, tokens: Tokens<'t>) -> Read<'t, Vec<Expr>>
         requires { Operands F.Fn self.now.operand.now (levels + 1) }
-        ensures { Gives (with_rest exprs_of) result (read kind (shape (inside levels)) (tokens_of tokens.now)) }
+        ensures { Gives (with_rest exprs_of) result (read kind (shape (inside levels))
+            (tokens_of tokens.now)) }
     {
         if next_in(tokens, OPEN_TUPLE) {
             return self.tuple(levels, tokens);
@@ -38,7 +39,8 @@ impl<'f, F: for<'t> Fn(u8, Spot, Tokens<'t>) -> Read<'t, Expr>> Rules<'f, F> {
 
     fn one_length<'t>(&self, levels: u8, tokens: Tokens<'t>) -> Read<'t, Vec<Expr>>
         requires { Operands F.Fn self.now.operand.now (levels + 1) }
-        ensures { Gives (with_rest exprs_of) result (read kind (one_length (inside levels)) (tokens_of tokens.now)) }
+        ensures { Gives (with_rest exprs_of) result (read kind (one_length (inside levels))
+            (tokens_of tokens.now)) }
     {
         let none = Vec::new(self.alloc);
         append(none, self.expr(levels, Spot::Length, tokens))
@@ -47,7 +49,8 @@ impl<'f, F: for<'t> Fn(u8, Spot, Tokens<'t>) -> Read<'t, Expr>> Rules<'f, F> {
     /// `(expr, ..)`
     pub fn tuple<'t>(&self, levels: u8, tokens: Tokens<'t>) -> Read<'t, Vec<Expr>>
         requires { Operands F.Fn self.now.operand.now levels }
-        ensures { Gives (with_rest exprs_of) result (read kind (tuple (under levels)) (tokens_of tokens.now)) }
+        ensures { Gives (with_rest exprs_of) result (read kind (tuple (under levels))
+            (tokens_of tokens.now)) }
     {
         if levels == 0 {
             return Err(shut(tokens, OPEN_TUPLE, Reason::TooDeep));
@@ -57,7 +60,9 @@ impl<'f, F: for<'t> Fn(u8, Spot, Tokens<'t>) -> Read<'t, Expr>> Rules<'f, F> {
 
     fn tuple_in<'t>(&self, levels: u8, tokens: Tokens<'t>) -> Read<'t, Vec<Expr>>
         requires { Operands F.Fn self.now.operand.now (levels + 1) }
-        ensures { Gives (with_rest exprs_of) result (read kind (between OPEN_TUPLE (tuple_body (inside levels)) CLOSE) (tokens_of tokens.now)) }
+        ensures { Gives (with_rest exprs_of) result
+            (read kind (between OPEN_TUPLE (tuple_body (inside levels)) CLOSE)
+            (tokens_of tokens.now)) }
     {
         let rest = skip(tokens, OPEN_TUPLE)?;
         let (all, rest) = self.tuple_body(levels, rest)?;
@@ -79,7 +84,9 @@ impl<'f, F: for<'t> Fn(u8, Spot, Tokens<'t>) -> Read<'t, Expr>> Rules<'f, F> {
     #[tactic(auto, unfolding(nd_model::specs::Cells::exprs))]
     pub fn exprs<'t>(&self, levels: u8, spot: Spot, tokens: Tokens<'t>) -> Read<'t, Vec<Expr>>
         requires { Operands F.Fn self.now.operand.now (levels + 1) }
-        ensures { Gives (with_rest exprs_of) result (read kind (exprs (expr (spot_of spot) (under levels)) (expr Anywhere (under levels))) (tokens_of tokens.now)) }
+        ensures { Gives (with_rest exprs_of) result
+            (read kind (exprs (expr (spot_of spot) (under levels)) (expr Anywhere (under levels)))
+            (tokens_of tokens.now)) }
     {
         let (first, rest) = self.expr(levels, spot, tokens)?;
         lead(first, self.others(levels, COMMA, rest))
@@ -88,7 +95,9 @@ impl<'f, F: for<'t> Fn(u8, Spot, Tokens<'t>) -> Read<'t, Expr>> Rules<'f, F> {
     /// Any number of expressions, each behind a comma of the set.
     fn others<'t>(&self, levels: u8, comma: u128, tokens: Tokens<'t>) -> Read<'t, Vec<Expr>>
         requires { Operands F.Fn self.now.operand.now (levels + 1) }
-        ensures { Gives (with_rest exprs_of) result (read kind (Many comma (λ xs. xs) (behind_comma comma (expr Anywhere (under levels)))) (tokens_of tokens.now)) }
+        ensures { Gives (with_rest exprs_of) result
+            (read kind (Many comma (λ xs. xs) (behind_comma comma (expr Anywhere (under levels))))
+            (tokens_of tokens.now)) }
     {
         let mut all = Vec::new(self.alloc);
         // from the first token on
@@ -103,7 +112,8 @@ impl<'f, F: for<'t> Fn(u8, Spot, Tokens<'t>) -> Read<'t, Expr>> Rules<'f, F> {
 
     fn other<'t>(&self, levels: u8, comma: u128, tokens: Tokens<'t>) -> Read<'t, Expr>
         requires { Operands F.Fn self.now.operand.now (levels + 1) }
-        ensures { Gives (with_rest expr_of) result (read kind (behind_comma comma (expr Anywhere (under levels))) (tokens_of tokens.now)) }
+        ensures { Gives (with_rest expr_of) result
+            (read kind (behind_comma comma (expr Anywhere (under levels))) (tokens_of tokens.now)) }
     {
         let rest = skip(tokens, comma)?;
         self.expr(levels, Spot::Anywhere, rest)
@@ -113,7 +123,8 @@ impl<'f, F: for<'t> Fn(u8, Spot, Tokens<'t>) -> Read<'t, Expr>> Rules<'f, F> {
     #[tactic(auto, unfolding(nd_model::specs::Cells::named_axis))]
     pub fn named_axis<'t>(&self, levels: u8, key: u128, tokens: Tokens<'t>) -> Read<'t, Axis>
         requires { Operands F.Fn self.now.operand.now (levels + 1) }
-        ensures { Gives (with_rest axis_of) result (read kind (named_axis key (inside levels)) (tokens_of tokens.now)) }
+        ensures { Gives (with_rest axis_of) result (read kind (named_axis key (inside levels))
+            (tokens_of tokens.now)) }
     {
         let rest = skip(tokens, key)?;
         let rest = skip(rest, EQUAL)?;
@@ -137,7 +148,8 @@ impl<'f, F: for<'t> Fn(u8, Spot, Tokens<'t>) -> Read<'t, Expr>> Rules<'f, F> {
     #[tactic(auto, unfolding(nd_model::specs::Cells::numbered_axis))]
     pub fn numbered_axis<'t>(&self, levels: u8, tokens: Tokens<'t>) -> Read<'t, Option<Expr>>
         requires { Operands F.Fn self.now.operand.now (levels + 1) }
-        ensures { Gives (with_rest bound_of) result (read kind (numbered_axis (inside levels)) (tokens_of tokens.now)) }
+        ensures { Gives (with_rest bound_of) result (read kind (numbered_axis (inside levels))
+            (tokens_of tokens.now)) }
     {
         let rest = skip(tokens, AXIS)?;
         let rest = skip(rest, EQUAL)?;
@@ -148,7 +160,8 @@ impl<'f, F: for<'t> Fn(u8, Spot, Tokens<'t>) -> Read<'t, Expr>> Rules<'f, F> {
     /// `, axis = expr`, if it is there
     pub fn comma_axis<'t>(&self, levels: u8, tokens: Tokens<'t>) -> Read<'t, Option<Expr>>
         requires { Operands F.Fn self.now.operand.now (levels + 1) }
-        ensures { Gives (with_rest bound_of) result (read kind (comma_axis (inside levels)) (tokens_of tokens.now)) }
+        ensures { Gives (with_rest bound_of) result (read kind (comma_axis (inside levels))
+            (tokens_of tokens.now)) }
     {
         match behind(tokens, COMMA) {
             Some(rest) => self.only_axis(levels, rest),
@@ -158,7 +171,8 @@ impl<'f, F: for<'t> Fn(u8, Spot, Tokens<'t>) -> Read<'t, Expr>> Rules<'f, F> {
 
     fn only_axis<'t>(&self, levels: u8, tokens: Tokens<'t>) -> Read<'t, Option<Expr>>
         requires { Operands F.Fn self.now.operand.now (levels + 1) }
-        ensures { Gives (with_rest bound_of) result (read kind (only_axis (inside levels)) (tokens_of tokens.now)) }
+        ensures { Gives (with_rest bound_of) result (read kind (only_axis (inside levels))
+            (tokens_of tokens.now)) }
     {
         if next_in(tokens, AXIS) {
             return self.numbered_axis(levels, tokens);
@@ -170,7 +184,8 @@ impl<'f, F: for<'t> Fn(u8, Spot, Tokens<'t>) -> Read<'t, Expr>> Rules<'f, F> {
     #[tactic(auto, unfolding(nd_model::specs::Cells::options))]
     fn options<'t>(&self, levels: u8, tokens: Tokens<'t>) -> Read<'t, (Axis, bool)>
         requires { Operands F.Fn self.now.operand.now (levels + 1) }
-        ensures { Gives (with_rest options_of) result (read kind (options (inside levels)) (tokens_of tokens.now)) }
+        ensures { Gives (with_rest options_of) result (read kind (options (inside levels))
+            (tokens_of tokens.now)) }
     {
         if next_in(tokens, AXIS) {
             return self.axis_options(levels, tokens);
@@ -195,7 +210,8 @@ impl<'f, F: for<'t> Fn(u8, Spot, Tokens<'t>) -> Read<'t, Expr>> Rules<'f, F> {
     #[tactic(auto, unfolding(nd_model::specs::Cells::comma_options))]
     pub fn comma_options<'t>(&self, levels: u8, tokens: Tokens<'t>) -> Read<'t, (Axis, bool)>
         requires { Operands F.Fn self.now.operand.now (levels + 1) }
-        ensures { Gives (with_rest options_of) result (read kind (comma_options (inside levels)) (tokens_of tokens.now)) }
+        ensures { Gives (with_rest options_of) result (read kind (comma_options (inside levels))
+            (tokens_of tokens.now)) }
     {
         match behind(tokens, COMMA) {
             Some(rest) => self.options(levels, rest),
@@ -207,7 +223,8 @@ impl<'f, F: for<'t> Fn(u8, Spot, Tokens<'t>) -> Read<'t, Expr>> Rules<'f, F> {
     #[tactic(auto, unfolding(nd_model::specs::Cells::first_axis))]
     pub fn first_axis<'t>(&self, levels: u8, tokens: Tokens<'t>) -> Read<'t, Axis>
         requires { Operands F.Fn self.now.operand.now (levels + 1) }
-        ensures { Gives (with_rest axis_of) result (read kind (first_axis (inside levels)) (tokens_of tokens.now)) }
+        ensures { Gives (with_rest axis_of) result (read kind (first_axis (inside levels))
+            (tokens_of tokens.now)) }
     {
         self.axis_at(levels, Spot::AxisNumber, tokens)
     }
@@ -215,7 +232,8 @@ impl<'f, F: for<'t> Fn(u8, Spot, Tokens<'t>) -> Read<'t, Expr>> Rules<'f, F> {
     /// `(expr)`
     pub fn grouped<'t>(&self, levels: u8, opening: u128, tokens: Tokens<'t>) -> Read<'t, Expr>
         requires { Operands F.Fn self.now.operand.now levels }
-        ensures { Gives (with_rest expr_of) result (read kind (grouped opening (under levels)) (tokens_of tokens.now)) }
+        ensures { Gives (with_rest expr_of) result (read kind (grouped opening (under levels))
+            (tokens_of tokens.now)) }
     {
         if levels == 0 {
             return Err(shut(tokens, opening, Reason::TooDeep));
@@ -225,7 +243,9 @@ impl<'f, F: for<'t> Fn(u8, Spot, Tokens<'t>) -> Read<'t, Expr>> Rules<'f, F> {
 
     fn between<'t>(&self, levels: u8, opening: u128, tokens: Tokens<'t>) -> Read<'t, Expr>
         requires { Operands F.Fn self.now.operand.now (levels + 1) }
-        ensures { Gives (with_rest expr_of) result (read kind (between opening (expr Anywhere (under levels)) CLOSE) (tokens_of tokens.now)) }
+        ensures { Gives (with_rest expr_of) result
+            (read kind (between opening (expr Anywhere (under levels)) CLOSE)
+            (tokens_of tokens.now)) }
     {
         let rest = skip(tokens, opening)?;
         let (inner, rest) = self.expr(levels, Spot::Anywhere, rest)?;

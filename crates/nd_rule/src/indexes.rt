@@ -25,7 +25,8 @@ impl<'f, F: for<'t> Fn(u8, Spot, Tokens<'t>) -> Read<'t, Expr>> Rules<'f, F> {
     /// `[index]`, which may open this many levels.
     pub fn index<'t>(&self, levels: u8, tokens: Tokens<'t>) -> Read<'t, Index>
         requires { Operands F.Fn self.now.operand.now levels }
-        ensures { Gives (with_rest index_of) result (read kind (index (under levels)) (tokens_of tokens.now)) }
+        ensures { Gives (with_rest index_of) result (read kind (index (under levels))
+            (tokens_of tokens.now)) }
     {
         if levels == 0 {
             return Err(shut(tokens, OPEN_BRACKET, Reason::TooDeep));
@@ -35,7 +36,9 @@ impl<'f, F: for<'t> Fn(u8, Spot, Tokens<'t>) -> Read<'t, Expr>> Rules<'f, F> {
 
     fn bracketed<'t>(&self, levels: u8, tokens: Tokens<'t>) -> Read<'t, Index>
         requires { Operands F.Fn self.now.operand.now (levels + 1) }
-        ensures { Gives (with_rest index_of) result (read kind (between OPEN_BRACKET (contents (inside levels)) CLOSE_BRACKET) (tokens_of tokens.now)) }
+        ensures { Gives (with_rest index_of) result
+            (read kind (between OPEN_BRACKET (contents (inside levels)) CLOSE_BRACKET)
+            (tokens_of tokens.now)) }
     {
         let rest = skip(tokens, OPEN_BRACKET)?;
         let (inner, rest) = self.contents(levels, rest)?;
@@ -46,7 +49,8 @@ impl<'f, F: for<'t> Fn(u8, Spot, Tokens<'t>) -> Read<'t, Expr>> Rules<'f, F> {
     #[tactic(auto, unfolding(nd_model::specs::Cells::contents))]
     fn contents<'t>(&self, levels: u8, tokens: Tokens<'t>) -> Read<'t, Index>
         requires { Operands F.Fn self.now.operand.now (levels + 1) }
-        ensures { Gives (with_rest index_of) result (read kind (contents (inside levels)) (tokens_of tokens.now)) }
+        ensures { Gives (with_rest index_of) result (read kind (contents (inside levels))
+            (tokens_of tokens.now)) }
     {
         if next_in(tokens, QUOTED) {
             return field_name(self.alloc, tokens);
@@ -58,7 +62,8 @@ impl<'f, F: for<'t> Fn(u8, Spot, Tokens<'t>) -> Read<'t, Expr>> Rules<'f, F> {
     /// `()`, or the items of an index.
     fn items<'t>(&self, levels: u8, tokens: Tokens<'t>) -> Read<'t, Vec<IndexItem>>
         requires { Operands F.Fn self.now.operand.now (levels + 1) }
-        ensures { Gives (with_rest items_in) result (read kind (items_of_index (inside levels)) (tokens_of tokens.now)) }
+        ensures { Gives (with_rest items_in) result (read kind (items_of_index (inside levels))
+            (tokens_of tokens.now)) }
     {
         if next_in(tokens, OPEN_NONE) {
             return nothing(self.alloc, levels, tokens);
@@ -69,7 +74,9 @@ impl<'f, F: for<'t> Fn(u8, Spot, Tokens<'t>) -> Read<'t, Expr>> Rules<'f, F> {
     /// `item {"," item} [","]`
     fn some_items<'t>(&self, levels: u8, tokens: Tokens<'t>) -> Read<'t, Vec<IndexItem>>
         requires { Operands F.Fn self.now.operand.now (levels + 1) }
-        ensures { Gives (with_rest items_in) result (read kind (separated COMMA_MORE COMMA_LAST (item FirstItem (inside levels)) (item LaterItem (inside levels))) (tokens_of tokens.now)) }
+        ensures { Gives (with_rest items_in) result
+            (read kind (separated COMMA_MORE COMMA_LAST (item FirstItem (inside levels))
+            (item LaterItem (inside levels))) (tokens_of tokens.now)) }
     {
         let (first, rest) = self.item(levels, Spot::FirstItem, tokens)?;
         let (all, rest) = lead(first, self.other_items(levels, rest))?;
@@ -79,7 +86,9 @@ impl<'f, F: for<'t> Fn(u8, Spot, Tokens<'t>) -> Read<'t, Expr>> Rules<'f, F> {
     /// Any number of items, each behind a comma.
     fn other_items<'t>(&self, levels: u8, tokens: Tokens<'t>) -> Read<'t, Vec<IndexItem>>
         requires { Operands F.Fn self.now.operand.now (levels + 1) }
-        ensures { Gives (with_rest items_in) result (read kind (Many COMMA_MORE (λ xs. xs) (behind_comma COMMA_MORE (item LaterItem (inside levels)))) (tokens_of tokens.now)) }
+        ensures { Gives (with_rest items_in) result
+            (read kind (Many COMMA_MORE (λ xs. xs)
+            (behind_comma COMMA_MORE (item LaterItem (inside levels)))) (tokens_of tokens.now)) }
     {
         let mut all = Vec::new(self.alloc);
         // from the first token on
@@ -94,7 +103,9 @@ impl<'f, F: for<'t> Fn(u8, Spot, Tokens<'t>) -> Read<'t, Expr>> Rules<'f, F> {
 
     fn other_item<'t>(&self, levels: u8, tokens: Tokens<'t>) -> Read<'t, IndexItem>
         requires { Operands F.Fn self.now.operand.now (levels + 1) }
-        ensures { Gives (with_rest item_of) result (read kind (behind_comma COMMA_MORE (item LaterItem (inside levels))) (tokens_of tokens.now)) }
+        ensures { Gives (with_rest item_of) result
+            (read kind (behind_comma COMMA_MORE (item LaterItem (inside levels)))
+            (tokens_of tokens.now)) }
     {
         let rest = skip(tokens, COMMA_MORE)?;
         self.item(levels, Spot::LaterItem, rest)
@@ -104,7 +115,8 @@ impl<'f, F: for<'t> Fn(u8, Spot, Tokens<'t>) -> Read<'t, Expr>> Rules<'f, F> {
     #[tactic(auto, unfolding(nd_model::specs::Cells::item))]
     fn item<'t>(&self, levels: u8, spot: Spot, tokens: Tokens<'t>) -> Read<'t, IndexItem>
         requires { Operands F.Fn self.now.operand.now (levels + 1) }
-        ensures { Gives (with_rest item_of) result (read kind (item (spot_of spot) (inside levels)) (tokens_of tokens.now)) }
+        ensures { Gives (with_rest item_of) result (read kind (item (spot_of spot) (inside levels))
+            (tokens_of tokens.now)) }
     {
         if next_in(tokens, COLON) {
             return self.open_slice(levels, tokens);
@@ -148,7 +160,8 @@ impl<'f, F: for<'t> Fn(u8, Spot, Tokens<'t>) -> Read<'t, Expr>> Rules<'f, F> {
     #[tactic(auto, unfolding(nd_model::specs::Cells::part))]
     fn part<'t>(&self, levels: u8, spot: Spot, tokens: Tokens<'t>) -> Read<'t, IndexItem>
         requires { Operands F.Fn self.now.operand.now (levels + 1) }
-        ensures { Gives (with_rest item_of) result (read kind (part (spot_of spot) (inside levels)) (tokens_of tokens.now)) }
+        ensures { Gives (with_rest item_of) result (read kind (part (spot_of spot) (inside levels))
+            (tokens_of tokens.now)) }
     {
         let (first, rest) = self.expr(levels, spot, tokens)?;
         if next_in(rest, COLON) {
@@ -162,7 +175,8 @@ impl<'f, F: for<'t> Fn(u8, Spot, Tokens<'t>) -> Read<'t, Expr>> Rules<'f, F> {
     #[tactic(auto, unfolding(nd_model::specs::Cells::slice))]
     fn slice<'t>(&self, levels: u8, tokens: Tokens<'t>) -> Read<'t, (Option<Expr>, Option<Expr>)>
         requires { Operands F.Fn self.now.operand.now (levels + 1) }
-        ensures { Gives (with_rest bounds_of) result (read kind (slice (inside levels)) (tokens_of tokens.now)) }
+        ensures { Gives (with_rest bounds_of) result (read kind (slice (inside levels))
+            (tokens_of tokens.now)) }
     {
         let rest = skip(tokens, COLON)?;
         let (stop, rest) = self.bound(levels, rest)?;
@@ -172,7 +186,8 @@ impl<'f, F: for<'t> Fn(u8, Spot, Tokens<'t>) -> Read<'t, Expr>> Rules<'f, F> {
     #[tactic(auto, unfolding(nd_model::specs::Cells::bound_in))]
     fn bound<'t>(&self, levels: u8, tokens: Tokens<'t>) -> Read<'t, Option<Expr>>
         requires { Operands F.Fn self.now.operand.now (levels + 1) }
-        ensures { Gives (with_rest bound_of) result (read kind (bound_in (inside levels)) (tokens_of tokens.now)) }
+        ensures { Gives (with_rest bound_of) result (read kind (bound_in (inside levels))
+            (tokens_of tokens.now)) }
     {
         if next_in(tokens, EXPR) {
             let (bound, rest) = self.expr(levels, Spot::Anywhere, tokens)?;
@@ -184,7 +199,8 @@ impl<'f, F: for<'t> Fn(u8, Spot, Tokens<'t>) -> Read<'t, Expr>> Rules<'f, F> {
     #[tactic(auto, unfolding(nd_model::specs::Cells::step_in))]
     fn step<'t>(&self, levels: u8, tokens: Tokens<'t>) -> Read<'t, Option<Expr>>
         requires { Operands F.Fn self.now.operand.now (levels + 1) }
-        ensures { Gives (with_rest bound_of) result (read kind (step_in (inside levels)) (tokens_of tokens.now)) }
+        ensures { Gives (with_rest bound_of) result (read kind (step_in (inside levels))
+            (tokens_of tokens.now)) }
     {
         match behind(tokens, COLON) {
             Some(rest) => self.bound(levels, rest),
@@ -196,7 +212,8 @@ impl<'f, F: for<'t> Fn(u8, Spot, Tokens<'t>) -> Read<'t, Expr>> Rules<'f, F> {
     #[cycle(lists)]
     fn list<'t>(&self, levels: u8, tokens: Tokens<'t>) -> Read<'t, Vec<Element>>
         requires { Operands F.Fn self.now.operand.now levels }
-        ensures { Gives (with_rest elements_in) result (read kind (list (under levels)) (tokens_of tokens.now)) }
+        ensures { Gives (with_rest elements_in) result (read kind (list (under levels))
+            (tokens_of tokens.now)) }
     {
         if levels == 0 {
             return Err(shut(tokens, OPEN_BRACKET, Reason::TooDeep));
@@ -207,7 +224,9 @@ impl<'f, F: for<'t> Fn(u8, Spot, Tokens<'t>) -> Read<'t, Expr>> Rules<'f, F> {
     #[cycle(lists)]
     fn listed<'t>(&self, levels: u8, tokens: Tokens<'t>) -> Read<'t, Vec<Element>>
         requires { Operands F.Fn self.now.operand.now (levels + 1) }
-        ensures { Gives (with_rest elements_in) result (read kind (between OPEN_BRACKET (mapped elements_of (elements (inside levels))) CLOSE_BRACKET) (tokens_of tokens.now)) }
+        ensures { Gives (with_rest elements_in) result
+            (read kind (between OPEN_BRACKET (mapped elements_of (elements (inside levels)))
+            CLOSE_BRACKET) (tokens_of tokens.now)) }
     {
         let rest = skip(tokens, OPEN_BRACKET)?;
         let (all, rest) = self.elements(levels, rest)?;
@@ -219,7 +238,8 @@ impl<'f, F: for<'t> Fn(u8, Spot, Tokens<'t>) -> Read<'t, Expr>> Rules<'f, F> {
     #[cycle(lists)]
     fn elements<'t>(&self, levels: u8, tokens: Tokens<'t>) -> Read<'t, Vec<Element>>
         requires { Operands F.Fn self.now.operand.now (levels + 1) }
-        ensures { Gives (with_rest list_of_elements) result (read kind (elements (inside levels)) (tokens_of tokens.now)) }
+        ensures { Gives (with_rest list_of_elements) result (read kind (elements (inside levels))
+            (tokens_of tokens.now)) }
     {
         if next_in(tokens, ELEMENT) {
             return self.some_elements(levels, tokens);
@@ -231,7 +251,9 @@ impl<'f, F: for<'t> Fn(u8, Spot, Tokens<'t>) -> Read<'t, Expr>> Rules<'f, F> {
     #[cycle(lists)]
     fn some_elements<'t>(&self, levels: u8, tokens: Tokens<'t>) -> Read<'t, Vec<Element>>
         requires { Operands F.Fn self.now.operand.now (levels + 1) }
-        ensures { Gives (with_rest list_of_elements) result (read kind (separated COMMA_MORE COMMA_LAST (element (inside levels)) (element (inside levels))) (tokens_of tokens.now)) }
+        ensures { Gives (with_rest list_of_elements) result
+            (read kind (separated COMMA_MORE COMMA_LAST (element (inside levels))
+            (element (inside levels))) (tokens_of tokens.now)) }
     {
         let (first, rest) = self.element(levels, tokens)?;
         let (all, rest) = lead(first, self.other_elements(levels, rest))?;
@@ -242,7 +264,9 @@ impl<'f, F: for<'t> Fn(u8, Spot, Tokens<'t>) -> Read<'t, Expr>> Rules<'f, F> {
     #[cycle(lists)]
     fn other_elements<'t>(&self, levels: u8, tokens: Tokens<'t>) -> Read<'t, Vec<Element>>
         requires { Operands F.Fn self.now.operand.now (levels + 1) }
-        ensures { Gives (with_rest list_of_elements) result (read kind (Many COMMA_MORE (λ xs. xs) (behind_comma COMMA_MORE (element (inside levels)))) (tokens_of tokens.now)) }
+        ensures { Gives (with_rest list_of_elements) result
+            (read kind (Many COMMA_MORE (λ xs. xs)
+            (behind_comma COMMA_MORE (element (inside levels)))) (tokens_of tokens.now)) }
     {
         let mut all = Vec::new(self.alloc);
         // from the first token on
@@ -258,7 +282,8 @@ impl<'f, F: for<'t> Fn(u8, Spot, Tokens<'t>) -> Read<'t, Expr>> Rules<'f, F> {
     #[cycle(lists)]
     fn other_element<'t>(&self, levels: u8, tokens: Tokens<'t>) -> Read<'t, Element>
         requires { Operands F.Fn self.now.operand.now (levels + 1) }
-        ensures { Gives (with_rest element_of) result (read kind (behind_comma COMMA_MORE (element (inside levels))) (tokens_of tokens.now)) }
+        ensures { Gives (with_rest element_of) result
+            (read kind (behind_comma COMMA_MORE (element (inside levels))) (tokens_of tokens.now)) }
     {
         let rest = skip(tokens, COMMA_MORE)?;
         self.element(levels, rest)
@@ -268,7 +293,8 @@ impl<'f, F: for<'t> Fn(u8, Spot, Tokens<'t>) -> Read<'t, Expr>> Rules<'f, F> {
     #[cycle(lists)]
     pub fn element<'t>(&self, levels: u8, tokens: Tokens<'t>) -> Read<'t, Element>
         requires { Operands F.Fn self.now.operand.now (levels + 1) }
-        ensures { Gives (with_rest element_of) result (read kind (element (inside levels)) (tokens_of tokens.now)) }
+        ensures { Gives (with_rest element_of) result (read kind (element (inside levels))
+            (tokens_of tokens.now)) }
     {
         if next_in(tokens, OPEN_BRACKET) {
             let (elements, rest) = self.list(levels, tokens)?;
@@ -289,7 +315,8 @@ fn field_name<'t>(alloc: Global, tokens: Tokens<'t>) -> Read<'t, Index>
 
 /// `()`
 fn nothing<'t>(alloc: Global, levels: u8, tokens: Tokens<'t>) -> Read<'t, Vec<IndexItem>>
-    ensures { Gives (with_rest items_in) result (read kind (nothing (under levels)) (tokens_of tokens.now)) }
+    ensures { Gives (with_rest items_in) result (read kind (nothing (under levels))
+        (tokens_of tokens.now)) }
 {
     if levels == 0 {
         return Err(shut(tokens, OPEN_NONE, Reason::TooDeep));

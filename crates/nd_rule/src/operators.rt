@@ -39,7 +39,8 @@ impl<'f, F: for<'t> Fn(u8, Spot, Tokens<'t>) -> Read<'t, Expr>> Rules<'f, F> {
     /// A signed operand, which may open this many levels.
     pub fn unary<'t>(&self, levels: u8, spot: Spot, tokens: Tokens<'t>) -> Read<'t, Expr>
         requires { Operands F.Fn self.now.operand.now (levels + 1) }
-        ensures { Gives (with_rest expr_of) result (read kind (unary (spot_of spot) (under levels)) (tokens_of tokens.now)) }
+        ensures { Gives (with_rest expr_of) result (read kind (unary (spot_of spot) (under levels))
+            (tokens_of tokens.now)) }
     {
         (self.operand)(levels, spot, tokens)
     }
@@ -48,7 +49,8 @@ impl<'f, F: for<'t> Fn(u8, Spot, Tokens<'t>) -> Read<'t, Expr>> Rules<'f, F> {
     #[tactic(auto, unfolding(nd_model::specs::Cells::expr))]
     pub fn expr<'t>(&self, levels: u8, spot: Spot, tokens: Tokens<'t>) -> Read<'t, Expr>
         requires { Operands F.Fn self.now.operand.now (levels + 1) }
-        ensures { Gives (with_rest expr_of) result (read kind (expr (spot_of spot) (under levels)) (tokens_of tokens.now)) }
+        ensures { Gives (with_rest expr_of) result (read kind (expr (spot_of spot) (under levels))
+            (tokens_of tokens.now)) }
     {
         let (first, rest) = self.bor(levels, spot, tokens)?;
         if next_in(rest, COMPARISON) {
@@ -62,7 +64,8 @@ impl<'f, F: for<'t> Fn(u8, Spot, Tokens<'t>) -> Read<'t, Expr>> Rules<'f, F> {
     #[tactic(auto, unfolding(nd_model::specs::Cells::comparison))]
     fn comparison<'t>(&self, levels: u8, tokens: Tokens<'t>) -> Read<'t, (BinaryOp, Expr)>
         requires { Operands F.Fn self.now.operand.now (levels + 1) }
-        ensures { Gives (with_rest operation_of) result (read kind (comparison (under levels)) (tokens_of tokens.now)) }
+        ensures { Gives (with_rest operation_of) result (read kind (comparison (under levels))
+            (tokens_of tokens.now)) }
     {
         let (token, rest) = take(tokens, COMPARISON)?;
         let (operand, rest) = self.bor(levels, Spot::Anywhere, rest)?;
@@ -76,7 +79,8 @@ impl<'f, F: for<'t> Fn(u8, Spot, Tokens<'t>) -> Read<'t, Expr>> Rules<'f, F> {
     /// Operands with any operators but comparisons between them.
     fn bor<'t>(&self, levels: u8, spot: Spot, tokens: Tokens<'t>) -> Read<'t, Expr>
         requires { Operands F.Fn self.now.operand.now (levels + 1) }
-        ensures { Gives (with_rest expr_of) result (read kind (bor (spot_of spot) (under levels)) (tokens_of tokens.now)) }
+        ensures { Gives (with_rest expr_of) result (read kind (bor (spot_of spot) (under levels))
+            (tokens_of tokens.now)) }
     {
         self.ranked(levels, RANKS, spot, tokens)
     }
@@ -85,7 +89,8 @@ impl<'f, F: for<'t> Fn(u8, Spot, Tokens<'t>) -> Read<'t, Expr>> Rules<'f, F> {
     #[cycle(ranks)]
     fn ranked<'t>(&self, levels: u8, rank: u8, spot: Spot, tokens: Tokens<'t>) -> Read<'t, Expr>
         requires { Operands F.Fn self.now.operand.now (levels + 1) }
-        ensures { Gives (with_rest expr_of) result (read kind (ranked rank (spot_of spot) (under levels)) (tokens_of tokens.now)) }
+        ensures { Gives (with_rest expr_of) result
+            (read kind (ranked rank (spot_of spot) (under levels)) (tokens_of tokens.now)) }
     {
         if rank == 0 {
             return self.unary(levels, spot, tokens);
@@ -104,7 +109,9 @@ impl<'f, F: for<'t> Fn(u8, Spot, Tokens<'t>) -> Read<'t, Expr>> Rules<'f, F> {
         tokens: Tokens<'t>,
     ) -> Read<'t, Expr>
         requires { Operands F.Fn self.now.operand.now (levels + 1) }
-        ensures { Gives (with_rest expr_of) result (read kind (chain set (ranked rank (spot_of spot) (under levels)) (ranked rank Anywhere (under levels))) (tokens_of tokens.now)) }
+        ensures { Gives (with_rest expr_of) result
+            (read kind (chain set (ranked rank (spot_of spot) (under levels))
+            (ranked rank Anywhere (under levels))) (tokens_of tokens.now)) }
     {
         let (first, rest) = self.ranked(levels, rank, spot, tokens)?;
         let ((first, others), rest) = pair(first, self.operations(levels, rank, set, rest))?;
@@ -121,7 +128,9 @@ impl<'f, F: for<'t> Fn(u8, Spot, Tokens<'t>) -> Read<'t, Expr>> Rules<'f, F> {
         tokens: Tokens<'t>,
     ) -> Read<'t, Vec<(BinaryOp, Expr)>>
         requires { Operands F.Fn self.now.operand.now (levels + 1) }
-        ensures { Gives (with_rest operations_of) result (read kind (Many set (λ xs. xs) (operation set (ranked rank Anywhere (under levels)))) (tokens_of tokens.now)) }
+        ensures { Gives (with_rest operations_of) result
+            (read kind (Many set (λ xs. xs) (operation set (ranked rank Anywhere (under levels))))
+            (tokens_of tokens.now)) }
     {
         let mut all = Vec::new(self.alloc);
         // from the first token on
@@ -144,7 +153,9 @@ impl<'f, F: for<'t> Fn(u8, Spot, Tokens<'t>) -> Read<'t, Expr>> Rules<'f, F> {
         tokens: Tokens<'t>,
     ) -> Read<'t, (BinaryOp, Expr)>
         requires { Operands F.Fn self.now.operand.now (levels + 1) }
-        ensures { Gives (with_rest operation_of) result (read kind (operation set (ranked rank Anywhere (under levels))) (tokens_of tokens.now)) }
+        ensures { Gives (with_rest operation_of) result
+            (read kind (operation set (ranked rank Anywhere (under levels)))
+            (tokens_of tokens.now)) }
     {
         let (token, rest) = take(tokens, set)?;
         let op = binary_of(token.word);
@@ -178,7 +189,8 @@ fn chained(alloc: Global, operand: Expr, others: Vec<(BinaryOp, Expr)>) -> Resul
 
 /// An operand with one operation. It allocates a node and its row.
 pub fn operated(alloc: Global, operand: Expr, other: (BinaryOp, Expr)) -> Result<Expr, AllocError>
-    ensures { IfOk result (λ e. expr_of e ≡ Binary (operation_of other).0 (expr_of operand) (operation_of other).1) }
+    ensures { IfOk result (λ e. expr_of e ≡ Binary (operation_of other).0 (expr_of operand)
+        (operation_of other).1) }
 {
     let mut others = Vec::new(alloc);
     others.push(other)?;

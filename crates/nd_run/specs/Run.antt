@@ -1,9 +1,8 @@
 -- Runs of scripts on a notebook without cells.
 use Rattle.std.specs.Prelude.{ℕ, List, [], Option}
 use Rattle.nd_model.specs.Book.{Book}
-use Rattle.nd_lines.specs.Run.{RanToEnd, StoppedAt}
-use Rattle.nd_lines.specs.declared.run_fault.RunFault.{RunFault}
-use Rattle.nd_rerun.specs.Edits.{book_of}
+use Rattle.nd_model.specs.ScriptRuns.{RunFault, RanToEnd, StoppedAt}
+use Rattle.nd_model.specs.Notebook.{book_of}
 
 abbrev pub RanFromNothing : (unread left was now : Option (List ℕ)) → Type 0
 RanFromNothing unread left was now = (new : Book) × RanToEnd unread left (book_of []) was now new

@@ -4,8 +4,9 @@ ghost use Rattle.std.specs.Prelude.{◌≡◌, ◌++◌, codes, decimal, map, op
 ghost use Rattle.nd_model.specs.FaultText as texts;
 ghost use Rattle.nd_model.specs.Script as script;
 ghost use Rattle.nd_rerun.specs.Results.{refusal_of, saves_of};
-ghost use Rattle.nd_rerun.specs.Queries.{result_of};
-ghost use Rattle.nd_run.specs.Answer.{edit_answer_of, edit_fault_of, query_fault_of};
+ghost use Rattle.nd_rerun.specs.Edits.{edit_fault_of};
+ghost use Rattle.nd_rerun.specs.Queries.{query_fault_of, result_of};
+ghost use Rattle.nd_run.specs.Answer.{edit_answer_of};
 
 use crate::fault::push_cell_fault;
 use indexmap::IndexMap;
@@ -28,7 +29,8 @@ pub fn push_edit_answer(out: &mut Vec<u8>, done: &Result<(), EditFault>) -> Resu
 }
 
 fn push_edit_fault(out: &mut Vec<u8>, fault: EditFault) -> Result<(), AllocError>
-    ensures { OnOk result (out.new.items ≡ out.old.items ++ texts.edit_fault_text (edit_fault_of fault)) }
+    ensures { OnOk result (out.new.items ≡ out.old.items ++ texts.edit_fault_text
+        (edit_fault_of fault)) }
 {
     match fault {
         EditFault::NoCell(at, count) => push_no_cell(out, at, count),
@@ -44,7 +46,8 @@ pub fn push_query_refusal(
     name: &str,
     fault: QueryFault,
 ) -> Result<(), AllocError>
-    ensures { OnOk result (out.new.items ≡ out.old.items ++ script.refused_line (texts.query_fault_text (query_fault_of name.now fault))) }
+    ensures { OnOk result (out.new.items ≡ out.old.items ++ script.refused_line
+        (texts.query_fault_text (query_fault_of name.now fault))) }
 {
     push_text(out, "refused ")?;
     push_query_fault(out, name, fault)?;
@@ -52,7 +55,8 @@ pub fn push_query_refusal(
 }
 
 fn push_query_fault(out: &mut Vec<u8>, name: &str, fault: QueryFault) -> Result<(), AllocError>
-    ensures { OnOk result (out.new.items ≡ out.old.items ++ texts.query_fault_text (query_fault_of name.now fault)) }
+    ensures { OnOk result (out.new.items ≡ out.old.items ++ texts.query_fault_text
+        (query_fault_of name.now fault)) }
 {
     match fault {
         QueryFault::NoCell(at, count) => push_no_cell(out, at, count),
@@ -65,7 +69,8 @@ fn push_query_fault(out: &mut Vec<u8>, name: &str, fault: QueryFault) -> Result<
 }
 
 fn push_no_cell(out: &mut Vec<u8>, at: usize, count: usize) -> Result<(), AllocError>
-    ensures { OnOk result (out.new.items ≡ out.old.items ++ (codes "NoCell " ++ decimal at ++ codes " " ++ decimal count)) }
+    ensures { OnOk result (out.new.items
+        ≡ out.old.items ++ (codes "NoCell " ++ decimal at ++ codes " " ++ decimal count)) }
 {
     push_text(out, "NoCell ")?;
     push_number(out, at as u64)?;
@@ -75,7 +80,8 @@ fn push_no_cell(out: &mut Vec<u8>, at: usize, count: usize) -> Result<(), AllocE
 
 /// Appends the answer that shows a cell's text, refusal and files.
 pub fn push_result_answer(out: &mut Vec<u8>, shown: &CellResult) -> Result<(), AllocError>
-    ensures { OnOk result (out.new.items ≡ out.old.items ++ script.result_answer (result_of shown.now)) }
+    ensures { OnOk result (out.new.items ≡ out.old.items ++ script.result_answer
+        (result_of shown.now)) }
 {
     push_count_line(out, "text", shown.text.len())?;
     push_text(out, shown.text.as_str())?;
@@ -85,7 +91,8 @@ pub fn push_result_answer(out: &mut Vec<u8>, shown: &CellResult) -> Result<(), A
 }
 
 fn push_refusal(out: &mut Vec<u8>, refusal: &Option<Refusal>) -> Result<(), AllocError>
-    ensures { OnOk result (out.new.items ≡ out.old.items ++ script.ok_or_refused (option_map refusal_of refusal.now)) }
+    ensures { OnOk result (out.new.items ≡ out.old.items ++ script.ok_or_refused
+        (option_map refusal_of refusal.now)) }
 {
     let Some(refusal) = refusal else {
         return push_text(out, "ok\n");
@@ -99,7 +106,8 @@ fn push_refusal(out: &mut Vec<u8>, refusal: &Option<Refusal>) -> Result<(), Allo
 
 // A line for each file.
 fn push_saves(out: &mut Vec<u8>, saves: &IndexMap<String, Vec<u8>>) -> Result<(), AllocError>
-    ensures { OnOk result (out.new.items ≡ out.old.items ++ script.save_lines (saves_of saves.now.entries)) }
+    ensures { OnOk result (out.new.items ≡ out.old.items ++ script.save_lines
+        (saves_of saves.now.entries)) }
 {
     for (name, bytes) in saves {
         push_text(out, "save ")?;
@@ -119,7 +127,8 @@ pub fn push_source_answer(out: &mut Vec<u8>, source: &str) -> Result<(), AllocEr
 
 /// Appends the answer that shows the names after a cell.
 pub fn push_names_answer(out: &mut Vec<u8>, names: &[String]) -> Result<(), AllocError>
-    ensures { OnOk result (out.new.items ≡ out.old.items ++ script.names_answer (map string_bytes names.now)) }
+    ensures { OnOk result (out.new.items ≡ out.old.items ++ script.names_answer
+        (map string_bytes names.now)) }
 {
     push_count_line(out, "names", names.len())?;
     push_names(out, names)

@@ -1,6 +1,6 @@
 //! A notebook that answers the lines of a script.
 
-ghost use Rattle.nd_rerun.specs.Edits.{book_of};
+ghost use Rattle.nd_model.specs.Notebook.{book_of};
 ghost use Rattle.nd_run.specs.Source.{stage_of};
 
 use crate::line::answer_line;

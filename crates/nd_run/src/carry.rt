@@ -3,7 +3,7 @@
 ghost use Rattle.std.specs.Prelude.{◌≡◌, ◌++◌, OnOk, codes, length};
 ghost use Rattle.nd_model.specs.Book.{Insert, Change, Move, Remove};
 ghost use Rattle.nd_model.specs.Script as script;
-ghost use Rattle.nd_rerun.specs.Edits.{book_of};
+ghost use Rattle.nd_model.specs.Notebook.{book_of};
 ghost use Rattle.nd_run.specs.Carry.{Carried};
 
 use crate::answer::{

@@ -13,7 +13,8 @@ use std::alloc::AllocError;
 
 /// Appends the fault of a cell, as `Stmt.NoName x`.
 pub fn push_cell_fault(out: &mut Vec<u8>, fault: &CellFault) -> Result<(), AllocError>
-    ensures { OnOk result (out.new.items ≡ out.old.items ++ texts.refusal_text (cell_fault_of fault.now)) }
+    ensures { OnOk result (out.new.items ≡ out.old.items ++ texts.refusal_text
+        (cell_fault_of fault.now)) }
 {
     match fault {
         CellFault::Parse(kind, column) => push_parse_fault(out, *kind, *column),
@@ -22,7 +23,9 @@ pub fn push_cell_fault(out: &mut Vec<u8>, fault: &CellFault) -> Result<(), Alloc
 }
 
 fn push_parse_fault(out: &mut Vec<u8>, kind: ParseKind, column: usize) -> Result<(), AllocError>
-    ensures { OnOk result (out.new.items ≡ out.old.items ++ (codes "Parse." ++ texts.parse_text (kind_of kind) ++ codes " " ++ decimal column)) }
+    ensures { OnOk result (out.new.items
+        ≡ out.old.items ++ (codes "Parse." ++ texts.parse_text (kind_of kind) ++ codes " "
+        ++ decimal column)) }
 {
     push_text(out, "Parse.")?;
     push_text(out, parse_name(kind))?;
@@ -78,7 +81,8 @@ fn view_name(fault: ViewFault) -> &'static str
 }
 
 fn push_index_fault(out: &mut Vec<u8>, fault: IndexFault) -> Result<(), AllocError>
-    ensures { OnOk result (out.new.items ≡ out.old.items ++ texts.index_text (index_fault_of fault)) }
+    ensures { OnOk result (out.new.items ≡ out.old.items ++ texts.index_text
+        (index_fault_of fault)) }
 {
     match fault {
         IndexFault::OutOfBounds { axis, index, size } => push_out_of_bounds(out, axis, index, size),
@@ -93,7 +97,9 @@ fn push_out_of_bounds(
     index: i128,
     size: u64,
 ) -> Result<(), AllocError>
-    ensures { OnOk result (out.new.items ≡ out.old.items ++ (codes "OutOfBounds " ++ decimal axis ++ codes " " ++ signed_decimal index ++ codes " " ++ decimal size)) }
+    ensures { OnOk result (out.new.items
+        ≡ out.old.items ++ (codes "OutOfBounds " ++ decimal axis ++ codes " " ++ signed_decimal
+        index ++ codes " " ++ decimal size)) }
 {
     push_axis_and_index(out, axis, index)?;
     push_text(out, " ")?;
@@ -101,7 +107,9 @@ fn push_out_of_bounds(
 }
 
 fn push_axis_and_index(out: &mut Vec<u8>, axis: usize, index: i128) -> Result<(), AllocError>
-    ensures { OnOk result (out.new.items ≡ out.old.items ++ (codes "OutOfBounds " ++ decimal axis ++ codes " " ++ signed_decimal index)) }
+    ensures { OnOk result (out.new.items
+        ≡ out.old.items ++ (codes "OutOfBounds " ++ decimal axis ++ codes " " ++ signed_decimal
+        index)) }
 {
     push_text(out, "OutOfBounds ")?;
     push_number(out, axis as u64)?;
@@ -110,7 +118,8 @@ fn push_axis_and_index(out: &mut Vec<u8>, axis: usize, index: i128) -> Result<()
 }
 
 fn push_ufunc_fault(out: &mut Vec<u8>, fault: UfuncFault) -> Result<(), AllocError>
-    ensures { OnOk result (out.new.items ≡ out.old.items ++ texts.ufunc_text (ufunc_fault_of fault)) }
+    ensures { OnOk result (out.new.items ≡ out.old.items ++ texts.ufunc_text
+        (ufunc_fault_of fault)) }
 {
     match fault {
         UfuncFault::IntOutOfRange(number) => {
@@ -124,7 +133,8 @@ fn push_ufunc_fault(out: &mut Vec<u8>, fault: UfuncFault) -> Result<(), AllocErr
 }
 
 fn push_statement_error(out: &mut Vec<u8>, error: &StmtError) -> Result<(), AllocError>
-    ensures { OnOk result (out.new.items ≡ out.old.items ++ texts.stmt_text (stmt_error_of error.now)) }
+    ensures { OnOk result (out.new.items ≡ out.old.items ++ texts.stmt_text
+        (stmt_error_of error.now)) }
 {
     match error {
         StmtError::NoName(name) => {

@@ -2,9 +2,10 @@
 
 ghost use Rattle.std.specs.Prelude.{◌≡◌, [], IfOk, OnErr};
 ghost use Rattle.nd_model.specs.Script as script;
-ghost use Rattle.nd_rerun.specs.Edits.{book_of};
+ghost use Rattle.nd_model.specs.Notebook.{book_of};
 ghost use Rattle.nd_script.specs.Command.{line_of};
-ghost use Rattle.nd_lines.specs.Run.{Done, DoneInPart, IsInLine};
+ghost use Rattle.nd_lines.specs.Run.{Done, DoneInPart};
+ghost use Rattle.nd_model.specs.ScriptRuns.{IsInLine};
 ghost use Rattle.nd_run.specs.Carry.{Carried, CarriedLine};
 ghost use Rattle.nd_run.specs.Source.{lines_so_far, opening_of, stage_of};
 

@@ -1,9 +1,10 @@
 //! Running a script from a reader.
 
 ghost use Rattle.std.specs.Prelude.{◌≡◌, ◌^◌, ◌⊎◌, IfErr, OnOk};
-ghost use Rattle.nd_rerun.specs.Edits.{book_of};
+ghost use Rattle.nd_model.specs.Notebook.{book_of};
 ghost use Rattle.nd_lines.specs.Ends.{counted_on};
-ghost use Rattle.nd_lines.specs.Run.{RanToEnd, StoppedAt};
+ghost use Rattle.nd_model.specs.ScriptRuns.{RanToEnd, StoppedAt};
+ghost use Rattle.nd_lines.specs.Run.{run_fault_of};
 ghost use Rattle.nd_run.specs.Run.{RanFromNothing, StoppedFromNothing};
 
 use crate::answerer::NotebookAnswerer;
@@ -23,9 +24,12 @@ pub fn run<R: CountedRead, W: CountedWrite>(
     notebook: &mut Notebook,
 ) -> Result<(), RunFault>
     ensures to_end { OnOk result (RanToEnd (R.remaining reader.old) (R.remaining reader.new)
-        (book_of notebook.old) (W.contents writer.old) (W.contents writer.new) (book_of notebook.new)) }
-    ensures stopped { IfErr result (λ f. StoppedAt f (R.remaining reader.old) (R.remaining reader.new)
-        (book_of notebook.old) (W.contents writer.old) (W.contents writer.new) (book_of notebook.new)) }
+        (book_of notebook.old) (W.contents writer.old)
+        (W.contents writer.new) (book_of notebook.new)) }
+    ensures stopped { IfErr result (λ f. StoppedAt (run_fault_of f)
+        (R.remaining reader.old) (R.remaining reader.new)
+        (book_of notebook.old) (W.contents writer.old)
+        (W.contents writer.new) (book_of notebook.new)) }
 
     // A read fault stands only where a read failed or 2^32 reads were made, a write fault only where a write failed.
     ensures read { IfErr result (λ f. f ≡ RunFault.ReadFault →
@@ -47,7 +51,8 @@ pub fn run_script<R: CountedRead, W: CountedWrite>(
 ) -> Result<(), RunFault>
     ensures to_end { OnOk result (RanFromNothing (R.remaining reader.old) (R.remaining reader.new)
         (W.contents writer.old) (W.contents writer.new)) }
-    ensures stopped { IfErr result (λ f. StoppedFromNothing f (R.remaining reader.old) (R.remaining reader.new)
+    ensures stopped { IfErr result (λ f. StoppedFromNothing (run_fault_of f)
+        (R.remaining reader.old) (R.remaining reader.new)
         (W.contents writer.old) (W.contents writer.new)) }
     ensures read { IfErr result (λ f. f ≡ RunFault.ReadFault →
         (R.failures reader.new ≡ counted_on (R.failures reader.old) 1)
@@ -70,9 +75,12 @@ pub fn run_turns<R: CountedRead, W: CountedWrite>(
     turns: u64,
 ) -> Result<(), RunFault>
     ensures to_end { OnOk result (RanToEnd (R.remaining reader.old) (R.remaining reader.new)
-        (book_of notebook.old) (W.contents writer.old) (W.contents writer.new) (book_of notebook.new)) }
-    ensures stopped { IfErr result (λ f. StoppedAt f (R.remaining reader.old) (R.remaining reader.new)
-        (book_of notebook.old) (W.contents writer.old) (W.contents writer.new) (book_of notebook.new)) }
+        (book_of notebook.old) (W.contents writer.old)
+        (W.contents writer.new) (book_of notebook.new)) }
+    ensures stopped { IfErr result (λ f. StoppedAt (run_fault_of f)
+        (R.remaining reader.old) (R.remaining reader.new)
+        (book_of notebook.old) (W.contents writer.old)
+        (W.contents writer.new) (book_of notebook.new)) }
     ensures read { IfErr result (λ f. f ≡ RunFault.ReadFault →
         (R.failures reader.new ≡ counted_on (R.failures reader.old) 1)
         ⊎ (R.reads reader.new ≡ counted_on (R.reads reader.old) turns)) }

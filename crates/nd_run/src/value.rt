@@ -15,14 +15,16 @@ use std::alloc::AllocError;
 
 /// Appends the answer that shows a value, as `int 3`.
 pub fn push_value_answer(out: &mut Vec<u8>, value: &Shown) -> Result<(), AllocError>
-    ensures { OnOk result (out.new.items ≡ out.old.items ++ script.value_answer (shown_of value.now)) }
+    ensures { OnOk result (out.new.items ≡ out.old.items ++ script.value_answer
+        (shown_of value.now)) }
 {
     push_shown(out, value)?;
     push_text(out, "\n")
 }
 
 fn push_shown(out: &mut Vec<u8>, value: &Shown) -> Result<(), AllocError>
-    ensures { OnOk result (out.new.items ≡ out.old.items ++ script.shown_text (shown_of value.now)) }
+    ensures { OnOk result (out.new.items ≡ out.old.items ++ script.shown_text
+        (shown_of value.now)) }
 {
     match value {
         Shown::Int(number) => {
@@ -121,7 +123,8 @@ fn push_pads(out: &mut Vec<u8>, count: u64) -> Result<(), AllocError>
 }
 
 fn push_field(out: &mut Vec<u8>, field: &Field) -> Result<(), AllocError>
-    ensures { OnOk result (out.new.items ≡ out.old.items ++ formats.field_format (field_of field.now)) }
+    ensures { OnOk result (out.new.items ≡ out.old.items ++ formats.field_format
+        (field_of field.now)) }
 {
     push_element_format(out, field.elem)?;
     push_text(out, ":")?;
@@ -131,7 +134,8 @@ fn push_field(out: &mut Vec<u8>, field: &Field) -> Result<(), AllocError>
 
 // The fields of a structure of this size, with the pad bytes before and behind them.
 fn push_fields(out: &mut Vec<u8>, fields: &[Field], size: u64) -> Result<(), AllocError>
-    ensures { OnOk result (out.new.items ≡ out.old.items ++ formats.fields_format 0 size (fields_of fields.now)) }
+    ensures { OnOk result (out.new.items ≡ out.old.items ++ formats.fields_format 0 size
+        (fields_of fields.now)) }
 {
     let mut place = 0;
     for field in fields {
@@ -144,7 +148,8 @@ fn push_fields(out: &mut Vec<u8>, fields: &[Field], size: u64) -> Result<(), All
 
 // A format string (PEP 3118).
 fn push_format(out: &mut Vec<u8>, elem: &ElemType) -> Result<(), AllocError>
-    ensures { OnOk result (out.new.items ≡ out.old.items ++ formats.format_text (type_of elem.now)) }
+    ensures { OnOk result (out.new.items ≡ out.old.items ++ formats.format_text
+        (type_of elem.now)) }
 {
     match elem {
         ElemType::One(elem) => push_element_format(out, *elem),

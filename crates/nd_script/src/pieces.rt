@@ -32,7 +32,8 @@ pub fn push_integer(out: &mut Vec<u8>, integer: i128) -> Result<(), AllocError>
 
 /// Appends a line of a word and a number, as `count 3`.
 pub fn push_count_line(out: &mut Vec<u8>, word: &str, count: usize) -> Result<(), AllocError>
-    ensures { OnOk result (out.new.items ≡ out.old.items ++ (word.now ++ codes " " ++ decimal count ++ codes "\n")) }
+    ensures { OnOk result (out.new.items
+        ≡ out.old.items ++ (word.now ++ codes " " ++ decimal count ++ codes "\n")) }
 {
     out.extend_from_slice(word.as_bytes())?;
     out.push(b' ')?;
@@ -74,7 +75,8 @@ pub fn push_shape(out: &mut Vec<u8>, shape: &[u64]) -> Result<(), AllocError>
 
 /// Appends a line for each name.
 pub fn push_names(out: &mut Vec<u8>, names: &[String]) -> Result<(), AllocError>
-    ensures { OnOk result (out.new.items ≡ out.old.items ++ name_lines (map string_bytes names.now)) }
+    ensures { OnOk result (out.new.items ≡ out.old.items ++ name_lines
+        (map string_bytes names.now)) }
 {
     for name in names {
         out.extend_from_slice(name.as_bytes())?;

@@ -1,6 +1,6 @@
 //! Each call of a session once, where memory is there.
 
-ghost use Rattle.std.specs.Prelude.{◌≡◌};
+ghost use Rattle.std.specs.Prelude.{◌≡◌, IfOk};
 ghost use Rattle.nd_heap.specs.Live.{live};
 
 use nd_block::RawBlock;
@@ -17,12 +17,12 @@ const BASE: Base = Base {
 };
 
 /// A session in which a cell of label 3 has begun.
-fn begun_session(alloc: Global) -> Session
-    ensures { (live result).next ≡ 0 }
+fn begun_session(alloc: Global) -> Result<Session, OutOfMemory>
+    ensures { IfOk result (λ s. (live s).next ≡ 0) }
 {
-    let mut session = Session::new(alloc);
-    session.start(3);
-    session
+    let mut session = Session::new(alloc)?;
+    session.start(3)?;
+    Ok(session)
 }
 
 fn bind(alloc: Global, session: &mut Session, name: &str, value: Value) -> Result<(), OutOfMemory> {
@@ -39,16 +39,21 @@ fn bind_array(alloc: Global, session: &mut Session) -> Result<(), OutOfMemory>
     bind(alloc, session, "x", Value::Array(Array { base, view }))
 }
 
-/// All bytes of an array, and those of its last element.
+/// All bytes of an array after two writes, and those that a version keeps of before.
 fn describe_array(
     alloc: Global,
     session: &mut Session,
     array: &Array,
 ) -> Result<String, OutOfMemory> {
+    let before = session.freeze()?;
     session.store(array.base, 8, &[7, 0])?;
-    let all = session.use_all(array)?;
-    let last = session.use_element(array.base, 8, Elem::little(Kind::I64))?;
-    format!(in alloc; "all: {all:?}, the last: {last:?}").map_err(OutOfMemory::from)
+    session.mark_written(array)?;
+    let mut block = session.take_block(array.base)?;
+    block.put(&[0], &[9]);
+    session.put_block(array.base, block)?;
+    session.mark_used(array)?;
+    let (all, kept) = (session.bytes(array.base), before.bytes(array.base));
+    format!(in alloc; "all: {all:?}, kept: {kept:?}").map_err(OutOfMemory::from)
 }
 
 /// An array that is read and written.
@@ -147,7 +152,8 @@ fn describe(alloc: Global, session: &mut Session, what: Use) -> Result<String, O
 
 /// What a use gives in a session of its own.
 fn describe_begun(alloc: Global, what: Use) -> Result<String, OutOfMemory> {
-    describe(alloc, &mut begun_session(alloc), what)
+    let mut session = begun_session(alloc)?;
+    describe(alloc, &mut session, what)
 }
 
 /// Prints what each of them gives.

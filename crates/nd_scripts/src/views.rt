@@ -1,5 +1,9 @@
 //! Views with more axes than lie in the value itself, so that they take memory.
 
+ghost use Rattle.std.specs.Prelude.{◌≡◌};
+ghost use Rattle.nd_model.specs.View.{item_size};
+ghost use Rattle.nd_types.specs.Types.{type_of};
+
 use nd_types::{Elem, ElemType, Kind};
 use nd_view::{Index, View, ViewFault};
 use std::alloc::{AllocError, Global};
@@ -9,7 +13,9 @@ const LENGTHS: [u64; 9] = [1, 1, 1, 1, 1, 1, 1, 2, 3];
 /// The strides of these lengths for elements of two bytes, without gaps. Those of the short axes do not matter.
 const STRIDES: [i64; 9] = [5, -5, 9, 0, 1, 12, -12, 6, 2];
 
-fn element() -> ElemType {
+fn element() -> ElemType
+    ensures { item_size (type_of result) ≡ 2 }
+{
     ElemType::One(Elem::little(Kind::I16))
 }
 

@@ -152,7 +152,8 @@ fn comment_length(text: &[u8]) -> usize
 fn piece_at(text: &str, at: usize) -> Option<Piece<'_>>
     requires { at < length text.now }
     ensures value { option_map piece_of result ≡ piece_at (drop at text.now) }
-    ensures fits { IfSome result (λ p. (0 < size_of (piece_of p)) × (at + size_of (piece_of p) ≤ length text.now)) }
+    ensures fits { IfSome result (λ p. (0 < size_of (piece_of p))
+        × (at + size_of (piece_of p) ≤ length text.now)) }
 {
     let bytes = text.as_bytes();
     match bytes[at] {
@@ -169,7 +170,8 @@ fn piece_at(text: &str, at: usize) -> Option<Piece<'_>>
 }
 
 fn push_end<'a>(tokens: &mut Vec<Token<'a>>, end: Option<Token<'a>>) -> Result<(), AllocError>
-    ensures { OnOk result (map token_of tokens.new.items ≡ map token_of tokens.old.items ++ map token_of (option_to_list end.entry)) }
+    ensures { OnOk result (map token_of tokens.new.items
+        ≡ map token_of tokens.old.items ++ map token_of (option_to_list end.entry)) }
 {
     if let Some(token) = end {
         tokens.push(token)?;

@@ -148,7 +148,8 @@ fn is_plain(digits: &str) -> bool
 // The integer that digits write. Zeros in front and a number that does not fit are refused.
 fn integer_of(digits: &str) -> Option<u64>
     requires some { 0 < length digits.now }
-    requires digits { (k : ℕ) → k < length digits.now → IsTrue (is_ascii_digit (slice_index digits.now k)) }
+    requires digits { (k : ℕ) → k < length digits.now
+        → IsTrue (is_ascii_digit (slice_index digits.now k)) }
     ensures { result ≡ integer_of digits.now }
 {
     if is_plain(digits) {

@@ -10,7 +10,7 @@ use Rattle.nd_types.specs.Kinds.{kind_of}
 
 abbrev pub type_of : ElemType → view.ElementType
 type_of (One e) = view.One e
-type_of (Rec r) = view.Structure r.0 r.1
+type_of (Rec r) = view.Structure r.value.0 r.value.1
 
 -- the kind that a promotion gave, none where it was refused
 abbrev pub kind_given : Result Kind FloatResult → Option element.Kind

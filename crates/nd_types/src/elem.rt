@@ -32,8 +32,12 @@ impl Model for Elem {
 
 impl Elem {
     /// Returns the element of the kind, big-endian if so asked and if there is more than one byte.
+    #[inline]
     pub fn new(kind: Kind, big: bool) -> Elem
-        ensures { result ≡ record { kind = kind_of kind; big = big && nat_lt 1 (element.size_of (kind_of kind)) } }
+        ensures { result ≡ record {
+          kind = kind_of kind;
+          big = big && nat_lt 1 (element.size_of (kind_of kind));
+        } }
     {
         Elem {
             kind,
@@ -42,6 +46,7 @@ impl Elem {
     }
 
     /// Returns the element of the kind whose lowest byte comes first.
+    #[inline]
     pub fn little(kind: Kind) -> Elem
         ensures { result ≡ record { kind = kind_of kind; big = false } }
     {
@@ -49,6 +54,7 @@ impl Elem {
     }
 
     /// Returns the kind.
+    #[inline]
     pub fn kind(self) -> Kind
         ensures { kind_of result ≡ self.kind }
     {
@@ -56,6 +62,7 @@ impl Elem {
     }
 
     /// Returns whether the highest byte comes first.
+    #[inline]
     pub fn big(self) -> bool
         ensures { result ≡ self.big }
     {
@@ -63,6 +70,7 @@ impl Elem {
     }
 
     /// Returns the number of bytes.
+    #[inline]
     pub fn size(self) -> u64
         ensures value { result ≡ element.size_of self.kind }
         ensures range { (0 < result) × (result ≤ 8) }

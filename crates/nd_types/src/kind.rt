@@ -28,6 +28,7 @@ pub enum Kind {
 
 impl Kind {
     /// Returns the number of bytes of an element.
+    #[inline]
     pub fn size(self) -> u64
         ensures value { result ≡ element.size_of (kind_of self) }
         ensures range { (0 < result) × (result ≤ 8) }

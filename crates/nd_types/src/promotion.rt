@@ -32,7 +32,8 @@ fn has_range_of(kind: Kind, of: Kind) -> bool
 
 // Whether the kind has each number of both.
 fn has_both(kind: Kind, a: Kind, b: Kind) -> bool
-    ensures { result ≡ (promotion.has_range_of (kind_of kind) (kind_of a) && promotion.has_range_of (kind_of kind) (kind_of b)) }
+    ensures { result ≡ (promotion.has_range_of (kind_of kind) (kind_of a) && promotion.has_range_of
+        (kind_of kind) (kind_of b)) }
 {
     has_range_of(kind, a) && has_range_of(kind, b)
 }

@@ -1,5 +1,5 @@
 //! Structures: several numbers at one place.
-ghost use Rattle.std.specs.Prelude.{◌≡◌, ◌+◌, ◌<◌, ◌≤◌, length, IfOk, IsTrue, ◌↔◌};
+ghost use Rattle.std.specs.Prelude.{◌≡◌, ◌+◌, ◌<◌, ◌≤◌, length, IsTrue, ◌↔◌};
 ghost use Rattle.std.specs.List.{All};
 ghost use Rattle.nd_model.specs.Element.{size_of};
 ghost use Rattle.nd_model.specs.Structure as structure;
@@ -7,7 +7,6 @@ ghost use Rattle.nd_types.specs.Fields.{field_of, fields_of};
 
 use crate::field::Field;
 use crate::name::is_field_name;
-use std::alloc::{AllocError, Global};
 use std::marker::Model;
 
 /// A structure: its fields in order, and its size in bytes, pad bytes among them. It has 1 to 256 fields, which lie apart inside
@@ -138,23 +137,5 @@ impl RecType {
         ensures { IsTrue result ↔ (self.now ≡ other.now) }
     {
         are_same(&self.fields, &other.fields) && self.size == other.size
-    }
-
-    /// Returns the same structure, with fields of its own.
-    pub fn try_clone(&self, alloc: Global) -> Result<RecType, AllocError>
-        ensures { IfOk result (λ r. r ≡ self.now) }
-    {
-        let mut fields = Vec::new(alloc);
-        for field in &self.fields {
-            fields.push(Field {
-                name: field.name.clone()?,
-                at: field.at,
-                elem: field.elem,
-            })?;
-        }
-        Ok(RecType {
-            fields,
-            size: self.size,
-        })
     }
 }

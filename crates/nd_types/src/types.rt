@@ -1,20 +1,31 @@
 //! What lies at the places of an array.
 ghost use Rattle.std.specs.Prelude.{◌≡◌, ◌<◌, ◌≤◌, IfOk, IsTrue, ◌↔◌};
-ghost use Rattle.nd_model.specs.View.{item_size};
+ghost use Rattle.nd_model.specs.View.{Structure, item_size};
 ghost use Rattle.nd_types.specs.Types.{type_of};
 
 use crate::elem::Elem;
 use crate::structure::RecType;
 use std::alloc::{AllocError, Global};
+use std::rc::Rc;
 
-/// What lies at each place of an array: one number, or a structure.
+/// What lies at each place of an array: one number, or a structure, which all types share that were cloned from one.
 #[derive(Drop)]
 pub enum ElemType {
     One(Elem),
-    Rec(RecType),
+    Rec(Rc<RecType>),
 }
 
 impl ElemType {
+    /// Returns the type of elements that are this structure.
+    pub fn of_structure(alloc: Global, structure: RecType) -> Result<ElemType, AllocError>
+        ensures { IfOk result (λ t. type_of t ≡ Structure structure.0 structure.1) }
+    {
+        match Rc::new(alloc, structure) {
+            Ok(shared) => Ok(ElemType::Rec(shared)),
+            Err(_failed) => Err(AllocError),
+        }
+    }
+
     /// Returns the number of bytes of what lies at a place, with pad bytes.
     pub fn size(&self) -> u64
         ensures value { result ≡ item_size (type_of self.now) }
@@ -37,13 +48,13 @@ impl ElemType {
         }
     }
 
-    /// Returns the same type, with fields of its own.
-    pub fn try_clone(&self, alloc: Global) -> Result<ElemType, AllocError>
+    /// Returns the same type. The fields of a structure are shared, not copied.
+    pub fn try_clone(&self) -> Result<ElemType, AllocError>
         ensures { IfOk result (λ t. type_of t ≡ type_of self.now) }
     {
         match self {
             ElemType::One(elem) => Ok(ElemType::One(*elem)),
-            ElemType::Rec(structure) => Ok(ElemType::Rec(structure.try_clone(alloc)?)),
+            ElemType::Rec(structure) => Ok(ElemType::Rec(structure.clone()?)),
         }
     }
 }

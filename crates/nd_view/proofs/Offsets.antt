@@ -14,7 +14,7 @@ use Rattle.nd_view.proofs.Kept.{no_places}
 use Rattle.nd_view.proofs.Steps.{zeros}
 
 -- the first tuple leads nowhere
-no_way : (n : ℕ) (strides : List ℤ) → way_to (replicate n 0) strides ≡ pos 0
+pub no_way : (n : ℕ) (strides : List ℤ) → way_to (replicate n 0) strides ≡ pos 0
 no_way zero strides = refl
 no_way (suc n) [] = refl
 no_way (suc n) (s ∷ strides) = ap (λ z. (pos 0 *ℤ s) +ℤ z) (no_way n strides) ∙ omega (arith, ints)

@@ -7,7 +7,7 @@ use Rattle.nd_model.specs.Runs.{place_at, spot_at}
 use Rattle.nd_model.specs.Tuple.{count_up}
 use Rattle.nd_view.specs.Walks.{places_of, IsRun}
 use Rattle.nd_view.specs.declared.runs.Run.TheInside.{Inside}
-use Rattle.nd_view.proofs.Rows.{of_low}
+use Rattle.nd_view.proofs.Split.{of_low}
 use Rattle.nd_view.proofs.Tuples.{length-count_up, get_or-count_up}
 
 module _ (r : Inside) (is : IsRun r) (ps : List ℕ) (e : places_of r ≡ ps) where

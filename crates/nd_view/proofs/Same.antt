@@ -11,7 +11,7 @@ use Rattle.nd_view.proofs.Counts.{rest_some}
 use Rattle.nd_view.proofs.Extents.{Lies, reached}
 use Rattle.nd_view.proofs.Kept.{kept_short, kept_none}
 use Rattle.nd_view.proofs.Numbered.{at_tuple}
-use Rattle.nd_view.proofs.Rows.{of_low}
+use Rattle.nd_view.proofs.Split.{of_low}
 use Rattle.nd_view.proofs.Steps.{zeros}
 
 -- the tuples below the first index, and below the second

@@ -1,40 +1,25 @@
 -- One run further on a walk over a view.
-use Rattle.std.proofs.Common.{◌≡◌, ℕ, zero, suc, ◌+◌, ◌-◌, ◌*◌, ◌<◌, ◌≤◌, List, [], ◌∷◌, ◌++◌, length, take, drop, get_or, refl, sym, ap, ◌∙◌, inl, inr, arith, length-take, length-drop}
+use Rattle.std.proofs.Common.{◌≡◌, ℕ, zero, suc, ◌+◌, ◌*◌, ◌<◌, ◌≤◌, ◌^◌, List, [], ◌∷◌, ◌++◌, length, take, drop, get_or, refl, sym, ap, subst, ◌∙◌, inl, inr, arith, length-take, length-drop}
+use Rattle.std.specs.Prelude.{pos, ◌≤ℤ◌}
 use Rattle.std.proofs.Math.Nat.{mul-le-mul_right}
 use Rattle.std.proofs.lemmas.Bool.{cases_lt}
 use Rattle.std.proofs.lemmas.List.{drop-drop}
-use Rattle.nd_model.specs.Runs.{in_pieces}
+use Rattle.nd_model.specs.Runs.{place_at, spot_at, run_places, in_pieces}
 use Rattle.nd_model.specs.Tuple.{elements_of, number}
 use Rattle.nd_model.proofs.Pieces.{first_piece}
 use Rattle.nd_view.specs.Indexes.{IsIndex}
-use Rattle.nd_view.proofs.Rows.{number_outer, elements_outer, row_inside}
+use Rattle.nd_view.specs.Walks.{AreSteps, IsWalk}
+use Rattle.nd_view.specs.declared.runs.Runs.TheInside.{Inside}
+use Rattle.nd_view.proofs.Evened.{run_is, run_spots}
+use Rattle.nd_view.proofs.Split.{elements, behind, number_outer, parts_inside}
 use Rattle.nd_view.proofs.Steps.{length-index}
 
 -- less by the same factor
-pub less : (a b n : ℕ) → a * n + n < b * n → a + 1 < b
+less : (a b n : ℕ) → a * n + n < b * n → a + 1 < b
 less a b n lt = elim (cases_lt (a + 1) b) [
   | inl below ↦ below
   | inr above ↦ let more : b * n ≤ (a + 1) * n = mul-le-mul_right n above in absurd (omega (arith, more))
 ]
-
--- the tuple of the axes before the last one is not the last such tuple
-pub more_rows : (shape t : List ℕ) → length t ≡ length shape - 1 → number shape t + get_or shape (length t) 1 < elements_of shape
-    → number (take (length t) shape) t + 1 < elements_of (take (length t) shape)
-more_rows [] t last lt = absurd (omega arith)
-more_rows (n ∷ shape) t last lt =
-    let long : length (n ∷ shape) ≡ suc (length t) = omega arith in
-    less (number (take (length t) (n ∷ shape)) t) (elements_of (take (length t) (n ∷ shape))) (get_or (n ∷ shape) (length t) 1)
-    (omega (arith, number_outer (n ∷ shape) t long, elements_outer (n ∷ shape) (length t) long))
-
--- the next one begins the next run
-pub next_row : (shape t u : List ℕ) → length t ≡ length shape - 1 → length u ≡ length t → number shape t + get_or shape (length t) 1 < elements_of shape
-    → number (take (length t) shape) u ≡ number (take (length t) shape) t + 1 → number shape u ≡ number shape t + get_or shape (length t) 1
-next_row [] t u last same lt next = absurd (omega arith)
-next_row (n ∷ shape) t u last same lt next =
-    let long : length (n ∷ shape) ≡ suc (length t) = omega arith in let longer : length (n ∷ shape) ≡ suc (length u) = omega arith in
-    let count : ℕ = get_or (n ∷ shape) (length t) 1 in
-    number_outer (n ∷ shape) u longer ∙ ap (λ m. number (take m (n ∷ shape)) u * get_or (n ∷ shape) m 1) same ∙ ap (λ k. k * count) next
-    ∙ omega (arith, number_outer (n ∷ shape) t long)
 
 pub front_of : (u rest : List ℕ) (m : ℕ) → length u ≡ m → take m (u ++ rest) ≡ u
 front_of [] rest zero e = refl
@@ -42,37 +27,88 @@ front_of [] rest (suc m) e = absurd (omega arith)
 front_of (x ∷ u) rest zero e = absurd (omega arith)
 front_of (x ∷ u) rest (suc m) e = ap (λ l. x ∷ l) (front_of u rest m (omega arith))
 
--- the run that the walk is at is the first one that is left
-pub next_run : (ps run : List ℕ) (at n last : ℕ) → n ≡ last → 0 < n → at + n ≤ length ps → run ≡ take n (drop at ps) → in_pieces last (drop at ps) ≡ run ∷ in_pieces last (drop (at + n) ps)
-next_run ps run at n last same some le e =
-    let long : n ≤ length (drop at ps) = simp length-drop (omega arith) in
-    ap (λ m. in_pieces m (drop at ps)) (sym same) ∙ first_piece n (drop at ps) some long ∙ (λ i. sym e i ∷ in_pieces (same i) (drop-drop n at ps i))
-
--- after one run more
-pub record Walked (shape : List ℕ) (outer number-of n count : ℕ) (t u : List ℕ) : Type 0 where
-  pub within : number-of + n ≤ count
-  pub long : length u ≡ outer
-  pub at : number-of + n < count → number shape u ≡ number-of + n
-
-within_row : (shape t : List ℕ) → length t ≡ length shape - 1 → IsIndex (take (length t) shape) t → number shape t + get_or shape (length t) 1 ≤ elements_of shape
-within_row [] [] last is = omega arith
-within_row [] (i ∷ t) last is = absurd (omega arith)
-within_row (n ∷ shape) t last is = row_inside (n ∷ shape) t (omega arith) is
-
 pub length-front : (shape t : List ℕ) (m : ℕ) → m ≤ length shape → IsIndex (take m shape) t → length t ≡ m
 length-front shape t m le is = length-index (take m shape) t is ∙ simp length-take (omega arith)
 
-pub walked : (shape t u : List ℕ) (outer n count : ℕ) → outer ≡ length shape - 1 → elements_of shape ≡ count → IsIndex (take outer shape) t → n ≡ get_or shape outer 1 → IsIndex (take outer shape) u
-    → (number (take outer shape) t + 1 < elements_of (take outer shape) → number (take outer shape) u ≡ number (take outer shape) t + 1) → Walked shape outer (number shape t) n count t u
-walked shape t u outer n count last all is run index next =
-    let long : length t ≡ outer = length-front shape t outer (omega (arith, last)) is in let longer : length u ≡ outer = length-front shape u outer (omega (arith, last)) index in
-    let here : length t ≡ length shape - 1 = long ∙ last in let same : n ≡ get_or shape (length t) 1 = run ∙ ap (λ m. get_or shape m 1) (sym long) in
-    let tuple : IsIndex (take (length t) shape) t = rw long is in
-    record {
-      within = omega (arith, within_row shape t here tuple, all, same);
-      long = longer;
-      at = λ lt.
-          let further : number shape t + get_or shape (length t) 1 < elements_of shape = omega (arith, lt, all, same) in
-          let row : number (take (length t) shape) u ≡ number (take (length t) shape) t + 1 = rw long (next (rw (← long) (more_rows shape t here further))) in
-          next_row shape t u here (longer ∙ sym long) further row ∙ ap (λ k. number shape t + k) (sym same);
+-- the run that the walk is at is the first one that is left
+pub next_run : (ps run : List ℕ) (at n : ℕ) → 0 < n → at + n ≤ length ps → run ≡ take n (drop at ps) → in_pieces n (drop at ps) ≡ run ∷ in_pieces n (drop (at + n) ps)
+next_run ps run at n some le e =
+    let long : n ≤ length (drop at ps) = simp length-drop (omega arith) in
+    first_piece n (drop at ps) some long ∙ (λ i. sym e i ∷ in_pieces n (drop-drop n at ps i))
+
+-- the next index of the outer axes is that of the next run
+pub next_index : (shape t u : List ℕ) → length t ≤ length shape → length u ≡ length t → number shape t + elements_of (drop (length t) shape) < elements_of shape
+    → (number (take (length t) shape) t + 1 < elements_of (take (length t) shape) → number (take (length t) shape) u ≡ number (take (length t) shape) t + 1)
+    → number shape u ≡ number shape t + elements_of (drop (length t) shape)
+next_index shape t u le same lt next =
+    let outer : List ℕ = take (length t) shape in let count : ℕ = elements_of (drop (length t) shape) in
+    let more : number outer t + 1 < elements_of outer = less (number outer t) (elements_of outer) count (omega (arith, lt, number_outer shape t le, elements shape (length t))) in
+    let here : number shape u ≡ number (take (length u) shape) u * elements_of (drop (length u) shape) = number_outer shape u (omega (arith, le, same)) in
+    here ∙ ap (λ m. number (take m shape) u * elements_of (drop m shape)) same ∙ ap (λ k. k * count) (next more)
+    ∙ omega (arith, number_outer shape t le)
+
+-- a walk that is not at its end
+module _ (r : Inside) (is : IsWalk r) (left : r.at < r.count) where
+  abbrev shape : List ℕ
+  shape = r.view.now.shape
+
+  abbrev places : List ℕ
+  places = r.view.now.places
+
+  abbrev here : List ℕ
+  here = take r.inner.outer r.index
+
+  long : length here ≡ r.inner.outer
+  long = length-front shape here r.inner.outer is.inner.outer (is.index left)
+
+  behind_here : elements_of (drop (length here) shape) ≡ r.inner.count
+  behind_here = ap (λ m. elements_of (drop m shape)) long ∙ sym is.inner.count
+
+  pub start_is : get_or places (number shape here) 0 ≡ get_or places r.at 0
+  start_is = ap (λ n. get_or places n 0) (is.at left)
+
+  pub count_some : 0 < r.inner.count
+  count_some = rw is.inner.count (behind shape r.inner.outer (omega (arith, left, is.count, is.elements))).0
+
+  pub count_within : r.at + r.inner.count ≤ length places
+  count_within =
+      let le : length here ≤ length shape = omega (arith, long, is.inner.outer) in
+      let inside = parts_inside shape here le (rw long (is.index left)) in
+      omega (arith, inside, behind_here, is.at left, is.elements)
+
+  steps_here : AreSteps places r.at r.inner.count r.inner.step
+  steps_here = subst (λ n. AreSteps places n r.inner.count r.inner.step) (is.at left) (is.inner.steps here (is.index left))
+
+  pub spots_here : (k : ℕ) → k < r.inner.count → (pos 0 ≤ℤ place_at (get_or places r.at 0) r.inner.step k) × (spot_at (get_or places r.at 0) r.inner.step k < 2 ^ 64)
+  spots_here = run_spots places r.at r.inner.count r.inner.step steps_here
+
+  module _ (u rest : List ℕ) (index : IsIndex (take r.inner.outer shape) u) (next : number (take r.inner.outer shape) here + 1 < elements_of (take r.inner.outer shape) → number (take r.inner.outer shape) u ≡ number (take r.inner.outer shape) here + 1) where
+    abbrev behind_run : Inside
+    behind_run = record { view = r.view; inner = r.inner; index = u ++ rest; at = r.at + r.inner.count; count = r.count }
+
+    longer : length u ≡ r.inner.outer
+    longer = length-front shape u r.inner.outer is.inner.outer index
+
+    front : take r.inner.outer (u ++ rest) ≡ u
+    front = front_of u rest r.inner.outer longer
+
+    further : r.at + r.inner.count < r.count → number shape u ≡ r.at + r.inner.count
+    further lt =
+        let le : length here ≤ length shape = omega (arith, long, is.inner.outer) in
+        let more : number shape here + elements_of (drop (length here) shape) < elements_of shape = omega (arith, lt, behind_here, is.at left, is.elements, is.count) in
+        next_index shape here u le (longer ∙ sym long) more (rw long next) ∙ omega (arith, behind_here, is.at left)
+
+    pub walk_is : IsWalk behind_run
+    walk_is = record {
+      inner = is.inner;
+      count = is.count;
+      elements = is.elements;
+      within = omega (arith, count_within, is.count);
+      index = λ lt. rw front index;
+      at = λ lt. rw front (further lt);
     }
+
+  pub run_left : (run : List ℕ) → run ≡ run_places (get_or places r.at 0) r.inner.step r.inner.count
+      → in_pieces r.inner.count (drop r.at places) ≡ run ∷ in_pieces r.inner.count (drop (r.at + r.inner.count) places)
+  run_left run made =
+      next_run places run r.at r.inner.count count_some count_within (made ∙ run_is places r.at r.inner.count r.inner.step steps_here count_within)

@@ -1,6 +1,8 @@
 -- What strides reach, the strides that a view keeps, and those of an array without gaps.
-use Rattle.std.specs.Prelude.{ℕ, ◌+◌, ◌-◌, ◌*◌, ◌==◌, ◌||◌, suc, ℤ, pos, negsuc, nat_le, if◌then◌else◌, List, [], ◌∷◌, length, replicate}
-use Rattle.nd_model.specs.Tuple.{elements_of}
+use Rattle.std.specs.Prelude.{◌≡◌, ℕ, ◌+◌, ◌-◌, ◌*◌, ◌<◌, ◌==◌, ◌&&◌, ◌||◌, suc, ℤ, pos, negsuc, ◌+ℤ◌, ◌*ℤ◌, nat_le, nat_lt, if◌then◌else◌, List, [], ◌∷◌, length, drop, replicate}
+use Rattle.nd_model.specs.Strides.{way_to}
+use Rattle.nd_model.specs.Tuple.{elements_of, number}
+use Rattle.nd_view.specs.Indexes.{IsIndex}
 
 -- how far the last element of an axis is before the first one, and behind it
 abbrev pub before : ℕ → ℤ → ℕ
@@ -38,3 +40,21 @@ steps_of size (n ∷ shape) = (if nat_le n 1 then pos 0 else pos (elements_of sh
 -- where there are no elements each stride is 0
 abbrev pub strides_of : ℕ → List ℕ → List ℤ
 strides_of size shape = if elements_of shape == 0 then replicate (length shape) (pos 0) else steps_of size shape
+
+-- ---- several axes walked as one
+
+-- element k of these axes, in C order, is k steps behind the first one
+abbrev pub IsEven : List ℕ → List ℤ → ℤ → Type 0
+IsEven shape strides step = (t : List ℕ) → IsIndex shape t → way_to t strides ≡ pos (number shape t) *ℤ step
+
+-- the same of the axes behind the outer ones
+abbrev pub IsEvenBehind : ℕ → List ℕ → List ℤ → ℤ → Type 0
+IsEvenBehind outer shape strides step = IsEven (drop outer shape) (drop outer strides) step
+
+-- the step through an axis of length n and the `count` elements behind each of its indexes
+abbrev pub joined_step : ℕ → ℤ → ℕ → ℤ → ℤ
+joined_step n s count step = if nat_lt 1 n && nat_le count 1 then s else step
+
+-- it leads to each of them
+abbrev pub AreJoined : ℕ → ℤ → ℕ → ℤ → Type 0
+AreJoined n s count step = (i k : ℕ) → i < n → k < count → (pos i *ℤ s) +ℤ (pos k *ℤ step) ≡ pos (i * count + k) *ℤ joined_step n s count step

@@ -24,7 +24,8 @@ fn push_run(places: &mut Vec<u64>, first: u64, size: u64) -> Result<(), AllocErr
 // Appends the places of the bytes of the fields of a structure that begins at the place.
 fn push_fields(places: &mut Vec<u64>, fields: &[Field], place: u64) -> Result<(), AllocError>
     requires { All (λ f. place + (f.at + size_of f.element.kind) ≤ 2 ^ 64) (fields_of fields.now) }
-    ensures { OnOk result (places.new.items ≡ places.old.items ++ field_places place (fields_of fields.now)) }
+    ensures { OnOk result (places.new.items ≡ places.old.items ++ field_places place
+        (fields_of fields.now)) }
 {
     for field in fields {
         let size = field.elem.size();
@@ -40,7 +41,8 @@ pub(crate) fn push_element(
     place: u64,
 ) -> Result<(), AllocError>
     requires { place + item_size (type_of elem.now) ≤ 2 ^ 64 }
-    ensures { OnOk result (places.new.items ≡ places.old.items ++ element_places (type_of elem.now) place) }
+    ensures { OnOk result (places.new.items ≡ places.old.items ++ element_places
+        (type_of elem.now) place) }
 {
     match elem {
         ElemType::One(elem) => push_run(places, place, elem.size()),

@@ -3,6 +3,7 @@
 
 mod elements;
 mod fault;
+mod inner_loop;
 mod parts;
 mod runs;
 mod shapes;

@@ -88,7 +88,8 @@ pub(crate) fn parts_fault(
     block_len: u64,
 ) -> Option<ViewFault>
     requires { size ≤ 65536 }
-    ensures { option_map view_fault_of result ≡ model.parts_fault size shape.now strides.now offset block_len }
+    ensures { option_map view_fault_of result ≡ model.parts_fault size shape.now strides.now offset
+        block_len }
 {
     if shape.len() != strides.len() {
         return Some(ViewFault::AxesDiffer);

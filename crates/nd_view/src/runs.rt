@@ -1,10 +1,13 @@
-//! Runs: elements one step apart, as the last axis of a view has them.
+//! Runs: elements one step apart, as axes of a view have them.
 ghost use Rattle.std.specs.Prelude.{◌≡◌, ℕ, pos, ◌≤ℤ◌, ◌<◌, ◌≤◌, ◌^◌, [], ◌∷◌, length, slice_index, MatchOption};
-ghost use Rattle.nd_model.specs.Runs.{place_at, spot_at, run_places, runs_of};
+ghost use Rattle.std.specs.List.{concat};
+ghost use Rattle.nd_model.specs.Runs.{place_at, spot_at, run_places, in_pieces};
+ghost use Rattle.nd_view.specs.Walks.{IsInner};
 
+use crate::inner_loop::InnerLoop;
 use crate::shapes::MOST_AXES;
 use crate::strided::View;
-use crate::walk::{advance, moved};
+use crate::walk::{advance, shift_place};
 use std::marker::Model;
 
 /// Elements that begin one step apart, at least one. A clause sees the list of their places.
@@ -30,7 +33,8 @@ impl Model for Run {
 impl Run {
     pub(crate) fn new(start: u64, step: i128, count: u64) -> Run
         requires some { 0 < count }
-        requires places { (k : ℕ) → k < count → (pos 0 ≤ℤ place_at start step k) × (spot_at start step k < 2 ^ 64) }
+        requires places { (k : ℕ) → k < count → (pos 0 ≤ℤ place_at start step k)
+            × (spot_at start step k < 2 ^ 64) }
         requires alone { count ≡ 1 → step ≡ pos 0 }
         ensures { result ≡ run_places start step count }
     {
@@ -46,7 +50,8 @@ impl Run {
 
     /// Returns how many bytes it is from one element to the next, which may be negative. It is 0 where there is one element.
     pub fn step(&self) -> i128
-        ensures places { (k : ℕ) → k < length self.now → place_at (slice_index self.now 0) result k ≡ pos (slice_index self.now k) }
+        ensures places { (k : ℕ) → k < length self.now → place_at (slice_index self.now 0) result k
+            ≡ pos (slice_index self.now k) }
         ensures alone { length self.now ≡ 1 → result ≡ pos 0 }
     {
         self.step
@@ -61,11 +66,12 @@ impl Run {
     }
 
     /// Returns the place of the element of this number.
+    #[inline]
     pub fn place(&self, number: u64) -> u64
         requires { number < length self.now }
         ensures { result ≡ slice_index self.now number }
     {
-        moved(self.start, number, self.step)
+        shift_place(self.start, number, self.step)
     }
 }
 
@@ -73,9 +79,9 @@ impl Run {
 #[derive(Drop)]
 pub struct Runs<'v> {
     view: &'v View,
-    // the index of the axes before the last one, and how many these are
+    // the axes of a run, and the index of the axes before them
+    inner: InnerLoop,
     index: [u64; MOST_AXES],
-    outer: usize,
     // the number of the next element, and how many elements there are
     at: u64,
     count: u64,
@@ -94,15 +100,15 @@ impl<'v> Model for Runs<'v> {
 }
 
 impl<'v> Runs<'v> {
-    pub(crate) fn new(view: &'v View, axes: usize) -> Runs<'v>
-        requires axes { axes ≡ length view.now.shape }
-        requires most { axes ≤ 32 }
-        ensures { result ≡ runs_of view.now }
+    pub(crate) fn new(view: &'v View, inner: InnerLoop) -> Runs<'v>
+        requires { IsInner view.now inner }
+        ensures value { result ≡ in_pieces inner.count view.now.places }
+        ensures places { concat result ≡ view.now.places }
     {
         Runs {
             view,
+            inner,
             index: [0; MOST_AXES],
-            outer: axes.saturating_sub(1),
             at: 0,
             count: view.count() as u64,
         }
@@ -110,15 +116,16 @@ impl<'v> Runs<'v> {
 
     /// Returns the next run, or `None` where none is left.
     pub fn next(&mut self) -> Option<Run>
-        ensures { MatchOption result ((self.old ≡ []) × (self.new ≡ [])) (λ run. self.old ≡ run ∷ self.new) }
+        ensures { MatchOption result ((self.old ≡ []) × (self.new ≡ [])) (λ run. self.old
+            ≡ run ∷ self.new) }
     {
         if self.at == self.count {
             return None;
         }
-        let run = self.view.run_at(&self.index[..self.outer]);
-        self.at += run.count();
-        let outer = &self.view.shape()[..self.outer];
-        advance(outer, &mut self.index[..self.outer]);
-        Some(run)
+        let InnerLoop { outer, step, count } = self.inner;
+        let start = self.view.place_on(&self.index[..outer]);
+        self.at += count;
+        advance(&self.view.shape()[..outer], &mut self.index[..outer]);
+        Some(Run::new(start, step, count))
     }
 }

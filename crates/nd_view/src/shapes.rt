@@ -71,7 +71,8 @@ fn has_long_axis(shape: &[u64]) -> bool
 // The number of elements, `None` where they are too many.
 fn elements_within(shape: &[u64]) -> Option<u64>
     requires { list_any (nat_lt (2 ^ 32)) shape.now ≡ false }
-    ensures { MatchOption result (2 ^ 24 < elements_of shape.now) (λ n. (n ≡ elements_of shape.now) × (n ≤ 2 ^ 24)) }
+    ensures { MatchOption result (2 ^ 24 < elements_of shape.now) (λ n. (n ≡ elements_of shape.now)
+        × (n ≤ 2 ^ 24)) }
 {
     if shape.contains(&0) {
         return Some(0);

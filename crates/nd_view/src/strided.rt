@@ -1,5 +1,5 @@
 //! `View`: where the elements of an array lie in its bytes.
-ghost use Rattle.std.specs.Prelude.{◌≡◌, ◌+◌, ◌-◌, ◌*◌, ◌^◌, ◌<◌, ◌≤◌, ◌++◌, length, take, drop, slice_index, slice_index_or, false, IsTrue, ◌↔◌, IfOk, OnOk, MatchOption};
+ghost use Rattle.std.specs.Prelude.{◌≡◌, ◌+◌, ◌*◌, ◌^◌, ◌<◌, ◌≤◌, length, take, slice_index, false, IsTrue, ◌↔◌, IfOk, OnOk, MatchOption};
 ghost use Rattle.std.specs.List.{All, concat};
 ghost use Rattle.nd_model.specs.Runs.{runs_of};
 ghost use Rattle.nd_model.specs.Strides as model;
@@ -13,10 +13,11 @@ ghost use Rattle.nd_view.specs.Strides.{kept_all};
 
 use crate::elements::push_element;
 use crate::fault::ViewFault;
+use crate::inner_loop::{last_axis, widest_loop};
 use crate::parts::{kept_offset, kept_strides, parts_fault};
-use crate::runs::{Run, Runs};
-use crate::shapes::{elements, length_of, step_on, steps};
-use crate::walk::{advance, moved, place_by};
+use crate::runs::Runs;
+use crate::shapes::{elements, steps};
+use crate::walk::{advance, place_by, shift_place};
 use nd_types::ElemType;
 use smallvec::SmallVec;
 use std::alloc::{AllocError, Global};
@@ -79,7 +80,8 @@ impl View {
         offset: u64,
         block_len: u64,
     ) -> Result<Result<View, ViewFault>, AllocError>
-        ensures { IfOk result (λ r. view_given r ≡ model.from_parts (type_of elem) shape.now strides.now offset block_len) }
+        ensures { IfOk result (λ r. view_given r
+            ≡ model.from_parts (type_of elem) shape.now strides.now offset block_len) }
     {
         if let Some(fault) = parts_fault(elem.size(), shape, strides, offset, block_len) {
             return Ok(Err(fault));
@@ -99,7 +101,7 @@ impl View {
     {
         let alloc = *self.shape.allocator();
         Ok(View {
-            elem: self.elem.try_clone(alloc)?,
+            elem: self.elem.try_clone()?,
             shape: SmallVec::from_slice(alloc, self.shape.as_slice())?,
             strides: SmallVec::from_slice(alloc, self.strides.as_slice())?,
             offset: self.offset,
@@ -125,7 +127,8 @@ impl View {
     /// Returns how many bytes each axis goes on from one element to the next.
     pub fn strides(&self) -> &[i128]
         ensures axes { length result.now ≡ length self.now.shape }
-        ensures places { self.now.places ≡ places_by (slice_index self.now.places 0) result.now self.now.shape }
+        ensures places { self.now.places ≡ places_by (slice_index self.now.places 0) result.now
+            self.now.shape }
         ensures kept { kept_all (length self.now.places) self.now.shape result.now ≡ result.now }
     {
         self.strides.as_slice()
@@ -185,7 +188,7 @@ impl View {
         let mut place = self.offset;
         for (axis, length) in self.shape.as_slice().iter().enumerate() {
             each /= *length;
-            place = moved(place, left / each, strides[axis]);
+            place = shift_place(place, left / each, strides[axis]);
             left %= each;
         }
         place
@@ -193,7 +196,8 @@ impl View {
 
     /// Returns the index tuple of the first element, or `None` where there are no elements.
     pub fn first(&self) -> Result<Option<Index>, AllocError>
-        ensures { IfOk result (λ found. MatchOption found (length self.now.places ≡ 0) (λ t. IsIndex self.now.shape t.items × (number self.now.shape t.items ≡ 0))) }
+        ensures { IfOk result (λ found. MatchOption found (length self.now.places ≡ 0)
+            (λ t. IsIndex self.now.shape t.items × (number self.now.shape t.items ≡ 0))) }
     {
         if self.count() == 0 {
             return Ok(None);
@@ -214,34 +218,47 @@ impl View {
     pub fn next(&self, index: &mut Index) -> bool
         requires { IsIndex self.now.shape index.old.items }
         ensures inside { IsIndex self.now.shape index.new.items }
-        ensures next { IsTrue result → number self.now.shape index.new.items ≡ number self.now.shape index.old.items + 1 }
-        ensures more { IsTrue result ↔ (number self.now.shape index.old.items + 1 < length self.now.places) }
+        ensures next { IsTrue result → number self.now.shape index.new.items
+            ≡ number self.now.shape index.old.items + 1 }
+        ensures more { IsTrue result
+            ↔ (number self.now.shape index.old.items + 1 < length self.now.places) }
         ensures stays { result ≡ false → index.new.items ≡ index.old.items }
     {
         advance(self.shape.as_slice(), index.as_mut_slice())
     }
 
-    /// Returns the runs of elements along the last axis, in C order. A view without axes has one run of one element.
+    /// Returns the elements in C order, in runs of as many as lie one step apart. Axes are walked together where one step leads
+    /// through them, as NumPy's iterator does: a view without gaps is one run.
     pub fn runs(&self) -> Runs<'_>
+        ensures places { concat result ≡ self.now.places }
+        ensures ends { All (λ p. p + item_size self.now.element ≤ 2 ^ 64) self.now.places }
+    {
+        Runs::new(
+            self,
+            widest_loop(self.shape.as_slice(), self.strides.as_slice()),
+        )
+    }
+
+    /// Returns the runs of elements along the last axis, in C order. A view without axes has one run of one element.
+    pub fn rows(&self) -> Runs<'_>
         ensures value { result ≡ runs_of self.now }
         ensures places { concat result ≡ self.now.places }
         ensures ends { All (λ p. p + item_size self.now.element ≤ 2 ^ 64) self.now.places }
     {
-        Runs::new(self, self.shape.len())
+        Runs::new(
+            self,
+            last_axis(self.shape.as_slice(), self.strides.as_slice()),
+        )
     }
 
-    // The run that begins at the index tuple of the axes before the last one.
-    pub(crate) fn run_at(&self, outer: &[u64]) -> Run
-        requires axes { length outer.now ≡ length self.now.shape - 1 }
+    // The place of the first element at the index of the first axes.
+    pub(crate) fn place_on(&self, outer: &[u64]) -> u64
         requires inside { IsIndex (take (length outer.now) self.now.shape) outer.now }
+        requires axes { length outer.now ≤ length self.now.shape }
         requires some { 0 < length self.now.places }
-        ensures count { length result ≡ slice_index_or self.now.shape (length outer.now) 1 }
-        ensures places { result ≡ take (length result) (drop (number self.now.shape outer.now) self.now.places) }
+        ensures { result ≡ slice_index self.now.places (number self.now.shape outer.now) }
     {
-        let start = place_by(self.offset, self.strides.as_slice(), outer);
-        let step = step_on(self.strides.as_slice(), outer.len());
-        let count = length_of(self.shape.as_slice(), outer.len());
-        Run::new(start, step, count)
+        place_by(self.offset, self.strides.as_slice(), outer)
     }
 
     /// Returns the places of the bytes of all elements, without pad bytes.

@@ -7,7 +7,8 @@ ghost use Rattle.nd_view.specs.Indexes.{IsIndex};
 ghost use Rattle.nd_view.specs.Paths.{IsPath};
 
 // The place of an element from that of another, so many strides before it on one axis.
-pub(crate) fn moved(place: u64, by: u64, stride: i128) -> u64
+#[inline]
+pub(crate) fn shift_place(place: u64, by: u64, stride: i128) -> u64
     requires low { pos 0 ≤ℤ (pos place +ℤ (pos by *ℤ stride)) }
     requires high { (pos place +ℤ (pos by *ℤ stride)) <ℤ pos (2 ^ 64) }
     ensures { pos result ≡ pos place +ℤ (pos by *ℤ stride) }
@@ -22,7 +23,7 @@ pub(crate) fn place_by(offset: u64, strides: &[i128], index: &[u64]) -> u64
 {
     let mut place = offset;
     for (axis, by) in index.iter().enumerate() {
-        place = moved(place, *by, strides[axis]);
+        place = shift_place(place, *by, strides[axis]);
     }
     place
 }
@@ -35,7 +36,7 @@ pub(crate) fn advance(shape: &[u64], index: &mut [u64]) -> bool
     ensures more { IsTrue result ↔ (number shape.now index.old + 1 < elements_of shape.now) }
     ensures stays { result ≡ false → index.new ≡ index.old }
 {
-    let axes = unfinished(shape, index);
+    let axes = count_open_axes(shape, index);
     if axes == 0 {
         return false;
     }
@@ -45,11 +46,12 @@ pub(crate) fn advance(shape: &[u64], index: &mut [u64]) -> bool
 }
 
 // The number of axes up to the last one whose index is not at its end.
-fn unfinished(shape: &[u64], index: &[u64]) -> usize
+fn count_open_axes(shape: &[u64], index: &[u64]) -> usize
     requires { IsIndex shape.now index.now }
     ensures inside { result ≤ length index.now }
     ensures ends { AllZip (λ i n. i + 1 ≡ n) (drop result index.now) (drop result shape.now) }
-    ensures further { 0 < result → slice_index index.now (result - 1) + 1 < slice_index shape.now (result - 1) }
+    ensures further { 0 < result → slice_index index.now (result - 1) + 1 < slice_index shape.now
+        (result - 1) }
 {
     let mut axes = shape.len();
     while axes > 0 && index[axes - 1] + 1 == shape[axes - 1] {

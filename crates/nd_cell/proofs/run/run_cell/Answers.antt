@@ -12,5 +12,5 @@ few text next lines first short fewer = omega arith
 
 pub run_lines-requires : goal.run_lines-requires
 run_lines-requires c =
-    few c.args.text.now (live c.start.new.self).next c.deref.result.now (ap (λ (r : Running). r.next) c.start.ensures) (let short : length c.as_bytes-bytes.result.now < 2 ^ 64 = c.as_bytes-bytes.type_inv.0 in omega (arith, c.as_bytes-bytes.ensures.len))
+    few c.args.text.now (live c.start.new.self).next c.deref.result.now (ap (λ (r : Running). r.next) c.in_ok-start.ensures) (let short : length c.as_bytes-bytes.result.now < 2 ^ 64 = c.as_bytes-bytes.type_inv.0 in omega (arith, c.as_bytes-bytes.ensures.len))
     (rw c.deref.ensures.value (few_tokens c.args.text.now (lines_of c.in-Ok.lines.items) (c.in_ok-lines.ensures ∙ ap parsed_of c.in-Ok.is)))

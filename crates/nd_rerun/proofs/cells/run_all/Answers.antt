@@ -1,4 +1,4 @@
-use Rattle.std.proofs.Common.{◌++◌, ◌∙◌, ap, refl, rules, string_bytes}
+use Rattle.std.proofs.Common.{◌++◌, ◌∙◌, ap, refl, rules, string_bytes, arith}
 use Rattle.std.proofs.lemmas.Result.{err_from_is_err_and}
 use Rattle.nd_heap.specs.Values.{inputs_of}
 use Rattle.nd_heap.specs.Live.{live}
@@ -9,7 +9,7 @@ use Rattle.nd_rerun.proofs.cells.run_all.Goals as goal
 
 pub loop-cell-init : goal.loop-cell-init
 loop-cell-init c = record {
-  told = rw c.new-all.ensures.items (told_first _ _ _ c.new-session.ensures);
+  told = rw c.new-all.ensures.items (told_first _ _ _ c.in_ok-session.ensures);
   counts = search rules;
 }
 
@@ -26,8 +26,11 @@ loop-cell-preserved c = record {
 
 pub returns-in_err-run_kept-clause-counts : goal.returns-in_err-run_kept-clause-counts
 returns-in_err-run_kept-clause-counts c =
-    rw (err_from_is_err_and c.from_residual.result c.from_residual.ensures.1).1 (counts_fewer c.loop-cell.cell-index _ c.args.meter.now _ _ c.loop-cell-test.true c.loop-cell.invariant.counts c.run_kept.ensures.counted)
+    rw (err_from_is_err_and c.from_residual-in_err-run_kept.result c.from_residual-in_err-run_kept.ensures.1).1 (counts_fewer c.loop-cell.cell-index _ c.args.meter.now _ _ c.loop-cell-test.true c.loop-cell.invariant.counts c.run_kept.ensures.counted)
 
 pub returns-in_err-push-clause-counts : goal.returns-in_err-push-clause-counts
 returns-in_err-push-clause-counts c =
     rw (err_from_is_err_and c.from_residual-in_err-push.result c.from_residual-in_err-push.ensures.1).1 (counts_fewer c.loop-cell.cell-index _ c.args.meter.now _ _ c.loop-cell-test.true c.loop-cell.invariant.counts c.run_kept.ensures.counted)
+
+pub returns-in_err-session-clause-counts : goal.returns-in_err-session-clause-counts
+returns-in_err-session-clause-counts c = rw (err_from_is_err_and c.from_residual.result c.from_residual.ensures.1).1 (0, omega arith, refl)

@@ -7,7 +7,7 @@ use Rattle.nd_heap.specs.Values.{inputs_of}
 use Rattle.nd_model.specs.Session.{no_session}
 use Rattle.nd_model.specs.Book.{read_cells}
 use Rattle.nd_rerun.specs.Cells.{cells_of, tolds_of}
-use Rattle.nd_rerun.specs.Counts.{counted}
+use Rattle.nd_model.specs.Notebook.{counted}
 use Rattle.nd_rerun.proofs.cells.run_all.Given as goal
 
 abbrev pub invariant-loop-cell : goal.invariant-loop-cell

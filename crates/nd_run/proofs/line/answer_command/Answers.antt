@@ -1,6 +1,6 @@
 use Rattle.std.proofs.Common.{sym}
 use Rattle.std.proofs.lemmas.Result.{err_from_is_err_and}
-use Rattle.nd_rerun.specs.Edits.{book_of}
+use Rattle.nd_model.specs.Notebook.{book_of}
 use Rattle.nd_script.specs.Command.{line_of}
 use Rattle.nd_run.proofs.Openings.{not_opening}
 use Rattle.nd_run.proofs.Carried.{done_whole, whole_in_part}

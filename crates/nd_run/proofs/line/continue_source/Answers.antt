@@ -1,6 +1,6 @@
 use Rattle.std.proofs.Common.{sym}
 use Rattle.std.proofs.lemmas.Result.{err_from_is_err_and}
-use Rattle.nd_rerun.specs.Edits.{book_of}
+use Rattle.nd_model.specs.Notebook.{book_of}
 use Rattle.nd_run.specs.Source.{lines_so_far, opening_of}
 use Rattle.nd_run.proofs.Carried.{closed_in_part}
 use Rattle.nd_run.proofs.line.continue_source.Goals as goal

@@ -1,25 +1,35 @@
-use Rattle.std.proofs.Common.{◌∙◌, ℕ, List, refl, ap, length, cond, ◌||◌, ◌&&◌}
+use Rattle.std.proofs.Common.{◌≡◌, ◌∙◌, ℕ, List, [], ap, length}
 use Rattle.std.specs.List.{zip}
-use Rattle.nd_model.specs.Value.{Base, same_base}
+use Rattle.nd_model.specs.Value.{Base}
 use Rattle.nd_model.specs.Session as model
 use Rattle.nd_model.specs.Running as running
 use Rattle.nd_model.specs.Tuple.{count_up}
 use Rattle.nd_heap.specs.Contents.{blocks_of}
-use Rattle.nd_heap.specs.Fields.{state_of, trace_of, written_of}
-use Rattle.nd_heap.specs.Live.{live, bytes_at, is_written}
+use Rattle.nd_heap.specs.Fields.{trace_of}
+use Rattle.nd_heap.specs.Live.{bytes_at}
+use Rattle.nd_heap.specs.Live.{live}
 use Rattle.nd_heap.specs.State.{State}
-use Rattle.nd_heap.specs.Values.{names_of, base_of}
-use Rattle.nd_heap.proofs.Changes.{stored_run}
-use Rattle.nd_heap.proofs.Noting.{noted_over}
+use Rattle.nd_heap.specs.Storing.{having_block}
+use Rattle.nd_heap.specs.Values.{base_of, names_of}
+use Rattle.nd_heap.specs.Fields.{state_of}
+use Rattle.nd_heap.proofs.Sessions.{written_over}
+use Rattle.nd_heap.proofs.Storing.{stores_by_parts, is_in-run}
 use Rattle.nd_heap.proofs.session.Session.store.Goals as goal
 
 pub returns : goal.returns
+unfolding live
 returns c =
-    let old : Base → List ℕ = bytes_at (blocks_of c.self.inside.blocks.entries) in
-    let noted = noted_over (running.is_length (base_of c.args.base)) (trace_of c.self.inside.trace) (trace_of c.note.new.self) (names_of c.self.inside.names.entries) old c.self.inside.next
-    c.in_ok-note.ensures.ok in
-    stored_run c.args.base c.args.place c.args.bytes.now (live (state_of c.self.inside)) _ c.self.inside.blocks.entries c.write.new.blocks.entries _
-    noted refl
-    (c.write.ensures ∙ ap {B = Base → List ℕ} (λ ps b. cond (same_base (base_of c.args.base) b) (model.put (zip ps c.args.bytes.now) (old b)) (old b)) (c.deref-2.ensures.value ∙ c.in_ok-places.ensures))
-    (c.in_ok-note_written.ensures.ok ∙ ap (λ ps d p. is_written (written_of c.note.new.self.written.items) d p || (same_base (base_of c.args.base) d && model.is_in p ps)) (c.deref.ensures.value ∙ c.in_ok-places.ensures))
-    ∙ ap (λ (s : State). running.done (running.Storing (base_of c.args.base) (zip (count_up c.args.place (length c.args.bytes.now)) c.args.bytes.now)) (live s)) c.self.view_is
+    let b = base_of c.args.base in
+    let bytes = c.args.bytes.now in
+    let ps = count_up c.args.place (length bytes) in
+    let ws = zip ps bytes in
+    let old : Base → List ℕ = bytes_at (blocks_of c.self.inside.blocks.value.entries) in
+    let names = names_of c.self.inside.names.value.entries in
+    let w = c.put.new.self in
+    let r = live (state_of c.self.inside) in
+    let u = trace_of c.write_run.new.self in
+    let is : w ≡ model.put ws (old b) = c.put.ensures.bytes ∙ (λ i. model.put (zip ((c.deref.ensures.value ∙ c.in_ok-places.ensures) i) bytes) (c.in_ok-block.ensures.block i)) in
+    ap (λ (bs : Base → List ℕ). record u { names = names; bytes = bs; next = c.self.inside.next }) (c.in_ok-set_block.ensures ∙ ap (running.with_base b w) c.in_ok-block.ensures.after)
+    ∙ ap (λ (r : running.Running). having_block b w (having_block b [] r)) (written_over b ps (trace_of c.self.inside.trace) u names old c.self.inside.next c.in_ok-write_run.ensures)
+    ∙ stores_by_parts b ps ws w r is (λ p. is_in-run p c.args.place bytes)
+    ∙ ap (λ (s : State). running.done (running.Storing b ws) (live s)) c.self.view_is

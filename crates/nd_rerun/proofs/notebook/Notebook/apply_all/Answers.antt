@@ -1,6 +1,6 @@
 use Rattle.std.proofs.Common.{rules, sym}
 use Rattle.nd_model.proofs.Books.{any_book_labels}
-use Rattle.nd_rerun.specs.Edits.{book_of}
+use Rattle.nd_model.specs.Notebook.{book_of}
 use Rattle.nd_rerun.proofs.Answered.{leads_to_end, leads_on, answer_distinct}
 use Rattle.nd_rerun.proofs.Small.{same_distinct}
 use Rattle.nd_rerun.proofs.notebook.Notebook.apply_all.Goals as goal

@@ -28,8 +28,8 @@ pub nonzero_div-left : goal.nonzero_div-left
 nonzero_div-left c = each_some (item_size c.args.self.now.element) c.as_slice-length-items.result.now c.as_slice-strides.result.now c.loop-axis.axis c.loop-axis.each c.loop-axis.left c.loop-axis.place _ c.loop-axis.invariant
     (rw (← c.self.view_is) c.self.invariant.some) c.loop-axis-test.true (ap length c.as_slice-strides.ensures ∙ c.self.invariant.axes ∙ sym (ap length c.as_slice-length-items.ensures))
 
-pub moved-place-requires-clause-low : goal.moved-place-requires-clause-low
-moved-place-requires-clause-low c =
+pub shift_place-place-requires-clause-low : goal.shift_place-place-requires-clause-low
+shift_place-place-requires-clause-low c =
     let fits : FitsSigned w128 (get_or c.as_slice-strides.result.now c.loop-axis.axis (pos 0)) = search rules in
     rw (
       to_z-of_z w128 _ fits,
@@ -37,8 +37,8 @@ moved-place-requires-clause-low c =
           (rw (← c.self.view_is) c.self.invariant.some) c.loop-axis-test.true (ap length c.as_slice-strides.ensures ∙ c.self.invariant.axes ∙ sym (ap length c.as_slice-length-items.ensures)),
     ) (omega (arith, ints))
 
-pub moved-place-requires-clause-high : goal.moved-place-requires-clause-high
-moved-place-requires-clause-high c =
+pub shift_place-place-requires-clause-high : goal.shift_place-place-requires-clause-high
+shift_place-place-requires-clause-high c =
     let fits : FitsSigned w128 (get_or c.as_slice-strides.result.now c.loop-axis.axis (pos 0)) = search rules in
     let below = to_below (item_size c.args.self.now.element) c.as_slice-length-items.result.now c.as_slice-strides.result.now c.loop-axis.axis c.loop-axis.each c.loop-axis.left c.loop-axis.place _ c.loop-axis.invariant
     (rw (← c.self.view_is) c.self.invariant.some) c.loop-axis-test.true (ap length c.as_slice-strides.ensures ∙ c.self.invariant.axes ∙ sym (ap length c.as_slice-length-items.ensures)) in
@@ -57,12 +57,12 @@ loop-axis-preserved c =
     let fits : FitsSigned w128 (get_or c.as_slice-strides.result.now c.loop-axis.axis (pos 0)) = search rules in
     let next = go (item_size c.args.self.now.element) c.as_slice-length-items.result.now c.as_slice-strides.result.now c.loop-axis.axis c.loop-axis.each c.loop-axis.left c.loop-axis.place _ c.loop-axis.invariant
     (rw (← c.self.view_is) c.self.invariant.some) c.loop-axis-test.true (ap length c.as_slice-strides.ensures ∙ c.self.invariant.axes ∙ sym (ap length c.as_slice-length-items.ensures)) in
-    let here : pos c.moved-place.result ≡ pos next.to
-    = c.moved-place.ensures
+    let here : pos c.shift_place-place.result ≡ pos next.to
+    = c.shift_place-place.ensures
     ∙ ap (λ z. pos c.loop-axis.place +ℤ (pos (c.loop-axis.left / (c.loop-axis.each / get_or c.as_slice-length-items.result.now c.loop-axis.axis 0)) *ℤ z)) (to_z-of_z w128 _ fits)
     ∙ way (item_size c.args.self.now.element) c.as_slice-length-items.result.now c.as_slice-strides.result.now c.loop-axis.axis c.loop-axis.each c.loop-axis.left c.loop-axis.place _ c.loop-axis.invariant
     (rw (← c.self.view_is) c.self.invariant.some) c.loop-axis-test.true (ap length c.as_slice-strides.ensures ∙ c.self.invariant.axes ∙ sym (ap length c.as_slice-length-items.ensures)) in
-    let to : c.moved-place.result ≡ next.to = cc in
+    let to : c.shift_place-place.result ≡ next.to = cc in
     rw to (onwards (item_size c.args.self.now.element) c.as_slice-length-items.result.now c.as_slice-strides.result.now c.loop-axis.axis c.loop-axis.each c.loop-axis.left c.loop-axis.place _ c.loop-axis.invariant
     (rw (← c.self.view_is) c.self.invariant.some) c.loop-axis-test.true (ap length c.as_slice-strides.ensures ∙ c.self.invariant.axes ∙ sym (ap length c.as_slice-length-items.ensures)))
 

@@ -1,0 +1,2 @@
+mod Structures
+mod Pushed

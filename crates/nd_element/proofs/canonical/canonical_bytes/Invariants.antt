@@ -1,0 +1,23 @@
+use Rattle.std.proofs.Common.{◌≡◌, ◌+◌, ◌≤◌, ◌^◌, ◌++◌, length, drop}
+use Rattle.std.specs.List.{All, concat, flat_map}
+use Rattle.nd_element.specs.Elements.{canonical_at}
+use Rattle.nd_model.specs.View.{item_size}
+use Rattle.nd_element.proofs.canonical.canonical_bytes.Given as goal
+
+abbrev pub invariant-loop-number : goal.invariant-loop-number
+invariant-loop-number l = record {
+  all : l.all.items ++ (flat_map (canonical_at l.view.element l.bytes) (drop l.number l.run) ++ flat_map (canonical_at l.view.element l.bytes) (concat l.runs))
+      ≡ flat_map (canonical_at l.view.element l.bytes) l.view.places;
+  ends : All (λ p. p + item_size l.view.element ≤ 2 ^ 64) l.run;
+  rest : All (λ p. p + item_size l.view.element ≤ 2 ^ 64) (concat l.runs);
+}
+
+abbrev pub invariant-loop-run : goal.invariant-loop-run
+invariant-loop-run l = record {
+  all : l.all.items ++ flat_map (canonical_at l.view.element l.bytes) (concat l.runs)
+      ≡ flat_map (canonical_at l.view.element l.bytes) l.view.places;
+  ends : All (λ p. p + item_size l.view.element ≤ 2 ^ 64) (concat l.runs);
+}
+
+abbrev pub decreases-loop-run : goal.decreases-loop-run
+decreases-loop-run l = length l.runs

@@ -1,0 +1,120 @@
+//! The bytes of elements as they are shown: each number in its type's own form, and pad bytes 0.
+
+ghost use Rattle.std.specs.Prelude.{◌≡◌, ◌+◌, ◌≤◌, ◌^◌, drop, slice_index, IfOk, OnOk};
+ghost use Rattle.nd_model.specs.Content.{number_at};
+ghost use Rattle.nd_model.specs.Element.{IsValue};
+ghost use Rattle.nd_model.specs.View.{item_size};
+ghost use Rattle.nd_types.specs.Types.{type_of};
+ghost use Rattle.nd_element.specs.Elements as elements;
+ghost use Rattle.nd_element.specs.Elements.{Appends, canonical_at, canonical_structure};
+
+use nd_block::{RawBlock, push_bytes, value_at};
+use nd_types::{Elem, ElemType, RecType};
+use nd_view::View;
+use std::alloc::{AllocError, Global};
+
+// The byte at a place, 0 past the end.
+fn byte_at(bytes: &[u8], place: usize) -> u8
+    ensures { result ≡ slice_index bytes.now place }
+{
+    bytes.get(place).copied().unwrap_or(0)
+}
+
+// The bytes from a place on, none past the end.
+fn bytes_from(bytes: &[u8], place: usize) -> &[u8]
+    ensures { result.now ≡ drop place bytes.now }
+{
+    bytes.get(place..).unwrap_or(&[])
+}
+
+// The number at a place of which the bytes may end before it does. They are 0 past their end.
+#[inline(never)]
+fn number_past(bytes: &[u8], place: usize, elem: Elem) -> i128
+    ensures value { result ≡ number_at elem bytes.now place }
+    ensures in_range { IsValue elem.kind result }
+{
+    let rest = bytes_from(bytes, place);
+    let run = [
+        byte_at(rest, 0),
+        byte_at(rest, 1),
+        byte_at(rest, 2),
+        byte_at(rest, 3),
+        byte_at(rest, 4),
+        byte_at(rest, 5),
+        byte_at(rest, 6),
+        byte_at(rest, 7),
+    ];
+    value_at(&run, 0, elem)
+}
+
+// The number at a place of these bytes, which are 0 past their end.
+fn number(bytes: &[u8], place: usize, elem: Elem) -> i128
+    ensures value { result ≡ number_at elem bytes.now place }
+    ensures in_range { IsValue elem.kind result }
+{
+    let size = elem.size() as usize;
+    if size <= bytes.len() && place <= bytes.len() - size {
+        value_at(bytes, place, elem)
+    } else {
+        number_past(bytes, place, elem)
+    }
+}
+
+// The structure at a place of these bytes, its pad bytes 0.
+fn structure_at(
+    alloc: Global,
+    bytes: &[u8],
+    place: usize,
+    structure: &RecType,
+) -> Result<RawBlock, AllocError>
+    requires { place + structure.now.1 ≤ 2 ^ 64 }
+    ensures { IfOk result (λ b. b ≡ canonical_structure structure.now bytes.now place) }
+{
+    let mut block = RawBlock::zeroed(alloc, structure.size() as usize)?;
+    for field in structure.fields() {
+        let value = number(bytes, place + field.at as usize, field.elem);
+        block.store(u64::from(field.at), field.elem, value);
+    }
+    Ok(block)
+}
+
+// Appends the bytes of the element that begins at a place of these bytes.
+fn push_canonical(
+    alloc: Global,
+    all: &mut Vec<u8>,
+    bytes: &[u8],
+    at: usize,
+    elem: &ElemType,
+) -> Result<(), AllocError>
+    requires { at + item_size (type_of elem.now) ≤ 2 ^ 64 }
+    ensures { OnOk result (Appends (canonical_at (type_of elem.now) bytes.now at) all.old all.new) }
+{
+    match elem {
+        ElemType::One(elem) => push_bytes(all, *elem, number(bytes, at, *elem)),
+        ElemType::Rec(structure) => {
+            let block = structure_at(alloc, bytes, at, structure)?;
+            all.extend_from_slice(block.as_slice())
+        }
+    }
+}
+
+/// Returns the bytes of a view's elements in C order, as the block with these bytes holds them, in the view's own type: a Boolean
+/// is 0 or 1, and pad bytes are 0. A byte past the end of the block is taken for 0.
+pub fn canonical_bytes(alloc: Global, view: &View, bytes: &[u8]) -> Result<Vec<u8>, AllocError>
+    ensures { IfOk result (λ v. v.items ≡ elements.canonical_bytes view.now bytes.now) }
+{
+    let mut all = Vec::new(alloc);
+    let mut runs = view.runs();
+    while let Some(run) = runs.next() {
+        for number in 0..run.count() {
+            push_canonical(
+                alloc,
+                &mut all,
+                bytes,
+                run.place(number) as usize,
+                view.elem(),
+            )?;
+        }
+    }
+    Ok(all)
+}

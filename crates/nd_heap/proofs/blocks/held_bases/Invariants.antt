@@ -1,0 +1,10 @@
+use Rattle.std.proofs.Common.{◌≡◌, ◌||◌, drop}
+use Rattle.nd_model.specs.Value as values
+use Rattle.nd_model.specs.Session as model
+use Rattle.nd_heap.specs.Values.{names_of}
+use Rattle.nd_heap.specs.Contents.{bases_of}
+use Rattle.nd_heap.specs.Live.{is_base_among}
+use Rattle.nd_heap.proofs.blocks.held_bases.Given as goal
+
+abbrev pub invariant-loop-i : goal.invariant-loop-i
+invariant-loop-i l = (b : values.Base) → (is_base_among (bases_of l.held.entries) b || model.is_held b (names_of (drop l.i l.names.entries))) ≡ model.is_held b (names_of l.names.entries)

@@ -1,0 +1,11 @@
+use Rattle.std.proofs.Common.{◌∙◌, ap, cond, [], ⊎_elim}
+use Rattle.std.specs.Prelude.{is_ok}
+use Rattle.nd_heap.specs.Contents.{blocks_of, bases_of}
+use Rattle.nd_heap.specs.Live.{bytes_at, is_base_among}
+use Rattle.nd_heap.proofs.Bases.{cloned_blocks, kept_filter}
+use Rattle.nd_heap.proofs.blocks.keep_held.Goals as goal
+
+pub returns : goal.returns
+returns c = λ b. ap (λ m. bytes_at (blocks_of m.entries) b) (c.make_mut.follows.holds c.retain_held.new.blocks (ap is_ok c.in_ok-own.was))
+    ∙ ap (λ es. bytes_at (blocks_of es) b) c.retain_held.ensures ∙ kept_filter (is_base_among (bases_of c.args.held.now.entries)) b c.in_ok-own.own.now.entries
+    ∙ ap (λ bs. cond (is_base_among (bases_of c.args.held.now.entries) b) (bytes_at bs b) []) (⊎_elim (λ e. ap (λ m. blocks_of m.entries) e) (cloned_blocks _ _) c.in_ok-own.ensures.value)

@@ -1,0 +1,15 @@
+use Rattle.std.proofs.Common.{◌∙◌, ap}
+use Rattle.nd_model.specs.Running as running
+use Rattle.nd_heap.specs.Contents.{blocks_of}
+use Rattle.nd_heap.specs.Fields.{trace_of}
+use Rattle.nd_heap.specs.Live.{bytes_at}
+use Rattle.nd_heap.specs.Live.{live}
+use Rattle.nd_heap.specs.State.{State}
+use Rattle.nd_heap.specs.Values.{names_of}
+use Rattle.nd_heap.proofs.Sessions.{noted_over}
+use Rattle.nd_heap.proofs.session.Session.ask.Goals as goal
+
+pub returns : goal.returns
+unfolding live
+returns c = noted_over (running.is_input c.args.name.now) (trace_of c.self.inside.trace) (trace_of c.note_input.new.self) (names_of c.self.inside.names.value.entries) (bytes_at (blocks_of c.self.inside.blocks.value.entries)) c.self.inside.next c.in_ok-note_input.ensures
+    ∙ ap (λ (s : State). running.after (running.Ask c.args.name.now) (live s)) c.self.view_is

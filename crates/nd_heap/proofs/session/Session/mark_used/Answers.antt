@@ -1,0 +1,16 @@
+use Rattle.std.proofs.Common.{◌∙◌, ap}
+use Rattle.nd_model.specs.Running as running
+use Rattle.nd_model.specs.View.{byte_places}
+use Rattle.nd_heap.specs.Contents.{blocks_of}
+use Rattle.nd_heap.specs.Fields.{trace_of}
+use Rattle.nd_heap.specs.Live.{bytes_at}
+use Rattle.nd_heap.specs.Live.{live}
+use Rattle.nd_heap.specs.State.{State}
+use Rattle.nd_heap.specs.Values.{base_of, geo_of, names_of}
+use Rattle.nd_heap.proofs.Sessions.{noted_over}
+use Rattle.nd_heap.proofs.session.Session.mark_used.Goals as goal
+
+pub returns : goal.returns
+unfolding live
+returns c = noted_over (running.is_byte (base_of c.args.array.now.base) (byte_places (geo_of c.args.array.now))) (trace_of c.self.inside.trace) (trace_of c.note_view.new.self) (names_of c.self.inside.names.value.entries) (bytes_at (blocks_of c.self.inside.blocks.value.entries)) c.self.inside.next c.in_ok-note_view.ensures
+    ∙ ap (λ (s : State). running.after (running.Use (base_of c.args.array.now.base) (byte_places (geo_of c.args.array.now))) (live s)) c.self.view_is

@@ -1,0 +1,98 @@
+//! Sets of places as words of 64 bits.
+ghost use Rattle.std.specs.Prelude.{◌≡◌, ℕ, ◌+◌, ◌-◌, ◌*◌, ◌^◌, ◌<◌, ◌≤◌, ◌||◌, ◌&&◌, not, nat_le, nat_lt, nat_eq, length, slice_index, OnOk};
+ghost use Rattle.std.specs.Int.{bit_at};
+ghost use Rattle.nd_marks.specs.Marks.{has_bit, in_word};
+
+use std::alloc::AllocError;
+
+/// The lowest bits of a word.
+fn ones(count: u64) -> u64
+    requires { count ≤ 64 }
+    ensures { result ≡ 2 ^ count - 1 }
+{
+    if count == 64 {
+        u64::MAX
+    } else {
+        (1 << count) - 1
+    }
+}
+
+/// The bits from one on, before another.
+fn mask(from: u64, to: u64) -> u64
+    requires { (from ≤ to) × (to ≤ 64) }
+    ensures { result ≡ 2 ^ to - 2 ^ from }
+{
+    ones(to) - ones(from)
+}
+
+/// The word of this number, 0 past the last.
+fn word_of(words: &[u64], at: usize) -> u64
+    ensures { result ≡ slice_index words.now at }
+{
+    match words.get(at) {
+        Some(word) => *word,
+        None => 0,
+    }
+}
+
+/// Whether the bit of a place is set.
+pub(crate) fn is_set(words: &[u64], place: u64) -> bool
+    ensures { result ≡ has_bit words.now place }
+{
+    (word_of(words, (place / 64) as usize) >> (place % 64)) & 1 == 1
+}
+
+/// Appends words without bits, up to so many.
+fn grow(words: &mut Vec<u64>, count: u64) -> Result<(), AllocError>
+    ensures same { OnOk result ((q : ℕ)
+        → slice_index words.new.items q ≡ slice_index words.old.items q) }
+    ensures room { OnOk result (count ≤ length words.new.items) }
+{
+    for _ in words.len() as u64..count {
+        words.push(0)?;
+    }
+    Ok(())
+}
+
+/// Sets the bits of a word from one on, before another, but for those of the exceptions.
+fn set_word(words: &mut Vec<u64>, at: usize, from: u64, to: u64, except: u64)
+    requires { (at < length words.old.items) × (from ≤ to) × (to ≤ 64) }
+    ensures len { length words.new.items ≡ length words.old.items }
+    ensures bits { (q i : ℕ) → i < 64
+        → in_word (slice_index words.new.items q) i ≡ (in_word (slice_index words.old.items q) i
+        || (nat_eq q at && ((nat_le from i && nat_lt i to) && not (in_word except i)))) }
+{
+    words[at] = words[at] | (mask(from, to) & !except);
+}
+
+/// Sets the bits of the places from one on, before another, but for those of the exceptions.
+pub(crate) fn set_bits(
+    words: &mut Vec<u64>,
+    from: u128,
+    to: u128,
+    except: &[u64],
+) -> Result<(), AllocError>
+    requires { to ≤ 2 ^ 64 }
+    ensures { OnOk result ((p : ℕ) → has_bit words.new.items p ≡ (has_bit words.old.items p
+        || ((nat_le from p && nat_lt p to) && not (has_bit except.now p)))) }
+{
+    if to <= from {
+        return Ok(());
+    }
+    let first = (from / 64) as u64;
+    let end = ((to - 1) / 64 + 1) as u64;
+    grow(words, end)?;
+    for at in first..end {
+        let low = u128::from(at) * 64;
+        let start = (from.max(low) - low) as u64;
+        let stop = (to - low).min(64) as u64;
+        set_word(
+            words,
+            at as usize,
+            start,
+            stop,
+            word_of(except, at as usize),
+        );
+    }
+    Ok(())
+}

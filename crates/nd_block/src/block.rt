@@ -172,6 +172,14 @@ impl RawBlock {
     }
 }
 
+impl Clone for RawBlock {
+    ghost is_clone = { λ b c. c ≡ b };
+
+    fn clone(&self) -> Result<RawBlock, AllocError> {
+        self.try_clone()
+    }
+}
+
 impl Drop for RawBlock {
     fn drop(self) {
         let RawBlock {

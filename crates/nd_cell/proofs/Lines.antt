@@ -1,16 +1,17 @@
 -- The lines of a cell, one after another.
-use Rattle.std.proofs.Common.{◌≡◌, ℕ, ◌+◌, ◌<◌, true, false, leb, List, [], ◌∷◌, ◌++◌, length, drop, get_or, Option, None, Some, option_map, is_some, Ok, refl, sym, ap, ap₂, ◌∙◌, inl, inr, add-one, drop-cons, String, string_bytes, Vec, Global}
+use Rattle.std.proofs.Common.{◌≡◌, ℕ, ◌+◌, ◌<◌, true, false, leb, List, [], ◌∷◌, ◌++◌, length, length-append, drop, get_or, Option, None, Some, option_map, is_some, Result, Ok, Err, arith, refl, sym, ap, ap₂, ◌∙◌, inl, inr, add-one, drop-cons, String, string_bytes, Vec, Global}
 use Rattle.std.specs.Prelude.{string_eq, bytes_eq}
 use Rattle.std.proofs.lemmas.Bool.{cases_Bool}
 use Rattle.indexmap.specs.IndexMap.{insert_entry}
 use Rattle.nd_model.specs.Session.{bind}
 use Rattle.nd_model.specs.Running.{Running, Inputs, Output}
-use Rattle.nd_model.specs.Fault.{Statement, TextTooLong}
+use Rattle.nd_model.specs.Fault.{Fault, Statement, TextTooLong}
 use Rattle.nd_model.specs.Fault as fault
 use Rattle.nd_model.specs.Cell.{Ended, Saved, statement, statements, and_then, with_save, most_text}
 use Rattle.nd_model.specs.Tokens.{tokens_of_stmt, tokens_of_lines}
 use Rattle.nd_syntax.specs.declared.tree.Line.{Line}
 use Rattle.nd_syntax.specs.Syntax.{stmt_of, lines_of}
+use Rattle.nd_model.specs.Cell.{limit_text}
 use Rattle.nd_cell.specs.declared.result.Refusal.{Refusal}
 use Rattle.nd_cell.specs.declared.result.CellResult.{CellResult}
 use Rattle.nd_cell.specs.Results.{after_line, ended_of, refusal_of, saved_of, saves_of}
@@ -68,3 +69,25 @@ saves-insert n v (e ∷ es) = elim (cases_Bool (bytes_eq (string_bytes n) (strin
   | inl is ↦ rw is refl
   | inr other ↦ rw other (ap (λ es. saved_of e ∷ es) (saves-insert n v es))
 ]
+
+-- ---- a text that no cell takes
+
+-- behind another text it is too long as well
+too_long_behind : (text more : List ℕ) → leb (length more) most_text ≡ false → leb (length (text ++ more)) most_text ≡ false
+too_long_behind text more long = grind (arith, length-append)
+
+-- so it may be refused before it is built
+pub limited_and_then : (line : ℕ) (text : List ℕ) (saves : Saved) (m : Result Output Fault × Running) (rest : List ℕ → Saved → Running → Ended)
+    → and_then line text saves (limit_text m) rest ≡ and_then line text saves m rest
+limited_and_then line text saves (Ok o, x) rest = elim (cases_Bool (leb (length o.text) most_text)) [
+  | inl fits ↦ rw fits refl
+  | inr long ↦ rw long (sym (text_too_long line text saves o (too_long_behind text o.text long) x rest))
+]
+limited_and_then line text saves (Err f, x) rest = refl
+
+-- a statement that is known up to that goes on as it would
+pub limited_line : (line : ℕ) (text : List ℕ) (saves : Saved) (m : Result Output Fault × Running) (out : Result Output Fault) (x : Running)
+    → limit_text m ≡ (out, x) → (rest : List ℕ → Saved → Running → Ended)
+    → and_then line text saves m rest ≡ and_then line text saves (out, x) rest
+limited_line line text saves m out x told rest =
+    sym (limited_and_then line text saves m rest) ∙ ap (λ (m : Result Output Fault × Running). and_then line text saves m rest) told

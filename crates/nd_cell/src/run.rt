@@ -5,6 +5,7 @@ ghost use Rattle.nd_model.specs.Fault as refusals;
 ghost use Rattle.nd_model.specs.Running as running;
 ghost use Rattle.nd_model.specs.Running.{Running};
 ghost use Rattle.nd_model.specs.Cell.{Ended, Saved, and_then, cell, statement, statements, with_save};
+ghost use Rattle.nd_model.specs.Footprint.{HasNone};
 ghost use Rattle.nd_model.specs.Tokens.{tokens_of_lines, tokens_of_stmt};
 ghost use Rattle.nd_model.specs.Reading.{reading};
 ghost use Rattle.nd_syntax.specs.Syntax.{kind_of, lines_of, stmt_of};
@@ -144,6 +145,7 @@ pub fn run_cell(
     label: u64,
     text: &str,
 ) -> Result<CellResult, OutOfMemory>
+    requires { HasNone label (running.session_of (live session.old)) }
     ensures ended { IfOk result (λ r.
         cell label (reading text.now) (inputs_of inputs.now.entries)
         (running.session_of (live session.old))

@@ -60,6 +60,13 @@ fn number(bytes: &[u8], place: usize, elem: Elem) -> i128
     }
 }
 
+/// Returns the number of the element that begins at a place of these bytes. A byte past the end is taken for 0.
+pub fn number_in(bytes: &[u8], place: u64, elem: Elem) -> i128
+    ensures { result ≡ number_at elem bytes.now place }
+{
+    number(bytes, place as usize, elem)
+}
+
 // The structure at a place of these bytes, its pad bytes 0.
 fn structure_at(
     alloc: Global,

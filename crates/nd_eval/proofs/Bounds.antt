@@ -190,10 +190,6 @@ of_meaning s = refuses (tokens_of_stmt s) _
 pub next_value : (i : Inputs) (e : Expr) (r s : Running) (o : Result Value Fault) → run i (meaning.value e) r ≡ (o, s) → s.next ≤ r.next + tokens_of e
 next_value i e r s o h = subst (λ (x : Result Value Fault × Running). x.1.next ≤ r.next + tokens_of e) h ((of_value e).bound i r)
 
--- a use makes none
-pub next_used : (i : Inputs) (u : Usage) (v : Value) (r s : Running) (o : Result Operand Fault) → run i (operation.use_operand u v) r ≡ (o, s) → s.next ≤ r.next + 0
-next_used i u v r s o h = subst (λ (x : Result Operand Fault × Running). x.1.next ≤ r.next + 0) h ((of_use u v).bound i r)
-
 -- an index makes one more than what it is made of at most
 pub next_at_index : (i : Inputs) (t : Value) (x : Index) (r s : Running) (o : Result Value Fault) → run i (item_value x >>= element_value t) r ≡ (o, s) → s.next ≤ r.next + (tokens_of_index x + 1)
 next_at_index i t x r s o h =
@@ -214,5 +210,5 @@ next_done i s e r m x h end =
     let made = subst (λ (o : Result Effect Fault × Running). o.1.next ≤ r.next + tokens_of_stmt s) h ((of_meaning s).bound i r) in
     rw (end, done_next e m) made
 
-pub next_refused : (i : Inputs) (s : Stmt) (f : Fault) (r m : Running) → run i (meaning.meaning s) r ≡ (Err f, m) → m.next ≤ r.next + tokens_of_stmt s
-next_refused i s f r m h = subst (λ (o : Result Effect Fault × Running). o.1.next ≤ r.next + tokens_of_stmt s) h ((of_meaning s).bound i r)
+pub next_ended : (i : Inputs) (s : Stmt) (r m : Running) → (run i (meaning.meaning s) r).1 ≡ m → m.next ≤ r.next + tokens_of_stmt s
+next_ended i s r m h = subst (λ (x : Running). x.next ≤ r.next + tokens_of_stmt s) h ((of_meaning s).bound i r)

@@ -10,6 +10,7 @@ use Rattle.nd_eval.specs.declared.fault.StmtFault.{StmtFault}
 use Rattle.nd_eval.specs.declared.stop.Stop.{Stop}
 use Rattle.nd_eval.specs.declared.stop.Stop.TheVariants.{Memory, Refused}
 use Rattle.nd_eval.specs.Ends.{Ends, Says, Makes}
+use Rattle.nd_eval.specs.Faults.{fault_of}
 
 stops : {A B X Y : Type 0} (v : X → A) (w : Y → B) (i : Inputs) (t : Eval A) (f : A → Eval B) (r s : Running) (e : Stop)
     → Ends v (Err e) s (run i t r) → Ends w (Err e) s (run i (t >>= f) r)
@@ -65,14 +66,15 @@ pub goes_making : {A B X : Type 0} (v : X → A) (i : Inputs) (t : Result A Faul
     → Makes v (Ok x) t → run i (decide t >>= f) r ≡ run i (f (v x)) r
 goes_making v i t f r x first = goes v i (decide t) f r r x (ap (λ t. run i (decide t) r) first)
 
--- ---- one part worked out after another
+-- a refusal that is told
+pub makes_refused : {A Y : Type 0} (w : Y → A) (m : Result A Fault) (f : StmtFault) (o : Result Y Stop) → IsErrAnd o (λ x. x ≡ Refused f) → m ≡ Err (fault_of f) → Makes w o m
+makes_refused {A} {Y} w m f o is h =
+    let p : (x : Stop) × (o ≡ Err x) × (x ≡ Refused f) = err_from_is_err_and o is in
+    subst (λ (o : Result Y Stop). Makes w o m) (sym (p.1 ∙ ap Err p.2)) h
 
-pub fails : {A B X Y : Type 0} (v : X → A) (w : Y → B) (t : Result A Fault) (f : A → Result B Fault) (e : Stop) → Makes v (Err e) t → Makes w (Err e) (refusing.◌>>=◌ t f)
-fails v w t f Memory h = tt
-fails v w t f (Refused e) h = ap (λ m. refusing.◌>>=◌ m f) h
-
-pub makes_not : {A B X Y : Type 0} (v : X → A) (w : Y → B) (t : Result A Fault) (f : A → Result B Fault) (e : Stop) (o : Result Y Stop)
-    → IsErrAnd o (λ x. x ≡ e) → Makes v (Err e) t → Makes w o (refusing.◌>>=◌ t f)
-makes_not {A} {B} {X} {Y} v w t f e o is h =
-    let p : (x : Stop) × (o ≡ Err x) × (x ≡ e) = err_from_is_err_and o is in
-    subst (λ (o : Result Y Stop). Makes w o (refusing.◌>>=◌ t f)) (sym (p.1 ∙ ap Err p.2)) (fails v w t f e h)
+-- and where what comes first is refused
+pub says_not : {A B Y : Type 0} (w : Y → B) (t : Result A Fault) (f : A → Result B Fault) (e : StmtFault) (o : Result Y StmtFault)
+    → IsErrAnd o (λ x. x ≡ e) → t ≡ Err (fault_of e) → Says w o (refusing.◌>>=◌ t f)
+says_not {A} {B} {Y} w t f e o is h =
+    let p : (x : StmtFault) × (o ≡ Err x) × (x ≡ e) = err_from_is_err_and o is in
+    subst (λ (o : Result Y StmtFault). Says w o (refusing.◌>>=◌ t f)) (sym (p.1 ∙ ap Err p.2)) (ap (λ m. refusing.◌>>=◌ m f) h)

@@ -1,16 +1,20 @@
--- The numbers of elements that were used, and their bytes.
-use Rattle.std.proofs.Common.{◌≡◌, ◌≢◌, ℕ, zero, suc, length, length-append, ◌+◌, ◌*◌, ◌≤◌, ℤ, List, [], ◌∷◌, ◌++◌, map, Ok, refl, sym, ap, ap₂, ◌∙◌, arith}
-use Rattle.std.proofs.lemmas.List.{length-map, map-append}
-use Rattle.std.specs.List.{flat_map}
-use Rattle.nd_model.specs.Element.{Element, size_of, value_of, bytes_at}
+-- The numbers of elements that are used, in the block that they lie in.
+use Rattle.std.proofs.Common.{◌≡◌, ◌≢◌, ℕ, zero, suc, length, ◌+◌, ◌-◌, ◌<◌, ◌≤◌, List, [], ◌∷◌, ◌++◌, map, take, drop, Bool, true, false, Ok, refl, sym, ap, ap₂, subst, ◌∙◌, arith}
+use Rattle.std.specs.Prelude.{slice_index}
+use Rattle.std.specs.List.{All}
+use Rattle.std.specs.Int.{byte_len, byte_worth, sum_through}
+use Rattle.nd_model.specs.Element.{Element, width_of, size_of, value_in, number_in as number_of_bytes, value_of, bytes_at}
 use Rattle.nd_model.specs.Tuple.{count_up}
-use Rattle.nd_model.specs.View.{ElementType, One, Structure, element_places}
-use Rattle.nd_model.specs.Content.{number_in, number_at, content_at, contents_in}
+use Rattle.nd_model.specs.View.{ElementType, One, Structure, Geo, item_size}
+use Rattle.nd_model.specs.Content.{number_in, number_at, content_at}
 use Rattle.nd_model.specs.Writing.{number_type, first_of}
 use Rattle.nd_model.specs.Text.{array_text}
 use Rattle.nd_model.specs.Printing.{elements_text}
-use Rattle.nd_model.proofs.Tuples.{length-count_up}
-use Rattle.nd_eval.specs.Contents.{numbers_in}
+use Rattle.nd_model.specs.Sound.{LiesIn}
+use Rattle.nd_model.proofs.Uses.{used_numbers}
+use Rattle.nd_types.proofs.Sized.{some_bytes}
+use Rattle.nd_element.specs.Elements.{AreHeld, numbers_at}
+use Rattle.nd_eval.specs.Contents.{contents_over}
 
 -- what has a number is no structure
 pub is_one : (t : ElementType) (e : Element) → number_type t ≡ Ok e → t ≡ One e
@@ -27,47 +31,71 @@ one_more k =
     let same : 0 + k ≡ k = omega arith in
     ap (count_up 0) last ∙ up_more 0 k ∙ ap (λ n. count_up 0 k ++ n ∷ []) same
 
--- one number more
-pub numbers_more : (e : Element) (k size : ℕ) (bytes : List ℕ) (done : List ℤ) (z : ℤ) → size ≡ size_of e.kind
-    → z ≡ value_of e (bytes_at bytes (k * size) (size_of e.kind)) → done ≡ numbers_in e k bytes → done ++ z ∷ [] ≡ numbers_in e (k + 1) bytes
-numbers_more e k size bytes done z is at so_far =
-    let f : ℕ → ℤ = λ k. number_at e bytes (k * size_of e.kind) in
-    ap₂ (λ l z. l ++ z ∷ []) so_far (at ∙ ap (λ s. value_of e (bytes_at bytes (k * s) (size_of e.kind))) is)
-    ∙ sym (ap (map f) (one_more k) ∙ map-append f (count_up 0 k) (k ∷ []))
+-- ---- all elements of an array
 
-pub length-numbers_in : (e : Element) (n : ℕ) (bytes : List ℕ) → length (numbers_in e n bytes) ≡ n
-length-numbers_in e n bytes = length-map (count_up 0 n) (λ k. number_at e bytes (k * size_of e.kind)) ∙ length-count_up 0 n
+-- every byte of its numbers is one of the block
+pub numbers_held : (g : Geo) (e : Element) (block : List ℕ) → g.element ≡ One e → LiesIn (length block) g → AreHeld e block g.places
+numbers_held g e block one held = subst (λ t. All (λ p. p + item_size t ≤ length block) g.places) one held.inside
 
--- the numbers of the contents
-pub numbers_of_contents : (e : Element) (n : ℕ) (bytes : List ℕ) → map number_in (contents_in (One e) n bytes) ≡ numbers_in e n bytes
-numbers_of_contents e n bytes = go (count_up 0 n)
-  where
-    go : (ks : List ℕ) → map number_in (map (λ k. content_at (One e) bytes (k * size_of e.kind)) ks) ≡ map (λ k. number_at e bytes (k * size_of e.kind)) ks
-    go [] = refl
-    go (k ∷ ks) = ap (λ l. number_at e bytes (k * size_of e.kind) ∷ l) (go ks)
+contents_are : (g : Geo) (e : Element) (block : List ℕ) → g.element ≡ One e → AreHeld e block g.places → contents_over g block ≡ map (content_at (One e) block) g.places
+contents_are g e block one held = rw one (used_numbers e block g.places held)
 
--- the first one
-pub first_in : (e : Element) (n : ℕ) (bytes : List ℕ) → n ≢ 0 → value_of e (bytes_at bytes 0 (size_of e.kind)) ≡ first_of (contents_in (One e) n bytes)
-first_in e zero bytes some = absurd (some refl)
-first_in e (suc n) bytes some = let first : 0 ≡ 0 * size_of e.kind = omega arith in ap (λ p. value_of e (bytes_at bytes p (size_of e.kind))) first
-
-pub first_at : (t : ElementType) (e : Element) (n : ℕ) (bytes : List ℕ) → t ≡ One e → n ≢ 0 → value_of e (bytes_at bytes 0 (size_of e.kind)) ≡ first_of (contents_in t n bytes)
-first_at t e n bytes is some = rw is (first_in e n bytes some)
+numbers_of : (e : Element) (block places : List ℕ) → map number_in (map (content_at (One e) block) places) ≡ numbers_at e block places
+numbers_of e block [] = refl
+numbers_of e block (p ∷ ps) = ap (λ l. number_at e block p ∷ l) (numbers_of e block ps)
 
 -- the text of all
-pub text_parts : (t : ElementType) (e : Element) (shape : List ℕ) (n : ℕ) (bytes : List ℕ) → t ≡ One e
-    → elements_text t shape (contents_in t n bytes) ≡ Ok (array_text e.kind shape (numbers_in e n bytes))
-text_parts t e shape n bytes is = rw is (ap (λ zs. Ok (array_text e.kind shape zs)) (numbers_of_contents e n bytes))
+pub text_parts : (g : Geo) (e : Element) (block : List ℕ) → g.element ≡ One e → LiesIn (length block) g
+    → elements_text g.element g.shape (contents_over g block) ≡ Ok (array_text e.kind g.shape (numbers_at e block g.places))
+text_parts g e block one held =
+    (λ i. elements_text (one i) g.shape (contents_are g e block one (numbers_held g e block one held) i))
+    ∙ ap (λ zs. Ok (array_text e.kind g.shape zs)) (numbers_of e block g.places)
 
--- ---- how many bytes were used
+-- the first one
+first_at : (e : Element) (block places : List ℕ) → length places ≢ 0 → number_at e block (slice_index places 0) ≡ first_of (map (content_at (One e) block) places)
+first_at e block [] some = absurd (some refl)
+first_at e block (p ∷ ps) some = refl
 
-pub length-places : (e : Element) (ps : List ℕ) → length (flat_map (element_places (One e)) ps) ≡ length ps * size_of e.kind
-length-places e [] = omega arith
-length-places e (p ∷ ps) = omega (arith, length-append (count_up p (size_of e.kind)) (flat_map (element_places (One e)) ps), length-count_up p (size_of e.kind), length-places e ps)
+pub first_in : (g : Geo) (e : Element) (block : List ℕ) → g.element ≡ One e → LiesIn (length block) g → length g.places ≢ 0 → number_at e block (slice_index g.places 0) ≡ first_of (contents_over g block)
+first_in g e block one held some = first_at e block g.places some ∙ ap first_of (sym (contents_are g e block one (numbers_held g e block one held)))
 
-pub length-elements : (t : ElementType) (e : Element) (ps : List ℕ) → t ≡ One e → length (flat_map (element_places t) ps) ≡ length ps * size_of e.kind
-length-elements t e ps is = rw is (length-places e ps)
+-- ---- one element, whose bytes are 0 past the end of the block
 
-pub room_for_one : (n size len : ℕ) → n ≢ 0 → len ≡ n * size → 0 + size ≤ len
-room_for_one zero size len some is = absurd (some refl)
-room_for_one (suc n) size len some is = omega arith
+at_front : (n : ℕ) (xs : List ℕ) (i : ℕ) → i < n → slice_index (take n xs) i ≡ slice_index xs i
+at_front zero xs i lt = absurd (omega arith)
+at_front (suc n) [] i lt = refl
+at_front (suc n) (x ∷ xs) zero lt = refl
+at_front (suc n) (x ∷ xs) (suc i) lt = at_front n xs i (omega arith)
+
+after_drop : (n : ℕ) (xs : List ℕ) (i : ℕ) → slice_index (drop n xs) i ≡ slice_index xs (n + i)
+after_drop zero xs i = ap (slice_index xs) (omega arith)
+after_drop (suc n) [] i = refl
+after_drop (suc n) (x ∷ xs) i = after_drop n xs i ∙ (let e : suc n + i ≡ suc (n + i) = omega arith in sym (ap (slice_index (x ∷ xs)) e))
+
+counted_up : (f : ℕ → ℕ) (from n i : ℕ) → i < n → slice_index (map f (count_up from n)) i ≡ f (from + i)
+counted_up f from zero i lt = absurd (omega arith)
+counted_up f from (suc n) zero lt = ap f (omega arith)
+counted_up f from (suc n) (suc i) lt = counted_up f (from + 1) n i (omega arith) ∙ ap f (omega arith)
+
+same_sum : (f g : ℕ → ℕ) (n : ℕ) → ((i : ℕ) → i ≤ n → f i ≡ g i) → sum_through f n ≡ sum_through g n
+same_sum f g zero h = h 0 (omega arith)
+same_sum f g (suc n) h = ap₂ (λ a b. a + b) (same_sum f g n (λ i le. h i (omega arith))) (h (suc n) (omega arith))
+
+-- a number is told by its bytes
+module _ (e : Element) (xs ys : List ℕ) (same : (i : ℕ) → i < size_of e.kind → slice_index xs i ≡ slice_index ys i) where
+  byte : (i : ℕ) → i ≤ byte_len (width_of e.kind) - 1 → slice_index xs i ≡ slice_index ys i
+  byte i le = same i (omega (arith, some_bytes e.kind))
+
+  same_number : (big : Bool) → number_of_bytes (width_of e.kind) big xs ≡ number_of_bytes (width_of e.kind) big ys
+  same_number true = same_sum _ _ (byte_len (width_of e.kind) - 1) (λ i le. ap (byte_worth (byte_len (width_of e.kind) - 1 - i)) (byte i le))
+  same_number false = same_sum _ _ (byte_len (width_of e.kind) - 1) (λ i le. ap (byte_worth i) (byte i le))
+
+  same_value : value_of e xs ≡ value_of e ys
+  same_value = ap (value_in e.kind) (same_number e.big)
+
+pub used_alone : (e : Element) (block : List ℕ) (p : ℕ) → number_at e (map (λ q. slice_index block q) (count_up p (size_of e.kind))) 0 ≡ number_at e block p
+used_alone e block p =
+    let bytes : List ℕ = map (λ q. slice_index block q) (count_up p (size_of e.kind)) in
+    same_value e (bytes_at bytes 0 (size_of e.kind)) (bytes_at block p (size_of e.kind)) (λ i lt.
+    at_front (size_of e.kind) bytes i lt ∙ counted_up (λ q. slice_index block q) p (size_of e.kind) i lt
+    ∙ sym (at_front (size_of e.kind) (drop p block) i lt ∙ after_drop p block i))

@@ -6,5 +6,11 @@ pub mod NewArrays
 pub mod InTurn
 pub mod Indexing
 pub mod Parts
+pub mod Uses
+pub mod Held
+pub mod Texts
+pub mod Lines
+pub mod Quiet
+pub mod Prints
 pub mod Writes
-pub mod Runs
+pub mod Turns

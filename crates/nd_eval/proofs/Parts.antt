@@ -4,12 +4,12 @@ use Rattle.nd_model.specs.Fault.{Fault, BadArgument}
 use Rattle.nd_model.specs.Fault as fault
 use Rattle.nd_model.specs.Syntax.{Expr, Index, Items, AndItem, NoItem, At}
 use Rattle.nd_model.specs.Value as model
-use Rattle.nd_model.specs.Running.{Running, Inputs, Effect, Binding}
+use Rattle.nd_model.specs.Running.{Running, Inputs, Effect, Binding, Unbinding}
 use Rattle.nd_model.specs.Evaluation.{Eval, Gives, Refuses, run, ◌>>=◌, decide}
-use Rattle.nd_model.specs.Operand.{Operand, Plain, Usage, Whole, ArraysOnly, Unused, BindsFirst}
+use Rattle.nd_model.specs.Operand.{Operand, Plain, Usage, Whole, ArraysOnly, Unused, BindsFirst, Unbinds}
 use Rattle.nd_model.specs.Creation.{arange}
 use Rattle.nd_model.specs.Index.{index_array}
-use Rattle.nd_model.specs.Operation.{use_operand, operands, Computes, perform, give, choose_of, act_on, with_values, evaluate_all}
+use Rattle.nd_model.specs.Operation.{use_operand, Computes, perform, give, choose_of, act_on, with_values, evaluate_all}
 use Rattle.nd_model.specs.Meaning.{value, one, unbuilt_form, item_plans, whole_plans}
 use Rattle.nd_types.specs.declared.num.Num.{Num}
 use Rattle.nd_types.specs.declared.num.Num.TheVariants as num
@@ -18,7 +18,7 @@ use Rattle.nd_heap.specs.declared.value.Value.TheVariants.{Number, Array}
 use Rattle.nd_heap.specs.Values.{value_of}
 use Rattle.nd_model.proofs.Steps.{goes_on, run_bind}
 use Rattle.nd_eval.specs.Contents.{num_of, unused_of}
-use Rattle.nd_eval.specs.Parts.{item_value, element_value, values_then, values, wholes, use_values}
+use Rattle.nd_eval.specs.Parts.{item_value, element_value, values_then, values, wholes}
 
 -- ---- the code's values
 
@@ -67,6 +67,9 @@ attribute_refused v = unused_only v (Refuses (fault.Stmt BadArgument))
 pub binding_parts : (n : List ℕ) (v : model.Value) → act_on (λ os. Ok (BindsFirst n)) ((Unused, v) ∷ []) ≡ Gives (Binding n v)
 binding_parts n v = unused_only v (Gives (Binding n v))
 
+pub deletion_parts : (n : List ℕ) (v : model.Value) → act_on (λ os. Ok (Unbinds n)) ((Unused, v) ∷ []) ≡ Gives (Unbinding n)
+deletion_parts n v = unused_only v (Gives (Unbinding n))
+
 -- ---- the plans of an index
 
 pub item_with : (x : Index) (go : List (Usage × model.Value) → Eval model.Value) → with_values (item_plans x) go ≡ (item_value x >>= λ v. go ((ArraysOnly, v) ∷ []))
@@ -107,16 +110,3 @@ all_values i (e ∷ es) go k g r h =
 pub values_first : (i : Inputs) (es : List Expr) (go : List (Usage × model.Value) → Eval Effect) (r : Running)
     → run i (evaluate_all (whole_plans es) go) r ≡ run i (values es >>= λ vs. go (wholes vs)) r
 values_first i es go r = all_values i es go (λ vs. vs) (λ vs. go (wholes vs)) r (λ vs. refl)
-
-all_used : {A : Type 0} (i : Inputs) (vs : List (Usage × model.Value)) (go : List Operand → Eval A) (k : List Operand → List Operand) (g : List Operand → Eval A) (r : Running)
-    → ((os : List Operand) → go os ≡ g (k os)) → run i (operands vs go) r ≡ run i (operands vs (λ os. Gives (k os)) >>= g) r
-all_used i [] go k g r h = ap (λ t. run i t r) (h [])
-all_used i (v ∷ vs) go k g r h =
-    then_same i (use_operand v.0 v.1) (λ o. operands vs (λ os. go (o ∷ os))) (λ o. operands vs (λ os. Gives (k (o ∷ os))) >>= g) r
-    (λ o s. all_used i vs (λ os. go (o ∷ os)) (λ os. k (o ∷ os)) g s (λ os. h (o ∷ os)))
-    ∙ sym (regrouped i (use_operand v.0 v.1) (λ o. operands vs (λ os. Gives (k (o ∷ os)))) g r)
-
--- then all are used
-pub operands_first : {A : Type 0} (i : Inputs) (vs : List model.Value) (go : List Operand → Eval A) (r : Running)
-    → run i (operands (wholes vs) go) r ≡ run i (use_values vs >>= go) r
-operands_first i vs go r = all_used i (wholes vs) go (λ os. os) go r (λ os. refl)

@@ -1,11 +1,9 @@
 -- What the parts of an evaluation stand for.
-use Rattle.std.specs.Prelude.{ℕ, ◌*◌, ℤ, List, [], length, map, false, Vec, String, string_bytes}
+use Rattle.std.specs.Prelude.{ℕ, List, [], length, map, slice_index, false, Vec, string_bytes}
 use Rattle.std.specs.Global.{Global}
-use Rattle.nd_model.specs.Element.{Element, size_of}
-use Rattle.nd_model.specs.View.{One}
-use Rattle.nd_model.specs.Tuple.{count_up}
+use Rattle.nd_model.specs.View.{One, Geo, byte_places}
 use Rattle.nd_model.specs.Value as model
-use Rattle.nd_model.specs.Content.{number_at, contents_in, number_writes}
+use Rattle.nd_model.specs.Content.{Content, contents_in, number_writes}
 use Rattle.nd_model.specs.Operand as operand
 use Rattle.nd_model.specs.Creation.{numbers_below, at_least_zero}
 use Rattle.nd_model.specs.Running as running
@@ -27,18 +25,22 @@ use Rattle.nd_eval.specs.declared.effect.Effect.TheVariants.{Nothing, Print, Bin
 abbrev pub values_of : Vec Value Global → List model.Value
 values_of vs = map value_of vs.items
 
-abbrev pub texts_in : Vec (String Global) Global → List (List ℕ)
-texts_in ts = map string_bytes ts.items
-
 abbrev pub num_of : Num → operand.Number
 num_of (num.Int z) = operand.Int z
 num_of (num.Bool t) = operand.Truth t
 num_of (num.Scalar k z) = operand.Scalar (kind_of k) z
 
+-- the contents of a view's elements, in the block that they lie in
+abbrev pub contents_over : Geo → List ℕ → List Content
+contents_over g block = contents_in g.element (length g.places) (map (λ p. slice_index block p) (byte_places g))
+
+abbrev pub elements_over : Geo → List ℕ → operand.Operand
+elements_over g block = operand.Elements false g (contents_over g block)
+
 -- an operand that is used
 abbrev pub operand_of : Operand → operand.Operand
 operand_of (Number n) = operand.Plain (num_of n)
-operand_of (Elements e) = operand.Elements false e.view.now (contents_in e.view.now.element (length e.view.now.places) e.bytes.items)
+operand_of (Elements e) = elements_over e.view.now e.block.now
 
 abbrev pub operands_of : Vec Operand Global → List operand.Operand
 operands_of os = map operand_of os.items
@@ -47,10 +49,6 @@ operands_of os = map operand_of os.items
 abbrev pub unused_of : Value → operand.Operand
 unused_of (value.Number n) = operand.Plain (num_of n)
 unused_of (value.Array a) = operand.Elements false (geo_of a) []
-
--- the numbers of n elements that stand one after another
-abbrev pub numbers_in : Element → ℕ → List ℕ → List ℤ
-numbers_in e n bytes = map (λ k. number_at e bytes (k * size_of e.kind)) (count_up 0 n)
 
 abbrev pub made_of : Made → operand.Made
 made_of (MadeNumber n) = operand.ANumber (num_of n)

@@ -1,15 +1,16 @@
 -- How an evaluation ends, and what functions come to that ask nothing.
-use Rattle.std.specs.Prelude.{◌≡◌, List, Result, Ok, Err, String}
-use Rattle.std.proofs.Common.{Global}
+use Rattle.std.specs.Prelude.{◌≡◌, Result, Ok, Err}
 use Rattle.nd_model.specs.Fault.{Fault}
-use Rattle.nd_model.specs.Running.{Running}
+use Rattle.nd_model.specs.Running.{Running, Effect}
 use Rattle.nd_model.specs.Evaluation.{Eval, run}
-use Rattle.nd_heap.specs.declared.input.Input.{Input}
+use Rattle.nd_heap.specs.Live.{live}
 use Rattle.nd_heap.specs.Values.{inputs_of}
 use Rattle.nd_eval.specs.declared.fault.StmtFault.{StmtFault}
 use Rattle.nd_eval.specs.declared.stop.Stop.{Stop}
 use Rattle.nd_eval.specs.declared.stop.Stop.TheVariants.{Memory, Refused}
+use Rattle.nd_eval.specs.declared.evaluator.Evaluator.{Evaluator}
 use Rattle.nd_eval.specs.Faults.{fault_of}
+use Rattle.nd_eval.specs.Lines.{limit_effect}
 
 -- as the definitions have it, unless memory ran out
 abbrev pub Ends : {X Y : Type 0} → (X → Y) → Result X Stop → Running → Result Y Fault × Running → Type 0
@@ -17,9 +18,25 @@ Ends view (Ok x) r ended = ended ≡ (Ok (view x), r)
 Ends view (Err Memory) r ended = Unit {0}
 Ends view (Err (Refused f)) r ended = ended ≡ (Err (fault_of f), r)
 
--- what the evaluation gives over these inputs from the session as it was, and the session after it
-abbrev pub Evaluates : {X Y : Type 0} → (X → Y) → Result X Stop → List (String Global × Input) → Running → Eval Y → Running → Type 0
-Evaluates view result inputs old e new = Ends view result new (run (inputs_of inputs) e old)
+-- the session that is asked, as it stands
+abbrev pub session_of : Evaluator → Running
+session_of e = live e.session.now
+
+-- it asks the same session still, over the same inputs
+abbrev pub Stays : Evaluator → Evaluator → Type 0
+Stays old new = (new.session.ghost_name ≡ old.session.ghost_name) × (new.inputs ≡ old.inputs)
+
+-- what an evaluation gives over the session as it stands, and the session after it
+abbrev pub answer_of : {Y : Type 0} → Evaluator → Eval Y → Result Y Fault × Running
+answer_of e t = run (inputs_of e.inputs.now.entries) t (session_of e)
+
+-- what the evaluation gives, the session after it, and that the evaluator holds it still
+abbrev pub Evaluates : {X Y : Type 0} → (X → Y) → Result X Stop → Evaluator → Eval Y → Evaluator → Type 0
+Evaluates view result old t new = Ends view result (session_of new) (answer_of old t) × Stays old new
+
+-- the same of an effect, where a printed text over the limit is refused
+abbrev pub EvaluatesInLimit : {X : Type 0} → (X → Effect) → Result X Stop → Evaluator → Eval Effect → Evaluator → Type 0
+EvaluatesInLimit view result old t new = Ends view result (session_of new) (limit_effect (answer_of old t)) × Stays old new
 
 -- what is worked out without a question, and takes no memory
 abbrev pub Says : {X Y : Type 0} → (X → Y) → Result X StmtFault → Result Y Fault → Type 0

@@ -5,9 +5,9 @@ use Rattle.nd_model.specs.Running.{Effect}
 use Rattle.nd_model.specs.Fault.{Stmt, BadArgument}
 use Rattle.nd_model.specs.Syntax.{Expr, Index, Items, AndItem, NoItem, At}
 use Rattle.nd_model.specs.Evaluation.{Eval, Gives, Refuses, ◌>>=◌}
-use Rattle.nd_model.specs.Operand.{Operand, Usage, Whole, ArraysOnly, Unused}
+use Rattle.nd_model.specs.Operand.{Usage, Whole, ArraysOnly, Unused}
 use Rattle.nd_model.specs.Viewing.{Indexed}
-use Rattle.nd_model.specs.Operation.{Views, perform, operands, act_on}
+use Rattle.nd_model.specs.Operation.{Views, perform, act_on}
 use Rattle.nd_model.specs.Meaning.{value, assignment_deed}
 
 -- an index of one expression; the other ones are not built yet
@@ -34,6 +34,3 @@ values es = values_then es Gives
 -- values that are used whole
 abbrev pub wholes : List Value → List (Usage × Value)
 wholes vs = map (λ v. (Whole, v)) vs
-
-abbrev pub use_values : List Value → Eval (List Operand)
-use_values vs = operands (wholes vs) Gives

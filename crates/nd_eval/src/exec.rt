@@ -9,15 +9,20 @@ ghost use Rattle.nd_model.specs.Tokens.{tokens_of, tokens_of_all, tokens_of_stmt
 ghost use Rattle.nd_syntax.specs.Syntax.{expr_of, index_of, stmt_of};
 ghost use Rattle.nd_heap.specs.Values.{base_of, inputs_of, value_of};
 ghost use Rattle.nd_heap.specs.Live.{live};
-ghost use Rattle.nd_eval.specs.Ends.{Evaluates};
+ghost use Rattle.nd_eval.specs.Ends.{Ends, Evaluates, EvaluatesInLimit, session_of};
 ghost use Rattle.nd_eval.specs.Contents.{effect_of, writes_of};
 ghost use Rattle.nd_eval.specs.Done.{output_of, outcome_of};
+ghost use Rattle.nd_model.specs.Cell.{limit_text};
+ghost use Rattle.nd_eval.specs.Uses.{IsHeld, IsHeldEffect};
 ghost use Rattle.nd_eval.specs.Parts as parts;
+ghost use Rattle.nd_eval.specs.Lines.{limit_effect};
+ghost use Rattle.nd_model.specs.Evaluation.{run};
 
 use crate::effect::{Effect, ElementWrite};
-use crate::eval::{item_value, look_up, unbuilt_form, value, values};
+use crate::eval::unbuilt_form;
+use crate::evaluator::Evaluator;
 use crate::fault::{StmtError, StmtFault};
-use crate::operation::{use_operand, use_operands};
+use crate::operation::{mark_operand, mark_operands, operand_in, operands_in};
 use crate::printing::print_line;
 use crate::stop::Stop;
 use crate::writing::assignment_write;
@@ -32,99 +37,94 @@ pub struct Output {
     pub save: Option<(String, Vec<u8>)>,
 }
 
-/// What a binding comes to.
-fn binding_effect(
-    session: &mut Session,
-    inputs: &Inputs,
-    name: &str,
-    expr: &Expr,
-) -> Result<Effect, Stop>
-    requires { (live session.old).next + tokens_of (expr_of expr.now) < 2 ^ 64 }
-    ensures { Evaluates effect_of result inputs.now.entries (live session.old)
-        (meaning.meaning (Bind name.now (expr_of expr.now))) (live session.new) }
-{
-    let bound = value(session, inputs, expr)?;
-    let name = String::from_str(session.allocator(), name)?;
-    Ok(Effect::Bind(name, bound))
-}
+impl Evaluator<'_> {
+    /// What a binding comes to.
+    fn binding_effect(&mut self, name: &str, expr: &Expr) -> Result<Effect, Stop>
+        requires { (session_of self.old).next + tokens_of (expr_of expr.now) < 2 ^ 64 }
+        ensures { Evaluates effect_of result self.old
+            (meaning.meaning (Bind name.now (expr_of expr.now))) self.new }
+    {
+        let bound = self.value(expr)?;
+        let name = String::from_str(self.session.allocator(), name)?;
+        Ok(Effect::Bind(name, bound))
+    }
 
-/// What an assignment of these values comes to.
-fn assign(
-    session: &mut Session,
-    inputs: &Inputs,
-    value: &Value,
-    target: &Value,
-    item: &Value,
-) -> Result<Effect, Stop>
-    ensures { Evaluates effect_of result inputs.now.entries (live session.old)
-        (parts.assignment (value_of value.now) (value_of target.now) (value_of item.now))
-        (live session.new) }
-{
-    let value = use_operand(session, inputs, value)?;
-    let item = use_operand(session, inputs, item)?;
-    let write = assignment_write(&value, target, &item)?;
-    let Value::Array(array) = target else {
-        return Err(Stop::Refused(StmtFault::Stmt(StmtError::NotAnArray)));
-    };
-    Ok(Effect::Store(array.base, write))
-}
+    /// What an assignment of these values comes to.
+    fn assign(&mut self, value: &Value, target: &Value, item: &Value) -> Result<Effect, Stop>
+        requires value { IsHeld (session_of self.old) value.now }
+        requires item { IsHeld (session_of self.old) item.now }
+        ensures { Evaluates effect_of result self.old
+            (parts.assignment (value_of value.now) (value_of target.now) (value_of item.now))
+            self.new }
+    {
+        mark_operand(self.session, value)?;
+        mark_operand(self.session, item)?;
+        let value = operand_in(self.session, value);
+        let item = operand_in(self.session, item);
+        let write = assignment_write(&value, target, &item)?;
+        let Value::Array(array) = target else {
+            return Err(Stop::Refused(StmtFault::Stmt(StmtError::NotAnArray)));
+        };
+        Ok(Effect::Store(array.base, write))
+    }
 
-/// What an assignment to an element comes to: the value, the target and the index are evaluated in this order.
-fn assignment_effect(
-    session: &mut Session,
-    inputs: &Inputs,
-    target: &Expr,
-    item: &Index,
-    expr: &Expr,
-) -> Result<Effect, Stop>
-    requires { (live session.old).next + tokens_of_stmt (Assign (expr_of target.now)
-        (index_of item.now) (expr_of expr.now)) < 2 ^ 64 }
-    ensures { Evaluates effect_of result inputs.now.entries (live session.old)
-        (meaning.meaning (Assign (expr_of target.now) (index_of item.now) (expr_of expr.now)))
-        (live session.new) }
-{
-    let written = value(session, inputs, expr)?;
-    let target = value(session, inputs, target)?;
-    let item = item_value(session, inputs, item)?;
-    assign(session, inputs, &written, &target, &item)
-}
+    /// What an assignment to an element comes to: the value, the target and the index are evaluated in this order.
+    fn assignment_effect(
+        &mut self,
+        target: &Expr,
+        item: &Index,
+        expr: &Expr,
+    ) -> Result<Effect, Stop>
+        requires { (session_of self.old).next + tokens_of_stmt (Assign (expr_of target.now)
+            (index_of item.now) (expr_of expr.now)) < 2 ^ 64 }
+        ensures { Evaluates effect_of result self.old
+            (meaning.meaning (Assign (expr_of target.now) (index_of item.now) (expr_of expr.now)))
+            self.new }
+    {
+        self.session.soundness();
+        let written = self.value(expr)?;
+        let target = self.value(target)?;
+        let item = self.item_value(item)?;
+        self.assign(&written, &target, &item)
+    }
 
-/// What a deletion comes to.
-fn deletion_effect(session: &mut Session, inputs: &Inputs, name: &str) -> Result<Effect, Stop>
-    ensures { Evaluates effect_of result inputs.now.entries (live session.old)
-        (meaning.meaning (Delete name.now)) (live session.new) }
-{
-    let _bound = look_up(session, inputs, name)?;
-    let name = String::from_str(session.allocator(), name)?;
-    Ok(Effect::Unbind(name))
-}
+    /// What a deletion comes to.
+    fn deletion_effect(&mut self, name: &str) -> Result<Effect, Stop>
+        ensures { Evaluates effect_of result self.old (meaning.meaning (Delete name.now)) self.new }
+    {
+        let _bound = self.look_up(name)?;
+        let name = String::from_str(self.session.allocator(), name)?;
+        Ok(Effect::Unbind(name))
+    }
 
-/// What `print` comes to.
-fn print_effect(session: &mut Session, inputs: &Inputs, exprs: &[Expr]) -> Result<Effect, Stop>
-    requires { (live session.old).next + tokens_of_all (map expr_of exprs.now) < 2 ^ 64 }
-    ensures { Evaluates effect_of result inputs.now.entries (live session.old)
-        (meaning.meaning (Print (map expr_of exprs.now))) (live session.new) }
-{
-    let shown = values(session, inputs, exprs)?;
-    let operands = use_operands(session, inputs, &shown)?;
-    Ok(Effect::Print(print_line(session.allocator(), &operands)?))
-}
+    /// What `print` comes to.
+    fn print_effect(&mut self, exprs: &[Expr]) -> Result<Effect, Stop>
+        requires { (session_of self.old).next + tokens_of_all (map expr_of exprs.now) < 2 ^ 64 }
+        ensures { EvaluatesInLimit effect_of result self.old
+            (meaning.meaning (Print (map expr_of exprs.now))) self.new }
+    {
+        self.session.soundness();
+        let shown = self.values(exprs)?;
+        mark_operands(self.session, &shown)?;
+        let operands = operands_in(self.session, &shown)?;
+        let line = print_line(self.session.allocator(), &operands)?;
+        Ok(Effect::Print(line))
+    }
 
-/// What a statement comes to.
-fn stmt_effect(session: &mut Session, inputs: &Inputs, stmt: &Stmt) -> Result<Effect, Stop>
-    requires { (live session.old).next + tokens_of_stmt (stmt_of stmt.now) < 2 ^ 64 }
-    ensures { Evaluates effect_of result inputs.now.entries (live session.old)
-        (meaning.meaning (stmt_of stmt.now)) (live session.new) }
-{
-    match stmt {
-        Stmt::Import => Ok(Effect::Nothing),
-        Stmt::Bind(name, expr) => binding_effect(session, inputs, name.as_str(), expr),
-        Stmt::Assign(target, item, expr) => {
-            assignment_effect(session, inputs, target, item, expr)
+    /// What a statement comes to.
+    fn stmt_effect(&mut self, stmt: &Stmt) -> Result<Effect, Stop>
+        requires { (session_of self.old).next + tokens_of_stmt (stmt_of stmt.now) < 2 ^ 64 }
+        ensures { EvaluatesInLimit effect_of result self.old
+            (meaning.meaning (stmt_of stmt.now)) self.new }
+    {
+        match stmt {
+            Stmt::Import => Ok(Effect::Nothing),
+            Stmt::Bind(name, expr) => self.binding_effect(name.as_str(), expr),
+            Stmt::Assign(target, item, expr) => self.assignment_effect(target, item, expr),
+            Stmt::Delete(name) => self.deletion_effect(name.as_str()),
+            Stmt::Print(exprs) => self.print_effect(exprs),
+            _ => Err(unbuilt_form()),
         }
-        Stmt::Delete(name) => deletion_effect(session, inputs, name.as_str()),
-        Stmt::Print(exprs) => print_effect(session, inputs, exprs),
-        _ => Err(unbuilt_form()),
     }
 }
 
@@ -140,6 +140,7 @@ fn store_element(session: &mut Session, base: Base, write: ElementWrite) -> Resu
 
 /// Does it, and gives what the cell gets of it.
 fn do_effect(session: &mut Session, effect: Effect) -> Result<Output, OutOfMemory>
+    requires { IsHeldEffect (live session.old) (effect_of effect) }
     ensures output { IfOk result (λ o. output_of o ≡ running.output (effect_of effect)) }
     ensures done { OnOk result
         (live session.new ≡ running.done (effect_of effect) (live session.old)) }
@@ -155,20 +156,32 @@ fn do_effect(session: &mut Session, effect: Effect) -> Result<Output, OutOfMemor
     Ok(Output { text, save: None })
 }
 
+/// What a statement comes to, evaluated over a session.
+fn evaluate_stmt(session: &mut Session, inputs: &Inputs, stmt: &Stmt) -> Result<Effect, Stop>
+    requires { (live session.old).next + tokens_of_stmt (stmt_of stmt.now) < 2 ^ 64 }
+    ensures { Ends effect_of result (live session.new) (limit_effect
+        (run (inputs_of inputs.now.entries) (meaning.meaning (stmt_of stmt.now)) (live session.old))) }
+{
+    let mut evaluator = Evaluator { session, inputs };
+    evaluator.stmt_effect(stmt)
+}
+
 /// Runs a statement: what it gives to its cell, or why it is refused. A refused statement binds, unbinds and writes
-/// nothing, yet it may have made bases. No statement of this language saves a file.
+/// nothing, yet it may have made bases. A text that no cell takes is refused here already, so that it is not built to its
+/// end. No statement of this language saves a file.
 pub fn run_stmt(
     session: &mut Session,
     inputs: &Inputs,
     stmt: &Stmt,
 ) -> Result<Result<Output, StmtFault>, OutOfMemory>
     requires { (live session.old).next + tokens_of_stmt (stmt_of stmt.now) < 2 ^ 64 }
-    ensures meaning { IfOk result (λ out. statement (inputs_of inputs.now.entries)
-        (stmt_of stmt.now) (live session.old) ≡ (outcome_of out, live session.new)) }
+    ensures meaning { IfOk result (λ out. limit_text (statement (inputs_of inputs.now.entries)
+        (stmt_of stmt.now) (live session.old)) ≡ (outcome_of out, live session.new)) }
     ensures numbers { OnOk result
         ((live session.new).next ≤ (live session.old).next + tokens_of_stmt (stmt_of stmt.now)) }
 {
-    match stmt_effect(session, inputs, stmt) {
+    session.soundness();
+    match evaluate_stmt(session, inputs, stmt) {
         Ok(effect) => Ok(Ok(do_effect(session, effect)?)),
         Err(Stop::Refused(fault)) => Ok(Err(fault)),
         Err(Stop::Memory) => Err(OutOfMemory),

@@ -4,6 +4,7 @@
 mod creation;
 mod effect;
 mod eval;
+mod evaluator;
 mod exec;
 mod fault;
 mod indexes;
@@ -12,7 +13,6 @@ mod operand;
 mod operation;
 mod operators;
 mod printing;
-mod reading;
 mod stop;
 mod writing;
 

@@ -1,4 +1,4 @@
-//! Numbers as the bytes of elements, and back.
+//! Numbers as the bytes of new elements.
 
 ghost use Rattle.std.specs.Prelude.{◌≡◌, ◌*◌, ◌^◌, ◌≤◌, pos, length, IfOk};
 ghost use Rattle.std.specs.List.{flat_map};
@@ -6,9 +6,8 @@ ghost use Rattle.nd_model.specs.Element.{bytes_of, size_of};
 ghost use Rattle.nd_model.specs.Tuple.{count_up};
 ghost use Rattle.nd_model.specs.Creation as creation;
 ghost use Rattle.nd_model.specs.Writing as writing;
-ghost use Rattle.nd_eval.specs.Contents.{numbers_in};
 
-use nd_block::{RawBlock, store_at, value_at};
+use nd_block::{RawBlock, store_at};
 use nd_types::{Elem, Kind};
 use std::alloc::{AllocError, Global};
 
@@ -17,24 +16,6 @@ pub(crate) fn int64() -> Elem
     ensures { result ≡ creation.int64 }
 {
     Elem::little(Kind::I64)
-}
-
-/// Returns the numbers of `count` elements that stand one after another.
-pub(crate) fn numbers_in(
-    alloc: Global,
-    elem: Elem,
-    count: usize,
-    bytes: &[u8],
-) -> Result<Vec<i128>, AllocError>
-    requires { length bytes.now ≡ count * size_of elem.kind }
-    ensures { IfOk result (λ v. v.items ≡ numbers_in elem count bytes.now) }
-{
-    let size = elem.size() as usize;
-    let mut numbers = Vec::with_capacity(alloc, count)?;
-    for k in 0..count {
-        numbers.push(value_at(bytes, k * size, elem))?;
-    }
-    Ok(numbers)
 }
 
 /// Writes the numbers from 0 to n-1 to elements that stand one after another.

@@ -1,23 +1,23 @@
 //! Operands and results: values, as operations take and make them. A value whose elements are not used is an operand
 //! as it stands.
 
-ghost use Rattle.std.specs.Prelude.{◌≡◌, ◌+◌, ◌≤◌, ◌^◌, length};
+ghost use Rattle.std.specs.Prelude.{◌+◌, ◌≤◌, ◌^◌, length};
 ghost use Rattle.nd_model.specs.Element.{size_of};
-ghost use Rattle.nd_model.specs.View.{byte_places};
+ghost use Rattle.nd_model.specs.Sound.{LiesIn};
 
 use nd_types::{Elem, Num};
 use nd_view::View;
 
-/// The elements of an array, by their bytes one after another without pad bytes.
-#[derive(Drop)]
+/// The elements of an array, in the block that they lie in.
+#[derive(Clone, Copy)]
 pub(crate) struct Elements<'v> {
     pub(crate) view: &'v View,
-    pub(crate) bytes: Vec<u8>,
-    ghost whole: { length bytes.items ≡ length (byte_places view.now) },
+    pub(crate) block: &'v [u8],
+    ghost held: { LiesIn (length block.now) view.now },
 }
 
 /// An operand that is used: a number, or all elements of an array.
-#[derive(Drop)]
+#[derive(Clone, Copy)]
 pub(crate) enum Operand<'v> {
     Number(Num),
     Elements(Elements<'v>),

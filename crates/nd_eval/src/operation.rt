@@ -1,113 +1,123 @@
 //! Operations: how values become operands, and results become values.
 
-ghost use Rattle.std.specs.Prelude.{◌+◌, ◌<◌, ◌≤◌, ◌^◌, map};
+ghost use Rattle.std.specs.Prelude.{◌≡◌, ◌+◌, ◌<◌, ◌≤◌, ◌^◌, IfOk, OnOk};
 ghost use Rattle.nd_model.specs.Creation as creation;
-ghost use Rattle.nd_model.specs.Operand.{Whole};
 ghost use Rattle.nd_model.specs.Operation as operation;
 ghost use Rattle.nd_heap.specs.Values.{value_of};
 ghost use Rattle.nd_heap.specs.Live.{live};
 ghost use Rattle.nd_eval.specs.Contents.{chosen_of, made_of, operand_of, operands_of};
-ghost use Rattle.nd_eval.specs.Ends.{Evaluates};
-ghost use Rattle.nd_eval.specs.Parts.{use_values};
+ghost use Rattle.nd_eval.specs.Ends.{Evaluates, session_of};
+ghost use Rattle.nd_eval.specs.Uses.{IsHeld, AreHeld, marked, all_marked};
+ghost use Rattle.nd_eval.specs.Uses.{operand_over, operands_over};
 
+use crate::evaluator::Evaluator;
 use crate::fault::{StmtError, StmtFault, ViewFault};
 use crate::numbers::{int64, numbers_below};
 use crate::operand::{ElementPlace, Elements, Made, Operand};
-use crate::reading::{read_all, read_element};
 use crate::stop::Stop;
-use nd_block::value_at;
-use nd_heap::{Array, Inputs, Session, Value};
+use nd_element::number_in;
+use nd_heap::{Array, OutOfMemory, Session, Value};
 use nd_types::{ElemType, Num};
 use nd_view::View;
+use std::alloc::AllocError;
 
 /// The most elements of an array.
 const MOST_ELEMENTS: i128 = 1 << 24;
 
-/// Uses a value: all elements of an array.
-pub(crate) fn use_operand<'v>(
-    session: &mut Session,
-    inputs: &Inputs,
-    value: &'v Value,
-) -> Result<Operand<'v>, Stop>
-    ensures { Evaluates operand_of result inputs.now.entries (live session.old)
-        (operation.use_operand Whole (value_of value.now)) (live session.new) }
+/// Notes that all elements of a value are used.
+pub(crate) fn mark_operand(session: &mut Session, value: &Value) -> Result<(), OutOfMemory>
+    ensures { OnOk result (live session.new ≡ marked value.now (live session.old)) }
+{
+    if let Value::Array(array) = value {
+        session.mark_used(array)?;
+    }
+    Ok(())
+}
+
+/// Notes the same of values, from left to right.
+pub(crate) fn mark_operands(session: &mut Session, values: &[Value]) -> Result<(), OutOfMemory>
+    ensures { OnOk result (live session.new ≡ all_marked values.now (live session.old)) }
+{
+    for value in values {
+        mark_operand(session, value)?;
+    }
+    Ok(())
+}
+
+/// The operand that a value is. It notes nothing: that was done before.
+pub(crate) fn operand_in<'v>(session: &'v Session, value: &'v Value) -> Operand<'v>
+    requires { IsHeld (live session.now) value.now }
+    ensures { operand_of result ≡ operand_over (live session.now).bytes value.now }
 {
     match value {
-        Value::Number(number) => Ok(Operand::Number(*number)),
-        Value::Array(array) => {
-            let bytes = read_all(session, array)?;
-            Ok(Operand::Elements(Elements {
-                view: &array.view,
-                bytes,
-            }))
-        }
+        Value::Number(number) => Operand::Number(*number),
+        Value::Array(array) => Operand::Elements(Elements {
+            view: &array.view,
+            block: session.bytes(array.base),
+        }),
     }
 }
 
-/// Uses values, from left to right.
-pub(crate) fn use_operands<'v>(
-    session: &mut Session,
-    inputs: &Inputs,
+/// The operands that values are.
+pub(crate) fn operands_in<'v>(
+    session: &'v Session,
     values: &'v [Value],
-) -> Result<Vec<Operand<'v>>, Stop>
-    ensures { Evaluates operands_of result inputs.now.entries (live session.old)
-        (use_values (map value_of values.now)) (live session.new) }
+) -> Result<Vec<Operand<'v>>, AllocError>
+    requires { AreHeld (live session.now) values.now }
+    ensures { IfOk result (λ os. operands_of os
+        ≡ operands_over (live session.now).bytes values.now) }
 {
-    let mut operands = Vec::new(session.allocator());
+    let mut operands = Vec::with_capacity(session.allocator(), values.len())?;
     for value in values {
-        let operand = use_operand(session, inputs, value)?;
-        operands.push(operand)?;
+        operands.push(operand_in(session, value))?;
     }
     Ok(operands)
 }
 
-/// Makes an array of the whole numbers below `count` in a new base.
-fn give_numbers(session: &mut Session, inputs: &Inputs, count: usize) -> Result<Value, Stop>
-    requires most { count ≤ 2 ^ 24 }
-    requires number { (live session.old).next + 1 < 2 ^ 64 }
-    ensures { Evaluates value_of result inputs.now.entries (live session.old)
-        (operation.give (creation.numbers_below count)) (live session.new) }
-{
-    let alloc = session.allocator();
-    let elem = int64();
-    let view = View::contiguous(alloc, ElemType::One(elem), &[count as u64])?;
-    let block = numbers_below(alloc, elem, count)?;
-    let base = session.new_block(block)?;
-    Ok(Value::Array(Array { base, view }))
-}
+impl Evaluator<'_> {
+    /// Makes an array of the whole numbers below `count` in a new base.
+    fn give_numbers(&mut self, count: usize) -> Result<Value, Stop>
+        requires most { count ≤ 2 ^ 24 }
+        requires number { (session_of self.old).next + 1 < 2 ^ 64 }
+        ensures { Evaluates value_of result self.old
+            (operation.give (creation.numbers_below count)) self.new }
+    {
+        let alloc = self.session.allocator();
+        let elem = int64();
+        let view = View::contiguous(alloc, ElemType::One(elem), &[count as u64])?;
+        let block = numbers_below(alloc, elem, count)?;
+        let base = self.session.new_block(block)?;
+        Ok(Value::Array(Array { base, view }))
+    }
 
-/// Gives what an operation made. An array gets a new base.
-pub(crate) fn give(session: &mut Session, inputs: &Inputs, made: Made) -> Result<Value, Stop>
-    requires { (live session.old).next + 1 < 2 ^ 64 }
-    ensures { Evaluates value_of result inputs.now.entries (live session.old)
-        (operation.give (made_of made)) (live session.new) }
-{
-    match made {
-        Made::Number(number) => Ok(Value::Number(number)),
-        Made::NumbersBelow(end) => {
-            if end > MOST_ELEMENTS {
-                return Err(Stop::Refused(StmtFault::View(ViewFault::TooManyElements)));
+    /// Gives what an operation made. An array gets a new base.
+    pub(crate) fn give(&mut self, made: Made) -> Result<Value, Stop>
+        requires { (session_of self.old).next + 1 < 2 ^ 64 }
+        ensures { Evaluates value_of result self.old (operation.give (made_of made)) self.new }
+    {
+        match made {
+            Made::Number(number) => Ok(Value::Number(number)),
+            Made::NumbersBelow(end) => {
+                if end > MOST_ELEMENTS {
+                    return Err(Stop::Refused(StmtFault::View(ViewFault::TooManyElements)));
+                }
+                let count = if end < 0 { 0 } else { end as usize };
+                self.give_numbers(count)
             }
-            let count = if end < 0 { 0 } else { end as usize };
-            give_numbers(session, inputs, count)
         }
     }
-}
 
-/// Gives the element that was chosen of a value.
-pub(crate) fn choose_of(
-    session: &mut Session,
-    inputs: &Inputs,
-    value: &Value,
-    chosen: ElementPlace,
-) -> Result<Value, Stop>
-    ensures { Evaluates value_of result inputs.now.entries (live session.old)
-        (operation.choose_of (value_of value.now) (chosen_of chosen)) (live session.new) }
-{
-    let Value::Array(array) = value else {
-        return Err(Stop::Refused(StmtFault::Stmt(StmtError::NotAnArray)));
-    };
-    let bytes = read_element(session, array.base, chosen.place, chosen.elem)?;
-    let number = value_at(&bytes, 0, chosen.elem);
-    Ok(Value::Number(Num::Scalar(chosen.elem.kind(), number)))
+    /// Gives the element that was chosen of a value.
+    pub(crate) fn choose_of(&mut self, value: &Value, chosen: ElementPlace) -> Result<Value, Stop>
+        ensures { Evaluates value_of result self.old
+            (operation.choose_of (value_of value.now) (chosen_of chosen)) self.new }
+    {
+        let Value::Array(array) = value else {
+            return Err(Stop::Refused(StmtFault::Stmt(StmtError::NotAnArray)));
+        };
+        self.session
+            .mark_element(array.base, chosen.place, &ElemType::One(chosen.elem))?;
+        let number = number_in(self.session.bytes(array.base), chosen.place, chosen.elem);
+        Ok(Value::Number(Num::Scalar(chosen.elem.kind(), number)))
+    }
 }

@@ -1,76 +1,89 @@
-//! The texts of operands.
+//! The texts of operands, no longer than a cell's text may be.
 
-ghost use Rattle.std.specs.Prelude.{◌≡◌, ◌++◌, [], ◌∷◌, length, map, string_bytes, IfOk};
-ghost use Rattle.nd_model.specs.Content.{contents_in};
-ghost use Rattle.nd_model.specs.Operand as operand;
+ghost use Rattle.std.specs.Prelude.{Ok, map, string_bytes};
 ghost use Rattle.nd_model.specs.Printing as printing;
-ghost use Rattle.nd_model.specs.Text as text;
-ghost use Rattle.nd_eval.specs.Contents.{operand_of, texts_in};
-ghost use Rattle.nd_eval.specs.Ends.{Makes};
+ghost use Rattle.nd_eval.specs.Contents.{contents_over, operand_of};
+ghost use Rattle.nd_eval.specs.Lines.{limit_line, line_with, printed_line};
+ghost use Rattle.nd_eval.specs.Ends.{Makes, Says};
 
-use crate::numbers::numbers_in;
+use crate::fault::{StmtError, StmtFault};
 use crate::operand::{Elements, Operand};
 use crate::stop::Stop;
-use crate::writing::number_type;
+use crate::writing::{check_all_numbers, number_type};
+use nd_element::numbers_of;
 use nd_print::{array_text, scalar_text};
-use std::alloc::{AllocError, Global};
+use std::alloc::Global;
 
-/// Returns the texts with a space between two of them, and a newline.
-fn line_of(alloc: Global, texts: &[String]) -> Result<String, AllocError>
-    ensures { IfOk result (λ s. string_bytes s
-        ≡ text.joined (32 ∷ []) (map string_bytes texts.now) ++ 10 ∷ []) }
+/// The most bytes of a cell's text.
+const MOST_TEXT: usize = 1 << 20;
+
+/// Refuses a text of more bytes than a cell's may have.
+fn check_length(text: String) -> Result<String, StmtFault>
+    ensures { Says string_bytes result (limit_line (Ok (string_bytes text))) }
 {
-    let mut line = String::new(alloc);
-    if let [first, rest @ ..] = texts {
-        line.push_str(first.as_str())?;
-        for text in rest {
-            line.push_str(" ")?;
-            line.push_str(text.as_str())?;
-        }
+    if text.len() > MOST_TEXT {
+        return Err(StmtFault::Stmt(StmtError::TextTooLong));
     }
-    line.push_str("\n")?;
-    Ok(line)
+    Ok(text)
 }
 
-/// The text of an array's elements.
+/// The text of an array's elements. Each has a byte at least: of more elements than a text has bytes none is built.
 fn elements_text(alloc: Global, elements: &Elements<'_>) -> Result<String, Stop>
-    ensures { Makes string_bytes result (printing.elements_text elements.now.view.now.element
-        elements.now.view.now.shape (contents_in elements.now.view.now.element
-        (length elements.now.view.now.places) elements.now.bytes.items)) }
+    ensures { Makes string_bytes result (limit_line (printing.elements_text
+        elements.now.view.now.element elements.now.view.now.shape
+        (contents_over elements.now.view.now elements.now.block.now))) }
 {
     let view = elements.view;
     let elem = number_type(view.elem())?;
-    let numbers = numbers_in(alloc, elem, view.count(), &elements.bytes)?;
-    Ok(array_text(alloc, elem.kind(), view.shape(), &numbers)?)
+    if view.count() > MOST_TEXT {
+        return Err(Stop::Refused(StmtFault::Stmt(StmtError::TextTooLong)));
+    }
+    let numbers = numbers_of(alloc, view, elem, elements.block)?;
+    let text = array_text(alloc, elem.kind(), view.shape(), &numbers)?;
+    Ok(check_length(text)?)
 }
 
 /// The text of an operand.
 fn text_of(alloc: Global, operand: &Operand<'_>) -> Result<String, Stop>
-    ensures { Makes string_bytes result (printing.text_of (operand_of operand.now)) }
+    ensures { Makes string_bytes result (limit_line (printing.text_of (operand_of operand.now))) }
 {
     match operand {
-        Operand::Number(number) => Ok(scalar_text(alloc, *number)?),
+        Operand::Number(number) => {
+            let text = scalar_text(alloc, *number)?;
+            Ok(check_length(text)?)
+        }
         Operand::Elements(elements) => elements_text(alloc, elements),
     }
 }
 
-/// The texts of operands.
-fn texts_of(alloc: Global, operands: &[Operand<'_>]) -> Result<Vec<String>, Stop>
-    ensures { Makes texts_in result (printing.texts_of (map operand_of operands.now)) }
+/// Puts an operand's text behind a line.
+fn push_text(alloc: Global, line: &mut String, operand: &Operand<'_>) -> Result<(), Stop>
+    ensures { Makes (λ u. string_bytes line.new) result
+        (limit_line (line_with (string_bytes line.old) (operand_of operand.now))) }
 {
-    let mut texts = Vec::new(alloc);
-    for operand in operands {
-        let text = text_of(alloc, operand)?;
-        texts.push(text)?;
+    let text = text_of(alloc, operand)?;
+    line.push_str(text.as_str())?;
+    if line.len() > MOST_TEXT {
+        return Err(Stop::Refused(StmtFault::Stmt(StmtError::TextTooLong)));
     }
-    Ok(texts)
+    Ok(())
 }
 
-/// The line that `print` makes of its operands.
+/// The line that `print` makes of its operands: their texts with a space between two of them, and a newline. A structure
+/// is refused before any text is built, and a line as soon as it is too long.
 pub(crate) fn print_line(alloc: Global, operands: &[Operand<'_>]) -> Result<String, Stop>
-    ensures { Makes (λ line. operand.PrintsText (string_bytes line)) result
-        (printing.print_deed (map operand_of operands.now)) }
+    ensures { Makes string_bytes result
+        (limit_line (printed_line (map operand_of operands.now))) }
 {
-    let texts = texts_of(alloc, operands)?;
-    Ok(line_of(alloc, &texts)?)
+    check_all_numbers(operands)?;
+    let mut line = String::new(alloc);
+    if let [first, rest @ ..] = operands {
+        push_text(alloc, &mut line, first)?;
+        for operand in rest {
+            line.push_str(" ")?;
+            push_text(alloc, &mut line, operand)?;
+        }
+    }
+    line.push_str("\n")?;
+    Ok(check_length(line)?)
 }

@@ -1,11 +1,11 @@
 //! Assignments to elements of arrays.
 
-ghost use Rattle.std.specs.Prelude.{◌≡◌, length};
-ghost use Rattle.nd_model.specs.Content.{contents_in};
+ghost use Rattle.std.specs.Prelude.{◌≡◌, map};
 ghost use Rattle.nd_model.specs.Writing as writing;
 ghost use Rattle.nd_types.specs.Kinds.{kind_of};
 ghost use Rattle.nd_types.specs.Types.{type_of};
-ghost use Rattle.nd_eval.specs.Contents.{operand_of, unused_of, writes_of};
+ghost use Rattle.nd_eval.specs.Contents.{contents_over, operand_of, unused_of, writes_of};
+ghost use Rattle.nd_eval.specs.Lines.{all_numbers};
 ghost use Rattle.nd_eval.specs.Ends.{Says};
 
 use crate::effect::ElementWrite;
@@ -13,7 +13,7 @@ use crate::fault::{StmtError, StmtFault, UfuncFault};
 use crate::indexes::{array_of, indexed_place};
 use crate::numbers::is_single;
 use crate::operand::{Elements, Operand};
-use nd_block::value_at;
+use nd_element::number_in;
 use nd_heap::Value;
 use nd_types::{Elem, ElemType, Kind, Num, fits, wrap};
 
@@ -37,6 +37,16 @@ pub(crate) fn check_numbers(operand: &Operand<'_>) -> Result<(), StmtFault>
     Ok(())
 }
 
+/// Refuses structures among operands.
+pub(crate) fn check_all_numbers(operands: &[Operand<'_>]) -> Result<(), StmtFault>
+    ensures { Says (λ u. u) result (all_numbers (map operand_of operands.now)) }
+{
+    for operand in operands {
+        check_numbers(operand)?;
+    }
+    Ok(())
+}
+
 /// Whether a kind takes a Python integer. A Boolean takes each.
 fn takes(kind: Kind, number: i128) -> bool
     ensures { result ≡ writing.takes (kind_of kind) number }
@@ -49,11 +59,13 @@ fn takes(kind: Kind, number: i128) -> bool
 
 /// The first number of elements, 0 where there is none.
 fn first_of(elements: &Elements<'_>) -> i128
-    ensures { result ≡ writing.first_of (contents_in elements.now.view.now.element
-        (length elements.now.view.now.places) elements.now.bytes.items) }
+    ensures { result ≡ writing.first_of (contents_over elements.now.view.now
+        elements.now.block.now) }
 {
     match elements.view.elem() {
-        ElemType::One(elem) if elements.view.count() != 0 => value_at(&elements.bytes, 0, *elem),
+        ElemType::One(elem) if elements.view.count() != 0 => {
+            number_in(elements.block, elements.view.offset(), *elem)
+        }
         _ => 0,
     }
 }

@@ -1,7 +1,8 @@
 -- Blocks by their bases.
-use Rattle.std.proofs.Common.{◌≡◌, ◌≤◌, ℕ, zero, suc, length, slice_get, Bool, true, false, cond, ◌&&◌, nat_eq, List, [], ◌∷◌, filter, Some, None, Option, Global, refl, sym, ap, ap₂, ◌∙◌, inl, inr, arith}
+use Rattle.std.proofs.Common.{◌≡◌, ◌≤◌, ℕ, zero, suc, length, slice_get, Bool, true, false, cond, ◌&&◌, nat_eq, List, [], ◌∷◌, filter, Some, None, Option, Result, Ok, Err, Global, refl, sym, ap, ap₂, subst, ◌∙◌, inl, inr, arith}
 use mathlib.Core.Path.{fun_ext}
-use Rattle.std.specs.Map.{lookup as find}
+use Rattle.std.specs.Map.{lookup as find, set_value}
+use Rattle.std.specs.Prelude.{OnErr}
 use Rattle.std.specs.List.{AllZip}
 use Rattle.std.specs.declared.rc.Rc.{Rc}
 use Rattle.indexmap.specs.IndexMap.{insert_entry}
@@ -27,6 +28,25 @@ bytes_at-insert b block [] c = refl
 bytes_at-insert b block (e ∷ es) c = elim (cases_Bool (base_eq b e.0)) [
   | inl is ↦ rw is (grind (arith, nat_tests, and_parts))
   | inr other ↦ rw other (grind (arith, nat_tests, bytes_at-insert b block es c))
+]
+
+-- what stands at a refusal
+pub on_err : {X E P : Type 0} (r : Result X E) → P → OnErr r P
+on_err (Ok x) p = tt
+on_err (Err e) p = p
+
+pub at_err : {X E P : Type 0} (r : Result X E) (e : E) → r ≡ Err e → OnErr r P → P
+at_err {P} r e is h = subst (λ r. OnErr r P) is h
+
+-- another block for a base that has one
+pub bytes_at-set : (b : Base) (v w : Shared) (es : List (Base × Shared)) → find (base_eq b) es ≡ Some v → (c : model.Base)
+    → bytes_at (blocks_of (set_value (base_eq b) es w)) c ≡ running.with_base (base_of b) w.value (bytes_at (blocks_of es)) c
+bytes_at-set b v w [] there c = cc
+bytes_at-set b v w (e ∷ es) there c = elim (cases_Bool (base_eq b e.0)) [
+  | inl is ↦ rw is (grind (arith, nat_tests, and_parts))
+  | inr other ↦
+      let behind : find (base_eq b) es ≡ Some v = sym (ap (λ t. cond t (Some e.1) (find (base_eq b) es)) other) ∙ there in
+      rw other (grind (arith, nat_tests, bytes_at-set b v w es behind))
 ]
 
 nat_eq_sym : (m n : ℕ) → nat_eq m n ≡ nat_eq n m
@@ -75,6 +95,29 @@ set_block b block bytes es fs gs is same set =
 -- the block that was there
 pub was_block : (b : Base) (bytes : List ℕ) (o : Option Shared) (es fs : List (Base × Shared)) → blocks_of fs ≡ blocks_of es → o ≡ find (base_eq b) fs → bytes ≡ found_bytes o → bytes ≡ bytes_at (blocks_of es) (base_of b)
 was_block b bytes o es fs same found is = is ∙ ap found_bytes found ∙ sym (found_block b fs) ∙ ap (λ bs. bytes_at bs (base_of b)) same
+
+-- the block of a base is another one
+pub written_block : (b : Base) (v w : Shared) (es fs : List (Base × Shared)) → fs ≡ set_value (base_eq b) es w → Some v ≡ find (base_eq b) es
+    → bytes_at (blocks_of fs) ≡ running.with_base (base_of b) w.value (bytes_at (blocks_of es))
+written_block b v w es fs is there = ap (λ es. bytes_at (blocks_of es)) is ∙ fun_ext (bytes_at-set b v w es (sym there))
+
+-- a base gets the bytes that it has
+pub same_block : (b : model.Base) (bytes : List ℕ) (f : model.Base → List ℕ) → bytes ≡ f b → running.with_base b bytes f ≡ f
+same_block b bytes f is = fun_ext (λ c. elim (cases_Bool (model.same_base b c)) [
+  | inl same ↦ rw same (is ∙ ap f (same_bases b c same))
+  | inr apart ↦ rw apart refl
+])
+
+none_of : (bytes : List ℕ) → length bytes ≡ 0 → bytes ≡ []
+none_of [] h = refl
+none_of (x ∷ xs) h = absurd (omega arith)
+
+-- nothing is written where there is no block
+pub nothing_put : (f : List ℕ → List ℕ) → ((bytes : List ℕ) → length (f bytes) ≡ length bytes) → (b : Base) (es : List (Base × Shared)) → None ≡ find (base_eq b) es
+    → running.with_base (base_of b) (f (bytes_at (blocks_of es) (base_of b))) (bytes_at (blocks_of es)) ≡ bytes_at (blocks_of es)
+nothing_put f same b es none =
+    let empty : bytes_at (blocks_of es) (base_of b) ≡ [] = found_block b es ∙ ap found_bytes (sym none) in
+    same_block (base_of b) _ (bytes_at (blocks_of es)) (ap f empty ∙ none_of (f []) (same []) ∙ sym empty)
 
 -- the blocks before this one are kept
 abbrev pub AreKept : (model.Base → Bool) → List (Base × Shared) → ℕ → Type 0

@@ -1,5 +1,6 @@
 -- The bases that are held.
-use Rattle.std.proofs.Common.{◌≡◌, ℕ, ◌+◌, Bool, true, false, ◌||◌, List, [], ◌∷◌, drop, slice_get, Some, String, Global, refl, sym, ap, ◌∙◌, inl, inr, arith}
+use Rattle.std.proofs.Common.{◌≡◌, ℕ, ◌+◌, Bool, true, false, ◌||◌, List, [], ◌∷◌, drop, slice_get, Some, Global, refl, sym, ap, ◌∙◌, inl, inr, arith}
+use Rattle.std.specs.declared.rc.RcStr.{RcStr}
 use Rattle.std.specs.Map.{lookup as find}
 use Rattle.std.specs.Prelude.{is_some}
 use Rattle.indexmap.specs.IndexMap.{insert_entry}
@@ -8,12 +9,11 @@ use Rattle.std.proofs.lemmas.Bool.Decides.{nat_tests}
 use Rattle.nd_model.specs.Value as model
 use Rattle.nd_model.specs.Session.{is_held}
 use Rattle.nd_heap.specs.declared.value.Base.{Base}
-use Rattle.nd_heap.specs.declared.value.Value.{Value}
 use Rattle.nd_heap.specs.Values.{base_of, value_of, names_of}
 use Rattle.nd_heap.specs.Contents.{bases_of}
 use Rattle.nd_heap.specs.Live.{is_base_among}
 use Rattle.nd_heap.proofs.Bases.{base_eq, base_eq_sym}
-use Rattle.nd_heap.proofs.NameLists.{held_from}
+use Rattle.nd_heap.proofs.NameLists.{SharedValue, held_from}
 
 -- a base is put among the others
 pub base-insert : (b : Base) (es : List (Base × Unit {0})) (c : model.Base)
@@ -34,8 +34,8 @@ either true b c = refl
 either false b c = refl
 
 -- one more name
-pub held_more : (b : model.Base) (es : List (String Global × Value)) (i : ℕ) (e : String Global × Value) (old new all : Bool) → slice_get es i ≡ Some e
-    → new ≡ (old || model.lies_in b (value_of e.1)) → (old || is_held b (names_of (drop i es))) ≡ all → (new || is_held b (names_of (drop (i + 1) es))) ≡ all
+pub held_more : (b : model.Base) (es : List (RcStr Global × SharedValue)) (i : ℕ) (e : RcStr Global × SharedValue) (old new all : Bool) → slice_get es i ≡ Some e
+    → new ≡ (old || model.lies_in b (value_of e.1.value)) → (old || is_held b (names_of (drop i es))) ≡ all → (new || is_held b (names_of (drop (i + 1) es))) ≡ all
 held_more b es i e old new all at is before =
-    ap (λ n. n || is_held b (names_of (drop (i + 1) es))) is ∙ either old (model.lies_in b (value_of e.1)) (is_held b (names_of (drop (i + 1) es)))
+    ap (λ n. n || is_held b (names_of (drop (i + 1) es))) is ∙ either old (model.lies_in b (value_of e.1.value)) (is_held b (names_of (drop (i + 1) es)))
     ∙ ap (λ h. old || h) (sym (held_from b es i e at)) ∙ before

@@ -5,5 +5,8 @@ pub mod Held
 pub mod Places
 pub mod Noting
 pub mod Traces
+pub mod Touched
+pub mod Listed
 pub mod Sessions
 pub mod Storing
+pub mod Intact

@@ -8,7 +8,7 @@ use Rattle.nd_model.specs.Session as model
 use Rattle.nd_model.specs.Running.{Key, Name, Input, Length, Byte}
 use Rattle.nd_model.specs.Running as running
 use Rattle.nd_marks.specs.Marks.{Places}
-use Rattle.nd_heap.specs.Storing.{having_written}
+use Rattle.nd_model.specs.Storing.{having_written}
 use Rattle.nd_heap.specs.Live.{is_among, is_base_among, is_marked, is_read}
 use Rattle.nd_heap.proofs.Same.{same_bases, same_bytes}
 

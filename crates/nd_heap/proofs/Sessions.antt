@@ -1,5 +1,5 @@
 -- What is noted, under names and blocks.
-use Rattle.std.proofs.Common.{◌≡◌, ℕ, Bool, true, false, not, ◌&&◌, ◌||◌, List, refl, sym, ap, ap₂, ◌∙◌, Option, None, Some, option_map, Bor}
+use Rattle.std.proofs.Common.{◌≡◌, ℕ, Bool, true, false, not, ◌&&◌, ◌||◌, List, [], ◌∷◌, ◌++◌, refl, sym, ap, ap₂, ◌∙◌, Option, None, Some, option_map, Bor}
 use mathlib.Core.Path.{fun_ext}
 use Rattle.std.specs.Option.{option_copied}
 use Rattle.nd_model.specs.Value.{Base, Value}
@@ -8,7 +8,8 @@ use Rattle.nd_model.specs.Running.{Key}
 use Rattle.nd_model.specs.Running as running
 use Rattle.nd_heap.specs.declared.value.Value as code
 use Rattle.nd_heap.specs.Values.{value_of}
-use Rattle.nd_heap.specs.Storing.{having_written}
+use Rattle.nd_model.specs.Storing.{having_written}
+use Rattle.nd_heap.specs.Seen.{having_event}
 
 pub noted_over : (keys : Key → Bool) (t u : running.Running) (names : List (List ℕ × Value)) (bytes : Base → List ℕ) (next : ℕ) → u ≡ running.having_read keys t
     → record u { names = names; bytes = bytes; next = next } ≡ running.having_read keys (record t { names = names; bytes = bytes; next = next })
@@ -17,6 +18,22 @@ noted_over keys t u names bytes next e = ap (λ (r : running.Running). record r 
 pub written_over : (b : Base) (ps : List ℕ) (t u : running.Running) (names : List (List ℕ × Value)) (bytes : Base → List ℕ) (next : ℕ) → u ≡ having_written b ps t
     → record u { names = names; bytes = bytes; next = next } ≡ having_written b ps (record t { names = names; bytes = bytes; next = next })
 written_over b ps t u names bytes next e = ap (λ (r : running.Running). record r { names = names; bytes = bytes; next = next }) e
+
+-- a name is bound, whose text and value are shared
+pub bound_over : (n m l : List ℕ) (v w x : Value) (t u : running.Running) (names names' : model.Names) (bytes : Base → List ℕ) (next : ℕ) → u ≡ having_event (running.Binds m w) t
+    → names' ≡ model.bind l x names → m ≡ n → w ≡ v → l ≡ n → x ≡ v
+    → record u { names = names'; bytes = bytes; next = next } ≡ running.done (running.Binding n v) (record t { names = names; bytes = bytes; next = next })
+bound_over n m l v w x t u names names' bytes next noted bound same_m same_w same_l same_x =
+    ap (λ (u : running.Running). record u { names = names'; bytes = bytes; next = next }) noted
+    ∙ (λ i. record t { names = (bound ∙ ap₂ (λ l x. model.bind l x names) same_l same_x) i; bytes = bytes; next = next; events = t.events ++ running.Binds (same_m i) (same_w i) ∷ [] })
+
+-- a name is unbound
+pub unbound_over : (n m : List ℕ) (t u : running.Running) (names names' : model.Names) (bytes : Base → List ℕ) (next : ℕ) → u ≡ having_event (running.Unbinds m) t
+    → names' ≡ model.unbind n names → m ≡ n
+    → record u { names = names'; bytes = bytes; next = next } ≡ running.done (running.Unbinding n) (record t { names = names; bytes = bytes; next = next })
+unbound_over n m t u names names' bytes next noted unbound same =
+    ap (λ (u : running.Running). record u { names = names'; bytes = bytes; next = next }) noted
+    ∙ (λ i. record t { names = unbound i; bytes = bytes; next = next; events = t.events ++ running.Unbinds (same i) ∷ [] })
 
 -- what is read in two parts
 pub read_twice : (a b : Key → Bool) (r : running.Running) → running.having_read b (running.having_read a r) ≡ running.having_read (λ k. a k || b k) r

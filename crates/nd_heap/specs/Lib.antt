@@ -2,6 +2,9 @@ pub mod Values
 pub mod Contents
 pub mod State
 pub mod Live
+pub mod Seen
+pub mod Events
 pub mod Kept
-pub mod Storing
 pub mod Fields
+pub mod Intact
+pub mod Placing

@@ -1,6 +1,6 @@
 // Blocks, which versions share.
 
-ghost use Rattle.std.specs.Prelude.{◌≡◌, ◌+◌, ◌≤◌, ◌^◌, ◌||◌, [], IsTrue, IfOk, OnOk, filter, if◌then◌else◌};
+ghost use Rattle.std.specs.Prelude.{◌≡◌, ◌+◌, ◌≤◌, ◌^◌, ◌||◌, [], IsTrue, IfOk, OnErr, OnOk, filter, if◌then◌else◌};
 ghost use Rattle.nd_model.specs.Value as values;
 ghost use Rattle.nd_model.specs.Tuple.{count_up};
 ghost use Rattle.nd_model.specs.Session as model;
@@ -12,6 +12,7 @@ ghost use Rattle.nd_heap.specs.Live.{bytes_at, is_base_among};
 use crate::memory::OutOfMemory;
 use crate::names::Names;
 use crate::value::{Base, Value};
+use crate::writer::BlockWriter;
 use indexmap::IndexMap;
 use nd_block::RawBlock;
 use std::alloc::{AllocError, Global};
@@ -32,19 +33,6 @@ pub(crate) fn bytes_of(blocks: &Blocks, base: Base) -> &[u8]
     }
 }
 
-/// The block itself where it is alone, and else a copy of it.
-fn make_private(block: Rc<RawBlock>) -> Result<RawBlock, OutOfMemory>
-    ensures { IfOk result (λ b. b ≡ block.value) }
-{
-    match Rc::try_unwrap(block) {
-        Ok(own) => Ok(own),
-        Err(shared) => {
-            let copy = shared.as_ref().try_clone()?;
-            Ok(copy)
-        }
-    }
-}
-
 /// Sets a block.
 pub(crate) fn set_block(
     alloc: Global,
@@ -52,8 +40,10 @@ pub(crate) fn set_block(
     base: Base,
     block: RawBlock,
 ) -> Result<(), OutOfMemory>
-    ensures { OnOk result (bytes_at (blocks_of blocks.new.value.entries)
+    ensures ok { OnOk result (bytes_at (blocks_of blocks.new.value.entries)
         ≡ running.with_base (base_of base) block (bytes_at (blocks_of blocks.old.value.entries))) }
+    ensures err { OnErr result (bytes_at (blocks_of blocks.new.value.entries)
+        ≡ bytes_at (blocks_of blocks.old.value.entries)) }
 {
     let kept = Rc::new(alloc, block)?;
     let own = Rc::make_mut(blocks)?;
@@ -61,29 +51,26 @@ pub(crate) fn set_block(
     Ok(())
 }
 
-/// Takes a block out, to be written. A block that is shared is copied. No bytes stay behind.
-pub(crate) fn take(
-    alloc: Global,
+/// Writes to a block, and nothing where there is no such block. A block that is shared is copied first.
+pub(crate) fn write<W: BlockWriter + Drop>(
     blocks: &mut Rc<Blocks>,
     base: Base,
-) -> Result<RawBlock, OutOfMemory>
-    ensures block { IfOk result (λ b. b
-        ≡ bytes_at (blocks_of blocks.old.value.entries) (base_of base)) }
-    ensures after { OnOk result (bytes_at (blocks_of blocks.new.value.entries)
-        ≡ running.with_base (base_of base) [] (bytes_at (blocks_of blocks.old.value.entries))) }
+    writer: W,
+) -> Result<(), OutOfMemory>
+    ensures ok { OnOk result (bytes_at (blocks_of blocks.new.value.entries)
+        ≡ running.with_base (base_of base) (W.written writer
+        (bytes_at (blocks_of blocks.old.value.entries) (base_of base)))
+        (bytes_at (blocks_of blocks.old.value.entries))) }
+    ensures err { OnErr result (bytes_at (blocks_of blocks.new.value.entries)
+        ≡ bytes_at (blocks_of blocks.old.value.entries)) }
 {
-    let nothing = Rc::new(alloc, RawBlock::zeroed(alloc, 0)?)?;
     let own = Rc::make_mut(blocks)?;
-    match own.insert(base, nothing)? {
-        Some(block) => {
-            let taken = make_private(block)?;
-            Ok(taken)
-        }
-        None => {
-            let empty = RawBlock::zeroed(alloc, 0)?;
-            Ok(empty)
-        }
-    }
+    let Some(shared) = own.get_mut(&base) else {
+        return Ok(());
+    };
+    let block = Rc::make_mut(shared)?;
+    writer.write(block);
+    Ok(())
 }
 
 /// The bases that some bound value lies in.
@@ -96,7 +83,7 @@ fn held_bases(alloc: Global, names: &Names) -> Result<Bases, OutOfMemory>
         let Some((_, value)) = names.get_index(i) else {
             unreachable!();
         };
-        note_base(&mut held, value)?;
+        note_base(&mut held, value.as_ref())?;
     }
     Ok(held)
 }
@@ -151,9 +138,11 @@ fn are_held(blocks: &Blocks, held: &Bases) -> bool
 
 /// Gives up the blocks of other bases. Blocks that are shared are not changed: then the others get a map of their own.
 fn keep_held(blocks: &mut Rc<Blocks>, held: &Bases) -> Result<(), OutOfMemory>
-    ensures { OnOk result ((b : values.Base) → bytes_at (blocks_of blocks.new.value.entries) b
+    ensures ok { OnOk result ((b : values.Base) → bytes_at (blocks_of blocks.new.value.entries) b
         ≡ (if is_base_among (bases_of held.now.entries) b
         then bytes_at (blocks_of blocks.old.value.entries) b else [])) }
+    ensures err { OnErr result (bytes_at (blocks_of blocks.new.value.entries)
+        ≡ bytes_at (blocks_of blocks.old.value.entries)) }
 {
     let shared: &Rc<Blocks> = blocks;
     if are_held(shared.as_ref(), held) {
@@ -170,9 +159,11 @@ pub(crate) fn collect(
     blocks: &mut Rc<Blocks>,
     names: &Names,
 ) -> Result<(), OutOfMemory>
-    ensures { OnOk result ((b : values.Base) → bytes_at (blocks_of blocks.new.value.entries) b
+    ensures ok { OnOk result ((b : values.Base) → bytes_at (blocks_of blocks.new.value.entries) b
         ≡ (if model.is_held b (names_of names.now.entries)
         then bytes_at (blocks_of blocks.old.value.entries) b else [])) }
+    ensures err { OnErr result (bytes_at (blocks_of blocks.new.value.entries)
+        ≡ bytes_at (blocks_of blocks.old.value.entries)) }
 {
     let held = held_bases(alloc, names)?;
     keep_held(blocks, &held)?;

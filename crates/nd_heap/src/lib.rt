@@ -1,7 +1,8 @@
 //! Sessions: names with their values, the blocks of bytes that arrays are views of, and what the running cell has read and done.
 #![tactic(auto)]
 
-ghost use Rattle.nd_heap.specs.Storing.{StoresByParts};
+ghost use Rattle.nd_heap.specs.State.{State};
+ghost use Rattle.nd_heap.specs.Seen.{IsListed};
 
 mod blocks;
 mod input;
@@ -12,14 +13,17 @@ mod session;
 mod trace;
 mod value;
 mod version;
+mod writer;
 
 pub use input::{Input, Inputs};
 pub use memory::OutOfMemory;
 pub use session::Session;
+pub use trace::{Event, Trace};
 pub use value::{Array, Base, Value};
 pub use version::Version;
+pub use writer::BlockWriter;
 
-/// To note the bytes as written, to take the block out and to put it back with the bytes in it is one store.
-pub fn stores_by_parts()
-    ensures { StoresByParts }
+/// What a session has read and written is what its trace lists.
+pub fn reads_are_listed()
+    ensures { (s : State) → IsListed s }
 {}

@@ -23,6 +23,16 @@ use std::alloc::Global;
 /// A set of places for each base. A base without one has no place in it.
 pub(crate) type Footprint = IndexMap<Base, Marks>;
 
+/// Whether the place of the base is marked.
+pub(crate) fn has_mark(marked: &Footprint, base: Base, place: u64) -> bool
+    ensures { result ≡ is_marked (marks_of marked.now.entries) (base_of base) place }
+{
+    match marked.get(&base) {
+        Some(marks) => marks.holds(place),
+        None => false,
+    }
+}
+
 /// The marks of a base, where there are any, and else those of no place.
 pub(crate) fn marks_in<'a>(marked: &'a Footprint, base: Base, nothing: &'a Marks) -> &'a Marks
     requires { (p : ℕ) → holds nothing.now p ≡ false }

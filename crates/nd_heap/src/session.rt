@@ -5,26 +5,30 @@ ghost use Rattle.std.specs.List.{zip};
 ghost use Rattle.nd_model.specs.Tuple.{count_up};
 ghost use Rattle.nd_model.specs.Session as model;
 ghost use Rattle.nd_model.specs.Running as running;
+ghost use Rattle.nd_model.specs.Footprint.{HasNone};
+ghost use Rattle.nd_model.specs.Sound.{IsHeldView, IsSound, IsViewOf};
 ghost use Rattle.nd_model.specs.View.{item_size, byte_places, element_places};
 ghost use Rattle.nd_types.specs.Types.{type_of};
 ghost use Rattle.nd_heap.specs.Values.{base_of, geo_of, value_of};
 ghost use Rattle.nd_heap.specs.Live.{live};
-ghost use Rattle.nd_heap.specs.Kept.{version_of};
+ghost use Rattle.nd_heap.specs.Kept.{thawed, version_of};
 ghost use Rattle.nd_heap.specs.Fields.{trace_of};
-ghost use Rattle.nd_heap.specs.Storing.{having_written, having_block};
+ghost use Rattle.nd_heap.specs.Seen.{seen_of};
+ghost use Rattle.nd_model.specs.Storing.{having_written, having_block};
 
-use crate::blocks::{Blocks, bytes_of, collect, places_from, set_block, take};
+use crate::blocks::{Blocks, bytes_of, collect, places_from, set_block, write};
 use crate::memory::OutOfMemory;
 use crate::names::{Names, bind, find, unbind};
 use crate::trace::{Event, Trace};
 use crate::value::{Array, Base, Value};
 use crate::version::Version;
-use indexmap::IndexMap;
+use crate::writer::{BlockWriter, PlacedBytes};
+use indexmap::{IndexMap, IndexSet};
 use nd_block::RawBlock;
 use nd_types::ElemType;
 use std::alloc::Global;
 use std::marker::Model;
-use std::rc::Rc;
+use std::rc::{Rc, RcStr};
 
 /// Names and blocks as they are while a cell runs, with what the cell has read and done. Names and blocks are shared with the
 /// versions that were made of them: the first write after that copies what it changes. Once a call has answered out of memory,
@@ -46,6 +50,10 @@ impl Model for Session {
     ghost use Rattle.nd_heap.specs.Fields.{state_of};
 
     ghost view = { state_of };
+
+    ghost use Rattle.nd_heap.specs.Intact.{IsIntact};
+
+    ghost invariant = { IsIntact };
 }
 
 /// The trace of a cell of this label that has read and done nothing.
@@ -55,10 +63,11 @@ fn new_trace(alloc: Global, label: u64) -> Trace
     Trace {
         label,
         events: Vec::new(alloc),
+        touched: IndexSet::new(alloc),
         written: IndexMap::new(alloc),
-        looked: Vec::new(alloc),
-        asked: Vec::new(alloc),
-        lengths: Vec::new(alloc),
+        looked: IndexSet::new(alloc),
+        asked: IndexSet::new(alloc),
+        lengths: IndexSet::new(alloc),
         used: IndexMap::new(alloc),
     }
 }
@@ -86,6 +95,7 @@ impl Session {
 
     /// A cell of this label begins. Blocks that no bound value lies in are given up. No name and no byte is copied.
     pub fn start(&mut self, label: u64) -> Result<(), OutOfMemory>
+        requires { HasNone label (running.session_of (live self.old)) }
         ensures { OnOk result (live self.new
             ≡ running.start label (running.session_of (live self.old))) }
     {
@@ -93,6 +103,14 @@ impl Session {
         self.trace = new_trace(self.alloc, label);
         self.next = 0;
         Ok(())
+    }
+
+    /// A fact, and no work: each array that a name is bound to lies in its block.
+    #[tactic(auto, unfolding(crate::specs::Live::live))]
+    pub fn soundness(&self)
+        ensures { IsSound (live self.now) }
+    {
+        let _ = &self.next;
     }
 
     /// The bytes of a block, none where there is no such block. It notes nothing: `mark_used` and `mark_element` do.
@@ -131,7 +149,8 @@ impl Session {
     /// Notes that all elements of an array are read. `bytes` then lends them.
     pub fn mark_used(&mut self, array: &Array) -> Result<(), OutOfMemory>
         ensures { OnOk result (live self.new
-            ≡ running.after (running.Use (base_of array.now.base) (byte_places (geo_of array.now))) (live self.old)) }
+            ≡ running.after (running.Use (base_of array.now.base) (byte_places (geo_of array.now)))
+            (live self.old)) }
     {
         self.trace.note_view(self.alloc, array)?;
         Ok(())
@@ -146,7 +165,8 @@ impl Session {
     ) -> Result<(), OutOfMemory>
         requires { place + item_size (type_of elem.now) ≤ 2 ^ 64 }
         ensures { OnOk result (live self.new
-            ≡ running.after (running.Use (base_of base) (element_places (type_of elem.now) place)) (live self.old)) }
+            ≡ running.after (running.Use (base_of base) (element_places (type_of elem.now) place))
+            (live self.old)) }
     {
         self.trace.note_element(self.alloc, base, place, elem)?;
         Ok(())
@@ -155,7 +175,8 @@ impl Session {
     /// Notes that all elements of an array are written.
     pub fn mark_written(&mut self, array: &Array) -> Result<(), OutOfMemory>
         ensures { OnOk result (live self.new
-            ≡ having_written (base_of array.now.base) (byte_places (geo_of array.now)) (live self.old)) }
+            ≡ having_written (base_of array.now.base) (byte_places (geo_of array.now))
+            (live self.old)) }
     {
         self.trace.write_view(self.alloc, array)?;
         Ok(())
@@ -170,30 +191,22 @@ impl Session {
     ) -> Result<(), OutOfMemory>
         requires { place + item_size (type_of elem.now) ≤ 2 ^ 64 }
         ensures { OnOk result (live self.new
-            ≡ having_written (base_of base) (element_places (type_of elem.now) place) (live self.old)) }
+            ≡ having_written (base_of base) (element_places (type_of elem.now) place)
+            (live self.old)) }
     {
         self.trace.write_element(self.alloc, base, place, elem)?;
         Ok(())
     }
 
-    /// Takes a block out to be written: a copy of its own where a version shares it. The session then has no bytes there. The three
-    /// calls `mark_written`, `take_block` and `put_block` are one store, where the block that is put has the bytes of the store in it.
+    /// Writes to a block, which is copied first where a version shares it. It notes nothing: `mark_written` and
+    /// `mark_written_element` do. That the two calls are one store, where the bytes written are those at the places noted, is
+    /// `stores_by_parts`.
     #[tactic(auto, unfolding(crate::specs::Live::live))]
-    pub fn take_block(&mut self, base: Base) -> Result<RawBlock, OutOfMemory>
-        ensures block { IfOk result (λ b. b ≡ (live self.old).bytes (base_of base)) }
-        ensures after { OnOk result (live self.new
-            ≡ having_block (base_of base) [] (live self.old)) }
+    pub fn write<W: BlockWriter + Drop>(&mut self, base: Base, writer: W) -> Result<(), OutOfMemory>
+        ensures { OnOk result (live self.new ≡ having_block (base_of base)
+            (W.written writer ((live self.old).bytes (base_of base))) (live self.old)) }
     {
-        let block = take(self.alloc, &mut self.blocks, base)?;
-        Ok(block)
-    }
-
-    /// Puts a block in its place.
-    #[tactic(auto, unfolding(crate::specs::Live::live))]
-    pub fn put_block(&mut self, base: Base, block: RawBlock) -> Result<(), OutOfMemory>
-        ensures { OnOk result (live self.new ≡ having_block (base_of base) block (live self.old)) }
-    {
-        set_block(self.alloc, &mut self.blocks, base, block)?;
+        write(&mut self.blocks, base, writer)?;
         Ok(())
     }
 
@@ -201,14 +214,17 @@ impl Session {
     pub fn store(&mut self, base: Base, place: u64, bytes: &[u8]) -> Result<(), OutOfMemory>
         requires { place + length bytes.now ≤ 2 ^ 64 }
         ensures { OnOk result (live self.new
-            ≡ running.done (running.Storing (base_of base) (zip (count_up place (length bytes.now)) bytes.now)) (live self.old)) }
+            ≡ running.done (running.Storing (base_of base)
+            (zip (count_up place (length bytes.now)) bytes.now)) (live self.old)) }
     {
         let count = bytes.len() as u64;
         let places = places_from(self.alloc, place, count)?;
         self.trace.write_run(self.alloc, base, place, count)?;
-        let mut block = take(self.alloc, &mut self.blocks, base)?;
-        block.put(&places, bytes);
-        set_block(self.alloc, &mut self.blocks, base, block)?;
+        let writer = PlacedBytes {
+            places: &places,
+            bytes,
+        };
+        write(&mut self.blocks, base, writer)?;
         Ok(())
     }
 
@@ -230,13 +246,14 @@ impl Session {
     /// Binds a name: one that is bound keeps its place, another goes last.
     #[tactic(auto, unfolding(crate::specs::Live::live))]
     pub fn bind(&mut self, name: String, value: Value) -> Result<(), OutOfMemory>
+        requires { IsViewOf (IsHeldView (live self.old)) (value_of value) }
         ensures { OnOk result (live self.new
             ≡ running.done (running.Binding (string_bytes name) (value_of value)) (live self.old)) }
     {
-        let bound = String::from_str(self.alloc, name.as_str())?;
-        let kept = value.try_clone()?;
-        bind(&mut self.names, name, value)?;
-        self.trace.events.push(Event::Binds(bound, kept))?;
+        let bound = RcStr::from_string(name)?;
+        let kept = Rc::new(self.alloc, value)?;
+        bind(&mut self.names, bound.clone()?, kept.clone()?)?;
+        self.trace.note_event(Event::Binds(bound, kept))?;
         Ok(())
     }
 
@@ -246,9 +263,9 @@ impl Session {
         ensures { OnOk result (live self.new
             ≡ running.done (running.Unbinding name.now) (live self.old)) }
     {
-        let unbound = String::from_str(self.alloc, name)?;
+        let unbound = RcStr::from_str(self.alloc, name)?;
         unbind(&mut self.names, name)?;
-        self.trace.events.push(Event::Unbinds(unbound))?;
+        self.trace.note_event(Event::Unbinds(unbound))?;
         Ok(())
     }
 
@@ -269,6 +286,22 @@ impl Session {
         self.next_base().number
     }
 
+    /// The next new block gets this number.
+    #[tactic(auto, unfolding(crate::specs::Live::live))]
+    pub fn skip_to(&mut self, number: u64)
+        requires { (live self.old).next ≤ number }
+        ensures { live self.new ≡ record (live self.old) { next = number } }
+    {
+        self.next = number;
+    }
+
+    /// What the running cell has read and done.
+    pub fn seen(&self) -> &Trace
+        ensures { result.now ≡ seen_of self.now }
+    {
+        &self.trace
+    }
+
     /// The base of the next new block.
     #[tactic(auto, unfolding(crate::specs::Live::live))]
     fn next_base(&self) -> Base
@@ -281,14 +314,38 @@ impl Session {
         }
     }
 
+    /// A session as it was when the version was kept: the cell of its label goes on from its next number, and has read and done
+    /// nothing since. No name and no byte is copied.
+    pub fn thaw(alloc: Global, version: &Version) -> Result<Session, OutOfMemory>
+        ensures { IfOk result (λ s. live s ≡ thawed version.now) }
+    {
+        let names = version.names.clone()?;
+        let blocks = version.blocks.clone()?;
+        Ok(Session {
+            names,
+            blocks,
+            trace: new_trace(alloc, version.label),
+            next: version.next,
+            alloc,
+        })
+    }
+
     /// The names and blocks as they are now, kept. No name and no byte is copied. Blocks that no bound value lies in are left out.
     pub fn freeze(&self) -> Result<Version, OutOfMemory>
-        ensures { IfOk result (λ v. version_of v
+        ensures session { IfOk result (λ v. version_of v
             ≡ model.collected (running.session_of (live self.now))) }
+        ensures label { IfOk result (λ v. v.label ≡ (live self.now).label) }
+        ensures next { IfOk result (λ v. v.next ≡ (live self.now).next) }
     {
+        let Base { label, number } = self.next_base();
         let names = self.names.clone()?;
         let mut blocks = self.blocks.clone()?;
         collect(self.alloc, &mut blocks, self.names.as_ref())?;
-        Ok(Version { names, blocks })
+        Ok(Version {
+            names,
+            blocks,
+            label,
+            next: number,
+        })
     }
 }

@@ -1,85 +1,191 @@
 // What the running cell has read and done.
 
-ghost use Rattle.std.specs.Prelude.{◌≡◌, ◌+◌, ◌≤◌, ◌^◌, OnOk, Some, map, string_bytes};
+ghost use Rattle.std.specs.Prelude.{◌≡◌, ◌+◌, ◌≤◌, ◌^◌, OnOk, Some, bytes_eq, option_map, slice_get};
+ghost use Rattle.std.specs.List.{IsDistinct};
+ghost use Rattle.std.specs.Rc.{rc_str_bytes};
 ghost use Rattle.nd_model.specs.Running as running;
 ghost use Rattle.nd_model.specs.Tuple.{count_up};
+ghost use Rattle.nd_model.specs.Value.{same_base};
 ghost use Rattle.nd_model.specs.View.{item_size, byte_places, element_places};
 ghost use Rattle.nd_types.specs.Types.{type_of};
 ghost use Rattle.nd_heap.specs.Values.{base_of, geo_of, value_of};
-ghost use Rattle.nd_heap.specs.Live.{is_among, is_base_among};
-ghost use Rattle.nd_heap.specs.Fields.{event_of, trace_of};
-ghost use Rattle.nd_heap.specs.Storing.{having_written};
+ghost use Rattle.nd_heap.specs.Events.{event_of, name_of_event};
+ghost use Rattle.nd_heap.specs.Fields.{trace_of};
+ghost use Rattle.nd_heap.specs.Seen.{names_read, inputs_read, bases_read, is_used, is_written};
+ghost use Rattle.nd_model.specs.Storing.{having_written};
+ghost use Rattle.nd_heap.specs.Seen.{having_event};
 
-use crate::marking::{Footprint, mark_element, mark_run, mark_view, marks_in};
+use crate::marking::{Footprint, has_mark, mark_element, mark_run, mark_view, marks_in};
 use crate::memory::OutOfMemory;
 use crate::value::{Array, Base, Value};
+use indexmap::IndexSet;
 use nd_marks::Marks;
 use nd_types::ElemType;
 use std::alloc::Global;
+use std::marker::Model;
+use std::rc::{Rc, RcStr};
 
 /// What a cell did to a name.
 #[derive(Drop)]
-pub(crate) enum Event {
-    Binds(String, Value),
-    Unbinds(String),
+pub enum Event {
+    Binds(RcStr, Rc<Value>),
+    Unbinds(RcStr),
+}
+
+impl Event {
+    fn name(&self) -> &RcStr
+        ensures { rc_str_bytes result.now ≡ name_of_event (event_of self.now) }
+    {
+        match self {
+            Event::Binds(name, _) => name,
+            Event::Unbinds(name) => name,
+        }
+    }
 }
 
 /// The running cell's label, and what it has read and done: the names that it looked up and the inputs that it asked for, the
-/// bases whose length it read, and the bytes that it used and wrote. No byte of a base of its own is noted as used.
+/// bases whose length it read, and the bytes that it used and wrote. No byte of a base of its own is noted as used, and no name
+/// that it bound or unbound before as looked up. The names of the events are kept as a set too.
 #[derive(Drop)]
-pub(crate) struct Trace {
+pub struct Trace {
     pub(crate) label: u64,
     pub(crate) events: Vec<Event>,
+    pub(crate) touched: IndexSet<RcStr>,
     pub(crate) written: Footprint,
-    pub(crate) looked: Vec<String>,
-    pub(crate) asked: Vec<String>,
-    pub(crate) lengths: Vec<Base>,
+    pub(crate) looked: IndexSet<String>,
+    pub(crate) asked: IndexSet<String>,
+    pub(crate) lengths: IndexSet<Base>,
     pub(crate) used: Footprint,
 }
 
+impl Model for Trace {
+    ghost use Rattle.nd_heap.specs.Seen.{Seen};
+
+    ghost Value = { Seen };
+
+    ghost use Rattle.nd_heap.specs.Events.{seen_in, AreTouched};
+
+    ghost view = { seen_in };
+
+    ghost invariant = { AreTouched };
+}
+
 impl Trace {
+    /// The name at this place in the order in which names were first looked up, none past the last.
+    pub fn name(&self, i: usize) -> Option<&str>
+        ensures name { option_map (λ n. n.now) result ≡ slice_get (names_read self.now) i }
+        ensures once { IsDistinct bytes_eq (names_read self.now) }
+    {
+        match self.looked.as_slice().get(i) {
+            Some(name) => Some(name.as_str()),
+            None => None,
+        }
+    }
+
+    /// The input at this place in the order in which inputs were first asked for, none past the last.
+    pub fn input(&self, i: usize) -> Option<&str>
+        ensures name { option_map (λ n. n.now) result ≡ slice_get (inputs_read self.now) i }
+        ensures once { IsDistinct bytes_eq (inputs_read self.now) }
+    {
+        match self.asked.as_slice().get(i) {
+            Some(name) => Some(name.as_str()),
+            None => None,
+        }
+    }
+
+    /// The base at this place in the order in which the lengths of bases were first read, none past the last: those that a value
+    /// that was looked up lies in, or that were written, but for the running cell's own.
+    pub fn base(&self, i: usize) -> Option<Base>
+        ensures base { option_map base_of result ≡ slice_get (bases_read self.now) i }
+        ensures once { IsDistinct same_base (bases_read self.now) }
+    {
+        match self.lengths.as_slice().get(i) {
+            Some(base) => Some(*base),
+            None => None,
+        }
+    }
+
+    /// The binding or unbinding at this place in their order, none past the last.
+    pub fn event(&self, i: usize) -> Option<&Event>
+        ensures { option_map (λ e. event_of e.now) result ≡ slice_get self.now.events i }
+    {
+        self.events.get(i)
+    }
+
+    /// Whether the byte was read as another cell had left it.
+    pub fn is_used(&self, base: Base, place: u64) -> bool
+        ensures { result ≡ is_used self.now (base_of base) place }
+    {
+        has_mark(&self.used, base, place)
+    }
+
+    /// Whether the byte was written.
+    pub fn is_written(&self, base: Base, place: u64) -> bool
+        ensures { result ≡ is_written self.now (base_of base) place }
+    {
+        has_mark(&self.written, base, place)
+    }
+
+    /// Notes a binding or unbinding.
+    pub(crate) fn note_event(&mut self, event: Event) -> Result<(), OutOfMemory>
+        ensures after { OnOk result (trace_of self.new
+            ≡ having_event (event_of event) (trace_of self.old)) }
+        ensures label { self.new.label ≡ self.old.label }
+    {
+        let name = event.name().clone()?;
+        self.events.reserve(1)?;
+        self.touched.insert(name)?;
+        self.events.push_reserved(event);
+        Ok(())
+    }
+
     /// Notes that a name is looked up.
     pub(crate) fn note_name(&mut self, alloc: Global, name: &str) -> Result<(), OutOfMemory>
-        ensures { OnOk result (trace_of self.new
+        ensures after { OnOk result (trace_of self.new
             ≡ running.having_read (running.is_name name.now) (trace_of self.old)) }
+        ensures label { self.new.label ≡ self.old.label }
     {
-        if has_touched(&self.events, name) || is_text_among(&self.looked, name) {
+        if self.touched.contains(name) || self.looked.contains(name) {
             return Ok(());
         }
         let key = String::from_str(alloc, name)?;
-        self.looked.push(key)?;
+        self.looked.insert(key)?;
         Ok(())
     }
 
     /// Notes that an input is asked for.
     pub(crate) fn note_input(&mut self, alloc: Global, name: &str) -> Result<(), OutOfMemory>
-        ensures { OnOk result (trace_of self.new
+        ensures after { OnOk result (trace_of self.new
             ≡ running.having_read (running.is_input name.now) (trace_of self.old)) }
+        ensures label { self.new.label ≡ self.old.label }
     {
-        if is_text_among(&self.asked, name) {
+        if self.asked.contains(name) {
             return Ok(());
         }
         let key = String::from_str(alloc, name)?;
-        self.asked.push(key)?;
+        self.asked.insert(key)?;
         Ok(())
     }
 
     /// Notes that the length of a base is read.
     pub(crate) fn note_length(&mut self, base: Base) -> Result<(), OutOfMemory>
-        ensures { OnOk result (trace_of self.new
+        ensures after { OnOk result (trace_of self.new
             ≡ running.having_read (running.is_length (base_of base)) (trace_of self.old)) }
+        ensures label { self.new.label ≡ self.old.label }
     {
-        if base.label == self.label || is_base_in(&self.lengths, base) {
+        if base.label == self.label || self.lengths.contains(&base) {
             return Ok(());
         }
-        self.lengths.push(base)?;
+        self.lengths.insert(base)?;
         Ok(())
     }
 
     /// Notes that the length of the block is read that the value lies in, if it lies in one.
     pub(crate) fn note_length_of(&mut self, value: &Value) -> Result<(), OutOfMemory>
-        ensures { OnOk result (trace_of self.new
-            ≡ running.having_read (running.is_length_of (Some (value_of value.now))) (trace_of self.old)) }
+        ensures after { OnOk result (trace_of self.new
+            ≡ running.having_read (running.is_length_of (Some (value_of value.now)))
+            (trace_of self.old)) }
+        ensures label { self.new.label ≡ self.old.label }
     {
         match value {
             Value::Number(_) => Ok(()),
@@ -89,8 +195,10 @@ impl Trace {
 
     /// Notes that all elements of an array are read.
     pub(crate) fn note_view(&mut self, alloc: Global, array: &Array) -> Result<(), OutOfMemory>
-        ensures { OnOk result (trace_of self.new
-            ≡ running.having_read (running.is_byte (base_of array.now.base) (byte_places (geo_of array.now))) (trace_of self.old)) }
+        ensures after { OnOk result (trace_of self.new ≡ running.having_read
+            (running.is_byte (base_of array.now.base) (byte_places (geo_of array.now)))
+            (trace_of self.old)) }
+        ensures label { self.new.label ≡ self.old.label }
     {
         let base = array.base;
         if base.label == self.label {
@@ -111,8 +219,10 @@ impl Trace {
         elem: &ElemType,
     ) -> Result<(), OutOfMemory>
         requires { place + item_size (type_of elem.now) ≤ 2 ^ 64 }
-        ensures { OnOk result (trace_of self.new
-            ≡ running.having_read (running.is_byte (base_of base) (element_places (type_of elem.now) place)) (trace_of self.old)) }
+        ensures after { OnOk result (trace_of self.new ≡ running.having_read
+            (running.is_byte (base_of base) (element_places (type_of elem.now) place))
+            (trace_of self.old)) }
+        ensures label { self.new.label ≡ self.old.label }
     {
         if base.label == self.label {
             return Ok(());
@@ -125,8 +235,10 @@ impl Trace {
 
     /// Notes that all elements of an array are written.
     pub(crate) fn write_view(&mut self, alloc: Global, array: &Array) -> Result<(), OutOfMemory>
-        ensures { OnOk result (trace_of self.new
-            ≡ having_written (base_of array.now.base) (byte_places (geo_of array.now)) (trace_of self.old)) }
+        ensures after { OnOk result (trace_of self.new
+            ≡ having_written (base_of array.now.base) (byte_places (geo_of array.now))
+            (trace_of self.old)) }
+        ensures label { self.new.label ≡ self.old.label }
     {
         self.note_length(array.base)?;
         let nothing = Marks::new(alloc);
@@ -143,8 +255,10 @@ impl Trace {
         elem: &ElemType,
     ) -> Result<(), OutOfMemory>
         requires { place + item_size (type_of elem.now) ≤ 2 ^ 64 }
-        ensures { OnOk result (trace_of self.new
-            ≡ having_written (base_of base) (element_places (type_of elem.now) place) (trace_of self.old)) }
+        ensures after { OnOk result (trace_of self.new
+            ≡ having_written (base_of base) (element_places (type_of elem.now) place)
+            (trace_of self.old)) }
+        ensures label { self.new.label ≡ self.old.label }
     {
         self.note_length(base)?;
         let nothing = Marks::new(alloc);
@@ -161,50 +275,13 @@ impl Trace {
         size: u64,
     ) -> Result<(), OutOfMemory>
         requires { first + size ≤ 2 ^ 64 }
-        ensures { OnOk result (trace_of self.new
+        ensures after { OnOk result (trace_of self.new
             ≡ having_written (base_of base) (count_up first size) (trace_of self.old)) }
+        ensures label { self.new.label ≡ self.old.label }
     {
         self.note_length(base)?;
         let nothing = Marks::new(alloc);
         mark_run(alloc, &mut self.written, base, first, size, &nothing)?;
         Ok(())
     }
-}
-
-/// Whether one of the events is of the name.
-fn has_touched(events: &[Event], name: &str) -> bool
-    ensures { result ≡ running.is_touched name.now (map event_of events.now) }
-{
-    for event in events {
-        let other = match event {
-            Event::Binds(other, _) => other,
-            Event::Unbinds(other) => other,
-        };
-        if name == other.as_str() {
-            return true;
-        }
-    }
-    false
-}
-
-fn is_text_among(texts: &[String], text: &str) -> bool
-    ensures { result ≡ is_among (map string_bytes texts.now) text.now }
-{
-    for other in texts {
-        if other.as_str() == text {
-            return true;
-        }
-    }
-    false
-}
-
-fn is_base_in(bases: &[Base], base: Base) -> bool
-    ensures { result ≡ is_base_among (map base_of bases.now) (base_of base) }
-{
-    for other in bases {
-        if *other == base {
-            return true;
-        }
-    }
-    false
 }

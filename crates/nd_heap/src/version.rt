@@ -12,11 +12,14 @@ use crate::value::{Base, Value};
 use std::marker::Model;
 use std::rc::Rc;
 
-/// The names and blocks of a session at one time, which are shared with the session until that changes them.
+/// The names and blocks of a session at one time, which are shared with the session until that changes them, and the label and
+/// the next number of the cell that ran.
 #[derive(Drop)]
 pub struct Version {
     pub(crate) names: Rc<Names>,
     pub(crate) blocks: Rc<Blocks>,
+    pub(crate) label: u64,
+    pub(crate) next: u64,
 }
 
 impl Model for Version {
@@ -30,7 +33,15 @@ impl Model for Version {
     ghost view = { λ v. record {
       names = names_of v.names.value.entries;
       blocks = blocks_of v.blocks.value.entries;
+      label = v.label;
+      next = v.next;
     } };
+
+    ghost use Rattle.nd_heap.specs.Live.{bytes_at};
+    ghost use Rattle.nd_heap.specs.Intact.{AllLie};
+
+    ghost invariant = { λ v. AllLie v.label v.next
+        (bytes_at (blocks_of v.blocks.value.entries)) (names_of v.names.value.entries) };
 }
 
 impl Version {
@@ -40,7 +51,12 @@ impl Version {
     {
         let names = self.names.clone()?;
         let blocks = self.blocks.clone()?;
-        Ok(Version { names, blocks })
+        Ok(Version {
+            names,
+            blocks,
+            label: self.label,
+            next: self.next,
+        })
     }
 
     /// How many names are bound.

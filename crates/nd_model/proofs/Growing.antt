@@ -24,7 +24,7 @@ grows_on x y z g h = record {
   read = λ k is. h.read k (g.read k is);
 }
 
-not_new : (l n : ℕ) (b : Base) → (b.label ≡ l → b.number < n) → same_base (record { label = l; number = n }) b ≡ false
+pub not_new : (l n : ℕ) (b : Base) → (b.label ≡ l → b.number < n) → same_base (record { label = l; number = n }) b ≡ false
 not_new l n b old = elim (cases_Bool (eqb l b.label)) [
   | inl is ↦ let lt : b.number < n = old (sym (eqb-true _ _ is)) in rw is (elim (cases_Bool (eqb n b.number)) [
     | inl same ↦ let e : n ≡ b.number = eqb-true _ _ same in absurd (omega arith)

@@ -32,4 +32,5 @@ pub mod Contents
 pub mod Uses
 pub mod Bases
 pub mod Noted
+pub mod Storing
 mod Rows

@@ -78,7 +78,7 @@ views_map P Q f (Scalar k z) h = tt
 views_map P Q f (Array b g) h = f b g h
 views_map P Q f (Row b g) h = f b g h
 
-all_views_map : (P Q : Base → Geo → Type 0) → ((b : Base) (g : Geo) → P b g → Q b g) → (es : Names) → AreViewsOf P es → AreViewsOf Q es
+pub all_views_map : (P Q : Base → Geo → Type 0) → ((b : Base) (g : Geo) → P b g → Q b g) → (es : Names) → AreViewsOf P es → AreViewsOf Q es
 all_views_map P Q f [] h = tt
 all_views_map P Q f (e ∷ es) h = (views_map P Q f e.1 h.0, all_views_map P Q f es h.1)
 

@@ -42,6 +42,7 @@ pub mod Footprint
 pub mod Sound
 pub mod Bases
 pub mod Noting
+pub mod Storing
 pub mod Records
 pub mod Scheduler
 pub mod Renaming

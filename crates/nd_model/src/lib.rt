@@ -11,6 +11,7 @@ ghost use Rattle.nd_model.specs.Records.{Kept};
 ghost use Rattle.nd_model.specs.Renaming.{Rename, AnyLabels};
 ghost use Rattle.nd_model.specs.Scheduler.{AnyPass};
 ghost use Rattle.nd_model.specs.Sound.{StaysSound};
+ghost use Rattle.nd_model.specs.Storing.{StoresByParts};
 ghost use Rattle.nd_model.specs.Strides.{PartsAreHeld};
 
 pub mod grammar;
@@ -98,4 +99,9 @@ pub fn few_bases()
 /// What a statement's write notes as read was read before.
 pub fn writes_read_no_more()
     ensures { WritesReadNoMore }
+{}
+
+/// To note bytes as written and then to write them is one store.
+pub fn stores_by_parts()
+    ensures { StoresByParts }
 {}

@@ -1,5 +1,5 @@
 -- Running the cells one after another.
-use Rattle.std.proofs.Common.{◌≡◌, ℕ, ◌+◌, ◌<◌, length, drop, get_or, add-one, drop-cons, List, [], ◌∷◌, ◌++◌, option_map, string_bytes, refl, sym, ap, ap₂, ◌∙◌, inl, inr, append_assoc}
+use Rattle.std.proofs.Common.{◌≡◌, ℕ, zero, suc, ◌+◌, ◌<◌, ◌≤◌, length, drop, get_or, add-one, drop-cons, List, [], ◌∷◌, ◌++◌, option_map, string_bytes, refl, sym, ap, ap₂, ◌∙◌, inl, inr, append_assoc, append-nil, arith}
 use mathlib.Core.Path.{fun_ext}
 use Rattle.std.proofs.lemmas.Bool.{cases_Bool}
 use Rattle.nd_model.specs.Value.{Base}
@@ -59,14 +59,28 @@ pub told_first : (cs : List Cell) (i : Inputs) (x : Running) → x ≡ start 0 n
 told_first cs i x e =
     ap told (sym (notebook_collected (read_cells cs) i no_session)) ∙ ap (λ (y : Running). told (notebook (read_cells cs) i (session_of y))) (sym e)
 
+pub cells_more : (cells : List Source) (k : ℕ) (d : Source) → k < length cells → d ≡ get_or cells k d → drop k cells ≡ d ∷ drop (k + 1) cells
+cells_more cells k d lt is = drop-cons cells k d lt ∙ ap₂ (λ (e : Source) (n : ℕ). e ∷ drop n cells) (sym is) (sym (add-one k))
+
 pub told_next : (cells : List Source) (k : ℕ) (d : Source) (text : List ℕ) (i : Inputs) (s v : Session) (r : CellResult) (x : Running)
     → k < length cells → d ≡ get_or cells k d → text ≡ string_bytes d.text
     → cell d.label (reading text) i s ≡ ended_of r x → v ≡ collected (session_of x)
     → told (notebook (read_cells (cells_of (drop k cells))) i s) ≡ told_run r v ∷ told (notebook (read_cells (cells_of (drop (k + 1) cells))) i (session_of x))
 told_next cells k d text i s v r x lt is named ran kept =
-    let more : drop k cells ≡ d ∷ drop (k + 1) cells = drop-cons cells k d lt ∙ ap₂ (λ (e : Source) (n : ℕ). e ∷ drop n cells) (sym is) (sym (add-one k)) in
-    ap (λ (l : List Source). told (notebook (read_cells (cells_of l)) i s)) more
+    ap (λ (l : List Source). told (notebook (read_cells (cells_of l)) i s)) (cells_more cells k d lt is)
     ∙ told_step (cell_of d) (cells_of (drop (k + 1) cells)) i s v r x (ap (λ (t : List ℕ). cell d.label (reading t) i s) (sym named) ∙ ran) kept
+
+-- no cell is left
+pub told_all : (cells : List Source) (k : ℕ) (i : Inputs) (s : Session) (ts all : List Told) → length cells ≤ k
+    → all ≡ ts ++ told (notebook (read_cells (cells_of (drop k cells))) i s) → ts ≡ all
+told_all cells k i s ts all le h =
+    sym (h ∙ ap (λ (l : List Source). ts ++ told (notebook (read_cells (cells_of l)) i s)) (none_left cells k le) ∙ append-nil ts)
+  where
+    none_left : (cells : List Source) (k : ℕ) → length cells ≤ k → drop k cells ≡ []
+    none_left [] zero le = refl
+    none_left [] (suc k) le = refl
+    none_left (c ∷ cs) zero le = absurd (omega arith)
+    none_left (c ∷ cs) (suc k) le = none_left cs k (omega arith)
 
 -- what is kept of one run more
 pub kept_more : (all new : List Ran) (r : Ran) (ts : List Told) → new ≡ all ++ r ∷ [] → tolds_of all ++ told_of r ∷ ts ≡ tolds_of new ++ ts

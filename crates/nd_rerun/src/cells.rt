@@ -6,7 +6,8 @@ ghost use Rattle.nd_model.specs.Running as running;
 ghost use Rattle.nd_model.specs.Reading.{reading};
 ghost use Rattle.nd_model.specs.Cell as model_cell;
 ghost use Rattle.nd_model.specs.Cell.{notebook};
-ghost use Rattle.nd_model.specs.Renaming.{told};
+ghost use Rattle.nd_model.specs.Footprint.{HasNone};
+ghost use Rattle.nd_model.specs.Renaming.{AreDistinct, told};
 ghost use Rattle.nd_model.specs.Book.{is_label, labels_of, most_cells, read_cells};
 ghost use Rattle.nd_model.specs.Book as model;
 ghost use Rattle.nd_heap.specs.Values.{inputs_of};
@@ -14,7 +15,7 @@ ghost use Rattle.nd_heap.specs.Live.{live};
 ghost use Rattle.nd_heap.specs.Kept.{version_of};
 ghost use Rattle.nd_cell.specs.Results.{ended_of};
 ghost use Rattle.nd_model.specs.Notebook.{counted, CountsAtMost};
-ghost use Rattle.nd_rerun.specs.Labels.{AreSmall};
+ghost use Rattle.nd_rerun.specs.Labels.{AreSmall, AreFresh};
 ghost use Rattle.nd_rerun.specs.Cells.{cells_of, tolds_of};
 
 use nd_cell::{CellResult, Meter, run_cell};
@@ -146,6 +147,7 @@ fn run_kept(
     inputs: &Inputs,
     cell: &Source,
 ) -> Result<Ran, OutOfMemory>
+    requires { HasNone cell.now.label (running.session_of (live session.old)) }
     ensures ended { IfOk result (λ r.
         model_cell.cell cell.now.label (reading (string_bytes cell.now.text))
         (inputs_of inputs.now.entries) (running.session_of (live session.old))
@@ -159,6 +161,28 @@ fn run_kept(
     Ok(Ran { result, version })
 }
 
+/// Runs cells in order over a session, and counts each run.
+fn run_over(
+    alloc: Global,
+    meter: &mut Meter,
+    session: &mut Session,
+    inputs: &Inputs,
+    cells: &[Source],
+) -> Result<Vec<Ran>, OutOfMemory>
+    requires { AreFresh (cells_of cells.now) (running.session_of (live session.old)) }
+    ensures told { IfOk result (λ v. tolds_of v.items
+        ≡ told (notebook (read_cells (cells_of cells.now)) (inputs_of inputs.now.entries)
+        (running.session_of (live session.old)))) }
+    ensures counts { MatchResult result (λ _. meter.new ≡ counted (length cells.now) meter.old)
+        (λ _. CountsAtMost (length cells.now) meter.old meter.new) }
+{
+    let mut all = Vec::new(alloc);
+    for cell in cells {
+        all.push(run_kept(meter, session, inputs, cell)?)?;
+    }
+    Ok(all)
+}
+
 /// Runs all cells in order, from nothing, and counts each run.
 pub fn run_all(
     alloc: Global,
@@ -166,6 +190,7 @@ pub fn run_all(
     inputs: &Inputs,
     cells: &[Source],
 ) -> Result<Vec<Ran>, OutOfMemory>
+    requires { AreDistinct (labels_of (cells_of cells.now)) }
     ensures told { IfOk result (λ v. tolds_of v.items
         ≡ told (notebook (read_cells (cells_of cells.now)) (inputs_of inputs.now.entries)
         no_session)) }
@@ -173,9 +198,7 @@ pub fn run_all(
         (λ _. CountsAtMost (length cells.now) meter.old meter.new) }
 {
     let mut session = Session::new(alloc)?;
-    let mut all = Vec::new(alloc);
-    for cell in cells {
-        all.push(run_kept(meter, &mut session, inputs, cell)?)?;
-    }
-    Ok(all)
+    let ran = run_over(alloc, meter, &mut session, inputs, cells);
+    drop(session);
+    ran
 }

@@ -7,6 +7,7 @@
 mod edits;
 mod memory;
 mod pieces;
+mod refused;
 mod scripts;
 mod sessions;
 mod streams;

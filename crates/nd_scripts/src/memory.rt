@@ -1,7 +1,7 @@
 //! Calls whose allocations are refused: each is answered with want of memory and leaves all as it was, or is done.
 //! Run with one allocation refused at a time, this prints the same whichever that is.
 
-use crate::views;
+use crate::{refused, views};
 use nd_rerun::{Edit, EditFault, Meter, Notebook, QueryFault, Shown};
 use std::io;
 
@@ -266,6 +266,9 @@ fn print_edits(rt: &HostRuntime, notebook: &mut Notebook) -> io::Result<()> {
 pub(crate) fn print_calls(rt: &HostRuntime) -> io::Result<()> {
     for is_view_right in views::are_right(rt.alloc())? {
         say(rt, is_view_right)?;
+    }
+    for is_call_right in refused::are_right(rt.alloc()) {
+        say(rt, is_call_right)?;
     }
     print_edits(rt, &mut Notebook::new(rt.alloc()))
 }

@@ -1,23 +1,26 @@
 //! Each call of a session once, where memory is there.
 
-ghost use Rattle.std.specs.Prelude.{◌≡◌, IfOk};
+ghost use Rattle.std.specs.Prelude.{◌≡◌, [], ◌∷◌, IfOk, OnOk};
+ghost use Rattle.nd_model.specs.Session as model;
+ghost use Rattle.nd_model.specs.Sound.{IsHeldView, IsViewOf};
 ghost use Rattle.nd_heap.specs.Live.{live};
+ghost use Rattle.nd_heap.specs.Values.{value_of};
 
 use nd_block::RawBlock;
-use nd_heap::{Array, Base, OutOfMemory, Session, Value};
+use nd_heap::{Array, Base, BlockWriter, OutOfMemory, Session, Value, Version};
 use nd_types::{Elem, ElemType, Kind, Num};
 use nd_view::View;
 use std::alloc::Global;
 use std::io;
 
 /// The base that a cell of label 3 makes first.
-const BASE: Base = Base {
+pub(crate) const BASE: Base = Base {
     label: 3,
     number: 0,
 };
 
 /// A session in which a cell of label 3 has begun.
-fn begun_session(alloc: Global) -> Result<Session, OutOfMemory>
+pub(crate) fn begun_session(alloc: Global) -> Result<Session, OutOfMemory>
     ensures { IfOk result (λ s. (live s).next ≡ 0) }
 {
     let mut session = Session::new(alloc)?;
@@ -25,13 +28,36 @@ fn begun_session(alloc: Global) -> Result<Session, OutOfMemory>
     Ok(session)
 }
 
-fn bind(alloc: Global, session: &mut Session, name: &str, value: Value) -> Result<(), OutOfMemory> {
+/// Writes one byte at the front of a block.
+#[derive(Drop)]
+pub(crate) struct FrontByte {
+    pub(crate) byte: u8,
+}
+
+impl BlockWriter for FrontByte {
+    ghost use Rattle.nd_heap.specs.Placing.{length-put};
+
+    ghost written = { λ w bytes. model.put ((0, w.byte) ∷ []) bytes };
+
+    fn write(self, block: &mut RawBlock) {
+        block.put(&[0], &[self.byte]);
+    }
+
+    ghost keeps_length = { λ w bytes. length-put ((0, w.byte) ∷ []) bytes };
+}
+
+/// Binds a name to a value that lies in the session.
+fn bind(alloc: Global, session: &mut Session, name: &str, value: Value) -> Result<(), OutOfMemory>
+    requires { IsViewOf (IsHeldView (live session.old)) (value_of value) }
+    ensures { OnOk result ((live session.new).next ≡ (live session.old).next) }
+{
     session.bind(String::from_str(alloc, name)?, value)
 }
 
 /// Binds the int64 array with the numbers 1 and 2 to the name x.
-fn bind_array(alloc: Global, session: &mut Session) -> Result<(), OutOfMemory>
+pub(crate) fn bind_array(alloc: Global, session: &mut Session) -> Result<(), OutOfMemory>
     requires { (live session.old).next ≡ 0 }
+    ensures { OnOk result ((live session.new).next ≡ 1) }
 {
     let block = RawBlock::from_slice(alloc, &[1, 0, 0, 0, 0, 0, 0, 0, 2, 0, 0, 0, 0, 0, 0, 0])?;
     let base = session.new_block(block)?;
@@ -48,12 +74,19 @@ fn describe_array(
     let before = session.freeze()?;
     session.store(array.base, 8, &[7, 0])?;
     session.mark_written(array)?;
-    let mut block = session.take_block(array.base)?;
-    block.put(&[0], &[9]);
-    session.put_block(array.base, block)?;
+    session.write(array.base, FrontByte { byte: 9 })?;
     session.mark_used(array)?;
+    let other = write_thawed(alloc, &before, array.base)?;
     let (all, kept) = (session.bytes(array.base), before.bytes(array.base));
-    format!(in alloc; "all: {all:?}, kept: {kept:?}").map_err(OutOfMemory::from)
+    let thawed = other.bytes(array.base);
+    format!(in alloc; "all: {all:?}, kept: {kept:?}, thawed: {thawed:?}").map_err(OutOfMemory::from)
+}
+
+/// A session that goes on from a version, and has written to a block.
+fn write_thawed(alloc: Global, version: &Version, base: Base) -> Result<Session, OutOfMemory> {
+    let mut session = Session::thaw(alloc, version)?;
+    session.write(base, FrontByte { byte: 5 })?;
+    Ok(session)
 }
 
 /// An array that is read and written.
@@ -121,6 +154,26 @@ fn describe_blocks(alloc: Global, session: &mut Session) -> Result<String, OutOf
     )
 }
 
+/// The trace of a cell that reads a name, an input and an array of its own, and writes to that array.
+fn describe_trace(alloc: Global, session: &mut Session) -> Result<String, OutOfMemory>
+    requires { (live session.old).next ≡ 0 }
+{
+    bind_array(alloc, session)?;
+    let is_found = is_found(session, "x")? && is_found(session, "other")?;
+    session.ask("file")?;
+    session.store(BASE, 8, &[7])?;
+    let trace = session.seen();
+    let (name, input, base) = (trace.name(0), trace.input(0), trace.base(0).is_some());
+    let (is_bound, is_more) = (trace.event(0).is_some(), trace.event(1).is_some());
+    let (is_used, is_written) = (trace.is_used(BASE, 8), trace.is_written(BASE, 8));
+    let is_gap_written = trace.is_written(BASE, 9);
+    format!(in alloc;
+        "found: {is_found}, name {name:?}, input {input:?}, base: {base}, \
+        events: {is_bound} {is_more}, used: {is_used}, written: {is_written} {is_gap_written}"
+    )
+    .map_err(OutOfMemory::from)
+}
+
 /// Prints what calls gave.
 fn print_text(rt: &HostRuntime, text: Result<String, OutOfMemory>) -> io::Result<()> {
     match text {
@@ -136,6 +189,7 @@ enum Use {
     BoundAgain,
     Unbound,
     Blocks,
+    Trace,
 }
 
 /// What a use gives in a session that has just begun.
@@ -147,6 +201,7 @@ fn describe(alloc: Global, session: &mut Session, what: Use) -> Result<String, O
         Use::BoundAgain => describe_bound_again(alloc, session),
         Use::Unbound => describe_unbound(alloc, session),
         Use::Blocks => describe_blocks(alloc, session),
+        Use::Trace => describe_trace(alloc, session),
     }
 }
 
@@ -159,7 +214,13 @@ fn describe_begun(alloc: Global, what: Use) -> Result<String, OutOfMemory> {
 /// Prints what each of them gives.
 pub(crate) fn print_sessions(rt: &HostRuntime) -> io::Result<()> {
     println!(rt; "= sessions")?;
-    for what in [Use::Elements, Use::BoundAgain, Use::Unbound, Use::Blocks] {
+    for what in [
+        Use::Elements,
+        Use::BoundAgain,
+        Use::Unbound,
+        Use::Blocks,
+        Use::Trace,
+    ] {
         print_text(rt, describe_begun(rt.alloc(), what))?;
     }
     Ok(())

@@ -19,7 +19,7 @@ pub returns-in_default-clause-after : goal.returns-in_default-clause-after
 unfolding live
 returns-in_default-clause-after c =
     let named = noted_over (running.is_name c.args.name.now) (trace_of c.self.inside.trace) (trace_of c.note_name.new.self) (names_of c.self.inside.names.value.entries) (bytes_at (blocks_of c.self.inside.blocks.value.entries)) c.self.inside.next
-    c.in_ok-note_name.ensures in
+    c.in_ok-note_name.ensures.after in
     looked_up c.args.name.now None (live (state_of c.self.inside)) _ _ named (read_none _ _ (λ k. refl)) c.in_default.ensures
     ∙ ap (λ (s : State). running.after (running.Lookup c.args.name.now) (live s)) c.self.view_is
 
@@ -31,8 +31,8 @@ pub returns-clause-after : goal.returns-clause-after
 unfolding live
 returns-clause-after c =
     let named = noted_over (running.is_name c.args.name.now) (trace_of c.self.inside.trace) (trace_of c.note_name.new.self) (names_of c.self.inside.names.value.entries) (bytes_at (blocks_of c.self.inside.blocks.value.entries)) c.self.inside.next
-    c.in_ok-note_name.ensures in
+    c.in_ok-note_name.ensures.after in
     let long = noted_over _ (trace_of c.note_name.new.self) (trace_of c.note_length_of.new.self) (names_of c.self.inside.names.value.entries) (bytes_at (blocks_of c.self.inside.blocks.value.entries)) c.self.inside.next
-    c.in_ok-note_length_of.ensures in
+    c.in_ok-note_length_of.ensures.after in
     looked_up c.args.name.now (Some (value_of c.in_ok-value.value)) (live (state_of c.self.inside)) _ _ named long (ap Some c.in_ok-value.ensures ∙ c.in-Some.ensures)
     ∙ ap (λ (s : State). running.after (running.Lookup c.args.name.now) (live s)) c.self.view_is

@@ -1,0 +1,15 @@
+use Rattle.std.proofs.Common.{◌∙◌, ap, string_bytes}
+use Rattle.nd_model.specs.Cell.{statement}
+use Rattle.nd_syntax.specs.Syntax.{stmt_of}
+use Rattle.nd_heap.specs.Values.{inputs_of}
+use Rattle.nd_heap.specs.Live.{live}
+use Rattle.nd_eval.specs.Done.{outcome_of}
+use Rattle.nd_cell.specs.Results.{saves_of}
+use Rattle.nd_cell.proofs.Lines.{limited_line}
+use Rattle.nd_cell.proofs.run.run_line.Goals as goal
+
+pub returns-in-Err-clause-meaning : goal.returns-in-Err-clause-meaning
+returns-in-Err-clause-meaning c =
+    limited_line c.args.line.now.line (string_bytes c.args.text.now) (saves_of c.args.saves.now.entries)
+    (statement (inputs_of c.args.inputs.now.entries) (stmt_of c.args.line.now.stmt) (live c.args.session.now)) _ (live c.run_stmt.new.session)
+    (c.in_ok-output.ensures.meaning ∙ ap (λ o. (outcome_of o, live c.run_stmt.new.session)) c.in-Err.is)

@@ -1,0 +1,161 @@
+-- Arrays that an evaluation finds lie in their blocks.
+use Rattle.std.proofs.Common.{◌≡◌, ℕ, cond, true, false, List, [], ◌∷◌, map, length, Result, Ok, Err, refl, sym, ap, subst, ◌∙◌, arith}
+use Rattle.std.specs.Prelude.{bytes_eq}
+use Rattle.std.proofs.lemmas.List.Elements.{All-nil, All-cons, All-head, All-tail}
+use Rattle.nd_model.specs.View.{Geo, byte_places}
+use Rattle.nd_model.specs.Value as model
+use Rattle.nd_model.specs.Value.{Base}
+use Rattle.nd_model.specs.Session as session
+use Rattle.nd_model.specs.Session.{Names}
+use Rattle.nd_model.specs.Fault.{Fault}
+use Rattle.nd_model.specs.Running.{Running, Inputs, Use, reply, after, Effect, Nothing, Prints, Saves, Binding, Unbinding, Storing, done}
+use Rattle.nd_model.specs.Syntax.{Expr, Index, Items, AndItem, NoItem, At, Stmt, Bind}
+use Rattle.nd_model.specs.Evaluation.{Eval, Gives, Refuses, Asks, run}
+use Rattle.nd_model.specs.Operand.{BindsFirst, Unused}
+use Rattle.nd_model.specs.Operation.{act_on}
+use Rattle.nd_model.specs.Meaning as meaning
+use Rattle.nd_model.specs.Cell.{had}
+use Rattle.nd_model.specs.Sound.{LiesIn, IsViewOf, AreViewsOf, IsHeldView, IsSound}
+use Rattle.nd_model.proofs.Growing.{Grows, stays, grows_on, grows_after, grows_run}
+use Rattle.nd_model.proofs.Steps.{goes_on, run_bind}
+use Rattle.nd_model.proofs.Soundness.{Safe, safe_bind, IfGiven, given_run, stays_sound}
+use Rattle.nd_heap.specs.declared.value.Value.{Value}
+use Rattle.nd_heap.specs.declared.value.Value.TheVariants.{Number, Array}
+use Rattle.nd_heap.specs.Values.{base_of, geo_of, value_of}
+use Rattle.nd_eval.specs.Parts.{item_value, values, values_then}
+use Rattle.nd_eval.specs.Uses.{IsHeld, AreHeld, IsHeldEffect, marked, all_marked}
+use Rattle.nd_eval.proofs.Parts.{binding_parts}
+
+-- ---- what is held stays held
+
+views_map : (P Q : Base → Geo → Type 0) → ((b : Base) (g : Geo) → P b g → Q b g) → (v : model.Value) → IsViewOf P v → IsViewOf Q v
+views_map P Q f (model.Int z) h = tt
+views_map P Q f (model.Truth t) h = tt
+views_map P Q f (model.Scalar k z) h = tt
+views_map P Q f (model.Array b g) h = f b g h
+views_map P Q f (model.Row b g) h = f b g h
+
+all_views_map : (P Q : Base → Geo → Type 0) → ((b : Base) (g : Geo) → P b g → Q b g) → (es : Names) → AreViewsOf P es → AreViewsOf Q es
+all_views_map P Q f [] h = tt
+all_views_map P Q f (e ∷ es) h = (views_map P Q f e.1 h.0, all_views_map P Q f es h.1)
+
+abbrev V : Running → model.Value → Type 0
+V r v = IsViewOf (IsHeldView r) v
+
+held_grows : (x y : Running) → Grows x y → (b : Base) (g : Geo) → IsHeldView x b g → IsHeldView y b g
+held_grows x y grows b g h = record {
+  lies = subst (λ l. LiesIn (length l) g) (sym (grows.kept b h.old)) h.lies;
+  old = λ e. omega (arith, grows.next, h.old (e ∙ grows.label));
+}
+
+value_grows : (x y : Running) → Grows x y → (v : model.Value) → V x v → V y v
+value_grows x y grows v h = views_map (IsHeldView x) (IsHeldView y) (held_grows x y grows) v h
+
+sound_grows : (x y : Running) → Grows x y → IsSound x → IsSound y
+sound_grows x y grows h = subst (AreViewsOf (IsHeldView y)) (sym grows.names) (all_views_map (IsHeldView x) (IsHeldView y) (held_grows x y grows) x.names h)
+
+-- after an evaluation
+grown : {A : Type 0} (i : Inputs) (t : Eval A) (r s : Running) (o : Result A Fault) → run i t r ≡ (o, s) → Grows r s
+grown {A} i t r s o h = subst (λ (m : Result A Fault × Running). Grows r m.1) h (grows_run i t r)
+
+pub sound_after : {A : Type 0} (i : Inputs) (t : Eval A) (r s : Running) (o : Result A Fault) → run i t r ≡ (o, s) → IsSound r → IsSound s
+sound_after i t r s o h sound = sound_grows r s (grown i t r s o h) sound
+
+pub held_after : {A : Type 0} (i : Inputs) (t : Eval A) (r s : Running) (o : Result A Fault) (v : Value) → run i t r ≡ (o, s) → IsHeld r v → IsHeld s v
+held_after i t r s o v h held = value_grows r s (grown i t r s o h) (value_of v) held
+
+-- after a use is noted
+grows_marked : (v : Value) (r : Running) → Grows r (marked v r)
+grows_marked (Number n) r = stays r
+grows_marked (Array a) r = grows_after (Use (base_of a.base) (byte_places (geo_of a))) r
+
+pub held_marked : (w v : Value) (r s : Running) → s ≡ marked w r → IsHeld r v → IsHeld s v
+held_marked w v r s mark held = rw mark (value_grows r (marked w r) (grows_marked w r) (value_of v) held)
+
+all_held_marked : (w : Value) (r : Running) (vs : List Value) → AreHeld r vs → AreHeld (marked w r) vs
+all_held_marked w r [] h = All-nil (λ v. IsHeld (marked w r) v)
+all_held_marked w r (v ∷ vs) h =
+    All-cons (λ v. IsHeld (marked w r) v) v vs (value_grows r (marked w r) (grows_marked w r) (value_of v) (All-head (λ v. IsHeld r v) v vs h))
+    (all_held_marked w r vs (All-tail (λ v. IsHeld r v) v vs h))
+
+pub held_all_marked : (ws vs : List Value) (r s : Running) → s ≡ all_marked ws r → AreHeld r vs → AreHeld s vs
+held_all_marked [] vs r s mark h = rw mark h
+held_all_marked (w ∷ ws) vs r s mark h = held_all_marked ws vs (marked w r) s mark (all_held_marked w r vs h)
+
+-- ---- what is found is held
+
+bound_held : (P : Base → Geo → Type 0) (n : List ℕ) (v : model.Value) (es : Names) → AreViewsOf P (session.bind n v es) → IsViewOf P v
+bound_held P n v [] h = h.0
+bound_held P n v (e ∷ es) h =
+    (elim (bytes_eq n e.0) as (λ t. AreViewsOf P (cond t ((e.0, v) ∷ es) (e ∷ session.bind n v es)) → IsViewOf P v) [ true ↦ λ h. h.0 | false ↦ λ h. bound_held P n v es h.1 ]) h
+
+-- since it could be bound to a name
+if_bound : (n : List ℕ) (v : model.Value) (s : Running) → IsSound (done (Binding n v) s) → V s v
+if_bound n v s h =
+    views_map (IsHeldView (done (Binding n v) s)) (IsHeldView s) (λ b g x. record { lies = x.lies; old = x.old }) v (bound_held (IsHeldView (done (Binding n v) s)) n v s.names h)
+
+value_found : (i : Inputs) (e : Expr) (r s : Running) (v : model.Value) → IsSound r → run i (meaning.value e) r ≡ (Ok v, s) → V s v
+value_found i e r s v sound found =
+    let binding : run i (meaning.meaning (Bind [] e)) r ≡ (Ok (Binding [] v), s)
+    = run_bind i (meaning.value e) (λ v. act_on (λ os. Ok (BindsFirst [])) ((Unused, v) ∷ [])) r
+    ∙ ap (λ m. goes_on i m (λ v. act_on (λ os. Ok (BindsFirst [])) ((Unused, v) ∷ []))) found
+    ∙ ap (λ t. run i t s) (binding_parts [] v) in
+    if_bound [] v s (subst (λ (m : Result Effect Fault × Running). IsSound (had m).1) binding (stays_sound.statement i (Bind [] e) r sound))
+
+-- the value of an expression
+pub value_held : (i : Inputs) (e : Expr) (r s : Running) (v : Value) → run i (meaning.value e) r ≡ (Ok (value_of v), s) → IsSound r → IsHeld s v
+value_held i e r s v found sound = value_found i e r s (value_of v) sound found
+
+no_value : {A : Type 0} {f : Fault} {v : A} {r s : Running} → ◌≡◌ {A = Result A Fault × Running} (Err f, r) (Ok v, s) → ⊥
+no_value {A} {f} {v} {r} {s} h = let same : ◌≡◌ {A = Result A Fault} (Err f) (Ok v) = ap (λ (m : Result A Fault × Running). m.0) h in absurd (cc)
+
+item_found : (i : Inputs) (x : Index) (r s : Running) (v : model.Value) → IsSound r → run i (item_value x) r ≡ (Ok v, s) → V s v
+item_found i (Items (AndItem (At e) NoItem)) r s v sound found = value_found i e r s v sound found
+item_found i x r s v sound found = absurd (no_value found)
+
+-- the value of an index
+pub item_held : (i : Inputs) (x : Index) (r s : Running) (v : Value) → run i (item_value x) r ≡ (Ok (value_of v), s) → IsSound r → IsHeld s v
+item_held i x r s v found sound = item_found i x r s (value_of v) sound found
+
+-- the value that a statement binds
+pub effect_held : (i : Inputs) (t : Stmt) (e : Effect) (r s : Running) → run i (meaning.meaning t) r ≡ (Ok e, s) → IsSound r → IsHeldEffect s e
+effect_held i t Nothing r s h sound = tt
+effect_held i t (Prints text) r s h sound = tt
+effect_held i t (Saves n f) r s h sound = tt
+effect_held i t (Binding n v) r s h sound = if_bound n v s (subst (λ (m : Result Effect Fault × Running). IsSound (had m).1) h (stays_sound.statement i t r sound))
+effect_held i t (Unbinding n) r s h sound = tt
+effect_held i t (Storing b ws) r s h sound = tt
+
+-- ---- values one after another
+
+abbrev AllV : Running → List model.Value → Type 0
+AllV r [] = Unit {0}
+AllV r (v ∷ vs) = V r v × AllV r vs
+
+if_given : (P : Running → model.Value → Type 0) (i : Inputs) (r : Running) (t : Eval model.Value) → IfGiven P (run i t r) → Safe P i r t
+if_given P i r (Gives x) h = h
+if_given P i r (Refuses f) h = tt
+if_given P i r (Asks a go) h = if_given P i (after a r) (go (reply i a r)) h
+
+safe_value : (i : Inputs) (r : Running) (e : Expr) → IsSound r → Safe V i r (meaning.value e)
+safe_value i r e sound = if_given V i r (meaning.value e) (go (run i (meaning.value e) r) refl)
+  where
+    go : (m : Result model.Value Fault × Running) → run i (meaning.value e) r ≡ m → IfGiven V m
+    go (Ok v, s) h = value_found i e r s v sound h
+    go (Err f, s) h = tt
+
+safe_values : {A : Type 0} (Q : Running → A → Type 0) (i : Inputs) (r : Running) (es : List Expr) (k : List model.Value → Eval A) → IsSound r
+    → ((q : Running) (vs : List model.Value) → Grows r q → AllV q vs → Safe Q i q (k vs)) → Safe Q i r (values_then es k)
+safe_values Q i r [] k sound h = h r [] (stays r) tt
+safe_values Q i r (e ∷ es) k sound h =
+    safe_bind V Q i r (meaning.value e) _ (safe_value i r e sound)
+    (λ q v g hv. safe_values Q i q es (λ vs. k (v ∷ vs)) (sound_grows r q g sound) (λ p vs g' hvs. h p (v ∷ vs) (grows_on r q p g g') (value_grows q p g' v hv, hvs)))
+
+of_all : (r : Running) (vs : List Value) → AllV r (map value_of vs) → AreHeld r vs
+of_all r [] h = All-nil (λ v. IsHeld r v)
+of_all r (v ∷ vs) h = All-cons (λ v. IsHeld r v) v vs h.0 (of_all r vs h.1)
+
+-- the values of expressions
+pub values_held : (i : Inputs) (es : List Expr) (r s : Running) (vs : List Value) → run i (values es) r ≡ (Ok (map value_of vs), s) → IsSound r → AreHeld s vs
+values_held i es r s vs found sound =
+    of_all s vs (subst (λ (m : Result (List model.Value) Fault × Running). IfGiven AllV m) found (given_run AllV i r (values es) (safe_values AllV i r es Gives sound (λ q vs g h. h))))

@@ -1,0 +1,41 @@
+use Rattle.std.proofs.Common.{◌≡◌, ◌+◌, ◌<◌, ◌^◌, map, drop}
+use Rattle.nd_model.specs.Evaluation.{run}
+use Rattle.nd_model.specs.Meaning as meaning
+use Rattle.nd_syntax.specs.Syntax.{expr_of, suffix_of}
+use Rattle.nd_heap.specs.Values.{value_of, inputs_of}
+use Rattle.nd_heap.specs.Live.{live}
+use Rattle.nd_eval.specs.Ends.{Stays}
+use Rattle.nd_eval.proofs.Indexing.{chain, chain_tokens, nodes, nodes_of_call, nodes_of_index, nodes_of_items, nodes_of_item, nodes_of_all}
+use Rattle.nd_eval.proofs.evaluator.Evaluator.+value.Given as goal
+
+abbrev pub decreases-value : goal.decreases-value
+decreases-value l = nodes l.expr.now
+
+abbrev pub decreases-negative_value : goal.decreases-negative_value
+decreases-negative_value l = 1 + nodes l.operand.now
+
+abbrev pub decreases-index_into : goal.decreases-index_into
+decreases-index_into l = 1 + nodes_of_index l.index.now
+
+abbrev pub decreases-call_value : goal.decreases-call_value
+decreases-call_value l = nodes_of_call l.call.now
+
+abbrev pub decreases-item_value : goal.decreases-item_value
+decreases-item_value l = nodes_of_index l.index.now
+
+abbrev pub decreases-only_item : goal.decreases-only_item
+decreases-only_item l = 1 + nodes_of_items l.items.now
+
+abbrev pub decreases-lone_item : goal.decreases-lone_item
+decreases-lone_item l = nodes_of_item l.item.now
+
+abbrev pub invariant-value-loop-suffix : goal.invariant-value-loop-suffix
+invariant-value-loop-suffix l =
+    let left = map suffix_of (drop l.suffix-index l.suffix-items) in
+    record {
+      same : run (inputs_of l.fn.self.inputs.now.entries) (meaning.value (expr_of l.expr)) (live l.fn.self.session.now)
+          ≡ run (inputs_of l.fn.self.inputs.now.entries) (chain (value_of l.found) left) (live l.self.session.now);
+      stays : Stays l.fn.self l.self;
+      room : (live l.self.session.now).next + chain_tokens left < 2 ^ 64;
+      below : nodes_of_all (drop l.suffix-index l.suffix-items) < nodes l.expr;
+    }

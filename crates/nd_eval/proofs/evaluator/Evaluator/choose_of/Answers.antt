@@ -1,0 +1,33 @@
+use Rattle.std.proofs.Common.{refl, rules, ◌≡◌, ◌∙◌, ℤ, Ok, sym, ap, ap₂, to_z, of_z}
+use Rattle.std.specs.Int.{w128}
+use Rattle.std.specs.Int.RustNames.{FitsSigned}
+use Rattle.std.proofs.lemmas.Int.{to_z-of_z}
+use Rattle.nd_model.specs.Element.{Kind}
+use Rattle.nd_model.specs.Value.{Scalar}
+use Rattle.nd_model.specs.Running.{Running, Use, after}
+use Rattle.nd_model.specs.View.{One, element_places}
+use Rattle.nd_model.specs.Evaluation.{run}
+use Rattle.nd_model.specs.Content.{number_at}
+use Rattle.nd_model.specs.Operation as operation
+use Rattle.nd_heap.specs.Values.{base_of, value_of, inputs_of}
+use Rattle.nd_heap.specs.Live.{live}
+use Rattle.nd_eval.specs.Contents.{chosen_of}
+use Rattle.nd_eval.proofs.Decoding.{used_alone}
+use Rattle.nd_eval.proofs.evaluator.Evaluator.choose_of.Goals as goal
+
+pub returns : goal.returns
+returns c =
+    let i = inputs_of c.args.self.now.inputs.now.entries in
+    let r = live c.args.self.now.session.now in
+    let b = base_of c.in-Array.array.base in
+    let e = c.args.chosen.elem in
+    let p = c.args.chosen.place in
+    let z : ℤ = c.number_in-number.result in
+    let fits : FitsSigned w128 z = search rules in
+    let block : c.bytes.result.now ≡ r.bytes b = c.bytes.ensures ∙ ap (λ (q : Running). q.bytes b) c.in_ok-mark_element.ensures in
+    let number : to_z w128 (of_z w128 z) ≡ number_at e (r.bytes b) p = to_z-of_z w128 z fits ∙ c.number_in-number.ensures ∙ ap (λ l. number_at e l p) block in (
+      ap (λ v. run i (operation.choose_of (value_of v) (chosen_of c.args.chosen)) r) c.in-Array.is
+          ∙ ap (λ z. (Ok (Scalar e.kind z), after (Use b (element_places (One e) p)) r)) (used_alone e (r.bytes b) p ∙ sym number)
+          ∙ ap₂ (λ (k : Kind) (s : Running). (Ok (Scalar k (to_z w128 (of_z w128 z))), s)) (sym c.kind.ensures) (sym c.in_ok-mark_element.ensures),
+      (refl, refl),
+    )

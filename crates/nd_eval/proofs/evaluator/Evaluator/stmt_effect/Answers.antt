@@ -1,0 +1,16 @@
+use Rattle.nd_syntax.specs.Syntax.{expr_of, index_of}
+use Rattle.nd_heap.specs.Values.{inputs_of}
+use Rattle.nd_eval.specs.Contents.{effect_of}
+use Rattle.nd_eval.proofs.Quiet.{quiet_binding, quiet_assignment}
+use Rattle.nd_eval.proofs.evaluator.Evaluator.stmt_effect.Goals as goal
+
+pub returns-in-Bind : goal.returns-in-Bind
+returns-in-Bind c =
+    rw c.in-Bind.is
+    (quiet_binding effect_of (inputs_of c.args.self.now.inputs.now.entries) _ _ c.binding_effect.result _ (expr_of c.in-Bind.expr) (rw c.as_str.ensures.value at c.binding_effect.ensures.0), c.binding_effect.ensures.1)
+
+pub returns-in-Assign : goal.returns-in-Assign
+returns-in-Assign c =
+    let a = c.in-Assign in
+    rw a.is
+    (quiet_assignment effect_of (inputs_of c.args.self.now.inputs.now.entries) _ _ c.assignment_effect.result (expr_of a.target) (index_of a.item) (expr_of a.expr) c.assignment_effect.ensures.0, c.assignment_effect.ensures.1)

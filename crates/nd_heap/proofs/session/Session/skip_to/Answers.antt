@@ -1,0 +1,13 @@
+use Rattle.std.proofs.Common.{◌≤◌, sym, subst}
+use Rattle.nd_heap.specs.Contents.{blocks_of}
+use Rattle.nd_heap.specs.Live.{live, bytes_at}
+use Rattle.nd_heap.specs.State.{State}
+use Rattle.nd_heap.specs.Values.{names_of}
+use Rattle.nd_heap.proofs.Intact.{with_next}
+use Rattle.nd_heap.proofs.session.Session.skip_to.Goals as goal
+
+pub invariant_of-self : goal.invariant_of-self
+unfolding live
+invariant_of-self c =
+    with_next c.self.inside.trace.label c.self.inside.next c.args.number (bytes_at (blocks_of c.self.inside.blocks.value.entries)) (names_of c.self.inside.names.value.entries)
+    (subst (λ (s : State). (live s).next ≤ c.args.number) (sym c.self.view_is) c.requires) c.self.invariant

@@ -1,0 +1,37 @@
+// What is written to a block of a session.
+
+ghost use Rattle.std.specs.Prelude.{◌≡◌, ℕ, List, length};
+ghost use Rattle.std.specs.List.{zip};
+ghost use Rattle.nd_model.specs.Session as model;
+
+use nd_block::RawBlock;
+
+/// What is written to a block: a function from the bytes that it has to as many other ones.
+pub trait BlockWriter {
+    ghost written: { Self → List ℕ → List ℕ };
+
+    fn write(self, block: &mut RawBlock)
+        ensures { block.new ≡ written self block.old };
+
+    ghost keeps_length: { (w : Self) (bytes : List ℕ)
+        → length (written w bytes) ≡ length bytes };
+}
+
+/// Bytes, each for the place of the same index. Those past the end of the block are left out.
+#[derive(Drop)]
+pub(crate) struct PlacedBytes<'b> {
+    pub(crate) places: &'b [u64],
+    pub(crate) bytes: &'b [u8],
+}
+
+impl<'b> BlockWriter for PlacedBytes<'b> {
+    ghost use Rattle.nd_heap.specs.Placing.{length-put};
+
+    ghost written = { λ w bytes. model.put (zip w.places.now w.bytes.now) bytes };
+
+    fn write(self, block: &mut RawBlock) {
+        block.put(self.places, self.bytes);
+    }
+
+    ghost keeps_length = { λ w bytes. length-put (zip w.places.now w.bytes.now) bytes };
+}

@@ -1,5 +1,6 @@
 pub mod Same
 pub mod NameLists
+pub mod InputLists
 pub mod Bases
 pub mod Held
 pub mod Places

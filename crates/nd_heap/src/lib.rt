@@ -15,7 +15,7 @@ mod value;
 mod version;
 mod writer;
 
-pub use input::{Input, Inputs};
+pub use input::{Input, Inputs, has_input, with_input, without_input};
 pub use memory::OutOfMemory;
 pub use session::Session;
 pub use trace::{Event, Trace};

@@ -5,7 +5,7 @@ use Rattle.std.proofs.lemmas.Bool.Decides.{nat_tests}
 use Rattle.std.specs.Prelude.{insert, remove, slice_set, slice_index_or}
 use Rattle.nd_model.specs.Session.{is_in}
 use Rattle.nd_model.specs.Renaming.{AreDistinct}
-use Rattle.nd_model.specs.Book.{Cell, Book, count_of, Insert, Change, Move, Remove, refusal, edited_cells, edited, is_label, above_labels, first_free, fresh_label, no_cell, labels_of, LabelsStayDistinct, EditFault, unless_refused}
+use Rattle.nd_model.specs.Book.{Cell, Book, count_of, Insert, Change, Move, Remove, SetInput, DropInput, refusal, edited_cells, edited, is_label, above_labels, first_free, fresh_label, no_cell, labels_of, LabelsStayDistinct, EditFault, unless_refused}
 
 -- ---- lists of labels
 
@@ -145,6 +145,9 @@ pub labels_stay_distinct : LabelsStayDistinct
 labels_stay_distinct (Insert at source) b d = unless (refusal (Insert at source) b) (edited (Insert at source) b) b (insert_distinct b.cells at source d) d
 labels_stay_distinct (Change at source) b d = unless (refusal (Change at source) b) (edited (Change at source) b) b (change_distinct b.cells at source d) d
 labels_stay_distinct (Remove at) b d = unless (refusal (Remove at) b) (edited (Remove at) b) b (remove_distinct b.cells at d) d
+labels_stay_distinct (SetInput name input) b d =
+    unless (refusal (SetInput name input) b) (edited (SetInput name input) b) b d d
+labels_stay_distinct (DropInput name) b d = unless (refusal (DropInput name) b) (edited (DropInput name) b) b d d
 labels_stay_distinct (Move from to) b d = elim (cases_Bool (ltb from (count_of b))) [
   | inl lt ↦ unless (refusal (Move from to) b) (edited (Move from to) b) b (move_distinct b.cells from to d (let below : from < length b.cells = grind (arith, nat_tests) in below)) d
   | inr past ↦ rw past d

@@ -10,12 +10,18 @@ pub mod Held
 pub mod Tracks
 pub mod Keeping
 pub mod Passing
+pub mod Lazy
+pub mod Entries
+pub mod EditKept
+pub mod Collected
+pub mod CutOff
 pub mod Renamed
 pub mod Labels
 pub mod Steps
 pub mod Examples
 pub mod Fresh
 pub mod EditLabels
+pub mod EditBooks
 pub mod Parsing
 pub mod Books
 mod LexingExamples

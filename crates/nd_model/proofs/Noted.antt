@@ -1,5 +1,5 @@
 -- What is written lies in a base whose length was read, or in one of the cell's own.
-use Rattle.std.proofs.Common.{◌≡◌, ℕ, zero, suc, Bool, true, false, not, ◌&&◌, ◌||◌, eqb, eqb-true, eq-eqb, List, [], ◌∷◌, Option, Some, None, Result, Ok, Err, refl, sym, ap, ap₂, subst, ◌∙◌, inl, inr}
+use Rattle.std.proofs.Common.{◌≡◌, ℕ, zero, suc, Bool, true, false, not, ◌&&◌, ◌||◌, eqb-true, eq-eqb, List, [], ◌∷◌, Option, Some, None, Result, Ok, refl, sym, ap, ap₂, subst, ◌∙◌, inl, inr}
 use Rattle.std.specs.Prelude.{nat_eq}
 use mathlib.Core.Path.{fun_ext}
 use Rattle.std.proofs.lemmas.Bool.{cases_Bool, or_left, and_from}
@@ -9,13 +9,12 @@ use Rattle.nd_model.specs.Value.{Base, same_base, Value, Int, Truth, Scalar, Arr
 use Rattle.nd_model.specs.Strides.{limit_fault}
 use Rattle.nd_model.specs.Session.{lookup}
 use Rattle.nd_model.specs.Content.{Content, array_bytes}
-use Rattle.nd_model.specs.Running.{Inputs, Key, Name, Input, Length, Byte, Running, Lookup, Use, Make, reply, after, is_name, is_length_of, is_own, Effect, Nothing, Prints, Saves, Binding, Unbinding, Storing, done}
+use Rattle.nd_model.specs.Running.{Inputs, Key, Name, Input, Length, Byte, Running, Lookup, Use, Make, after, is_name, is_length_of, is_own, Effect, Storing, done}
 use Rattle.nd_model.specs.Fault.{Fault}
-use Rattle.nd_model.specs.Syntax.{Stmt}
-use Rattle.nd_model.specs.Evaluation.{Eval, run, ◌>>=◌}
+use Rattle.nd_model.specs.Evaluation.{Eval, run}
 use Rattle.nd_model.specs.Operand as operand
 use Rattle.nd_model.specs.Operand.{Operand, Usage, Made, ANumber, AnArray, Chosen, AnElement, AView, ACopy, Stretched, Deed, NoDeed, PrintsText, SavesFile, BindsFirst, BindsMade, Unbinds, Writes, MakesAndWrites}
-use Rattle.nd_model.specs.Viewing.{Viewing, choose}
+use Rattle.nd_model.specs.Viewing.{choose}
 use Rattle.nd_model.specs.Operation
 use Rattle.nd_model.specs.Operation.{Operation, Computes, Views, perform, Plan, Named, Does, Plans, Done, And, evaluate, with_values, evaluate_all, Work, Acts, ActsOn}
 use Rattle.nd_model.specs.Meaning

@@ -1,7 +1,7 @@
 -- Notebooks under edits, and what they answer.
-use Rattle.std.specs.Prelude.{◌≡◌, ℕ, zero, suc, ◌+◌, max, Bool, false, ◌||◌, nat_eq, nat_lt, nat_le, if◌then◌else◌, List, [], ◌∷◌, length, map, insert, remove, slice_get, slice_index_or, slice_set, Option, Some, None, Result, Ok, Err}
+use Rattle.std.specs.Prelude.{◌≡◌, ℕ, zero, suc, ◌+◌, ◌*◌, ◌^◌, max, Bool, true, false, ◌&&◌, ◌||◌, nat_eq, nat_lt, nat_le, bytes_eq, is_none, if◌then◌else◌, List, [], ◌∷◌, length, map, insert, remove, slice_get, slice_index_or, slice_set, Option, Some, None, Result, Ok, Err}
 use Rattle.nd_model.specs.Session.{Session, no_session, lookup}
-use Rattle.nd_model.specs.Running.{Inputs}
+use Rattle.nd_model.specs.Running.{Inputs, Source, Npy, Buffer}
 use Rattle.nd_model.specs.Fault.{Refusal}
 use Rattle.nd_model.specs.Syntax.{Parsed}
 use Rattle.nd_model.specs.Reading.{reading}
@@ -29,18 +29,23 @@ count_of b = length b.cells
 
 -- ---- edits
 
--- Places count from 0. A cell that is moved stands at `to` afterwards.
+-- Places count from 0. A cell that is moved stands at `to` afterwards. An input is set in the place of one of its name.
 pub data Edit : Type 0 where
   Insert : (at : ℕ) → (source : List ℕ) → Edit
   Change : (at : ℕ) → (source : List ℕ) → Edit
   Move : (from : ℕ) → (to : ℕ) → Edit
   Remove : (at : ℕ) → Edit
+  SetInput : (name : List ℕ) → (input : Source) → Edit
+  DropInput : (name : List ℕ) → Edit
 
 -- The first that holds is the refusal; that memory is wanted comes last, and no definition here says when.
 pub data EditFault : Type 0 where
   NoCell : (at : ℕ) → (count : ℕ) → EditFault
   TooManyCells : EditFault
   CellTooLong : EditFault
+  BadInputName : EditFault
+  InputTooLarge : EditFault
+  NoInputNamed : (name : List ℕ) → EditFault
   OutOfMemory : EditFault
 
 -- the most cells of a notebook, and the most bytes of a cell
@@ -58,6 +63,49 @@ fit_source source = if nat_le (length source) most_source then None else Some Ce
 abbrev pub in_place : (at count : ℕ) → Option EditFault → Option EditFault
 in_place at count then_this = if nat_lt at count then then_this else Some (NoCell at count)
 
+-- ---- inputs
+
+-- the most bytes of an input's name, and the most that an input takes
+abbrev pub most_name : ℕ
+most_name = 64
+
+abbrev pub most_input : ℕ
+most_input = 2 ^ 26
+
+abbrev pub is_between : (low high n : ℕ) → Bool
+is_between low high n = nat_le low n && nat_le n high
+
+-- a digit, a letter, or one of `-`, `.` and `_`
+abbrev pub is_name_byte : ℕ → Bool
+is_name_byte c =
+    is_between 48 57 c || is_between 65 90 c || is_between 97 122 c || nat_eq c 45 || nat_eq c 46 || nat_eq c 95
+
+abbrev pub are_name_bytes : List ℕ → Bool
+are_name_bytes [] = true
+are_name_bytes (c ∷ cs) = is_name_byte c && are_name_bytes cs
+
+abbrev pub is_input_name : List ℕ → Bool
+is_input_name name = is_between 1 most_name (length name) && are_name_bytes name
+
+-- what an input takes: its bytes, those of its format, and 8 for each length and stride
+abbrev pub size_of_input : Source → ℕ
+size_of_input (Npy bytes) = length bytes
+size_of_input (Buffer format itemsize shape strides offset bytes) =
+    length bytes + length format + 8 * (length shape + length strides)
+
+abbrev pub fit_input : Source → Option EditFault
+fit_input input = if nat_le (size_of_input input) most_input then None else Some InputTooLarge
+
+-- under a name that is none an edit of an input is refused, and else what follows decides
+abbrev pub under_name : List ℕ → Option EditFault → Option EditFault
+under_name name then_this = if is_input_name name then then_this else Some BadInputName
+
+-- the inputs with another one under a name, or none there
+abbrev pub with_input : List ℕ → Option Source → Inputs → Inputs
+with_input name input old n = if bytes_eq n name then input else old n
+
+-- ---- refusals
+
 -- WHY AN EDIT IS REFUSED, memory aside. A new cell may also stand behind the last one.
 abbrev pub refusal : Edit → Book → Option EditFault
 refusal (Insert at source) b =
@@ -67,6 +115,8 @@ refusal (Insert at source) b =
 refusal (Change at source) b = in_place at (count_of b) (fit_source source)
 refusal (Move from to) b = in_place from (count_of b) (in_place to (count_of b) None)
 refusal (Remove at) b = in_place at (count_of b) None
+refusal (SetInput name input) b = under_name name (fit_input input)
+refusal (DropInput name) b = under_name name (if is_none (b.inputs name) then Some (NoInputNamed name) else None)
 
 abbrev pub is_label : ℕ → List Cell → Bool
 is_label n [] = false
@@ -95,10 +145,20 @@ edited_cells (Insert at source) cells = insert cells at (record { label = fresh_
 edited_cells (Change at source) cells = slice_set cells at (record { label = (slice_index_or cells at no_cell).label; source = source })
 edited_cells (Move from to) cells = insert (remove cells from) to (slice_index_or cells from no_cell)
 edited_cells (Remove at) cells = remove cells at
+edited_cells (SetInput name input) cells = cells
+edited_cells (DropInput name) cells = cells
+
+abbrev pub edited_inputs : Edit → Inputs → Inputs
+edited_inputs (Insert at source) inputs = inputs
+edited_inputs (Change at source) inputs = inputs
+edited_inputs (Move from to) inputs = inputs
+edited_inputs (Remove at) inputs = inputs
+edited_inputs (SetInput name input) inputs = with_input name (Some input) inputs
+edited_inputs (DropInput name) inputs = with_input name None inputs
 
 -- THE NOTEBOOK AFTER AN EDIT that is not refused
 abbrev pub edited : Edit → Book → Book
-edited e b = record { cells = edited_cells e b.cells; inputs = b.inputs }
+edited e b = record { cells = edited_cells e b.cells; inputs = edited_inputs e b.inputs }
 
 -- a refused edit changes nothing
 abbrev pub unless_refused : Option EditFault → Book → Book → Book

@@ -3,7 +3,7 @@ use Rattle.std.specs.Prelude.{ℕ, List, ◌++◌, codes, decimal}
 use Rattle.std.specs.Fmt.{signed_decimal}
 use Rattle.nd_model.specs.Fault.{ViewFault, OutOfBlock, TooManyAxes, TooManyElements, AxesDiffer, IndexFault, OutOfBounds, TooManyIndices, NotAnIndex, UfuncFault, IntOutOfRange, ShapeMismatch, ReadOnly, NotNumbers, StmtFault, NoName, IntTooBig, NotAnArray, TextTooLong, BadArgument, Fault, View, Index, Ufunc, Stmt, ParseKind, BadToken, Unexpected, TooDeep, TooManyStatements, UnknownCall, LeftOut, Refusal, Parse, Statement}
 use Rattle.nd_model.specs.Book as book
-use Rattle.nd_model.specs.Book.{EditFault, TooManyCells, CellTooLong, QueryFault}
+use Rattle.nd_model.specs.Book.{EditFault, TooManyCells, CellTooLong, BadInputName, InputTooLarge, NoInputNamed, QueryFault}
 
 abbrev pub view_text : ViewFault → List ℕ
 view_text OutOfBlock = codes "OutOfBlock"
@@ -51,6 +51,9 @@ abbrev pub edit_fault_text : EditFault → List ℕ
 edit_fault_text (book.NoCell at count) = codes "NoCell " ++ decimal at ++ codes " " ++ decimal count
 edit_fault_text TooManyCells = codes "TooManyCells"
 edit_fault_text CellTooLong = codes "CellTooLong"
+edit_fault_text BadInputName = codes "BadInputName"
+edit_fault_text InputTooLarge = codes "InputTooLarge"
+edit_fault_text (NoInputNamed name) = codes "NoInputNamed " ++ name
 edit_fault_text book.OutOfMemory = codes "OutOfMemory"
 
 abbrev pub query_fault_text : QueryFault → List ℕ

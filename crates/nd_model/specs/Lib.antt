@@ -50,5 +50,8 @@ pub mod Book
 pub mod FaultText
 pub mod Format
 pub mod Script
+pub mod Entries
+pub mod Stale
+pub mod CutOff
 pub mod Notebook
 pub mod ScriptRuns

@@ -1,9 +1,10 @@
 -- Scripts: their lines, their commands, and what is answered.
-use Rattle.std.specs.Prelude.{◌≡◌, ℕ, ◌+◌, ◌-◌, ◌/◌, ◌%◌, ◌^◌, ◌==◌, ◌⊎◌, Bool, true, false, ◌&&◌, IsTrue, nat_lt, bytes_eq, is_none, if◌then◌else◌, List, [], ◌∷◌, ◌++◌, length, map, slice_index, codes, decimal, Option, Some, None, Result, Ok, Err}
+use Rattle.std.specs.Prelude.{◌≡◌, ℕ, zero, suc, ℤ, pos, negsuc, ◌+◌, ◌-◌, ◌*◌, ◌/◌, ◌%◌, ◌^◌, ◌==◌, ◌⊎◌, Bool, true, false, ◌&&◌, IsTrue, nat_le, nat_lt, bytes_eq, is_none, if◌then◌else◌, List, [], ◌∷◌, ◌++◌, length, map, option_map, slice_index, codes, decimal, Option, Some, None, Result, Ok, Err}
 use Rattle.std.specs.Fmt.{signed_decimal}
 use Rattle.std.specs.Str.{is_utf8}
 use Rattle.std.specs.Str.Parse.{digits_value}
 use Rattle.std.specs.List.{slice_split, join_with_byte, flat_map}
+use Rattle.nd_model.specs.Running.{Source, Npy, Buffer}
 use Rattle.nd_model.specs.View.{item_size}
 use Rattle.nd_model.specs.Text.{truth_text, joined}
 use Rattle.nd_model.specs.Cell.{Saved}
@@ -11,7 +12,7 @@ use Rattle.nd_model.specs.Fault.{Refusal}
 use Rattle.nd_model.specs.FaultText.{edit_fault_text, query_fault_text, refusal_text}
 use Rattle.nd_model.specs.Format.{format_text, kind_text}
 use Rattle.nd_model.specs.Renaming.{Shown, ShownInt, ShownTruth, ShownScalar, ShownArray, ShownRow}
-use Rattle.nd_model.specs.Book.{Book, count_of, Edit, Insert, Change, Move, Remove, EditFault, refusal, after_edit, QueryFault, CellResult, source_at, result_at, names_at, value_at}
+use Rattle.nd_model.specs.Book.{Book, count_of, Edit, Insert, Change, Move, Remove, SetInput, DropInput, EditFault, refusal, after_edit, QueryFault, CellResult, source_at, result_at, names_at, value_at}
 
 -- ---- lines and words
 
@@ -36,6 +37,55 @@ words_of line = slice_split (λ c. c == 32) line
 -- A number is the decimal text of a number below 2^64.
 abbrev pub number_word : List ℕ → Option ℕ
 number_word word = let n = digits_value 10 word in if nat_lt n (2 ^ 64) && bytes_eq word (decimal n) then Some n else None
+
+-- A list of numbers has a comma between two of them; `()` is the list of none.
+abbrev pub also : {Y : Type 0} → Option Y → Option (List Y) → Option (List Y)
+also None ys = None
+also (Some y) None = None
+also (Some y) (Some ys) = Some (y ∷ ys)
+
+abbrev pub every : {X Y : Type 0} → (X → Option Y) → List X → Option (List Y)
+every read [] = Some []
+every read (x ∷ xs) = also (read x) (every read xs)
+
+abbrev pub list_word : {Y : Type 0} → (List ℕ → Option Y) → List ℕ → Option (List Y)
+list_word read word = if bytes_eq word (codes "()") then Some [] else every read (slice_split (λ c. c == 44) word)
+
+-- An integer of 64 bits is such a number below 2^63, or one from 1 to 2^63 behind a minus sign.
+abbrev pub positive : Option ℕ → Option ℤ
+positive None = None
+positive (Some n) = if nat_lt n (2 ^ 63) then Some (pos n) else None
+
+abbrev pub negative : Option ℕ → Option ℤ
+negative None = None
+negative (Some zero) = None
+negative (Some (suc n)) = if nat_lt n (2 ^ 63) then Some (negsuc n) else None
+
+abbrev pub integer_word : List ℕ → Option ℤ
+integer_word [] = None
+integer_word (c ∷ cs) = if c == 45 then negative (number_word cs) else positive (number_word (c ∷ cs))
+
+-- Bytes are two hex digits each, in either case; a dash is no bytes.
+abbrev pub hex_value : ℕ → Option ℕ
+hex_value c =
+    if nat_le 65 c && nat_le c 70 then Some (c - 55)
+    else if nat_le 97 c && nat_le c 102 then Some (c - 87)
+    else if nat_le 48 c && nat_le c 57 then Some (c - 48)
+    else None
+
+abbrev pub hex_byte : Option ℕ → Option ℕ → Option ℕ
+hex_byte (Some high) (Some low) = Some (high * 16 + low)
+hex_byte (Some high) None = None
+hex_byte None low = None
+
+abbrev pub hex_bytes : List ℕ → Option (List ℕ)
+hex_bytes [] = Some []
+hex_bytes (c ∷ []) = None
+hex_bytes (c ∷ d ∷ cs) = also (hex_byte (hex_value c) (hex_value d)) (hex_bytes cs)
+
+abbrev pub hex_word : List ℕ → Option (List ℕ)
+hex_word [] = None
+hex_word (c ∷ cs) = if bytes_eq (c ∷ cs) (codes "-") then Some [] else hex_bytes (c ∷ cs)
 
 -- ---- commands
 
@@ -88,15 +138,42 @@ abbrev pub value_line : List ℕ → ℕ → Line
 value_line [] at = Whole Bad
 value_line (c ∷ cs) at = Whole (Asks (ShowsValue at (c ∷ cs)))
 
+-- so is that of an input
+abbrev pub drop_line : List ℕ → Line
+drop_line [] = Whole Bad
+drop_line (c ∷ cs) = Whole (Edits (DropInput (c ∷ cs)))
+
+-- a strided buffer: its format, its item size, its lengths, its strides, its offset and its bytes
+abbrev pub buffer_of : List ℕ → Option ℕ → Option (List ℕ) → Option (List ℤ) → Option ℕ → Option (List ℕ) → Option Source
+buffer_of (c ∷ cs) (Some itemsize) (Some shape) (Some strides) (Some offset) (Some bytes) =
+    Some (Buffer (c ∷ cs) itemsize shape strides offset bytes)
+buffer_of _ _ _ _ _ _ = None
+
+-- an input by the word that says what it is, and those behind it
+abbrev pub input_of_words : List ℕ → List (List ℕ) → Option Source
+input_of_words kind (hex ∷ []) = if bytes_eq kind (codes "npy") then option_map Npy (hex_word hex) else None
+input_of_words kind (format ∷ itemsize ∷ shape ∷ strides ∷ offset ∷ hex ∷ []) =
+    if bytes_eq kind (codes "buffer")
+    then buffer_of format (number_word itemsize) (list_word number_word shape) (list_word integer_word strides) (number_word offset) (hex_word hex)
+    else None
+input_of_words kind _ = None
+
+abbrev pub input_line : List ℕ → Option Source → Line
+input_line [] input = Whole Bad
+input_line (c ∷ cs) None = Whole Bad
+input_line (c ∷ cs) (Some input) = Whole (Edits (SetInput (c ∷ cs) input))
+
 abbrev pub line_of_words : List (List ℕ) → Line
 line_of_words [] = Whole Bad
 line_of_words (word ∷ []) = if bytes_eq word (codes "count") then Whole (Asks Counts) else Whole Bad
-line_of_words (word ∷ a ∷ []) = with_number (number_word a) (placed_line word)
+line_of_words (word ∷ a ∷ []) =
+    if bytes_eq word (codes "drop") then drop_line a else with_number (number_word a) (placed_line word)
 line_of_words (word ∷ a ∷ b ∷ []) =
     if bytes_eq word (codes "move") then with_number (number_word a) (λ from. with_number (number_word b) (move_line from))
     else if bytes_eq word (codes "value") then with_number (number_word a) (value_line b)
     else Whole Bad
-line_of_words (word ∷ a ∷ b ∷ c ∷ more) = Whole Bad
+line_of_words (word ∷ a ∷ b ∷ c ∷ more) =
+    if bytes_eq word (codes "input") then input_line a (input_of_words b (c ∷ more)) else Whole Bad
 
 -- WHAT A LINE SAYS, outside a source. Behind a `#` (35) it is not looked at.
 abbrev pub read_line : List ℕ → Line

@@ -3,14 +3,18 @@
 
 ghost use Rattle.nd_model.specs.Bases.{FewBases};
 ghost use Rattle.nd_model.specs.Book.{LabelsStayDistinct, AnyLabels as AnyBookLabels};
+ghost use Rattle.nd_model.specs.CutOff.{CutOff, MeetsAfter, QuietLeaves};
 ghost use Rattle.nd_model.specs.Element.{BytesRoundTrip, OneWrap, RoundTrip};
+ghost use Rattle.nd_model.specs.Entries.{SameFront, SameFrontReads, ToldByRecords};
 ghost use Rattle.nd_model.specs.Footprint.{Frame, EffectsAreAll, Replay};
+ghost use Rattle.nd_model.specs.Notebook.{EditsBook};
 ghost use Rattle.nd_model.specs.Noting.{WritesReadNoMore};
 ghost use Rattle.nd_model.specs.Promotion.{PromotionTable};
 ghost use Rattle.nd_model.specs.Records.{Kept};
 ghost use Rattle.nd_model.specs.Renaming.{Rename, AnyLabels};
 ghost use Rattle.nd_model.specs.Scheduler.{AnyPass};
 ghost use Rattle.nd_model.specs.Sound.{StaysSound};
+ghost use Rattle.nd_model.specs.Stale.{AtMostIsAtMost, FewRuns, FrontIsNotStale};
 ghost use Rattle.nd_model.specs.Storing.{StoresByParts};
 ghost use Rattle.nd_model.specs.Strides.{PartsAreHeld};
 
@@ -66,6 +70,52 @@ pub fn any_pass()
     ensures { AnyPass }
 {}
 
+/// A pass over an edited notebook that runs a cell only for want of a record that still holds, the records being those of the run
+/// before, has the records of running all cells in order from nothing, and runs stale cells only.
+pub fn few_runs()
+    ensures { FewRuns }
+{}
+
+/// A number that is at most the number of stale cells is at most the number of flags, wherever each stale cell has a flag.
+pub fn at_most_is_at_most()
+    ensures { AtMostIsAtMost }
+{}
+
+/// Where the first cells and the inputs of two notebooks are the same, so are their records and the sessions before and after them.
+pub fn same_front()
+    ensures { SameFront }
+{}
+
+/// The same where inputs differ that none of these cells read.
+pub fn same_front_reads()
+    ensures { SameFrontReads }
+{}
+
+/// What a notebook tells of a cell is told by the record of its run and the session after it.
+pub fn told_by_records()
+    ensures { ToldByRecords }
+{}
+
+/// None of these cells is stale: an edit of a cell makes none before it stale, and an edit that changes nothing makes none stale.
+pub fn front_is_not_stale()
+    ensures { FrontIsNotStale }
+{}
+
+/// Where the cells and inputs are the same from two places on, and the session there is the same, nothing behind is another.
+pub fn cut_off()
+    ensures { CutOff }
+{}
+
+/// Two cells whose records do the same to a session leave the same session, over the same one.
+pub fn meets_after()
+    ensures { MeetsAfter }
+{}
+
+/// A cell that binds and unbinds no name and writes nothing leaves the session as it was.
+pub fn quiet_leaves()
+    ensures { QuietLeaves }
+{}
+
 /// Nothing that is told of a notebook depends on the labels of its cells.
 pub fn rename()
     ensures { Rename }
@@ -84,6 +134,11 @@ pub fn any_book_labels()
 /// The labels of a book's cells stay distinct, edit after edit.
 pub fn labels_stay_distinct()
     ensures { LabelsStayDistinct }
+{}
+
+/// The notebook that contracts see after an edit stands for the edited book.
+pub fn edits_book()
+    ensures { EditsBook }
 {}
 
 /// A session in which each array and row lies in its base stays so, at a cell's start, after each statement and after a cell.

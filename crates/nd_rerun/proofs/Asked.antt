@@ -5,12 +5,12 @@ use Rattle.std.proofs.lemmas.Bool.{cases_Bool}
 use Rattle.nd_model.specs.Value.{Value}
 use Rattle.nd_model.specs.Session.{Session, Names, lookup}
 use Rattle.nd_model.specs.Renaming.{Told, Shown, shown, shown_names}
-use Rattle.nd_model.specs.Book.{Cell, QueryFault, ask_cell, ask_told, told_book, found_value}
+use Rattle.nd_model.specs.Book.{QueryFault, ask_cell, ask_told, told_book, found_value}
 use Rattle.nd_rerun.specs.declared.cells.Ran.{Ran}
 use Rattle.nd_rerun.specs.declared.query.QueryFault as declared
 use Rattle.nd_rerun.specs.declared.query.QueryFault.TheVariants as faults
 use Rattle.nd_rerun.specs.Queries.{answer_of}
-use Rattle.nd_model.specs.Notebook.{book_of, Tells}
+use Rattle.nd_model.specs.Notebook.{Sheet, book_of, Tells}
 use Rattle.nd_rerun.specs.Cells.{told_of, tolds_of}
 
 slice_get-map : {A B : Type 0} (f : A → B) (xs : List A) (i : ℕ) → slice_get (map f xs) i ≡ option_map f (slice_get xs i)
@@ -28,29 +28,29 @@ past [] i h = refl
 past (y ∷ ys) zero h = absurd (omega arith)
 past (y ∷ ys) (suc i) h = past ys i (omega arith)
 
-at_told : {X : Type 0} (answer : Told → Result X QueryFault) (cells now : List Cell) (ran xs : List Ran) (at : ℕ)
-    → cells ≡ now → tolds_of ran ≡ told_book (book_of cells) → xs ≡ ran
-    → ask_told answer (book_of now) at ≡ ask_cell at (length cells) (option_map told_of (slice_get xs at)) answer
-at_told answer cells now ran xs at view told is =
-    ap (λ (cs : List Cell). ask_told answer (book_of cs) at) (sym view)
-    ∙ ap (λ (ts : List Told). ask_cell at (length cells) (slice_get ts at) answer) (sym told)
-    ∙ ap (λ (o : Option Told). ask_cell at (length cells) o answer) (slice_get-map told_of ran at ∙ ap (λ (rs : List Ran). option_map told_of (slice_get rs at)) (sym is))
+at_told : {X : Type 0} (answer : Told → Result X QueryFault) (sheet now : Sheet) (ran xs : List Ran) (at : ℕ)
+    → sheet ≡ now → tolds_of ran ≡ told_book (book_of sheet) → xs ≡ ran
+    → ask_told answer (book_of now) at ≡ ask_cell at (length sheet.cells) (option_map told_of (slice_get xs at)) answer
+at_told answer sheet now ran xs at view told is =
+    ap (λ (s : Sheet). ask_told answer (book_of s) at) (sym view)
+    ∙ ap (λ (ts : List Told). ask_cell at (length sheet.cells) (slice_get ts at) answer) (sym told)
+    ∙ ap (λ (o : Option Told). ask_cell at (length sheet.cells) o answer) (slice_get-map told_of ran at ∙ ap (λ (rs : List Ran). option_map told_of (slice_get rs at)) (sym is))
 
 -- where a cell stands
-pub asked : {X : Type 0} (answer : Told → Result X QueryFault) (cells now : List Cell) (ran xs : List Ran) (at : ℕ) (r : Ran)
-    → cells ≡ now → tolds_of ran ≡ told_book (book_of cells) → xs ≡ ran → at < length xs → r ≡ get_or xs at r
+pub asked : {X : Type 0} (answer : Told → Result X QueryFault) (sheet now : Sheet) (ran xs : List Ran) (at : ℕ) (r : Ran)
+    → sheet ≡ now → tolds_of ran ≡ told_book (book_of sheet) → xs ≡ ran → at < length xs → r ≡ get_or xs at r
     → ask_told answer (book_of now) at ≡ answer (told_of r)
-asked answer cells now ran xs at r view told is lt h =
-    at_told answer cells now ran xs at view told is
-    ∙ ap (λ (o : Option Ran). ask_cell at (length cells) (option_map told_of o) answer) (got xs at r lt h)
+asked answer sheet now ran xs at r view told is lt h =
+    at_told answer sheet now ran xs at view told is
+    ∙ ap (λ (o : Option Ran). ask_cell at (length sheet.cells) (option_map told_of o) answer) (got xs at r lt h)
 
 -- and where none stands
-pub not_asked : {X : Type 0} (answer : Told → Result X QueryFault) (cells now : List Cell) (ran xs : List Ran) (at count : ℕ)
-    → cells ≡ now → tolds_of ran ≡ told_book (book_of cells) → xs ≡ ran → length xs ≤ at → length cells ≡ count
+pub not_asked : {X : Type 0} (answer : Told → Result X QueryFault) (sheet now : Sheet) (ran xs : List Ran) (at count : ℕ)
+    → sheet ≡ now → tolds_of ran ≡ told_book (book_of sheet) → xs ≡ ran → length xs ≤ at → length sheet.cells ≡ count
     → ask_told answer (book_of now) at ≡ Err (QueryFault.NoCell at count)
-not_asked answer cells now ran xs at count view told is h long =
-    at_told answer cells now ran xs at view told is
-    ∙ ap (λ (o : Option Ran). ask_cell at (length cells) (option_map told_of o) answer) (past xs at h)
+not_asked answer sheet now ran xs at count view told is h long =
+    at_told answer sheet now ran xs at view told is
+    ∙ ap (λ (o : Option Ran). ask_cell at (length sheet.cells) (option_map told_of o) answer) (past xs at h)
     ∙ ap (λ n. Err (QueryFault.NoCell at n)) long
 
 names-shown : (s : Session) (es : Names) → map (λ (e : List ℕ × Shown). e.0) (shown_names s es) ≡ map (λ (e : List ℕ × Value). e.0) es

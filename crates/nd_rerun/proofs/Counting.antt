@@ -1,6 +1,7 @@
 -- Runs of cells, counted one after another.
 use Rattle.std.proofs.Common.{◌≡◌, ℕ, zero, suc, ◌+◌, ◌-◌, ◌^◌, ◌<◌, min, refl, sym, ap, ◌∙◌, add-one, arith}
-use Rattle.nd_model.specs.Notebook.{counted, CountsAtMost}
+use Rattle.nd_model.specs.Notebook.{CountsAtMost}
+use Rattle.nd_model.specs.Stale.{counted}
 
 one-more : (runs meter : ℕ) → counted (suc runs) meter ≡ min (counted runs meter + 1) (2 ^ 64 - 1)
 one-more zero meter = refl

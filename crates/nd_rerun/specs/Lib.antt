@@ -9,3 +9,4 @@ pub use Rattle.nd_types.specs.Types
 pub use Rattle.nd_cell.specs.Syntax
 pub use Rattle.nd_cell.specs.Faults
 pub use Rattle.nd_cell.specs.Results
+pub use Rattle.nd_heap.specs.Values

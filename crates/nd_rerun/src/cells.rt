@@ -14,7 +14,8 @@ ghost use Rattle.nd_heap.specs.Values.{inputs_of};
 ghost use Rattle.nd_heap.specs.Live.{live};
 ghost use Rattle.nd_heap.specs.Kept.{version_of};
 ghost use Rattle.nd_cell.specs.Results.{ended_of};
-ghost use Rattle.nd_model.specs.Notebook.{counted, CountsAtMost};
+ghost use Rattle.nd_model.specs.Notebook.{CountsAtMost};
+ghost use Rattle.nd_model.specs.Stale.{counted};
 ghost use Rattle.nd_rerun.specs.Labels.{AreSmall, AreFresh};
 ghost use Rattle.nd_rerun.specs.Cells.{cells_of, tolds_of};
 

@@ -3,7 +3,7 @@
 ghost use Rattle.std.specs.Prelude.{◌≡◌};
 ghost use Rattle.nd_rerun.specs.declared.edit.EditFault.TheVariants as edits;
 
-use nd_heap::OutOfMemory;
+use nd_heap::{Input, OutOfMemory};
 use std::alloc::{AllocError, AllocFailed};
 
 /// An edit of a notebook. Places count from 0.
@@ -16,6 +16,10 @@ pub enum Edit<'a> {
     /// The cell at the first place stands at the second afterwards.
     Move(usize, usize),
     Remove(usize),
+    /// An input under the name, in the place of one that has it.
+    SetInput(&'a str, &'a Input),
+    /// No input under the name.
+    DropInput(&'a str),
 }
 
 /// Why an edit is refused. The first that holds is answered, and want of memory last.
@@ -27,6 +31,12 @@ pub enum EditFault {
     TooManyCells,
     /// The text has more than 65,536 bytes.
     CellTooLong,
+    /// The name does not have 1 to 64 bytes, or has one that is no digit, letter, `-`, `.` or `_`.
+    BadInputName,
+    /// The input takes more than 67,108,864 bytes.
+    InputTooLarge,
+    /// The name is that of no input.
+    NoInputNamed,
     /// A growth was refused. The notebook is as it was.
     OutOfMemory,
 }

@@ -1,10 +1,12 @@
 //! The notebook.
 
-ghost use Rattle.std.specs.Prelude.{◌≡◌, [], IfOk, MatchResult, OnErr, OnOk, length};
+ghost use Rattle.std.specs.Prelude.{◌≡◌, IfOk, MatchResult, OnErr, OnOk, length};
 ghost use Rattle.nd_model.specs.Book.{labels_of};
 ghost use Rattle.nd_model.specs.Renaming.{AreDistinct};
 ghost use Rattle.nd_model.specs.Book as model;
-ghost use Rattle.nd_model.specs.Notebook.{counted, Answers, CountsAtMost, CountsRuns};
+ghost use Rattle.nd_model.specs.Notebook.{Answers, CountsAtMost, CountsRuns, no_sheet};
+ghost use Rattle.nd_model.specs.Stale.{counted};
+ghost use Rattle.nd_heap.specs.Values.{given_of, source_of};
 ghost use Rattle.nd_rerun.specs.Edits.{outcome_of};
 ghost use Rattle.nd_rerun.specs.Labels.{AreSmall};
 
@@ -12,10 +14,11 @@ use crate::cells::{
     Ran, Source, insert_source, move_source, remove_source, replace_source, run_all,
 };
 use crate::edit::{Edit, EditFault};
+use crate::given::is_input_name;
 use crate::query::{QueryFault, Shown, names_of, what_shows};
 use indexmap::IndexMap;
 use nd_cell::{CellResult, Meter};
-use nd_heap::{Inputs, OutOfMemory};
+use nd_heap::{Input, Inputs, OutOfMemory, has_input, with_input, without_input};
 use std::alloc::Global;
 use std::marker::Model;
 
@@ -25,23 +28,26 @@ const MOST_CELLS: usize = 10_000;
 /// The most bytes of a cell's text.
 const MOST_SOURCE: usize = 65_536;
 
-/// A list of cells with what running all of them in order from nothing gives. Places count from 0.
+/// The most bytes that an input takes.
+const MOST_INPUT: u128 = 67_108_864;
+
+/// A list of cells and inputs, with what running all cells in order from nothing gives. Places count from 0.
 #[derive(Drop)]
 pub struct Notebook {
     cells: Vec<Source>,
+    inputs: Inputs,
     ran: Vec<Ran>,
     alloc: Global,
 }
 
 impl Model for Notebook {
-    ghost use Rattle.std.specs.Prelude.{List};
-    ghost use Rattle.nd_model.specs.Book.{Cell};
+    ghost use Rattle.nd_model.specs.Notebook.{Sheet};
 
-    ghost Value = { List Cell };
+    ghost Value = { Sheet };
 
-    ghost use Rattle.nd_rerun.specs.Passes.{cells_in, IsRun};
+    ghost use Rattle.nd_rerun.specs.Passes.{sheet_in, IsRun};
 
-    ghost view = { cells_in };
+    ghost view = { sheet_in };
 
     ghost invariant = { IsRun };
 }
@@ -49,12 +55,13 @@ impl Model for Notebook {
 impl Notebook {
     ghost use Rattle.nd_rerun.specs.Cells.{cells_of};
 
-    /// A notebook without cells. It takes no memory.
+    /// A notebook without cells and inputs. It takes no memory.
     pub fn new(alloc: Global) -> Notebook
-        ensures { result ≡ [] }
+        ensures { result ≡ no_sheet }
     {
         Notebook {
             cells: Vec::new(alloc),
+            inputs: IndexMap::new(alloc),
             ran: Vec::new(alloc),
             alloc,
         }
@@ -62,7 +69,7 @@ impl Notebook {
 
     /// How many cells there are.
     pub fn count(&self) -> usize
-        ensures { result ≡ length self.now }
+        ensures { result ≡ length self.now.cells }
     {
         self.cells.len()
     }
@@ -71,15 +78,28 @@ impl Notebook {
     fn replace(&mut self, meter: &mut Meter, cells: Vec<Source>) -> Result<(), OutOfMemory>
         requires distinct { AreDistinct (labels_of (cells_of cells.items)) }
         requires small { AreSmall (labels_of (cells_of cells.items)) }
-        ensures ok { OnOk result (self.new ≡ cells_of cells.items) }
+        ensures ok { OnOk result (self.new ≡ record self.old { cells = cells_of cells.items }) }
         ensures err { OnErr result (self.new ≡ self.old) }
         ensures counts { MatchResult result
             (λ _. meter.new ≡ counted (length cells.items) meter.old)
             (λ _. CountsAtMost (length cells.items) meter.old meter.new) }
     {
-        let inputs: Inputs = IndexMap::new(self.alloc);
-        let ran = run_all(self.alloc, meter, &inputs, &cells)?;
+        let ran = run_all(self.alloc, meter, &self.inputs, &cells)?;
         self.cells = cells;
+        self.ran = ran;
+        Ok(())
+    }
+
+    /// Runs the cells over these inputs, and puts the inputs in the place of the present ones.
+    fn replace_inputs(&mut self, meter: &mut Meter, inputs: Inputs) -> Result<(), OutOfMemory>
+        ensures ok { OnOk result (self.new ≡ record self.old { given = given_of inputs.entries }) }
+        ensures err { OnErr result (self.new ≡ self.old) }
+        ensures counts { MatchResult result
+            (λ _. meter.new ≡ counted (length self.old.cells) meter.old)
+            (λ _. CountsAtMost (length self.old.cells) meter.old meter.new) }
+    {
+        let ran = run_all(self.alloc, meter, &inputs, &self.cells)?;
+        self.inputs = inputs;
         self.ran = ran;
         Ok(())
     }
@@ -90,9 +110,9 @@ impl Notebook {
     /// place, where there are 10,000 cells, where the text has more than 65,536 bytes, and for want of memory.
     pub fn insert(&mut self, meter: &mut Meter, at: usize, source: &str) -> Result<(), EditFault>
         ensures answered { Answers (model.Insert at source.now) self.old
-            (outcome_of result) self.new }
-        ensures counts { CountsRuns (model.Insert at source.now) self.old (outcome_of result)
-            meter.old meter.new }
+            (outcome_of (model.Insert at source.now) result) self.new }
+        ensures counts { CountsRuns (model.Insert at source.now) self.old
+            (outcome_of (model.Insert at source.now) result) meter.old meter.new }
     {
         let count = self.cells.len();
         if count < at {
@@ -113,9 +133,9 @@ impl Notebook {
     /// more than 65,536 bytes, and for want of memory.
     pub fn edit(&mut self, meter: &mut Meter, at: usize, source: &str) -> Result<(), EditFault>
         ensures answered { Answers (model.Change at source.now) self.old
-            (outcome_of result) self.new }
-        ensures counts { CountsRuns (model.Change at source.now) self.old (outcome_of result)
-            meter.old meter.new }
+            (outcome_of (model.Change at source.now) result) self.new }
+        ensures counts { CountsRuns (model.Change at source.now) self.old
+            (outcome_of (model.Change at source.now) result) meter.old meter.new }
     {
         let count = self.cells.len();
         if count <= at {
@@ -132,9 +152,10 @@ impl Notebook {
     /// Moves the cell at the first place, so that it stands at the second afterwards. It is refused where there is no cell at one
     /// of them, with the first such place, and for want of memory.
     pub fn move_cell(&mut self, meter: &mut Meter, from: usize, to: usize) -> Result<(), EditFault>
-        ensures answered { Answers (model.Move from to) self.old (outcome_of result) self.new }
-        ensures counts { CountsRuns (model.Move from to) self.old (outcome_of result)
-            meter.old meter.new }
+        ensures answered { Answers (model.Move from to) self.old
+            (outcome_of (model.Move from to) result) self.new }
+        ensures counts { CountsRuns (model.Move from to) self.old
+            (outcome_of (model.Move from to) result) meter.old meter.new }
     {
         let count = self.cells.len();
         if count <= from {
@@ -150,9 +171,10 @@ impl Notebook {
 
     /// Takes the cell at the place out. It is refused where there is none, and for want of memory.
     pub fn remove(&mut self, meter: &mut Meter, at: usize) -> Result<(), EditFault>
-        ensures answered { Answers (model.Remove at) self.old (outcome_of result) self.new }
-        ensures counts { CountsRuns (model.Remove at) self.old (outcome_of result)
-            meter.old meter.new }
+        ensures answered { Answers (model.Remove at) self.old
+            (outcome_of (model.Remove at) result) self.new }
+        ensures counts { CountsRuns (model.Remove at) self.old
+            (outcome_of (model.Remove at) result) meter.old meter.new }
     {
         let count = self.cells.len();
         if count <= at {
@@ -162,10 +184,54 @@ impl Notebook {
         self.replace(meter, cells)?;
         Ok(())
     }
+
+    /// Sets a copy of the input under the name, in the place of one that has it. It is refused, in this order, where the name is
+    /// none of an input, where the input takes more than 2^26 bytes, and for want of memory.
+    pub fn set_input(
+        &mut self,
+        meter: &mut Meter,
+        name: &str,
+        input: &Input,
+    ) -> Result<(), EditFault>
+        ensures answered { Answers (model.SetInput name.now (source_of input.now)) self.old
+            (outcome_of (model.SetInput name.now (source_of input.now)) result) self.new }
+        ensures counts { CountsRuns (model.SetInput name.now (source_of input.now)) self.old
+            (outcome_of (model.SetInput name.now (source_of input.now)) result)
+            meter.old meter.new }
+    {
+        if !is_input_name(name) {
+            return Err(EditFault::BadInputName);
+        }
+        if MOST_INPUT < input.size() {
+            return Err(EditFault::InputTooLarge);
+        }
+        let inputs = with_input(self.alloc, &self.inputs, name, input)?;
+        self.replace_inputs(meter, inputs)?;
+        Ok(())
+    }
+
+    /// Drops the input of the name. It is refused, in this order, where the name is none of an input, where no input has it, and
+    /// for want of memory.
+    pub fn drop_input(&mut self, meter: &mut Meter, name: &str) -> Result<(), EditFault>
+        ensures answered { Answers (model.DropInput name.now) self.old
+            (outcome_of (model.DropInput name.now) result) self.new }
+        ensures counts { CountsRuns (model.DropInput name.now) self.old
+            (outcome_of (model.DropInput name.now) result) meter.old meter.new }
+    {
+        if !is_input_name(name) {
+            return Err(EditFault::BadInputName);
+        }
+        if !has_input(&self.inputs, name) {
+            return Err(EditFault::NoInputNamed);
+        }
+        let inputs = without_input(&self.inputs, name)?;
+        self.replace_inputs(meter, inputs)?;
+        Ok(())
+    }
 }
 
 impl Notebook {
-    ghost use Rattle.std.specs.Prelude.{map, string_bytes};
+    ghost use Rattle.std.specs.Prelude.{[], map, string_bytes};
     ghost use Rattle.nd_model.specs.Notebook.{book_of, Tells};
     ghost use Rattle.nd_rerun.specs.Queries.{answer_of, result_of, shown_of};
 
@@ -220,25 +286,28 @@ impl Notebook {
     ghost use Rattle.std.specs.Prelude.{map};
     ghost use Rattle.nd_model.specs.Book.{AnswersUnderAnyLabels};
     ghost use Rattle.nd_model.specs.Notebook.{book_of, AreAnswered};
-    ghost use Rattle.nd_rerun.specs.Edits.{edit_of};
+    ghost use Rattle.nd_rerun.specs.Edits.{edit_of, outcomes_of};
 
     /// Makes an edit, or refuses it.
     pub fn apply(&mut self, meter: &mut Meter, edit: Edit) -> Result<(), EditFault>
-        ensures answered { Answers (edit_of edit.entry) self.old (outcome_of result) self.new }
-        ensures counts { CountsRuns (edit_of edit.entry) self.old (outcome_of result)
-            meter.old meter.new }
+        ensures answered { Answers (edit_of edit.entry) self.old
+            (outcome_of (edit_of edit.entry) result) self.new }
+        ensures counts { CountsRuns (edit_of edit.entry) self.old
+            (outcome_of (edit_of edit.entry) result) meter.old meter.new }
     {
         match edit {
             Edit::Insert(at, source) => self.insert(meter, at, source),
             Edit::Change(at, source) => self.edit(meter, at, source),
             Edit::Move(from, to) => self.move_cell(meter, from, to),
             Edit::Remove(at) => self.remove(meter, at),
+            Edit::SetInput(name, input) => self.set_input(meter, name, input),
+            Edit::DropInput(name) => self.drop_input(meter, name),
         }
     }
 
     /// Makes these edits, one after the other, and answers each; a refused one changes nothing. Afterwards what the notebook
-    /// answers (`source`, `result`, `names`, `value`, `count`) is what running all present cells in order from nothing gives,
-    /// whichever distinct labels the cells have. Where there is no room for the answers, no edit is made.
+    /// answers (`source`, `result`, `names`, `value`, `count`) is what running all present cells in order from nothing over the
+    /// present inputs gives, whichever distinct labels the cells have. Where there is no room for the answers, no edit is made.
     pub fn apply_all(
         &mut self,
         meter: &mut Meter,
@@ -246,7 +315,7 @@ impl Notebook {
     ) -> Result<Vec<Result<(), EditFault>>, OutOfMemory>
         ensures answered { IfOk result (λ answers. AreAnswered
             (map edit_of edits.now) self.old meter.old
-            (map outcome_of answers.items) self.new meter.new) }
+            (outcomes_of (map edit_of edits.now) answers.items) self.new meter.new) }
         ensures err { OnErr result (self.new ≡ self.old) }
         ensures err_counts { OnErr result (meter.new ≡ meter.old) }
         ensures any_labels { AnswersUnderAnyLabels (book_of self.new) }

@@ -2,3 +2,4 @@ pub mod Carried
 pub mod Lines
 pub mod Openings
 pub mod Pieces
+pub mod Edited

@@ -14,28 +14,43 @@ use nd_rerun::{CellResult, EditFault, QueryFault, Refusal};
 use nd_script::{push_count_line, push_names, push_number, push_text};
 use std::alloc::AllocError;
 
-/// Appends the answer to an edit.
-pub fn push_edit_answer(out: &mut Vec<u8>, done: &Result<(), EditFault>) -> Result<(), AllocError>
-    ensures { OnOk result (out.new.items ≡ out.old.items ++ edit_answer_of done.now) }
+/// Appends the answer to an edit of the input of a name, or of a cell.
+pub fn push_edit_answer(
+    out: &mut Vec<u8>,
+    name: &str,
+    done: &Result<(), EditFault>,
+) -> Result<(), AllocError>
+    ensures { OnOk result (out.new.items ≡ out.old.items ++ edit_answer_of name.now done.now) }
 {
     match done {
         Ok(()) => push_text(out, "ok\n"),
         Err(fault) => {
             push_text(out, "refused ")?;
-            push_edit_fault(out, *fault)?;
+            push_edit_fault(out, name, *fault)?;
             push_text(out, "\n")
         }
     }
 }
 
-fn push_edit_fault(out: &mut Vec<u8>, fault: EditFault) -> Result<(), AllocError>
+fn push_no_input(out: &mut Vec<u8>, name: &str) -> Result<(), AllocError>
+    ensures { OnOk result (out.new.items ≡ out.old.items ++ (codes "NoInputNamed " ++ name.now)) }
+{
+    push_text(out, "NoInputNamed ")?;
+    push_text(out, name)?;
+    Ok(())
+}
+
+fn push_edit_fault(out: &mut Vec<u8>, name: &str, fault: EditFault) -> Result<(), AllocError>
     ensures { OnOk result (out.new.items ≡ out.old.items ++ texts.edit_fault_text
-        (edit_fault_of fault)) }
+        (edit_fault_of name.now fault)) }
 {
     match fault {
         EditFault::NoCell(at, count) => push_no_cell(out, at, count),
         EditFault::TooManyCells => push_text(out, "TooManyCells"),
         EditFault::CellTooLong => push_text(out, "CellTooLong"),
+        EditFault::BadInputName => push_text(out, "BadInputName"),
+        EditFault::InputTooLarge => push_text(out, "InputTooLarge"),
+        EditFault::NoInputNamed => push_no_input(out, name),
         EditFault::OutOfMemory => push_text(out, "OutOfMemory"),
     }
 }

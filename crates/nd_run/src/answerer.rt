@@ -14,7 +14,7 @@ use std::alloc::{AllocError, Global};
 #[derive(Drop)]
 pub struct NotebookAnswerer<'a> {
     pub alloc: Global,
-    pub meter: Meter,
+    pub meter: &'a mut Meter,
     pub notebook: &'a mut Notebook,
     /// The source that is open, if one is.
     pub source: &'a mut Option<Source>,
@@ -29,14 +29,7 @@ impl Answerer for NotebookAnswerer<'_> {
 
     fn answer_line(&mut self, line: &[u8], answer: &mut Vec<u8>) -> Result<(), AllocError> {
         let source = self.source.take();
-        *self.source = answer_line(
-            self.alloc,
-            source,
-            line,
-            answer,
-            &mut self.meter,
-            self.notebook,
-        )?;
+        *self.source = answer_line(self.alloc, source, line, answer, self.meter, self.notebook)?;
         Ok(())
     }
 

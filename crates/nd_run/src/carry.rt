@@ -1,16 +1,17 @@
 //! Commands, carried out and answered.
 
 ghost use Rattle.std.specs.Prelude.{◌≡◌, ◌++◌, OnOk, codes, length};
-ghost use Rattle.nd_model.specs.Book.{Insert, Change, Move, Remove};
+ghost use Rattle.nd_model.specs.Book.{Insert, Change, Move, Remove, SetInput, DropInput};
 ghost use Rattle.nd_model.specs.Script as script;
 ghost use Rattle.nd_model.specs.Notebook.{book_of};
+ghost use Rattle.nd_rerun.specs.Values.{source_of};
 ghost use Rattle.nd_run.specs.Carry.{Carried};
 
 use crate::answer::{
     push_edit_answer, push_names_answer, push_query_refusal, push_result_answer, push_source_answer,
 };
 use crate::value::push_value_answer;
-use nd_rerun::{Meter, Notebook};
+use nd_rerun::{Input, Meter, Notebook};
 use std::alloc::AllocError;
 
 /// Inserts a cell.
@@ -25,7 +26,7 @@ pub fn insert_cell(
         out.old.items result out.new.items (book_of notebook.new) }
 {
     let done = notebook.insert(meter, at, source);
-    push_edit_answer(out, &done)
+    push_edit_answer(out, "", &done)
 }
 
 /// Replaces a cell's source.
@@ -40,7 +41,7 @@ pub fn edit_cell(
         out.old.items result out.new.items (book_of notebook.new) }
 {
     let done = notebook.edit(meter, at, source);
-    push_edit_answer(out, &done)
+    push_edit_answer(out, "", &done)
 }
 
 /// Moves a cell.
@@ -55,7 +56,7 @@ pub fn move_cell(
         out.old.items result out.new.items (book_of notebook.new) }
 {
     let done = notebook.move_cell(meter, from, to);
-    push_edit_answer(out, &done)
+    push_edit_answer(out, "", &done)
 }
 
 /// Removes a cell.
@@ -69,7 +70,36 @@ pub fn remove_cell(
         out.old.items result out.new.items (book_of notebook.new) }
 {
     let done = notebook.remove(meter, at);
-    push_edit_answer(out, &done)
+    push_edit_answer(out, "", &done)
+}
+
+/// Sets an input.
+pub fn set_input(
+    out: &mut Vec<u8>,
+    meter: &mut Meter,
+    notebook: &mut Notebook,
+    name: &str,
+    input: &Input,
+) -> Result<(), AllocError>
+    ensures { Carried (script.Edits (SetInput name.now (source_of input.now)))
+        (book_of notebook.old) out.old.items result out.new.items (book_of notebook.new) }
+{
+    let done = notebook.set_input(meter, name, input);
+    push_edit_answer(out, name, &done)
+}
+
+/// Drops an input.
+pub fn drop_input(
+    out: &mut Vec<u8>,
+    meter: &mut Meter,
+    notebook: &mut Notebook,
+    name: &str,
+) -> Result<(), AllocError>
+    ensures { Carried (script.Edits (DropInput name.now)) (book_of notebook.old)
+        out.old.items result out.new.items (book_of notebook.new) }
+{
+    let done = notebook.drop_input(meter, name);
+    push_edit_answer(out, name, &done)
 }
 
 /// Shows what a cell gives.

@@ -5,6 +5,7 @@ mod answer;
 mod answerer;
 mod carry;
 mod fault;
+mod input;
 mod line;
 mod runner;
 mod source;

@@ -10,9 +10,10 @@ ghost use Rattle.nd_run.specs.Carry.{Carried, CarriedLine};
 ghost use Rattle.nd_run.specs.Source.{lines_so_far, opening_of, stage_of};
 
 use crate::carry::{
-    edit_cell, insert_cell, move_cell, remove_cell, show_names, show_result, show_source,
-    show_value,
+    drop_input, edit_cell, insert_cell, move_cell, remove_cell, set_input, show_names, show_result,
+    show_source, show_value,
 };
+use crate::input::input_of_line;
 use crate::source::{Opening, Source};
 use nd_rerun::{Meter, Notebook};
 use nd_script::{LineCommand, command_of, is_end_of_source, push_count_line, push_text};
@@ -35,7 +36,7 @@ pub fn answer_line(
         (book_of notebook.old) (book_of notebook.new)) }
 {
     match source {
-        None => answer_command(line, answer, meter, notebook),
+        None => answer_command(alloc, line, answer, meter, notebook),
         Some(source) => continue_source(alloc, source, line, answer, meter, notebook),
     }
 }
@@ -88,6 +89,7 @@ fn close_source(
 
 // A line outside a source.
 fn answer_command(
+    alloc: Global,
     line: &[u8],
     answer: &mut Vec<u8>,
     meter: &mut Meter,
@@ -99,7 +101,7 @@ fn answer_command(
     ensures part { OnErr result (DoneInPart script.Between line.now
         (book_of notebook.old) (book_of notebook.new)) }
 {
-    let command = command_of(line);
+    let command = command_of(alloc, line)?;
     match command {
         LineCommand::Insert(at) => Ok(Some(Source::new(Opening::Insert(at)))),
         LineCommand::Edit(at) => Ok(Some(Source::new(Opening::Edit(at)))),
@@ -127,6 +129,10 @@ fn answer_whole(
         LineCommand::Source(at) => show_source(answer, notebook, at),
         LineCommand::Names(at) => show_names(answer, notebook, at),
         LineCommand::Value { at, name } => show_value(answer, notebook, at, name),
+        LineCommand::SetInput { name, input } => {
+            set_input(answer, meter, notebook, name, &input_of_line(input))
+        }
+        LineCommand::DropInput(name) => drop_input(answer, meter, notebook, name),
         LineCommand::Count => push_count_line(answer, "count", notebook.count()),
         LineCommand::Bad => push_text(answer, "bad command\n"),
         LineCommand::Insert(_) | LineCommand::Edit(_) | LineCommand::Silent => Ok(()),

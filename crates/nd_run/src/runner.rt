@@ -16,11 +16,12 @@ use std::alloc::Global;
 const MOST_TURNS: u64 = 1 << 32;
 
 /// Runs a script: its commands are carried out one after the other on the notebook, and the answer to each is written
-/// before the next one is carried out. At a fault the commands so far stand.
+/// before the next one is carried out, and each run of a cell is counted. At a fault the commands so far stand.
 pub fn run<R: CountedRead, W: CountedWrite>(
     alloc: Global,
     reader: &mut R,
     writer: &mut W,
+    meter: &mut Meter,
     notebook: &mut Notebook,
 ) -> Result<(), RunFault>
     ensures to_end { OnOk result (RanToEnd (R.remaining reader.old) (R.remaining reader.new)
@@ -40,7 +41,7 @@ pub fn run<R: CountedRead, W: CountedWrite>(
     ensures reader_kept { OnOk result (R.failures reader.new ≡ R.failures reader.old) }
     ensures writer_kept { OnOk result (W.failures writer.new ≡ W.failures writer.old) }
 {
-    run_turns(alloc, reader, writer, notebook, MOST_TURNS)
+    run_turns(alloc, reader, writer, meter, notebook, MOST_TURNS)
 }
 
 /// Runs a script as `run` does, on a notebook without cells, which is let go at the end.
@@ -48,6 +49,7 @@ pub fn run_script<R: CountedRead, W: CountedWrite>(
     alloc: Global,
     reader: &mut R,
     writer: &mut W,
+    meter: &mut Meter,
 ) -> Result<(), RunFault>
     ensures to_end { OnOk result (RanFromNothing (R.remaining reader.old) (R.remaining reader.new)
         (W.contents writer.old) (W.contents writer.new)) }
@@ -63,7 +65,7 @@ pub fn run_script<R: CountedRead, W: CountedWrite>(
     ensures writer_kept { OnOk result (W.failures writer.new ≡ W.failures writer.old) }
 {
     let mut notebook = Notebook::new(alloc);
-    run(alloc, reader, writer, &mut notebook)
+    run(alloc, reader, writer, meter, &mut notebook)
 }
 
 /// Runs a script by at most so many reads.
@@ -71,6 +73,7 @@ pub fn run_turns<R: CountedRead, W: CountedWrite>(
     alloc: Global,
     reader: &mut R,
     writer: &mut W,
+    meter: &mut Meter,
     notebook: &mut Notebook,
     turns: u64,
 ) -> Result<(), RunFault>
@@ -92,7 +95,7 @@ pub fn run_turns<R: CountedRead, W: CountedWrite>(
     let mut source = None;
     let mut answerer = NotebookAnswerer {
         alloc,
-        meter: Meter::new(),
+        meter,
         notebook,
         source: &mut source,
     };

@@ -19,15 +19,11 @@ parts_are_some p (x ∷ xs) =
       | false ↦ (x ∷ more.0, more.1, rw more.2 refl)
     ]
 
--- four words are no command
-pub line_of_words-four : (a b c rest : List ℕ) → line_of_words (a ∷ b ∷ c ∷ words_of rest) ≡ Whole Bad
-line_of_words-four a b c rest = let some = parts_are_some (λ d. d == 32) rest in rw some.2 refl
-
 not_passes : (b : Bool) → not b ≡ true → b ≡ false
 not_passes true h = sym h
 not_passes false h = refl
 
-none_is_cons : (p : ℕ → Bool) (xs : List ℕ) → position_or_len p xs ≡ length xs → slice_split p xs ≡ xs ∷ []
+pub none_is_cons : (p : ℕ → Bool) (xs : List ℕ) → position_or_len p xs ≡ length xs → slice_split p xs ≡ xs ∷ []
 none_is_cons p xs e =
     slice_split_none p xs (λ k d h. not_passes (p (slice_index_or xs k d)) (prefix_len_passes (λ x. not (p x)) xs k d (rw e h)))
 

@@ -1,13 +1,23 @@
 //! Lines of a script, read as commands.
 
-ghost use Rattle.std.specs.Prelude.{◌≡◌, [], ◌∷◌, option_copied};
-ghost use Rattle.nd_model.specs.Script.{is_dot, line_of_words, number_word, read_line, words_of};
-ghost use Rattle.nd_script.specs.Command.{line_of, words_behind};
+ghost use Rattle.std.specs.Prelude.{◌≡◌, [], ◌∷◌, IfOk};
+ghost use Rattle.nd_model.specs.Script.{
+  is_dot,
+  line_of_words,
+  number_word,
+  placed_line,
+  read_line,
+  with_number,
+  words_of,
+};
+ghost use Rattle.nd_script.specs.Command.{line_of};
 
-use itoa::Buffer;
+use crate::input::{LineInput, input_of};
+use crate::word::{number_of, split_word};
+use std::alloc::{AllocError, Global};
 
 /// What a line of a script says, outside a source. Places count from 0.
-#[derive(Clone, Copy)]
+#[derive(Drop)]
 pub enum LineCommand<'a> {
     /// The source of a new cell stands in the lines that follow.
     Insert(usize),
@@ -19,6 +29,8 @@ pub enum LineCommand<'a> {
     Source(usize),
     Names(usize),
     Value { at: usize, name: &'a str },
+    SetInput { name: &'a str, input: LineInput },
+    DropInput(&'a str),
     Count,
     /// An empty line, or a comment.
     Silent,
@@ -26,17 +38,18 @@ pub enum LineCommand<'a> {
     Bad,
 }
 
-/// Returns what a line says; its newline is not part of it.
-pub fn command_of(line: &[u8]) -> LineCommand<'_>
-    ensures { line_of result ≡ read_line line.now }
+/// Returns what a line says; its newline is not part of it. Only an input takes memory.
+pub fn command_of(alloc: Global, line: &[u8]) -> Result<LineCommand<'_>, AllocError>
+    ensures { IfOk result (λ c. line_of c ≡ read_line line.now) }
 {
     if line.is_empty() || line[0] == b'#' {
-        return LineCommand::Silent;
+        return Ok(LineCommand::Silent);
     }
-    match str::from_utf8(line) {
-        Ok(text) => text_command(text),
-        Err(_) => LineCommand::Bad,
-    }
+    let Ok(text) = str::from_utf8(line) else {
+        return Ok(LineCommand::Bad);
+    };
+    let command = text_command(alloc, text)?;
+    Ok(command)
 }
 
 /// Returns whether a line ends a source: it is a dot alone.
@@ -46,32 +59,58 @@ pub fn is_end_of_source(line: &[u8]) -> bool
     matches!(line, b".")
 }
 
-fn text_command(line: &str) -> LineCommand<'_>
-    ensures { line_of result ≡ line_of_words (words_of line.now) }
+fn text_command(alloc: Global, line: &str) -> Result<LineCommand<'_>, AllocError>
+    ensures { IfOk result (λ c. line_of c ≡ line_of_words (words_of line.now)) }
 {
     let (word, behind) = split_word(line);
     let Some(rest) = behind else {
-        return lone_command(word);
+        return Ok(lone_command(word));
     };
     let (first, behind) = split_word(rest);
     let Some(rest) = behind else {
-        return place_command(word, first);
+        return Ok(single_command(word, first));
     };
     let (second, behind) = split_word(rest);
     match behind {
-        None => pair_command(word, first, second),
-        Some(_) => LineCommand::Bad,
+        None => Ok(pair_command(word, first, second)),
+        Some(rest) => {
+            let command = long_command(alloc, word, first, second, rest)?;
+            Ok(command)
+        }
     }
 }
 
-// The first word, and what stands behind the space that ends it.
-fn split_word(text: &str) -> (&str, Option<&str>)
-    ensures { words_of text.now ≡ result.0.now ∷ words_behind (option_copied result.1) }
+// A command of four words or more.
+fn long_command<'a>(
+    alloc: Global,
+    word: &str,
+    name: &'a str,
+    kind: &str,
+    rest: &str,
+) -> Result<LineCommand<'a>, AllocError>
+    ensures { IfOk result (λ c. line_of c
+        ≡ line_of_words (word.now ∷ name.now ∷ kind.now ∷ words_of rest.now)) }
 {
-    match text.split_once(' ') {
-        Some((word, rest)) => (word, Some(rest)),
-        None => (text, None),
+    if word != "input" {
+        return Ok(LineCommand::Bad);
     }
+    match input_of(alloc, kind, rest)? {
+        Some(input) if !name.is_empty() => Ok(LineCommand::SetInput { name, input }),
+        _ => Ok(LineCommand::Bad),
+    }
+}
+
+// A command of two words.
+fn single_command<'a>(word: &str, first: &'a str) -> LineCommand<'a>
+    ensures { line_of result ≡ line_of_words (word.now ∷ first.now ∷ []) }
+{
+    if word != "drop" {
+        return place_command(word, first);
+    }
+    if first.is_empty() {
+        return LineCommand::Bad;
+    }
+    LineCommand::DropInput(first)
 }
 
 // A command of one word.
@@ -86,7 +125,7 @@ fn lone_command<'a>(word: &str) -> LineCommand<'a>
 
 // A command of a word and a place.
 fn place_command<'a>(word: &str, place: &str) -> LineCommand<'a>
-    ensures { line_of result ≡ line_of_words (word.now ∷ place.now ∷ []) }
+    ensures { line_of result ≡ with_number (number_word place.now) (placed_line word.now) }
 {
     let Some(at) = number_of(place) else {
         return LineCommand::Bad;
@@ -116,18 +155,5 @@ fn pair_command<'a>(word: &str, first: &str, second: &'a str) -> LineCommand<'a>
             _ => LineCommand::Bad,
         },
         _ => LineCommand::Bad,
-    }
-}
-
-// The number that has the word as its decimal text.
-fn number_of(word: &str) -> Option<usize>
-    ensures { result ≡ number_word word.now }
-{
-    let number = word.parse::<usize>().ok()?;
-    let mut buffer = Buffer::new();
-    if buffer.format(number) == word {
-        Some(number)
-    } else {
-        None
     }
 }

@@ -66,7 +66,7 @@ fn print_answers(rt: &HostRuntime, answers: &[Result<(), EditFault>]) -> io::Res
 
 /// Makes the edits, and prints the answer to each, the runs that they took, and what the cells printed.
 fn print_edits(rt: &HostRuntime, notebook: &mut Notebook, edits: &[Edit]) -> io::Result<()> {
-    let mut meter = Meter::new();
+    let mut meter = Meter::new(rt);
     let Ok(answers) = notebook.apply_all(&mut meter, edits) else {
         return Err(io::ErrorKind::OutOfMemory.into());
     };

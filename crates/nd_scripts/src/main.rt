@@ -1,17 +1,14 @@
 //! Rows of scripts, and of calls that no script shows. On standard input stands a script below each line `= TITLE`, whose lines may
 //! have the escapes of `nd_rows`, and a list of edits below each line `= edits: TITLE`. Each argument is a command line of the program,
-//! which is run, and its exit status printed; that of the last one is this program's. With the one word `memory` it makes calls that are
-//! to be run with refused allocations, and those alone.
+//! which is run, and its exit status printed; that of the last one is this program's. With the one word `memory` it makes the edits that
+//! are to be run with refused allocations, and those alone.
 #![tactic(auto)]
 
 mod edits;
 mod memory;
 mod pieces;
-mod refused;
 mod scripts;
-mod sessions;
 mod streams;
-mod views;
 
 use std::env;
 use std::io::{self, Read};
@@ -43,9 +40,8 @@ fn run_rows(rt: &HostRuntime) -> io::Result<()> {
 fn make_calls(rt: &HostRuntime) -> io::Result<()> {
     streams::print_runs(rt)?;
     pieces::print_pieces(rt)?;
-    sessions::print_sessions(rt)?;
     println!(rt; "= memory")?;
-    memory::print_calls(rt)
+    memory::print_edits(rt)
 }
 
 /// Runs the program with each of the command lines.
@@ -60,7 +56,7 @@ fn run_command_lines(rt: &HostRuntime, lines: &[String]) -> io::Result<ExitCode>
 /// Does what the arguments ask.
 fn run(rt: &HostRuntime, lines: &[String]) -> io::Result<ExitCode> {
     if matches!(lines, [word] if word.as_str() == "memory") {
-        memory::print_calls(rt)?;
+        memory::print_edits(rt)?;
         return Ok(ExitCode::SUCCESS);
     }
     make_calls(rt)?;

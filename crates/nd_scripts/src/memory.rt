@@ -1,7 +1,6 @@
-//! Calls whose allocations are refused: each is answered with want of memory and leaves all as it was, or is done.
+//! Edits whose allocations are refused: each is answered with want of memory and leaves all as it was, or is done.
 //! Run with one allocation refused at a time, this prints the same whichever that is.
 
-use crate::{refused, views};
 use nd_rerun::{Edit, EditFault, Meter, Notebook, QueryFault, Shown};
 use std::io;
 
@@ -194,7 +193,7 @@ const APART_PRINTED: Cell<'static> = Cell {
 };
 
 /// The edits, one after the other.
-static STEPS: [Step; 9] = [
+const STEPS: [Step; 9] = [
     Step {
         edit: Edit::Insert(0, "x = np.arange(4)"),
         before: &[],
@@ -242,7 +241,7 @@ static STEPS: [Step; 9] = [
     },
 ];
 
-/// Says whether a call was right.
+/// Says whether an edit was right.
 fn say(rt: &HostRuntime, is_right: bool) -> io::Result<()> {
     let answer = if is_right {
         "as before, or right"
@@ -253,22 +252,12 @@ fn say(rt: &HostRuntime, is_right: bool) -> io::Result<()> {
 }
 
 /// Makes the edits, and says of each whether it was right.
-fn print_edits(rt: &HostRuntime, notebook: &mut Notebook) -> io::Result<()> {
-    let mut meter = Meter::new();
+pub(crate) fn print_edits(rt: &HostRuntime) -> io::Result<()> {
+    let mut notebook = Notebook::new(rt.alloc());
+    let mut meter = Meter::new(rt);
     for step in &STEPS {
-        let is_step_right = is_right(notebook, &mut meter, *step);
+        let is_step_right = is_right(&mut notebook, &mut meter, *step);
         say(rt, is_step_right)?;
     }
     Ok(())
-}
-
-/// Makes the calls, and says of each whether it was right.
-pub(crate) fn print_calls(rt: &HostRuntime) -> io::Result<()> {
-    for is_view_right in views::are_right(rt.alloc())? {
-        say(rt, is_view_right)?;
-    }
-    for is_call_right in refused::are_right(rt.alloc()) {
-        say(rt, is_call_right)?;
-    }
-    print_edits(rt, &mut Notebook::new(rt.alloc()))
 }

@@ -1,6 +1,7 @@
 //! Scripts, and command lines of the program.
 
 use nd_program::status_of;
+use nd_rerun::Meter;
 use nd_rows::{EscapeFault, unescape};
 use nd_run::{ScriptReader, ScriptWriter, run_script};
 use std::alloc::{AllocError, Global};
@@ -12,7 +13,7 @@ fn print_answers(rt: &HostRuntime, title: &str, script: &[u8]) -> io::Result<()>
     println!(rt; "= {title}")?;
     let mut reader = ScriptReader::new(script);
     let mut writer = ScriptWriter::new(Vec::new(rt.alloc()));
-    let ended = run_script(rt.alloc(), &mut reader, &mut writer);
+    let ended = run_script(rt.alloc(), &mut reader, &mut writer, &mut Meter::new(rt));
     rt.stdout().write_all(writer.into_inner().as_slice())?;
     match ended {
         Ok(()) => Ok(()),

@@ -1,6 +1,6 @@
 //! Scripts from readers that give little at a time or fail, and to writers that take little or fail.
 
-use nd_rerun::Notebook;
+use nd_rerun::{Meter, Notebook};
 use nd_run::{RunFault, ScriptReader, ScriptWriter, run, run_script, run_turns};
 use std::alloc::{AllocError, Global};
 use std::io::{self, Read, Write};
@@ -88,7 +88,7 @@ fn print_dripping(rt: &HostRuntime, title: &str, script: &[u8], fails: bool) -> 
         fails,
     });
     let mut writer = ScriptWriter::new(Vec::new(rt.alloc()));
-    let ended = run_script(rt.alloc(), &mut reader, &mut writer);
+    let ended = run_script(rt.alloc(), &mut reader, &mut writer, &mut Meter::new(rt));
     print_end(rt, title, ended, writer.into_inner().as_slice())
 }
 
@@ -99,7 +99,13 @@ fn print_cells_kept(rt: &HostRuntime, notebook: &mut Notebook) -> io::Result<()>
         fails: true,
     });
     let mut writer = ScriptWriter::new(Vec::new(rt.alloc()));
-    let ended = run(rt.alloc(), &mut reader, &mut writer, notebook);
+    let ended = run(
+        rt.alloc(),
+        &mut reader,
+        &mut writer,
+        &mut Meter::new(rt),
+        notebook,
+    );
     print_end(
         rt,
         "a reader that fails within a source",
@@ -119,7 +125,14 @@ fn print_endless(rt: &HostRuntime) -> io::Result<()> {
     let mut reader = ScriptReader::new(Endless);
     let mut writer = ScriptWriter::new(Vec::new(rt.alloc()));
     let mut notebook = Notebook::new(rt.alloc());
-    let ended = run_turns(rt.alloc(), &mut reader, &mut writer, &mut notebook, 3);
+    let ended = run_turns(
+        rt.alloc(),
+        &mut reader,
+        &mut writer,
+        &mut Meter::new(rt),
+        &mut notebook,
+        3,
+    );
     print_end(
         rt,
         "a reader without an end",
@@ -144,7 +157,7 @@ fn print_narrow(
         most,
         fails,
     });
-    let ended = run_script(rt.alloc(), &mut reader, &mut writer);
+    let ended = run_script(rt.alloc(), &mut reader, &mut writer, &mut Meter::new(rt));
     print_end(rt, title, ended, writer.into_inner().got.as_slice())
 }
 

@@ -1,4 +1,4 @@
-use Rattle.std.proofs.Common.{◌∙◌, ap, cond, [], refl, ⊎_elim}
+use Rattle.std.proofs.Common.{◌∙◌, ap, cond, [], ⊎_elim}
 use Rattle.std.specs.Prelude.{is_ok}
 use Rattle.nd_heap.specs.Contents.{blocks_of, bases_of}
 use Rattle.nd_heap.specs.Live.{bytes_at, is_base_among}

@@ -4,7 +4,7 @@ use Rattle.nd_model.specs.Running as running
 use Rattle.nd_heap.specs.Values.{inputs_of}
 use Rattle.nd_heap.specs.Live.{live}
 use Rattle.nd_cell.specs.Results.{ended_of}
-use Rattle.nd_rerun.specs.Cells.{cells_of, tolds_of}
+use Rattle.nd_rerun.specs.Cells.{tolds_of}
 use Rattle.nd_rerun.proofs.Counting.{counted_more, counts_fewer}
 use Rattle.nd_rerun.proofs.Fresh.{fresh_next, none_now}
 use Rattle.nd_rerun.proofs.Runs.{told_all, told_next, kept_more}

@@ -6,7 +6,7 @@ use Rattle.nd_heap.specs.Live.{live}
 use Rattle.nd_heap.specs.Values.{inputs_of}
 use Rattle.nd_model.specs.Book.{read_cells}
 use Rattle.nd_rerun.specs.Cells.{cells_of, tolds_of}
-use Rattle.nd_model.specs.Notebook.{counted}
+use Rattle.nd_model.specs.Stale.{counted}
 use Rattle.nd_rerun.specs.Labels.{AreFresh}
 use Rattle.nd_rerun.proofs.cells.run_over.Given as goal
 

@@ -8,16 +8,16 @@ use Rattle.nd_run.proofs.line.answer_command.Goals as goal
 
 pub returns-in_err-answer_whole-in_default-clause-part : goal.returns-in_err-answer_whole-in_default-clause-part
 returns-in_err-answer_whole-in_default-clause-part c =
-    let p = err_from_is_err_and c.from_residual.result c.from_residual.ensures.1 in
+    let p = err_from_is_err_and c.from_residual-in_err-answer_whole-in_default.result c.from_residual-in_err-answer_whole-in_default.ensures.1 in
     rw p.1 (
-    whole_in_part (line_of c.command_of-command.result) c.args.line.now c.args.answer.now.items c.answer_whole.new.answer.items (book_of c.args.notebook.now)
-    (book_of c.answer_whole.new.notebook) _ (sym c.command_of-command.ensures) c.in_err-answer_whole-in_default.ensures
+    whole_in_part (line_of c.in_ok-command.command) c.args.line.now c.args.answer.now.items c.answer_whole.new.answer.items (book_of c.args.notebook.now)
+    (book_of c.answer_whole.new.notebook) _ (sym c.in_ok-command.ensures) c.in_err-answer_whole-in_default.ensures
     )
 
 pub returns-in_ok-answer_whole-in_default-clause-done : goal.returns-in_ok-answer_whole-in_default-clause-done
 returns-in_ok-answer_whole-in_default-clause-done c =
-    let command = c.command_of-command.result in
+    let command = c.in_ok-command.command in
     let opens = not_opening command c.in_default.not-Insert c.in_default.not-Edit in
     let carried = rw c.requires at c.in_ok-answer_whole-in_default.ensures in
     done_whole (line_of command) c.args.line.now c.answer_whole.new.answer.items (book_of c.args.notebook.now) (book_of c.answer_whole.new.notebook)
-    (sym c.command_of-command.ensures) opens carried
+    (sym c.in_ok-command.ensures) opens carried

@@ -1,11 +1,8 @@
-use Rattle.std.proofs.Common.{◌≡◌, ◌∙◌, ℕ, List, ap, sym, subst, string_bytes}
+use Rattle.std.proofs.Common.{◌≡◌, ◌∙◌, ap, string_bytes}
 use Rattle.std.specs.Rc.{rc_str_bytes}
-use Rattle.nd_model.specs.Value as model
-use Rattle.nd_model.specs.Session.{Names}
 use Rattle.nd_model.specs.Running as running
 use Rattle.nd_heap.specs.Contents.{blocks_of}
 use Rattle.nd_heap.specs.Fields.{state_of, trace_of}
-use Rattle.nd_heap.specs.Intact.{AllLie}
 use Rattle.nd_heap.specs.Live.{live, bytes_at}
 use Rattle.nd_heap.specs.State.{State}
 use Rattle.nd_heap.specs.Values.{names_of, value_of}

@@ -2,7 +2,6 @@ use Rattle.std.proofs.Common.{◌∙◌, ℕ, List, ap, sym, subst}
 use Rattle.nd_model.specs.Value.{Base}
 use Rattle.nd_model.specs.Session as model
 use Rattle.nd_heap.specs.Contents.{blocks_of}
-use Rattle.nd_heap.specs.Fields.{trace_of}
 use Rattle.nd_heap.specs.Intact.{AllLie}
 use Rattle.nd_heap.specs.Kept.{thawed}
 use Rattle.nd_heap.specs.Live.{live, bytes_at}

@@ -24,8 +24,13 @@ pub(crate) fn begun_session(alloc: Global) -> Result<Session, OutOfMemory>
     ensures { IfOk result (λ s. (live s).next ≡ 0) }
 {
     let mut session = Session::new(alloc)?;
-    session.start(3)?;
-    Ok(session)
+    match session.start(3) {
+        Ok(()) => Ok(session),
+        Err(error) => {
+            drop(session);
+            Err(error)
+        }
+    }
 }
 
 /// Writes one byte at the front of a block.
@@ -72,21 +77,40 @@ fn describe_array(
     array: &Array,
 ) -> Result<String, OutOfMemory> {
     let before = session.freeze()?;
+    let text = describe_writes(alloc, session, &before, array);
+    drop(before);
+    text
+}
+
+/// The same, with the version of before.
+fn describe_writes(
+    alloc: Global,
+    session: &mut Session,
+    before: &Version,
+    array: &Array,
+) -> Result<String, OutOfMemory> {
     session.store(array.base, 8, &[7, 0])?;
     session.mark_written(array)?;
     session.write(array.base, FrontByte { byte: 9 })?;
     session.mark_used(array)?;
-    let other = write_thawed(alloc, &before, array.base)?;
-    let (all, kept) = (session.bytes(array.base), before.bytes(array.base));
-    let thawed = other.bytes(array.base);
-    format!(in alloc; "all: {all:?}, kept: {kept:?}, thawed: {thawed:?}").map_err(OutOfMemory::from)
+    let mut thawed = Session::thaw(alloc, before)?;
+    let text = describe_thawed(alloc, session, before, &mut thawed, array.base);
+    drop(thawed);
+    text
 }
 
-/// A session that goes on from a version, and has written to a block.
-fn write_thawed(alloc: Global, version: &Version, base: Base) -> Result<Session, OutOfMemory> {
-    let mut session = Session::thaw(alloc, version)?;
-    session.write(base, FrontByte { byte: 5 })?;
-    Ok(session)
+/// The same, where a session that goes on from the version writes too.
+fn describe_thawed(
+    alloc: Global,
+    session: &Session,
+    before: &Version,
+    thawed: &mut Session,
+    base: Base,
+) -> Result<String, OutOfMemory> {
+    thawed.write(base, FrontByte { byte: 5 })?;
+    let (all, kept) = (session.bytes(base), before.bytes(base));
+    let thawed = thawed.bytes(base);
+    format!(in alloc; "all: {all:?}, kept: {kept:?}, thawed: {thawed:?}").map_err(OutOfMemory::from)
 }
 
 /// An array that is read and written.
@@ -103,6 +127,13 @@ fn describe_uses(alloc: Global, session: &mut Session) -> Result<String, OutOfMe
 /// The names of a session in order.
 fn describe_names(alloc: Global, session: &mut Session) -> Result<String, OutOfMemory> {
     let version = session.freeze()?;
+    let text = describe_version(alloc, &version);
+    drop(version);
+    text
+}
+
+/// The names of a version in order.
+fn describe_version(alloc: Global, version: &Version) -> Result<String, OutOfMemory> {
     let (count, first) = (version.count(), version.name_at(0));
     let (is_x, is_y) = (version.peek("x").is_some(), version.peek("y").is_some());
     format!(in alloc; "{count} names, the first {first:?}, x: {is_x}, y: {is_y}").map_err(
@@ -132,7 +163,10 @@ fn describe_unbound(alloc: Global, session: &mut Session) -> Result<String, OutO
 
 /// How many bytes of the first base a version keeps.
 fn count_kept(session: &mut Session) -> Result<usize, OutOfMemory> {
-    Ok(session.freeze()?.bytes(BASE).len())
+    let version = session.freeze()?;
+    let count = version.bytes(BASE).len();
+    drop(version);
+    Ok(count)
 }
 
 fn is_found(session: &mut Session, name: &str) -> Result<bool, OutOfMemory> {
@@ -208,12 +242,13 @@ fn describe(alloc: Global, session: &mut Session, what: Use) -> Result<String, O
 /// What a use gives in a session of its own.
 fn describe_begun(alloc: Global, what: Use) -> Result<String, OutOfMemory> {
     let mut session = begun_session(alloc)?;
-    describe(alloc, &mut session, what)
+    let text = describe(alloc, &mut session, what);
+    drop(session);
+    text
 }
 
 /// Prints what each of them gives.
 pub(crate) fn print_sessions(rt: &HostRuntime) -> io::Result<()> {
-    println!(rt; "= sessions")?;
     for what in [
         Use::Elements,
         Use::BoundAgain,

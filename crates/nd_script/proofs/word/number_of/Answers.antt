@@ -1,6 +1,6 @@
 use Rattle.std.proofs.Common.{sym, ◌∙◌}
 use Rattle.nd_script.proofs.Numbers.{number_word-at_err, number_word-same, number_word-other}
-use Rattle.nd_script.proofs.command.number_of.Goals as goal
+use Rattle.nd_script.proofs.word.number_of.Goals as goal
 
 pub returns-in_err-number : goal.returns-in_err-number
 returns-in_err-number c =

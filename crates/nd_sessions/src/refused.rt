@@ -45,8 +45,13 @@ fn bound_session(alloc: Global) -> Result<Session, OutOfMemory>
     ensures { IfOk result (λ s. (live s).next + 1 < 2 ^ 64) }
 {
     let mut session = begun_session(alloc)?;
-    bind_array(alloc, &mut session)?;
-    Ok(session)
+    match bind_array(alloc, &mut session) {
+        Ok(()) => Ok(session),
+        Err(error) => {
+            drop(session);
+            Err(error)
+        }
+    }
 }
 
 /// The array that x is bound to.
@@ -106,8 +111,9 @@ fn bind_number(alloc: Global, session: &mut Session) -> Result<(), OutOfMemory> 
 /// Keeps a version, and makes a session of it.
 fn thaw(alloc: Global, session: &Session) -> Result<(), OutOfMemory> {
     let version = session.freeze()?;
-    Session::thaw(alloc, &version)?;
-    Ok(())
+    let done = Session::thaw(alloc, &version).map(drop);
+    drop(version);
+    done
 }
 
 /// Whether x is still bound and its bytes are as they were made, and z is not bound.
@@ -144,6 +150,7 @@ fn answers(alloc: Global) -> Result<[bool; CALLS.len()], OutOfMemory> {
     for (place, call) in CALLS.iter().enumerate() {
         let mut session = session_for_call(alloc)?;
         all[place] = is_call_right(alloc, &mut session, *call);
+        drop(session);
     }
     Ok(all)
 }

@@ -1,7 +1,7 @@
 use Rattle.std.proofs.Common.{refl, lit<}
 use Rattle.std.proofs.lemmas.Str.Pattern.{split_once_first}
 use Rattle.nd_script.proofs.Words.{words_of-one, words_of-more}
-use Rattle.nd_script.proofs.command.split_word.Goals as goal
+use Rattle.nd_script.proofs.word.split_word.Goals as goal
 
 pub returns-in-Some : goal.returns-in-Some
 returns-in-Some c =

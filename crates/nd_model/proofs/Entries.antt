@@ -1,0 +1,149 @@
+-- A run cell by cell, as a loop over the cells needs it.
+use Rattle.std.proofs.Common.{◌≡◌, ℕ, zero, suc, ◌+◌, ◌<◌, ◌≤◌, Bool, List, [], ◌∷◌, ◌++◌, length, map, take, get_or, Some, IfSome, refl, sym, ap, ap₂, ◌∙◌, inl, inr, arith, add-one}
+use Rattle.std.proofs.lemmas.List.{map-append, take-map}
+use Rattle.nd_model.specs.Session.{Session, no_session}
+use Rattle.nd_model.specs.Running.{Key, Name, Input, Length, Byte, Inputs}
+use Rattle.nd_model.specs.Reading.{reading}
+use Rattle.std.specs.Prelude.{slice_get, IsTrue}
+use Rattle.nd_model.specs.Cell.{session_after, notebook}
+use Rattle.nd_model.specs.Footprint.{Given, Agree, HasNone, reads_of, with_effects}
+use Rattle.nd_model.specs.Records.{Record, StillHolds}
+use Rattle.nd_model.specs.Scheduler.{IsOfRun, told_of}
+use Rattle.nd_model.specs.Renaming.{AreDistinct, told}
+use Rattle.nd_model.specs.Book.{Cell, Book, labels_of, no_cell, read_cells}
+use Rattle.nd_model.specs.Entries.{Entry, entry_at, ToldByRecords, SharesFront, SameFrontReads, ended, record_at, entries, after_cells, entries_of, records_of, session_before}
+use Rattle.nd_model.specs.Stale.{IsStale, AtLeast, entry_before, kept_of}
+use Rattle.nd_model.proofs.Tracks.{effects_are_all}
+use Rattle.nd_model.proofs.Keeping.{kept}
+use Rattle.nd_model.proofs.Lazy.{same_front, NoneOf, none_of_nothing, none_behind, Fresh, was_fresh, kept_of_run, stale, still_holds}
+
+module _ (i : Inputs) where
+  next : (cs : List Cell) (s : Session) (k : ℕ) → k < length cs
+      → after_cells (take (suc k) cs) i s ≡ session_after (ended i (record { cell = get_or cs k no_cell; session = after_cells (take k cs) i s }))
+  next [] s k h = absurd (omega arith)
+  next (c ∷ cs) s zero h = refl
+  next (c ∷ cs) s (suc k) h = next cs (session_after (ended i (record { cell = c; session = s }))) k (omega arith)
+
+  fresh : (cs : List Cell) (s : Session) (k : ℕ) → k < length cs → AreDistinct (labels_of cs) → NoneOf cs s → HasNone (get_or cs k no_cell).label (after_cells (take k cs) i s)
+  fresh [] s k h d none = absurd (omega arith)
+  fresh (c ∷ cs) s zero h d none = none.0
+  fresh (c ∷ cs) s (suc k) h d none = fresh cs (session_after (ended i (record { cell = c; session = s }))) k (omega arith) d.1 (none_behind c cs i s d none.1)
+
+  one_more : (cs : List Cell) (s : Session) (k : ℕ) → k < length cs
+      → take (suc k) (entries cs i s) ≡ take k (entries cs i s) ++ record { cell = get_or cs k no_cell; session = after_cells (take k cs) i s } ∷ []
+  one_more [] s k h = absurd (omega arith)
+  one_more (c ∷ cs) s zero h = refl
+  one_more (c ∷ cs) s (suc k) h = let e : Entry = record { cell = c; session = s } in ap (λ es. e ∷ es) (one_more cs (session_after (ended i e)) k (omega arith))
+
+  at_place : (cs : List Cell) (s : Session) (k : ℕ) (d : Record) → k < length cs
+      → get_or (map (record_at i) (entries cs i s)) k d ≡ record_at i (record { cell = get_or cs k no_cell; session = after_cells (take k cs) i s })
+  at_place [] s k d h = absurd (omega arith)
+  at_place (c ∷ cs) s zero d h = refl
+  at_place (c ∷ cs) s (suc k) d h = at_place cs (session_after (ended i (record { cell = c; session = s }))) k d (omega arith)
+
+pub session_before-next : (b : Book) (k : ℕ) → k < length b.cells → session_before b (k + 1) ≡ session_after (ended b.inputs (entry_at b k))
+session_before-next b k h = ap (session_before b) (add-one k) ∙ next b.inputs b.cells no_session k h
+
+-- no base of its label is in the session
+pub fresh_at : (b : Book) (k : ℕ) → k < length b.cells → AreDistinct (labels_of b.cells) → HasNone (entry_at b k).cell.label (session_before b k)
+fresh_at b k h d = fresh b.inputs b.cells no_session k h d (none_of_nothing b.cells)
+
+pub take-entries_of : (b : Book) (k : ℕ) → k < length b.cells → take (k + 1) (entries_of b) ≡ take k (entries_of b) ++ entry_at b k ∷ []
+take-entries_of b k h = ap (λ n. take n (entries_of b)) (add-one k) ∙ one_more b.inputs b.cells no_session k h
+
+pub take-records_of : (b : Book) (k : ℕ) → k < length b.cells → take (k + 1) (records_of b) ≡ take k (records_of b) ++ record_at b.inputs (entry_at b k) ∷ []
+take-records_of b k h =
+    take-map' (k + 1) ∙ ap (map (record_at b.inputs)) (take-entries_of b k h) ∙ map-append (record_at b.inputs) (take k (entries_of b)) (entry_at b k ∷ [])
+    ∙ ap (λ rs. rs ++ record_at b.inputs (entry_at b k) ∷ []) (sym (take-map' k))
+  where
+    take-map' : (n : ℕ) → take n (records_of b) ≡ map (record_at b.inputs) (take n (entries_of b))
+    take-map' n = take-map (record_at b.inputs) n (entries_of b)
+
+pub get_or-records_of : (b : Book) (k : ℕ) (d : Record) → k < length b.cells → get_or (records_of b) k d ≡ record_at b.inputs (entry_at b k)
+get_or-records_of b k d h = at_place b.inputs b.cells no_session k d h
+
+-- the record of a run holds where the run was, and does what it did
+pub holds_there : (i : Inputs) (e : Entry) → Fresh e → StillHolds (record_at i e) e.session i
+holds_there i e none = still_holds i i e e.session none (λ k read. refl)
+
+pub replays_there : (i : Inputs) (e : Entry) → Fresh e → with_effects e.cell.label (record_at i e).effects e.session ≡ session_after (ended i e)
+replays_there i e none = sym (effects_are_all e.cell.label (reading e.cell.source) e.session i none)
+
+pub kept_is_of_run : (old : Book) → AreDistinct (labels_of old.cells) → (c : Cell) → IfSome (kept_of old c) (IsOfRun c.label (reading c.source))
+kept_is_of_run old d c = kept_of_run old.inputs c (entry_before old c) (was_fresh old d c)
+
+pub stale_now : (old new : Book) → AreDistinct (labels_of old.cells) → (c : Cell) (s : Session) → HasNone c.label s → IfSome (kept_of old c) (λ r. ¬ StillHolds r s new.inputs)
+    → IsStale old new (record { cell = c; session = s })
+stale_now old new d c s none fails = stale old.inputs new.inputs c s (entry_before old c) none (was_fresh old d c) fails
+
+-- ---- at least so many, as the list grows
+
+pub at_least-append : {X : Type 0} (n : ℕ) (P : X → Type 0) (xs ys : List X) → AtLeast n P xs → AtLeast n P (xs ++ ys)
+at_least-append zero P xs ys h = tt
+at_least-append (suc n) P [] ys h = absurd h
+at_least-append (suc n) P (x ∷ xs) ys (inl here) = inl (here.0, at_least-append n P xs ys here.1)
+at_least-append (suc n) P (x ∷ xs) ys (inr there) = inr (at_least-append (suc n) P xs ys there)
+
+pub at_least-push : {X : Type 0} (n : ℕ) (P : X → Type 0) (xs : List X) (x : X) → AtLeast n P xs → P x → AtLeast (suc n) P (xs ++ x ∷ [])
+at_least-push zero P [] x h p = inl (p, tt)
+at_least-push zero P (y ∷ xs) x h p = inr (at_least-push zero P xs x tt p)
+at_least-push (suc n) P [] x h p = absurd h
+at_least-push (suc n) P (y ∷ xs) x (inl here) p = inl (here.0, at_least-push n P xs x here.1 p)
+at_least-push (suc n) P (y ∷ xs) x (inr there) p = inr (at_least-push (suc n) P xs x there p)
+
+-- ---- what is told of a cell
+
+told_at : (cs : List Cell) (i : Inputs) (s : Session) (at : ℕ) → at < length cs
+    → slice_get (told (notebook (read_cells cs) i s)) at ≡ Some (told_of (record_at i (record { cell = get_or cs at no_cell; session = after_cells (take at cs) i s })) (after_cells (take (suc at) cs) i s))
+told_at [] i s at h = absurd (omega arith)
+told_at (c ∷ cs) i s zero h = refl
+told_at (c ∷ cs) i s (suc at) h = told_at cs i (session_after (ended i (record { cell = c; session = s }))) at (omega arith)
+
+pub told_by_records : ToldByRecords
+told_by_records b at h = told_at b.cells b.inputs no_session at h ∙ ap (λ n. Some (told_of (record_at b.inputs (entry_at b at)) (session_before b n))) (sym (add-one at))
+
+-- ---- inputs that are not read
+
+-- over other inputs that agree on what it reads a cell has the same record and the same session after it
+same_run : (i j : Inputs) (e : Entry) → Fresh e → Agree (reads_of (ended i e)) e.session i e.session j → (record_at i e ≡ record_at j e) × (session_after (ended i e) ≡ session_after (ended j e))
+same_run i j e none agree =
+    let both : (record_at j e ≡ record_at i e) × (session_after (ended j e) ≡ with_effects e.cell.label (record_at i e).effects e.session) =
+    kept e.cell.label (reading e.cell.source) e.session e.session i j none (still_holds i j e e.session none agree) in
+    (sym both.0, sym (replays_there i e none) ∙ sym both.1)
+
+reads_front : (at : ℕ) (cs : List Cell) (i j : Inputs) (s : Session) → AreDistinct (labels_of cs) → NoneOf cs s
+    → ((k : ℕ) → k < at → k < length cs → Agree (reads_of (ended i (record { cell = get_or cs k no_cell; session = after_cells (take k cs) i s }))) (after_cells (take k cs) i s) i (after_cells (take k cs) i s) j)
+    → (take at (map (record_at i) (entries cs i s)) ≡ take at (map (record_at j) (entries cs j s))) × ((k : ℕ) → k ≤ at → after_cells (take k cs) i s ≡ after_cells (take k cs) j s)
+reads_front zero cs i j s d none h = (refl, λ k le. let first : k ≡ 0 = omega arith in ap (λ n. after_cells (take n cs) i s) first ∙ sym (ap (λ n. after_cells (take n cs) j s) first))
+reads_front (suc at) [] i j s d none h = (refl, λ k le. nothing k)
+  where
+    nothing : (k : ℕ) → after_cells (take k []) i s ≡ after_cells (take k []) j s
+    nothing zero = refl
+    nothing (suc k) = refl
+reads_front (suc at) (c ∷ cs) i j s d none h =
+    let e : Entry = record { cell = c; session = s } in
+    let both : (record_at i e ≡ record_at j e) × (session_after (ended i e) ≡ session_after (ended j e)) = same_run i j e none.0 (h 0 (omega arith) (omega arith)) in
+    let rest : (take at (map (record_at i) (entries cs i (session_after (ended i e)))) ≡ take at (map (record_at j) (entries cs j (session_after (ended i e)))))
+    × ((k : ℕ) → k ≤ at → after_cells (take k cs) i (session_after (ended i e)) ≡ after_cells (take k cs) j (session_after (ended i e))) =
+    reads_front at cs i j (session_after (ended i e)) d.1 (none_behind c cs i s d none.1) (λ k lt in_list. h (suc k) (omega arith) (omega arith)) in
+    (ap₂ (λ (r : Record) (rs : List Record). r ∷ rs) both.0 (rest.0 ∙ ap (λ t. take at (map (record_at j) (entries cs j t))) both.1), next_session both.1 rest.1)
+  where
+    next_session : session_after (ended i (record { cell = c; session = s })) ≡ session_after (ended j (record { cell = c; session = s }))
+        → ((k : ℕ) → k ≤ at → after_cells (take k cs) i (session_after (ended i (record { cell = c; session = s }))) ≡ after_cells (take k cs) j (session_after (ended i (record { cell = c; session = s }))))
+        → (k : ℕ) → k ≤ suc at → after_cells (take k (c ∷ cs)) i s ≡ after_cells (take k (c ∷ cs)) j s
+    next_session same rest zero le = refl
+    next_session same rest (suc k) le = rest k (omega arith) ∙ ap (λ t. after_cells (take k cs) j t) same
+
+-- sessions are the same to a cell that reads no input that is another
+same_inputs : (keys : Key → Bool) (s : Session) (i j : Inputs) → ((name : List ℕ) → IsTrue (keys (Input name)) → i name ≡ j name) → Agree keys s i s j
+same_inputs keys s i j h (Name n) read = refl
+same_inputs keys s i j h (Input n) read = ap Given (h n read)
+same_inputs keys s i j h (Length b) read = refl
+same_inputs keys s i j h (Byte b p) read = refl
+
+pub same_front_reads : SameFrontReads
+same_front_reads at old new d cells reads =
+    let mid : Book = record { cells = old.cells; inputs = new.inputs } in
+    let first : SharesFront at old mid = reads_front at old.cells old.inputs new.inputs no_session d (none_of_nothing old.cells) (λ k lt there. same_inputs _ _ old.inputs new.inputs (reads k lt there)) in
+    let second : SharesFront at mid new = same_front at mid new refl cells in
+    (first.0 ∙ second.0, λ k le. first.1 k le ∙ second.1 k le)

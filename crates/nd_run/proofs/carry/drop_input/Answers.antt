@@ -1,0 +1,8 @@
+use Rattle.nd_model.specs.Book.{DropInput}
+use Rattle.nd_run.proofs.Edited.{carried_edit}
+use Rattle.nd_run.proofs.carry.drop_input.Goals as goal
+
+pub returns : goal.returns
+returns c =
+    carried_edit (DropInput c.args.name.now) c.args.notebook.now c.drop_input-done.new.self c.drop_input-done.result _ _ _
+    c.drop_input-done.ensures.answered c.push_edit_answer.ensures

@@ -1,12 +1,11 @@
 //! Cells: running one over a session.
 #![tactic(auto)]
 
-mod meter;
 mod result;
 mod run;
 
-pub use meter::Meter;
 pub use nd_eval::{IndexFault, StmtError, StmtFault, UfuncFault, ViewFault};
+pub use nd_meter::Meter;
 pub use nd_parse::ParseKind;
 pub use result::{CellFault, CellResult, Refusal};
 pub use run::run_cell;

@@ -14,11 +14,11 @@ ghost use Rattle.nd_heap.specs.Live.{live};
 ghost use Rattle.nd_eval.specs.Done.{output_of};
 ghost use Rattle.nd_cell.specs.Results.{after_line, ended_of, refusal_of, saved_of, saves_of};
 
-use crate::meter::Meter;
 use crate::result::{CellFault, CellResult, Refusal};
 use indexmap::IndexMap;
 use nd_eval::{Output, StmtError, StmtFault, run_stmt};
 use nd_heap::{Inputs, OutOfMemory, Session};
+use nd_meter::Meter;
 use nd_parse::{Line, ParseFault, parse_cell};
 use std::alloc::Global;
 

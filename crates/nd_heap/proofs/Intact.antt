@@ -1,10 +1,10 @@
 -- Sessions stay intact: each array that a name is bound to lies in its block.
-use Rattle.std.proofs.Common.{◌≡◌, ℕ, ◌+◌, ◌≤◌, true, false, cond, eq-eqb, List, [], ◌∷◌, length, refl, sym, ap, subst, ◌∙◌, inl, inr, arith}
+use Rattle.std.proofs.Common.{◌≡◌, ℕ, ◌+◌, ◌≤◌, Bool, true, false, cond, eq-eqb, List, [], ◌∷◌, length, refl, sym, ap, subst, ◌∙◌, inl, inr, arith}
 use Rattle.std.specs.Prelude.{bytes_eq}
 use Rattle.std.proofs.lemmas.Bool.{cases_Bool, and_from, or_left, or_right}
 use Rattle.nd_model.specs.View.{Geo}
 use Rattle.nd_model.specs.Value.{Base, same_base, Value, Int, Truth, Scalar, Array, Row, lies_in}
-use Rattle.nd_model.specs.Session.{Names, Session, bind, unbind, is_held, held_bytes}
+use Rattle.nd_model.specs.Session.{Names, Session, bind, unbind, is_held, held_bytes, collected}
 use Rattle.nd_model.specs.Running as running
 use Rattle.nd_model.specs.Footprint.{HasNone}
 use Rattle.nd_model.specs.Sound.{LiesIn, IsViewOf, AreViewsOf, IsHeldView, IsSound}
@@ -108,3 +108,17 @@ with_start label old next s bytes none held h = held_views (LiesThere old next s
 pub with_held : (label next : ℕ) (s : Session) (bytes : Base → List ℕ) → ((b : Base) → bytes b ≡ held_bytes s b) → AllLie label next s.bytes s.names → AllLie label next bytes s.names
 with_held label next s bytes held h = held_views (LiesThere label next s.bytes) (LiesThere label next bytes) s
     (λ b g is v. record { lies = lies_held s bytes held b g is v.lies; old = v.old }) h
+
+-- A CELL'S CHANGES ARE MADE AGAIN: what is left is sound, and so is the session
+pub with_changes : (label next : ℕ) (s w : Session) → collected s ≡ w → IsSound (record (running.start label w) { next = next }) → AllLie label next s.bytes s.names
+with_changes label next s w is sound =
+    let r : running.Running = record (running.start label (collected s)) { next = next } in
+    let all : IsSound r = subst (λ (w : Session). IsSound (record (running.start label w) { next = next })) (sym is) sound in
+    held_views (IsHeldView r) (LiesThere label next s.bytes) s (λ b g held v. record {
+      lies = subst (λ l. LiesIn (length l) g) (twice (is_held b s.names) (s.bytes b) held) v.lies;
+      old = v.old;
+    }) all
+  where
+    twice : (t : Bool) (x : List ℕ) → t ≡ true → cond t (cond t x []) [] ≡ x
+    twice true x h = refl
+    twice false x h = cc

@@ -1,7 +1,7 @@
 pub mod Same
 pub mod NameLists
-pub mod InputLists
 pub mod Bases
+pub mod Entries
 pub mod Held
 pub mod Places
 pub mod Noting
@@ -11,3 +11,9 @@ pub mod Listed
 pub mod Sessions
 pub mod Storing
 pub mod Intact
+pub mod Inputs
+pub mod Reading
+pub mod Agreeing
+pub mod Redoing
+pub mod Retaining
+pub mod Keeping

@@ -21,7 +21,7 @@ use Rattle.nd_heap.specs.Fields.{trace_of}
 use Rattle.nd_heap.proofs.Bases.{base_eq, base_eq_sym}
 use Rattle.nd_heap.proofs.Noting.{noted, name_more, name_there, input_more, input_there, length_more, length_there, bytes_own, bytes_more}
 
-bytes_eq_sym : (m n : List ℕ) → bytes_eq m n ≡ bytes_eq n m
+pub bytes_eq_sym : (m n : List ℕ) → bytes_eq m n ≡ bytes_eq n m
 bytes_eq_sym m n = same_from_decides (bytes_eq m n) (bytes_eq n m) (bytes_eq-Decides m n) (let d = bytes_eq-Decides n m in (λ h. sym (d.0 h), λ e. d.1 (sym e)))
 
 pub or_right : (x y : Bool) → y ≡ true → (x || y) ≡ true

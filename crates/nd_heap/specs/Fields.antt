@@ -6,6 +6,8 @@ use Rattle.nd_heap.specs.declared.session.Session.TheInside.{Inside}
 use Rattle.nd_heap.specs.Values.{names_of}
 use Rattle.nd_heap.specs.Contents.{blocks_of}
 use Rattle.nd_heap.specs.State.{State}
+use Rattle.nd_model.specs.Footprint.{Effects, effects_of}
+use Rattle.nd_heap.specs.Changes.{ended}
 use Rattle.nd_heap.specs.Seen.{Seen}
 use Rattle.nd_heap.specs.Live.{running_of}
 
@@ -30,3 +32,7 @@ trace_of t = running_of (traced t [] [] 0)
 
 abbrev pub state_of : Inside → State
 state_of s = traced s.trace (names_of s.names.value.entries) (blocks_of s.blocks.value.entries) s.next
+
+-- the effects of a trace over some blocks
+abbrev pub effects_over : Seen → List (model.Base × List ℕ) → Effects
+effects_over t blocks = effects_of (ended (running_of (traced t [] blocks 0)))

@@ -8,3 +8,7 @@ pub mod Kept
 pub mod Fields
 pub mod Intact
 pub mod Placing
+pub mod Reads
+pub mod Reading
+pub mod Patching
+pub mod Changes

@@ -1,10 +1,10 @@
 -- What contracts see of a trace: what the running cell has read and done, as lists.
 use Rattle.std.specs.Prelude.{◌≡◌, ℕ, Bool, List, [], ◌∷◌, ◌++◌}
 use Rattle.nd_model.specs.Value.{Base}
-use Rattle.nd_model.specs.Running.{Running, Event, Name, Input, Length, Byte}
+use Rattle.nd_model.specs.Running.{Running, Key, Event, Name, Input, Length, Byte}
 use Rattle.nd_marks.specs.Marks.{Places}
 use Rattle.nd_heap.specs.State.{State}
-use Rattle.nd_heap.specs.Live.{is_among, is_base_among, is_marked, live}
+use Rattle.nd_heap.specs.Live.{is_among, is_base_among, is_marked, is_read, live}
 
 pub record Seen : Type 0 where
   pub label : ℕ
@@ -41,6 +41,10 @@ bases_read t = t.lengths
 -- the byte was read as another cell had left it
 abbrev pub is_used : Seen → Base → ℕ → Bool
 is_used t b p = is_marked t.used b p
+
+-- the key was read
+abbrev pub is_read_in : Seen → Key → Bool
+is_read_in t = is_read t.looked t.asked t.lengths t.used
 
 -- the byte was written
 abbrev pub is_written : Seen → Base → ℕ → Bool

@@ -6,11 +6,11 @@ ghost use Rattle.nd_model.specs.Tuple.{count_up};
 ghost use Rattle.nd_model.specs.Session as model;
 ghost use Rattle.nd_model.specs.Running as running;
 ghost use Rattle.nd_heap.specs.Values.{base_of, value_of, names_of};
-ghost use Rattle.nd_heap.specs.Contents.{blocks_of, bases_of};
+ghost use Rattle.nd_heap.specs.Contents.{blocks_of, bases_of, bytes_in};
 ghost use Rattle.nd_heap.specs.Live.{bytes_at, is_base_among};
 
 use crate::memory::OutOfMemory;
-use crate::names::Names;
+use crate::names::{Names, is_held};
 use crate::value::{Base, Value};
 use crate::writer::BlockWriter;
 use indexmap::IndexMap;
@@ -21,7 +21,7 @@ use std::rc::Rc;
 pub(crate) type Blocks = IndexMap<Base, Rc<RawBlock>>;
 
 /// A set of bases.
-type Bases = IndexMap<Base, ()>;
+pub(crate) type Bases = IndexMap<Base, ()>;
 
 /// The bytes of a block, none where there is no such block.
 pub(crate) fn bytes_of(blocks: &Blocks, base: Base) -> &[u8]
@@ -30,6 +30,29 @@ pub(crate) fn bytes_of(blocks: &Blocks, base: Base) -> &[u8]
     match blocks.get(&base) {
         Some(block) => block.as_ref().as_slice(),
         None => &[],
+    }
+}
+
+/// The bytes of a block that some bound value lies in, none where there is no such block.
+pub(crate) fn held_bytes<'a>(blocks: &'a Blocks, names: &Names, base: Base) -> &'a [u8]
+    ensures { result.now ≡ (if model.is_held (base_of base) (names_of names.now.entries)
+        then bytes_at (blocks_of blocks.now.entries) (base_of base) else []) }
+{
+    let bytes = bytes_of(blocks, base);
+    if bytes.is_empty() || is_held(names, base) {
+        return bytes;
+    }
+    &[]
+}
+
+/// The block of a base, shared.
+pub(crate) fn share_block(blocks: &Blocks, base: Base) -> Result<Option<Rc<RawBlock>>, OutOfMemory>
+    ensures { IfOk result (λ o. bytes_in o
+        ≡ bytes_at (blocks_of blocks.now.entries) (base_of base)) }
+{
+    match blocks.get(&base) {
+        Some(block) => Ok(Some(block.clone()?)),
+        None => Ok(None),
     }
 }
 
@@ -74,7 +97,7 @@ pub(crate) fn write<W: BlockWriter + Drop>(
 }
 
 /// The bases that some bound value lies in.
-fn held_bases(alloc: Global, names: &Names) -> Result<Bases, OutOfMemory>
+pub(crate) fn held_bases(alloc: Global, names: &Names) -> Result<Bases, OutOfMemory>
     ensures { IfOk result (λ held. (b : values.Base)
         → is_base_among (bases_of held.entries) b ≡ model.is_held b (names_of names.now.entries)) }
 {
@@ -137,7 +160,7 @@ fn are_held(blocks: &Blocks, held: &Bases) -> bool
 }
 
 /// Gives up the blocks of other bases. Blocks that are shared are not changed: then the others get a map of their own.
-fn keep_held(blocks: &mut Rc<Blocks>, held: &Bases) -> Result<(), OutOfMemory>
+pub(crate) fn keep_held(blocks: &mut Rc<Blocks>, held: &Bases) -> Result<(), OutOfMemory>
     ensures ok { OnOk result ((b : values.Base) → bytes_at (blocks_of blocks.new.value.entries) b
         ≡ (if is_base_among (bases_of held.now.entries) b
         then bytes_at (blocks_of blocks.old.value.entries) b else [])) }

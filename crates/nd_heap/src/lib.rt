@@ -5,18 +5,23 @@ ghost use Rattle.nd_heap.specs.State.{State};
 ghost use Rattle.nd_heap.specs.Seen.{IsListed};
 
 mod blocks;
+mod changes;
 mod input;
 mod marking;
 mod memory;
 mod names;
+mod reads;
+mod redo;
 mod session;
 mod trace;
 mod value;
 mod version;
 mod writer;
 
+pub use changes::Changes;
 pub use input::{Input, Inputs, has_input, with_input, without_input};
 pub use memory::OutOfMemory;
+pub use reads::Reads;
 pub use session::Session;
 pub use trace::{Event, Trace};
 pub use value::{Array, Base, Value};

@@ -1,12 +1,13 @@
 // Names in order, with their values, which versions share.
 
-ghost use Rattle.std.specs.Prelude.{◌≡◌, OnErr, OnOk, option_map};
+ghost use Rattle.std.specs.Prelude.{◌≡◌, ◌↔◌, IfOk, IsFalse, OnErr, OnOk, false, option_map};
 ghost use Rattle.std.specs.Rc.{rc_str_bytes};
 ghost use Rattle.nd_model.specs.Session as model;
-ghost use Rattle.nd_heap.specs.Values.{value_of, names_of};
+ghost use Rattle.nd_model.specs.Value as values;
+ghost use Rattle.nd_heap.specs.Values.{base_of, value_of, names_of};
 
 use crate::memory::OutOfMemory;
-use crate::value::Value;
+use crate::value::{Base, Value};
 use indexmap::IndexMap;
 use std::rc::{Rc, RcStr};
 
@@ -47,4 +48,67 @@ pub(crate) fn find<'a>(names: &'a Rc<Names>, name: &str) -> Option<&'a Value>
         Some(value) => Some(value.as_ref()),
         None => None,
     }
+}
+
+/// The value of a name, shared.
+pub(crate) fn share_value(names: &Names, name: &str) -> Result<Option<Rc<Value>>, OutOfMemory>
+    ensures { IfOk result (λ o. option_map (λ v. value_of v.value) o
+        ≡ model.lookup name.now (names_of names.now.entries)) }
+{
+    match names.get(name) {
+        Some(value) => Ok(Some(value.clone()?)),
+        None => Ok(None),
+    }
+}
+
+/// Whether the value lies in the base.
+fn lies_in(value: &Value, base: Base) -> bool
+    ensures { result ≡ values.lies_in (base_of base) (value_of value.now) }
+{
+    match value {
+        Value::Number(_) => false,
+        Value::Array(array) => base == array.base,
+    }
+}
+
+/// Whether some bound value lies in the base.
+pub(crate) fn is_held(names: &Names, base: Base) -> bool
+    ensures { result ≡ model.is_held (base_of base) (names_of names.now.entries) }
+{
+    for i in 0..names.len() {
+        let Some((_, value)) = names.get_index(i) else {
+            unreachable!();
+        };
+        if lies_in(value.as_ref(), base) {
+            return true;
+        }
+    }
+    false
+}
+
+/// Whether the value lies in a base of the label.
+fn lies_in_label(value: &Value, label: u64) -> bool
+    ensures { IsFalse result ↔ ((b : values.Base) → b.label ≡ label
+        → values.lies_in b (value_of value.now) ≡ false) }
+{
+    match value {
+        Value::Number(_) => false,
+        Value::Array(array) => array.base.label == label,
+    }
+}
+
+/// Whether some bound value lies in a base of the label.
+pub(crate) fn is_label_held(names: &Names, label: u64) -> bool
+    ensures { IsFalse result ↔ ((b : values.Base) → b.label ≡ label
+        → model.is_held b (names_of names.now.entries) ≡ false) }
+{
+    for i in 0..names.len() {
+        let Some((_, value)) = names.get_index(i) else {
+            unreachable!();
+        };
+        if lies_in_label(value.as_ref(), label) {
+            return true;
+        }
+    }
+    false
 }

@@ -1,11 +1,12 @@
 // Sessions.
 
-ghost use Rattle.std.specs.Prelude.{◌≡◌, ◌+◌, ◌<◌, ◌≤◌, ◌^◌, [], IfOk, OnOk, option_map, string_bytes, length};
+ghost use Rattle.std.specs.Prelude.{◌≡◌, ◌+◌, ◌<◌, ◌≤◌, ◌^◌, [], IfOk, IsFalse, OnOk, ◌↔◌, option_map, string_bytes, length};
 ghost use Rattle.std.specs.List.{zip};
 ghost use Rattle.nd_model.specs.Tuple.{count_up};
 ghost use Rattle.nd_model.specs.Session as model;
 ghost use Rattle.nd_model.specs.Running as running;
-ghost use Rattle.nd_model.specs.Footprint.{HasNone};
+ghost use Rattle.nd_model.specs.Footprint.{HasNone, replayed};
+ghost use Rattle.nd_heap.specs.Changes.{changed, going_on};
 ghost use Rattle.nd_model.specs.Sound.{IsHeldView, IsSound, IsViewOf};
 ghost use Rattle.nd_model.specs.View.{item_size, byte_places, element_places};
 ghost use Rattle.nd_types.specs.Types.{type_of};
@@ -16,9 +17,11 @@ ghost use Rattle.nd_heap.specs.Fields.{trace_of};
 ghost use Rattle.nd_heap.specs.Seen.{seen_of};
 ghost use Rattle.nd_model.specs.Storing.{having_written, having_block};
 
-use crate::blocks::{Blocks, bytes_of, collect, places_from, set_block, write};
+use crate::blocks::{Blocks, bytes_of, collect, held_bytes, places_from, set_block, write};
+use crate::changes::Changes;
 use crate::memory::OutOfMemory;
-use crate::names::{Names, bind, find, unbind};
+use crate::names::{Names, bind, find, is_label_held, unbind};
+use crate::redo::redo;
 use crate::trace::{Event, Trace};
 use crate::value::{Array, Base, Value};
 use crate::version::Version;
@@ -28,6 +31,7 @@ use nd_block::RawBlock;
 use nd_types::ElemType;
 use std::alloc::Global;
 use std::marker::Model;
+use std::mem::replace;
 use std::rc::{Rc, RcStr};
 
 /// Names and blocks as they are while a cell runs, with what the cell has read and done. Names and blocks are shared with the
@@ -36,9 +40,9 @@ use std::rc::{Rc, RcStr};
 #[derive(Drop)]
 pub struct Session {
     names: Rc<Names>,
-    blocks: Rc<Blocks>,
+    pub(crate) blocks: Rc<Blocks>,
     trace: Trace,
-    next: u64,
+    pub(crate) next: u64,
     alloc: Global,
 }
 
@@ -119,6 +123,23 @@ impl Session {
         ensures { result.now ≡ (live self.now).bytes (base_of base) }
     {
         bytes_of(self.blocks.as_ref(), base)
+    }
+
+    /// The bytes of a block that some bound value lies in, none where there is no such block. It notes nothing.
+    #[tactic(auto, unfolding(crate::specs::Live::live))]
+    pub fn held_bytes(&self, base: Base) -> &[u8]
+        ensures { result.now
+            ≡ model.held_bytes (running.session_of (live self.now)) (base_of base) }
+    {
+        held_bytes(self.blocks.as_ref(), self.names.as_ref(), base)
+    }
+
+    /// Whether some bound value lies in a block that a cell of this label made.
+    #[tactic(auto, unfolding(crate::specs::Live::live))]
+    pub fn has_label(&self, label: u64) -> bool
+        ensures { IsFalse result ↔ HasNone label (running.session_of (live self.now)) }
+    {
+        is_label_held(self.names.as_ref(), label)
     }
 
     /// The value of a name.
@@ -330,7 +351,8 @@ impl Session {
         })
     }
 
-    /// The names and blocks as they are now, kept. No name and no byte is copied. Blocks that no bound value lies in are left out.
+    /// The names and blocks as they are now, kept. No name and no byte is copied. Blocks that no bound value lies in are left
+    /// out.
     pub fn freeze(&self) -> Result<Version, OutOfMemory>
         ensures session { IfOk result (λ v. version_of v
             ≡ model.collected (running.session_of (live self.now))) }
@@ -347,5 +369,27 @@ impl Session {
             label,
             next: number,
         })
+    }
+
+    /// Makes the changes of a cell: the names that it bound and unbound, the blocks that it made, which are shared, and the
+    /// bytes that it wrote. The session then is that of the cell, which has read nothing.
+    #[tactic(auto, unfolding(crate::specs::Live::live))]
+    pub fn redo(&mut self, changes: &Changes) -> Result<(), OutOfMemory>
+        requires none { HasNone changes.now.label (running.session_of (live self.old)) }
+        requires sound { IsSound (going_on changes.now (running.session_of (live self.old))) }
+        ensures names { OnOk result ((live self.new).names
+            ≡ replayed changes.now.events (live self.old).names) }
+        ensures session { OnOk result (model.collected (running.session_of (live self.new))
+            ≡ changed changes.now (running.session_of (live self.old))) }
+        ensures cell { OnOk result (record (live self.new) { names = []; bytes = λ b. [] }
+            ≡ record (running.start changes.now.label model.no_session) { next = changes.now.next }) }
+    {
+        let nothing = Rc::new(self.alloc, IndexMap::new(self.alloc))?;
+        let mut names = replace(&mut self.names, nothing);
+        redo(self.alloc, &mut names, &mut self.blocks, changes)?;
+        self.trace = new_trace(self.alloc, changes.label);
+        self.next = changes.next;
+        self.names = names;
+        Ok(())
     }
 }

@@ -1,6 +1,6 @@
 // What the running cell has read and done.
 
-ghost use Rattle.std.specs.Prelude.{◌≡◌, ◌+◌, ◌≤◌, ◌^◌, OnOk, Some, bytes_eq, option_map, slice_get};
+ghost use Rattle.std.specs.Prelude.{◌≡◌, ◌+◌, ◌≤◌, ◌^◌, IfOk, OnOk, Some, bytes_eq, map, option_map, slice_get, string_bytes};
 ghost use Rattle.std.specs.List.{IsDistinct};
 ghost use Rattle.std.specs.Rc.{rc_str_bytes};
 ghost use Rattle.nd_model.specs.Running as running;
@@ -9,6 +9,7 @@ ghost use Rattle.nd_model.specs.Value.{same_base};
 ghost use Rattle.nd_model.specs.View.{item_size, byte_places, element_places};
 ghost use Rattle.nd_types.specs.Types.{type_of};
 ghost use Rattle.nd_heap.specs.Values.{base_of, geo_of, value_of};
+ghost use Rattle.nd_heap.specs.Contents.{marks_of};
 ghost use Rattle.nd_heap.specs.Events.{event_of, name_of_event};
 ghost use Rattle.nd_heap.specs.Fields.{trace_of};
 ghost use Rattle.nd_heap.specs.Seen.{names_read, inputs_read, bases_read, is_used, is_written};
@@ -39,6 +40,16 @@ impl Event {
         match self {
             Event::Binds(name, _) => name,
             Event::Unbinds(name) => name,
+        }
+    }
+
+    /// The same event, which shares the name and the value.
+    pub(crate) fn try_clone(&self) -> Result<Event, OutOfMemory>
+        ensures { IfOk result (λ e. event_of e ≡ event_of self.now) }
+    {
+        match self {
+            Event::Binds(name, value) => Ok(Event::Binds(name.clone()?, value.clone()?)),
+            Event::Unbinds(name) => Ok(Event::Unbinds(name.clone()?)),
         }
     }
 }
@@ -124,6 +135,34 @@ impl Trace {
         ensures { result ≡ is_written self.now (base_of base) place }
     {
         has_mark(&self.written, base, place)
+    }
+
+    /// The names in the order in which they were first looked up.
+    pub(crate) fn names(&self) -> &[String]
+        ensures { map string_bytes result.now ≡ names_read self.now }
+    {
+        self.looked.as_slice()
+    }
+
+    /// The inputs in the order in which they were first asked for.
+    pub(crate) fn inputs(&self) -> &[String]
+        ensures { map string_bytes result.now ≡ inputs_read self.now }
+    {
+        self.asked.as_slice()
+    }
+
+    /// The bases in the order in which their lengths were first read.
+    pub(crate) fn bases(&self) -> &[Base]
+        ensures { map base_of result.now ≡ bases_read self.now }
+    {
+        self.lengths.as_slice()
+    }
+
+    /// The bytes that were read as other cells had left them.
+    pub(crate) fn used_bytes(&self) -> &Footprint
+        ensures { marks_of result.now.entries ≡ self.now.used }
+    {
+        &self.used
     }
 
     /// Notes a binding or unbinding.

@@ -3,12 +3,14 @@
 ghost use Rattle.std.specs.Prelude.{◌≡◌, IfOk, length, option_map, slice_get};
 ghost use Rattle.nd_model.specs.Session as model;
 ghost use Rattle.nd_heap.specs.Values.{base_of, value_of};
+ghost use Rattle.nd_heap.specs.Contents.{bytes_in};
 ghost use Rattle.nd_heap.specs.Kept.{version_of};
 
-use crate::blocks::{Blocks, bytes_of};
+use crate::blocks::{Blocks, bytes_of, share_block};
 use crate::memory::OutOfMemory;
-use crate::names::{Names, find};
+use crate::names::{Names, find, share_value};
 use crate::value::{Base, Value};
+use nd_block::RawBlock;
 use std::marker::Model;
 use std::rc::Rc;
 
@@ -90,5 +92,20 @@ impl Version {
         ensures { result.now ≡ (version_of self.now).bytes (base_of base) }
     {
         bytes_of(self.blocks.as_ref(), base)
+    }
+
+    /// The value of a name, shared.
+    pub(crate) fn share_value(&self, name: &str) -> Result<Option<Rc<Value>>, OutOfMemory>
+        ensures { IfOk result (λ o. option_map (λ v. value_of v.value) o
+            ≡ model.lookup name.now (version_of self.now).names) }
+    {
+        share_value(self.names.as_ref(), name)
+    }
+
+    /// The block of a base, shared.
+    pub(crate) fn share_block(&self, base: Base) -> Result<Option<Rc<RawBlock>>, OutOfMemory>
+        ensures { IfOk result (λ o. bytes_in o ≡ (version_of self.now).bytes (base_of base)) }
+    {
+        share_block(self.blocks.as_ref(), base)
     }
 }

@@ -5,6 +5,7 @@ ghost use Rattle.std.specs.List.{zip};
 ghost use Rattle.nd_model.specs.Session as model;
 
 use nd_block::RawBlock;
+use nd_marks::Marks;
 
 /// What is written to a block: a function from the bytes that it has to as many other ones.
 pub trait BlockWriter {
@@ -34,4 +35,24 @@ impl<'b> BlockWriter for PlacedBytes<'b> {
     }
 
     ghost keeps_length = { λ w bytes. length-put (zip w.places.now w.bytes.now) bytes };
+}
+
+/// The bytes at the marked places.
+#[derive(Drop)]
+pub(crate) struct MarkedBytes<'b> {
+    pub(crate) marks: &'b Marks,
+    pub(crate) source: &'b [u8],
+}
+
+impl<'b> BlockWriter for MarkedBytes<'b> {
+    ghost use Rattle.nd_model.specs.Footprint.{patched};
+    ghost use Rattle.nd_heap.specs.Patching.{length-patched, marked_of};
+
+    ghost written = { λ w bytes. patched (marked_of w.marks.now w.source.now) bytes };
+
+    fn write(self, block: &mut RawBlock) {
+        self.marks.patch(block.as_mut_slice(), self.source);
+    }
+
+    ghost keeps_length = { λ w bytes. length-patched (marked_of w.marks.now w.source.now) bytes };
 }

@@ -105,7 +105,7 @@ told_by_records b at h = told_at b.cells b.inputs no_session at h ∙ ap (λ n. 
 -- ---- inputs that are not read
 
 -- over other inputs that agree on what it reads a cell has the same record and the same session after it
-same_run : (i j : Inputs) (e : Entry) → Fresh e → Agree (reads_of (ended i e)) e.session i e.session j → (record_at i e ≡ record_at j e) × (session_after (ended i e) ≡ session_after (ended j e))
+pub same_run : (i j : Inputs) (e : Entry) → Fresh e → Agree (reads_of (ended i e)) e.session i e.session j → (record_at i e ≡ record_at j e) × (session_after (ended i e) ≡ session_after (ended j e))
 same_run i j e none agree =
     let both : (record_at j e ≡ record_at i e) × (session_after (ended j e) ≡ with_effects e.cell.label (record_at i e).effects e.session) =
     kept e.cell.label (reading e.cell.source) e.session e.session i j none (still_holds i j e e.session none agree) in
@@ -135,7 +135,7 @@ reads_front (suc at) (c ∷ cs) i j s d none h =
     next_session same rest (suc k) le = rest k (omega arith) ∙ ap (λ t. after_cells (take k cs) j t) same
 
 -- sessions are the same to a cell that reads no input that is another
-same_inputs : (keys : Key → Bool) (s : Session) (i j : Inputs) → ((name : List ℕ) → IsTrue (keys (Input name)) → i name ≡ j name) → Agree keys s i s j
+pub same_inputs : (keys : Key → Bool) (s : Session) (i j : Inputs) → ((name : List ℕ) → IsTrue (keys (Input name)) → i name ≡ j name) → Agree keys s i s j
 same_inputs keys s i j h (Name n) read = refl
 same_inputs keys s i j h (Input n) read = ap Given (h n read)
 same_inputs keys s i j h (Length b) read = refl

@@ -3,7 +3,7 @@
 
 ghost use Rattle.nd_model.specs.Bases.{FewBases};
 ghost use Rattle.nd_model.specs.Book.{LabelsStayDistinct, AnyLabels as AnyBookLabels};
-ghost use Rattle.nd_model.specs.CutOff.{CutOff, MeetsAfter, QuietLeaves};
+ghost use Rattle.nd_model.specs.CutOff.{CutOff, CutOffReads, MeetsAfter, QuietLeaves};
 ghost use Rattle.nd_model.specs.Element.{BytesRoundTrip, OneWrap, RoundTrip};
 ghost use Rattle.nd_model.specs.Entries.{SameFront, SameFrontReads, ToldByRecords};
 ghost use Rattle.nd_model.specs.Footprint.{Frame, EffectsAreAll, Replay};
@@ -104,6 +104,11 @@ pub fn front_is_not_stale()
 /// Where the cells and inputs are the same from two places on, and the session there is the same, nothing behind is another.
 pub fn cut_off()
     ensures { CutOff }
+{}
+
+/// The same where inputs differ that none of the cells behind read.
+pub fn cut_off_reads()
+    ensures { CutOffReads }
 {}
 
 /// Two cells whose records do the same to a session leave the same session, over the same one.

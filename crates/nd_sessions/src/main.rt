@@ -6,8 +6,7 @@ mod refused;
 mod sessions;
 mod views;
 
-use std::env;
-use std::io;
+use std::{env, io};
 
 /// Says whether a call was right.
 fn say(rt: &HostRuntime, is_right: bool) -> io::Result<()> {

@@ -1,7 +1,7 @@
 use Rattle.std.proofs.Common.{◌∙◌, ap, ap₂}
 use Rattle.nd_model.specs.Session.{bind}
 use Rattle.nd_heap.specs.Values.{source_of, given_of}
-use Rattle.nd_heap.proofs.InputLists.{given-insert, cloned_inputs}
+use Rattle.nd_heap.proofs.Inputs.{given-insert, cloned_inputs}
 use Rattle.nd_heap.proofs.input.with_input.Goals as goal
 
 pub returns : goal.returns

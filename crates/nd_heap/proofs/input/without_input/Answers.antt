@@ -1,7 +1,7 @@
 use Rattle.std.proofs.Common.{◌∙◌, ap}
 use Rattle.nd_model.specs.Session.{unbind}
 use Rattle.nd_heap.specs.Values.{given_of}
-use Rattle.nd_heap.proofs.InputLists.{given-remove, cloned_inputs}
+use Rattle.nd_heap.proofs.Inputs.{given-remove, cloned_inputs}
 use Rattle.nd_heap.proofs.input.without_input.Goals as goal
 
 pub returns : goal.returns

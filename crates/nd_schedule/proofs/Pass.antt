@@ -1,0 +1,168 @@
+-- A pass over the cells of an edited notebook.
+use Rattle.std.proofs.Common.{◌≡◌, ℕ, zero, suc, ◌+◌, ◌-◌, ◌^◌, ◌<◌, ◌≤◌, ◌⊎◌, min, List, [], ◌∷◌, ◌++◌, length, map, take, drop, get_or, Option, Some, None, IfSome, option_map, refl, sym, ap, ap₂, subst, ◌∙◌, inl, inr, arith, below_more, Global}
+use Rattle.std.proofs.lemmas.List.{get_or-map, length-map, take-append-drop, take_all, take-map, length-append, length-take-le, get_or-take, get_or_append_left, get_or-append_right}
+use Rattle.nd_model.specs.Session.{Session, no_session}
+use Rattle.nd_model.specs.Reading.{reading}
+use Rattle.nd_model.specs.Cell.{session_after}
+use Rattle.nd_model.specs.Footprint.{HasNone}
+use Rattle.nd_model.specs.Records.{Record, StillHolds}
+use Rattle.nd_model.specs.Scheduler.{IsOfRun}
+use Rattle.nd_model.specs.Renaming.{AreDistinct}
+use Rattle.nd_model.specs.Book.{Cell, Book, labels_of, no_cell}
+use Rattle.nd_model.specs.Entries.{entry_at, Entry, ended, record_at, entries_of, records_of, session_before, SharesFront}
+use Rattle.nd_model.specs.Stale.{IsStale, AtLeast, kept_of, counted, CountsStale}
+use Rattle.nd_model.proofs.Lazy.{length-entries}
+use Rattle.nd_model.proofs.Entries.{fresh_at, take-entries_of, take-records_of, session_before-next, kept_is_of_run, stale_now, at_least-append, at_least-push}
+use Rattle.std.specs.declared.rc.Rc.{Rc}
+use Rattle.nd_schedule.specs.declared.source.Source.{Source}
+use Rattle.nd_schedule.specs.Source.{cell_of, cells_of}
+use Rattle.nd_schedule.specs.Runs.{AreVersions}
+
+-- ---- the meter
+
+counted-suc : (runs meter : ℕ) → counted (suc runs) meter ≡ min (counted runs meter + 1) (2 ^ 64 - 1)
+counted-suc zero meter = refl
+counted-suc (suc runs) meter = omega arith
+
+if_some : {X : Type 0} (view : X → Record) (P : Record → Type 0) (o : Option X) → IfSome o (λ x. P (view x)) → IfSome (option_map view o) P
+if_some view P None h = tt
+if_some view P (Some x) h = h
+
+some_if : {X : Type 0} (view : X → Record) (P : Record → Type 0) (o : Option X) → IfSome (option_map view o) P → IfSome o (λ x. P (view x))
+some_if view P None h = tt
+some_if view P (Some x) h = h
+
+module _ (old new : Book) where
+  -- of the first cells, no more were run than are stale
+  abbrev pub CountsFront : (k before after : ℕ) → Type 0
+  CountsFront k before after = (runs : ℕ) × AtLeast runs (IsStale old new) (take k (entries_of new)) × (after ≡ counted runs before)
+
+  pub none_yet : (k meter : ℕ) → CountsFront k meter meter
+  none_yet k meter = (0, tt, refl)
+
+  pub counts_stale : (k before after : ℕ) → CountsFront k before after → CountsStale old new before after
+  counts_stale k before after h =
+      (h.0, subst (AtLeast h.0 (IsStale old new)) (take-append-drop k (entries_of new)) (at_least-append h.0 (IsStale old new) (take k (entries_of new)) (drop k (entries_of new)) h.1), h.2)
+
+  module _ (d : AreDistinct (labels_of old.cells)) (e : AreDistinct (labels_of new.cells)) (k : ℕ) (lt : k < length new.cells) where
+    -- what a cell needs
+    pub none_there : (c : Cell) (s : Session) → c ≡ (entry_at new k).cell → s ≡ session_before new k → HasNone c.label s
+    none_there c s is here = let P : Cell → Session → Type 0 = λ c s. HasNone c.label s in
+        subst (λ c. P c s) (sym is) (subst (P (entry_at new k).cell) (sym here) (fresh_at new k lt e))
+
+    pub kept_there : {X : Type 0} (view : X → Record) (c : Cell) (o : Option X) → option_map view o ≡ kept_of old c → IfSome o (λ x. IsOfRun c.label (reading c.source) (view x))
+    kept_there view c o kept = some_if view (IsOfRun c.label (reading c.source)) o (subst (λ r. IfSome r (IsOfRun c.label (reading c.source))) (sym kept) (kept_is_of_run old d c))
+
+    -- one cell more was run for want of a record that holds, or none
+    pub counts_more : {X : Type 0} (view : X → Record) (c : Cell) (o : Option X) (s : Session) (before mid after : ℕ) → c ≡ (entry_at new k).cell → option_map view o ≡ kept_of old c
+        → s ≡ session_before new k → CountsFront k before mid → (after ≡ mid) ⊎ ((after ≡ min (mid + 1) (2 ^ 64 - 1)) × IfSome o (λ x. ¬ StillHolds (view x) s new.inputs))
+        → CountsFront (k + 1) before after
+    counts_more view c o s before mid after is kept here h (inl same) =
+        (h.0, subst (AtLeast h.0 (IsStale old new)) (sym (take-entries_of new k lt)) (at_least-append h.0 (IsStale old new) (take k (entries_of new)) (entry_at new k ∷ []) h.1), same ∙ h.2)
+    counts_more view c o s before mid after is kept here h (inr more) =
+        let fails : IfSome (kept_of old c) (λ r. ¬ StillHolds r s new.inputs) = subst (λ r. IfSome r (λ r. ¬ StillHolds r s new.inputs)) kept (if_some view (λ r. ¬ StillHolds r s new.inputs) o more.1) in
+        let stale : IsStale old new (record { cell = c; session = s }) = stale_now old new d c s (none_there c s is here) fails in
+        let entry : ◌≡◌ {A = Entry} (record { cell = c; session = s }) (entry_at new k) = ap₂ (λ (c : Cell) (s : Session). record { cell = c; session = s }) is here in (
+          suc h.0,
+          subst (AtLeast (suc h.0) (IsStale old new)) (sym (take-entries_of new k lt))
+              (at_least-push h.0 (IsStale old new) (take k (entries_of new)) (entry_at new k) h.1 (subst (IsStale old new) entry stale)),
+          more.0 ∙ ap (λ m. min (m + 1) (2 ^ 64 - 1)) h.2 ∙ sym (counted-suc h.0 before),
+        )
+
+-- ---- records and sessions
+
+module _ (b : Book) (k : ℕ) (lt : k < length b.cells) (c : Cell) (s : Session) (is : c ≡ (entry_at b k).cell) (here : s ≡ session_before b k) where
+  pub entry_is : ◌≡◌ {A = Entry} (record { cell = c; session = s }) (entry_at b k)
+  entry_is = ap₂ (λ (c : Cell) (s : Session). record { cell = c; session = s }) is here
+
+  pub records_more : (rs more : List Record) (r : Record) → rs ≡ take k (records_of b) → more ≡ rs ++ r ∷ [] → r ≡ record_at b.inputs (record { cell = c; session = s })
+      → more ≡ take (k + 1) (records_of b)
+  records_more rs more r so_far grown made =
+      grown ∙ ap₂ (λ (rs : List Record) (r : Record). rs ++ r ∷ []) so_far (made ∙ ap (record_at b.inputs) entry_is) ∙ sym (take-records_of b k lt)
+
+  pub session_more : (t : Session) → t ≡ session_after (ended b.inputs (record { cell = c; session = s })) → t ≡ session_before b (k + 1)
+  session_more t after = after ∙ ap (λ e. session_after (ended b.inputs e)) entry_is ∙ sym (session_before-next b k lt)
+
+pub records_all : (b : Book) (k : ℕ) (rs : List Record) → length b.cells ≤ k → rs ≡ take k (records_of b) → rs ≡ records_of b
+records_all b k rs past h = h ∙ take_all k (records_of b) (let long : length (records_of b) ≡ length b.cells = length-map (entries_of b) (record_at b.inputs) ∙ length-entries b.cells b.inputs no_session in omega arith)
+
+-- ---- versions
+
+same_kept : (o : Option Session) (s t : Session) → s ≡ t → IfSome o (λ x. x ≡ s) → IfSome o (λ x. x ≡ t)
+same_kept o s t e h = subst (λ (s : Session). IfSome o (λ x. x ≡ s)) e h
+
+pub versions_more : (b : Book) (vs ws : List (Option Session)) (o : Option Session) (k : ℕ) → AreVersions b vs → length vs ≡ k → IfSome o (λ s. s ≡ session_before b k) → ws ≡ vs ++ o ∷ [] → AreVersions b ws
+versions_more b vs ws o k all many is grown = subst (AreVersions b) (sym grown) more
+  where
+    nothing : (n : ℕ) → n - n ≡ 0
+    nothing n = omega arith
+
+    more : AreVersions b (vs ++ o ∷ [])
+    more j lt =
+        let long : length (vs ++ o ∷ []) ≡ length vs + 1 = length-append vs (o ∷ []) in
+        below_more (λ j. IfSome (get_or (vs ++ o ∷ []) j None) (λ s. s ≡ session_before b j)) (length vs)
+        (λ j front. subst (λ (p : Option Session). IfSome p (λ s. s ≡ session_before b j)) (sym (get_or_append_left vs (o ∷ []) None j front)) (all j front))
+        (subst (λ (p : Option Session). IfSome p (λ s. s ≡ session_before b (length vs)))
+        (sym (get_or-append_right vs (o ∷ []) (length vs) (length vs) None refl (omega arith) ∙ ap (λ i. get_or (o ∷ []) i None) (nothing (length vs))))
+        (same_kept o _ _ (ap (session_before b) (sym many)) is))
+        j (omega arith)
+
+pub length_more : {X : Type 0} (vs ws : List X) (o : X) (k : ℕ) → length vs ≡ k → ws ≡ vs ++ o ∷ [] → length ws ≡ k + 1
+length_more vs ws o k many grown = ap length grown ∙ length-append vs (o ∷ []) ∙ ap (λ n. n + 1) many
+
+pub versions_front : (old new : Book) (at : ℕ) (vs ws : List (Option Session)) → SharesFront at old new → AreVersions old vs → at ≤ length vs → ws ≡ take at vs → AreVersions new ws
+versions_front old new at vs ws shared all few is j lt =
+    let long : length ws ≡ at = ap length is ∙ length-take-le at vs few in
+    let front : j < at = omega arith in
+    same_kept _ _ _ (shared.1 j (omega arith)) (subst (λ (p : Option Session). IfSome p (λ s. s ≡ session_before old j)) (sym (ap (λ vs. get_or vs j None) is ∙ get_or-take at vs j None front)) (all j (omega arith)))
+
+-- a version that was made is one of the session
+pub version_made : {X : Type 0} (view : X → Session) (o : Option X) (s t : Session) → IfSome o (λ v. view v ≡ s) → s ≡ t → IfSome (option_map view o) (λ x. x ≡ t)
+version_made view None s t h e = tt
+version_made view (Some v) s t h e = h ∙ e
+
+-- ---- shared values
+
+-- what the first of these stand for
+pub first_shared : {X R Y : Type 0} (value : R → X) (view : X → Y) (xs ys : List R) (n : ℕ) → map value xs ≡ take n (map value ys) → map (λ x. view (value x)) xs ≡ take n (map (λ x. view (value x)) ys)
+first_shared {X} {R} value view xs ys n e = fuse xs ∙ ap (map view) e ∙ sym (take-map view n (map value ys)) ∙ ap (take n) (sym (fuse ys))
+  where
+    fuse : (xs : List R) → map (λ x. view (value x)) xs ≡ map view (map value xs)
+    fuse [] = refl
+    fuse (x ∷ xs) = ap (λ ys. view (value x) ∷ ys) (fuse xs)
+
+pub cell_there : (cells : List (Rc Source Global)) (k : ℕ) (x : Rc Source Global) (src : Source) → k < length cells → x ≡ get_or cells k x → src ≡ x.value → cell_of src ≡ get_or (cells_of cells) k no_cell
+cell_there cells k x src lt is value = ap cell_of (value ∙ ap (λ (y : Rc Source Global). y.value) is) ∙ sym (get_or-map (λ (s : Rc Source Global). cell_of s.value) cells k x no_cell lt)
+
+pub kept_at : {X : Type 0} (view : X → Record) (old : Book) (cs : List Cell) (kept : List (Option X)) (k : ℕ) (o : Option X) → k < length cs → map (option_map view) kept ≡ map (kept_of old) cs
+    → o ≡ get_or kept k o → option_map view o ≡ kept_of old (get_or cs k no_cell)
+kept_at view old cs kept k o lt all is =
+    let many : length kept ≡ length cs = sym (length-map kept (option_map view)) ∙ ap length all ∙ length-map cs (kept_of old) in
+    ap (option_map view) is ∙ sym (get_or-map (option_map view) kept k o None (omega arith)) ∙ ap (λ rs. get_or rs k None) all ∙ get_or-map (kept_of old) cs k no_cell None lt
+
+pub below : (cells : List (Rc Source Global)) (k : ℕ) → k < length cells → k < length (cells_of cells)
+below cells k lt = rw (length-map cells (λ (s : Rc Source Global). cell_of s.value)) lt
+
+pub past : (cells : List (Rc Source Global)) (k : ℕ) → length cells ≤ k → length (cells_of cells) ≤ k
+past cells k le = rw (length-map cells (λ (s : Rc Source Global). cell_of s.value)) le
+
+-- what all of these stand for, where they are kept
+pub kept_shared : {X R Y : Type 0} (value : R → X) (view : X → Y) (xs : List (Option R)) (ys : List R) → map (option_map value) xs ≡ map (λ y. Some (value y)) ys
+    → map (option_map (λ x. view (value x))) xs ≡ map (λ r. Some r) (map (λ y. view (value y)) ys)
+kept_shared {X} {R} {Y} value view xs ys e = fuse xs ∙ ap (map (option_map view)) e ∙ apart ys
+  where
+    one : (o : Option R) → option_map (λ x. view (value x)) o ≡ option_map view (option_map value o)
+    one None = refl
+    one (Some x) = refl
+
+    fuse : (xs : List (Option R)) → map (option_map (λ x. view (value x))) xs ≡ map (option_map view) (map (option_map value) xs)
+    fuse [] = refl
+    fuse (x ∷ xs) = ap₂ (λ (y : Option Y) (ys : List (Option Y)). y ∷ ys) (one x) (fuse xs)
+
+    apart : (ys : List R) → map (option_map view) (map (λ y. Some (value y)) ys) ≡ map (λ r. Some r) (map (λ y. view (value y)) ys)
+    apart [] = refl
+    apart (y ∷ ys) = ap (λ rs. Some (view (value y)) ∷ rs) (apart ys)
+
+pub all_cells : (xs ys : List (Rc Source Global)) (n : ℕ) → map (λ (x : Rc Source Global). x.value) xs ≡ take n (map (λ (x : Rc Source Global). x.value) ys) → length ys ≤ n → cells_of xs ≡ cells_of ys
+all_cells xs ys n e past =
+    first_shared (λ (x : Rc Source Global). x.value) cell_of xs ys n e ∙ take_all n (cells_of ys) (let long : length (cells_of ys) ≡ length ys = length-map ys (λ (x : Rc Source Global). cell_of x.value) in omega arith)

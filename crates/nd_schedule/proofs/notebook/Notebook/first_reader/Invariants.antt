@@ -1,0 +1,13 @@
+use Rattle.std.proofs.Common.{◌≡◌, ℕ, ◌<◌, length}
+use Rattle.nd_model.specs.Entries.{ReadsNoOther}
+use Rattle.nd_model.specs.Notebook.{book_of, inputs_in}
+use Rattle.nd_schedule.specs.Shared.{each_of, each_some}
+use Rattle.nd_schedule.specs.Runs.{IsRun}
+use Rattle.nd_schedule.proofs.notebook.Notebook.first_reader.Given as goal
+
+abbrev pub invariant-loop-at : goal.invariant-loop-at
+invariant-loop-at g l = record {
+  run : IsRun (book_of l.self) (each_of g.C.Cells.recorded l.self-inside.records.items) (each_some g.C.Cells.kept_session l.self-inside.versions.items);
+  given : inputs_in (g.C.Cells.given l.self-inside.inputs) ≡ (book_of l.self).inputs;
+  untouched : (k : ℕ) → k < l.at → k < length l.self.cells → ReadsNoOther (book_of l.self) (inputs_in (g.C.Cells.given l.inputs)) k;
+}

@@ -1,0 +1,3 @@
+pub mod Source
+pub mod Runs
+pub mod Shared

@@ -1,0 +1,99 @@
+//! What runs cells: the contract that a notebook asks of the layer below it.
+
+ghost use Rattle.std.specs.Prelude.{◌≡◌, ℕ, List, ◌+◌, ◌-◌, ◌^◌, ◌↔◌, min, IsFalse, IsTrue, IfOk, OnOk};
+ghost use Rattle.nd_model.specs.Session as sessions;
+ghost use Rattle.nd_model.specs.Running as running;
+ghost use Rattle.nd_model.specs.Reading.{reading};
+ghost use Rattle.nd_model.specs.Cell.{cell, session_after};
+ghost use Rattle.nd_model.specs.Footprint.{HasNone, with_effects};
+ghost use Rattle.nd_model.specs.Records.{record_of, StillHolds};
+ghost use Rattle.nd_model.specs.Records as records;
+ghost use Rattle.nd_model.specs.CutOff.{SameOnSession, IsQuiet};
+ghost use Rattle.nd_model.specs.Notebook.{inputs_in};
+
+use nd_meter::Meter;
+use std::alloc::{AllocError, Global};
+
+/// Sessions, and records of the runs of cells over them.
+pub trait Cells: Drop {
+    type Session: Drop;
+
+    type Version: Drop;
+
+    type Record: Drop;
+
+    type Inputs: Drop;
+
+    // what they stand for in the definitions
+    ghost session_of: { Self.Session → sessions.Session };
+
+    ghost kept_session: { Self.Version → sessions.Session };
+
+    ghost recorded: { Self.Record → records.Record };
+
+    ghost given: { Self.Inputs → List (List ℕ × running.Source) };
+
+    /// A session with no names.
+    fn empty(alloc: Global) -> Self::Session
+        ensures { session_of result ≡ sessions.no_session };
+
+    /// Runs a cell of this label over a session, and counts the run. After want of memory the session is only fit to be dropped.
+    fn run(
+        meter: &mut Meter,
+        session: &mut Self::Session,
+        inputs: &Self::Inputs,
+        label: u64,
+        text: &str,
+    ) -> Result<Self::Record, AllocError>
+        requires { HasNone label (session_of session.old) }
+        ensures made { IfOk result
+            (λ r. recorded r ≡ record_of label (reading text.now) (inputs_in (given inputs.now))
+            (session_of session.old)) }
+        ensures after { OnOk result
+            (session_of session.new
+            ≡ session_after (cell label (reading text.now) (inputs_in (given inputs.now))
+            (session_of session.old))) }
+        ensures counted { meter.new ≡ min (meter.old + 1) (2 ^ 64 - 1) };
+
+    /// Whether a record may stand for a run of its cell over this session and these inputs.
+    fn still_holds(made: &Self::Record, session: &Self::Session, inputs: &Self::Inputs) -> bool
+        ensures { IsTrue result
+            ↔ StillHolds (recorded made.now) (session_of session.now)
+            (inputs_in (given inputs.now)) };
+
+    /// Does to the session what the record says that the run did. After want of memory the session is only fit to be dropped.
+    fn replay(made: &Self::Record, session: &mut Self::Session) -> Result<(), AllocError>
+        requires { (i : running.Inputs)
+            × StillHolds (recorded made.now) (session_of session.old) i }
+        ensures { OnOk result
+            (session_of session.new
+            ≡ with_effects (recorded made.now).label (recorded made.now).effects
+            (session_of session.old)) };
+
+    /// Whether the run read an input that is not the same among the new ones.
+    fn reads_changed(made: &Self::Record, old: &Self::Inputs, new: &Self::Inputs) -> bool
+        ensures { IsFalse result → (name : List ℕ)
+            → IsTrue ((recorded made.now).read (running.Input name))
+            → inputs_in (given old.now) name ≡ inputs_in (given new.now) name };
+
+    /// Whether two runs did the same to their sessions, whatever they told and read. It may say no where they did.
+    fn same_effects(one: &Self::Record, other: &Self::Record) -> bool
+        ensures { IsTrue result → SameOnSession (recorded one.now) (recorded other.now) };
+
+    /// Whether the run bound and unbound no name and wrote nothing. It may say no where it did not.
+    fn is_quiet(made: &Self::Record) -> bool
+        ensures { IsTrue result → IsQuiet (recorded made.now) };
+
+    /// The session as it is now, to be kept.
+    fn freeze(session: &mut Self::Session) -> Result<Self::Version, AllocError>
+        ensures kept { IfOk result (λ v. kept_session v ≡ session_of session.old) }
+        ensures same { session_of session.new ≡ session_of session.old };
+
+    /// Whether the session is the one that was kept. It may say no where it is.
+    fn is_at(session: &Self::Session, version: &Self::Version) -> bool
+        ensures { IsTrue result → session_of session.now ≡ kept_session version.now };
+
+    /// A session as it was kept.
+    fn thaw(version: &Self::Version) -> Result<Self::Session, AllocError>
+        ensures { IfOk result (λ s. session_of s ≡ kept_session version.now) };
+}

@@ -1,0 +1,507 @@
+//! The notebook.
+
+ghost use Rattle.std.specs.Prelude.{
+  ◌≡◌,
+  ◌<◌,
+  ◌≤◌,
+  ◌+◌,
+  ◌-◌,
+  ◌^◌,
+  ◌⊎◌,
+  ◌++◌,
+  [],
+  Some,
+  IfOk,
+  IfSome,
+  IsTrue,
+  ℕ,
+  OnErr,
+  OnOk,
+  drop,
+  length,
+  map,
+  slice_get,
+  slice_index_or,
+  take,
+};
+ghost use Rattle.nd_model.specs.Renaming.{AreDistinct};
+ghost use Rattle.nd_model.specs.Book.{labels_of, no_cell, told_book, Insert, Change, Move, Remove};
+ghost use Rattle.nd_model.specs.Entries.{ReadsNoOther, records_of, session_before, SharesFront};
+ghost use Rattle.nd_model.specs.Scheduler.{told_of};
+ghost use Rattle.nd_model.specs.Stale.{kept_of, CountsStale};
+ghost use Rattle.nd_model.specs.CutOff.{UnreadRest};
+ghost use Rattle.nd_model.specs.Notebook.{Sheet, inputs_in, book_of, edited_sheet};
+ghost use Rattle.nd_schedule.specs.Source.{sheet, cells_of};
+ghost use Rattle.nd_schedule.specs.Shared.{each_of, each_some, some_of};
+ghost use Rattle.nd_schedule.specs.Runs.{IsMet, IsRun, IsSameAgain, KeepsBehind};
+
+use crate::cells::Cells;
+use crate::labels::fresh_label;
+use crate::shared::{all_kept, first_of, push_behind, push_kept};
+use crate::source::Source;
+use crate::step::{keep_due, since_last, step};
+use nd_meter::Meter;
+use std::alloc::{AllocError, Global};
+use std::marker::Model;
+use std::rc::Rc;
+
+/// A list of cells, the inputs, and what is kept of running all cells in order from nothing.
+#[derive(Drop)]
+pub struct Notebook<C: Cells> {
+    cells: Vec<Rc<Source>>,
+    inputs: C::Inputs,
+    records: Vec<Rc<C::Record>>,
+    versions: Vec<Option<Rc<C::Version>>>,
+    alloc: Global,
+}
+
+/// What is kept of running all cells: the record of each, and beside some the session before it.
+#[derive(Drop)]
+struct Runs<C: Cells> {
+    records: Vec<Rc<C::Record>>,
+    versions: Vec<Option<Rc<C::Version>>>,
+}
+
+/// From these places on, in the present list and in the new one, the cells are the same.
+#[derive(Drop)]
+struct Rest {
+    old: usize,
+    new: usize,
+}
+
+/// A list of cells, and the records that are kept of them.
+#[derive(Drop)]
+struct Lists<C: Cells> {
+    cells: Vec<Rc<Source>>,
+    kept: Vec<Option<Rc<C::Record>>>,
+}
+
+impl<C: Cells> Model for Notebook<C> {
+    ghost Value = { Sheet };
+
+    ghost view = { λ n. sheet (cells_of n.cells.items) (C.given n.inputs) };
+
+    ghost invariant = { λ n. IsRun (book_of (sheet (cells_of n.cells.items) (C.given n.inputs)))
+        (each_of C.recorded n.records.items) (each_some C.kept_session n.versions.items) };
+}
+
+impl<C: Cells> Notebook<C> {
+    /// A notebook without cells. It takes no memory.
+    pub fn new(alloc: Global, inputs: C::Inputs) -> Notebook<C>
+        ensures { result ≡ sheet [] (C.given inputs) }
+    {
+        Notebook {
+            cells: Vec::new(alloc),
+            inputs,
+            records: Vec::new(alloc),
+            versions: Vec::new(alloc),
+            alloc,
+        }
+    }
+
+    /// How many cells there are.
+    pub fn count(&self) -> usize
+        ensures { result ≡ length self.now.cells }
+    {
+        self.cells.len()
+    }
+
+    /// The last place up to this one that has a version, or 0, and the session before it.
+    fn nearest(&self, at: usize) -> Result<(usize, C::Session), AllocError>
+        ensures { IfOk result
+            (λ r. (r.0 ≤ at) × (C.session_of r.1 ≡ session_before (book_of self.now) r.0)) }
+    {
+        for back in 0..at {
+            let k = at - back;
+            if k < self.versions.len() {
+                if let Some(version) = &self.versions[k] {
+                    let session = C::thaw(version)?;
+                    return Ok((k, session));
+                }
+            }
+        }
+        Ok((0, C::empty(self.alloc)))
+    }
+
+    /// The session before the cell at a place, or after the last one: from the last version before it, by the records behind
+    /// that.
+    fn session_before(&self, at: usize) -> Result<C::Session, AllocError>
+        requires { at ≤ length self.now.cells }
+        ensures { IfOk result (λ s. C.session_of s ≡ session_before (book_of self.now) at) }
+    {
+        let (from, found) = self.nearest(at)?;
+        let mut session = found;
+        for k in from..at {
+            C::replay(&self.records[k], &mut session)?;
+        }
+        Ok(session)
+    }
+
+    /// Whether the cell at k, the first that is not as before, leaves the session as it was at the place there.
+    fn same_again(&self, at: usize, k: usize, there: usize, made: &C::Record) -> bool
+        requires fits { k + 1 < 2 ^ 64 }
+        requires within { there ≤ length self.now.cells }
+        ensures { IsTrue result → IsSameAgain (book_of self.now) at k there (C.recorded made.now) }
+    {
+        if k == at {
+            if there == k + 1 {
+                return C::same_effects(&self.records[k], made);
+            }
+            if there == k {
+                return C::is_quiet(made);
+            }
+        }
+        false
+    }
+
+    /// Whether the session is the one that is kept beside the cell there.
+    fn is_back(&self, session: &C::Session, there: usize) -> bool
+        ensures { IsTrue result → C.session_of session.now
+            ≡ session_before (book_of self.now) there }
+    {
+        if there < self.versions.len() {
+            if let Some(version) = &self.versions[there] {
+                return C::is_at(session, version);
+            }
+        }
+        false
+    }
+
+    /// The place in the present list that the run of the new one has met behind the cell at k: the session there is the same.
+    fn met(
+        &self,
+        rest: &Rest,
+        at: usize,
+        k: usize,
+        made: &C::Record,
+        session: &C::Session,
+    ) -> Option<usize>
+        requires fits { k + 1 < 2 ^ 64 }
+        requires few { length self.now.cells < 2 ^ 64 }
+        requires within { rest.now.new ≤ k + 1
+            → rest.now.old + (k + 1 - rest.now.new) ≤ length self.now.cells }
+        ensures met { IfSome result
+            (λ there. IsMet (book_of self.now) at k there (C.recorded made.now)
+            (C.session_of session.now)) }
+        ensures behind { IfSome result
+            (λ there. (rest.now.new ≤ k + 1) × (there ≡ rest.now.old + (k + 1 - rest.now.new))) }
+    {
+        if rest.new <= k + 1 {
+            let there = rest.old + (k + 1 - rest.new);
+            if self.same_again(at, k, there, made) {
+                return Some(there);
+            }
+            if self.is_back(session, there) {
+                return Some(there);
+            }
+        }
+        None
+    }
+
+    /// Whether all that is gone of the present list is one cell, and that cell did nothing to its session.
+    fn goes_unseen(&self, rest: &Rest, at: usize) -> bool
+        requires fits { at + 1 < 2 ^ 64 }
+        requires within { rest.now.old ≤ length self.now.cells }
+        ensures { IsTrue result → (rest.now.new ≡ at)
+            × (session_before (book_of self.now) rest.now.old
+            ≡ session_before (book_of self.now) at) }
+    {
+        if rest.new == at {
+            if rest.old == at + 1 {
+                return C::is_quiet(&self.records[at]);
+            }
+        }
+        false
+    }
+
+    /// What is kept behind these first records is what was kept from the place there on.
+    fn cut_off(
+        &self,
+        records: Vec<Rc<C::Record>>,
+        versions: Vec<Option<Rc<C::Version>>>,
+        there: usize,
+    ) -> Result<Runs<C>, AllocError>
+        requires { there ≤ length self.now.cells }
+        ensures records { IfOk result
+            (λ r. each_of C.recorded r.records.items ≡ each_of C.recorded records.items
+            ++ drop there (records_of (book_of self.now))) }
+        ensures versions { IfOk result
+            (λ r. KeepsBehind (book_of self.now) there (each_some C.kept_session versions.items)
+            (each_some C.kept_session r.versions.items)) }
+    {
+        let mut records = records;
+        let mut versions = versions;
+        push_behind(&mut records, &self.records, there)?;
+        push_kept(&mut versions, &self.versions, there, self.versions.len())?;
+        Ok(Runs { records, versions })
+    }
+
+    /// Runs the cells of the new list from a place on, before which it is as the present one, and runs no more than are stale.
+    /// Where the session is met that was before, behind which the cells are the same, it stops.
+    fn pass(
+        &self,
+        meter: &mut Meter,
+        cells: &[Rc<Source>],
+        inputs: &C::Inputs,
+        kept: &[Option<Rc<C::Record>>],
+        at: usize,
+        rest: &Rest,
+    ) -> Result<Runs<C>, AllocError>
+        requires within { at ≤ length self.now.cells }
+        requires within_new { at ≤ length cells.now }
+        requires rest_within { rest.now.old ≤ length self.now.cells }
+        requires rest { UnreadRest rest.now.old rest.now.new (book_of self.now)
+            (book_of (sheet (cells_of cells.now) (C.given inputs.now))) }
+        requires front { SharesFront at (book_of self.now)
+            (book_of (sheet (cells_of cells.now) (C.given inputs.now))) }
+        requires kept { map (some_of C.recorded) kept.now
+            ≡ map (kept_of (book_of self.now)) (cells_of cells.now) }
+        requires distinct { AreDistinct (labels_of (cells_of cells.now)) }
+        ensures ok { IfOk result
+            (λ r. IsRun (book_of (sheet (cells_of cells.now) (C.given inputs.now)))
+            (each_of C.recorded r.records.items) (each_some C.kept_session r.versions.items)) }
+        ensures counts { CountsStale (book_of self.now)
+            (book_of (sheet (cells_of cells.now) (C.given inputs.now))) meter.old meter.new }
+    {
+        let mut records = first_of(self.alloc, &self.records, at)?;
+        let mut versions = Vec::new(self.alloc);
+        push_kept(&mut versions, &self.versions, 0, at)?;
+        if self.goes_unseen(rest, at) {
+            return self.cut_off(records, versions, rest.old);
+        }
+        let mut session = self.session_before(at)?;
+        let mut since = since_last(&versions);
+        for k in at..cells.len() {
+            let version = keep_due::<C>(self.alloc, &mut session, since)?;
+            since = if version.is_some() {
+                1
+            } else {
+                since.saturating_add(1)
+            };
+            versions.push(version)?;
+            let made = step::<C>(self.alloc, meter, &mut session, inputs, &cells[k], &kept[k])?;
+            let met = self.met(rest, at, k, &made, &session);
+            records.push(made)?;
+            if let Some(there) = met {
+                return self.cut_off(records, versions, there);
+            }
+        }
+        Ok(Runs { records, versions })
+    }
+
+    /// The present cells, each with its record.
+    fn lists(&self) -> Result<Lists<C>, AllocError>
+        ensures cells { IfOk result (λ l. cells_of l.cells.items ≡ self.now.cells) }
+        ensures kept { IfOk result
+            (λ l. map (some_of C.recorded) l.kept.items
+            ≡ map (λ r. Some r) (records_of (book_of self.now))) }
+        ensures distinct { OnOk result (AreDistinct (labels_of self.now.cells)) }
+    {
+        let cells = first_of(self.alloc, &self.cells, self.cells.len())?;
+        let kept = all_kept(self.alloc, &self.records)?;
+        Ok(Lists { cells, kept })
+    }
+
+    /// Puts these cells in the place of the present ones, which are the same up to a place, and those of the rest. Where it is
+    /// refused nothing changes.
+    fn replace(
+        &mut self,
+        meter: &mut Meter,
+        lists: Lists<C>,
+        at: usize,
+        rest: Rest,
+    ) -> Result<(), AllocError>
+        requires within { at ≤ length self.old.cells }
+        requires within_new { at ≤ length lists.cells.items }
+        requires rest_within { rest.old ≤ length self.old.cells }
+        requires rest { drop rest.old self.old.cells ≡ drop rest.new (cells_of lists.cells.items) }
+        requires front { take at self.old.cells ≡ take at (cells_of lists.cells.items) }
+        requires kept { map (some_of C.recorded) lists.kept.items
+            ≡ map (kept_of (book_of self.old)) (cells_of lists.cells.items) }
+        requires distinct { AreDistinct (labels_of (cells_of lists.cells.items)) }
+        ensures ok { OnOk result (self.new ≡ sheet (cells_of lists.cells.items) self.old.given) }
+        ensures err { OnErr result (self.new ≡ self.old) }
+        ensures counts { CountsStale (book_of self.old)
+            (book_of (sheet (cells_of lists.cells.items) self.old.given)) meter.old meter.new }
+    {
+        let Lists { cells, kept } = lists;
+        let Runs { records, versions } = self.pass(meter, &cells, &self.inputs, &kept, at, &rest)?;
+        self.cells = cells;
+        self.records = records;
+        self.versions = versions;
+        Ok(())
+    }
+}
+
+impl<C: Cells> Notebook<C> {
+    /// Puts a new cell at the place, which may be behind the last one. It is refused for want of memory alone.
+    pub fn insert(&mut self, meter: &mut Meter, at: usize, text: &str) -> Result<(), AllocError>
+        requires { at ≤ length self.old.cells }
+        ensures ok { OnOk result (self.new ≡ edited_sheet (Insert at text.now) self.old) }
+        ensures err { OnErr result (self.new ≡ self.old) }
+        ensures counts { CountsStale (book_of self.old)
+            (book_of (edited_sheet (Insert at text.now) self.old)) meter.old meter.new }
+    {
+        let mut lists = self.lists()?;
+        let label = fresh_label(&lists.cells);
+        let text = String::from_str(self.alloc, text)?;
+        let cell = Rc::new(self.alloc, Source { label, text })?;
+        lists.cells.insert(at, cell)?;
+        lists.kept.insert(at, None)?;
+        let rest = Rest {
+            old: at,
+            new: at + 1,
+        };
+        self.replace(meter, lists, at, rest)
+    }
+
+    /// Gives the cell at the place another text. It is refused for want of memory alone.
+    pub fn edit(&mut self, meter: &mut Meter, at: usize, text: &str) -> Result<(), AllocError>
+        requires { at < length self.old.cells }
+        ensures ok { OnOk result (self.new ≡ edited_sheet (Change at text.now) self.old) }
+        ensures err { OnErr result (self.new ≡ self.old) }
+        ensures counts { CountsStale (book_of self.old)
+            (book_of (edited_sheet (Change at text.now) self.old)) meter.old meter.new }
+    {
+        if text == self.cells[at].text.as_str() {
+            return Ok(());
+        }
+        let mut lists = self.lists()?;
+        let label = self.cells[at].label;
+        let text = String::from_str(self.alloc, text)?;
+        lists.cells[at] = Rc::new(self.alloc, Source { label, text })?;
+        lists.kept[at] = None;
+        let rest = Rest {
+            old: at + 1,
+            new: at + 1,
+        };
+        self.replace(meter, lists, at, rest)
+    }
+
+    /// Moves the cell at the first place, so that it stands at the second afterwards. It is refused for want of memory alone.
+    pub fn move_cell(&mut self, meter: &mut Meter, from: usize, to: usize) -> Result<(), AllocError>
+        requires from { from < length self.old.cells }
+        requires to { to < length self.old.cells }
+        ensures ok { OnOk result (self.new ≡ edited_sheet (Move from to) self.old) }
+        ensures err { OnErr result (self.new ≡ self.old) }
+        ensures counts { CountsStale (book_of self.old)
+            (book_of (edited_sheet (Move from to) self.old)) meter.old meter.new }
+    {
+        let mut lists = self.lists()?;
+        let cell = lists.cells.remove(from);
+        let kept = lists.kept.remove(from);
+        lists.cells.insert(to, cell)?;
+        lists.kept.insert(to, kept)?;
+        let behind = from.max(to) + 1;
+        let rest = Rest {
+            old: behind,
+            new: behind,
+        };
+        self.replace(meter, lists, from.min(to), rest)
+    }
+
+    /// Takes the cell at the place out. It is refused for want of memory alone.
+    pub fn remove(&mut self, meter: &mut Meter, at: usize) -> Result<(), AllocError>
+        requires { at < length self.old.cells }
+        ensures ok { OnOk result (self.new ≡ edited_sheet (Remove at) self.old) }
+        ensures err { OnErr result (self.new ≡ self.old) }
+        ensures counts { CountsStale (book_of self.old)
+            (book_of (edited_sheet (Remove at) self.old)) meter.old meter.new }
+    {
+        let mut lists = self.lists()?;
+        let _cell = lists.cells.remove(at);
+        let _kept = lists.kept.remove(at);
+        let rest = Rest {
+            old: at + 1,
+            new: at,
+        };
+        self.replace(meter, lists, at, rest)
+    }
+
+    /// The place of the first cell that read an input that is changed, or behind the last one.
+    fn first_reader(&self, inputs: &C::Inputs) -> usize
+        ensures within { result ≤ length self.now.cells }
+        ensures front { SharesFront result (book_of self.now)
+            (book_of (sheet self.now.cells (C.given inputs.now))) }
+    {
+        for (at, made) in self.records.iter().enumerate() {
+            if C::reads_changed(made, &self.inputs, inputs) {
+                return at;
+            }
+        }
+        self.records.len()
+    }
+
+    /// The place behind the last cell that read an input that is changed.
+    fn unread_from(&self, inputs: &C::Inputs) -> usize
+        ensures within { result ≤ length self.now.cells }
+        ensures unread { (k : ℕ) → result ≤ k → k < length self.now.cells
+            → ReadsNoOther (book_of self.now) (inputs_in (C.given inputs.now)) k }
+    {
+        for back in 0..self.records.len() {
+            let k = self.records.len() - 1 - back;
+            if C::reads_changed(&self.records[k], &self.inputs, inputs) {
+                return k + 1;
+            }
+        }
+        0
+    }
+
+    /// Takes these inputs in the place of the present ones. It is refused for want of memory alone.
+    pub fn set_inputs(&mut self, meter: &mut Meter, inputs: C::Inputs) -> Result<(), AllocError>
+        ensures ok { OnOk result (self.new ≡ sheet self.old.cells (C.given inputs)) }
+        ensures err { OnErr result (self.new ≡ self.old) }
+        ensures counts { CountsStale (book_of self.old)
+            (book_of (sheet self.old.cells (C.given inputs))) meter.old meter.new }
+    {
+        let kept = all_kept(self.alloc, &self.records)?;
+        let at = self.first_reader(&inputs);
+        let behind = self.unread_from(&inputs);
+        let rest = Rest {
+            old: behind,
+            new: behind,
+        };
+        let Runs { records, versions } = self.pass(meter, &self.cells, &inputs, &kept, at, &rest)?;
+        self.inputs = inputs;
+        self.records = records;
+        self.versions = versions;
+        Ok(())
+    }
+}
+
+impl<C: Cells> Notebook<C> {
+    /// The inputs.
+    pub fn inputs(&self) -> &C::Inputs
+        ensures { C.given result.now ≡ self.now.given }
+    {
+        &self.inputs
+    }
+
+    /// The text of the cell at the place.
+    pub fn text(&self, at: usize) -> &str
+        requires { at < length self.now.cells }
+        ensures { result.now ≡ (slice_index_or self.now.cells at no_cell).source }
+    {
+        self.cells[at].text.as_str()
+    }
+
+    /// The label of the cell at the place.
+    pub fn label(&self, at: usize) -> u64
+        requires { at < length self.now.cells }
+        ensures { result ≡ (slice_index_or self.now.cells at no_cell).label }
+    {
+        self.cells[at].label
+    }
+
+    /// What the run of the cell at the place gave, and the session after it. Together they tell what running all cells tells.
+    pub fn seen(&self, at: usize) -> Result<(&C::Record, C::Session), AllocError>
+        requires { at < length self.now.cells }
+        ensures { IfOk result
+            (λ s. slice_get (told_book (book_of self.now)) at
+            ≡ Some (told_of (C.recorded s.0.now) (C.session_of s.1))) }
+    {
+        let made = &self.records[at];
+        let session = self.session_before(at + 1)?;
+        Ok((made, session))
+    }
+}

@@ -1,0 +1,81 @@
+//! One cell of a pass.
+
+ghost use Rattle.std.specs.Prelude.{◌≡◌, ◌+◌, ◌-◌, ◌^◌, ◌⊎◌, min, IfOk, IfSome, OnOk, string_bytes};
+ghost use Rattle.nd_model.specs.Reading.{reading};
+ghost use Rattle.nd_model.specs.Cell.{cell, session_after};
+ghost use Rattle.nd_model.specs.Footprint.{HasNone};
+ghost use Rattle.nd_model.specs.Records.{record_of, StillHolds};
+ghost use Rattle.nd_model.specs.Scheduler.{IsOfRun};
+ghost use Rattle.nd_model.specs.Notebook.{inputs_in};
+
+use crate::cells::Cells;
+use crate::source::Source;
+use nd_meter::Meter;
+use std::alloc::{AllocError, Global};
+use std::rc::Rc;
+
+/// A version is kept where none was kept beside so many cells before.
+pub(crate) const APART: usize = 32;
+
+/// Keeps the session, if there are enough cells since the last version.
+pub(crate) fn keep_due<C: Cells>(
+    alloc: Global,
+    session: &mut C::Session,
+    since: usize,
+) -> Result<Option<Rc<C::Version>>, AllocError>
+    ensures same { C.session_of session.new ≡ C.session_of session.old }
+    ensures kept { IfOk result
+        (λ o. IfSome o (λ v. C.kept_session v.value ≡ C.session_of session.old)) }
+{
+    if since < APART {
+        return Ok(None);
+    }
+    let version = C::freeze(session)?;
+    Ok(Some(Rc::new(alloc, version)?))
+}
+
+/// How many cells there are since the last version.
+pub(crate) fn since_last<V: Drop>(versions: &[Option<Rc<V>>]) -> usize {
+    for back in 0..versions.len() {
+        if versions[versions.len() - 1 - back].is_some() {
+            return back + 1;
+        }
+    }
+    versions.len()
+}
+
+/// Replays the record of a cell where one is kept that still holds, else runs the cell.
+pub(crate) fn step<C: Cells>(
+    alloc: Global,
+    meter: &mut Meter,
+    session: &mut C::Session,
+    inputs: &C::Inputs,
+    source: &Source,
+    kept: &Option<Rc<C::Record>>,
+) -> Result<Rc<C::Record>, AllocError>
+    requires none { HasNone source.now.label (C.session_of session.old) }
+    requires of_run { IfSome kept.now
+        (λ r. IsOfRun source.now.label (reading (string_bytes source.now.text))
+        (C.recorded r.value)) }
+    ensures made { IfOk result
+        (λ r. C.recorded r.value
+        ≡ record_of source.now.label (reading (string_bytes source.now.text))
+        (inputs_in (C.given inputs.now)) (C.session_of session.old)) }
+    ensures after { OnOk result
+        (C.session_of session.new
+        ≡ session_after (cell source.now.label (reading (string_bytes source.now.text))
+        (inputs_in (C.given inputs.now)) (C.session_of session.old))) }
+    ensures counts { (meter.new ≡ meter.old)
+        ⊎ ((meter.new ≡ min (meter.old + 1) (2 ^ 64 - 1))
+        × IfSome kept.now (λ r. ¬ StillHolds (C.recorded r.value) (C.session_of session.old)
+        (inputs_in (C.given inputs.now)))) }
+{
+    if let Some(made) = kept {
+        if C::still_holds(made, session, inputs) {
+            C::replay(made, session)?;
+            return made.clone();
+        }
+    }
+    let made = C::run(meter, session, inputs, source.label, source.text.as_str())?;
+    Ok(Rc::new(alloc, made)?)
+}

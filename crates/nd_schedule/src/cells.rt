@@ -55,7 +55,7 @@ pub trait Cells: Drop {
             (session_of session.old))) }
         ensures counted { meter.new ≡ min (meter.old + 1) (2 ^ 64 - 1) };
 
-    /// Whether a record may stand for a run of its cell over this session and these inputs.
+    /// Whether a record may stand for a run of its cell over the session and these inputs.
     fn still_holds(made: &Self::Record, session: &Self::Session, inputs: &Self::Inputs) -> bool
         ensures { IsTrue result
             ↔ StillHolds (recorded made.now) (session_of session.now)

@@ -1,11 +1,13 @@
 //! Cells: running one over a session.
 #![tactic(auto)]
 
+mod record;
 mod result;
 mod run;
 
 pub use nd_eval::{IndexFault, StmtError, StmtFault, UfuncFault, ViewFault};
 pub use nd_meter::Meter;
 pub use nd_parse::ParseKind;
+pub use record::Record;
 pub use result::{CellFault, CellResult, Refusal};
 pub use run::run_cell;

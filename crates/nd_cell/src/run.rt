@@ -4,16 +4,19 @@ ghost use Rattle.std.specs.Prelude.{◌≡◌, ◌+◌, ◌-◌, ◌<◌, ◌≤
 ghost use Rattle.nd_model.specs.Fault as refusals;
 ghost use Rattle.nd_model.specs.Running as running;
 ghost use Rattle.nd_model.specs.Running.{Running};
-ghost use Rattle.nd_model.specs.Cell.{Ended, Saved, and_then, cell, statement, statements, with_save};
+ghost use Rattle.nd_model.specs.Cell.{Ended, Saved, and_then, cell, ran, statement, statements, with_save};
 ghost use Rattle.nd_model.specs.Footprint.{HasNone};
 ghost use Rattle.nd_model.specs.Tokens.{tokens_of_lines, tokens_of_stmt};
 ghost use Rattle.nd_model.specs.Reading.{reading};
+ghost use Rattle.nd_model.specs.Records.{record_of};
 ghost use Rattle.nd_syntax.specs.Syntax.{kind_of, lines_of, stmt_of};
 ghost use Rattle.nd_heap.specs.Values.{inputs_of};
 ghost use Rattle.nd_heap.specs.Live.{live};
 ghost use Rattle.nd_eval.specs.Done.{output_of};
+ghost use Rattle.nd_cell.specs.Records.{ended_in, recorded};
 ghost use Rattle.nd_cell.specs.Results.{after_line, ended_of, refusal_of, saved_of, saves_of};
 
+use crate::record::Record;
 use crate::result::{CellFault, CellResult, Refusal};
 use indexmap::IndexMap;
 use nd_eval::{Output, StmtError, StmtFault, run_stmt};
@@ -136,7 +139,21 @@ fn unread(alloc: Global, fault: ParseFault) -> CellResult
     }
 }
 
-/// Runs a cell of this label over a session, and counts the run. A text that is no cell runs nothing. After want of memory
+/// What a cell of this text gives, over a session in which it has begun. A text that is no cell runs nothing.
+fn run_text(session: &mut Session, inputs: &Inputs, text: &str) -> Result<CellResult, OutOfMemory>
+    requires { (live session.old).next ≡ 0 }
+    ensures { IfOk result (λ r.
+        ran (inputs_of inputs.now.entries) (reading text.now) (live session.old)
+        ≡ ended_of r (live session.new)) }
+{
+    let _bytes = text.as_bytes();
+    match parse_cell(session.allocator(), text)? {
+        Ok(lines) => run_lines(session, inputs, &lines),
+        Err(fault) => Ok(unread(session.allocator(), fault)),
+    }
+}
+
+/// Runs a cell of this label over a session, and counts the run. What it gave is in the record of the run. After want of memory
 /// the session is only fit to be dropped.
 pub fn run_cell(
     meter: &mut Meter,
@@ -144,19 +161,22 @@ pub fn run_cell(
     inputs: &Inputs,
     label: u64,
     text: &str,
-) -> Result<CellResult, OutOfMemory>
+) -> Result<Record, OutOfMemory>
     requires { HasNone label (running.session_of (live session.old)) }
+    ensures recorded { IfOk result (λ r. recorded r
+        ≡ record_of label (reading text.now) (inputs_of inputs.now.entries)
+        (running.session_of (live session.old))) }
     ensures ended { IfOk result (λ r.
         cell label (reading text.now) (inputs_of inputs.now.entries)
         (running.session_of (live session.old))
-        ≡ ended_of r (live session.new)) }
+        ≡ ended_in r (live session.new)) }
     ensures counted { meter.new ≡ min (meter.old + 1) (2 ^ 64 - 1) }
 {
-    let _bytes = text.as_bytes();
     meter.advance();
+    session.soundness();
+    let before = session.freeze()?;
     session.start(label)?;
-    match parse_cell(session.allocator(), text)? {
-        Ok(lines) => run_lines(session, inputs, &lines),
-        Err(fault) => Ok(unread(session.allocator(), fault)),
-    }
+    let gives = run_text(session, inputs, text)?;
+    let made = Record::of_run(session, &before, inputs, gives)?;
+    Ok(made)
 }

@@ -17,3 +17,4 @@ pub mod Agreeing
 pub mod Redoing
 pub mod Retaining
 pub mod Keeping
+pub mod Last

@@ -1,7 +1,7 @@
 -- What contracts see of the changes that a cell made: plain data, and the effects that they stand for.
-use Rattle.std.specs.Prelude.{ℕ, List, [], nat_eq, Option, Some, None, slice_index, if◌then◌else◌}
+use Rattle.std.specs.Prelude.{ℕ, List, [], nat_eq, Option, Some, None, slice_index, if◌then◌else◌, Bool, is_some}
 use Rattle.nd_model.specs.Value.{Base}
-use Rattle.nd_model.specs.Session.{Session, is_held}
+use Rattle.nd_model.specs.Session.{Names, Session, is_held, lookup}
 use Rattle.nd_model.specs.Fault.{Refusal}
 use Rattle.nd_model.specs.Cell.{Saved, Ended}
 use Rattle.nd_model.specs.Running.{Event, Running, start}
@@ -21,6 +21,10 @@ pub record ChangesData : Type 0 where
 -- the names that it bound and unbound
 abbrev pub events_in : ChangesData → List Event
 events_in c = c.events
+
+-- a name is bound
+abbrev pub is_bound : List ℕ → Names → Bool
+is_bound n names = is_some (lookup n names)
 
 -- the bytes of a base that it made, if a name of its own holds it
 abbrev pub bases_in : ChangesData → Base → List ℕ

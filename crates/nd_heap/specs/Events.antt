@@ -1,5 +1,5 @@
 -- What contracts see of a trace's fields, and what is true of them.
-use Rattle.std.specs.Prelude.{◌≡◌, ℕ, List, bytes_eq, map, string_bytes}
+use Rattle.std.specs.Prelude.{◌≡◌, ℕ, Bool, true, false, List, bytes_eq, map, string_bytes}
 use Rattle.std.specs.Rc.{rc_str_bytes}
 use Rattle.std.specs.List.{list_any}
 use Rattle.nd_model.specs.Running as running
@@ -17,6 +17,11 @@ event_of (Unbinds n) = running.Unbinds (rc_str_bytes n)
 abbrev pub name_of_event : running.Event → List ℕ
 name_of_event (running.Binds n v) = n
 name_of_event (running.Unbinds n) = n
+
+-- the event binds its name
+abbrev pub binds : running.Event → Bool
+binds (running.Binds n v) = true
+binds (running.Unbinds n) = false
 
 abbrev pub seen_in : Inside → Seen
 seen_in t = record {

@@ -1,10 +1,10 @@
 // What a cell did to its session, kept.
 
-ghost use Rattle.std.specs.Prelude.{◌≡◌, ℕ, ◌||◌, [], true, false, nat_eq, map, filter, IfOk, OnOk, IsTrue, None};
+ghost use Rattle.std.specs.Prelude.{◌≡◌, ℕ, ◌||◌, [], true, false, nat_eq, map, filter, IfOk, OnOk, IsTrue, None, unwrap_or};
 ghost use Rattle.nd_model.specs.Footprint.{effects_of, replayed};
 ghost use Rattle.nd_model.specs.Session as model;
 ghost use Rattle.nd_model.specs.Value as values;
-ghost use Rattle.nd_heap.specs.Changes.{bases_in, ended, events_in, writes_in};
+ghost use Rattle.nd_heap.specs.Changes.{bases_in, ended, events_in, is_bound, writes_in};
 ghost use Rattle.nd_heap.specs.Fields.{effects_over};
 ghost use Rattle.nd_heap.specs.Contents.{bases_of, blocks_of, marks_of};
 ghost use Rattle.nd_heap.specs.Events.{event_of};
@@ -166,6 +166,20 @@ fn are_own(marked: &Footprint, label: u64) -> bool
     true
 }
 
+/// What these events do to a name at last: they bind it, or unbind it; none where no event is of that name.
+fn last_of(events: &[Event], name: &str) -> Option<bool>
+    ensures { (names : model.Names) → is_bound name.now (replayed (map event_of events.now) names)
+        ≡ unwrap_or result (is_bound name.now names) }
+{
+    let mut last = None;
+    for event in events {
+        if name == event.name().as_str() {
+            last = Some(event.binds());
+        }
+    }
+    last
+}
+
 impl Changes {
     /// What the cell did whose session this is, as it is now. No byte of a block is copied.
     pub fn new(alloc: Global, session: &Session) -> Result<Changes, OutOfMemory>
@@ -179,6 +193,21 @@ impl Changes {
     {
         let changes = keep(alloc, session.seen(), &session.blocks, session.next)?;
         Ok(changes)
+    }
+
+    /// The label of the cell.
+    pub fn label(&self) -> u64
+        ensures { result ≡ self.now.label }
+    {
+        self.label
+    }
+
+    /// What the cell did to a name at last: it bound it, or unbound it; none where it did neither.
+    pub fn last_of(&self, name: &str) -> Option<bool>
+        ensures { (names : model.Names) → is_bound name.now (replayed (events_in self.now) names)
+            ≡ unwrap_or result (is_bound name.now names) }
+    {
+        last_of(&self.events, name)
     }
 
     /// If so, the cell bound and unbound no name and wrote to no block of another cell.

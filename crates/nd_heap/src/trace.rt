@@ -10,7 +10,7 @@ ghost use Rattle.nd_model.specs.View.{item_size, byte_places, element_places};
 ghost use Rattle.nd_types.specs.Types.{type_of};
 ghost use Rattle.nd_heap.specs.Values.{base_of, geo_of, value_of};
 ghost use Rattle.nd_heap.specs.Contents.{marks_of};
-ghost use Rattle.nd_heap.specs.Events.{event_of, name_of_event};
+ghost use Rattle.nd_heap.specs.Events.{binds, event_of, name_of_event};
 ghost use Rattle.nd_heap.specs.Fields.{trace_of};
 ghost use Rattle.nd_heap.specs.Seen.{names_read, inputs_read, bases_read, is_used, is_written};
 ghost use Rattle.nd_model.specs.Storing.{having_written};
@@ -34,13 +34,20 @@ pub enum Event {
 }
 
 impl Event {
-    fn name(&self) -> &RcStr
+    pub(crate) fn name(&self) -> &RcStr
         ensures { rc_str_bytes result.now ≡ name_of_event (event_of self.now) }
     {
         match self {
             Event::Binds(name, _) => name,
             Event::Unbinds(name) => name,
         }
+    }
+
+    /// Whether it binds its name.
+    pub(crate) fn binds(&self) -> bool
+        ensures { result ≡ binds (event_of self.now) }
+    {
+        matches!(self, Event::Binds(_, _))
     }
 
     /// The same event, which shares the name and the value.

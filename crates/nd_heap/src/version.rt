@@ -5,6 +5,7 @@ ghost use Rattle.nd_model.specs.Session as model;
 ghost use Rattle.nd_heap.specs.Values.{base_of, value_of};
 ghost use Rattle.nd_heap.specs.Contents.{bytes_in};
 ghost use Rattle.nd_heap.specs.Kept.{version_of};
+ghost use Rattle.nd_heap.specs.Changes.{is_bound};
 
 use crate::blocks::{Blocks, bytes_of, share_block};
 use crate::memory::OutOfMemory;
@@ -85,6 +86,13 @@ impl Version {
             ≡ model.lookup name.now (version_of self.now).names }
     {
         find(&self.names, name)
+    }
+
+    /// Whether a name is bound.
+    pub fn has_name(&self, name: &str) -> bool
+        ensures { result ≡ is_bound name.now (version_of self.now).names }
+    {
+        self.peek(name).is_some()
     }
 
     /// The bytes of a base, none where no bound value lies in it.

@@ -14,7 +14,7 @@ use Rattle.nd_model.proofs.Tracks.{replay}
 same_some : (x y : Found) → Some x ≡ Some y → x ≡ y
 same_some x y e = cc
 
-found_at : (label : ℕ) (p : Parsed) (s t : Session) (i j : Inputs) → StillHolds (record_of label p i s) t j → Agree (reads_of (cell label p i s)) s i t j
+pub found_at : (label : ℕ) (p : Parsed) (s t : Session) (i j : Inputs) → StillHolds (record_of label p i s) t j → Agree (reads_of (cell label p i s)) s i t j
 found_at label p s t i j h k read = same_some _ _ (rw read at (h.same k read))
 
 pub kept : Kept

@@ -33,6 +33,7 @@ pub mod Tuples
 pub mod Choosing
 pub mod Growing
 pub mod Soundness
+pub mod Replaying
 pub mod Taking
 pub mod Contents
 pub mod Uses

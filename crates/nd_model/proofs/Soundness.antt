@@ -82,7 +82,7 @@ pub all_views_map : (P Q : Base → Geo → Type 0) → ((b : Base) (g : Geo) �
 all_views_map P Q f [] h = tt
 all_views_map P Q f (e ∷ es) h = (views_map P Q f e.1 h.0, all_views_map P Q f es h.1)
 
-abbrev V : Running → Value → Type 0
+abbrev pub V : Running → Value → Type 0
 V r v = IsViewOf (IsHeldView r) v
 
 held_grows : (x y : Running) → Grows x y → (b : Base) (g : Geo) → IsHeldView x b g → IsHeldView y b g
@@ -94,7 +94,7 @@ held_grows x y grows b g h = record {
 value_grows : (x y : Running) → Grows x y → (v : Value) → V x v → V y v
 value_grows x y grows v h = views_map (IsHeldView x) (IsHeldView y) (held_grows x y grows) v h
 
-sound_grows : (x y : Running) → Grows x y → IsSound x → IsSound y
+pub sound_grows : (x y : Running) → Grows x y → IsSound x → IsSound y
 sound_grows x y grows h = subst (AreViewsOf (IsHeldView y)) (sym grows.names) (all_views_map (IsHeldView x) (IsHeldView y) (held_grows x y grows) x.names h)
 
 -- ---- evaluations
@@ -260,7 +260,7 @@ mutual
 
 -- ---- statements
 
-abbrev E : Running → Effect → Type 0
+abbrev pub E : Running → Effect → Type 0
 E r (Binding n v) = V r v
 E r _ = Unit {0}
 
@@ -296,7 +296,7 @@ safe_all (And u p ps) k i r s h =
 safe_acted : (i : Inputs) (r : Running) (f : List Operand → Result Deed Fault) (vs : List (Usage × Value)) → AllV r vs → Safe E i r (Operation.act_on f vs)
 safe_acted i r f vs h = safe_operands E i r vs _ (λ p os g is. safe_decided E i p (f os) _ (λ d e. safe_deed i p vs d (all_grow r p g vs h)))
 
-safe_work : (w : Work) (i : Inputs) (r : Running) → IsSound r → Safe E i r (Operation.do_work w)
+pub safe_work : (w : Work) (i : Inputs) (r : Running) → IsSound r → Safe E i r (Operation.do_work w)
 safe_work (Acts f ps) i r s = safe_all ps _ i r s (λ q vs g h. safe_acted i q f vs h)
 safe_work (ActsOn f w ps p) i r s =
     safe_all ps _ i r s (λ q vs g h. safe_bind V E i q (perform (Views w) vs) _ (safe_performed i q (Views w) vs h) (λ q' x g' hx.
@@ -312,11 +312,11 @@ given_run P i r (Gives x) h = h
 given_run P i r (Refuses f) h = tt
 given_run P i r (Asks a go) h = given_run P i (after a r) (go (reply i a r)) h
 
-bind_views : (P : Base → Geo → Type 0) (n : List ℕ) (v : Value) (es : Names) → IsViewOf P v → AreViewsOf P es → AreViewsOf P (bind n v es)
+pub bind_views : (P : Base → Geo → Type 0) (n : List ℕ) (v : Value) (es : Names) → IsViewOf P v → AreViewsOf P es → AreViewsOf P (bind n v es)
 bind_views P n v [] h hs = (h, tt)
 bind_views P n v (e ∷ es) h hs = elim (bytes_eq n e.0) as (λ t. AreViewsOf P (cond t ((e.0, v) ∷ es) (e ∷ bind n v es))) [ true ↦ (h, hs.1) | false ↦ (hs.0, bind_views P n v es h hs.1) ]
 
-unbind_views : (P : Base → Geo → Type 0) (n : List ℕ) (es : Names) → AreViewsOf P es → AreViewsOf P (unbind n es)
+pub unbind_views : (P : Base → Geo → Type 0) (n : List ℕ) (es : Names) → AreViewsOf P es → AreViewsOf P (unbind n es)
 unbind_views P n [] hs = tt
 unbind_views P n (e ∷ es) hs = elim (bytes_eq n e.0) as (λ t. AreViewsOf P (cond t (unbind n es) (e ∷ unbind n es))) [ true ↦ unbind_views P n es hs.1 | false ↦ (hs.0, unbind_views P n es hs.1) ]
 
@@ -342,7 +342,7 @@ had_sound : (o : Result Effect Fault) (r : Running) → IsSound r → IfGiven E 
 had_sound (Ok e) r s h = done_sound e r s h
 had_sound (Err f) r s h = s
 
-statement_sound : (i : Inputs) (s : Stmt) (r : Running) → IsSound r → IsSound (statement i s r).1
+pub statement_sound : (i : Inputs) (s : Stmt) (r : Running) → IsSound r → IsSound (statement i s r).1
 statement_sound i s r h =
     had_sound (run i (Meaning.meaning s) r).0 (run i (Meaning.meaning s) r).1 (sound_grows r _ (grows_run i (Meaning.meaning s) r) h) (given_run E i r (Meaning.meaning s) (safe_work (Meaning.work s) i r h))
 
@@ -365,7 +365,7 @@ ran_sound i (Err f) r h = h
 lies_self : (b : Base) → same_base b b ≡ true
 lies_self b = and_from _ _ (eq-eqb b.label b.label refl) (eq-eqb b.number b.number refl)
 
-held_map : (P Q : Base → Geo → Type 0) (names : Names) → ((b : Base) (g : Geo) → is_held b names ≡ true → P b g → Q b g) → (es : Names) → ((b : Base) → is_held b es ≡ true → is_held b names ≡ true)
+pub held_map : (P Q : Base → Geo → Type 0) (names : Names) → ((b : Base) (g : Geo) → is_held b names ≡ true → P b g → Q b g) → (es : Names) → ((b : Base) → is_held b es ≡ true → is_held b names ≡ true)
     → AreViewsOf P es → AreViewsOf Q es
 held_map P Q names f [] in_names h = tt
 held_map P Q names f (e ∷ es) in_names h =
@@ -378,7 +378,7 @@ held_map P Q names f (e ∷ es) in_names h =
     one (Array b g) l h = f b g (l b (lies_self b)) h
     one (Row b g) l h = f b g (l b (lies_self b)) h
 
-start_sound : (label : ℕ) (s : Session) → HasNone label s → IsSoundSession s → IsSound (start label s)
+pub start_sound : (label : ℕ) (s : Session) → HasNone label s → IsSoundSession s → IsSound (start label s)
 start_sound label s none h =
     held_map (λ b g. LiesIn (length (held_bytes s b)) g) (IsHeldView (start label s)) s.names
     (λ b g held lies. record { lies = lies; old = λ e. absurd (not_both _ (none.none b e) held) }) s.names (λ b l. l) h

@@ -1,9 +1,9 @@
 -- What a notebook answers to edits and queries, with the one choice: that memory is wanted.
-use Rattle.std.specs.Prelude.{◌≡◌, ℕ, ◌≤◌, IsTrue, is_ok, List, [], ◌∷◌, length, Some, None, Result, Ok, Err}
+use Rattle.std.specs.Prelude.{◌≡◌, ℕ, IsTrue, is_ok, List, [], ◌∷◌, Some, None, Result, Ok, Err}
 use Rattle.nd_model.specs.Session.{lookup, bind, unbind}
 use Rattle.nd_model.specs.Running.{Inputs, Source}
 use Rattle.nd_model.specs.Book.{Book, Cell, Edit, Insert, Change, Move, Remove, SetInput, DropInput, EditFault, TooManyCells, CellTooLong, BadInputName, InputTooLarge, NoInputNamed, refusal, edited, edited_cells, QueryFault}
-use Rattle.nd_model.specs.Stale.{counted}
+use Rattle.nd_model.specs.Stale.{CountsStale}
 
 -- ---- notebooks as contracts see them: plain data
 
@@ -51,15 +51,11 @@ abbrev pub Answers : Edit → Sheet → Result (Unit {0}) EditFault → Sheet �
 Answers e old (Ok done) new = (refusal e (book_of old) ≡ None) × (new ≡ edited_sheet e old)
 Answers e old (Err f) new = Fails e old f × (new ≡ old)
 
--- no more than this many runs were counted
-abbrev pub CountsAtMost : (most before after : ℕ) → Type 0
-CountsAtMost most before after = (runs : ℕ) × (runs ≤ most) × (after ≡ counted runs before)
-
--- WHAT AN EDIT COUNTS on the meter: where it is done, a run of each cell of the new list; where memory is wanted, at most as
--- many; where it is refused, nothing.
+-- WHAT AN EDIT COUNTS on the meter: where it is done, and where memory is wanted, no more runs than it makes cells stale; where
+-- it is refused, nothing.
 abbrev pub CountsRuns : Edit → Sheet → Result (Unit {0}) EditFault → (before after : ℕ) → Type 0
-CountsRuns e old (Ok done) before after = after ≡ counted (length (edited_cells e old.cells)) before
-CountsRuns e old (Err EditFault.OutOfMemory) before after = CountsAtMost (length (edited_cells e old.cells)) before after
+CountsRuns e old (Ok done) before after = CountsStale (book_of old) (book_of (edited_sheet e old)) before after
+CountsRuns e old (Err EditFault.OutOfMemory) before after = CountsStale (book_of old) (book_of (edited_sheet e old)) before after
 CountsRuns e old (Err (EditFault.NoCell at count)) before after = after ≡ before
 CountsRuns e old (Err TooManyCells) before after = after ≡ before
 CountsRuns e old (Err CellTooLong) before after = after ≡ before

@@ -13,7 +13,7 @@ ghost use Rattle.nd_model.specs.Promotion.{PromotionTable};
 ghost use Rattle.nd_model.specs.Records.{Kept};
 ghost use Rattle.nd_model.specs.Renaming.{Rename, AnyLabels};
 ghost use Rattle.nd_model.specs.Scheduler.{AnyPass};
-ghost use Rattle.nd_model.specs.Sound.{StaysSound};
+ghost use Rattle.nd_model.specs.Sound.{ReplaysSound, StaysSound};
 ghost use Rattle.nd_model.specs.Stale.{AtMostIsAtMost, FewRuns, FrontIsNotStale};
 ghost use Rattle.nd_model.specs.Storing.{StoresByParts};
 ghost use Rattle.nd_model.specs.Strides.{PartsAreHeld};
@@ -149,6 +149,11 @@ pub fn edits_book()
 /// A session in which each array and row lies in its base stays so, at a cell's start, after each statement and after a cell.
 pub fn stays_sound()
     ensures { StaysSound }
+{}
+
+/// The effects of a run over one sound session, put on another that agrees with what was read, give a sound session.
+pub fn replays_sound()
+    ensures { ReplaysSound }
 {}
 
 /// A statement, whether it is refused or not, makes at most as many bases as it has tokens.

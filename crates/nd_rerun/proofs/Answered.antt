@@ -1,15 +1,11 @@
 -- Edits answered one after another.
 use Rattle.std.proofs.Common.{◌≡◌, ℕ, zero, suc, ◌+◌, ◌<◌, List, [], ◌∷◌, ◌++◌, length, map, drop, get_or, Result, Ok, Err, refl, sym, ap, ap₂, subst, ◌∙◌, add-one, drop-cons, append_assoc, append-nil, ◌≤◌, arith}
 use Rattle.std.proofs.lemmas.List.{drop_all}
-use Rattle.nd_model.specs.Renaming.{AreDistinct}
 use Rattle.nd_model.specs.Book as model
-use Rattle.nd_model.specs.Book.{labels_of, refusal}
-use Rattle.nd_model.proofs.EditLabels.{labels_stay_distinct}
 use Rattle.nd_rerun.specs.declared.edit.Edit.{Edit}
 use Rattle.nd_rerun.specs.declared.edit.EditFault.{EditFault}
-use Rattle.nd_model.specs.Notebook.{Sheet, Answers, CountsRuns, AreAnswered, book_of, edited_sheet}
+use Rattle.nd_model.specs.Notebook.{Sheet, Answers, CountsRuns, AreAnswered}
 use Rattle.nd_rerun.specs.Edits.{edit_of, outcome_of, outcomes_of}
-use Rattle.nd_rerun.proofs.Small.{same_distinct}
 
 abbrev pub Answer : Type 0
 Answer = Result (Unit {0}) EditFault
@@ -62,10 +58,3 @@ leads_to_end es k first begun answers sheet meter past leads =
     let P : List Outcome → Type 0 = λ rs. AreAnswered (map edit_of es) first begun rs sheet meter in
     let Q : List Edit → Type 0 = λ ds. AreAnswered (map edit_of ds) sheet meter [] sheet meter in
     subst P (append-nil answers) (leads [] sheet meter (subst Q (sym (drop_all k es past)) (refl, refl)))
-
--- labels stay distinct, whatever the answer
-pub answer_distinct : (e : model.Edit) (old : Sheet) (r : Outcome) (new : Sheet) → Answers e old r new → AreDistinct (labels_of old.cells) → AreDistinct (labels_of new.cells)
-answer_distinct e old (Err f) new h d = same_distinct new.cells old.cells (ap (λ (s : Sheet). s.cells) h.1) d
-answer_distinct e old (Ok done) new h d =
-    same_distinct new.cells (edited_sheet e old).cells (ap (λ (s : Sheet). s.cells) h.1)
-    (subst (λ o. AreDistinct (labels_of (model.unless_refused o (model.edited e (book_of old)) (book_of old)).cells)) h.0 (labels_stay_distinct e (book_of old) d))

@@ -1,57 +1,59 @@
 -- What is told of the cell at a place.
-use Rattle.std.proofs.Common.{◌≡◌, ℕ, zero, suc, ◌+◌, ◌<◌, ◌≤◌, get_or, add-one, arith, String, string_bytes, Global, List, [], ◌∷◌, ◌++◌, map, length, take, Option, Some, None, option_map, Result, Ok, Err, bytes_eq, refl, sym, ap, ap₂, ◌∙◌, inl, inr, slice_get, is_ok, true, IsErrAnd, subst}
+use Rattle.std.proofs.Common.{◌≡◌, ℕ, zero, suc, ◌+◌, ◌<◌, ◌≤◌, get_or, add-one, arith, String, string_bytes, Global, List, [], ◌∷◌, ◌++◌, map, length, take, Option, Some, None, option_map, is_some, Result, Ok, Err, bytes_eq, refl, sym, ap, ap₂, ◌∙◌, inl, inr, slice_get, is_ok, true, false, IsErrAnd, subst}
 use Rattle.std.proofs.lemmas.List.{map-append}
 use Rattle.std.proofs.lemmas.Bool.{cases_Bool}
 use Rattle.nd_model.specs.Value.{Value}
-use Rattle.nd_model.specs.Session.{Session, Names, lookup}
-use Rattle.nd_model.specs.Renaming.{Told, Shown, shown, shown_names}
-use Rattle.nd_model.specs.Book.{QueryFault, ask_cell, ask_told, told_book, found_value}
-use Rattle.nd_rerun.specs.declared.cells.Ran.{Ran}
+use Rattle.nd_model.specs.Session.{Session, Names, lookup, no_session}
+use Rattle.nd_model.specs.Running.{Inputs}
+use Rattle.nd_model.specs.Reading.{reading}
+use Rattle.nd_model.specs.Cell.{cell, notebook, session_after}
+use Rattle.nd_model.specs.Entries.{session_before}
+use Rattle.nd_model.specs.Renaming.{Told, Shown, shown, shown_names, told}
+use Rattle.nd_model.specs.Book.{Book, Cell, QueryFault, ask_cell, ask_told, count_of, found_value, names_at, no_cell, read_cells, result_at, source_at, told_book, value_at}
+use Rattle.nd_model.specs.Notebook.{Sheet, Tells, book_of}
+use Rattle.nd_model.specs.Scheduler.{told_of}
+use Rattle.nd_model.proofs.Entries.{told_by_records}
 use Rattle.nd_rerun.specs.declared.query.QueryFault as declared
 use Rattle.nd_rerun.specs.declared.query.QueryFault.TheVariants as faults
-use Rattle.nd_rerun.specs.Queries.{answer_of}
-use Rattle.nd_model.specs.Notebook.{Sheet, book_of, Tells}
-use Rattle.nd_rerun.specs.Cells.{told_of, tolds_of}
+use Rattle.nd_rerun.specs.Queries.{answer_of, result_of}
+use Rattle.nd_cell.specs.declared.result.CellResult as declaredResult
+use Rattle.nd_cell.specs.Records.{RecordData, recorded}
+use Rattle.nd_cell.specs.Results.{refusal_of, saves_of}
 
-slice_get-map : {A B : Type 0} (f : A → B) (xs : List A) (i : ℕ) → slice_get (map f xs) i ≡ option_map f (slice_get xs i)
-slice_get-map f [] i = refl
-slice_get-map f (x ∷ xs) zero = refl
-slice_get-map f (x ∷ xs) (suc i) = slice_get-map f xs i
+-- where no cell stands
+told_past : (cs : List Cell) (i : Inputs) (s : Session) (at : ℕ) → length cs ≤ at → slice_get (told (notebook (read_cells cs) i s)) at ≡ None
+told_past [] i s at h = refl
+told_past (c ∷ cs) i s zero h = absurd (omega arith)
+told_past (c ∷ cs) i s (suc at) h = told_past cs i (session_after (cell c.label (reading c.source) i s)) at (omega arith)
 
-got : {A : Type 0} (xs : List A) (i : ℕ) (x : A) → i < length xs → x ≡ get_or xs i x → slice_get xs i ≡ Some x
-got [] i x lt h = absurd (omega arith)
-got (y ∷ ys) zero x lt h = ap Some (sym h)
-got (y ∷ ys) (suc i) x lt h = got ys i x (omega arith) h
+pub not_told : {X : Type 0} (answer : Told → Result X QueryFault) (b : Book) (at count : ℕ) → length b.cells ≤ at → count ≡ length b.cells → ask_told answer b at ≡ Err (QueryFault.NoCell at count)
+not_told answer b at count past is =
+    ap (λ (o : Option Told). ask_cell at (count_of b) o answer) (told_past b.cells b.inputs no_session at past) ∙ ap (λ n. Err (QueryFault.NoCell at n)) (sym is)
 
-past : {A : Type 0} (xs : List A) (i : ℕ) → length xs ≤ i → slice_get xs i ≡ None
-past [] i h = refl
-past (y ∷ ys) zero h = absurd (omega arith)
-past (y ∷ ys) (suc i) h = past ys i (omega arith)
+cell_past : (cs : List Cell) (at : ℕ) → length cs ≤ at → slice_get cs at ≡ None
+cell_past [] at h = refl
+cell_past (c ∷ cs) zero h = absurd (omega arith)
+cell_past (c ∷ cs) (suc at) h = cell_past cs at (omega arith)
 
-at_told : {X : Type 0} (answer : Told → Result X QueryFault) (sheet now : Sheet) (ran xs : List Ran) (at : ℕ)
-    → sheet ≡ now → tolds_of ran ≡ told_book (book_of sheet) → xs ≡ ran
-    → ask_told answer (book_of now) at ≡ ask_cell at (length sheet.cells) (option_map told_of (slice_get xs at)) answer
-at_told answer sheet now ran xs at view told is =
-    ap (λ (s : Sheet). ask_told answer (book_of s) at) (sym view)
-    ∙ ap (λ (ts : List Told). ask_cell at (length sheet.cells) (slice_get ts at) answer) (sym told)
-    ∙ ap (λ (o : Option Told). ask_cell at (length sheet.cells) o answer) (slice_get-map told_of ran at ∙ ap (λ (rs : List Ran). option_map told_of (slice_get rs at)) (sym is))
+cell_there : (cs : List Cell) (at : ℕ) → at < length cs → slice_get cs at ≡ Some (get_or cs at no_cell)
+cell_there [] at h = absurd (omega arith)
+cell_there (c ∷ cs) zero h = refl
+cell_there (c ∷ cs) (suc at) h = cell_there cs at (omega arith)
 
--- where a cell stands
-pub asked : {X : Type 0} (answer : Told → Result X QueryFault) (sheet now : Sheet) (ran xs : List Ran) (at : ℕ) (r : Ran)
-    → sheet ≡ now → tolds_of ran ≡ told_book (book_of sheet) → xs ≡ ran → at < length xs → r ≡ get_or xs at r
-    → ask_told answer (book_of now) at ≡ answer (told_of r)
-asked answer sheet now ran xs at r view told is lt h =
-    at_told answer sheet now ran xs at view told is
-    ∙ ap (λ (o : Option Ran). ask_cell at (length sheet.cells) (option_map told_of o) answer) (got xs at r lt h)
+pub no_source : (b : Book) (at count : ℕ) → length b.cells ≤ at → count ≡ length b.cells → source_at b at ≡ Err (QueryFault.NoCell at count)
+no_source b at count past is =
+    ap (λ (o : Option Cell). ask_cell at (count_of b) o (λ (c : Cell). Ok c.source)) (cell_past b.cells at past) ∙ ap (λ n. Err (QueryFault.NoCell at n)) (sym is)
 
--- and where none stands
-pub not_asked : {X : Type 0} (answer : Told → Result X QueryFault) (sheet now : Sheet) (ran xs : List Ran) (at count : ℕ)
-    → sheet ≡ now → tolds_of ran ≡ told_book (book_of sheet) → xs ≡ ran → length xs ≤ at → length sheet.cells ≡ count
-    → ask_told answer (book_of now) at ≡ Err (QueryFault.NoCell at count)
-not_asked answer sheet now ran xs at count view told is h long =
-    at_told answer sheet now ran xs at view told is
-    ∙ ap (λ (o : Option Ran). ask_cell at (length sheet.cells) (option_map told_of o) answer) (past xs at h)
-    ∙ ap (λ n. Err (QueryFault.NoCell at n)) long
+pub source_there : (b : Book) (at : ℕ) (source : List ℕ) → at < length b.cells → source ≡ (get_or b.cells at no_cell).source → source_at b at ≡ Ok source
+source_there b at source lt is = ap (λ (o : Option Cell). ask_cell at (count_of b) o (λ (c : Cell). Ok c.source)) (cell_there b.cells at lt) ∙ ap Ok (sym is)
+
+-- what a cell gave, by its record
+pub result_told : (now sheet : Sheet) (at : ℕ) (r : RecordData) (s : Session) (x : declaredResult.CellResult) → sheet ≡ now → slice_get (told_book (book_of sheet)) at ≡ Some (told_of (recorded r) s)
+    → string_bytes x.text ≡ r.text → option_map refusal_of x.refusal ≡ r.refusal → saves_of x.saves.entries ≡ r.saves → Ok (result_of x) ≡ result_at (book_of now) at
+result_told now sheet at r s x same told text refusal saves =
+    (λ d. Ok (record { text = text d; refusal = refusal d; saves = saves d }))
+    ∙ sym (ap (λ (o : Option Told). ask_cell at (length sheet.cells) o (λ (t : Told). Ok (record { text = t.text; refusal = t.refusal; saves = t.saves }))) told)
+    ∙ ap (λ (n : Sheet). result_at (book_of n) at) same
 
 names-shown : (s : Session) (es : Names) → map (λ (e : List ℕ × Shown). e.0) (shown_names s es) ≡ map (λ (e : List ℕ × Value). e.0) es
 names-shown s [] = refl
@@ -90,17 +92,43 @@ names_end es i at = ap (λ k. take k es) (add-one i) ∙ ends es i at
     ends (e ∷ es) zero at = absurd (cc)
     ends (e ∷ es) (suc i) at = ap (λ l. e ∷ l) (ends es i at)
 
--- ---- a value
+-- ---- what is told of the session behind a cell
 
-pub value_found : (n : List ℕ) (s : Session) (es : Names) (v : Value) (x : Shown) → Some v ≡ lookup n es → x ≡ shown s v → found_value n (lookup n (shown_names s es)) ≡ Ok x
-value_found n s es v x h is = ap (found_value n) (lookup-shown n s es ∙ ap (option_map (shown s)) (sym h)) ∙ ap Ok (sym is)
+pub names_told : (b : Book) (at : ℕ) (s : Session) (names : List (List ℕ)) → at < length b.cells → s ≡ session_before b (at + 1) → names ≡ map (λ (e : List ℕ × Value). e.0) s.names → names_at b at ≡ Ok names
+names_told b at s names lt is told =
+    ap (λ (o : Option Told). ask_cell at (count_of b) o (λ (t : Told). Ok (map (λ (e : List ℕ × Shown). e.0) t.names))) (told_by_records b at lt)
+    ∙ ap (λ (s : Session). Ok (map (λ (e : List ℕ × Shown). e.0) (shown_names s s.names))) (sym is)
+    ∙ ap Ok (names_shown s s.names names told)
 
-pub value_missing : (n : List ℕ) (s : Session) (es : Names) → None ≡ lookup n es → found_value n (lookup n (shown_names s es)) ≡ Err (QueryFault.NoName n)
-value_missing n s es h = ap (found_value n) (lookup-shown n s es ∙ ap (option_map (shown s)) (sym h))
+pub names_are_told : (b : Book) (at : ℕ) → at < length b.cells → is_ok (names_at b at) ≡ true
+names_are_told b at lt = ap is_ok (names_told b at (session_before b (at + 1)) (map (λ (e : List ℕ × Value). e.0) (session_before b (at + 1)).names) lt refl refl)
 
-pub value_is_ok : (n : List ℕ) (s : Session) (es : Names) (v : Value) (answer : Result Shown QueryFault)
-    → Some v ≡ lookup n es → answer ≡ found_value n (lookup n (shown_names s es)) → is_ok answer ≡ true
-value_is_ok n s es v answer h is = ap is_ok (is ∙ ap (found_value n) (lookup-shown n s es ∙ ap (option_map (shown s)) (sym h)))
+value_at_is : (b : Book) (at : ℕ) (n : List ℕ) (s : Session) → at < length b.cells → s ≡ session_before b (at + 1) → value_at b at n ≡ found_value n (option_map (shown s) (lookup n s.names))
+value_at_is b at n s lt is =
+    ap (λ (o : Option Told). ask_cell at (count_of b) o (λ (t : Told). found_value n (lookup n t.names))) (told_by_records b at lt)
+    ∙ ap (λ (s : Session). found_value n (lookup n (shown_names s s.names))) (sym is)
+    ∙ ap (found_value n) (lookup-shown n s s.names)
+
+pub value_told : (b : Book) (at : ℕ) (n : List ℕ) (s : Session) (v : Value) (x : Shown) → at < length b.cells → s ≡ session_before b (at + 1) → Some v ≡ lookup n s.names → x ≡ shown s v → value_at b at n ≡ Ok x
+value_told b at n s v x lt is found shows = value_at_is b at n s lt is ∙ ap (λ o. found_value n (option_map (shown s) o)) (sym found) ∙ ap Ok (sym shows)
+
+pub no_value : (b : Book) (at : ℕ) (n : List ℕ) (s : Session) → at < length b.cells → s ≡ session_before b (at + 1) → None ≡ lookup n s.names → value_at b at n ≡ Err (QueryFault.NoName n)
+no_value b at n s lt is found = value_at_is b at n s lt is ∙ ap (λ o. found_value n (option_map (shown s) o)) (sym found)
+
+-- by whether the name is bound
+pub unbound_value : (b : Book) (at : ℕ) (n : List ℕ) → at < length b.cells → is_some (lookup n (session_before b (at + 1)).names) ≡ false → value_at b at n ≡ Err (QueryFault.NoName n)
+unbound_value b at n lt is = no_value b at n (session_before b (at + 1)) lt refl (none (lookup n (session_before b (at + 1)).names) is)
+  where
+    none : (o : Option Value) → is_some o ≡ false → None ≡ o
+    none None h = refl
+    none (Some v) h = absurd (cc)
+
+pub value_is_told : (b : Book) (at : ℕ) (n : List ℕ) → at < length b.cells → is_some (lookup n (session_before b (at + 1)).names) ≡ true → is_ok (value_at b at n) ≡ true
+value_is_told b at n lt is = ap is_ok (value_at_is b at n (session_before b (at + 1)) lt refl) ∙ some (session_before b (at + 1)) (lookup n (session_before b (at + 1)).names) is
+  where
+    some : (s : Session) (o : Option Value) → is_some o ≡ true → is_ok (found_value n (option_map (shown s) o)) ≡ true
+    some s None h = absurd (cc)
+    some s (Some v) h = refl
 
 -- memory is wanted where there is a value
 pub wants_memory : {X Y : Type 0} (name : List ℕ) (view : X → Y) (r : Result X declared.QueryFault) (answer : Result Y QueryFault)

@@ -1,7 +1,3 @@
-pub mod Small
-pub mod Counting
 pub mod Answered
-pub mod Runs
-pub mod Fresh
-pub mod Changes
 pub mod Asked
+pub mod Sessions

@@ -1,7 +1,4 @@
 pub mod Edits
-pub mod Labels
-pub mod Cells
-pub mod Passes
 pub mod Queries
 pub use Rattle.nd_types.specs.Kinds
 pub use Rattle.nd_types.specs.Fields

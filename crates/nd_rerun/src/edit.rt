@@ -4,7 +4,7 @@ ghost use Rattle.std.specs.Prelude.{◌≡◌};
 ghost use Rattle.nd_rerun.specs.declared.edit.EditFault.TheVariants as edits;
 
 use nd_heap::{Input, OutOfMemory};
-use std::alloc::{AllocError, AllocFailed};
+use std::alloc::AllocError;
 
 /// An edit of a notebook. Places count from 0.
 #[derive(Clone, Copy)]
@@ -45,6 +45,14 @@ impl From<OutOfMemory> for EditFault {
     ghost from_gives = { λ _ e. e ≡ edits.OutOfMemory };
 
     fn from(_e: OutOfMemory) -> EditFault {
+        EditFault::OutOfMemory
+    }
+}
+
+impl From<AllocError> for EditFault {
+    ghost from_gives = { λ _ e. e ≡ edits.OutOfMemory };
+
+    fn from(_e: AllocError) -> EditFault {
         EditFault::OutOfMemory
     }
 }

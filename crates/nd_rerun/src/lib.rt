@@ -1,9 +1,9 @@
 //! The notebook: a list of cells under edits, whose answers are those of running all cells in order from nothing.
 #![tactic(auto)]
 
-mod cells;
 mod edit;
 mod given;
+mod kernel;
 mod notebook;
 mod query;
 

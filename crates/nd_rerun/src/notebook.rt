@@ -1,24 +1,19 @@
 //! The notebook.
 
-ghost use Rattle.std.specs.Prelude.{◌≡◌, IfOk, MatchResult, OnErr, OnOk, length};
-ghost use Rattle.nd_model.specs.Book.{labels_of};
-ghost use Rattle.nd_model.specs.Renaming.{AreDistinct};
+ghost use Rattle.std.specs.Prelude.{◌≡◌, IfOk, OnErr, OnOk, length};
 ghost use Rattle.nd_model.specs.Book as model;
-ghost use Rattle.nd_model.specs.Notebook.{Answers, CountsAtMost, CountsRuns, no_sheet};
-ghost use Rattle.nd_model.specs.Stale.{counted};
-ghost use Rattle.nd_heap.specs.Values.{given_of, source_of};
+ghost use Rattle.nd_model.specs.Notebook.{Answers, CountsRuns, no_sheet};
+ghost use Rattle.nd_heap.specs.Values.{source_of};
 ghost use Rattle.nd_rerun.specs.Edits.{outcome_of};
-ghost use Rattle.nd_rerun.specs.Labels.{AreSmall};
 
-use crate::cells::{
-    Ran, Source, insert_source, move_source, remove_source, replace_source, run_all,
-};
 use crate::edit::{Edit, EditFault};
 use crate::given::is_input_name;
+use crate::kernel::Kernel;
 use crate::query::{QueryFault, Shown, names_of, what_shows};
 use indexmap::IndexMap;
 use nd_cell::{CellResult, Meter};
-use nd_heap::{Input, Inputs, OutOfMemory, has_input, with_input, without_input};
+use nd_heap::{Input, OutOfMemory, Version, has_input, with_input, without_input};
+use nd_schedule::Notebook as Schedule;
 use std::alloc::Global;
 use std::marker::Model;
 
@@ -31,12 +26,10 @@ const MOST_SOURCE: usize = 65_536;
 /// The most bytes that an input takes.
 const MOST_INPUT: u128 = 67_108_864;
 
-/// A list of cells and inputs, with what running all cells in order from nothing gives. Places count from 0.
+/// A list of cells and inputs, which answers what running all cells in order from nothing gives. Places count from 0.
 #[derive(Drop)]
 pub struct Notebook {
-    cells: Vec<Source>,
-    inputs: Inputs,
-    ran: Vec<Ran>,
+    schedule: Schedule<Kernel>,
     alloc: Global,
 }
 
@@ -45,63 +38,23 @@ impl Model for Notebook {
 
     ghost Value = { Sheet };
 
-    ghost use Rattle.nd_rerun.specs.Passes.{sheet_in, IsRun};
-
-    ghost view = { sheet_in };
-
-    ghost invariant = { IsRun };
+    ghost view = { λ n. n.schedule };
 }
 
 impl Notebook {
-    ghost use Rattle.nd_rerun.specs.Cells.{cells_of};
-
     /// A notebook without cells and inputs. It takes no memory.
     pub fn new(alloc: Global) -> Notebook
         ensures { result ≡ no_sheet }
     {
-        Notebook {
-            cells: Vec::new(alloc),
-            inputs: IndexMap::new(alloc),
-            ran: Vec::new(alloc),
-            alloc,
-        }
+        let schedule = Schedule::new(alloc, IndexMap::new(alloc));
+        Notebook { schedule, alloc }
     }
 
     /// How many cells there are.
     pub fn count(&self) -> usize
         ensures { result ≡ length self.now.cells }
     {
-        self.cells.len()
-    }
-
-    /// Runs these cells, and puts them in the place of the present ones.
-    fn replace(&mut self, meter: &mut Meter, cells: Vec<Source>) -> Result<(), OutOfMemory>
-        requires distinct { AreDistinct (labels_of (cells_of cells.items)) }
-        requires small { AreSmall (labels_of (cells_of cells.items)) }
-        ensures ok { OnOk result (self.new ≡ record self.old { cells = cells_of cells.items }) }
-        ensures err { OnErr result (self.new ≡ self.old) }
-        ensures counts { MatchResult result
-            (λ _. meter.new ≡ counted (length cells.items) meter.old)
-            (λ _. CountsAtMost (length cells.items) meter.old meter.new) }
-    {
-        let ran = run_all(self.alloc, meter, &self.inputs, &cells)?;
-        self.cells = cells;
-        self.ran = ran;
-        Ok(())
-    }
-
-    /// Runs the cells over these inputs, and puts the inputs in the place of the present ones.
-    fn replace_inputs(&mut self, meter: &mut Meter, inputs: Inputs) -> Result<(), OutOfMemory>
-        ensures ok { OnOk result (self.new ≡ record self.old { given = given_of inputs.entries }) }
-        ensures err { OnErr result (self.new ≡ self.old) }
-        ensures counts { MatchResult result
-            (λ _. meter.new ≡ counted (length self.old.cells) meter.old)
-            (λ _. CountsAtMost (length self.old.cells) meter.old meter.new) }
-    {
-        let ran = run_all(self.alloc, meter, &inputs, &self.cells)?;
-        self.inputs = inputs;
-        self.ran = ran;
-        Ok(())
+        self.schedule.count()
     }
 }
 
@@ -114,7 +67,7 @@ impl Notebook {
         ensures counts { CountsRuns (model.Insert at source.now) self.old
             (outcome_of (model.Insert at source.now) result) meter.old meter.new }
     {
-        let count = self.cells.len();
+        let count = self.schedule.count();
         if count < at {
             return Err(EditFault::NoCell(at, count));
         }
@@ -124,8 +77,7 @@ impl Notebook {
         if source.len() > MOST_SOURCE {
             return Err(EditFault::CellTooLong);
         }
-        let cells = insert_source(self.alloc, &self.cells, at, source)?;
-        self.replace(meter, cells)?;
+        self.schedule.insert(meter, at, source)?;
         Ok(())
     }
 
@@ -137,15 +89,14 @@ impl Notebook {
         ensures counts { CountsRuns (model.Change at source.now) self.old
             (outcome_of (model.Change at source.now) result) meter.old meter.new }
     {
-        let count = self.cells.len();
+        let count = self.schedule.count();
         if count <= at {
             return Err(EditFault::NoCell(at, count));
         }
         if source.len() > MOST_SOURCE {
             return Err(EditFault::CellTooLong);
         }
-        let cells = replace_source(self.alloc, &self.cells, at, source)?;
-        self.replace(meter, cells)?;
+        self.schedule.edit(meter, at, source)?;
         Ok(())
     }
 
@@ -157,15 +108,14 @@ impl Notebook {
         ensures counts { CountsRuns (model.Move from to) self.old
             (outcome_of (model.Move from to) result) meter.old meter.new }
     {
-        let count = self.cells.len();
+        let count = self.schedule.count();
         if count <= from {
             return Err(EditFault::NoCell(from, count));
         }
         if count <= to {
             return Err(EditFault::NoCell(to, count));
         }
-        let cells = move_source(self.alloc, &self.cells, from, to)?;
-        self.replace(meter, cells)?;
+        self.schedule.move_cell(meter, from, to)?;
         Ok(())
     }
 
@@ -176,12 +126,11 @@ impl Notebook {
         ensures counts { CountsRuns (model.Remove at) self.old
             (outcome_of (model.Remove at) result) meter.old meter.new }
     {
-        let count = self.cells.len();
+        let count = self.schedule.count();
         if count <= at {
             return Err(EditFault::NoCell(at, count));
         }
-        let cells = remove_source(self.alloc, &self.cells, at)?;
-        self.replace(meter, cells)?;
+        self.schedule.remove(meter, at)?;
         Ok(())
     }
 
@@ -205,8 +154,8 @@ impl Notebook {
         if MOST_INPUT < input.size() {
             return Err(EditFault::InputTooLarge);
         }
-        let inputs = with_input(self.alloc, &self.inputs, name, input)?;
-        self.replace_inputs(meter, inputs)?;
+        let inputs = with_input(self.alloc, self.schedule.inputs(), name, input)?;
+        self.schedule.set_inputs(meter, inputs)?;
         Ok(())
     }
 
@@ -221,28 +170,31 @@ impl Notebook {
         if !is_input_name(name) {
             return Err(EditFault::BadInputName);
         }
-        if !has_input(&self.inputs, name) {
+        if !has_input(self.schedule.inputs(), name) {
             return Err(EditFault::NoInputNamed);
         }
-        let inputs = without_input(&self.inputs, name)?;
-        self.replace_inputs(meter, inputs)?;
+        let inputs = without_input(self.schedule.inputs(), name)?;
+        self.schedule.set_inputs(meter, inputs)?;
         Ok(())
     }
 }
 
 impl Notebook {
-    ghost use Rattle.std.specs.Prelude.{[], map, string_bytes};
+    ghost use Rattle.std.specs.Prelude.{◌+◌, ◌<◌, ◌≤◌, [], map, string_bytes};
+    ghost use Rattle.nd_model.specs.Entries.{session_before};
     ghost use Rattle.nd_model.specs.Notebook.{book_of, Tells};
+    ghost use Rattle.nd_heap.specs.Kept.{version_of};
     ghost use Rattle.nd_rerun.specs.Queries.{answer_of, result_of, shown_of};
 
     /// The text of the cell at the place. It takes no memory.
     pub fn source(&self, at: usize) -> Result<&str, QueryFault>
         ensures { answer_of [] (λ s. s.now) result ≡ model.source_at (book_of self.now) at }
     {
-        match self.cells.get(at) {
-            Some(cell) => Ok(cell.text.as_str()),
-            None => Err(QueryFault::NoCell(at, self.cells.len())),
+        let count = self.schedule.count();
+        if count <= at {
+            return Err(QueryFault::NoCell(at, count));
         }
+        Ok(self.schedule.text(at))
     }
 
     /// What the cell at the place gives. It takes no memory.
@@ -250,10 +202,21 @@ impl Notebook {
         ensures { answer_of [] (λ r. result_of r.now) result
             ≡ model.result_at (book_of self.now) at }
     {
-        match self.ran.get(at) {
-            Some(ran) => Ok(&ran.result),
-            None => Err(QueryFault::NoCell(at, self.cells.len())),
+        let count = self.schedule.count();
+        if count <= at {
+            return Err(QueryFault::NoCell(at, count));
         }
+        Ok(self.schedule.made(at).result())
+    }
+
+    /// The session before the cell at the place, or after the last one.
+    fn version_before(&self, at: usize) -> Result<Version, OutOfMemory>
+        requires { at ≤ length self.now.cells }
+        ensures { IfOk result (λ v. version_of v ≡ session_before (book_of self.now) at) }
+    {
+        let session = self.schedule.session_before(at)?;
+        let version = session.freeze()?;
+        Ok(version)
     }
 
     /// The names that are bound after the cell at the place, in order.
@@ -261,10 +224,12 @@ impl Notebook {
         ensures { Tells (answer_of [] (λ v. map string_bytes v.items) result)
             (model.names_at (book_of self.now) at) }
     {
-        match self.ran.get(at) {
-            Some(ran) => Ok(names_of(self.alloc, &ran.version)?),
-            None => Err(QueryFault::NoCell(at, self.cells.len())),
+        let count = self.schedule.count();
+        if count <= at {
+            return Err(QueryFault::NoCell(at, count));
         }
+        let version = self.version_before(at + 1)?;
+        Ok(names_of(self.alloc, &version)?)
     }
 
     /// What shows of the value of a name after the cell at the place.
@@ -272,11 +237,16 @@ impl Notebook {
         ensures { Tells (answer_of name.now shown_of result)
             (model.value_at (book_of self.now) at name.now) }
     {
-        let Some(ran) = self.ran.get(at) else {
-            return Err(QueryFault::NoCell(at, self.cells.len()));
-        };
-        match ran.version.peek(name) {
-            Some(value) => Ok(what_shows(self.alloc, &ran.version, value)?),
+        let count = self.schedule.count();
+        if count <= at {
+            return Err(QueryFault::NoCell(at, count));
+        }
+        if !self.schedule.is_bound(at + 1, name) {
+            return Err(QueryFault::NoName);
+        }
+        let version = self.version_before(at + 1)?;
+        match version.peek(name) {
+            Some(value) => Ok(what_shows(self.alloc, &version, value)?),
             None => Err(QueryFault::NoName),
         }
     }
@@ -320,11 +290,13 @@ impl Notebook {
         ensures err_counts { OnErr result (meter.new ≡ meter.old) }
         ensures any_labels { AnswersUnderAnyLabels (book_of self.new) }
     {
+        self.schedule.distinctness();
         let mut answers = Vec::with_capacity(self.alloc, edits.len())?;
         for edit in edits {
             let answer = self.apply(meter, *edit);
             answers.push_reserved(answer);
         }
+        self.schedule.distinctness();
         Ok(answers)
     }
 }

@@ -10,7 +10,7 @@ ghost use Rattle.nd_rerun.specs.declared.query.QueryFault.TheVariants as faults;
 use nd_element::canonical_bytes;
 use nd_heap::{OutOfMemory, Value, Version};
 use nd_types::{ElemType, Kind, Num};
-use std::alloc::Global;
+use std::alloc::{AllocError, Global};
 
 /// Why a query is refused.
 #[derive(Clone, Copy, PartialEq, Eq)]
@@ -40,6 +40,14 @@ impl From<OutOfMemory> for QueryFault {
     ghost from_gives = { λ _ e. e ≡ faults.OutOfMemory };
 
     fn from(_e: OutOfMemory) -> QueryFault {
+        QueryFault::OutOfMemory
+    }
+}
+
+impl From<AllocError> for QueryFault {
+    ghost from_gives = { λ _ e. e ≡ faults.OutOfMemory };
+
+    fn from(_e: AllocError) -> QueryFault {
         QueryFault::OutOfMemory
     }
 }

@@ -1,11 +1,11 @@
 -- What is kept of a run gives the session before each cell.
-use Rattle.std.proofs.Common.{◌≡◌, ℕ, ◌+◌, ◌<◌, ◌≤◌, inl, inr, List, length, map, get_or, Option, Some, None, IfSome, option_map, sym, ap, ap₂, subst, ◌∙◌, arith, below_more}
+use Rattle.std.proofs.Common.{◌≡◌, ℕ, ◌+◌, ◌<◌, ◌≤◌, inl, inr, List, length, map, get_or, Option, Some, None, IfSome, option_map, is_some, unwrap_or, Bool, refl, sym, ap, ap₂, subst, ◌∙◌, arith, below_more}
 use Rattle.std.specs.Prelude.{slice_get, IsTrue}
 use Rattle.std.proofs.lemmas.Bool.{cases_lt}
 use Rattle.std.proofs.lemmas.List.{get_or-map, length-map}
-use Rattle.nd_model.specs.Session.{Session, no_session}
+use Rattle.nd_model.specs.Session.{Names, Session, lookup, no_session}
 use Rattle.nd_model.specs.Running.{Input, Inputs}
-use Rattle.nd_model.specs.Footprint.{with_effects}
+use Rattle.nd_model.specs.Footprint.{replayed, with_effects}
 use Rattle.nd_model.specs.Records.{Record, StillHolds}
 use Rattle.nd_model.specs.Renaming.{AreDistinct}
 use Rattle.nd_model.specs.Book.{Book, labels_of, told_book}
@@ -67,3 +67,9 @@ unread_one view b i xs x at back all place is same before k le lt = elim (cases_
       subst (ReadsNoOther b i) here (λ name read. same name (subst (λ r. P r name) (sym (record_there view b xs x at all (omega arith) is)) read))
   | inr behind ↦ before k (omega arith) lt
 ]
+
+-- whether a name is bound after a cell, by what the cell did to it at last
+pub bound_next : (b : Book) (d : AreDistinct (labels_of b.cells)) (k : ℕ) (r : Record) (n : List ℕ) (last : Option Bool) → k < length b.cells → r ≡ record_at b.inputs (entry_at b k)
+    → ((names : Names) → is_some (lookup n (replayed r.effects.events names)) ≡ unwrap_or last (is_some (lookup n names)))
+    → is_some (lookup n (session_before b (k + 1)).names) ≡ unwrap_or last (is_some (lookup n (session_before b k).names))
+bound_next b d k r n last lt is h = ap (λ (s : Session). is_some (lookup n s.names)) (sym (after_replay b d k lt r (session_before b k) is refl)) ∙ h (session_before b k).names

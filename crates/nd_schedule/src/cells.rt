@@ -1,11 +1,12 @@
 //! What runs cells: the contract that a notebook asks of the layer below it.
 
-ghost use Rattle.std.specs.Prelude.{◌≡◌, ℕ, List, ◌+◌, ◌-◌, ◌^◌, ◌↔◌, min, IsFalse, IsTrue, IfOk, OnOk};
+ghost use Rattle.std.specs.Prelude.{◌≡◌, ℕ, List, ◌+◌, ◌-◌, ◌^◌, ◌↔◌, min, IsFalse, IsTrue, IfOk, OnOk, is_some, unwrap_or};
 ghost use Rattle.nd_model.specs.Session as sessions;
+ghost use Rattle.nd_model.specs.Session.{lookup};
 ghost use Rattle.nd_model.specs.Running as running;
 ghost use Rattle.nd_model.specs.Reading.{reading};
 ghost use Rattle.nd_model.specs.Cell.{cell, session_after};
-ghost use Rattle.nd_model.specs.Footprint.{HasNone, with_effects};
+ghost use Rattle.nd_model.specs.Footprint.{HasNone, replayed, with_effects};
 ghost use Rattle.nd_model.specs.Records.{record_of, StillHolds};
 ghost use Rattle.nd_model.specs.Records as records;
 ghost use Rattle.nd_model.specs.CutOff.{SameOnSession, IsQuiet};
@@ -34,8 +35,8 @@ pub trait Cells: Drop {
     ghost given: { Self.Inputs → List (List ℕ × running.Source) };
 
     /// A session with no names.
-    fn empty(alloc: Global) -> Self::Session
-        ensures { session_of result ≡ sessions.no_session };
+    fn empty(alloc: Global) -> Result<Self::Session, AllocError>
+        ensures { IfOk result (λ s. session_of s ≡ sessions.no_session) };
 
     /// Runs a cell of this label over a session, and counts the run. After want of memory the session is only fit to be dropped.
     fn run(
@@ -57,6 +58,7 @@ pub trait Cells: Drop {
 
     /// Whether a record may stand for a run of its cell over the session and these inputs.
     fn still_holds(made: &Self::Record, session: &Self::Session, inputs: &Self::Inputs) -> bool
+        requires { HasNone (recorded made.now).label (session_of session.now) }
         ensures { IsTrue result
             ↔ StillHolds (recorded made.now) (session_of session.now)
             (inputs_in (given inputs.now)) };
@@ -76,6 +78,12 @@ pub trait Cells: Drop {
             → IsTrue ((recorded made.now).read (running.Input name))
             → inputs_in (given old.now) name ≡ inputs_in (given new.now) name };
 
+    /// What the run did to a name at last: it bound it, or unbound it; none where it did neither.
+    fn last_of(made: &Self::Record, name: &str) -> Option<bool>
+        ensures { (names : sessions.Names)
+            → is_some (lookup name.now (replayed (recorded made.now).effects.events names))
+            ≡ unwrap_or result (is_some (lookup name.now names)) };
+
     /// Whether two runs did the same to their sessions, whatever they told and read. It may say no where they did.
     fn same_effects(one: &Self::Record, other: &Self::Record) -> bool
         ensures { IsTrue result → SameOnSession (recorded one.now) (recorded other.now) };
@@ -93,7 +101,11 @@ pub trait Cells: Drop {
     fn is_at(session: &Self::Session, version: &Self::Version) -> bool
         ensures { IsTrue result → session_of session.now ≡ kept_session version.now };
 
+    /// Whether a name is bound in the session that was kept.
+    fn has_name(version: &Self::Version, name: &str) -> bool
+        ensures { result ≡ is_some (lookup name.now (kept_session version.now).names) };
+
     /// A session as it was kept.
-    fn thaw(version: &Self::Version) -> Result<Self::Session, AllocError>
+    fn thaw(alloc: Global, version: &Self::Version) -> Result<Self::Session, AllocError>
         ensures { IfOk result (λ s. session_of s ≡ kept_session version.now) };
 }

@@ -18,12 +18,15 @@ ghost use Rattle.std.specs.Prelude.{
   OnErr,
   OnOk,
   drop,
+  is_some,
   length,
   map,
   slice_get,
   slice_index_or,
   take,
+  unwrap_or,
 };
+ghost use Rattle.nd_model.specs.Session.{lookup};
 ghost use Rattle.nd_model.specs.Renaming.{AreDistinct};
 ghost use Rattle.nd_model.specs.Book.{labels_of, no_cell, told_book, Insert, Change, Move, Remove};
 ghost use Rattle.nd_model.specs.Entries.{ReadsNoOther, records_of, session_before, SharesFront};
@@ -115,17 +118,18 @@ impl<C: Cells> Notebook<C> {
             let k = at - back;
             if k < self.versions.len() {
                 if let Some(version) = &self.versions[k] {
-                    let session = C::thaw(version)?;
+                    let session = C::thaw(self.alloc, version)?;
                     return Ok((k, session));
                 }
             }
         }
-        Ok((0, C::empty(self.alloc)))
+        let session = C::empty(self.alloc)?;
+        Ok((0, session))
     }
 
     /// The session before the cell at a place, or after the last one: from the last version before it, by the records behind
     /// that.
-    fn session_before(&self, at: usize) -> Result<C::Session, AllocError>
+    pub fn session_before(&self, at: usize) -> Result<C::Session, AllocError>
         requires { at ≤ length self.now.cells }
         ensures { IfOk result (λ s. C.session_of s ≡ session_before (book_of self.now) at) }
     {
@@ -493,15 +497,49 @@ impl<C: Cells> Notebook<C> {
         self.cells[at].label
     }
 
-    /// What the run of the cell at the place gave, and the session after it. Together they tell what running all cells tells.
-    pub fn seen(&self, at: usize) -> Result<(&C::Record, C::Session), AllocError>
-        requires { at < length self.now.cells }
-        ensures { IfOk result
-            (λ s. slice_get (told_book (book_of self.now)) at
-            ≡ Some (told_of (C.recorded s.0.now) (C.session_of s.1))) }
+    /// A fact, and no work: no two cells have the same label.
+    pub fn distinctness(&self)
+        ensures { AreDistinct (labels_of self.now.cells) }
     {
-        let made = &self.records[at];
-        let session = self.session_before(at + 1)?;
-        Ok((made, session))
+        let _ = &self.records;
+    }
+
+    /// What the run of the cell at the place gave. It takes no memory.
+    pub fn made(&self, at: usize) -> &C::Record
+        requires { at < length self.now.cells }
+        ensures { slice_get (told_book (book_of self.now)) at
+            ≡ Some (told_of (C.recorded result.now) (session_before (book_of self.now) (at + 1))) }
+    {
+        &self.records[at]
+    }
+
+    /// Whether a name is bound after the cell at the place, where its record or the version before it tells it.
+    fn bound_by(&self, at: usize, name: &str) -> Option<bool>
+        requires { at < length self.now.cells }
+        ensures { is_some (lookup name.now (session_before (book_of self.now) (at + 1)).names)
+            ≡ unwrap_or result
+            (is_some (lookup name.now (session_before (book_of self.now) at).names)) }
+    {
+        match C::last_of(&self.records[at], name) {
+            Some(bound) => Some(bound),
+            None => match &self.versions[at] {
+                Some(version) => Some(C::has_name(version, name)),
+                None => None,
+            },
+        }
+    }
+
+    /// Whether a name is bound in the session before the cell at a place, or after the last one. It takes no memory.
+    pub fn is_bound(&self, at: usize, name: &str) -> bool
+        requires { at ≤ length self.now.cells }
+        ensures { result
+            ≡ is_some (lookup name.now (session_before (book_of self.now) at).names) }
+    {
+        for back in 0..at {
+            if let Some(bound) = self.bound_by(at - 1 - back, name) {
+                return bound;
+            }
+        }
+        false
     }
 }

@@ -1,16 +1,23 @@
-use Rattle.std.proofs.Common.{◌≡◌, ℕ, ◌+◌, ◌<◌, ◌≤◌, ◌^◌, List, length, ap, ◌∙◌, arith}
-use Rattle.nd_model.specs.Running.{Running}
-use Rattle.nd_model.specs.Tokens.{tokens_of_lines}
-use Rattle.nd_model.proofs.FewTokens.{few_tokens}
-use Rattle.nd_syntax.specs.declared.tree.Line.{Line}
-use Rattle.nd_syntax.specs.Syntax.{lines_of, parsed_of}
+use Rattle.std.proofs.Common.{◌≡◌, ◌∙◌, ap, sym}
+use Rattle.nd_model.specs.Cell.{cell, ran}
+use Rattle.nd_model.specs.Reading.{reading}
+use Rattle.nd_model.specs.Running.{Running, session_of}
+use Rattle.nd_heap.specs.Kept.{version_of}
 use Rattle.nd_heap.specs.Live.{live}
+use Rattle.nd_heap.specs.Values.{inputs_of}
+use Rattle.nd_cell.specs.Records.{recorded}
+use Rattle.nd_cell.specs.Results.{ended_of}
+use Rattle.nd_cell.proofs.Recording.{ends_run, recorded_run, sound_now}
 use Rattle.nd_cell.proofs.run.run_cell.Goals as goal
 
-few : (text : List ℕ) (next : ℕ) (lines : List Line) → next ≡ 0 → length text < 2 ^ 64 → tokens_of_lines (lines_of lines) ≤ length text → next + tokens_of_lines (lines_of lines) < 2 ^ 64
-few text next lines first short fewer = omega arith
+pub of_run-requires : goal.of_run-requires
+of_run-requires c =
+    ends_run c.args.label (reading c.args.text.now) (inputs_of c.args.inputs.now.entries) (session_of (live c.args.session.now)) (version_of c.in_ok-before.before)
+    (ended_of c.in_ok-gives.gives (live c.run_text.new.session)) c.requires (sound_now (live c.args.session.now) c.soundness.ensures) c.in_ok-before.ensures.session
+    (ap (λ (x : Running). ran (inputs_of c.args.inputs.now.entries) (reading c.args.text.now) x) (sym c.in_ok-start.ensures) ∙ c.in_ok-gives.ensures)
 
-pub run_lines-requires : goal.run_lines-requires
-run_lines-requires c =
-    few c.args.text.now (live c.start.new.self).next c.deref.result.now (ap (λ (r : Running). r.next) c.in_ok-start.ensures) (let short : length c.as_bytes-bytes.result.now < 2 ^ 64 = c.as_bytes-bytes.type_inv.0 in omega (arith, c.as_bytes-bytes.ensures.len))
-    (rw c.deref.ensures.value (few_tokens c.args.text.now (lines_of c.in-Ok.lines.items) (c.in_ok-lines.ensures ∙ ap parsed_of c.in-Ok.is)))
+pub returns-clause-recorded : goal.returns-clause-recorded
+returns-clause-recorded c =
+    recorded_run c.args.label (reading c.args.text.now) (inputs_of c.args.inputs.now.entries) (session_of (live c.args.session.now)) (version_of c.in_ok-before.before)
+    (ended_of c.in_ok-gives.gives (live c.run_text.new.session)) (recorded c.in_ok-made.made) c.in_ok-made.ensures.recorded c.in_ok-before.ensures.session
+    (ap (λ (x : Running). ran (inputs_of c.args.inputs.now.entries) (reading c.args.text.now) x) (sym c.in_ok-start.ensures) ∙ c.in_ok-gives.ensures)

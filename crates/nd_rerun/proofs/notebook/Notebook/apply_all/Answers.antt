@@ -1,9 +1,10 @@
-use Rattle.std.proofs.Common.{rules, sym, ap}
-use Rattle.nd_model.proofs.Books.{any_book_labels}
+use Rattle.std.proofs.Common.{rules, subst}
+use Rattle.nd_model.specs.Renaming.{AreDistinct}
+use Rattle.nd_model.specs.Book.{labels_of}
 use Rattle.nd_model.specs.Notebook.{Sheet, book_of}
+use Rattle.nd_model.proofs.Books.{any_book_labels}
 use Rattle.nd_rerun.specs.Edits.{edit_of}
-use Rattle.nd_rerun.proofs.Answered.{leads_first, leads_to_end, leads_on, answer_distinct}
-use Rattle.nd_rerun.proofs.Small.{same_distinct}
+use Rattle.nd_rerun.proofs.Answered.{leads_first, leads_to_end, leads_on}
 use Rattle.nd_rerun.proofs.notebook.Notebook.apply_all.Goals as goal
 
 pub loop-edit-init : goal.loop-edit-init
@@ -11,7 +12,6 @@ loop-edit-init c = record {
   leads = leads_first c.args.edits.now _ _ _ (search rules);
   as_many = search rules;
   has_room = search rules;
-  distinct = search rules;
 }
 
 pub loop-edit-preserved : goal.loop-edit-preserved
@@ -19,14 +19,15 @@ loop-edit-preserved c = record {
   leads = leads_on c.args.edits.now c.loop-edit.edit-index c.edit-item.result _ _ _ _ _ _ _ _ _ c.loop-edit.invariant.as_many c.loop-edit-test.true c.edit-item.is c.apply-answer.ensures.answered c.apply-answer.ensures.counts c.push_reserved.ensures.items c.loop-edit.invariant.leads;
   as_many = search rules;
   has_room = search rules;
-  distinct = answer_distinct (edit_of c.edit-item.result) c.loop-edit.self _ c.apply-answer.new.self c.apply-answer.ensures.answered c.loop-edit.invariant.distinct;
 }
-
-pub returns-in_err-answers-clause-any_labels : goal.returns-in_err-answers-clause-any_labels
-returns-in_err-answers-clause-any_labels c = any_book_labels (book_of c.args.self.now) (same_distinct _ _ (ap (λ (s : Sheet). s.cells) (sym c.self.view_is)) c.self.invariant.distinct)
 
 pub returns-clause-answered : goal.returns-clause-answered
 returns-clause-answered c = leads_to_end c.args.edits.now _ _ _ _ _ _ c.loop-edit-test.false c.loop-edit.invariant.leads
 
+pub returns-in_err-answers-clause-any_labels : goal.returns-in_err-answers-clause-any_labels
+returns-in_err-answers-clause-any_labels c =
+    any_book_labels (book_of c.args.self.now) (subst (λ (s : Sheet). AreDistinct (labels_of s.cells)) c.self.view_is c.distinctness.ensures)
+
 pub returns-clause-any_labels : goal.returns-clause-any_labels
-returns-clause-any_labels c = any_book_labels (book_of c.loop-edit.self) c.loop-edit.invariant.distinct
+returns-clause-any_labels c =
+    any_book_labels (book_of c.loop-edit.self) (subst (λ (s : Sheet). AreDistinct (labels_of s.cells)) c.self-2.view_is c.distinctness-2.ensures)

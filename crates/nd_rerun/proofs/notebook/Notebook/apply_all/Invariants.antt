@@ -1,6 +1,4 @@
 use Rattle.std.proofs.Common.{◌≡◌, ◌≤◌, length, map, vec_capacity}
-use Rattle.nd_model.specs.Renaming.{AreDistinct}
-use Rattle.nd_model.specs.Book.{labels_of}
 use Rattle.nd_rerun.specs.Edits.{edit_of, outcomes_of}
 use Rattle.nd_rerun.proofs.Answered.{Leads}
 use Rattle.nd_rerun.proofs.notebook.Notebook.apply_all.Given as goal
@@ -10,5 +8,4 @@ invariant-loop-edit l = record {
   leads : Leads l.edits l.edit-index l.fn.self l.fn.meter (outcomes_of (map edit_of l.edits) l.answers.items) l.self l.meter;
   as_many : length l.answers.items ≡ l.edit-index;
   has_room : length l.edits ≤ vec_capacity l.answers;
-  distinct : AreDistinct (labels_of l.self.cells);
 }

@@ -1,18 +1,33 @@
-use Rattle.std.proofs.Common.{◌∙◌, sym, ap, Ok, map}
-use Rattle.std.proofs.lemmas.List.{length-map}
-use Rattle.nd_model.specs.Renaming.{Told}
+use Rattle.std.proofs.Common.{◌≡◌, ℕ, List, [], Ok, map, length, string_bytes, ap, sym, ◌∙◌, ◌+◌, ◌<◌, ◌≤◌, arith, is_some, false, true}
+use Rattle.nd_model.specs.Session.{Session, lookup}
+use Rattle.nd_model.specs.Value.{Value}
+use Rattle.nd_model.specs.Entries.{session_before}
+use Rattle.nd_model.specs.Renaming.{Told, Shown}
+use Rattle.nd_model.specs.Book.{found_value}
+use Rattle.nd_model.specs.Book as model
+use Rattle.nd_model.specs.Notebook.{Sheet, book_of}
 use Rattle.nd_heap.specs.Kept.{version_of}
-use Rattle.nd_rerun.specs.Cells.{cell_of}
-use Rattle.nd_rerun.proofs.Asked.{asked, not_asked, names_shown}
+use Rattle.nd_heap.specs.Values.{value_of}
+use Rattle.nd_rerun.specs.Queries.{shown_of}
+use Rattle.nd_rerun.proofs.Asked.{names_are_told, names_told, no_source, no_value, not_told, result_told, source_there, unbound_value, value_is_told, value_told, wants_memory}
 use Rattle.nd_rerun.proofs.notebook.Notebook.names.Goals as goal
 
-pub returns-in_ok-names_of-in-Some : goal.returns-in_ok-names_of-in-Some
-returns-in_ok-names_of-in-Some c =
-    asked (λ (t : Told). Ok (map (λ e. e.0) t.names)) _ _ c.self.inside.ran.items c.deref.result.now c.args.at c.in-Some.ran.now
-    c.self.view_is c.self.invariant.told c.deref.ensures.value c.in-Some.ensures.lookup.3.0 c.in-Some.ensures.lookup.1
-    ∙ ap Ok (names_shown (version_of c.in-Some.ran.now.version) _ _ c.in_ok-names_of-in-Some.ensures)
+pub returns-then-count-at : goal.returns-then-count-at
+returns-then-count-at c =
+    let many : c.count-count.result ≡ length c.args.self.now.cells = c.count-count.ensures ∙ ap (λ (s : Sheet). length s.cells) c.self.view_is in
+    not_told (λ (t : Told). Ok (map (λ (e : List ℕ × Shown). e.0) t.names)) (book_of c.args.self.now) c.args.at c.count-count.result (omega arith) many
 
-pub returns-in-None : goal.returns-in-None
-returns-in-None c =
-    not_asked (λ (t : Told). Ok (map (λ e. e.0) t.names)) _ _ c.self.inside.ran.items c.deref.result.now c.args.at c.len.result
-    c.self.view_is c.self.invariant.told c.deref.ensures.value c.in-None.ensures.lookup.3 (length-map c.self.inside.cells.items cell_of ∙ sym c.self.inside.cells.ok.0 ∙ sym c.len.ensures)
+pub returns-in_err-version : goal.returns-in_err-version
+returns-in_err-version c =
+    let many : c.count-count.result ≡ length c.args.self.now.cells = c.count-count.ensures ∙ ap (λ (s : Sheet). length s.cells) c.self.view_is in
+    wants_memory [] _ c.from_residual.result _ c.from_residual.ensures.1 (names_are_told (book_of c.args.self.now) c.args.at (omega arith))
+
+pub returns-in_err-names_of : goal.returns-in_err-names_of
+returns-in_err-names_of c =
+    let many : c.count-count.result ≡ length c.args.self.now.cells = c.count-count.ensures ∙ ap (λ (s : Sheet). length s.cells) c.self.view_is in
+    wants_memory [] _ c.from_residual-in_err-names_of.result _ c.from_residual-in_err-names_of.ensures.1 (names_are_told (book_of c.args.self.now) c.args.at (omega arith))
+
+pub returns : goal.returns
+returns c =
+    let many : c.count-count.result ≡ length c.args.self.now.cells = c.count-count.ensures ∙ ap (λ (s : Sheet). length s.cells) c.self.view_is in
+    names_told (book_of c.args.self.now) c.args.at (version_of c.in_ok-version.version) _ (omega arith) c.in_ok-version.ensures c.in_ok-names_of.ensures

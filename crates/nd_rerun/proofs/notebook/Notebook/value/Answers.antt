@@ -1,28 +1,52 @@
-use Rattle.std.proofs.Common.{◌∙◌}
-use Rattle.nd_model.specs.Session.{lookup}
-use Rattle.nd_model.specs.Renaming.{Told}
+use Rattle.std.proofs.Common.{◌≡◌, ℕ, List, [], Ok, map, length, string_bytes, ap, sym, ◌∙◌, ◌+◌, ◌<◌, ◌≤◌, arith, is_some, false, true}
+use Rattle.nd_model.specs.Session.{Session, lookup}
+use Rattle.nd_model.specs.Value.{Value}
+use Rattle.nd_model.specs.Entries.{session_before}
+use Rattle.nd_model.specs.Renaming.{Told, Shown}
 use Rattle.nd_model.specs.Book.{found_value}
+use Rattle.nd_model.specs.Book as model
+use Rattle.nd_model.specs.Notebook.{Sheet, book_of}
 use Rattle.nd_heap.specs.Kept.{version_of}
 use Rattle.nd_heap.specs.Values.{value_of}
 use Rattle.nd_rerun.specs.Queries.{shown_of}
-use Rattle.nd_rerun.proofs.Asked.{asked, value_found, value_missing, value_is_ok, wants_memory}
+use Rattle.nd_rerun.proofs.Asked.{names_are_told, names_told, no_source, no_value, not_told, result_told, source_there, unbound_value, value_is_told, value_told, wants_memory}
 use Rattle.nd_rerun.proofs.notebook.Notebook.value.Goals as goal
 
-pub returns-in_ok-what_shows-in-Some-peek : goal.returns-in_ok-what_shows-in-Some-peek
-returns-in_ok-what_shows-in-Some-peek c =
-    asked (λ (t : Told). found_value c.args.name.now (lookup c.args.name.now t.names)) _ _ c.self.inside.ran.items c.deref.result.now c.args.at c.in-Some.ran.now
-    c.self.view_is c.self.invariant.told c.deref.ensures.value c.in-Some.ensures.lookup.3.0 c.in-Some.ensures.lookup.1
-    ∙ value_found c.args.name.now (version_of c.in-Some.ran.now.version) _ (value_of c.in-Some-peek.value.now) (shown_of c.in_ok-what_shows-in-Some-peek.field-0) c.in-Some-peek.ensures c.in_ok-what_shows-in-Some-peek.ensures
+pub returns-then-count-at : goal.returns-then-count-at
+returns-then-count-at c =
+    let many : c.count-count.result ≡ length c.args.self.now.cells = c.count-count.ensures ∙ ap (λ (s : Sheet). length s.cells) c.self.view_is in
+    not_told (λ (t : Told). found_value c.args.name.now (lookup c.args.name.now t.names)) (book_of c.args.self.now) c.args.at c.count-count.result (omega arith) many
 
-pub returns-in-None : goal.returns-in-None
-returns-in-None c =
-    asked (λ (t : Told). found_value c.args.name.now (lookup c.args.name.now t.names)) _ _ c.self.inside.ran.items c.deref.result.now c.args.at c.in-Some.ran.now
-    c.self.view_is c.self.invariant.told c.deref.ensures.value c.in-Some.ensures.lookup.3.0 c.in-Some.ensures.lookup.1
-    ∙ value_missing c.args.name.now (version_of c.in-Some.ran.now.version) _ c.in-None.ensures
+pub returns-then-not-is_bound : goal.returns-then-not-is_bound
+returns-then-not-is_bound c =
+    let many : c.count-count.result ≡ length c.args.self.now.cells = c.count-count.ensures ∙ ap (λ (s : Sheet). length s.cells) c.self.view_is in
+    let told : c.is_bound.result ≡ is_some (lookup c.args.name.now (session_before (book_of c.args.self.now) (c.args.at + 1)).names)
+    = c.is_bound.ensures ∙ ap (λ (s : Sheet). is_some (lookup c.args.name.now (session_before (book_of s) (c.args.at + 1)).names)) c.self.view_is in
+    unbound_value (book_of c.args.self.now) c.args.at c.args.name.now (omega arith) (sym told ∙ c.if-not-is_bound.true)
 
-pub returns-in_err-what_shows-in-Some-peek : goal.returns-in_err-what_shows-in-Some-peek
-returns-in_err-what_shows-in-Some-peek c =
+pub returns-in_err-version : goal.returns-in_err-version
+returns-in_err-version c =
+    let many : c.count-count.result ≡ length c.args.self.now.cells = c.count-count.ensures ∙ ap (λ (s : Sheet). length s.cells) c.self.view_is in
+    let told : c.is_bound.result ≡ is_some (lookup c.args.name.now (session_before (book_of c.args.self.now) (c.args.at + 1)).names)
+    = c.is_bound.ensures ∙ ap (λ (s : Sheet). is_some (lookup c.args.name.now (session_before (book_of s) (c.args.at + 1)).names)) c.self.view_is in
     wants_memory c.args.name.now shown_of c.from_residual.result _ c.from_residual.ensures.1
-    (value_is_ok c.args.name.now (version_of c.in-Some.ran.now.version) _ (value_of c.in-Some-peek.value.now) _ c.in-Some-peek.ensures
-    (asked (λ (t : Told). found_value c.args.name.now (lookup c.args.name.now t.names)) _ _ c.self.inside.ran.items c.deref.result.now c.args.at c.in-Some.ran.now
-    c.self.view_is c.self.invariant.told c.deref.ensures.value c.in-Some.ensures.lookup.3.0 c.in-Some.ensures.lookup.1))
+    (value_is_told (book_of c.args.self.now) c.args.at c.args.name.now (omega arith) (sym told ∙ c.if-not-is_bound.false))
+
+pub returns-in_err-what_shows-in-Some : goal.returns-in_err-what_shows-in-Some
+returns-in_err-what_shows-in-Some c =
+    let many : c.count-count.result ≡ length c.args.self.now.cells = c.count-count.ensures ∙ ap (λ (s : Sheet). length s.cells) c.self.view_is in
+    let told : c.is_bound.result ≡ is_some (lookup c.args.name.now (session_before (book_of c.args.self.now) (c.args.at + 1)).names)
+    = c.is_bound.ensures ∙ ap (λ (s : Sheet). is_some (lookup c.args.name.now (session_before (book_of s) (c.args.at + 1)).names)) c.self.view_is in
+    wants_memory c.args.name.now shown_of c.from_residual-in_err-what_shows-in-Some.result _ c.from_residual-in_err-what_shows-in-Some.ensures.1
+    (value_is_told (book_of c.args.self.now) c.args.at c.args.name.now (omega arith) (sym told ∙ c.if-not-is_bound.false))
+
+pub returns-in-Some : goal.returns-in-Some
+returns-in-Some c =
+    let many : c.count-count.result ≡ length c.args.self.now.cells = c.count-count.ensures ∙ ap (λ (s : Sheet). length s.cells) c.self.view_is in
+    value_told (book_of c.args.self.now) c.args.at c.args.name.now (version_of c.in_ok-version.version) (value_of c.in-Some.value.now) (shown_of c.in_ok-what_shows-in-Some.field-0)
+    (omega arith) c.in_ok-version.ensures c.in-Some.ensures c.in_ok-what_shows-in-Some.ensures
+
+pub returns : goal.returns
+returns c =
+    let many : c.count-count.result ≡ length c.args.self.now.cells = c.count-count.ensures ∙ ap (λ (s : Sheet). length s.cells) c.self.view_is in
+    no_value (book_of c.args.self.now) c.args.at c.args.name.now (version_of c.in_ok-version.version) (omega arith) c.in_ok-version.ensures c.in-None.ensures

@@ -1,0 +1,15 @@
+use Rattle.std.proofs.Common.{◌≡◌, ℕ, ◌+◌, ◌<◌, ◌≤◌, ◌^◌, List, length, ap, ◌∙◌, arith}
+use Rattle.nd_model.specs.Tokens.{tokens_of_lines}
+use Rattle.nd_model.proofs.FewTokens.{few_tokens}
+use Rattle.nd_syntax.specs.declared.tree.Line.{Line}
+use Rattle.nd_syntax.specs.Syntax.{lines_of, parsed_of}
+use Rattle.nd_heap.specs.Live.{live}
+use Rattle.nd_cell.proofs.run.run_text.Goals as goal
+
+few : (text : List ℕ) (next : ℕ) (lines : List Line) → next ≡ 0 → length text < 2 ^ 64 → tokens_of_lines (lines_of lines) ≤ length text → next + tokens_of_lines (lines_of lines) < 2 ^ 64
+few text next lines first short fewer = omega arith
+
+pub run_lines-requires : goal.run_lines-requires
+run_lines-requires c =
+    few c.args.text.now (live c.args.session.now).next c.deref.result.now c.requires (let short : length c.as_bytes-bytes.result.now < 2 ^ 64 = c.as_bytes-bytes.type_inv.0 in omega (arith, c.as_bytes-bytes.ensures.len))
+    (rw c.deref.ensures.value (few_tokens c.args.text.now (lines_of c.in-Ok.lines.items) (c.in_ok-lines.ensures ∙ ap parsed_of c.in-Ok.is)))

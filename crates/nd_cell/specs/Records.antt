@@ -1,0 +1,61 @@
+-- Records of runs as the definitions have them.
+use Rattle.std.specs.Prelude.{◌≡◌, ℕ, List, Option, Some, None, if◌then◌else◌}
+use Rattle.nd_model.specs.Fault.{Refusal}
+use Rattle.nd_model.specs.Session.{Session, collected}
+use Rattle.nd_model.specs.Running.{Inputs, Running}
+use Rattle.nd_model.specs.Syntax.{Parsed}
+use Rattle.nd_model.specs.Cell.{Saved, Ended, cell}
+use Rattle.nd_model.specs.Footprint.{HasNone, reads_of, effects_of}
+use Rattle.nd_model.specs.Sound.{IsSoundSession}
+use Rattle.nd_model.specs.Records as records
+use Rattle.nd_heap.specs.Reads.{ReadsData, found_in, found_of, keys_of}
+use Rattle.nd_heap.specs.Changes.{ChangesData, effects_in}
+
+-- what a run read, did and gave: plain data
+pub record RecordData : Type 0 where
+  pub reads : ReadsData
+  pub changes : ChangesData
+  pub text : List ℕ
+  pub refusal : Option (ℕ × Refusal)
+  pub saves : Saved
+
+-- the record that it stands for
+abbrev pub recorded : RecordData → records.Record
+recorded r = record {
+  label = r.changes.label;
+  read = keys_of r.reads;
+  values = found_of r.reads;
+  effects = effects_in r.text r.refusal r.saves r.changes;
+}
+
+-- how the run ended, with the session at its end
+abbrev pub ended_in : RecordData → Running → Ended
+ended_in r x = record { text = r.text; refusal = r.refusal; saves = r.saves; running = x }
+
+-- the record of a run that began with a session and ended so
+abbrev pub record_at_end : Session → Inputs → Ended → records.Record
+record_at_end s i e = record {
+  label = e.running.label;
+  read = reads_of e;
+  values = λ k. if reads_of e k then Some (found_in s i k) else None;
+  effects = effects_of e;
+}
+
+-- A cell ended so that began with a sound session, without a base of its label, of which this was kept.
+pub record EndsRun (kept : Session) (i : Inputs) (e : Ended) : Type 0 where
+  pub parsed : Parsed
+  pub before : Session
+  pub is : kept ≡ collected before
+  pub none : HasNone e.running.label before
+  pub sound : IsSoundSession before
+  pub ends : e ≡ cell e.running.label parsed i before
+
+-- what every record keeps true: it is that of such a run
+pub record IsOfRun (r : RecordData) : Type 0 where
+  pub parsed : Parsed
+  pub inputs : Inputs
+  pub before : Session
+  pub none : HasNone r.changes.label before
+  pub sound : IsSoundSession before
+  pub same : recorded r ≡ records.record_of r.changes.label parsed inputs before
+  pub next : r.changes.next ≡ (cell r.changes.label parsed inputs before).running.next

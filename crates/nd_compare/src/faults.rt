@@ -1,0 +1,83 @@
+//! Refusals, as texts of which no two are the same.
+
+use nd_heap::OutOfMemory;
+use nd_rerun::{
+    CellFault, EditFault, IndexFault, Refusal, StmtError, StmtFault, UfuncFault, ViewFault,
+};
+use std::alloc::{AllocError, Global};
+
+/// Adds an index fault.
+fn add_index_fault(text: &mut String, fault: IndexFault) -> Result<(), AllocError> {
+    match fault {
+        IndexFault::OutOfBounds { axis, index, size } => {
+            write!(text, "index {index} of axis {axis} of size {size}")
+        }
+        IndexFault::TooManyIndices => write!(text, "too many indices"),
+        IndexFault::NotAnIndex => write!(text, "not an index"),
+    }
+}
+
+/// The words for a view fault.
+fn view_fault_text(fault: ViewFault) -> &'static str {
+    match fault {
+        ViewFault::OutOfBlock => "out of block",
+        ViewFault::TooManyAxes => "too many axes",
+        ViewFault::TooManyElements => "too many elements",
+        ViewFault::AxesDiffer => "axes differ",
+    }
+}
+
+/// Adds a fault of numbers.
+fn add_ufunc_fault(text: &mut String, fault: UfuncFault) -> Result<(), AllocError> {
+    match fault {
+        UfuncFault::IntOutOfRange(number) => write!(text, "{number} out of range"),
+        UfuncFault::ShapeMismatch => write!(text, "shape mismatch"),
+        UfuncFault::ReadOnly => write!(text, "read only"),
+        UfuncFault::NotNumbers => write!(text, "not numbers"),
+    }
+}
+
+/// Adds another fault of a statement.
+fn add_error(text: &mut String, error: &StmtError) -> Result<(), AllocError> {
+    match error {
+        StmtError::NoName(name) => write!(text, "no name {:?}", name.as_str()),
+        StmtError::IntTooBig => write!(text, "integer too big"),
+        StmtError::NotAnArray => write!(text, "not an array"),
+        StmtError::TextTooLong => write!(text, "text too long"),
+        StmtError::BadArgument => write!(text, "bad argument"),
+    }
+}
+
+/// Adds a fault of a statement.
+fn add_statement_fault(text: &mut String, fault: &StmtFault) -> Result<(), AllocError> {
+    match fault {
+        StmtFault::View(fault) => write!(text, "{}", view_fault_text(*fault)),
+        StmtFault::Index(fault) => add_index_fault(text, *fault),
+        StmtFault::Ufunc(fault) => add_ufunc_fault(text, *fault),
+        StmtFault::Stmt(error) => add_error(text, error),
+    }
+}
+
+/// Adds a cell's refusal, if it was refused.
+pub(crate) fn add_refusal(text: &mut String, refusal: Option<&Refusal>) -> Result<(), AllocError> {
+    let Some(refusal) = refusal else {
+        return write!(text, ", done");
+    };
+    write!(text, ", refused in line {}: ", refusal.line)?;
+    match &refusal.fault {
+        CellFault::Parse(kind, column) => write!(text, "{kind:?} in column {column}"),
+        CellFault::Statement(fault) => add_statement_fault(text, fault),
+    }
+}
+
+/// The answer to an edit.
+pub(crate) fn edit_text(
+    alloc: Global,
+    answer: Result<(), EditFault>,
+) -> Result<String, OutOfMemory> {
+    match answer {
+        Ok(()) => Ok(String::from_str(alloc, "done")?),
+        Err(EditFault::OutOfMemory) => Err(OutOfMemory),
+        Err(fault) => Ok(format!(in alloc; "refused: {fault:?}")?),
+    }
+}

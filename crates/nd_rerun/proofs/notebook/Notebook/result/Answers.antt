@@ -1,0 +1,23 @@
+use Rattle.std.proofs.Common.{◌≡◌, ℕ, List, [], Ok, map, length, string_bytes, ap, sym, ◌∙◌, ◌+◌, ◌<◌, ◌≤◌, arith, is_some, false, true}
+use Rattle.nd_model.specs.Session.{Session, lookup}
+use Rattle.nd_model.specs.Value.{Value}
+use Rattle.nd_model.specs.Entries.{session_before}
+use Rattle.nd_model.specs.Renaming.{Told, Shown}
+use Rattle.nd_model.specs.Book.{found_value}
+use Rattle.nd_model.specs.Book as model
+use Rattle.nd_model.specs.Notebook.{Sheet, book_of}
+use Rattle.nd_heap.specs.Kept.{version_of}
+use Rattle.nd_heap.specs.Values.{value_of}
+use Rattle.nd_rerun.specs.Queries.{shown_of}
+use Rattle.nd_rerun.proofs.Asked.{names_are_told, names_told, no_source, no_value, not_told, result_told, source_there, unbound_value, value_is_told, value_told, wants_memory}
+use Rattle.nd_rerun.proofs.notebook.Notebook.result.Goals as goal
+
+pub returns-then-count-at : goal.returns-then-count-at
+returns-then-count-at c =
+    let many : c.count-count.result ≡ length c.args.self.now.cells = c.count-count.ensures ∙ ap (λ (s : Sheet). length s.cells) c.self.view_is in
+    sym (not_told (λ (t : Told). Ok (record { text = t.text; refusal = t.refusal; saves = t.saves })) (book_of c.args.self.now) c.args.at c.count-count.result (omega arith) many)
+
+pub returns : goal.returns
+returns c =
+    result_told c.args.self.now c.self.inside.schedule c.args.at c.made.result.now (session_before (book_of c.self.inside.schedule) (c.args.at + 1)) c.result.result.now
+    c.self.view_is c.made.ensures c.result.ensures.text c.result.ensures.refusal c.result.ensures.saves

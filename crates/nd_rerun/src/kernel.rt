@@ -1,0 +1,105 @@
+//! What runs the cells of a notebook.
+
+ghost use Rattle.nd_model.specs.Session.{collected};
+ghost use Rattle.nd_model.specs.Running as running;
+ghost use Rattle.nd_heap.specs.Kept.{version_of};
+ghost use Rattle.nd_heap.specs.Live.{live};
+ghost use Rattle.nd_heap.specs.Values.{given_of};
+ghost use Rattle.nd_cell.specs.Records.{recorded};
+
+use nd_cell::{Meter, Record, run_cell};
+use nd_heap::{Inputs, OutOfMemory, Session, Version};
+use nd_schedule::Cells;
+use std::alloc::{AllocError, Global};
+
+/// Cells that are run over sessions of shared blocks. Two sessions are the same where they are once blocks that no bound value lies
+/// in are given up.
+#[derive(Drop)]
+pub struct Kernel;
+
+impl Cells for Kernel {
+    type Session = Session;
+
+    type Version = Version;
+
+    type Record = Record;
+
+    type Inputs = Inputs;
+
+    ghost session_of = { λ s. collected (running.session_of (live s)) };
+
+    ghost kept_session = { λ v. collected (version_of v) };
+
+    ghost recorded = { λ r. recorded r };
+
+    ghost given = { λ i. given_of i.entries };
+
+    fn empty(alloc: Global) -> Result<Session, AllocError> {
+        match Session::new(alloc) {
+            Ok(session) => Ok(session),
+            Err(OutOfMemory) => Err(AllocError),
+        }
+    }
+
+    fn run(
+        meter: &mut Meter,
+        session: &mut Session,
+        inputs: &Inputs,
+        label: u64,
+        text: &str,
+    ) -> Result<Record, AllocError> {
+        match run_cell(meter, session, inputs, label, text) {
+            Ok(made) => Ok(made),
+            Err(OutOfMemory) => Err(AllocError),
+        }
+    }
+
+    fn still_holds(made: &Record, session: &Session, inputs: &Inputs) -> bool {
+        made.agrees(session, inputs)
+    }
+
+    fn replay(made: &Record, session: &mut Session) -> Result<(), AllocError> {
+        match made.replay(session) {
+            Ok(()) => Ok(()),
+            Err(OutOfMemory) => Err(AllocError),
+        }
+    }
+
+    fn reads_changed(made: &Record, old: &Inputs, new: &Inputs) -> bool {
+        made.have_inputs_changed(old, new)
+    }
+
+    fn last_of(made: &Record, name: &str) -> Option<bool> {
+        made.last_of(name)
+    }
+
+    fn same_effects(one: &Record, other: &Record) -> bool {
+        one.have_same_effects(other)
+    }
+
+    fn is_quiet(made: &Record) -> bool {
+        made.is_quiet()
+    }
+
+    fn freeze(session: &mut Session) -> Result<Version, AllocError> {
+        match session.freeze() {
+            Ok(version) => Ok(version),
+            Err(OutOfMemory) => Err(AllocError),
+        }
+    }
+
+    fn is_at(_session: &Session, _version: &Version) -> bool {
+        false
+    }
+
+    fn has_name(version: &Version, name: &str) -> bool {
+        version.has_name(name)
+    }
+
+    fn thaw(alloc: Global, version: &Version) -> Result<Session, AllocError> {
+        match Session::thaw(alloc, version) {
+            Ok(session) => Ok(session),
+            Err(OutOfMemory) => Err(AllocError),
+        }
+    }
+}

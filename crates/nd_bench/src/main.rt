@@ -1,13 +1,16 @@
 //! How long bulk work takes. `nd_bench copy` prints the times of a copy within a block and of the standard library's, and their
 //! ratio; `nd_bench numbers [COUNT]` prints for each of three arrays its name, how many numbers it has, their sum, and how many
-//! nanoseconds it takes to add them up. Without a word it prints how it is called.
+//! nanoseconds it takes to add them up; `nd_bench cells [COUNT]` edits notebooks of many cells, and prints how long that takes. Without a
+//! word it prints how it is called.
 #![tactic(auto)]
 
 ghost use Rattle.std.specs.Prelude.{◌≤◌, ◌^◌, ⊤, MatchOption};
 
+mod cells;
 mod copy;
 mod numbers;
 
+use crate::cells::measure_cells;
 use crate::copy::measure_copy;
 use crate::numbers::measure_numbers;
 use std::{env, io};
@@ -17,6 +20,9 @@ const ELEMENTS: u64 = 10_000_000;
 
 /// The most elements that an array has.
 const MOST_ELEMENTS: u64 = 1 << 24;
+
+/// The most cells of a notebook, but for the one that prints.
+const MOST_CELLS: u64 = 9_999;
 
 /// How often each work is done; the shortest time counts.
 const TURNS: u32 = 7;
@@ -42,6 +48,7 @@ fn main(rt: HostRuntime) -> io::Result<()> {
     match (word(1), count_of(word(2))) {
         (Some("copy"), _) => measure_copy(&rt, ELEMENTS),
         (Some("numbers"), Some(count)) => measure_numbers(&rt, count),
-        _ => println!(rt; "usage: nd_bench copy | numbers [COUNT]"),
+        (Some("cells"), Some(count)) => measure_cells(&rt, count.min(MOST_CELLS)),
+        _ => println!(rt; "usage: nd_bench copy | numbers [COUNT] | cells [COUNT]"),
     }
 }

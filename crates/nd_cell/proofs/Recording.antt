@@ -7,9 +7,11 @@ use Rattle.nd_model.specs.Session.{Session, collected, held_bytes, is_held}
 use Rattle.nd_model.specs.Running.{Key, Name, Input, Length, Byte, Inputs, Running, session_of, start}
 use Rattle.nd_model.specs.Syntax.{Parsed}
 use Rattle.nd_model.specs.Cell.{Ended, cell}
+use Rattle.nd_model.specs.CutOff.{SameOnSession}
 use Rattle.nd_model.specs.Footprint.{Agree, Effects, Found, HasNone, effects_of, found, reads_of, with_effects}
 use Rattle.nd_model.specs.Records.{Record, StillHolds, record_of}
 use Rattle.nd_model.specs.Sound.{IsHeldView, IsSound, IsSoundSession, LiesIn}
+use Rattle.nd_model.proofs.Collected.{held_twice}
 use Rattle.nd_model.proofs.Keeping.{found_at}
 use Rattle.nd_model.proofs.Replaying.{replays_sound}
 use Rattle.nd_model.proofs.Soundness.{held_map}
@@ -65,6 +67,10 @@ recorded_whole s t v i r e told is label keys found text refusal saves events ba
     }
 
 -- ---- the record of a run
+
+-- a cell begins with what is collected
+pub collected_start : (label : ℕ) (s : Session) → collected (session_of (start label s)) ≡ collected s
+collected_start label s = ap (λ (f : Base → List ℕ). record { names = s.names; bytes = f }) (fun_ext (held_twice s))
 
 -- what was found in the session that was kept is what was there
 record_at_end_is : (label : ℕ) (p : Parsed) (i : Inputs) (s : Session) → record_at_end (collected s) i (cell label p i s) ≡ record_of label p i s
@@ -125,3 +131,12 @@ redo_sound r t j run holds sound =
     = replays_sound l run.parsed run.before t run.inputs j run.none again.none run.sound sound agree in
     subst (λ n. IsSound (record (start l (with_effects l (recorded r).effects t)) { next = n })) (sym run.next)
     (subst (λ (x : Effects). IsSound (record (start l (with_effects l x t)) { next = e.running.next })) (sym (ap (λ (x : Record). x.effects) run.same)) after)
+
+-- ---- two records
+
+-- two runs did the same to their sessions
+pub same_on_session : (r s t u : RecordData) → r ≡ s → t ≡ u → r.changes.label ≡ t.changes.label → r.changes.events ≡ t.changes.events
+    → ((b : Base) → bases_in r.changes b ≡ bases_in t.changes b) → ((b : Base) (p : ℕ) → writes_in r.changes b p ≡ writes_in t.changes b p) → SameOnSession (recorded s) (recorded u)
+same_on_session r s t u one other label events bases writes =
+    subst (λ (s : RecordData). SameOnSession (recorded s) (recorded u)) one (subst (λ (u : RecordData). SameOnSession (recorded r) (recorded u)) other
+    (label, events, fun_ext bases, fun_ext (λ b. fun_ext (writes b))))

@@ -135,7 +135,10 @@ impl Record {
     pub fn have_same_effects(&self, other: &Record) -> bool
         ensures { IsTrue result → SameOnSession (recorded self.now) (recorded other.now) }
     {
-        self.changes.label() == other.changes.label() && self.is_quiet() && other.is_quiet()
+        if self.changes.label() != other.changes.label() {
+            return false;
+        }
+        self.changes.is_same(&other.changes)
     }
 
     /// Does to a session over which the record still holds what the run did to its own: the session then is that after a run of

@@ -174,8 +174,8 @@ pub fn run_cell(
 {
     meter.advance();
     session.soundness();
-    let before = session.freeze()?;
     session.start(label)?;
+    let before = session.freeze()?;
     let gives = run_text(session, inputs, text)?;
     let made = Record::of_run(session, &before, inputs, gives)?;
     Ok(made)

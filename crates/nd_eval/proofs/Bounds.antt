@@ -1,13 +1,15 @@
 -- How many bases an evaluation makes.
-use Rattle.std.proofs.Common.{◌≡◌, ℕ, zero, suc, ◌+◌, ◌≤◌, Bool, true, false, List, [], ◌∷◌, length, Result, Ok, Err, Option, None, Some, refl, sym, subst, arith}
+use Rattle.std.proofs.Common.{◌≡◌, ℕ, zero, suc, ◌+◌, ◌≤◌, Bool, true, false, cond, List, [], ◌∷◌, length, Result, Ok, Err, Option, None, Some, refl, sym, subst, arith}
 use Rattle.nd_model.specs.View.{ElementType, One, Structure, Geo, contiguous}
 use Rattle.nd_model.specs.Broadcast.{broadcast_view}
 use Rattle.nd_model.specs.Content.{Content, contents_in, content_in_order}
 use Rattle.nd_model.specs.Value.{Base, Value, Int, Truth, Scalar, Array, Row}
-use Rattle.nd_model.specs.Fault.{Fault, ViewFault}
-use Rattle.nd_model.specs.Syntax.{Expr, Name, Integer, Unary, Negative, Called, Arange, Omitted, Item, Attribute, Index, Items, AndItem, NoItem, At, Stmt, Import, Bind, Assign, Delete, Print}
+use Rattle.nd_model.specs.Fault.{Fault, ViewFault, BadArgument}
+use Rattle.nd_model.specs.Fault as fault
+use Rattle.nd_model.specs.Syntax.{Expr, Name, Integer, Unary, Negative, Called, Arange, Load, Buffer, Omitted, Item, Attribute, Index, Items, AndItem, NoItem, At, Stmt, Import, Bind, Assign, Delete, Print}
 use Rattle.nd_model.specs.Tokens.{tokens_of, tokens_of_index, tokens_of_all, tokens_of_stmt}
-use Rattle.nd_model.specs.Running.{Inputs, Running, Lookup, Use, Make, reply, after, Effect, Nothing, Prints, Saves, Binding, Unbinding, Storing, done}
+use Rattle.nd_model.specs.Running.{Source, Inputs, Running, Lookup, Ask, Use, Make, reply, after, Effect, Nothing, Prints, Saves, Binding, Unbinding, Storing, done}
+use Rattle.nd_model.specs.InputName.{is_input_name}
 use Rattle.nd_model.specs.Evaluation.{Eval, Gives, Refuses, Asks, run, ◌>>=◌, decide}
 use Rattle.nd_model.specs.Operand.{Operand, Usage, Whole, ArraysOnly, Unused, is_used, Made, ANumber, AnArray, Chosen, AnElement, AView, ACopy, Stretched, Deed, NoDeed, PrintsText, SavesFile, BindsFirst, BindsMade, Unbinds, Writes, MakesAndWrites}
 use Rattle.nd_model.specs.Operators.{negative}
@@ -44,6 +46,9 @@ then n m t f h g = record { bound = λ i r. subst (λ o. o.1.next ≤ r.next + (
 
 uses : {A : Type 0} (n : ℕ) (b : Base) (ps : List ℕ) (go : List ℕ → Eval A) → ((bytes : List ℕ) → MakesAtMost n (go bytes)) → MakesAtMost n (Asks (Use b ps) go)
 uses n b ps go h = record { bound = λ i r. (h _).bound i (after (Use b ps) r) }
+
+asks : {A : Type 0} (n : ℕ) (name : List ℕ) (go : Option Source → Eval A) → ((source : Option Source) → MakesAtMost n (go source)) → MakesAtMost n (Asks (Ask name) go)
+asks n name go h = record { bound = λ i r. (h _).bound i (after (Ask name) r) }
 
 makes : {A : Type 0} (n : ℕ) (bytes : List ℕ) (go : Base → Eval A) → ((b : Base) → MakesAtMost n (go b)) → MakesAtMost (1 + n) (Asks (Make bytes) go)
 makes n bytes go h = record { bound = λ i r. omega (arith, (h (reply i (Make bytes) r)).bound i (after (Make bytes) r)) }
@@ -121,6 +126,14 @@ of_value_at n [] k go h = refuses n _
 of_value_at n (v ∷ vs) zero go h = h v.1
 of_value_at n (v ∷ vs) (suc k) go h = of_value_at n vs k go h
 
+-- what is made of an input is one at most
+of_input : (name : List ℕ) (f : Option Source → Result Made Fault) → MakesAtMost 1 (operation.input_value name f)
+of_input name f =
+    elim (is_input_name name) as (λ t. MakesAtMost 1 (cond t (Asks (Ask name) (λ source. decide (f source) >>= operation.give)) (Refuses (fault.Stmt BadArgument)))) [
+      | true ↦ asks 1 name _ (λ source. decided 1 (f source) operation.give of_give)
+      | false ↦ refuses 1 _
+    ]
+
 -- an operation makes one at most
 of_perform : (o : Operation) (vs : List (Usage × Value)) → MakesAtMost 1 (perform o vs)
 of_perform (Computes f) vs = of_operands 1 vs _ (λ os. decided 1 (f os) operation.give of_give)
@@ -155,6 +168,8 @@ mutual
   of_value (Unary Negative e) = more (tokens_of e + 1) _ _ (omega arith) (then (tokens_of e) 1 (meaning.value e) _ (of_value e) (λ v. of_perform (Computes (meaning.one negative)) ((Whole, v) ∷ [])))
   of_value (Called (Arange Omitted e Omitted None)) = more (tokens_of e + 1) _ _ (omega arith)
       (then (tokens_of e) 1 (meaning.value e) _ (of_value e) (λ v. of_perform (Computes (meaning.one arange)) ((Unused, v) ∷ [])))
+  of_value (Called (Load n)) = more 1 _ _ (omega arith) (of_input n meaning.unbuilt_input)
+  of_value (Called (Buffer n)) = more 1 _ _ (omega arith) (of_input n meaning.unbuilt_input)
   of_value (Item t x) = more (tokens_of t + (tokens_of_index x + 1)) _ _ (omega arith)
       (then (tokens_of t) (tokens_of_index x + 1) (meaning.value t) _ (of_value t) (λ v.
       subst (MakesAtMost (tokens_of_index x + 1)) (sym (item_with x (λ vs. perform (Views Indexed) ((Unused, v) ∷ vs))))

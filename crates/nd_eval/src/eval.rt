@@ -114,6 +114,7 @@ impl Evaluator<'_> {
                 let end = self.value(end)?;
                 self.give(make_arange(&end)?)
             }
+            Call::Load(name) | Call::Buffer(name) => self.input_value(name.as_str()),
             _ => Err(unbuilt_form()),
         }
     }

@@ -8,6 +8,7 @@ mod evaluator;
 mod exec;
 mod fault;
 mod indexes;
+mod inputs;
 mod numbers;
 mod operand;
 mod operation;

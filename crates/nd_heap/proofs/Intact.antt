@@ -56,6 +56,10 @@ module _ (label next : ℕ) (bytes : Base → List ℕ) where
         old = λ e. omega (arith, v.old e);
       }) es h
 
+-- the same names and bytes
+pub same_lie : (label next : ℕ) (bytes other : Base → List ℕ) (es fs : Names) → other ≡ bytes → fs ≡ es → AllLie label next bytes es → AllLie label next other fs
+same_lie label next bytes other es fs same is h = subst (λ (f : Base → List ℕ). AllLie label next f fs) (sym same) (subst (AllLie label next bytes) (sym is) h)
+
 -- the same, for the names that a call gives, and the label that it leaves
 pub with_bound : (label after next : ℕ) (bytes : Base → List ℕ) (n : List ℕ) (v w : Value) (es fs : Names) → after ≡ label → v ≡ w → fs ≡ bind n v es → IsViewOf (LiesThere label next bytes) w
     → AllLie label next bytes es → AllLie after next bytes fs

@@ -3,6 +3,9 @@ pub mod NameLists
 pub mod Bases
 pub mod Entries
 pub mod Held
+pub mod Loosening
+pub mod Picking
+pub mod Alike
 pub mod Places
 pub mod Noting
 pub mod Traces

@@ -30,9 +30,13 @@ is_bound n names = is_some (lookup n names)
 abbrev pub bases_in : ChangesData → Base → List ℕ
 bases_in c b = if nat_eq b.label c.label then (if is_held b (replayed c.events []) then bytes_at c.blocks b else []) else []
 
+-- the bytes that are marked, in bases of other labels
+abbrev pub written_by : ℕ → List (Base × Places) → List (Base × List ℕ) → Base → ℕ → Option ℕ
+written_by label written blocks b p = if nat_eq b.label label then None else (if is_marked written b p then Some (slice_index (bytes_at blocks b) p) else None)
+
 -- the bytes that it wrote to other bases
 abbrev pub writes_in : ChangesData → Base → ℕ → Option ℕ
-writes_in c b p = if nat_eq b.label c.label then None else (if is_marked c.written b p then Some (slice_index (bytes_at c.blocks b) p) else None)
+writes_in c b p = written_by c.label c.written c.blocks b p
 
 -- a cell's effects, with what it gave
 abbrev pub effects_in : List ℕ → Option (ℕ × Refusal) → Saved → ChangesData → Effects

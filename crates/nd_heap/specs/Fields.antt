@@ -3,8 +3,6 @@ use Rattle.std.specs.Prelude.{ℕ, List, []}
 use Rattle.nd_model.specs.Value as model
 use Rattle.nd_model.specs.Running as running
 use Rattle.nd_heap.specs.declared.session.Session.TheInside.{Inside}
-use Rattle.nd_heap.specs.Values.{names_of}
-use Rattle.nd_heap.specs.Contents.{blocks_of}
 use Rattle.nd_heap.specs.State.{State}
 use Rattle.nd_model.specs.Footprint.{Effects, effects_of}
 use Rattle.nd_heap.specs.Changes.{ended}
@@ -31,7 +29,7 @@ abbrev pub trace_of : Seen → running.Running
 trace_of t = running_of (traced t [] [] 0)
 
 abbrev pub state_of : Inside → State
-state_of s = traced s.trace (names_of s.names.value.entries) (blocks_of s.blocks.value.entries) s.next
+state_of s = traced s.trace s.heap.names s.heap.blocks s.next
 
 -- the effects of a trace over some blocks
 abbrev pub effects_over : Seen → List (model.Base × List ℕ) → Effects

@@ -5,8 +5,6 @@ use Rattle.nd_model.specs.Value.{Base}
 use Rattle.nd_model.specs.Session.{Names}
 use Rattle.nd_model.specs.Sound.{LiesIn, AreViewsOf}
 use Rattle.nd_heap.specs.declared.session.Session.TheInside.{Inside}
-use Rattle.nd_heap.specs.Values.{names_of}
-use Rattle.nd_heap.specs.Contents.{blocks_of}
 use Rattle.nd_heap.specs.Live.{bytes_at}
 
 -- it lies in its block, and a block of the running cell has a number below the next one
@@ -18,4 +16,4 @@ abbrev pub AllLie : ℕ → ℕ → (Base → List ℕ) → Names → Type 0
 AllLie label next bytes names = AreViewsOf (LiesThere label next bytes) names
 
 abbrev pub IsIntact : Inside → Type 0
-IsIntact s = AllLie s.trace.label s.next (bytes_at (blocks_of s.blocks.value.entries)) (names_of s.names.value.entries)
+IsIntact s = AllLie s.trace.label s.next (bytes_at s.heap.blocks) s.heap.names

@@ -4,6 +4,7 @@ pub mod State
 pub mod Live
 pub mod Seen
 pub mod Events
+pub mod Loose
 pub mod Kept
 pub mod Fields
 pub mod Intact

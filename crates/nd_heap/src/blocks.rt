@@ -1,6 +1,6 @@
 // Blocks, which versions share.
 
-ghost use Rattle.std.specs.Prelude.{◌≡◌, ◌+◌, ◌≤◌, ◌^◌, ◌||◌, [], IsTrue, IfOk, OnErr, OnOk, filter, if◌then◌else◌};
+ghost use Rattle.std.specs.Prelude.{◌≡◌, ◌+◌, ◌≤◌, ◌^◌, ◌||◌, ◌&&◌, not, [], IfOk, OnErr, OnOk, if◌then◌else◌};
 ghost use Rattle.nd_model.specs.Value as values;
 ghost use Rattle.nd_model.specs.Tuple.{count_up};
 ghost use Rattle.nd_model.specs.Session as model;
@@ -33,18 +33,6 @@ pub(crate) fn bytes_of(blocks: &Blocks, base: Base) -> &[u8]
     }
 }
 
-/// The bytes of a block that some bound value lies in, none where there is no such block.
-pub(crate) fn held_bytes<'a>(blocks: &'a Blocks, names: &Names, base: Base) -> &'a [u8]
-    ensures { result.now ≡ (if model.is_held (base_of base) (names_of names.now.entries)
-        then bytes_at (blocks_of blocks.now.entries) (base_of base) else []) }
-{
-    let bytes = bytes_of(blocks, base);
-    if bytes.is_empty() || is_held(names, base) {
-        return bytes;
-    }
-    &[]
-}
-
 /// The block of a base, shared.
 pub(crate) fn share_block(blocks: &Blocks, base: Base) -> Result<Option<Rc<RawBlock>>, OutOfMemory>
     ensures { IfOk result (λ o. bytes_in o
@@ -56,21 +44,20 @@ pub(crate) fn share_block(blocks: &Blocks, base: Base) -> Result<Option<Rc<RawBl
     }
 }
 
-/// Sets a block.
-pub(crate) fn set_block(
-    alloc: Global,
+/// Sets a block to one that is shared.
+pub(crate) fn put_block(
     blocks: &mut Rc<Blocks>,
     base: Base,
-    block: RawBlock,
+    block: Rc<RawBlock>,
 ) -> Result<(), OutOfMemory>
     ensures ok { OnOk result (bytes_at (blocks_of blocks.new.value.entries)
-        ≡ running.with_base (base_of base) block (bytes_at (blocks_of blocks.old.value.entries))) }
+        ≡ running.with_base (base_of base) block.value
+        (bytes_at (blocks_of blocks.old.value.entries))) }
     ensures err { OnErr result (bytes_at (blocks_of blocks.new.value.entries)
         ≡ bytes_at (blocks_of blocks.old.value.entries)) }
 {
-    let kept = Rc::new(alloc, block)?;
     let own = Rc::make_mut(blocks)?;
-    own.insert(base, kept)?;
+    own.insert(base, block)?;
     Ok(())
 }
 
@@ -112,85 +99,85 @@ pub(crate) fn held_bases(alloc: Global, names: &Names) -> Result<Bases, OutOfMem
 }
 
 /// Puts the base that the value lies in among the others, if it lies in one.
-fn note_base(held: &mut Bases, value: &Value) -> Result<(), OutOfMemory>
-    ensures { OnOk result ((b : values.Base) → is_base_among (bases_of held.new.entries) b
-        ≡ (is_base_among (bases_of held.old.entries) b || values.lies_in b (value_of value.now))) }
+pub(crate) fn note_base(bases: &mut Bases, value: &Value) -> Result<(), OutOfMemory>
+    ensures ok { OnOk result ((b : values.Base) → is_base_among (bases_of bases.new.entries) b
+        ≡ (is_base_among (bases_of bases.old.entries) b || values.lies_in b (value_of value.now))) }
+    ensures err { OnErr result (bases_of bases.new.entries ≡ bases_of bases.old.entries) }
 {
     if let Value::Array(array) = value {
-        held.insert(array.base, ())?;
+        bases.insert(array.base, ())?;
     }
     Ok(())
 }
 
 /// Whether the base is one of them.
-fn has_base(bases: &Bases, base: Base) -> bool
+pub(crate) fn has_base(bases: &Bases, base: Base) -> bool
     ensures { result ≡ is_base_among (bases_of bases.now.entries) (base_of base) }
 {
     bases.contains_key(&base)
 }
 
-/// Only the blocks of these bases.
-fn retain_held(blocks: &mut Blocks, held: &Bases)
-    ensures { blocks.new.entries ≡ filter
-        (λ e. is_base_among (bases_of held.now.entries) (base_of e.0)) blocks.old.entries }
+/// Only the bases that no bound value lies in.
+pub(crate) fn retain_unheld(bases: &mut Bases, names: &Names)
+    ensures { (b : values.Base) → is_base_among (bases_of bases.new.entries) b
+        ≡ (is_base_among (bases_of bases.old.entries) b
+        && not (model.is_held b (names_of names.now.entries))) }
 {
-    blocks.retain(
-        |base: &Base, block: &mut Rc<RawBlock>| -> bool
-            ensures { (result ≡ is_base_among (bases_of held.entry.now.entries) (base_of base.now))
-                × (block.new ≡ block.old) }
-        { has_base(held, *base) },
+    bases.retain(
+        |base: &Base, _unit: &mut ()| -> bool
+            ensures { (result
+                ≡ not (model.is_held (base_of base.now) (names_of names.entry.now.entries)))
+                × (_unit.new ≡ _unit.old) }
+        { !is_held(names, *base) },
     );
 }
 
-/// Whether each block has one of these bases.
-fn are_held(blocks: &Blocks, held: &Bases) -> bool
-    ensures { IsTrue result → (b : values.Base) → bytes_at (blocks_of blocks.now.entries) b
-        ≡ (if is_base_among (bases_of held.now.entries) b
-        then bytes_at (blocks_of blocks.now.entries) b else []) }
+/// Takes out the blocks of these bases.
+pub(crate) fn remove_blocks(blocks: &mut Blocks, bases: &Bases)
+    ensures { (b : values.Base) → bytes_at (blocks_of blocks.new.entries) b
+        ≡ (if is_base_among (bases_of bases.now.entries) b
+        then [] else bytes_at (blocks_of blocks.old.entries) b) }
 {
-    for i in 0..blocks.len() {
-        let Some((base, _)) = blocks.get_index(i) else {
+    for i in 0..bases.len() {
+        let Some((base, _)) = bases.get_index(i) else {
             unreachable!();
         };
-        if !has_base(held, *base) {
-            return false;
-        }
+        blocks.swap_remove(base);
     }
-    true
 }
 
-/// Gives up the blocks of other bases. Blocks that are shared are not changed: then the others get a map of their own.
-pub(crate) fn keep_held(blocks: &mut Rc<Blocks>, held: &Bases) -> Result<(), OutOfMemory>
-    ensures ok { OnOk result ((b : values.Base) → bytes_at (blocks_of blocks.new.value.entries) b
-        ≡ (if is_base_among (bases_of held.now.entries) b
-        then bytes_at (blocks_of blocks.old.value.entries) b else [])) }
-    ensures err { OnErr result (bytes_at (blocks_of blocks.new.value.entries)
-        ≡ bytes_at (blocks_of blocks.old.value.entries)) }
+/// Puts the block of the base, shared, among the others, if there is one.
+fn pick_block(picked: &mut Blocks, blocks: &Blocks, base: Base) -> Result<(), OutOfMemory>
+    requires { bytes_at (blocks_of blocks.now.entries) (base_of base) ≡ []
+        → bytes_at (blocks_of picked.old.entries) (base_of base) ≡ [] }
+    ensures { OnOk result (bytes_at (blocks_of picked.new.entries)
+        ≡ running.with_base (base_of base) (bytes_at (blocks_of blocks.now.entries) (base_of base))
+        (bytes_at (blocks_of picked.old.entries))) }
 {
-    let shared: &Rc<Blocks> = blocks;
-    if are_held(shared.as_ref(), held) {
-        return Ok(());
+    if let Some(block) = share_block(blocks, base)? {
+        picked.insert(base, block)?;
     }
-    let own = Rc::make_mut(blocks)?;
-    retain_held(own, held);
     Ok(())
 }
 
-/// Gives up the blocks that no bound value lies in.
-pub(crate) fn collect(
+/// The blocks of these bases, shared.
+pub(crate) fn pick_blocks(
     alloc: Global,
-    blocks: &mut Rc<Blocks>,
-    names: &Names,
-) -> Result<(), OutOfMemory>
-    ensures ok { OnOk result ((b : values.Base) → bytes_at (blocks_of blocks.new.value.entries) b
-        ≡ (if model.is_held b (names_of names.now.entries)
-        then bytes_at (blocks_of blocks.old.value.entries) b else [])) }
-    ensures err { OnErr result (bytes_at (blocks_of blocks.new.value.entries)
-        ≡ bytes_at (blocks_of blocks.old.value.entries)) }
+    blocks: &Blocks,
+    bases: &Bases,
+) -> Result<Blocks, OutOfMemory>
+    ensures { IfOk result (λ picked. (b : values.Base) → bytes_at (blocks_of picked.entries) b
+        ≡ (if is_base_among (bases_of bases.now.entries) b
+        then bytes_at (blocks_of blocks.now.entries) b else [])) }
 {
-    let held = held_bases(alloc, names)?;
-    keep_held(blocks, &held)?;
-    Ok(())
+    let mut picked = IndexMap::new(alloc);
+    for i in 0..bases.len() {
+        let Some((base, _)) = bases.get_index(i) else {
+            unreachable!();
+        };
+        pick_block(&mut picked, blocks, *base)?;
+    }
+    Ok(picked)
 }
 
 /// The places from the first one on.

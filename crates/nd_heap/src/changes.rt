@@ -1,6 +1,6 @@
 // What a cell did to its session, kept.
 
-ghost use Rattle.std.specs.Prelude.{◌≡◌, ℕ, ◌||◌, [], true, false, nat_eq, map, filter, IfOk, OnOk, IsTrue, None, unwrap_or};
+ghost use Rattle.std.specs.Prelude.{◌≡◌, ◌⊎◌, ℕ, ◌||◌, [], true, false, nat_eq, map, filter, IfOk, OnOk, IsTrue, None, unwrap_or};
 ghost use Rattle.nd_model.specs.Footprint.{effects_of, replayed};
 ghost use Rattle.nd_model.specs.Session as model;
 ghost use Rattle.nd_model.specs.Value as values;
@@ -12,8 +12,10 @@ ghost use Rattle.nd_heap.specs.Live.{is_base_among, is_marked, live};
 ghost use Rattle.nd_heap.specs.Patching.{has_marks};
 ghost use Rattle.nd_heap.specs.Values.{base_of};
 
-use crate::blocks::{Bases, Blocks, held_bases, keep_held};
+use crate::blocks::{Bases, Blocks, held_bases, pick_blocks};
+use crate::heap::Heap;
 use crate::marking::Footprint;
+use crate::matching::{are_among, are_same_events, are_written_among};
 use crate::memory::OutOfMemory;
 use crate::redo::replay;
 use crate::session::Session;
@@ -22,7 +24,6 @@ use crate::value::Base;
 use indexmap::IndexMap;
 use std::alloc::Global;
 use std::marker::Model;
-use std::rc::Rc;
 
 /// What a cell did to its session: the names that it bound and unbound, the blocks that it made and that a name of its own holds
 /// at its end, and the bytes that it wrote to other blocks. Names, values and blocks are shared with the session.
@@ -32,7 +33,7 @@ pub struct Changes {
     pub(crate) next: u64,
     pub(crate) events: Vec<Event>,
     pub(crate) written: Footprint,
-    pub(crate) blocks: Rc<Blocks>,
+    pub(crate) blocks: Blocks,
 }
 
 impl Model for Changes {
@@ -49,7 +50,7 @@ impl Model for Changes {
       next = c.next;
       events = map event_of c.events.items;
       written = marks_of c.written.entries;
-      blocks = blocks_of c.blocks.value.entries;
+      blocks = blocks_of c.blocks.entries;
     } };
 }
 
@@ -113,32 +114,26 @@ fn own_bases(alloc: Global, label: u64, events: &[Event]) -> Result<Bases, OutOf
         → is_base_among (bases_of own.entries) b
         ≡ model.is_held b (replayed (map event_of events.now) [])) }
 {
-    let mut names = Rc::new(alloc, IndexMap::new(alloc))?;
-    replay(&mut names, events)?;
-    let mut own = held_bases(alloc, names.as_ref())?;
+    let mut heap = Heap::new(alloc)?;
+    replay(&mut heap, events)?;
+    let mut own = held_bases(alloc, heap.names())?;
     retain_own(&mut own, label);
     Ok(own)
 }
 
 /// What this trace did over these blocks.
-fn keep(
-    alloc: Global,
-    trace: &Trace,
-    blocks: &Rc<Blocks>,
-    next: u64,
-) -> Result<Changes, OutOfMemory>
+fn keep(alloc: Global, trace: &Trace, blocks: &Blocks, next: u64) -> Result<Changes, OutOfMemory>
     ensures label { IfOk result (λ c. c.label ≡ trace.now.label) }
     ensures next { IfOk result (λ c. c.next ≡ next) }
     ensures events { IfOk result (λ c. events_in c ≡ trace.now.events) }
     ensures bases { IfOk result (λ c. (b : values.Base) → bases_in c b
-        ≡ (effects_over trace.now (blocks_of blocks.now.value.entries)).bases b) }
+        ≡ (effects_over trace.now (blocks_of blocks.now.entries)).bases b) }
     ensures writes { IfOk result (λ c. (b : values.Base) (p : ℕ) → writes_in c b p
-        ≡ (effects_over trace.now (blocks_of blocks.now.value.entries)).writes b p) }
+        ≡ (effects_over trace.now (blocks_of blocks.now.entries)).writes b p) }
 {
     let mut bases = own_bases(alloc, trace.label, &trace.events)?;
     note_marked(&mut bases, &trace.written)?;
-    let mut kept = blocks.clone()?;
-    keep_held(&mut kept, &bases)?;
+    let kept = pick_blocks(alloc, blocks, &bases)?;
     let events = copy_events(alloc, &trace.events)?;
     let written = copy_marks(alloc, &trace.written)?;
     Ok(Changes {
@@ -180,6 +175,22 @@ fn last_of(events: &[Event], name: &str) -> Option<bool>
     last
 }
 
+/// Whether each byte that the one cell wrote to a block of another label was written by the other, of the same label, too.
+fn wrote_same(one: &Changes, other: &Changes) -> bool
+    requires { one.now.label ≡ other.now.label }
+    ensures { IsTrue result → (b : values.Base) → ((p : ℕ)
+        → writes_in one.now b p ≡ writes_in other.now b p) ⊎ ((p : ℕ)
+        → writes_in one.now b p ≡ None) }
+{
+    are_written_among(
+        &one.written,
+        &one.blocks,
+        &other.written,
+        &other.blocks,
+        one.label,
+    )
+}
+
 impl Changes {
     /// What the cell did whose session this is, as it is now. No byte of a block is copied.
     pub fn new(alloc: Global, session: &Session) -> Result<Changes, OutOfMemory>
@@ -191,7 +202,7 @@ impl Changes {
         ensures writes { IfOk result (λ c. (b : values.Base) (p : ℕ)
             → writes_in c b p ≡ (effects_of (ended (live session.now))).writes b p) }
     {
-        let changes = keep(alloc, session.seen(), &session.blocks, session.next)?;
+        let changes = keep(alloc, session.seen(), session.heap.blocks(), session.next)?;
         Ok(changes)
     }
 
@@ -217,5 +228,25 @@ impl Changes {
             → writes_in self.now b p ≡ None }
     {
         self.events.is_empty() && are_own(&self.written, self.label)
+    }
+    /// If so, two cells of one label did the same to their sessions, whatever they told and read.
+    pub fn is_same(&self, other: &Changes) -> bool
+        requires { self.now.label ≡ other.now.label }
+        ensures events { IsTrue result → events_in self.now ≡ events_in other.now }
+        ensures bases { IsTrue result → (b : values.Base)
+            → bases_in self.now b ≡ bases_in other.now b }
+        ensures writes { IsTrue result → (b : values.Base) (p : ℕ)
+            → writes_in self.now b p ≡ writes_in other.now b p }
+    {
+        if !are_same_events(&self.events, &other.events) {
+            return false;
+        }
+        if !are_among(&self.blocks, &other.blocks, self.label) {
+            return false;
+        }
+        if !are_among(&other.blocks, &self.blocks, self.label) {
+            return false;
+        }
+        wrote_same(self, other) && wrote_same(other, self)
     }
 }

@@ -6,8 +6,11 @@ ghost use Rattle.nd_heap.specs.Seen.{IsListed};
 
 mod blocks;
 mod changes;
+mod heap;
 mod input;
+mod input_name;
 mod marking;
+mod matching;
 mod memory;
 mod names;
 mod reads;
@@ -20,6 +23,7 @@ mod writer;
 
 pub use changes::Changes;
 pub use input::{Input, Inputs, has_input, with_input, without_input};
+pub use input_name::is_input_name;
 pub use memory::OutOfMemory;
 pub use reads::Reads;
 pub use session::Session;

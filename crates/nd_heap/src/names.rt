@@ -5,6 +5,7 @@ ghost use Rattle.std.specs.Rc.{rc_str_bytes};
 ghost use Rattle.nd_model.specs.Session as model;
 ghost use Rattle.nd_model.specs.Value as values;
 ghost use Rattle.nd_heap.specs.Values.{base_of, value_of, names_of};
+ghost use Rattle.nd_heap.specs.Loose.{LosesHolder};
 
 use crate::memory::OutOfMemory;
 use crate::value::{Base, Value};
@@ -30,6 +31,8 @@ pub(crate) fn bind(names: &mut Rc<Names>, name: RcStr, value: Rc<Value>) -> Resu
 pub(crate) fn unbind(names: &mut Rc<Names>, name: &str) -> Result<(), OutOfMemory>
     ensures ok { OnOk result (names_of names.new.value.entries
         ≡ model.unbind name.now (names_of names.old.value.entries)) }
+    ensures holders { OnOk result (LosesHolder name.now (names_of names.old.value.entries)
+        (names_of names.new.value.entries)) }
     ensures err { OnErr result (names_of names.new.value.entries
         ≡ names_of names.old.value.entries) }
 {
@@ -71,11 +74,11 @@ fn lies_in(value: &Value, base: Base) -> bool
     }
 }
 
-/// Whether some bound value lies in the base.
+/// Whether some bound value lies in the base. The last names come first: a base that is new is theirs.
 pub(crate) fn is_held(names: &Names, base: Base) -> bool
     ensures { result ≡ model.is_held (base_of base) (names_of names.now.entries) }
 {
-    for i in 0..names.len() {
+    for i in (0..names.len()).rev() {
         let Some((_, value)) = names.get_index(i) else {
             unreachable!();
         };

@@ -10,89 +10,73 @@ ghost use Rattle.nd_heap.specs.Contents.{blocks_of, marks_of};
 ghost use Rattle.nd_heap.specs.Events.{event_of};
 ghost use Rattle.nd_heap.specs.Live.{bytes_at};
 ghost use Rattle.nd_heap.specs.Patching.{writes_of};
-ghost use Rattle.nd_heap.specs.Values.{base_of, names_of};
+ghost use Rattle.nd_heap.specs.Loose.{session_in};
+ghost use Rattle.nd_heap.specs.Values.{base_of};
 
-use crate::blocks::{Blocks, bytes_of, collect, write};
+use crate::blocks::{Blocks, bytes_of};
 use crate::changes::Changes;
+use crate::heap::Heap;
 use crate::marking::Footprint;
 use crate::memory::OutOfMemory;
-use crate::names::{Names, bind, unbind};
 use crate::trace::Event;
 use crate::value::Base;
 use crate::writer::MarkedBytes;
 use nd_block::RawBlock;
-use std::alloc::Global;
 use std::rc::Rc;
 
 /// Binds and unbinds as the events do.
-pub(crate) fn replay(names: &mut Rc<Names>, events: &[Event]) -> Result<(), OutOfMemory>
-    ensures { OnOk result (names_of names.new.value.entries
-        ≡ replayed (map event_of events.now) (names_of names.old.value.entries)) }
+pub(crate) fn replay(heap: &mut Heap, events: &[Event]) -> Result<(), OutOfMemory>
+    ensures names { OnOk result (heap.new.names
+        ≡ replayed (map event_of events.now) heap.old.names) }
+    ensures blocks { heap.new.blocks ≡ heap.old.blocks }
 {
     for event in events {
         match event {
-            Event::Binds(name, value) => bind(names, name.clone()?, value.clone()?)?,
-            Event::Unbinds(name) => unbind(names, name.as_str())?,
+            Event::Binds(name, value) => heap.bind(name.clone()?, value.clone()?)?,
+            Event::Unbinds(name) => heap.unbind(name.as_str())?,
         }
     }
     Ok(())
 }
 
 /// Sets a block to one that is shared.
-fn share(blocks: &mut Blocks, base: Base, block: &Rc<RawBlock>) -> Result<(), OutOfMemory>
-    ensures { OnOk result (bytes_at (blocks_of blocks.new.entries)
-        ≡ running.with_base (base_of base) block.now.value
-        (bytes_at (blocks_of blocks.old.entries))) }
+fn share(heap: &mut Heap, base: Base, block: &Rc<RawBlock>) -> Result<(), OutOfMemory>
+    ensures names { heap.new.names ≡ heap.old.names }
+    ensures ok { OnOk result (bytes_at heap.new.blocks
+        ≡ running.with_base (base_of base) block.now.value (bytes_at heap.old.blocks)) }
 {
     let shared = block.clone()?;
-    blocks.insert(base, shared)?;
+    heap.put_block(base, shared)?;
     Ok(())
 }
 
 /// Puts the blocks of a label among the others. No byte is copied.
-fn share_own(blocks: &mut Blocks, from: &Blocks, label: u64) -> Result<(), OutOfMemory>
-    requires { (b : values.Base) → b.label ≡ label
-        → bytes_at (blocks_of blocks.old.entries) b ≡ [] }
-    ensures { OnOk result ((b : values.Base) → bytes_at (blocks_of blocks.new.entries) b
+fn share_own(heap: &mut Heap, from: &Blocks, label: u64) -> Result<(), OutOfMemory>
+    requires { (b : values.Base) → b.label ≡ label → bytes_at heap.old.blocks b ≡ [] }
+    ensures names { heap.new.names ≡ heap.old.names }
+    ensures ok { OnOk result ((b : values.Base) → bytes_at heap.new.blocks b
         ≡ (if nat_eq b.label label then bytes_at (blocks_of from.now.entries) b
-        else bytes_at (blocks_of blocks.old.entries) b)) }
+        else bytes_at heap.old.blocks b)) }
 {
     for i in (0..from.len()).rev() {
         let Some((base, block)) = from.get_index(i) else {
             unreachable!();
         };
         if base.label == label {
-            share(blocks, *base, block)?;
+            share(heap, *base, block)?;
         }
     }
     Ok(())
 }
 
-/// The same, where the others may be shared: then they get a map of their own.
-fn put_own(blocks: &mut Rc<Blocks>, from: &Blocks, label: u64) -> Result<(), OutOfMemory>
-    requires { (b : values.Base) → b.label ≡ label
-        → bytes_at (blocks_of blocks.old.value.entries) b ≡ [] }
-    ensures { OnOk result ((b : values.Base) → bytes_at (blocks_of blocks.new.value.entries) b
-        ≡ (if nat_eq b.label label then bytes_at (blocks_of from.now.entries) b
-        else bytes_at (blocks_of blocks.old.value.entries) b)) }
-{
-    let own = Rc::make_mut(blocks)?;
-    share_own(own, from, label)?;
-    Ok(())
-}
-
 /// Puts the bytes that are marked into blocks of other labels.
-fn patch(
-    blocks: &mut Rc<Blocks>,
-    from: &Blocks,
-    written: &Footprint,
-    label: u64,
-) -> Result<(), OutOfMemory>
-    ensures { OnOk result ((b : values.Base) → bytes_at (blocks_of blocks.new.value.entries) b
-        ≡ (if nat_eq b.label label then bytes_at (blocks_of blocks.old.value.entries) b
+fn patch(heap: &mut Heap, from: &Blocks, written: &Footprint, label: u64) -> Result<(), OutOfMemory>
+    ensures names { heap.new.names ≡ heap.old.names }
+    ensures ok { OnOk result ((b : values.Base) → bytes_at heap.new.blocks b
+        ≡ (if nat_eq b.label label then bytes_at heap.old.blocks b
         else patched (writes_of (marks_of written.now.entries)
         (bytes_at (blocks_of from.now.entries)) b)
-        (bytes_at (blocks_of blocks.old.value.entries) b))) }
+        (bytes_at heap.old.blocks b))) }
 {
     for i in 0..written.len() {
         let Some((base, marks)) = written.get_index(i) else {
@@ -100,39 +84,22 @@ fn patch(
         };
         if base.label != label {
             let source = bytes_of(from, *base);
-            write(blocks, *base, MarkedBytes { marks, source })?;
+            heap.write(*base, MarkedBytes { marks, source })?;
         }
     }
     Ok(())
 }
 
 /// Makes the changes to names and blocks.
-pub(crate) fn redo(
-    alloc: Global,
-    names: &mut Rc<Names>,
-    blocks: &mut Rc<Blocks>,
-    changes: &Changes,
-) -> Result<(), OutOfMemory>
-    requires { HasNone changes.now.label (record {
-      names = names_of names.old.value.entries;
-      bytes = bytes_at (blocks_of blocks.old.value.entries);
-    }) }
-    ensures names { OnOk result (names_of names.new.value.entries
-        ≡ replayed changes.now.events (names_of names.old.value.entries)) }
-    ensures session { OnOk result (session.collected (record {
-      names = names_of names.new.value.entries;
-      bytes = bytes_at (blocks_of blocks.new.value.entries);
-    })
-        ≡ changed changes.now (record {
-          names = names_of names.old.value.entries;
-          bytes = bytes_at (blocks_of blocks.old.value.entries);
-        })) }
+pub(crate) fn redo(heap: &mut Heap, changes: &Changes) -> Result<(), OutOfMemory>
+    requires { HasNone changes.now.label (session_in heap.old) }
+    ensures names { OnOk result (heap.new.names ≡ replayed changes.now.events heap.old.names) }
+    ensures session { OnOk result (session.collected (session_in heap.new)
+        ≡ changed changes.now (session_in heap.old)) }
 {
-    let bound: &Rc<Names> = names;
-    collect(alloc, blocks, bound.as_ref())?;
-    replay(names, &changes.events)?;
-    let from = changes.blocks.as_ref();
-    put_own(blocks, from, changes.label)?;
-    patch(blocks, from, &changes.written, changes.label)?;
+    heap.collect()?;
+    replay(heap, &changes.events)?;
+    share_own(heap, &changes.blocks, changes.label)?;
+    patch(heap, &changes.blocks, &changes.written, changes.label)?;
     Ok(())
 }

@@ -17,10 +17,10 @@ ghost use Rattle.nd_heap.specs.Fields.{trace_of};
 ghost use Rattle.nd_heap.specs.Seen.{seen_of};
 ghost use Rattle.nd_model.specs.Storing.{having_written, having_block};
 
-use crate::blocks::{Blocks, bytes_of, collect, held_bytes, places_from, set_block, write};
+use crate::blocks::places_from;
 use crate::changes::Changes;
+use crate::heap::Heap;
 use crate::memory::OutOfMemory;
-use crate::names::{Names, bind, find, is_label_held, unbind};
 use crate::redo::redo;
 use crate::trace::{Event, Trace};
 use crate::value::{Array, Base, Value};
@@ -39,8 +39,7 @@ use std::rc::{Rc, RcStr};
 /// the session is only fit to be dropped.
 #[derive(Drop)]
 pub struct Session {
-    names: Rc<Names>,
-    pub(crate) blocks: Rc<Blocks>,
+    pub(crate) heap: Heap,
     trace: Trace,
     pub(crate) next: u64,
     alloc: Global,
@@ -81,11 +80,9 @@ impl Session {
     pub fn new(alloc: Global) -> Result<Session, OutOfMemory>
         ensures { IfOk result (λ s. live s ≡ running.start 0 model.no_session) }
     {
-        let names = Rc::new(alloc, IndexMap::new(alloc))?;
-        let blocks = Rc::new(alloc, IndexMap::new(alloc))?;
+        let heap = Heap::new(alloc)?;
         Ok(Session {
-            names,
-            blocks,
+            heap,
             trace: new_trace(alloc, 0),
             next: 0,
             alloc,
@@ -103,7 +100,7 @@ impl Session {
         ensures { OnOk result (live self.new
             ≡ running.start label (running.session_of (live self.old))) }
     {
-        collect(self.alloc, &mut self.blocks, self.names.as_ref())?;
+        self.heap.collect()?;
         self.trace = new_trace(self.alloc, label);
         self.next = 0;
         Ok(())
@@ -122,7 +119,7 @@ impl Session {
     pub fn bytes(&self, base: Base) -> &[u8]
         ensures { result.now ≡ (live self.now).bytes (base_of base) }
     {
-        bytes_of(self.blocks.as_ref(), base)
+        self.heap.bytes(base)
     }
 
     /// The bytes of a block that some bound value lies in, none where there is no such block. It notes nothing.
@@ -131,7 +128,7 @@ impl Session {
         ensures { result.now
             ≡ model.held_bytes (running.session_of (live self.now)) (base_of base) }
     {
-        held_bytes(self.blocks.as_ref(), self.names.as_ref(), base)
+        self.heap.held_bytes(base)
     }
 
     /// Whether some bound value lies in a block that a cell of this label made.
@@ -139,7 +136,7 @@ impl Session {
     pub fn has_label(&self, label: u64) -> bool
         ensures { IsFalse result ↔ HasNone label (running.session_of (live self.now)) }
     {
-        is_label_held(self.names.as_ref(), label)
+        self.heap.is_label_held(label)
     }
 
     /// The value of a name.
@@ -150,7 +147,7 @@ impl Session {
             ≡ running.after (running.Lookup name.now) (live self.old)) }
     {
         self.trace.note_name(self.alloc, name)?;
-        let Some(found) = find(&self.names, name) else {
+        let Some(found) = self.heap.find(name) else {
             return Ok(None);
         };
         let value = found.try_clone()?;
@@ -227,7 +224,7 @@ impl Session {
         ensures { OnOk result (live self.new ≡ having_block (base_of base)
             (W.written writer ((live self.old).bytes (base_of base))) (live self.old)) }
     {
-        write(&mut self.blocks, base, writer)?;
+        self.heap.write(base, writer)?;
         Ok(())
     }
 
@@ -245,7 +242,7 @@ impl Session {
             places: &places,
             bytes,
         };
-        write(&mut self.blocks, base, writer)?;
+        self.heap.write(base, writer)?;
         Ok(())
     }
 
@@ -259,7 +256,8 @@ impl Session {
             ≡ running.after (running.Make block) (live self.old)) }
     {
         let base = self.next_base();
-        set_block(self.alloc, &mut self.blocks, base, block)?;
+        let shared = Rc::new(self.alloc, block)?;
+        self.heap.put_block(base, shared)?;
         self.next += 1;
         Ok(base)
     }
@@ -273,7 +271,7 @@ impl Session {
     {
         let bound = RcStr::from_string(name)?;
         let kept = Rc::new(self.alloc, value)?;
-        bind(&mut self.names, bound.clone()?, kept.clone()?)?;
+        self.heap.bind(bound.clone()?, kept.clone()?)?;
         self.trace.note_event(Event::Binds(bound, kept))?;
         Ok(())
     }
@@ -285,7 +283,7 @@ impl Session {
             ≡ running.done (running.Unbinding name.now) (live self.old)) }
     {
         let unbound = RcStr::from_str(self.alloc, name)?;
-        unbind(&mut self.names, name)?;
+        self.heap.unbind(name)?;
         self.trace.note_event(Event::Unbinds(unbound))?;
         Ok(())
     }
@@ -296,7 +294,7 @@ impl Session {
         ensures { option_map (λ v. value_of v.now) result
             ≡ model.lookup name.now (live self.now).names }
     {
-        find(&self.names, name)
+        self.heap.find(name)
     }
 
     /// The number that the next new block gets.
@@ -340,11 +338,9 @@ impl Session {
     pub fn thaw(alloc: Global, version: &Version) -> Result<Session, OutOfMemory>
         ensures { IfOk result (λ s. live s ≡ thawed version.now) }
     {
-        let names = version.names.clone()?;
-        let blocks = version.blocks.clone()?;
+        let heap = version.heap.try_clone()?;
         Ok(Session {
-            names,
-            blocks,
+            heap,
             trace: new_trace(alloc, version.label),
             next: version.next,
             alloc,
@@ -360,12 +356,10 @@ impl Session {
         ensures next { IfOk result (λ v. v.next ≡ (live self.now).next) }
     {
         let Base { label, number } = self.next_base();
-        let names = self.names.clone()?;
-        let mut blocks = self.blocks.clone()?;
-        collect(self.alloc, &mut blocks, self.names.as_ref())?;
+        let mut heap = self.heap.try_clone()?;
+        heap.collect()?;
         Ok(Version {
-            names,
-            blocks,
+            heap,
             label,
             next: number,
         })
@@ -384,12 +378,12 @@ impl Session {
         ensures cell { OnOk result (record (live self.new) { names = []; bytes = λ b. [] }
             ≡ record (running.start changes.now.label model.no_session) { next = changes.now.next }) }
     {
-        let nothing = Rc::new(self.alloc, IndexMap::new(self.alloc))?;
-        let mut names = replace(&mut self.names, nothing);
-        redo(self.alloc, &mut names, &mut self.blocks, changes)?;
+        let nothing = Heap::new(self.alloc)?;
+        let mut heap = replace(&mut self.heap, nothing);
+        redo(&mut heap, changes)?;
         self.trace = new_trace(self.alloc, changes.label);
         self.next = changes.next;
-        self.names = names;
+        self.heap = heap;
         Ok(())
     }
 }

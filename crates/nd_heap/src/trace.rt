@@ -1,6 +1,6 @@
 // What the running cell has read and done.
 
-ghost use Rattle.std.specs.Prelude.{◌≡◌, ◌+◌, ◌≤◌, ◌^◌, IfOk, OnOk, Some, bytes_eq, map, option_map, slice_get, string_bytes};
+ghost use Rattle.std.specs.Prelude.{◌≡◌, ◌+◌, ◌≤◌, ◌^◌, IfOk, IsTrue, OnOk, Some, bytes_eq, map, option_map, slice_get, string_bytes};
 ghost use Rattle.std.specs.List.{IsDistinct};
 ghost use Rattle.std.specs.Rc.{rc_str_bytes};
 ghost use Rattle.nd_model.specs.Running as running;
@@ -48,6 +48,21 @@ impl Event {
         ensures { result ≡ binds (event_of self.now) }
     {
         matches!(self, Event::Binds(_, _))
+    }
+
+    /// Whether both bind, or both unbind, the same name, to the same value.
+    pub(crate) fn is_same(&self, other: &Event) -> bool
+        ensures { IsTrue result → event_of self.now ≡ event_of other.now }
+    {
+        match (self, other) {
+            (Event::Binds(name, value), Event::Binds(other_name, other_value)) => {
+                name.as_str() == other_name.as_str() && value.as_ref().is_same(other_value.as_ref())
+            }
+            (Event::Unbinds(name), Event::Unbinds(other_name)) => {
+                name.as_str() == other_name.as_str()
+            }
+            _ => false,
+        }
     }
 
     /// The same event, which shares the name and the value.

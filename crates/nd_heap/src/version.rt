@@ -7,9 +7,10 @@ ghost use Rattle.nd_heap.specs.Contents.{bytes_in};
 ghost use Rattle.nd_heap.specs.Kept.{version_of};
 ghost use Rattle.nd_heap.specs.Changes.{is_bound};
 
-use crate::blocks::{Blocks, bytes_of, share_block};
+use crate::blocks::share_block;
+use crate::heap::Heap;
 use crate::memory::OutOfMemory;
-use crate::names::{Names, find, share_value};
+use crate::names::share_value;
 use crate::value::{Base, Value};
 use nd_block::RawBlock;
 use std::marker::Model;
@@ -19,8 +20,7 @@ use std::rc::Rc;
 /// the next number of the cell that ran.
 #[derive(Drop)]
 pub struct Version {
-    pub(crate) names: Rc<Names>,
-    pub(crate) blocks: Rc<Blocks>,
+    pub(crate) heap: Heap,
     pub(crate) label: u64,
     pub(crate) next: u64,
 }
@@ -30,12 +30,9 @@ impl Model for Version {
 
     ghost Value = { Kept };
 
-    ghost use Rattle.nd_heap.specs.Values.{names_of};
-    ghost use Rattle.nd_heap.specs.Contents.{blocks_of};
-
     ghost view = { λ v. record {
-      names = names_of v.names.value.entries;
-      blocks = blocks_of v.blocks.value.entries;
+      names = v.heap.names;
+      blocks = v.heap.blocks;
       label = v.label;
       next = v.next;
     } };
@@ -43,8 +40,7 @@ impl Model for Version {
     ghost use Rattle.nd_heap.specs.Live.{bytes_at};
     ghost use Rattle.nd_heap.specs.Intact.{AllLie};
 
-    ghost invariant = { λ v. AllLie v.label v.next
-        (bytes_at (blocks_of v.blocks.value.entries)) (names_of v.names.value.entries) };
+    ghost invariant = { λ v. AllLie v.label v.next (bytes_at v.heap.blocks) v.heap.names };
 }
 
 impl Version {
@@ -52,11 +48,9 @@ impl Version {
     pub fn try_clone(&self) -> Result<Version, OutOfMemory>
         ensures { IfOk result (λ v. v ≡ self.now) }
     {
-        let names = self.names.clone()?;
-        let blocks = self.blocks.clone()?;
+        let heap = self.heap.try_clone()?;
         Ok(Version {
-            names,
-            blocks,
+            heap,
             label: self.label,
             next: self.next,
         })
@@ -66,7 +60,7 @@ impl Version {
     pub fn count(&self) -> usize
         ensures { result ≡ length (version_of self.now).names }
     {
-        self.names.as_ref().len()
+        self.heap.names().len()
     }
 
     /// The name at a place in the order of the names, none past the last.
@@ -74,7 +68,7 @@ impl Version {
         ensures { option_map (λ n. n.now) result
             ≡ option_map (λ e. e.0) (slice_get (version_of self.now).names place) }
     {
-        match self.names.as_ref().get_index(place) {
+        match self.heap.names().get_index(place) {
             Some((name, _)) => Some(name.as_str()),
             None => None,
         }
@@ -85,7 +79,7 @@ impl Version {
         ensures { option_map (λ v. value_of v.now) result
             ≡ model.lookup name.now (version_of self.now).names }
     {
-        find(&self.names, name)
+        self.heap.find(name)
     }
 
     /// Whether a name is bound.
@@ -99,7 +93,7 @@ impl Version {
     pub fn bytes(&self, base: Base) -> &[u8]
         ensures { result.now ≡ (version_of self.now).bytes (base_of base) }
     {
-        bytes_of(self.blocks.as_ref(), base)
+        self.heap.bytes(base)
     }
 
     /// The value of a name, shared.
@@ -107,13 +101,13 @@ impl Version {
         ensures { IfOk result (λ o. option_map (λ v. value_of v.value) o
             ≡ model.lookup name.now (version_of self.now).names) }
     {
-        share_value(self.names.as_ref(), name)
+        share_value(self.heap.names(), name)
     }
 
     /// The block of a base, shared.
     pub(crate) fn share_block(&self, base: Base) -> Result<Option<Rc<RawBlock>>, OutOfMemory>
         ensures { IfOk result (λ o. bytes_in o ≡ (version_of self.now).bytes (base_of base)) }
     {
-        share_block(self.blocks.as_ref(), base)
+        share_block(self.heap.blocks(), base)
     }
 }

@@ -1,11 +1,13 @@
 -- A statement makes at most one base for each of its tokens.
-use Rattle.std.proofs.Common.{◌≡◌, ℕ, zero, suc, ◌+◌, ◌≤◌, Bool, true, false, List, [], ◌∷◌, Option, Some, None, Result, Ok, Err, refl, arith}
+use Rattle.std.proofs.Common.{◌≡◌, ℕ, zero, suc, ◌+◌, ◌≤◌, Bool, true, false, cond, List, [], ◌∷◌, Option, Some, None, Result, Ok, Err, refl, arith}
 use Rattle.nd_model.specs.View.{ElementType, One, Structure, Geo, item_size}
 use Rattle.nd_model.specs.Content.{Content}
 use Rattle.nd_model.specs.Value.{Base, Value, Int, Truth, Scalar, Array, Row}
 use Rattle.nd_model.specs.Strides.{limit_fault}
 use Rattle.nd_model.specs.Running.{Source, Inputs, Running, Lookup, Ask, Use, Make, reply, after, Effect, Nothing, Prints, Saves, Binding, Unbinding, Storing}
-use Rattle.nd_model.specs.Fault.{Fault, ViewFault}
+use Rattle.nd_model.specs.Fault.{Fault, ViewFault, BadArgument}
+use Rattle.nd_model.specs.Fault as fault
+use Rattle.nd_model.specs.InputName.{is_input_name}
 use Rattle.nd_model.specs.Syntax as syntax
 use Rattle.nd_model.specs.Syntax.{Expr, Call, Index, Stmt}
 use Rattle.nd_model.specs.Tokens.{tokens_of, tokens_of_call, tokens_of_index, tokens_of_all, tokens_of_stmt}
@@ -14,7 +16,7 @@ use Rattle.nd_model.specs.Operand as operand
 use Rattle.nd_model.specs.Operand.{Operand, Usage, Made, ANumber, AnArray, Chosen, AnElement, AView, ACopy, Stretched, Deed, NoDeed, PrintsText, SavesFile, BindsFirst, BindsMade, Unbinds, Writes, MakesAndWrites}
 use Rattle.nd_model.specs.Viewing.{choose}
 use Rattle.nd_model.specs.Operation
-use Rattle.nd_model.specs.Operation.{operands, Operation, Computes, Views, perform, Plan, Named, Does, Plans, Done, And, evaluate, with_values, evaluate_all, Work, Acts, ActsOn, do_work}
+use Rattle.nd_model.specs.Operation.{operands, Operation, Computes, Views, perform, Plan, Named, FromInput, Does, Plans, Done, And, evaluate, with_values, evaluate_all, Work, Acts, ActsOn, do_work}
 use Rattle.nd_model.specs.Meaning
 use Rattle.nd_model.specs.Cell.{had}
 use Rattle.nd_model.specs.Bases.{FewBases}
@@ -123,6 +125,7 @@ few_performed (Views w) vs = few_operands vs _ 1 (λ os. few_decided (choose w o
 abbrev mutual
   pub bases : Plan → ℕ
   bases (Named n) = 0
+  bases (FromInput n f) = 1
   bases (Does op ps) = all_bases ps + 1
 
   pub all_bases : Plans → ℕ
@@ -133,9 +136,17 @@ few_bound : (n : List ℕ) (o : Option Value) → Few (Operation.bound_value n o
 few_bound n None = tt
 few_bound n (Some v) = tt
 
+few_input : (n : List ℕ) (f : Option Source → Result Made Fault) → Few (Operation.input_value n f) 1
+few_input n f =
+    elim (is_input_name n) as (λ t. Few (cond t (Asks (Ask n) (λ source. decide (f source) >>= Operation.give)) (Refuses (fault.Stmt BadArgument))) 1) [
+      | true ↦ λ source. few_decided (f source) Operation.give 1 few_given
+      | false ↦ tt
+    ]
+
 mutual
   few_plan : (p : Plan) → Few (evaluate p) (bases p)
   few_plan (Named n) = λ o. few_bound n o
+  few_plan (FromInput n f) = few_input n f
   few_plan (Does op ps) = few_values ps (perform op) 1 (few_performed op)
 
   few_values : (ps : Plans) (k : List (Usage × Value) → Eval Value) (n : ℕ) → ((vs : List (Usage × Value)) → Few (k vs) n) → Few (with_values ps k) (all_bases ps + n)

@@ -16,12 +16,12 @@ use Rattle.nd_model.specs.Operand as operand
 use Rattle.nd_model.specs.Operand.{Operand, Usage, Made, ANumber, AnArray, Chosen, AnElement, AView, ACopy, Stretched, Deed, NoDeed, PrintsText, SavesFile, BindsFirst, BindsMade, Unbinds, Writes, MakesAndWrites}
 use Rattle.nd_model.specs.Viewing.{choose}
 use Rattle.nd_model.specs.Operation
-use Rattle.nd_model.specs.Operation.{Operation, Computes, Views, perform, Plan, Named, Does, Plans, Done, And, evaluate, with_values, evaluate_all, Work, Acts, ActsOn}
+use Rattle.nd_model.specs.Operation.{Operation, Computes, Views, perform, Plan, Named, FromInput, Does, Plans, Done, And, evaluate, with_values, evaluate_all, Work, Acts, ActsOn}
 use Rattle.nd_model.specs.Meaning
 use Rattle.nd_model.specs.Sound.{IsViewOf}
 use Rattle.nd_model.specs.Noting.{WritesReadNoMore}
 use Rattle.nd_model.proofs.Growing.{Grows, stays, grows_on}
-use Rattle.nd_model.proofs.Soundness.{views_map, Safe, safe_bind, safe_decided, safe_limits, safe_operands, IfFound, IfGiven, given_run}
+use Rattle.nd_model.proofs.Soundness.{views_map, Safe, safe_bind, safe_decided, safe_limits, safe_operands, safe_input, IfFound, IfGiven, given_run}
 
 -- the base is the cell's own, or its length was read
 abbrev IsKnown : Running → Base → Type 0
@@ -140,6 +140,7 @@ known_bound i r n (Some v) h = h
 mutual
   known_plan : (p : Plan) (i : Inputs) (r : Running) → Safe K i r (evaluate p)
   known_plan (Named n) i r = known_bound i (after (Lookup n) r) n (lookup n r.names) (looked_up r n (lookup n r.names) refl)
+  known_plan (FromInput n f) i r = safe_input K i r n f (known_given i)
   known_plan (Does op ps) i r = known_values ps (perform op) i r (λ q vs g h. known_performed i q op vs h)
 
   known_values : (ps : Plans) (k : List (Usage × Value) → Eval Value) (i : Inputs) (r : Running) → ((q : Running) (vs : List (Usage × Value)) → Grows r q → AllK q vs → Safe K i q (k vs))

@@ -8,7 +8,9 @@ use Rattle.nd_model.specs.Value.{Base, same_base, Value, lies_in}
 use Rattle.nd_model.specs.Session.{Names, lookup, bind, unbind, is_held, Session, no_session, put}
 use Rattle.nd_model.specs.Content.{Content, contents_in, content_in_order}
 use Rattle.nd_model.specs.Running.{Key, Source, Inputs, Running, start, having_read, Lookup, Ask, Use, Make, reply, made, after, Effect, Nothing, Prints, Saves, Binding, Unbinding, Storing, done, Output, output}
-use Rattle.nd_model.specs.Fault.{Fault, ViewFault}
+use Rattle.nd_model.specs.Fault.{Fault, ViewFault, BadArgument}
+use Rattle.nd_model.specs.Fault as fault
+use Rattle.nd_model.specs.InputName.{is_input_name}
 use Rattle.nd_model.specs.Strides.{limit_fault}
 use Rattle.nd_model.specs.Syntax.{Stmt, Line, Parsed}
 use Rattle.nd_model.specs.Evaluation.{Eval, Gives, Refuses, Asks, run, ◌>>=◌, decide}
@@ -16,7 +18,7 @@ use Rattle.nd_model.specs.Operand as operand
 use Rattle.nd_model.specs.Operand.{Operand, Usage, Made, ANumber, AnArray, Chosen, AnElement, AView, ACopy, Stretched, Deed, NoDeed, PrintsText, SavesFile, BindsFirst, BindsMade, Unbinds, Writes, MakesAndWrites}
 use Rattle.nd_model.specs.Viewing.{choose}
 use Rattle.nd_model.specs.Operation
-use Rattle.nd_model.specs.Operation.{operands, Operation, Computes, Views, perform, Plan, Named, Does, Plans, Done, And, evaluate, with_values, evaluate_all, Work, Acts, ActsOn}
+use Rattle.nd_model.specs.Operation.{operands, Operation, Computes, Views, perform, Plan, Named, FromInput, Does, Plans, Done, And, evaluate, with_values, evaluate_all, Work, Acts, ActsOn}
 use Rattle.nd_model.specs.Meaning
 use Rattle.nd_model.specs.Cell.{Saved, Ended, had, statement, most_text, with_save, and_then, statements, ran, cell, session_after, notebook}
 use Rattle.nd_model.specs.Renaming
@@ -156,9 +158,19 @@ module _ (r : ℕ → ℕ → Bool) where
   at_name : (n : List ℕ) → Same Value (SameValue r) (Operation.name n) (Operation.name n)
   at_name n = looks n _ _ (λ o p e. at_bound n o p e)
 
+  at_input : (n : List ℕ) (f : Option Source → Result Made Fault) → Same Value (SameValue r) (Operation.input_value n f) (Operation.input_value n f)
+  at_input n f =
+      let read : Eval Value = Asks (Ask n) (λ source. decide (f source) >>= Operation.give) in
+      let refused : Eval Value = Refuses (fault.Stmt BadArgument) in
+      elim (is_input_name n) as (λ t. Same Value (SameValue r) (cond t read refused) (cond t read refused)) [
+        | true ↦ asks n _ _ (λ source. at_decided (SameValue r) (f source) _ _ at_given)
+        | false ↦ refuses _
+      ]
+
   mutual
     at_plan : (p : Plan) → Same Value (SameValue r) (evaluate p) (evaluate p)
     at_plan (Named n) = at_name n
+    at_plan (FromInput n f) = at_input n f
     at_plan (Does op ps) = at_values ps (perform op) (perform op) (at_performed op)
 
     at_values : (ps : Plans) (k k' : List (Usage × Value) → Eval Value) → ((vs ws : List (Usage × Value)) → SameOperands vs ws → Same Value (SameValue r) (k vs) (k' ws))

@@ -12,8 +12,10 @@ use Rattle.nd_model.specs.Value.{Base, same_base, Value, Int, Truth, Scalar, Arr
 use Rattle.nd_model.specs.Strides.{limit_fault}
 use Rattle.nd_model.specs.Session.{Names, lookup, bind, unbind, is_held, Session, held_bytes, put}
 use Rattle.nd_model.specs.Content.{Content, element_bytes, writes, array_bytes}
-use Rattle.nd_model.specs.Running.{Inputs, Running, start, Lookup, Use, Make, reply, with_base, after, Effect, Nothing, Prints, Saves, Binding, Unbinding, Storing, done, Output}
-use Rattle.nd_model.specs.Fault.{Fault, ViewFault}
+use Rattle.nd_model.specs.Running.{Source, Inputs, Running, start, Lookup, Ask, Use, Make, reply, with_base, after, Effect, Nothing, Prints, Saves, Binding, Unbinding, Storing, done, Output}
+use Rattle.nd_model.specs.Fault.{Fault, ViewFault, BadArgument}
+use Rattle.nd_model.specs.Fault as fault
+use Rattle.nd_model.specs.InputName.{is_input_name}
 use Rattle.nd_model.specs.Syntax.{Stmt, Line, Parsed}
 use Rattle.nd_model.specs.Evaluation.{Eval, Gives, Refuses, Asks, run, ◌>>=◌, decide}
 use Rattle.nd_model.specs.Operand as operand
@@ -21,7 +23,7 @@ use Rattle.nd_model.specs.Operand.{Operand, Plain, Elements, Usage, Made, ANumbe
 use Rattle.nd_model.specs.Viewing.{Viewing, choose}
 use Rattle.nd_model.specs.Broadcast.{broadcast_view}
 use Rattle.nd_model.specs.Operation
-use Rattle.nd_model.specs.Operation.{operands, Operation, Computes, Views, perform, Plan, Named, Does, Plans, Done, And, evaluate, with_values, evaluate_all, Work, Acts, ActsOn}
+use Rattle.nd_model.specs.Operation.{operands, Operation, Computes, Views, perform, Plan, Named, FromInput, Does, Plans, Done, And, evaluate, with_values, evaluate_all, Work, Acts, ActsOn}
 use Rattle.nd_model.specs.Meaning
 use Rattle.nd_model.specs.Cell.{Saved, Ended, had, statement, most_text, with_save, and_then, statements, ran, cell, session_after}
 use Rattle.nd_model.specs.Footprint.{HasNone}
@@ -246,9 +248,19 @@ safe_bound i r n (Some v) h = h
 safe_name : (i : Inputs) (r : Running) (n : List ℕ) → IsSound r → Safe V i r (Operation.name n)
 safe_name i r n s = safe_bound i (after (Lookup n) r) n (lookup n r.names) (found_sound _ n r.names (sound_grows r (after (Lookup n) r) (grows_after (Lookup n) r) s))
 
+-- what is made of an input is as it should be where whatever is made is so
+pub safe_input : (P : Running → Value → Type 0) (i : Inputs) (r : Running) (n : List ℕ) (f : Option Source → Result Made Fault) → ((q : Running) (m : Made) → Safe P i q (Operation.give m))
+    → Safe P i r (Operation.input_value n f)
+safe_input P i r n f h =
+    elim (is_input_name n) as (λ t. Safe P i r (cond t (Asks (Ask n) (λ source. decide (f source) >>= Operation.give)) (Refuses (fault.Stmt BadArgument)))) [
+      | true ↦ safe_decided P i (after (Ask n) r) (f (i n)) Operation.give (λ m e. h (after (Ask n) r) m)
+      | false ↦ tt
+    ]
+
 mutual
   safe_plan : (p : Plan) (i : Inputs) (r : Running) → IsSound r → Safe V i r (evaluate p)
   safe_plan (Named n) i r s = safe_name i r n s
+  safe_plan (FromInput n f) i r s = safe_input V i r n f (safe_given i)
   safe_plan (Does op ps) i r s = safe_values ps (perform op) i r s (λ q vs g h. safe_performed i q op vs h)
 
   safe_values : (ps : Plans) (k : List (Usage × Value) → Eval Value) (i : Inputs) (r : Running) → IsSound r → ((q : Running) (vs : List (Usage × Value)) → Grows r q → AllV q vs → Safe V i q (k vs))

@@ -1,7 +1,8 @@
 -- Notebooks under edits, and what they answer.
-use Rattle.std.specs.Prelude.{◌≡◌, ℕ, zero, suc, ◌+◌, ◌*◌, ◌^◌, max, Bool, true, false, ◌&&◌, ◌||◌, nat_eq, nat_lt, nat_le, bytes_eq, is_none, if◌then◌else◌, List, [], ◌∷◌, length, map, insert, remove, slice_get, slice_index_or, slice_set, Option, Some, None, Result, Ok, Err}
+use Rattle.std.specs.Prelude.{◌≡◌, ℕ, zero, suc, ◌+◌, ◌*◌, ◌^◌, max, Bool, false, ◌||◌, nat_eq, nat_lt, nat_le, bytes_eq, is_none, if◌then◌else◌, List, [], ◌∷◌, length, map, insert, remove, slice_get, slice_index_or, slice_set, Option, Some, None, Result, Ok, Err}
 use Rattle.nd_model.specs.Session.{Session, no_session, lookup}
 use Rattle.nd_model.specs.Running.{Inputs, Source, Npy, Buffer}
+use Rattle.nd_model.specs.InputName.{is_input_name}
 use Rattle.nd_model.specs.Fault.{Refusal}
 use Rattle.nd_model.specs.Syntax.{Parsed}
 use Rattle.nd_model.specs.Reading.{reading}
@@ -65,27 +66,9 @@ in_place at count then_this = if nat_lt at count then then_this else Some (NoCel
 
 -- ---- inputs
 
--- the most bytes of an input's name, and the most that an input takes
-abbrev pub most_name : ℕ
-most_name = 64
-
+-- the most that an input takes
 abbrev pub most_input : ℕ
 most_input = 2 ^ 26
-
-abbrev pub is_between : (low high n : ℕ) → Bool
-is_between low high n = nat_le low n && nat_le n high
-
--- a digit, a letter, or one of `-`, `.` and `_`
-abbrev pub is_name_byte : ℕ → Bool
-is_name_byte c =
-    is_between 48 57 c || is_between 65 90 c || is_between 97 122 c || nat_eq c 45 || nat_eq c 46 || nat_eq c 95
-
-abbrev pub are_name_bytes : List ℕ → Bool
-are_name_bytes [] = true
-are_name_bytes (c ∷ cs) = is_name_byte c && are_name_bytes cs
-
-abbrev pub is_input_name : List ℕ → Bool
-is_input_name name = is_between 1 most_name (length name) && are_name_bytes name
 
 -- what an input takes: its bytes, those of its format, and 8 for each length and stride
 abbrev pub size_of_input : Source → ℕ

@@ -8,6 +8,7 @@ pub mod Value
 pub mod Session
 pub mod Content
 pub mod Running
+pub mod InputName
 pub mod Fault
 pub mod Strides
 pub mod Calls

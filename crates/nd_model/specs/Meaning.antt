@@ -1,10 +1,10 @@
 -- What expressions and statements mean: for each form its operands, how they are used, and what is made of them.
-use Rattle.std.specs.Prelude.{pos, List, [], ◌∷◌, None, Result, Ok, Err}
+use Rattle.std.specs.Prelude.{pos, List, [], ◌∷◌, Option, None, Result, Ok, Err}
 use Rattle.nd_model.specs.Value.{Value}
-use Rattle.nd_model.specs.Running.{Effect}
+use Rattle.nd_model.specs.Running.{Source, Effect}
 use Rattle.nd_model.specs.Fault.{Fault, BadArgument}
 use Rattle.nd_model.specs.Fault as fault
-use Rattle.nd_model.specs.Syntax.{Expr, Name, Integer, Unary, Negative, Called, Arange, Omitted, Item, Attribute, Index, Items, AndItem, NoItem, At, Stmt, Import, Bind, Assign, Delete, Print}
+use Rattle.nd_model.specs.Syntax.{Expr, Name, Integer, Unary, Negative, Called, Arange, Load, Buffer, Omitted, Item, Attribute, Index, Items, AndItem, NoItem, At, Stmt, Import, Bind, Assign, Delete, Print}
 use Rattle.nd_model.specs.Refusing as refusing
 use Rattle.nd_model.specs.Evaluation.{Eval}
 use Rattle.nd_model.specs.Operand.{Int, Operand, Whole, ArraysOnly, Unused, Made, ANumber, Deed, NoDeed, BindsFirst, Unbinds, Writes}
@@ -13,7 +13,7 @@ use Rattle.nd_model.specs.Creation.{arange}
 use Rattle.nd_model.specs.Writing.{assignment_writes}
 use Rattle.nd_model.specs.Viewing.{Indexed}
 use Rattle.nd_model.specs.Printing.{print_deed}
-use Rattle.nd_model.specs.Operation.{Computes, Views, Plan, Named, Does, Plans, Done, And, evaluate, Work, Acts, do_work}
+use Rattle.nd_model.specs.Operation.{Computes, Views, Plan, Named, FromInput, Does, Plans, Done, And, evaluate, Work, Acts, do_work}
 
 -- a function of one operand
 abbrev pub one : (Operand → Result Made Fault) → List Operand → Result Made Fault
@@ -24,6 +24,10 @@ one f _ = Err (fault.Stmt BadArgument)
 abbrev pub unbuilt_form : {A : Type 0} → List Operand → Result A Fault
 unbuilt_form os = Err (fault.Stmt BadArgument)
 
+-- arrays of inputs are not built yet
+abbrev pub unbuilt_input : Option Source → Result Made Fault
+unbuilt_input source = Err (fault.Stmt BadArgument)
+
 -- ---- expressions
 
 abbrev mutual
@@ -32,6 +36,8 @@ abbrev mutual
   plan (Integer n) = Does (Computes (λ os. Ok (ANumber (Int (pos n))))) Done
   plan (Unary Negative e) = Does (Computes (one negative)) (And Whole (plan e) Done)
   plan (Called (Arange Omitted e Omitted None)) = Does (Computes (one arange)) (And Unused (plan e) Done)
+  plan (Called (Load n)) = FromInput n unbuilt_input
+  plan (Called (Buffer n)) = FromInput n unbuilt_input
   plan (Item t x) = Does (Views Indexed) (And Unused (plan t) (item_plans x))
   plan (Attribute e m) = Does (Computes unbuilt_form) (And Unused (plan e) Done)
   plan _ = Does (Computes unbuilt_form) Done

@@ -1,10 +1,11 @@
--- Operations: how values become operands and results become values. Here alone bytes are asked for and bases made.
-use Rattle.std.specs.Prelude.{ℕ, zero, suc, Bool, true, false, List, [], ◌∷◌, length, Option, Some, None, Result}
+-- Operations: how values become operands and results become values. Here alone inputs and bytes are asked for and bases made.
+use Rattle.std.specs.Prelude.{ℕ, zero, suc, Bool, true, false, if◌then◌else◌, List, [], ◌∷◌, length, Option, Some, None, Result}
 use Rattle.nd_model.specs.View.{ElementType, One, Structure, Geo, item_size, element_places, byte_places, contiguous}
 use Rattle.nd_model.specs.Content.{Content, number_at, contents_in, array_bytes, content_in_order}
 use Rattle.nd_model.specs.Value.{Base, Value}
 use Rattle.nd_model.specs.Value as value
-use Rattle.nd_model.specs.Running.{Lookup, Use, Make, Effect, Nothing, Prints, Saves, Binding, Unbinding, Storing}
+use Rattle.nd_model.specs.Running.{Source, Lookup, Ask, Use, Make, Effect, Nothing, Prints, Saves, Binding, Unbinding, Storing}
+use Rattle.nd_model.specs.InputName.{is_input_name}
 use Rattle.nd_model.specs.Strides.{limit_fault}
 use Rattle.nd_model.specs.Fault.{Fault, ViewFault, View, Stmt, NoName, NotAnArray, BadArgument}
 use Rattle.nd_model.specs.Evaluation.{Eval, Gives, Refuses, Asks, ◌>>=◌, decide}
@@ -117,10 +118,15 @@ bound_value n (Some v) = Gives v
 abbrev pub name : List ℕ → Eval Value
 name n = Asks (Lookup n) (λ found. bound_value n found)
 
--- what an expression comes to: a name, or an operation and its operands, from left to right
+-- what is made of an input: it is read, also where it is then refused. A name that no input may have is refused, and nothing is read.
+abbrev pub input_value : List ℕ → (Option Source → Result Made Fault) → Eval Value
+input_value n f = if is_input_name n then Asks (Ask n) (λ source. decide (f source) >>= give) else Refuses (Stmt BadArgument)
+
+-- what an expression comes to: a name, what is made of an input, or an operation and its operands, from left to right
 mutual
   pub data Plan : Type 0 where
     Named : List ℕ → Plan
+    FromInput : List ℕ → (Option Source → Result Made Fault) → Plan
     Does : Operation → Plans → Plan
 
   pub data Plans : Type 0 where
@@ -130,6 +136,7 @@ mutual
 abbrev mutual
   pub evaluate : Plan → Eval Value
   evaluate (Named n) = name n
+  evaluate (FromInput n f) = input_value n f
   evaluate (Does op ps) = with_values ps (perform op)
 
   -- all are evaluated, and then it goes on

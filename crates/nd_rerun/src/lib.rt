@@ -2,7 +2,6 @@
 #![tactic(auto)]
 
 mod edit;
-mod given;
 mod kernel;
 mod notebook;
 mod query;

@@ -7,12 +7,11 @@ ghost use Rattle.nd_heap.specs.Values.{source_of};
 ghost use Rattle.nd_rerun.specs.Edits.{outcome_of};
 
 use crate::edit::{Edit, EditFault};
-use crate::given::is_input_name;
 use crate::kernel::Kernel;
 use crate::query::{QueryFault, Shown, names_of, what_shows};
 use indexmap::IndexMap;
 use nd_cell::{CellResult, Meter};
-use nd_heap::{Input, OutOfMemory, Version, has_input, with_input, without_input};
+use nd_heap::{Input, OutOfMemory, Version, has_input, is_input_name, with_input, without_input};
 use nd_schedule::Notebook as Schedule;
 use std::alloc::Global;
 use std::marker::Model;

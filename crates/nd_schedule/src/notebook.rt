@@ -276,7 +276,7 @@ impl<C: Cells> Notebook<C> {
         let mut session = self.session_before(at)?;
         let mut since = since_last(&versions);
         for k in at..cells.len() {
-            let version = keep_due::<C>(self.alloc, &mut session, since)?;
+            let version = keep_due::<C>(self.alloc, &mut session, k, since)?;
             since = if version.is_some() {
                 1
             } else {
@@ -347,7 +347,7 @@ impl<C: Cells> Notebook<C> {
             (book_of (edited_sheet (Insert at text.now) self.old)) meter.old meter.new }
     {
         let mut lists = self.lists()?;
-        let label = fresh_label(&lists.cells);
+        let label = fresh_label(self.alloc, &lists.cells)?;
         let text = String::from_str(self.alloc, text)?;
         let cell = Rc::new(self.alloc, Source { label, text })?;
         lists.cells.insert(at, cell)?;

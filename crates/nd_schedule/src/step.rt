@@ -14,20 +14,25 @@ use nd_meter::Meter;
 use std::alloc::{AllocError, Global};
 use std::rc::Rc;
 
-/// A version is kept where none was kept beside so many cells before.
-pub(crate) const APART: usize = 32;
+/// How many cells apart two versions are at least.
+const APART: usize = 32;
 
-/// Keeps the session, if there are enough cells since the last version.
+/// Versions are further apart behind many cells: by one cell for so many before them. So all versions of a notebook together have
+/// a few times as many names as its last session, where there might be one for each cell and each name.
+const FOR_ONE: usize = 16;
+
+/// Keeps the session before the cell at the place, if there are enough cells since the last version.
 pub(crate) fn keep_due<C: Cells>(
     alloc: Global,
     session: &mut C::Session,
+    at: usize,
     since: usize,
 ) -> Result<Option<Rc<C::Version>>, AllocError>
     ensures same { C.session_of session.new ≡ C.session_of session.old }
     ensures kept { IfOk result
         (λ o. IfSome o (λ v. C.kept_session v.value ≡ C.session_of session.old)) }
 {
-    if since < APART {
+    if since < APART.max(at / FOR_ONE) {
         return Ok(None);
     }
     let version = C::freeze(session)?;

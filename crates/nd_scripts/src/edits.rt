@@ -1,15 +1,27 @@
 //! Lists of edits on a notebook without cells, with the meter.
 
-use nd_rerun::{Edit, EditFault, Meter, Notebook};
+use nd_rerun::{Edit, EditFault, Input, Meter, Notebook};
 use nd_rows::unescape;
 use std::alloc::Global;
 use std::io;
 
-/// The edit that a line says: `insert AT SOURCE`, `change AT SOURCE`, `move FROM TO` or `remove AT`.
-fn edit_of(line: &str) -> Option<Edit<'_>> {
+/// The words of a line: what is done, to which cell or input, and the rest of the line.
+fn words_of(line: &str) -> Option<(&str, &str, &str)> {
     let (word, rest) = line.split_once(' ')?;
-    let (at, behind) = rest.split_once(' ').unwrap_or((rest, ""));
-    let at = at.parse().ok()?;
+    let (which, behind) = rest.split_once(' ').unwrap_or((rest, ""));
+    Some((word, which, behind))
+}
+
+/// The edit that a line says: `insert AT SOURCE`, `change AT SOURCE`, `move FROM TO`, `remove AT`, `input NAME TEXT`, which sets the
+/// input that it is given with, or `drop NAME`.
+fn edit_of<'a>(line: &'a str, input: &'a Input) -> Option<Edit<'a>> {
+    let (word, which, behind) = words_of(line)?;
+    match word {
+        "input" => return Some(Edit::SetInput(which, input)),
+        "drop" => return Some(Edit::DropInput(which)),
+        _ => {}
+    }
+    let at = which.parse().ok()?;
     match word {
         "insert" => Some(Edit::Insert(at, behind)),
         "change" => Some(Edit::Change(at, behind)),
@@ -20,7 +32,7 @@ fn edit_of(line: &str) -> Option<Edit<'_>> {
 }
 
 /// The lines, with what their escapes stand for.
-fn unescape_lines(alloc: Global, lines: &str) -> io::Result<Vec<String>> {
+pub(crate) fn unescape_lines(alloc: Global, lines: &str) -> io::Result<Vec<String>> {
     let mut texts = Vec::new(alloc);
     for line in lines.lines() {
         match unescape(alloc, line) {
@@ -31,11 +43,25 @@ fn unescape_lines(alloc: Global, lines: &str) -> io::Result<Vec<String>> {
     Ok(texts)
 }
 
-/// The edits that the lines say.
-fn edits_of(alloc: Global, lines: &[String]) -> io::Result<Vec<Edit<'_>>> {
-    let mut edits = Vec::new(alloc);
+/// For each line what stands behind its first two words, as an input of these bytes.
+pub(crate) fn inputs_of(alloc: Global, lines: &[String]) -> io::Result<Vec<Input>> {
+    let mut inputs = Vec::new(alloc);
     for line in lines {
-        match edit_of(line.as_str()) {
+        let (_, _, behind) = words_of(line.as_str()).unwrap_or(("", "", ""));
+        inputs.push(Input::Npy(Vec::from_slice(alloc, behind.as_bytes())?))?;
+    }
+    Ok(inputs)
+}
+
+/// The edits that the lines say, over the input of each line.
+pub(crate) fn edits_of<'a>(
+    alloc: Global,
+    lines: &'a [String],
+    inputs: &'a [Input],
+) -> io::Result<Vec<Edit<'a>>> {
+    let mut edits = Vec::new(alloc);
+    for (line, input) in lines.iter().zip(inputs) {
+        match edit_of(line.as_str(), input) {
             Some(edit) => edits.push(edit)?,
             None => return Err(io::ErrorKind::InvalidData.into()),
         }
@@ -44,7 +70,7 @@ fn edits_of(alloc: Global, lines: &[String]) -> io::Result<Vec<Edit<'_>>> {
 }
 
 /// Prints what each cell of a notebook printed.
-fn print_texts(rt: &HostRuntime, notebook: &Notebook) -> io::Result<()> {
+pub(crate) fn print_texts(rt: &HostRuntime, notebook: &Notebook) -> io::Result<()> {
     for at in 0..notebook.count() {
         if let Ok(result) = notebook.result(at) {
             println!(rt; "{at} {:?}", result.text)?;
@@ -79,6 +105,7 @@ fn print_edits(rt: &HostRuntime, notebook: &mut Notebook, edits: &[Edit]) -> io:
 pub(crate) fn run_row(rt: &HostRuntime, title: &str, lines: &str) -> io::Result<()> {
     println!(rt; "= edits: {title}")?;
     let texts = unescape_lines(rt.alloc(), lines)?;
-    let edits = edits_of(rt.alloc(), &texts)?;
+    let inputs = inputs_of(rt.alloc(), &texts)?;
+    let edits = edits_of(rt.alloc(), &texts, &inputs)?;
     print_edits(rt, &mut Notebook::new(rt.alloc()), &edits)
 }

@@ -1,12 +1,13 @@
 //! Rows of scripts, and of calls that no script shows. On standard input stands a script below each line `= TITLE`, whose lines may
 //! have the escapes of `nd_rows`, and a list of edits below each line `= edits: TITLE`. Each argument is a command line of the program,
-//! which is run, and its exit status printed; that of the last one is this program's. With the one word `memory` it makes the edits that
-//! are to be run with refused allocations, and those alone.
+//! which is run, and its exit status printed; that of the last one is this program's. What is to be run with refused allocations: with
+//! the one word `memory` it makes some edits and no more, and with `repeat` those of the lists on standard input.
 #![tactic(auto)]
 
 mod edits;
 mod memory;
 mod pieces;
+mod repeats;
 mod scripts;
 mod streams;
 
@@ -36,6 +37,19 @@ fn run_rows(rt: &HostRuntime) -> io::Result<()> {
     run_table(rt, &table)
 }
 
+/// Makes the edits of the lists on standard input, again where memory was wanted.
+fn repeat_rows(rt: &HostRuntime) -> io::Result<()> {
+    let mut table = String::new(rt.alloc());
+    rt.stdin().read_to_string(&mut table)?;
+    for row in table.split(TITLE).skip(1) {
+        let (title, lines) = row.split_once('\n').unwrap_or((row, ""));
+        if let Some(title) = title.strip_prefix("edits: ") {
+            repeats::repeat_row(rt, title, lines)?;
+        }
+    }
+    Ok(())
+}
+
 /// Makes the calls that need no row.
 fn make_calls(rt: &HostRuntime) -> io::Result<()> {
     streams::print_runs(rt)?;
@@ -57,6 +71,10 @@ fn run_command_lines(rt: &HostRuntime, lines: &[String]) -> io::Result<ExitCode>
 fn run(rt: &HostRuntime, lines: &[String]) -> io::Result<ExitCode> {
     if matches!(lines, [word] if word.as_str() == "memory") {
         memory::print_edits(rt)?;
+        return Ok(ExitCode::SUCCESS);
+    }
+    if matches!(lines, [word] if word.as_str() == "repeat") {
+        repeat_rows(rt)?;
         return Ok(ExitCode::SUCCESS);
     }
     make_calls(rt)?;

@@ -20,26 +20,26 @@ returns-clause-events c = c.in_ok-events.ensures ∙ ap (map event_of) c.deref-2
 pub returns-clause-bases : goal.returns-clause-bases
 returns-clause-bases c = λ b.
     let i = c.trace.inside in
-    let blocks = blocks_of c.args.blocks.now.value.entries in
+    let blocks = blocks_of c.args.blocks.now.entries in
     let r : running.Running = running_of (traced (seen_in i) [] blocks 0) in
     let kept : Base → Bool = is_base_among (bases_of c.note_marked.new.bases.entries) in
     let own : Base → Bool = is_base_among (bases_of c.in_ok-bases.bases.entries) in
-    let bytes : Base → List ℕ = bytes_at (blocks_of c.keep_held.new.blocks.value.entries) in
+    let bytes : Base → List ℕ = bytes_at (blocks_of c.in_ok-kept.kept.entries) in
     ap (λ es. cond (nat_eq b.label i.label) (cond (is_held b (replayed es [])) (bytes b) []) []) (c.in_ok-events.ensures ∙ ap (map event_of) c.deref-2.ensures.value)
     ∙ kept_bases r (marks_of i.written.entries) kept own bytes c.in_ok-note_marked.ensures
-    (λ b. c.in_ok-keep_held.ensures.ok b ∙ ap (λ m. cond (kept b) (bytes_at (blocks_of m.entries) b) []) c.in_ok-kept.ensures.cases)
+    c.in_ok-kept.ensures
     (λ b mine. c.in_ok-bases.ensures b mine ∙ ap (λ es. is_held b (replayed (map event_of es) [])) c.deref.ensures.value) b
     ∙ ap (λ (t : Seen). (effects_over t blocks).bases b) c.trace.view_is
 
 pub returns-clause-writes : goal.returns-clause-writes
 returns-clause-writes c = λ b p.
     let i = c.trace.inside in
-    let blocks = blocks_of c.args.blocks.now.value.entries in
+    let blocks = blocks_of c.args.blocks.now.entries in
     let r : running.Running = running_of (traced (seen_in i) [] blocks 0) in
     let kept : Base → Bool = is_base_among (bases_of c.note_marked.new.bases.entries) in
     let own : Base → Bool = is_base_among (bases_of c.in_ok-bases.bases.entries) in
-    let bytes : Base → List ℕ = bytes_at (blocks_of c.keep_held.new.blocks.value.entries) in
+    let bytes : Base → List ℕ = bytes_at (blocks_of c.in_ok-kept.kept.entries) in
     kept_writes r (marks_of i.written.entries) kept own bytes c.in_ok-note_marked.ensures
-    (λ b. c.in_ok-keep_held.ensures.ok b ∙ ap (λ m. cond (kept b) (bytes_at (blocks_of m.entries) b) []) c.in_ok-kept.ensures.cases)
+    c.in_ok-kept.ensures
     (λ b p. refl) (is_marked (marks_of c.in_ok-written.written.entries)) c.in_ok-written.ensures b p
     ∙ ap (λ (t : Seen). (effects_over t blocks).writes b p) c.trace.view_is

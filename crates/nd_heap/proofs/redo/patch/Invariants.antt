@@ -8,6 +8,6 @@ use Rattle.nd_heap.specs.Patching.{writes_of}
 use Rattle.nd_heap.proofs.redo.patch.Given as goal
 
 abbrev pub invariant-loop-i : goal.invariant-loop-i
-invariant-loop-i l = (b : values.Base) → bytes_at (blocks_of l.blocks.value.entries) b
-    ≡ cond (nat_eq b.label l.label) (bytes_at (blocks_of l.fn.blocks.value.entries) b)
-    (cond (has_marks (marks_of (take l.i l.written.entries)) b) (patched (writes_of (marks_of l.written.entries) (bytes_at (blocks_of l.from.entries)) b) (bytes_at (blocks_of l.fn.blocks.value.entries) b)) (bytes_at (blocks_of l.fn.blocks.value.entries) b))
+invariant-loop-i l = (l.heap.names ≡ l.fn.heap.names) × ((b : values.Base) → bytes_at l.heap.blocks b
+    ≡ cond (nat_eq b.label l.label) (bytes_at l.fn.heap.blocks b)
+    (cond (has_marks (marks_of (take l.i l.written.entries)) b) (patched (writes_of (marks_of l.written.entries) (bytes_at (blocks_of l.from.entries)) b) (bytes_at l.fn.heap.blocks b)) (bytes_at l.fn.heap.blocks b)))

@@ -1,5 +1,5 @@
-use Rattle.std.proofs.Common.{◌≡◌, length, sym, ◌∙◌, arith, Global}
-use Rattle.std.proofs.lemmas.List.{length-map}
+use Rattle.std.proofs.Common.{◌≡◌, ◌∙◌, ◌<◌, length, get_or, true, false, sym, arith, Global}
+use Rattle.std.proofs.lemmas.List.{get_or_default, length-map}
 use Rattle.std.specs.declared.rc.Rc.{Rc}
 use Rattle.nd_schedule.specs.declared.source.Source.{Source}
 use Rattle.nd_schedule.specs.Source.{cell_of, cells_of}
@@ -10,13 +10,21 @@ pub loop-label-init : goal.loop-label-init
 loop-label-init c = next_start (cells_of c.args.cells.now)
 
 pub loop-label-preserved : goal.loop-label-preserved
-loop-label-preserved c = next_more c.loop-label.label (cells_of c.args.cells.now) c.loop-label.invariant (sym c.has_label.ensures ∙ c.if-not-has_label.false)
+loop-label-preserved c =
+    let k = c.loop-label.label in
+    let lt : k < length c.args.cells.now = omega (arith, c.loop-label-test.true, c.len-label-end.ensures, c.in_ok-used.ensures.count) in
+    next_more k (cells_of c.args.cells.now) c.loop-label.invariant (sym (c.in_ok-used.ensures.marks k lt)
+    ∙ get_or_default c.in_ok-used.used.items k false c.index.result.now (omega (arith, c.loop-label-test.true, c.len-label-end.ensures)) ∙ sym c.index.ensures ∙ c.if-not-index.false)
 
-pub returns-then-not-has_label : goal.returns-then-not-has_label
-returns-then-not-has_label c = next_free c.loop-label.label (cells_of c.args.cells.now) c.loop-label.invariant (sym c.has_label.ensures ∙ c.if-not-has_label.true)
+pub returns-then-not-index : goal.returns-then-not-index
+returns-then-not-index c =
+    let k = c.loop-label.label in
+    let lt : k < length c.args.cells.now = omega (arith, c.loop-label-test.true, c.len-label-end.ensures, c.in_ok-used.ensures.count) in
+    next_free k (cells_of c.args.cells.now) c.loop-label.invariant (sym (c.in_ok-used.ensures.marks k lt)
+    ∙ get_or_default c.in_ok-used.used.items k false c.index.result.now (omega (arith, c.loop-label-test.true, c.len-label-end.ensures)) ∙ sym c.index.ensures ∙ c.if-not-index.true)
 
 pub returns : goal.returns
 returns c =
-    let last : c.loop-label.label ≡ length c.args.cells.now = omega arith in
+    let last : c.loop-label.label ≡ c.len.result = omega (arith, c.loop-label-test.false, c.loop-label.auto.label-end, c.len.ensures, c.len-label-end.ensures) in
     let many : length (cells_of c.args.cells.now) ≡ length c.args.cells.now = length-map c.args.cells.now (λ (s : Rc Source Global). cell_of s.value) in
-    sym last ∙ next_last c.loop-label.label (cells_of c.args.cells.now) c.loop-label.invariant (omega arith)
+    sym last ∙ next_last c.loop-label.label (cells_of c.args.cells.now) c.loop-label.invariant (omega (arith, many, c.in_ok-used.ensures.count, c.len.ensures, last))

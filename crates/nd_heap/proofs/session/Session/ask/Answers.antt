@@ -11,5 +11,5 @@ use Rattle.nd_heap.proofs.session.Session.ask.Goals as goal
 
 pub returns : goal.returns
 unfolding live
-returns c = noted_over (running.is_input c.args.name.now) (trace_of c.self.inside.trace) (trace_of c.note_input.new.self) (names_of c.self.inside.names.value.entries) (bytes_at (blocks_of c.self.inside.blocks.value.entries)) c.self.inside.next c.in_ok-note_input.ensures.after
+returns c = noted_over (running.is_input c.args.name.now) (trace_of c.self.inside.trace) (trace_of c.note_input.new.self) c.self.inside.heap.names (bytes_at c.self.inside.heap.blocks) c.self.inside.next c.in_ok-note_input.ensures.after
     ∙ ap (λ (s : State). running.after (running.Ask c.args.name.now) (live s)) c.self.view_is

@@ -18,7 +18,7 @@ returns-in_default-clause-value c = c.in_default.ensures ∙ ap (λ (s : State).
 pub returns-in_default-clause-after : goal.returns-in_default-clause-after
 unfolding live
 returns-in_default-clause-after c =
-    let named = noted_over (running.is_name c.args.name.now) (trace_of c.self.inside.trace) (trace_of c.note_name.new.self) (names_of c.self.inside.names.value.entries) (bytes_at (blocks_of c.self.inside.blocks.value.entries)) c.self.inside.next
+    let named = noted_over (running.is_name c.args.name.now) (trace_of c.self.inside.trace) (trace_of c.note_name.new.self) c.self.inside.heap.names (bytes_at c.self.inside.heap.blocks) c.self.inside.next
     c.in_ok-note_name.ensures.after in
     looked_up c.args.name.now None (live (state_of c.self.inside)) _ _ named (read_none _ _ (λ k. refl)) c.in_default.ensures
     ∙ ap (λ (s : State). running.after (running.Lookup c.args.name.now) (live s)) c.self.view_is
@@ -30,9 +30,9 @@ returns-clause-value c = ap Some c.in_ok-value.ensures ∙ c.in-Some.ensures ∙
 pub returns-clause-after : goal.returns-clause-after
 unfolding live
 returns-clause-after c =
-    let named = noted_over (running.is_name c.args.name.now) (trace_of c.self.inside.trace) (trace_of c.note_name.new.self) (names_of c.self.inside.names.value.entries) (bytes_at (blocks_of c.self.inside.blocks.value.entries)) c.self.inside.next
+    let named = noted_over (running.is_name c.args.name.now) (trace_of c.self.inside.trace) (trace_of c.note_name.new.self) c.self.inside.heap.names (bytes_at c.self.inside.heap.blocks) c.self.inside.next
     c.in_ok-note_name.ensures.after in
-    let long = noted_over _ (trace_of c.note_name.new.self) (trace_of c.note_length_of.new.self) (names_of c.self.inside.names.value.entries) (bytes_at (blocks_of c.self.inside.blocks.value.entries)) c.self.inside.next
+    let long = noted_over _ (trace_of c.note_name.new.self) (trace_of c.note_length_of.new.self) c.self.inside.heap.names (bytes_at c.self.inside.heap.blocks) c.self.inside.next
     c.in_ok-note_length_of.ensures.after in
     looked_up c.args.name.now (Some (value_of c.in_ok-value.value)) (live (state_of c.self.inside)) _ _ named long (ap Some c.in_ok-value.ensures ∙ c.in-Some.ensures)
     ∙ ap (λ (s : State). running.after (running.Lookup c.args.name.now) (live s)) c.self.view_is

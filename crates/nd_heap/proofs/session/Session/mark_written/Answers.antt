@@ -12,5 +12,5 @@ use Rattle.nd_heap.proofs.session.Session.mark_written.Goals as goal
 
 pub returns : goal.returns
 unfolding live
-returns c = written_over (base_of c.args.array.now.base) (byte_places (geo_of c.args.array.now)) (trace_of c.self.inside.trace) (trace_of c.write_view.new.self) (names_of c.self.inside.names.value.entries) (bytes_at (blocks_of c.self.inside.blocks.value.entries)) c.self.inside.next c.in_ok-write_view.ensures.after
+returns c = written_over (base_of c.args.array.now.base) (byte_places (geo_of c.args.array.now)) (trace_of c.self.inside.trace) (trace_of c.write_view.new.self) c.self.inside.heap.names (bytes_at c.self.inside.heap.blocks) c.self.inside.next c.in_ok-write_view.ensures.after
     ∙ ap (λ (s : State). having_written (base_of c.args.array.now.base) (byte_places (geo_of c.args.array.now)) (live s)) c.self.view_is

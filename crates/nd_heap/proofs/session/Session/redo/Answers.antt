@@ -3,25 +3,23 @@ use Rattle.nd_model.specs.Session as model
 use Rattle.nd_model.specs.Running as running
 use Rattle.nd_model.specs.Sound.{IsSound}
 use Rattle.nd_heap.specs.Changes.{ChangesData, changed, going_on}
-use Rattle.nd_heap.specs.Contents.{blocks_of}
 use Rattle.nd_heap.specs.Fields.{state_of}
 use Rattle.nd_heap.specs.Intact.{AllLie}
 use Rattle.nd_heap.specs.Live.{live, bytes_at}
+use Rattle.nd_heap.specs.Loose.{HeapData, session_in}
 use Rattle.nd_heap.specs.State.{State}
-use Rattle.nd_heap.specs.Values.{names_of}
 use Rattle.nd_heap.proofs.Intact.{with_changes}
 use Rattle.nd_heap.proofs.session.Session.redo.Goals as goal
 
 pub invariant_of-self-2 : goal.invariant_of-self-2
 unfolding live
 invariant_of-self-2 c =
-    let names = names_of c.redo.new.names.value.entries in
-    let bytes = bytes_at (blocks_of c.redo.new.blocks.value.entries) in
-    let old = bytes_at (blocks_of c.self.inside.blocks.value.entries) in
+    let names = c.redo.new.heap.names in
+    let bytes = bytes_at c.redo.new.heap.blocks in
     let k = c.args.changes.now in
     let s : model.Session = record { names = names; bytes = bytes } in
     let w = changed k (running.session_of (live (state_of c.self.inside))) in
-    let is : model.collected s ≡ w = c.in_ok-redo.ensures.session ∙ ap (λ m. changed k (record { names = names_of m.value.entries; bytes = old })) c.replace-names.ensures.value in
+    let is : model.collected s ≡ w = c.in_ok-redo.ensures.session ∙ ap (λ (h : HeapData). changed k (session_in h)) c.replace-heap.ensures.value in
     let sound : IsSound (going_on k (running.session_of (live (state_of c.self.inside)))) = subst (λ (s : State). IsSound (going_on k (running.session_of (live s)))) (sym c.self.view_is) c.requires.sound in
     let label : c.new_trace.result.label ≡ c.changes.inside.label = ap (λ r. r.label) c.new_trace.ensures in
     subst (λ (l : ℕ). AllLie l c.changes.inside.next bytes names) (sym label)

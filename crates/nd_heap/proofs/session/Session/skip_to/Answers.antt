@@ -9,5 +9,5 @@ use Rattle.nd_heap.proofs.session.Session.skip_to.Goals as goal
 pub invariant_of-self : goal.invariant_of-self
 unfolding live
 invariant_of-self c =
-    with_next c.self.inside.trace.label c.self.inside.next c.args.number (bytes_at (blocks_of c.self.inside.blocks.value.entries)) (names_of c.self.inside.names.value.entries)
+    with_next c.self.inside.trace.label c.self.inside.next c.args.number (bytes_at c.self.inside.heap.blocks) c.self.inside.heap.names
     (subst (λ (s : State). (live s).next ≤ c.args.number) (sym c.self.view_is) c.requires) c.self.invariant

@@ -1,0 +1,184 @@
+-- Loose bases: what loses its last name is among them.
+use Rattle.std.proofs.Common.{◌≡◌, ℕ, suc, zero, Bool, true, false, not, ◌&&◌, ◌||◌, cond, bytes_eq, List, [], ◌∷◌, length, drop, take, filter, slice_get, Option, Some, None, Global, refl, sym, ap, subst, ◌∙◌, inl, inr, arith}
+use Rattle.std.specs.Prelude.{IsFalse}
+use Rattle.std.specs.Map.{lookup as find, remove_entry, keys_of}
+use Rattle.std.specs.Rc.{rc_str_bytes}
+use Rattle.std.specs.declared.rc.RcStr.{RcStr}
+use Rattle.std.proofs.lemmas.Bool.{cases_Bool, or_right}
+use Rattle.nd_model.specs.Value as model
+use Rattle.nd_model.specs.Session.{Names, lookup, bind, unbind, is_held}
+use Rattle.nd_model.specs.Running as running
+use Rattle.nd_heap.specs.declared.value.Base.{Base}
+use Rattle.nd_heap.specs.Values.{base_of, value_of, names_of}
+use Rattle.nd_heap.specs.Contents.{bases_of, blocks_of}
+use Rattle.nd_heap.specs.Live.{bytes_at, is_base_among}
+use Rattle.nd_heap.specs.Loose.{HeapData, AreLoose, lies_in_found}
+use Rattle.nd_heap.proofs.NameLists.{SharedValue}
+use Rattle.nd_heap.proofs.Same.{same_bases}
+
+pub no_part : (a b : Bool) → (a || b) ≡ false → (a ≡ false) × (b ≡ false)
+no_part true b h = cc
+no_part false b h = (refl, h)
+
+pub neither : (a b : Bool) → a ≡ false → b ≡ false → (a || b) ≡ false
+neither a b f g = rw f g
+
+false_true : {P : Type 0} → false ≡ true → P
+false_true e = cc
+
+-- a base of which another name's value is left is held by it
+pub held_bind : (b : model.Base) (n : List ℕ) (v : model.Value) (es : Names) → is_held b (bind n v es) ≡ false → lies_in_found b (lookup n es) ≡ false → is_held b es ≡ false
+held_bind b n v [] h f = refl
+held_bind b n v (e ∷ es) h f = elim (cases_Bool (bytes_eq n e.0)) [
+  | inl is ↦
+      let others : is_held b es ≡ false = (no_part (model.lies_in b v) _ (sym (ap (λ t. is_held b (cond t ((e.0, v) ∷ es) (e ∷ bind n v es))) is) ∙ h)).1 in
+      let this : model.lies_in b e.1 ≡ false = sym (ap (λ t. lies_in_found b (cond t (Some e.1) (lookup n es))) is) ∙ f in
+      neither _ _ this others
+  | inr other ↦
+      let parts = no_part (model.lies_in b e.1) _ (sym (ap (λ t. is_held b (cond t ((e.0, v) ∷ es) (e ∷ bind n v es))) other) ∙ h) in
+      let behind : lies_in_found b (lookup n es) ≡ false = sym (ap (λ t. lies_in_found b (cond t (Some e.1) (lookup n es))) other) ∙ f in
+      neither _ _ parts.0 (held_bind b n v es parts.1 behind)
+]
+
+-- the same where a name is taken out
+pub held_remove : (b : model.Base) (n : List ℕ) (es : List (RcStr Global × SharedValue))
+    → is_held b (names_of (remove_entry (λ (k : RcStr Global). bytes_eq n (rc_str_bytes k)) es)) ≡ false → lies_in_found b (lookup n (names_of es)) ≡ false → is_held b (names_of es) ≡ false
+held_remove b n [] h f = refl
+held_remove b n (e ∷ es) h f = elim (cases_Bool (bytes_eq n (rc_str_bytes e.0))) [
+  | inl is ↦
+      let others : is_held b (names_of es) ≡ false = sym (ap (λ t. is_held b (names_of (cond t es (e ∷ remove_entry (λ (k : RcStr Global). bytes_eq n (rc_str_bytes k)) es)))) is) ∙ h in
+      let this : model.lies_in b (value_of e.1.value) ≡ false = sym (ap (λ t. lies_in_found b (cond t (Some (value_of e.1.value)) (lookup n (names_of es)))) is) ∙ f in
+      neither _ _ this others
+  | inr other ↦
+      let parts = no_part (model.lies_in b (value_of e.1.value)) _ (sym (ap (λ t. is_held b (names_of (cond t es (e ∷ remove_entry (λ (k : RcStr Global). bytes_eq n (rc_str_bytes k)) es)))) other) ∙ h) in
+      let behind : lies_in_found b (lookup n (names_of es)) ≡ false = sym (ap (λ t. lies_in_found b (cond t (Some (value_of e.1.value)) (lookup n (names_of es)))) other) ∙ f in
+      neither _ _ parts.0 (held_remove b n es parts.1 behind)
+]
+
+-- one of the last names holds it
+pub held_behind : (b : model.Base) (es : List (RcStr Global × SharedValue)) (i : ℕ) → is_held b (names_of (drop i es)) ≡ true → is_held b (names_of es) ≡ true
+held_behind b [] zero h = h
+held_behind b [] (suc i) h = h
+held_behind b (e ∷ es) zero h = h
+held_behind b (e ∷ es) (suc i) h = or_right _ _ (held_behind b es i h)
+
+-- bases that are not held are left
+pub left_unheld : (ns : Names) (es : List (Base × Unit {0})) (b : model.Base)
+    → is_base_among (bases_of (filter (λ e. not (is_held (base_of e.0) ns)) es)) b ≡ (is_base_among (bases_of es) b && not (is_held b ns))
+left_unheld ns [] b = refl
+left_unheld ns (e ∷ es) b = elim (cases_Bool (model.same_base (base_of e.0) b)) [
+  | inl same ↦
+      let is : base_of e.0 ≡ b = same_bases (base_of e.0) b same in
+      elim (cases_Bool (is_held b ns)) [
+        | inl held ↦
+            let there : is_held (base_of e.0) ns ≡ true = ap (λ c. is_held c ns) is ∙ held in
+            rw (there, same, held) (left_unheld ns es b ∙ rw held (and_false (is_base_among (bases_of es) b)))
+        | inr free ↦
+            let there : is_held (base_of e.0) ns ≡ false = ap (λ c. is_held c ns) is ∙ free in
+            rw (there, same, free) refl
+      ]
+  | inr apart ↦ elim (cases_Bool (is_held (base_of e.0) ns)) [
+    | inl held ↦ rw (held, apart) (left_unheld ns es b)
+    | inr free ↦ rw (free, apart) (left_unheld ns es b)
+  ]
+]
+  where
+    and_false : (x : Bool) → (x && false) ≡ false
+    and_false true = refl
+    and_false false = refl
+
+-- ---- heaps
+
+-- more bases are loose
+pub more_loose : (names : Names) (blocks : List (model.Base × List ℕ)) (old new : List model.Base) → ((b : model.Base) → is_base_among new b ≡ false → is_base_among old b ≡ false)
+    → AreLoose (record { names = names; blocks = blocks; loose = old }) → AreLoose (record { names = names; blocks = blocks; loose = new })
+more_loose names blocks old new more h = λ b free unheld. h b (more b free) unheld
+
+-- a name gets another value, or loses its own
+pub lost_loose : (n : List ℕ) (names after : Names) (blocks : List (model.Base × List ℕ)) (old new : List model.Base)
+    → ((b : model.Base) → is_base_among new b ≡ (is_base_among old b || lies_in_found b (lookup n names)))
+    → ((b : model.Base) → is_held b after ≡ false → lies_in_found b (lookup n names) ≡ false → is_held b names ≡ false)
+    → AreLoose (record { names = names; blocks = blocks; loose = old }) → AreLoose (record { names = after; blocks = blocks; loose = new })
+lost_loose n names after blocks old new loose loses h = λ b free unheld.
+    let parts = no_part _ _ (sym (loose b) ∙ free) in
+    h b parts.0 (loses b unheld parts.1)
+
+pub grown_loose : (n : List ℕ) (names : Names) (blocks : List (model.Base × List ℕ)) (old new : List model.Base)
+    → ((b : model.Base) → is_base_among new b ≡ (is_base_among old b || lies_in_found b (lookup n names)))
+    → AreLoose (record { names = names; blocks = blocks; loose = old }) → AreLoose (record { names = names; blocks = blocks; loose = new })
+grown_loose n names blocks old new loose h = more_loose names blocks old new (λ b free. (no_part _ _ (sym (loose b) ∙ free)).0) h
+
+-- a block is put under a base that is loose
+pub put_loose : (base : model.Base) (block : List ℕ) (names : Names) (blocks after : List (model.Base × List ℕ)) (old new : List model.Base)
+    → ((c : model.Base) → is_base_among new c ≡ (is_base_among old c || model.same_base c base)) → bytes_at after ≡ running.with_base base block (bytes_at blocks)
+    → AreLoose (record { names = names; blocks = blocks; loose = old }) → AreLoose (record { names = names; blocks = after; loose = new })
+put_loose base block names blocks after old new loose put h = λ b free unheld.
+    let parts = no_part _ _ (sym (loose b) ∙ free) in
+    let apart : model.same_base base b ≡ false = same_sym base b ∙ parts.1 in
+    ap (λ (f : model.Base → List ℕ). f b) put ∙ rw apart (h b parts.0 unheld)
+  where
+    same_sym : (a b : model.Base) → model.same_base a b ≡ model.same_base b a
+    same_sym a b = elim (cases_Bool (model.same_base a b)) [
+      | inl same ↦ same ∙ sym (ap (λ c. model.same_base b c) (same_bases a b same) ∙ sym (ap (λ c. model.same_base c b) (same_bases a b same)) ∙ same)
+      | inr apart ↦ elim (cases_Bool (model.same_base b a)) [
+        | inl same ↦ let is : model.same_base a b ≡ true = ap (λ c. model.same_base a c) (same_bases b a same) ∙ sym (ap (λ c. model.same_base c a) (same_bases b a same)) ∙ same in false_true (sym apart ∙ is)
+        | inr other ↦ apart ∙ sym other
+      ]
+    ]
+
+none_of : (bytes : List ℕ) → length bytes ≡ 0 → bytes ≡ []
+none_of [] h = refl
+none_of (x ∷ xs) h = absurd (omega arith)
+
+-- a block is written, which stays as long as it was
+pub written_loose : (base : model.Base) (w : List ℕ) (names : Names) (blocks after : List (model.Base × List ℕ)) (loose : List model.Base)
+    → length w ≡ length (bytes_at blocks base) → bytes_at after ≡ running.with_base base w (bytes_at blocks)
+    → AreLoose (record { names = names; blocks = blocks; loose = loose }) → AreLoose (record { names = names; blocks = after; loose = loose })
+written_loose base w names blocks after loose same put h = λ b free unheld.
+    ap (λ (f : model.Base → List ℕ). f b) put ∙ elim (cases_Bool (model.same_base base b)) [
+      | inl is ↦ rw is (none_of w (same ∙ ap (λ c. length (bytes_at blocks c)) (same_bases base b is) ∙ ap length (h b free unheld)))
+      | inr apart ↦ rw apart (h b free unheld)
+    ]
+
+-- the same bytes
+pub same_loose : (names after : Names) (blocks others : List (model.Base × List ℕ)) (loose : List model.Base) → after ≡ names → bytes_at others ≡ bytes_at blocks
+    → AreLoose (record { names = names; blocks = blocks; loose = loose }) → AreLoose (record { names = after; blocks = others; loose = loose })
+same_loose names after blocks others loose is same h = λ b free unheld.
+    ap (λ (f : model.Base → List ℕ). f b) same ∙ h b free (sym (ap (is_held b) is) ∙ unheld)
+
+-- what is collected
+pub collected_bytes : (names : Names) (blocks after : List (model.Base × List ℕ)) (old new : List model.Base)
+    → ((b : model.Base) → is_base_among new b ≡ (is_base_among old b && not (is_held b names)))
+    → ((b : model.Base) → bytes_at after b ≡ cond (is_base_among new b) [] (bytes_at blocks b))
+    → AreLoose (record { names = names; blocks = blocks; loose = old }) → (b : model.Base) → bytes_at after b ≡ cond (is_held b names) (bytes_at blocks b) []
+collected_bytes names blocks after old new left removed h b = elim (cases_Bool (is_held b names)) [
+  | inl held ↦
+      let stays : is_base_among new b ≡ false = left b ∙ rw held (and_false (is_base_among old b)) in
+      rw held (removed b ∙ rw stays refl)
+  | inr free ↦ rw free (elim (cases_Bool (is_base_among old b)) [
+    | inl was ↦ let gone : is_base_among new b ≡ true = left b ∙ rw (was, free) refl in removed b ∙ rw gone refl
+    | inr never ↦ let stays : is_base_among new b ≡ false = left b ∙ rw never refl in removed b ∙ rw stays (h b never free)
+  ])
+]
+  where
+    and_false : (x : Bool) → (x && false) ≡ false
+    and_false true = refl
+    and_false false = refl
+
+-- the loose bases are those that are not held
+pub left_loose : (names : Names) (blocks others : List (model.Base × List ℕ)) (old new : List model.Base) → bytes_at others ≡ bytes_at blocks
+    → ((b : model.Base) → is_base_among new b ≡ (is_base_among old b && not (is_held b names)))
+    → AreLoose (record { names = names; blocks = blocks; loose = old }) → AreLoose (record { names = names; blocks = others; loose = new })
+left_loose names blocks others old new same left h = λ b free unheld.
+    ap (λ (f : model.Base → List ℕ). f b) same
+    ∙ h b (elim (cases_Bool (is_base_among old b)) [ inl was ↦ let no : true ≡ false = sym (left b ∙ rw (was, unheld) refl) ∙ free in false_true (sym no) | inr never ↦ never ]) unheld
+
+-- after that no base need be loose
+pub none_loose : (names : Names) (blocks : List (model.Base × List ℕ)) (loose : List model.Base) (old : model.Base → List ℕ) → ((b : model.Base) → bytes_at blocks b ≡ cond (is_held b names) (old b) [])
+    → AreLoose (record { names = names; blocks = blocks; loose = loose })
+none_loose names blocks loose old is = λ b free unheld. is b ∙ rw unheld refl
+
+-- the bytes of a base that is held, or of any that is not loose
+pub held_or_loose : (names : Names) (blocks : List (model.Base × List ℕ)) (loose : List model.Base) (b : model.Base) → AreLoose (record { names = names; blocks = blocks; loose = loose })
+    → is_base_among loose b ≡ false → bytes_at blocks b ≡ cond (is_held b names) (bytes_at blocks b) []
+held_or_loose names blocks loose b h free = elim (cases_Bool (is_held b names)) [ inl held ↦ rw held refl | inr unheld ↦ rw unheld (h b free unheld) ]

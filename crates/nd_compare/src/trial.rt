@@ -90,7 +90,7 @@ impl Trial {
     }
 
     /// What a new notebook tells, and the answer to the edit before it.
-    fn expected(
+    fn answers_of_all(
         &self,
         meter: &mut Meter,
         answer: Result<(), EditFault>,
@@ -116,7 +116,7 @@ impl Trial {
         let expected = self.book.make(edit);
         let stale = self.count_stale(&mut meters.others, expected)?;
         let found = told_of(self.alloc, answer, &self.notebook)?;
-        let expected = self.expected(&mut meters.others, expected)?;
+        let expected = self.answers_of_all(&mut meters.others, expected)?;
         let step = Step {
             seed: self.seed,
             number,

@@ -2,7 +2,8 @@
 use Rattle.std.proofs.Common.{◌≡◌, ◌≤◌, ℕ, zero, suc, length, slice_get, Bool, true, false, cond, ◌&&◌, nat_eq, List, [], ◌∷◌, filter, Some, None, Option, Result, Ok, Err, Global, refl, sym, ap, ap₂, subst, ◌∙◌, inl, inr, arith}
 use mathlib.Core.Path.{fun_ext}
 use Rattle.std.specs.Map.{lookup as find, set_value}
-use Rattle.std.specs.Prelude.{OnErr}
+use Rattle.std.specs.Prelude.{OnErr, OnOk}
+use Rattle.std.specs.Result.{IsErr}
 use Rattle.std.specs.List.{AllZip}
 use Rattle.std.specs.declared.rc.Rc.{Rc}
 use Rattle.indexmap.specs.IndexMap.{insert_entry}
@@ -35,6 +36,11 @@ pub on_err : {X E P : Type 0} (r : Result X E) → P → OnErr r P
 on_err (Ok x) p = tt
 on_err (Err e) p = p
 
+-- nothing is asked of a success at a refusal
+pub not_ok : {X E : Type 0} (P : Type 0) (r : Result X E) → IsErr r → OnOk r P
+not_ok P (Ok x) h = cc
+not_ok P (Err e) h = tt
+
 pub at_err : {X E P : Type 0} (r : Result X E) (e : E) → r ≡ Err e → OnErr r P → P
 at_err {P} r e is h = subst (λ r. OnErr r P) is h
 
@@ -64,21 +70,6 @@ pub found_block : (b : Base) (es : List (Base × Shared)) → bytes_at (blocks_o
 found_block b [] = refl
 found_block b (e ∷ es) = rw (base_eq_sym e.0 b) (elim (cases_Bool (base_eq b e.0)) [ inl is ↦ rw is refl | inr other ↦ rw other (found_block b es) ])
 
--- the blocks that are kept
-pub kept_filter : (f : model.Base → Bool) (b : model.Base) (es : List (Base × Shared))
-    → bytes_at (blocks_of (filter (λ e. f (base_of e.0)) es)) b ≡ cond (f b) (bytes_at (blocks_of es) b) []
-kept_filter f b [] = elim (f b) as (λ h. ◌≡◌ {A = List ℕ} [] (cond h [] [])) [ true ↦ refl | false ↦ refl ]
-kept_filter f b (e ∷ es) = elim (cases_Bool (model.same_base (base_of e.0) b)) [
-  | inl same ↦ rw (same_bases (base_of e.0) b same) (elim (cases_Bool (f b)) [
-    | inl held ↦ grind (arith, nat_tests)
-    | inr other ↦ rw other (kept_filter f b es ∙ rw other refl)
-  ])
-  | inr apart ↦ elim (cases_Bool (f (base_of e.0))) [
-    | inl held ↦ rw (held, apart) (kept_filter f b es)
-    | inr other ↦ rw (other, apart) (kept_filter f b es)
-  ]
-]
-
 -- a clone of the blocks
 pub cloned_blocks : (es fs : List (Base × Shared)) → AllZip (λ (p q : Base × Shared). (q.0 ≡ p.0) × (q.1.value ≡ p.1.value)) es fs → blocks_of fs ≡ blocks_of es
 cloned_blocks [] [] h = refl
@@ -91,10 +82,6 @@ pub set_block : (b : Base) (block : Shared) (bytes : List ℕ) (es fs gs : List 
     → bytes_at (blocks_of gs) ≡ running.with_base (base_of b) bytes (bytes_at (blocks_of es))
 set_block b block bytes es fs gs is same set =
     ap (λ gs. bytes_at (blocks_of gs)) set ∙ fun_ext (bytes_at-insert b block fs) ∙ ap₂ (λ bytes bs. running.with_base (base_of b) bytes (bytes_at bs)) is same
-
--- the block that was there
-pub was_block : (b : Base) (bytes : List ℕ) (o : Option Shared) (es fs : List (Base × Shared)) → blocks_of fs ≡ blocks_of es → o ≡ find (base_eq b) fs → bytes ≡ found_bytes o → bytes ≡ bytes_at (blocks_of es) (base_of b)
-was_block b bytes o es fs same found is = is ∙ ap found_bytes found ∙ sym (found_block b fs) ∙ ap (λ bs. bytes_at bs (base_of b)) same
 
 -- the block of a base is another one
 pub written_block : (b : Base) (v w : Shared) (es fs : List (Base × Shared)) → fs ≡ set_value (base_eq b) es w → Some v ≡ find (base_eq b) es
@@ -118,29 +105,3 @@ pub nothing_put : (f : List ℕ → List ℕ) → ((bytes : List ℕ) → length
 nothing_put f same b es none =
     let empty : bytes_at (blocks_of es) (base_of b) ≡ [] = found_block b es ∙ ap found_bytes (sym none) in
     same_block (base_of b) _ (bytes_at (blocks_of es)) (ap f empty ∙ none_of (f []) (same []) ∙ sym empty)
-
--- the blocks before this one are kept
-abbrev pub AreKept : (model.Base → Bool) → List (Base × Shared) → ℕ → Type 0
-AreKept f es zero = Unit {0}
-AreKept f [] (suc i) = Unit {0}
-AreKept f (e ∷ es) (suc i) = (f (base_of e.0) ≡ true) × AreKept f es i
-
-none_some : {P : Type 0} (e : Base × Shared) → None ≡ Some e → P
-none_some e h = cc
-
-pub kept_more : (f : model.Base → Bool) (es : List (Base × Shared)) (i : ℕ) (e : Base × Shared) → slice_get es i ≡ Some e → f (base_of e.0) ≡ true → AreKept f es i → AreKept f es (suc i)
-kept_more f [] i e at held before = none_some e at
-kept_more f (d ∷ es) zero e at held before = (ap (λ (o : Option (Base × Shared)). f (base_of (fst_of o e))) at ∙ held, tt)
-  where
-    fst_of : Option (Base × Shared) → Base × Shared → Base
-    fst_of None e = e.0
-    fst_of (Some d) e = d.0
-kept_more f (d ∷ es) (suc i) e at held before = (before.0, kept_more f es i e at held before.1)
-
-pub kept_all : (f : model.Base → Bool) (es : List (Base × Shared)) (i : ℕ) → length es ≤ i → AreKept f es i → (b : model.Base) → bytes_at (blocks_of es) b ≡ cond (f b) (bytes_at (blocks_of es) b) []
-kept_all f [] i long h b = elim (f b) as (λ h. ◌≡◌ {A = List ℕ} [] (cond h [] [])) [ true ↦ refl | false ↦ refl ]
-kept_all f (e ∷ es) zero long h b = absurd (omega arith)
-kept_all f (e ∷ es) (suc i) long h b = elim (cases_Bool (model.same_base (base_of e.0) b)) [
-  | inl same ↦ let held : f b ≡ true = ap f (sym (same_bases (base_of e.0) b same)) ∙ h.0 in rw held refl
-  | inr apart ↦ rw apart (kept_all f es i (omega arith) h.1 b)
-]

@@ -36,37 +36,6 @@ either : (a b c : Bool) → ((a || b) || c) ≡ (a || (b || c))
 either true b c = refl
 either false b c = refl
 
--- one more name
-pub held_more : (b : model.Base) (es : List (RcStr Global × SharedValue)) (i : ℕ) (e : RcStr Global × SharedValue) (old new all : Bool) → slice_get es i ≡ Some e
-    → new ≡ (old || model.lies_in b (value_of e.1.value)) → (old || is_held b (names_of (drop i es))) ≡ all → (new || is_held b (names_of (drop (i + 1) es))) ≡ all
-held_more b es i e old new all at is before =
-    ap (λ n. n || is_held b (names_of (drop (i + 1) es))) is ∙ either old (model.lies_in b (value_of e.1.value)) (is_held b (names_of (drop (i + 1) es)))
-    ∙ ap (λ h. old || h) (sym (held_from b es i e at)) ∙ before
-
--- none of the values lies in a base of the label
-abbrev pub LiesElsewhere : ℕ → RcStr Global × SharedValue → Type 0
-LiesElsewhere label e = (b : model.Base) → b.label ≡ label → model.lies_in b (value_of e.1.value) ≡ false
-
-pub none_held : (label : ℕ) (es : List (RcStr Global × SharedValue)) → AllByRecursion (LiesElsewhere label) es → (b : model.Base) → b.label ≡ label → is_held b (names_of es) ≡ false
-none_held label [] h b own = refl
-none_held label (e ∷ es) h b own = rw (h.0 b own) (none_held label es h.1 b own)
-
-none_some : {P : Type 0} (e : RcStr Global × SharedValue) → None ≡ Some e → P
-none_some e h = cc
-
-some_same : (d e : RcStr Global × SharedValue) → Some d ≡ Some e → d ≡ e
-some_same d e h = cc
-
-no_part : (a b : Bool) → (a || b) ≡ false → (a ≡ false) × (b ≡ false)
-no_part true b h = cc
-no_part false b h = (refl, h)
-
-pub lies_elsewhere : (label : ℕ) (es : List (RcStr Global × SharedValue)) (i : ℕ) (e : RcStr Global × SharedValue) → slice_get es i ≡ Some e
-    → ((b : model.Base) → b.label ≡ label → is_held b (names_of es) ≡ false) → LiesElsewhere label e
-lies_elsewhere label [] i e at h = none_some e at
-lies_elsewhere label (d ∷ es) zero e at h = λ b own. sym (ap (λ (d : RcStr Global × SharedValue). model.lies_in b (value_of d.1.value)) (some_same d e at)) ∙ (no_part _ _ (h b own)).0
-lies_elsewhere label (d ∷ es) (suc i) e at h = lies_elsewhere label es i e at (λ b own. (no_part (model.lies_in b (value_of d.1.value)) _ (h b own)).1)
-
 -- what is kept of a block of no bytes
 pub none_kept : (h : Bool) (bytes : List ℕ) → bytes ≡ [] → bytes ≡ cond h bytes []
 none_kept true bytes e = refl

@@ -2,7 +2,7 @@
 use Rattle.std.proofs.Common.{◌≡◌, ℕ, ◌+◌, ◌<◌, Bool, true, false, cond, bytes_eq, get_or, take, List, [], ◌∷◌, ◌++◌, map, length, Option, Some, unwrap_or, is_some, refl, sym, ap, ◌∙◌, inl, inr}
 use Rattle.std.proofs.lemmas.Bool.{cases_Bool}
 use Rattle.std.proofs.lemmas.List.{map-append, take_more}
-use Rattle.nd_model.specs.Session.{Names, bind, lookup, unbind}
+use Rattle.nd_model.specs.Session.{Names, bind, unbind}
 use Rattle.nd_model.specs.Running.{Event, Binds, Unbinds}
 use Rattle.nd_model.specs.Footprint.{replayed}
 use Rattle.nd_model.proofs.Lists.{lookup-bind, lookup-unbind}

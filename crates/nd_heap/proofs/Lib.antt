@@ -4,7 +4,9 @@ pub mod Bases
 pub mod Entries
 pub mod Held
 pub mod Loosening
+pub mod Layering
 pub mod Picking
+pub mod Stacking
 pub mod Alike
 pub mod Places
 pub mod Noting

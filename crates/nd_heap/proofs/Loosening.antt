@@ -1,16 +1,15 @@
 -- Loose bases: what loses its last name is among them.
-use Rattle.std.proofs.Common.{◌≡◌, ℕ, suc, zero, Bool, true, false, not, ◌&&◌, ◌||◌, cond, bytes_eq, List, [], ◌∷◌, length, drop, take, filter, slice_get, Option, Some, None, Global, refl, sym, ap, subst, ◌∙◌, inl, inr, arith}
-use Rattle.std.specs.Prelude.{IsFalse}
-use Rattle.std.specs.Map.{lookup as find, remove_entry, keys_of}
+use Rattle.std.proofs.Common.{◌≡◌, ℕ, suc, zero, Bool, true, false, not, ◌&&◌, ◌||◌, cond, bytes_eq, List, [], ◌∷◌, length, drop, filter, Some, Global, refl, sym, ap, ◌∙◌, inl, inr, arith}
+use Rattle.std.specs.Map.{remove_entry}
 use Rattle.std.specs.Rc.{rc_str_bytes}
 use Rattle.std.specs.declared.rc.RcStr.{RcStr}
 use Rattle.std.proofs.lemmas.Bool.{cases_Bool, or_right}
 use Rattle.nd_model.specs.Value as model
-use Rattle.nd_model.specs.Session.{Names, lookup, bind, unbind, is_held}
+use Rattle.nd_model.specs.Session.{Names, lookup, bind, is_held}
 use Rattle.nd_model.specs.Running as running
 use Rattle.nd_heap.specs.declared.value.Base.{Base}
 use Rattle.nd_heap.specs.Values.{base_of, value_of, names_of}
-use Rattle.nd_heap.specs.Contents.{bases_of, blocks_of}
+use Rattle.nd_heap.specs.Contents.{bases_of}
 use Rattle.nd_heap.specs.Live.{bytes_at, is_base_among}
 use Rattle.nd_heap.specs.Loose.{HeapData, AreLoose, lies_in_found}
 use Rattle.nd_heap.proofs.NameLists.{SharedValue}
@@ -38,21 +37,6 @@ held_bind b n v (e ∷ es) h f = elim (cases_Bool (bytes_eq n e.0)) [
       let parts = no_part (model.lies_in b e.1) _ (sym (ap (λ t. is_held b (cond t ((e.0, v) ∷ es) (e ∷ bind n v es))) other) ∙ h) in
       let behind : lies_in_found b (lookup n es) ≡ false = sym (ap (λ t. lies_in_found b (cond t (Some e.1) (lookup n es))) other) ∙ f in
       neither _ _ parts.0 (held_bind b n v es parts.1 behind)
-]
-
--- the same where a name is taken out
-pub held_remove : (b : model.Base) (n : List ℕ) (es : List (RcStr Global × SharedValue))
-    → is_held b (names_of (remove_entry (λ (k : RcStr Global). bytes_eq n (rc_str_bytes k)) es)) ≡ false → lies_in_found b (lookup n (names_of es)) ≡ false → is_held b (names_of es) ≡ false
-held_remove b n [] h f = refl
-held_remove b n (e ∷ es) h f = elim (cases_Bool (bytes_eq n (rc_str_bytes e.0))) [
-  | inl is ↦
-      let others : is_held b (names_of es) ≡ false = sym (ap (λ t. is_held b (names_of (cond t es (e ∷ remove_entry (λ (k : RcStr Global). bytes_eq n (rc_str_bytes k)) es)))) is) ∙ h in
-      let this : model.lies_in b (value_of e.1.value) ≡ false = sym (ap (λ t. lies_in_found b (cond t (Some (value_of e.1.value)) (lookup n (names_of es)))) is) ∙ f in
-      neither _ _ this others
-  | inr other ↦
-      let parts = no_part (model.lies_in b (value_of e.1.value)) _ (sym (ap (λ t. is_held b (names_of (cond t es (e ∷ remove_entry (λ (k : RcStr Global). bytes_eq n (rc_str_bytes k)) es)))) other) ∙ h) in
-      let behind : lies_in_found b (lookup n (names_of es)) ≡ false = sym (ap (λ t. lies_in_found b (cond t (Some (value_of e.1.value)) (lookup n (names_of es)))) other) ∙ f in
-      neither _ _ parts.0 (held_remove b n es parts.1 behind)
 ]
 
 -- one of the last names holds it
@@ -102,11 +86,6 @@ pub lost_loose : (n : List ℕ) (names after : Names) (blocks : List (model.Base
 lost_loose n names after blocks old new loose loses h = λ b free unheld.
     let parts = no_part _ _ (sym (loose b) ∙ free) in
     h b parts.0 (loses b unheld parts.1)
-
-pub grown_loose : (n : List ℕ) (names : Names) (blocks : List (model.Base × List ℕ)) (old new : List model.Base)
-    → ((b : model.Base) → is_base_among new b ≡ (is_base_among old b || lies_in_found b (lookup n names)))
-    → AreLoose (record { names = names; blocks = blocks; loose = old }) → AreLoose (record { names = names; blocks = blocks; loose = new })
-grown_loose n names blocks old new loose h = more_loose names blocks old new (λ b free. (no_part _ _ (sym (loose b) ∙ free)).0) h
 
 -- a block is put under a base that is loose
 pub put_loose : (base : model.Base) (block : List ℕ) (names : Names) (blocks after : List (model.Base × List ℕ)) (old new : List model.Base)
@@ -178,7 +157,7 @@ pub none_loose : (names : Names) (blocks : List (model.Base × List ℕ)) (loose
     → AreLoose (record { names = names; blocks = blocks; loose = loose })
 none_loose names blocks loose old is = λ b free unheld. is b ∙ rw unheld refl
 
--- the bytes of a base that is held, or of any that is not loose
-pub held_or_loose : (names : Names) (blocks : List (model.Base × List ℕ)) (loose : List model.Base) (b : model.Base) → AreLoose (record { names = names; blocks = blocks; loose = loose })
-    → is_base_among loose b ≡ false → bytes_at blocks b ≡ cond (is_held b names) (bytes_at blocks b) []
-held_or_loose names blocks loose b h free = elim (cases_Bool (is_held b names)) [ inl held ↦ rw held refl | inr unheld ↦ rw unheld (h b free unheld) ]
+-- a heap of the same parts
+pub same_heap : (names after : Names) (blocks others : List (model.Base × List ℕ)) (old new : List model.Base) → after ≡ names → others ≡ blocks → new ≡ old
+    → ◌≡◌ {A = HeapData} (record { names = after; blocks = others; loose = new }) (record { names = names; blocks = blocks; loose = old })
+same_heap names after blocks others old new a b d = λ i. record { names = a i; blocks = b i; loose = d i }

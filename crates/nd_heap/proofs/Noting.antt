@@ -77,17 +77,6 @@ module _ (looked asked : List (List ℕ)) (lengths : List Base) (used : List (Ba
   length_there b h (Length c) = there (is_base_among lengths c) (same_base b c) (own (Length c)) (λ e. ap (λ c. own (Length c) || is_base_among lengths c) (sym (same_bases b c e)) ∙ h)
   length_there b h (Byte c p) = or_false _
 
-  -- bytes of a base that is the cell's own
-  pub bytes_own : (b : Base) (ps : List ℕ) → ((p : ℕ) → own (Byte b p) ≡ true) → (k : Key) → is_read looked asked lengths used k ≡ (is_read looked asked lengths used k || (running.is_byte b ps k && not (own k)))
-  bytes_own b ps h (Name m) = or_false _
-  bytes_own b ps h (Input m) = or_false _
-  bytes_own b ps h (Length c) = or_false _
-  bytes_own b ps h (Byte c p) = there (is_marked used c p) (same_base b c && model.is_in p ps) (own (Byte c p))
-      (λ e. ap (λ o. o || is_marked used c p) (elim (cases_Bool (same_base b c)) [
-        | inl same ↦ ap (λ c. own (Byte c p)) (sym (same_bases b c same)) ∙ h p
-        | inr apart ↦ let none : false ≡ true = rw apart at e in cc
-      ]))
-
   -- bytes of another base, but for those that the cell has written
   pub bytes_more : (b : Base) (ps : List ℕ) (used' : List (Base × Places)) (except : ℕ → Bool) → ((p : ℕ) → own (Byte b p) ≡ except p)
       → ((c : Base) (p : ℕ) → is_marked used' c p ≡ (is_marked used c p || (same_base b c && (model.is_in p ps && not (except p)))))

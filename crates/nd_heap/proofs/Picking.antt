@@ -1,9 +1,9 @@
 -- Blocks that are taken out, or picked, base by base.
-use Rattle.std.proofs.Common.{◌≡◌, ℕ, suc, zero, Bool, true, false, ◌||◌, cond, List, [], ◌∷◌, take, slice_get, Option, Some, None, refl, sym, ap, ◌∙◌, inl, inr}
+use Rattle.std.proofs.Common.{◌≡◌, ℕ, suc, zero, Bool, true, false, ◌||◌, cond, List, [], ◌∷◌, take, slice_get, Some, None, refl, sym, ap, ◌∙◌, inl, inr}
+use Rattle.std.specs.List.{AllZip}
 use Rattle.std.specs.Map.{lookup as find}
 use Rattle.std.proofs.lemmas.Bool.{cases_Bool}
 use Rattle.nd_model.specs.Value as model
-use Rattle.nd_model.specs.Running as running
 use Rattle.nd_heap.specs.declared.value.Base.{Base}
 use Rattle.nd_heap.specs.Values.{base_of}
 use Rattle.nd_heap.specs.Contents.{bases_of, blocks_of}
@@ -60,3 +60,10 @@ module _ (es : List (Base × Unit {0})) (i : ℕ) (e : Base × Unit {0}) (at : s
 pub nothing_picked : (t : Bool) (cur source : List ℕ) → cur ≡ cond t source [] → source ≡ [] → cur ≡ []
 nothing_picked true cur source is none = is ∙ none
 nothing_picked false cur source is none = is
+
+-- a clone of bases
+pub cloned_bases : (es fs : List (Base × Unit {0})) → AllZip (λ (p q : Base × Unit {0}). (q.0 ≡ p.0) × (q.1 ≡ p.1)) es fs → bases_of fs ≡ bases_of es
+cloned_bases [] [] h = refl
+cloned_bases [] (f ∷ fs) h = absurd h
+cloned_bases (e ∷ es) [] h = absurd h
+cloned_bases (e ∷ es) (f ∷ fs) h = λ i. base_of (h.0.0 i) ∷ cloned_bases es fs h.1 i

@@ -172,9 +172,6 @@ pub refilled : (xs ys : List ℕ) → length ys ≡ length xs → refill (length
 refilled xs ys long =
     ap (λ zs. take (length xs) (ys ++ zs)) (drop_all (length ys) xs (omega arith)) ∙ ap (take (length xs)) (append-nil ys) ∙ take_all (length xs) ys (omega arith)
 
-pub set_twice : (b : model.Base) (v w : List ℕ) (old : model.Base → List ℕ) → running.with_base b w (running.with_base b v old) ≡ running.with_base b w old
-set_twice b v w old = fun_ext (λ c. elim (cases_Bool (model.same_base b c)) [ inl same ↦ rw same refl | inr apart ↦ rw apart refl ])
-
 where_held : (t : Bool) (x y : List ℕ) → (t ≡ true → x ≡ y) → cond t x [] ≡ cond t y []
 where_held true x y h = h refl
 where_held false x y h = refl

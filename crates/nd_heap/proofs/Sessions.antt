@@ -60,10 +60,6 @@ looked_up n o r s t named long is =
     long ∙ ap₂ (λ v s. running.having_read (running.is_length_of v) s) is named
     ∙ read_twice (running.is_name n) (running.is_length_of (model.lookup n r.names)) r
 
-pub peeked : (r : Option (Bor code.Value)) → option_map (λ (v : Bor code.Value). value_of v.now) r ≡ option_map value_of (option_copied r)
-peeked None = refl
-peeked (Some v) = refl
-
 -- a cell begins
 pub begun : (label : ℕ) (t : running.Running) (names : model.Names) (bytes : Base → List ℕ) (s : model.Session) → t ≡ running.start label model.no_session → names ≡ s.names
     → ((b : Base) → bytes b ≡ model.held_bytes s b) → record t { names = names; bytes = bytes; next = 0 } ≡ running.start label s

@@ -19,7 +19,7 @@ use Rattle.nd_heap.specs.Seen.{Seen}
 use Rattle.nd_heap.specs.Live.{is_among, is_base_among, is_marked, is_read}
 use Rattle.nd_heap.specs.Fields.{trace_of}
 use Rattle.nd_heap.proofs.Bases.{base_eq, base_eq_sym}
-use Rattle.nd_heap.proofs.Noting.{noted, name_more, name_there, input_more, input_there, length_more, length_there, bytes_own, bytes_more}
+use Rattle.nd_heap.proofs.Noting.{noted, name_more, name_there, input_more, input_there, length_more, length_there, bytes_more}
 
 pub bytes_eq_sym : (m n : List ℕ) → bytes_eq m n ≡ bytes_eq n m
 bytes_eq_sym m n = same_from_decides (bytes_eq m n) (bytes_eq n m) (bytes_eq-Decides m n) (let d = bytes_eq-Decides n m in (λ h. sym (d.0 h), λ e. d.1 (sym e)))
@@ -114,10 +114,6 @@ module _ (t : Seen) where
 
   pub length_before : (b : Base) → (nat_eq b.label t.label || is_base_among t.lengths (base_of b)) ≡ true → trace_of t ≡ running.having_read (running.is_length (base_of b)) (trace_of t)
   length_before b h = noted (running.is_length (base_of b)) (trace_of t) _ (length_there t.looked t.asked t.lengths t.used (running.is_own (trace_of t)) (base_of b) h)
-
-  pub uses_own : (b : Base) (ps : List ℕ) → nat_eq b.label t.label ≡ true → trace_of t ≡ running.having_read (running.is_byte (base_of b) ps) (trace_of t)
-  uses_own b ps own = noted (running.is_byte (base_of b) ps) (trace_of t) _
-      (bytes_own t.looked t.asked t.lengths t.used (running.is_own (trace_of t)) (base_of b) ps (λ p. ap (λ o. o || is_marked t.written (base_of b) p) own))
 
   pub uses : (b : Base) (ps : List ℕ) (used : List (model.Base × Places)) (except : ℕ → Bool) → nat_eq b.label t.label ≡ false → ((p : ℕ) → except p ≡ is_marked t.written (base_of b) p)
       → ((c : model.Base) (p : ℕ) → is_marked used c p ≡ (is_marked t.used c p || (model.same_base (base_of b) c && (is_in p ps && not (except p)))))

@@ -5,6 +5,7 @@ pub mod Live
 pub mod Seen
 pub mod Events
 pub mod Loose
+pub mod Layers
 pub mod Kept
 pub mod Fields
 pub mod Intact

@@ -1,16 +1,17 @@
 // Blocks, which versions share.
 
-ghost use Rattle.std.specs.Prelude.{◌≡◌, ◌+◌, ◌≤◌, ◌^◌, ◌||◌, ◌&&◌, not, [], IfOk, OnErr, OnOk, if◌then◌else◌};
+ghost use Rattle.std.specs.Prelude.{◌≡◌, ◌+◌, ◌≤◌, ◌^◌, ◌||◌, ◌&&◌, ◌++◌, not, [], IfOk, IsFalse, IsTrue, OnErr, OnOk, if◌then◌else◌};
 ghost use Rattle.nd_model.specs.Value as values;
 ghost use Rattle.nd_model.specs.Tuple.{count_up};
 ghost use Rattle.nd_model.specs.Session as model;
 ghost use Rattle.nd_model.specs.Running as running;
 ghost use Rattle.nd_heap.specs.Values.{base_of, value_of, names_of};
 ghost use Rattle.nd_heap.specs.Contents.{blocks_of, bases_of, bytes_in};
+ghost use Rattle.nd_heap.specs.Layers.{is_block_among};
 ghost use Rattle.nd_heap.specs.Live.{bytes_at, is_base_among};
 
 use crate::memory::OutOfMemory;
-use crate::names::{Names, is_held};
+use crate::name_table::NameTable;
 use crate::value::{Base, Value};
 use crate::writer::BlockWriter;
 use indexmap::IndexMap;
@@ -45,23 +46,38 @@ pub(crate) fn share_block(blocks: &Blocks, base: Base) -> Result<Option<Rc<RawBl
 }
 
 /// Sets a block to one that is shared.
-pub(crate) fn put_block(
-    blocks: &mut Rc<Blocks>,
-    base: Base,
-    block: Rc<RawBlock>,
-) -> Result<(), OutOfMemory>
-    ensures ok { OnOk result (bytes_at (blocks_of blocks.new.value.entries)
-        ≡ running.with_base (base_of base) block.value
-        (bytes_at (blocks_of blocks.old.value.entries))) }
-    ensures err { OnErr result (bytes_at (blocks_of blocks.new.value.entries)
-        ≡ bytes_at (blocks_of blocks.old.value.entries)) }
+fn put_block(blocks: &mut Blocks, base: Base, block: Rc<RawBlock>) -> Result<(), OutOfMemory>
+    ensures { OnOk result (bytes_at (blocks_of blocks.new.entries)
+        ≡ running.with_base (base_of base) block.value (bytes_at (blocks_of blocks.old.entries))) }
 {
-    let own = Rc::make_mut(blocks)?;
-    own.insert(base, block)?;
+    blocks.insert(base, block)?;
     Ok(())
 }
 
 /// Writes to a block, and nothing where there is no such block. A block that is shared is copied first.
+pub(crate) fn write_block<W: BlockWriter + Drop>(
+    blocks: &mut Blocks,
+    base: Base,
+    writer: W,
+) -> Result<(), OutOfMemory>
+    ensures ok { OnOk result (bytes_at (blocks_of blocks.new.entries)
+        ≡ running.with_base (base_of base) (W.written writer
+        (bytes_at (blocks_of blocks.old.entries) (base_of base)))
+        (bytes_at (blocks_of blocks.old.entries))) }
+    ensures err { OnErr result (bytes_at (blocks_of blocks.new.entries)
+        ≡ bytes_at (blocks_of blocks.old.entries)) }
+    ensures bases { (b : values.Base) → is_block_among (blocks_of blocks.new.entries) b
+        ≡ is_block_among (blocks_of blocks.old.entries) b }
+{
+    let Some(shared) = blocks.get_mut(&base) else {
+        return Ok(());
+    };
+    let block = Rc::make_mut(shared)?;
+    writer.write(block);
+    Ok(())
+}
+
+/// The same for blocks that are shared, which are copied first.
 pub(crate) fn write<W: BlockWriter + Drop>(
     blocks: &mut Rc<Blocks>,
     base: Base,
@@ -75,27 +91,40 @@ pub(crate) fn write<W: BlockWriter + Drop>(
         ≡ bytes_at (blocks_of blocks.old.value.entries)) }
 {
     let own = Rc::make_mut(blocks)?;
-    let Some(shared) = own.get_mut(&base) else {
-        return Ok(());
-    };
-    let block = Rc::make_mut(shared)?;
-    writer.write(block);
+    write_block(own, base, writer)?;
     Ok(())
 }
 
-/// The bases that some bound value lies in.
-pub(crate) fn held_bases(alloc: Global, names: &Names) -> Result<Bases, OutOfMemory>
-    ensures { IfOk result (λ held. (b : values.Base)
-        → is_base_among (bases_of held.entries) b ≡ model.is_held b (names_of names.now.entries)) }
+/// Puts blocks over others, aside: where both have a base, it has the block of the first.
+pub(crate) fn stack(newer: &Blocks, older: &Blocks) -> Result<Blocks, OutOfMemory>
+    ensures { IfOk result (λ all. (b : values.Base) → bytes_at (blocks_of all.entries) b
+        ≡ bytes_at (blocks_of newer.now.entries ++ blocks_of older.now.entries) b) }
 {
-    let mut held = IndexMap::new(alloc);
-    for i in 0..names.len() {
-        let Some((_, value)) = names.get_index(i) else {
+    let mut all = older.clone()?;
+    for i in (0..newer.len()).rev() {
+        let Some((base, block)) = newer.get_index(i) else {
             unreachable!();
         };
-        note_base(&mut held, value.as_ref())?;
+        put_block(&mut all, *base, block.clone()?)?;
     }
-    Ok(held)
+    Ok(all)
+}
+
+/// Whether one of these bases has a block.
+fn has_any(blocks: &Blocks, bases: &Bases) -> bool
+    ensures { IsFalse result → (b : values.Base)
+        → IsTrue (is_base_among (bases_of bases.now.entries) b)
+        → bytes_at (blocks_of blocks.now.entries) b ≡ [] }
+{
+    for i in 0..bases.len() {
+        let Some((base, _)) = bases.get_index(i) else {
+            unreachable!();
+        };
+        if blocks.contains_key(base) {
+            return true;
+        }
+    }
+    false
 }
 
 /// Puts the base that the value lies in among the others, if it lies in one.
@@ -118,25 +147,26 @@ pub(crate) fn has_base(bases: &Bases, base: Base) -> bool
 }
 
 /// Only the bases that no bound value lies in.
-pub(crate) fn retain_unheld(bases: &mut Bases, names: &Names)
+pub(crate) fn retain_unheld(bases: &mut Bases, names: &NameTable)
     ensures { (b : values.Base) → is_base_among (bases_of bases.new.entries) b
-        ≡ (is_base_among (bases_of bases.old.entries) b
-        && not (model.is_held b (names_of names.now.entries))) }
+        ≡ (is_base_among (bases_of bases.old.entries) b && not (model.is_held b names.now)) }
 {
     bases.retain(
         |base: &Base, _unit: &mut ()| -> bool
-            ensures { (result
-                ≡ not (model.is_held (base_of base.now) (names_of names.entry.now.entries)))
+            ensures { (result ≡ not (model.is_held (base_of base.now) names.entry.now))
                 × (_unit.new ≡ _unit.old) }
-        { !is_held(names, *base) },
+        { !names.is_held(*base) },
     );
 }
 
 /// Takes out the blocks of these bases.
 pub(crate) fn remove_blocks(blocks: &mut Blocks, bases: &Bases)
-    ensures { (b : values.Base) → bytes_at (blocks_of blocks.new.entries) b
+    ensures bytes { (b : values.Base) → bytes_at (blocks_of blocks.new.entries) b
         ≡ (if is_base_among (bases_of bases.now.entries) b
         then [] else bytes_at (blocks_of blocks.old.entries) b) }
+    ensures bases { (b : values.Base) → is_block_among (blocks_of blocks.new.entries) b
+        ≡ (is_block_among (blocks_of blocks.old.entries) b
+        && not (is_base_among (bases_of bases.now.entries) b)) }
 {
     for i in 0..bases.len() {
         let Some((base, _)) = bases.get_index(i) else {
@@ -146,38 +176,21 @@ pub(crate) fn remove_blocks(blocks: &mut Blocks, bases: &Bases)
     }
 }
 
-/// Puts the block of the base, shared, among the others, if there is one.
-fn pick_block(picked: &mut Blocks, blocks: &Blocks, base: Base) -> Result<(), OutOfMemory>
-    requires { bytes_at (blocks_of blocks.now.entries) (base_of base) ≡ []
-        → bytes_at (blocks_of picked.old.entries) (base_of base) ≡ [] }
-    ensures { OnOk result (bytes_at (blocks_of picked.new.entries)
-        ≡ running.with_base (base_of base) (bytes_at (blocks_of blocks.now.entries) (base_of base))
-        (bytes_at (blocks_of picked.old.entries))) }
-{
-    if let Some(block) = share_block(blocks, base)? {
-        picked.insert(base, block)?;
-    }
-    Ok(())
-}
-
-/// The blocks of these bases, shared.
-pub(crate) fn pick_blocks(
-    alloc: Global,
-    blocks: &Blocks,
-    bases: &Bases,
-) -> Result<Blocks, OutOfMemory>
-    ensures { IfOk result (λ picked. (b : values.Base) → bytes_at (blocks_of picked.entries) b
+/// The same for blocks that are shared, which are copied first where one of them is to go.
+pub(crate) fn remove_shared(blocks: &mut Rc<Blocks>, bases: &Bases) -> Result<(), OutOfMemory>
+    ensures ok { OnOk result ((b : values.Base)
+        → bytes_at (blocks_of blocks.new.value.entries) b
         ≡ (if is_base_among (bases_of bases.now.entries) b
-        then bytes_at (blocks_of blocks.now.entries) b else [])) }
+        then [] else bytes_at (blocks_of blocks.old.value.entries) b)) }
+    ensures err { OnErr result (bytes_at (blocks_of blocks.new.value.entries)
+        ≡ bytes_at (blocks_of blocks.old.value.entries)) }
 {
-    let mut picked = IndexMap::new(alloc);
-    for i in 0..bases.len() {
-        let Some((base, _)) = bases.get_index(i) else {
-            unreachable!();
-        };
-        pick_block(&mut picked, blocks, *base)?;
+    if !has_any(Rc::as_ref(blocks), bases) {
+        return Ok(());
     }
-    Ok(picked)
+    let own = Rc::make_mut(blocks)?;
+    remove_blocks(own, bases);
+    Ok(())
 }
 
 /// The places from the first one on.

@@ -12,7 +12,7 @@ ghost use Rattle.nd_heap.specs.Live.{is_base_among, is_marked, live};
 ghost use Rattle.nd_heap.specs.Patching.{has_marks};
 ghost use Rattle.nd_heap.specs.Values.{base_of};
 
-use crate::blocks::{Bases, Blocks, held_bases, pick_blocks};
+use crate::blocks::{Bases, Blocks};
 use crate::heap::Heap;
 use crate::marking::Footprint;
 use crate::matching::{are_among, are_same_events, are_written_among};
@@ -116,24 +116,24 @@ fn own_bases(alloc: Global, label: u64, events: &[Event]) -> Result<Bases, OutOf
 {
     let mut heap = Heap::new(alloc)?;
     replay(&mut heap, events)?;
-    let mut own = held_bases(alloc, heap.names())?;
+    let mut own = heap.held_bases()?;
     retain_own(&mut own, label);
     Ok(own)
 }
 
 /// What this trace did over these blocks.
-fn keep(alloc: Global, trace: &Trace, blocks: &Blocks, next: u64) -> Result<Changes, OutOfMemory>
+fn keep(alloc: Global, trace: &Trace, heap: &Heap, next: u64) -> Result<Changes, OutOfMemory>
     ensures label { IfOk result (λ c. c.label ≡ trace.now.label) }
     ensures next { IfOk result (λ c. c.next ≡ next) }
     ensures events { IfOk result (λ c. events_in c ≡ trace.now.events) }
     ensures bases { IfOk result (λ c. (b : values.Base) → bases_in c b
-        ≡ (effects_over trace.now (blocks_of blocks.now.entries)).bases b) }
+        ≡ (effects_over trace.now heap.now.blocks).bases b) }
     ensures writes { IfOk result (λ c. (b : values.Base) (p : ℕ) → writes_in c b p
-        ≡ (effects_over trace.now (blocks_of blocks.now.entries)).writes b p) }
+        ≡ (effects_over trace.now heap.now.blocks).writes b p) }
 {
     let mut bases = own_bases(alloc, trace.label, &trace.events)?;
     note_marked(&mut bases, &trace.written)?;
-    let kept = pick_blocks(alloc, blocks, &bases)?;
+    let kept = heap.pick_blocks(alloc, &bases)?;
     let events = copy_events(alloc, &trace.events)?;
     let written = copy_marks(alloc, &trace.written)?;
     Ok(Changes {
@@ -202,7 +202,7 @@ impl Changes {
         ensures writes { IfOk result (λ c. (b : values.Base) (p : ℕ)
             → writes_in c b p ≡ (effects_of (ended (live session.now))).writes b p) }
     {
-        let changes = keep(alloc, session.seen(), session.heap.blocks(), session.next)?;
+        let changes = keep(alloc, session.seen(), &session.heap, session.next)?;
         Ok(changes)
     }
 

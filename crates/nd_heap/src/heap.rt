@@ -1,20 +1,19 @@
 // Names with their values, and the blocks that they lie in.
 
-ghost use Rattle.std.specs.Prelude.{◌≡◌, ◌↔◌, ◌||◌, [], IfOk, IsFalse, OnErr, OnOk, false, if◌then◌else◌, option_map};
+ghost use Rattle.std.specs.Prelude.{◌≡◌, ◌↔◌, ◌||◌, [], IfOk, IsFalse, OnErr, OnOk, false, if◌then◌else◌, length, option_map, slice_get};
 ghost use Rattle.std.specs.Rc.{rc_str_bytes};
 ghost use Rattle.nd_model.specs.Value as values;
 ghost use Rattle.nd_model.specs.Session as model;
 ghost use Rattle.nd_model.specs.Running as running;
-ghost use Rattle.nd_heap.specs.Values.{base_of, names_of, value_of};
-ghost use Rattle.nd_heap.specs.Contents.{bases_of, blocks_of};
+ghost use Rattle.nd_heap.specs.Values.{base_of, value_of};
+ghost use Rattle.nd_heap.specs.Contents.{bases_of, blocks_of, bytes_in};
 ghost use Rattle.nd_heap.specs.Live.{bytes_at, is_base_among};
 ghost use Rattle.nd_heap.specs.Loose.{lies_in_found};
 
-use crate::blocks::{
-    Bases, Blocks, bytes_of, has_base, note_base, put_block, remove_blocks, retain_unheld, write,
-};
+use crate::block_table::{BlockTable, pick_blocks};
+use crate::blocks::{Bases, Blocks, has_base, note_base, retain_unheld};
 use crate::memory::OutOfMemory;
-use crate::names::{Names, bind, find, is_held, is_label_held, unbind};
+use crate::name_table::NameTable;
 use crate::value::{Base, Value};
 use crate::writer::BlockWriter;
 use indexmap::IndexMap;
@@ -23,12 +22,12 @@ use std::alloc::Global;
 use std::marker::Model;
 use std::rc::{Rc, RcStr};
 
-/// Names and blocks, which copies share until they change them. A base is loose from when it is made, and from when a name that
+/// Names and blocks, of which copies share most. A base is loose from when it is made, and from when a name that
 /// lay in it gets another value, until blocks are collected: only loose bases are asked whether a name still lies in them.
 #[derive(Drop)]
 pub(crate) struct Heap {
-    names: Rc<Names>,
-    blocks: Rc<Blocks>,
+    names: NameTable,
+    blocks: BlockTable,
     loose: Bases,
 }
 
@@ -37,33 +36,32 @@ impl Model for Heap {
 
     ghost Value = { HeapData };
 
-    ghost use Rattle.nd_heap.specs.Values.{names_of};
-    ghost use Rattle.nd_heap.specs.Contents.{bases_of, blocks_of};
+    ghost use Rattle.nd_heap.specs.Contents.{bases_of};
 
     ghost view = { λ h. record {
-      names = names_of h.names.value.entries;
-      blocks = blocks_of h.blocks.value.entries;
+      names = h.names;
+      blocks = h.blocks;
       loose = bases_of h.loose.entries;
     } };
 
     ghost use Rattle.nd_heap.specs.Loose.{AreLoose};
 
     ghost invariant = { λ h. AreLoose (record {
-      names = names_of h.names.value.entries;
-      blocks = blocks_of h.blocks.value.entries;
+      names = h.names;
+      blocks = h.blocks;
       loose = bases_of h.loose.entries;
     }) };
 }
 
 /// Puts the base that the value of a name lies in among the others: the name is about to lose it.
-fn loosen(loose: &mut Bases, names: &Rc<Names>, name: &str) -> Result<(), OutOfMemory>
+fn loosen(loose: &mut Bases, names: &NameTable, name: &str) -> Result<(), OutOfMemory>
     ensures ok { OnOk result ((b : values.Base) → is_base_among (bases_of loose.new.entries) b
         ≡ (is_base_among (bases_of loose.old.entries) b
-        || lies_in_found b (model.lookup name.now (names_of names.now.value.entries)))) }
+        || lies_in_found b (model.lookup name.now names.now))) }
     ensures err { OnErr result (bases_of loose.new.entries ≡ bases_of loose.old.entries) }
 {
-    if let Some(value) = find(names, name) {
-        note_base(loose, value)?;
+    if let Some(value) = names.find(name) {
+        note_base(loose, value.as_ref())?;
     }
     Ok(())
 }
@@ -74,8 +72,8 @@ impl Heap {
         ensures names { IfOk result (λ h. h.names ≡ []) }
         ensures blocks { IfOk result (λ h. h.blocks ≡ []) }
     {
-        let names = Rc::new(alloc, IndexMap::new(alloc))?;
-        let blocks = Rc::new(alloc, IndexMap::new(alloc))?;
+        let names = NameTable::new(alloc)?;
+        let blocks = BlockTable::new(alloc)?;
         Ok(Heap {
             names,
             blocks,
@@ -87,8 +85,8 @@ impl Heap {
     pub(crate) fn try_clone(&self) -> Result<Heap, OutOfMemory>
         ensures { IfOk result (λ h. h ≡ self.now) }
     {
-        let names = self.names.clone()?;
-        let blocks = self.blocks.clone()?;
+        let names = self.names.try_clone()?;
+        let blocks = self.blocks.try_clone()?;
         let loose = self.loose.clone()?;
         Ok(Heap {
             names,
@@ -97,32 +95,75 @@ impl Heap {
         })
     }
 
-    /// The names.
-    pub(crate) fn names(&self) -> &Names
-        ensures { names_of result.now.entries ≡ self.now.names }
+    /// How many names are bound.
+    pub(crate) fn count(&self) -> usize
+        ensures { result ≡ length self.now.names }
     {
-        self.names.as_ref()
+        self.names.len()
     }
 
-    /// The blocks.
-    pub(crate) fn blocks(&self) -> &Blocks
-        ensures { blocks_of result.now.entries ≡ self.now.blocks }
+    /// The name at a place in the order of the names, none past the last.
+    pub(crate) fn name_at(&self, place: usize) -> Option<&str>
+        ensures { option_map (λ n. n.now) result
+            ≡ option_map (λ e. e.0) (slice_get self.now.names place) }
     {
-        self.blocks.as_ref()
+        if place >= self.names.len() {
+            return None;
+        }
+        let (name, _) = self.names.entry(place);
+        Some(name.as_str())
     }
 
     /// The value of a name.
     pub(crate) fn find(&self, name: &str) -> Option<&Value>
         ensures { option_map (λ v. value_of v.now) result ≡ model.lookup name.now self.now.names }
     {
-        find(&self.names, name)
+        match self.names.find(name) {
+            Some(value) => Some(value.as_ref()),
+            None => None,
+        }
+    }
+
+    /// The value of a name, shared.
+    pub(crate) fn share_value(&self, name: &str) -> Result<Option<Rc<Value>>, OutOfMemory>
+        ensures { IfOk result (λ o. option_map (λ v. value_of v.value) o
+            ≡ model.lookup name.now self.now.names) }
+    {
+        match self.names.find(name) {
+            Some(value) => Ok(Some(value.clone()?)),
+            None => Ok(None),
+        }
+    }
+
+    /// The block of a base, shared.
+    pub(crate) fn share_block(&self, base: Base) -> Result<Option<Rc<RawBlock>>, OutOfMemory>
+        ensures { IfOk result (λ o. bytes_in o ≡ bytes_at self.now.blocks (base_of base)) }
+    {
+        self.blocks.share(base)
+    }
+
+    /// The bases that some bound value lies in.
+    pub(crate) fn held_bases(&self) -> Result<Bases, OutOfMemory>
+        ensures { IfOk result (λ held. (b : values.Base)
+            → is_base_among (bases_of held.entries) b ≡ model.is_held b self.now.names) }
+    {
+        self.names.held_bases()
+    }
+
+    /// The blocks of these bases, shared.
+    pub(crate) fn pick_blocks(&self, alloc: Global, bases: &Bases) -> Result<Blocks, OutOfMemory>
+        ensures { IfOk result (λ picked. (b : values.Base) → bytes_at (blocks_of picked.entries) b
+            ≡ (if is_base_among (bases_of bases.now.entries) b
+            then bytes_at self.now.blocks b else [])) }
+    {
+        pick_blocks(alloc, &self.blocks, bases)
     }
 
     /// The bytes of a block, none where there is no such block.
     pub(crate) fn bytes(&self, base: Base) -> &[u8]
         ensures { result.now ≡ bytes_at self.now.blocks (base_of base) }
     {
-        bytes_of(self.blocks.as_ref(), base)
+        self.blocks.bytes(base)
     }
 
     /// The bytes of a block that some bound value lies in, none where there is no such block.
@@ -130,10 +171,10 @@ impl Heap {
         ensures { result.now ≡ (if model.is_held (base_of base) self.now.names
             then bytes_at self.now.blocks (base_of base) else []) }
     {
-        if has_base(&self.loose, base) && !is_held(self.names.as_ref(), base) {
+        if has_base(&self.loose, base) && !self.names.is_held(base) {
             return &[];
         }
-        bytes_of(self.blocks.as_ref(), base)
+        self.blocks.bytes(base)
     }
 
     /// Whether some bound value lies in a base of the label.
@@ -141,7 +182,7 @@ impl Heap {
         ensures { IsFalse result ↔ ((b : values.Base) → b.label ≡ label
             → model.is_held b self.now.names ≡ false) }
     {
-        is_label_held(self.names.as_ref(), label)
+        self.names.is_label_held(label)
     }
 
     /// Binds a name: one that is bound keeps its place, another goes last. Names that are shared are copied first.
@@ -152,7 +193,7 @@ impl Heap {
         ensures blocks { self.new.blocks ≡ self.old.blocks }
     {
         loosen(&mut self.loose, &self.names, name.as_str())?;
-        bind(&mut self.names, name, value)?;
+        self.names.bind(name, value)?;
         Ok(())
     }
 
@@ -163,7 +204,7 @@ impl Heap {
         ensures blocks { self.new.blocks ≡ self.old.blocks }
     {
         loosen(&mut self.loose, &self.names, name)?;
-        unbind(&mut self.names, name)?;
+        self.names.unbind(name)?;
         Ok(())
     }
 
@@ -175,7 +216,7 @@ impl Heap {
         ensures err { OnErr result (bytes_at self.new.blocks ≡ bytes_at self.old.blocks) }
     {
         self.loose.insert(base, ())?;
-        put_block(&mut self.blocks, base, block)?;
+        self.blocks.put_block(base, block)?;
         Ok(())
     }
 
@@ -191,7 +232,33 @@ impl Heap {
             (bytes_at self.old.blocks)) }
         ensures err { OnErr result (bytes_at self.new.blocks ≡ bytes_at self.old.blocks) }
     {
-        write(&mut self.blocks, base, writer)?;
+        self.blocks.write(base, writer)?;
+        Ok(())
+    }
+
+    /// Makes what has changed part of what is shared, where it is much.
+    fn settle(&mut self) -> Result<(), OutOfMemory>
+        ensures names { self.new.names ≡ self.old.names }
+        ensures bytes { bytes_at self.new.blocks ≡ bytes_at self.old.blocks }
+    {
+        self.names.settle()?;
+        self.blocks.settle()?;
+        Ok(())
+    }
+
+    /// Gives up the blocks of loose bases that no bound value lies in.
+    fn remove_loose(&mut self) -> Result<(), OutOfMemory>
+        ensures names { self.new.names ≡ self.old.names }
+        ensures ok { OnOk result ((b : values.Base) → bytes_at self.new.blocks b
+            ≡ (if model.is_held b self.old.names then bytes_at self.old.blocks b else [])) }
+        ensures err { OnErr result (bytes_at self.new.blocks ≡ bytes_at self.old.blocks) }
+    {
+        retain_unheld(&mut self.loose, &self.names);
+        if self.loose.is_empty() {
+            return Ok(());
+        }
+        self.blocks.remove(&self.loose)?;
+        self.loose.clear();
         Ok(())
     }
 
@@ -202,13 +269,8 @@ impl Heap {
             ≡ (if model.is_held b self.old.names then bytes_at self.old.blocks b else [])) }
         ensures err { OnErr result (bytes_at self.new.blocks ≡ bytes_at self.old.blocks) }
     {
-        retain_unheld(&mut self.loose, self.names.as_ref());
-        if self.loose.is_empty() {
-            return Ok(());
-        }
-        let own = Rc::make_mut(&mut self.blocks)?;
-        remove_blocks(own, &self.loose);
-        self.loose.clear();
+        self.settle()?;
+        self.remove_loose()?;
         Ok(())
     }
 }

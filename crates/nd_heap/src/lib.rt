@@ -4,6 +4,7 @@
 ghost use Rattle.nd_heap.specs.State.{State};
 ghost use Rattle.nd_heap.specs.Seen.{IsListed};
 
+mod block_table;
 mod blocks;
 mod changes;
 mod heap;
@@ -12,6 +13,7 @@ mod input_name;
 mod marking;
 mod matching;
 mod memory;
+mod name_table;
 mod names;
 mod reads;
 mod redo;

@@ -1,11 +1,10 @@
 // Names in order, with their values, which versions share.
 
-ghost use Rattle.std.specs.Prelude.{◌≡◌, ◌↔◌, IfOk, IsFalse, OnErr, OnOk, false, option_map};
+ghost use Rattle.std.specs.Prelude.{◌≡◌, ◌↔◌, IsFalse, OnErr, OnOk, false, option_map};
 ghost use Rattle.std.specs.Rc.{rc_str_bytes};
 ghost use Rattle.nd_model.specs.Session as model;
 ghost use Rattle.nd_model.specs.Value as values;
 ghost use Rattle.nd_heap.specs.Values.{base_of, value_of, names_of};
-ghost use Rattle.nd_heap.specs.Loose.{LosesHolder};
 
 use crate::memory::OutOfMemory;
 use crate::value::{Base, Value};
@@ -15,57 +14,46 @@ use std::rc::{Rc, RcStr};
 /// A copy of the names shares each name's text and its value.
 pub(crate) type Names = IndexMap<RcStr, Rc<Value>>;
 
-/// Binds a name: one that is bound keeps its place, another goes last. Names that are shared are copied first.
-pub(crate) fn bind(names: &mut Rc<Names>, name: RcStr, value: Rc<Value>) -> Result<(), OutOfMemory>
-    ensures ok { OnOk result (names_of names.new.value.entries ≡ model.bind (rc_str_bytes name)
-        (value_of value.value) (names_of names.old.value.entries)) }
-    ensures err { OnErr result (names_of names.new.value.entries
-        ≡ names_of names.old.value.entries) }
+/// Binds a name: one that is bound keeps its place, another goes last.
+pub(crate) fn insert(names: &mut Names, name: RcStr, value: Rc<Value>) -> Result<(), OutOfMemory>
+    ensures ok { OnOk result (names_of names.new.entries ≡ model.bind (rc_str_bytes name)
+        (value_of value.value) (names_of names.old.entries)) }
+    ensures err { OnErr result (names_of names.new.entries ≡ names_of names.old.entries) }
 {
-    let own = Rc::make_mut(names)?;
-    own.insert(name, value)?;
+    names.insert(name, value)?;
     Ok(())
 }
 
-/// Unbinds a name.
+/// Takes a name out.
+pub(crate) fn remove(names: &mut Names, name: &str)
+    ensures { names_of names.new.entries ≡ model.unbind name.now (names_of names.old.entries) }
+{
+    let _ = names.get_index_of(name);
+    names.shift_remove(name);
+}
+
+/// Takes a name out. Names that are shared are copied first.
 pub(crate) fn unbind(names: &mut Rc<Names>, name: &str) -> Result<(), OutOfMemory>
     ensures ok { OnOk result (names_of names.new.value.entries
         ≡ model.unbind name.now (names_of names.old.value.entries)) }
-    ensures holders { OnOk result (LosesHolder name.now (names_of names.old.value.entries)
-        (names_of names.new.value.entries)) }
     ensures err { OnErr result (names_of names.new.value.entries
         ≡ names_of names.old.value.entries) }
 {
     let own = Rc::make_mut(names)?;
-    let _ = own.get_index_of(name);
-    own.shift_remove(name);
+    remove(own, name);
     Ok(())
 }
 
 /// The value of a name.
-pub(crate) fn find<'a>(names: &'a Rc<Names>, name: &str) -> Option<&'a Value>
-    ensures { option_map (λ v. value_of v.now) result
-        ≡ model.lookup name.now (names_of names.now.value.entries) }
+pub(crate) fn find<'a>(names: &'a Names, name: &str) -> Option<&'a Rc<Value>>
+    ensures { option_map (λ v. value_of v.now.value) result
+        ≡ model.lookup name.now (names_of names.now.entries) }
 {
-    match names.as_ref().get(name) {
-        Some(value) => Some(value.as_ref()),
-        None => None,
-    }
-}
-
-/// The value of a name, shared.
-pub(crate) fn share_value(names: &Names, name: &str) -> Result<Option<Rc<Value>>, OutOfMemory>
-    ensures { IfOk result (λ o. option_map (λ v. value_of v.value) o
-        ≡ model.lookup name.now (names_of names.now.entries)) }
-{
-    match names.get(name) {
-        Some(value) => Ok(Some(value.clone()?)),
-        None => Ok(None),
-    }
+    names.get(name)
 }
 
 /// Whether the value lies in the base.
-fn lies_in(value: &Value, base: Base) -> bool
+pub(crate) fn lies_in(value: &Value, base: Base) -> bool
     ensures { result ≡ values.lies_in (base_of base) (value_of value.now) }
 {
     match value {
@@ -90,7 +78,7 @@ pub(crate) fn is_held(names: &Names, base: Base) -> bool
 }
 
 /// Whether the value lies in a base of the label.
-fn lies_in_label(value: &Value, label: u64) -> bool
+pub(crate) fn lies_in_label(value: &Value, label: u64) -> bool
     ensures { IsFalse result ↔ ((b : values.Base) → b.label ≡ label
         → values.lies_in b (value_of value.now) ≡ false) }
 {
@@ -98,20 +86,4 @@ fn lies_in_label(value: &Value, label: u64) -> bool
         Value::Number(_) => false,
         Value::Array(array) => array.base.label == label,
     }
-}
-
-/// Whether some bound value lies in a base of the label.
-pub(crate) fn is_label_held(names: &Names, label: u64) -> bool
-    ensures { IsFalse result ↔ ((b : values.Base) → b.label ≡ label
-        → model.is_held b (names_of names.now.entries) ≡ false) }
-{
-    for i in 0..names.len() {
-        let Some((_, value)) = names.get_index(i) else {
-            unreachable!();
-        };
-        if lies_in_label(value.as_ref(), label) {
-            return true;
-        }
-    }
-    false
 }

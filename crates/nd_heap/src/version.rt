@@ -7,10 +7,8 @@ ghost use Rattle.nd_heap.specs.Contents.{bytes_in};
 ghost use Rattle.nd_heap.specs.Kept.{version_of};
 ghost use Rattle.nd_heap.specs.Changes.{is_bound};
 
-use crate::blocks::share_block;
 use crate::heap::Heap;
 use crate::memory::OutOfMemory;
-use crate::names::share_value;
 use crate::value::{Base, Value};
 use nd_block::RawBlock;
 use std::marker::Model;
@@ -60,7 +58,7 @@ impl Version {
     pub fn count(&self) -> usize
         ensures { result ≡ length (version_of self.now).names }
     {
-        self.heap.names().len()
+        self.heap.count()
     }
 
     /// The name at a place in the order of the names, none past the last.
@@ -68,10 +66,7 @@ impl Version {
         ensures { option_map (λ n. n.now) result
             ≡ option_map (λ e. e.0) (slice_get (version_of self.now).names place) }
     {
-        match self.heap.names().get_index(place) {
-            Some((name, _)) => Some(name.as_str()),
-            None => None,
-        }
+        self.heap.name_at(place)
     }
 
     /// The value of a name.
@@ -101,13 +96,13 @@ impl Version {
         ensures { IfOk result (λ o. option_map (λ v. value_of v.value) o
             ≡ model.lookup name.now (version_of self.now).names) }
     {
-        share_value(self.heap.names(), name)
+        self.heap.share_value(name)
     }
 
     /// The block of a base, shared.
     pub(crate) fn share_block(&self, base: Base) -> Result<Option<Rc<RawBlock>>, OutOfMemory>
         ensures { IfOk result (λ o. bytes_in o ≡ (version_of self.now).bytes (base_of base)) }
     {
-        share_block(self.heap.blocks(), base)
+        self.heap.share_block(base)
     }
 }

@@ -205,7 +205,7 @@ impl Notebook {
         if count <= at {
             return Err(QueryFault::NoCell(at, count));
         }
-        Ok(self.schedule.made(at).result())
+        Ok(self.schedule.record_at(at).result())
     }
 
     /// The session before the cell at the place, or after the last one.

@@ -1,16 +1,23 @@
 -- Where a pass stops, what was kept of the run before is kept behind.
-use Rattle.std.proofs.Common.{◌≡◌, ℕ, ◌+◌, ◌-◌, ◌<◌, ◌≤◌, List, ◌++◌, length, map, take, drop, get_or, [], ◌∷◌, Option, Some, None, IfSome, option_map, Result, Ok, Err, IfOk, refl, sym, ap, ap₂, subst, ◌∙◌, inl, inr, arith}
-use Rattle.std.proofs.lemmas.List.{take-append-drop, take_all, take-map, length-map, drop-map, map-append, length-append, length-drop, get_or_append_left, get_or-append_right, get_or-drop}
+use Rattle.std.proofs.Common.{◌≡◌, ℕ, ◌+◌, ◌-◌, ◌<◌, ◌≤◌, List, ◌++◌, length, map, take, drop, get_or, [], ◌∷◌, Option, Some, None, IfSome, option_map, refl, sym, ap, ap₂, subst, ◌∙◌, inl, inr, arith}
+use Rattle.std.proofs.lemmas.List.{append_assoc, append-nil, take-append-drop, length-map, length-append, length-drop, length-take-le, get_or_append_left, get_or-append_right, get_or-drop}
 use Rattle.std.proofs.lemmas.Bool.{cases_lt}
-use Rattle.nd_model.specs.Session.{Session}
+use Rattle.nd_model.specs.Session.{Session, no_session}
 use Rattle.nd_model.specs.Records.{Record}
 use Rattle.nd_model.specs.Renaming.{AreDistinct}
-use Rattle.nd_model.specs.Book.{Book, labels_of}
-use Rattle.nd_model.specs.Entries.{entry_at, record_at, records_of, session_before, SharesFront}
+use Rattle.nd_model.specs.Book.{Book, Cell, labels_of}
+use Rattle.nd_model.specs.Entries.{entry_at, record_at, entries_of, records_of, session_before, SharesFront}
 use Rattle.nd_model.specs.CutOff.{UnreadRest, SharesBack, SameOnSession, Meets, IsQuiet}
 use Rattle.nd_model.proofs.CutOff.{meets_after, quiet_leaves, unread_more, as_many_behind}
-use Rattle.nd_schedule.specs.Runs.{AreVersions, IsMet, IsRun, KeepsBehind}
-use Rattle.std.specs.Prelude.{IsSomeAnd}
+use Rattle.nd_schedule.specs.Runs.{AreVersions, IsEnd, IsKept, IsLast, IsMet, IsMiddle, IsRun}
+use Rattle.std.specs.List.{splice}
+use Rattle.std.specs.Option.{option_or}
+use Rattle.nd_model.specs.Running as running
+use Rattle.nd_model.specs.Notebook.{book_of}
+use Rattle.nd_schedule.specs.Source.{sheet}
+use Rattle.nd_schedule.proofs.Spliced.{length-splice, map-splice, splice_end}
+use Rattle.nd_schedule.proofs.Pass.{records_all, versions_front, versions_more}
+use Rattle.nd_model.proofs.Lazy.{length-entries}
 
 module _ (old new : Book) (at k there : ℕ) (front : SharesFront at old new) (lt : k < length new.cells) (made : Record) (is : made ≡ record_at new.inputs (entry_at new k)) where
   -- the session is what it was there
@@ -63,56 +70,91 @@ rest_met old new j k n there le rest lt h =
       rest_there old new j k n there rest h.0 h.1,
     )
 
--- ---- shared values
-
-module _ {X R Y : Type 0} (value : R → X) (view : X → Y) where
-  fuse : (xs : List R) → map (λ x. view (value x)) xs ≡ map view (map value xs)
-  fuse [] = refl
-  fuse (x ∷ xs) = ap (λ ys. view (value x) ∷ ys) (fuse xs)
-
-  pub pushed : (xs ys zs : List R) (n : ℕ) → map value zs ≡ map value xs ++ drop n (map value ys) → map (λ x. view (value x)) zs ≡ map (λ x. view (value x)) xs ++ drop n (map (λ x. view (value x)) ys)
-  pushed xs ys zs n e =
-      fuse zs ∙ ap (map view) e ∙ map-append view (map value xs) (drop n (map value ys)) ∙ ap₂ (λ (us ws : List Y). us ++ ws) (sym (fuse xs)) (sym (drop-map view n (map value ys)) ∙ ap (drop n) (sym (fuse ys)))
-
-  one : (o : Option R) → option_map (λ x. view (value x)) o ≡ option_map view (option_map value o)
-  one None = refl
-  one (Some x) = refl
-
-  fuse_some : (xs : List (Option R)) → map (option_map (λ x. view (value x))) xs ≡ map (option_map view) (map (option_map value) xs)
-  fuse_some [] = refl
-  fuse_some (x ∷ xs) = ap₂ (λ (y : Option Y) (ys : List (Option Y)). y ∷ ys) (one x) (fuse_some xs)
-
-  pub kept_pushed : (xs ys zs : List (Option R)) (there len : ℕ) → map (option_map value) zs ≡ map (option_map value) xs ++ take (len - there) (drop there (map (option_map value) ys)) → length ys ≤ len
-      → map (option_map (λ x. view (value x))) zs ≡ map (option_map (λ x. view (value x))) xs ++ drop there (map (option_map (λ x. view (value x))) ys)
-  kept_pushed xs ys zs there len e le =
-      let left : length (drop there (map (option_map value) ys)) ≡ length (map (option_map value) ys) - there = length-drop there (map (option_map value) ys) in
-      let many : length (map (option_map value) ys) ≡ length ys = length-map ys (option_map value) in
-      fuse_some zs ∙ ap (map (option_map view)) e ∙ map-append (option_map view) (map (option_map value) xs) _
-      ∙ ap₂ (λ (us ws : List (Option Y)). us ++ ws) (sym (fuse_some xs))
-      (ap (map (option_map view)) (take_all (len - there) (drop there (map (option_map value) ys)) (omega arith)) ∙ sym (drop-map (option_map view) there (map (option_map value) ys)) ∙ ap (drop there) (sym (fuse_some ys)))
-
-  pub kept_first : (xs ys zs : List (Option R)) (n : ℕ) → map (option_map value) zs ≡ map (option_map value) xs ++ take (n - 0) (drop 0 (map (option_map value) ys)) → xs ≡ []
-      → map (option_map (λ x. view (value x))) zs ≡ take n (map (option_map (λ x. view (value x))) ys)
-  kept_first xs ys zs n e nil =
-      let whole : n - 0 ≡ n = omega arith in
-      fuse_some zs ∙ ap (map (option_map view)) (e ∙ ap (λ us. map (option_map value) us ++ take (n - 0) (map (option_map value) ys)) nil ∙ ap (λ m. take m (map (option_map value) ys)) whole)
-      ∙ sym (take-map (option_map view) n (map (option_map value) ys)) ∙ ap (take n) (sym (fuse_some ys))
-
 -- ---- what is kept then
 
-pub cut_ok : {X E : Type 0} (records_in : X → List Record) (versions_in : X → List (Option Session)) (res : Result X E) (old new : Book) (n there : ℕ) (rs : List Record) (vs : List (Option Session))
-    → IfOk res (λ x. records_in x ≡ rs ++ drop there (records_of old)) → IfOk res (λ x. KeepsBehind old there vs (versions_in x))
-    → SharesBack there n old new → UnreadRest there n old new → there ≤ length old.cells → n ≤ length new.cells → AreDistinct (labels_of new.cells) → rs ≡ take n (records_of new) → AreVersions new vs → length vs ≡ n
-    → IfOk res (λ x. IsRun new (records_in x) (versions_in x))
-cut_ok records_in versions_in (Err f) old new n there rs vs grown kept back rest le in_new distinct first all many = tt
-cut_ok records_in versions_in (Ok x) old new n there rs vs grown kept back rest le in_new distinct first all many =
+-- behind the versions in front these are versions
+abbrev pub IsFront : (old new : Book) (at : ℕ) → List (Option Session) → Type 0
+IsFront old new at vs = (was : List (Option Session)) → AreVersions old was → length was ≡ length old.cells → AreVersions new (take at was ++ vs)
+
+no_version : (old new : Book) (at : ℕ) → SharesFront at old new → at ≤ length old.cells → IsFront old new at []
+no_version old new at front le was all many = versions_front old new at was (take at was ++ []) front all (omega arith) (append-nil (take at was))
+
+pub front_none : (old new : Book) (at : ℕ) (vs : List (Option Session)) → SharesFront at old new → at ≤ length old.cells → vs ≡ [] → IsFront old new at vs
+front_none old new at vs front le none = let P : List (Option Session) → Type 0 = λ vs. IsFront old new at vs in subst P (sym none) (no_version old new at front le)
+
+pub records_none : (old new : Book) (at : ℕ) (rs : List Record) → SharesFront at old new → rs ≡ [] → take at (records_of old) ++ rs ≡ take at (records_of new)
+records_none old new at rs front none = ap (λ us. take at (records_of old) ++ us) none ∙ append-nil (take at (records_of old)) ∙ front.0
+
+pub version_more : (old new : Book) (at k : ℕ) (vs ws : List (Option Session)) (o : Option Session) → IsFront old new at vs → at ≤ length old.cells → at + length vs ≡ k → IfSome o (λ s. s ≡ session_before new k) → ws ≡ vs ++ o ∷ []
+    → IsFront old new at ws
+version_more old new at k vs ws o front le many is grown was all as_many =
+    let long : length (take at was ++ vs) ≡ length (take at was) + length vs = length-append (take at was) vs in
+    let short : length (take at was) ≡ at = length-take-le at was (omega arith) in
+    versions_more new (take at was ++ vs) (take at was ++ ws) o k (front was all as_many) (omega arith) is (ap (λ us. take at was ++ us) grown ∙ sym (append_assoc (take at was) vs (o ∷ [])))
+
+module _ (old new : Book) (at : ℕ) (le : at ≤ length old.cells) (rs : List Record) (vs : List (Option Session)) (distinct : AreDistinct (labels_of new.cells)) (front : IsFront old new at vs) where
+  -- where the pass stops
+  pub cut_middle : (n there : ℕ) → SharesBack there n old new → UnreadRest there n old new → there ≤ length old.cells → n ≤ length new.cells → take at (records_of old) ++ rs ≡ take n (records_of new) → at + length vs ≡ n
+      → IsMiddle old new at there rs vs
+  cut_middle n there back rest there_le in_new first many was all as_many =
+      let left : length old.cells - there ≡ length new.cells - n = as_many_behind there n old new rest.0 in
+      let short : length (take at was) ≡ at = length-take-le at was (omega arith) in
+      let long : length (take at was ++ vs) ≡ length (take at was) + length vs = length-append (take at was) vs in
+      let whole : length (splice was at there vs) ≡ at + length vs + (length was - there) = length-splice was vs at there (omega arith) in
+      record {
+        records = records_cut old new there n (take at (records_of old) ++ rs) (splice (records_of old) at there rs) back first (sym (append_assoc (take at (records_of old)) rs (drop there (records_of old))));
+        versions = versions_cut old new n there (take at was ++ vs) was (splice was at there vs) back all (omega arith) (front was all as_many) (omega arith) (sym (append_assoc (take at was) vs (drop there was)));
+        many = omega arith;
+        distinct = distinct;
+      }
+
+  -- where it came to the end
+  pub whole_middle : (n there : ℕ) → length old.cells ≤ there → n ≡ length new.cells → take at (records_of old) ++ rs ≡ take n (records_of new) → at + length vs ≡ n → IsMiddle old new at there rs vs
+  whole_middle n there past end first many was all as_many =
+      let short : length (take at was) ≡ at = length-take-le at was (omega arith) in
+      let long : length (take at was ++ vs) ≡ length (take at was) + length vs = length-append (take at was) vs in
+      let kept : length (records_of old) ≡ length old.cells = length-map (entries_of old) (record_at old.inputs) ∙ length-entries old.cells old.inputs no_session in
+      let last : splice was at there vs ≡ take at was ++ vs = splice_end was vs at there (omega arith) in
+      record {
+        records = splice_end (records_of old) rs at there (omega arith) ∙ records_all new n _ (omega arith) first;
+        versions = subst (AreVersions new) (sym last) (front was all as_many);
+        many = ap length last ∙ (let e : length (take at was ++ vs) ≡ length new.cells = omega arith in e);
+        distinct = distinct;
+      }
+
+-- where none is run
+pub unseen_middle : (old new : Book) (at there : ℕ) (rs : List Record) (vs : List (Option Session)) → at ≤ length old.cells → rs ≡ [] → vs ≡ [] → AreDistinct (labels_of new.cells) → SharesFront at old new → SharesBack there at old new
+    → UnreadRest there at old new → there ≤ length old.cells → at ≤ length new.cells → IsMiddle old new at there rs vs
+unseen_middle old new at there rs vs le none_r none_v distinct front back rest there_le in_new =
+    let few : length vs ≡ 0 = ap length none_v in
+    cut_middle old new at le rs vs distinct (front_none old new at vs front le none_v) at there back rest there_le in_new (records_none old new at rs front none_r) (omega arith)
+
+-- ---- the session behind the last cell
+
+-- where the pass stops it is what it was
+pub end_same : (old new : Book) (n there : ℕ) → SharesBack there n old new → UnreadRest there n old new → there ≤ length old.cells → n ≤ length new.cells → session_before old (length old.cells) ≡ session_before new (length new.cells)
+end_same old new n there back rest le in_new =
     let left : length old.cells - there ≡ length new.cells - n = as_many_behind there n old new rest.0 in
-    let long : length (versions_in x) ≡ length vs + length (drop there kept.0) = ap length kept.3 ∙ length-append vs (drop there kept.0) in
-    let dropped : length (drop there kept.0) ≡ length kept.0 - there = length-drop there kept.0 in
-    let was : length kept.0 ≡ length old.cells = kept.2 in
-    record {
-      records = records_cut old new there n rs (records_in x) back first grown;
-      versions = versions_cut old new n there vs kept.0 (versions_in x) back kept.1 (omega arith) all many kept.3;
-      many = omega arith;
-      distinct = distinct;
-    }
+    ap (session_before old) (let e : length old.cells ≡ there + (length old.cells - there) = omega arith in e) ∙ back.2 (length old.cells - there)
+    ∙ ap (session_before new) (let e : n + (length old.cells - there) ≡ length new.cells = omega arith in e)
+
+-- the one that a pass gives, or the one from before where it gives none
+last_or : {X : Type 0} (view : X → Session) (old new : Book) (was o : Option X) → IsLast old (option_map view was) → IsEnd old new (option_map view o) → IsLast new (option_map view (option_or o was))
+last_or view old new None None all h = tt
+last_or view old new (Some w) None all h = all ∙ h
+last_or view old new was (Some x) all h = h
+
+-- ---- all that is kept
+
+pub kept_now : {X : Type 0} (view : X → Session) (old : Book) (given : List (List ℕ × running.Source)) (cs ds : List Cell) (rs ss : List Record) (vs ws : List (Option Session)) (was o last : Option X) → cs ≡ ds → rs ≡ ss → vs ≡ ws → last ≡ option_or o was
+    → IsRun (book_of (sheet ds given)) ss ws → IsLast old (option_map view was) → IsEnd old (book_of (sheet ds given)) (option_map view o) → IsKept (book_of (sheet cs given)) rs vs (option_map view last)
+kept_now view old given cs ds rs ss vs ws was o last c r v l run all end =
+    let both : IsKept (book_of (sheet ds given)) ss ws (option_map view (option_or o was)) = record { run = run; end = last_or view old (book_of (sheet ds given)) was o all end } in
+    subst (λ (cs : List Cell). IsKept (book_of (sheet cs given)) rs vs (option_map view last)) (sym c)
+    (subst (λ (rs : List Record). IsKept (book_of (sheet ds given)) rs vs (option_map view last)) (sym r)
+    (subst (λ (vs : List (Option Session)). IsKept (book_of (sheet ds given)) ss vs (option_map view last)) (sym v)
+    (subst (λ (m : Option Session). IsKept (book_of (sheet ds given)) ss ws m) (ap (option_map view) (sym l)) both)))
+
+-- what these stand for, where some were put between
+pub put_now : {X Y : Type 0} (view : X → Y) (xs ys ms new : List X) (all : List Y) (i j : ℕ) → new ≡ splice ys i j ms → ys ≡ xs → map view xs ≡ all → map view new ≡ splice all i j (map view ms)
+put_now view xs ys ms new all i j is same e = ap (map view) (is ∙ ap (λ xs. splice xs i j ms) same) ∙ map-splice view xs ms i j ∙ ap (λ us. splice us i j (map view ms)) e

@@ -1,16 +1,20 @@
 -- Edits of the list of cells and of what is kept of them.
-use Rattle.std.proofs.Common.{◌≡◌, ℕ, ◌<◌, List, length, map, true, false, Option, Some, None, option_map, Result, OnOk, sym, ap, ap₂, subst, ◌∙◌, arith, Global}
+use Rattle.std.proofs.Common.{◌≡◌, ℕ, ◌<◌, List, [], ◌∷◌, ◌++◌, length, map, take, drop, get_or, ◌+◌, ◌-◌, ◌≤◌, true, false, Option, Some, None, option_map, Result, OnOk, refl, sym, ap, ap₂, subst, ◌∙◌, arith, Global}
 use Rattle.std.specs.Prelude.{insert, remove, slice_set, slice_index_or, bytes_eq, string_bytes}
 use Rattle.std.specs.declared.rc.Rc.{Rc}
-use Rattle.std.proofs.lemmas.List.{length-map}
+use Rattle.std.specs.List.{splice}
+use Rattle.std.proofs.lemmas.List.{length-drop, length-map, length-take-le}
+use Rattle.std.proofs.lemmas.List.Edits.{length-remove}
+use Rattle.nd_schedule.proofs.Spliced.{at_middle, splice_same, splice_insert, splice_remove, splice_set}
 use Rattle.nd_model.specs.Running as running
 use Rattle.nd_model.specs.Session.{no_session}
 use Rattle.nd_model.specs.Records.{Record}
 use Rattle.nd_model.specs.Renaming.{AreDistinct}
-use Rattle.nd_model.specs.Book.{Cell, Book, no_cell, labels_of, fresh_label, Insert, Change, Move, Remove, edited_cells}
+use Rattle.nd_model.specs.Book.{Cell, Book, no_cell, is_label, labels_of, fresh_label, Insert, Change, Move, Remove, edited_cells}
 use Rattle.nd_model.specs.Entries.{record_at, entries_of, records_of}
 use Rattle.nd_model.specs.Stale.{kept_of, CountsStale}
-use Rattle.nd_model.proofs.EditKept.{map-insert, map-remove, map-slice_set, map-at, kept_all, kept_insert, kept_change, kept_remove, kept_move, same_change}
+use Rattle.nd_model.proofs.EditKept.{map-insert, map-remove, map-slice_set, map-at, kept_new, kept_changed, same_change}
+use Rattle.nd_model.proofs.EditLabels.{fresh}
 use Rattle.nd_model.proofs.Lists.{same_bytes}
 use Rattle.nd_model.proofs.Lazy.{length-entries}
 use Rattle.nd_schedule.specs.declared.source.Source.{Source}
@@ -33,26 +37,78 @@ same_sheet res s cs ds given e h = let P : List Cell → Type 0 = λ cs. OnOk re
 abbrev view_of : Rc Source Global → Cell
 view_of x = cell_of x.value
 
-pub is_inserted : (old : List Cell) (xs new : List (Rc Source Global)) (x : Rc Source Global) (at : ℕ) (text : List ℕ) (src : Source) → cells_of xs ≡ old → new ≡ insert xs at x → x.value ≡ src
-    → src.label ≡ fresh_label old → string_bytes src.text ≡ text → cells_of new ≡ edited_cells (Insert at text) old
-is_inserted old xs new x at text src all is value label same =
-    ap cells_of is ∙ map-insert view_of xs at x ∙ ap₂ (λ cs (c : Cell). insert cs at c) all (ap cell_of value ∙ (λ i. record { label = label i; source = same i }))
+-- an edit of a part of them, put in its place, edits all
+module _ (old : List Cell) (part : List (Rc Source Global)) (i j : ℕ) (all : cells_of part ≡ take (j - i) (drop i old)) (order : i ≤ j) (le : j ≤ length old) where
+  many : length (take (j - i) (drop i old)) ≡ j - i
+  many = let left : length (drop i old) ≡ length old - i = length-drop i old in length-take-le (j - i) (drop i old) (omega arith)
 
-pub is_changed : (old : List Cell) (xs new : List (Rc Source Global)) (x : Rc Source Global) (at : ℕ) (text : List ℕ) (src : Source) → cells_of xs ≡ old → at < length old → new ≡ slice_set xs at x → x.value ≡ src
-    → src.label ≡ (slice_index_or old at no_cell).label → string_bytes src.text ≡ text → cells_of new ≡ edited_cells (Change at text) old
-is_changed old xs new x at text src all lt is value label same =
-    ap cells_of is ∙ map-slice_set view_of xs at x ∙ ap₂ (λ cs (c : Cell). slice_set cs at c) all (ap cell_of value ∙ (λ i. record { label = label i; source = same i }))
+  pub put_in : (new : List (Rc Source Global)) (x : Rc Source Global) (n m : ℕ) → n ≤ j - i → m ≡ i + n → new ≡ insert part n x → splice old i j (cells_of new) ≡ insert old m (view_of x)
+  put_in new x n m few place is =
+      ap (splice old i j) (ap cells_of is ∙ map-insert view_of part n x ∙ ap (λ ms. insert ms n (view_of x)) all)
+      ∙ splice_insert old (take (j - i) (drop i old)) i j n (view_of x) (omega arith) (omega (arith, many)) ∙ ap₂ (λ (cs : List Cell) (k : ℕ). insert cs k (view_of x)) (splice_same old i j order) (sym place)
 
-pub is_removed : (old : List Cell) (xs new : List (Rc Source Global)) (at : ℕ) → cells_of xs ≡ old → new ≡ remove xs at → cells_of new ≡ edited_cells (Remove at) old
-is_removed old xs new at all is = ap cells_of is ∙ map-remove view_of xs at ∙ ap (λ cs. remove cs at) all
+  pub put_at : (new : List (Rc Source Global)) (x : Rc Source Global) (n m : ℕ) → n < j - i → m ≡ i + n → new ≡ slice_set part n x → splice old i j (cells_of new) ≡ slice_set old m (view_of x)
+  put_at new x n m few place is =
+      ap (splice old i j) (ap cells_of is ∙ map-slice_set view_of part n x ∙ ap (λ ms. slice_set ms n (view_of x)) all)
+      ∙ splice_set old (take (j - i) (drop i old)) i j n (view_of x) (omega arith) (omega (arith, many)) ∙ ap₂ (λ (cs : List Cell) (k : ℕ). slice_set cs k (view_of x)) (splice_same old i j order) (sym place)
 
-pub is_moved : (old : List Cell) (xs mid new : List (Rc Source Global)) (x : Rc Source Global) (from to : ℕ) → cells_of xs ≡ old → from < length old → x ≡ slice_index_or xs from x → mid ≡ remove xs from → new ≡ insert mid to x
-    → cells_of new ≡ edited_cells (Move from to) old
-is_moved old xs mid new x from to all lt taken left is =
-    let long : length xs ≡ length old = sym (length-map xs view_of) ∙ ap length all in
-    ap cells_of is ∙ map-insert view_of mid to x
-    ∙ ap₂ (λ cs (c : Cell). insert cs to c) (ap cells_of left ∙ map-remove view_of xs from ∙ ap (λ cs. remove cs from) all)
-    (ap view_of taken ∙ sym (map-at view_of xs from x no_cell (omega arith)) ∙ ap (λ cs. slice_index_or cs from no_cell) all)
+  pub taken_out : (new : List (Rc Source Global)) (n m : ℕ) → n < j - i → m ≡ i + n → new ≡ remove part n → splice old i j (cells_of new) ≡ remove old m
+  taken_out new n m few place is =
+      ap (splice old i j) (ap cells_of is ∙ map-remove view_of part n ∙ ap (λ ms. remove ms n) all)
+      ∙ splice_remove old (take (j - i) (drop i old)) i j n (omega arith) (omega (arith, many)) ∙ ap₂ (λ (cs : List Cell) (k : ℕ). remove cs k) (splice_same old i j order) (sym place)
+
+  pub moved : (mid new : List (Rc Source Global)) (x : Rc Source Global) (n m from to : ℕ) → n < j - i → m < j - i → from ≡ i + n → to ≡ i + m → x ≡ slice_index_or part n x → mid ≡ remove part n → new ≡ insert mid m x
+      → splice old i j (cells_of new) ≡ edited_cells (Move from to) old
+  moved mid new x n m from to n_lt m_lt at_from at_to taken left is =
+      let ms : List Cell = take (j - i) (drop i old) in
+      let as_many : length part ≡ length ms = sym (length-map part view_of) ∙ ap length all in
+      let less : length (remove ms n) + 1 ≡ length ms = length-remove ms n (omega (arith, many)) in
+      let e : get_or old from no_cell ≡ view_of x = ap (λ cs. get_or cs from no_cell) (sym (splice_same old i j order)) ∙ at_middle old ms i j from no_cell (omega arith) (omega arith) (omega (arith, many))
+      ∙ ap (λ k. get_or ms k no_cell) (let f : from - i ≡ n = omega arith in f) ∙ ap (λ cs. get_or cs n no_cell) (sym all) ∙ map-at view_of part n x no_cell (omega (arith, many)) ∙ ap view_of (sym taken) in
+      ap (splice old i j) (ap cells_of is ∙ map-insert view_of mid m x ∙ ap (λ ms. insert ms m (view_of x)) (ap cells_of left ∙ map-remove view_of part n ∙ ap (λ ms. remove ms n) all))
+      ∙ splice_insert old (remove ms n) i j m (view_of x) (omega arith) (omega (arith, many)) ∙ ap (λ cs. insert cs (i + m) (view_of x)) (splice_remove old ms i j n (omega arith) (omega (arith, many)))
+      ∙ ap₂ (λ (cs : List Cell) (k : ℕ). insert (remove cs k) (i + m) (view_of x)) (splice_same old i j order) (sym at_from) ∙ ap₂ (λ (k : ℕ) (c : Cell). insert (remove old from) k c) (sym at_to) (sym e)
+
+-- ---- each edit
+
+same_part : (old : List Cell) (new : List (Rc Source Global)) (i j at behind : ℕ) → i ≡ at → j ≡ behind → splice old i j (cells_of new) ≡ splice old at behind (cells_of new)
+same_part old new i j at behind a b = ap₂ (λ (i j : ℕ). splice old i j (cells_of new)) a b
+
+first_pushed : {X : Type 0} (xs : List X) (x : X) → length xs ≡ 0 → xs ++ x ∷ [] ≡ insert xs 0 x
+first_pushed [] x h = refl
+first_pushed (y ∷ ys) x h = absurd (omega arith)
+
+-- the part as it is puts nothing else there
+pub same_cells : (old : List Cell) (part : List (Rc Source Global)) (i j at behind : ℕ) → cells_of part ≡ take (behind - at) (drop at old) → i ≡ at → j ≡ behind → at ≤ behind → splice old i j (cells_of part) ≡ old
+same_cells old part i j at behind all a b order = same_part old part i j at behind a b ∙ ap (splice old at behind) all ∙ splice_same old at behind order
+
+-- how many there are of a part
+pub part_long : (old : List Cell) (part : List (Rc Source Global)) (i j : ℕ) → cells_of part ≡ take (j - i) (drop i old) → i ≤ j → j ≤ length old → length part ≡ j - i
+part_long old part i j all order le = sym (length-map part view_of) ∙ ap length all ∙ many old part i j all order le
+
+pub is_inserted : (old : List Cell) (part new : List (Rc Source Global)) (x : Rc Source Global) (src : Source) (i j at : ℕ) (text : List ℕ) → cells_of part ≡ take (at - at) (drop at old) → i ≡ at → j ≡ at → at ≤ length old
+    → new ≡ part ++ x ∷ [] → x.value ≡ src → src.label ≡ fresh_label old → string_bytes src.text ≡ text → splice old i j (cells_of new) ≡ edited_cells (Insert at text) old
+is_inserted old part new x src i j at text all a b le is value label same =
+    let none : length part ≡ 0 = part_long old part at at all (omega arith) le ∙ (let e : at - at ≡ 0 = omega arith in e) in
+    same_part old new i j at at a b ∙ put_in old part at at all (omega arith) le new x 0 at (omega arith) (omega arith) (is ∙ first_pushed part x none)
+    ∙ ap (insert old at) (ap cell_of value ∙ (λ i. record { label = label i; source = same i }))
+
+pub is_changed : (old : List Cell) (part new : List (Rc Source Global)) (x : Rc Source Global) (src : Source) (i j at : ℕ) (text : List ℕ) → cells_of part ≡ take (at + 1 - at) (drop at old) → i ≡ at → j ≡ at + 1 → at < length old
+    → new ≡ slice_set part 0 x → x.value ≡ src → src.label ≡ (slice_index_or old at no_cell).label → string_bytes src.text ≡ text → splice old i j (cells_of new) ≡ edited_cells (Change at text) old
+is_changed old part new x src i j at text all a b lt is value label same =
+    same_part old new i j at (at + 1) a b ∙ put_at old part at (at + 1) all (omega arith) (omega arith) new x 0 at (omega arith) (omega arith) is
+    ∙ ap (slice_set old at) (ap cell_of value ∙ (λ i. record { label = label i; source = same i }))
+
+pub is_removed : (old : List Cell) (part new : List (Rc Source Global)) (i j at : ℕ) → cells_of part ≡ take (at + 1 - at) (drop at old) → i ≡ at → j ≡ at + 1 → at < length old → new ≡ remove part 0
+    → splice old i j (cells_of new) ≡ edited_cells (Remove at) old
+is_removed old part new i j at all a b lt is =
+    same_part old new i j at (at + 1) a b ∙ taken_out old part at (at + 1) all (omega arith) (omega arith) new 0 at (omega arith) (omega arith) is
+
+pub is_moved : (old : List Cell) (part mid new : List (Rc Source Global)) (x : Rc Source Global) (i j first behind from to : ℕ) → cells_of part ≡ take (behind - first) (drop first old) → i ≡ first → j ≡ behind → behind ≤ length old
+    → first ≤ from → first ≤ to → from < behind → to < behind → x ≡ slice_index_or part (from - first) x → mid ≡ remove part (from - first) → new ≡ insert mid (to - first) x → splice old i j (cells_of new) ≡ edited_cells (Move from to) old
+is_moved old part mid new x i j first behind from to all a b le from_in to_in from_lt to_lt taken left is =
+    same_part old new i j first behind a b
+    ∙ moved old part first behind all (omega arith) le mid new x (from - first) (to - first) from to (omega arith) (omega arith) (omega arith) (omega arith) taken left is
 
 -- the label and the text of the cell at a place
 pub label_at : (old : List Cell) (xs : List (Rc Source Global)) (x : Rc Source Global) (at : ℕ) → cells_of xs ≡ old → at < length old → x ≡ slice_index_or xs at x → cell_of x.value ≡ slice_index_or old at no_cell
@@ -62,38 +118,72 @@ label_at old xs x at all lt is =
 
 -- ---- what is kept of them
 
-module _ {X : Type 0} (one : X → Record) (b : Book) (d : AreDistinct (labels_of b.cells)) (kept new : List (Option X)) (all : map (option_map one) kept ≡ map (λ r. Some r) (records_of b)) where
-  pub as_many_kept : length kept ≡ length b.cells
-  as_many_kept = sym (length-map kept (option_map one)) ∙ ap length all ∙ length-map (records_of b) (λ r. Some r) ∙ length-map (entries_of b) (record_at b.inputs) ∙ length-entries b.cells b.inputs no_session
+module _ {X : Type 0} (one : X → Record) (b : Book) (kept : List (Option X)) (cells : List (Rc Source Global)) (all : map (option_map one) kept ≡ map (kept_of b) (cells_of cells)) where
+  pub as_many_kept : length kept ≡ length cells
+  as_many_kept = sym (length-map kept (option_map one)) ∙ ap length all ∙ length-map (cells_of cells) (kept_of b) ∙ length-map cells view_of
 
-  pub kept_inserted : (cs : List Cell) (at : ℕ) (text : List ℕ) → cs ≡ edited_cells (Insert at text) b.cells → new ≡ insert kept at None → map (option_map one) new ≡ map (kept_of b) cs
-  kept_inserted cs at text edited is =
-      ap (map (option_map one)) is ∙ map-insert (option_map one) kept at None ∙ ap (λ (rs : List (Option Record)). insert rs at None) all
-      ∙ sym (kept_insert b at text d) ∙ ap (map (kept_of b)) (sym edited)
+  pub kept_in : (ks : List (Option X)) (cs : List (Rc Source Global)) (o : Option X) (x : Rc Source Global) (n : ℕ) → option_map one o ≡ kept_of b (view_of x) → ks ≡ insert kept n o → cs ≡ insert cells n x
+      → map (option_map one) ks ≡ map (kept_of b) (cells_of cs)
+  kept_in ks cs o x n same is put =
+      ap (map (option_map one)) is ∙ map-insert (option_map one) kept n o ∙ ap₂ (λ (rs : List (Option Record)) (r : Option Record). insert rs n r) all same ∙ sym (map-insert (kept_of b) (cells_of cells) n (view_of x))
+      ∙ ap (map (kept_of b)) (sym (map-insert view_of cells n x)) ∙ ap (λ cs. map (kept_of b) (cells_of cs)) (sym put)
 
-  pub kept_changed_to : (cs : List Cell) (at : ℕ) (text : List ℕ) → at < length b.cells → bytes_eq text (slice_index_or b.cells at no_cell).source ≡ false → cs ≡ edited_cells (Change at text) b.cells
-      → new ≡ slice_set kept at None → map (option_map one) new ≡ map (kept_of b) cs
-  kept_changed_to cs at text lt other edited is =
-      ap (map (option_map one)) is ∙ map-slice_set (option_map one) kept at None ∙ ap (λ (rs : List (Option Record)). slice_set rs at None) all
-      ∙ sym (kept_change b at text d lt other) ∙ ap (map (kept_of b)) (sym edited)
+  pub kept_put : (ks : List (Option X)) (cs : List (Rc Source Global)) (o : Option X) (x : Rc Source Global) (n : ℕ) → option_map one o ≡ kept_of b (view_of x) → ks ≡ slice_set kept n o → cs ≡ slice_set cells n x
+      → map (option_map one) ks ≡ map (kept_of b) (cells_of cs)
+  kept_put ks cs o x n same is put =
+      ap (map (option_map one)) is ∙ map-slice_set (option_map one) kept n o ∙ ap₂ (λ (rs : List (Option Record)) (r : Option Record). slice_set rs n r) all same ∙ sym (map-slice_set (kept_of b) (cells_of cells) n (view_of x))
+      ∙ ap (map (kept_of b)) (sym (map-slice_set view_of cells n x)) ∙ ap (λ cs. map (kept_of b) (cells_of cs)) (sym put)
 
-  pub kept_removed : (cs : List Cell) (at : ℕ) → cs ≡ edited_cells (Remove at) b.cells → new ≡ remove kept at → map (option_map one) new ≡ map (kept_of b) cs
-  kept_removed cs at edited is =
-      ap (map (option_map one)) is ∙ map-remove (option_map one) kept at ∙ ap (λ (rs : List (Option Record)). remove rs at) all
-      ∙ sym (kept_remove b at d) ∙ ap (map (kept_of b)) (sym edited)
+  pub kept_out : (ks : List (Option X)) (cs : List (Rc Source Global)) (n : ℕ) → ks ≡ remove kept n → cs ≡ remove cells n → map (option_map one) ks ≡ map (kept_of b) (cells_of cs)
+  kept_out ks cs n is out =
+      ap (map (option_map one)) is ∙ map-remove (option_map one) kept n ∙ ap (λ (rs : List (Option Record)). remove rs n) all ∙ sym (map-remove (kept_of b) (cells_of cells) n)
+      ∙ ap (map (kept_of b)) (sym (map-remove view_of cells n)) ∙ ap (λ cs. map (kept_of b) (cells_of cs)) (sym out)
 
-  pub kept_moved : (cs : List Cell) (from to : ℕ) (mid : List (Option X)) (o : Option X) → from < length b.cells → cs ≡ edited_cells (Move from to) b.cells → o ≡ slice_index_or kept from o → mid ≡ remove kept from
-      → new ≡ insert mid to o → map (option_map one) new ≡ map (kept_of b) cs
-  kept_moved cs from to mid o lt edited taken left is =
-      let long : length kept ≡ length b.cells = as_many_kept in
-      ap (map (option_map one)) is ∙ map-insert (option_map one) mid to o
-      ∙ ap₂ (λ (rs : List (Option Record)) (r : Option Record). insert rs to r)
-      (ap (map (option_map one)) left ∙ map-remove (option_map one) kept from ∙ ap (λ (rs : List (Option Record)). remove rs from) all)
-      (ap (option_map one) taken ∙ sym (map-at (option_map one) kept from o None (omega arith)) ∙ ap (λ (rs : List (Option Record)). slice_index_or rs from None) all)
-      ∙ sym (kept_move b from to d lt) ∙ ap (map (kept_of b)) (sym edited)
+  pub kept_same : (o : Option X) (x : Rc Source Global) (n : ℕ) → n < length cells → o ≡ slice_index_or kept n o → x ≡ slice_index_or cells n x → option_map one o ≡ kept_of b (view_of x)
+  kept_same o x n lt taken is =
+      let many : length kept ≡ length cells = as_many_kept in
+      let long : length (cells_of cells) ≡ length cells = length-map cells view_of in
+      ap (option_map one) taken ∙ sym (map-at (option_map one) kept n o None (omega arith)) ∙ ap (λ (rs : List (Option Record)). slice_index_or rs n None) all ∙ map-at (kept_of b) (cells_of cells) n no_cell None (omega arith)
+      ∙ ap (kept_of b) (map-at view_of cells n x no_cell lt ∙ ap view_of (sym is))
 
-  pub kept_same : map (option_map one) kept ≡ map (kept_of b) b.cells
-  kept_same = all ∙ sym (kept_all b d)
+-- of a new cell nothing is kept
+pub kept_fresh : (b : Book) (x : Rc Source Global) (src : Source) → x.value ≡ src → src.label ≡ fresh_label b.cells → None ≡ kept_of b (view_of x)
+kept_fresh b x src value label = sym (kept_new b (view_of x) (ap (λ n. is_label n b.cells) (ap (λ (s : Source). s.label) value ∙ label) ∙ fresh b.cells))
+
+-- nor of one whose text is another
+pub kept_other : (b : Book) (d : AreDistinct (labels_of b.cells)) (x : Rc Source Global) (src : Source) (at : ℕ) (text : List ℕ) → at < length b.cells → bytes_eq text (slice_index_or b.cells at no_cell).source ≡ false → x.value ≡ src
+    → src.label ≡ (slice_index_or b.cells at no_cell).label → string_bytes src.text ≡ text → None ≡ kept_of b (view_of x)
+kept_other b d x src at text lt differs value label same =
+    sym (ap (kept_of b) (ap cell_of value ∙ (λ i. record { label = label i; source = same i })) ∙ kept_changed b at text d lt differs)
+
+-- ---- by edits
+
+module _ {X : Type 0} (one : X → Record) (b : Book) (kept : List (Option X)) (part : List (Rc Source Global)) (at behind : ℕ) (each : map (option_map one) kept ≡ map (kept_of b) (take (behind - at) (drop at b.cells)))
+    (all : cells_of part ≡ take (behind - at) (drop at b.cells)) (order : at ≤ behind) (le : behind ≤ length b.cells) where
+  pub kept_all : map (option_map one) kept ≡ map (kept_of b) (cells_of part)
+  kept_all = each ∙ ap (map (kept_of b)) (sym all)
+
+  pub kept_long : length kept ≡ behind - at
+  kept_long = as_many_kept one b kept part kept_all ∙ part_long b.cells part at behind all order le
+
+  pub kept_inserted : (ks : List (Option X)) (new : List (Rc Source Global)) (x : Rc Source Global) (src : Source) → behind ≡ at → new ≡ part ++ x ∷ [] → ks ≡ kept ++ None ∷ [] → x.value ≡ src → src.label ≡ fresh_label b.cells
+      → map (option_map one) ks ≡ map (kept_of b) (cells_of new)
+  kept_inserted ks new x src here is put value label =
+      let none : length part ≡ 0 = part_long b.cells part at behind all order le ∙ (let e : behind - at ≡ 0 = omega arith in e) in
+      kept_in one b kept part kept_all ks new None x 0 (kept_fresh b x src value label) (put ∙ first_pushed kept None (as_many_kept one b kept part kept_all ∙ none)) (is ∙ first_pushed part x none)
+
+  pub kept_changed_to : (d : AreDistinct (labels_of b.cells)) (ks : List (Option X)) (new : List (Rc Source Global)) (x : Rc Source Global) (src : Source) (text : List ℕ) → at < length b.cells
+      → bytes_eq text (slice_index_or b.cells at no_cell).source ≡ false → x.value ≡ src → src.label ≡ (slice_index_or b.cells at no_cell).label → string_bytes src.text ≡ text → new ≡ slice_set part 0 x → ks ≡ slice_set kept 0 None
+      → map (option_map one) ks ≡ map (kept_of b) (cells_of new)
+  kept_changed_to d ks new x src text lt differs value label same is put = kept_put one b kept part kept_all ks new None x 0 (kept_other b d x src at text lt differs value label same) put is
+
+  pub kept_removed : (ks : List (Option X)) (new : List (Rc Source Global)) → new ≡ remove part 0 → ks ≡ remove kept 0 → map (option_map one) ks ≡ map (kept_of b) (cells_of new)
+  kept_removed ks new is put = kept_out one b kept part kept_all ks new 0 put is
+
+  pub kept_moved : (less ks : List (Option X)) (mid new : List (Rc Source Global)) (o : Option X) (x : Rc Source Global) (n m : ℕ) → n < length part → o ≡ slice_index_or kept n o → x ≡ slice_index_or part n x → less ≡ remove kept n → mid ≡ remove part n
+      → ks ≡ insert less m o → new ≡ insert mid m x → map (option_map one) ks ≡ map (kept_of b) (cells_of new)
+  kept_moved less ks mid new o x n m lt there taken left out put is =
+      kept_in one b less mid (kept_out one b kept part kept_all less mid n left out) ks new o x m (kept_same one b kept part kept_all o x n lt there taken) put is
 
 -- ---- an edit to the same text
 

@@ -13,7 +13,7 @@ use Rattle.nd_model.specs.Entries.{entry_at, ReadsNoOther, record_at, entries_of
 use Rattle.nd_model.proofs.Lazy.{length-entries}
 use Rattle.nd_model.proofs.Entries.{told_by_records, fresh_at, get_or-records_of, holds_there, replays_there, session_before-next}
 use Rattle.nd_model.specs.Scheduler.{told_of}
-use Rattle.nd_schedule.specs.Runs.{AreVersions}
+use Rattle.nd_schedule.specs.Runs.{AreVersions, IsLast}
 
 pub as_many : {X : Type 0} (view : X → Record) (b : Book) (xs : List X) → map view xs ≡ records_of b → length xs ≡ length b.cells
 as_many view b xs e = sym (length-map xs view) ∙ ap length e ∙ length-map (entries_of b) (record_at b.inputs) ∙ length-entries b.cells b.inputs no_session
@@ -73,3 +73,7 @@ pub bound_next : (b : Book) (d : AreDistinct (labels_of b.cells)) (k : ℕ) (r :
     → ((names : Names) → is_some (lookup n (replayed r.effects.events names)) ≡ unwrap_or last (is_some (lookup n names)))
     → is_some (lookup n (session_before b (k + 1)).names) ≡ unwrap_or last (is_some (lookup n (session_before b k).names))
 bound_next b d k r n last lt is h = ap (λ (s : Session). is_some (lookup n s.names)) (sym (after_replay b d k lt r (session_before b k) is refl)) ∙ h (session_before b k).names
+
+-- the version that is kept behind the last cell
+pub last_there : {X : Type 0} (view : X → Session) (b : Book) (o : Option X) (x : X) → IsLast b (option_map view o) → o ≡ Some x → view x ≡ session_before b (length b.cells)
+last_there view b o x all some = let P : Option Session → Type 0 = λ p. IsLast b p in subst P (ap (option_map view) some) all

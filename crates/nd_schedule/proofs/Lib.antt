@@ -1,4 +1,5 @@
 pub mod Steps
+pub mod Spliced
 pub mod Kept
 pub mod Pass
 pub mod Cut

@@ -1,6 +1,6 @@
 -- A pass over the cells of an edited notebook.
 use Rattle.std.proofs.Common.{◌≡◌, ℕ, zero, suc, ◌+◌, ◌-◌, ◌^◌, ◌<◌, ◌≤◌, ◌⊎◌, min, List, [], ◌∷◌, ◌++◌, length, map, take, drop, get_or, Option, Some, None, IfSome, option_map, refl, sym, ap, ap₂, subst, ◌∙◌, inl, inr, arith, below_more, Global}
-use Rattle.std.proofs.lemmas.List.{get_or-map, length-map, take-append-drop, take_all, take-map, length-append, length-take-le, get_or-take, get_or_append_left, get_or-append_right}
+use Rattle.std.proofs.lemmas.List.{append_assoc, map-append, get_or-map, length-map, take-append-drop, take_all, take-map, drop-map, length-append, length-take-le, get_or-take, get_or_append_left, get_or-append_right}
 use Rattle.nd_model.specs.Session.{Session, no_session}
 use Rattle.nd_model.specs.Reading.{reading}
 use Rattle.nd_model.specs.Cell.{session_after}
@@ -13,6 +13,10 @@ use Rattle.nd_model.specs.Entries.{entry_at, Entry, ended, record_at, entries_of
 use Rattle.nd_model.specs.Stale.{IsStale, AtLeast, kept_of, counted, CountsStale}
 use Rattle.nd_model.proofs.Lazy.{length-entries}
 use Rattle.nd_model.proofs.Entries.{fresh_at, take-entries_of, take-records_of, session_before-next, kept_is_of_run, stale_now, at_least-append, at_least-push}
+use Rattle.nd_model.proofs.EditKept.{kept_all}
+use Rattle.nd_schedule.proofs.Kept.{as_many}
+use Rattle.std.specs.List.{splice}
+use Rattle.nd_schedule.proofs.Spliced.{at_behind, length-splice, splice_back}
 use Rattle.std.specs.declared.rc.Rc.{Rc}
 use Rattle.nd_schedule.specs.declared.source.Source.{Source}
 use Rattle.nd_schedule.specs.Source.{cell_of, cells_of}
@@ -110,6 +114,10 @@ versions_more b vs ws o k all many is grown = subst (AreVersions b) (sym grown) 
 pub length_more : {X : Type 0} (vs ws : List X) (o : X) (k : ℕ) → length vs ≡ k → ws ≡ vs ++ o ∷ [] → length ws ≡ k + 1
 length_more vs ws o k many grown = ap length grown ∙ length-append vs (o ∷ []) ∙ ap (λ n. n + 1) many
 
+-- one more behind others
+pub pushed_behind : {X Y : Type 0} (view : X → Y) (front : List Y) (xs ys : List X) (x : X) → ys ≡ xs ++ x ∷ [] → front ++ map view ys ≡ (front ++ map view xs) ++ view x ∷ []
+pushed_behind view front xs ys x is = ap (λ us. front ++ us) (ap (map view) is ∙ map-append view xs (x ∷ [])) ∙ sym (append_assoc front (map view xs) (view x ∷ []))
+
 pub versions_front : (old new : Book) (at : ℕ) (vs ws : List (Option Session)) → SharesFront at old new → AreVersions old vs → at ≤ length vs → ws ≡ take at vs → AreVersions new ws
 versions_front old new at vs ws shared all few is j lt =
     let long : length ws ≡ at = ap length is ∙ length-take-le at vs few in
@@ -123,9 +131,10 @@ version_made view (Some v) s t h e = h ∙ e
 
 -- ---- shared values
 
--- what the first of these stand for
-pub first_shared : {X R Y : Type 0} (value : R → X) (view : X → Y) (xs ys : List R) (n : ℕ) → map value xs ≡ take n (map value ys) → map (λ x. view (value x)) xs ≡ take n (map (λ x. view (value x)) ys)
-first_shared {X} {R} value view xs ys n e = fuse xs ∙ ap (map view) e ∙ sym (take-map view n (map value ys)) ∙ ap (take n) (sym (fuse ys))
+-- what a part of these stands for
+pub part_shared : {X R Y : Type 0} (value : R → X) (view : X → Y) (xs ys : List R) (n i : ℕ) → map value xs ≡ take n (drop i (map value ys)) → map (λ x. view (value x)) xs ≡ take n (drop i (map (λ x. view (value x)) ys))
+part_shared {X} {R} value view xs ys n i e =
+    fuse xs ∙ ap (map view) e ∙ sym (take-map view n (drop i (map value ys))) ∙ ap (take n) (sym (drop-map view i (map value ys))) ∙ ap (λ us. take n (drop i us)) (sym (fuse ys))
   where
     fuse : (xs : List R) → map (λ x. view (value x)) xs ≡ map view (map value xs)
     fuse [] = refl
@@ -134,35 +143,76 @@ first_shared {X} {R} value view xs ys n e = fuse xs ∙ ap (map view) e ∙ sym 
 pub cell_there : (cells : List (Rc Source Global)) (k : ℕ) (x : Rc Source Global) (src : Source) → k < length cells → x ≡ get_or cells k x → src ≡ x.value → cell_of src ≡ get_or (cells_of cells) k no_cell
 cell_there cells k x src lt is value = ap cell_of (value ∙ ap (λ (y : Rc Source Global). y.value) is) ∙ sym (get_or-map (λ (s : Rc Source Global). cell_of s.value) cells k x no_cell lt)
 
+-- a cell of the list before
+pub old_there : (old : List Cell) (cells : List (Rc Source Global)) (k : ℕ) (x : Rc Source Global) (src : Source) → cells_of cells ≡ old → k < length old → x ≡ get_or cells k x → src ≡ x.value → cell_of src ≡ get_or old k no_cell
+old_there old cells k x src all lt is value =
+    let many : length cells ≡ length old = sym (length-map cells (λ (s : Rc Source Global). cell_of s.value)) ∙ ap length all in
+    cell_there cells k x src (omega arith) is value ∙ ap (λ cs. get_or cs k no_cell) all
+
+-- how many there are where some are put between
+pub length_with : (old : List Cell) (cells ms : List (Rc Source Global)) (i j : ℕ) → cells_of cells ≡ old → i ≤ length old → length (splice old i j (cells_of ms)) ≡ i + length ms + (length cells - j)
+length_with old cells ms i j all le =
+    let many : length (cells_of ms) ≡ length ms = length-map ms (λ (s : Rc Source Global). cell_of s.value) in
+    let same : length cells ≡ length old = sym (length-map cells (λ (s : Rc Source Global). cell_of s.value)) ∙ ap length all in
+    length-splice old (cells_of ms) i j le ∙ (let e : i + length (cells_of ms) + (length old - j) ≡ i + length ms + (length cells - j) = omega arith in e)
+
+-- the cells behind those that are put between
+pub back_with : (old : List Cell) (ms : List (Rc Source Global)) (i j : ℕ) → i ≤ length old → drop j old ≡ drop (i + length ms) (splice old i j (cells_of ms))
+back_with old ms i j le = sym (ap (λ n. drop (i + n) (splice old i j (cells_of ms))) (sym (length-map ms (λ (s : Rc Source Global). cell_of s.value))) ∙ splice_back old (cells_of ms) i j le)
+
+-- a cell behind those that are put between
+pub behind_there : (old : List Cell) (cells : List (Rc Source Global)) (ms : List Cell) (i j k n : ℕ) (x : Rc Source Global) (src : Source) → cells_of cells ≡ old → i ≤ j → j ≤ length old → i ≤ k → length ms ≤ k - i → k < length (splice old i j ms)
+    → n ≡ j + (k - i - length ms) → x ≡ get_or cells n x → src ≡ x.value → cell_of src ≡ get_or (splice old i j ms) k no_cell
+behind_there old cells ms i j k n x src all order le from past lt place is value =
+    let whole : length (splice old i j ms) ≡ i + length ms + (length old - j) = length-splice old ms i j (omega arith) in
+    old_there old cells n x src all (omega arith) is value ∙ ap (λ n. get_or old n no_cell) place ∙ sym (at_behind old ms i j k no_cell (omega arith) from past)
+
 pub kept_at : {X : Type 0} (view : X → Record) (old : Book) (cs : List Cell) (kept : List (Option X)) (k : ℕ) (o : Option X) → k < length cs → map (option_map view) kept ≡ map (kept_of old) cs
     → o ≡ get_or kept k o → option_map view o ≡ kept_of old (get_or cs k no_cell)
 kept_at view old cs kept k o lt all is =
     let many : length kept ≡ length cs = sym (length-map kept (option_map view)) ∙ ap length all ∙ length-map cs (kept_of old) in
     ap (option_map view) is ∙ sym (get_or-map (option_map view) kept k o None (omega arith)) ∙ ap (λ rs. get_or rs k None) all ∙ get_or-map (kept_of old) cs k no_cell None lt
 
+-- what is kept of a cell of the book itself
+pub kept_here : {X : Type 0} (view : X → Record) (b : Book) (d : AreDistinct (labels_of b.cells)) (xs : List X) (x : X) (k : ℕ) → map view xs ≡ records_of b → k < length b.cells → x ≡ get_or xs k x → Some (view x) ≡ kept_of b (get_or b.cells k no_cell)
+kept_here view b d xs x k all lt is =
+    let many : length xs ≡ length b.cells = as_many view b xs all in
+    let long : length (map view xs) ≡ length xs = length-map xs view in
+    sym (sym (get_or-map (kept_of b) b.cells k no_cell None lt) ∙ ap (λ rs. get_or rs k None) (kept_all b d ∙ ap (map (λ r. Some r)) (sym all))
+    ∙ get_or-map (λ r. Some r) (map view xs) k (view x) None (omega arith) ∙ ap (λ r. Some r) (get_or-map view xs k x (view x) (omega arith) ∙ ap view (sym is)))
+
 pub below : (cells : List (Rc Source Global)) (k : ℕ) → k < length cells → k < length (cells_of cells)
 below cells k lt = rw (length-map cells (λ (s : Rc Source Global). cell_of s.value)) lt
 
-pub past : (cells : List (Rc Source Global)) (k : ℕ) → length cells ≤ k → length (cells_of cells) ≤ k
-past cells k le = rw (length-map cells (λ (s : Rc Source Global). cell_of s.value)) le
+module _ {X R Y : Type 0} (value : R → X) (view : X → Y) where
+  one : (o : Option R) → option_map (λ x. view (value x)) o ≡ option_map view (option_map value o)
+  one None = refl
+  one (Some x) = refl
 
--- what all of these stand for, where they are kept
-pub kept_shared : {X R Y : Type 0} (value : R → X) (view : X → Y) (xs : List (Option R)) (ys : List R) → map (option_map value) xs ≡ map (λ y. Some (value y)) ys
-    → map (option_map (λ x. view (value x))) xs ≡ map (λ r. Some r) (map (λ y. view (value y)) ys)
-kept_shared {X} {R} {Y} value view xs ys e = fuse xs ∙ ap (map (option_map view)) e ∙ apart ys
-  where
-    one : (o : Option R) → option_map (λ x. view (value x)) o ≡ option_map view (option_map value o)
-    one None = refl
-    one (Some x) = refl
+  -- one that is kept once more stands for the same
+  pub kept_again : (o p : Option R) → option_map value o ≡ option_map value p → option_map (λ x. view (value x)) o ≡ option_map (λ x. view (value x)) p
+  kept_again o p e = one o ∙ ap (option_map view) e ∙ sym (one p)
 
-    fuse : (xs : List (Option R)) → map (option_map (λ x. view (value x))) xs ≡ map (option_map view) (map (option_map value) xs)
-    fuse [] = refl
-    fuse (x ∷ xs) = ap₂ (λ (y : Option Y) (ys : List (Option Y)). y ∷ ys) (one x) (fuse xs)
+  fuse : (xs : List (Option R)) → map (option_map (λ x. view (value x))) xs ≡ map (option_map view) (map (option_map value) xs)
+  fuse [] = refl
+  fuse (x ∷ xs) = ap₂ (λ (y : Option Y) (ys : List (Option Y)). y ∷ ys) (one x) (fuse xs)
 
-    apart : (ys : List R) → map (option_map view) (map (λ y. Some (value y)) ys) ≡ map (λ r. Some r) (map (λ y. view (value y)) ys)
-    apart [] = refl
-    apart (y ∷ ys) = ap (λ rs. Some (view (value y)) ∷ rs) (apart ys)
+  apart : (ys : List R) → map (option_map view) (map (λ y. Some (value y)) ys) ≡ map (λ r. Some r) (map (λ y. view (value y)) ys)
+  apart [] = refl
+  apart (y ∷ ys) = ap (λ rs. Some (view (value y)) ∷ rs) (apart ys)
 
-pub all_cells : (xs ys : List (Rc Source Global)) (n : ℕ) → map (λ (x : Rc Source Global). x.value) xs ≡ take n (map (λ (x : Rc Source Global). x.value) ys) → length ys ≤ n → cells_of xs ≡ cells_of ys
-all_cells xs ys n e past =
-    first_shared (λ (x : Rc Source Global). x.value) cell_of xs ys n e ∙ take_all n (cells_of ys) (let long : length (cells_of ys) ≡ length ys = length-map ys (λ (x : Rc Source Global). cell_of x.value) in omega arith)
+  -- what these stand for, where they are kept
+  pub kept_shared : (xs : List (Option R)) (ys : List R) → map (option_map value) xs ≡ map (λ y. Some (value y)) ys → map (option_map (λ x. view (value x))) xs ≡ map (λ r. Some r) (map (λ y. view (value y)) ys)
+  kept_shared xs ys e = fuse xs ∙ ap (map (option_map view)) e ∙ apart ys
+
+-- what is kept of a part of the cells of the book
+pub kept_between : (b : Book) (d : AreDistinct (labels_of b.cells)) (kept : List (Option Record)) (part : List Record) (n i : ℕ) → kept ≡ map (λ r. Some r) part → part ≡ take n (drop i (records_of b)) → kept ≡ map (kept_of b) (take n (drop i b.cells))
+kept_between b d kept part n i e is =
+    e ∙ ap (map (λ r. Some r)) is ∙ sym (take-map (λ r. Some r) n (drop i (records_of b))) ∙ ap (take n) (sym (drop-map (λ r. Some r) i (records_of b))) ∙ ap (λ rs. take n (drop i rs)) (sym (kept_all b d))
+    ∙ ap (take n) (drop-map (kept_of b) i b.cells) ∙ take-map (kept_of b) n (drop i b.cells)
+
+pub kept_part_of : {X R : Type 0} (value : R → X) (view : X → Record) (b : Book) (d : AreDistinct (labels_of b.cells)) (kept : List (Option R)) (all : List R) (n i : ℕ) → map (option_map value) kept ≡ map (λ y. Some (value y)) (take n (drop i all))
+    → map (λ y. view (value y)) all ≡ records_of b → map (option_map (λ y. view (value y))) kept ≡ map (kept_of b) (take n (drop i b.cells))
+kept_part_of value view b d kept all n i e is =
+    kept_between b d (map (option_map (λ y. view (value y))) kept) (map (λ y. view (value y)) (take n (drop i all))) n i (kept_shared value view kept (take n (drop i all)) e)
+    (sym (take-map (λ y. view (value y)) n (drop i all)) ∙ ap (take n) (sym (drop-map (λ y. view (value y)) i all)) ∙ ap (λ rs. take n (drop i rs)) is)

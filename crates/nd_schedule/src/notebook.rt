@@ -26,6 +26,7 @@ ghost use Rattle.std.specs.Prelude.{
   take,
   unwrap_or,
 };
+ghost use Rattle.std.specs.List.{splice};
 ghost use Rattle.nd_model.specs.Session.{lookup};
 ghost use Rattle.nd_model.specs.Renaming.{AreDistinct};
 ghost use Rattle.nd_model.specs.Book.{labels_of, no_cell, told_book, Insert, Change, Move, Remove};
@@ -34,15 +35,15 @@ ghost use Rattle.nd_model.specs.Scheduler.{told_of};
 ghost use Rattle.nd_model.specs.Stale.{kept_of, CountsStale};
 ghost use Rattle.nd_model.specs.CutOff.{UnreadRest};
 ghost use Rattle.nd_model.specs.Notebook.{Sheet, inputs_in, book_of, edited_sheet};
-ghost use Rattle.nd_schedule.specs.Source.{sheet, cells_of};
+ghost use Rattle.nd_schedule.specs.Source.{sheet, cell_of, cells_of};
 ghost use Rattle.nd_schedule.specs.Shared.{each_of, each_some, some_of};
-ghost use Rattle.nd_schedule.specs.Runs.{IsMet, IsRun, IsSameAgain, KeepsBehind};
+ghost use Rattle.nd_schedule.specs.Runs.{IsEnd, IsKept, IsMet, IsMiddle, IsSameAgain};
 
 use crate::cells::Cells;
 use crate::labels::fresh_label;
-use crate::shared::{all_kept, first_of, push_behind, push_kept};
+use crate::shared::{make_room, part_of, put_between, records_between, shared_again};
 use crate::source::Source;
-use crate::step::{keep_due, since_last, step};
+use crate::step::{keep, keep_due, since_last, step};
 use nd_meter::Meter;
 use std::alloc::{AllocError, Global};
 use std::marker::Model;
@@ -55,14 +56,19 @@ pub struct Notebook<C: Cells> {
     inputs: C::Inputs,
     records: Vec<Rc<C::Record>>,
     versions: Vec<Option<Rc<C::Version>>>,
+    last: Option<Rc<C::Version>>,
     alloc: Global,
 }
 
-/// What is kept of running all cells: the record of each, and beside some the session before it.
+/// What a pass gives: the records of the cells from the first that is not as before, and beside some the session before it. Behind
+/// them stays what is kept from a place in the present list on. Where the pass came to the end it gives the session there too, and
+/// else that is the same as before.
 #[derive(Drop)]
 struct Runs<C: Cells> {
     records: Vec<Rc<C::Record>>,
     versions: Vec<Option<Rc<C::Version>>>,
+    there: usize,
+    last: Option<Rc<C::Version>>,
 }
 
 /// From these places on, in the present list and in the new one, the cells are the same.
@@ -72,11 +78,20 @@ struct Rest {
     new: usize,
 }
 
-/// A list of cells, and the records that are kept of them.
+/// The cells that take the place of the present ones from one place up to another, each with the record that is kept of it.
 #[derive(Drop)]
-struct Lists<C: Cells> {
+struct Part<C: Cells> {
+    at: usize,
+    behind: usize,
     cells: Vec<Rc<Source>>,
     kept: Vec<Option<Rc<C::Record>>>,
+}
+
+/// A cell, and the record that is kept of it.
+#[derive(Drop)]
+struct Slot<C: Cells> {
+    cell: Rc<Source>,
+    kept: Option<Rc<C::Record>>,
 }
 
 impl<C: Cells> Model for Notebook<C> {
@@ -84,8 +99,9 @@ impl<C: Cells> Model for Notebook<C> {
 
     ghost view = { λ n. sheet (cells_of n.cells.items) (C.given n.inputs) };
 
-    ghost invariant = { λ n. IsRun (book_of (sheet (cells_of n.cells.items) (C.given n.inputs)))
-        (each_of C.recorded n.records.items) (each_some C.kept_session n.versions.items) };
+    ghost invariant = { λ n. IsKept (book_of (sheet (cells_of n.cells.items) (C.given n.inputs)))
+        (each_of C.recorded n.records.items) (each_some C.kept_session n.versions.items)
+        (some_of C.kept_session n.last) };
 }
 
 impl<C: Cells> Notebook<C> {
@@ -98,6 +114,7 @@ impl<C: Cells> Notebook<C> {
             inputs,
             records: Vec::new(alloc),
             versions: Vec::new(alloc),
+            last: None,
             alloc,
         }
     }
@@ -109,11 +126,18 @@ impl<C: Cells> Notebook<C> {
         self.cells.len()
     }
 
-    /// The last place up to this one that has a version, or 0, and the session before it.
+    /// The last place up to this one that has a version, or 0, and the session before it. Behind the last cell that is the place
+    /// itself, where the session there is kept.
     fn nearest(&self, at: usize) -> Result<(usize, C::Session), AllocError>
         ensures { IfOk result
             (λ r. (r.0 ≤ at) × (C.session_of r.1 ≡ session_before (book_of self.now) r.0)) }
     {
+        if at == self.cells.len() {
+            if let Some(version) = &self.last {
+                let session = C::thaw(self.alloc, version)?;
+                return Ok((at, session));
+            }
+        }
         for back in 0..at {
             let k = at - back;
             if k < self.versions.len() {
@@ -218,64 +242,91 @@ impl<C: Cells> Notebook<C> {
         false
     }
 
-    /// What is kept behind these first records is what was kept from the place there on.
-    fn cut_off(
-        &self,
-        records: Vec<Rc<C::Record>>,
-        versions: Vec<Option<Rc<C::Version>>>,
-        there: usize,
-    ) -> Result<Runs<C>, AllocError>
-        requires { there ≤ length self.now.cells }
-        ensures records { IfOk result
-            (λ r. each_of C.recorded r.records.items ≡ each_of C.recorded records.items
-            ++ drop there (records_of (book_of self.now))) }
-        ensures versions { IfOk result
-            (λ r. KeepsBehind (book_of self.now) there (each_some C.kept_session versions.items)
-            (each_some C.kept_session r.versions.items)) }
+    /// The cell of the new list at a place behind the first that is not as before, and the record that is kept of it.
+    fn slot(&self, part: &Part<C>, k: usize) -> Result<Slot<C>, AllocError>
+        requires few { length self.now.cells < 2 ^ 64 }
+        requires from { part.now.at ≤ k }
+        requires within { k < length (splice self.now.cells part.now.at part.now.behind
+            (cells_of part.now.cells.items)) }
+        requires order { part.now.at ≤ part.now.behind }
+        requires behind { part.now.behind ≤ length self.now.cells }
+        requires kept { map (some_of C.recorded) part.now.kept.items
+            ≡ map (kept_of (book_of self.now)) (cells_of part.now.cells.items) }
+        ensures cell { IfOk result (λ s. cell_of s.cell.value
+            ≡ slice_index_or (splice self.now.cells part.now.at part.now.behind
+            (cells_of part.now.cells.items)) k no_cell) }
+        ensures kept { IfOk result (λ s. some_of C.recorded s.kept
+            ≡ kept_of (book_of self.now) (cell_of s.cell.value)) }
     {
-        let mut records = records;
-        let mut versions = versions;
-        push_behind(&mut records, &self.records, there)?;
-        push_kept(&mut versions, &self.versions, there, self.versions.len())?;
-        Ok(Runs { records, versions })
+        let place = k - part.at;
+        if place < part.cells.len() {
+            let cell = part.cells[place].clone()?;
+            let kept = shared_again(&part.kept[place])?;
+            return Ok(Slot { cell, kept });
+        }
+        let place = part.behind + (place - part.cells.len());
+        let cell = self.cells[place].clone()?;
+        let kept = self.records[place].clone()?;
+        Ok(Slot {
+            cell,
+            kept: Some(kept),
+        })
     }
 
-    /// Runs the cells of the new list from a place on, before which it is as the present one, and runs no more than are stale.
-    /// Where the session is met that was before, behind which the cells are the same, it stops.
+    /// Runs the cells of the new list from the first that is not as before, and runs no more than are stale. Where the session is
+    /// met that was before, behind which the cells are the same, it stops.
     fn pass(
         &self,
         meter: &mut Meter,
-        cells: &[Rc<Source>],
         inputs: &C::Inputs,
-        kept: &[Option<Rc<C::Record>>],
-        at: usize,
-        rest: &Rest,
+        part: &Part<C>,
     ) -> Result<Runs<C>, AllocError>
-        requires within { at ≤ length self.now.cells }
-        requires within_new { at ≤ length cells.now }
-        requires rest_within { rest.now.old ≤ length self.now.cells }
-        requires rest { UnreadRest rest.now.old rest.now.new (book_of self.now)
-            (book_of (sheet (cells_of cells.now) (C.given inputs.now))) }
-        requires front { SharesFront at (book_of self.now)
-            (book_of (sheet (cells_of cells.now) (C.given inputs.now))) }
-        requires kept { map (some_of C.recorded) kept.now
-            ≡ map (kept_of (book_of self.now)) (cells_of cells.now) }
-        requires distinct { AreDistinct (labels_of (cells_of cells.now)) }
-        ensures ok { IfOk result
-            (λ r. IsRun (book_of (sheet (cells_of cells.now) (C.given inputs.now)))
+        requires order { part.now.at ≤ part.now.behind }
+        requires behind { part.now.behind ≤ length self.now.cells }
+        requires rest { UnreadRest part.now.behind
+            (part.now.at + length part.now.cells.items) (book_of self.now)
+            (book_of (sheet (splice self.now.cells part.now.at part.now.behind
+            (cells_of part.now.cells.items)) (C.given inputs.now))) }
+        requires front { SharesFront part.now.at (book_of self.now)
+            (book_of (sheet (splice self.now.cells part.now.at part.now.behind
+            (cells_of part.now.cells.items)) (C.given inputs.now))) }
+        requires kept { map (some_of C.recorded) part.now.kept.items
+            ≡ map (kept_of (book_of self.now)) (cells_of part.now.cells.items) }
+        requires distinct { AreDistinct (labels_of (splice self.now.cells part.now.at
+            part.now.behind (cells_of part.now.cells.items))) }
+        ensures ok { IfOk result (λ r. IsMiddle (book_of self.now)
+            (book_of (sheet (splice self.now.cells part.now.at part.now.behind
+            (cells_of part.now.cells.items)) (C.given inputs.now))) part.now.at r.there
             (each_of C.recorded r.records.items) (each_some C.kept_session r.versions.items)) }
+        ensures end { IfOk result (λ r. IsEnd (book_of self.now)
+            (book_of (sheet (splice self.now.cells part.now.at part.now.behind
+            (cells_of part.now.cells.items)) (C.given inputs.now)))
+            (some_of C.kept_session r.last)) }
+        ensures order { IfOk result (λ r. part.now.at ≤ r.there) }
+        ensures there { IfOk result (λ r. r.there ≤ length self.now.cells) }
         ensures counts { CountsStale (book_of self.now)
-            (book_of (sheet (cells_of cells.now) (C.given inputs.now))) meter.old meter.new }
+            (book_of (sheet (splice self.now.cells part.now.at part.now.behind
+            (cells_of part.now.cells.items)) (C.given inputs.now))) meter.old meter.new }
     {
-        let mut records = first_of(self.alloc, &self.records, at)?;
+        let mut records = Vec::new(self.alloc);
         let mut versions = Vec::new(self.alloc);
-        push_kept(&mut versions, &self.versions, 0, at)?;
-        if self.goes_unseen(rest, at) {
-            return self.cut_off(records, versions, rest.old);
+        let at = part.at;
+        let rest = Rest {
+            old: part.behind,
+            new: at + part.cells.len(),
+        };
+        if self.goes_unseen(&rest, at) {
+            let there = rest.old;
+            return Ok(Runs {
+                records,
+                versions,
+                there,
+                last: None,
+            });
         }
         let mut session = self.session_before(at)?;
-        let mut since = since_last(&versions);
-        for k in at..cells.len() {
+        let mut since = since_last(&self.versions[..at]);
+        for k in at..rest.new + (self.cells.len() - rest.old) {
             let version = keep_due::<C>(self.alloc, &mut session, k, since)?;
             since = if version.is_some() {
                 1
@@ -283,57 +334,94 @@ impl<C: Cells> Notebook<C> {
                 since.saturating_add(1)
             };
             versions.push(version)?;
-            let made = step::<C>(self.alloc, meter, &mut session, inputs, &cells[k], &kept[k])?;
-            let met = self.met(rest, at, k, &made, &session);
+            let slot = self.slot(part, k)?;
+            let made = step::<C>(
+                self.alloc,
+                meter,
+                &mut session,
+                inputs,
+                &slot.cell,
+                &slot.kept,
+            )?;
+            let met = self.met(&rest, at, k, &made, &session);
             records.push(made)?;
             if let Some(there) = met {
-                return self.cut_off(records, versions, there);
+                return Ok(Runs {
+                    records,
+                    versions,
+                    there,
+                    last: None,
+                });
             }
         }
-        Ok(Runs { records, versions })
+        let last = Some(keep::<C>(self.alloc, &mut session)?);
+        let there = self.cells.len();
+        Ok(Runs {
+            records,
+            versions,
+            there,
+            last,
+        })
     }
 
-    /// The present cells, each with its record.
-    fn lists(&self) -> Result<Lists<C>, AllocError>
-        ensures cells { IfOk result (λ l. cells_of l.cells.items ≡ self.now.cells) }
-        ensures kept { IfOk result
-            (λ l. map (some_of C.recorded) l.kept.items
-            ≡ map (λ r. Some r) (records_of (book_of self.now))) }
-        ensures distinct { OnOk result (AreDistinct (labels_of self.now.cells)) }
-    {
-        let cells = first_of(self.alloc, &self.cells, self.cells.len())?;
-        let kept = all_kept(self.alloc, &self.records)?;
-        Ok(Lists { cells, kept })
-    }
-
-    /// Puts these cells in the place of the present ones, which are the same up to a place, and those of the rest. Where it is
-    /// refused nothing changes.
-    fn replace(
-        &mut self,
-        meter: &mut Meter,
-        lists: Lists<C>,
-        at: usize,
-        rest: Rest,
-    ) -> Result<(), AllocError>
-        requires within { at ≤ length self.old.cells }
-        requires within_new { at ≤ length lists.cells.items }
-        requires rest_within { rest.old ≤ length self.old.cells }
-        requires rest { drop rest.old self.old.cells ≡ drop rest.new (cells_of lists.cells.items) }
-        requires front { take at self.old.cells ≡ take at (cells_of lists.cells.items) }
-        requires kept { map (some_of C.recorded) lists.kept.items
-            ≡ map (kept_of (book_of self.old)) (cells_of lists.cells.items) }
-        requires distinct { AreDistinct (labels_of (cells_of lists.cells.items)) }
-        ensures ok { OnOk result (self.new ≡ sheet (cells_of lists.cells.items) self.old.given) }
+    /// Puts these cells in the place of the present ones between two places. Where it is refused nothing changes.
+    fn replace(&mut self, meter: &mut Meter, part: Part<C>) -> Result<(), AllocError>
+        requires order { part.at ≤ part.behind }
+        requires behind { part.behind ≤ length self.old.cells }
+        requires kept { map (some_of C.recorded) part.kept.items
+            ≡ map (kept_of (book_of self.old)) (cells_of part.cells.items) }
+        requires distinct { AreDistinct (labels_of (splice self.old.cells part.at part.behind
+            (cells_of part.cells.items))) }
+        ensures ok { OnOk result (self.new ≡ sheet (splice self.old.cells part.at part.behind
+            (cells_of part.cells.items)) self.old.given) }
         ensures err { OnErr result (self.new ≡ self.old) }
         ensures counts { CountsStale (book_of self.old)
-            (book_of (sheet (cells_of lists.cells.items) self.old.given)) meter.old meter.new }
+            (book_of (sheet (splice self.old.cells part.at part.behind
+            (cells_of part.cells.items)) self.old.given)) meter.old meter.new }
     {
-        let Lists { cells, kept } = lists;
-        let Runs { records, versions } = self.pass(meter, &cells, &self.inputs, &kept, at, &rest)?;
-        self.cells = cells;
-        self.records = records;
-        self.versions = versions;
+        let Runs {
+            records,
+            versions,
+            there,
+            last,
+        } = self.pass(meter, &self.inputs, &part)?;
+        let Part {
+            at,
+            behind,
+            cells,
+            kept: _kept,
+        } = part;
+        make_room(&mut self.cells, at, behind, cells.len())?;
+        make_room(&mut self.records, at, there, records.len())?;
+        make_room(&mut self.versions, at, there, versions.len())?;
+        put_between(&mut self.cells, at, behind, cells);
+        put_between(&mut self.records, at, there, records);
+        put_between(&mut self.versions, at, there, versions);
+        self.last = last.or(self.last.take());
         Ok(())
+    }
+
+    /// The present cells from one place up to another, each with its record.
+    fn part(&self, at: usize, behind: usize) -> Result<Part<C>, AllocError>
+        requires order { at ≤ behind }
+        requires behind { behind ≤ length self.now.cells }
+        ensures at { IfOk result (λ l. l.at ≡ at) }
+        ensures behind { IfOk result (λ l. l.behind ≡ behind) }
+        ensures cells { IfOk result
+            (λ l. cells_of l.cells.items ≡ take (behind - at) (drop at self.now.cells)) }
+        ensures kept { IfOk result
+            (λ l. map (some_of C.recorded) l.kept.items
+            ≡ map (kept_of (book_of self.now)) (take (behind - at) (drop at self.now.cells))) }
+        ensures distinct { AreDistinct (labels_of self.now.cells) }
+    {
+        let cells = part_of(self.alloc, &self.cells, at, behind)?;
+        let kept = records_between(self.alloc, &self.records, at, behind)?;
+        Ok(Part {
+            at,
+            behind,
+            cells,
+            kept,
+        })
     }
 }
 
@@ -346,17 +434,13 @@ impl<C: Cells> Notebook<C> {
         ensures counts { CountsStale (book_of self.old)
             (book_of (edited_sheet (Insert at text.now) self.old)) meter.old meter.new }
     {
-        let mut lists = self.lists()?;
-        let label = fresh_label(self.alloc, &lists.cells)?;
+        let label = fresh_label(self.alloc, &self.cells)?;
         let text = String::from_str(self.alloc, text)?;
         let cell = Rc::new(self.alloc, Source { label, text })?;
-        lists.cells.insert(at, cell)?;
-        lists.kept.insert(at, None)?;
-        let rest = Rest {
-            old: at,
-            new: at + 1,
-        };
-        self.replace(meter, lists, at, rest)
+        let mut part = self.part(at, at)?;
+        part.cells.push(cell)?;
+        part.kept.push(None)?;
+        self.replace(meter, part)
     }
 
     /// Gives the cell at the place another text. It is refused for want of memory alone.
@@ -370,16 +454,13 @@ impl<C: Cells> Notebook<C> {
         if text == self.cells[at].text.as_str() {
             return Ok(());
         }
-        let mut lists = self.lists()?;
         let label = self.cells[at].label;
         let text = String::from_str(self.alloc, text)?;
-        lists.cells[at] = Rc::new(self.alloc, Source { label, text })?;
-        lists.kept[at] = None;
-        let rest = Rest {
-            old: at + 1,
-            new: at + 1,
-        };
-        self.replace(meter, lists, at, rest)
+        let cell = Rc::new(self.alloc, Source { label, text })?;
+        let mut part = self.part(at, at + 1)?;
+        part.cells[0] = cell;
+        part.kept[0] = None;
+        self.replace(meter, part)
     }
 
     /// Moves the cell at the first place, so that it stands at the second afterwards. It is refused for want of memory alone.
@@ -391,17 +472,15 @@ impl<C: Cells> Notebook<C> {
         ensures counts { CountsStale (book_of self.old)
             (book_of (edited_sheet (Move from to) self.old)) meter.old meter.new }
     {
-        let mut lists = self.lists()?;
-        let cell = lists.cells.remove(from);
-        let kept = lists.kept.remove(from);
-        lists.cells.insert(to, cell)?;
-        lists.kept.insert(to, kept)?;
-        let behind = from.max(to) + 1;
-        let rest = Rest {
-            old: behind,
-            new: behind,
-        };
-        self.replace(meter, lists, from.min(to), rest)
+        let first = from.min(to);
+        let last = from.max(to);
+        prove!(last < self.count());
+        let mut part = self.part(first, last + 1)?;
+        let cell = part.cells.remove(from - first);
+        let kept = part.kept.remove(from - first);
+        part.cells.insert(to - first, cell)?;
+        part.kept.insert(to - first, kept)?;
+        self.replace(meter, part)
     }
 
     /// Takes the cell at the place out. It is refused for want of memory alone.
@@ -412,14 +491,11 @@ impl<C: Cells> Notebook<C> {
         ensures counts { CountsStale (book_of self.old)
             (book_of (edited_sheet (Remove at) self.old)) meter.old meter.new }
     {
-        let mut lists = self.lists()?;
-        let _cell = lists.cells.remove(at);
-        let _kept = lists.kept.remove(at);
-        let rest = Rest {
-            old: at + 1,
-            new: at,
-        };
-        self.replace(meter, lists, at, rest)
+        prove!(at < self.count());
+        let mut part = self.part(at, at + 1)?;
+        let _cell = part.cells.remove(0);
+        let _kept = part.kept.remove(0);
+        self.replace(meter, part)
     }
 
     /// The place of the first cell that read an input that is changed, or behind the last one.
@@ -458,17 +534,21 @@ impl<C: Cells> Notebook<C> {
         ensures counts { CountsStale (book_of self.old)
             (book_of (sheet self.old.cells (C.given inputs))) meter.old meter.new }
     {
-        let kept = all_kept(self.alloc, &self.records)?;
         let at = self.first_reader(&inputs);
-        let behind = self.unread_from(&inputs);
-        let rest = Rest {
-            old: behind,
-            new: behind,
-        };
-        let Runs { records, versions } = self.pass(meter, &self.cells, &inputs, &kept, at, &rest)?;
+        let behind = self.unread_from(&inputs).max(at);
+        let part = self.part(at, behind)?;
+        let Runs {
+            records,
+            versions,
+            there,
+            last,
+        } = self.pass(meter, &inputs, &part)?;
+        make_room(&mut self.records, at, there, records.len())?;
+        make_room(&mut self.versions, at, there, versions.len())?;
+        put_between(&mut self.records, at, there, records);
+        put_between(&mut self.versions, at, there, versions);
+        self.last = last.or(self.last.take());
         self.inputs = inputs;
-        self.records = records;
-        self.versions = versions;
         Ok(())
     }
 }
@@ -505,7 +585,7 @@ impl<C: Cells> Notebook<C> {
     }
 
     /// What the run of the cell at the place gave. It takes no memory.
-    pub fn made(&self, at: usize) -> &C::Record
+    pub fn record_at(&self, at: usize) -> &C::Record
         requires { at < length self.now.cells }
         ensures { slice_get (told_book (book_of self.now)) at
             ≡ Some (told_of (C.recorded result.now) (session_before (book_of self.now) (at + 1))) }

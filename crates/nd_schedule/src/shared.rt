@@ -1,57 +1,60 @@
 //! Lists of shared values.
 
-ghost use Rattle.std.specs.Prelude.{◌≡◌, ◌≤◌, ◌-◌, ◌++◌, IfOk, OnOk, drop, length, map, option_map, take};
+ghost use Rattle.std.specs.Prelude.{
+  ◌≡◌,
+  ◌≤◌,
+  ◌+◌,
+  ◌-◌,
+  IfOk,
+  OnOk,
+  drop,
+  length,
+  map,
+  option_map,
+  take,
+};
+ghost use Rattle.std.specs.List.{splice};
+ghost use Rattle.std.specs.Vec.{vec_capacity};
 
 use std::alloc::{AllocError, Global};
 use std::rc::Rc;
 
-/// The first of these, as many as are asked for.
-pub(crate) fn first_of<T: Drop>(
+/// Those of these from one place up to another.
+pub(crate) fn part_of<T: Drop>(
     alloc: Global,
     all: &[Rc<T>],
-    count: usize,
+    from: usize,
+    to: usize,
 ) -> Result<Vec<Rc<T>>, AllocError>
-    requires { count ≤ length all.now }
-    ensures { IfOk result
-        (λ v. map (λ x. x.value) v.items ≡ take count (map (λ x. x.value) all.now)) }
+    requires from { from ≤ to }
+    requires to { to ≤ length all.now }
+    ensures { IfOk result (λ v. map (λ x. x.value) v.items
+        ≡ take (to - from) (drop from (map (λ x. x.value) all.now))) }
 {
-    let mut first = Vec::new(alloc);
-    for x in &all[..count] {
-        first.push(x.clone()?)?;
+    let mut part = Vec::new(alloc);
+    for x in &all[from..to] {
+        part.push(x.clone()?)?;
     }
-    Ok(first)
+    Ok(part)
 }
 
-/// Each of these, kept.
-pub(crate) fn all_kept<T: Drop>(
+/// Those of these from one place up to another, each kept.
+pub(crate) fn records_between<T: Drop>(
     alloc: Global,
     all: &[Rc<T>],
+    from: usize,
+    to: usize,
 ) -> Result<Vec<Option<Rc<T>>>, AllocError>
-    ensures { IfOk result
-        (λ v. map (option_map (λ x. x.value)) v.items ≡ map (λ x. Some x.value) all.now) }
+    requires from { from ≤ to }
+    requires to { to ≤ length all.now }
+    ensures { IfOk result (λ v. map (option_map (λ x. x.value)) v.items
+        ≡ map (λ x. Some x.value) (take (to - from) (drop from all.now))) }
 {
     let mut kept = Vec::new(alloc);
-    for x in all {
+    for x in &all[from..to] {
         kept.push(Some(x.clone()?))?;
     }
     Ok(kept)
-}
-
-/// Puts those from a place on behind the others.
-pub(crate) fn push_behind<T: Drop>(
-    list: &mut Vec<Rc<T>>,
-    all: &[Rc<T>],
-    from: usize,
-) -> Result<(), AllocError>
-    requires { from ≤ length all.now }
-    ensures { OnOk result
-        (map (λ x. x.value) list.new.items ≡ map (λ x. x.value) list.old.items
-        ++ drop from (map (λ x. x.value) all.now)) }
-{
-    for x in &all[from..] {
-        list.push(x.clone()?)?;
-    }
-    Ok(())
 }
 
 /// A shared value once more, where there is one.
@@ -64,22 +67,33 @@ pub(crate) fn shared_again<T: Drop>(one: &Option<Rc<T>>) -> Result<Option<Rc<T>>
     }
 }
 
-/// Puts as many more of these, from a place on, behind the others.
-pub(crate) fn push_kept<T: Drop>(
-    list: &mut Vec<Option<Rc<T>>>,
-    all: &[Option<Rc<T>>],
+/// Makes room for so many in the place of those from one place up to another.
+pub(crate) fn make_room<T: Drop>(
+    list: &mut Vec<T>,
     from: usize,
     to: usize,
+    count: usize,
 ) -> Result<(), AllocError>
-    requires from { from ≤ to }
-    requires to { to ≤ length all.now }
-    ensures { OnOk result
-        (map (option_map (λ x. x.value)) list.new.items
-        ≡ map (option_map (λ x. x.value)) list.old.items
-        ++ take (to - from) (drop from (map (option_map (λ x. x.value)) all.now))) }
+    requires { from ≤ to }
+    ensures same { list.new.items ≡ list.old.items }
+    ensures room { OnOk result
+        (length list.old.items + count ≤ vec_capacity list.new + (to - from)) }
 {
-    for x in &all[from..to] {
-        list.push(shared_again(x)?)?;
-    }
-    Ok(())
+    list.reserve(count.saturating_sub(to - from))
+}
+
+/// Puts these in the place of those from one place up to another. It takes no memory, since there is room.
+pub(crate) fn put_between<T: Drop>(list: &mut Vec<T>, from: usize, to: usize, middle: Vec<T>)
+    requires from { from ≤ to }
+    requires to { to ≤ length list.old.items }
+    requires room { length list.old.items + length middle.items
+        ≤ vec_capacity list.old + (to - from) }
+    ensures { list.new.items ≡ splice list.old.items from to middle.items }
+{
+    let mut middle = middle;
+    let behind = list.len() - to;
+    list.rotate_left(to);
+    list.truncate(behind + from);
+    let _room = list.append(&mut middle);
+    list.rotate_left(behind);
 }

@@ -21,6 +21,18 @@ const APART: usize = 32;
 /// a few times as many names as its last session, where there might be one for each cell and each name.
 const FOR_ONE: usize = 16;
 
+/// Keeps the session.
+pub(crate) fn keep<C: Cells>(
+    alloc: Global,
+    session: &mut C::Session,
+) -> Result<Rc<C::Version>, AllocError>
+    ensures same { C.session_of session.new ≡ C.session_of session.old }
+    ensures kept { IfOk result (λ v. C.kept_session v.value ≡ C.session_of session.old) }
+{
+    let version = C::freeze(session)?;
+    Ok(Rc::new(alloc, version)?)
+}
+
 /// Keeps the session before the cell at the place, if there are enough cells since the last version.
 pub(crate) fn keep_due<C: Cells>(
     alloc: Global,
@@ -35,8 +47,7 @@ pub(crate) fn keep_due<C: Cells>(
     if since < APART.max(at / FOR_ONE) {
         return Ok(None);
     }
-    let version = C::freeze(session)?;
-    Ok(Some(Rc::new(alloc, version)?))
+    Ok(Some(keep::<C>(alloc, session)?))
 }
 
 /// How many cells there are since the last version.

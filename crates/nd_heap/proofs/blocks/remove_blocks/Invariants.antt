@@ -1,8 +1,11 @@
-use Rattle.std.proofs.Common.{◌≡◌, cond, take, []}
+use Rattle.std.proofs.Common.{◌≡◌, ◌&&◌, not, cond, take, []}
 use Rattle.nd_model.specs.Value as values
 use Rattle.nd_heap.specs.Contents.{bases_of, blocks_of}
+use Rattle.nd_heap.specs.Layers.{is_block_among}
 use Rattle.nd_heap.specs.Live.{bytes_at, is_base_among}
 use Rattle.nd_heap.proofs.blocks.remove_blocks.Given as goal
 
 abbrev pub invariant-loop-i : goal.invariant-loop-i
-invariant-loop-i l = (b : values.Base) → bytes_at (blocks_of l.blocks.entries) b ≡ cond (is_base_among (bases_of (take l.i l.bases.entries)) b) [] (bytes_at (blocks_of l.fn.blocks.entries) b)
+invariant-loop-i l =
+    ((b : values.Base) → bytes_at (blocks_of l.blocks.entries) b ≡ cond (is_base_among (bases_of (take l.i l.bases.entries)) b) [] (bytes_at (blocks_of l.fn.blocks.entries) b))
+    × ((b : values.Base) → is_block_among (blocks_of l.blocks.entries) b ≡ (is_block_among (blocks_of l.fn.blocks.entries) b && not (is_base_among (bases_of (take l.i l.bases.entries)) b)))

@@ -20,7 +20,7 @@ returns-clause-events c = c.in_ok-events.ensures ∙ ap (map event_of) c.deref-2
 pub returns-clause-bases : goal.returns-clause-bases
 returns-clause-bases c = λ b.
     let i = c.trace.inside in
-    let blocks = blocks_of c.args.blocks.now.entries in
+    let blocks = c.args.heap.now.blocks in
     let r : running.Running = running_of (traced (seen_in i) [] blocks 0) in
     let kept : Base → Bool = is_base_among (bases_of c.note_marked.new.bases.entries) in
     let own : Base → Bool = is_base_among (bases_of c.in_ok-bases.bases.entries) in
@@ -34,7 +34,7 @@ returns-clause-bases c = λ b.
 pub returns-clause-writes : goal.returns-clause-writes
 returns-clause-writes c = λ b p.
     let i = c.trace.inside in
-    let blocks = blocks_of c.args.blocks.now.entries in
+    let blocks = c.args.heap.now.blocks in
     let r : running.Running = running_of (traced (seen_in i) [] blocks 0) in
     let kept : Base → Bool = is_base_among (bases_of c.note_marked.new.bases.entries) in
     let own : Base → Bool = is_base_among (bases_of c.in_ok-bases.bases.entries) in

@@ -1,4 +1,4 @@
-use Rattle.std.proofs.Common.{◌≡◌, Option, Bool, Some, List, true, false, bytes_eq, map, take, subst, sym, ap, ◌∙◌}
+use Rattle.std.proofs.Common.{◌≡◌, Some, List, true, false, bytes_eq, map, take, subst, sym, ap, ◌∙◌}
 use Rattle.nd_model.specs.Running as running
 use Rattle.nd_heap.specs.Events.{event_of, name_of_event}
 use Rattle.nd_heap.proofs.Last.{IsLast, events_more, last_is, last_stays}

@@ -1,4 +1,4 @@
-use Rattle.std.proofs.Common.{◌≡◌, ◌-◌, ◌+◌, sym, ◌∙◌, ap, ◌||◌, drop, true, false, arith}
+use Rattle.std.proofs.Common.{◌≡◌, ◌-◌, ◌+◌, sym, ◌∙◌, ap, ◌||◌, drop, arith}
 use Rattle.nd_model.specs.Session as model
 use Rattle.nd_model.specs.Value as values
 use Rattle.nd_heap.specs.Values.{base_of, names_of, value_of}

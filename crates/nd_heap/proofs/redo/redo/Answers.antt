@@ -1,12 +1,11 @@
 use Rattle.std.proofs.Common.{◌∙◌, ap, subst, sym, map}
 use Rattle.nd_model.specs.Session as session
 use Rattle.nd_model.specs.Running as running
-use Rattle.nd_model.specs.Footprint.{replayed, patched, HasNone}
+use Rattle.nd_model.specs.Footprint.{replayed, HasNone}
 use Rattle.nd_heap.specs.Changes.{ChangesData, changed}
 use Rattle.nd_heap.specs.Contents.{blocks_of, marks_of}
 use Rattle.nd_heap.specs.Events.{event_of}
 use Rattle.nd_heap.specs.Live.{bytes_at, is_marked}
-use Rattle.nd_heap.specs.Patching.{writes_of}
 use Rattle.nd_heap.proofs.Redoing.{redone}
 use Rattle.nd_heap.proofs.redo.redo.Goals as goal
 

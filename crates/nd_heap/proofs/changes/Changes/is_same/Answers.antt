@@ -1,4 +1,4 @@
-use Rattle.std.proofs.Common.{◌≡◌, ◌∙◌, ap, map, sym}
+use Rattle.std.proofs.Common.{◌∙◌, ap, map, sym}
 use Rattle.nd_heap.specs.Changes.{ChangesData, bases_in, writes_in}
 use Rattle.nd_heap.specs.Contents.{blocks_of, marks_of}
 use Rattle.nd_heap.specs.Events.{event_of}

@@ -20,11 +20,11 @@ returns-clause-events c = c.in_ok-changes.ensures.events ∙ ap (λ (t : Seen). 
 pub returns-clause-bases : goal.returns-clause-bases
 unfolding live
 returns-clause-bases c = λ b. c.in_ok-changes.ensures.bases b
-    ∙ (λ i. (effects_over (c.seen.ensures i) (c.blocks-2.ensures i)).bases b)
+    ∙ ap (λ (t : Seen). (effects_over t c.session.inside.heap.blocks).bases b) c.seen.ensures
     ∙ ap (λ (s : State). (effects_over (seen_of c.args.session.now) s.blocks).bases b) c.session.view_is
 
 pub returns-clause-writes : goal.returns-clause-writes
 unfolding live
 returns-clause-writes c = λ b p. c.in_ok-changes.ensures.writes b p
-    ∙ (λ i. (effects_over (c.seen.ensures i) (c.blocks-2.ensures i)).writes b p)
+    ∙ ap (λ (t : Seen). (effects_over t c.session.inside.heap.blocks).writes b p) c.seen.ensures
     ∙ ap (λ (s : State). (effects_over (seen_of c.args.session.now) s.blocks).writes b p) c.session.view_is

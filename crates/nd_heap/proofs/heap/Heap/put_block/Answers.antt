@@ -1,7 +1,7 @@
 use Rattle.std.proofs.Common.{◌∙◌, ap}
-use Rattle.nd_heap.specs.Contents.{bases_of, blocks_of}
+use Rattle.nd_heap.specs.Contents.{bases_of}
 use Rattle.nd_heap.specs.Live.{is_base_among}
-use Rattle.nd_heap.specs.Values.{base_of, names_of}
+use Rattle.nd_heap.specs.Values.{base_of}
 use Rattle.nd_heap.proofs.Bases.{at_err}
 use Rattle.nd_heap.proofs.Held.{base-insert}
 use Rattle.nd_heap.proofs.Loosening.{more_loose, no_part, put_loose, same_loose}
@@ -10,16 +10,16 @@ use Rattle.nd_heap.proofs.heap.Heap.put_block.Goals as goal
 
 pub invariant_of-self-in_err-put_block : goal.invariant_of-self-in_err-put_block
 invariant_of-self-in_err-put_block c =
-    let names = names_of c.self.inside.names.value.entries in
-    let old = blocks_of c.self.inside.blocks.value.entries in
+    let names = c.self.inside.names in
+    let old = c.self.inside.blocks in
     let was = bases_of c.self.inside.loose.entries in
     let loose = bases_of c.insert.new.self.entries in
-    same_loose names names old (blocks_of c.put_block.new.blocks.value.entries) loose refl (at_err _ _ c.in_err-put_block.was c.put_block.ensures.err)
+    same_loose names names old c.put_block.new.self loose refl (at_err _ _ c.in_err-put_block.was c.put_block.ensures.err)
     (more_loose names old was loose (λ b free. (no_part _ _ (sym (ap (λ es. is_base_among (bases_of es) b) c.in_ok-insert.ensures.entries ∙ base-insert c.args.base c.self.inside.loose.entries b) ∙ free)).0) c.self.invariant)
 
 pub invariant_of-self-2 : goal.invariant_of-self-2
 invariant_of-self-2 c =
-    put_loose (base_of c.args.base) c.args.block.value (names_of c.self.inside.names.value.entries) (blocks_of c.self.inside.blocks.value.entries) (blocks_of c.put_block.new.blocks.value.entries)
+    put_loose (base_of c.args.base) c.args.block.value c.self.inside.names c.self.inside.blocks c.put_block.new.self
     (bases_of c.self.inside.loose.entries) (bases_of c.insert.new.self.entries)
     (λ b. ap (λ es. is_base_among (bases_of es) b) c.in_ok-insert.ensures.entries ∙ base-insert c.args.base c.self.inside.loose.entries b)
     c.in_ok-put_block.ensures.ok c.self.invariant

@@ -1,11 +1,9 @@
 use Rattle.std.proofs.Common.{◌∙◌, ap}
 use Rattle.nd_model.specs.Running as running
-use Rattle.nd_heap.specs.Contents.{blocks_of}
 use Rattle.nd_heap.specs.Fields.{trace_of}
 use Rattle.nd_heap.specs.Live.{bytes_at}
 use Rattle.nd_heap.specs.Live.{live}
 use Rattle.nd_heap.specs.State.{State}
-use Rattle.nd_heap.specs.Values.{names_of}
 use Rattle.nd_heap.proofs.Sessions.{noted_over}
 use Rattle.nd_heap.proofs.session.Session.ask.Goals as goal
 

@@ -6,8 +6,7 @@ use Rattle.nd_heap.specs.Live.{live, bytes_at}
 use Rattle.nd_heap.specs.State.{State}
 use Rattle.nd_heap.specs.Intact.{AllLie}
 use Rattle.nd_heap.specs.Values.{value_of}
-use Rattle.nd_heap.proofs.Bases.{at_err}
-use Rattle.nd_heap.proofs.Intact.{lies_there, same_lie, with_bound}
+use Rattle.nd_heap.proofs.Intact.{lies_there, with_bound}
 use Rattle.nd_heap.proofs.Sessions.{bound_over}
 use Rattle.nd_heap.proofs.session.Session.bind.Goals as goal
 

@@ -1,12 +1,11 @@
 use Rattle.std.proofs.Common.{◌∙◌, refl, ap, None, Some}
 use Rattle.nd_model.specs.Session as model
 use Rattle.nd_model.specs.Running as running
-use Rattle.nd_heap.specs.Contents.{blocks_of}
 use Rattle.nd_heap.specs.Fields.{trace_of}
 use Rattle.nd_heap.specs.Live.{bytes_at}
 use Rattle.nd_heap.specs.Live.{live}
 use Rattle.nd_heap.specs.State.{State}
-use Rattle.nd_heap.specs.Values.{names_of, value_of}
+use Rattle.nd_heap.specs.Values.{value_of}
 use Rattle.nd_heap.specs.Fields.{state_of}
 use Rattle.nd_heap.proofs.Sessions.{looked_up, noted_over, read_none}
 use Rattle.nd_heap.proofs.session.Session.lookup.Goals as goal

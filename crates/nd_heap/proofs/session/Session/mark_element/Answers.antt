@@ -2,12 +2,11 @@ use Rattle.std.proofs.Common.{◌∙◌, ap}
 use Rattle.nd_model.specs.Running as running
 use Rattle.nd_model.specs.View.{element_places}
 use Rattle.nd_types.specs.Types.{type_of}
-use Rattle.nd_heap.specs.Contents.{blocks_of}
 use Rattle.nd_heap.specs.Fields.{trace_of}
 use Rattle.nd_heap.specs.Live.{bytes_at}
 use Rattle.nd_heap.specs.Live.{live}
 use Rattle.nd_heap.specs.State.{State}
-use Rattle.nd_heap.specs.Values.{base_of, names_of}
+use Rattle.nd_heap.specs.Values.{base_of}
 use Rattle.nd_heap.proofs.Sessions.{noted_over}
 use Rattle.nd_heap.proofs.session.Session.mark_element.Goals as goal
 

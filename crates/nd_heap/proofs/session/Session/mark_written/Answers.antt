@@ -1,12 +1,11 @@
 use Rattle.std.proofs.Common.{◌∙◌, ap}
 use Rattle.nd_model.specs.View.{byte_places}
-use Rattle.nd_heap.specs.Contents.{blocks_of}
 use Rattle.nd_heap.specs.Fields.{trace_of}
 use Rattle.nd_heap.specs.Live.{bytes_at}
 use Rattle.nd_heap.specs.Live.{live}
 use Rattle.nd_heap.specs.State.{State}
 use Rattle.nd_model.specs.Storing.{having_written}
-use Rattle.nd_heap.specs.Values.{base_of, geo_of, names_of}
+use Rattle.nd_heap.specs.Values.{base_of, geo_of}
 use Rattle.nd_heap.proofs.Sessions.{written_over}
 use Rattle.nd_heap.proofs.session.Session.mark_written.Goals as goal
 

@@ -8,6 +8,7 @@ use Rattle.nd_heap.specs.Intact.{AllLie}
 use Rattle.nd_heap.specs.Live.{live, bytes_at}
 use Rattle.nd_heap.specs.Loose.{HeapData, session_in}
 use Rattle.nd_heap.specs.State.{State}
+use Rattle.nd_heap.proofs.Bases.{not_ok}
 use Rattle.nd_heap.proofs.Intact.{with_changes}
 use Rattle.nd_heap.proofs.session.Session.redo.Goals as goal
 
@@ -29,3 +30,12 @@ pub returns-clause-cell : goal.returns-clause-cell
 unfolding live
 returns-clause-cell c = ap (λ (r : running.Running). record r { next = c.changes.inside.next }) c.new_trace.ensures
     ∙ ap (λ (k : ChangesData). record (running.start k.label model.no_session) { next = k.next }) c.changes.view_is
+
+pub returns-in_err-redo-clause-names : goal.returns-in_err-redo-clause-names
+returns-in_err-redo-clause-names c = not_ok _ _ c.from_residual-in_err-redo.ensures.0
+
+pub returns-in_err-redo-clause-session : goal.returns-in_err-redo-clause-session
+returns-in_err-redo-clause-session c = not_ok _ _ c.from_residual-in_err-redo.ensures.0
+
+pub returns-in_err-redo-clause-cell : goal.returns-in_err-redo-clause-cell
+returns-in_err-redo-clause-cell c = not_ok _ _ c.from_residual-in_err-redo.ensures.0

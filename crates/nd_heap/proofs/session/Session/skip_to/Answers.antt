@@ -1,8 +1,6 @@
 use Rattle.std.proofs.Common.{◌≤◌, sym, subst}
-use Rattle.nd_heap.specs.Contents.{blocks_of}
 use Rattle.nd_heap.specs.Live.{live, bytes_at}
 use Rattle.nd_heap.specs.State.{State}
-use Rattle.nd_heap.specs.Values.{names_of}
 use Rattle.nd_heap.proofs.Intact.{with_next}
 use Rattle.nd_heap.proofs.session.Session.skip_to.Goals as goal
 

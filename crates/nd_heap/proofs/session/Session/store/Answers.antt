@@ -13,7 +13,6 @@ use Rattle.nd_heap.specs.Values.{base_of}
 use Rattle.nd_heap.specs.Fields.{state_of}
 use Rattle.nd_heap.specs.Placing.{length-put}
 use Rattle.nd_heap.specs.Intact.{AllLie}
-use Rattle.nd_heap.proofs.Bases.{at_err}
 use Rattle.nd_heap.proofs.Intact.{same_lie, with_bytes, length-written}
 use Rattle.nd_heap.proofs.Sessions.{written_over}
 use Rattle.nd_model.proofs.Storing.{stores_by_parts}

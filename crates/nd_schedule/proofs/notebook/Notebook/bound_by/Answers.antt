@@ -11,14 +11,14 @@ use Rattle.nd_schedule.proofs.notebook.Notebook.bound_by.Goals as goal
 pub index-requires : goal.index-requires
 index-requires g c =
     let all : IsRun (book_of c.args.self.now) (each_of g.C.Cells.recorded c.self.inside.records.items) (each_some g.C.Cells.kept_session c.self.inside.versions.items) =
-    subst (λ (s : Sheet). IsRun (book_of s) (each_of g.C.Cells.recorded c.self.inside.records.items) (each_some g.C.Cells.kept_session c.self.inside.versions.items)) c.self.view_is c.self.invariant in
+    subst (λ (s : Sheet). IsRun (book_of s) (each_of g.C.Cells.recorded c.self.inside.records.items) (each_some g.C.Cells.kept_session c.self.inside.versions.items)) c.self.view_is c.self.invariant.run in
     let many : length c.self.inside.records.items ≡ length c.args.self.now.cells = as_many (λ r. g.C.Cells.recorded r.value) (book_of c.args.self.now) c.self.inside.records.items all.records in
     omega arith
 
 pub returns-in-Some : goal.returns-in-Some
 returns-in-Some g c =
     let all : IsRun (book_of c.args.self.now) (each_of g.C.Cells.recorded c.self.inside.records.items) (each_some g.C.Cells.kept_session c.self.inside.versions.items) =
-    subst (λ (s : Sheet). IsRun (book_of s) (each_of g.C.Cells.recorded c.self.inside.records.items) (each_some g.C.Cells.kept_session c.self.inside.versions.items)) c.self.view_is c.self.invariant in
+    subst (λ (s : Sheet). IsRun (book_of s) (each_of g.C.Cells.recorded c.self.inside.records.items) (each_some g.C.Cells.kept_session c.self.inside.versions.items)) c.self.view_is c.self.invariant.run in
     bound_next (book_of c.args.self.now) all.distinct c.args.at (g.C.Cells.recorded c.deref.result.now) c.args.name.now c.last_of.result c.requires
     (ap g.C.Cells.recorded c.deref.ensures ∙ record_there (λ r. g.C.Cells.recorded r.value) (book_of c.args.self.now) c.self.inside.records.items c.index.result.now c.args.at all.records c.requires c.index.ensures)
     c.last_of.ensures
@@ -27,7 +27,7 @@ returns-in-Some g c =
 pub returns-in-None-index : goal.returns-in-None-index
 returns-in-None-index g c =
     let all : IsRun (book_of c.args.self.now) (each_of g.C.Cells.recorded c.self.inside.records.items) (each_some g.C.Cells.kept_session c.self.inside.versions.items) =
-    subst (λ (s : Sheet). IsRun (book_of s) (each_of g.C.Cells.recorded c.self.inside.records.items) (each_some g.C.Cells.kept_session c.self.inside.versions.items)) c.self.view_is c.self.invariant in
+    subst (λ (s : Sheet). IsRun (book_of s) (each_of g.C.Cells.recorded c.self.inside.records.items) (each_some g.C.Cells.kept_session c.self.inside.versions.items)) c.self.view_is c.self.invariant.run in
     bound_next (book_of c.args.self.now) all.distinct c.args.at (g.C.Cells.recorded c.deref.result.now) c.args.name.now c.last_of.result c.requires
     (ap g.C.Cells.recorded c.deref.ensures ∙ record_there (λ r. g.C.Cells.recorded r.value) (book_of c.args.self.now) c.self.inside.records.items c.index.result.now c.args.at all.records c.requires c.index.ensures)
     c.last_of.ensures
@@ -36,7 +36,7 @@ returns-in-None-index g c =
 pub returns-in-Some-index : goal.returns-in-Some-index
 returns-in-Some-index g c =
     let all : IsRun (book_of c.args.self.now) (each_of g.C.Cells.recorded c.self.inside.records.items) (each_some g.C.Cells.kept_session c.self.inside.versions.items) =
-    subst (λ (s : Sheet). IsRun (book_of s) (each_of g.C.Cells.recorded c.self.inside.records.items) (each_some g.C.Cells.kept_session c.self.inside.versions.items)) c.self.view_is c.self.invariant in
+    subst (λ (s : Sheet). IsRun (book_of s) (each_of g.C.Cells.recorded c.self.inside.records.items) (each_some g.C.Cells.kept_session c.self.inside.versions.items)) c.self.view_is c.self.invariant.run in
     bound_next (book_of c.args.self.now) all.distinct c.args.at (g.C.Cells.recorded c.deref.result.now) c.args.name.now c.last_of.result c.requires
     (ap g.C.Cells.recorded c.deref.ensures ∙ record_there (λ r. g.C.Cells.recorded r.value) (book_of c.args.self.now) c.self.inside.records.items c.index.result.now c.args.at all.records c.requires c.index.ensures)
     c.last_of.ensures

@@ -1,11 +1,10 @@
-use Rattle.std.proofs.Common.{◌≡◌, length, take, drop, ◌+◌, refl, sym, ap, ◌∙◌, arith}
-use Rattle.nd_model.proofs.EditKept.{front_change, back_change}
-use Rattle.nd_model.proofs.EditLabels.{change_distinct}
+use Rattle.std.proofs.Common.{◌≡◌, ◌+◌, ◌-◌, ◌<◌, ◌≤◌, length, refl, sym, ap, subst, ◌∙◌, arith}
+use Rattle.nd_model.proofs.EditLabels.{insert_distinct, change_distinct, move_distinct, remove_distinct}
+use Rattle.nd_model.specs.Book.{Cell, fresh_label}
 use Rattle.nd_model.specs.Notebook.{Sheet, book_of}
-use Rattle.nd_schedule.specs.Source.{cell_of}
-use Rattle.nd_schedule.proofs.Edits.{same_distinct, same_counts, same_sheet, is_changed, label_at, as_many_kept, kept_changed_to, another, unchanged}
 use Rattle.nd_schedule.specs.declared.source.Source.{Source}
-use Rattle.nd_model.specs.Book.{Cell}
+use Rattle.nd_schedule.specs.Source.{cell_of, cells_of}
+use Rattle.nd_schedule.proofs.Edits.{same_distinct, same_counts, same_sheet, label_at, another, unchanged, is_inserted, is_changed, is_moved, is_removed, kept_inserted, kept_changed_to, kept_moved, kept_removed, kept_long, part_long}
 use Rattle.nd_schedule.proofs.notebook.Notebook.edit.Goals as goal
 
 pub returns-then-eq-clause-ok : goal.returns-then-eq-clause-ok
@@ -15,46 +14,29 @@ returns-then-eq-clause-ok g c =
 
 pub index_mut-requires-2 : goal.index_mut-requires-2
 index_mut-requires-2 g c =
-    let many : length c.in_ok-lists.lists.kept.items ≡ length c.args.self.now.cells =
-    as_many_kept (λ r. g.C.Cells.recorded r.value) (book_of c.args.self.now) c.in_ok-lists.ensures.distinct c.in_ok-lists.lists.kept.items c.in_ok-lists.lists.kept.items c.in_ok-lists.ensures.kept in omega arith
-
-pub replace-requires-clause-front : goal.replace-requires-clause-front
-replace-requires-clause-front g c =
-    front_change c.args.self.now.cells c.args.at c.args.text.now ∙ ap (take c.args.at) (sym (is_changed c.args.self.now.cells c.in_ok-lists.lists.cells.items _ c.in_ok-lists-2.field-0 c.args.at c.args.text.now _ c.in_ok-lists.ensures.cells c.requires refl c.in_ok-lists-2.ensures.ok
-    (ap (λ (s : Source). s.label) c.deref-2.ensures ∙ ap (λ (x : Cell). x.label) (label_at c.args.self.now.cells c.self.inside.cells.items c.index-2.result.now c.args.at (ap (λ (s : Sheet). s.cells) c.self.view_is) c.requires c.index-2.ensures))
-    c.in_ok-text.ensures.ok))
-
-pub replace-requires-clause-rest : goal.replace-requires-clause-rest
-replace-requires-clause-rest g c =
-    back_change c.args.self.now.cells c.args.at c.args.text.now
-    ∙ ap (drop (c.args.at + 1)) (sym (is_changed c.args.self.now.cells c.in_ok-lists.lists.cells.items _ c.in_ok-lists-2.field-0 c.args.at c.args.text.now _ c.in_ok-lists.ensures.cells c.requires refl c.in_ok-lists-2.ensures.ok
-    (ap (λ (s : Source). s.label) c.deref-2.ensures ∙ ap (λ (x : Cell). x.label) (label_at c.args.self.now.cells c.self.inside.cells.items c.index-2.result.now c.args.at (ap (λ (s : Sheet). s.cells) c.self.view_is) c.requires c.index-2.ensures))
-    c.in_ok-text.ensures.ok))
+    let many : length c.in_ok-part.part.kept.items ≡ c.args.at + 1 - c.args.at =
+    kept_long (λ r. g.C.Cells.recorded r.value) (book_of c.args.self.now) c.in_ok-part.part.kept.items c.in_ok-part.part.cells.items c.args.at (c.args.at + 1) c.in_ok-part.ensures.kept c.in_ok-part.ensures.cells (omega arith) (omega (arith, c.requires)) in omega arith
 
 pub replace-requires-clause-kept : goal.replace-requires-clause-kept
 replace-requires-clause-kept g c =
-    kept_changed_to (λ r. g.C.Cells.recorded r.value) (book_of c.args.self.now) c.in_ok-lists.ensures.distinct c.in_ok-lists.lists.kept.items _ c.in_ok-lists.ensures.kept _ c.args.at c.args.text.now c.requires
+    kept_changed_to (λ r. g.C.Cells.recorded r.value) (book_of c.args.self.now) c.in_ok-part.part.kept.items c.in_ok-part.part.cells.items c.args.at (c.args.at + 1) c.in_ok-part.ensures.kept c.in_ok-part.ensures.cells (omega arith) (omega (arith, c.requires)) c.in_ok-part.ensures.distinct _ _ c.in_ok-cell.cell _
+    c.args.text.now c.requires
     (another c.args.text.now c.as_str.result.now c.args.self.now.cells c.args.at c.deref.result.now (sym c.if-eq.ensures) c.as_str.ensures.value
     (ap cell_of c.deref.ensures ∙ label_at c.args.self.now.cells c.self.inside.cells.items c.index.result.now c.args.at (ap (λ (s : Sheet). s.cells) c.self.view_is) c.requires c.index.ensures))
-    (is_changed c.args.self.now.cells c.in_ok-lists.lists.cells.items _ c.in_ok-lists-2.field-0 c.args.at c.args.text.now _ c.in_ok-lists.ensures.cells c.requires refl c.in_ok-lists-2.ensures.ok
-    (ap (λ (s : Source). s.label) c.deref-2.ensures ∙ ap (λ (x : Cell). x.label) (label_at c.args.self.now.cells c.self.inside.cells.items c.index-2.result.now c.args.at (ap (λ (s : Sheet). s.cells) c.self.view_is) c.requires c.index-2.ensures))
-    c.in_ok-text.ensures.ok) refl
+    c.in_ok-cell.ensures.ok (ap (λ (s : Source). s.label) c.deref-2.ensures ∙ ap (λ (x : Cell). x.label) (label_at c.args.self.now.cells c.self.inside.cells.items c.index-2.result.now c.args.at (ap (λ (s : Sheet). s.cells) c.self.view_is) c.requires c.index-2.ensures)) c.in_ok-text.ensures.ok refl refl
 
 pub replace-requires-clause-distinct : goal.replace-requires-clause-distinct
 replace-requires-clause-distinct g c =
-    same_distinct _ _ (is_changed c.args.self.now.cells c.in_ok-lists.lists.cells.items _ c.in_ok-lists-2.field-0 c.args.at c.args.text.now _ c.in_ok-lists.ensures.cells c.requires refl c.in_ok-lists-2.ensures.ok
-    (ap (λ (s : Source). s.label) c.deref-2.ensures ∙ ap (λ (x : Cell). x.label) (label_at c.args.self.now.cells c.self.inside.cells.items c.index-2.result.now c.args.at (ap (λ (s : Sheet). s.cells) c.self.view_is) c.requires c.index-2.ensures))
-    c.in_ok-text.ensures.ok)
-    (change_distinct c.args.self.now.cells c.args.at c.args.text.now c.in_ok-lists.ensures.distinct)
+    same_distinct _ _ (is_changed c.args.self.now.cells c.in_ok-part.part.cells.items _ c.in_ok-cell.cell _ c.in_ok-part.part.at c.in_ok-part.part.behind c.args.at c.args.text.now c.in_ok-part.ensures.cells c.in_ok-part.ensures.at c.in_ok-part.ensures.behind c.requires refl
+    c.in_ok-cell.ensures.ok (ap (λ (s : Source). s.label) c.deref-2.ensures ∙ ap (λ (x : Cell). x.label) (label_at c.args.self.now.cells c.self.inside.cells.items c.index-2.result.now c.args.at (ap (λ (s : Sheet). s.cells) c.self.view_is) c.requires c.index-2.ensures)) c.in_ok-text.ensures.ok)
+    (change_distinct c.args.self.now.cells c.args.at c.args.text.now c.in_ok-part.ensures.distinct)
 
 pub returns-clause-ok : goal.returns-clause-ok
 returns-clause-ok g c =
-    same_sheet c.replace.result _ _ _ _ (is_changed c.args.self.now.cells c.in_ok-lists.lists.cells.items _ c.in_ok-lists-2.field-0 c.args.at c.args.text.now _ c.in_ok-lists.ensures.cells c.requires refl c.in_ok-lists-2.ensures.ok
-    (ap (λ (s : Source). s.label) c.deref-2.ensures ∙ ap (λ (x : Cell). x.label) (label_at c.args.self.now.cells c.self.inside.cells.items c.index-2.result.now c.args.at (ap (λ (s : Sheet). s.cells) c.self.view_is) c.requires c.index-2.ensures))
-    c.in_ok-text.ensures.ok) c.replace.ensures.ok
+    same_sheet c.replace.result _ _ _ _ (is_changed c.args.self.now.cells c.in_ok-part.part.cells.items _ c.in_ok-cell.cell _ c.in_ok-part.part.at c.in_ok-part.part.behind c.args.at c.args.text.now c.in_ok-part.ensures.cells c.in_ok-part.ensures.at c.in_ok-part.ensures.behind c.requires refl
+    c.in_ok-cell.ensures.ok (ap (λ (s : Source). s.label) c.deref-2.ensures ∙ ap (λ (x : Cell). x.label) (label_at c.args.self.now.cells c.self.inside.cells.items c.index-2.result.now c.args.at (ap (λ (s : Sheet). s.cells) c.self.view_is) c.requires c.index-2.ensures)) c.in_ok-text.ensures.ok) c.replace.ensures.ok
 
 pub returns-clause-counts : goal.returns-clause-counts
 returns-clause-counts g c =
-    same_counts (book_of c.args.self.now) _ _ c.args.self.now.given _ _ (is_changed c.args.self.now.cells c.in_ok-lists.lists.cells.items _ c.in_ok-lists-2.field-0 c.args.at c.args.text.now _ c.in_ok-lists.ensures.cells c.requires refl c.in_ok-lists-2.ensures.ok
-    (ap (λ (s : Source). s.label) c.deref-2.ensures ∙ ap (λ (x : Cell). x.label) (label_at c.args.self.now.cells c.self.inside.cells.items c.index-2.result.now c.args.at (ap (λ (s : Sheet). s.cells) c.self.view_is) c.requires c.index-2.ensures))
-    c.in_ok-text.ensures.ok) c.replace.ensures.counts
+    same_counts (book_of c.args.self.now) _ _ c.args.self.now.given _ _ (is_changed c.args.self.now.cells c.in_ok-part.part.cells.items _ c.in_ok-cell.cell _ c.in_ok-part.part.at c.in_ok-part.part.behind c.args.at c.args.text.now c.in_ok-part.ensures.cells c.in_ok-part.ensures.at c.in_ok-part.ensures.behind c.requires refl
+    c.in_ok-cell.ensures.ok (ap (λ (s : Source). s.label) c.deref-2.ensures ∙ ap (λ (x : Cell). x.label) (label_at c.args.self.now.cells c.self.inside.cells.items c.index-2.result.now c.args.at (ap (λ (s : Sheet). s.cells) c.self.view_is) c.requires c.index-2.ensures)) c.in_ok-text.ensures.ok) c.replace.ensures.counts

@@ -1,48 +1,29 @@
-use Rattle.std.proofs.Common.{◌≡◌, length, take, drop, ◌+◌, sym, ap, ◌∙◌, arith}
-use Rattle.nd_model.proofs.EditKept.{front_insert, back_insert}
-use Rattle.nd_model.proofs.EditLabels.{insert_distinct}
-use Rattle.nd_model.specs.Book.{fresh_label}
-use Rattle.nd_model.specs.Notebook.{book_of}
-use Rattle.nd_schedule.specs.Source.{cells_of}
-use Rattle.nd_schedule.proofs.Edits.{same_distinct, same_counts, same_sheet, is_inserted, as_many_kept, kept_inserted}
+use Rattle.std.proofs.Common.{◌≡◌, ◌+◌, ◌<◌, ◌≤◌, length, refl, sym, ap, subst, ◌∙◌, arith}
+use Rattle.nd_model.proofs.EditLabels.{insert_distinct, change_distinct, move_distinct, remove_distinct}
+use Rattle.nd_model.specs.Book.{Cell, fresh_label}
+use Rattle.nd_model.specs.Notebook.{Sheet, book_of}
+use Rattle.nd_schedule.specs.declared.source.Source.{Source}
+use Rattle.nd_schedule.specs.Source.{cell_of, cells_of}
+use Rattle.nd_schedule.proofs.Edits.{same_distinct, same_counts, same_sheet, label_at, another, unchanged, is_inserted, is_changed, is_moved, is_removed, kept_inserted, kept_changed_to, kept_moved, kept_removed, kept_long, part_long}
 use Rattle.nd_schedule.proofs.notebook.Notebook.insert.Goals as goal
-
-pub insert-requires-2 : goal.insert-requires-2
-insert-requires-2 g c =
-    let many : length c.in_ok-lists.lists.kept.items ≡ length c.args.self.now.cells =
-    as_many_kept (λ r. g.C.Cells.recorded r.value) (book_of c.args.self.now) c.in_ok-lists.ensures.distinct c.in_ok-lists.lists.kept.items c.in_ok-lists.lists.kept.items c.in_ok-lists.ensures.kept in omega arith
-
-pub replace-requires-clause-front : goal.replace-requires-clause-front
-replace-requires-clause-front g c =
-    front_insert c.args.self.now.cells c.args.at c.args.text.now c.requires
-    ∙ ap (take c.args.at) (sym (is_inserted c.args.self.now.cells c.in_ok-lists.lists.cells.items c.insert.new.self.items c.in_ok-cell.cell c.args.at c.args.text.now _ c.in_ok-lists.ensures.cells c.in_ok-insert.ensures.items
-    c.in_ok-cell.ensures.ok (c.in_ok-label.ensures ∙ ap (λ cs. fresh_label (cells_of cs)) c.deref.ensures.value ∙ ap fresh_label c.in_ok-lists.ensures.cells) c.in_ok-text.ensures.ok))
-
-pub replace-requires-clause-rest : goal.replace-requires-clause-rest
-replace-requires-clause-rest g c =
-    back_insert c.args.self.now.cells c.args.at c.args.text.now c.requires
-    ∙ ap (drop (c.args.at + 1)) (sym (is_inserted c.args.self.now.cells c.in_ok-lists.lists.cells.items c.insert.new.self.items c.in_ok-cell.cell c.args.at c.args.text.now _ c.in_ok-lists.ensures.cells c.in_ok-insert.ensures.items
-    c.in_ok-cell.ensures.ok (c.in_ok-label.ensures ∙ ap (λ cs. fresh_label (cells_of cs)) c.deref.ensures.value ∙ ap fresh_label c.in_ok-lists.ensures.cells) c.in_ok-text.ensures.ok))
 
 pub replace-requires-clause-kept : goal.replace-requires-clause-kept
 replace-requires-clause-kept g c =
-    kept_inserted (λ r. g.C.Cells.recorded r.value) (book_of c.args.self.now) c.in_ok-lists.ensures.distinct c.in_ok-lists.lists.kept.items c.insert-2.new.self.items c.in_ok-lists.ensures.kept _ c.args.at c.args.text.now
-    (is_inserted c.args.self.now.cells c.in_ok-lists.lists.cells.items c.insert.new.self.items c.in_ok-cell.cell c.args.at c.args.text.now _ c.in_ok-lists.ensures.cells c.in_ok-insert.ensures.items
-    c.in_ok-cell.ensures.ok (c.in_ok-label.ensures ∙ ap (λ cs. fresh_label (cells_of cs)) c.deref.ensures.value ∙ ap fresh_label c.in_ok-lists.ensures.cells) c.in_ok-text.ensures.ok)
-    c.in_ok-insert-2.ensures.items
+    kept_inserted (λ r. g.C.Cells.recorded r.value) (book_of c.args.self.now) c.in_ok-part.part.kept.items c.in_ok-part.part.cells.items c.args.at c.args.at c.in_ok-part.ensures.kept c.in_ok-part.ensures.cells (omega arith) c.requires _ _ c.in_ok-cell.cell _ refl
+    c.in_ok-push.ensures.items c.in_ok-push-2.ensures.items c.in_ok-cell.ensures.ok (c.in_ok-label.ensures ∙ ap (λ cs. fresh_label (cells_of cs)) c.deref.ensures.value ∙ ap (λ (s : Sheet). fresh_label s.cells) c.self.view_is)
 
 pub replace-requires-clause-distinct : goal.replace-requires-clause-distinct
 replace-requires-clause-distinct g c =
-    same_distinct _ _ (is_inserted c.args.self.now.cells c.in_ok-lists.lists.cells.items c.insert.new.self.items c.in_ok-cell.cell c.args.at c.args.text.now _ c.in_ok-lists.ensures.cells c.in_ok-insert.ensures.items
-    c.in_ok-cell.ensures.ok (c.in_ok-label.ensures ∙ ap (λ cs. fresh_label (cells_of cs)) c.deref.ensures.value ∙ ap fresh_label c.in_ok-lists.ensures.cells) c.in_ok-text.ensures.ok)
-    (insert_distinct c.args.self.now.cells c.args.at c.args.text.now c.in_ok-lists.ensures.distinct)
+    same_distinct _ _ (is_inserted c.args.self.now.cells c.in_ok-part.part.cells.items c.push.new.self.items c.in_ok-cell.cell _ c.in_ok-part.part.at c.in_ok-part.part.behind c.args.at c.args.text.now c.in_ok-part.ensures.cells c.in_ok-part.ensures.at c.in_ok-part.ensures.behind c.requires c.in_ok-push.ensures.items
+    c.in_ok-cell.ensures.ok (c.in_ok-label.ensures ∙ ap (λ cs. fresh_label (cells_of cs)) c.deref.ensures.value ∙ ap (λ (s : Sheet). fresh_label s.cells) c.self.view_is) c.in_ok-text.ensures.ok)
+    (insert_distinct c.args.self.now.cells c.args.at c.args.text.now c.in_ok-part.ensures.distinct)
 
 pub returns-clause-ok : goal.returns-clause-ok
 returns-clause-ok g c =
-    same_sheet c.replace.result _ _ _ _ (is_inserted c.args.self.now.cells c.in_ok-lists.lists.cells.items c.insert.new.self.items c.in_ok-cell.cell c.args.at c.args.text.now _ c.in_ok-lists.ensures.cells c.in_ok-insert.ensures.items
-    c.in_ok-cell.ensures.ok (c.in_ok-label.ensures ∙ ap (λ cs. fresh_label (cells_of cs)) c.deref.ensures.value ∙ ap fresh_label c.in_ok-lists.ensures.cells) c.in_ok-text.ensures.ok) c.replace.ensures.ok
+    same_sheet c.replace.result _ _ _ _ (is_inserted c.args.self.now.cells c.in_ok-part.part.cells.items c.push.new.self.items c.in_ok-cell.cell _ c.in_ok-part.part.at c.in_ok-part.part.behind c.args.at c.args.text.now c.in_ok-part.ensures.cells c.in_ok-part.ensures.at c.in_ok-part.ensures.behind c.requires c.in_ok-push.ensures.items
+    c.in_ok-cell.ensures.ok (c.in_ok-label.ensures ∙ ap (λ cs. fresh_label (cells_of cs)) c.deref.ensures.value ∙ ap (λ (s : Sheet). fresh_label s.cells) c.self.view_is) c.in_ok-text.ensures.ok) c.replace.ensures.ok
 
 pub returns-clause-counts : goal.returns-clause-counts
 returns-clause-counts g c =
-    same_counts (book_of c.args.self.now) _ _ c.args.self.now.given _ _ (is_inserted c.args.self.now.cells c.in_ok-lists.lists.cells.items c.insert.new.self.items c.in_ok-cell.cell c.args.at c.args.text.now _ c.in_ok-lists.ensures.cells c.in_ok-insert.ensures.items
-    c.in_ok-cell.ensures.ok (c.in_ok-label.ensures ∙ ap (λ cs. fresh_label (cells_of cs)) c.deref.ensures.value ∙ ap fresh_label c.in_ok-lists.ensures.cells) c.in_ok-text.ensures.ok) c.replace.ensures.counts
+    same_counts (book_of c.args.self.now) _ _ c.args.self.now.given _ _ (is_inserted c.args.self.now.cells c.in_ok-part.part.cells.items c.push.new.self.items c.in_ok-cell.cell _ c.in_ok-part.part.at c.in_ok-part.part.behind c.args.at c.args.text.now c.in_ok-part.ensures.cells c.in_ok-part.ensures.at c.in_ok-part.ensures.behind c.requires c.in_ok-push.ensures.items
+    c.in_ok-cell.ensures.ok (c.in_ok-label.ensures ∙ ap (λ cs. fresh_label (cells_of cs)) c.deref.ensures.value ∙ ap (λ (s : Sheet). fresh_label s.cells) c.self.view_is) c.in_ok-text.ensures.ok) c.replace.ensures.counts

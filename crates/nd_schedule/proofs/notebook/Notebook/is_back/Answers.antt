@@ -8,6 +8,6 @@ use Rattle.nd_schedule.proofs.notebook.Notebook.is_back.Goals as goal
 pub returns-in-Some : goal.returns-in-Some
 returns-in-Some g c = λ e.
     let all : IsRun (book_of c.args.self.now) (each_of g.C.Cells.recorded c.self.inside.records.items) (each_some g.C.Cells.kept_session c.self.inside.versions.items) =
-    subst (λ (s : Sheet). IsRun (book_of s) (each_of g.C.Cells.recorded c.self.inside.records.items) (each_some g.C.Cells.kept_session c.self.inside.versions.items)) c.self.view_is c.self.invariant in
+    subst (λ (s : Sheet). IsRun (book_of s) (each_of g.C.Cells.recorded c.self.inside.records.items) (each_some g.C.Cells.kept_session c.self.inside.versions.items)) c.self.view_is c.self.invariant.run in
     c.is_at.ensures e ∙ ap g.C.Cells.kept_session c.deref.ensures
     ∙ version_there (λ v. g.C.Cells.kept_session v.value) (book_of c.args.self.now) c.self.inside.versions.items c.index.result.now c.in-Some.version _ all.versions (omega arith) c.index.ensures c.in-Some.is

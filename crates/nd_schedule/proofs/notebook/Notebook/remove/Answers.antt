@@ -1,38 +1,26 @@
-use Rattle.std.proofs.Common.{◌≡◌, length, take, drop, sym, ap, ◌∙◌, arith}
-use Rattle.nd_model.proofs.EditKept.{front_remove, back_remove}
-use Rattle.nd_model.proofs.EditLabels.{remove_distinct}
-use Rattle.nd_model.specs.Notebook.{book_of}
-use Rattle.nd_schedule.proofs.Edits.{same_distinct, same_counts, same_sheet, is_removed, as_many_kept, kept_removed}
+use Rattle.std.proofs.Common.{◌≡◌, ◌+◌, ◌<◌, ◌≤◌, length, refl, sym, ap, subst, ◌∙◌, arith}
+use Rattle.nd_model.proofs.EditLabels.{insert_distinct, change_distinct, move_distinct, remove_distinct}
+use Rattle.nd_model.specs.Book.{Cell, fresh_label}
+use Rattle.nd_model.specs.Notebook.{Sheet, book_of}
+use Rattle.nd_schedule.specs.declared.source.Source.{Source}
+use Rattle.nd_schedule.specs.Source.{cell_of, cells_of}
+use Rattle.nd_schedule.proofs.Edits.{same_distinct, same_counts, same_sheet, label_at, another, unchanged, is_inserted, is_changed, is_moved, is_removed, kept_inserted, kept_changed_to, kept_moved, kept_removed, kept_long, part_long}
 use Rattle.nd_schedule.proofs.notebook.Notebook.remove.Goals as goal
-
-pub remove-kept-requires : goal.remove-kept-requires
-remove-kept-requires g c =
-    let many : length c.in_ok-lists.lists.kept.items ≡ length c.args.self.now.cells =
-    as_many_kept (λ r. g.C.Cells.recorded r.value) (book_of c.args.self.now) c.in_ok-lists.ensures.distinct c.in_ok-lists.lists.kept.items c.in_ok-lists.lists.kept.items c.in_ok-lists.ensures.kept in omega arith
-
-pub replace-requires-clause-front : goal.replace-requires-clause-front
-replace-requires-clause-front g c =
-    front_remove c.args.self.now.cells c.args.at ∙ ap (take c.args.at) (sym (is_removed c.args.self.now.cells c.in_ok-lists.lists.cells.items c.remove-cell.new.self.items c.args.at c.in_ok-lists.ensures.cells c.remove-cell.ensures.items))
-
-pub replace-requires-clause-rest : goal.replace-requires-clause-rest
-replace-requires-clause-rest g c =
-    back_remove c.args.self.now.cells c.args.at
-    ∙ ap (drop (c.args.at)) (sym (is_removed c.args.self.now.cells c.in_ok-lists.lists.cells.items c.remove-cell.new.self.items c.args.at c.in_ok-lists.ensures.cells c.remove-cell.ensures.items))
 
 pub replace-requires-clause-kept : goal.replace-requires-clause-kept
 replace-requires-clause-kept g c =
-    kept_removed (λ r. g.C.Cells.recorded r.value) (book_of c.args.self.now) c.in_ok-lists.ensures.distinct c.in_ok-lists.lists.kept.items c.remove-kept.new.self.items c.in_ok-lists.ensures.kept _ c.args.at
-    (is_removed c.args.self.now.cells c.in_ok-lists.lists.cells.items c.remove-cell.new.self.items c.args.at c.in_ok-lists.ensures.cells c.remove-cell.ensures.items) c.remove-kept.ensures.items
+    kept_removed (λ r. g.C.Cells.recorded r.value) (book_of c.args.self.now) c.in_ok-part.part.kept.items c.in_ok-part.part.cells.items c.args.at (c.args.at + 1) c.in_ok-part.ensures.kept c.in_ok-part.ensures.cells (omega arith) (omega (arith, c.requires)) _ _
+    c.remove-cell.ensures.items c.remove-kept.ensures.items
 
 pub replace-requires-clause-distinct : goal.replace-requires-clause-distinct
 replace-requires-clause-distinct g c =
-    same_distinct _ _ (is_removed c.args.self.now.cells c.in_ok-lists.lists.cells.items c.remove-cell.new.self.items c.args.at c.in_ok-lists.ensures.cells c.remove-cell.ensures.items)
-    (remove_distinct c.args.self.now.cells c.args.at c.in_ok-lists.ensures.distinct)
+    same_distinct _ _ (is_removed c.args.self.now.cells c.in_ok-part.part.cells.items c.remove-cell.new.self.items c.in_ok-part.part.at c.in_ok-part.part.behind c.args.at c.in_ok-part.ensures.cells c.in_ok-part.ensures.at c.in_ok-part.ensures.behind c.requires c.remove-cell.ensures.items)
+    (remove_distinct c.args.self.now.cells c.args.at c.in_ok-part.ensures.distinct)
 
 pub returns-clause-ok : goal.returns-clause-ok
 returns-clause-ok g c =
-    same_sheet c.replace.result _ _ _ _ (is_removed c.args.self.now.cells c.in_ok-lists.lists.cells.items c.remove-cell.new.self.items c.args.at c.in_ok-lists.ensures.cells c.remove-cell.ensures.items) c.replace.ensures.ok
+    same_sheet c.replace.result _ _ _ _ (is_removed c.args.self.now.cells c.in_ok-part.part.cells.items c.remove-cell.new.self.items c.in_ok-part.part.at c.in_ok-part.part.behind c.args.at c.in_ok-part.ensures.cells c.in_ok-part.ensures.at c.in_ok-part.ensures.behind c.requires c.remove-cell.ensures.items) c.replace.ensures.ok
 
 pub returns-clause-counts : goal.returns-clause-counts
 returns-clause-counts g c =
-    same_counts (book_of c.args.self.now) _ _ c.args.self.now.given _ _ (is_removed c.args.self.now.cells c.in_ok-lists.lists.cells.items c.remove-cell.new.self.items c.args.at c.in_ok-lists.ensures.cells c.remove-cell.ensures.items) c.replace.ensures.counts
+    same_counts (book_of c.args.self.now) _ _ c.args.self.now.given _ _ (is_removed c.args.self.now.cells c.in_ok-part.part.cells.items c.remove-cell.new.self.items c.in_ok-part.part.at c.in_ok-part.part.behind c.args.at c.in_ok-part.ensures.cells c.in_ok-part.ensures.at c.in_ok-part.ensures.behind c.requires c.remove-cell.ensures.items) c.replace.ensures.counts

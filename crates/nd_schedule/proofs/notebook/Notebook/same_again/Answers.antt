@@ -10,14 +10,14 @@ use Rattle.nd_schedule.proofs.notebook.Notebook.same_again.Goals as goal
 pub index-requires : goal.index-requires
 index-requires g c =
     let all : IsRun (book_of c.args.self.now) (each_of g.C.Cells.recorded c.self.inside.records.items) (each_some g.C.Cells.kept_session c.self.inside.versions.items) =
-    subst (λ (s : Sheet). IsRun (book_of s) (each_of g.C.Cells.recorded c.self.inside.records.items) (each_some g.C.Cells.kept_session c.self.inside.versions.items)) c.self.view_is c.self.invariant in
+    subst (λ (s : Sheet). IsRun (book_of s) (each_of g.C.Cells.recorded c.self.inside.records.items) (each_some g.C.Cells.kept_session c.self.inside.versions.items)) c.self.view_is c.self.invariant.run in
     let many : length c.self.inside.records.items ≡ length c.args.self.now.cells = as_many (λ r. g.C.Cells.recorded r.value) (book_of c.args.self.now) c.self.inside.records.items all.records in
     omega (arith, c.requires.within)
 
 pub returns-then-there-k : goal.returns-then-there-k
 returns-then-there-k g c = λ e.
     let all : IsRun (book_of c.args.self.now) (each_of g.C.Cells.recorded c.self.inside.records.items) (each_some g.C.Cells.kept_session c.self.inside.versions.items) =
-    subst (λ (s : Sheet). IsRun (book_of s) (each_of g.C.Cells.recorded c.self.inside.records.items) (each_some g.C.Cells.kept_session c.self.inside.versions.items)) c.self.view_is c.self.invariant in
+    subst (λ (s : Sheet). IsRun (book_of s) (each_of g.C.Cells.recorded c.self.inside.records.items) (each_some g.C.Cells.kept_session c.self.inside.versions.items)) c.self.view_is c.self.invariant.run in
     let lt : c.args.k < length c.args.self.now.cells = omega (arith, c.requires.within) in
     let there : g.C.Cells.recorded c.deref.result.now ≡ record_at (book_of c.args.self.now).inputs (entry_at (book_of c.args.self.now) c.args.k) =
     ap g.C.Cells.recorded c.deref.ensures ∙ record_there (λ r. g.C.Cells.recorded r.value) (book_of c.args.self.now) c.self.inside.records.items c.index.result.now c.args.k all.records lt c.index.ensures in

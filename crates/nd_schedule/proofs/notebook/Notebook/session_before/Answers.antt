@@ -13,7 +13,7 @@ index-requires g c =
 pub loop-k-init : goal.loop-k-init
 loop-k-init g c = record {
   session = c.in_ok-from.ensures.1;
-  run = subst (λ (s : Sheet). IsRun (book_of s) (each_of g.C.Cells.recorded c.self.inside.records.items) (each_some g.C.Cells.kept_session c.self.inside.versions.items)) c.self.view_is c.self.invariant;
+  run = subst (λ (s : Sheet). IsRun (book_of s) (each_of g.C.Cells.recorded c.self.inside.records.items) (each_some g.C.Cells.kept_session c.self.inside.versions.items)) c.self.view_is c.self.invariant.run;
 }
 
 pub replay-requires : goal.replay-requires

@@ -1,0 +1,8 @@
+use Rattle.std.proofs.Common.{◌≡◌, ◌++◌, drop}
+use Rattle.nd_model.specs.Value as values
+use Rattle.nd_heap.specs.Contents.{blocks_of}
+use Rattle.nd_heap.specs.Live.{bytes_at}
+use Rattle.nd_heap.proofs.blocks.stack.Given as goal
+
+abbrev pub invariant-loop-i : goal.invariant-loop-i
+invariant-loop-i l = (b : values.Base) → bytes_at (blocks_of l.all.entries) b ≡ bytes_at (blocks_of (drop l.i l.newer.entries) ++ blocks_of l.older.entries) b

@@ -1,0 +1,14 @@
+use Rattle.std.proofs.Common.{◌∙◌, sym, subst}
+use Rattle.nd_heap.specs.Contents.{bases_of}
+use Rattle.nd_heap.specs.Loose.{AreLoose}
+use Rattle.nd_heap.proofs.Loosening.{same_heap}
+use Rattle.nd_heap.proofs.Picking.{cloned_bases}
+use Rattle.nd_heap.proofs.heap.Heap.try_clone.Goals as goal
+
+pub invariant_of-result : goal.invariant_of-result
+invariant_of-result c = subst AreLoose (sym (same_heap c.self.inside.names c.in_ok-names.names c.self.inside.blocks c.in_ok-blocks.blocks (bases_of c.self.inside.loose.entries) (bases_of c.in_ok-loose.loose.entries)
+    c.in_ok-names.ensures c.in_ok-blocks.ensures (cloned_bases _ _ c.in_ok-loose.ensures.cases))) c.self.invariant
+
+pub returns : goal.returns
+returns c = same_heap c.self.inside.names c.in_ok-names.names c.self.inside.blocks c.in_ok-blocks.blocks (bases_of c.self.inside.loose.entries) (bases_of c.in_ok-loose.loose.entries)
+    c.in_ok-names.ensures c.in_ok-blocks.ensures (cloned_bases _ _ c.in_ok-loose.ensures.cases) ∙ c.self.view_is

@@ -1,0 +1,9 @@
+use Rattle.std.proofs.Common.{◌≡◌, take}
+use Rattle.nd_model.specs.Session as model
+use Rattle.nd_model.specs.Value as values
+use Rattle.nd_heap.specs.Contents.{bases_of}
+use Rattle.nd_heap.specs.Live.{is_base_among}
+use Rattle.nd_heap.proofs.name_table.NameTable.held_bases.Given as goal
+
+abbrev pub invariant-loop-i : goal.invariant-loop-i
+invariant-loop-i l = (b : values.Base) → is_base_among (bases_of l.held.entries) b ≡ model.is_held b (take l.i l.self)

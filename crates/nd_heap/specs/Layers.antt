@@ -1,0 +1,19 @@
+-- Names in layers: old ones, newer values of some of these, and names that were added behind them. Blocks that are there.
+use Rattle.std.specs.Prelude.{◌≡◌, ℕ, Bool, false, ◌||◌, List, [], ◌∷◌, None, unwrap_or}
+use Rattle.nd_model.specs.Value.{Base, same_base}
+use Rattle.nd_model.specs.Session.{Names, lookup}
+
+-- the old names, each with its newer value where there is one
+abbrev pub overridden : (newer old : Names) → Names
+overridden newer [] = []
+overridden newer (e ∷ es) = (e.0, unwrap_or (lookup e.0 newer) e.1) ∷ overridden newer es
+
+-- no name stands twice
+abbrev pub AreDistinctNames : Names → Type 0
+AreDistinctNames [] = Unit {0}
+AreDistinctNames (e ∷ es) = (lookup e.0 es ≡ None) × AreDistinctNames es
+
+-- there is a block of this base
+abbrev pub is_block_among : List (Base × List ℕ) → Base → Bool
+is_block_among [] b = false
+is_block_among (e ∷ es) b = same_base e.0 b || is_block_among es b

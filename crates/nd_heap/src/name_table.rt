@@ -1,0 +1,255 @@
+// Names in layers, so that a change copies few of them.
+
+ghost use Rattle.std.specs.Prelude.{◌≡◌, ◌<◌, ◌↔◌, [], Some, IfOk, IsFalse, false, OnErr, OnOk, length, option_map, slice_get};
+ghost use Rattle.std.specs.Rc.{rc_str_bytes};
+ghost use Rattle.nd_model.specs.Session as model;
+ghost use Rattle.nd_model.specs.Value as values;
+ghost use Rattle.nd_heap.specs.Contents.{bases_of};
+ghost use Rattle.nd_heap.specs.Layers.{AreDistinctNames};
+ghost use Rattle.nd_heap.specs.Live.{is_base_among};
+ghost use Rattle.nd_heap.specs.Loose.{LosesHolder};
+ghost use Rattle.nd_heap.specs.Values.{base_of, value_of, names_of};
+
+use crate::blocks::{Bases, note_base};
+use crate::memory::OutOfMemory;
+use crate::names::{Names, find, insert, is_held, lies_in, lies_in_label, remove, unbind};
+use crate::value::{Base, Value};
+use indexmap::IndexMap;
+use std::alloc::Global;
+use std::marker::Model;
+use std::rc::{Rc, RcStr};
+
+/// How many entries the newer layers have at most when a cell begins: more are put among the old ones, which copies all.
+pub(crate) const MANY: usize = 128;
+
+/// Names in order, with their values: old ones, which versions share, newer values of some of these, and names that were added
+/// behind them. A copy shares the old ones, so it copies few.
+#[derive(Drop)]
+pub(crate) struct NameTable {
+    shared: Rc<Names>,
+    newer: Names,
+    added: Names,
+    alloc: Global,
+}
+
+impl Model for NameTable {
+    ghost use Rattle.std.specs.Prelude.{◌++◌, List, ℕ};
+    ghost use Rattle.nd_model.specs.Value as values;
+
+    ghost Value = { List (List ℕ × values.Value) };
+
+    ghost use Rattle.nd_heap.specs.Layers.{overridden, AreDistinctNames};
+    ghost use Rattle.nd_heap.specs.Values.{names_of};
+
+    ghost view = { λ t. overridden (names_of t.newer.entries) (names_of t.shared.value.entries)
+        ++ names_of t.added.entries };
+
+    ghost invariant = { λ t. AreDistinctNames (overridden (names_of t.newer.entries)
+        (names_of t.shared.value.entries) ++ names_of t.added.entries) };
+}
+
+impl NameTable {
+    /// No names.
+    pub(crate) fn new(alloc: Global) -> Result<NameTable, OutOfMemory>
+        ensures { IfOk result (λ t. t ≡ []) }
+    {
+        let shared = Rc::new(alloc, IndexMap::new(alloc))?;
+        Ok(NameTable {
+            shared,
+            newer: IndexMap::new(alloc),
+            added: IndexMap::new(alloc),
+            alloc,
+        })
+    }
+
+    /// The same names.
+    pub(crate) fn try_clone(&self) -> Result<NameTable, OutOfMemory>
+        ensures { IfOk result (λ t. t ≡ self.now) }
+    {
+        let shared = self.shared.clone()?;
+        let newer = self.newer.clone()?;
+        let added = self.added.clone()?;
+        Ok(NameTable {
+            shared,
+            newer,
+            added,
+            alloc: self.alloc,
+        })
+    }
+
+    /// How many names there are.
+    pub(crate) fn len(&self) -> usize
+        ensures { result ≡ length self.now }
+    {
+        self.shared.as_ref().len() + self.added.len()
+    }
+
+    /// The value of a name.
+    pub(crate) fn find(&self, name: &str) -> Option<&Rc<Value>>
+        ensures { option_map (λ v. value_of v.now.value) result ≡ model.lookup name.now self.now }
+    {
+        let Some(value) = find(self.shared.as_ref(), name) else {
+            return find(&self.added, name);
+        };
+        match find(&self.newer, name) {
+            Some(newer) => Some(newer),
+            None => Some(value),
+        }
+    }
+
+    /// The name at a place, with its value.
+    pub(crate) fn entry(&self, place: usize) -> (&RcStr, &Rc<Value>)
+        requires { place < length self.now }
+        ensures { slice_get self.now place
+            ≡ Some (rc_str_bytes result.0.now, value_of result.1.now.value) }
+    {
+        let many = self.shared.as_ref().len();
+        if place >= many {
+            let Some(entry) = self.added.get_index(place - many) else {
+                unreachable!();
+            };
+            return entry;
+        }
+        let Some((name, value)) = self.shared.as_ref().get_index(place) else {
+            unreachable!();
+        };
+        match find(&self.newer, name.as_str()) {
+            Some(newer) => (name, newer),
+            None => (name, value),
+        }
+    }
+
+    /// Binds a name: one that is bound keeps its place, another goes last.
+    pub(crate) fn bind(&mut self, name: RcStr, value: Rc<Value>) -> Result<(), OutOfMemory>
+        ensures ok { OnOk result (self.new
+            ≡ model.bind (rc_str_bytes name) (value_of value.value) self.old) }
+        ensures err { OnErr result (self.new ≡ self.old) }
+    {
+        if find(self.shared.as_ref(), name.as_str()).is_some() {
+            insert(&mut self.newer, name, value)?;
+            return Ok(());
+        }
+        insert(&mut self.added, name, value)?;
+        Ok(())
+    }
+
+    /// Unbinds a name.
+    pub(crate) fn unbind(&mut self, name: &str) -> Result<(), OutOfMemory>
+        ensures ok { OnOk result (self.new ≡ model.unbind name.now self.old) }
+        ensures holders { OnOk result (LosesHolder name.now self.old self.new) }
+        ensures err { OnErr result (self.new ≡ self.old) }
+    {
+        if find(self.shared.as_ref(), name).is_some() {
+            self.unbind_shared(name)?;
+            return Ok(());
+        }
+        remove(&mut self.added, name);
+        Ok(())
+    }
+
+    /// Unbinds an old name. All names are copied where there are newer layers, or versions share the old one.
+    fn unbind_shared(&mut self, name: &str) -> Result<(), OutOfMemory>
+        ensures ok { OnOk result (self.new ≡ model.unbind name.now self.old) }
+        ensures err { OnErr result (self.new ≡ self.old) }
+    {
+        if self.newer.len() + self.added.len() > 0 {
+            let mut flat = self.flat()?;
+            remove(&mut flat, name);
+            self.hold(flat)?;
+            return Ok(());
+        }
+        unbind(&mut self.shared, name)?;
+        Ok(())
+    }
+
+    /// The names in one map.
+    fn flat(&self) -> Result<Names, OutOfMemory>
+        ensures { IfOk result (λ m. names_of m.entries ≡ self.now) }
+    {
+        let mut flat = IndexMap::with_capacity(self.alloc, self.len())?;
+        for i in 0..self.len() {
+            let (name, value) = self.entry(i);
+            insert(&mut flat, name.clone()?, value.clone()?)?;
+        }
+        Ok(flat)
+    }
+
+    /// Makes these names the old ones, and the only ones.
+    fn hold(&mut self, names: Names) -> Result<(), OutOfMemory>
+        requires { AreDistinctNames (names_of names.entries) }
+        ensures ok { OnOk result (self.new ≡ names_of names.entries) }
+        ensures err { OnErr result (self.new ≡ self.old) }
+    {
+        self.shared = Rc::new(self.alloc, names)?;
+        self.newer.clear();
+        self.added.clear();
+        Ok(())
+    }
+
+    /// Makes the old names the only layer where the others have grown.
+    pub(crate) fn settle(&mut self) -> Result<(), OutOfMemory>
+        ensures { self.new ≡ self.old }
+    {
+        if self.newer.len() + self.added.len() <= MANY {
+            return Ok(());
+        }
+        let flat = self.flat()?;
+        self.hold(flat)
+    }
+
+    /// Whether some bound value lies in the base, name by name.
+    fn has_holder(&self, base: Base) -> bool
+        ensures { result ≡ model.is_held (base_of base) self.now }
+    {
+        for i in 0..self.len() {
+            let (_, value) = self.entry(i);
+            if lies_in(value.as_ref(), base) {
+                return true;
+            }
+        }
+        false
+    }
+
+    /// Whether some bound value lies in the base. It takes no look-up of a name where no layer has such a value, or the last has.
+    pub(crate) fn is_held(&self, base: Base) -> bool
+        ensures { result ≡ model.is_held (base_of base) self.now }
+    {
+        if is_held(&self.added, base) {
+            return true;
+        }
+        if is_held(&self.newer, base) {
+            return self.has_holder(base);
+        }
+        if is_held(self.shared.as_ref(), base) {
+            return self.has_holder(base);
+        }
+        false
+    }
+
+    /// Whether some bound value lies in a base of the label.
+    pub(crate) fn is_label_held(&self, label: u64) -> bool
+        ensures { IsFalse result ↔ ((b : values.Base) → b.label ≡ label
+            → model.is_held b self.now ≡ false) }
+    {
+        for i in 0..self.len() {
+            let (_, value) = self.entry(i);
+            if lies_in_label(value.as_ref(), label) {
+                return true;
+            }
+        }
+        false
+    }
+
+    /// The bases that some bound value lies in.
+    pub(crate) fn held_bases(&self) -> Result<Bases, OutOfMemory>
+        ensures { IfOk result (λ held. (b : values.Base)
+            → is_base_among (bases_of held.entries) b ≡ model.is_held b self.now) }
+    {
+        let mut held = IndexMap::new(self.alloc);
+        for i in 0..self.len() {
+            let (_, value) = self.entry(i);
+            note_base(&mut held, value.as_ref())?;
+        }
+        Ok(held)
+    }
+}

@@ -1,0 +1,29 @@
+use Rattle.std.proofs.Common.{◌≡◌, ◌-◌, length, take, drop, sym, ap, subst, ◌∙◌, arith}
+use Rattle.nd_model.specs.Entries.{records_of}
+use Rattle.nd_model.specs.Notebook.{Sheet, book_of}
+use Rattle.nd_schedule.specs.Source.{cell_of, cells_of}
+use Rattle.nd_schedule.specs.Shared.{each_of, each_some}
+use Rattle.nd_schedule.specs.Runs.{IsRun}
+use Rattle.nd_schedule.proofs.Kept.{as_many}
+use Rattle.nd_schedule.proofs.Pass.{part_shared, kept_shared, kept_part_of}
+use Rattle.nd_schedule.proofs.notebook.Notebook.part.Goals as goal
+
+pub records_between-requires-clause-to : goal.records_between-requires-clause-to
+records_between-requires-clause-to g c =
+    let all : IsRun (book_of c.args.self.now) (each_of g.C.Cells.recorded c.self.inside.records.items) (each_some g.C.Cells.kept_session c.self.inside.versions.items) =
+    subst (λ (s : Sheet). IsRun (book_of s) (each_of g.C.Cells.recorded c.self.inside.records.items) (each_some g.C.Cells.kept_session c.self.inside.versions.items)) c.self.view_is c.self.invariant.run in
+    let many : length c.self.inside.records.items ≡ length c.args.self.now.cells = as_many (λ r. g.C.Cells.recorded r.value) (book_of c.args.self.now) c.self.inside.records.items all.records in
+    let same : length c.deref-2.result.now ≡ length c.self.inside.records.items = ap length c.deref-2.ensures.value in
+    omega (arith, c.requires.behind)
+
+pub returns-clause-cells : goal.returns-clause-cells
+returns-clause-cells g c =
+    part_shared (λ s. s.value) cell_of c.in_ok-cells.cells.items c.deref.result.now (c.args.behind - c.args.at) c.args.at c.in_ok-cells.ensures
+    ∙ ap (λ ss. take (c.args.behind - c.args.at) (drop c.args.at (cells_of ss))) c.deref.ensures.value ∙ ap (λ (s : Sheet). take (c.args.behind - c.args.at) (drop c.args.at s.cells)) c.self.view_is
+
+pub returns-clause-kept : goal.returns-clause-kept
+returns-clause-kept g c =
+    let all : IsRun (book_of c.args.self.now) (each_of g.C.Cells.recorded c.self.inside.records.items) (each_some g.C.Cells.kept_session c.self.inside.versions.items) =
+    subst (λ (s : Sheet). IsRun (book_of s) (each_of g.C.Cells.recorded c.self.inside.records.items) (each_some g.C.Cells.kept_session c.self.inside.versions.items)) c.self.view_is c.self.invariant.run in
+    kept_part_of (λ r. r.value) g.C.Cells.recorded (book_of c.args.self.now) all.distinct c.in_ok-kept.kept.items c.deref-2.result.now (c.args.behind - c.args.at) c.args.at c.in_ok-kept.ensures
+    (ap (each_of g.C.Cells.recorded) c.deref-2.ensures.value ∙ all.records)

@@ -20,7 +20,7 @@ use std::marker::Model;
 use std::rc::{Rc, RcStr};
 
 /// How many entries the newer layers have at most when a cell begins: more are put among the old ones, which copies all.
-pub(crate) const MANY: usize = 128;
+pub(crate) const MANY: usize = 256;
 
 /// Names in order, with their values: old ones, which versions share, newer values of some of these, and names that were added
 /// behind them. A copy shares the old ones, so it copies few.

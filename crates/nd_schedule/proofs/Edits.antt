@@ -1,5 +1,5 @@
 -- Edits of the list of cells and of what is kept of them.
-use Rattle.std.proofs.Common.{◌≡◌, ℕ, ◌<◌, List, [], ◌∷◌, ◌++◌, length, map, take, drop, get_or, ◌+◌, ◌-◌, ◌≤◌, true, false, Option, Some, None, option_map, Result, OnOk, refl, sym, ap, ap₂, subst, ◌∙◌, arith, Global}
+use Rattle.std.proofs.Common.{◌≡◌, ℕ, ◌<◌, List, [], ◌∷◌, ◌++◌, length, map, take, drop, get_or, ◌+◌, ◌-◌, ◌≤◌, true, false, Option, None, option_map, Result, OnOk, refl, sym, ap, ap₂, subst, ◌∙◌, arith, Global}
 use Rattle.std.specs.Prelude.{insert, remove, slice_set, slice_index_or, bytes_eq, string_bytes}
 use Rattle.std.specs.declared.rc.Rc.{Rc}
 use Rattle.std.specs.List.{splice}
@@ -7,16 +7,13 @@ use Rattle.std.proofs.lemmas.List.{length-drop, length-map, length-take-le}
 use Rattle.std.proofs.lemmas.List.Edits.{length-remove}
 use Rattle.nd_schedule.proofs.Spliced.{at_middle, splice_same, splice_insert, splice_remove, splice_set}
 use Rattle.nd_model.specs.Running as running
-use Rattle.nd_model.specs.Session.{no_session}
 use Rattle.nd_model.specs.Records.{Record}
 use Rattle.nd_model.specs.Renaming.{AreDistinct}
 use Rattle.nd_model.specs.Book.{Cell, Book, no_cell, is_label, labels_of, fresh_label, Insert, Change, Move, Remove, edited_cells}
-use Rattle.nd_model.specs.Entries.{record_at, entries_of, records_of}
 use Rattle.nd_model.specs.Stale.{kept_of, CountsStale}
 use Rattle.nd_model.proofs.EditKept.{map-insert, map-remove, map-slice_set, map-at, kept_new, kept_changed, same_change}
 use Rattle.nd_model.proofs.EditLabels.{fresh}
 use Rattle.nd_model.proofs.Lists.{same_bytes}
-use Rattle.nd_model.proofs.Lazy.{length-entries}
 use Rattle.nd_schedule.specs.declared.source.Source.{Source}
 use Rattle.nd_schedule.specs.Source.{cell_of, cells_of, sheet}
 use Rattle.nd_model.specs.Notebook.{Sheet, book_of, edited_sheet}

@@ -1,34 +1,19 @@
 -- Lists in which some are put in the place of those between two places.
-use Rattle.std.proofs.Common.{◌≡◌, ℕ, suc, ◌+◌, ◌-◌, ◌<◌, ◌≤◌, List, [], ◌∷◌, ◌++◌, length, map, take, drop, get_or, Result, refl, sym, ap, ap₂, ◌∙◌, arith}
+use Rattle.std.proofs.Common.{◌≡◌, ℕ, ◌+◌, ◌-◌, ◌<◌, ◌≤◌, List, [], ◌∷◌, ◌++◌, length, map, take, drop, get_or, Result, refl, sym, ap, ap₂, ◌∙◌, arith}
 use Rattle.std.specs.Prelude.{if◌then◌else◌, is_ok, insert, remove, slice_set}
 use Rattle.std.specs.List.{splice}
 use Rattle.std.specs.Result.{IsOk}
-use Rattle.std.proofs.lemmas.List.{append_assoc, append-nil, drop_all, take-append-drop, take-take, take-map, drop-map, drop-drop, drop_at, take_at, map-append, length-append, length-drop, length-take-le, get_or_append_left, get_or-append_right, get_or-drop, set-append_left, set-append_right}
+use Rattle.std.proofs.lemmas.List.{append_assoc, append-nil, drop_all, take-append-drop, take-map, drop-map, drop-drop, drop_at, take_at, map-append, length-append, length-drop, length-take-le, get_or_append_left, get_or-append_right, get_or-drop, set-append_left, set-append_right}
 use Rattle.std.proofs.lemmas.List.Edits.{insert-append_left, insert-append_right, remove-append_left, remove-append_right}
 
-pub grown : {X E Y : Type 0} (res : Result Y E) (r2 r3 ms : List X) → IsOk res → r3 ≡ (if is_ok res then r2 ++ ms else r2) → r3 ≡ r2 ++ ms
-grown res r2 r3 ms ok is = is ∙ ap (λ b. if b then r2 ++ ms else r2) ok
+-- what an insertion for which there is room leaves
+pub went_in : {X E Y : Type 0} (res : Result Y E) (old new more : List X) → IsOk res → new ≡ (if is_ok res then more else old) → new ≡ more
+went_in res old new more ok is = is ∙ ap (λ b. if b then more else old) ok
 
 same_sum : (i n : ℕ) → i + n - i ≡ n
 same_sum i n = omega arith
 
 module _ {X : Type 0} where
-  take_past : (bs ps : List X) (b n : ℕ) → length bs ≡ b → take (b + n) (bs ++ ps) ≡ bs ++ take n ps
-  take_past [] ps b n long = let e : b + n ≡ n = omega arith in ap (λ m. take m ps) e
-  take_past (x ∷ bs) ps b n long = let e : b + n ≡ suc (length bs + n) = omega arith in
-      ap (λ m. take m (x ∷ bs ++ ps)) e ∙ ap (λ l. x ∷ l) (take_past bs ps (length bs) n refl)
-
-  -- round and back, and they stand between
-  pub put_there : (xs ms r1 r2 r3 r4 : List X) (from to behind : ℕ) → from ≤ to → to ≤ length xs → behind ≡ length xs - to → r1 ≡ drop to xs ++ take to xs → r2 ≡ take (behind + from) r1
-      → r3 ≡ r2 ++ ms → r4 ≡ drop behind r3 ++ take behind r3 → r4 ≡ splice xs from to ms
-  put_there xs ms r1 r2 r3 r4 from to behind le in_list is a b c d =
-      let left : length (drop to xs) ≡ length xs - to = length-drop to xs in
-      let many : length (drop to xs) ≡ behind = omega arith in
-      let front : r2 ≡ drop to xs ++ take from xs = b ∙ ap (take (behind + from)) a ∙ take_past (drop to xs) (take to xs) behind from many ∙ ap (λ us. drop to xs ++ us) (take-take from to xs le) in
-      let all : r3 ≡ drop to xs ++ (take from xs ++ ms) = c ∙ ap (λ us. us ++ ms) front ∙ append_assoc (drop to xs) (take from xs) ms in
-      d ∙ ap₂ (λ (us ws : List X). us ++ ws) (ap (drop behind) all ∙ drop_at (drop to xs) (take from xs ++ ms) behind many) (ap (take behind) all ∙ take_at (drop to xs) (take from xs ++ ms) behind many)
-      ∙ append_assoc (take from xs) ms (drop to xs)
-
   -- ---- what stands where
 
   pub splice_front : (xs ms : List X) (i j : ℕ) → i ≤ length xs → take i (splice xs i j ms) ≡ take i xs
@@ -79,6 +64,47 @@ module _ {X : Type 0} where
   splice_set xs ms i j n x le lt =
       sym (set-append_right (take i xs) (ms ++ drop j xs) i (i + n) x (length-take-le i xs le) (omega arith) ∙ ap (λ m. take i xs ++ slice_set (ms ++ drop j xs) m x) (same_sum i n)
       ∙ ap (λ us. take i xs ++ us) (set-append_left ms (drop j xs) n x lt))
+
+-- ---- one more in the place of the next, or between, or one less behind
+
+module _ {X : Type 0} where
+  set_first : (ys : List X) (x : X) → 0 < length ys → slice_set ys 0 x ≡ x ∷ drop 1 ys
+  set_first [] x lt = absurd (omega arith)
+  set_first (y ∷ ys) x lt = refl
+
+  insert_end : (ms : List X) (x : X) → insert ms (length ms) x ≡ ms ++ x ∷ []
+  insert_end [] x = refl
+  insert_end (m ∷ ms) x = ap (λ l. m ∷ l) (insert_end ms x)
+
+  pub map_same : (xs : List X) → map (λ x. x) xs ≡ xs
+  map_same [] = refl
+  map_same (x ∷ xs) = ap (λ l. x ∷ l) (map_same xs)
+
+  remove_first : (ys : List X) → remove ys 0 ≡ drop 1 ys
+  remove_first [] = refl
+  remove_first (y ∷ ys) = refl
+
+  pub put_next : (xs ms : List X) (i p : ℕ) (x : X) → i ≤ length xs → p ≡ i + length ms → p < length xs → slice_set (splice xs i p ms) p x ≡ splice xs i (p + 1) (ms ++ x ∷ [])
+  put_next xs ms i p x le place lt =
+      let left : length (drop p xs) ≡ length xs - p = length-drop p xs in
+      let n : p - i ≡ length ms = omega arith in
+      let none : length ms - length ms ≡ 0 = omega arith in
+      set-append_right (take i xs) (ms ++ drop p xs) i p x (length-take-le i xs le) (omega arith)
+      ∙ ap (λ us. take i xs ++ us)
+      (ap (λ n. slice_set (ms ++ drop p xs) n x) n ∙ set-append_right ms (drop p xs) (length ms) (length ms) x refl (omega arith) ∙ ap (λ k. ms ++ slice_set (drop p xs) k x) none
+      ∙ ap (λ us. ms ++ us) (set_first (drop p xs) x (omega arith) ∙ ap (λ us. x ∷ us) (drop-drop 1 p xs)) ∙ sym (append_assoc ms (x ∷ []) (drop (p + 1) xs)))
+
+  pub put_more : (xs ms : List X) (i j p : ℕ) (x : X) → i ≤ length xs → p ≡ i + length ms → insert (splice xs i j ms) p x ≡ splice xs i j (ms ++ x ∷ [])
+  put_more xs ms i j p x le place = ap (λ p. insert (splice xs i j ms) p x) place ∙ sym (splice_insert xs ms i j (length ms) x le (omega arith)) ∙ ap (splice xs i j) (insert_end ms x)
+
+  pub one_less : (xs ms : List X) (i c p : ℕ) → i ≤ length xs → p ≡ i + length ms → remove (splice xs i c ms) p ≡ splice xs i (c + 1) ms
+  one_less xs ms i c p le place =
+      let n : p - i ≡ length ms = omega arith in
+      let none : length ms - length ms ≡ 0 = omega arith in
+      remove-append_right (take i xs) (ms ++ drop c xs) i p (length-take-le i xs le) (omega arith)
+      ∙ ap (λ us. take i xs ++ us)
+      (ap (remove (ms ++ drop c xs)) n ∙ remove-append_right ms (drop c xs) (length ms) (length ms) refl (omega arith) ∙ ap (λ k. ms ++ remove (drop c xs) k) none
+      ∙ ap (λ us. ms ++ us) (remove_first (drop c xs) ∙ drop-drop 1 c xs))
 
 pub map-splice : {X Y : Type 0} (f : X → Y) (xs ms : List X) (i j : ℕ) → map f (splice xs i j ms) ≡ splice (map f xs) i j (map f ms)
 map-splice {X} {Y} f xs ms i j =

@@ -49,7 +49,8 @@ use std::alloc::{AllocError, Global};
 use std::marker::Model;
 use std::rc::Rc;
 
-/// A list of cells, the inputs, and what is kept of running all cells in order from nothing.
+/// A list of cells, the inputs, and what is kept of running all cells in order from nothing: the record of each, beside some the
+/// session before it, and the session behind the last one, if it is there.
 #[derive(Drop)]
 pub struct Notebook<C: Cells> {
     cells: Vec<Rc<Source>>,
@@ -327,7 +328,7 @@ impl<C: Cells> Notebook<C> {
         let mut session = self.session_before(at)?;
         let mut since = since_last(&self.versions[..at]);
         for k in at..rest.new + (self.cells.len() - rest.old) {
-            let version = keep_due::<C>(self.alloc, &mut session, k, since)?;
+            let version = keep_due::<C>(self.alloc, &mut session, since)?;
             since = if version.is_some() {
                 1
             } else {

@@ -82,7 +82,8 @@ pub(crate) fn make_room<T: Drop>(
     list.reserve(count.saturating_sub(to - from))
 }
 
-/// Puts these in the place of those from one place up to another. It takes no memory, since there is room.
+/// Puts these in the place of those from one place up to another. It takes no memory, since there is room. What stands behind is
+/// moved once for each that there is more or less, and an edit has at most one more or one less.
 pub(crate) fn put_between<T: Drop>(list: &mut Vec<T>, from: usize, to: usize, middle: Vec<T>)
     requires from { from ≤ to }
     requires to { to ≤ length list.old.items }
@@ -90,10 +91,16 @@ pub(crate) fn put_between<T: Drop>(list: &mut Vec<T>, from: usize, to: usize, mi
         ≤ vec_capacity list.old + (to - from) }
     ensures { list.new.items ≡ splice list.old.items from to middle.items }
 {
-    let mut middle = middle;
-    let behind = list.len() - to;
-    list.rotate_left(to);
-    list.truncate(behind + from);
-    let _room = list.append(&mut middle);
-    list.rotate_left(behind);
+    let mut place = from;
+    for one in middle {
+        if place < to {
+            list[place] = one;
+        } else {
+            let _room = list.insert(place, one);
+        }
+        place += 1;
+    }
+    for _ in place..to {
+        let _gone = list.remove(place);
+    }
 }

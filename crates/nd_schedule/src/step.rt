@@ -14,12 +14,8 @@ use nd_meter::Meter;
 use std::alloc::{AllocError, Global};
 use std::rc::Rc;
 
-/// How many cells apart two versions are at least.
+/// How many cells apart two versions are at least. They share most names and blocks with one another.
 const APART: usize = 32;
-
-/// Versions are further apart behind many cells: by one cell for so many before them. So all versions of a notebook together have
-/// a few times as many names as its last session, where there might be one for each cell and each name.
-const FOR_ONE: usize = 16;
 
 /// Keeps the session.
 pub(crate) fn keep<C: Cells>(
@@ -33,18 +29,17 @@ pub(crate) fn keep<C: Cells>(
     Ok(Rc::new(alloc, version)?)
 }
 
-/// Keeps the session before the cell at the place, if there are enough cells since the last version.
+/// Keeps the session, if there are enough cells since the last version.
 pub(crate) fn keep_due<C: Cells>(
     alloc: Global,
     session: &mut C::Session,
-    at: usize,
     since: usize,
 ) -> Result<Option<Rc<C::Version>>, AllocError>
     ensures same { C.session_of session.new ≡ C.session_of session.old }
     ensures kept { IfOk result
         (λ o. IfSome o (λ v. C.kept_session v.value ≡ C.session_of session.old)) }
 {
-    if since < APART.max(at / FOR_ONE) {
+    if since < APART {
         return Ok(None);
     }
     Ok(Some(keep::<C>(alloc, session)?))

@@ -1,4 +1,4 @@
-use Rattle.std.proofs.Common.{◌≡◌, ◌∙◌, ◌<◌, length, get_or, true, false, sym, arith, Global}
+use Rattle.std.proofs.Common.{◌≡◌, ◌∙◌, ◌<◌, length, false, sym, arith, Global}
 use Rattle.std.proofs.lemmas.List.{get_or_default, length-map}
 use Rattle.std.specs.declared.rc.Rc.{Rc}
 use Rattle.nd_schedule.specs.declared.source.Source.{Source}

@@ -1,10 +1,10 @@
-use Rattle.std.proofs.Common.{◌≡◌, ◌+◌, ◌-◌, ◌<◌, ◌≤◌, length, refl, sym, ap, subst, ◌∙◌, arith}
-use Rattle.nd_model.proofs.EditLabels.{insert_distinct, change_distinct, move_distinct, remove_distinct}
-use Rattle.nd_model.specs.Book.{Cell, fresh_label}
+use Rattle.std.proofs.Common.{◌≡◌, ◌+◌, ◌-◌, length, refl, sym, ap, ◌∙◌, arith}
+use Rattle.nd_model.proofs.EditLabels.{change_distinct}
+use Rattle.nd_model.specs.Book.{Cell}
 use Rattle.nd_model.specs.Notebook.{Sheet, book_of}
 use Rattle.nd_schedule.specs.declared.source.Source.{Source}
-use Rattle.nd_schedule.specs.Source.{cell_of, cells_of}
-use Rattle.nd_schedule.proofs.Edits.{same_distinct, same_counts, same_sheet, label_at, another, unchanged, is_inserted, is_changed, is_moved, is_removed, kept_inserted, kept_changed_to, kept_moved, kept_removed, kept_long, part_long}
+use Rattle.nd_schedule.specs.Source.{cell_of}
+use Rattle.nd_schedule.proofs.Edits.{same_distinct, same_counts, same_sheet, label_at, another, unchanged, is_changed, kept_changed_to, kept_long}
 use Rattle.nd_schedule.proofs.notebook.Notebook.edit.Goals as goal
 
 pub returns-then-eq-clause-ok : goal.returns-then-eq-clause-ok

@@ -1,4 +1,4 @@
-use Rattle.std.proofs.Common.{◌≡◌, ◌+◌, ◌-◌, ◌<◌, ◌≤◌, [], length, refl, sym, ap, subst, ◌∙◌, arith}
+use Rattle.std.proofs.Common.{◌≡◌, ◌+◌, ◌-◌, ◌<◌, ◌≤◌, length, refl, sym, ap, subst, ◌∙◌, arith}
 use Rattle.std.proofs.lemmas.List.{length-map, map-append}
 use Rattle.std.specs.List.{splice}
 use Rattle.nd_model.specs.Book.{Book}
@@ -11,7 +11,7 @@ use Rattle.nd_schedule.specs.Source.{sheet, cell_of, cells_of}
 use Rattle.nd_schedule.specs.Shared.{each_of, each_some, some_of}
 use Rattle.nd_schedule.specs.Runs.{IsRun}
 use Rattle.nd_schedule.proofs.Pass.{none_yet, counts_stale, none_there, kept_there, counts_more, records_more, session_more, entry_is, version_made, length_more, pushed_behind, length_with}
-use Rattle.nd_schedule.proofs.Cut.{IsFront, front_none, records_none, version_more, rest_met, met_there, cut_middle, whole_middle, unseen_middle, end_same}
+use Rattle.nd_schedule.proofs.Cut.{front_none, records_none, version_more, rest_met, met_there, cut_middle, whole_middle, unseen_middle, end_same}
 use Rattle.nd_schedule.proofs.notebook.Notebook.pass.Goals as goal
 
 pub returns-then-goes_unseen-clause-ok : goal.returns-then-goes_unseen-clause-ok

@@ -1,7 +1,6 @@
-use Rattle.std.proofs.Common.{◌≡◌, ◌≤◌, length, refl, sym, ap, ap₂, subst, ◌∙◌, arith}
+use Rattle.std.proofs.Common.{◌≡◌, length, refl, sym, ap, ap₂, subst, ◌∙◌, arith}
 use Rattle.std.specs.List.{splice}
 use Rattle.std.specs.Option.{option_or}
-use Rattle.nd_model.specs.Book.{Cell}
 use Rattle.nd_model.specs.Entries.{records_of}
 use Rattle.nd_model.specs.Notebook.{Sheet, book_of, inputs_in}
 use Rattle.nd_model.proofs.CutOff.{unread_same}

@@ -1,7 +1,6 @@
 use Rattle.std.proofs.Common.{◌≡◌, ◌≤◌, ℕ, length, refl, sym, ap, subst, ◌∙◌, arith}
 use Rattle.std.specs.List.{splice}
 use Rattle.std.specs.Option.{option_or}
-use Rattle.nd_model.specs.Book.{Book, Cell}
 use Rattle.nd_model.specs.Entries.{records_of, SharesFront}
 use Rattle.nd_model.specs.Notebook.{Sheet, book_of}
 use Rattle.nd_schedule.specs.Source.{cells_of, sheet}

@@ -2,5 +2,6 @@ pub mod Chunks
 pub mod Counts
 pub mod Ended
 pub mod Lines
+pub mod Plain
 pub mod Progress
 pub mod Writing

@@ -6,11 +6,11 @@ use Rattle.std.specs.List.{slice_split}
 use Rattle.std.proofs.KnownBytes.{Appends-nil, Appends-trans, Consumes-kept, Consumes-trans}
 use Rattle.std.proofs.lemmas.Bool.{ne_eqb, false≢true}
 use Rattle.std.proofs.lemmas.List.Splits.{slice_split_at}
-use Rattle.nd_model.specs.Book.{Book}
-use Rattle.nd_model.specs.Script.{Command, Bad, Answer, Answers, CutAnswers, IsFront, AreFirst, RunsCut, Line, Whole, Opens, Stage, Between, Within, step, step_of_line, read_line, is_dot, closed, commands, commands_from, completed, completed_from, lines_of, ended_lines, last_line, left_open}
+use Rattle.nd_lines.specs.Counts.{Tally, CountedAnswer, CountedAnswers, CutCountedAnswers, CountedCut, CountedAt, CountedToEnd, CountedStop}
+use Rattle.nd_model.specs.Script.{Command, Bad, IsFront, AreFirst, Line, Whole, Opens, Stage, Between, Within, step, step_of_line, read_line, is_dot, closed, commands, commands_from, completed, completed_from, lines_of, ended_lines, last_line, left_open}
 use Rattle.nd_lines.specs.declared.run_fault.RunFault.{RunFault}
 use Rattle.nd_lines.specs.declared.run_fault.RunFault.TheVariants.{ReadFault, WriteFault, LineTooLong, OutOfMemory}
-use Rattle.nd_model.specs.ScriptRuns.{most_line, AreWholeLines, IsInLine, RanToEnd, RunsAt, StoppedAt}
+use Rattle.nd_model.specs.ScriptRuns.{most_line, AreWholeLines, IsInLine}
 use Rattle.nd_lines.specs.Run.{open_answer, run_fault_of, IsInAnswer, stage_behind, DoneInPart, LineRuns, LineStops, Finishes, FinishStops, Runs, AnswersAt, Before, Stops, Wrote}
 use Rattle.nd_lines.proofs.Lines.{one_line, parts_are_some}
 use Rattle.nd_lines.proofs.Ended.{whole-append, ended_lines-append, ended_lines-open, ended_lines-one, completed_from-append, stage_behind-append, commands_behind, completed_are_first}
@@ -29,38 +29,38 @@ lines_of-open l inside = rw (one_line l inside) refl
 
 -- ---- answers
 
-pub Answers-append : (cs ds : List Command) (old mid new : Book) (one two : List ℕ) → Answers cs old one mid → Answers ds mid two new → Answers (cs ++ ds) old (one ++ two) new
-Answers-append [] ds old mid new one two first second = rw (first.0, ← first.1) second
-Answers-append (c ∷ cs) ds old mid new one two first second =
-    (first.0, first.1 ++ two, first.2, rw first.3 (append_assoc first.0 first.1 two), first.4, Answers-append cs ds first.2 mid new first.1 two first.5 second)
+pub CountedAnswers-append : (cs ds : List Command) (old mid new : Tally) (one two : List ℕ) → CountedAnswers cs old one mid → CountedAnswers ds mid two new → CountedAnswers (cs ++ ds) old (one ++ two) new
+CountedAnswers-append [] ds old mid new one two first second = rw (first.0, ← first.1) second
+CountedAnswers-append (c ∷ cs) ds old mid new one two first second =
+    (first.0, first.1 ++ two, first.2, rw first.3 (append_assoc first.0 first.1 two), first.4, CountedAnswers-append cs ds first.2 mid new first.1 two first.5 second)
 
 -- the answer of one command
-pub only_answer : (c : Command) (old new : Book) (text : List ℕ) → Answers (c ∷ []) old text new → Answer c old text new
+pub only_answer : (c : Command) (old new : Tally) (text : List ℕ) → CountedAnswers (c ∷ []) old text new → CountedAnswer c old text new
 only_answer c old new text given =
     let same : text ≡ given.0 = given.3 ∙ ap (λ r. given.0 ++ r) given.5.0 ∙ append-nil given.0 in
     rw (same, given.5.1) given.4
 
 -- answers that are whole are cut nowhere
-pub cut_nowhere : (cs : List Command) (old new : Book) (text : List ℕ) → Answers cs old text new → CutAnswers cs old text new
+pub cut_nowhere : (cs : List Command) (old new : Tally) (text : List ℕ) → CountedAnswers cs old text new → CutCountedAnswers cs old text new
 cut_nowhere [] old new text given = given
 cut_nowhere (c ∷ []) old new text given = (text, ([], sym (append-nil text)), only_answer c old new text given)
 cut_nowhere (c ∷ d ∷ cs) old new text given = (given.0, given.1, given.2, given.3, given.4, cut_nowhere (d ∷ cs) given.2 new given.1 given.5)
 
-pub CutAnswers-append : (cs ds : List Command) (old mid new : Book) (one two : List ℕ) → Answers cs old one mid → CutAnswers ds mid two new → CutAnswers (cs ++ ds) old (one ++ two) new
-CutAnswers-append [] ds old mid new one two first second = rw (first.0, ← first.1) second
-CutAnswers-append (c ∷ []) [] old mid new one two first second =
+pub CutCountedAnswers-append : (cs ds : List Command) (old mid new : Tally) (one two : List ℕ) → CountedAnswers cs old one mid → CutCountedAnswers ds mid two new → CutCountedAnswers (cs ++ ds) old (one ++ two) new
+CutCountedAnswers-append [] ds old mid new one two first second = rw (first.0, ← first.1) second
+CutCountedAnswers-append (c ∷ []) [] old mid new one two first second =
     let same : one ≡ (one ++ two) ++ [] = sym (append-nil (one ++ two) ∙ ap (λ r. one ++ r) second.0 ∙ append-nil one) in
     (one, ([], same), rw second.1 (only_answer c old mid one first))
-CutAnswers-append (c ∷ []) (d ∷ ds) old mid new one two first second = (one, two, mid, refl, only_answer c old mid one first, second)
-CutAnswers-append (c ∷ e ∷ cs) ds old mid new one two first second =
-    (first.0, first.1 ++ two, first.2, rw first.3 (append_assoc first.0 first.1 two), first.4, CutAnswers-append (e ∷ cs) ds first.2 mid new first.1 two first.5 second)
+CutCountedAnswers-append (c ∷ []) (d ∷ ds) old mid new one two first second = (one, two, mid, refl, only_answer c old mid one first, second)
+CutCountedAnswers-append (c ∷ e ∷ cs) ds old mid new one two first second =
+    (first.0, first.1 ++ two, first.2, rw first.3 (append_assoc first.0 first.1 two), first.4, CutCountedAnswers-append (e ∷ cs) ds first.2 mid new first.1 two first.5 second)
 
 empty_front : (front rest : List ℕ) → [] ≡ front ++ rest → front ≡ []
 empty_front [] rest e = refl
 empty_front (x ∷ xs) rest e = cc
 
 -- of one command a front of the answer is a cut answer
-pub cut_few : (cs : List Command) (old new : Book) (text front rest : List ℕ) → length cs ≤ 1 → Answers cs old text new → text ≡ front ++ rest → CutAnswers cs old front new
+pub cut_few : (cs : List Command) (old new : Tally) (text front rest : List ℕ) → length cs ≤ 1 → CountedAnswers cs old text new → text ≡ front ++ rest → CutCountedAnswers cs old front new
 cut_few [] old new text front rest few given cut = (empty_front front rest (sym given.0 ∙ cut), given.1)
 cut_few (c ∷ []) old new text front rest few given cut = (text, (rest, cut), only_answer c old new text given)
 cut_few (c ∷ d ∷ cs) old new text front rest few given cut = absurd (omega arith)
@@ -84,13 +84,13 @@ fewer_in_front xs ys front few =
 -- ---- lines that were run
 
 -- what was done, and then written
-pub line_runs : (s t : Stage) (line answer : List ℕ) (old new : Book) (was now : Option (List ℕ)) → t ≡ (step s line).1 → Answers (step s line).0 old answer new → Wrote was answer true now
+pub line_runs : (s t : Stage) (line answer : List ℕ) (old new : Tally) (was now : Option (List ℕ)) → t ≡ (step s line).1 → CountedAnswers (step s line).0 old answer new → Wrote was answer true now
     → LineRuns s line t old was now new
 line_runs s t line answer old new was now stage answers wrote =
     let same : answer ≡ wrote.front = wrote.cut ∙ ap (λ r. wrote.front ++ r) (wrote.whole refl) ∙ append-nil wrote.front in
     record { written = answer; stage = stage; appended = rw same wrote.appended; answers = answers }
 
-pub line_stops : (s : Stage) (line answer : List ℕ) (old new : Book) (was now : Option (List ℕ)) → Answers (step s line).0 old answer new → Wrote was answer false now
+pub line_stops : (s : Stage) (line answer : List ℕ) (old new : Tally) (was now : Option (List ℕ)) → CountedAnswers (step s line).0 old answer new → Wrote was answer false now
     → LineStops s line old was now new
 line_stops s line answer old new was now answers wrote = record {
   executed = (step s line).0;
@@ -101,7 +101,7 @@ line_stops s line answer old new was now answers wrote = record {
 }
 
 -- nothing was written
-pub line_unwritten : (s : Stage) (line : List ℕ) (old new : Book) (was : Option (List ℕ)) (executed : List Command) (whole : List ℕ) → IsFront executed (step s line).0 → Answers executed old whole new
+pub line_unwritten : (s : Stage) (line : List ℕ) (old new : Tally) (was : Option (List ℕ)) (executed : List Command) (whole : List ℕ) → IsFront executed (step s line).0 → CountedAnswers executed old whole new
     → LineStops s line old was was new
 line_unwritten s line old new was executed whole first answers = record {
   executed = executed;
@@ -120,7 +120,7 @@ done_later s t cs ds first second before stage after =
 
 -- ---- bytes that were run
 
-pub runs_none : (s : Stage) (line : List ℕ) (old : Book) (was : Option (List ℕ)) → Runs s line [] s line old was was old
+pub runs_none : (s : Stage) (line : List ℕ) (old : Tally) (was : Option (List ℕ)) → Runs s line [] s line old was was old
 runs_none s line old was = record {
   whole = [];
   executed = [];
@@ -134,7 +134,7 @@ runs_none s line old was = record {
 }
 
 -- some more of a line
-pub runs_part : (s : Stage) (line bytes : List ℕ) (t : Stage) (begun part : List ℕ) (old new : Book) (was now : Option (List ℕ)) → Runs s line bytes t begun old was now new
+pub runs_part : (s : Stage) (line bytes : List ℕ) (t : Stage) (begun part : List ℕ) (old new : Tally) (was now : Option (List ℕ)) → Runs s line bytes t begun old was now new
     → Runs s line (bytes ++ part) t (begun ++ part) old was now new
 runs_part s line bytes t begun part old new was now r = record {
   whole = r.whole;
@@ -149,7 +149,7 @@ runs_part s line bytes t begun part old new was now r = record {
 }
 
 -- one run after another
-pub runs_runs : (s : Stage) (line bytes : List ℕ) (t : Stage) (begun more : List ℕ) (u : Stage) (rest : List ℕ) (old mid new : Book) (was now then_now : Option (List ℕ)) → Runs s line bytes t begun old was now mid
+pub runs_runs : (s : Stage) (line bytes : List ℕ) (t : Stage) (begun more : List ℕ) (u : Stage) (rest : List ℕ) (old mid new : Tally) (was now then_now : Option (List ℕ)) → Runs s line bytes t begun old was now mid
     → Runs t begun more u rest mid now then_now new → Runs s line (bytes ++ more) u rest old was then_now new
 runs_runs s line bytes t begun more u rest old mid new was now then_now r q =
     let first = ended_lines r.whole in
@@ -164,11 +164,11 @@ runs_runs s line bytes t begun more u rest old mid new was now then_now r q =
       stage = q.stage ∙ ap (λ v. stage_behind v second) r.stage ∙ sym (ap (stage_behind s) both ∙ stage_behind-append s first second);
       done = done_later s t r.executed q.executed first second r.done r.stage q.done ∙ sym (ap (completed_from s) both);
       appended = Appends-trans was now then_now r.written q.written r.appended q.appended;
-      answers = Answers-append r.executed q.executed old mid new r.written q.written r.answers q.answers;
+      answers = CountedAnswers-append r.executed q.executed old mid new r.written q.written r.answers q.answers;
     }
 
 -- the newline behind a line
-line_ended : (t u : Stage) (begun : List ℕ) (mid new : Book) (now then_now : Option (List ℕ)) → IsInLine begun → LineRuns t begun u mid now then_now new → Runs t begun (10 ∷ []) u [] mid now then_now new
+line_ended : (t u : Stage) (begun : List ℕ) (mid new : Tally) (now then_now : Option (List ℕ)) → IsInLine begun → LineRuns t begun u mid now then_now new → Runs t begun (10 ∷ []) u [] mid now then_now new
 line_ended t u begun mid new now then_now inside l =
     let ended : ended_lines (begun ++ 10 ∷ []) ≡ begun ∷ [] = ended_lines-one begun inside in
     record {
@@ -184,13 +184,13 @@ line_ended t u begun mid new now then_now inside l =
     }
 
 -- a whole line more
-pub runs_line : (s : Stage) (line bytes : List ℕ) (t u : Stage) (begun : List ℕ) (old mid new : Book) (was now then_now : Option (List ℕ)) → IsInLine begun → Runs s line bytes t begun old was now mid
+pub runs_line : (s : Stage) (line bytes : List ℕ) (t u : Stage) (begun : List ℕ) (old mid new : Tally) (was now then_now : Option (List ℕ)) → IsInLine begun → Runs s line bytes t begun old was now mid
     → LineRuns t begun u mid now then_now new → Runs s line (bytes ++ 10 ∷ []) u [] old was then_now new
 runs_line s line bytes t u begun old mid new was now then_now inside r l =
     runs_runs s line bytes t begun (10 ∷ []) u [] old mid new was now then_now r (line_ended t u begun mid new now then_now inside l)
 
 -- the commands of a script behind these bytes
-pub splits : {s t : Stage} {line bytes begun : List ℕ} {old new : Book} {was now : Option (List ℕ)} (r : Runs s line bytes t begun old was now new) (more : List ℕ)
+pub splits : {s t : Stage} {line bytes begun : List ℕ} {old new : Tally} {was now : Option (List ℕ)} (r : Runs s line bytes t begun old was now new) (more : List ℕ)
     → commands_from s (lines_of (line ++ (bytes ++ more))) ≡ r.executed ++ commands_from t (lines_of (begun ++ more))
 splits {s} {t} {line} {bytes} {begun} r more =
     let place : line ++ (bytes ++ more) ≡ r.whole ++ (begun ++ more) = sym (append_assoc line bytes more) ∙ ap (λ xs. xs ++ more) r.place ∙ append_assoc r.whole begun more in
@@ -200,7 +200,7 @@ splits {s} {t} {line} {bytes} {begun} r more =
 
 -- ---- runs that stop
 
-answers_at : (f : RunFault) (cs : List Command) (old new : Book) (text : List ℕ) → IsInAnswer f → CutAnswers cs old text new → AnswersAt f cs old text new
+answers_at : (f : RunFault) (cs : List Command) (old new : Tally) (text : List ℕ) → IsInAnswer f → CutCountedAnswers cs old text new → AnswersAt f cs old text new
 answers_at ReadFault cs old new text h cut = absurd h
 answers_at WriteFault cs old new text h cut = cut
 answers_at LineTooLong cs old new text h cut = absurd h
@@ -213,7 +213,7 @@ before_at LineTooLong s cs bytes h = absurd h
 before_at OutOfMemory s cs bytes h = tt
 
 -- within the answer to a line
-pub stops_line : (f : RunFault) (s : Stage) (line bytes : List ℕ) (t : Stage) (begun tail : List ℕ) (old mid new : Book) (was now then_now : Option (List ℕ)) → IsInAnswer f → IsInLine begun
+pub stops_line : (f : RunFault) (s : Stage) (line bytes : List ℕ) (t : Stage) (begun tail : List ℕ) (old mid new : Tally) (was now then_now : Option (List ℕ)) → IsInAnswer f → IsInLine begun
     → Runs s line bytes t begun old was now mid → LineStops t begun mid now then_now new → Stops f s line (bytes ++ 10 ∷ tail) old was then_now new
 stops_line f s line bytes t begun tail old mid new was now then_now h inside r l = record {
   executed = r.executed ++ l.executed;
@@ -227,12 +227,12 @@ stops_line f s line bytes t begun tail old mid new was now then_now h inside r l
             ∙ ap (λ cs. r.executed ++ cs) (append_assoc l.executed l.first.0 after) ∙ sym (append_assoc r.executed l.executed (l.first.0 ++ after)),
       );
   appended = Appends-trans was now then_now r.written l.written r.appended l.appended;
-  answers = answers_at f (r.executed ++ l.executed) old new (r.written ++ l.written) h (CutAnswers-append r.executed l.executed old mid new r.written l.written r.answers l.answers);
+  answers = answers_at f (r.executed ++ l.executed) old new (r.written ++ l.written) h (CutCountedAnswers-append r.executed l.executed old mid new r.written l.written r.answers l.answers);
   before = before_at f s (r.executed ++ l.executed) (line ++ (bytes ++ 10 ∷ tail)) h;
 }
 
 -- a line is too long
-pub stops_long : (s : Stage) (line bytes : List ℕ) (t : Stage) (begun part tail : List ℕ) (old new : Book) (was now : Option (List ℕ)) → IsInLine (begun ++ part) → most_line < length (begun ++ part)
+pub stops_long : (s : Stage) (line bytes : List ℕ) (t : Stage) (begun part tail : List ℕ) (old new : Tally) (was now : Option (List ℕ)) → IsInLine (begun ++ part) → most_line < length (begun ++ part)
     → Runs s line bytes t begun old was now new → Stops LineTooLong s line (bytes ++ (part ++ tail)) old was now new
 stops_long s line bytes t begun part tail old new was now inside long r = record {
   executed = r.executed;
@@ -258,7 +258,7 @@ stops_long s line bytes t begun part tail old new was now inside long r = record
 }
 
 -- no memory for a line
-pub stops_memory : (s : Stage) (line bytes : List ℕ) (t : Stage) (begun tail : List ℕ) (old new : Book) (was now : Option (List ℕ)) → Runs s line bytes t begun old was now new → Stops OutOfMemory s line (bytes ++ tail) old was now new
+pub stops_memory : (s : Stage) (line bytes : List ℕ) (t : Stage) (begun tail : List ℕ) (old new : Tally) (was now : Option (List ℕ)) → Runs s line bytes t begun old was now new → Stops OutOfMemory s line (bytes ++ tail) old was now new
 stops_memory s line bytes t begun tail old new was now r = record {
   executed = r.executed;
   written = r.written;
@@ -273,7 +273,7 @@ stops_memory s line bytes t begun tail old new was now r = record {
 
 -- ---- one command
 
-pub one_answer : (c : Command) (old new : Book) (text : List ℕ) → Answer c old text new → Answers (c ∷ []) old text new
+pub one_answer : (c : Command) (old new : Tally) (text : List ℕ) → CountedAnswer c old text new → CountedAnswers (c ∷ []) old text new
 one_answer c old new text given = (text, [], new, sym (append-nil text), given, (refl, refl))
 
 -- ---- lines that are written
@@ -290,25 +290,25 @@ pub on_err_any : {T E P : Type 0} (r : Result T E) → P → OnErr r P
 on_err_any (Ok x) p = tt
 on_err_any (Err e) p = p
 
-pub line_unwritten_from : (s : Stage) (line : List ℕ) (old new : Book) (was : Option (List ℕ)) → DoneInPart s line old new → LineStops s line old was was new
+pub line_unwritten_from : (s : Stage) (line : List ℕ) (old new : Tally) (was : Option (List ℕ)) → DoneInPart s line old new → LineStops s line old was was new
 line_unwritten_from s line old new was given = line_unwritten s line old new was given.0 given.2.0 given.1 given.2.1
 
-pub line_stopped : (r : Result (Unit {0}) RunFault) (s : Stage) (line answer : List ℕ) (old new : Book) (was now : Option (List ℕ)) → Answers (step s line).0 old answer new → Wrote was answer (is_ok r) now → OnErr r (LineStops s line old was now new)
+pub line_stopped : (r : Result (Unit {0}) RunFault) (s : Stage) (line answer : List ℕ) (old new : Tally) (was now : Option (List ℕ)) → CountedAnswers (step s line).0 old answer new → Wrote was answer (is_ok r) now → OnErr r (LineStops s line old was now new)
 line_stopped (Ok x) s line answer old new was now answers wrote = tt
 line_stopped (Err e) s line answer old new was now answers wrote = line_stops s line answer old new was now answers wrote
 
 -- ---- the end of a script
 
 -- what is left behind the last line
-left_answers : (s : Stage) (old : Book) → Answers (left_open s) old (open_answer s) old
+left_answers : (s : Stage) (old : Tally) → CountedAnswers (left_open s) old (open_answer s) old
 left_answers Between old = (refl, refl)
-left_answers (Within o before) old = one_answer Bad old old (open_answer (Within o before)) (inl (refl, refl))
+left_answers (Within o before) old = one_answer Bad old old (open_answer (Within o before)) (inl (refl, refl), refl)
 
-left_cut : (s : Stage) (old : Book) (front rest : List ℕ) → open_answer s ≡ front ++ rest → CutAnswers (left_open s) old front old
+left_cut : (s : Stage) (old : Tally) (front rest : List ℕ) → open_answer s ≡ front ++ rest → CutCountedAnswers (left_open s) old front old
 left_cut Between old front rest e = (empty_front front rest e, refl)
-left_cut (Within o before) old front rest e = (open_answer (Within o before), (rest, e), inl (refl, refl))
+left_cut (Within o before) old front rest e = (open_answer (Within o before), (rest, e), (inl (refl, refl), refl))
 
-finish_empty : (r : Result (Unit {0}) RunFault) (s : Stage) (old : Book) (was now : Option (List ℕ)) → Wrote was (open_answer s) (is_ok r) now → OnOk r (Finishes s [] old was now old) × OnErr r (FinishStops s [] old was now old)
+finish_empty : (r : Result (Unit {0}) RunFault) (s : Stage) (old : Tally) (was now : Option (List ℕ)) → Wrote was (open_answer s) (is_ok r) now → OnOk r (Finishes s [] old was now old) × OnErr r (FinishStops s [] old was now old)
 finish_empty (Ok x) s old was now wrote =
     let same : open_answer s ≡ wrote.front = wrote.cut ∙ ap (λ q. wrote.front ++ q) (wrote.whole refl) ∙ append-nil wrote.front in
     (record { written = open_answer s; appended = rw same wrote.appended; answers = left_answers s old }, tt)
@@ -324,7 +324,7 @@ finish_empty (Err e) s old was now wrote = (
 )
 
 -- no line is open
-pub finish_none : (r : Result (Unit {0}) RunFault) (s : Stage) (line : List ℕ) (old : Book) (was now : Option (List ℕ)) → line ≡ [] → Wrote was (open_answer s) (is_ok r) now → OnOk r (Finishes s line old was now old) × OnErr r (FinishStops s line old was now old)
+pub finish_none : (r : Result (Unit {0}) RunFault) (s : Stage) (line : List ℕ) (old : Tally) (was now : Option (List ℕ)) → line ≡ [] → Wrote was (open_answer s) (is_ok r) now → OnOk r (Finishes s line old was now old) × OnErr r (FinishStops s line old was now old)
 finish_none r s line old was now none wrote = rw none (finish_empty r s old was now wrote)
 
 -- the commands behind a last line
@@ -333,7 +333,7 @@ last_commands s [] inside some = absurd (omega arith)
 last_commands s (c ∷ cs) inside some = ap (commands_from s) (lines_of-open (c ∷ cs) inside)
 
 -- a line was open, and is answered
-pub finish_some : (r : Result (Unit {0}) RunFault) (s t : Stage) (line : List ℕ) (old mid : Book) (was now then_now : Option (List ℕ)) → IsInLine line → 0 < length line → LineRuns s line t old was now mid → Wrote now (open_answer t) (is_ok r) then_now
+pub finish_some : (r : Result (Unit {0}) RunFault) (s t : Stage) (line : List ℕ) (old mid : Tally) (was now then_now : Option (List ℕ)) → IsInLine line → 0 < length line → LineRuns s line t old was now mid → Wrote now (open_answer t) (is_ok r) then_now
     → OnOk r (Finishes s line old was then_now mid) × OnErr r (FinishStops s line old was then_now mid)
 finish_some (Ok x) s t line old mid was now then_now inside some l wrote =
     let same : open_answer t ≡ wrote.front = wrote.cut ∙ ap (λ q. wrote.front ++ q) (wrote.whole refl) ∙ append-nil wrote.front in
@@ -341,7 +341,7 @@ finish_some (Ok x) s t line old mid was now then_now inside some l wrote =
       record {
         written = l.written ++ open_answer t;
         appended = Appends-trans was now then_now l.written (open_answer t) l.appended (rw same wrote.appended);
-        answers = rw (all, ← l.stage) (Answers-append (step s line).0 (left_open t) old mid mid l.written (open_answer t) l.answers (left_answers t mid));
+        answers = rw (all, ← l.stage) (CountedAnswers-append (step s line).0 (left_open t) old mid mid l.written (open_answer t) l.answers (left_answers t mid));
       },
       tt,
     )
@@ -353,12 +353,12 @@ finish_some (Err e) s t line old mid was now then_now inside some l wrote =
         written = l.written ++ wrote.front;
         first = ([], rw (all, ← l.stage) (sym (append-nil ((step s line).0 ++ left_open t))));
         appended = Appends-trans was now then_now l.written wrote.front l.appended wrote.appended;
-        answers = CutAnswers-append (step s line).0 (left_open t) old mid mid l.written wrote.front l.answers (left_cut t mid wrote.front wrote.rest wrote.cut);
+        answers = CutCountedAnswers-append (step s line).0 (left_open t) old mid mid l.written wrote.front l.answers (left_cut t mid wrote.front wrote.rest wrote.cut);
       },
     )
 
 -- a line was open, and the run stopped in its answer
-pub finish_stopped : (s : Stage) (line : List ℕ) (old new : Book) (was now : Option (List ℕ)) → IsInLine line → 0 < length line → LineStops s line old was now new → FinishStops s line old was now new
+pub finish_stopped : (s : Stage) (line : List ℕ) (old new : Tally) (was now : Option (List ℕ)) → IsInLine line → 0 < length line → LineStops s line old was now new → FinishStops s line old was now new
 finish_stopped s line old new was now inside some l = record {
   executed = l.executed;
   written = l.written;
@@ -372,8 +372,8 @@ finish_stopped s line old new was now inside some l = record {
 
 -- ---- whole runs
 
-pub ran_to_end : (unread left : Option (List ℕ)) (given : List ℕ) (t : Stage) (begun : List ℕ) (old mid new : Book) (was now then_now : Option (List ℕ)) → Consumes unread left given → IsAtEnd left
-    → Runs Between [] given t begun old was now mid → Finishes t begun mid now then_now new → RanToEnd unread left old was then_now new
+pub ran_to_end : (unread left : Option (List ℕ)) (given : List ℕ) (t : Stage) (begun : List ℕ) (old mid new : Tally) (was now then_now : Option (List ℕ)) → Consumes unread left given → IsAtEnd left
+    → Runs Between [] given t begun old was now mid → Finishes t begun mid now then_now new → CountedToEnd unread left old was then_now new
 ran_to_end unread left given t begun old mid new was now then_now taken ended r q =
     let all : commands given ≡ r.executed ++ commands_from t (lines_of begun)
     = ap (λ xs. commands_from Between (lines_of xs)) (sym (append-nil given)) ∙ splits r [] ∙ ap (λ xs. r.executed ++ commands_from t (lines_of xs)) (append-nil begun) in
@@ -383,18 +383,18 @@ ran_to_end unread left given t begun old mid new was now then_now taken ended r 
       given = taken;
       ended = ended;
       appended = Appends-trans was now then_now r.written q.written r.appended q.appended;
-      answers = rw all (Answers-append r.executed (commands_from t (lines_of begun)) old mid new r.written q.written r.answers q.answers);
+      answers = rw all (CountedAnswers-append r.executed (commands_from t (lines_of begun)) old mid new r.written q.written r.answers q.answers);
     }
 
 -- the run stopped at its end
-runs_cut_at : (f : RunFault) (ended : Bool) (given : List ℕ) (old new : Book) (written : List ℕ) → IsInAnswer f → RunsCut ended given old written new → RunsAt (run_fault_of f) ended given old written new
+runs_cut_at : (f : RunFault) (ended : Bool) (given : List ℕ) (old new : Tally) (written : List ℕ) → IsInAnswer f → CountedCut ended given old written new → CountedAt (run_fault_of f) ended given old written new
 runs_cut_at ReadFault ended given old new written h cut = absurd h
 runs_cut_at WriteFault ended given old new written h cut = cut
 runs_cut_at LineTooLong ended given old new written h cut = absurd h
 runs_cut_at OutOfMemory ended given old new written h cut = cut
 
-pub stopped_at_end : (f : RunFault) (unread left : Option (List ℕ)) (given : List ℕ) (t : Stage) (begun : List ℕ) (old mid new : Book) (was now then_now : Option (List ℕ)) → IsInAnswer f → Consumes unread left given → IsAtEnd left
-    → Runs Between [] given t begun old was now mid → FinishStops t begun mid now then_now new → StoppedAt (run_fault_of f) unread left old was then_now new
+pub stopped_at_end : (f : RunFault) (unread left : Option (List ℕ)) (given : List ℕ) (t : Stage) (begun : List ℕ) (old mid new : Tally) (was now then_now : Option (List ℕ)) → IsInAnswer f → Consumes unread left given → IsAtEnd left
+    → Runs Between [] given t begun old was now mid → FinishStops t begun mid now then_now new → CountedStop (run_fault_of f) unread left old was then_now new
 stopped_at_end f unread left given t begun old mid new was now then_now h taken ended r q =
     let all : commands given ≡ r.executed ++ commands_from t (lines_of begun)
     = ap (λ xs. commands_from Between (lines_of xs)) (sym (append-nil given)) ∙ splits r [] ∙ ap (λ xs. r.executed ++ commands_from t (lines_of xs)) (append-nil begun) in
@@ -409,13 +409,13 @@ stopped_at_end f unread left given t begun old mid new was now then_now h taken 
       answers = runs_cut_at f true given old new (r.written ++ q.written) h (
         r.executed ++ q.executed,
         λ script same. (q.first.0, ap commands same ∙ fronts),
-        CutAnswers-append r.executed q.executed old mid new r.written q.written r.answers q.answers,
+        CutCountedAnswers-append r.executed q.executed old mid new r.written q.written r.answers q.answers,
       );
     }
 
 -- a read failed, or the turns ran out
-pub stopped_in_reading : (unread left : Option (List ℕ)) (given : List ℕ) (t : Stage) (begun : List ℕ) (old new : Book) (was now : Option (List ℕ)) → Consumes unread left given → IsInLine begun
-    → Runs Between [] given t begun old was now new → StoppedAt (run_fault_of ReadFault) unread left old was now new
+pub stopped_in_reading : (unread left : Option (List ℕ)) (given : List ℕ) (t : Stage) (begun : List ℕ) (old new : Tally) (was now : Option (List ℕ)) → Consumes unread left given → IsInLine begun
+    → Runs Between [] given t begun old was now new → CountedStop (run_fault_of ReadFault) unread left old was now new
 stopped_in_reading unread left given t begun old new was now taken inside r =
     let ended : ended_lines given ≡ ended_lines r.whole
     = ap ended_lines r.place ∙ ended_lines-append r.whole begun r.are_whole ∙ ap (λ ls. ended_lines r.whole ++ ls) (ended_lines-open begun inside) ∙ append-nil (ended_lines r.whole) in
@@ -434,18 +434,18 @@ stopped_in_reading unread left given t begun old new was now taken inside r =
     }
 
 -- the run stopped within the bytes
-runs_at : (f : RunFault) (given : List ℕ) (old new : Book) (written : List ℕ) (executed : List Command) → (f ≡ ReadFault → ⊥) → AreFirst executed false given → AnswersAt f executed old written new → Before f Between executed given
-    → RunsAt (run_fault_of f) false given old written new
+runs_at : (f : RunFault) (given : List ℕ) (old new : Tally) (written : List ℕ) (executed : List Command) → (f ≡ ReadFault → ⊥) → AreFirst executed false given → AnswersAt f executed old written new → Before f Between executed given
+    → CountedAt (run_fault_of f) false given old written new
 runs_at ReadFault given old new written executed other first answers before = absurd (other refl)
 runs_at WriteFault given old new written executed other first answers before = (executed, first, answers)
 runs_at LineTooLong given old new written executed other first answers before = (before.0, before.1, (completed_are_first before.0 before.1.are_whole, rw (sym before.2) answers))
 runs_at OutOfMemory given old new written executed other first answers before = (executed, first, answers)
 
-answers_before : (f : RunFault) (cs ds : List Command) (old mid new : Book) (one two : List ℕ) → Answers cs old one mid → AnswersAt f ds mid two new → AnswersAt f (cs ++ ds) old (one ++ two) new
-answers_before ReadFault cs ds old mid new one two first second = Answers-append cs ds old mid new one two first second
-answers_before WriteFault cs ds old mid new one two first second = CutAnswers-append cs ds old mid new one two first second
-answers_before LineTooLong cs ds old mid new one two first second = Answers-append cs ds old mid new one two first second
-answers_before OutOfMemory cs ds old mid new one two first second = CutAnswers-append cs ds old mid new one two first second
+answers_before : (f : RunFault) (cs ds : List Command) (old mid new : Tally) (one two : List ℕ) → CountedAnswers cs old one mid → AnswersAt f ds mid two new → AnswersAt f (cs ++ ds) old (one ++ two) new
+answers_before ReadFault cs ds old mid new one two first second = CountedAnswers-append cs ds old mid new one two first second
+answers_before WriteFault cs ds old mid new one two first second = CutCountedAnswers-append cs ds old mid new one two first second
+answers_before LineTooLong cs ds old mid new one two first second = CountedAnswers-append cs ds old mid new one two first second
+answers_before OutOfMemory cs ds old mid new one two first second = CutCountedAnswers-append cs ds old mid new one two first second
 
 before_later : (f : RunFault) (s t : Stage) (cs ds : List Command) (whole bytes all : List ℕ) → all ≡ whole ++ bytes → AreWholeLines whole → cs ≡ completed_from s (ended_lines whole) → t ≡ stage_behind s (ended_lines whole)
     → Before f t ds bytes → Before f s (cs ++ ds) all
@@ -466,8 +466,8 @@ before_later LineTooLong s t cs ds whole bytes all e w done stage before =
     )
 before_later OutOfMemory s t cs ds whole bytes all e w done stage before = tt
 
-pub stopped_in_bytes : (f : RunFault) (unread left : Option (List ℕ)) (given bytes : List ℕ) (t : Stage) (begun : List ℕ) (old mid new : Book) (was now then_now : Option (List ℕ)) → (f ≡ ReadFault → ⊥) → Consumes unread left (given ++ bytes)
-    → Runs Between [] given t begun old was now mid → Stops f t begun bytes mid now then_now new → StoppedAt (run_fault_of f) unread left old was then_now new
+pub stopped_in_bytes : (f : RunFault) (unread left : Option (List ℕ)) (given bytes : List ℕ) (t : Stage) (begun : List ℕ) (old mid new : Tally) (was now then_now : Option (List ℕ)) → (f ≡ ReadFault → ⊥) → Consumes unread left (given ++ bytes)
+    → Runs Between [] given t begun old was now mid → Stops f t begun bytes mid now then_now new → CountedStop (run_fault_of f) unread left old was then_now new
 stopped_in_bytes f unread left given bytes t begun old mid new was now then_now other taken r q =
     let place : given ++ bytes ≡ r.whole ++ (begun ++ bytes) = ap (λ xs. xs ++ bytes) r.place ∙ append_assoc r.whole begun bytes in
     record {

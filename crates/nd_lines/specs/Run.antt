@@ -1,8 +1,8 @@
--- Runs of scripts, as far as they have come.
-use Rattle.std.specs.Prelude.{◌≡◌, ◌≢◌, ℕ, ◌^◌, ◌<◌, ◌≤◌, ◌⊎◌, Bool, true, IsTrue, All, List, [], ◌∷◌, ◌++◌, length, codes, Option}
-use Rattle.std.specs.Io.KnownBytes.{Appends, Consumes, IsAtEnd}
-use Rattle.nd_model.specs.Book.{Book}
-use Rattle.nd_model.specs.Script.{Command, Answers, CutAnswers, IsFront, Stage, Between, Within, step, commands_from, completed_from, lines_of, ended_lines, RunsWhole, RunsCompleted, RunsCut}
+-- Runs of scripts, as far as they have come, with what their commands count on the meter.
+use Rattle.std.specs.Prelude.{◌≡◌, ℕ, ◌<◌, ◌≤◌, Bool, true, List, [], ◌∷◌, ◌++◌, length, codes, Option}
+use Rattle.std.specs.Io.KnownBytes.{Appends}
+use Rattle.nd_lines.specs.Counts.{Tally, CountedAnswers, CutCountedAnswers}
+use Rattle.nd_model.specs.Script.{Command, IsFront, Stage, Between, Within, step, commands_from, completed_from, lines_of, ended_lines}
 use Rattle.nd_model.specs.ScriptRuns.{most_line, AreWholeLines, IsInLine, LongLineBehind}
 use Rattle.nd_model.specs.ScriptRuns as model
 use Rattle.nd_lines.specs.declared.run_fault.RunFault.{RunFault}
@@ -37,27 +37,27 @@ pub record Wrote (was : Option (List ℕ)) (answer : List ℕ) (is_whole : Bool)
 
 -- ---- one line
 
--- What a line says at a stage was carried out and answered, and led to another stage.
-abbrev pub Done : Stage → (line : List ℕ) → Stage → Book → (answer : List ℕ) → Book → Type 0
-Done s line t old answer new = (t ≡ (step s line).1) × Answers (step s line).0 old answer new
+-- What a line says at a stage was carried out, answered and counted, and led to another stage.
+abbrev pub Done : Stage → (line : List ℕ) → Stage → Tally → (answer : List ℕ) → Tally → Type 0
+Done s line t old answer new = (t ≡ (step s line).1) × CountedAnswers (step s line).0 old answer new
 
--- Memory was wanted for that: some of it was carried out.
-abbrev pub DoneInPart : Stage → (line : List ℕ) → Book → Book → Type 0
-DoneInPart s line old new = (executed : List Command) × IsFront executed (step s line).0 × ((whole : List ℕ) × Answers executed old whole new)
+-- Memory was wanted for that: some of it was carried out and counted.
+abbrev pub DoneInPart : Stage → (line : List ℕ) → Tally → Tally → Type 0
+DoneInPart s line old new = (executed : List Command) × IsFront executed (step s line).0 × ((whole : List ℕ) × CountedAnswers executed old whole new)
 
 -- What a line says was carried out, and its answer was written.
-pub record LineRuns (s : Stage) (line : List ℕ) (t : Stage) (old : Book) (was now : Option (List ℕ)) (new : Book) : Type 0 where
+pub record LineRuns (s : Stage) (line : List ℕ) (t : Stage) (old : Tally) (was now : Option (List ℕ)) (new : Tally) : Type 0 where
   pub written : List ℕ
   pub stage : t ≡ (step s line).1
   pub appended : Appends was now written
-  pub answers : Answers (step s line).0 old written new
+  pub answers : CountedAnswers (step s line).0 old written new
 
-pub record LineStops (s : Stage) (line : List ℕ) (old : Book) (was now : Option (List ℕ)) (new : Book) : Type 0 where
+pub record LineStops (s : Stage) (line : List ℕ) (old : Tally) (was now : Option (List ℕ)) (new : Tally) : Type 0 where
   pub executed : List Command
   pub written : List ℕ
   pub first : IsFront executed (step s line).0
   pub appended : Appends was now written
-  pub answers : CutAnswers executed old written new
+  pub answers : CutCountedAnswers executed old written new
 
 -- the answer to a source without its end
 abbrev pub open_answer : Stage → List ℕ
@@ -65,17 +65,17 @@ open_answer Between = []
 open_answer (Within o before) = codes "bad command\n"
 
 -- the rest of a script was run, from a stage and a line that nothing ends
-pub record Finishes (s : Stage) (line : List ℕ) (old : Book) (was now : Option (List ℕ)) (new : Book) : Type 0 where
+pub record Finishes (s : Stage) (line : List ℕ) (old : Tally) (was now : Option (List ℕ)) (new : Tally) : Type 0 where
   pub written : List ℕ
   pub appended : Appends was now written
-  pub answers : Answers (commands_from s (lines_of line)) old written new
+  pub answers : CountedAnswers (commands_from s (lines_of line)) old written new
 
-pub record FinishStops (s : Stage) (line : List ℕ) (old : Book) (was now : Option (List ℕ)) (new : Book) : Type 0 where
+pub record FinishStops (s : Stage) (line : List ℕ) (old : Tally) (was now : Option (List ℕ)) (new : Tally) : Type 0 where
   pub executed : List Command
   pub written : List ℕ
   pub first : IsFront executed (commands_from s (lines_of line))
   pub appended : Appends was now written
-  pub answers : CutAnswers executed old written new
+  pub answers : CutCountedAnswers executed old written new
 
 -- faults of answers: one is made, or written
 abbrev pub IsInAnswer : RunFault → Type 0
@@ -93,7 +93,7 @@ stage_behind s (l ∷ ls) = stage_behind (step s l).1 ls
 
 -- From a stage and the beginning of a line these bytes led to another stage and the beginning of another line; the commands
 -- that they completed were carried out and answered.
-pub record Runs (s : Stage) (line bytes : List ℕ) (t : Stage) (begun : List ℕ) (old : Book) (was now : Option (List ℕ)) (new : Book) : Type 0 where
+pub record Runs (s : Stage) (line bytes : List ℕ) (t : Stage) (begun : List ℕ) (old : Tally) (was now : Option (List ℕ)) (new : Tally) : Type 0 where
   pub whole : List ℕ
   pub executed : List Command
   pub written : List ℕ
@@ -102,14 +102,14 @@ pub record Runs (s : Stage) (line bytes : List ℕ) (t : Stage) (begun : List �
   pub stage : t ≡ stage_behind s (ended_lines whole)
   pub done : executed ≡ completed_from s (ended_lines whole)
   pub appended : Appends was now written
-  pub answers : Answers executed old written new
+  pub answers : CountedAnswers executed old written new
 
 -- the answers to some commands, by the fault that stopped the run: where an answer was made or written the last may be cut
-abbrev pub AnswersAt : RunFault → List Command → Book → List ℕ → Book → Type 0
-AnswersAt ReadFault cs old written new = Answers cs old written new
-AnswersAt WriteFault cs old written new = CutAnswers cs old written new
-AnswersAt LineTooLong cs old written new = Answers cs old written new
-AnswersAt OutOfMemory cs old written new = CutAnswers cs old written new
+abbrev pub AnswersAt : RunFault → List Command → Tally → List ℕ → Tally → Type 0
+AnswersAt ReadFault cs old written new = CountedAnswers cs old written new
+AnswersAt WriteFault cs old written new = CutCountedAnswers cs old written new
+AnswersAt LineTooLong cs old written new = CountedAnswers cs old written new
+AnswersAt OutOfMemory cs old written new = CutCountedAnswers cs old written new
 
 -- what was carried out before the fault: at a line that is too long, the commands of the lines before it
 abbrev pub Before : RunFault → Stage → (executed : List Command) → (bytes : List ℕ) → Type 0
@@ -119,7 +119,7 @@ Before LineTooLong s executed bytes = (front : List ℕ) × LongLineBehind front
 Before OutOfMemory s executed bytes = Unit {0}
 
 -- The run stopped within these bytes.
-pub record Stops (f : RunFault) (s : Stage) (line bytes : List ℕ) (old : Book) (was now : Option (List ℕ)) (new : Book) : Type 0 where
+pub record Stops (f : RunFault) (s : Stage) (line bytes : List ℕ) (old : Tally) (was now : Option (List ℕ)) (new : Tally) : Type 0 where
   pub executed : List Command
   pub written : List ℕ
   pub first : (more : List ℕ) → IsFront executed (commands_from s (lines_of (line ++ (bytes ++ more))))

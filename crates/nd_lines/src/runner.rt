@@ -2,6 +2,7 @@
 
 ghost use Rattle.std.specs.Prelude.{◌≡◌, ◌⊎◌, IfErr, OnOk};
 ghost use Rattle.nd_model.specs.Script.{Between};
+ghost use Rattle.nd_lines.specs.Counts.{CountedStop, CountedToEnd};
 ghost use Rattle.nd_lines.specs.Ends.{counted_on};
 ghost use Rattle.nd_model.specs.ScriptRuns.{RanToEnd, StoppedAt};
 ghost use Rattle.nd_lines.specs.Run.{run_fault_of};
@@ -24,12 +25,23 @@ pub fn run_lines<R: CountedRead, W: CountedWrite, A: Answerer>(
 ) -> Result<(), RunFault>
     requires { A.stage answerer.old ≡ Between }
     ensures to_end { OnOk result (RanToEnd (R.remaining reader.old) (R.remaining reader.new)
-        (A.book answerer.old) (W.contents writer.old)
-        (W.contents writer.new) (A.book answerer.new)) }
+        (A.tally answerer.old).book (W.contents writer.old)
+        (W.contents writer.new) (A.tally answerer.new).book) }
     ensures stopped { IfErr result (λ f. StoppedAt (run_fault_of f)
         (R.remaining reader.old) (R.remaining reader.new)
-        (A.book answerer.old) (W.contents writer.old)
-        (W.contents writer.new) (A.book answerer.new)) }
+        (A.tally answerer.old).book (W.contents writer.old)
+        (W.contents writer.new) (A.tally answerer.new).book) }
+
+    // The same run with the meter after each command: an edit counts no more runs than it makes cells stale, where it is refused
+    // none, and a query none.
+    ensures counted { OnOk result (CountedToEnd
+        (R.remaining reader.old) (R.remaining reader.new)
+        (A.tally answerer.old) (W.contents writer.old)
+        (W.contents writer.new) (A.tally answerer.new)) }
+    ensures counted_stop { IfErr result (λ f. CountedStop (run_fault_of f)
+        (R.remaining reader.old) (R.remaining reader.new)
+        (A.tally answerer.old) (W.contents writer.old)
+        (W.contents writer.new) (A.tally answerer.new)) }
 
     // A read fault stands only where a read failed or all reads were made, a write fault only where a write failed.
     ensures read { IfErr result (λ f. f ≡ RunFault.ReadFault →
@@ -40,6 +52,7 @@ pub fn run_lines<R: CountedRead, W: CountedWrite, A: Answerer>(
     ensures reader_kept { OnOk result (R.failures reader.new ≡ R.failures reader.old) }
     ensures writer_kept { OnOk result (W.failures writer.new ≡ W.failures writer.old) }
     ensures same_reference { A.reference answerer.new ≡ A.reference answerer.old }
+    ensures same_meter { A.meter_reference answerer.new ≡ A.meter_reference answerer.old }
 {
     let mut script = Script::new(alloc);
     let mut chunk = [0u8; 8192];

@@ -79,17 +79,18 @@ impl Script {
         requires { IsInLine self.old.line.items }
         ensures ok { OnOk result (LineRuns (A.stage answerer.old) self.old.line.items
             (A.stage answerer.new)
-            (A.book answerer.old) (W.contents writer.old)
-            (W.contents writer.new) (A.book answerer.new)) }
+            (A.tally answerer.old) (W.contents writer.old)
+            (W.contents writer.new) (A.tally answerer.new)) }
         ensures line { OnOk result (self.new.line.items ≡ []) }
         ensures err { OnErr result (LineStops (A.stage answerer.old) self.old.line.items
-            (A.book answerer.old) (W.contents writer.old)
-            (W.contents writer.new) (A.book answerer.new)) }
+            (A.tally answerer.old) (W.contents writer.old)
+            (W.contents writer.new) (A.tally answerer.new)) }
         ensures fault { IfErr result IsInAnswer }
         ensures kept { OnOk result (W.failures writer.new ≡ W.failures writer.old) }
         ensures failed { IfErr result (λ f. f ≡ RunFault.WriteFault
             → W.failures writer.new ≡ counted_on (W.failures writer.old) 1) }
         ensures same_reference { A.reference answerer.new ≡ A.reference answerer.old }
+        ensures same_meter { A.meter_reference answerer.new ≡ A.meter_reference answerer.old }
     {
         let mut answer = Vec::new(alloc);
         answerer.answer_line(&self.line, &mut answer)?;
@@ -108,18 +109,19 @@ impl Script {
         requires { FitsLine self.old.line.items }
         ensures ok { OnOk result (Runs (A.stage answerer.old) self.old.line.items bytes.now
             (A.stage answerer.new) self.new.line.items
-            (A.book answerer.old) (W.contents writer.old)
-            (W.contents writer.new) (A.book answerer.new)) }
+            (A.tally answerer.old) (W.contents writer.old)
+            (W.contents writer.new) (A.tally answerer.new)) }
         ensures fits { OnOk result (FitsLine self.new.line.items) }
         ensures err { IfErr result (λ f. Stops f (A.stage answerer.old)
             self.old.line.items bytes.now
-            (A.book answerer.old) (W.contents writer.old)
-            (W.contents writer.new) (A.book answerer.new)) }
+            (A.tally answerer.old) (W.contents writer.old)
+            (W.contents writer.new) (A.tally answerer.new)) }
         ensures kept { OnOk result (W.failures writer.new ≡ W.failures writer.old) }
         ensures unread { IfErr result (λ f. f ≢ RunFault.ReadFault) }
         ensures failed { IfErr result (λ f. f ≡ RunFault.WriteFault
             → W.failures writer.new ≡ counted_on (W.failures writer.old) 1) }
         ensures same_reference { A.reference answerer.new ≡ A.reference answerer.old }
+        ensures same_meter { A.meter_reference answerer.new ≡ A.meter_reference answerer.old }
     {
         let mut rest = bytes;
         while let Some(end) = newline_in(rest) {
@@ -139,16 +141,17 @@ impl Script {
     ) -> Result<(), RunFault>
         requires { IsInLine self.old.line.items }
         ensures ok { OnOk result (Finishes (A.stage answerer.old) self.old.line.items
-            (A.book answerer.old) (W.contents writer.old)
-            (W.contents writer.new) (A.book answerer.new)) }
+            (A.tally answerer.old) (W.contents writer.old)
+            (W.contents writer.new) (A.tally answerer.new)) }
         ensures err { OnErr result (FinishStops (A.stage answerer.old) self.old.line.items
-            (A.book answerer.old) (W.contents writer.old)
-            (W.contents writer.new) (A.book answerer.new)) }
+            (A.tally answerer.old) (W.contents writer.old)
+            (W.contents writer.new) (A.tally answerer.new)) }
         ensures fault { IfErr result IsInAnswer }
         ensures kept { OnOk result (W.failures writer.new ≡ W.failures writer.old) }
         ensures failed { IfErr result (λ f. f ≡ RunFault.WriteFault
             → W.failures writer.new ≡ counted_on (W.failures writer.old) 1) }
         ensures same_reference { A.reference answerer.new ≡ A.reference answerer.old }
+        ensures same_meter { A.meter_reference answerer.new ≡ A.meter_reference answerer.old }
     {
         if !self.line.is_empty() {
             self.end_line(alloc, answerer, writer)?;

@@ -1,6 +1,6 @@
 //! A notebook that answers the lines of a script.
 
-ghost use Rattle.nd_model.specs.Notebook.{book_of};
+ghost use Rattle.nd_run.specs.Run.{tally_of};
 ghost use Rattle.nd_run.specs.Source.{stage_of};
 
 use crate::line::answer_line;
@@ -23,9 +23,11 @@ pub struct NotebookAnswerer<'a> {
 impl Answerer for NotebookAnswerer<'_> {
     ghost stage = { λ s. stage_of s.source.now };
 
-    ghost book = { λ s. book_of s.notebook.now };
+    ghost tally = { λ s. tally_of s.notebook.now s.meter.now };
 
     ghost reference = { λ s. s.notebook.ghost_name };
+
+    ghost meter_reference = { λ s. s.meter.ghost_name };
 
     fn answer_line(&mut self, line: &[u8], answer: &mut Vec<u8>) -> Result<(), AllocError> {
         let source = self.source.take();

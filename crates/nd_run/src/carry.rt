@@ -4,6 +4,7 @@ ghost use Rattle.std.specs.Prelude.{◌≡◌, ◌++◌, OnOk, codes, length};
 ghost use Rattle.nd_model.specs.Book.{Insert, Change, Move, Remove, SetInput, DropInput};
 ghost use Rattle.nd_model.specs.Script as script;
 ghost use Rattle.nd_model.specs.Notebook.{book_of};
+ghost use Rattle.nd_lines.specs.Counts.{CountsCommand};
 ghost use Rattle.nd_rerun.specs.Values.{source_of};
 ghost use Rattle.nd_run.specs.Carry.{Carried};
 
@@ -22,8 +23,10 @@ pub fn insert_cell(
     at: usize,
     source: &str,
 ) -> Result<(), AllocError>
-    ensures { Carried (script.Edits (Insert at source.now)) (book_of notebook.old)
+    ensures carried { Carried (script.Edits (Insert at source.now)) (book_of notebook.old)
         out.old.items result out.new.items (book_of notebook.new) }
+    ensures counts { CountsCommand (script.Edits (Insert at source.now))
+        (book_of notebook.old) meter.old meter.new }
 {
     let done = notebook.insert(meter, at, source);
     push_edit_answer(out, "", &done)
@@ -37,8 +40,10 @@ pub fn edit_cell(
     at: usize,
     source: &str,
 ) -> Result<(), AllocError>
-    ensures { Carried (script.Edits (Change at source.now)) (book_of notebook.old)
+    ensures carried { Carried (script.Edits (Change at source.now)) (book_of notebook.old)
         out.old.items result out.new.items (book_of notebook.new) }
+    ensures counts { CountsCommand (script.Edits (Change at source.now))
+        (book_of notebook.old) meter.old meter.new }
 {
     let done = notebook.edit(meter, at, source);
     push_edit_answer(out, "", &done)
@@ -52,8 +57,10 @@ pub fn move_cell(
     from: usize,
     to: usize,
 ) -> Result<(), AllocError>
-    ensures { Carried (script.Edits (Move from to)) (book_of notebook.old)
+    ensures carried { Carried (script.Edits (Move from to)) (book_of notebook.old)
         out.old.items result out.new.items (book_of notebook.new) }
+    ensures counts { CountsCommand (script.Edits (Move from to))
+        (book_of notebook.old) meter.old meter.new }
 {
     let done = notebook.move_cell(meter, from, to);
     push_edit_answer(out, "", &done)
@@ -66,8 +73,10 @@ pub fn remove_cell(
     notebook: &mut Notebook,
     at: usize,
 ) -> Result<(), AllocError>
-    ensures { Carried (script.Edits (Remove at)) (book_of notebook.old)
+    ensures carried { Carried (script.Edits (Remove at)) (book_of notebook.old)
         out.old.items result out.new.items (book_of notebook.new) }
+    ensures counts { CountsCommand (script.Edits (Remove at))
+        (book_of notebook.old) meter.old meter.new }
 {
     let done = notebook.remove(meter, at);
     push_edit_answer(out, "", &done)
@@ -81,8 +90,10 @@ pub fn set_input(
     name: &str,
     input: &Input,
 ) -> Result<(), AllocError>
-    ensures { Carried (script.Edits (SetInput name.now (source_of input.now)))
+    ensures carried { Carried (script.Edits (SetInput name.now (source_of input.now)))
         (book_of notebook.old) out.old.items result out.new.items (book_of notebook.new) }
+    ensures counts { CountsCommand (script.Edits (SetInput name.now (source_of input.now)))
+        (book_of notebook.old) meter.old meter.new }
 {
     let done = notebook.set_input(meter, name, input);
     push_edit_answer(out, name, &done)
@@ -95,8 +106,10 @@ pub fn drop_input(
     notebook: &mut Notebook,
     name: &str,
 ) -> Result<(), AllocError>
-    ensures { Carried (script.Edits (DropInput name.now)) (book_of notebook.old)
+    ensures carried { Carried (script.Edits (DropInput name.now)) (book_of notebook.old)
         out.old.items result out.new.items (book_of notebook.new) }
+    ensures counts { CountsCommand (script.Edits (DropInput name.now))
+        (book_of notebook.old) meter.old meter.new }
 {
     let done = notebook.drop_input(meter, name);
     push_edit_answer(out, name, &done)

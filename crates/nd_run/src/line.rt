@@ -4,9 +4,11 @@ ghost use Rattle.std.specs.Prelude.{◌≡◌, [], IfOk, OnErr};
 ghost use Rattle.nd_model.specs.Script as script;
 ghost use Rattle.nd_model.specs.Notebook.{book_of};
 ghost use Rattle.nd_script.specs.Command.{line_of};
+ghost use Rattle.nd_lines.specs.Counts.{CountsCommand};
 ghost use Rattle.nd_lines.specs.Run.{Done, DoneInPart};
 ghost use Rattle.nd_model.specs.ScriptRuns.{IsInLine};
-ghost use Rattle.nd_run.specs.Carry.{Carried, CarriedLine};
+ghost use Rattle.nd_run.specs.Carry.{Carried, CarriedLine, CountsLine};
+ghost use Rattle.nd_run.specs.Run.{tally_of};
 ghost use Rattle.nd_run.specs.Source.{lines_so_far, opening_of, stage_of};
 
 use crate::carry::{
@@ -31,9 +33,9 @@ pub fn answer_line(
     requires inside { IsInLine line.now }
     requires empty { answer.old.items ≡ [] }
     ensures done { IfOk result (λ t. Done (stage_of source) line.now (stage_of t)
-        (book_of notebook.old) answer.new.items (book_of notebook.new)) }
+        (tally_of notebook.old meter.old) answer.new.items (tally_of notebook.new meter.new)) }
     ensures part { OnErr result (DoneInPart (stage_of source) line.now
-        (book_of notebook.old) (book_of notebook.new)) }
+        (tally_of notebook.old meter.old) (tally_of notebook.new meter.new)) }
 {
     match source {
         None => answer_command(alloc, line, answer, meter, notebook),
@@ -54,10 +56,10 @@ fn continue_source(
     requires empty { answer.old.items ≡ [] }
     ensures done { IfOk result (λ t. Done
         (script.Within (opening_of source.opening) (lines_so_far source)) line.now (stage_of t)
-        (book_of notebook.old) answer.new.items (book_of notebook.new)) }
+        (tally_of notebook.old meter.old) answer.new.items (tally_of notebook.new meter.new)) }
     ensures part { OnErr result (DoneInPart
         (script.Within (opening_of source.opening) (lines_so_far source)) line.now
-        (book_of notebook.old) (book_of notebook.new)) }
+        (tally_of notebook.old meter.old) (tally_of notebook.new meter.new)) }
 {
     if is_end_of_source(line) {
         close_source(&source, answer, meter, notebook)?;
@@ -75,8 +77,12 @@ fn close_source(
     meter: &mut Meter,
     notebook: &mut Notebook,
 ) -> Result<(), AllocError>
-    ensures { Carried (script.closed (opening_of source.now.opening) (lines_so_far source.now))
+    ensures carried { Carried
+        (script.closed (opening_of source.now.opening) (lines_so_far source.now))
         (book_of notebook.old) answer.old.items result answer.new.items (book_of notebook.new) }
+    ensures counts { CountsCommand
+        (script.closed (opening_of source.now.opening) (lines_so_far source.now))
+        (book_of notebook.old) meter.old meter.new }
 {
     match str::from_utf8(source.bytes()) {
         Ok(text) => match source.opening {
@@ -97,9 +103,9 @@ fn answer_command(
 ) -> Result<Option<Source>, AllocError>
     requires { answer.old.items ≡ [] }
     ensures done { IfOk result (λ t. Done script.Between line.now (stage_of t)
-        (book_of notebook.old) answer.new.items (book_of notebook.new)) }
+        (tally_of notebook.old meter.old) answer.new.items (tally_of notebook.new meter.new)) }
     ensures part { OnErr result (DoneInPart script.Between line.now
-        (book_of notebook.old) (book_of notebook.new)) }
+        (tally_of notebook.old meter.old) (tally_of notebook.new meter.new)) }
 {
     let command = command_of(alloc, line)?;
     match command {
@@ -119,8 +125,10 @@ fn answer_whole(
     meter: &mut Meter,
     notebook: &mut Notebook,
 ) -> Result<(), AllocError>
-    ensures { CarriedLine (line_of command.entry) (book_of notebook.old)
+    ensures carried { CarriedLine (line_of command.entry) (book_of notebook.old)
         answer.old.items result answer.new.items (book_of notebook.new) }
+    ensures counts { CountsLine (line_of command.entry) (book_of notebook.old)
+        meter.old meter.new }
 {
     match command {
         LineCommand::Remove(at) => remove_cell(answer, meter, notebook, at),

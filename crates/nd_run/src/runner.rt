@@ -2,10 +2,11 @@
 
 ghost use Rattle.std.specs.Prelude.{◌≡◌, ◌^◌, ◌⊎◌, IfErr, OnOk};
 ghost use Rattle.nd_model.specs.Notebook.{book_of};
+ghost use Rattle.nd_lines.specs.Counts.{CountedStop, CountedToEnd};
 ghost use Rattle.nd_lines.specs.Ends.{counted_on};
 ghost use Rattle.nd_model.specs.ScriptRuns.{RanToEnd, StoppedAt};
 ghost use Rattle.nd_lines.specs.Run.{run_fault_of};
-ghost use Rattle.nd_run.specs.Run.{RanFromNothing, StoppedFromNothing};
+ghost use Rattle.nd_run.specs.Run.{CountedFromNothing, CountedStopFromNothing, RanFromNothing, StoppedFromNothing, tally_of};
 
 use crate::answerer::NotebookAnswerer;
 use nd_lines::{CountedRead, CountedWrite, RunFault, run_lines};
@@ -32,6 +33,17 @@ pub fn run<R: CountedRead, W: CountedWrite>(
         (book_of notebook.old) (W.contents writer.old)
         (W.contents writer.new) (book_of notebook.new)) }
 
+    // The same run with the meter after each command: an edit counts no more runs than it makes cells stale, where it is refused
+    // none, and a query none.
+    ensures counted { OnOk result (CountedToEnd
+        (R.remaining reader.old) (R.remaining reader.new)
+        (tally_of notebook.old meter.old) (W.contents writer.old)
+        (W.contents writer.new) (tally_of notebook.new meter.new)) }
+    ensures counted_stop { IfErr result (λ f. CountedStop (run_fault_of f)
+        (R.remaining reader.old) (R.remaining reader.new)
+        (tally_of notebook.old meter.old) (W.contents writer.old)
+        (W.contents writer.new) (tally_of notebook.new meter.new)) }
+
     // A read fault stands only where a read failed or 2^32 reads were made, a write fault only where a write failed.
     ensures read { IfErr result (λ f. f ≡ RunFault.ReadFault →
         (R.failures reader.new ≡ counted_on (R.failures reader.old) 1)
@@ -56,6 +68,12 @@ pub fn run_script<R: CountedRead, W: CountedWrite>(
     ensures stopped { IfErr result (λ f. StoppedFromNothing (run_fault_of f)
         (R.remaining reader.old) (R.remaining reader.new)
         (W.contents writer.old) (W.contents writer.new)) }
+    ensures counted { OnOk result (CountedFromNothing
+        (R.remaining reader.old) (R.remaining reader.new)
+        (W.contents writer.old) (W.contents writer.new) meter.old meter.new) }
+    ensures counted_stop { IfErr result (λ f. CountedStopFromNothing (run_fault_of f)
+        (R.remaining reader.old) (R.remaining reader.new)
+        (W.contents writer.old) (W.contents writer.new) meter.old meter.new) }
     ensures read { IfErr result (λ f. f ≡ RunFault.ReadFault →
         (R.failures reader.new ≡ counted_on (R.failures reader.old) 1)
         ⊎ (R.reads reader.new ≡ counted_on (R.reads reader.old) (2 ^ 32))) }
@@ -84,6 +102,14 @@ pub fn run_turns<R: CountedRead, W: CountedWrite>(
         (R.remaining reader.old) (R.remaining reader.new)
         (book_of notebook.old) (W.contents writer.old)
         (W.contents writer.new) (book_of notebook.new)) }
+    ensures counted { OnOk result (CountedToEnd
+        (R.remaining reader.old) (R.remaining reader.new)
+        (tally_of notebook.old meter.old) (W.contents writer.old)
+        (W.contents writer.new) (tally_of notebook.new meter.new)) }
+    ensures counted_stop { IfErr result (λ f. CountedStop (run_fault_of f)
+        (R.remaining reader.old) (R.remaining reader.new)
+        (tally_of notebook.old meter.old) (W.contents writer.old)
+        (W.contents writer.new) (tally_of notebook.new meter.new)) }
     ensures read { IfErr result (λ f. f ≡ RunFault.ReadFault →
         (R.failures reader.new ≡ counted_on (R.failures reader.old) 1)
         ⊎ (R.reads reader.new ≡ counted_on (R.reads reader.old) turns)) }

@@ -1,7 +1,7 @@
 -- The record of a run, from what is kept at its end.
-use Rattle.std.proofs.Common.{◌≡◌, ℕ, Bool, true, false, List, Option, Some, None, length, refl, sym, ap, subst, ◌∙◌}
+use Rattle.std.proofs.Common.{◌≡◌, ℕ, Bool, true, List, Option, Some, None, length, refl, sym, ap, subst, ◌∙◌}
 use mathlib.Core.Path.{fun_ext}
-use Rattle.std.specs.Prelude.{IsTrue, is_some, option_map, string_bytes, if◌then◌else◌}
+use Rattle.std.specs.Prelude.{IsTrue, is_some, if◌then◌else◌}
 use Rattle.nd_model.specs.Value.{Base}
 use Rattle.nd_model.specs.Session.{Session, collected, held_bytes, is_held}
 use Rattle.nd_model.specs.Running.{Key, Name, Input, Length, Byte, Inputs, Running, session_of, start}
@@ -15,16 +15,14 @@ use Rattle.nd_model.proofs.Collected.{held_twice}
 use Rattle.nd_model.proofs.Keeping.{found_at}
 use Rattle.nd_model.proofs.Replaying.{replays_sound}
 use Rattle.nd_model.proofs.Soundness.{held_map}
-use Rattle.nd_model.proofs.Tracks.{Tracks, tracks_cell}
-use Rattle.nd_heap.specs.State.{State}
-use Rattle.nd_heap.specs.Live.{live}
-use Rattle.nd_heap.specs.Seen.{Seen, seen_of, is_read_in, IsListed}
-use Rattle.nd_heap.specs.Reads.{found_in, found_of, found_when_collected, keys_of}
-use Rattle.nd_heap.specs.Changes.{bases_in, going_on, writes_in}
-use Rattle.nd_heap.proofs.Listed.{listed}
-use Rattle.nd_cell.specs.declared.result.CellResult.{CellResult}
+use Rattle.nd_model.proofs.Tracks.{tracks_cell}
+use Rattle.nd_session.specs.State.{State}
+use Rattle.nd_session.specs.Live.{live}
+use Rattle.nd_session.specs.Seen.{Seen, seen_of, is_read_in}
+use Rattle.nd_session.specs.Reads.{found_in, found_of, found_when_collected, keys_of}
+use Rattle.nd_session.specs.Changes.{bases_in, going_on, writes_in}
+use Rattle.nd_session.proofs.Listed.{listed}
 use Rattle.nd_cell.specs.Records.{EndsRun, IsOfRun, RecordData, recorded, record_at_end}
-use Rattle.nd_cell.specs.Results.{ended_of}
 
 -- the trace tells what was read
 read_listed : (s : State) (k : Key) → is_read_in (seen_of s) k ≡ (live s).read k

@@ -8,8 +8,8 @@ use Rattle.nd_model.specs.Cell.{Saved, Ended, cell}
 use Rattle.nd_model.specs.Footprint.{HasNone, reads_of, effects_of}
 use Rattle.nd_model.specs.Sound.{IsSoundSession}
 use Rattle.nd_model.specs.Records as records
-use Rattle.nd_heap.specs.Reads.{ReadsData, found_in, found_of, keys_of}
-use Rattle.nd_heap.specs.Changes.{ChangesData, effects_in}
+use Rattle.nd_session.specs.Reads.{ReadsData, found_in, found_of, keys_of}
+use Rattle.nd_session.specs.Changes.{ChangesData, effects_in}
 
 -- what a run read, did and gave: plain data
 pub record RecordData : Type 0 where

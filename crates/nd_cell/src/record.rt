@@ -3,18 +3,20 @@
 ghost use Rattle.std.specs.Prelude.{◌≡◌, ◌↔◌, ℕ, IfOk, IsFalse, IsTrue, List, OnOk, option_map, string_bytes, unwrap_or};
 ghost use Rattle.nd_model.specs.CutOff.{IsQuiet, SameOnSession};
 ghost use Rattle.nd_model.specs.Footprint.{HasNone, replayed, with_effects};
+ghost use Rattle.nd_model.specs.Overlay.{IsApart, IsOnce, IsOverlay, IsUnder, Misses, Replaces, did};
 ghost use Rattle.nd_model.specs.Records.{StillHolds};
 ghost use Rattle.nd_model.specs.Running as running;
 ghost use Rattle.nd_model.specs.Session.{Names, collected};
-ghost use Rattle.nd_heap.specs.Changes.{is_bound};
-ghost use Rattle.nd_heap.specs.Kept.{version_of};
-ghost use Rattle.nd_heap.specs.Live.{live};
-ghost use Rattle.nd_heap.specs.Values.{inputs_of};
+ghost use Rattle.nd_model.specs.Sound.{IsSoundSession};
+ghost use Rattle.nd_session.specs.Changes.{is_bound};
+ghost use Rattle.nd_session.specs.Kept.{version_of};
+ghost use Rattle.nd_session.specs.Live.{live};
+ghost use Rattle.nd_session.specs.Values.{inputs_of};
 ghost use Rattle.nd_cell.specs.Records.{EndsRun, ended_in, record_at_end, recorded};
 ghost use Rattle.nd_cell.specs.Results.{ended_of, refusal_of, saves_of};
 
 use crate::result::CellResult;
-use nd_heap::{Changes, Inputs, OutOfMemory, Reads, Session, Version};
+use nd_session::{Changes, Inputs, OutOfMemory, Reads, Session, Version};
 use std::marker::Model;
 use std::rc::Rc;
 
@@ -153,6 +155,56 @@ impl Record {
     {
         session.soundness();
         session.redo(&self.changes)?;
+        Ok(())
+    }
+
+    /// If so, this run replaces another of the same cell: both bind the same names in turn, each once and to a value that lies in
+    /// no base but the cell's own, and do nothing else. It takes no memory, and may say no where the run does.
+    pub fn replaces(&self, old: &Record) -> bool
+        ensures { IsTrue result → Replaces (recorded old.now) (recorded self.now) }
+    {
+        if self.changes.label() != old.changes.label() {
+            return false;
+        }
+        if !old.changes.is_overlay() {
+            return false;
+        }
+        if !self.changes.is_overlay() {
+            return false;
+        }
+        old.changes.binds_same(&self.changes)
+    }
+
+    /// If so, the run read none of the names that another bound and of the bases that it made. It takes no memory, and may say no
+    /// where the run did not.
+    pub fn misses(&self, over: &Record) -> bool
+        ensures { IsTrue result → Misses (recorded over.now) (recorded self.now) }
+    {
+        self.reads.miss(&over.changes)
+    }
+
+    /// If so, the run left the names and bases of another as they are, and bound no name to a value in these. It takes no memory,
+    /// and may say no where the run did.
+    pub fn is_apart(&self, over: &Record) -> bool
+        ensures { IsTrue result → IsApart (recorded over.now) (recorded self.now) }
+    {
+        self.changes.is_apart(&over.changes)
+    }
+
+    /// Does what the run did over a session in which another run of the cell stands: its names get the values of this one, and the
+    /// bases of the other go. No byte of a block is copied. After want of memory the session is only fit to be dropped.
+    pub fn overlay(&self, session: &mut Session) -> Result<(), OutOfMemory>
+        requires own { IsOverlay (recorded self.now) }
+        requires under { IsUnder (recorded self.now) (running.session_of (live session.old)) }
+        requires once { IsOnce (live session.old).names }
+        requires sound { IsSoundSession
+            (did (recorded self.now) (running.session_of (live session.old))) }
+        ensures { OnOk result (collected (running.session_of (live session.new))
+            ≡ did (recorded self.now) (running.session_of (live session.old))) }
+    {
+        let changes = &self.changes;
+        session.blank(changes)?;
+        session.redo(changes)?;
         Ok(())
     }
 }

@@ -10,8 +10,8 @@ ghost use Rattle.nd_model.specs.Tokens.{tokens_of_lines, tokens_of_stmt};
 ghost use Rattle.nd_model.specs.Reading.{reading};
 ghost use Rattle.nd_model.specs.Records.{record_of};
 ghost use Rattle.nd_syntax.specs.Syntax.{kind_of, lines_of, stmt_of};
-ghost use Rattle.nd_heap.specs.Values.{inputs_of};
-ghost use Rattle.nd_heap.specs.Live.{live};
+ghost use Rattle.nd_session.specs.Values.{inputs_of};
+ghost use Rattle.nd_session.specs.Live.{live};
 ghost use Rattle.nd_eval.specs.Done.{output_of};
 ghost use Rattle.nd_cell.specs.Records.{ended_in, recorded};
 ghost use Rattle.nd_cell.specs.Results.{after_line, ended_of, refusal_of, saved_of, saves_of};
@@ -20,9 +20,9 @@ use crate::record::Record;
 use crate::result::{CellFault, CellResult, Refusal};
 use indexmap::IndexMap;
 use nd_eval::{Output, StmtError, StmtFault, run_stmt};
-use nd_heap::{Inputs, OutOfMemory, Session};
 use nd_meter::Meter;
 use nd_parse::{Line, ParseFault, parse_cell};
+use nd_session::{Inputs, OutOfMemory, Session};
 use std::alloc::Global;
 
 /// The most bytes of a cell's text.

@@ -1,8 +1,8 @@
 //! All answers of a notebook, as a text: two texts are the same only where all answers are.
 
 use crate::faults::add_refusal;
-use nd_heap::OutOfMemory;
 use nd_rerun::{CellResult, Elem, ElemType, Notebook, QueryFault, RecType, Shown};
+use nd_session::OutOfMemory;
 use std::alloc::{AllocError, Global};
 
 /// Adds the refusal of a query.

@@ -1,7 +1,7 @@
 //! The cells and inputs of a notebook, kept as its edits say.
 
-use nd_heap::{Inputs, OutOfMemory, has_input, with_input, without_input};
 use nd_rerun::{Edit, EditFault};
+use nd_session::{Inputs, OutOfMemory, has_input, with_input, without_input};
 use std::alloc::Global;
 
 /// A cell: its label, which tells it from the others as long as it stands, and its text.

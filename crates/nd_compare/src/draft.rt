@@ -3,8 +3,8 @@
 use crate::book::{Book, Cell};
 use crate::pool::Pool;
 use crate::random::Random;
-use nd_heap::{Input, OutOfMemory};
 use nd_rerun::Edit;
+use nd_session::{Input, OutOfMemory};
 use std::alloc::Global;
 
 /// An edit with texts of its own.

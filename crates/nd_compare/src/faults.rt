@@ -1,9 +1,9 @@
 //! Refusals, as texts of which no two are the same.
 
-use nd_heap::OutOfMemory;
 use nd_rerun::{
     CellFault, EditFault, IndexFault, Refusal, StmtError, StmtFault, UfuncFault, ViewFault,
 };
+use nd_session::OutOfMemory;
 use std::alloc::{AllocError, Global};
 
 /// Adds an index fault.

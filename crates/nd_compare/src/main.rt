@@ -16,8 +16,8 @@ mod trial;
 use crate::pool::{POOLS, Pool};
 use crate::tally::Tally;
 use crate::trial::{Meters, Trial};
-use nd_heap::OutOfMemory;
 use nd_rerun::Meter;
+use nd_session::OutOfMemory;
 use std::process::ExitCode;
 use std::{env, io};
 

@@ -2,7 +2,7 @@
 
 use crate::book::{Book, Cell};
 use nd_cell::{Meter, run_cell};
-use nd_heap::{Inputs, OutOfMemory, Reads, Session};
+use nd_session::{Inputs, OutOfMemory, Reads, Session};
 use std::alloc::Global;
 
 /// A run of a cell, with what it read.

@@ -1,8 +1,8 @@
 //! What was found of edits.
 
 use crate::book::Book;
-use nd_heap::OutOfMemory;
 use nd_rerun::Edit;
+use nd_session::OutOfMemory;
 use std::alloc::{AllocError, Global};
 
 /// Counts of edits, of the cells that they ran, and of those that were not as they should be, with the first of these.

@@ -8,8 +8,8 @@ use crate::pass::Pass;
 use crate::pool::Pool;
 use crate::random::Random;
 use crate::tally::{Count, Step, Tally};
-use nd_heap::OutOfMemory;
 use nd_rerun::{EditFault, Meter, Notebook};
+use nd_session::OutOfMemory;
 use std::alloc::Global;
 
 /// The most cells of a notebook.

@@ -3,8 +3,8 @@ use Rattle.std.specs.Prelude.{◌≡◌, Result, Ok, Err}
 use Rattle.nd_model.specs.Fault.{Fault}
 use Rattle.nd_model.specs.Running.{Running, Effect}
 use Rattle.nd_model.specs.Evaluation.{Eval, run}
-use Rattle.nd_heap.specs.Live.{live}
-use Rattle.nd_heap.specs.Values.{inputs_of}
+use Rattle.nd_session.specs.Live.{live}
+use Rattle.nd_session.specs.Values.{inputs_of}
 use Rattle.nd_eval.specs.declared.fault.StmtFault.{StmtFault}
 use Rattle.nd_eval.specs.declared.stop.Stop.{Stop}
 use Rattle.nd_eval.specs.declared.stop.Stop.TheVariants.{Memory, Refused}

@@ -6,7 +6,7 @@ ghost use Rattle.nd_eval.specs.Ends.{Says};
 
 use crate::fault::{StmtError, StmtFault};
 use crate::operand::Made;
-use nd_heap::Value;
+use nd_session::Value;
 use nd_types::Num;
 
 /// The array of the whole numbers below a value.

@@ -3,7 +3,7 @@
 ghost use Rattle.std.specs.Prelude.{◌+◌, ◌≤◌, ◌^◌};
 ghost use Rattle.nd_model.specs.Element.{size_of};
 
-use nd_heap::{Base, Value};
+use nd_session::{Base, Value};
 use nd_types::Elem;
 
 /// A number for the element at a place.

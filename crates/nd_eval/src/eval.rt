@@ -24,7 +24,7 @@ use crate::indexes::index_array;
 use crate::operation::{mark_operand, operand_in};
 use crate::operators::negate;
 use crate::stop::Stop;
-use nd_heap::Value;
+use nd_session::Value;
 use nd_syntax::{Call, Expr, Index, IndexItem, Suffix, UnaryOp};
 use nd_types::Num;
 

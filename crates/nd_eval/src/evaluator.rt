@@ -1,6 +1,6 @@
 //! Evaluations.
 
-use nd_heap::{Inputs, Session};
+use nd_session::{Inputs, Session};
 
 /// A statement's evaluation: the session that it asks and changes, and the inputs.
 #[derive(Drop)]

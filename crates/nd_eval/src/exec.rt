@@ -7,8 +7,9 @@ ghost use Rattle.nd_model.specs.Cell.{statement};
 ghost use Rattle.nd_model.specs.Syntax.{Assign, Bind, Delete, Print};
 ghost use Rattle.nd_model.specs.Tokens.{tokens_of, tokens_of_all, tokens_of_stmt};
 ghost use Rattle.nd_syntax.specs.Syntax.{expr_of, index_of, stmt_of};
-ghost use Rattle.nd_heap.specs.Values.{base_of, inputs_of, value_of};
-ghost use Rattle.nd_heap.specs.Live.{live};
+ghost use Rattle.nd_heap.specs.Values.{base_of, value_of};
+ghost use Rattle.nd_session.specs.Values.{inputs_of};
+ghost use Rattle.nd_session.specs.Live.{live};
 ghost use Rattle.nd_eval.specs.Ends.{Ends, Evaluates, EvaluatesInLimit, session_of};
 ghost use Rattle.nd_eval.specs.Contents.{effect_of, writes_of};
 ghost use Rattle.nd_eval.specs.Done.{output_of, outcome_of};
@@ -27,7 +28,7 @@ use crate::printing::print_line;
 use crate::stop::Stop;
 use crate::writing::assignment_write;
 use nd_block::push_bytes;
-use nd_heap::{Base, Inputs, OutOfMemory, Session, Value};
+use nd_session::{Base, Inputs, OutOfMemory, Session, Value};
 use nd_syntax::{Expr, Index, Stmt};
 
 /// What a statement gives to its cell: the text that it prints, and perhaps a file that it saves, by its name.

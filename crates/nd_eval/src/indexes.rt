@@ -10,7 +10,7 @@ ghost use Rattle.nd_eval.specs.Ends.{Says};
 use crate::fault::{IndexFault, StmtError, StmtFault};
 use crate::operand::{ElementPlace, Operand};
 use crate::writing::number_type;
-use nd_heap::Value;
+use nd_session::Value;
 use nd_types::{Kind, Num};
 use nd_view::View;
 

@@ -9,7 +9,7 @@ use crate::eval::unbuilt_form;
 use crate::evaluator::Evaluator;
 use crate::fault::{StmtError, StmtFault};
 use crate::stop::Stop;
-use nd_heap::{Value, is_input_name};
+use nd_session::{Value, is_input_name};
 
 impl Evaluator<'_> {
     /// What is made of an input, which is read before it is refused. No form of input is built yet.

@@ -4,7 +4,7 @@ ghost use Rattle.std.specs.Prelude.{◌≡◌, ◌+◌, ◌<◌, ◌≤◌, ◌^
 ghost use Rattle.nd_model.specs.Creation as creation;
 ghost use Rattle.nd_model.specs.Operation as operation;
 ghost use Rattle.nd_heap.specs.Values.{value_of};
-ghost use Rattle.nd_heap.specs.Live.{live};
+ghost use Rattle.nd_session.specs.Live.{live};
 ghost use Rattle.nd_eval.specs.Contents.{chosen_of, made_of, operand_of, operands_of};
 ghost use Rattle.nd_eval.specs.Ends.{Evaluates, session_of};
 ghost use Rattle.nd_eval.specs.Uses.{IsHeld, AreHeld, marked, all_marked};
@@ -16,7 +16,7 @@ use crate::numbers::{int64, numbers_below};
 use crate::operand::{ElementPlace, Elements, Made, Operand};
 use crate::stop::Stop;
 use nd_element::number_in;
-use nd_heap::{Array, OutOfMemory, Session, Value};
+use nd_session::{Array, OutOfMemory, Session, Value};
 use nd_types::{ElemType, Num};
 use nd_view::View;
 use std::alloc::AllocError;

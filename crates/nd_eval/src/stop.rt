@@ -4,7 +4,7 @@ ghost use Rattle.std.specs.Prelude.{◌≡◌};
 ghost use Rattle.nd_eval.specs.declared.stop.Stop.TheVariants.{Memory, Refused};
 
 use crate::fault::StmtFault;
-use nd_heap::OutOfMemory;
+use nd_session::OutOfMemory;
 use std::alloc::{AllocError, AllocFailed};
 
 /// Why an evaluation stops: a growth was refused, or the statement is.

@@ -14,7 +14,7 @@ use crate::indexes::{array_of, indexed_place};
 use crate::numbers::is_single;
 use crate::operand::{Elements, Operand};
 use nd_element::number_in;
-use nd_heap::Value;
+use nd_session::Value;
 use nd_types::{Elem, ElemType, Kind, Num, fits, wrap};
 
 /// The number that lies at each place. Structures are refused.

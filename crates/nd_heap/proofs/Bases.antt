@@ -1,5 +1,5 @@
 -- Blocks by their bases.
-use Rattle.std.proofs.Common.{◌≡◌, ◌≤◌, ℕ, zero, suc, length, slice_get, Bool, true, false, cond, ◌&&◌, nat_eq, List, [], ◌∷◌, filter, Some, None, Option, Result, Ok, Err, Global, refl, sym, ap, ap₂, subst, ◌∙◌, inl, inr, arith}
+use Rattle.std.proofs.Common.{◌≡◌, ℕ, length, Bool, cond, ◌&&◌, nat_eq, List, [], ◌∷◌, Some, None, Option, Result, Ok, Err, Global, refl, sym, ap, ap₂, subst, ◌∙◌, inl, inr, arith}
 use mathlib.Core.Path.{fun_ext}
 use Rattle.std.specs.Map.{lookup as find, set_value}
 use Rattle.std.specs.Prelude.{OnErr, OnOk}
@@ -15,6 +15,7 @@ use Rattle.nd_heap.specs.declared.value.Base.{Base}
 use Rattle.nd_heap.specs.Values.{base_of}
 use Rattle.nd_heap.specs.Contents.{blocks_of}
 use Rattle.nd_heap.specs.Live.{bytes_at}
+use Rattle.nd_heap.proofs.Plain.{no_entries}
 use Rattle.nd_heap.proofs.Same.{same_bases}
 
 abbrev pub Shared : Type 0
@@ -95,13 +96,9 @@ same_block b bytes f is = fun_ext (λ c. elim (cases_Bool (model.same_base b c))
   | inr apart ↦ rw apart refl
 ])
 
-none_of : (bytes : List ℕ) → length bytes ≡ 0 → bytes ≡ []
-none_of [] h = refl
-none_of (x ∷ xs) h = absurd (omega arith)
-
 -- nothing is written where there is no block
 pub nothing_put : (f : List ℕ → List ℕ) → ((bytes : List ℕ) → length (f bytes) ≡ length bytes) → (b : Base) (es : List (Base × Shared)) → None ≡ find (base_eq b) es
     → running.with_base (base_of b) (f (bytes_at (blocks_of es) (base_of b))) (bytes_at (blocks_of es)) ≡ bytes_at (blocks_of es)
 nothing_put f same b es none =
     let empty : bytes_at (blocks_of es) (base_of b) ≡ [] = found_block b es ∙ ap found_bytes (sym none) in
-    same_block (base_of b) _ (bytes_at (blocks_of es)) (ap f empty ∙ none_of (f []) (same []) ∙ sym empty)
+    same_block (base_of b) _ (bytes_at (blocks_of es)) (ap f empty ∙ no_entries (f []) (same []) ∙ sym empty)

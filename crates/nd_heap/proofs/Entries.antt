@@ -1,17 +1,12 @@
 -- A fact of each of the first entries of a list.
-use Rattle.std.proofs.Common.{◌≡◌, ℕ, zero, suc, ◌+◌, ◌≤◌, List, [], ◌∷◌, length, slice_get, Some, None, add-one, sym, subst, arith}
+use Rattle.std.proofs.Common.{◌≡◌, ℕ, zero, suc, ◌+◌, ◌≤◌, List, [], ◌∷◌, length, slice_get, Some, add-one, sym, subst, arith}
 use Rattle.std.specs.List.{AllByRecursion}
+use Rattle.nd_heap.proofs.Plain.{none_some, some_same}
 
 abbrev pub AllBefore : {E : Type 0} → (E → Type 0) → List E → ℕ → Type 0
 AllBefore P es zero = Unit {0}
 AllBefore P [] (suc i) = Unit {0}
 AllBefore P (e ∷ es) (suc i) = P e × AllBefore P es i
-
-none_some : {E P : Type 0} (e : E) → None ≡ Some e → P
-none_some e h = cc
-
-some_same : {E : Type 0} (d e : E) → Some d ≡ Some e → d ≡ e
-some_same d e h = cc
 
 next : {E : Type 0} (P : E → Type 0) (es : List E) (i : ℕ) (e : E) → slice_get es i ≡ Some e → P e → AllBefore P es i → AllBefore P es (suc i)
 next P [] i e at is before = none_some e at

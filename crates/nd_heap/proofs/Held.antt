@@ -1,21 +1,18 @@
 -- The bases that are held.
-use Rattle.std.proofs.Common.{◌≡◌, ℕ, ◌+◌, Bool, true, false, ◌||◌, nat_eq, eqb-true, List, [], ◌∷◌, zero, suc, cond, drop, slice_get, None, Some, Global, refl, sym, ap, ◌∙◌, inl, inr, arith}
-use Rattle.std.specs.declared.rc.RcStr.{RcStr}
+use Rattle.std.proofs.Common.{◌≡◌, ℕ, Bool, true, false, ◌||◌, nat_eq, eqb-true, List, [], ◌∷◌, cond, refl, sym, ap, ◌∙◌, inl, inr, arith}
 use Rattle.std.specs.Map.{lookup as find}
 use Rattle.std.specs.Prelude.{is_some, IsFalse}
-use Rattle.std.specs.List.{AllByRecursion}
 use Rattle.indexmap.specs.IndexMap.{insert_entry}
 use Rattle.std.proofs.lemmas.Bool.{cases_Bool, and_parts}
 use Rattle.std.proofs.lemmas.Bool.Decides.{nat_tests}
 use Rattle.nd_model.specs.View.{Geo}
 use Rattle.nd_model.specs.Value as model
-use Rattle.nd_model.specs.Session.{is_held}
 use Rattle.nd_heap.specs.declared.value.Base.{Base}
-use Rattle.nd_heap.specs.Values.{base_of, value_of, names_of}
+use Rattle.nd_heap.specs.Values.{base_of}
 use Rattle.nd_heap.specs.Contents.{bases_of}
 use Rattle.nd_heap.specs.Live.{is_base_among}
 use Rattle.nd_heap.proofs.Bases.{base_eq, base_eq_sym}
-use Rattle.nd_heap.proofs.NameLists.{SharedValue, held_from}
+use Rattle.nd_heap.proofs.Plain.{false_true}
 use Rattle.nd_heap.proofs.Same.{base_same}
 
 -- a base is put among the others
@@ -32,17 +29,10 @@ pub found_base : (b : Base) (es : List (Base × Unit {0})) → is_base_among (ba
 found_base b [] = refl
 found_base b (e ∷ es) = rw (base_eq_sym e.0 b) (elim (cases_Bool (base_eq b e.0)) [ inl is ↦ rw is refl | inr other ↦ rw other (found_base b es) ])
 
-either : (a b c : Bool) → ((a || b) || c) ≡ (a || (b || c))
-either true b c = refl
-either false b c = refl
-
 -- what is kept of a block of no bytes
 pub none_kept : (h : Bool) (bytes : List ℕ) → bytes ≡ [] → bytes ≡ cond h bytes []
 none_kept true bytes e = refl
 none_kept false bytes e = e
-
-pub true_false : {P : Type 0} → true ≡ false → P
-true_false e = cc
 
 -- a label's test
 pub in_label : (label : ℕ) (c : model.Base) (g : Geo) (v : model.Value) → v ≡ model.Array c g
@@ -50,7 +40,7 @@ pub in_label : (label : ℕ) (c : model.Base) (g : Geo) (v : model.Value) → v 
 in_label label c g v is = (
   λ f b own. ap (model.lies_in b) is ∙ apart b f own,
   λ all. elim (cases_Bool (nat_eq c.label label)) [
-    | inl own ↦ true_false (sym (base_same c) ∙ sym (ap (model.lies_in c) is) ∙ all c (eqb-true _ _ own))
+    | inl own ↦ false_true (sym (all c (eqb-true _ _ own)) ∙ ap (model.lies_in c) is ∙ base_same c)
     | inr other ↦ other
   ],
 )

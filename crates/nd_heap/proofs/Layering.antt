@@ -1,22 +1,16 @@
 -- Names in layers.
 use Rattle.std.proofs.Common.{◌≡◌, ℕ, zero, suc, ◌+◌, ◌-◌, ◌≤◌, Bool, true, false, ◌||◌, cond, bytes_eq, List, [], ◌∷◌, ◌++◌, length, take, slice_get, Option, Some, None, is_some, option_map, unwrap_or, add-one, refl, sym, ap, ◌∙◌, inl, inr, arith}
-use Rattle.std.proofs.lemmas.Bool.{cases_Bool}
+use Rattle.std.proofs.lemmas.Bool.{cases_Bool, or_parts, or_from}
 use Rattle.nd_model.specs.Value as model
 use Rattle.nd_model.specs.Session.{Names, lookup, bind, unbind, is_held}
 use Rattle.nd_model.proofs.Lists.{lookup-bind, lookup-unbind, bytes_eq_same}
 use Rattle.nd_heap.specs.Layers.{overridden, AreDistinctNames}
 use Rattle.nd_heap.specs.Loose.{lies_in_found, LosesHolder}
-use Rattle.nd_heap.proofs.Loosening.{no_part, neither}
+use Rattle.nd_heap.proofs.Plain.{none_some, some_same, false_true, or_false, or_true, or_assoc}
 use Rattle.nd_heap.proofs.Same.{same_bytes}
 
 abbrev pub Entry : Type 0
 Entry = List ℕ × model.Value
-
-none_some : {X P : Type 0} (x : X) → None ≡ Some x → P
-none_some x h = cc
-
-some_same : {X : Type 0} (x y : X) → Some x ≡ Some y → x ≡ y
-some_same x y h = cc
 
 eq_sym : (m n : List ℕ) → bytes_eq m n ≡ bytes_eq n m
 eq_sym m n = elim (cases_Bool (bytes_eq m n)) [
@@ -171,11 +165,11 @@ held_unbind b n (e ∷ es) d h f = elim (cases_Bool (bytes_eq n e.0)) [
       let lacks : lookup n es ≡ None = ap (λ m. lookup m es) (same_bytes n e.0 is) ∙ d.0 in
       let others : is_held b es ≡ false = ap (is_held b) (sym (unbind-none n es lacks)) ∙ sym (ap (λ t. is_held b (cond t (unbind n es) (e ∷ unbind n es))) is) ∙ h in
       let this : model.lies_in b e.1 ≡ false = sym (ap (λ t. lies_in_found b (cond t (Some e.1) (lookup n es))) is) ∙ f in
-      neither _ _ this others
+      or_from _ _ this others
   | inr other ↦
-      let parts = no_part (model.lies_in b e.1) _ (sym (ap (λ t. is_held b (cond t (unbind n es) (e ∷ unbind n es))) other) ∙ h) in
+      let parts = or_parts (model.lies_in b e.1) _ (sym (ap (λ t. is_held b (cond t (unbind n es) (e ∷ unbind n es))) other) ∙ h) in
       let behind : lies_in_found b (lookup n es) ≡ false = sym (ap (λ t. lies_in_found b (cond t (Some e.1) (lookup n es))) other) ∙ f in
-      neither _ _ parts.0 (held_unbind b n es d.1 parts.1 behind)
+      or_from _ _ parts.0 (held_unbind b n es d.1 parts.1 behind)
 ]
 
 -- ---- one layer
@@ -208,54 +202,34 @@ bind_next es xs i n v d at is = ap (bind n v) is ∙ bind_next' es i (n, v) d at
 
 held-append : (b : model.Base) (xs ys : Names) → is_held b (xs ++ ys) ≡ (is_held b xs || is_held b ys)
 held-append b [] ys = refl
-held-append b (x ∷ xs) ys = ap (λ t. model.lies_in b x.1 || t) (held-append b xs ys) ∙ assoc (model.lies_in b x.1) _ _
-  where
-    assoc : (a b c : Bool) → (a || (b || c)) ≡ ((a || b) || c)
-    assoc true b c = refl
-    assoc false b c = refl
+held-append b (x ∷ xs) ys = ap (λ t. model.lies_in b x.1 || t) (held-append b xs ys) ∙ or_assoc (model.lies_in b x.1) _ _
 
 found_unheld : (b : model.Base) (n : List ℕ) (v : model.Value) (es : Names) → is_held b es ≡ false → model.lies_in b v ≡ false → model.lies_in b (unwrap_or (lookup n es) v) ≡ false
 found_unheld b n v [] h f = f
 found_unheld b n v (e ∷ es) h f =
-    let parts = no_part (model.lies_in b e.1) _ h in
+    let parts = or_parts (model.lies_in b e.1) _ h in
     elim (cases_Bool (bytes_eq n e.0)) [ inl is ↦ rw is parts.0 | inr other ↦ rw other (found_unheld b n v es parts.1 f) ]
 
 unheld_old : (b : model.Base) (newer old : Names) → is_held b newer ≡ false → is_held b old ≡ false → is_held b (overridden newer old) ≡ false
 unheld_old b newer [] h f = refl
-unheld_old b newer (e ∷ es) h f = let parts = no_part (model.lies_in b e.1) _ f in neither _ _ (found_unheld b e.0 e.1 newer h parts.0) (unheld_old b newer es h parts.1)
+unheld_old b newer (e ∷ es) h f = let parts = or_parts (model.lies_in b e.1) _ f in or_from _ _ (found_unheld b e.0 e.1 newer h parts.0) (unheld_old b newer es h parts.1)
 
 -- where no layer holds it
 pub unheld_layers : (b : model.Base) (newer old added : Names) → is_held b newer ≡ false → is_held b old ≡ false → is_held b added ≡ false → is_held b (overridden newer old ++ added) ≡ false
-unheld_layers b newer old added h f g = held-append b (overridden newer old) added ∙ neither _ _ (unheld_old b newer old h f) g
+unheld_layers b newer old added h f g = held-append b (overridden newer old) added ∙ or_from _ _ (unheld_old b newer old h f) g
 
 pub held_added : (b : model.Base) (newer old added : Names) → is_held b added ≡ true → is_held b (overridden newer old ++ added) ≡ true
 held_added b newer old added h = held-append b (overridden newer old) added ∙ rw h (or_true (is_held b (overridden newer old)))
-  where
-    or_true : (x : Bool) → (x || true) ≡ true
-    or_true true = refl
-    or_true false = refl
 
 pub held_there : (b : model.Base) (es : Names) (i : ℕ) (n : List ℕ) (v : model.Value) → slice_get es i ≡ Some (n, v) → model.lies_in b v ≡ true → is_held b es ≡ true
 held_there b [] i n v at h = none_some (n, v) at
 held_there b (e ∷ es) zero n v at h = rw (ap (λ (e : Entry). model.lies_in b e.1) (some_same e (n, v) at) ∙ h) refl
 held_there b (e ∷ es) (suc i) n v at h = rw (held_there b es i n v at h) (or_true (model.lies_in b e.1))
-  where
-    or_true : (x : Bool) → (x || true) ≡ true
-    or_true true = refl
-    or_true false = refl
 
 held_more' : (b : model.Base) (es : Names) (i : ℕ) (e : Entry) → slice_get es i ≡ Some e → is_held b (take (suc i) es) ≡ (is_held b (take i es) || model.lies_in b e.1)
 held_more' b [] i e at = none_some e at
 held_more' b (d ∷ es) zero e at = ap (λ (d : Entry). model.lies_in b d.1 || false) (some_same d e at) ∙ or_false (model.lies_in b e.1)
-  where
-    or_false : (x : Bool) → (x || false) ≡ x
-    or_false true = refl
-    or_false false = refl
-held_more' b (d ∷ es) (suc i) e at = ap (λ t. model.lies_in b d.1 || t) (held_more' b es i e at) ∙ assoc (model.lies_in b d.1) _ _
-  where
-    assoc : (a b c : Bool) → (a || (b || c)) ≡ ((a || b) || c)
-    assoc true b c = refl
-    assoc false b c = refl
+held_more' b (d ∷ es) (suc i) e at = ap (λ t. model.lies_in b d.1 || t) (held_more' b es i e at) ∙ or_assoc (model.lies_in b d.1) _ _
 
 -- the first ones and the next
 pub held_next : (b : model.Base) (es : Names) (i : ℕ) (n : List ℕ) (v : model.Value) → slice_get es i ≡ Some (n, v) → is_held b (take (i + 1) es) ≡ (is_held b (take i es) || model.lies_in b v)
@@ -264,11 +238,8 @@ held_next b es i n v at = ap (λ k. is_held b (take k es)) (add-one i) ∙ held_
 pub only_layer : (newer shared added es : Names) → newer ≡ [] → shared ≡ es → added ≡ [] → overridden newer shared ++ added ≡ es
 only_layer newer shared added es a b d = ap (λ n. overridden n shared ++ added) a ∙ ap (λ s. overridden [] s ++ added) b ∙ ap (λ t. overridden [] es ++ t) d ∙ one_layer es
 
-pub none_there : {P : Type 0} → false ≡ true → P
-none_there h = cc
-
 is_there : (o : Option model.Value) → is_some o ≡ true → (v : model.Value) × (o ≡ Some v)
-is_there None h = none_there h
+is_there None h = false_true h
 is_there (Some v) h = (v, refl)
 
 is_none : (o : Option model.Value) → is_some o ≡ false → o ≡ None
@@ -306,11 +277,7 @@ same_layers newer newer' old old' added added' a b d = ap (λ n. overridden n ol
 pub loses : (n : List ℕ) (old new : Names) → AreDistinctNames old → new ≡ unbind n old → LosesHolder n old new
 loses n old new distinct is = λ b unheld free. held_unbind b n old distinct (sym (ap (is_held b) is) ∙ unheld) free
 
-pub no_entries : {X : Type 0} (es : List X) → length es ≡ 0 → es ≡ []
-no_entries [] h = refl
-no_entries (e ∷ es) h = absurd (omega arith)
-
 pub unheld_there : (b : model.Base) (es : Names) (i : ℕ) (n : List ℕ) (v : model.Value) → slice_get es i ≡ Some (n, v) → is_held b es ≡ false → model.lies_in b v ≡ false
 unheld_there b [] i n v at h = none_some (n, v) at
-unheld_there b (e ∷ es) zero n v at h = ap (λ (e : Entry). model.lies_in b e.1) (sym (some_same e (n, v) at)) ∙ (no_part (model.lies_in b e.1) _ h).0
-unheld_there b (e ∷ es) (suc i) n v at h = unheld_there b es i n v at (no_part (model.lies_in b e.1) _ h).1
+unheld_there b (e ∷ es) zero n v at h = ap (λ (e : Entry). model.lies_in b e.1) (sym (some_same e (n, v) at)) ∙ (or_parts (model.lies_in b e.1) _ h).0
+unheld_there b (e ∷ es) (suc i) n v at h = unheld_there b es i n v at (or_parts (model.lies_in b e.1) _ h).1

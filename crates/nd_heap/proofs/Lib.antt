@@ -1,3 +1,4 @@
+pub mod Plain
 pub mod Same
 pub mod NameLists
 pub mod Bases
@@ -7,19 +8,3 @@ pub mod Loosening
 pub mod Layering
 pub mod Picking
 pub mod Stacking
-pub mod Alike
-pub mod Places
-pub mod Noting
-pub mod Traces
-pub mod Touched
-pub mod Listed
-pub mod Sessions
-pub mod Storing
-pub mod Intact
-pub mod Inputs
-pub mod Reading
-pub mod Agreeing
-pub mod Redoing
-pub mod Retaining
-pub mod Keeping
-pub mod Last

@@ -1,42 +1,31 @@
 -- Loose bases: what loses its last name is among them.
-use Rattle.std.proofs.Common.{◌≡◌, ℕ, suc, zero, Bool, true, false, not, ◌&&◌, ◌||◌, cond, bytes_eq, List, [], ◌∷◌, length, drop, filter, Some, Global, refl, sym, ap, ◌∙◌, inl, inr, arith}
-use Rattle.std.specs.Map.{remove_entry}
-use Rattle.std.specs.Rc.{rc_str_bytes}
+use Rattle.std.proofs.Common.{◌≡◌, ℕ, suc, zero, true, false, not, ◌&&◌, ◌||◌, cond, bytes_eq, List, [], ◌∷◌, length, drop, filter, Some, Global, refl, sym, ap, ◌∙◌, inl, inr}
 use Rattle.std.specs.declared.rc.RcStr.{RcStr}
-use Rattle.std.proofs.lemmas.Bool.{cases_Bool, or_right}
+use Rattle.std.proofs.lemmas.Bool.{cases_Bool, or_parts, or_from, or_right}
 use Rattle.nd_model.specs.Value as model
 use Rattle.nd_model.specs.Session.{Names, lookup, bind, is_held}
 use Rattle.nd_model.specs.Running as running
 use Rattle.nd_heap.specs.declared.value.Base.{Base}
-use Rattle.nd_heap.specs.Values.{base_of, value_of, names_of}
+use Rattle.nd_heap.specs.Values.{base_of, names_of}
 use Rattle.nd_heap.specs.Contents.{bases_of}
 use Rattle.nd_heap.specs.Live.{bytes_at, is_base_among}
 use Rattle.nd_heap.specs.Loose.{HeapData, AreLoose, lies_in_found}
 use Rattle.nd_heap.proofs.NameLists.{SharedValue}
+use Rattle.nd_heap.proofs.Plain.{false_true, and_false, no_entries}
 use Rattle.nd_heap.proofs.Same.{same_bases}
-
-pub no_part : (a b : Bool) → (a || b) ≡ false → (a ≡ false) × (b ≡ false)
-no_part true b h = cc
-no_part false b h = (refl, h)
-
-pub neither : (a b : Bool) → a ≡ false → b ≡ false → (a || b) ≡ false
-neither a b f g = rw f g
-
-false_true : {P : Type 0} → false ≡ true → P
-false_true e = cc
 
 -- a base of which another name's value is left is held by it
 pub held_bind : (b : model.Base) (n : List ℕ) (v : model.Value) (es : Names) → is_held b (bind n v es) ≡ false → lies_in_found b (lookup n es) ≡ false → is_held b es ≡ false
 held_bind b n v [] h f = refl
 held_bind b n v (e ∷ es) h f = elim (cases_Bool (bytes_eq n e.0)) [
   | inl is ↦
-      let others : is_held b es ≡ false = (no_part (model.lies_in b v) _ (sym (ap (λ t. is_held b (cond t ((e.0, v) ∷ es) (e ∷ bind n v es))) is) ∙ h)).1 in
+      let others : is_held b es ≡ false = (or_parts (model.lies_in b v) _ (sym (ap (λ t. is_held b (cond t ((e.0, v) ∷ es) (e ∷ bind n v es))) is) ∙ h)).1 in
       let this : model.lies_in b e.1 ≡ false = sym (ap (λ t. lies_in_found b (cond t (Some e.1) (lookup n es))) is) ∙ f in
-      neither _ _ this others
+      or_from _ _ this others
   | inr other ↦
-      let parts = no_part (model.lies_in b e.1) _ (sym (ap (λ t. is_held b (cond t ((e.0, v) ∷ es) (e ∷ bind n v es))) other) ∙ h) in
+      let parts = or_parts (model.lies_in b e.1) _ (sym (ap (λ t. is_held b (cond t ((e.0, v) ∷ es) (e ∷ bind n v es))) other) ∙ h) in
       let behind : lies_in_found b (lookup n es) ≡ false = sym (ap (λ t. lies_in_found b (cond t (Some e.1) (lookup n es))) other) ∙ f in
-      neither _ _ parts.0 (held_bind b n v es parts.1 behind)
+      or_from _ _ parts.0 (held_bind b n v es parts.1 behind)
 ]
 
 -- one of the last names holds it
@@ -66,10 +55,6 @@ left_unheld ns (e ∷ es) b = elim (cases_Bool (model.same_base (base_of e.0) b)
     | inr free ↦ rw (free, apart) (left_unheld ns es b)
   ]
 ]
-  where
-    and_false : (x : Bool) → (x && false) ≡ false
-    and_false true = refl
-    and_false false = refl
 
 -- ---- heaps
 
@@ -84,7 +69,7 @@ pub lost_loose : (n : List ℕ) (names after : Names) (blocks : List (model.Base
     → ((b : model.Base) → is_held b after ≡ false → lies_in_found b (lookup n names) ≡ false → is_held b names ≡ false)
     → AreLoose (record { names = names; blocks = blocks; loose = old }) → AreLoose (record { names = after; blocks = blocks; loose = new })
 lost_loose n names after blocks old new loose loses h = λ b free unheld.
-    let parts = no_part _ _ (sym (loose b) ∙ free) in
+    let parts = or_parts _ _ (sym (loose b) ∙ free) in
     h b parts.0 (loses b unheld parts.1)
 
 -- a block is put under a base that is loose
@@ -92,7 +77,7 @@ pub put_loose : (base : model.Base) (block : List ℕ) (names : Names) (blocks a
     → ((c : model.Base) → is_base_among new c ≡ (is_base_among old c || model.same_base c base)) → bytes_at after ≡ running.with_base base block (bytes_at blocks)
     → AreLoose (record { names = names; blocks = blocks; loose = old }) → AreLoose (record { names = names; blocks = after; loose = new })
 put_loose base block names blocks after old new loose put h = λ b free unheld.
-    let parts = no_part _ _ (sym (loose b) ∙ free) in
+    let parts = or_parts _ _ (sym (loose b) ∙ free) in
     let apart : model.same_base base b ≡ false = same_sym base b ∙ parts.1 in
     ap (λ (f : model.Base → List ℕ). f b) put ∙ rw apart (h b parts.0 unheld)
   where
@@ -105,17 +90,13 @@ put_loose base block names blocks after old new loose put h = λ b free unheld.
       ]
     ]
 
-none_of : (bytes : List ℕ) → length bytes ≡ 0 → bytes ≡ []
-none_of [] h = refl
-none_of (x ∷ xs) h = absurd (omega arith)
-
 -- a block is written, which stays as long as it was
 pub written_loose : (base : model.Base) (w : List ℕ) (names : Names) (blocks after : List (model.Base × List ℕ)) (loose : List model.Base)
     → length w ≡ length (bytes_at blocks base) → bytes_at after ≡ running.with_base base w (bytes_at blocks)
     → AreLoose (record { names = names; blocks = blocks; loose = loose }) → AreLoose (record { names = names; blocks = after; loose = loose })
 written_loose base w names blocks after loose same put h = λ b free unheld.
     ap (λ (f : model.Base → List ℕ). f b) put ∙ elim (cases_Bool (model.same_base base b)) [
-      | inl is ↦ rw is (none_of w (same ∙ ap (λ c. length (bytes_at blocks c)) (same_bases base b is) ∙ ap length (h b free unheld)))
+      | inl is ↦ rw is (no_entries w (same ∙ ap (λ c. length (bytes_at blocks c)) (same_bases base b is) ∙ ap length (h b free unheld)))
       | inr apart ↦ rw apart (h b free unheld)
     ]
 
@@ -139,10 +120,6 @@ collected_bytes names blocks after old new left removed h b = elim (cases_Bool (
     | inr never ↦ let stays : is_base_among new b ≡ false = left b ∙ rw never refl in removed b ∙ rw stays (h b never free)
   ])
 ]
-  where
-    and_false : (x : Bool) → (x && false) ≡ false
-    and_false true = refl
-    and_false false = refl
 
 -- the loose bases are those that are not held
 pub left_loose : (names : Names) (blocks others : List (model.Base × List ℕ)) (old new : List model.Base) → bytes_at others ≡ bytes_at blocks

@@ -9,28 +9,15 @@ use Rattle.nd_heap.specs.Values.{base_of}
 use Rattle.nd_heap.specs.Contents.{bases_of, blocks_of}
 use Rattle.nd_heap.specs.Live.{bytes_at, is_base_among}
 use Rattle.nd_heap.proofs.Bases.{Shared, base_eq, found_bytes, found_block}
+use Rattle.nd_heap.proofs.Plain.{none_some, some_same, or_false, or_assoc}
 use Rattle.nd_heap.proofs.Same.{same_bases}
-
-none_some : {P : Type 0} (e : Base × Unit {0}) → None ≡ Some e → P
-none_some e h = cc
-
-some_same : (d e : Base × Unit {0}) → Some d ≡ Some e → d ≡ e
-some_same d e h = cc
-
-or_false : (x : Bool) → (x || false) ≡ x
-or_false true = refl
-or_false false = refl
 
 -- one base more
 pub among_more : (es : List (Base × Unit {0})) (i : ℕ) (e : Base × Unit {0}) (b : model.Base) → slice_get es i ≡ Some e
     → is_base_among (bases_of (take (suc i) es)) b ≡ (is_base_among (bases_of (take i es)) b || model.same_base (base_of e.0) b)
 among_more [] i e b at = none_some e at
 among_more (d ∷ es) zero e b at = ap (λ (d : Base × Unit {0}). model.same_base (base_of d.0) b || false) (some_same d e at) ∙ or_false (model.same_base (base_of e.0) b)
-among_more (d ∷ es) (suc i) e b at = ap (λ t. model.same_base (base_of d.0) b || t) (among_more es i e b at) ∙ assoc (model.same_base (base_of d.0) b) _ _
-  where
-    assoc : (a b c : Bool) → (a || (b || c)) ≡ ((a || b) || c)
-    assoc true b c = refl
-    assoc false b c = refl
+among_more (d ∷ es) (suc i) e b at = ap (λ t. model.same_base (base_of d.0) b || t) (among_more es i e b at) ∙ or_assoc (model.same_base (base_of d.0) b) _ _
 
 -- a block is taken out
 pub removed_one : (base : Base) (es fs : List (Base × Shared)) → ((q : Base) → find (base_eq q) fs ≡ cond (base_eq base q) None (find (base_eq q) es)) → (b : model.Base)

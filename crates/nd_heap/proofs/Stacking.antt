@@ -15,16 +15,11 @@ use Rattle.nd_heap.specs.Layers.{is_block_among}
 use Rattle.nd_heap.specs.Live.{bytes_at, is_base_among}
 use Rattle.nd_heap.proofs.Bases.{Shared, base_eq, base_eq_sym, found_block, found_bytes}
 use Rattle.nd_heap.proofs.Picking.{among_more}
+use Rattle.nd_heap.proofs.Plain.{none_some, some_same, or_false, and_false, and_true}
 use Rattle.nd_heap.proofs.Same.{same_bases}
 
 abbrev pub Stack : Type 0
 Stack = List (model.Base × List ℕ)
-
-none_some : {X P : Type 0} (x : X) → None ≡ Some x → P
-none_some x h = cc
-
-some_same : {X : Type 0} (x y : X) → Some x ≡ Some y → x ≡ y
-some_same x y h = cc
 
 -- ---- look-ups
 
@@ -127,14 +122,6 @@ removed_among base es fs updates b =
       | inl same ↦ rw same (sym (and_false (is_block_among (blocks_of es) b)))
       | inr apart ↦ rw apart (sym (among_found q es) ∙ sym (and_true (is_block_among (blocks_of es) b)))
     ]
-  where
-    and_false : (x : Bool) → (x && false) ≡ false
-    and_false true = refl
-    and_false false = refl
-
-    and_true : (x : Bool) → (x && true) ≡ x
-    and_true true = refl
-    and_true false = refl
 
 pub among_less : (bases : List (Base × Unit {0})) (i : ℕ) (e : Base × Unit {0}) (b : model.Base) (new cur old : Bool) → slice_get bases i ≡ Some e → new ≡ (cur && not (model.same_base (base_of e.0) b))
     → cur ≡ (old && not (is_base_among (bases_of (take i bases)) b)) → new ≡ (old && not (is_base_among (bases_of (take (suc i) bases)) b))
@@ -167,10 +154,6 @@ none_more bases i e f at here before b among = elim (cases_Bool (model.same_base
   | inr apart ↦ before b (sym (or_false (is_base_among (bases_of (take i bases)) b))
       ∙ ap (λ t. is_base_among (bases_of (take i bases)) b || t) (sym apart) ∙ sym (among_more bases i e b at) ∙ ap (λ k. is_base_among (bases_of (take k bases)) b) (sym (add-one i)) ∙ among)
 ]
-  where
-    or_false : (x : Bool) → (x || false) ≡ x
-    or_false true = refl
-    or_false false = refl
 
 pub among_written : (b : Base) (w : Shared) (es fs : List (Base × Shared)) → fs ≡ set_value (base_eq b) es w → (c : model.Base) → is_block_among (blocks_of fs) c ≡ is_block_among (blocks_of es) c
 among_written b w es fs is c = ap (λ es. is_block_among (blocks_of es) c) is ∙ among_set b w es c

@@ -1,19 +1,14 @@
--- What maps hold: blocks as their bases and bytes, marks by their bases, and a set of bases.
+-- What maps hold: blocks as their bases and bytes, and a set of bases.
 use Rattle.std.specs.Prelude.{ℕ, List, [], ◌∷◌, Option, Some, None}
 use Rattle.std.proofs.Common.{Global}
 use Rattle.std.specs.declared.rc.Rc.{Rc}
 use Rattle.nd_model.specs.Value as model
-use Rattle.nd_marks.specs.Marks.{Places}
 use Rattle.nd_heap.specs.declared.value.Base.{Base}
 use Rattle.nd_heap.specs.Values.{base_of}
 
 abbrev pub blocks_of : List (Base × Rc (List ℕ) Global) → List (model.Base × List ℕ)
 blocks_of [] = []
 blocks_of (e ∷ es) = (base_of e.0, e.1.value) ∷ blocks_of es
-
-abbrev pub marks_of : List (Base × Places) → List (model.Base × Places)
-marks_of [] = []
-marks_of (e ∷ es) = (base_of e.0, e.1) ∷ marks_of es
 
 abbrev pub bases_of : List (Base × Unit {0}) → List model.Base
 bases_of [] = []

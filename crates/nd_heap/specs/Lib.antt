@@ -1,16 +1,5 @@
 pub mod Values
 pub mod Contents
-pub mod State
 pub mod Live
-pub mod Seen
-pub mod Events
 pub mod Loose
 pub mod Layers
-pub mod Kept
-pub mod Fields
-pub mod Intact
-pub mod Placing
-pub mod Reads
-pub mod Reading
-pub mod Patching
-pub mod Changes

@@ -2,7 +2,6 @@
 
 ghost use Rattle.std.specs.Prelude.{◌≡◌, ◌+◌, ◌≤◌, ◌^◌, ◌||◌, ◌&&◌, ◌++◌, not, [], IfOk, IsFalse, IsTrue, OnErr, OnOk, if◌then◌else◌};
 ghost use Rattle.nd_model.specs.Value as values;
-ghost use Rattle.nd_model.specs.Tuple.{count_up};
 ghost use Rattle.nd_model.specs.Session as model;
 ghost use Rattle.nd_model.specs.Running as running;
 ghost use Rattle.nd_heap.specs.Values.{base_of, value_of, names_of};
@@ -16,16 +15,16 @@ use crate::value::{Base, Value};
 use crate::writer::BlockWriter;
 use indexmap::IndexMap;
 use nd_block::RawBlock;
-use std::alloc::{AllocError, Global};
 use std::rc::Rc;
 
-pub(crate) type Blocks = IndexMap<Base, Rc<RawBlock>>;
+/// Blocks by their bases. A copy shares each of them.
+pub type Blocks = IndexMap<Base, Rc<RawBlock>>;
 
 /// A set of bases.
-pub(crate) type Bases = IndexMap<Base, ()>;
+pub type Bases = IndexMap<Base, ()>;
 
 /// The bytes of a block, none where there is no such block.
-pub(crate) fn bytes_of(blocks: &Blocks, base: Base) -> &[u8]
+pub fn bytes_of(blocks: &Blocks, base: Base) -> &[u8]
     ensures { result.now ≡ bytes_at (blocks_of blocks.now.entries) (base_of base) }
 {
     match blocks.get(&base) {
@@ -191,16 +190,4 @@ pub(crate) fn remove_shared(blocks: &mut Rc<Blocks>, bases: &Bases) -> Result<()
     let own = Rc::make_mut(blocks)?;
     remove_blocks(own, bases);
     Ok(())
-}
-
-/// The places from the first one on.
-pub(crate) fn places_from(alloc: Global, first: u64, count: u64) -> Result<Vec<u64>, AllocError>
-    requires { first + count ≤ 2 ^ 64 }
-    ensures { IfOk result (λ v. v.items ≡ count_up first count) }
-{
-    let mut places = Vec::new(alloc);
-    for i in 0..count {
-        places.push(first + i)?;
-    }
-    Ok(places)
 }

@@ -25,7 +25,7 @@ use std::rc::{Rc, RcStr};
 /// Names and blocks, of which copies share most. A base is loose from when it is made, and from when a name that
 /// lay in it gets another value, until blocks are collected: only loose bases are asked whether a name still lies in them.
 #[derive(Drop)]
-pub(crate) struct Heap {
+pub struct Heap {
     names: NameTable,
     blocks: BlockTable,
     loose: Bases,
@@ -68,7 +68,7 @@ fn loosen(loose: &mut Bases, names: &NameTable, name: &str) -> Result<(), OutOfM
 
 impl Heap {
     /// No names and no blocks.
-    pub(crate) fn new(alloc: Global) -> Result<Heap, OutOfMemory>
+    pub fn new(alloc: Global) -> Result<Heap, OutOfMemory>
         ensures names { IfOk result (λ h. h.names ≡ []) }
         ensures blocks { IfOk result (λ h. h.blocks ≡ []) }
     {
@@ -82,7 +82,7 @@ impl Heap {
     }
 
     /// The same names and blocks. No name and no byte is copied.
-    pub(crate) fn try_clone(&self) -> Result<Heap, OutOfMemory>
+    pub fn try_clone(&self) -> Result<Heap, OutOfMemory>
         ensures { IfOk result (λ h. h ≡ self.now) }
     {
         let names = self.names.try_clone()?;
@@ -96,14 +96,14 @@ impl Heap {
     }
 
     /// How many names are bound.
-    pub(crate) fn count(&self) -> usize
+    pub fn count(&self) -> usize
         ensures { result ≡ length self.now.names }
     {
         self.names.len()
     }
 
     /// The name at a place in the order of the names, none past the last.
-    pub(crate) fn name_at(&self, place: usize) -> Option<&str>
+    pub fn name_at(&self, place: usize) -> Option<&str>
         ensures { option_map (λ n. n.now) result
             ≡ option_map (λ e. e.0) (slice_get self.now.names place) }
     {
@@ -115,7 +115,7 @@ impl Heap {
     }
 
     /// The value of a name.
-    pub(crate) fn find(&self, name: &str) -> Option<&Value>
+    pub fn find(&self, name: &str) -> Option<&Value>
         ensures { option_map (λ v. value_of v.now) result ≡ model.lookup name.now self.now.names }
     {
         match self.names.find(name) {
@@ -125,7 +125,7 @@ impl Heap {
     }
 
     /// The value of a name, shared.
-    pub(crate) fn share_value(&self, name: &str) -> Result<Option<Rc<Value>>, OutOfMemory>
+    pub fn share_value(&self, name: &str) -> Result<Option<Rc<Value>>, OutOfMemory>
         ensures { IfOk result (λ o. option_map (λ v. value_of v.value) o
             ≡ model.lookup name.now self.now.names) }
     {
@@ -136,14 +136,14 @@ impl Heap {
     }
 
     /// The block of a base, shared.
-    pub(crate) fn share_block(&self, base: Base) -> Result<Option<Rc<RawBlock>>, OutOfMemory>
+    pub fn share_block(&self, base: Base) -> Result<Option<Rc<RawBlock>>, OutOfMemory>
         ensures { IfOk result (λ o. bytes_in o ≡ bytes_at self.now.blocks (base_of base)) }
     {
         self.blocks.share(base)
     }
 
     /// The bases that some bound value lies in.
-    pub(crate) fn held_bases(&self) -> Result<Bases, OutOfMemory>
+    pub fn held_bases(&self) -> Result<Bases, OutOfMemory>
         ensures { IfOk result (λ held. (b : values.Base)
             → is_base_among (bases_of held.entries) b ≡ model.is_held b self.now.names) }
     {
@@ -151,7 +151,7 @@ impl Heap {
     }
 
     /// The blocks of these bases, shared.
-    pub(crate) fn pick_blocks(&self, alloc: Global, bases: &Bases) -> Result<Blocks, OutOfMemory>
+    pub fn pick_blocks(&self, alloc: Global, bases: &Bases) -> Result<Blocks, OutOfMemory>
         ensures { IfOk result (λ picked. (b : values.Base) → bytes_at (blocks_of picked.entries) b
             ≡ (if is_base_among (bases_of bases.now.entries) b
             then bytes_at self.now.blocks b else [])) }
@@ -160,14 +160,14 @@ impl Heap {
     }
 
     /// The bytes of a block, none where there is no such block.
-    pub(crate) fn bytes(&self, base: Base) -> &[u8]
+    pub fn bytes(&self, base: Base) -> &[u8]
         ensures { result.now ≡ bytes_at self.now.blocks (base_of base) }
     {
         self.blocks.bytes(base)
     }
 
     /// The bytes of a block that some bound value lies in, none where there is no such block.
-    pub(crate) fn held_bytes(&self, base: Base) -> &[u8]
+    pub fn held_bytes(&self, base: Base) -> &[u8]
         ensures { result.now ≡ (if model.is_held (base_of base) self.now.names
             then bytes_at self.now.blocks (base_of base) else []) }
     {
@@ -178,15 +178,15 @@ impl Heap {
     }
 
     /// Whether some bound value lies in a base of the label.
-    pub(crate) fn is_label_held(&self, label: u64) -> bool
+    pub fn is_label_held(&self, label: u64) -> bool
         ensures { IsFalse result ↔ ((b : values.Base) → b.label ≡ label
             → model.is_held b self.now.names ≡ false) }
     {
         self.names.is_label_held(label)
     }
 
-    /// Binds a name: one that is bound keeps its place, another goes last. Names that are shared are copied first.
-    pub(crate) fn bind(&mut self, name: RcStr, value: Rc<Value>) -> Result<(), OutOfMemory>
+    /// Binds a name: one that is bound keeps its place, another goes last. No name that is shared is copied.
+    pub fn bind(&mut self, name: RcStr, value: Rc<Value>) -> Result<(), OutOfMemory>
         ensures ok { OnOk result (self.new.names
             ≡ model.bind (rc_str_bytes name) (value_of value.value) self.old.names) }
         ensures err { OnErr result (self.new.names ≡ self.old.names) }
@@ -197,8 +197,8 @@ impl Heap {
         Ok(())
     }
 
-    /// Unbinds a name.
-    pub(crate) fn unbind(&mut self, name: &str) -> Result<(), OutOfMemory>
+    /// Unbinds a name. To take out one that copies of the heap share, the list of names is copied.
+    pub fn unbind(&mut self, name: &str) -> Result<(), OutOfMemory>
         ensures ok { OnOk result (self.new.names ≡ model.unbind name.now self.old.names) }
         ensures err { OnErr result (self.new.names ≡ self.old.names) }
         ensures blocks { self.new.blocks ≡ self.old.blocks }
@@ -208,8 +208,8 @@ impl Heap {
         Ok(())
     }
 
-    /// Sets a block.
-    pub(crate) fn put_block(&mut self, base: Base, block: Rc<RawBlock>) -> Result<(), OutOfMemory>
+    /// Sets a block. Its base is loose from then on.
+    pub fn put_block(&mut self, base: Base, block: Rc<RawBlock>) -> Result<(), OutOfMemory>
         ensures names { self.new.names ≡ self.old.names }
         ensures ok { OnOk result (bytes_at self.new.blocks
             ≡ running.with_base (base_of base) block.value (bytes_at self.old.blocks)) }
@@ -221,11 +221,7 @@ impl Heap {
     }
 
     /// Writes to a block, and nothing where there is no such block. A block that is shared is copied first.
-    pub(crate) fn write<W: BlockWriter + Drop>(
-        &mut self,
-        base: Base,
-        writer: W,
-    ) -> Result<(), OutOfMemory>
+    pub fn write<W: BlockWriter + Drop>(&mut self, base: Base, writer: W) -> Result<(), OutOfMemory>
         ensures names { self.new.names ≡ self.old.names }
         ensures ok { OnOk result (bytes_at self.new.blocks ≡ running.with_base (base_of base)
             (W.written writer (bytes_at self.old.blocks (base_of base)))
@@ -263,7 +259,7 @@ impl Heap {
     }
 
     /// Gives up the blocks that no bound value lies in. Only those of loose bases are looked at.
-    pub(crate) fn collect(&mut self) -> Result<(), OutOfMemory>
+    pub fn collect(&mut self) -> Result<(), OutOfMemory>
         ensures names { self.new.names ≡ self.old.names }
         ensures ok { OnOk result ((b : values.Base) → bytes_at self.new.blocks b
             ≡ (if model.is_held b self.old.names then bytes_at self.old.blocks b else [])) }

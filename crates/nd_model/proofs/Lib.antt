@@ -41,3 +41,4 @@ pub mod Bases
 pub mod Noted
 pub mod Storing
 mod Rows
+pub mod Overlaying

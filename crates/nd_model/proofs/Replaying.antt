@@ -1,16 +1,18 @@
 -- The effects of a cell, put on another session, leave it sound: what a cell binds has its own bases below the next one.
-use Rattle.std.proofs.Common.{◌≡◌, ℕ, ◌<◌, leb, List, [], ◌∷◌, ◌++◌, length, Result, Ok, Err, refl, sym, subst, ◌∙◌, arith}
+use Rattle.std.proofs.Common.{◌≡◌, ℕ, ◌<◌, leb, List, [], ◌∷◌, ◌++◌, length, Result, Ok, Err, refl, sym, subst, ◌∙◌, eq-eqb, true, false, arith}
+use Rattle.std.proofs.lemmas.Bool.{or_parts, and_from}
 use Rattle.nd_model.specs.View.{Geo}
-use Rattle.nd_model.specs.Value.{Base, Value, Int, Truth, Scalar, Array, Row}
-use Rattle.nd_model.specs.Session.{Names, bind, unbind, Session, held_bytes}
+use Rattle.nd_model.specs.Value.{Base, same_base, Value, Int, Truth, Scalar, Array, Row, lies_in}
+use Rattle.nd_model.specs.Session.{Names, bind, unbind, is_held, Session, held_bytes}
 use Rattle.nd_model.specs.Running.{Event, Binds, Unbinds, Inputs, Running, start, Act, Lookup, Ask, Use, Make, reply, after, Effect, Nothing, Prints, Saves, Binding, Unbinding, Storing, done, Output}
 use Rattle.nd_model.specs.Fault.{Fault}
 use Rattle.nd_model.specs.Syntax.{Stmt, Line, Parsed}
 use Rattle.nd_model.specs.Evaluation.{Eval, Gives, Refuses, Asks, run}
 use Rattle.nd_model.specs.Meaning.{meaning, work}
 use Rattle.nd_model.specs.Cell.{Saved, Ended, had, statement, most_text, with_save, and_then, statements, ran, cell}
-use Rattle.nd_model.specs.Footprint.{effects_of, replayed, with_effects}
+use Rattle.nd_model.specs.Footprint.{HasNone, effects_of, replayed, with_effects}
 use Rattle.nd_model.specs.Sound.{LiesIn, IsViewOf, AreViewsOf, IsHeldView, IsSound, IsSoundSession, ReplaysSound}
+use Rattle.nd_model.specs.Overlay.{OverlaySound}
 use Rattle.nd_model.proofs.Lists.{not_both}
 use Rattle.nd_model.proofs.Frames.{either_end}
 use Rattle.nd_model.proofs.Growing.{Grows, grows_run}
@@ -110,17 +112,33 @@ both_views P Q R f (e ∷ es) p q = (one e.1 p.0 q.0, both_views P Q R f es p.1 
     one (Array b g) p q = f b g p q
     one (Row b g) p q = f b g p q
 
-pub replays_sound : ReplaysSound
-replays_sound label p s t i j none none' sound sound' agree =
+pub overlay_sound : OverlaySound
+overlay_sound label p s t i none sound none' lies =
     let ended : Ended = cell label p i s in
     let then : Session = with_effects label (effects_of ended) t in
     let is_labelled : ended.running.label ≡ label = (tracks_cell label p s i).labelled in
     let bound : BindsNumbered ended.running = (both_ran i p (start label s) (start_sound label s none sound, tt)).1 in
-    let lies : IsSoundSession then = subst IsSoundSession (replay label p s t i j none none' agree) (stays_sound.cell label p j t none' sound') in
     let numbered : AreViewsOf (λ b g. b.label ≡ label → b.number < ended.running.next) then.names
     = views_replayed (λ b g. b.label ≡ label → b.number < ended.running.next) ended.running.events t.names
     (bound_map (IsNumbered ended.running) (λ b g. b.label ≡ label → b.number < ended.running.next) (λ b g h e. h (e ∙ sym is_labelled)) ended.running.events bound)
-    (held_map (λ b g. LiesIn (length (held_bytes t b)) g) (λ b g. b.label ≡ label → b.number < ended.running.next) t.names
-    (λ b g held view e. absurd (not_both _ (none'.none b e) held)) t.names (λ b l. l) sound') in
+    (none_numbered t.names none'.none) in
     both_views (λ b g. LiesIn (length (held_bytes then b)) g) (λ b g. b.label ≡ label → b.number < ended.running.next) (IsHeldView (record (start label then) { next = ended.running.next }))
     (λ b g view old. record { lies = view; old = old }) then.names lies numbered
+  where
+    same_base_self : (b : Base) → same_base b b ≡ true
+    same_base_self b = and_from _ _ (eq-eqb b.label b.label refl) (eq-eqb b.number b.number refl)
+
+    none_numbered : (ns : Names) → ((b : Base) → b.label ≡ label → is_held b ns ≡ false) → AreViewsOf (λ b g. b.label ≡ label → b.number < (cell label p i s).running.next) ns
+    none_numbered [] h = tt
+    none_numbered (e ∷ ns) h = (one e.1 (λ b is. (or_parts _ _ (h b is)).0), none_numbered ns (λ b is. (or_parts _ _ (h b is)).1))
+      where
+        one : (v : Value) → ((b : Base) → b.label ≡ label → lies_in b v ≡ false) → IsViewOf (λ b g. b.label ≡ label → b.number < (cell label p i s).running.next) v
+        one (Int z) h = tt
+        one (Truth t) h = tt
+        one (Scalar k z) h = tt
+        one (Array b g) h = λ is. absurd (not_both _ (h b is) (same_base_self b))
+        one (Row b g) h = λ is. absurd (not_both _ (h b is) (same_base_self b))
+
+pub replays_sound : ReplaysSound
+replays_sound label p s t i j none none' sound sound' agree =
+    overlay_sound label p s t i none sound none' (subst IsSoundSession (replay label p s t i j none none' agree) (stays_sound.cell label p j t none' sound'))

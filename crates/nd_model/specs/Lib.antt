@@ -56,3 +56,4 @@ pub mod Stale
 pub mod CutOff
 pub mod Notebook
 pub mod ScriptRuns
+pub mod Overlay

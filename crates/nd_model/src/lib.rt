@@ -9,6 +9,15 @@ ghost use Rattle.nd_model.specs.Entries.{SameFront, SameFrontReads, ToldByRecord
 ghost use Rattle.nd_model.specs.Footprint.{Frame, EffectsAreAll, Replay};
 ghost use Rattle.nd_model.specs.Notebook.{EditsBook};
 ghost use Rattle.nd_model.specs.Noting.{WritesReadNoMore};
+ghost use Rattle.nd_model.specs.Overlay.{
+  NamesStandOnce,
+  OverlayBegins,
+  OverlayBlanks,
+  OverlayHolds,
+  OverlaySound,
+  OverlayStays,
+  SessionsAreSound,
+};
 ghost use Rattle.nd_model.specs.Promotion.{PromotionTable};
 ghost use Rattle.nd_model.specs.Records.{Kept};
 ghost use Rattle.nd_model.specs.Renaming.{Rename, AnyLabels};
@@ -169,4 +178,39 @@ pub fn writes_read_no_more()
 /// To note bytes as written and then to write them is one store.
 pub fn stores_by_parts()
     ensures { StoresByParts }
+{}
+
+/// No name stands twice in the session before a cell.
+pub fn names_stand_once()
+    ensures { NamesStandOnce }
+{}
+
+/// Behind a cell that ran anew, and bound the same names, what it did now gives the session after it, put over the one after what it did before.
+pub fn overlay_begins()
+    ensures { OverlayBegins }
+{}
+
+/// What misses a run holds as well where that has come over the session.
+pub fn overlay_holds()
+    ensures { OverlayHolds }
+{}
+
+/// Behind a run that is apart from another, that one is still to be put over the session.
+pub fn overlay_stays()
+    ensures { OverlayStays }
+{}
+
+/// A session in which a cell ran, without what it bound, is one over which it may run.
+pub fn overlay_blanks()
+    ensures { OverlayBlanks }
+{}
+
+/// In the session before a cell each array and each row lies in its base.
+pub fn sessions_are_sound()
+    ensures { SessionsAreSound }
+{}
+
+/// A cell may go on in a session in which it ran, where that is sound.
+pub fn overlay_sound()
+    ensures { OverlaySound }
 {}

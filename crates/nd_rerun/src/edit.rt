@@ -3,7 +3,7 @@
 ghost use Rattle.std.specs.Prelude.{◌≡◌};
 ghost use Rattle.nd_rerun.specs.declared.edit.EditFault.TheVariants as edits;
 
-use nd_heap::{Input, OutOfMemory};
+use nd_session::{Input, OutOfMemory};
 use std::alloc::AllocError;
 
 /// An edit of a notebook. Places count from 0.

@@ -2,14 +2,14 @@
 
 ghost use Rattle.nd_model.specs.Session.{collected};
 ghost use Rattle.nd_model.specs.Running as running;
-ghost use Rattle.nd_heap.specs.Kept.{version_of};
-ghost use Rattle.nd_heap.specs.Live.{live};
-ghost use Rattle.nd_heap.specs.Values.{given_of};
+ghost use Rattle.nd_session.specs.Kept.{version_of};
+ghost use Rattle.nd_session.specs.Live.{live};
+ghost use Rattle.nd_session.specs.Values.{given_of};
 ghost use Rattle.nd_cell.specs.Records.{recorded};
 
 use nd_cell::{Meter, Record, run_cell};
-use nd_heap::{Inputs, OutOfMemory, Session, Version};
 use nd_schedule::Cells;
+use nd_session::{Inputs, OutOfMemory, Session, Version};
 use std::alloc::{AllocError, Global};
 
 /// Cells that are run over sessions of shared blocks. Two sessions are the same where they are once blocks that no bound value lies
@@ -79,6 +79,25 @@ impl Cells for Kernel {
 
     fn is_quiet(made: &Record) -> bool {
         made.is_quiet()
+    }
+
+    fn replaces(old: &Record, new: &Record) -> bool {
+        new.replaces(old)
+    }
+
+    fn misses(over: &Record, made: &Record) -> bool {
+        made.misses(over)
+    }
+
+    fn is_apart(over: &Record, made: &Record) -> bool {
+        made.is_apart(over)
+    }
+
+    fn overlay(over: &Record, session: &mut Session) -> Result<(), AllocError> {
+        match over.overlay(session) {
+            Ok(()) => Ok(()),
+            Err(OutOfMemory) => Err(AllocError),
+        }
     }
 
     fn freeze(session: &mut Session) -> Result<Version, AllocError> {

@@ -11,7 +11,7 @@ pub use nd_cell::{
     CellFault, CellResult, IndexFault, Meter, ParseKind, Refusal, StmtError, StmtFault, UfuncFault,
     ViewFault,
 };
-pub use nd_heap::{Input, OutOfMemory};
+pub use nd_session::{Input, OutOfMemory};
 pub use nd_types::{Elem, ElemType, Field, Kind, RecType};
 pub use notebook::Notebook;
 pub use query::{QueryFault, Shown};

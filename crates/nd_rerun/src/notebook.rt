@@ -3,7 +3,7 @@
 ghost use Rattle.std.specs.Prelude.{◌≡◌, IfOk, OnErr, OnOk, length};
 ghost use Rattle.nd_model.specs.Book as model;
 ghost use Rattle.nd_model.specs.Notebook.{Answers, CountsRuns, no_sheet};
-ghost use Rattle.nd_heap.specs.Values.{source_of};
+ghost use Rattle.nd_session.specs.Values.{source_of};
 ghost use Rattle.nd_rerun.specs.Edits.{outcome_of};
 
 use crate::edit::{Edit, EditFault};
@@ -11,8 +11,10 @@ use crate::kernel::Kernel;
 use crate::query::{QueryFault, Shown, names_of, what_shows};
 use indexmap::IndexMap;
 use nd_cell::{CellResult, Meter};
-use nd_heap::{Input, OutOfMemory, Version, has_input, is_input_name, with_input, without_input};
 use nd_schedule::Notebook as Schedule;
+use nd_session::{
+    Input, OutOfMemory, Version, has_input, is_input_name, with_input, without_input,
+};
 use std::alloc::Global;
 use std::marker::Model;
 
@@ -182,7 +184,7 @@ impl Notebook {
     ghost use Rattle.std.specs.Prelude.{◌+◌, ◌<◌, ◌≤◌, [], map, string_bytes};
     ghost use Rattle.nd_model.specs.Entries.{session_before};
     ghost use Rattle.nd_model.specs.Notebook.{book_of, Tells};
-    ghost use Rattle.nd_heap.specs.Kept.{version_of};
+    ghost use Rattle.nd_session.specs.Kept.{version_of};
     ghost use Rattle.nd_rerun.specs.Queries.{answer_of, result_of, shown_of};
 
     /// The text of the cell at the place. It takes no memory.

@@ -3,12 +3,12 @@
 ghost use Rattle.std.specs.Prelude.{◌≡◌, IfOk, map, string_bytes};
 ghost use Rattle.nd_model.specs.Renaming as model;
 ghost use Rattle.nd_heap.specs.Values.{value_of};
-ghost use Rattle.nd_heap.specs.Kept.{version_of};
+ghost use Rattle.nd_session.specs.Kept.{version_of};
 ghost use Rattle.nd_rerun.specs.Queries.{shown_of};
 ghost use Rattle.nd_rerun.specs.declared.query.QueryFault.TheVariants as faults;
 
 use nd_element::canonical_bytes;
-use nd_heap::{OutOfMemory, Value, Version};
+use nd_session::{OutOfMemory, Value, Version};
 use nd_types::{ElemType, Kind, Num};
 use std::alloc::{AllocError, Global};
 

@@ -9,14 +9,15 @@ use Rattle.nd_model.specs.Book.{Book, Cell, labels_of}
 use Rattle.nd_model.specs.Entries.{entry_at, record_at, entries_of, records_of, session_before, SharesFront}
 use Rattle.nd_model.specs.CutOff.{UnreadRest, SharesBack, SameOnSession, Meets, IsQuiet}
 use Rattle.nd_model.proofs.CutOff.{meets_after, quiet_leaves, unread_more, as_many_behind}
-use Rattle.nd_schedule.specs.Runs.{AreVersions, IsEnd, IsKept, IsLast, IsMet, IsMiddle, IsRun}
+use Rattle.nd_schedule.specs.Runs.{AreVersions, IsEnd, IsFront, IsKept, IsLast, IsMet, IsMiddle, IsRun}
 use Rattle.std.specs.List.{splice}
+use Rattle.std.specs.Prelude.{MatchOption}
 use Rattle.std.specs.Option.{option_or}
 use Rattle.nd_model.specs.Running as running
 use Rattle.nd_model.specs.Notebook.{book_of}
 use Rattle.nd_schedule.specs.Source.{sheet}
 use Rattle.nd_schedule.proofs.Spliced.{length-splice, map-splice, splice_end}
-use Rattle.nd_schedule.proofs.Pass.{records_all, versions_front, versions_more}
+use Rattle.nd_schedule.proofs.Passes.{records_all, versions_front, versions_more}
 use Rattle.nd_model.proofs.Lazy.{length-entries}
 
 module _ (old new : Book) (at k there : ℕ) (front : SharesFront at old new) (lt : k < length new.cells) (made : Record) (is : made ≡ record_at new.inputs (entry_at new k)) where
@@ -71,10 +72,6 @@ rest_met old new j k n there le rest lt h =
     )
 
 -- ---- what is kept then
-
--- behind the versions in front these are versions
-abbrev pub IsFront : (old new : Book) (at : ℕ) → List (Option Session) → Type 0
-IsFront old new at vs = (was : List (Option Session)) → AreVersions old was → length was ≡ length old.cells → AreVersions new (take at was ++ vs)
 
 no_version : (old new : Book) (at : ℕ) → SharesFront at old new → at ≤ length old.cells → IsFront old new at []
 no_version old new at front le was all many = versions_front old new at was (take at was ++ []) front all (omega arith) (append-nil (take at was))
@@ -158,3 +155,15 @@ kept_now view old given cs ds rs ss vs ws was o last c r v l run all end =
 -- what these stand for, where some were put between
 pub put_now : {X Y : Type 0} (view : X → Y) (xs ys ms new : List X) (all : List Y) (i j : ℕ) → new ≡ splice ys i j ms → ys ≡ xs → map view xs ≡ all → map view new ≡ splice all i j (map view ms)
 put_now view xs ys ms new all i j is same e = ap (map view) (is ∙ ap (λ xs. splice xs i j ms) same) ∙ map-splice view xs ms i j ∙ ap (λ us. splice us i j (map view ms)) e
+
+-- two facts of what is there give a third
+pub both_some : {X : Type 0} (P Q R : X → Type 0) (o : Option X) → ((x : X) → P x → Q x → R x) → IfSome o P → IfSome o Q → IfSome o R
+both_some P Q R None f p q = tt
+both_some P Q R (Some x) f p q = f x p q
+
+-- what stands where there is one, and where there is none
+pub of_match : {X : Type 0} (P : X → Type 0) (Q : Type 0) (o : Option X) (x : X) → MatchOption o Q P → o ≡ Some x → P x
+of_match {X} P Q o x h e = let R : Option X → Type 0 = λ o. MatchOption o Q P in subst R e h
+
+pub of_no_match : {X : Type 0} (P : X → Type 0) (Q : Type 0) (o : Option X) → MatchOption o Q P → o ≡ None → Q
+of_no_match {X} P Q o h e = let R : Option X → Type 0 = λ o. MatchOption o Q P in subst R e h

@@ -1,7 +1,8 @@
 pub mod Steps
 pub mod Spliced
 pub mod Kept
-pub mod Pass
+pub mod Passes
+pub mod Over
 pub mod Cut
 pub mod Edits
 pub mod Free

@@ -1,12 +1,18 @@
 -- What is kept of the runs of a notebook.
-use Rattle.std.specs.Prelude.{◌≡◌, ℕ, ◌+◌, ◌<◌, ◌⊎◌, List, length, slice_index_or, Option, None, IfSome, MatchOption}
+use Rattle.std.specs.Prelude.{◌≡◌, ℕ, ◌+◌, ◌<◌, ◌≤◌, ◌⊎◌, List, ◌++◌, length, map, take, slice_index_or, Option, None, IfSome, MatchOption}
 use Rattle.std.specs.List.{splice}
 use Rattle.nd_model.specs.Session.{Session}
 use Rattle.nd_model.specs.Records.{Record}
 use Rattle.nd_model.specs.Renaming.{AreDistinct}
-use Rattle.nd_model.specs.Book.{Book, labels_of}
-use Rattle.nd_model.specs.Entries.{entry_at, record_at, records_of, session_before}
-use Rattle.nd_model.specs.CutOff.{SameOnSession, IsQuiet}
+use Rattle.nd_model.specs.Book.{Book, Cell, labels_of}
+use Rattle.nd_model.specs.Entries.{entry_at, entries_of, record_at, records_of, session_before, SharesFront}
+use Rattle.nd_model.specs.CutOff.{SameOnSession, IsQuiet, SharesBack, UnreadRest}
+use Rattle.nd_model.specs.Notebook.{Sheet, book_of}
+use Rattle.nd_model.specs.Overlay.{IsOnce, IsOverlay, IsUnder, did}
+use Rattle.nd_model.specs.Running.{Source}
+use Rattle.nd_model.specs.Sound.{IsSoundSession}
+use Rattle.nd_model.specs.Stale.{AtLeast, IsStale, counted, kept_of}
+use Rattle.nd_schedule.specs.Source.{sheet}
 
 -- each that is kept is the session before the cell that it stands beside
 abbrev pub AreVersions : Book → List (Option Session) → Type 0
@@ -36,6 +42,53 @@ IsSameAgain b at k there made = (k ≡ at) × (((there ≡ k + 1) × SameOnSessi
 -- The run is met so, or else the session is the one that was before the cell at the place there.
 abbrev pub IsMet : (b : Book) (at k there : ℕ) → Record → Session → Type 0
 IsMet b at k there made now = IsSameAgain b at k there made ⊎ (now ≡ session_before b there)
+
+-- The book in which these cells stand in the place of the present ones between two places, over these inputs.
+abbrev pub with_part : Sheet → (at behind : ℕ) → List Cell → List (List ℕ × Source) → Book
+with_part s at behind cells given = book_of (sheet (splice s.cells at behind cells) given)
+
+-- What a pass asks of such a part: in front of it the runs are the same, behind it the cells are and read no input that is another.
+-- These are the records that are kept of its cells.
+pub record IsEdit (old new : Book) (at behind count : ℕ) (cells : List Cell) (kept : List (Option Record)) : Type 0 where
+  pub order : at ≤ behind
+  pub within : behind ≤ length old.cells
+  pub rest : UnreadRest behind (at + count) old new
+  pub front : SharesFront at old new
+  pub records : kept ≡ map (kept_of old) cells
+  pub distinct : AreDistinct (labels_of new.cells)
+
+-- with these behind those in front, these are the records of the first cells
+abbrev pub AreRecords : (old new : Book) (at k : ℕ) → List Record → Type 0
+AreRecords old new at k rs = take at (records_of old) ++ rs ≡ take k (records_of new)
+
+-- behind the versions in front these are versions
+abbrev pub IsFront : (old new : Book) (at : ℕ) → List (Option Session) → Type 0
+IsFront old new at vs = (was : List (Option Session)) → AreVersions old was → length was ≡ length old.cells → AreVersions new (take at was ++ vs)
+
+-- of the first cells, no more were run than are stale
+abbrev pub CountsFront : (old new : Book) (k before after : ℕ) → Type 0
+CountsFront old new k before after = (runs : ℕ) × AtLeast runs (IsStale old new) (take k (entries_of new)) × (after ≡ counted runs before)
+
+-- a place at which the run meets the one before, behind which the cells are the same
+pub record IsMeeting (old new : Book) (at there k : ℕ) : Type 0 where
+  pub order : at ≤ there
+  pub within : there ≤ length old.cells
+  pub rest : UnreadRest there k old new
+  pub back : SharesBack there k old new
+
+-- What the run of a cell did can be put over the session, in which another run of that cell stands.
+pub record LiesOver (over : Record) (s : Session) : Type 0 where
+  pub own : IsOverlay over
+  pub under : IsUnder over s
+  pub once : IsOnce s.names
+  pub sound : IsSoundSession (did over s)
+
+-- Over the session before the cell at the place, what the cell at another place does now gives the session there.
+pub record IsLaid (old new : Book) (at k : ℕ) (over : Record) : Type 0 where
+  pub own : IsOverlay over
+  pub label : over.label ≡ (entry_at new at).cell.label
+  pub under : IsUnder over (session_before old k)
+  pub session : session_before new k ≡ did over (session_before old k)
 
 -- With these between two places, in the place of what was kept there, what was kept of the one is what is kept of the other.
 abbrev pub IsMiddle : (old new : Book) (at there : ℕ) → List Record → List (Option Session) → Type 0

@@ -10,6 +10,8 @@ ghost use Rattle.nd_model.specs.Footprint.{HasNone, replayed, with_effects};
 ghost use Rattle.nd_model.specs.Records.{record_of, StillHolds};
 ghost use Rattle.nd_model.specs.Records as records;
 ghost use Rattle.nd_model.specs.CutOff.{SameOnSession, IsQuiet};
+ghost use Rattle.nd_model.specs.Overlay.{did, IsApart, IsOnce, IsOverlay, IsUnder, Misses, Replaces};
+ghost use Rattle.nd_model.specs.Sound.{IsSoundSession};
 ghost use Rattle.nd_model.specs.Notebook.{inputs_in};
 
 use nd_meter::Meter;
@@ -91,6 +93,29 @@ pub trait Cells: Drop {
     /// Whether the run bound and unbound no name and wrote nothing. It may say no where it did not.
     fn is_quiet(made: &Self::Record) -> bool
         ensures { IsTrue result → IsQuiet (recorded made.now) };
+
+    /// Whether the second run may be put over what the first did: both bind the same names, to values of their own, and do nothing else.
+    /// It may say no where it may.
+    fn replaces(old: &Self::Record, new: &Self::Record) -> bool
+        ensures { IsTrue result → Replaces (recorded old.now) (recorded new.now) };
+
+    /// Whether a run read nothing of another's names and bases. It may say no where it did not.
+    fn misses(over: &Self::Record, made: &Self::Record) -> bool
+        ensures { IsTrue result → Misses (recorded over.now) (recorded made.now) };
+
+    /// Whether a run leaves another's names and bases as they are, and holds none of these. It may say no where it does.
+    fn is_apart(over: &Self::Record, made: &Self::Record) -> bool
+        ensures { IsTrue result → IsApart (recorded over.now) (recorded made.now) };
+
+    /// Does what a run did in a session in which another run of its cell stands. After want of memory the session is only fit to be
+    /// dropped.
+    fn overlay(over: &Self::Record, session: &mut Self::Session) -> Result<(), AllocError>
+        requires own { IsOverlay (recorded over.now) }
+        requires under { IsUnder (recorded over.now) (session_of session.old) }
+        requires once { IsOnce (session_of session.old).names }
+        requires sound { IsSoundSession (did (recorded over.now) (session_of session.old)) }
+        ensures { OnOk result
+            (session_of session.new ≡ did (recorded over.now) (session_of session.old)) };
 
     /// The session as it is now, to be kept.
     fn freeze(session: &mut Self::Session) -> Result<Self::Version, AllocError>

@@ -4,6 +4,7 @@
 mod cells;
 mod labels;
 mod notebook;
+mod pass;
 mod shared;
 mod source;
 mod step;

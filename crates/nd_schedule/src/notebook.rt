@@ -14,6 +14,7 @@ ghost use Rattle.std.specs.Prelude.{
   IfOk,
   IfSome,
   IsTrue,
+  MatchOption,
   ℕ,
   OnErr,
   OnOk,
@@ -30,20 +31,35 @@ ghost use Rattle.std.specs.List.{splice};
 ghost use Rattle.nd_model.specs.Session.{lookup};
 ghost use Rattle.nd_model.specs.Renaming.{AreDistinct};
 ghost use Rattle.nd_model.specs.Book.{labels_of, no_cell, told_book, Insert, Change, Move, Remove};
-ghost use Rattle.nd_model.specs.Entries.{ReadsNoOther, records_of, session_before, SharesFront};
+ghost use Rattle.nd_model.specs.Entries.{ReadsNoOther, entry_at, record_at, session_before, SharesFront};
 ghost use Rattle.nd_model.specs.Scheduler.{told_of};
 ghost use Rattle.nd_model.specs.Stale.{kept_of, CountsStale};
-ghost use Rattle.nd_model.specs.CutOff.{UnreadRest};
+ghost use Rattle.nd_model.specs.CutOff.{SameOnSession};
+ghost use Rattle.nd_model.specs.Overlay.{did, IsApart, Misses, Replaces};
 ghost use Rattle.nd_model.specs.Notebook.{Sheet, inputs_in, book_of, edited_sheet};
 ghost use Rattle.nd_schedule.specs.Source.{sheet, cell_of, cells_of};
 ghost use Rattle.nd_schedule.specs.Shared.{each_of, each_some, some_of};
-ghost use Rattle.nd_schedule.specs.Runs.{IsEnd, IsKept, IsMet, IsMiddle, IsSameAgain};
+ghost use Rattle.nd_schedule.specs.Runs.{
+  AreRecords,
+  CountsFront,
+  IsEdit,
+  IsEnd,
+  IsFront,
+  IsKept,
+  IsLaid,
+  IsMeeting,
+  IsMet,
+  IsMiddle,
+  IsSameAgain,
+  LiesOver,
+  with_part,
+};
 
 use crate::cells::Cells;
 use crate::labels::fresh_label;
-use crate::shared::{make_room, part_of, put_between, records_between, shared_again};
+use crate::pass::{Part, Runs};
+use crate::shared::{make_room, part_of, put_between, records_between};
 use crate::source::Source;
-use crate::step::{keep, keep_due, since_last, step};
 use nd_meter::Meter;
 use std::alloc::{AllocError, Global};
 use std::marker::Model;
@@ -53,46 +69,12 @@ use std::rc::Rc;
 /// session before it, and the session behind the last one, if it is there.
 #[derive(Drop)]
 pub struct Notebook<C: Cells> {
-    cells: Vec<Rc<Source>>,
+    pub(crate) cells: Vec<Rc<Source>>,
     inputs: C::Inputs,
-    records: Vec<Rc<C::Record>>,
-    versions: Vec<Option<Rc<C::Version>>>,
+    pub(crate) records: Vec<Rc<C::Record>>,
+    pub(crate) versions: Vec<Option<Rc<C::Version>>>,
     last: Option<Rc<C::Version>>,
-    alloc: Global,
-}
-
-/// What a pass gives: the records of the cells from the first that is not as before, and beside some the session before it. Behind
-/// them stays what is kept from a place in the present list on. Where the pass came to the end it gives the session there too, and
-/// else that is the same as before.
-#[derive(Drop)]
-struct Runs<C: Cells> {
-    records: Vec<Rc<C::Record>>,
-    versions: Vec<Option<Rc<C::Version>>>,
-    there: usize,
-    last: Option<Rc<C::Version>>,
-}
-
-/// From these places on, in the present list and in the new one, the cells are the same.
-#[derive(Drop)]
-struct Rest {
-    old: usize,
-    new: usize,
-}
-
-/// The cells that take the place of the present ones from one place up to another, each with the record that is kept of it.
-#[derive(Drop)]
-struct Part<C: Cells> {
-    at: usize,
-    behind: usize,
-    cells: Vec<Rc<Source>>,
-    kept: Vec<Option<Rc<C::Record>>>,
-}
-
-/// A cell, and the record that is kept of it.
-#[derive(Drop)]
-struct Slot<C: Cells> {
-    cell: Rc<Source>,
-    kept: Option<Rc<C::Record>>,
+    pub(crate) alloc: Global,
 }
 
 impl<C: Cells> Model for Notebook<C> {
@@ -164,205 +146,6 @@ impl<C: Cells> Notebook<C> {
             C::replay(&self.records[k], &mut session)?;
         }
         Ok(session)
-    }
-
-    /// Whether the cell at k, the first that is not as before, leaves the session as it was at the place there.
-    fn same_again(&self, at: usize, k: usize, there: usize, made: &C::Record) -> bool
-        requires fits { k + 1 < 2 ^ 64 }
-        requires within { there ≤ length self.now.cells }
-        ensures { IsTrue result → IsSameAgain (book_of self.now) at k there (C.recorded made.now) }
-    {
-        if k == at {
-            if there == k + 1 {
-                return C::same_effects(&self.records[k], made);
-            }
-            if there == k {
-                return C::is_quiet(made);
-            }
-        }
-        false
-    }
-
-    /// Whether the session is the one that is kept beside the cell there.
-    fn is_back(&self, session: &C::Session, there: usize) -> bool
-        ensures { IsTrue result → C.session_of session.now
-            ≡ session_before (book_of self.now) there }
-    {
-        if there < self.versions.len() {
-            if let Some(version) = &self.versions[there] {
-                return C::is_at(session, version);
-            }
-        }
-        false
-    }
-
-    /// The place in the present list that the run of the new one has met behind the cell at k: the session there is the same.
-    fn met(
-        &self,
-        rest: &Rest,
-        at: usize,
-        k: usize,
-        made: &C::Record,
-        session: &C::Session,
-    ) -> Option<usize>
-        requires fits { k + 1 < 2 ^ 64 }
-        requires few { length self.now.cells < 2 ^ 64 }
-        requires within { rest.now.new ≤ k + 1
-            → rest.now.old + (k + 1 - rest.now.new) ≤ length self.now.cells }
-        ensures met { IfSome result
-            (λ there. IsMet (book_of self.now) at k there (C.recorded made.now)
-            (C.session_of session.now)) }
-        ensures behind { IfSome result
-            (λ there. (rest.now.new ≤ k + 1) × (there ≡ rest.now.old + (k + 1 - rest.now.new))) }
-    {
-        if rest.new <= k + 1 {
-            let there = rest.old + (k + 1 - rest.new);
-            if self.same_again(at, k, there, made) {
-                return Some(there);
-            }
-            if self.is_back(session, there) {
-                return Some(there);
-            }
-        }
-        None
-    }
-
-    /// Whether all that is gone of the present list is one cell, and that cell did nothing to its session.
-    fn goes_unseen(&self, rest: &Rest, at: usize) -> bool
-        requires fits { at + 1 < 2 ^ 64 }
-        requires within { rest.now.old ≤ length self.now.cells }
-        ensures { IsTrue result → (rest.now.new ≡ at)
-            × (session_before (book_of self.now) rest.now.old
-            ≡ session_before (book_of self.now) at) }
-    {
-        if rest.new == at {
-            if rest.old == at + 1 {
-                return C::is_quiet(&self.records[at]);
-            }
-        }
-        false
-    }
-
-    /// The cell of the new list at a place behind the first that is not as before, and the record that is kept of it.
-    fn slot(&self, part: &Part<C>, k: usize) -> Result<Slot<C>, AllocError>
-        requires few { length self.now.cells < 2 ^ 64 }
-        requires from { part.now.at ≤ k }
-        requires within { k < length (splice self.now.cells part.now.at part.now.behind
-            (cells_of part.now.cells.items)) }
-        requires order { part.now.at ≤ part.now.behind }
-        requires behind { part.now.behind ≤ length self.now.cells }
-        requires kept { map (some_of C.recorded) part.now.kept.items
-            ≡ map (kept_of (book_of self.now)) (cells_of part.now.cells.items) }
-        ensures cell { IfOk result (λ s. cell_of s.cell.value
-            ≡ slice_index_or (splice self.now.cells part.now.at part.now.behind
-            (cells_of part.now.cells.items)) k no_cell) }
-        ensures kept { IfOk result (λ s. some_of C.recorded s.kept
-            ≡ kept_of (book_of self.now) (cell_of s.cell.value)) }
-    {
-        let place = k - part.at;
-        if place < part.cells.len() {
-            let cell = part.cells[place].clone()?;
-            let kept = shared_again(&part.kept[place])?;
-            return Ok(Slot { cell, kept });
-        }
-        let place = part.behind + (place - part.cells.len());
-        let cell = self.cells[place].clone()?;
-        let kept = self.records[place].clone()?;
-        Ok(Slot {
-            cell,
-            kept: Some(kept),
-        })
-    }
-
-    /// Runs the cells of the new list from the first that is not as before, and runs no more than are stale. Where the session is
-    /// met that was before, behind which the cells are the same, it stops.
-    fn pass(
-        &self,
-        meter: &mut Meter,
-        inputs: &C::Inputs,
-        part: &Part<C>,
-    ) -> Result<Runs<C>, AllocError>
-        requires order { part.now.at ≤ part.now.behind }
-        requires behind { part.now.behind ≤ length self.now.cells }
-        requires rest { UnreadRest part.now.behind
-            (part.now.at + length part.now.cells.items) (book_of self.now)
-            (book_of (sheet (splice self.now.cells part.now.at part.now.behind
-            (cells_of part.now.cells.items)) (C.given inputs.now))) }
-        requires front { SharesFront part.now.at (book_of self.now)
-            (book_of (sheet (splice self.now.cells part.now.at part.now.behind
-            (cells_of part.now.cells.items)) (C.given inputs.now))) }
-        requires kept { map (some_of C.recorded) part.now.kept.items
-            ≡ map (kept_of (book_of self.now)) (cells_of part.now.cells.items) }
-        requires distinct { AreDistinct (labels_of (splice self.now.cells part.now.at
-            part.now.behind (cells_of part.now.cells.items))) }
-        ensures ok { IfOk result (λ r. IsMiddle (book_of self.now)
-            (book_of (sheet (splice self.now.cells part.now.at part.now.behind
-            (cells_of part.now.cells.items)) (C.given inputs.now))) part.now.at r.there
-            (each_of C.recorded r.records.items) (each_some C.kept_session r.versions.items)) }
-        ensures end { IfOk result (λ r. IsEnd (book_of self.now)
-            (book_of (sheet (splice self.now.cells part.now.at part.now.behind
-            (cells_of part.now.cells.items)) (C.given inputs.now)))
-            (some_of C.kept_session r.last)) }
-        ensures order { IfOk result (λ r. part.now.at ≤ r.there) }
-        ensures there { IfOk result (λ r. r.there ≤ length self.now.cells) }
-        ensures counts { CountsStale (book_of self.now)
-            (book_of (sheet (splice self.now.cells part.now.at part.now.behind
-            (cells_of part.now.cells.items)) (C.given inputs.now))) meter.old meter.new }
-    {
-        let mut records = Vec::new(self.alloc);
-        let mut versions = Vec::new(self.alloc);
-        let at = part.at;
-        let rest = Rest {
-            old: part.behind,
-            new: at + part.cells.len(),
-        };
-        if self.goes_unseen(&rest, at) {
-            let there = rest.old;
-            return Ok(Runs {
-                records,
-                versions,
-                there,
-                last: None,
-            });
-        }
-        let mut session = self.session_before(at)?;
-        let mut since = since_last(&self.versions[..at]);
-        for k in at..rest.new + (self.cells.len() - rest.old) {
-            let version = keep_due::<C>(self.alloc, &mut session, since)?;
-            since = if version.is_some() {
-                1
-            } else {
-                since.saturating_add(1)
-            };
-            versions.push(version)?;
-            let slot = self.slot(part, k)?;
-            let made = step::<C>(
-                self.alloc,
-                meter,
-                &mut session,
-                inputs,
-                &slot.cell,
-                &slot.kept,
-            )?;
-            let met = self.met(&rest, at, k, &made, &session);
-            records.push(made)?;
-            if let Some(there) = met {
-                return Ok(Runs {
-                    records,
-                    versions,
-                    there,
-                    last: None,
-                });
-            }
-        }
-        let last = Some(keep::<C>(self.alloc, &mut session)?);
-        let there = self.cells.len();
-        Ok(Runs {
-            records,
-            versions,
-            there,
-            last,
-        })
     }
 
     /// Puts these cells in the place of the present ones between two places. Where it is refused nothing changes.

@@ -2,11 +2,11 @@
 //! byte, or is done.
 
 ghost use Rattle.std.specs.Prelude.{◌≡◌, ◌+◌, ◌<◌, ◌^◌, IfOk};
-ghost use Rattle.nd_heap.specs.Live.{live};
+ghost use Rattle.nd_session.specs.Live.{live};
 
 use crate::sessions::{BASE, FrontByte, begun_session, bind_array};
 use nd_block::RawBlock;
-use nd_heap::{Array, OutOfMemory, Session, Value};
+use nd_session::{Array, OutOfMemory, Session, Value};
 use nd_types::Num;
 use std::alloc::Global;
 

@@ -3,11 +3,11 @@
 ghost use Rattle.std.specs.Prelude.{◌≡◌, [], ◌∷◌, IfOk, OnOk};
 ghost use Rattle.nd_model.specs.Session as model;
 ghost use Rattle.nd_model.specs.Sound.{IsHeldView, IsViewOf};
-ghost use Rattle.nd_heap.specs.Live.{live};
+ghost use Rattle.nd_session.specs.Live.{live};
 ghost use Rattle.nd_heap.specs.Values.{value_of};
 
 use nd_block::RawBlock;
-use nd_heap::{Array, Base, BlockWriter, OutOfMemory, Session, Value, Version};
+use nd_session::{Array, Base, BlockWriter, OutOfMemory, Session, Value, Version};
 use nd_types::{Elem, ElemType, Kind, Num};
 use nd_view::View;
 use std::alloc::Global;
@@ -40,7 +40,7 @@ pub(crate) struct FrontByte {
 }
 
 impl BlockWriter for FrontByte {
-    ghost use Rattle.nd_heap.specs.Placing.{length-put};
+    ghost use Rattle.nd_session.specs.Placing.{length-put};
 
     ghost written = { λ w bytes. model.put ((0, w.byte) ∷ []) bytes };
 

@@ -1,7 +1,7 @@
 use Rattle.std.proofs.Common.{◌+◌, ◌++◌, [], ◌∷◌, List, map, append_assoc, subst, ap, ◌∙◌, sym, drop}
 use Rattle.nd_model.specs.Operand as model
 use Rattle.nd_heap.specs.declared.value.Value.{Value}
-use Rattle.nd_heap.specs.Live.{live}
+use Rattle.nd_session.specs.Live.{live}
 use Rattle.nd_eval.specs.Contents.{operand_of}
 use Rattle.nd_eval.specs.Uses.{IsHeld, operands_over}
 use Rattle.nd_eval.proofs.InTurn.{next_item, pushed}

@@ -1,18 +1,15 @@
-use Rattle.std.proofs.Common.{◌≡◌, ◌∙◌, ◌&&◌, Bool, true, false, not, cond, ap, sym, refl, add-one, arith, []}
+use Rattle.std.proofs.Common.{◌∙◌, ◌&&◌, not, cond, ap, sym, refl, add-one, arith, []}
 use Rattle.std.proofs.lemmas.List.{take_all}
 use Rattle.nd_heap.specs.Contents.{bases_of, blocks_of}
 use Rattle.nd_heap.specs.Layers.{is_block_among}
 use Rattle.nd_heap.specs.Live.{bytes_at, is_base_among}
 use Rattle.nd_heap.proofs.Picking.{removed_one, removed_more}
+use Rattle.nd_heap.proofs.Plain.{and_true}
 use Rattle.nd_heap.proofs.Stacking.{among_less, removed_among}
 use Rattle.nd_heap.proofs.blocks.remove_blocks.Goals as goal
 
-and_true : (x : Bool) → x ≡ (x && true)
-and_true true = refl
-and_true false = refl
-
 pub loop-i-init : goal.loop-i-init
-loop-i-init c = (λ b. refl, λ b. and_true (is_block_among (blocks_of c.args.blocks.now.entries) b))
+loop-i-init c = (λ b. refl, λ b. sym (and_true (is_block_among (blocks_of c.args.blocks.now.entries) b)))
 
 pub loop-i-preserved : goal.loop-i-preserved
 loop-i-preserved c = rw add-one (

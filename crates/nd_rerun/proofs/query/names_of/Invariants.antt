@@ -1,5 +1,5 @@
 use Rattle.std.proofs.Common.{◌≡◌, map, take, string_bytes}
-use Rattle.nd_heap.specs.Kept.{version_of}
+use Rattle.nd_session.specs.Kept.{version_of}
 use Rattle.nd_rerun.proofs.query.names_of.Given as goal
 
 abbrev pub invariant-loop-i : goal.invariant-loop-i

@@ -9,8 +9,9 @@ use Rattle.nd_model.specs.Creation.{arange}
 use Rattle.nd_model.specs.Operation.{give}
 use Rattle.nd_syntax.specs.Syntax.{expr_of, suffix_of, index_of}
 use Rattle.nd_syntax.specs.declared.tree.Suffix.{Suffix}
-use Rattle.nd_heap.specs.Values.{value_of, inputs_of}
-use Rattle.nd_heap.specs.Live.{live}
+use Rattle.nd_heap.specs.Values.{value_of}
+use Rattle.nd_session.specs.Values.{inputs_of}
+use Rattle.nd_session.specs.Live.{live}
 use Rattle.nd_eval.proofs.Bounds.{next_value, next_at_index}
 use Rattle.nd_eval.specs.Contents.{operand_of, made_of, unused_of}
 use Rattle.nd_eval.specs.Parts.{item_value, element_value}

@@ -2,8 +2,9 @@ use Rattle.std.proofs.Common.{◌≡◌, ◌+◌, ◌<◌, ◌^◌, map, drop}
 use Rattle.nd_model.specs.Evaluation.{run}
 use Rattle.nd_model.specs.Meaning as meaning
 use Rattle.nd_syntax.specs.Syntax.{expr_of, suffix_of}
-use Rattle.nd_heap.specs.Values.{value_of, inputs_of}
-use Rattle.nd_heap.specs.Live.{live}
+use Rattle.nd_heap.specs.Values.{value_of}
+use Rattle.nd_session.specs.Values.{inputs_of}
+use Rattle.nd_session.specs.Live.{live}
 use Rattle.nd_eval.specs.Ends.{Stays}
 use Rattle.nd_eval.proofs.Indexing.{chain, chain_tokens, nodes, nodes_of_call, nodes_of_index, nodes_of_items, nodes_of_item, nodes_of_all}
 use Rattle.nd_eval.proofs.evaluator.Evaluator.+value.Given as goal

@@ -4,8 +4,9 @@ use Rattle.nd_model.specs.Evaluation.{run, ◌>>=◌, decide}
 use Rattle.nd_model.specs.Operand.{Whole, ArraysOnly, Unused, Writes}
 use Rattle.nd_model.specs.Operation.{do_deed, store_in}
 use Rattle.nd_model.specs.Meaning.{assignment_deed}
-use Rattle.nd_heap.specs.Values.{value_of, inputs_of}
-use Rattle.nd_heap.specs.Live.{live}
+use Rattle.nd_heap.specs.Values.{value_of}
+use Rattle.nd_session.specs.Values.{inputs_of}
+use Rattle.nd_session.specs.Live.{live}
 use Rattle.nd_eval.specs.Contents.{effect_of, operand_of, unused_of, writes_of}
 use Rattle.nd_eval.proofs.Chains.{goes, ends_as, exits_saying}
 use Rattle.nd_eval.proofs.Parts.{target_parts}

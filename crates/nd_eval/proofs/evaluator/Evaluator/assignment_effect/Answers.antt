@@ -3,7 +3,8 @@ use Rattle.nd_model.specs.Meaning as meaning
 use Rattle.nd_model.specs.Operand.{Whole, Unused}
 use Rattle.nd_model.specs.Operation.{act_on}
 use Rattle.nd_syntax.specs.Syntax.{expr_of, index_of}
-use Rattle.nd_heap.specs.Values.{value_of, inputs_of}
+use Rattle.nd_heap.specs.Values.{value_of}
+use Rattle.nd_session.specs.Values.{inputs_of}
 use Rattle.nd_eval.specs.Contents.{effect_of}
 use Rattle.nd_eval.specs.Parts.{item_value}
 use Rattle.nd_eval.proofs.Bounds.{next_value}

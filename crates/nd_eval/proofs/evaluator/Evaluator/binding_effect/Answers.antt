@@ -5,8 +5,9 @@ use Rattle.nd_model.specs.Meaning as meaning
 use Rattle.nd_model.specs.Operand.{Unused, BindsFirst}
 use Rattle.nd_model.specs.Operation.{act_on}
 use Rattle.nd_syntax.specs.Syntax.{expr_of}
-use Rattle.nd_heap.specs.Values.{value_of, inputs_of}
-use Rattle.nd_heap.specs.Live.{live}
+use Rattle.nd_heap.specs.Values.{value_of}
+use Rattle.nd_session.specs.Values.{inputs_of}
+use Rattle.nd_session.specs.Live.{live}
 use Rattle.nd_eval.specs.Contents.{effect_of}
 use Rattle.nd_eval.proofs.Chains.{exits, goes}
 use Rattle.nd_eval.proofs.Parts.{binding_parts}

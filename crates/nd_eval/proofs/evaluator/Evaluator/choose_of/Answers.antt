@@ -9,8 +9,9 @@ use Rattle.nd_model.specs.View.{One, element_places}
 use Rattle.nd_model.specs.Evaluation.{run}
 use Rattle.nd_model.specs.Content.{number_at}
 use Rattle.nd_model.specs.Operation as operation
-use Rattle.nd_heap.specs.Values.{base_of, value_of, inputs_of}
-use Rattle.nd_heap.specs.Live.{live}
+use Rattle.nd_heap.specs.Values.{base_of, value_of}
+use Rattle.nd_session.specs.Values.{inputs_of}
+use Rattle.nd_session.specs.Live.{live}
 use Rattle.nd_eval.specs.Contents.{chosen_of}
 use Rattle.nd_eval.proofs.Decoding.{used_alone}
 use Rattle.nd_eval.proofs.evaluator.Evaluator.choose_of.Goals as goal

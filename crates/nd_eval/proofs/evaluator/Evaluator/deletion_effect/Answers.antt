@@ -3,8 +3,9 @@ use Rattle.nd_model.specs.Running as running
 use Rattle.nd_model.specs.Evaluation.{run}
 use Rattle.nd_model.specs.Operand.{Unused, Unbinds}
 use Rattle.nd_model.specs.Operation as operation
-use Rattle.nd_heap.specs.Values.{value_of, inputs_of}
-use Rattle.nd_heap.specs.Live.{live}
+use Rattle.nd_heap.specs.Values.{value_of}
+use Rattle.nd_session.specs.Values.{inputs_of}
+use Rattle.nd_session.specs.Live.{live}
 use Rattle.nd_eval.proofs.Chains.{goes}
 use Rattle.nd_eval.proofs.Parts.{deletion_parts}
 use Rattle.nd_eval.proofs.evaluator.Evaluator.deletion_effect.Goals as goal

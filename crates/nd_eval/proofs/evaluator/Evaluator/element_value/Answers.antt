@@ -2,8 +2,9 @@ use Rattle.std.proofs.Common.{refl}
 use Rattle.nd_model.specs.Evaluation.{◌>>=◌, decide}
 use Rattle.nd_model.specs.Index.{index_array}
 use Rattle.nd_model.specs.Operation.{choose_of}
-use Rattle.nd_heap.specs.Values.{value_of, inputs_of}
-use Rattle.nd_heap.specs.Live.{live}
+use Rattle.nd_heap.specs.Values.{value_of}
+use Rattle.nd_session.specs.Values.{inputs_of}
+use Rattle.nd_session.specs.Live.{live}
 use Rattle.nd_eval.specs.Contents.{operand_of, unused_of, chosen_of}
 use Rattle.nd_eval.proofs.Chains.{ends_as, exits_saying, follows_saying}
 use Rattle.nd_eval.proofs.Parts.{element_parts}

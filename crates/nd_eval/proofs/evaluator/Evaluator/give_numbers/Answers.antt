@@ -1,7 +1,8 @@
 use Rattle.std.proofs.Common.{refl, ◌∙◌, ap, [], ◌∷◌}
 use Rattle.nd_model.specs.View.{One, contiguous}
-use Rattle.nd_heap.specs.Values.{base_of, inputs_of}
-use Rattle.nd_heap.specs.Live.{live}
+use Rattle.nd_heap.specs.Values.{base_of}
+use Rattle.nd_session.specs.Values.{inputs_of}
+use Rattle.nd_session.specs.Live.{live}
 use Rattle.nd_eval.proofs.Filling.{below}
 use Rattle.nd_eval.proofs.NewArrays.{fresh_numbers}
 use Rattle.nd_eval.proofs.evaluator.Evaluator.give_numbers.Goals as goal

@@ -4,8 +4,8 @@ use Rattle.nd_model.specs.Evaluation.{Gives}
 use Rattle.nd_model.specs.Operation.{act_on}
 use Rattle.nd_model.specs.Printing.{print_deed}
 use Rattle.nd_syntax.specs.Syntax.{expr_of}
-use Rattle.nd_heap.specs.Values.{inputs_of}
-use Rattle.nd_heap.specs.Live.{live}
+use Rattle.nd_session.specs.Values.{inputs_of}
+use Rattle.nd_session.specs.Live.{live}
 use Rattle.nd_eval.specs.Contents.{effect_of, values_of, operand_of}
 use Rattle.nd_eval.specs.Lines.{limit_line, printed_line}
 use Rattle.nd_eval.specs.Parts.{values}

@@ -4,8 +4,9 @@ use Rattle.nd_model.specs.Meaning as meaning
 use Rattle.nd_model.specs.Value as model
 use Rattle.nd_syntax.specs.Syntax.{expr_of}
 use Rattle.nd_syntax.specs.declared.tree.Expr.{Expr}
-use Rattle.nd_heap.specs.Values.{value_of, inputs_of}
-use Rattle.nd_heap.specs.Live.{live}
+use Rattle.nd_heap.specs.Values.{value_of}
+use Rattle.nd_session.specs.Values.{inputs_of}
+use Rattle.nd_session.specs.Live.{live}
 use Rattle.nd_eval.specs.Contents.{values_of}
 use Rattle.nd_eval.specs.Parts.{values_then}
 use Rattle.nd_eval.proofs.Bounds.{next_value}

@@ -2,8 +2,9 @@ use Rattle.std.proofs.Common.{◌≡◌, ◌+◌, ◌<◌, ◌^◌, map, drop}
 use Rattle.nd_model.specs.Evaluation.{run}
 use Rattle.nd_model.specs.Tokens.{tokens_of_all}
 use Rattle.nd_syntax.specs.Syntax.{expr_of}
-use Rattle.nd_heap.specs.Values.{value_of, inputs_of}
-use Rattle.nd_heap.specs.Live.{live}
+use Rattle.nd_heap.specs.Values.{value_of}
+use Rattle.nd_session.specs.Values.{inputs_of}
+use Rattle.nd_session.specs.Live.{live}
 use Rattle.nd_eval.specs.Ends.{Stays}
 use Rattle.nd_eval.specs.Parts.{values, values_then}
 use Rattle.nd_eval.proofs.InTurn.{onto}

@@ -1,11 +1,11 @@
-use Rattle.std.proofs.Common.{◌∙◌, ap}
+use Rattle.std.proofs.Common.{◌∙◌, ap, refl, sym}
+use Rattle.std.proofs.lemmas.Bool.{or_parts}
 use Rattle.nd_heap.specs.Contents.{bases_of}
 use Rattle.nd_heap.specs.Live.{is_base_among}
 use Rattle.nd_heap.specs.Values.{base_of}
 use Rattle.nd_heap.proofs.Bases.{at_err}
 use Rattle.nd_heap.proofs.Held.{base-insert}
-use Rattle.nd_heap.proofs.Loosening.{more_loose, no_part, put_loose, same_loose}
-use Rattle.std.proofs.Common.{refl, sym}
+use Rattle.nd_heap.proofs.Loosening.{more_loose, put_loose, same_loose}
 use Rattle.nd_heap.proofs.heap.Heap.put_block.Goals as goal
 
 pub invariant_of-self-in_err-put_block : goal.invariant_of-self-in_err-put_block
@@ -15,7 +15,7 @@ invariant_of-self-in_err-put_block c =
     let was = bases_of c.self.inside.loose.entries in
     let loose = bases_of c.insert.new.self.entries in
     same_loose names names old c.put_block.new.self loose refl (at_err _ _ c.in_err-put_block.was c.put_block.ensures.err)
-    (more_loose names old was loose (λ b free. (no_part _ _ (sym (ap (λ es. is_base_among (bases_of es) b) c.in_ok-insert.ensures.entries ∙ base-insert c.args.base c.self.inside.loose.entries b) ∙ free)).0) c.self.invariant)
+    (more_loose names old was loose (λ b free. (or_parts _ _ (sym (ap (λ es. is_base_among (bases_of es) b) c.in_ok-insert.ensures.entries ∙ base-insert c.args.base c.self.inside.loose.entries b) ∙ free)).0) c.self.invariant)
 
 pub invariant_of-self-2 : goal.invariant_of-self-2
 invariant_of-self-2 c =

@@ -4,7 +4,8 @@ use Rattle.std.specs.declared.rc.RcStr.{RcStr}
 use Rattle.nd_model.specs.Session.{Names, lookup}
 use Rattle.nd_model.specs.Value as model
 use Rattle.nd_heap.specs.Values.{names_of, value_of}
-use Rattle.nd_heap.proofs.Layering.{added_there, length-layers, none_there, old_there}
+use Rattle.nd_heap.proofs.Layering.{added_there, length-layers, old_there}
+use Rattle.nd_heap.proofs.Plain.{false_true}
 use Rattle.nd_heap.proofs.NameLists.{SharedValue, names-length, names-get}
 use Rattle.nd_heap.proofs.name_table.NameTable.entry.Goals as goal
 
@@ -17,7 +18,7 @@ unreachable-requires c =
     let many : c.len-many.result ≡ length (names_of i.shared.value.entries) = c.len-many.ensures.len ∙ ap (λ m. length m.entries) c.as_ref.ensures ∙ sym (names-length i.shared.value.entries) in
     let added : length (names_of i.added.entries) ≡ length i.added.entries = names-length i.added.entries in
     let all : length c.args.self.now ≡ length (names_of i.shared.value.entries) + length (names_of i.added.entries) = sym (ap (λ (ns : Names). length ns) c.self.view_is) ∙ length-layers (names_of i.newer.entries) (names_of i.shared.value.entries) (names_of i.added.entries) in
-    none_there (c.in_default.ensures.found.1 (omega (arith, c.requires, c.if-place-many.true)))
+    false_true (c.in_default.ensures.found.1 (omega (arith, c.requires, c.if-place-many.true)))
 
 pub returns-then-place-many : goal.returns-then-place-many
 returns-then-place-many c =

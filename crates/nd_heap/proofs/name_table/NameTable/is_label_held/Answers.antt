@@ -4,15 +4,16 @@ use Rattle.std.specs.Rc.{rc_str_bytes}
 use Rattle.nd_model.specs.Session as model
 use Rattle.nd_model.specs.Value as values
 use Rattle.nd_heap.specs.Values.{value_of}
-use Rattle.nd_heap.proofs.Held.{true_false}
 use Rattle.nd_heap.proofs.Layering.{held_next, unheld_there}
+use Rattle.nd_heap.proofs.Plain.{false_true}
 use Rattle.nd_heap.proofs.name_table.NameTable.is_label_held.Goals as goal
 
 pub returns-then-lies_in_label : goal.returns-then-lies_in_label
 returns-then-lies_in_label c = (
   λ e. cc,
-  λ all. true_false (sym c.if-lies_in_label.true ∙ c.lies_in_label.ensures.1 (λ b own.
-      ap (λ v. values.lies_in b (value_of v)) c.as_ref.ensures ∙ unheld_there b c.args.self.now c.loop-i.i (rc_str_bytes c.entry.result.0.now) (value_of c.entry.result.1.now.value) c.entry.ensures (all b own))),
+  λ all. false_true (sym (c.lies_in_label.ensures.1 (λ b own.
+      ap (λ v. values.lies_in b (value_of v)) c.as_ref.ensures ∙ unheld_there b c.args.self.now c.loop-i.i (rc_str_bytes c.entry.result.0.now) (value_of c.entry.result.1.now.value) c.entry.ensures (all b own)))
+      ∙ c.if-lies_in_label.true),
 )
 
 pub loop-i-preserved : goal.loop-i-preserved

@@ -4,7 +4,8 @@ use Rattle.nd_model.specs.Session.{Names}
 use Rattle.nd_heap.specs.Layers.{overridden, AreDistinctNames}
 use Rattle.nd_heap.specs.Values.{names_of}
 use Rattle.nd_heap.proofs.Bases.{at_err}
-use Rattle.nd_heap.proofs.Layering.{distinct_unbind, no_entries, only_layer}
+use Rattle.nd_heap.proofs.Layering.{distinct_unbind, only_layer}
+use Rattle.nd_heap.proofs.Plain.{no_entries}
 use Rattle.nd_heap.proofs.name_table.NameTable.unbind_shared.Goals as goal
 
 pub hold-requires : goal.hold-requires

@@ -1,7 +1,7 @@
 use Rattle.std.proofs.Common.{ap, ◌∙◌}
 use Rattle.nd_model.specs.Session.{collected}
 use Rattle.nd_model.specs.Running.{session_of}
-use Rattle.nd_heap.specs.Live.{live}
+use Rattle.nd_session.specs.Live.{live}
 use Rattle.nd_rerun.proofs.Sessions.{collected_twice}
 use Rattle.nd_rerun.proofs.kernel.KernelCells.freeze.Goals as goal
 

@@ -1,7 +1,7 @@
 use Rattle.std.proofs.Common.{sym, ◌∙◌}
 use Rattle.nd_model.specs.Running.{session_of}
 use Rattle.nd_model.proofs.Collected.{holds_uncollected, with_effects-collected}
-use Rattle.nd_heap.specs.Live.{live}
+use Rattle.nd_session.specs.Live.{live}
 use Rattle.nd_cell.specs.Records.{recorded}
 use Rattle.nd_rerun.proofs.kernel.KernelCells.replay.Goals as goal
 

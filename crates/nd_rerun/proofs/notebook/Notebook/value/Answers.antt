@@ -6,7 +6,7 @@ use Rattle.nd_model.specs.Renaming.{Told, Shown}
 use Rattle.nd_model.specs.Book.{found_value}
 use Rattle.nd_model.specs.Book as model
 use Rattle.nd_model.specs.Notebook.{Sheet, book_of}
-use Rattle.nd_heap.specs.Kept.{version_of}
+use Rattle.nd_session.specs.Kept.{version_of}
 use Rattle.nd_heap.specs.Values.{value_of}
 use Rattle.nd_rerun.specs.Queries.{shown_of}
 use Rattle.nd_rerun.proofs.Asked.{names_are_told, names_told, no_source, no_value, not_told, result_told, source_there, unbound_value, value_is_told, value_told, wants_memory}

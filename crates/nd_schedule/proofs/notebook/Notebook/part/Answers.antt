@@ -4,7 +4,7 @@ use Rattle.nd_schedule.specs.Source.{cell_of, cells_of}
 use Rattle.nd_schedule.specs.Shared.{each_of, each_some}
 use Rattle.nd_schedule.specs.Runs.{IsRun}
 use Rattle.nd_schedule.proofs.Kept.{as_many}
-use Rattle.nd_schedule.proofs.Pass.{part_shared, kept_part_of}
+use Rattle.nd_schedule.proofs.Passes.{part_shared, kept_part_of}
 use Rattle.nd_schedule.proofs.notebook.Notebook.part.Goals as goal
 
 pub records_between-requires-clause-to : goal.records_between-requires-clause-to

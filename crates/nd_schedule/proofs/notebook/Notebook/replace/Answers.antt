@@ -10,19 +10,25 @@ use Rattle.nd_schedule.specs.Shared.{each_of, each_some, some_of}
 use Rattle.nd_schedule.specs.Runs.{IsLast, IsRun}
 use Rattle.nd_schedule.proofs.Spliced.{splice_front}
 use Rattle.nd_schedule.proofs.Kept.{as_many}
-use Rattle.nd_schedule.proofs.Pass.{back_with}
+use Rattle.nd_schedule.proofs.Passes.{back_with}
 use Rattle.nd_schedule.proofs.Cut.{kept_now, put_now}
 use Rattle.nd_schedule.proofs.notebook.Notebook.replace.Goals as goal
 
-pub pass-requires-clause-rest : goal.pass-requires-clause-rest
-pass-requires-clause-rest g c =
-    unread_same c.args.part.behind _ (book_of c.args.self.now) (book_of (sheet (splice c.args.self.now.cells c.args.part.at c.args.part.behind (cells_of c.args.part.cells.items)) (g.C.Cells.given c.self.inside.inputs)))
-    (ap (λ (s : Sheet). inputs_in s.given) (sym c.self.view_is), back_with c.args.self.now.cells c.args.part.cells.items c.args.part.at c.args.part.behind (omega (arith, c.requires.order, c.requires.behind)))
-
-pub pass-requires-clause-front : goal.pass-requires-clause-front
-pass-requires-clause-front g c =
-    same_front c.args.part.at (book_of c.args.self.now) (book_of (sheet (splice c.args.self.now.cells c.args.part.at c.args.part.behind (cells_of c.args.part.cells.items)) (g.C.Cells.given c.self.inside.inputs)))
-    (ap (λ (s : Sheet). inputs_in s.given) (sym c.self.view_is)) (sym (splice_front c.args.self.now.cells (cells_of c.args.part.cells.items) c.args.part.at c.args.part.behind (omega (arith, c.requires.order, c.requires.behind))))
+pub pass-requires : goal.pass-requires
+pass-requires g c =
+    let new = book_of (sheet (splice c.args.self.now.cells c.args.part.at c.args.part.behind (cells_of c.args.part.cells.items)) (g.C.Cells.given c.self.inside.inputs)) in
+    record {
+      edit = record {
+        order = c.requires.order;
+        within = c.requires.behind;
+        rest = unread_same c.args.part.behind _ (book_of c.args.self.now) new
+            (ap (λ (s : Sheet). inputs_in s.given) (sym c.self.view_is), back_with c.args.self.now.cells c.args.part.cells.items c.args.part.at c.args.part.behind (omega (arith, c.requires.order, c.requires.behind)));
+        front = same_front c.args.part.at (book_of c.args.self.now) new
+            (ap (λ (s : Sheet). inputs_in s.given) (sym c.self.view_is)) (sym (splice_front c.args.self.now.cells (cells_of c.args.part.cells.items) c.args.part.at c.args.part.behind (omega (arith, c.requires.order, c.requires.behind))));
+        records = c.requires.kept;
+        distinct = c.requires.distinct;
+      };
+    }
 
 pub put_between-requires-2-clause-to : goal.put_between-requires-2-clause-to
 put_between-requires-2-clause-to g c =

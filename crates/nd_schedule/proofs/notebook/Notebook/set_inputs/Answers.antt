@@ -1,35 +1,34 @@
-use Rattle.std.proofs.Common.{◌≡◌, ◌≤◌, ℕ, length, refl, sym, ap, subst, ◌∙◌, arith}
+use Rattle.std.proofs.Common.{◌≡◌, ◌≤◌, ℕ, length, map, refl, sym, ap, subst, ◌∙◌, arith}
 use Rattle.std.specs.List.{splice}
 use Rattle.std.specs.Option.{option_or}
 use Rattle.nd_model.specs.Entries.{records_of, SharesFront}
+use Rattle.nd_model.specs.Stale.{kept_of}
 use Rattle.nd_model.specs.Notebook.{Sheet, book_of}
 use Rattle.nd_schedule.specs.Source.{cells_of, sheet}
 use Rattle.nd_schedule.specs.Shared.{each_of, each_some, some_of}
 use Rattle.nd_schedule.specs.Runs.{IsLast, IsRun}
 use Rattle.nd_schedule.proofs.Kept.{as_many}
-use Rattle.nd_schedule.proofs.Pass.{back_with}
+use Rattle.nd_schedule.proofs.Passes.{back_with}
 use Rattle.nd_schedule.proofs.Cut.{kept_now, put_now}
 use Rattle.nd_schedule.proofs.Edits.{same_cells, same_counts, same_distinct}
 use Rattle.nd_schedule.proofs.notebook.Notebook.set_inputs.Goals as goal
 
-pub pass-requires-clause-rest : goal.pass-requires-clause-rest
-pass-requires-clause-rest g c =
+pub pass-requires : goal.pass-requires
+pass-requires g c =
     let le : c.in_ok-part.part.at ≤ length c.args.self.now.cells = omega (arith, c.in_ok-part.ensures.at, c.first_reader-at.ensures.within) in
-    let from : c.unread_from.result ≤ c.in_ok-part.part.behind = omega (arith, c.in_ok-part.ensures.behind) in (
-      back_with c.args.self.now.cells c.in_ok-part.part.cells.items c.in_ok-part.part.at c.in_ok-part.part.behind le,
-      λ k past lt. c.unread_from.ensures.unread k (omega arith) lt,
-    )
-
-pub pass-requires-clause-front : goal.pass-requires-clause-front
-pass-requires-clause-front g c =
+    let from : c.unread_from.result ≤ c.in_ok-part.part.behind = omega (arith, c.in_ok-part.ensures.behind) in
     let same : splice c.args.self.now.cells c.in_ok-part.part.at c.in_ok-part.part.behind (cells_of c.in_ok-part.part.cells.items) ≡ c.args.self.now.cells = same_cells c.args.self.now.cells c.in_ok-part.part.cells.items c.in_ok-part.part.at c.in_ok-part.part.behind c.first_reader-at.result c.max-behind.result c.in_ok-part.ensures.cells c.in_ok-part.ensures.at c.in_ok-part.ensures.behind (omega arith) in
-    subst (λ (n : ℕ). SharesFront n (book_of c.args.self.now) (book_of (sheet (splice c.args.self.now.cells c.in_ok-part.part.at c.in_ok-part.part.behind (cells_of c.in_ok-part.part.cells.items)) (g.C.Cells.given c.args.inputs)))) (sym c.in_ok-part.ensures.at)
-    (subst (λ cs. SharesFront c.first_reader-at.result (book_of c.args.self.now) (book_of (sheet cs (g.C.Cells.given c.args.inputs)))) (sym same) c.first_reader-at.ensures.front)
-
-pub pass-requires-clause-distinct : goal.pass-requires-clause-distinct
-pass-requires-clause-distinct g c =
-    let same : splice c.args.self.now.cells c.in_ok-part.part.at c.in_ok-part.part.behind (cells_of c.in_ok-part.part.cells.items) ≡ c.args.self.now.cells = same_cells c.args.self.now.cells c.in_ok-part.part.cells.items c.in_ok-part.part.at c.in_ok-part.part.behind c.first_reader-at.result c.max-behind.result c.in_ok-part.ensures.cells c.in_ok-part.ensures.at c.in_ok-part.ensures.behind (omega arith) in
-    same_distinct _ _ same c.in_ok-part.ensures.distinct
+    record {
+      edit = record {
+        order = omega (arith, c.in_ok-part.ensures.at, c.in_ok-part.ensures.behind);
+        within = omega (arith, c.in_ok-part.ensures.behind, c.first_reader-at.ensures.within, c.unread_from.ensures.within);
+        rest = (back_with c.args.self.now.cells c.in_ok-part.part.cells.items c.in_ok-part.part.at c.in_ok-part.part.behind le, λ k past lt. c.unread_from.ensures.unread k (omega arith) lt);
+        front = subst (λ (n : ℕ). SharesFront n (book_of c.args.self.now) (book_of (sheet (splice c.args.self.now.cells c.in_ok-part.part.at c.in_ok-part.part.behind (cells_of c.in_ok-part.part.cells.items)) (g.C.Cells.given c.args.inputs)))) (sym c.in_ok-part.ensures.at)
+            (subst (λ cs. SharesFront c.first_reader-at.result (book_of c.args.self.now) (book_of (sheet cs (g.C.Cells.given c.args.inputs)))) (sym same) c.first_reader-at.ensures.front);
+        records = c.in_ok-part.ensures.kept ∙ ap (map (kept_of (book_of c.args.self.now))) (sym c.in_ok-part.ensures.cells);
+        distinct = same_distinct _ _ same c.in_ok-part.ensures.distinct;
+      };
+    }
 
 pub returns-in_err-records-clause-counts : goal.returns-in_err-records-clause-counts
 returns-in_err-records-clause-counts g c =

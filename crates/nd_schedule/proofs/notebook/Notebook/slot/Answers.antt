@@ -11,7 +11,7 @@ use Rattle.nd_schedule.specs.Shared.{each_of, each_some}
 use Rattle.nd_schedule.specs.Runs.{IsRun}
 use Rattle.nd_schedule.proofs.Spliced.{length-splice}
 use Rattle.nd_schedule.proofs.Kept.{as_many}
-use Rattle.nd_schedule.proofs.Pass.{cell_there, old_there, behind_there, kept_at, kept_again, kept_here, below}
+use Rattle.nd_schedule.proofs.Passes.{cell_there, old_there, behind_there, kept_at, kept_again, kept_here, below}
 use Rattle.nd_schedule.proofs.notebook.Notebook.slot.Goals as goal
 
 pub returns-then-place-len-clause-kept : goal.returns-then-place-len-clause-kept

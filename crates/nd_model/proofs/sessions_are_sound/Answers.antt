@@ -1,0 +1,5 @@
+use Rattle.nd_model.proofs.Overlaying.{sessions_are_sound}
+use Rattle.nd_model.proofs.sessions_are_sound.Goals as goal
+
+pub returns : goal.returns
+returns c = sessions_are_sound

@@ -1,0 +1,10 @@
+use Rattle.std.proofs.Common.{◌≡◌, ℕ, List, cond, map, take, Some, None, string_bytes}
+use Rattle.nd_model.specs.Session as model
+use Rattle.nd_session.specs.Live.{is_among}
+use Rattle.nd_session.specs.Reading.{by_text, source_at}
+use Rattle.nd_session.specs.Values.{inputs_of}
+use Rattle.nd_session.proofs.reads.find_inputs.Given as goal
+
+abbrev pub invariant-loop-name : goal.invariant-loop-name
+invariant-loop-name l = (n : List ℕ) → model.lookup n (by_text source_at l.reads.entries)
+    ≡ cond (is_among (map string_bytes (take l.name-index l.names)) n) (Some (inputs_of l.inputs.entries n)) None

@@ -1,0 +1,14 @@
+pub mod Values
+pub mod Contents
+pub mod State
+pub mod Live
+pub mod Seen
+pub mod Events
+pub mod Kept
+pub mod Fields
+pub mod Intact
+pub mod Placing
+pub mod Reads
+pub mod Reading
+pub mod Patching
+pub mod Changes

@@ -1,0 +1,415 @@
+// Sessions.
+
+ghost use Rattle.std.specs.Prelude.{◌≡◌, ◌+◌, ◌<◌, ◌≤◌, ◌^◌, [], IfOk, IsFalse, OnOk, ◌↔◌, option_map, string_bytes, length};
+ghost use Rattle.std.specs.List.{zip};
+ghost use Rattle.nd_model.specs.Tuple.{count_up};
+ghost use Rattle.nd_model.specs.Session as model;
+ghost use Rattle.nd_model.specs.Running as running;
+ghost use Rattle.nd_model.specs.Footprint.{HasNone, replayed};
+ghost use Rattle.nd_model.specs.Overlay.{blanks};
+ghost use Rattle.nd_session.specs.Changes.{changed, going_on};
+ghost use Rattle.nd_model.specs.Sound.{IsHeldView, IsSound, IsViewOf};
+ghost use Rattle.nd_model.specs.View.{item_size, byte_places, element_places};
+ghost use Rattle.nd_types.specs.Types.{type_of};
+ghost use Rattle.nd_heap.specs.Values.{base_of, geo_of, value_of};
+ghost use Rattle.nd_session.specs.Live.{live};
+ghost use Rattle.nd_session.specs.Kept.{thawed, version_of};
+ghost use Rattle.nd_session.specs.Fields.{trace_of};
+ghost use Rattle.nd_session.specs.Seen.{seen_of};
+ghost use Rattle.nd_model.specs.Storing.{having_written, having_block};
+
+use crate::changes::Changes;
+use crate::overlay::blank;
+use crate::redo::redo;
+use crate::trace::{Event, Trace};
+use crate::version::Version;
+use crate::writer::PlacedBytes;
+use indexmap::{IndexMap, IndexSet};
+use nd_block::RawBlock;
+use nd_heap::{Array, Base, BlockWriter, Heap, OutOfMemory, Value};
+use nd_types::ElemType;
+use std::alloc::{AllocError, Global};
+use std::marker::Model;
+use std::mem::replace;
+use std::rc::{Rc, RcStr};
+
+/// Names and blocks as they are while a cell runs, with what the cell has read and done. Names and blocks are shared with the
+/// versions that were made of them: the first write after that copies what it changes. Once a call has answered out of memory,
+/// the session is only fit to be dropped.
+#[derive(Drop)]
+pub struct Session {
+    pub(crate) heap: Heap,
+    trace: Trace,
+    pub(crate) next: u64,
+    alloc: Global,
+}
+
+impl Model for Session {
+    ghost use Rattle.nd_session.specs.State.{State};
+
+    ghost Value = { State };
+
+    ghost use Rattle.nd_session.specs.Fields.{state_of};
+
+    ghost view = { state_of };
+
+    ghost use Rattle.nd_session.specs.Intact.{IsIntact};
+
+    ghost invariant = { IsIntact };
+}
+
+/// The trace of a cell of this label that has read and done nothing.
+fn new_trace(alloc: Global, label: u64) -> Trace
+    ensures { trace_of result ≡ running.start label model.no_session }
+{
+    Trace {
+        label,
+        events: Vec::new(alloc),
+        touched: IndexSet::new(alloc),
+        written: IndexMap::new(alloc),
+        looked: IndexSet::new(alloc),
+        asked: IndexSet::new(alloc),
+        lengths: IndexSet::new(alloc),
+        used: IndexMap::new(alloc),
+    }
+}
+
+/// The places from the first one on.
+fn places_from(alloc: Global, first: u64, count: u64) -> Result<Vec<u64>, AllocError>
+    requires { first + count ≤ 2 ^ 64 }
+    ensures { IfOk result (λ v. v.items ≡ count_up first count) }
+{
+    let mut places = Vec::new(alloc);
+    for i in 0..count {
+        places.push(first + i)?;
+    }
+    Ok(places)
+}
+
+impl Session {
+    /// A session with no names, as a cell of label 0 begins.
+    pub fn new(alloc: Global) -> Result<Session, OutOfMemory>
+        ensures { IfOk result (λ s. live s ≡ running.start 0 model.no_session) }
+    {
+        let heap = Heap::new(alloc)?;
+        Ok(Session {
+            heap,
+            trace: new_trace(alloc, 0),
+            next: 0,
+            alloc,
+        })
+    }
+
+    /// Where the session takes its memory. No clause says which allocator that is: to a clause all values of `Global` are one.
+    pub fn allocator(&self) -> Global {
+        self.alloc
+    }
+
+    /// A cell of this label begins. Blocks that no bound value lies in are given up. No name and no byte is copied.
+    pub fn start(&mut self, label: u64) -> Result<(), OutOfMemory>
+        requires { HasNone label (running.session_of (live self.old)) }
+        ensures { OnOk result (live self.new
+            ≡ running.start label (running.session_of (live self.old))) }
+    {
+        self.heap.collect()?;
+        self.trace = new_trace(self.alloc, label);
+        self.next = 0;
+        Ok(())
+    }
+
+    /// A fact, and no work: each array that a name is bound to lies in its block.
+    #[tactic(auto, unfolding(crate::specs::Live::live))]
+    pub fn soundness(&self)
+        ensures { IsSound (live self.now) }
+    {
+        let _ = &self.next;
+    }
+
+    /// The bytes of a block, none where there is no such block. It notes nothing: `mark_used` and `mark_element` do.
+    #[tactic(auto, unfolding(crate::specs::Live::live))]
+    pub fn bytes(&self, base: Base) -> &[u8]
+        ensures { result.now ≡ (live self.now).bytes (base_of base) }
+    {
+        self.heap.bytes(base)
+    }
+
+    /// The bytes of a block that some bound value lies in, none where there is no such block. It notes nothing.
+    #[tactic(auto, unfolding(crate::specs::Live::live))]
+    pub fn held_bytes(&self, base: Base) -> &[u8]
+        ensures { result.now
+            ≡ model.held_bytes (running.session_of (live self.now)) (base_of base) }
+    {
+        self.heap.held_bytes(base)
+    }
+
+    /// Whether some bound value lies in a block that a cell of this label made.
+    #[tactic(auto, unfolding(crate::specs::Live::live))]
+    pub fn has_label(&self, label: u64) -> bool
+        ensures { IsFalse result ↔ HasNone label (running.session_of (live self.now)) }
+    {
+        self.heap.is_label_held(label)
+    }
+
+    /// The value of a name.
+    pub fn lookup(&mut self, name: &str) -> Result<Option<Value>, OutOfMemory>
+        ensures value { IfOk result (λ o. option_map value_of o
+            ≡ model.lookup name.now (live self.old).names) }
+        ensures after { OnOk result (live self.new
+            ≡ running.after (running.Lookup name.now) (live self.old)) }
+    {
+        self.trace.note_name(self.alloc, name)?;
+        let Some(found) = self.heap.find(name) else {
+            return Ok(None);
+        };
+        let value = found.try_clone()?;
+        self.trace.note_length_of(&value)?;
+        Ok(Some(value))
+    }
+
+    /// Notes that an input is asked for.
+    pub fn ask(&mut self, name: &str) -> Result<(), OutOfMemory>
+        ensures { OnOk result (live self.new
+            ≡ running.after (running.Ask name.now) (live self.old)) }
+    {
+        self.trace.note_input(self.alloc, name)?;
+        Ok(())
+    }
+
+    /// Notes that all elements of an array are read. `bytes` then lends them.
+    pub fn mark_used(&mut self, array: &Array) -> Result<(), OutOfMemory>
+        ensures { OnOk result (live self.new
+            ≡ running.after (running.Use (base_of array.now.base) (byte_places (geo_of array.now)))
+            (live self.old)) }
+    {
+        self.trace.note_view(self.alloc, array)?;
+        Ok(())
+    }
+
+    /// Notes that the element is read that begins at the place.
+    pub fn mark_element(
+        &mut self,
+        base: Base,
+        place: u64,
+        elem: &ElemType,
+    ) -> Result<(), OutOfMemory>
+        requires { place + item_size (type_of elem.now) ≤ 2 ^ 64 }
+        ensures { OnOk result (live self.new
+            ≡ running.after (running.Use (base_of base) (element_places (type_of elem.now) place))
+            (live self.old)) }
+    {
+        self.trace.note_element(self.alloc, base, place, elem)?;
+        Ok(())
+    }
+
+    /// Notes that all elements of an array are written.
+    pub fn mark_written(&mut self, array: &Array) -> Result<(), OutOfMemory>
+        ensures { OnOk result (live self.new
+            ≡ having_written (base_of array.now.base) (byte_places (geo_of array.now))
+            (live self.old)) }
+    {
+        self.trace.write_view(self.alloc, array)?;
+        Ok(())
+    }
+
+    /// Notes that the element is written that begins at the place.
+    pub fn mark_written_element(
+        &mut self,
+        base: Base,
+        place: u64,
+        elem: &ElemType,
+    ) -> Result<(), OutOfMemory>
+        requires { place + item_size (type_of elem.now) ≤ 2 ^ 64 }
+        ensures { OnOk result (live self.new
+            ≡ having_written (base_of base) (element_places (type_of elem.now) place)
+            (live self.old)) }
+    {
+        self.trace.write_element(self.alloc, base, place, elem)?;
+        Ok(())
+    }
+
+    /// Writes to a block, which is copied first where a version shares it. It notes nothing: `mark_written` and
+    /// `mark_written_element` do. That the two calls are one store, where the bytes written are those at the places noted, is
+    /// `stores_by_parts`.
+    #[tactic(auto, unfolding(crate::specs::Live::live))]
+    pub fn write<W: BlockWriter + Drop>(&mut self, base: Base, writer: W) -> Result<(), OutOfMemory>
+        ensures { OnOk result (live self.new ≡ having_block (base_of base)
+            (W.written writer ((live self.old).bytes (base_of base))) (live self.old)) }
+    {
+        self.heap.write(base, writer)?;
+        Ok(())
+    }
+
+    /// Writes the bytes of one element from a place on. Those past the end of the block are passed over.
+    pub fn store(&mut self, base: Base, place: u64, bytes: &[u8]) -> Result<(), OutOfMemory>
+        requires { place + length bytes.now ≤ 2 ^ 64 }
+        ensures { OnOk result (live self.new
+            ≡ running.done (running.Storing (base_of base)
+            (zip (count_up place (length bytes.now)) bytes.now)) (live self.old)) }
+    {
+        let count = bytes.len() as u64;
+        let places = places_from(self.alloc, place, count)?;
+        self.trace.write_run(self.alloc, base, place, count)?;
+        let writer = PlacedBytes {
+            places: &places,
+            bytes,
+        };
+        self.heap.write(base, writer)?;
+        Ok(())
+    }
+
+    /// Makes a block. Its base has the running cell's label and the next number.
+    #[tactic(auto, unfolding(crate::specs::Live::live))]
+    pub fn new_block(&mut self, block: RawBlock) -> Result<Base, OutOfMemory>
+        requires { (live self.old).next + 1 < 2 ^ 64 }
+        ensures base { IfOk result (λ b. base_of b
+            ≡ record { label = (live self.old).label; number = (live self.old).next }) }
+        ensures after { OnOk result (live self.new
+            ≡ running.after (running.Make block) (live self.old)) }
+    {
+        let base = self.next_base();
+        let shared = Rc::new(self.alloc, block)?;
+        self.heap.put_block(base, shared)?;
+        self.next += 1;
+        Ok(base)
+    }
+
+    /// Binds a name: one that is bound keeps its place, another goes last.
+    #[tactic(auto, unfolding(crate::specs::Live::live))]
+    pub fn bind(&mut self, name: String, value: Value) -> Result<(), OutOfMemory>
+        requires { IsViewOf (IsHeldView (live self.old)) (value_of value) }
+        ensures { OnOk result (live self.new
+            ≡ running.done (running.Binding (string_bytes name) (value_of value)) (live self.old)) }
+    {
+        let bound = RcStr::from_string(name)?;
+        let kept = Rc::new(self.alloc, value)?;
+        self.heap.bind(bound.clone()?, kept.clone()?)?;
+        self.trace.note_event(Event::Binds(bound, kept))?;
+        Ok(())
+    }
+
+    /// Unbinds a name.
+    #[tactic(auto, unfolding(crate::specs::Live::live))]
+    pub fn unbind(&mut self, name: &str) -> Result<(), OutOfMemory>
+        ensures { OnOk result (live self.new
+            ≡ running.done (running.Unbinding name.now) (live self.old)) }
+    {
+        let unbound = RcStr::from_str(self.alloc, name)?;
+        self.heap.unbind(name)?;
+        self.trace.note_event(Event::Unbinds(unbound))?;
+        Ok(())
+    }
+
+    /// The value of a name. It notes nothing.
+    #[tactic(auto, unfolding(crate::specs::Live::live))]
+    pub fn peek(&self, name: &str) -> Option<&Value>
+        ensures { option_map (λ v. value_of v.now) result
+            ≡ model.lookup name.now (live self.now).names }
+    {
+        self.heap.find(name)
+    }
+
+    /// The number that the next new block gets.
+    #[tactic(auto, unfolding(crate::specs::Live::live))]
+    pub fn next_number(&self) -> u64
+        ensures { result ≡ (live self.now).next }
+    {
+        self.next_base().number
+    }
+
+    /// The next new block gets this number.
+    #[tactic(auto, unfolding(crate::specs::Live::live))]
+    pub fn skip_to(&mut self, number: u64)
+        requires { (live self.old).next ≤ number }
+        ensures { live self.new ≡ record (live self.old) { next = number } }
+    {
+        self.next = number;
+    }
+
+    /// What the running cell has read and done.
+    pub fn seen(&self) -> &Trace
+        ensures { result.now ≡ seen_of self.now }
+    {
+        &self.trace
+    }
+
+    /// The base of the next new block.
+    #[tactic(auto, unfolding(crate::specs::Live::live))]
+    fn next_base(&self) -> Base
+        ensures { base_of result
+            ≡ record { label = (live self.now).label; number = (live self.now).next } }
+    {
+        Base {
+            label: self.trace.label,
+            number: self.next,
+        }
+    }
+
+    /// A session as it was when the version was kept: the cell of its label goes on from its next number, and has read and done
+    /// nothing since. No name and no byte is copied.
+    pub fn thaw(alloc: Global, version: &Version) -> Result<Session, OutOfMemory>
+        ensures { IfOk result (λ s. live s ≡ thawed version.now) }
+    {
+        let heap = version.heap.try_clone()?;
+        Ok(Session {
+            heap,
+            trace: new_trace(alloc, version.label),
+            next: version.next,
+            alloc,
+        })
+    }
+
+    /// The names and blocks as they are now, kept. No name and no byte is copied. Blocks that no bound value lies in are left
+    /// out.
+    pub fn freeze(&self) -> Result<Version, OutOfMemory>
+        ensures session { IfOk result (λ v. version_of v
+            ≡ model.collected (running.session_of (live self.now))) }
+        ensures label { IfOk result (λ v. v.label ≡ (live self.now).label) }
+        ensures next { IfOk result (λ v. v.next ≡ (live self.now).next) }
+    {
+        let Base { label, number } = self.next_base();
+        let mut heap = self.heap.try_clone()?;
+        heap.collect()?;
+        Ok(Version {
+            heap,
+            label,
+            next: number,
+        })
+    }
+
+    /// Binds each name that a cell bound to a value that lies in no base. It notes nothing: the session then has nothing of what
+    /// that cell made, so that `redo` may do what another run of it did.
+    #[tactic(auto, unfolding(crate::specs::Live::live))]
+    pub fn blank(&mut self, changes: &Changes) -> Result<(), OutOfMemory>
+        ensures { OnOk result (live self.new ≡ record (live self.old) {
+          names = replayed (blanks changes.now.events) (live self.old).names;
+        }) }
+    {
+        let nothing = Heap::new(self.alloc)?;
+        let mut heap = replace(&mut self.heap, nothing);
+        blank(self.alloc, &mut heap, &changes.events)?;
+        self.heap = heap;
+        Ok(())
+    }
+
+    /// Makes the changes of a cell: the names that it bound and unbound, the blocks that it made, which are shared, and the
+    /// bytes that it wrote. The session then is that of the cell, which has read nothing.
+    #[tactic(auto, unfolding(crate::specs::Live::live))]
+    pub fn redo(&mut self, changes: &Changes) -> Result<(), OutOfMemory>
+        requires none { HasNone changes.now.label (running.session_of (live self.old)) }
+        requires sound { IsSound (going_on changes.now (running.session_of (live self.old))) }
+        ensures names { OnOk result ((live self.new).names
+            ≡ replayed changes.now.events (live self.old).names) }
+        ensures session { OnOk result (model.collected (running.session_of (live self.new))
+            ≡ changed changes.now (running.session_of (live self.old))) }
+        ensures cell { OnOk result (record (live self.new) { names = []; bytes = λ b. [] }
+            ≡ record (running.start changes.now.label model.no_session) { next = changes.now.next }) }
+    {
+        let nothing = Heap::new(self.alloc)?;
+        let mut heap = replace(&mut self.heap, nothing);
+        redo(&mut heap, changes)?;
+        self.trace = new_trace(self.alloc, changes.label);
+        self.next = changes.next;
+        self.heap = heap;
+        Ok(())
+    }
+}

@@ -1,5 +1,5 @@
 -- The lines of a cell, one after another.
-use Rattle.std.proofs.Common.{◌≡◌, ℕ, ◌+◌, ◌<◌, true, false, leb, List, [], ◌∷◌, ◌++◌, length, length-append, drop, get_or, Option, None, Some, option_map, is_some, Result, Ok, Err, arith, refl, sym, ap, ap₂, ◌∙◌, inl, inr, add-one, drop-cons, String, string_bytes, Vec, Global}
+use Rattle.std.proofs.Common.{◌≡◌, ℕ, ◌+◌, ◌<◌, true, false, leb, List, [], ◌∷◌, ◌++◌, length, length-append, drop, get_or, Option, None, Some, option_map, is_some, Result, Ok, Err, IfOk, arith, refl, sym, ap, ap₂, ◌∙◌, inl, inr, add-one, drop-cons, String, string_bytes, Vec, Global}
 use Rattle.std.specs.Prelude.{string_eq, bytes_eq}
 use Rattle.std.proofs.lemmas.Bool.{cases_Bool}
 use Rattle.indexmap.specs.IndexMap.{insert_entry}
@@ -91,3 +91,11 @@ pub limited_line : (line : ℕ) (text : List ℕ) (saves : Saved) (m : Result Ou
     → and_then line text saves m rest ≡ and_then line text saves (out, x) rest
 limited_line line text saves m out x told rest =
     sym (limited_and_then line text saves m rest) ∙ ap (λ (m : Result Output Fault × Running). and_then line text saves m rest) told
+
+-- and where it gave something, as what that adds
+pub limited_output : (line : ℕ) (text new : List ℕ) (saves kept : Saved) (m : Result Output Fault × Running) (out : Output) (x : Running) {E : Type 0} (added : Result (Option Refusal) E)
+    → limit_text m ≡ (Ok out, x)
+    → IfOk added (λ o. (y : Running) → (rest : List ℕ → Saved → Running → Ended) → and_then line text saves (Ok out, y) rest ≡ after_line o new kept y rest)
+    → IfOk added (λ o. (rest : List ℕ → Saved → Running → Ended) → and_then line text saves m rest ≡ after_line o new kept x rest)
+limited_output line text new saves kept m out x (Ok o) told adds = λ rest. limited_line line text saves m (Ok out) x told rest ∙ adds x rest
+limited_output line text new saves kept m out x (Err e) told adds = tt

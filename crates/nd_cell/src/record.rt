@@ -1,9 +1,11 @@
 //! Records of runs.
 
 ghost use Rattle.std.specs.Prelude.{◌≡◌, ◌↔◌, ℕ, IfOk, IsFalse, IsTrue, List, OnOk, option_map, string_bytes, unwrap_or};
+ghost use Rattle.nd_model.specs.Beside.{HasNoName, IsNoted};
 ghost use Rattle.nd_model.specs.CutOff.{IsQuiet, SameOnSession};
 ghost use Rattle.nd_model.specs.Footprint.{HasNone, replayed, with_effects};
 ghost use Rattle.nd_model.specs.Overlay.{IsApart, IsOnce, IsOverlay, IsUnder, Misses, Replaces, did};
+ghost use Rattle.nd_model.specs.Records as records;
 ghost use Rattle.nd_model.specs.Records.{StillHolds};
 ghost use Rattle.nd_model.specs.Running as running;
 ghost use Rattle.nd_model.specs.Session.{Names, collected};
@@ -16,7 +18,7 @@ ghost use Rattle.nd_cell.specs.Records.{EndsRun, ended_in, record_at_end, record
 ghost use Rattle.nd_cell.specs.Results.{ended_of, refusal_of, saves_of};
 
 use crate::result::CellResult;
-use nd_session::{Changes, Inputs, OutOfMemory, Reads, Session, Version};
+use nd_session::{Changes, Inputs, OutOfMemory, Readings, Reads, Session, Version};
 use std::marker::Model;
 use std::rc::Rc;
 
@@ -189,6 +191,39 @@ impl Record {
         ensures { IsTrue result → IsApart (recorded over.now) (recorded self.now) }
     {
         self.changes.is_apart(&over.changes)
+    }
+
+    /// Notes the names that the run read, and the labels of the bases. What was noted before stays noted, also where memory is
+    /// wanted.
+    pub fn note(&self, readings: &mut Readings) -> Result<(), OutOfMemory>
+        ensures noted { OnOk result (IsNoted (recorded self.now) readings.new) }
+        ensures stays { (r : records.Record) → IsNoted r readings.old → IsNoted r readings.new }
+    {
+        self.reads.note(readings)?;
+        Ok(())
+    }
+
+    /// If so, no run that is noted read a name or a base of this one. It takes no memory, and may say no where none did.
+    pub fn are_unread(&self, readings: &Readings) -> bool
+        ensures { IsTrue result → (r : records.Record) → IsNoted r readings.now
+            → Misses (recorded self.now) r }
+    {
+        self.changes.are_unread(readings)
+    }
+
+    /// If so, the run did nothing but bind names to values that lie in no base but the cell's own. It takes no memory, and may say
+    /// no where it did.
+    pub fn is_overlay(&self) -> bool
+        ensures { IsTrue result → IsOverlay (recorded self.now) }
+    {
+        self.changes.is_overlay()
+    }
+
+    /// Whether the version binds none of the names that the run bound and unbound. It takes no memory.
+    pub fn has_no_name(&self, before: &Version) -> bool
+        ensures { IsTrue result ↔ HasNoName (recorded self.now) (version_of before.now) }
+    {
+        self.changes.has_no_name(before)
     }
 
     /// Does what the run did over a session in which another run of the cell stands: its names get the values of this one, and the

@@ -30,6 +30,7 @@ fn view_fault_text(fault: ViewFault) -> &'static str {
 /// Adds a fault of numbers.
 fn add_ufunc_fault(text: &mut String, fault: UfuncFault) -> Result<(), AllocError> {
     match fault {
+        UfuncFault::FloatResult => write!(text, "float result"),
         UfuncFault::IntOutOfRange(number) => write!(text, "{number} out of range"),
         UfuncFault::ShapeMismatch => write!(text, "shape mismatch"),
         UfuncFault::ReadOnly => write!(text, "read only"),
@@ -42,6 +43,8 @@ fn add_error(text: &mut String, error: &StmtError) -> Result<(), AllocError> {
     match error {
         StmtError::NoName(name) => write!(text, "no name {:?}", name.as_str()),
         StmtError::IntTooBig => write!(text, "integer too big"),
+        StmtError::ZeroDivide => write!(text, "zero divide"),
+        StmtError::NegativeShift => write!(text, "negative shift"),
         StmtError::NotAnArray => write!(text, "not an array"),
         StmtError::TextTooLong => write!(text, "text too long"),
         StmtError::BadArgument => write!(text, "bad argument"),

@@ -6,13 +6,14 @@ use Rattle.nd_model.specs.Content.{Content, contents_in, content_in_order}
 use Rattle.nd_model.specs.Value.{Base, Value, Int, Truth, Scalar, Array, Row}
 use Rattle.nd_model.specs.Fault.{Fault, ViewFault, BadArgument}
 use Rattle.nd_model.specs.Fault as fault
-use Rattle.nd_model.specs.Syntax.{Expr, Name, Integer, Unary, Negative, Called, Arange, Load, Buffer, Omitted, Item, Attribute, Index, Items, AndItem, NoItem, At, Stmt, Import, Bind, Assign, Delete, Print}
+use Rattle.nd_model.specs.Syntax.{Expr, Name, Integer, Unary, Binary, Called, PythonAbs, Arange, Load, Buffer, Omitted, Item, Attribute, Index, Items, AndItem, NoItem, At, Stmt, Import, Bind, Assign, Delete, Print}
+use Rattle.nd_model.specs.Syntax as syntax
 use Rattle.nd_model.specs.Tokens.{tokens_of, tokens_of_index, tokens_of_all, tokens_of_stmt}
 use Rattle.nd_model.specs.Running.{Source, Inputs, Running, Lookup, Ask, Use, Make, reply, after, Effect, Nothing, Prints, Saves, Binding, Unbinding, Storing, done}
 use Rattle.nd_model.specs.InputName.{is_input_name}
 use Rattle.nd_model.specs.Evaluation.{Eval, Gives, Refuses, Asks, run, ◌>>=◌, decide}
 use Rattle.nd_model.specs.Operand.{Operand, Usage, Whole, ArraysOnly, Unused, is_used, Made, ANumber, AnArray, Chosen, AnElement, AView, ACopy, Stretched, Deed, NoDeed, PrintsText, SavesFile, BindsFirst, BindsMade, Unbinds, Writes, MakesAndWrites}
-use Rattle.nd_model.specs.Operators.{negative}
+use Rattle.nd_model.specs.Operators.{Absolute, Of, binary, single}
 use Rattle.nd_model.specs.Creation.{arange}
 use Rattle.nd_model.specs.Printing.{print_deed}
 use Rattle.nd_model.specs.Viewing.{Indexed, choose}
@@ -165,7 +166,13 @@ mutual
   of_value : (e : Expr) → MakesAtMost (tokens_of e) (meaning.value e)
   of_value (Name n) = more 0 1 _ (omega arith) (of_name n)
   of_value (Integer n) = gives 1 _
-  of_value (Unary Negative e) = more (tokens_of e + 1) _ _ (omega arith) (then (tokens_of e) 1 (meaning.value e) _ (of_value e) (λ v. of_perform (Computes (meaning.one negative)) ((Whole, v) ∷ [])))
+  of_value (syntax.Truth t) = gives 1 _
+  of_value (Unary op e) = more (tokens_of e + 1) _ _ (omega arith) (then (tokens_of e) 1 (meaning.value e) _ (of_value e) (λ v. of_perform (Computes (meaning.one (single (Of op)))) ((Whole, v) ∷ [])))
+  of_value (Binary op a b) = more (tokens_of a + (tokens_of b + 1)) _ _ (omega arith)
+      (then (tokens_of a) (tokens_of b + 1) (meaning.value a) _ (of_value a) (λ v.
+      then (tokens_of b) 1 (meaning.value b) _ (of_value b) (λ w. of_perform (Computes (meaning.two (binary op))) ((Whole, v) ∷ (Whole, w) ∷ []))))
+  of_value (Called (PythonAbs e)) = more (tokens_of e + 1) _ _ (omega arith)
+      (then (tokens_of e) 1 (meaning.value e) _ (of_value e) (λ v. of_perform (Computes (meaning.one (single Absolute))) ((Whole, v) ∷ [])))
   of_value (Called (Arange Omitted e Omitted None)) = more (tokens_of e + 1) _ _ (omega arith)
       (then (tokens_of e) 1 (meaning.value e) _ (of_value e) (λ v. of_perform (Computes (meaning.one arange)) ((Unused, v) ∷ [])))
   of_value (Called (Load n)) = more 1 _ _ (omega arith) (of_input n meaning.unbuilt_input)

@@ -1,6 +1,7 @@
 -- An operand and what goes on it, one after the other.
 use Rattle.std.proofs.Common.{◌≡◌, ◌≢◌, ℕ, ◌+◌, ◌<◌, length, get_or, drop, List, [], ◌∷◌, map, false, Option, None, Some, Result, Ok, Err, refl, sym, ap, ◌∙◌, arith, Box, Vec, Global}
 use Rattle.std.specs.Option.{is_some}
+use mathlib.Core.Former.{Count}
 use Rattle.nd_model.specs.Fault.{Fault, BadArgument}
 use Rattle.nd_model.specs.Fault as fault
 use Rattle.nd_model.specs.Syntax.{Expr, Item, Attribute, Index, Method}
@@ -100,13 +101,18 @@ abbrev mutual
   nodes (tree.Name n) = 1
   nodes (tree.Integer n) = 1
   nodes (tree.Unary' op p e) = 2 + nodes e
-  nodes (tree.Chain' p e shape xs) = 1 + nodes e
+  nodes (tree.Chain' p e shape xs) = 2 + nodes e + nodes_in_chain xs
   nodes (tree.Call' p c) = 1 + nodes_of_call c
   nodes (tree.Postfix' p e shape xs) = 1 + nodes e + nodes_in xs
   nodes e = 1
 
+  pub nodes_in_chain : {n : _} → tree.Row_of-Expr-Chain-1-2 n → ℕ
+  nodes_in_chain tree.end_of-Expr-Chain-1-2 = 0
+  nodes_in_chain (tree.more_of-Expr-Chain-1-2 op x xs) = 2 + nodes x + nodes_in_chain xs
+
   pub nodes_of_call : call.Call → ℕ
   nodes_of_call (call.Arange' start e step t) = 1 + nodes e
+  nodes_of_call (call.PythonAbs e) = 2 + nodes e
   nodes_of_call c = 1
 
   pub nodes_in : {n : _} → tree.Row_of-Suffix n → ℕ
@@ -187,29 +193,24 @@ more_refused x (y ∷ ys) h = refl
 
 -- ---- operators
 
-pub no_items : {A : Type 0} (xs : List A) → length xs ≡ 0 → xs ≡ []
-no_items [] e = refl
-no_items (x ∷ xs) e = absurd (omega arith)
+abbrev pub nodes_of_operations : List (BinaryOp × tree.Expr) → ℕ
+nodes_of_operations [] = 0
+nodes_of_operations (x ∷ xs) = 2 + nodes x.1 + nodes_of_operations xs
+
+nodes_in_operations : (n : _) (row : tree.Row_of-Expr-Chain-1-2 n) → nodes_in_chain row ≡ nodes_of_operations (tree.items-the_row-Expr-Chain-1-2 n row)
+nodes_in_operations n tree.end_of-Expr-Chain-1-2 = refl
+nodes_in_operations n (tree.more_of-Expr-Chain-1-2 op x xs) = ap (λ k. 2 + nodes x + k) (nodes_in_operations _ xs)
+
+-- its operators, as the tree has them
+abbrev chain_row : tree.Expr → (n : Count) × tree.Row_of-Expr-Chain-1-2 n
+chain_row (tree.Chain' p e shape xs) = (_, xs)
+chain_row _ = (_, tree.end_of-Expr-Chain-1-2)
 
 module _ (x : tree.Expr) (e : Box tree.Expr Global) (xs : Vec (BinaryOp × tree.Expr) Global) (same : x ≡ tree.Chain e xs) where
-  is_chain : expr_of x ≡ chained (expr_of e.value) (map operation_of xs.items)
+  pub is_chain : expr_of x ≡ chained (expr_of e.value) (map operation_of xs.items)
   is_chain = ap expr_of same ∙ chain_is e xs
 
-  -- no operator
-  pub chain_alone : xs.items ≡ [] → expr_of x ≡ expr_of e.value
-  chain_alone none = is_chain ∙ ap (λ l. chained (expr_of e.value) (map operation_of l)) none
-
-  pub nodes_of_chain : nodes x ≡ 1 + nodes e.value
-  nodes_of_chain = ap nodes same
-
-  -- an operator is not built yet
-  pub chain_refused : xs.items ≢ [] → value (expr_of x) ≡ Refuses (fault.Stmt BadArgument)
-  chain_refused some = ap value is_chain ∙ go xs.items some
-    where
-      more : (xs : List (model.BinaryOp × model.Expr)) (op : model.BinaryOp) (a b : model.Expr) → value (chained (model.Binary op a b) xs) ≡ Refuses (fault.Stmt BadArgument)
-      more [] op a b = refl
-      more (y ∷ ys) op a b = more ys y.0 (model.Binary op a b) y.1
-
-      go : (l : List (BinaryOp × tree.Expr)) → l ≢ [] → value (chained (expr_of e.value) (map operation_of l)) ≡ Refuses (fault.Stmt BadArgument)
-      go [] some = absurd (some refl)
-      go (y ∷ ys) some = more (map operation_of ys) (operation_of y).0 (expr_of e.value) (operation_of y).1
+  pub nodes_of_chain : nodes x ≡ 2 + nodes e.value + nodes_of_operations xs.items
+  nodes_of_chain =
+      let row = chain_row (tree.Chain e xs) in
+      ap nodes same ∙ ap (λ k. 2 + nodes e.value + k) (nodes_in_operations row.0 row.1 ∙ ap nodes_of_operations (tree.items_hidden-the_row-Expr-Chain-1-2-2 xs))

@@ -14,3 +14,5 @@ pub mod Quiet
 pub mod Prints
 pub mod Writes
 pub mod Turns
+pub mod Operating
+pub mod WholeNumbers

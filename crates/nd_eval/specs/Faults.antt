@@ -5,9 +5,9 @@ pub use Rattle.nd_view.specs.Faults.{view_fault_of}
 use Rattle.nd_eval.specs.declared.fault.IndexFault.{IndexFault}
 use Rattle.nd_eval.specs.declared.fault.IndexFault.TheVariants.{OutOfBounds, TooManyIndices, NotAnIndex}
 use Rattle.nd_eval.specs.declared.fault.UfuncFault.{UfuncFault}
-use Rattle.nd_eval.specs.declared.fault.UfuncFault.TheVariants.{IntOutOfRange, ShapeMismatch, ReadOnly, NotNumbers}
+use Rattle.nd_eval.specs.declared.fault.UfuncFault.TheVariants.{FloatResult, IntOutOfRange, ShapeMismatch, ReadOnly, NotNumbers}
 use Rattle.nd_eval.specs.declared.fault.StmtError.{StmtError}
-use Rattle.nd_eval.specs.declared.fault.StmtError.TheVariants.{NoName, IntTooBig, NotAnArray, TextTooLong, BadArgument}
+use Rattle.nd_eval.specs.declared.fault.StmtError.TheVariants.{NoName, IntTooBig, ZeroDivide, NegativeShift, NotAnArray, TextTooLong, BadArgument}
 use Rattle.nd_eval.specs.declared.fault.StmtFault.{StmtFault}
 use Rattle.nd_eval.specs.declared.fault.StmtFault.TheVariants.{View, Index, Ufunc, Stmt}
 
@@ -17,6 +17,7 @@ index_fault_of TooManyIndices = model.TooManyIndices
 index_fault_of NotAnIndex = model.NotAnIndex
 
 abbrev pub ufunc_fault_of : UfuncFault → model.UfuncFault
+ufunc_fault_of FloatResult = model.FloatResult
 ufunc_fault_of (IntOutOfRange z) = model.IntOutOfRange z
 ufunc_fault_of ShapeMismatch = model.ShapeMismatch
 ufunc_fault_of ReadOnly = model.ReadOnly
@@ -25,6 +26,8 @@ ufunc_fault_of NotNumbers = model.NotNumbers
 abbrev pub stmt_error_of : StmtError → model.StmtFault
 stmt_error_of (NoName n) = model.NoName (string_bytes n)
 stmt_error_of IntTooBig = model.IntTooBig
+stmt_error_of ZeroDivide = model.ZeroDivide
+stmt_error_of NegativeShift = model.NegativeShift
 stmt_error_of NotAnArray = model.NotAnArray
 stmt_error_of TextTooLong = model.TextTooLong
 stmt_error_of BadArgument = model.BadArgument

@@ -5,3 +5,4 @@ pub mod Parts
 pub mod Uses
 pub mod Lines
 pub mod Done
+pub mod Singles

@@ -3,17 +3,30 @@ use Rattle.std.specs.Prelude.{List, [], ◌∷◌, map}
 use Rattle.nd_model.specs.Value.{Value}
 use Rattle.nd_model.specs.Running.{Effect}
 use Rattle.nd_model.specs.Fault.{Stmt, BadArgument}
-use Rattle.nd_model.specs.Syntax.{Expr, Index, Items, AndItem, NoItem, At}
+use Rattle.nd_model.specs.Syntax.{Expr, BinaryOp, Index, Items, AndItem, NoItem, At}
 use Rattle.nd_model.specs.Evaluation.{Eval, Gives, Refuses, ◌>>=◌}
 use Rattle.nd_model.specs.Operand.{Usage, Whole, ArraysOnly, Unused}
 use Rattle.nd_model.specs.Viewing.{Indexed}
-use Rattle.nd_model.specs.Operation.{Views, perform, act_on}
-use Rattle.nd_model.specs.Meaning.{value, assignment_deed}
+use Rattle.nd_model.specs.Operators.{Single, single, binary}
+use Rattle.nd_model.specs.Operation.{Computes, Views, perform, act_on}
+use Rattle.nd_model.specs.Meaning.{one, two, value, assignment_deed}
 
 -- an index of one expression; the other ones are not built yet
 abbrev pub item_value : Index → Eval Value
 item_value (Items (AndItem (At e) NoItem)) = value e
 item_value x = Refuses (Stmt BadArgument)
+
+-- an operator of one number, and an expression
+abbrev pub single_value : Single → Expr → Eval Value
+single_value op e = value e >>= λ v. perform (Computes (one (single op))) ((Whole, v) ∷ [])
+
+-- an operator and two values
+abbrev pub operate : BinaryOp → Value → Value → Eval Value
+operate op v w = perform (Computes (two (binary op))) ((Whole, v) ∷ (Whole, w) ∷ [])
+
+-- an operator, a value, and an expression behind it
+abbrev pub binary_value : BinaryOp → Value → Expr → Eval Value
+binary_value op v e = value e >>= λ w. operate op v w
 
 -- `t[i]`
 abbrev pub element_value : Value → Value → Eval Value

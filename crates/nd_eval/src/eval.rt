@@ -1,18 +1,20 @@
 //! Expressions.
 
 ghost use Rattle.std.specs.Prelude.{◌≡◌, ◌+◌, ◌<◌, ◌^◌, map};
-ghost use Rattle.nd_model.specs.Cells.{items_of};
+ghost use Rattle.nd_model.specs.Cells.{chained, items_of};
 ghost use Rattle.nd_model.specs.Evaluation as evaluation;
 ghost use Rattle.nd_model.specs.Meaning as meaning;
 ghost use Rattle.nd_model.specs.Operation as operation;
-ghost use Rattle.nd_model.specs.Syntax.{Called, Items, AndItem, Negative, NoItem, Unary};
+ghost use Rattle.nd_model.specs.Syntax.{Called, Items, AndItem, NoItem};
 ghost use Rattle.nd_model.specs.Tokens.{tokens_of, tokens_of_call, tokens_of_index, tokens_of_item, tokens_of_all};
-ghost use Rattle.nd_syntax.specs.Syntax.{expr_of, call_of, index_of, item_of};
+ghost use Rattle.nd_syntax.specs.Lists.{operation_of};
+ghost use Rattle.nd_syntax.specs.Syntax.{binary_op, expr_of, call_of, index_of, item_of};
 ghost use Rattle.nd_heap.specs.Values.{value_of};
 ghost use Rattle.nd_eval.specs.Contents.{values_of};
 ghost use Rattle.nd_eval.specs.Ends.{Evaluates, session_of};
 ghost use Rattle.nd_eval.specs.Uses.{IsHeld};
 ghost use Rattle.nd_eval.specs.Parts as parts;
+ghost use Rattle.nd_eval.specs.Singles.{single_of};
 ghost use Rattle.nd_eval.specs.declared.stop.Stop.TheVariants.{Refused};
 ghost use Rattle.nd_eval.specs.declared.fault.StmtFault.TheVariants.{Stmt};
 ghost use Rattle.nd_eval.specs.declared.fault.StmtError.TheVariants.{BadArgument};
@@ -22,10 +24,10 @@ use crate::evaluator::Evaluator;
 use crate::fault::{StmtError, StmtFault};
 use crate::indexes::index_array;
 use crate::operation::{mark_operand, operand_in};
-use crate::operators::negate;
+use crate::operators::{Single, apply_binary, apply_single};
 use crate::stop::Stop;
 use nd_session::Value;
-use nd_syntax::{Call, Expr, Index, IndexItem, Suffix, UnaryOp};
+use nd_syntax::{BinaryOp, Call, Expr, Index, IndexItem, Suffix};
 use nd_types::Num;
 
 /// The refusal of a form that is not built yet.
@@ -59,10 +61,8 @@ impl Evaluator<'_> {
         match expr {
             Expr::Name(name) => self.look_up(name.as_str()),
             Expr::Integer(number) => Ok(Value::Number(Num::Int(i128::from(*number)))),
-            Expr::Unary(op, operand) => match op {
-                UnaryOp::Negative => self.negative_value(operand),
-                UnaryOp::Invert => Err(unbuilt_form()),
-            },
+            Expr::Truth(truth) => Ok(Value::Number(Num::Bool(*truth))),
+            Expr::Unary(op, operand) => self.single_value(Single::Of(*op), operand),
             Expr::Call(call) => self.call_value(call),
             Expr::Postfix(operand, suffixes) => {
                 let mut found = self.value(operand)?;
@@ -74,28 +74,68 @@ impl Evaluator<'_> {
                 }
                 Ok(found)
             }
-            Expr::Chain(operand, others) => {
-                if others.is_empty() {
-                    return self.value(operand);
-                }
-                Err(unbuilt_form())
-            }
-            _ => Err(unbuilt_form()),
+            Expr::Chain(operand, others) => self.chain_value(operand, others),
         }
     }
 
-    /// The negative of an expression's value.
+    /// The value of an operand and of the operators behind it, from left to right.
     #[cycle(value)]
-    fn negative_value(&mut self, operand: &Expr) -> Result<Value, Stop>
+    fn chain_value(&mut self, operand: &Expr, others: &[(BinaryOp, Expr)]) -> Result<Value, Stop>
         requires { (session_of self.old).next
-            + tokens_of (Unary Negative (expr_of operand.now)) < 2 ^ 64 }
+            + tokens_of (chained (expr_of operand.now) (map operation_of others.now)) < 2 ^ 64 }
         ensures { Evaluates value_of result self.old
-            (meaning.value (Unary Negative (expr_of operand.now))) self.new }
+            (meaning.value (chained (expr_of operand.now) (map operation_of others.now)))
+            self.new }
+    {
+        self.session.soundness();
+        let mut found = self.value(operand)?;
+        for other in others {
+            found = self.binary_value(other.0, &found, &other.1)?;
+        }
+        Ok(found)
+    }
+
+    /// What an operator gives of a value that was found before and of the expression behind it.
+    #[cycle(value)]
+    fn binary_value(&mut self, op: BinaryOp, left: &Value, right: &Expr) -> Result<Value, Stop>
+        requires held { IsHeld (session_of self.old) left.now }
+        requires room { (session_of self.old).next + tokens_of (expr_of right.now) + 1 < 2 ^ 64 }
+        ensures { Evaluates value_of result self.old
+            (parts.binary_value (binary_op op) (value_of left.now) (expr_of right.now))
+            self.new }
+    {
+        self.session.soundness();
+        let right = self.value(right)?;
+        self.operate(op, left, &right)
+    }
+
+    /// What an operator gives of two values.
+    fn operate(&mut self, op: BinaryOp, left: &Value, right: &Value) -> Result<Value, Stop>
+        requires left { IsHeld (session_of self.old) left.now }
+        requires right { IsHeld (session_of self.old) right.now }
+        requires room { (session_of self.old).next + 1 < 2 ^ 64 }
+        ensures { Evaluates value_of result self.old
+            (parts.operate (binary_op op) (value_of left.now) (value_of right.now)) self.new }
+    {
+        mark_operand(self.session, left)?;
+        mark_operand(self.session, right)?;
+        let left = operand_in(self.session, left);
+        let right = operand_in(self.session, right);
+        let made = apply_binary(op, &left, &right)?;
+        self.give(made)
+    }
+
+    /// What an operator of one number gives of an expression's value.
+    #[cycle(value)]
+    fn single_value(&mut self, op: Single, operand: &Expr) -> Result<Value, Stop>
+        requires { (session_of self.old).next + tokens_of (expr_of operand.now) + 1 < 2 ^ 64 }
+        ensures { Evaluates value_of result self.old
+            (parts.single_value (single_of op) (expr_of operand.now)) self.new }
     {
         self.session.soundness();
         let operand = self.value(operand)?;
         mark_operand(self.session, &operand)?;
-        let made = negate(&operand_in(self.session, &operand))?;
+        let made = apply_single(op, &operand_in(self.session, &operand))?;
         self.give(made)
     }
 
@@ -114,6 +154,7 @@ impl Evaluator<'_> {
                 let end = self.value(end)?;
                 self.give(make_arange(&end)?)
             }
+            Call::PythonAbs(operand) => self.single_value(Single::Absolute, operand),
             Call::Load(name) | Call::Buffer(name) => self.input_value(name.as_str()),
             _ => Err(unbuilt_form()),
         }

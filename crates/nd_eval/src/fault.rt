@@ -16,6 +16,8 @@ pub enum IndexFault {
 /// Why numbers are not written, or have no result.
 #[derive(Clone, Copy)]
 pub enum UfuncFault {
+    /// The result is no integer.
+    FloatResult,
     /// A Python integer that the array's kind of number has not.
     IntOutOfRange(i128),
     /// The shapes do not broadcast (NumPy user guide, "Broadcasting").
@@ -33,6 +35,10 @@ pub enum StmtError {
     NoName(String),
     /// A Python integer below -2^63 or above 2^64 - 1.
     IntTooBig,
+    /// A Python integer is divided by zero.
+    ZeroDivide,
+    /// A Python integer is shifted by a number below zero.
+    NegativeShift,
     /// What is indexed is no array.
     NotAnArray,
     /// The text of a cell would have more than 2^20 bytes.

@@ -14,6 +14,7 @@ mod operand;
 mod operation;
 mod operators;
 mod printing;
+mod python;
 mod stop;
 mod writing;
 

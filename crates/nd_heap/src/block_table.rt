@@ -1,18 +1,18 @@
 // Blocks in layers, so that a change copies few of them.
 
-ghost use Rattle.std.specs.Prelude.{◌≡◌, [], IfOk, OnErr, OnOk, if◌then◌else◌};
+ghost use Rattle.std.specs.Prelude.{◌≡◌, [], IfOk, IsTrue, OnErr, OnOk, if◌then◌else◌, true};
 ghost use Rattle.nd_model.specs.Running as running;
 ghost use Rattle.nd_model.specs.Value as values;
 ghost use Rattle.nd_heap.specs.Contents.{bases_of, blocks_of, bytes_in};
 ghost use Rattle.nd_heap.specs.Live.{bytes_at, is_base_among};
-ghost use Rattle.nd_heap.specs.Values.{base_of};
+ghost use Rattle.nd_heap.specs.Values.{base_of, value_of};
 
 use crate::blocks::{
     Bases, Blocks, bytes_of, remove_blocks, remove_shared, share_block, stack, write, write_block,
 };
 use crate::memory::OutOfMemory;
 use crate::name_table::MANY;
-use crate::value::Base;
+use crate::value::{Base, Value};
 use crate::writer::BlockWriter;
 use indexmap::IndexMap;
 use nd_block::RawBlock;
@@ -73,6 +73,17 @@ impl BlockTable {
         match self.newer.get(&base) {
             Some(block) => block.as_ref().as_slice(),
             None => bytes_of(self.shared.as_ref(), base),
+        }
+    }
+
+    /// Whether the base that the value lies in, if it lies in one, has the same bytes among others.
+    pub(crate) fn has_same_bytes(&self, others: &BlockTable, value: &Value) -> bool
+        ensures { IsTrue result → (b : values.Base) → values.lies_in b (value_of value.now) ≡ true
+            → bytes_at self.now b ≡ bytes_at others.now b }
+    {
+        match value {
+            Value::Number(_) => true,
+            Value::Array(array) => self.bytes(array.base) == others.bytes(array.base),
         }
     }
 

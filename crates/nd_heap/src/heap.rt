@@ -1,6 +1,6 @@
 // Names with their values, and the blocks that they lie in.
 
-ghost use Rattle.std.specs.Prelude.{◌≡◌, ◌↔◌, ◌||◌, [], IfOk, IsFalse, OnErr, OnOk, false, if◌then◌else◌, length, option_map, slice_get};
+ghost use Rattle.std.specs.Prelude.{◌≡◌, ◌↔◌, ◌<◌, ◌||◌, [], IfOk, IsFalse, IsTrue, OnErr, OnOk, false, if◌then◌else◌, length, option_map, slice_get, true};
 ghost use Rattle.std.specs.Rc.{rc_str_bytes};
 ghost use Rattle.nd_model.specs.Value as values;
 ghost use Rattle.nd_model.specs.Session as model;
@@ -64,6 +64,27 @@ fn loosen(loose: &mut Bases, names: &NameTable, name: &str) -> Result<(), OutOfM
         note_base(loose, value.as_ref())?;
     }
     Ok(())
+}
+
+/// Whether each base that one of the names holds has the same bytes among others. Where one has not, `first` is the place of a
+/// name that holds it from then on.
+fn have_same_bytes(
+    names: &NameTable,
+    blocks: &BlockTable,
+    others: &BlockTable,
+    first: &mut usize,
+) -> bool
+    ensures { IsTrue result → (b : values.Base) → model.is_held b names.now ≡ true
+        → bytes_at blocks.now b ≡ bytes_at others.now b }
+{
+    for i in 0..names.len() {
+        let (_, value) = names.entry(i);
+        if !blocks.has_same_bytes(others, value.as_ref()) {
+            *first = i;
+            return false;
+        }
+    }
+    true
 }
 
 impl Heap {
@@ -175,6 +196,36 @@ impl Heap {
             return &[];
         }
         self.blocks.bytes(base)
+    }
+
+    /// Whether the names at a place are the same, with the same value, and the same bytes where it lies in a base.
+    fn is_same_at(&self, other: &Heap, place: usize) -> bool
+        requires here { place < length self.now.names }
+        requires there { place < length other.now.names }
+        ensures { IsTrue result
+            → slice_get self.now.names place ≡ slice_get other.now.names place }
+    {
+        let (_, value) = self.names.entry(place);
+        self.names.is_same_at(&other.names, place)
+            && self.blocks.has_same_bytes(&other.blocks, value.as_ref())
+    }
+
+    /// Whether names are the same in the same order, with the same values, and the same bytes in each base that they hold. The two
+    /// are compared at `first` before all else, and it becomes a place at which they differ, so that asking again where they still
+    /// do takes one comparison. It takes no memory.
+    pub fn is_same(&self, other: &Heap, first: &mut usize) -> bool
+        ensures names { IsTrue result → self.now.names ≡ other.now.names }
+        ensures bytes { IsTrue result → (b : values.Base) → model.is_held b self.now.names ≡ true
+            → bytes_at self.now.blocks b ≡ bytes_at other.now.blocks b }
+    {
+        if self.count() != other.count() {
+            return false;
+        }
+        if *first < self.count() && !self.is_same_at(other, *first) {
+            return false;
+        }
+        self.names.is_same(&other.names, first)
+            && have_same_bytes(&self.names, &self.blocks, &other.blocks, first)
     }
 
     /// Whether some bound value lies in a base of the label.

@@ -194,9 +194,8 @@ mutual
   at_expr (syntax.Name n) = omega arith
   at_expr (syntax.Integer n) = omega arith
   at_expr (syntax.Truth t) = omega arith
-  at_expr (syntax.Unary syntax.Negative e) = omega (arith, at_expr e)
-  at_expr (syntax.Unary syntax.Invert e) = omega arith
-  at_expr (syntax.Binary op a b) = omega arith
+  at_expr (syntax.Unary op e) = omega (arith, at_expr e)
+  at_expr (syntax.Binary op a b) = omega (arith, at_expr a, at_expr b)
   at_expr (syntax.Called c) = at_call c
   at_expr (syntax.Item t x) = omega (arith, at_expr t, at_index x)
   at_expr (syntax.Attribute t m) = omega (arith, at_expr t)
@@ -214,7 +213,7 @@ mutual
   at_call (syntax.Minimum a b) = omega arith
   at_call (syntax.Maximum a b) = omega arith
   at_call (syntax.Absolute e) = omega arith
-  at_call (syntax.PythonAbs e) = omega arith
+  at_call (syntax.PythonAbs e) = omega (arith, at_expr e)
   at_call (syntax.Folded u f) = omega arith
   at_call (syntax.Load n) = omega arith
   at_call (syntax.Buffer n) = omega arith

@@ -42,3 +42,5 @@ pub mod Noted
 pub mod Storing
 mod Rows
 pub mod Overlaying
+pub mod Dividing
+pub mod Adding

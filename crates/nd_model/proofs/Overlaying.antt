@@ -1,44 +1,17 @@
 -- One run of a cell in the place of another, behind cells that meet neither.
-use Rattle.std.proofs.Common.{◌≡◌, ℕ, zero, suc, ◌+◌, ◌<◌, ◌≤◌, IsTrue, Bool, true, false, cond, ◌||◌, eqb, List, [], ◌∷◌, length, get_or, Option, Some, None, is_some, refl, sym, ap, ap₂, subst, ◌∙◌, inl, inr, arith, eqb-true, ne_eqb}
+use Rattle.std.proofs.Common.{◌≡◌, ℕ, zero, suc, ◌+◌, ◌<◌, IsTrue, Bool, true, false, cond, ◌||◌, eqb, List, [], ◌∷◌, length, get_or, Some, None, is_some, refl, sym, ap, ap₂, subst, ◌∙◌, inl, inr, arith, eqb-true, ne_eqb}
 use mathlib.Core.Path.{fun_ext}
 use Rattle.std.specs.Prelude.{bytes_eq, ⊤}
-use Rattle.std.proofs.lemmas.Bool.{cases_Bool, cases_lt, or_left, or_right, or_cases, or_parts, or_from, eqb-false}
+use Rattle.std.proofs.lemmas.Bool.{cases_Bool, or_left, or_right, or_cases, or_parts, or_from, eqb-false}
 use Rattle.nd_model.specs.Value.{Base, Value, Truth, lies_in}
-use Rattle.nd_model.specs.Session.{Names, lookup, bind, unbind, is_held, Session, no_session, held_bytes}
+use Rattle.nd_model.specs.Session.{Names, lookup, bind, unbind, is_held, Session, held_bytes}
 use Rattle.nd_model.specs.Running.{Event, Binds, Unbinds, Name, Input, Length, Byte, Key, Inputs, is_event_of, is_touched}
 use Rattle.nd_model.specs.Reading.{reading}
-use Rattle.nd_model.specs.Cell.{session_after}
 use Rattle.nd_model.specs.Sound.{IsSoundSession}
-use Rattle.nd_model.specs.Footprint.{Found, Bound, Number, found, HasNone, Effects, patched, replayed, with_effects}
+use Rattle.nd_model.specs.Footprint.{Bound, Number, found, patched, replayed}
 use Rattle.nd_model.specs.Records.{Record, StillHolds}
-use Rattle.nd_model.specs.Renaming.{AreDistinct}
-use Rattle.nd_model.specs.Book.{Book, labels_of}
-use Rattle.nd_model.specs.Entries.{Entry, ended, record_at, entry_at, entries, after_cells, entries_of, session_before}
-use Rattle.nd_model.specs.Overlay.{
-  IsOwn,
-  IsForeign,
-  BindsOwn,
-  BindSame,
-  WritesNothing,
-  IsOverlay,
-  Replaces,
-  BindsOthers,
-  IsApart,
-  Misses,
-  StandApart,
-  AreBound,
-  IsUnder,
-  did,
-  IsOnce,
-  NamesStandOnce,
-  OverlayBegins,
-  OverlayHolds,
-  OverlayStays,
-  blanks,
-  blanked,
-  OverlayBlanks,
-  SessionsAreSound,
-}
+use Rattle.nd_model.specs.Entries.{Entry, record_at, entry_at, session_before}
+use Rattle.nd_model.specs.Overlay.{IsOwn, IsForeign, BindsOwn, BindSame, WritesNothing, IsOverlay, BindsOthers, IsApart, Misses, StandApart, AreBound, IsUnder, did, IsOnce, NamesStandOnce, OverlayBegins, OverlayHolds, OverlayStays, blanks, blanked, OverlayBlanks, SessionsAreSound}
 use Rattle.nd_model.proofs.Lists.{same_bytes, bytes_eq_same, bytes_eq_self, not_both, lookup-bind, lookup-unbind}
 use Rattle.nd_model.proofs.CutOff.{does, patched_none}
 use Rattle.nd_model.proofs.Entries.{fresh_at, session_before-next}
@@ -96,7 +69,7 @@ swap_unbind n m v (e ∷ ns) other = elim (cases_Bool (bytes_eq n e.0)) [
 
 -- ---- events, and a name that they do not touch
 
-untouched_lookup : (n : List ℕ) (es : List Event) (ns : Names) → is_touched n es ≡ false → lookup n (replayed es ns) ≡ lookup n ns
+pub untouched_lookup : (n : List ℕ) (es : List Event) (ns : Names) → is_touched n es ≡ false → lookup n (replayed es ns) ≡ lookup n ns
 untouched_lookup n [] ns h = refl
 untouched_lookup n (Binds m v ∷ es) ns h = let parts : (bytes_eq n m ≡ false) × (is_touched n es ≡ false) = or_parts _ _ h in
     untouched_lookup n es (bind m v ns) parts.1 ∙ lookup-bind n m v ns ∙ rw parts.0 refl
@@ -128,7 +101,7 @@ absorbed (Unbinds n ∷ ds) (e ∷ es) ns h = absurd h
 
 -- ---- values of the label, and others
 
-own_false : (label : ℕ) (v : Value) (b : Base) → IsOwn label v → ¬ (b.label ≡ label) → lies_in b v ≡ false
+pub own_false : (label : ℕ) (v : Value) (b : Base) → IsOwn label v → ¬ (b.label ≡ label) → lies_in b v ≡ false
 own_false label v b own other = elim (cases_Bool (lies_in b v)) [ inl lies ↦ absurd (other (own b lies)) | inr not ↦ not ]
 
 foreign_false : (label : ℕ) (v : Value) (b : Base) → IsForeign label v → b.label ≡ label → lies_in b v ≡ false
@@ -275,7 +248,7 @@ once-unbind n (e ∷ ns) h = elim (cases_Bool (bytes_eq n e.0)) [
   | inr other ↦ rw other (lookup-unbind e.0 n ns ∙ rw (apart_sym n e.0 other) h.0, once-unbind n ns h.1)
 ]
 
-once_replayed : (es : List Event) (ns : Names) → IsOnce ns → IsOnce (replayed es ns)
+pub once_replayed : (es : List Event) (ns : Names) → IsOnce ns → IsOnce (replayed es ns)
 once_replayed [] ns h = h
 once_replayed (Binds n v ∷ es) ns h = once_replayed es (bind n v ns) (once-bind n v ns h)
 once_replayed (Unbinds n ∷ es) ns h = once_replayed es (unbind n ns) (once-unbind n ns h)
@@ -372,7 +345,7 @@ at_false : (t : Bool) (x y : List ℕ) → t ≡ false → cond t x y ≡ y
 at_false t x y e = rw e refl
 
 -- the bytes of a base that no byte is written of
-held_did : (r : Record) (s : Session) (b : Base) → ¬ (b.label ≡ r.label) → WritesNothing r.effects → is_held b (replayed r.effects.events s.names) ≡ is_held b s.names → held_bytes (did r s) b ≡ held_bytes s b
+pub held_did : (r : Record) (s : Session) (b : Base) → ¬ (b.label ≡ r.label) → WritesNothing r.effects → is_held b (replayed r.effects.events s.names) ≡ is_held b s.names → held_bytes (did r s) b ≡ held_bytes s b
 held_did r s b other nothing same = elim (cases_Bool (is_held b s.names)) [
   | inl held ↦ rw (same ∙ held) (rw (ne_eqb b.label r.label other) (patched_none (r.effects.writes b) (held_bytes s b) (nothing b)))
   | inr not ↦ rw (same ∙ not) (rw not refl)

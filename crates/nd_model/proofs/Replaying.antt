@@ -10,14 +10,14 @@ use Rattle.nd_model.specs.Syntax.{Stmt, Line, Parsed}
 use Rattle.nd_model.specs.Evaluation.{Eval, Gives, Refuses, Asks, run}
 use Rattle.nd_model.specs.Meaning.{meaning, work}
 use Rattle.nd_model.specs.Cell.{Saved, Ended, had, statement, most_text, with_save, and_then, statements, ran, cell}
-use Rattle.nd_model.specs.Footprint.{HasNone, effects_of, replayed, with_effects}
+use Rattle.nd_model.specs.Footprint.{effects_of, replayed, with_effects}
 use Rattle.nd_model.specs.Sound.{LiesIn, IsViewOf, AreViewsOf, IsHeldView, IsSound, IsSoundSession, ReplaysSound}
 use Rattle.nd_model.specs.Overlay.{OverlaySound}
 use Rattle.nd_model.proofs.Lists.{not_both}
 use Rattle.nd_model.proofs.Frames.{either_end}
 use Rattle.nd_model.proofs.Growing.{Grows, grows_run}
 use Rattle.nd_model.proofs.Tracks.{tracks_cell, replay}
-use Rattle.nd_model.proofs.Soundness.{E, IfGiven, views_map, safe_work, given_run, bind_views, unbind_views, held_map, statement_sound, start_sound, stays_sound}
+use Rattle.nd_model.proofs.Soundness.{E, IfGiven, views_map, safe_work, given_run, bind_views, unbind_views, statement_sound, start_sound, stays_sound}
 
 -- ---- the values that a cell binds
 

@@ -13,6 +13,7 @@ pub data IndexFault : Type 0 where
   NotAnIndex : IndexFault
 
 pub data UfuncFault : Type 0 where
+  FloatResult : UfuncFault
   IntOutOfRange : ℤ → UfuncFault
   ShapeMismatch : UfuncFault
   ReadOnly : UfuncFault
@@ -21,6 +22,8 @@ pub data UfuncFault : Type 0 where
 pub data StmtFault : Type 0 where
   NoName : List ℕ → StmtFault
   IntTooBig : StmtFault
+  ZeroDivide : StmtFault
+  NegativeShift : StmtFault
   NotAnArray : StmtFault
   TextTooLong : StmtFault
   BadArgument : StmtFault

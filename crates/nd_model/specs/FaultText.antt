@@ -1,7 +1,7 @@
 -- The texts of refusals, as a script is answered.
 use Rattle.std.specs.Prelude.{ℕ, List, ◌++◌, codes, decimal}
 use Rattle.std.specs.Fmt.{signed_decimal}
-use Rattle.nd_model.specs.Fault.{ViewFault, OutOfBlock, TooManyAxes, TooManyElements, AxesDiffer, IndexFault, OutOfBounds, TooManyIndices, NotAnIndex, UfuncFault, IntOutOfRange, ShapeMismatch, ReadOnly, NotNumbers, StmtFault, NoName, IntTooBig, NotAnArray, TextTooLong, BadArgument, Fault, View, Index, Ufunc, Stmt, ParseKind, BadToken, Unexpected, TooDeep, TooManyStatements, UnknownCall, LeftOut, Refusal, Parse, Statement}
+use Rattle.nd_model.specs.Fault.{ViewFault, OutOfBlock, TooManyAxes, TooManyElements, AxesDiffer, IndexFault, OutOfBounds, TooManyIndices, NotAnIndex, UfuncFault, FloatResult, IntOutOfRange, ShapeMismatch, ReadOnly, NotNumbers, StmtFault, NoName, IntTooBig, ZeroDivide, NegativeShift, NotAnArray, TextTooLong, BadArgument, Fault, View, Index, Ufunc, Stmt, ParseKind, BadToken, Unexpected, TooDeep, TooManyStatements, UnknownCall, LeftOut, Refusal, Parse, Statement}
 use Rattle.nd_model.specs.Book as book
 use Rattle.nd_model.specs.Book.{EditFault, TooManyCells, CellTooLong, BadInputName, InputTooLarge, NoInputNamed, QueryFault}
 
@@ -17,6 +17,7 @@ index_text TooManyIndices = codes "TooManyIndices"
 index_text NotAnIndex = codes "NotAnIndex"
 
 abbrev pub ufunc_text : UfuncFault → List ℕ
+ufunc_text FloatResult = codes "FloatResult"
 ufunc_text (IntOutOfRange number) = codes "IntOutOfRange " ++ signed_decimal number
 ufunc_text ShapeMismatch = codes "ShapeMismatch"
 ufunc_text ReadOnly = codes "ReadOnly"
@@ -25,6 +26,8 @@ ufunc_text NotNumbers = codes "NotNumbers"
 abbrev pub stmt_text : StmtFault → List ℕ
 stmt_text (NoName name) = codes "NoName " ++ name
 stmt_text IntTooBig = codes "IntTooBig"
+stmt_text ZeroDivide = codes "ZeroDivide"
+stmt_text NegativeShift = codes "NegativeShift"
 stmt_text NotAnArray = codes "NotAnArray"
 stmt_text TextTooLong = codes "TextTooLong"
 stmt_text BadArgument = codes "BadArgument"

@@ -57,3 +57,4 @@ pub mod CutOff
 pub mod Notebook
 pub mod ScriptRuns
 pub mod Overlay
+pub mod Beside

@@ -4,11 +4,12 @@ use Rattle.nd_model.specs.Value.{Value}
 use Rattle.nd_model.specs.Running.{Source, Effect}
 use Rattle.nd_model.specs.Fault.{Fault, BadArgument}
 use Rattle.nd_model.specs.Fault as fault
-use Rattle.nd_model.specs.Syntax.{Expr, Name, Integer, Unary, Negative, Called, Arange, Load, Buffer, Omitted, Item, Attribute, Index, Items, AndItem, NoItem, At, Stmt, Import, Bind, Assign, Delete, Print}
+use Rattle.nd_model.specs.Syntax.{Expr, Name, Integer, Unary, Binary, Called, PythonAbs, Arange, Load, Buffer, Omitted, Item, Attribute, Index, Items, AndItem, NoItem, At, Stmt, Import, Bind, Assign, Delete, Print}
+use Rattle.nd_model.specs.Syntax as syntax
 use Rattle.nd_model.specs.Refusing as refusing
 use Rattle.nd_model.specs.Evaluation.{Eval}
-use Rattle.nd_model.specs.Operand.{Int, Operand, Whole, ArraysOnly, Unused, Made, ANumber, Deed, NoDeed, BindsFirst, Unbinds, Writes}
-use Rattle.nd_model.specs.Operators.{negative}
+use Rattle.nd_model.specs.Operand.{Int, Truth, Operand, Whole, ArraysOnly, Unused, Made, ANumber, Deed, NoDeed, BindsFirst, Unbinds, Writes}
+use Rattle.nd_model.specs.Operators.{Absolute, Of, binary, single}
 use Rattle.nd_model.specs.Creation.{arange}
 use Rattle.nd_model.specs.Writing.{assignment_writes}
 use Rattle.nd_model.specs.Viewing.{Indexed}
@@ -19,6 +20,11 @@ use Rattle.nd_model.specs.Operation.{Computes, Views, Plan, Named, FromInput, Do
 abbrev pub one : (Operand → Result Made Fault) → List Operand → Result Made Fault
 one f (x ∷ []) = f x
 one f _ = Err (fault.Stmt BadArgument)
+
+-- and of two
+abbrev pub two : (Operand → Operand → Result Made Fault) → List Operand → Result Made Fault
+two f (x ∷ y ∷ []) = f x y
+two f _ = Err (fault.Stmt BadArgument)
 
 -- a form that is not built yet
 abbrev pub unbuilt_form : {A : Type 0} → List Operand → Result A Fault
@@ -34,7 +40,10 @@ abbrev mutual
   pub plan : Expr → Plan
   plan (Name n) = Named n
   plan (Integer n) = Does (Computes (λ os. Ok (ANumber (Int (pos n))))) Done
-  plan (Unary Negative e) = Does (Computes (one negative)) (And Whole (plan e) Done)
+  plan (syntax.Truth t) = Does (Computes (λ os. Ok (ANumber (Truth t)))) Done
+  plan (Unary op e) = Does (Computes (one (single (Of op)))) (And Whole (plan e) Done)
+  plan (Binary op a b) = Does (Computes (two (binary op))) (And Whole (plan a) (And Whole (plan b) Done))
+  plan (Called (PythonAbs e)) = Does (Computes (one (single Absolute))) (And Whole (plan e) Done)
   plan (Called (Arange Omitted e Omitted None)) = Does (Computes (one arange)) (And Unused (plan e) Done)
   plan (Called (Load n)) = FromInput n unbuilt_input
   plan (Called (Buffer n)) = FromInput n unbuilt_input

@@ -1,5 +1,5 @@
 -- One run of a cell in the place of another, behind cells that meet neither: a session in which the cell ran before becomes the one in which it ran now by what it did now.
-use Rattle.std.specs.Prelude.{◌≡◌, ℕ, ◌≤◌, false, true, IsTrue, is_some, List, [], ◌∷◌, length, ⊤, Option, None, unwrap_or}
+use Rattle.std.specs.Prelude.{◌≡◌, ℕ, ◌≤◌, false, true, IsTrue, is_some, List, [], ◌∷◌, length, ⊤, None}
 use Rattle.nd_model.specs.Value.{Base, Value, Truth, lies_in}
 use Rattle.nd_model.specs.Session.{Names, lookup, Session}
 use Rattle.nd_model.specs.Running.{Event, Binds, Unbinds, Name, Length, Byte, Inputs, is_touched, start}

@@ -2,6 +2,7 @@
 #![tactic(auto)]
 
 ghost use Rattle.nd_model.specs.Bases.{FewBases};
+ghost use Rattle.nd_model.specs.Beside.{BesideBegins, BesideHolds, BesideStays};
 ghost use Rattle.nd_model.specs.Book.{LabelsStayDistinct, AnyLabels as AnyBookLabels};
 ghost use Rattle.nd_model.specs.CutOff.{CutOff, CutOffReads, MeetsAfter, QuietLeaves};
 ghost use Rattle.nd_model.specs.Element.{BytesRoundTrip, OneWrap, RoundTrip};
@@ -18,6 +19,7 @@ ghost use Rattle.nd_model.specs.Overlay.{
   OverlayStays,
   SessionsAreSound,
 };
+ghost use Rattle.nd_model.specs.Operators.{FloorDivision};
 ghost use Rattle.nd_model.specs.Promotion.{PromotionTable};
 ghost use Rattle.nd_model.specs.Records.{Kept};
 ghost use Rattle.nd_model.specs.Renaming.{Rename, AnyLabels};
@@ -42,6 +44,11 @@ pub fn bytes_round_trip()
 /// What a number wraps to is the one number of the kind that is equal to it modulo 2 to the power of the width.
 pub fn one_wrap()
     ensures { OneWrap }
+{}
+
+/// A quotient that is rounded down and its remainder give the number again, and the remainder lies between zero and the divisor.
+pub fn floor_division()
+    ensures { FloorDivision }
 {}
 
 /// The rule of promotion gives the table of NEP 50, for each two of the nine kinds.
@@ -213,4 +220,19 @@ pub fn sessions_are_sound()
 /// A cell may go on in a session in which it ran, where that is sound.
 pub fn overlay_sound()
     ensures { OverlaySound }
+{}
+
+/// A cell that does nothing but bind new names to values of its own leaves a session beside the one without it.
+pub fn beside_begins()
+    ensures { BesideBegins }
+{}
+
+/// What misses a run holds beside it as well.
+pub fn beside_holds()
+    ensures { BesideHolds }
+{}
+
+/// Two sessions that stand beside one another do so behind what does the same to both.
+pub fn beside_stays()
+    ensures { BesideStays }
 {}

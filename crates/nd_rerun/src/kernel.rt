@@ -9,7 +9,7 @@ ghost use Rattle.nd_cell.specs.Records.{recorded};
 
 use nd_cell::{Meter, Record, run_cell};
 use nd_schedule::Cells;
-use nd_session::{Inputs, OutOfMemory, Session, Version};
+use nd_session::{Inputs, OutOfMemory, Readings, Session, Version};
 use std::alloc::{AllocError, Global};
 
 /// Cells that are run over sessions of shared blocks. Two sessions are the same where they are once blocks that no bound value lies
@@ -26,6 +26,8 @@ impl Cells for Kernel {
 
     type Inputs = Inputs;
 
+    type Readings = Readings;
+
     ghost session_of = { λ s. collected (running.session_of (live s)) };
 
     ghost kept_session = { λ v. collected (version_of v) };
@@ -33,6 +35,8 @@ impl Cells for Kernel {
     ghost recorded = { λ r. recorded r };
 
     ghost given = { λ i. given_of i.entries };
+
+    ghost readings_of = { λ r. r };
 
     fn empty(alloc: Global) -> Result<Session, AllocError> {
         match Session::new(alloc) {
@@ -93,6 +97,29 @@ impl Cells for Kernel {
         made.is_apart(over)
     }
 
+    fn no_readings(alloc: Global) -> Readings {
+        Readings::new(alloc)
+    }
+
+    fn note(made: &Record, readings: &mut Readings) -> Result<(), AllocError> {
+        match made.note(readings) {
+            Ok(()) => Ok(()),
+            Err(OutOfMemory) => Err(AllocError),
+        }
+    }
+
+    fn are_unread(over: &Record, readings: &Readings) -> bool {
+        over.are_unread(readings)
+    }
+
+    fn is_overlay(made: &Record) -> bool {
+        made.is_overlay()
+    }
+
+    fn has_no_name(made: &Record, before: &Version) -> bool {
+        made.has_no_name(before)
+    }
+
     fn overlay(over: &Record, session: &mut Session) -> Result<(), AllocError> {
         match over.overlay(session) {
             Ok(()) => Ok(()),
@@ -107,8 +134,8 @@ impl Cells for Kernel {
         }
     }
 
-    fn is_at(_session: &Session, _version: &Version) -> bool {
-        false
+    fn is_at(session: &Session, version: &Version, first: &mut usize) -> bool {
+        session.is_at(version, first)
     }
 
     fn has_name(version: &Version, name: &str) -> bool {

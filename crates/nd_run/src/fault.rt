@@ -122,6 +122,7 @@ fn push_ufunc_fault(out: &mut Vec<u8>, fault: UfuncFault) -> Result<(), AllocErr
         (ufunc_fault_of fault)) }
 {
     match fault {
+        UfuncFault::FloatResult => push_text(out, "FloatResult"),
         UfuncFault::IntOutOfRange(number) => {
             push_text(out, "IntOutOfRange ")?;
             push_integer(out, number)
@@ -142,6 +143,8 @@ fn push_statement_error(out: &mut Vec<u8>, error: &StmtError) -> Result<(), Allo
             push_text(out, name.as_str())
         }
         StmtError::IntTooBig => push_text(out, "IntTooBig"),
+        StmtError::ZeroDivide => push_text(out, "ZeroDivide"),
+        StmtError::NegativeShift => push_text(out, "NegativeShift"),
         StmtError::NotAnArray => push_text(out, "NotAnArray"),
         StmtError::TextTooLong => push_text(out, "TextTooLong"),
         StmtError::BadArgument => push_text(out, "BadArgument"),

@@ -6,3 +6,7 @@ pub mod Over
 pub mod Cut
 pub mod Edits
 pub mod Free
+mod Added
+mod Known
+mod Again
+mod First

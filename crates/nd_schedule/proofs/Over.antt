@@ -1,9 +1,9 @@
 -- What one cell does now, put over what was kept of the run before the edit.
-use Rattle.std.proofs.Common.{◌≡◌, ℕ, zero, suc, ◌+◌, ◌-◌, ◌<◌, ◌≤◌, IsTrue, IsFalse, Bool, true, false, eqb, ◌||◌, List, [], ◌∷◌, length, drop, get_or, Option, Some, IfSome, option_map, refl, sym, ap, ap₂, subst, ◌∙◌, arith, eq-eqb}
+use Rattle.std.proofs.Common.{◌≡◌, ℕ, zero, suc, ◌+◌, ◌-◌, ◌<◌, ◌≤◌, IsTrue, true, List, [], ◌∷◌, length, get_or, Some, refl, sym, ap, subst, ◌∙◌, arith, eq-eqb}
 use Rattle.std.proofs.lemmas.Bool.{or_left, or_right}
 use Rattle.std.proofs.lemmas.List.{get_or-drop}
 use Rattle.nd_model.specs.Session.{Session, is_in}
-use Rattle.nd_model.specs.Running.{Key, Name, Input, Length, Byte, Inputs}
+use Rattle.nd_model.specs.Running.{Key, Name, Input, Length, Byte}
 use Rattle.nd_model.specs.Reading.{reading}
 use Rattle.nd_model.specs.Footprint.{Given, found, HasNone}
 use Rattle.nd_model.specs.Records.{Record, StillHolds, record_of}
@@ -11,7 +11,7 @@ use Rattle.nd_model.specs.Renaming.{AreDistinct}
 use Rattle.nd_model.specs.Book.{Cell, Book, labels_of, no_cell}
 use Rattle.nd_model.specs.Entries.{entry_at, record_at, session_before, SharesFront}
 use Rattle.nd_model.specs.CutOff.{SameOnSession, UnreadRest}
-use Rattle.nd_model.specs.Overlay.{did, IsApart, IsOnce, IsOverlay, IsUnder, Misses, Replaces}
+use Rattle.nd_model.specs.Overlay.{did, IsApart, IsUnder, Misses, Replaces}
 use Rattle.nd_model.specs.Sound.{IsSoundSession}
 use Rattle.nd_model.proofs.Lists.{not_both}
 use Rattle.nd_model.proofs.CutOff.{does, same_effects}
@@ -29,7 +29,7 @@ label_among (c ∷ cs) zero lt = or_left _ _ (eq-eqb c.label c.label refl)
 label_among (c ∷ cs) (suc k) lt = or_right _ _ (label_among cs k (omega arith))
 
 -- two cells have two labels
-labels_apart : (cs : List Cell) (j k : ℕ) → AreDistinct (labels_of cs) → j < k → k < length cs → (get_or cs k no_cell).label ≡ (get_or cs j no_cell).label → ⊥
+pub labels_apart : (cs : List Cell) (j k : ℕ) → AreDistinct (labels_of cs) → j < k → k < length cs → (get_or cs k no_cell).label ≡ (get_or cs j no_cell).label → ⊥
 labels_apart [] j k d order lt e = absurd (omega arith)
 labels_apart (c ∷ cs) j zero d order lt e = absurd (omega arith)
 labels_apart (c ∷ cs) zero (suc k) d order lt e = not_both _ d.0 (ap (λ n. is_in n (labels_of cs)) (sym e) ∙ label_among cs k (omega arith))

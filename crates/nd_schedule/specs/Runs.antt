@@ -1,6 +1,7 @@
 -- What is kept of the runs of a notebook.
-use Rattle.std.specs.Prelude.{◌≡◌, ℕ, ◌+◌, ◌<◌, ◌≤◌, ◌⊎◌, List, ◌++◌, length, map, take, slice_index_or, Option, None, IfSome, MatchOption}
-use Rattle.std.specs.List.{splice}
+use Rattle.std.specs.Prelude.{◌≡◌, ℕ, ◌+◌, ◌<◌, ◌≤◌, ◌⊎◌, Bool, IsFalse, IsTrue, List, ◌++◌, length, map, take, slice_index_or, Option, None, IfSome, MatchOption}
+use Rattle.std.specs.List.{All, splice}
+use Rattle.nd_model.specs.Beside.{IsNoted, Readings}
 use Rattle.nd_model.specs.Session.{Session}
 use Rattle.nd_model.specs.Records.{Record}
 use Rattle.nd_model.specs.Renaming.{AreDistinct}
@@ -8,7 +9,7 @@ use Rattle.nd_model.specs.Book.{Book, Cell, labels_of}
 use Rattle.nd_model.specs.Entries.{entry_at, entries_of, record_at, records_of, session_before, SharesFront}
 use Rattle.nd_model.specs.CutOff.{SameOnSession, IsQuiet, SharesBack, UnreadRest}
 use Rattle.nd_model.specs.Notebook.{Sheet, book_of}
-use Rattle.nd_model.specs.Overlay.{IsOnce, IsOverlay, IsUnder, did}
+use Rattle.nd_model.specs.Overlay.{IsOnce, IsOverlay, IsUnder, Misses, did}
 use Rattle.nd_model.specs.Running.{Source}
 use Rattle.nd_model.specs.Sound.{IsSoundSession}
 use Rattle.nd_model.specs.Stale.{AtLeast, IsStale, counted, kept_of}
@@ -18,21 +19,34 @@ use Rattle.nd_schedule.specs.Source.{sheet}
 abbrev pub AreVersions : Book → List (Option Session) → Type 0
 AreVersions b vs = (k : ℕ) → k < length vs → IfSome (slice_index_or vs k None) (λ s. s ≡ session_before b k)
 
--- the record of each cell's run, and the sessions before some of them; labels are distinct
+-- the record of each cell's run, and the sessions before some of the first of them; labels are distinct
 pub record IsRun (b : Book) (rs : List Record) (vs : List (Option Session)) : Type 0 where
   pub records : rs ≡ records_of b
   pub versions : AreVersions b vs
-  pub many : length vs ≡ length b.cells
+  pub many : length vs ≤ length b.cells
   pub distinct : AreDistinct (labels_of b.cells)
 
 -- what is kept is the session behind the last cell
 abbrev pub IsLast : Book → Option Session → Type 0
 IsLast b last = IfSome last (λ s. s ≡ session_before b (length b.cells))
 
+-- what each of the runs read is noted
+abbrev pub AreNoted : Readings → List Record → Type 0
+AreNoted noted rs = All (λ r. IsNoted r noted) rs
+
 -- all that is kept of a run
-pub record IsKept (b : Book) (rs : List Record) (vs : List (Option Session)) (last : Option Session) : Type 0 where
+pub record IsKept (b : Book) (rs : List Record) (vs : List (Option Session)) (last : Option Session) (readings : Readings) : Type 0 where
   pub run : IsRun b rs vs
   pub end : IsLast b last
+  pub noted : AreNoted readings rs
+
+-- where the records of the book are noted, so is this one
+abbrev pub IsOld : Book → Record → Type 0
+IsOld old r = (noted : Readings) → AreNoted noted (records_of old) → IsNoted r noted
+
+-- where the records of the book and the first of these are noted, so are the others
+abbrev pub AreKnown : Book → (fresh rs : List Record) → Type 0
+AreKnown old fresh rs = (noted : Readings) → AreNoted noted (records_of old) → AreNoted noted fresh → AreNoted noted rs
 
 -- With the record of the cell at k, the first that is not as before, the run meets the one before at the place there: this cell does to
 -- the session what the one did that it replaces, or it is new and does nothing to it.
@@ -63,7 +77,7 @@ AreRecords old new at k rs = take at (records_of old) ++ rs ≡ take k (records_
 
 -- behind the versions in front these are versions
 abbrev pub IsFront : (old new : Book) (at : ℕ) → List (Option Session) → Type 0
-IsFront old new at vs = (was : List (Option Session)) → AreVersions old was → length was ≡ length old.cells → AreVersions new (take at was ++ vs)
+IsFront old new at vs = (was : List (Option Session)) → AreVersions old was → at ≤ length was → AreVersions new (take at was ++ vs)
 
 -- of the first cells, no more were run than are stale
 abbrev pub CountsFront : (old new : Book) (k before after : ℕ) → Type 0
@@ -90,11 +104,18 @@ pub record IsLaid (old new : Book) (at k : ℕ) (over : Record) : Type 0 where
   pub under : IsUnder over (session_before old k)
   pub session : session_before new k ≡ did over (session_before old k)
 
--- With these between two places, in the place of what was kept there, what was kept of the one is what is kept of the other.
-abbrev pub IsMiddle : (old new : Book) (at there : ℕ) → List Record → List (Option Session) → Type 0
-IsMiddle old new at there rs vs =
-    (was : List (Option Session)) → AreVersions old was → length was ≡ length old.cells → IsRun new (splice (records_of old) at there rs) (splice was at there vs)
+-- from the one place up to the other no record read what the run bound
+abbrev pub AreMissed : Book → Record → (at k : ℕ) → Type 0
+AreMissed old over at k = (j : ℕ) → at ≤ j → j < k → Misses over (record_at old.inputs (entry_at old j))
 
--- A session that is given is the one behind the last cell. Where none is given, that session is the one that it was.
-abbrev pub IsEnd : (old new : Book) → Option Session → Type 0
-IsEnd old new last = MatchOption last (session_before old (length old.cells) ≡ session_before new (length new.cells)) (λ s. s ≡ session_before new (length new.cells))
+-- With these between two places, in the place of what was kept there, what was kept of the one is what is kept of the other. Where
+-- versions behind are lost, this is so with those in front alone.
+abbrev pub IsMiddle : (old new : Book) (at there : ℕ) (lost : Bool) → List Record → List (Option Session) → Type 0
+IsMiddle old new at there lost rs vs =
+    (was : List (Option Session)) → AreVersions old was → at ≤ length was → length was ≤ length old.cells
+    → (IsTrue lost → length was ≡ at) → IsRun new (splice (records_of old) at there rs) (splice was at there vs)
+
+-- A session that is given is the one behind the last cell. Where none is given, that session is the one that it was, or lost.
+abbrev pub IsEnd : (old new : Book) (lost : Bool) → Option Session → Type 0
+IsEnd old new lost last = MatchOption last (IsFalse lost → session_before old (length old.cells) ≡ session_before new (length new.cells))
+    (λ s. s ≡ session_before new (length new.cells))

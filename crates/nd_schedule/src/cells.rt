@@ -10,6 +10,8 @@ ghost use Rattle.nd_model.specs.Footprint.{HasNone, replayed, with_effects};
 ghost use Rattle.nd_model.specs.Records.{record_of, StillHolds};
 ghost use Rattle.nd_model.specs.Records as records;
 ghost use Rattle.nd_model.specs.CutOff.{SameOnSession, IsQuiet};
+ghost use Rattle.nd_model.specs.Beside.{HasNoName, IsNoted};
+ghost use Rattle.nd_model.specs.Beside as beside;
 ghost use Rattle.nd_model.specs.Overlay.{did, IsApart, IsOnce, IsOverlay, IsUnder, Misses, Replaces};
 ghost use Rattle.nd_model.specs.Sound.{IsSoundSession};
 ghost use Rattle.nd_model.specs.Notebook.{inputs_in};
@@ -27,6 +29,8 @@ pub trait Cells: Drop {
 
     type Inputs: Drop;
 
+    type Readings: Drop;
+
     // what they stand for in the definitions
     ghost session_of: { Self.Session → sessions.Session };
 
@@ -35,6 +39,8 @@ pub trait Cells: Drop {
     ghost recorded: { Self.Record → records.Record };
 
     ghost given: { Self.Inputs → List (List ℕ × running.Source) };
+
+    ghost readings_of: { Self.Readings → beside.Readings };
 
     /// A session with no names.
     fn empty(alloc: Global) -> Result<Self::Session, AllocError>
@@ -117,13 +123,36 @@ pub trait Cells: Drop {
         ensures { OnOk result
             (session_of session.new ≡ did (recorded over.now) (session_of session.old)) };
 
+    /// No readings. It takes no memory.
+    fn no_readings(alloc: Global) -> Self::Readings;
+
+    /// Notes what a run read. After want of memory some of it may be noted.
+    fn note(made: &Self::Record, readings: &mut Self::Readings) -> Result<(), AllocError>
+        ensures noted { OnOk result (IsNoted (recorded made.now) (readings_of readings.new)) }
+        ensures stays { (r : records.Record) → IsNoted r (readings_of readings.old)
+            → IsNoted r (readings_of readings.new) };
+
+    /// Whether a run binds no name and has no base that is noted as read. It may say no where it does not.
+    fn are_unread(over: &Self::Record, readings: &Self::Readings) -> bool
+        ensures { IsTrue result → (r : records.Record) → IsNoted r (readings_of readings.now)
+            → Misses (recorded over.now) r };
+
+    /// Whether a run did nothing but bind names to values of its own. It may say no where it did not.
+    fn is_overlay(made: &Self::Record) -> bool
+        ensures { IsTrue result → IsOverlay (recorded made.now) };
+
+    /// Whether the version binds none of the names that the run binds.
+    fn has_no_name(made: &Self::Record, before: &Self::Version) -> bool
+        ensures { IsTrue result → HasNoName (recorded made.now) (kept_session before.now) };
+
     /// The session as it is now, to be kept.
     fn freeze(session: &mut Self::Session) -> Result<Self::Version, AllocError>
         ensures kept { IfOk result (λ v. kept_session v ≡ session_of session.old) }
         ensures same { session_of session.new ≡ session_of session.old };
 
-    /// Whether the session is the one that was kept. It may say no where it is.
-    fn is_at(session: &Self::Session, version: &Self::Version) -> bool
+    /// Whether the session is the one that was kept. It may say no where it is. The place is where the two are compared first, and
+    /// afterwards where they differed.
+    fn is_at(session: &Self::Session, version: &Self::Version, first: &mut usize) -> bool
         ensures { IsTrue result → session_of session.now ≡ kept_session version.now };
 
     /// Whether a name is bound in the session that was kept.

@@ -1,13 +1,16 @@
 //! The scheduler of a notebook, over what runs cells.
 #![tactic(auto)]
 
+mod beside;
 mod cells;
+mod front;
 mod labels;
 mod notebook;
 mod pass;
 mod shared;
 mod source;
 mod step;
+mod versions;
 
 pub use cells::Cells;
 pub use notebook::Notebook;

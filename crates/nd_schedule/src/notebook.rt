@@ -56,24 +56,27 @@ ghost use Rattle.nd_schedule.specs.Runs.{
 };
 
 use crate::cells::Cells;
+use crate::front::{Front, note_all};
 use crate::labels::fresh_label;
 use crate::pass::{Part, Runs};
 use crate::shared::{make_room, part_of, put_between, records_between};
 use crate::source::Source;
+use crate::versions::{make_versions, put_versions, session_from};
 use nd_meter::Meter;
 use std::alloc::{AllocError, Global};
 use std::marker::Model;
 use std::rc::Rc;
 
-/// A list of cells, the inputs, and what is kept of running all cells in order from nothing: the record of each, beside some the
-/// session before it, and the session behind the last one, if it is there.
+/// A list of cells, the inputs, and what is kept of running all cells in order from nothing: the record of each, beside some of the
+/// first the session before it, the session behind the last one, if it is there, and what the runs read.
 #[derive(Drop)]
 pub struct Notebook<C: Cells> {
     pub(crate) cells: Vec<Rc<Source>>,
     inputs: C::Inputs,
     pub(crate) records: Vec<Rc<C::Record>>,
     pub(crate) versions: Vec<Option<Rc<C::Version>>>,
-    last: Option<Rc<C::Version>>,
+    pub(crate) last: Option<Rc<C::Version>>,
+    pub(crate) readings: C::Readings,
     pub(crate) alloc: Global,
 }
 
@@ -84,7 +87,7 @@ impl<C: Cells> Model for Notebook<C> {
 
     ghost invariant = { λ n. IsKept (book_of (sheet (cells_of n.cells.items) (C.given n.inputs)))
         (each_of C.recorded n.records.items) (each_some C.kept_session n.versions.items)
-        (some_of C.kept_session n.last) };
+        (some_of C.kept_session n.last) (C.readings_of n.readings) };
 }
 
 impl<C: Cells> Notebook<C> {
@@ -98,6 +101,7 @@ impl<C: Cells> Notebook<C> {
             records: Vec::new(alloc),
             versions: Vec::new(alloc),
             last: None,
+            readings: C::no_readings(alloc),
             alloc,
         }
     }
@@ -121,17 +125,7 @@ impl<C: Cells> Notebook<C> {
                 return Ok((at, session));
             }
         }
-        for back in 0..at {
-            let k = at - back;
-            if k < self.versions.len() {
-                if let Some(version) = &self.versions[k] {
-                    let session = C::thaw(self.alloc, version)?;
-                    return Ok((k, session));
-                }
-            }
-        }
-        let session = C::empty(self.alloc)?;
-        Ok((0, session))
+        session_from::<C>(self.alloc, &self.versions, at)
     }
 
     /// The session before the cell at a place, or after the last one: from the last version before it, by the records behind
@@ -163,10 +157,11 @@ impl<C: Cells> Notebook<C> {
             (book_of (sheet (splice self.old.cells part.at part.behind
             (cells_of part.cells.items)) self.old.given)) meter.old meter.new }
     {
+        make_versions::<C>(self.alloc, &self.records, &mut self.versions, part.at)?;
         let Runs {
-            records,
-            versions,
+            front,
             there,
+            is_lost,
             last,
         } = self.pass(meter, &self.inputs, &part)?;
         let Part {
@@ -175,13 +170,28 @@ impl<C: Cells> Notebook<C> {
             cells,
             kept: _kept,
         } = part;
+        let Front {
+            records,
+            versions,
+            fresh,
+            first: _first,
+        } = front;
+        note_all::<C>(&fresh, &mut self.readings)?;
         make_room(&mut self.cells, at, behind, cells.len())?;
         make_room(&mut self.records, at, there, records.len())?;
-        make_room(&mut self.versions, at, there, versions.len())?;
+        let to = there.min(self.versions.len());
+        make_room(&mut self.versions, at, to, versions.len())?;
         put_between(&mut self.cells, at, behind, cells);
         put_between(&mut self.records, at, there, records);
-        put_between(&mut self.versions, at, there, versions);
-        self.last = last.or(self.last.take());
+        put_versions(
+            &mut self.versions,
+            &mut self.last,
+            at,
+            there,
+            is_lost,
+            versions,
+            last,
+        );
         Ok(())
     }
 
@@ -318,20 +328,37 @@ impl<C: Cells> Notebook<C> {
         ensures counts { CountsStale (book_of self.old)
             (book_of (sheet self.old.cells (C.given inputs))) meter.old meter.new }
     {
-        let at = self.first_reader(&inputs);
-        let behind = self.unread_from(&inputs).max(at);
-        let part = self.part(at, behind)?;
+        let from = self.first_reader(&inputs);
+        let behind = self.unread_from(&inputs).max(from);
+        let part = self.part(from, behind)?;
+        let at = part.at;
+        make_versions::<C>(self.alloc, &self.records, &mut self.versions, at)?;
         let Runs {
-            records,
-            versions,
+            front,
             there,
+            is_lost,
             last,
         } = self.pass(meter, &inputs, &part)?;
+        let Front {
+            records,
+            versions,
+            fresh,
+            first: _first,
+        } = front;
+        note_all::<C>(&fresh, &mut self.readings)?;
         make_room(&mut self.records, at, there, records.len())?;
-        make_room(&mut self.versions, at, there, versions.len())?;
+        let to = there.min(self.versions.len());
+        make_room(&mut self.versions, at, to, versions.len())?;
         put_between(&mut self.records, at, there, records);
-        put_between(&mut self.versions, at, there, versions);
-        self.last = last.or(self.last.take());
+        put_versions(
+            &mut self.versions,
+            &mut self.last,
+            at,
+            there,
+            is_lost,
+            versions,
+            last,
+        );
         self.inputs = inputs;
         Ok(())
     }
@@ -386,10 +413,15 @@ impl<C: Cells> Notebook<C> {
     {
         match C::last_of(&self.records[at], name) {
             Some(bound) => Some(bound),
-            None => match &self.versions[at] {
-                Some(version) => Some(C::has_name(version, name)),
-                None => None,
-            },
+            None => {
+                if at >= self.versions.len() {
+                    return None;
+                }
+                match &self.versions[at] {
+                    Some(version) => Some(C::has_name(version, name)),
+                    None => None,
+                }
+            }
         }
     }
 

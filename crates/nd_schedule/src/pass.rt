@@ -13,6 +13,7 @@ ghost use Rattle.std.specs.Prelude.{
   Some,
   IfOk,
   IfSome,
+  IsFalse,
   IsTrue,
   MatchOption,
   ℕ,
@@ -40,46 +41,48 @@ ghost use Rattle.nd_model.specs.Notebook.{Sheet, inputs_in, book_of, edited_shee
 ghost use Rattle.nd_schedule.specs.Source.{sheet, cell_of, cells_of};
 ghost use Rattle.nd_schedule.specs.Shared.{each_of, each_some, some_of};
 ghost use Rattle.nd_schedule.specs.Runs.{
+  AreKnown,
   AreRecords,
   CountsFront,
   IsEdit,
   IsEnd,
   IsFront,
-  IsKept,
   IsLaid,
   IsMeeting,
   IsMet,
   IsMiddle,
+  IsOld,
   IsSameAgain,
   LiesOver,
   with_part,
 };
 
+use crate::beside::is_added;
 use crate::cells::Cells;
+use crate::front::Front;
 use crate::notebook::Notebook;
 use crate::shared::shared_again;
 use crate::source::Source;
-use crate::step::{keep, keep_due, since_last, step};
+use crate::step::{Made, keep, keep_due, since_last, step};
 use nd_meter::Meter;
 use std::alloc::AllocError;
 use std::rc::Rc;
 
-/// What a pass gives: the records of the cells from the first that is not as before, and beside some the session before it. Behind
-/// them stays what is kept from a place in the present list on. Where the pass came to the end it gives the session there too, and
-/// else that is the same as before.
+/// What a pass gives. Behind its records stay those that are kept from a place in the present list on, and so do the versions beside
+/// them and the session behind the last cell, unless these are lost. Where the pass came to the end it gives the session there too.
 #[derive(Drop)]
 pub(crate) struct Runs<C: Cells> {
-    pub(crate) records: Vec<Rc<C::Record>>,
-    pub(crate) versions: Vec<Option<Rc<C::Version>>>,
+    pub(crate) front: Front<C>,
     pub(crate) there: usize,
+    pub(crate) is_lost: bool,
     pub(crate) last: Option<Rc<C::Version>>,
 }
 
 /// From these places on, in the present list and in the new one, the cells are the same.
 #[derive(Drop)]
-struct Rest {
-    old: usize,
-    new: usize,
+pub(crate) struct Rest {
+    pub(crate) old: usize,
+    pub(crate) new: usize,
 }
 
 /// The cells that take the place of the present ones from one place up to another, each with the record that is kept of it.
@@ -98,17 +101,20 @@ struct Slot<C: Cells> {
     kept: Option<Rc<C::Record>>,
 }
 
-/// The record of a cell in a pass, and the place in the present list that the run has met behind it.
+/// The record of a cell in a pass, whether it is of a new run, and the place in the present list that the run has met behind it.
 #[derive(Drop)]
 struct Step<C: Cells> {
     made: Rc<C::Record>,
+    is_new: bool,
     met: Option<usize>,
 }
 
-/// The record of a cell in a pass, and the session behind it where that is no more had from the one before the edit.
+/// The record of a cell in a pass, whether it is of a new run, and the session behind it where that is no more had from the one
+/// before the edit.
 #[derive(Drop)]
 struct StepOver<C: Cells> {
     made: Rc<C::Record>,
+    is_new: bool,
     session: Option<C::Session>,
 }
 
@@ -131,13 +137,13 @@ impl<C: Cells> Notebook<C> {
     }
 
     /// Whether the session is the one that is kept beside the cell there.
-    fn is_back(&self, session: &C::Session, there: usize) -> bool
+    fn is_back(&self, session: &C::Session, there: usize, first: &mut usize) -> bool
         ensures { IsTrue result → C.session_of session.now
             ≡ session_before (book_of self.now) there }
     {
         if there < self.versions.len() {
             if let Some(version) = &self.versions[there] {
-                return C::is_at(session, version);
+                return C::is_at(session, version, first);
             }
         }
         false
@@ -151,6 +157,7 @@ impl<C: Cells> Notebook<C> {
         k: usize,
         made: &C::Record,
         session: &C::Session,
+        first: &mut usize,
     ) -> Option<usize>
         requires fits { k + 1 < 2 ^ 64 }
         requires few { length self.now.cells < 2 ^ 64 }
@@ -167,7 +174,7 @@ impl<C: Cells> Notebook<C> {
             if self.same_again(at, k, there, made) {
                 return Some(there);
             }
-            if self.is_back(session, there) {
+            if self.is_back(session, there, first) {
                 return Some(there);
             }
         }
@@ -229,6 +236,7 @@ impl<C: Cells> Notebook<C> {
         part: &Part<C>,
         k: usize,
         session: &mut C::Session,
+        first: &mut usize,
     ) -> Result<Step<C>, AllocError>
         requires edit { IsEdit (book_of self.now)
             (with_part self.now part.now.at part.now.behind (cells_of part.now.cells.items)
@@ -245,6 +253,8 @@ impl<C: Cells> Notebook<C> {
             ≡ record_at (inputs_in (C.given inputs.now)) (entry_at
             (with_part self.now part.now.at part.now.behind (cells_of part.now.cells.items)
             (C.given inputs.now)) k)) }
+        ensures known { IfOk result (λ s. IsFalse s.is_new
+            → IsOld (book_of self.now) (C.recorded s.made.value)) }
         ensures session { OnOk result (C.session_of session.new
             ≡ session_before (with_part self.now part.now.at part.now.behind
             (cells_of part.now.cells.items) (C.given inputs.now)) (k + 1)) }
@@ -258,25 +268,38 @@ impl<C: Cells> Notebook<C> {
             (C.given inputs.now)) (k + 1) before meter.new }
     {
         let slot = self.slot(part, k)?;
-        let made = step::<C>(self.alloc, meter, session, inputs, &slot.cell, &slot.kept)?;
+        let Made { record, is_new } = step::<C>(
+            self.alloc, meter, session, inputs, &slot.cell, &slot.kept,
+        )?;
         let rest = Rest {
             old: part.behind,
             new: part.at + part.cells.len(),
         };
-        let met = self.met(&rest, part.at, k, &made, session);
-        Ok(Step { made, met })
+        let met = self.met(&rest, part.at, k, &record, session, first);
+        Ok(Step {
+            made: record,
+            is_new,
+            met,
+        })
+    }
+
+    /// How many cells there are since the last version, with these from the place on.
+    fn cells_since(&self, at: usize, versions: &[Option<Rc<C::Version>>]) -> usize {
+        if versions.is_empty() {
+            return since_last(&self.versions[..at.min(self.versions.len())]);
+        }
+        since_last(versions)
     }
 
     /// Goes on with a pass from a place to the end, or to where the run before the edit is met.
-    fn pass_on(
+    pub(crate) fn pass_on(
         &self,
         meter: &mut Meter,
         inputs: &C::Inputs,
         part: &Part<C>,
         from: usize,
         session: C::Session,
-        records: Vec<Rc<C::Record>>,
-        versions: Vec<Option<Rc<C::Version>>>,
+        front: Front<C>,
     ) -> Result<Runs<C>, AllocError>
         requires edit { IsEdit (book_of self.now)
             (with_part self.now part.now.at part.now.behind (cells_of part.now.cells.items)
@@ -290,18 +313,23 @@ impl<C: Cells> Notebook<C> {
             (cells_of part.now.cells.items) (C.given inputs.now)) from }
         requires records { AreRecords (book_of self.now)
             (with_part self.now part.now.at part.now.behind (cells_of part.now.cells.items)
-            (C.given inputs.now)) part.now.at from (each_of C.recorded records.items) }
+            (C.given inputs.now)) part.now.at from (each_of C.recorded front.records.items) }
         requires versions { IsFront (book_of self.now)
             (with_part self.now part.now.at part.now.behind (cells_of part.now.cells.items)
-            (C.given inputs.now)) part.now.at (each_some C.kept_session versions.items) }
-        requires many { part.now.at + length versions.items ≡ from }
+            (C.given inputs.now)) part.now.at (each_some C.kept_session front.versions.items) }
+        requires known { AreKnown (book_of self.now) (each_of C.recorded front.fresh.items)
+            (each_of C.recorded front.records.items) }
+        requires many { part.now.at + length front.versions.items ≡ from }
         ensures ok { IfOk result (λ r. IsMiddle (book_of self.now)
             (with_part self.now part.now.at part.now.behind (cells_of part.now.cells.items)
-            (C.given inputs.now)) part.now.at r.there
-            (each_of C.recorded r.records.items) (each_some C.kept_session r.versions.items)) }
+            (C.given inputs.now)) part.now.at r.there r.is_lost
+            (each_of C.recorded r.front.records.items)
+            (each_some C.kept_session r.front.versions.items)) }
         ensures end { IfOk result (λ r. IsEnd (book_of self.now)
             (with_part self.now part.now.at part.now.behind (cells_of part.now.cells.items)
-            (C.given inputs.now)) (some_of C.kept_session r.last)) }
+            (C.given inputs.now)) r.is_lost (some_of C.kept_session r.last)) }
+        ensures known { IfOk result (λ r. AreKnown (book_of self.now)
+            (each_of C.recorded r.front.fresh.items) (each_of C.recorded r.front.records.items)) }
         ensures order { IfOk result (λ r. part.now.at ≤ r.there) }
         ensures there { IfOk result (λ r. r.there ≤ length self.now.cells) }
         ensures counts { (before : ℕ) → CountsFront (book_of self.now)
@@ -311,29 +339,31 @@ impl<C: Cells> Notebook<C> {
             (C.given inputs.now)) before meter.new }
     {
         let mut session = session;
-        let mut records = records;
-        let mut versions = versions;
-        let mut since = since_last(&self.versions[..part.at]);
-        since = if versions.is_empty() {
-            since
-        } else {
-            since_last(&versions)
-        };
-        for k in from..part.at + part.cells.len() + (self.cells.len() - part.behind) {
+        let mut front = front;
+        let behind = self.cells.len() - part.behind;
+        let mut since = self.cells_since(part.at, &front.versions);
+        for k in from..part.at + part.cells.len() + behind {
             let version = keep_due::<C>(self.alloc, &mut session, since)?;
             since = if version.is_some() {
                 1
             } else {
                 since.saturating_add(1)
             };
-            versions.push(version)?;
-            let Step { made, met } = self.step_at(meter, inputs, part, k, &mut session)?;
-            records.push(made)?;
+            front.versions.push(version)?;
+            let Step { made, is_new, met } = self.step_at(
+                meter,
+                inputs,
+                part,
+                k,
+                &mut session,
+                &mut front.first,
+            )?;
+            front.push(made, is_new)?;
             if let Some(there) = met {
                 return Ok(Runs {
-                    records,
-                    versions,
+                    front,
                     there,
+                    is_lost: false,
                     last: None,
                 });
             }
@@ -341,9 +371,9 @@ impl<C: Cells> Notebook<C> {
         let last = Some(keep::<C>(self.alloc, &mut session)?);
         let there = self.cells.len();
         Ok(Runs {
-            records,
-            versions,
+            front,
             there,
+            is_lost: false,
             last,
         })
     }
@@ -383,6 +413,9 @@ impl<C: Cells> Notebook<C> {
         ensures { IfOk result (λ o. IfSome o (λ v. C.kept_session v.value
             ≡ did (C.recorded over.now) (session_before (book_of self.now) k))) }
     {
+        if k >= self.versions.len() {
+            return Ok(None);
+        }
         let Some(version) = &self.versions[k] else {
             return Ok(None);
         };
@@ -428,6 +461,7 @@ impl<C: Cells> Notebook<C> {
         part: &Part<C>,
         over: &C::Record,
         k: usize,
+        first: &mut usize,
     ) -> Result<StepOver<C>, AllocError>
         requires edit { IsEdit (book_of self.now)
             (with_part self.now part.now.at part.now.behind (cells_of part.now.cells.items)
@@ -445,6 +479,8 @@ impl<C: Cells> Notebook<C> {
             ≡ record_at (inputs_in (C.given inputs.now)) (entry_at
             (with_part self.now part.now.at part.now.behind (cells_of part.now.cells.items)
             (C.given inputs.now)) k)) }
+        ensures known { IfOk result (λ s. IsFalse s.is_new
+            → IsOld (book_of self.now) (C.recorded s.made.value)) }
         ensures laid { IfOk result (λ s. MatchOption s.session (IsLaid (book_of self.now)
             (with_part self.now part.now.at part.now.behind (cells_of part.now.cells.items)
             (C.given inputs.now)) part.now.at (k + 1) (C.recorded over.now))
@@ -461,19 +497,26 @@ impl<C: Cells> Notebook<C> {
             let made = self.records[k].clone()?;
             return Ok(StepOver {
                 made,
+                is_new: false,
                 session: None,
             });
         }
         let mut session = self.session_over(over, k)?;
-        let Step { made, met: _met } = self.step_at(meter, inputs, part, k, &mut session)?;
+        let Step {
+            made,
+            is_new,
+            met: _met,
+        } = self.step_at(meter, inputs, part, k, &mut session, first)?;
         if self.goes_on(over, k, &made) {
             return Ok(StepOver {
                 made,
+                is_new,
                 session: None,
             });
         }
         Ok(StepOver {
             made,
+            is_new,
             session: Some(session),
         })
     }
@@ -486,8 +529,7 @@ impl<C: Cells> Notebook<C> {
         inputs: &C::Inputs,
         part: &Part<C>,
         over: Rc<C::Record>,
-        records: Vec<Rc<C::Record>>,
-        versions: Vec<Option<Rc<C::Version>>>,
+        front: Front<C>,
     ) -> Result<Runs<C>, AllocError>
         requires edit { IsEdit (book_of self.now)
             (with_part self.now part.now.at part.now.behind (cells_of part.now.cells.items)
@@ -500,18 +542,24 @@ impl<C: Cells> Notebook<C> {
             (C.given inputs.now)) part.now.at (part.now.at + 1) (C.recorded over.value) }
         requires records { AreRecords (book_of self.now)
             (with_part self.now part.now.at part.now.behind (cells_of part.now.cells.items)
-            (C.given inputs.now)) part.now.at (part.now.at + 1) (each_of C.recorded records.items) }
+            (C.given inputs.now)) part.now.at (part.now.at + 1)
+            (each_of C.recorded front.records.items) }
         requires versions { IsFront (book_of self.now)
             (with_part self.now part.now.at part.now.behind (cells_of part.now.cells.items)
-            (C.given inputs.now)) part.now.at (each_some C.kept_session versions.items) }
-        requires many { part.now.at + length versions.items ≡ (part.now.at + 1) }
+            (C.given inputs.now)) part.now.at (each_some C.kept_session front.versions.items) }
+        requires known { AreKnown (book_of self.now) (each_of C.recorded front.fresh.items)
+            (each_of C.recorded front.records.items) }
+        requires many { part.now.at + length front.versions.items ≡ (part.now.at + 1) }
         ensures ok { IfOk result (λ r. IsMiddle (book_of self.now)
             (with_part self.now part.now.at part.now.behind (cells_of part.now.cells.items)
-            (C.given inputs.now)) part.now.at r.there
-            (each_of C.recorded r.records.items) (each_some C.kept_session r.versions.items)) }
+            (C.given inputs.now)) part.now.at r.there r.is_lost
+            (each_of C.recorded r.front.records.items)
+            (each_some C.kept_session r.front.versions.items)) }
         ensures end { IfOk result (λ r. IsEnd (book_of self.now)
             (with_part self.now part.now.at part.now.behind (cells_of part.now.cells.items)
-            (C.given inputs.now)) (some_of C.kept_session r.last)) }
+            (C.given inputs.now)) r.is_lost (some_of C.kept_session r.last)) }
+        ensures known { IfOk result (λ r. AreKnown (book_of self.now)
+            (each_of C.recorded r.front.fresh.items) (each_of C.recorded r.front.records.items)) }
         ensures order { IfOk result (λ r. part.now.at ≤ r.there) }
         ensures there { IfOk result (λ r. r.there ≤ length self.now.cells) }
         ensures counts { (before : ℕ) → CountsFront (book_of self.now)
@@ -520,26 +568,111 @@ impl<C: Cells> Notebook<C> {
             (with_part self.now part.now.at part.now.behind (cells_of part.now.cells.items)
             (C.given inputs.now)) before meter.new }
     {
-        let mut records = records;
-        let mut versions = versions;
+        let mut front = front;
         for k in part.at + 1..self.cells.len() {
             let version = self.version_over(&over, k)?;
-            versions.push(version)?;
-            let StepOver { made, session } = self.step_over(meter, inputs, part, &over, k)?;
-            records.push(made)?;
+            front.versions.push(version)?;
+            let StepOver {
+                made,
+                is_new,
+                session,
+            } = self.step_over(meter, inputs, part, &over, k, &mut front.first)?;
+            front.push(made, is_new)?;
             if let Some(session) = session {
-                return self.pass_on(meter, inputs, part, k + 1, session, records, versions);
+                return self.pass_on(meter, inputs, part, k + 1, session, front);
             }
         }
         let there = self.cells.len();
+        if self.last.is_none() {
+            return Ok(Runs {
+                front,
+                there,
+                is_lost: true,
+                last: None,
+            });
+        }
         let mut end = self.session_over(&over, there)?;
         let last = Some(keep::<C>(self.alloc, &mut end)?);
         Ok(Runs {
-            records,
-            versions,
+            front,
             there,
+            is_lost: false,
             last,
         })
+    }
+
+    /// Runs the first cell of the new list that is not as before, and goes on with the pass behind it.
+    fn pass_first(
+        &self,
+        meter: &mut Meter,
+        inputs: &C::Inputs,
+        part: &Part<C>,
+        rest: &Rest,
+        session: C::Session,
+        front: Front<C>,
+    ) -> Result<Runs<C>, AllocError>
+        requires edit { IsEdit (book_of self.now)
+            (with_part self.now part.now.at part.now.behind (cells_of part.now.cells.items)
+            (C.given inputs.now)) part.now.at part.now.behind (length part.now.cells.items)
+            (cells_of part.now.cells.items) (map (some_of C.recorded) part.now.kept.items) }
+        requires old { rest.now.old ≡ part.now.behind }
+        requires new { rest.now.new ≡ part.now.at + length part.now.cells.items }
+        requires within { part.now.at < length (with_part self.now part.now.at part.now.behind
+            (cells_of part.now.cells.items) (C.given inputs.now)).cells }
+        requires session { C.session_of session
+            ≡ session_before (book_of self.now) part.now.at }
+        requires records { front.records.items ≡ [] }
+        requires versions { front.versions.items ≡ [] }
+        ensures ok { IfOk result (λ r. IsMiddle (book_of self.now)
+            (with_part self.now part.now.at part.now.behind (cells_of part.now.cells.items)
+            (C.given inputs.now)) part.now.at r.there r.is_lost
+            (each_of C.recorded r.front.records.items)
+            (each_some C.kept_session r.front.versions.items)) }
+        ensures end { IfOk result (λ r. IsEnd (book_of self.now)
+            (with_part self.now part.now.at part.now.behind (cells_of part.now.cells.items)
+            (C.given inputs.now)) r.is_lost (some_of C.kept_session r.last)) }
+        ensures known { IfOk result (λ r. AreKnown (book_of self.now)
+            (each_of C.recorded r.front.fresh.items) (each_of C.recorded r.front.records.items)) }
+        ensures order { IfOk result (λ r. part.now.at ≤ r.there) }
+        ensures there { IfOk result (λ r. r.there ≤ length self.now.cells) }
+        ensures counts { CountsStale (book_of self.now)
+            (with_part self.now part.now.at part.now.behind (cells_of part.now.cells.items)
+            (C.given inputs.now)) meter.old meter.new }
+    {
+        let at = part.at;
+        let mut session = session;
+        let mut front = front;
+        let since = self.cells_since(at, &front.versions);
+        let version = keep_due::<C>(self.alloc, &mut session, since)?;
+        front.versions.push(version)?;
+        let before = self.before_added(rest, at, &mut session)?;
+        let Step { made, is_new, met } = self.step_at(
+            meter,
+            inputs,
+            part,
+            at,
+            &mut session,
+            &mut front.first,
+        )?;
+        let over = made.clone()?;
+        front.push(made, is_new)?;
+        if let Some(there) = met {
+            return Ok(Runs {
+                front,
+                there,
+                is_lost: false,
+                last: None,
+            });
+        }
+        if self.is_replaced(rest, at, &over) {
+            return self.pass_over(meter, inputs, part, over, front);
+        }
+        if let Some(before) = before {
+            if is_added::<C>(&before, &over) {
+                return self.pass_beside(meter, inputs, part, over, session, front);
+            }
+        }
+        self.pass_on(meter, inputs, part, at + 1, session, front)
     }
 
     /// Runs the cells of the new list from the first that is not as before, and runs no more than are stale. Where the session is
@@ -556,11 +689,14 @@ impl<C: Cells> Notebook<C> {
             (cells_of part.now.cells.items) (map (some_of C.recorded) part.now.kept.items) }
         ensures ok { IfOk result (λ r. IsMiddle (book_of self.now)
             (with_part self.now part.now.at part.now.behind (cells_of part.now.cells.items)
-            (C.given inputs.now)) part.now.at r.there
-            (each_of C.recorded r.records.items) (each_some C.kept_session r.versions.items)) }
+            (C.given inputs.now)) part.now.at r.there r.is_lost
+            (each_of C.recorded r.front.records.items)
+            (each_some C.kept_session r.front.versions.items)) }
         ensures end { IfOk result (λ r. IsEnd (book_of self.now)
             (with_part self.now part.now.at part.now.behind (cells_of part.now.cells.items)
-            (C.given inputs.now)) (some_of C.kept_session r.last)) }
+            (C.given inputs.now)) r.is_lost (some_of C.kept_session r.last)) }
+        ensures known { IfOk result (λ r. AreKnown (book_of self.now)
+            (each_of C.recorded r.front.fresh.items) (each_of C.recorded r.front.records.items)) }
         ensures order { IfOk result (λ r. part.now.at ≤ r.there) }
         ensures there { IfOk result (λ r. r.there ≤ length self.now.cells) }
         ensures counts { CountsStale (book_of self.now)
@@ -568,42 +704,23 @@ impl<C: Cells> Notebook<C> {
             (C.given inputs.now)) meter.old meter.new }
     {
         let at = part.at;
-        let mut records = Vec::new(self.alloc);
-        let mut versions = Vec::new(self.alloc);
+        let front = Front::none(self.alloc);
         let rest = Rest {
             old: part.behind,
             new: at + part.cells.len(),
         };
         if self.goes_unseen(&rest, at) {
-            let there = rest.old;
             return Ok(Runs {
-                records,
-                versions,
-                there,
+                front,
+                there: rest.old,
+                is_lost: false,
                 last: None,
             });
         }
-        let mut session = self.session_before(at)?;
+        let session = self.session_before(at)?;
         if at == rest.new + (self.cells.len() - rest.old) {
-            return self.pass_on(meter, inputs, part, at, session, records, versions);
+            return self.pass_on(meter, inputs, part, at, session, front);
         }
-        let since = since_last(&self.versions[..at]);
-        let version = keep_due::<C>(self.alloc, &mut session, since)?;
-        versions.push(version)?;
-        let Step { made, met } = self.step_at(meter, inputs, part, at, &mut session)?;
-        let over = made.clone()?;
-        records.push(made)?;
-        if let Some(there) = met {
-            return Ok(Runs {
-                records,
-                versions,
-                there,
-                last: None,
-            });
-        }
-        if self.is_replaced(&rest, at, &over) {
-            return self.pass_over(meter, inputs, part, over, records, versions);
-        }
-        self.pass_on(meter, inputs, part, at + 1, session, records, versions)
+        self.pass_first(meter, inputs, part, &rest, session, front)
     }
 }

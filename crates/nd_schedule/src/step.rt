@@ -1,12 +1,13 @@
 //! One cell of a pass.
 
-ghost use Rattle.std.specs.Prelude.{◌≡◌, ◌+◌, ◌-◌, ◌^◌, ◌⊎◌, min, IfOk, IfSome, OnOk, string_bytes};
+ghost use Rattle.std.specs.Prelude.{◌≡◌, ◌+◌, ◌-◌, ◌^◌, ◌⊎◌, min, IfOk, IfSome, IsFalse, OnOk, Some, string_bytes};
 ghost use Rattle.nd_model.specs.Reading.{reading};
 ghost use Rattle.nd_model.specs.Cell.{cell, session_after};
 ghost use Rattle.nd_model.specs.Footprint.{HasNone};
 ghost use Rattle.nd_model.specs.Records.{record_of, StillHolds};
 ghost use Rattle.nd_model.specs.Scheduler.{IsOfRun};
 ghost use Rattle.nd_model.specs.Notebook.{inputs_in};
+ghost use Rattle.nd_schedule.specs.Shared.{some_of};
 
 use crate::cells::Cells;
 use crate::source::Source;
@@ -15,7 +16,7 @@ use std::alloc::{AllocError, Global};
 use std::rc::Rc;
 
 /// How many cells apart two versions are at least. They share most names and blocks with one another.
-const APART: usize = 32;
+pub(crate) const APART: usize = 32;
 
 /// Keeps the session.
 pub(crate) fn keep<C: Cells>(
@@ -55,6 +56,13 @@ pub(crate) fn since_last<V: Drop>(versions: &[Option<Rc<V>>]) -> usize {
     versions.len()
 }
 
+/// The record of a cell, and whether it is of a run that is new.
+#[derive(Drop)]
+pub(crate) struct Made<C: Cells> {
+    pub(crate) record: Rc<C::Record>,
+    pub(crate) is_new: bool,
+}
+
 /// Replays the record of a cell where one is kept that still holds, else runs the cell.
 pub(crate) fn step<C: Cells>(
     alloc: Global,
@@ -63,15 +71,17 @@ pub(crate) fn step<C: Cells>(
     inputs: &C::Inputs,
     source: &Source,
     kept: &Option<Rc<C::Record>>,
-) -> Result<Rc<C::Record>, AllocError>
+) -> Result<Made<C>, AllocError>
     requires none { HasNone source.now.label (C.session_of session.old) }
     requires of_run { IfSome kept.now
         (λ r. IsOfRun source.now.label (reading (string_bytes source.now.text))
         (C.recorded r.value)) }
     ensures made { IfOk result
-        (λ r. C.recorded r.value
+        (λ m. C.recorded m.record.value
         ≡ record_of source.now.label (reading (string_bytes source.now.text))
         (inputs_in (C.given inputs.now)) (C.session_of session.old)) }
+    ensures kept { IfOk result (λ m. IsFalse m.is_new
+        → some_of C.recorded kept.now ≡ Some (C.recorded m.record.value)) }
     ensures after { OnOk result
         (C.session_of session.new
         ≡ session_after (cell source.now.label (reading (string_bytes source.now.text))
@@ -84,9 +94,17 @@ pub(crate) fn step<C: Cells>(
     if let Some(made) = kept {
         if C::still_holds(made, session, inputs) {
             C::replay(made, session)?;
-            return made.clone();
+            let record = made.clone()?;
+            return Ok(Made {
+                record,
+                is_new: false,
+            });
         }
     }
     let made = C::run(meter, session, inputs, source.label, source.text.as_str())?;
-    Ok(Rc::new(alloc, made)?)
+    let record = Rc::new(alloc, made)?;
+    Ok(Made {
+        record,
+        is_new: true,
+    })
 }

@@ -15,3 +15,4 @@ pub mod Retaining
 pub mod Keeping
 pub mod Last
 pub mod Overlaying
+pub mod Gathering

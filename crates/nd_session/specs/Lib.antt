@@ -12,3 +12,4 @@ pub mod Reads
 pub mod Reading
 pub mod Patching
 pub mod Changes
+pub mod Noted

@@ -1,7 +1,8 @@
 // What a cell read, with what it found there.
 
-ghost use Rattle.std.specs.Prelude.{◌≡◌, ◌↔◌, ℕ, IfOk, IsFalse, IsTrue, List, None, OnOk, false, is_some};
+ghost use Rattle.std.specs.Prelude.{◌≡◌, ◌↔◌, ℕ, Contains, IfOk, IsFalse, IsTrue, List, None, OnOk, false, is_some};
 ghost use Rattle.std.specs.Prelude.{Option, Some, true, bytes_eq, if◌then◌else◌, length, map, slice_index, string_bytes};
+ghost use Rattle.std.specs.List.{All};
 ghost use Rattle.nd_marks.specs.Marks.{Places, holds};
 ghost use Rattle.nd_model.specs.Footprint.{found};
 ghost use Rattle.nd_model.specs.Running as running;
@@ -13,6 +14,7 @@ ghost use Rattle.nd_session.specs.Events.{event_of};
 ghost use Rattle.nd_session.specs.Kept.{version_of};
 ghost use Rattle.nd_heap.specs.Live.{is_base_among};
 ghost use Rattle.nd_session.specs.Live.{is_among, is_marked, live};
+ghost use Rattle.nd_session.specs.Noted.{StaysNoted};
 ghost use Rattle.nd_session.specs.Reading.{by_text, by_base, value_at, source_at, length_at, bytes_of};
 ghost use Rattle.nd_session.specs.Reads.{byte_at, found_in, found_of, keys_of, lookup_base};
 ghost use Rattle.nd_session.specs.Seen.{is_read_in};
@@ -23,6 +25,7 @@ use crate::changes::Changes;
 use crate::input::{Input, Inputs, are_same_inputs, find_input};
 use crate::marking::Footprint;
 use crate::overlay::{has_label, touches};
+use crate::readings::Readings;
 use crate::session::Session;
 use crate::trace::{Event, Trace};
 use crate::version::Version;
@@ -325,6 +328,37 @@ fn names_miss(reads: &NamesRead, events: &[Event]) -> bool
     true
 }
 
+/// Notes the names.
+fn note_names(names: &NamesRead, readings: &mut Readings) -> Result<(), OutOfMemory>
+    ensures noted { OnOk result ((n : List ℕ)
+        → IsTrue (is_some (model.lookup n (by_text value_at names.now.entries)))
+        → Contains readings.new.names n) }
+    ensures stays { StaysNoted readings.old readings.new }
+{
+    for i in 0..names.len() {
+        let Some((name, _)) = names.get_index(i) else {
+            unreachable!();
+        };
+        readings.note_name(name.as_str())?;
+    }
+    Ok(())
+}
+
+/// Notes the labels of the bases.
+fn note_labels<V>(bases: &IndexMap<Base, V>, readings: &mut Readings) -> Result<(), OutOfMemory>
+    ensures noted { OnOk result
+        (All (λ e. Contains readings.new.labels e.0.label) bases.now.entries) }
+    ensures stays { StaysNoted readings.old readings.new }
+{
+    for i in 0..bases.len() {
+        let Some((base, _)) = bases.get_index(i) else {
+            unreachable!();
+        };
+        readings.note_label(base.label)?;
+    }
+    Ok(())
+}
+
 impl Reads {
     /// What a cell read that began with a version and these inputs.
     pub fn new(
@@ -375,6 +409,25 @@ impl Reads {
             → inputs_of old.now.entries n ≡ inputs_of new.now.entries n) }
     {
         !are_unchanged(&self.inputs, old, new)
+    }
+
+    /// Notes the names that were read, and the labels of the bases of which a length or a byte was. What was noted before stays
+    /// noted, also where memory is wanted.
+    pub fn note(&self, readings: &mut Readings) -> Result<(), OutOfMemory>
+        ensures names { OnOk result ((n : List ℕ) → IsTrue (keys_of self.now (running.Name n))
+            → Contains readings.new.names n) }
+        ensures lengths { OnOk result ((b : values.Base)
+            → IsTrue (keys_of self.now (running.Length b))
+            → Contains readings.new.labels b.label) }
+        ensures bytes { OnOk result ((b : values.Base) (p : ℕ)
+            → IsTrue (keys_of self.now (running.Byte b p))
+            → Contains readings.new.labels b.label) }
+        ensures stays { StaysNoted readings.old readings.new }
+    {
+        note_names(&self.names, readings)?;
+        note_labels(&self.lengths, readings)?;
+        note_labels(&self.bytes, readings)?;
+        Ok(())
     }
 
     /// If so, nothing was read of the names that another cell bound and of the bases that it made. It takes no memory.

@@ -1,6 +1,6 @@
 // Sessions.
 
-ghost use Rattle.std.specs.Prelude.{◌≡◌, ◌+◌, ◌<◌, ◌≤◌, ◌^◌, [], IfOk, IsFalse, OnOk, ◌↔◌, option_map, string_bytes, length};
+ghost use Rattle.std.specs.Prelude.{◌≡◌, ◌+◌, ◌<◌, ◌≤◌, ◌^◌, [], IfOk, IsFalse, IsTrue, OnOk, ◌↔◌, option_map, string_bytes, length};
 ghost use Rattle.std.specs.List.{zip};
 ghost use Rattle.nd_model.specs.Tuple.{count_up};
 ghost use Rattle.nd_model.specs.Session as model;
@@ -374,6 +374,17 @@ impl Session {
             label,
             next: number,
         })
+    }
+
+    /// If so, the session is that of the version, once blocks that no bound value lies in are given up in both. The two are
+    /// compared at the name at the place `first` before all else, and `first` becomes a place at which they differ, so that asking
+    /// again where they still do takes one comparison. It takes no memory.
+    #[tactic(auto, unfolding(crate::specs::Live::live))]
+    pub fn is_at(&self, version: &Version, first: &mut usize) -> bool
+        ensures { IsTrue result → model.collected (running.session_of (live self.now))
+            ≡ model.collected (version_of version.now) }
+    {
+        self.heap.is_same(&version.heap, first)
     }
 
     /// Binds each name that a cell bound to a value that lies in no base. It notes nothing: the session then has nothing of what

@@ -1,25 +1,28 @@
-use Rattle.std.proofs.Common.{◌≡◌, refl, ap, subst, ◌∙◌, string_bytes, sym}
+use Rattle.std.proofs.Common.{refl, ap, subst, ◌∙◌, string_bytes, sym, Some}
 use Rattle.nd_model.specs.Reading.{reading}
-use Rattle.nd_model.specs.Records.{record_of, StillHolds}
+use Rattle.nd_model.specs.Records.{StillHolds}
 use Rattle.nd_model.proofs.Passing.{stands}
 use Rattle.nd_model.specs.Notebook.{inputs_in}
-use Rattle.nd_schedule.proofs.Steps.{of_some, replayed, of_copy, on_ok}
+use Rattle.nd_schedule.specs.Shared.{some_of}
+use Rattle.nd_schedule.proofs.Steps.{of_some, replayed}
 use Rattle.nd_schedule.proofs.step.step.Goals as goal
 
 pub returns-then-still_holds-clause-made : goal.returns-then-still_holds-clause-made
 returns-then-still_holds-clause-made g c =
     let holds : StillHolds (g.C.Cells.recorded c.in-Some.made.value) (g.C.Cells.session_of c.args.session.now) (inputs_in (g.C.Cells.given c.args.inputs.now)) =
     subst (λ r. StillHolds (g.C.Cells.recorded r) (g.C.Cells.session_of c.args.session.now) (inputs_in (g.C.Cells.given c.args.inputs.now))) c.deref.ensures (c.if-still_holds.ensures.0 refl) in
-    of_copy (λ r. r.value) (λ x. g.C.Cells.recorded x ≡ record_of c.args.source.now.label (reading (string_bytes c.args.source.now.text)) (inputs_in (g.C.Cells.given c.args.inputs.now)) (g.C.Cells.session_of c.args.session.now)) _ c.clone.result c.in-Some.made.value c.clone.ensures.cases
-    (stands c.args.source.now.label (reading (string_bytes c.args.source.now.text)) _ _ _ (of_some _ _ _ c.requires.of_run c.in-Some.is) holds).0
+    ap g.C.Cells.recorded c.in_ok-record.ensures.cases
+    ∙ (stands c.args.source.now.label (reading (string_bytes c.args.source.now.text)) _ _ _ (of_some _ _ _ c.requires.of_run c.in-Some.is) holds).0
+
+pub returns-then-still_holds-clause-kept : goal.returns-then-still_holds-clause-kept
+returns-then-still_holds-clause-kept g c = λ e. ap (some_of g.C.Cells.recorded) c.in-Some.is ∙ ap (λ x. Some (g.C.Cells.recorded x)) (sym c.in_ok-record.ensures.cases)
 
 pub returns-then-still_holds-clause-after : goal.returns-then-still_holds-clause-after
 returns-then-still_holds-clause-after g c =
     let holds : StillHolds (g.C.Cells.recorded c.in-Some.made.value) (g.C.Cells.session_of c.args.session.now) (inputs_in (g.C.Cells.given c.args.inputs.now)) =
     subst (λ r. StillHolds (g.C.Cells.recorded r) (g.C.Cells.session_of c.args.session.now) (inputs_in (g.C.Cells.given c.args.inputs.now))) c.deref.ensures (c.if-still_holds.ensures.0 refl) in
-    on_ok _ c.clone.result
-    (c.in_ok-replay.ensures ∙ ap (λ r. Rattle.nd_model.specs.Footprint.with_effects (g.C.Cells.recorded r).label (g.C.Cells.recorded r).effects (g.C.Cells.session_of c.args.session.now)) c.deref-then-still_holds.ensures
-    ∙ replayed c.args.source.now.label (reading (string_bytes c.args.source.now.text)) _ _ _ (of_some _ _ _ c.requires.of_run c.in-Some.is) holds)
+    c.in_ok-replay.ensures ∙ ap (λ r. Rattle.nd_model.specs.Footprint.with_effects (g.C.Cells.recorded r).label (g.C.Cells.recorded r).effects (g.C.Cells.session_of c.args.session.now)) c.deref-then-still_holds.ensures
+    ∙ replayed c.args.source.now.label (reading (string_bytes c.args.source.now.text)) _ _ _ (of_some _ _ _ c.requires.of_run c.in-Some.is) holds
 
 pub replay-requires : goal.replay-requires
 replay-requires g c = (

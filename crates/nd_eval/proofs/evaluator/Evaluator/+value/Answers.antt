@@ -1,12 +1,14 @@
-use Rattle.std.proofs.Common.{rules, ◌≡◌, ◌+◌, List, [], ◌∷◌, length, refl, map, drop, ap, sym, ◌∙◌, arith}
-use Rattle.std.specs.Vec.{vec_len}
-use Rattle.std.proofs.lemmas.Bool.{eqb-true, eqb-false}
+use Rattle.std.proofs.Common.{rules, ◌≡◌, ◌+◌, List, ◌∷◌, length, refl, map, take, drop, ap, sym, ◌∙◌, arith}
+use Rattle.std.proofs.lemmas.Bool.{eqb-false}
 use Rattle.std.proofs.lemmas.List.{drop_all}
 use Rattle.nd_model.specs.Evaluation.{run, ◌>>=◌, decide}
 use Rattle.nd_model.specs.Meaning as meaning
-use Rattle.nd_model.specs.Operators.{negative}
+use Rattle.nd_model.specs.Cells.{chained}
+use Rattle.nd_model.specs.Operators.{single}
 use Rattle.nd_model.specs.Creation.{arange}
 use Rattle.nd_model.specs.Operation.{give}
+use Rattle.nd_model.specs.Tokens.{tokens_of}
+use Rattle.nd_syntax.specs.Lists.{operation_of}
 use Rattle.nd_syntax.specs.Syntax.{expr_of, suffix_of, index_of}
 use Rattle.nd_syntax.specs.declared.tree.Suffix.{Suffix}
 use Rattle.nd_heap.specs.Values.{value_of}
@@ -14,59 +16,62 @@ use Rattle.nd_session.specs.Values.{inputs_of}
 use Rattle.nd_session.specs.Live.{live}
 use Rattle.nd_eval.proofs.Bounds.{next_value, next_at_index}
 use Rattle.nd_eval.specs.Contents.{operand_of, made_of, unused_of}
-use Rattle.nd_eval.specs.Parts.{item_value, element_value}
+use Rattle.nd_eval.specs.Parts.{item_value, element_value, binary_value}
+use Rattle.nd_eval.specs.Singles.{single_of}
 use Rattle.nd_eval.proofs.Chains.{exits, follows, goes, ends_as, exits_saying, follows_saying}
+use Rattle.nd_eval.proofs.Operating.{chain_step, chain_rest, exits_chain, exits_later, fewer_tokens}
 use Rattle.nd_eval.proofs.Turns.{stays_on}
 use Rattle.nd_eval.proofs.Parts.{arange_parts}
 use Rattle.nd_eval.proofs.Uses.{kept_bytes, kept_next, follows_use}
-use Rattle.nd_eval.proofs.Held.{held_marked, value_held, item_held}
-use Rattle.nd_eval.proofs.Indexing.{chain, next_index, run_postfix, tokens_of_postfix, nodes_of_postfix, arange_alone, no_items, items_in_index, nodes_of_its_items, more_refused, chain_alone, nodes_of_chain, chain_refused}
+use Rattle.nd_eval.proofs.Held.{held_after, held_marked, value_held, item_held}
+use Rattle.nd_eval.proofs.InTurn.{next_item}
+use Rattle.nd_eval.proofs.Indexing.{chain, next_index, run_postfix, tokens_of_postfix, nodes_of_postfix, arange_alone, items_in_index, nodes_of_its_items, more_refused, is_chain, nodes_of_chain}
 use Rattle.nd_eval.proofs.evaluator.Evaluator.+value.Goals as goal
 
-pub value-negative_value-requires : goal.value-negative_value-requires
-value-negative_value-requires t c =
+pub value-single_value-requires : goal.value-single_value-requires
+value-single_value-requires t c =
     let room = rw c.in-Unary.is at c.requires in
     let below = rw c.in-Unary.is at c.decreases in
     rw c.deref.ensures (omega arith, omega arith)
 
-pub negative_value-returns-in_err-operand : goal.negative_value-returns-in_err-operand
-negative_value-returns-in_err-operand t c = (
+pub single_value-returns-in_err-operand : goal.single_value-returns-in_err-operand
+single_value-returns-in_err-operand t c = (
   exits value_of value_of (inputs_of c.args.self.now.inputs.now.entries) (meaning.value (expr_of c.args.operand.now)) _ _ _ _ _
       c.from_residual.ensures.1 c.in_err-operand.ensures.0,
   c.in_err-operand.ensures.1,
 )
 
-pub negative_value-operand_in-requires : goal.negative_value-operand_in-requires
-negative_value-operand_in-requires t c =
+pub single_value-operand_in-requires : goal.single_value-operand_in-requires
+single_value-operand_in-requires t c =
     let v = c.in_ok-operand.operand in
     held_marked v v (live c.value.new.self.session.now) (live c.mark_operand.new.session) c.in_ok-mark_operand.ensures
     (value_held (inputs_of c.args.self.now.inputs.now.entries) (expr_of c.args.operand.now) _ _ v c.in_ok-operand.ensures.0 c.soundness.ensures)
 
-pub negative_value-returns-in_err-made : goal.negative_value-returns-in_err-made
-negative_value-returns-in_err-made t c =
+pub single_value-returns-in_err-made : goal.single_value-returns-in_err-made
+single_value-returns-in_err-made t c =
     let i = inputs_of c.args.self.now.inputs.now.entries in
     let v = c.in_ok-operand.operand in (
       follows value_of value_of i (meaning.value (expr_of c.args.operand.now)) _ _ _ _ v _ c.in_ok-operand.ensures.0
-          (follows_use value_of i v (λ o. decide (negative o) >>= give) _ _ _ _ c.operand_in.result _ c.in_ok-mark_operand.ensures
+          (follows_use value_of i v (λ o. decide (single (single_of c.args.op) o) >>= give) _ _ _ _ c.operand_in.result _ c.in_ok-mark_operand.ensures
           (kept_bytes v _ _ c.in_ok-mark_operand.ensures) c.operand_in.ensures
-          (exits_saying made_of value_of i (negative (operand_of c.operand_in.result)) give _ _ _ c.from_residual-in_err-made.ensures.1 c.in_err-made.ensures)),
+          (exits_saying made_of value_of i (single (single_of c.args.op) (operand_of c.operand_in.result)) give _ _ _ c.from_residual-in_err-made.ensures.1 c.in_err-made.ensures)),
       c.in_ok-operand.ensures.1,
     )
 
-pub negative_value-give-requires : goal.negative_value-give-requires
-negative_value-give-requires t c =
+pub single_value-give-requires : goal.single_value-give-requires
+single_value-give-requires t c =
     let made = next_value (inputs_of c.args.self.now.inputs.now.entries) (expr_of c.args.operand.now) _ _ _ c.in_ok-operand.ensures.0 in
     let none = kept_next c.in_ok-operand.operand _ _ c.in_ok-mark_operand.ensures in
     omega arith
 
-pub negative_value-returns : goal.negative_value-returns
-negative_value-returns t c =
+pub single_value-returns : goal.single_value-returns
+single_value-returns t c =
     let i = inputs_of c.args.self.now.inputs.now.entries in
     let v = c.in_ok-operand.operand in (
       follows value_of value_of i (meaning.value (expr_of c.args.operand.now)) _ _ _ _ v _ c.in_ok-operand.ensures.0
-          (follows_use value_of i v (λ o. decide (negative o) >>= give) _ _ _ _ c.operand_in.result _ c.in_ok-mark_operand.ensures
+          (follows_use value_of i v (λ o. decide (single (single_of c.args.op) o) >>= give) _ _ _ _ c.operand_in.result _ c.in_ok-mark_operand.ensures
           (kept_bytes v _ _ c.in_ok-mark_operand.ensures) c.operand_in.ensures
-          (follows_saying made_of value_of i (negative (operand_of c.operand_in.result)) give _ _ c.in_ok-made.made _ c.in_ok-made.ensures (rw c.in_ok-operand.ensures.1.1 at c.give.ensures.0))),
+          (follows_saying made_of value_of i (single (single_of c.args.op) (operand_of c.operand_in.result)) give _ _ c.in_ok-made.made _ c.in_ok-made.ensures (rw c.in_ok-operand.ensures.1.1 at c.give.ensures.0))),
       stays_on c.in_ok-operand.ensures.1 c.give.ensures.1,
     )
 
@@ -163,30 +168,6 @@ pub value-returns-after-loop-suffix : goal.value-returns-after-loop-suffix
 value-returns-after-loop-suffix t c =
     (rw (drop_all _ _ c.loop-suffix-test.false) at c.loop-suffix.invariant.same, c.loop-suffix.invariant.stays)
 
-pub value-value-requires-then-is_empty : goal.value-value-requires-then-is_empty
-value-value-requires-then-is_empty t c =
-    let zero = eqb-true (vec_len c.in-Chain.others) 0 (sym c.is_empty.ensures ∙ c.if-is_empty.true) in
-    let none = no_items c.in-Chain.others.items (omega (arith, c.in-Chain.others.ok)) in
-    let room = rw (chain_alone c.args.expr.now c.in-Chain.operand c.in-Chain.others c.in-Chain.is none) at c.requires in
-    let more = nodes_of_chain c.args.expr.now c.in-Chain.operand c.in-Chain.others c.in-Chain.is in
-    let below = c.decreases in
-    rw c.deref-then-is_empty.ensures (omega arith, omega arith)
-
-pub value-returns-then-is_empty : goal.value-returns-then-is_empty
-value-returns-then-is_empty t c =
-    let zero = eqb-true (vec_len c.in-Chain.others) 0 (sym c.is_empty.ensures ∙ c.if-is_empty.true) in
-    let none = no_items c.in-Chain.others.items (omega (arith, c.in-Chain.others.ok)) in
-    rw (chain_alone c.args.expr.now c.in-Chain.operand c.in-Chain.others c.in-Chain.is none, ← c.deref-then-is_empty.ensures) c.value-then-is_empty.ensures
-
-pub value-returns-else-is_empty : goal.value-returns-else-is_empty
-value-returns-else-is_empty t c =
-    let more = eqb-false (vec_len c.in-Chain.others) 0 (sym c.is_empty.ensures ∙ c.if-is_empty.false) in
-    let some = λ (none : c.in-Chain.others.items ≡ []). (let n = ap length none in absurd (omega (arith, c.in-Chain.others.ok))) in
-    (rw (chain_refused c.args.expr.now c.in-Chain.operand c.in-Chain.others c.in-Chain.is some, c.unbuilt_form-in-Chain.ensures) refl, (refl, refl))
-
-pub value-returns-in_default : goal.value-returns-in_default
-value-returns-in_default t c = (rw (c.in_default.is, c.unbuilt_form-in_default.ensures) refl, (refl, refl))
-
 pub call_value-value-requires : goal.call_value-value-requires
 call_value-value-requires t c =
     let a = c.in-Arange in
@@ -261,3 +242,108 @@ only_item-returns-then-not-is_empty t c =
     let some = eqb-false (length c.in-Some.rest.now) 0 (sym c.is_empty.ensures ∙ c.if-not-is_empty.true) in
     let same : c.args.items.now ≡ c.in-Some.item.now ∷ c.in-Some.rest.now = search (rules, c.in-Some.ensures) in
     (rw (same, more_refused c.in-Some.item.now c.in-Some.rest.now some, c.unbuilt_form.ensures) refl, (refl, refl))
+
+pub value-chain_value-requires : goal.value-chain_value-requires
+value-chain_value-requires t c =
+    let same = is_chain c.args.expr.now c.in-Chain.operand c.in-Chain.others c.in-Chain.is in
+    let room = rw same at c.requires in
+    let size = nodes_of_chain c.args.expr.now c.in-Chain.operand c.in-Chain.others c.in-Chain.is in
+    let below = c.decreases in
+    rw (c.deref-in-Chain.ensures, c.deref-in-Chain-2.ensures.value) (omega arith, omega arith)
+
+pub value-returns-in-Chain : goal.value-returns-in-Chain
+value-returns-in-Chain t c =
+    rw (is_chain c.args.expr.now c.in-Chain.operand c.in-Chain.others c.in-Chain.is, ← c.deref-in-Chain.ensures, ← c.deref-in-Chain-2.ensures.value) c.chain_value.ensures
+
+pub value-returns-in-Unary : goal.value-returns-in-Unary
+value-returns-in-Unary t c = rw (c.in-Unary.is, ← c.deref.ensures) c.single_value.ensures
+
+-- ---- operators
+
+pub binary_value-returns-in_err-right : goal.binary_value-returns-in_err-right
+binary_value-returns-in_err-right t c = (
+  exits value_of value_of (inputs_of c.args.self.now.inputs.now.entries) (meaning.value (expr_of c.args.right.now)) _ _ _ _ _
+      c.from_residual.ensures.1 c.in_err-right.ensures.0,
+  c.in_err-right.ensures.1,
+)
+
+pub binary_value-operate-requires-clause-left : goal.binary_value-operate-requires-clause-left
+binary_value-operate-requires-clause-left t c =
+    held_after (inputs_of c.args.self.now.inputs.now.entries) (meaning.value (expr_of c.args.right.now)) _ _ _ c.args.left.now c.in_ok-right.ensures.0 c.requires.held
+
+pub binary_value-operate-requires-clause-right : goal.binary_value-operate-requires-clause-right
+binary_value-operate-requires-clause-right t c =
+    value_held (inputs_of c.args.self.now.inputs.now.entries) (expr_of c.args.right.now) _ _ c.in_ok-right.right c.in_ok-right.ensures.0 c.soundness.ensures
+
+pub binary_value-operate-requires-clause-room : goal.binary_value-operate-requires-clause-room
+binary_value-operate-requires-clause-room t c =
+    let made = next_value (inputs_of c.args.self.now.inputs.now.entries) (expr_of c.args.right.now) _ _ _ c.in_ok-right.ensures.0 in
+    let room = c.requires.room in
+    omega arith
+
+pub binary_value-returns : goal.binary_value-returns
+binary_value-returns t c = (
+  follows value_of value_of (inputs_of c.args.self.now.inputs.now.entries) (meaning.value (expr_of c.args.right.now)) _ _ _ _
+      c.in_ok-right.right _ c.in_ok-right.ensures.0 (rw c.in_ok-right.ensures.1.1 at c.operate.ensures.0),
+  stays_on c.in_ok-right.ensures.1 c.operate.ensures.1,
+)
+
+pub chain_value-value-requires : goal.chain_value-value-requires
+chain_value-value-requires t c =
+    let few = fewer_tokens (expr_of c.args.operand.now) (map operation_of c.args.others.now) in
+    let room = c.requires in
+    let below = c.decreases in
+    (omega arith, omega arith)
+
+pub chain_value-returns-in_err-found : goal.chain_value-returns-in_err-found
+chain_value-returns-in_err-found t c = (
+  exits_chain (inputs_of c.args.self.now.inputs.now.entries) (expr_of c.args.operand.now) (map operation_of c.args.others.now) _ _ _ _
+      c.from_residual.ensures.1 c.in_err-found.ensures.0,
+  c.in_err-found.ensures.1,
+)
+
+pub chain_value-binary_value-requires : goal.chain_value-binary_value-requires
+chain_value-binary_value-requires t c =
+    let i = inputs_of c.args.self.now.inputs.now.entries in
+    let e = expr_of c.args.operand.now in
+    let ops = c.args.others.now in
+    let k = c.loop-other.other-index in
+    let x = c.other-item.result in
+    let so_far = chained e (map operation_of (take k ops)) in
+    let next = next_item ops k x c.loop-other-test.true c.other-item.is in
+    let left = rw next at c.loop-other.invariant.below in
+    let below = c.decreases in
+    let made = next_value i so_far _ _ _ c.loop-other.invariant.same in
+    let size = ap tokens_of (chain_step ops k x c.loop-other-test.true c.other-item.is e) in
+    let few = fewer_tokens (chained e (map operation_of (take (k + 1) ops))) (map operation_of (drop (k + 1) ops)) in
+    let whole = ap tokens_of (chain_rest ops k x c.loop-other-test.true c.other-item.is e) in
+    let room = c.requires in (
+      omega arith,
+      (value_held i so_far _ _ c.loop-other.found c.loop-other.invariant.same c.soundness.ensures, omega arith),
+    )
+
+pub chain_value-returns-in_err-found-2 : goal.chain_value-returns-in_err-found-2
+chain_value-returns-in_err-found-2 t c = (
+  exits_later (inputs_of c.args.self.now.inputs.now.entries) (expr_of c.args.operand.now) c.args.others.now c.loop-other.other-index c.other-item.result
+      c.loop-other-test.true c.other-item.is c.loop-other.found _ _ (live c.binary_value.new.self.session.now) c.in_err-found-2.field-0.0 _
+      c.loop-other.invariant.same c.from_residual-in_err-found-2.ensures.1 (rw c.loop-other.invariant.stays.1 at c.in_err-found-2.ensures.0),
+  stays_on c.loop-other.invariant.stays c.in_err-found-2.ensures.1,
+)
+
+pub chain_value-loop-other-preserved : goal.chain_value-loop-other-preserved
+chain_value-loop-other-preserved t c =
+    let i = inputs_of c.args.self.now.inputs.now.entries in
+    let e = expr_of c.args.operand.now in
+    let ops = c.args.others.now in
+    let k = c.loop-other.other-index in
+    let x = c.other-item.result in
+    let so_far = chained e (map operation_of (take k ops)) in
+    let next = next_item ops k x c.loop-other-test.true c.other-item.is in
+    let left = rw next at c.loop-other.invariant.below in
+    record {
+      same = ap (λ f. run i (meaning.value f) (live c.args.self.now.session.now)) (chain_step ops k x c.loop-other-test.true c.other-item.is e)
+          ∙ goes value_of i (meaning.value so_far) (λ v. binary_value (operation_of x).0 v (operation_of x).1) _ _ c.loop-other.found c.loop-other.invariant.same
+          ∙ rw c.loop-other.invariant.stays.1 at c.in_ok-found-2.ensures.0;
+      stays = stays_on c.loop-other.invariant.stays c.in_ok-found-2.ensures.1;
+      below = omega arith;
+    }

@@ -1,19 +1,27 @@
-use Rattle.std.proofs.Common.{◌≡◌, ◌+◌, ◌<◌, ◌^◌, map, drop}
+use Rattle.std.proofs.Common.{◌≡◌, ◌+◌, ◌<◌, ◌≤◌, ◌^◌, Ok, map, take, drop}
+use Rattle.nd_model.specs.Cells.{chained}
 use Rattle.nd_model.specs.Evaluation.{run}
 use Rattle.nd_model.specs.Meaning as meaning
+use Rattle.nd_syntax.specs.Lists.{operation_of}
 use Rattle.nd_syntax.specs.Syntax.{expr_of, suffix_of}
 use Rattle.nd_heap.specs.Values.{value_of}
 use Rattle.nd_session.specs.Values.{inputs_of}
 use Rattle.nd_session.specs.Live.{live}
 use Rattle.nd_eval.specs.Ends.{Stays}
-use Rattle.nd_eval.proofs.Indexing.{chain, chain_tokens, nodes, nodes_of_call, nodes_of_index, nodes_of_items, nodes_of_item, nodes_of_all}
+use Rattle.nd_eval.proofs.Indexing.{chain, chain_tokens, nodes, nodes_of_call, nodes_of_index, nodes_of_items, nodes_of_item, nodes_of_all, nodes_of_operations}
 use Rattle.nd_eval.proofs.evaluator.Evaluator.+value.Given as goal
 
 abbrev pub decreases-value : goal.decreases-value
 decreases-value l = nodes l.expr.now
 
-abbrev pub decreases-negative_value : goal.decreases-negative_value
-decreases-negative_value l = 1 + nodes l.operand.now
+abbrev pub decreases-single_value : goal.decreases-single_value
+decreases-single_value l = 1 + nodes l.operand.now
+
+abbrev pub decreases-chain_value : goal.decreases-chain_value
+decreases-chain_value l = 1 + nodes l.operand.now + nodes_of_operations l.others.now
+
+abbrev pub decreases-binary_value : goal.decreases-binary_value
+decreases-binary_value l = 1 + nodes l.right.now
 
 abbrev pub decreases-index_into : goal.decreases-index_into
 decreases-index_into l = 1 + nodes_of_index l.index.now
@@ -40,3 +48,12 @@ invariant-value-loop-suffix l =
       room : (live l.self.session.now).next + chain_tokens left < 2 ^ 64;
       below : nodes_of_all (drop l.suffix-index l.suffix-items) < nodes l.expr;
     }
+
+-- the value of the operand with the operators so far
+abbrev pub invariant-chain_value-loop-other : goal.invariant-chain_value-loop-other
+invariant-chain_value-loop-other l = record {
+  same : run (inputs_of l.fn.self.inputs.now.entries) (meaning.value (chained (expr_of l.operand) (map operation_of (take l.other-index l.others)))) (live l.fn.self.session.now)
+      ≡ (Ok (value_of l.found), live l.self.session.now);
+  stays : Stays l.fn.self l.self;
+  below : nodes_of_operations (drop l.other-index l.others) ≤ nodes_of_operations l.others;
+}

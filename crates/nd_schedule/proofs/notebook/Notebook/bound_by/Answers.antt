@@ -1,9 +1,8 @@
 use Rattle.std.proofs.Common.{◌≡◌, length, is_some, unwrap_or, ap, sym, subst, ◌∙◌, arith}
-use Rattle.std.proofs.lemmas.List.{length-map}
 use Rattle.nd_model.specs.Session.{Session, lookup}
 use Rattle.nd_model.specs.Entries.{session_before}
 use Rattle.nd_model.specs.Notebook.{Sheet, book_of}
-use Rattle.nd_schedule.specs.Shared.{each_of, each_some, some_of}
+use Rattle.nd_schedule.specs.Shared.{each_of, each_some}
 use Rattle.nd_schedule.specs.Runs.{IsRun}
 use Rattle.nd_schedule.proofs.Kept.{as_many, bound_next, record_there, version_there}
 use Rattle.nd_schedule.proofs.notebook.Notebook.bound_by.Goals as goal
@@ -24,6 +23,15 @@ returns-in-Some g c =
     c.last_of.ensures
     ∙ ap (λ o. unwrap_or o (is_some (lookup c.args.name.now (session_before (book_of c.args.self.now) c.args.at).names))) c.in-Some.is
 
+pub returns-then-at-len : goal.returns-then-at-len
+returns-then-at-len g c =
+    let all : IsRun (book_of c.args.self.now) (each_of g.C.Cells.recorded c.self.inside.records.items) (each_some g.C.Cells.kept_session c.self.inside.versions.items) =
+    subst (λ (s : Sheet). IsRun (book_of s) (each_of g.C.Cells.recorded c.self.inside.records.items) (each_some g.C.Cells.kept_session c.self.inside.versions.items)) c.self.view_is c.self.invariant.run in
+    bound_next (book_of c.args.self.now) all.distinct c.args.at (g.C.Cells.recorded c.deref.result.now) c.args.name.now c.last_of.result c.requires
+    (ap g.C.Cells.recorded c.deref.ensures ∙ record_there (λ r. g.C.Cells.recorded r.value) (book_of c.args.self.now) c.self.inside.records.items c.index.result.now c.args.at all.records c.requires c.index.ensures)
+    c.last_of.ensures
+    ∙ ap (λ o. unwrap_or o (is_some (lookup c.args.name.now (session_before (book_of c.args.self.now) c.args.at).names))) c.in-None.is
+
 pub returns-in-None-index : goal.returns-in-None-index
 returns-in-None-index g c =
     let all : IsRun (book_of c.args.self.now) (each_of g.C.Cells.recorded c.self.inside.records.items) (each_some g.C.Cells.kept_session c.self.inside.versions.items) =
@@ -42,5 +50,5 @@ returns-in-Some-index g c =
     c.last_of.ensures
     ∙ ap (λ o. unwrap_or o (is_some (lookup c.args.name.now (session_before (book_of c.args.self.now) c.args.at).names))) c.in-None.is
     ∙ ap (λ (s : Session). is_some (lookup c.args.name.now s.names))
-    (sym (ap g.C.Cells.kept_session c.deref-in-Some-index.ensures ∙ version_there (λ v. g.C.Cells.kept_session v.value) (book_of c.args.self.now) c.self.inside.versions.items c.index-in-None.result.now c.in-Some-index.version c.args.at all.versions (let many : length c.self.inside.versions.items ≡ length c.args.self.now.cells = sym (length-map c.self.inside.versions.items (some_of g.C.Cells.kept_session)) ∙ all.many in omega arith) c.index-in-None.ensures c.in-Some-index.is))
+    (sym (ap g.C.Cells.kept_session c.deref-in-Some-index.ensures ∙ version_there (λ v. g.C.Cells.kept_session v.value) (book_of c.args.self.now) c.self.inside.versions.items c.index-in-None.result.now c.in-Some-index.version c.args.at all.versions (omega arith) c.index-in-None.ensures c.in-Some-index.is))
     ∙ sym c.has_name.ensures

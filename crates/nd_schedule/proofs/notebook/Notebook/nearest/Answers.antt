@@ -5,9 +5,10 @@ use Rattle.nd_model.specs.Entries.{session_before}
 use Rattle.nd_model.specs.Notebook.{Sheet, book_of}
 use Rattle.nd_schedule.specs.declared.source.Source.{Source}
 use Rattle.nd_schedule.specs.Source.{cell_of}
-use Rattle.nd_schedule.specs.Shared.{some_of}
-use Rattle.nd_schedule.specs.Runs.{IsLast}
-use Rattle.nd_schedule.proofs.Kept.{last_there, version_there}
+use Rattle.nd_schedule.specs.Shared.{each_of, each_some, some_of}
+use Rattle.nd_schedule.specs.Runs.{AreVersions, IsLast, IsRun}
+use Rattle.nd_schedule.proofs.Kept.{last_there}
+use Rattle.nd_schedule.proofs.Steps.{both_ok}
 use Rattle.nd_schedule.proofs.notebook.Notebook.nearest.Goals as goal
 
 pub returns-in-Some : goal.returns-in-Some
@@ -21,9 +22,10 @@ returns-in-Some g c =
           ∙ last_there (λ v. g.C.Cells.kept_session v.value) (book_of c.args.self.now) c.self.inside.last c.in-Some.version end c.in-Some.is ∙ ap (session_before (book_of c.args.self.now)) here,
     )
 
-pub returns-in-Some-index : goal.returns-in-Some-index
-returns-in-Some-index g c = (
-  omega arith,
-  c.in_ok-session-2.ensures ∙ ap g.C.Cells.kept_session c.deref-in-Some-index.ensures
-      ∙ version_there (λ v. g.C.Cells.kept_session v.value) (book_of c.args.self.now) c.self.inside.versions.items c.index.result.now c.in-Some-index.version _ c.loop-back.invariant.versions (omega arith) c.index.ensures c.in-Some-index.is,
-)
+pub returns : goal.returns
+returns g c =
+    let run : IsRun (book_of c.args.self.now) (each_of g.C.Cells.recorded c.self.inside.records.items) (each_some g.C.Cells.kept_session c.self.inside.versions.items) =
+    subst (λ (s : Sheet). IsRun (book_of s) (each_of g.C.Cells.recorded c.self.inside.records.items) (each_some g.C.Cells.kept_session c.self.inside.versions.items)) c.self.view_is c.self.invariant.run in
+    both_ok _ _ _ c.session_from.result
+    (λ r place session. (place, session (book_of c.args.self.now) (subst (λ vs. AreVersions (book_of c.args.self.now) (each_some g.C.Cells.kept_session vs)) (sym c.deref-2.ensures.value) run.versions)))
+    c.session_from.ensures.place c.session_from.ensures.session

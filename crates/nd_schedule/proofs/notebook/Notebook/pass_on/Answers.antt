@@ -21,6 +21,7 @@ loop-k-init g c =
       records = c.requires.records;
       versions = c.requires.versions;
       many = c.requires.many;
+      known = c.requires.known;
       counts = λ before h. h;
     }
 
@@ -74,14 +75,14 @@ returns-in-Some-clause-ok g c =
     length_with c.args.self.now.cells c.self.inside.cells.items c.args.part.now.cells.items c.args.part.now.at c.args.part.now.behind all le in
     let lt : c.loop-k.k < length new.cells = omega (arith, c.requires.edit.order, c.requires.edit.within) in
     let met : IsMeeting old new c.args.part.now.at c.in-Some.there (c.loop-k.k + 1) = of_some (λ there. IsMeeting old new c.args.part.now.at there (c.loop-k.k + 1)) _ c.in-Some.there c.in_ok-made.ensures.met c.in-Some.is in
-    let longer : length c.push.new.self.items ≡ length c.loop-k.versions.items + 1 = length_more c.loop-k.versions.items _ c.in_ok-version.version _ refl c.in_ok-push.ensures.items in
-    cut_middle old new c.args.part.now.at le (each_of g.C.Cells.recorded c.push-in-loop-k.new.self.items) (each_some g.C.Cells.kept_session c.push.new.self.items) c.requires.edit.distinct
-    (version_more old new c.args.part.now.at c.loop-k.k (each_some g.C.Cells.kept_session c.loop-k.versions.items) _ (some_of g.C.Cells.kept_session c.in_ok-version.version) c.loop-k.invariant.versions le
-    (ap (λ n. c.args.part.now.at + n) (length-map c.loop-k.versions.items (some_of g.C.Cells.kept_session)) ∙ c.loop-k.invariant.many)
+    let longer : length c.push-in-loop-k.new.self.versions.items ≡ length c.loop-k.front.versions.items + 1 = length_more c.loop-k.front.versions.items _ c.in_ok-version.version _ refl (c.push-in-loop-k.ensures.versions ∙ c.in_ok-push.ensures.items) in
+    cut_middle old new c.args.part.now.at (each_of g.C.Cells.recorded c.push-in-loop-k.new.self.records.items) (each_some g.C.Cells.kept_session c.push-in-loop-k.new.self.versions.items) c.requires.edit.distinct
+    (version_more old new c.args.part.now.at c.loop-k.k (each_some g.C.Cells.kept_session c.loop-k.front.versions.items) _ (some_of g.C.Cells.kept_session c.in_ok-version.version) c.loop-k.invariant.versions
+    (ap (λ n. c.args.part.now.at + n) (length-map c.loop-k.front.versions.items (some_of g.C.Cells.kept_session)) ∙ c.loop-k.invariant.many)
     (version_made (λ v. g.C.Cells.kept_session v.value) c.in_ok-version.version _ _ c.in_ok-version.ensures.kept c.loop-k.invariant.session)
-    (ap (each_some g.C.Cells.kept_session) c.in_ok-push.ensures.items ∙ map-append (some_of g.C.Cells.kept_session) c.loop-k.versions.items _))
-    (c.loop-k.k + 1) c.in-Some.there met.back met.rest met.within (omega arith) (records_push (λ r. g.C.Cells.recorded r.value) new _ c.loop-k.k c.loop-k.records.items _ _ lt c.loop-k.invariant.records c.in_ok-push-2.ensures.items c.in_ok-made.ensures.made)
-    (ap (λ n. c.args.part.now.at + n) (length-map c.push.new.self.items (some_of g.C.Cells.kept_session)) ∙ (let e : c.args.part.now.at + length c.push.new.self.items ≡ c.loop-k.k + 1 = omega (arith, c.loop-k.invariant.many) in e))
+    (ap (each_some g.C.Cells.kept_session) (c.push-in-loop-k.ensures.versions ∙ c.in_ok-push.ensures.items) ∙ map-append (some_of g.C.Cells.kept_session) c.loop-k.front.versions.items _))
+    (c.loop-k.k + 1) c.in-Some.there met.back met.rest met.within (omega arith) (records_push (λ r. g.C.Cells.recorded r.value) new _ c.loop-k.k c.loop-k.front.records.items _ _ lt c.loop-k.invariant.records c.in_ok-push-2.ensures.records c.in_ok-made.ensures.made)
+    (ap (λ n. c.args.part.now.at + n) (length-map c.push-in-loop-k.new.self.versions.items (some_of g.C.Cells.kept_session)) ∙ (let e : c.args.part.now.at + length c.push-in-loop-k.new.self.versions.items ≡ c.loop-k.k + 1 = omega (arith, c.loop-k.invariant.many) in e))
 
 pub returns-in-Some-clause-end : goal.returns-in-Some-clause-end
 returns-in-Some-clause-end g c =
@@ -94,7 +95,7 @@ returns-in-Some-clause-end g c =
     length_with c.args.self.now.cells c.self.inside.cells.items c.args.part.now.cells.items c.args.part.now.at c.args.part.now.behind all le in
     let lt : c.loop-k.k < length new.cells = omega (arith, c.requires.edit.order, c.requires.edit.within) in
     let met : IsMeeting old new c.args.part.now.at c.in-Some.there (c.loop-k.k + 1) = of_some (λ there. IsMeeting old new c.args.part.now.at there (c.loop-k.k + 1)) _ c.in-Some.there c.in_ok-made.ensures.met c.in-Some.is in
-    end_same old new (c.loop-k.k + 1) c.in-Some.there met.back met.rest met.within (omega arith)
+    λ _. end_same old new (c.loop-k.k + 1) c.in-Some.there met.back met.rest met.within (omega arith)
 
 pub returns-in-Some-clause-order : goal.returns-in-Some-clause-order
 returns-in-Some-clause-order g c =
@@ -132,17 +133,18 @@ loop-k-preserved g c =
     let whole : length new.cells ≡ c.args.part.now.at + length c.args.part.now.cells.items + (length c.self.inside.cells.items - c.args.part.now.behind) =
     length_with c.args.self.now.cells c.self.inside.cells.items c.args.part.now.cells.items c.args.part.now.at c.args.part.now.behind all le in
     let lt : c.loop-k.k < length new.cells = omega (arith, c.requires.edit.order, c.requires.edit.within) in
-    let longer : length c.push.new.self.items ≡ length c.loop-k.versions.items + 1 = length_more c.loop-k.versions.items _ c.in_ok-version.version _ refl c.in_ok-push.ensures.items in
+    let longer : length c.push-in-loop-k.new.self.versions.items ≡ length c.loop-k.front.versions.items + 1 = length_more c.loop-k.front.versions.items _ c.in_ok-version.version _ refl (c.push-in-loop-k.ensures.versions ∙ c.in_ok-push.ensures.items) in
     record {
       from = omega (arith, c.loop-k.invariant.from);
       within = omega arith;
       session = c.in_ok-made.ensures.session;
-      records = (records_push (λ r. g.C.Cells.recorded r.value) new _ c.loop-k.k c.loop-k.records.items _ _ lt c.loop-k.invariant.records c.in_ok-push-2.ensures.items c.in_ok-made.ensures.made);
-      versions = (version_more old new c.args.part.now.at c.loop-k.k (each_some g.C.Cells.kept_session c.loop-k.versions.items) _ (some_of g.C.Cells.kept_session c.in_ok-version.version) c.loop-k.invariant.versions le
-          (ap (λ n. c.args.part.now.at + n) (length-map c.loop-k.versions.items (some_of g.C.Cells.kept_session)) ∙ c.loop-k.invariant.many)
+      records = (records_push (λ r. g.C.Cells.recorded r.value) new _ c.loop-k.k c.loop-k.front.records.items _ _ lt c.loop-k.invariant.records c.in_ok-push-2.ensures.records c.in_ok-made.ensures.made);
+      versions = (version_more old new c.args.part.now.at c.loop-k.k (each_some g.C.Cells.kept_session c.loop-k.front.versions.items) _ (some_of g.C.Cells.kept_session c.in_ok-version.version) c.loop-k.invariant.versions
+          (ap (λ n. c.args.part.now.at + n) (length-map c.loop-k.front.versions.items (some_of g.C.Cells.kept_session)) ∙ c.loop-k.invariant.many)
           (version_made (λ v. g.C.Cells.kept_session v.value) c.in_ok-version.version _ _ c.in_ok-version.ensures.kept c.loop-k.invariant.session)
-          (ap (each_some g.C.Cells.kept_session) c.in_ok-push.ensures.items ∙ map-append (some_of g.C.Cells.kept_session) c.loop-k.versions.items _));
+          (ap (each_some g.C.Cells.kept_session) (c.push-in-loop-k.ensures.versions ∙ c.in_ok-push.ensures.items) ∙ map-append (some_of g.C.Cells.kept_session) c.loop-k.front.versions.items _));
       many = omega (arith, c.loop-k.invariant.many);
+      known = c.in_ok-push-2.ensures.known old c.in_ok-made.ensures.known c.loop-k.invariant.known;
       counts = λ before h. c.step_at.ensures.counts before (c.loop-k.invariant.counts before h);
     }
 
@@ -161,11 +163,14 @@ returns-clause-ok g c =
     let le : c.args.part.now.at ≤ length c.args.self.now.cells = omega (arith, c.requires.edit.order, c.requires.edit.within) in
     let whole : length new.cells ≡ c.args.part.now.at + length c.args.part.now.cells.items + (length c.self.inside.cells.items - c.args.part.now.behind) =
     length_with c.args.self.now.cells c.self.inside.cells.items c.args.part.now.cells.items c.args.part.now.at c.args.part.now.behind all le in
-    whole_middle old new c.args.part.now.at le _ (each_some g.C.Cells.kept_session c.loop-k.versions.items) c.requires.edit.distinct c.loop-k.invariant.versions c.loop-k.k c.len-there.result (omega arith) (omega (arith, c.loop-k.invariant.within)) c.loop-k.invariant.records
-    (ap (λ n. c.args.part.now.at + n) (length-map c.loop-k.versions.items (some_of g.C.Cells.kept_session)) ∙ c.loop-k.invariant.many)
+    whole_middle old new c.args.part.now.at _ (each_some g.C.Cells.kept_session c.loop-k.front.versions.items) c.requires.edit.distinct c.loop-k.invariant.versions c.loop-k.k c.len-there.result (omega arith) (omega (arith, c.loop-k.invariant.within)) c.loop-k.invariant.records
+    (ap (λ n. c.args.part.now.at + n) (length-map c.loop-k.front.versions.items (some_of g.C.Cells.kept_session)) ∙ c.loop-k.invariant.many)
 
 pub returns-clause-counts : goal.returns-clause-counts
 returns-clause-counts g c =
     let old : Book = book_of c.args.self.now in
     let new : Book = with_part c.args.self.now c.args.part.now.at c.args.part.now.behind (cells_of c.args.part.now.cells.items) (g.C.Cells.given c.args.inputs.now) in
     λ before h. counts_stale old new c.loop-k.k before _ (c.loop-k.invariant.counts before h)
+
+pub returns-in-Some-clause-known : goal.returns-in-Some-clause-known
+returns-in-Some-clause-known g c = c.in_ok-push-2.ensures.known (book_of c.args.self.now) c.in_ok-made.ensures.known c.loop-k.invariant.known

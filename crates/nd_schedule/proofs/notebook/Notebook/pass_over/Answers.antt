@@ -35,6 +35,7 @@ loop-k-init g c =
       records = c.requires.records;
       versions = c.requires.versions;
       many = c.requires.many;
+      known = c.requires.known;
       counts = λ before h. h;
       run = run;
     }
@@ -96,7 +97,7 @@ pass_on-requires-clause-records g c =
     let rest : UnreadRest (c.args.part.now.at + 1) (c.args.part.now.at + 1) old new = subst (λ j. UnreadRest j (c.args.part.now.at + 1) old new) c.requires.one (subst (λ n. UnreadRest c.args.part.now.behind (c.args.part.now.at + n) old new) c.requires.alone c.requires.edit.rest) in
     let inside : length c.self.inside.cells.items ≡ length c.args.self.now.cells = sym (length-map c.self.inside.cells.items (λ s. cell_of s.value)) ∙ ap (λ (s : Sheet). length s.cells) c.self.view_is in
     let lt : c.loop-k.k < length new.cells = omega (arith, c.loop-k.invariant.within) in
-    (records_push (λ r. g.C.Cells.recorded r.value) new _ c.loop-k.k c.loop-k.records.items _ _ lt c.loop-k.invariant.records c.in_ok-push-2.ensures.items c.in_ok-made.ensures.made)
+    (records_push (λ r. g.C.Cells.recorded r.value) new _ c.loop-k.k c.loop-k.front.records.items _ _ lt c.loop-k.invariant.records c.in_ok-push-2.ensures.records c.in_ok-made.ensures.made)
 
 pub pass_on-requires-clause-versions : goal.pass_on-requires-clause-versions
 pass_on-requires-clause-versions g c =
@@ -109,16 +110,19 @@ pass_on-requires-clause-versions g c =
     let inside : length c.self.inside.cells.items ≡ length c.args.self.now.cells = sym (length-map c.self.inside.cells.items (λ s. cell_of s.value)) ∙ ap (λ (s : Sheet). length s.cells) c.self.view_is in
     let lt : c.loop-k.k < length new.cells = omega (arith, c.loop-k.invariant.within) in
     let le : c.args.part.now.at ≤ length c.args.self.now.cells = omega (arith, c.requires.edit.order, c.requires.edit.within) in
-    (version_more old new c.args.part.now.at c.loop-k.k (each_some g.C.Cells.kept_session c.loop-k.versions.items) _ (some_of g.C.Cells.kept_session c.in_ok-version.version) c.loop-k.invariant.versions le
-    (ap (λ n. c.args.part.now.at + n) (length-map c.loop-k.versions.items (some_of g.C.Cells.kept_session)) ∙ c.loop-k.invariant.many)
+    (version_more old new c.args.part.now.at c.loop-k.k (each_some g.C.Cells.kept_session c.loop-k.front.versions.items) _ (some_of g.C.Cells.kept_session c.in_ok-version.version) c.loop-k.invariant.versions
+    (ap (λ n. c.args.part.now.at + n) (length-map c.loop-k.front.versions.items (some_of g.C.Cells.kept_session)) ∙ c.loop-k.invariant.many)
     (version_made (λ v. g.C.Cells.kept_session v.value) c.in_ok-version.version _ _ c.in_ok-version.ensures (ap (λ r. did r (session_before old c.loop-k.k)) (ap g.C.Cells.recorded c.deref.ensures) ∙ sym c.loop-k.invariant.laid.session))
-    (ap (each_some g.C.Cells.kept_session) c.in_ok-push.ensures.items ∙ map-append (some_of g.C.Cells.kept_session) c.loop-k.versions.items _))
+    (ap (each_some g.C.Cells.kept_session) (c.push-in-loop-k.ensures.versions ∙ c.in_ok-push.ensures.items) ∙ map-append (some_of g.C.Cells.kept_session) c.loop-k.front.versions.items _))
+
+pub pass_on-requires-clause-known : goal.pass_on-requires-clause-known
+pass_on-requires-clause-known g c = c.in_ok-push-2.ensures.known (book_of c.args.self.now) c.in_ok-made.ensures.known c.loop-k.invariant.known
 
 pub pass_on-requires-clause-many : goal.pass_on-requires-clause-many
 pass_on-requires-clause-many g c =
     let old : Book = book_of c.args.self.now in
     let new : Book = with_part c.args.self.now c.args.part.now.at c.args.part.now.behind (cells_of c.args.part.now.cells.items) (g.C.Cells.given c.args.inputs.now) in
-    let longer : length c.push.new.self.items ≡ length c.loop-k.versions.items + 1 = length_more c.loop-k.versions.items _ c.in_ok-version.version _ refl c.in_ok-push.ensures.items in
+    let longer : length c.push-in-loop-k.new.self.versions.items ≡ length c.loop-k.front.versions.items + 1 = length_more c.loop-k.front.versions.items _ c.in_ok-version.version _ refl (c.push-in-loop-k.ensures.versions ∙ c.in_ok-push.ensures.items) in
     omega (arith, c.loop-k.invariant.many)
 
 pub returns-in-Some-clause-counts : goal.returns-in-Some-clause-counts
@@ -138,17 +142,18 @@ loop-k-preserved g c =
     let inside : length c.self.inside.cells.items ≡ length c.args.self.now.cells = sym (length-map c.self.inside.cells.items (λ s. cell_of s.value)) ∙ ap (λ (s : Sheet). length s.cells) c.self.view_is in
     let lt : c.loop-k.k < length new.cells = omega (arith, c.loop-k.invariant.within) in
     let le : c.args.part.now.at ≤ length c.args.self.now.cells = omega (arith, c.requires.edit.order, c.requires.edit.within) in
-    let longer : length c.push.new.self.items ≡ length c.loop-k.versions.items + 1 = length_more c.loop-k.versions.items _ c.in_ok-version.version _ refl c.in_ok-push.ensures.items in
+    let longer : length c.push-in-loop-k.new.self.versions.items ≡ length c.loop-k.front.versions.items + 1 = length_more c.loop-k.front.versions.items _ c.in_ok-version.version _ refl (c.push-in-loop-k.ensures.versions ∙ c.in_ok-push.ensures.items) in
     record {
       from = omega (arith, c.loop-k.invariant.from);
       within = omega arith;
       laid = subst (λ r. IsLaid old new c.args.part.now.at (c.loop-k.k + 1) (g.C.Cells.recorded r)) c.deref-in-loop-k.ensures (of_no_match (λ t. g.C.Cells.session_of t ≡ session_before new (c.loop-k.k + 1)) _ _ c.in_ok-made.ensures.laid c.in_default.is);
-      records = (records_push (λ r. g.C.Cells.recorded r.value) new _ c.loop-k.k c.loop-k.records.items _ _ lt c.loop-k.invariant.records c.in_ok-push-2.ensures.items c.in_ok-made.ensures.made);
-      versions = (version_more old new c.args.part.now.at c.loop-k.k (each_some g.C.Cells.kept_session c.loop-k.versions.items) _ (some_of g.C.Cells.kept_session c.in_ok-version.version) c.loop-k.invariant.versions le
-          (ap (λ n. c.args.part.now.at + n) (length-map c.loop-k.versions.items (some_of g.C.Cells.kept_session)) ∙ c.loop-k.invariant.many)
+      records = (records_push (λ r. g.C.Cells.recorded r.value) new _ c.loop-k.k c.loop-k.front.records.items _ _ lt c.loop-k.invariant.records c.in_ok-push-2.ensures.records c.in_ok-made.ensures.made);
+      versions = (version_more old new c.args.part.now.at c.loop-k.k (each_some g.C.Cells.kept_session c.loop-k.front.versions.items) _ (some_of g.C.Cells.kept_session c.in_ok-version.version) c.loop-k.invariant.versions
+          (ap (λ n. c.args.part.now.at + n) (length-map c.loop-k.front.versions.items (some_of g.C.Cells.kept_session)) ∙ c.loop-k.invariant.many)
           (version_made (λ v. g.C.Cells.kept_session v.value) c.in_ok-version.version _ _ c.in_ok-version.ensures (ap (λ r. did r (session_before old c.loop-k.k)) (ap g.C.Cells.recorded c.deref.ensures) ∙ sym c.loop-k.invariant.laid.session))
-          (ap (each_some g.C.Cells.kept_session) c.in_ok-push.ensures.items ∙ map-append (some_of g.C.Cells.kept_session) c.loop-k.versions.items _));
+          (ap (each_some g.C.Cells.kept_session) (c.push-in-loop-k.ensures.versions ∙ c.in_ok-push.ensures.items) ∙ map-append (some_of g.C.Cells.kept_session) c.loop-k.front.versions.items _));
       many = omega (arith, c.loop-k.invariant.many);
+      known = c.in_ok-push-2.ensures.known old c.in_ok-made.ensures.known c.loop-k.invariant.known;
       counts = λ before h. c.step_over.ensures.counts before (c.loop-k.invariant.counts before h);
       run = c.loop-k.invariant.run;
     }
@@ -176,6 +181,19 @@ returns-in_err-keep-clause-counts g c =
     let new : Book = with_part c.args.self.now c.args.part.now.at c.args.part.now.behind (cells_of c.args.part.now.cells.items) (g.C.Cells.given c.args.inputs.now) in
     λ before h. counts_stale old new c.loop-k.k before _ (c.loop-k.invariant.counts before h)
 
+pub returns-then-is_none-clause-ok : goal.returns-then-is_none-clause-ok
+returns-then-is_none-clause-ok g c =
+    let old : Book = book_of c.args.self.now in
+    let new : Book = with_part c.args.self.now c.args.part.now.at c.args.part.now.behind (cells_of c.args.part.now.cells.items) (g.C.Cells.given c.args.inputs.now) in
+    let many : length new.cells ≡ length c.args.self.now.cells = (let whole : length new.cells ≡ c.args.part.now.at + length (cells_of c.args.part.now.cells.items) + (length c.args.self.now.cells - c.args.part.now.behind) = length-splice c.args.self.now.cells (cells_of c.args.part.now.cells.items) c.args.part.now.at c.args.part.now.behind (omega (arith, c.requires.edit.order, c.requires.edit.within)) in
+    let few : length (cells_of c.args.part.now.cells.items) ≡ length c.args.part.now.cells.items = length-map c.args.part.now.cells.items (λ (s : Rc Source Global). cell_of s.value) in omega (arith, c.requires.one, c.requires.alone, c.requires.edit.within)) in
+    let in_old : c.args.part.now.at < length c.args.self.now.cells = omega (arith, c.requires.one, c.requires.edit.within) in
+    let rest : UnreadRest (c.args.part.now.at + 1) (c.args.part.now.at + 1) old new = subst (λ j. UnreadRest j (c.args.part.now.at + 1) old new) c.requires.one (subst (λ n. UnreadRest c.args.part.now.behind (c.args.part.now.at + n) old new) c.requires.alone c.requires.edit.rest) in
+    let inside : length c.self.inside.cells.items ≡ length c.args.self.now.cells = sym (length-map c.self.inside.cells.items (λ s. cell_of s.value)) ∙ ap (λ (s : Sheet). length s.cells) c.self.view_is in
+    let le : c.args.part.now.at ≤ length c.args.self.now.cells = omega (arith, c.requires.edit.order, c.requires.edit.within) in
+    whole_middle old new c.args.part.now.at _ (each_some g.C.Cells.kept_session c.loop-k.front.versions.items) c.requires.edit.distinct c.loop-k.invariant.versions c.loop-k.k c.len-there.result (omega arith) (omega (arith, c.loop-k.invariant.within)) c.loop-k.invariant.records
+    (ap (λ n. c.args.part.now.at + n) (length-map c.loop-k.front.versions.items (some_of g.C.Cells.kept_session)) ∙ c.loop-k.invariant.many)
+
 pub returns-clause-ok : goal.returns-clause-ok
 returns-clause-ok g c =
     let old : Book = book_of c.args.self.now in
@@ -186,8 +204,8 @@ returns-clause-ok g c =
     let rest : UnreadRest (c.args.part.now.at + 1) (c.args.part.now.at + 1) old new = subst (λ j. UnreadRest j (c.args.part.now.at + 1) old new) c.requires.one (subst (λ n. UnreadRest c.args.part.now.behind (c.args.part.now.at + n) old new) c.requires.alone c.requires.edit.rest) in
     let inside : length c.self.inside.cells.items ≡ length c.args.self.now.cells = sym (length-map c.self.inside.cells.items (λ s. cell_of s.value)) ∙ ap (λ (s : Sheet). length s.cells) c.self.view_is in
     let le : c.args.part.now.at ≤ length c.args.self.now.cells = omega (arith, c.requires.edit.order, c.requires.edit.within) in
-    whole_middle old new c.args.part.now.at le _ (each_some g.C.Cells.kept_session c.loop-k.versions.items) c.requires.edit.distinct c.loop-k.invariant.versions c.loop-k.k c.len-there.result (omega arith) (omega (arith, c.loop-k.invariant.within)) c.loop-k.invariant.records
-    (ap (λ n. c.args.part.now.at + n) (length-map c.loop-k.versions.items (some_of g.C.Cells.kept_session)) ∙ c.loop-k.invariant.many)
+    whole_middle old new c.args.part.now.at _ (each_some g.C.Cells.kept_session c.loop-k.front.versions.items) c.requires.edit.distinct c.loop-k.invariant.versions c.loop-k.k c.len-there.result (omega arith) (omega (arith, c.loop-k.invariant.within)) c.loop-k.invariant.records
+    (ap (λ n. c.args.part.now.at + n) (length-map c.loop-k.front.versions.items (some_of g.C.Cells.kept_session)) ∙ c.loop-k.invariant.many)
 
 pub returns-clause-end : goal.returns-clause-end
 returns-clause-end g c =
@@ -203,6 +221,12 @@ returns-clause-end g c =
 
 pub returns-clause-counts : goal.returns-clause-counts
 returns-clause-counts g c =
+    let old : Book = book_of c.args.self.now in
+    let new : Book = with_part c.args.self.now c.args.part.now.at c.args.part.now.behind (cells_of c.args.part.now.cells.items) (g.C.Cells.given c.args.inputs.now) in
+    λ before h. counts_stale old new c.loop-k.k before _ (c.loop-k.invariant.counts before h)
+
+pub returns-then-is_none-clause-counts : goal.returns-then-is_none-clause-counts
+returns-then-is_none-clause-counts g c =
     let old : Book = book_of c.args.self.now in
     let new : Book = with_part c.args.self.now c.args.part.now.at c.args.part.now.behind (cells_of c.args.part.now.cells.items) (g.C.Cells.given c.args.inputs.now) in
     λ before h. counts_stale old new c.loop-k.k before _ (c.loop-k.invariant.counts before h)

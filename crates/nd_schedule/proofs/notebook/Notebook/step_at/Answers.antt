@@ -10,6 +10,7 @@ use Rattle.nd_schedule.specs.Shared.{each_of, each_some, some_of}
 use Rattle.nd_schedule.specs.Runs.{IsMeeting, IsMet, IsRun, with_part}
 use Rattle.nd_schedule.proofs.Passes.{none_there, kept_there, counts_more, counts_same, session_more, entry_is}
 use Rattle.nd_schedule.proofs.Cut.{both_some, rest_met, met_there}
+use Rattle.nd_schedule.proofs.Known.{old_kept}
 use Rattle.nd_schedule.proofs.notebook.Notebook.step_at.Goals as goal
 
 pub returns-in_err-slot-clause-counts : goal.returns-in_err-slot-clause-counts
@@ -39,8 +40,8 @@ step-requires-clause-of_run g c =
     let kept : some_of g.C.Cells.recorded c.in_ok-slot.slot.kept ≡ kept_of old (cell_of c.deref.result.now) = c.in_ok-slot.ensures.kept ∙ ap (λ s. kept_of old (cell_of s)) (sym c.deref.ensures) in
     kept_there old new run.distinct c.requires.edit.distinct c.args.k lt (λ r. g.C.Cells.recorded r.value) (cell_of c.deref.result.now) c.in_ok-slot.slot.kept kept
 
-pub returns-in_err-made-clause-counts : goal.returns-in_err-made-clause-counts
-returns-in_err-made-clause-counts g c =
+pub returns-in_err-record-clause-counts : goal.returns-in_err-record-clause-counts
+returns-in_err-record-clause-counts g c =
     let old : Book = book_of c.args.self.now in
     let new : Book = with_part c.args.self.now c.args.part.now.at c.args.part.now.behind (cells_of c.args.part.now.cells.items) (g.C.Cells.given c.args.inputs.now) in
     let run : IsRun old (each_of g.C.Cells.recorded c.self.inside.records.items) (each_some g.C.Cells.kept_session c.self.inside.versions.items) =
@@ -56,7 +57,7 @@ returns-clause-made g c =
     let new : Book = with_part c.args.self.now c.args.part.now.at c.args.part.now.behind (cells_of c.args.part.now.cells.items) (g.C.Cells.given c.args.inputs.now) in
     let lt : c.args.k < length new.cells = c.requires.within in
     let is : cell_of c.deref.result.now ≡ (entry_at new c.args.k).cell = ap cell_of c.deref.ensures ∙ c.in_ok-slot.ensures.cell in
-    c.in_ok-made.ensures.made ∙ ap (record_at new.inputs) (entry_is new c.args.k lt (cell_of c.deref.result.now) (g.C.Cells.session_of c.args.session.now) is c.requires.session)
+    c.in_ok-record.ensures.made ∙ ap (record_at new.inputs) (entry_is new c.args.k lt (cell_of c.deref.result.now) (g.C.Cells.session_of c.args.session.now) is c.requires.session)
 
 pub returns-clause-session : goal.returns-clause-session
 returns-clause-session g c =
@@ -64,7 +65,7 @@ returns-clause-session g c =
     let new : Book = with_part c.args.self.now c.args.part.now.at c.args.part.now.behind (cells_of c.args.part.now.cells.items) (g.C.Cells.given c.args.inputs.now) in
     let lt : c.args.k < length new.cells = c.requires.within in
     let is : cell_of c.deref.result.now ≡ (entry_at new c.args.k).cell = ap cell_of c.deref.ensures ∙ c.in_ok-slot.ensures.cell in
-    session_more new c.args.k lt (cell_of c.deref.result.now) (g.C.Cells.session_of c.args.session.now) is c.requires.session _ c.in_ok-made.ensures.after
+    session_more new c.args.k lt (cell_of c.deref.result.now) (g.C.Cells.session_of c.args.session.now) is c.requires.session _ c.in_ok-record.ensures.after
 
 pub returns-clause-met : goal.returns-clause-met
 returns-clause-met g c =
@@ -76,8 +77,8 @@ returns-clause-met g c =
     let is : cell_of c.deref.result.now ≡ (entry_at new c.args.k).cell = ap cell_of c.deref.ensures ∙ c.in_ok-slot.ensures.cell in
     let unread : UnreadRest c.args.part.now.behind (c.args.part.now.at + c.len.result) old new = subst (λ n. UnreadRest c.args.part.now.behind (c.args.part.now.at + n) old new) (let e : length c.args.part.now.cells.items ≡ c.len.result = omega arith in e) c.requires.edit.rest in
     let made : g.C.Cells.recorded c.deref-2.result.now ≡ record_at new.inputs (entry_at new c.args.k) =
-    ap g.C.Cells.recorded c.deref-2.ensures ∙ c.in_ok-made.ensures.made ∙ ap (record_at new.inputs) (entry_is new c.args.k lt (cell_of c.deref.result.now) (g.C.Cells.session_of c.args.session.now) is c.requires.session) in
-    let after : g.C.Cells.session_of c.step.new.session ≡ session_before new (c.args.k + 1) = session_more new c.args.k lt (cell_of c.deref.result.now) (g.C.Cells.session_of c.args.session.now) is c.requires.session _ c.in_ok-made.ensures.after in
+    ap g.C.Cells.recorded c.deref-2.ensures ∙ c.in_ok-record.ensures.made ∙ ap (record_at new.inputs) (entry_is new c.args.k lt (cell_of c.deref.result.now) (g.C.Cells.session_of c.args.session.now) is c.requires.session) in
+    let after : g.C.Cells.session_of c.step.new.session ≡ session_before new (c.args.k + 1) = session_more new c.args.k lt (cell_of c.deref.result.now) (g.C.Cells.session_of c.args.session.now) is c.requires.session _ c.in_ok-record.ensures.after in
     both_some (λ there. IsMet old c.args.part.now.at c.args.k there (g.C.Cells.recorded c.deref-2.result.now) (g.C.Cells.session_of c.step.new.session)) (λ there. (c.args.part.now.at + c.len.result ≤ c.args.k + 1) × (there ≡ c.args.part.now.behind + (c.args.k + 1 - (c.args.part.now.at + c.len.result)))) (λ there. IsMeeting old new c.args.part.now.at there (c.args.k + 1)) c.met-met.result
     (λ there met behind.
     let rest : (there ≤ length c.args.self.now.cells) × UnreadRest there (c.args.k + 1) old new = rest_met old new c.args.part.now.behind (c.args.part.now.at + c.len.result) c.args.k there c.requires.edit.within unread lt behind in
@@ -98,3 +99,6 @@ returns-clause-counts g c =
     let is : cell_of c.deref.result.now ≡ (entry_at new c.args.k).cell = ap cell_of c.deref.ensures ∙ c.in_ok-slot.ensures.cell in
     let kept : some_of g.C.Cells.recorded c.in_ok-slot.slot.kept ≡ kept_of old (cell_of c.deref.result.now) = c.in_ok-slot.ensures.kept ∙ ap (λ s. kept_of old (cell_of s)) (sym c.deref.ensures) in
     λ before h. counts_more old new run.distinct c.requires.edit.distinct c.args.k lt (λ r. g.C.Cells.recorded r.value) (cell_of c.deref.result.now) c.in_ok-slot.slot.kept _ before _ _ is kept c.requires.session h c.step.ensures.counts
+
+pub returns-clause-known : goal.returns-clause-known
+returns-clause-known g c = λ e. old_kept (book_of c.args.self.now) (cell_of c.in_ok-slot.slot.cell.value) _ (sym c.in_ok-slot.ensures.kept ∙ c.in_ok-record.ensures.kept e)

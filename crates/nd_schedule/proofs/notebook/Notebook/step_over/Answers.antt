@@ -14,6 +14,7 @@ use Rattle.nd_schedule.proofs.Over.{laid_met, laid_missed, lies_over, record_mis
 use Rattle.std.specs.declared.rc.Rc.{Rc}
 use Rattle.nd_schedule.specs.declared.source.Source.{Source}
 use Rattle.nd_schedule.proofs.Spliced.{length-splice}
+use Rattle.nd_schedule.proofs.Known.{old_there}
 use Rattle.nd_schedule.proofs.notebook.Notebook.step_over.Goals as goal
 
 pub index-requires : goal.index-requires
@@ -46,6 +47,14 @@ returns-then-is_missed-clause-made g c =
     let rest : UnreadRest (c.args.part.now.at + 1) (c.args.part.now.at + 1) old new = subst (λ j. UnreadRest j (c.args.part.now.at + 1) old new) c.requires.one (subst (λ n. UnreadRest c.args.part.now.behind (c.args.part.now.at + n) old new) c.requires.alone c.requires.edit.rest) in
     let there : g.C.Cells.recorded c.in_ok-made.made.value ≡ record_at old.inputs (entry_at old c.args.k) = ap g.C.Cells.recorded c.in_ok-made.ensures.cases ∙ record_there (λ r. g.C.Cells.recorded r.value) old c.self.inside.records.items c.index.result.now c.args.k run.records c.requires.within c.index.ensures in
     record_missed old new c.args.part.now.at run.distinct c.requires.edit.distinct in_old many c.requires.edit.front rest c.args.k c.requires.from c.requires.within (g.C.Cells.recorded c.args.over.now) c.requires.laid _ there (subst (Misses (g.C.Cells.recorded c.args.over.now)) (sym there) (c.if-is_missed.ensures.misses refl))
+
+pub returns-then-is_missed-clause-known : goal.returns-then-is_missed-clause-known
+returns-then-is_missed-clause-known g c = λ e.
+    let old : Book = book_of c.args.self.now in
+    let run : IsRun old (each_of g.C.Cells.recorded c.self.inside.records.items) (each_some g.C.Cells.kept_session c.self.inside.versions.items) =
+    subst (λ (s : Sheet). IsRun (book_of s) (each_of g.C.Cells.recorded c.self.inside.records.items) (each_some g.C.Cells.kept_session c.self.inside.versions.items)) c.self.view_is c.self.invariant.run in
+    old_there old c.args.k _ c.requires.within
+    (ap g.C.Cells.recorded c.in_ok-made.ensures.cases ∙ record_there (λ r. g.C.Cells.recorded r.value) old c.self.inside.records.items c.index.result.now c.args.k run.records c.requires.within c.index.ensures)
 
 pub returns-then-is_missed-clause-laid : goal.returns-then-is_missed-clause-laid
 returns-then-is_missed-clause-laid g c =

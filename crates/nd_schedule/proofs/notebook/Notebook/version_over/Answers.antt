@@ -1,11 +1,10 @@
-use Rattle.std.proofs.Common.{◌≡◌, length, sym, ap, subst, ◌∙◌, arith}
-use Rattle.std.proofs.lemmas.List.{length-map}
+use Rattle.std.proofs.Common.{◌≡◌, sym, ap, subst, ◌∙◌, arith}
 use Rattle.nd_model.specs.Session.{Session}
 use Rattle.nd_model.specs.Book.{Book}
 use Rattle.nd_model.specs.Entries.{session_before}
 use Rattle.nd_model.specs.Notebook.{Sheet, book_of}
 use Rattle.nd_model.specs.Overlay.{did}
-use Rattle.nd_schedule.specs.Shared.{each_of, each_some, some_of}
+use Rattle.nd_schedule.specs.Shared.{each_of, each_some}
 use Rattle.nd_schedule.specs.Runs.{IsRun}
 use Rattle.nd_schedule.proofs.Kept.{version_there}
 use Rattle.nd_model.specs.Overlay.{IsOnce, IsUnder}
@@ -18,7 +17,7 @@ overlay-requires-clause-under g c =
     let run : IsRun old (each_of g.C.Cells.recorded c.self.inside.records.items) (each_some g.C.Cells.kept_session c.self.inside.versions.items) =
     subst (λ (s : Sheet). IsRun (book_of s) (each_of g.C.Cells.recorded c.self.inside.records.items) (each_some g.C.Cells.kept_session c.self.inside.versions.items)) c.self.view_is c.self.invariant.run in
     let here : g.C.Cells.session_of c.in_ok-session.session ≡ session_before old c.args.k =
-    c.in_ok-session.ensures ∙ ap g.C.Cells.kept_session c.deref.ensures ∙ version_there (λ v. g.C.Cells.kept_session v.value) old c.self.inside.versions.items c.index.result.now c.in-Some.version c.args.k run.versions (let all : length (each_some g.C.Cells.kept_session c.self.inside.versions.items) ≡ length c.self.inside.versions.items = length-map c.self.inside.versions.items (some_of g.C.Cells.kept_session) in omega (arith, run.many, c.requires.within)) c.index.ensures c.in-Some.is in
+    c.in_ok-session.ensures ∙ ap g.C.Cells.kept_session c.deref.ensures ∙ version_there (λ v. g.C.Cells.kept_session v.value) old c.self.inside.versions.items c.index.result.now c.in-Some.version c.args.k run.versions (omega arith) c.index.ensures c.in-Some.is in
     subst (IsUnder (g.C.Cells.recorded c.args.over.now)) (sym here) c.requires.over.under
 
 pub overlay-requires-clause-once : goal.overlay-requires-clause-once
@@ -27,7 +26,7 @@ overlay-requires-clause-once g c =
     let run : IsRun old (each_of g.C.Cells.recorded c.self.inside.records.items) (each_some g.C.Cells.kept_session c.self.inside.versions.items) =
     subst (λ (s : Sheet). IsRun (book_of s) (each_of g.C.Cells.recorded c.self.inside.records.items) (each_some g.C.Cells.kept_session c.self.inside.versions.items)) c.self.view_is c.self.invariant.run in
     let here : g.C.Cells.session_of c.in_ok-session.session ≡ session_before old c.args.k =
-    c.in_ok-session.ensures ∙ ap g.C.Cells.kept_session c.deref.ensures ∙ version_there (λ v. g.C.Cells.kept_session v.value) old c.self.inside.versions.items c.index.result.now c.in-Some.version c.args.k run.versions (let all : length (each_some g.C.Cells.kept_session c.self.inside.versions.items) ≡ length c.self.inside.versions.items = length-map c.self.inside.versions.items (some_of g.C.Cells.kept_session) in omega (arith, run.many, c.requires.within)) c.index.ensures c.in-Some.is in
+    c.in_ok-session.ensures ∙ ap g.C.Cells.kept_session c.deref.ensures ∙ version_there (λ v. g.C.Cells.kept_session v.value) old c.self.inside.versions.items c.index.result.now c.in-Some.version c.args.k run.versions (omega arith) c.index.ensures c.in-Some.is in
     subst (λ (s : Session). IsOnce s.names) (sym here) c.requires.over.once
 
 pub overlay-requires-clause-sound : goal.overlay-requires-clause-sound
@@ -36,7 +35,7 @@ overlay-requires-clause-sound g c =
     let run : IsRun old (each_of g.C.Cells.recorded c.self.inside.records.items) (each_some g.C.Cells.kept_session c.self.inside.versions.items) =
     subst (λ (s : Sheet). IsRun (book_of s) (each_of g.C.Cells.recorded c.self.inside.records.items) (each_some g.C.Cells.kept_session c.self.inside.versions.items)) c.self.view_is c.self.invariant.run in
     let here : g.C.Cells.session_of c.in_ok-session.session ≡ session_before old c.args.k =
-    c.in_ok-session.ensures ∙ ap g.C.Cells.kept_session c.deref.ensures ∙ version_there (λ v. g.C.Cells.kept_session v.value) old c.self.inside.versions.items c.index.result.now c.in-Some.version c.args.k run.versions (let all : length (each_some g.C.Cells.kept_session c.self.inside.versions.items) ≡ length c.self.inside.versions.items = length-map c.self.inside.versions.items (some_of g.C.Cells.kept_session) in omega (arith, run.many, c.requires.within)) c.index.ensures c.in-Some.is in
+    c.in_ok-session.ensures ∙ ap g.C.Cells.kept_session c.deref.ensures ∙ version_there (λ v. g.C.Cells.kept_session v.value) old c.self.inside.versions.items c.index.result.now c.in-Some.version c.args.k run.versions (omega arith) c.index.ensures c.in-Some.is in
     subst (λ s. IsSoundSession (did (g.C.Cells.recorded c.args.over.now) s)) (sym here) c.requires.over.sound
 
 pub returns : goal.returns
@@ -45,5 +44,5 @@ returns g c =
     let run : IsRun old (each_of g.C.Cells.recorded c.self.inside.records.items) (each_some g.C.Cells.kept_session c.self.inside.versions.items) =
     subst (λ (s : Sheet). IsRun (book_of s) (each_of g.C.Cells.recorded c.self.inside.records.items) (each_some g.C.Cells.kept_session c.self.inside.versions.items)) c.self.view_is c.self.invariant.run in
     let here : g.C.Cells.session_of c.in_ok-session.session ≡ session_before old c.args.k =
-    c.in_ok-session.ensures ∙ ap g.C.Cells.kept_session c.deref.ensures ∙ version_there (λ v. g.C.Cells.kept_session v.value) old c.self.inside.versions.items c.index.result.now c.in-Some.version c.args.k run.versions (let all : length (each_some g.C.Cells.kept_session c.self.inside.versions.items) ≡ length c.self.inside.versions.items = length-map c.self.inside.versions.items (some_of g.C.Cells.kept_session) in omega (arith, run.many, c.requires.within)) c.index.ensures c.in-Some.is in
+    c.in_ok-session.ensures ∙ ap g.C.Cells.kept_session c.deref.ensures ∙ version_there (λ v. g.C.Cells.kept_session v.value) old c.self.inside.versions.items c.index.result.now c.in-Some.version c.args.k run.versions (omega arith) c.index.ensures c.in-Some.is in
     c.in_ok-keep.ensures.kept ∙ c.in_ok-overlay.ensures ∙ ap (did (g.C.Cells.recorded c.args.over.now)) here

@@ -1,0 +1,132 @@
+// Names that cells read, and labels of the cells whose bases they read.
+
+ghost use Rattle.std.specs.Prelude.{◌≡◌, ◌↔◌, ℕ, Contains, IsTrue, List, None, OnOk, [], map, true};
+ghost use Rattle.nd_model.specs.Running as running;
+ghost use Rattle.nd_model.specs.Session as model;
+ghost use Rattle.nd_session.specs.Changes.{events_in};
+ghost use Rattle.nd_session.specs.Events.{event_of};
+ghost use Rattle.nd_session.specs.Kept.{version_of};
+ghost use Rattle.nd_session.specs.Live.{is_among};
+ghost use Rattle.nd_session.specs.Noted.{AreUnread, StaysNoted, has_bound, has_noted};
+
+use crate::changes::Changes;
+use crate::trace::Event;
+use crate::version::Version;
+use indexmap::IndexSet;
+use nd_heap::OutOfMemory;
+use std::alloc::Global;
+use std::marker::Model;
+
+/// Names that cells read, and the labels of the cells whose bases they read, of as many cells as were noted.
+#[derive(Drop)]
+pub struct Readings {
+    names: IndexSet<String>,
+    labels: IndexSet<u64>,
+    alloc: Global,
+}
+
+impl Model for Readings {
+    ghost use Rattle.nd_model.specs.Beside as beside;
+
+    ghost Value = { beside.Readings };
+
+    ghost use Rattle.std.specs.Prelude.{map, string_bytes};
+
+    ghost view = { λ r. record {
+      names = map string_bytes r.names.keys;
+      labels = r.labels.keys;
+    } };
+}
+
+impl Readings {
+    /// Nothing is noted. It takes no memory.
+    pub fn new(alloc: Global) -> Readings
+        ensures { result ≡ record { names = []; labels = [] } }
+    {
+        Readings {
+            names: IndexSet::new(alloc),
+            labels: IndexSet::new(alloc),
+            alloc,
+        }
+    }
+
+    /// Notes a name. It is copied only where it is not there yet.
+    pub(crate) fn note_name(&mut self, name: &str) -> Result<(), OutOfMemory>
+        ensures noted { OnOk result (Contains self.new.names name.now) }
+        ensures stays { StaysNoted self.old self.new }
+    {
+        if self.names.contains(name) {
+            return Ok(());
+        }
+        let key = String::from_str(self.alloc, name)?;
+        self.names.insert(key)?;
+        Ok(())
+    }
+
+    /// Notes a label.
+    pub(crate) fn note_label(&mut self, label: u64) -> Result<(), OutOfMemory>
+        ensures noted { OnOk result (Contains self.new.labels label) }
+        ensures stays { StaysNoted self.old self.new }
+    {
+        if self.labels.contains(&label) {
+            return Ok(());
+        }
+        self.labels.insert(label)?;
+        Ok(())
+    }
+
+    /// Whether a name is noted.
+    fn has_name(&self, name: &str) -> bool
+        ensures { result ≡ is_among self.now.names name.now }
+    {
+        self.names.contains(name)
+    }
+
+    /// Whether a label is noted.
+    fn has_label(&self, label: u64) -> bool
+        ensures { IsTrue result ↔ Contains self.now.labels label }
+    {
+        self.labels.contains(&label)
+    }
+}
+
+/// Whether some event is of a name that is noted.
+fn touches_noted(events: &[Event], readings: &Readings) -> bool
+    ensures { result ≡ has_noted readings.now.names (map event_of events.now) }
+{
+    for event in events {
+        if readings.has_name(event.name().as_str()) {
+            return true;
+        }
+    }
+    false
+}
+
+/// Whether some event is of a name that the version binds.
+fn touches_bound(events: &[Event], version: &Version) -> bool
+    ensures { result ≡ has_bound (version_of version.now).names (map event_of events.now) }
+{
+    for event in events {
+        if version.has_name(event.name().as_str()) {
+            return true;
+        }
+    }
+    false
+}
+
+impl Changes {
+    /// Whether none of the names that the cell bound and unbound is noted, nor the cell's label. It takes no memory.
+    pub fn are_unread(&self, readings: &Readings) -> bool
+        ensures { IsTrue result ↔ AreUnread self.now readings.now }
+    {
+        !readings.has_label(self.label) && !touches_noted(&self.events, readings)
+    }
+
+    /// Whether the version binds none of the names that the cell bound and unbound. It takes no memory.
+    pub fn has_no_name(&self, version: &Version) -> bool
+        ensures { IsTrue result ↔ ((n : List ℕ) → running.is_touched n (events_in self.now) ≡ true
+            → model.lookup n (version_of version.now).names ≡ None) }
+    {
+        !touches_bound(&self.events, version)
+    }
+}

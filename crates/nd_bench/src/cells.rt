@@ -32,18 +32,28 @@ fn insert_cells(
     Ok(())
 }
 
-// Prints how long as many insertions take in a new notebook.
-fn measure_insertions(rt: &HostRuntime, count: u64, in_front: bool) -> io::Result<()> {
+// Prints how long as many insertions take in this notebook, which is empty.
+fn time_insertions(
+    rt: &HostRuntime,
+    notebook: &mut Notebook,
+    count: u64,
+    in_front: bool,
+) -> io::Result<()> {
     let mut meter = Meter::new(rt);
-    let mut notebook = Notebook::new(rt.alloc());
     let start = Instant::now(rt)?;
-    insert_cells(rt, &mut meter, &mut notebook, count, "3", in_front)?;
+    insert_cells(rt, &mut meter, notebook, count, "3", in_front)?;
     let took = start.elapsed(rt)?.as_micros();
     let place = if in_front { "front" } else { "end" };
     println!(rt;
         "insert {count} at the {place}: {took} microseconds, {} runs",
         meter.runs()
     )
+}
+
+// The same in a new notebook.
+fn measure_insertions(rt: &HostRuntime, count: u64, in_front: bool) -> io::Result<()> {
+    let mut notebook = Notebook::new(rt.alloc());
+    time_insertions(rt, &mut notebook, count, in_front)
 }
 
 // Prints how long the edit takes of a cell that is there.
@@ -61,12 +71,12 @@ fn measure_edit(
     println!(rt; "{what}: {took} microseconds, {} runs", meter.runs())
 }
 
-// Prints how long edits take of a notebook of as many cells that bind an array each, and one behind them that prints the first.
-fn measure_edits(rt: &HostRuntime, count: u64) -> io::Result<()> {
+// Prints how long edits take of this notebook, which is empty, once it has as many cells that bind an array each, and one behind
+// them that prints the first.
+fn time_edits(rt: &HostRuntime, notebook: &mut Notebook, count: u64) -> io::Result<()> {
     let mut meter = Meter::new(rt);
-    let mut notebook = Notebook::new(rt.alloc());
     let start = Instant::now(rt)?;
-    insert_cells(rt, &mut meter, &mut notebook, count, "3", false)?;
+    insert_cells(rt, &mut meter, notebook, count, "3", false)?;
     let last = notebook.count();
     notebook
         .insert(&mut meter, last, "print(v0)")
@@ -76,30 +86,42 @@ fn measure_edits(rt: &HostRuntime, count: u64) -> io::Result<()> {
         "insert {count} and one that prints: {took} microseconds, {} runs",
         meter.runs()
     )?;
-    measure_edit(rt, &mut notebook, "edit the last", last, "print(v0, 1)")?;
+    measure_edit(rt, notebook, "edit the last", last, "print(v0, 1)")?;
     measure_edit(
         rt,
-        &mut notebook,
+        notebook,
         "edit the first, which the last reads",
         0,
         "v0 = np.arange(4)",
     )?;
     measure_edit(
         rt,
-        &mut notebook,
+        notebook,
         "edit the first, which does the same",
         0,
         "v0 = np.arange( 4 )",
     )
 }
 
-// Prints how long an edit takes that all of as many cells read, so that all are run.
-fn measure_all(rt: &HostRuntime, count: u64) -> io::Result<()> {
-    let mut meter = Meter::new(rt);
+// The same in a new notebook.
+fn measure_edits(rt: &HostRuntime, count: u64) -> io::Result<()> {
     let mut notebook = Notebook::new(rt.alloc());
-    insert_cells(rt, &mut meter, &mut notebook, count, "n", false)?;
+    time_edits(rt, &mut notebook, count)
+}
+
+// Prints how long an edit takes of this notebook, which is empty, once it has as many cells that read what is edited, so that all
+// are run.
+fn time_all(rt: &HostRuntime, notebook: &mut Notebook, count: u64) -> io::Result<()> {
+    let mut meter = Meter::new(rt);
+    insert_cells(rt, &mut meter, notebook, count, "n", false)?;
     notebook.insert(&mut meter, 0, "n = 3").map_err(error_of)?;
-    measure_edit(rt, &mut notebook, "edit what all read", 0, "n = 4")
+    measure_edit(rt, notebook, "edit what all read", 0, "n = 4")
+}
+
+// The same in a new notebook.
+fn measure_all(rt: &HostRuntime, count: u64) -> io::Result<()> {
+    let mut notebook = Notebook::new(rt.alloc());
+    time_all(rt, &mut notebook, count)
 }
 
 /// Prints how long it takes to insert cells at the end and in front, to edit the last of many and the first, and to run them all.

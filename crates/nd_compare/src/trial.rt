@@ -34,15 +34,21 @@ pub(crate) struct Trial {
     pass: Pass,
 }
 
-/// A new notebook of these cells and inputs.
-fn fresh_notebook(alloc: Global, meter: &mut Meter, book: &Book) -> Result<Notebook, EditFault> {
-    let mut notebook = Notebook::new(alloc);
+/// Gives a notebook these cells and inputs.
+fn fill_notebook(notebook: &mut Notebook, meter: &mut Meter, book: &Book) -> Result<(), EditFault> {
     for (name, input) in &book.inputs {
         notebook.set_input(meter, name.as_str(), input.as_ref())?;
     }
     for (at, cell) in book.cells.iter().enumerate() {
         notebook.insert(meter, at, cell.text.as_str())?;
     }
+    Ok(())
+}
+
+/// A new notebook of these cells and inputs.
+fn fresh_notebook(alloc: Global, meter: &mut Meter, book: &Book) -> Result<Notebook, EditFault> {
+    let mut notebook = Notebook::new(alloc);
+    fill_notebook(&mut notebook, meter, book)?;
     Ok(notebook)
 }
 

@@ -3,3 +3,4 @@ pub mod Lines
 pub mod Openings
 pub mod Pieces
 pub mod Edited
+pub mod Beginnings

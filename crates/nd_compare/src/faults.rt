@@ -45,9 +45,11 @@ fn add_error(text: &mut String, error: &StmtError) -> Result<(), AllocError> {
         StmtError::IntTooBig => write!(text, "integer too big"),
         StmtError::ZeroDivide => write!(text, "zero divide"),
         StmtError::NegativeShift => write!(text, "negative shift"),
+        StmtError::NeedsType => write!(text, "needs a type"),
         StmtError::NotAnArray => write!(text, "not an array"),
         StmtError::TextTooLong => write!(text, "text too long"),
         StmtError::BadArgument => write!(text, "bad argument"),
+        StmtError::BadType => write!(text, "bad type"),
     }
 }
 

@@ -82,6 +82,9 @@ pub held_all_marked : (ws vs : List Value) (r s : Running) → s ≡ all_marked 
 held_all_marked [] vs r s mark h = rw mark h
 held_all_marked (w ∷ ws) vs r s mark h = held_all_marked ws vs (marked w r) s mark (all_held_marked w r vs h)
 
+pub held_past : (ws : List Value) (v : Value) (r s : Running) → s ≡ all_marked ws r → IsHeld r v → IsHeld s v
+held_past ws v r s mark h = All-head (λ w. IsHeld s w) v [] (held_all_marked ws (v ∷ []) r s mark (All-cons (λ w. IsHeld r w) v [] h (All-nil (λ w. IsHeld r w))))
+
 -- ---- what is found is held
 
 bound_held : (P : Base → Geo → Type 0) (n : List ℕ) (v : model.Value) (es : Names) → AreViewsOf P (session.bind n v es) → IsViewOf P v

@@ -1,13 +1,13 @@
 -- An operand and what goes on it, one after the other.
-use Rattle.std.proofs.Common.{◌≡◌, ◌≢◌, ℕ, ◌+◌, ◌<◌, length, get_or, drop, List, [], ◌∷◌, map, false, Option, None, Some, Result, Ok, Err, refl, sym, ap, ◌∙◌, arith, Box, Vec, Global}
+use Rattle.std.proofs.Common.{◌≡◌, ◌≢◌, ℕ, ◌+◌, ◌<◌, ◌≤◌, length, get_or, drop, List, [], ◌∷◌, map, false, Option, None, Some, Result, Ok, Err, refl, sym, ap, ◌∙◌, arith, Box, Vec, Global}
 use Rattle.std.specs.Option.{is_some}
 use mathlib.Core.Former.{Count}
 use Rattle.nd_model.specs.Fault.{Fault, BadArgument}
 use Rattle.nd_model.specs.Fault as fault
 use Rattle.nd_model.specs.Syntax.{Expr, Item, Attribute, Index, Method}
 use Rattle.nd_model.specs.Syntax as model
-use Rattle.nd_model.specs.Cells.{chained, Suffix, AtIndex, OfMethod, suffixed, items_of}
-use Rattle.nd_model.specs.Tokens.{tokens_of, tokens_of_index, tokens_of_method}
+use Rattle.nd_model.specs.Cells.{chained, Suffix, AtIndex, OfMethod, suffixed, exprs_of, items_of}
+use Rattle.nd_model.specs.Tokens.{tokens_of, tokens_of_all, tokens_of_exprs, tokens_of_shape, tokens_of_index, tokens_of_method}
 use Rattle.nd_model.specs.Value.{Value}
 use Rattle.nd_model.specs.Running.{Running, Inputs}
 use Rattle.nd_model.specs.Evaluation.{Eval, Gives, Refuses, run, ◌>>=◌}
@@ -19,11 +19,14 @@ use Rattle.nd_syntax.specs.declared.tree.Expr as tree
 use Rattle.nd_syntax.specs.declared.tree.BinaryOp.{BinaryOp}
 use Rattle.nd_syntax.specs.declared.calls.DType.{DType}
 use Rattle.nd_syntax.specs.declared.tree.Call as call
+use Rattle.nd_syntax.specs.declared.tree.Element as element
+use Rattle.nd_syntax.specs.declared.calls.Fill.{Fill}
 use Rattle.nd_syntax.specs.declared.tree.Suffix as suffix
 use Rattle.nd_syntax.specs.declared.tree.Index as indexes
 use Rattle.nd_syntax.specs.declared.tree.IndexItem as item
 use Rattle.nd_syntax.specs.Syntax.{expr_of, call_of, suffix_of, index_of, item_of}
 use Rattle.nd_syntax.specs.Lists.{operation_of}
+use Rattle.nd_syntax.proofs.Nodes.{call_row}
 use Rattle.nd_syntax.proofs.Chains.{row_of, postfix_is, item_row, index_is, chain_is}
 use Rattle.nd_model.proofs.Steps.{goes_on, run_bind}
 use Rattle.nd_eval.specs.Parts.{item_value, element_value}
@@ -111,9 +114,21 @@ abbrev mutual
   nodes_in_chain (tree.more_of-Expr-Chain-1-2 op x xs) = 2 + nodes x + nodes_in_chain xs
 
   pub nodes_of_call : call.Call → ℕ
-  nodes_of_call (call.Arange' start e step t) = 1 + nodes e
+  nodes_of_call (call.Arange' start e step t) = 2 + nodes e
+  nodes_of_call (call.Filled' f shape es t) = 3 + nodes_in_exprs es
+  nodes_of_call (call.Full' shape es e t) = 3 + nodes_in_exprs es + nodes e
+  nodes_of_call (call.Array x t) = 1 + nodes_of_element x
+  nodes_of_call (call.Convert k e) = 2 + nodes e
   nodes_of_call (call.PythonAbs e) = 2 + nodes e
   nodes_of_call c = 1
+
+  pub nodes_in_exprs : {n : _} → call.Row_of-Expr n → ℕ
+  nodes_in_exprs call.end_of-Expr = 0
+  nodes_in_exprs (call.more_of-Expr e es) = 1 + nodes e + nodes_in_exprs es
+
+  pub nodes_of_element : element.Element → ℕ
+  nodes_of_element (element.Single e) = 2 + nodes e
+  nodes_of_element x = 1
 
   pub nodes_in : {n : _} → tree.Row_of-Suffix n → ℕ
   nodes_in tree.end_of-Suffix = 0
@@ -158,9 +173,39 @@ none_if None h = refl
 none_if (Some x) h = absurd cc
 
 -- `np.arange` of the end alone
-pub arange_alone : (x : call.Call) (start : Option tree.Expr) (e : tree.Expr) (step : Option tree.Expr) (t : Option DType) → x ≡ call.Arange start e step t
+pub range_only : (x : call.Call) (start : Option tree.Expr) (e : tree.Expr) (step : Option tree.Expr) (t : Option DType) → x ≡ call.Arange start e step t
     → is_some start ≡ false → is_some step ≡ false → is_some t ≡ false → call_of x ≡ model.Arange model.Omitted (expr_of e) model.Omitted None
-arange_alone x start e step t same no_start no_step no_type = rw (same, none_if start no_start, none_if step no_step, none_if t no_type) refl
+range_only x start e step t same no_start no_step no_type = rw (same, none_if start no_start, none_if step no_step, none_if t no_type) refl
+
+-- ---- the expressions of a call
+
+more_tokens : (es : List Expr) → tokens_of_all es ≤ tokens_of_exprs (exprs_of es)
+more_tokens [] = omega arith
+more_tokens (e ∷ es) = omega (arith, more_tokens es)
+
+-- lengths in brackets have as many tokens as lengths with commas, but for one
+pub shape_tokens : (es : List Expr) → tokens_of_all es ≤ tokens_of_shape (exprs_of es) + 1
+shape_tokens [] = omega arith
+shape_tokens (e ∷ []) = omega arith
+shape_tokens (e ∷ f ∷ es) = omega (arith, more_tokens es)
+
+abbrev pub nodes_of_exprs : List tree.Expr → ℕ
+nodes_of_exprs [] = 0
+nodes_of_exprs (e ∷ es) = 1 + nodes e + nodes_of_exprs es
+
+nodes_in_expr_row : (n : _) (row : call.Row_of-Expr n) → nodes_in_exprs row ≡ nodes_of_exprs (call.items-the_row-Expr n row)
+nodes_in_expr_row n call.end_of-Expr = refl
+nodes_in_expr_row n (call.more_of-Expr e es) = ap (λ k. 1 + nodes e + k) (nodes_in_expr_row _ es)
+
+pub nodes_of_filled : (x : call.Call) (f : Fill) (es : Vec tree.Expr Global) (t : Option DType) → x ≡ call.Filled f es t → nodes_of_call x ≡ 3 + nodes_of_exprs es.items
+nodes_of_filled x f es t same =
+    let row = call_row (call.Filled f es t) in
+    ap nodes_of_call same ∙ ap (λ k. 3 + k) (nodes_in_expr_row row.0 row.1 ∙ ap nodes_of_exprs (call.items_hidden-the_row-Expr-0 es))
+
+pub nodes_of_full : (x : call.Call) (es : Vec tree.Expr Global) (e : tree.Expr) (t : Option DType) → x ≡ call.Full es e t → nodes_of_call x ≡ 3 + nodes_of_exprs es.items + nodes e
+nodes_of_full x es e t same =
+    let row = call_row (call.Full es e t) in
+    ap nodes_of_call same ∙ ap (λ k. 3 + k + nodes e) (nodes_in_expr_row row.0 row.1 ∙ ap nodes_of_exprs (call.items_hidden-the_row-Expr-0 es))
 
 -- ---- the items of an index
 

@@ -1,8 +1,6 @@
 pub mod Bounds
 pub mod Chains
 pub mod Decoding
-pub mod Filling
-pub mod NewArrays
 pub mod InTurn
 pub mod Indexing
 pub mod Parts
@@ -16,3 +14,5 @@ pub mod Writes
 pub mod Turns
 pub mod Operating
 pub mod WholeNumbers
+pub mod Creating
+pub mod Calls

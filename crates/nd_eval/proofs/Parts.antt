@@ -27,7 +27,7 @@ use_number u (num.Int z) = refl
 use_number u (num.Bool t) = refl
 use_number u (num.Scalar k z) = refl
 
-not_used : (v : Value) → use_operand Unused (value_of v) ≡ Gives (unused_of v)
+pub not_used : (v : Value) → use_operand Unused (value_of v) ≡ Gives (unused_of v)
 not_used (Number n) = use_number Unused n
 not_used (Array a) = refl
 
@@ -91,11 +91,11 @@ twice : {A B C : Type 0} (i : Inputs) (m : Result A Fault × Running) (f : A →
 twice i (Ok x, r) f g = sym (run_bind i (f x) g r)
 twice i (Err e, r) f g = refl
 
-regrouped : {A B C : Type 0} (i : Inputs) (t : Eval A) (f : A → Eval B) (g : B → Eval C) (r : Running) → run i ((t >>= f) >>= g) r ≡ run i (t >>= (λ x. f x >>= g)) r
+pub regrouped : {A B C : Type 0} (i : Inputs) (t : Eval A) (f : A → Eval B) (g : B → Eval C) (r : Running) → run i ((t >>= f) >>= g) r ≡ run i (t >>= (λ x. f x >>= g)) r
 regrouped i t f g r =
     run_bind i (t >>= f) g r ∙ ap (λ m. goes_on i m g) (run_bind i t f r) ∙ twice i (run i t r) f g ∙ sym (run_bind i t (λ x. f x >>= g) r)
 
-then_same : {A B : Type 0} (i : Inputs) (t : Eval A) (f g : A → Eval B) (r : Running) → ((x : A) (s : Running) → run i (f x) s ≡ run i (g x) s) → run i (t >>= f) r ≡ run i (t >>= g) r
+pub then_same : {A B : Type 0} (i : Inputs) (t : Eval A) (f g : A → Eval B) (r : Running) → ((x : A) (s : Running) → run i (f x) s ≡ run i (g x) s) → run i (t >>= f) r ≡ run i (t >>= g) r
 then_same i t f g r h = run_bind i t f r ∙ goes_same i (run i t r) f g h ∙ sym (run_bind i t g r)
 
 all_values : (i : Inputs) (es : List Expr) (go : List (Usage × model.Value) → Eval Effect) (k : List model.Value → List model.Value) (g : List model.Value → Eval Effect) (r : Running)

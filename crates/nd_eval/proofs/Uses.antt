@@ -30,6 +30,10 @@ pub marked_next : (v : Value) (r : Running) → (marked v r).next ≡ r.next
 marked_next (Number n) r = refl
 marked_next (Array a) r = refl
 
+pub all_marked_next : (vs : List Value) (r : Running) → (all_marked vs r).next ≡ r.next
+all_marked_next [] r = refl
+all_marked_next (v ∷ vs) r = all_marked_next vs (marked v r) ∙ marked_next v r
+
 -- a use gives the operand in the block, and notes it
 pub used : {A : Type 0} (i : Inputs) (v : Value) (go : model.Operand → Eval A) (r : Running)
     → run i (use_operand Whole (value_of v) >>= go) r ≡ run i (go (operand_over r.bytes v)) (marked v r)

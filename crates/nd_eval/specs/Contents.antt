@@ -5,7 +5,6 @@ use Rattle.nd_model.specs.View.{One, Geo, byte_places}
 use Rattle.nd_model.specs.Value as model
 use Rattle.nd_model.specs.Content.{Content, contents_in, number_writes}
 use Rattle.nd_model.specs.Operand as operand
-use Rattle.nd_model.specs.Creation.{numbers_below, at_least_zero}
 use Rattle.nd_model.specs.Running as running
 use Rattle.nd_types.specs.Kinds.{kind_of}
 use Rattle.nd_types.specs.declared.num.Num.{Num}
@@ -15,8 +14,6 @@ use Rattle.nd_heap.specs.declared.value.Value.TheVariants as value
 use Rattle.nd_heap.specs.Values.{base_of, geo_of, value_of}
 use Rattle.nd_eval.specs.declared.operand.Operand.{Operand}
 use Rattle.nd_eval.specs.declared.operand.Operand.TheVariants.{Number, Elements}
-use Rattle.nd_eval.specs.declared.operand.Made.{Made}
-use Rattle.nd_eval.specs.declared.operand.Made.TheVariants.{Number as MadeNumber, NumbersBelow}
 use Rattle.nd_eval.specs.declared.operand.ElementPlace.{ElementPlace}
 use Rattle.nd_eval.specs.declared.effect.ElementWrite.{ElementWrite}
 use Rattle.nd_eval.specs.declared.effect.Effect.{Effect}
@@ -50,9 +47,9 @@ abbrev pub unused_of : Value → operand.Operand
 unused_of (value.Number n) = operand.Plain (num_of n)
 unused_of (value.Array a) = operand.Elements false (geo_of a) []
 
-abbrev pub made_of : Made → operand.Made
-made_of (MadeNumber n) = operand.ANumber (num_of n)
-made_of (NumbersBelow z) = numbers_below (at_least_zero z)
+-- a number that an operation makes
+abbrev pub number_made : Num → operand.Made
+number_made n = operand.ANumber (num_of n)
 
 abbrev pub chosen_of : ElementPlace → operand.Chosen
 chosen_of c = operand.AnElement (One c.elem) c.place

@@ -7,7 +7,7 @@ use Rattle.nd_eval.specs.declared.fault.IndexFault.TheVariants.{OutOfBounds, Too
 use Rattle.nd_eval.specs.declared.fault.UfuncFault.{UfuncFault}
 use Rattle.nd_eval.specs.declared.fault.UfuncFault.TheVariants.{FloatResult, IntOutOfRange, ShapeMismatch, ReadOnly, NotNumbers}
 use Rattle.nd_eval.specs.declared.fault.StmtError.{StmtError}
-use Rattle.nd_eval.specs.declared.fault.StmtError.TheVariants.{NoName, IntTooBig, ZeroDivide, NegativeShift, NotAnArray, TextTooLong, BadArgument}
+use Rattle.nd_eval.specs.declared.fault.StmtError.TheVariants.{NoName, IntTooBig, ZeroDivide, NegativeShift, NeedsType, NotAnArray, TextTooLong, BadArgument, BadType}
 use Rattle.nd_eval.specs.declared.fault.StmtFault.{StmtFault}
 use Rattle.nd_eval.specs.declared.fault.StmtFault.TheVariants.{View, Index, Ufunc, Stmt}
 
@@ -28,9 +28,11 @@ stmt_error_of (NoName n) = model.NoName (string_bytes n)
 stmt_error_of IntTooBig = model.IntTooBig
 stmt_error_of ZeroDivide = model.ZeroDivide
 stmt_error_of NegativeShift = model.NegativeShift
+stmt_error_of NeedsType = model.NeedsType
 stmt_error_of NotAnArray = model.NotAnArray
 stmt_error_of TextTooLong = model.TextTooLong
 stmt_error_of BadArgument = model.BadArgument
+stmt_error_of BadType = model.BadType
 
 abbrev pub fault_of : StmtFault → model.Fault
 fault_of (View f) = model.View (view_fault_of f)

@@ -6,3 +6,5 @@ pub mod Uses
 pub mod Lines
 pub mod Done
 pub mod Singles
+pub mod New
+pub mod Stops

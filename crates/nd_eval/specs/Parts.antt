@@ -1,13 +1,15 @@
 -- Parts of the meaning, as the functions work them out.
-use Rattle.std.specs.Prelude.{List, [], ◌∷◌, map}
+use Rattle.std.specs.Prelude.{List, [], ◌∷◌, ◌++◌, map, Option, Result}
 use Rattle.nd_model.specs.Value.{Value}
 use Rattle.nd_model.specs.Running.{Effect}
-use Rattle.nd_model.specs.Fault.{Stmt, BadArgument}
+use Rattle.nd_model.specs.Fault.{Fault, Stmt, BadArgument}
+use Rattle.nd_model.specs.Calls.{Fill, DType}
+use Rattle.nd_model.specs.Creation.{arange, filled, full}
 use Rattle.nd_model.specs.Syntax.{Expr, BinaryOp, Index, Items, AndItem, NoItem, At}
 use Rattle.nd_model.specs.Evaluation.{Eval, Gives, Refuses, ◌>>=◌}
-use Rattle.nd_model.specs.Operand.{Usage, Whole, ArraysOnly, Unused}
+use Rattle.nd_model.specs.Operand.{Operand, Usage, Whole, ArraysOnly, Unused, Made}
 use Rattle.nd_model.specs.Viewing.{Indexed}
-use Rattle.nd_model.specs.Operators.{Single, single, binary}
+use Rattle.nd_model.specs.Operators.{binary}
 use Rattle.nd_model.specs.Operation.{Computes, Views, perform, act_on}
 use Rattle.nd_model.specs.Meaning.{one, two, value, assignment_deed}
 
@@ -16,9 +18,13 @@ abbrev pub item_value : Index → Eval Value
 item_value (Items (AndItem (At e) NoItem)) = value e
 item_value x = Refuses (Stmt BadArgument)
 
--- an operator of one number, and an expression
-abbrev pub single_value : Single → Expr → Eval Value
-single_value op e = value e >>= λ v. perform (Computes (one (single op))) ((Whole, v) ∷ [])
+-- what is computed of one operand, which is an expression
+abbrev pub value_of_one : (Operand → Result Made Fault) → Expr → Eval Value
+value_of_one f e = value e >>= λ v. perform (Computes (one f)) ((Whole, v) ∷ [])
+
+-- `np.arange` of the end alone
+abbrev pub range_value : Expr → Eval Value
+range_value e = value e >>= λ v. perform (Computes (one arange)) ((Unused, v) ∷ [])
 
 -- an operator and two values
 abbrev pub operate : BinaryOp → Value → Value → Eval Value
@@ -44,6 +50,17 @@ values_then (e ∷ es) go = value e >>= λ v. values_then es (λ vs. go (v ∷ v
 abbrev pub values : List Expr → Eval (List Value)
 values es = values_then es Gives
 
--- values that are used whole
+-- values that are used whole, and values that are not used
 abbrev pub wholes : List Value → List (Usage × Value)
 wholes vs = map (λ v. (Whole, v)) vs
+
+abbrev pub unused : List Value → List (Usage × Value)
+unused vs = map (λ v. (Unused, v)) vs
+
+-- `np.zeros`, `np.ones`
+abbrev pub filled_value : Fill → List Expr → Option DType → Eval Value
+filled_value f es t = values es >>= λ vs. perform (Computes (filled f t)) (unused vs)
+
+-- `np.full`
+abbrev pub full_value : List Expr → Expr → Option DType → Eval Value
+full_value es e t = values es >>= λ vs. value e >>= λ v. perform (Computes (full t)) (wholes vs ++ (Whole, v) ∷ [])

@@ -1,33 +1,34 @@
 //! Expressions.
 
-ghost use Rattle.std.specs.Prelude.{◌≡◌, ◌+◌, ◌<◌, ◌^◌, map};
+ghost use Rattle.std.specs.Prelude.{◌≡◌, ◌+◌, ◌<◌, ◌^◌, map, option_map};
 ghost use Rattle.nd_model.specs.Cells.{chained, items_of};
 ghost use Rattle.nd_model.specs.Evaluation as evaluation;
 ghost use Rattle.nd_model.specs.Meaning as meaning;
 ghost use Rattle.nd_model.specs.Operation as operation;
-ghost use Rattle.nd_model.specs.Syntax.{Called, Items, AndItem, NoItem};
-ghost use Rattle.nd_model.specs.Tokens.{tokens_of, tokens_of_call, tokens_of_index, tokens_of_item, tokens_of_all};
+ghost use Rattle.nd_model.specs.Syntax.{Called, Items, AndItem, NewArray, NoItem};
+ghost use Rattle.nd_model.specs.Tokens.{tokens_of, tokens_of_call, tokens_of_index, tokens_of_item, tokens_of_all, tokens_of_element};
 ghost use Rattle.nd_syntax.specs.Lists.{operation_of};
-ghost use Rattle.nd_syntax.specs.Syntax.{binary_op, expr_of, call_of, index_of, item_of};
+ghost use Rattle.nd_syntax.specs.Syntax.{binary_op, expr_of, call_of, element_of, index_of, item_of};
 ghost use Rattle.nd_heap.specs.Values.{value_of};
 ghost use Rattle.nd_eval.specs.Contents.{values_of};
 ghost use Rattle.nd_eval.specs.Ends.{Evaluates, session_of};
 ghost use Rattle.nd_eval.specs.Uses.{IsHeld};
 ghost use Rattle.nd_eval.specs.Parts as parts;
-ghost use Rattle.nd_eval.specs.Singles.{single_of};
+ghost use Rattle.nd_eval.specs.New.{made_of_one};
+ghost use Rattle.nd_syntax.specs.Calls.{dtype_of, fill_of};
 ghost use Rattle.nd_eval.specs.declared.stop.Stop.TheVariants.{Refused};
 ghost use Rattle.nd_eval.specs.declared.fault.StmtFault.TheVariants.{Stmt};
 ghost use Rattle.nd_eval.specs.declared.fault.StmtError.TheVariants.{BadArgument};
 
-use crate::creation::make_arange;
+use crate::creation::{OfOne, make_filled, make_full, make_of_one, make_range};
 use crate::evaluator::Evaluator;
 use crate::fault::{StmtError, StmtFault};
 use crate::indexes::index_array;
-use crate::operation::{mark_operand, operand_in};
-use crate::operators::{Single, apply_binary, apply_single};
+use crate::operation::{mark_operand, mark_operands, operand_in};
+use crate::operators::{Single, apply_binary};
 use crate::stop::Stop;
 use nd_session::Value;
-use nd_syntax::{BinaryOp, Call, Expr, Index, IndexItem, Suffix};
+use nd_syntax::{BinaryOp, Call, DType, Element, Expr, Fill, Index, IndexItem, Suffix};
 use nd_types::Num;
 
 /// The refusal of a form that is not built yet.
@@ -62,7 +63,9 @@ impl Evaluator<'_> {
             Expr::Name(name) => self.look_up(name.as_str()),
             Expr::Integer(number) => Ok(Value::Number(Num::Int(i128::from(*number)))),
             Expr::Truth(truth) => Ok(Value::Number(Num::Bool(*truth))),
-            Expr::Unary(op, operand) => self.single_value(Single::Of(*op), operand),
+            Expr::Unary(op, operand) => {
+                self.value_of_one(OfOne::Operator(Single::Of(*op)), operand)
+            }
             Expr::Call(call) => self.call_value(call),
             Expr::Postfix(operand, suffixes) => {
                 let mut found = self.value(operand)?;
@@ -113,7 +116,6 @@ impl Evaluator<'_> {
     fn operate(&mut self, op: BinaryOp, left: &Value, right: &Value) -> Result<Value, Stop>
         requires left { IsHeld (session_of self.old) left.now }
         requires right { IsHeld (session_of self.old) right.now }
-        requires room { (session_of self.old).next + 1 < 2 ^ 64 }
         ensures { Evaluates value_of result self.old
             (parts.operate (binary_op op) (value_of left.now) (value_of right.now)) self.new }
     {
@@ -121,22 +123,95 @@ impl Evaluator<'_> {
         mark_operand(self.session, right)?;
         let left = operand_in(self.session, left);
         let right = operand_in(self.session, right);
-        let made = apply_binary(op, &left, &right)?;
-        self.give(made)
+        let number = apply_binary(op, &left, &right)?;
+        Ok(Value::Number(number))
     }
 
-    /// What an operator of one number gives of an expression's value.
+    /// What a call or an operator gives of one expression's value.
     #[cycle(value)]
-    fn single_value(&mut self, op: Single, operand: &Expr) -> Result<Value, Stop>
+    fn value_of_one(&mut self, call: OfOne<'_>, operand: &Expr) -> Result<Value, Stop>
         requires { (session_of self.old).next + tokens_of (expr_of operand.now) + 1 < 2 ^ 64 }
         ensures { Evaluates value_of result self.old
-            (parts.single_value (single_of op) (expr_of operand.now)) self.new }
+            (parts.value_of_one (made_of_one call.entry) (expr_of operand.now)) self.new }
     {
         self.session.soundness();
+        let alloc = self.session.allocator();
         let operand = self.value(operand)?;
         mark_operand(self.session, &operand)?;
-        let made = apply_single(op, &operand_in(self.session, &operand))?;
-        self.give(made)
+        let new = make_of_one(alloc, call, &operand_in(self.session, &operand))?;
+        self.give(new)
+    }
+
+    /// `np.zeros`, `np.ones`
+    #[cycle(value)]
+    fn filled_value(
+        &mut self,
+        fill: Fill,
+        shape: &[Expr],
+        dtype: &Option<DType>,
+    ) -> Result<Value, Stop>
+        requires { (session_of self.old).next + tokens_of_all (map expr_of shape.now) + 1
+            < 2 ^ 64 }
+        ensures { Evaluates value_of result self.old
+            (parts.filled_value (fill_of fill) (map expr_of shape.now)
+            (option_map dtype_of dtype.now)) self.new }
+    {
+        let alloc = self.session.allocator();
+        let shape = self.values(shape)?;
+        let new = make_filled(alloc, fill, dtype, &shape)?;
+        self.give(new)
+    }
+
+    /// `np.full`
+    #[cycle(value)]
+    fn full_value(
+        &mut self,
+        shape: &[Expr],
+        value: &Expr,
+        dtype: &Option<DType>,
+    ) -> Result<Value, Stop>
+        requires { (session_of self.old).next + tokens_of_all (map expr_of shape.now)
+            + tokens_of (expr_of value.now) + 1 < 2 ^ 64 }
+        ensures { Evaluates value_of result self.old
+            (parts.full_value (map expr_of shape.now) (expr_of value.now)
+            (option_map dtype_of dtype.now)) self.new }
+    {
+        self.session.soundness();
+        let alloc = self.session.allocator();
+        let shape = self.values(shape)?;
+        let value = self.value(value)?;
+        mark_operands(self.session, &shape)?;
+        mark_operand(self.session, &value)?;
+        let new = make_full(alloc, dtype, &shape, &operand_in(self.session, &value))?;
+        self.give(new)
+    }
+
+    /// `np.arange` of the end alone.
+    #[cycle(value)]
+    fn range_value(&mut self, end: &Expr) -> Result<Value, Stop>
+        requires { (session_of self.old).next + tokens_of (expr_of end.now) + 1 < 2 ^ 64 }
+        ensures { Evaluates value_of result self.old
+            (parts.range_value (expr_of end.now)) self.new }
+    {
+        let alloc = self.session.allocator();
+        let end = self.value(end)?;
+        let new = make_range(alloc, &end)?;
+        self.give(new)
+    }
+
+    /// `np.array` of what is no list.
+    #[cycle(value)]
+    fn array_value(&mut self, element: &Element, dtype: &Option<DType>) -> Result<Value, Stop>
+        requires { (session_of self.old).next + tokens_of_element (element_of element.now) + 1
+            < 2 ^ 64 }
+        ensures { Evaluates value_of result self.old
+            (meaning.value (Called (NewArray (element_of element.now)
+            (option_map dtype_of dtype.now)))) self.new }
+    {
+        match element {
+            Element::Single(value) => self.value_of_one(OfOne::ArrayOf(dtype), value),
+            Element::Nested(_) => Err(unbuilt_form()),
+        }
     }
 
     /// What a call of a function gives.
@@ -151,10 +226,15 @@ impl Evaluator<'_> {
                 if start.is_some() || step.is_some() || dtype.is_some() {
                     return Err(unbuilt_form());
                 }
-                let end = self.value(end)?;
-                self.give(make_arange(&end)?)
+                self.range_value(end)
             }
-            Call::PythonAbs(operand) => self.single_value(Single::Absolute, operand),
+            Call::Filled(fill, shape, dtype) => self.filled_value(*fill, shape, dtype),
+            Call::Full(shape, value, dtype) => self.full_value(shape, value, dtype),
+            Call::Array(element, dtype) => self.array_value(element, dtype),
+            Call::Convert(kind, value) => self.value_of_one(OfOne::Convert(*kind), value),
+            Call::PythonAbs(operand) => {
+                self.value_of_one(OfOne::Operator(Single::Absolute), operand)
+            }
             Call::Load(name) | Call::Buffer(name) => self.input_value(name.as_str()),
             _ => Err(unbuilt_form()),
         }
@@ -230,6 +310,7 @@ impl Evaluator<'_> {
     }
 
     /// The values of expressions, from left to right.
+    #[cycle(value)]
     pub(crate) fn values(&mut self, exprs: &[Expr]) -> Result<Vec<Value>, Stop>
         requires { (session_of self.old).next + tokens_of_all (map expr_of exprs.now) < 2 ^ 64 }
         ensures { Evaluates values_of result self.old

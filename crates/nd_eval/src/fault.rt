@@ -39,12 +39,16 @@ pub enum StmtError {
     ZeroDivide,
     /// A Python integer is shifted by a number below zero.
     NegativeShift,
+    /// A Python integer that an int64 does not take, where no type is written.
+    NeedsType,
     /// What is indexed is no array.
     NotAnArray,
     /// The text of a cell would have more than 2^20 bytes.
     TextTooLong,
     /// A value that the operation does not take.
     BadArgument,
+    /// What is written names no type of elements.
+    BadType,
 }
 
 /// Why a statement is refused.

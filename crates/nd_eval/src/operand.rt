@@ -5,6 +5,7 @@ ghost use Rattle.std.specs.Prelude.{◌+◌, ◌≤◌, ◌^◌, length};
 ghost use Rattle.nd_model.specs.Element.{size_of};
 ghost use Rattle.nd_model.specs.Sound.{LiesIn};
 
+use nd_block::RawBlock;
 use nd_types::{Elem, Num};
 use nd_view::View;
 
@@ -23,12 +24,11 @@ pub(crate) enum Operand<'v> {
     Elements(Elements<'v>),
 }
 
-/// What an operation makes.
-#[derive(Clone, Copy)]
-pub(crate) enum Made {
+/// What a call makes: a number, or a new array in a block of its own.
+#[derive(Drop)]
+pub(crate) enum New {
     Number(Num),
-    /// An array of the whole numbers below this one, none where it is below zero.
-    NumbersBelow(i128),
+    Array(View, RawBlock),
 }
 
 /// An element of an array, by its place.

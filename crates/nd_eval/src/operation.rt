@@ -1,28 +1,23 @@
 //! Operations: how values become operands, and results become values.
 
 ghost use Rattle.std.specs.Prelude.{◌≡◌, ◌+◌, ◌<◌, ◌≤◌, ◌^◌, IfOk, OnOk};
-ghost use Rattle.nd_model.specs.Creation as creation;
 ghost use Rattle.nd_model.specs.Operation as operation;
 ghost use Rattle.nd_heap.specs.Values.{value_of};
 ghost use Rattle.nd_session.specs.Live.{live};
-ghost use Rattle.nd_eval.specs.Contents.{chosen_of, made_of, operand_of, operands_of};
+ghost use Rattle.nd_eval.specs.Contents.{chosen_of, operand_of, operands_of};
 ghost use Rattle.nd_eval.specs.Ends.{Evaluates, session_of};
+ghost use Rattle.nd_eval.specs.New.{given};
 ghost use Rattle.nd_eval.specs.Uses.{IsHeld, AreHeld, marked, all_marked};
 ghost use Rattle.nd_eval.specs.Uses.{operand_over, operands_over};
 
 use crate::evaluator::Evaluator;
-use crate::fault::{StmtError, StmtFault, ViewFault};
-use crate::numbers::{int64, numbers_below};
-use crate::operand::{ElementPlace, Elements, Made, Operand};
+use crate::fault::{StmtError, StmtFault};
+use crate::operand::{ElementPlace, Elements, New, Operand};
 use crate::stop::Stop;
 use nd_element::number_in;
 use nd_session::{Array, OutOfMemory, Session, Value};
 use nd_types::{ElemType, Num};
-use nd_view::View;
 use std::alloc::AllocError;
-
-/// The most elements of an array.
-const MOST_ELEMENTS: i128 = 1 << 24;
 
 /// Notes that all elements of a value are used.
 pub(crate) fn mark_operand(session: &mut Session, value: &Value) -> Result<(), OutOfMemory>
@@ -75,34 +70,16 @@ pub(crate) fn operands_in<'v>(
 }
 
 impl Evaluator<'_> {
-    /// Makes an array of the whole numbers below `count` in a new base.
-    fn give_numbers(&mut self, count: usize) -> Result<Value, Stop>
-        requires most { count ≤ 2 ^ 24 }
-        requires number { (session_of self.old).next + 1 < 2 ^ 64 }
-        ensures { Evaluates value_of result self.old
-            (operation.give (creation.numbers_below count)) self.new }
-    {
-        let alloc = self.session.allocator();
-        let elem = int64();
-        let view = View::contiguous(alloc, ElemType::One(elem), &[count as u64])?;
-        let block = numbers_below(alloc, elem, count)?;
-        let base = self.session.new_block(block)?;
-        Ok(Value::Array(Array { base, view }))
-    }
-
-    /// Gives what an operation made. An array gets a new base.
-    pub(crate) fn give(&mut self, made: Made) -> Result<Value, Stop>
+    /// Gives what a call made. An array gets a new base.
+    pub(crate) fn give(&mut self, new: New) -> Result<Value, Stop>
         requires { (session_of self.old).next + 1 < 2 ^ 64 }
-        ensures { Evaluates value_of result self.old (operation.give (made_of made)) self.new }
+        ensures { Evaluates value_of result self.old (given new) self.new }
     {
-        match made {
-            Made::Number(number) => Ok(Value::Number(number)),
-            Made::NumbersBelow(end) => {
-                if end > MOST_ELEMENTS {
-                    return Err(Stop::Refused(StmtFault::View(ViewFault::TooManyElements)));
-                }
-                let count = if end < 0 { 0 } else { end as usize };
-                self.give_numbers(count)
+        match new {
+            New::Number(number) => Ok(Value::Number(number)),
+            New::Array(view, block) => {
+                let base = self.session.new_block(block)?;
+                Ok(Value::Array(Array { base, view }))
             }
         }
     }

@@ -3,12 +3,12 @@
 ghost use Rattle.nd_model.specs.Operand as operand;
 ghost use Rattle.nd_model.specs.Operators as operators;
 ghost use Rattle.nd_syntax.specs.Syntax.{binary_op};
-ghost use Rattle.nd_eval.specs.Contents.{made_of, num_of, operand_of};
+ghost use Rattle.nd_eval.specs.Contents.{number_made, num_of, operand_of};
 ghost use Rattle.nd_eval.specs.Ends.{Says};
 ghost use Rattle.nd_eval.specs.Singles.{single_of};
 
 use crate::fault::{StmtError, StmtFault};
-use crate::operand::{Made, Operand};
+use crate::operand::Operand;
 use crate::python::{arithmetic, is_negative, python_int};
 use nd_syntax::{BinaryOp, UnaryOp};
 use nd_types::Num;
@@ -22,8 +22,8 @@ pub(crate) enum Single {
 }
 
 /// What an operator gives of a whole number.
-fn single_number(op: Single, number: i128) -> Result<Made, StmtFault>
-    ensures { Says made_of result
+fn single_number(op: Single, number: i128) -> Result<Num, StmtFault>
+    ensures { Says number_made result
         (operand.python_int (operators.exact (single_of op) number)) }
 {
     match op {
@@ -39,8 +39,8 @@ fn single_number(op: Single, number: i128) -> Result<Made, StmtFault>
 }
 
 /// What an operator gives of an operand: of Python's numbers alone.
-pub(crate) fn apply_single(op: Single, operand: &Operand<'_>) -> Result<Made, StmtFault>
-    ensures { Says made_of result (operators.single (single_of op) (operand_of operand.now)) }
+pub(crate) fn apply_single(op: Single, operand: &Operand<'_>) -> Result<Num, StmtFault>
+    ensures { Says number_made result (operators.single (single_of op) (operand_of operand.now)) }
 {
     match operand {
         Operand::Number(Num::Int(number)) => single_number(op, *number),
@@ -52,20 +52,20 @@ pub(crate) fn apply_single(op: Single, operand: &Operand<'_>) -> Result<Made, St
 }
 
 /// What an operator gives of two Booleans.
-fn truths(op: BinaryOp, left: bool, right: bool) -> Result<Made, StmtFault>
-    ensures { Says made_of result (operators.of_truths (binary_op op) left right) }
+fn truths(op: BinaryOp, left: bool, right: bool) -> Result<Num, StmtFault>
+    ensures { Says number_made result (operators.of_truths (binary_op op) left right) }
 {
     match op {
-        BinaryOp::BitAnd => Ok(Made::Number(Num::Bool(left && right))),
-        BinaryOp::BitXor => Ok(Made::Number(Num::Bool(if left { !right } else { right }))),
-        BinaryOp::BitOr => Ok(Made::Number(Num::Bool(left || right))),
+        BinaryOp::BitAnd => Ok(Num::Bool(left && right)),
+        BinaryOp::BitXor => Ok(Num::Bool(if left { !right } else { right })),
+        BinaryOp::BitOr => Ok(Num::Bool(left || right)),
         _ => arithmetic(op, i128::from(left), i128::from(right)),
     }
 }
 
 /// What an operator gives of two numbers: of Python's alone.
-fn numbers(op: BinaryOp, left: Num, right: Num) -> Result<Made, StmtFault>
-    ensures { Says made_of result
+fn numbers(op: BinaryOp, left: Num, right: Num) -> Result<Num, StmtFault>
+    ensures { Says number_made result
         (operators.of_numbers (binary_op op) (num_of left) (num_of right)) }
 {
     match (left, right) {
@@ -84,8 +84,8 @@ pub(crate) fn apply_binary(
     op: BinaryOp,
     left: &Operand<'_>,
     right: &Operand<'_>,
-) -> Result<Made, StmtFault>
-    ensures { Says made_of result
+) -> Result<Num, StmtFault>
+    ensures { Says number_made result
         (operators.binary (binary_op op) (operand_of left.now) (operand_of right.now)) }
 {
     match (left, right) {

@@ -7,25 +7,24 @@ ghost use Rattle.nd_model.specs.Operand as operand;
 ghost use Rattle.nd_model.specs.Operators as operators;
 ghost use Rattle.nd_model.specs.Syntax as syntax;
 ghost use Rattle.nd_syntax.specs.Syntax.{binary_op};
-ghost use Rattle.nd_eval.specs.Contents.{made_of};
+ghost use Rattle.nd_eval.specs.Contents.{number_made};
 ghost use Rattle.nd_eval.specs.Ends.{Says};
 
 use crate::fault::{StmtError, StmtFault, UfuncFault};
-use crate::operand::Made;
 use nd_syntax::BinaryOp;
 use nd_types::Num;
 
 /// A Python integer, in its bounds. A number that does not fit 128 bits, for which none stands, is out of them.
-pub(crate) fn python_int(exact: Option<i128>) -> Result<Made, StmtFault>
+pub(crate) fn python_int(exact: Option<i128>) -> Result<Num, StmtFault>
     ensures { (z : ℤ) → SomeIff exact (FitsSigned w128 z) z
-        → Says made_of result (operand.python_int z) }
+        → Says number_made result (operand.python_int z) }
 {
     match exact {
         Some(number) => {
             if number < i128::from(i64::MIN) || number > i128::from(u64::MAX) {
                 return Err(StmtFault::Stmt(StmtError::IntTooBig));
             }
-            Ok(Made::Number(Num::Int(number)))
+            Ok(Num::Int(number))
         }
         None => Err(StmtFault::Stmt(StmtError::IntTooBig)),
     }
@@ -58,9 +57,9 @@ fn is_below(number: i128, divisor: i128) -> bool
 }
 
 /// The quotient, rounded down.
-fn floor_quotient(number: i128, divisor: i128) -> Result<Made, StmtFault>
+fn floor_quotient(number: i128, divisor: i128) -> Result<Num, StmtFault>
     requires { divisor ≢ pos 0 }
-    ensures { Says made_of result
+    ensures { Says number_made result
         (operand.python_int (operators.floor_quotient number divisor)) }
 {
     if number == i128::MIN && divisor == -1 {
@@ -74,9 +73,9 @@ fn floor_quotient(number: i128, divisor: i128) -> Result<Made, StmtFault>
 }
 
 /// What is left, with the sign of the divisor.
-fn floor_remainder(number: i128, divisor: i128) -> Result<Made, StmtFault>
+fn floor_remainder(number: i128, divisor: i128) -> Result<Num, StmtFault>
     requires { divisor ≢ pos 0 }
-    ensures { Says made_of result
+    ensures { Says number_made result
         (operand.python_int (operators.floor_remainder number divisor)) }
 {
     if divisor == -1 {
@@ -90,9 +89,9 @@ fn floor_remainder(number: i128, divisor: i128) -> Result<Made, StmtFault>
 }
 
 /// The power, for an exponent that 32 bits don't hold.
-fn high_power(base: i128, exponent: u128) -> Result<Made, StmtFault>
+fn high_power(base: i128, exponent: u128) -> Result<Num, StmtFault>
     requires { 2 ^ 32 ≤ exponent }
-    ensures { Says made_of result (operand.python_int (int_pow base exponent)) }
+    ensures { Says number_made result (operand.python_int (int_pow base exponent)) }
 {
     if base == 0 {
         return python_int(Some(0));
@@ -110,8 +109,8 @@ fn high_power(base: i128, exponent: u128) -> Result<Made, StmtFault>
 }
 
 /// The power.
-fn power(base: i128, exponent: u128) -> Result<Made, StmtFault>
-    ensures { Says made_of result (operand.python_int (int_pow base exponent)) }
+fn power(base: i128, exponent: u128) -> Result<Num, StmtFault>
+    ensures { Says number_made result (operand.python_int (int_pow base exponent)) }
 {
     if exponent > u128::from(u32::MAX) {
         return high_power(base, exponent);
@@ -120,8 +119,8 @@ fn power(base: i128, exponent: u128) -> Result<Made, StmtFault>
 }
 
 /// The number with so many bits behind it.
-fn left_shift(number: i128, count: u128) -> Result<Made, StmtFault>
-    ensures { Says made_of result (operand.python_int (number *ℤ pos (2 ^ count))) }
+fn left_shift(number: i128, count: u128) -> Result<Num, StmtFault>
+    ensures { Says number_made result (operand.python_int (number *ℤ pos (2 ^ count))) }
 {
     if number == 0 {
         return python_int(Some(0));
@@ -133,8 +132,8 @@ fn left_shift(number: i128, count: u128) -> Result<Made, StmtFault>
 }
 
 /// The number without so many bits, rounded down.
-fn right_shift(number: i128, count: u128) -> Result<Made, StmtFault>
-    ensures { Says made_of result
+fn right_shift(number: i128, count: u128) -> Result<Num, StmtFault>
+    ensures { Says number_made result
         (operand.python_int (operators.floor_quotient number (pos (2 ^ count)))) }
 {
     if count <= 126 {
@@ -147,8 +146,8 @@ fn right_shift(number: i128, count: u128) -> Result<Made, StmtFault>
 }
 
 /// What an operator gives.
-pub(crate) fn arithmetic(op: BinaryOp, left: i128, right: i128) -> Result<Made, StmtFault>
-    ensures { Says made_of result (operators.arithmetic (binary_op op) left right) }
+pub(crate) fn arithmetic(op: BinaryOp, left: i128, right: i128) -> Result<Num, StmtFault>
+    ensures { Says number_made result (operators.arithmetic (binary_op op) left right) }
 {
     match op {
         BinaryOp::Add => python_int(left.checked_add(right)),
@@ -188,11 +187,11 @@ pub(crate) fn arithmetic(op: BinaryOp, left: i128, right: i128) -> Result<Made, 
         BinaryOp::BitAnd => python_int(Some(left & right)),
         BinaryOp::BitXor => python_int(Some(left ^ right)),
         BinaryOp::BitOr => python_int(Some(left | right)),
-        BinaryOp::Less => Ok(Made::Number(Num::Bool(left < right))),
-        BinaryOp::LessEqual => Ok(Made::Number(Num::Bool(left <= right))),
-        BinaryOp::Greater => Ok(Made::Number(Num::Bool(left > right))),
-        BinaryOp::GreaterEqual => Ok(Made::Number(Num::Bool(left >= right))),
-        BinaryOp::Equal => Ok(Made::Number(Num::Bool(left == right))),
-        BinaryOp::NotEqual => Ok(Made::Number(Num::Bool(left != right))),
+        BinaryOp::Less => Ok(Num::Bool(left < right)),
+        BinaryOp::LessEqual => Ok(Num::Bool(left <= right)),
+        BinaryOp::Greater => Ok(Num::Bool(left > right)),
+        BinaryOp::GreaterEqual => Ok(Num::Bool(left >= right)),
+        BinaryOp::Equal => Ok(Num::Bool(left == right)),
+        BinaryOp::NotEqual => Ok(Num::Bool(left != right)),
     }
 }

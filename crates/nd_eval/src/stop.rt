@@ -2,8 +2,10 @@
 
 ghost use Rattle.std.specs.Prelude.{◌≡◌};
 ghost use Rattle.nd_eval.specs.declared.stop.Stop.TheVariants.{Memory, Refused};
+ghost use Rattle.nd_eval.specs.Stops.{type_stop};
 
-use crate::fault::StmtFault;
+use crate::fault::{StmtError, StmtFault};
+use nd_dtype::TypeFault;
 use nd_session::OutOfMemory;
 use std::alloc::{AllocError, AllocFailed};
 
@@ -27,6 +29,17 @@ impl From<OutOfMemory> for Stop {
 
     fn from(_error: OutOfMemory) -> Stop {
         Stop::Memory
+    }
+}
+
+impl From<TypeFault> for Stop {
+    ghost from_gives = { λ f e. e ≡ type_stop f };
+
+    fn from(fault: TypeFault) -> Stop {
+        match fault {
+            TypeFault::BadType => Stop::Refused(StmtFault::Stmt(StmtError::BadType)),
+            TypeFault::OutOfMemory => Stop::Memory,
+        }
     }
 }
 

@@ -10,7 +10,7 @@ use Rattle.nd_model.specs.Fault as fault
 use Rattle.nd_model.specs.InputName.{is_input_name}
 use Rattle.nd_model.specs.Syntax as syntax
 use Rattle.nd_model.specs.Syntax.{Expr, Call, Index, Stmt}
-use Rattle.nd_model.specs.Tokens.{tokens_of, tokens_of_call, tokens_of_index, tokens_of_all, tokens_of_stmt}
+use Rattle.nd_model.specs.Tokens.{tokens_of, tokens_of_call, tokens_of_shape, tokens_of_exprs, tokens_of_index, tokens_of_all, tokens_of_stmt}
 use Rattle.nd_model.specs.Evaluation.{Eval, Gives, Refuses, Asks, run, ◌>>=◌, decide}
 use Rattle.nd_model.specs.Operand as operand
 use Rattle.nd_model.specs.Operand.{Operand, Usage, Made, ANumber, AnArray, Chosen, AnElement, AView, ACopy, Stretched, Deed, NoDeed, PrintsText, SavesFile, BindsFirst, BindsMade, Unbinds, Writes, MakesAndWrites}
@@ -23,7 +23,7 @@ use Rattle.nd_model.specs.Bases.{FewBases}
 
 -- ---- evaluations that make at most n bases
 
-abbrev Few : {A : Type 0} → Eval A → ℕ → Type 0
+abbrev pub Few : {A : Type 0} → Eval A → ℕ → Type 0
 Few (Gives x) n = Unit {0}
 Few (Refuses f) n = Unit {0}
 Few (Asks (Lookup m) go) n = (o : Option Value) → Few (go o) n
@@ -31,7 +31,7 @@ Few (Asks (Ask m) go) n = (o : Option Source) → Few (go o) n
 Few (Asks (Use b ps) go) n = (l : List ℕ) → Few (go l) n
 Few (Asks (Make l) go) n = (k : ℕ) × (suc k ≤ n) × ((b : Base) → Few (go b) k)
 
-few_more : {A : Type 0} (t : Eval A) (m n : ℕ) → m ≤ n → Few t m → Few t n
+pub few_more : {A : Type 0} (t : Eval A) (m n : ℕ) → m ≤ n → Few t m → Few t n
 few_more (Gives x) m n le h = tt
 few_more (Refuses f) m n le h = tt
 few_more (Asks (Lookup l) go) m n le h = λ o. few_more (go o) m n le (h o)
@@ -39,7 +39,7 @@ few_more (Asks (Ask l) go) m n le h = λ o. few_more (go o) m n le (h o)
 few_more (Asks (Use b ps) go) m n le h = λ l. few_more (go l) m n le (h l)
 few_more (Asks (Make l) go) m n le h = (h.0, omega (arith, h.1), h.2)
 
-few_bind : {A B : Type 0} (t : Eval A) (k : A → Eval B) (m n : ℕ) → Few t m → ((x : A) → Few (k x) n) → Few (t >>= k) (m + n)
+pub few_bind : {A B : Type 0} (t : Eval A) (k : A → Eval B) (m n : ℕ) → Few t m → ((x : A) → Few (k x) n) → Few (t >>= k) (m + n)
 few_bind (Gives x) k m n h f = few_more (k x) n (m + n) (omega arith) (f x)
 few_bind (Refuses e) k m n h f = tt
 few_bind (Asks (Lookup l) go) k m n h f = λ o. few_bind (go o) k m n (h o) f
@@ -47,7 +47,7 @@ few_bind (Asks (Ask l) go) k m n h f = λ o. few_bind (go o) k m n (h o) f
 few_bind (Asks (Use b ps) go) k m n h f = λ l. few_bind (go l) k m n (h l) f
 few_bind (Asks (Make l) go) k m n h f = (h.0 + n, omega (arith, h.1), λ b. few_bind (go b) k h.0 n (h.2 b) f)
 
-few_run : {A : Type 0} (i : Inputs) (t : Eval A) (r : Running) (n : ℕ) → Few t n → (run i t r).1.next ≤ r.next + n
+pub few_run : {A : Type 0} (i : Inputs) (t : Eval A) (r : Running) (n : ℕ) → Few t n → (run i t r).1.next ≤ r.next + n
 few_run i (Gives x) r n h = omega arith
 few_run i (Refuses f) r n h = omega arith
 few_run i (Asks (Lookup l) go) r n h = few_run i (go (reply i (Lookup l) r)) (after (Lookup l) r) n (h (reply i (Lookup l) r))
@@ -83,7 +83,7 @@ few_operands (v ∷ vs) k n f = few_more (operands (v ∷ vs) k) (0 + n) n (omeg
 few_fresh : (t : ElementType) (shape : List ℕ) (f : List ℕ → Content) → Few (Operation.fresh_array t shape f) 1
 few_fresh t shape f = few_limits (limit_fault (item_size t) shape) _ 1 (0, omega arith, λ b. tt)
 
-few_given : (m : Made) → Few (Operation.give m) 1
+pub few_given : (m : Made) → Few (Operation.give m) 1
 few_given (ANumber n) = tt
 few_given (AnArray t shape f) = few_fresh t shape f
 
@@ -104,7 +104,7 @@ few_alone : (x : Chosen) → Few (Operation.choose_of_number x) 1
 few_alone (Stretched t c shape) = few_stretched t c shape
 few_alone x = tt
 
-few_chosen : (v : Value) (x : Chosen) → Few (Operation.choose_of v x) 1
+pub few_chosen : (v : Value) (x : Chosen) → Few (Operation.choose_of v x) 1
 few_chosen (Int z) x = few_alone x
 few_chosen (Truth t) x = few_alone x
 few_chosen (Scalar k z) x = few_alone x
@@ -116,7 +116,7 @@ few_with [] m k n f = tt
 few_with (v ∷ vs) zero k n f = f v.1
 few_with (v ∷ vs) (suc m) k n f = few_with vs m k n f
 
-few_performed : (op : Operation) (vs : List (Usage × Value)) → Few (perform op vs) 1
+pub few_performed : (op : Operation) (vs : List (Usage × Value)) → Few (perform op vs) 1
 few_performed (Computes f) vs = few_operands vs _ 1 (λ os. few_decided (f os) _ 1 few_given)
 few_performed (Views w) vs = few_operands vs _ 1 (λ os. few_decided (choose w os) _ 1 (λ c. few_with vs 0 _ 1 (λ v. few_chosen v c)))
 
@@ -136,7 +136,7 @@ few_bound : (n : List ℕ) (o : Option Value) → Few (Operation.bound_value n o
 few_bound n None = tt
 few_bound n (Some v) = tt
 
-few_input : (n : List ℕ) (f : Option Source → Result Made Fault) → Few (Operation.input_value n f) 1
+pub few_input : (n : List ℕ) (f : Option Source → Result Made Fault) → Few (Operation.input_value n f) 1
 few_input n f =
     elim (is_input_name n) as (λ t. Few (cond t (Asks (Ask n) (λ source. decide (f source) >>= Operation.give)) (Refuses (fault.Stmt BadArgument))) 1) [
       | true ↦ λ source. few_decided (f source) Operation.give 1 few_given
@@ -144,17 +144,17 @@ few_input n f =
     ]
 
 mutual
-  few_plan : (p : Plan) → Few (evaluate p) (bases p)
+  pub few_plan : (p : Plan) → Few (evaluate p) (bases p)
   few_plan (Named n) = λ o. few_bound n o
   few_plan (FromInput n f) = few_input n f
   few_plan (Does op ps) = few_values ps (perform op) 1 (few_performed op)
 
-  few_values : (ps : Plans) (k : List (Usage × Value) → Eval Value) (n : ℕ) → ((vs : List (Usage × Value)) → Few (k vs) n) → Few (with_values ps k) (all_bases ps + n)
+  pub few_values : (ps : Plans) (k : List (Usage × Value) → Eval Value) (n : ℕ) → ((vs : List (Usage × Value)) → Few (k vs) n) → Few (with_values ps k) (all_bases ps + n)
   few_values Done k n f = few_more (k []) n (0 + n) (omega arith) (f [])
   few_values (And u p ps) k n f = few_more (evaluate p >>= λ v. with_values ps (λ vs. k ((u, v) ∷ vs))) (bases p + (all_bases ps + n)) _ (omega arith)
       (few_bind (evaluate p) _ (bases p) (all_bases ps + n) (few_plan p) (λ v. few_values ps (λ vs. k ((u, v) ∷ vs)) n (λ vs. f ((u, v) ∷ vs))))
 
-few_all : (ps : Plans) (k : List (Usage × Value) → Eval Effect) (n : ℕ) → ((vs : List (Usage × Value)) → Few (k vs) n) → Few (evaluate_all ps k) (all_bases ps + n)
+pub few_all : (ps : Plans) (k : List (Usage × Value) → Eval Effect) (n : ℕ) → ((vs : List (Usage × Value)) → Few (k vs) n) → Few (evaluate_all ps k) (all_bases ps + n)
 few_all Done k n f = few_more (k []) n (0 + n) (omega arith) (f [])
 few_all (And u p ps) k n f = few_more (evaluate p >>= λ v. evaluate_all ps (λ vs. k ((u, v) ∷ vs))) (bases p + (all_bases ps + n)) _ (omega arith)
     (few_bind (evaluate p) _ (bases p) (all_bases ps + n) (few_plan p) (λ v. few_all ps (λ vs. k ((u, v) ∷ vs)) n (λ vs. f ((u, v) ∷ vs))))
@@ -176,21 +176,21 @@ few_deed vs (Unbinds n) = tt
 few_deed vs (Writes k ws) = few_more (Operation.with_value vs k (Operation.store_in ws)) 0 1 (omega arith) (few_with vs k _ 0 (few_stored ws))
 few_deed vs (MakesAndWrites m k ws) = few_bind (Operation.give m) _ 1 0 (few_given m) (λ v. few_with vs k _ 0 (few_stored ws))
 
-few_acted : (f : List Operand → Result Deed Fault) (vs : List (Usage × Value)) → Few (Operation.act_on f vs) 1
+pub few_acted : (f : List Operand → Result Deed Fault) (vs : List (Usage × Value)) → Few (Operation.act_on f vs) 1
 few_acted f vs = few_operands vs _ 1 (λ os. few_decided (f os) _ 1 (few_deed vs))
 
 abbrev pub work_bases : Work → ℕ
 work_bases (Acts f ps) = all_bases ps + 1
 work_bases (ActsOn f w ps p) = all_bases ps + (1 + (bases p + 1))
 
-few_work : (w : Work) → Few (do_work w) (work_bases w)
+pub few_work : (w : Work) → Few (do_work w) (work_bases w)
 few_work (Acts f ps) = few_all ps _ 1 (few_acted f)
 few_work (ActsOn f w ps p) = few_all ps _ (1 + (bases p + 1)) (λ vs. few_bind (perform (Views w) vs) _ 1 (bases p + 1) (few_performed (Views w) vs) (λ x. few_bind (evaluate p) _ (bases p) 1 (few_plan p) (λ y. few_acted f ((operand.Whole, y) ∷ (operand.Whole, x) ∷ vs))))
 
 -- ---- at most as many as tokens
 
 mutual
-  at_expr : (e : Expr) → bases (Meaning.plan e) ≤ tokens_of e
+  pub at_expr : (e : Expr) → bases (Meaning.plan e) ≤ tokens_of e
   at_expr (syntax.Name n) = omega arith
   at_expr (syntax.Integer n) = omega arith
   at_expr (syntax.Truth t) = omega arith
@@ -200,15 +200,16 @@ mutual
   at_expr (syntax.Item t x) = omega (arith, at_expr t, at_index x)
   at_expr (syntax.Attribute t m) = omega (arith, at_expr t)
 
-  at_call : (c : Call) → bases (Meaning.plan (syntax.Called c)) ≤ tokens_of_call c
+  pub at_call : (c : Call) → bases (Meaning.call_plan c) ≤ tokens_of_call c
   at_call (syntax.Arange syntax.Omitted b syntax.Omitted None) = omega (arith, at_expr b)
   at_call (syntax.Arange syntax.Omitted b syntax.Omitted (Some t)) = omega arith
   at_call (syntax.Arange syntax.Omitted b (syntax.Given c) t) = omega arith
   at_call (syntax.Arange (syntax.Given a) b c t) = omega arith
-  at_call (syntax.Filled f s t) = omega arith
-  at_call (syntax.Full s e t) = omega arith
-  at_call (syntax.NewArray e t) = omega arith
-  at_call (syntax.Convert k e) = omega arith
+  at_call (syntax.Filled f s t) = omega (arith, at_shape operand.Unused s Done)
+  at_call (syntax.Full s e t) = omega (arith, at_shape operand.Whole s (And operand.Whole (Meaning.plan e) Done), at_expr e)
+  at_call (syntax.NewArray (syntax.Single e) t) = omega (arith, at_expr e)
+  at_call (syntax.NewArray (syntax.Nested es) t) = omega arith
+  at_call (syntax.Convert k e) = omega (arith, at_expr e)
   at_call (syntax.BroadcastTo e s) = omega arith
   at_call (syntax.Minimum a b) = omega arith
   at_call (syntax.Maximum a b) = omega arith
@@ -218,7 +219,17 @@ mutual
   at_call (syntax.Load n) = omega arith
   at_call (syntax.Buffer n) = omega arith
 
-  at_index : (x : Index) → all_bases (Meaning.item_plans x) ≤ tokens_of_index x
+  pub at_shape : (u : Usage) (es : syntax.Exprs) (rest : Plans) → all_bases (Meaning.expr_plans u es rest) ≤ tokens_of_shape es + all_bases rest
+  at_shape u syntax.NoExpr rest = omega arith
+  at_shape u (syntax.AndExpr e syntax.NoExpr) rest = omega (arith, at_expr e)
+  at_shape u (syntax.AndExpr e (syntax.AndExpr f es)) rest = omega (arith, at_expr e, at_expr f, at_exprs u es rest)
+
+  -- each has a comma before it
+  pub at_exprs : (u : Usage) (es : syntax.Exprs) (rest : Plans) → all_bases (Meaning.expr_plans u es rest) ≤ tokens_of_exprs es + all_bases rest
+  at_exprs u syntax.NoExpr rest = omega arith
+  at_exprs u (syntax.AndExpr e es) rest = omega (arith, at_expr e, at_exprs u es rest)
+
+  pub at_index : (x : Index) → all_bases (Meaning.item_plans x) ≤ tokens_of_index x
   at_index (syntax.Field n) = omega arith
   at_index (syntax.Items syntax.NoItem) = omega arith
   at_index (syntax.Items (syntax.AndItem (syntax.At e) syntax.NoItem)) = omega (arith, at_expr e)
@@ -228,11 +239,11 @@ mutual
   at_index (syntax.Items (syntax.AndItem syntax.NewAxis is)) = omega arith
   at_index (syntax.Items (syntax.AndItem (syntax.Listed es) is)) = omega arith
 
-at_all : (es : List Expr) → all_bases (Meaning.whole_plans es) ≤ tokens_of_all es
+pub at_all : (es : List Expr) → all_bases (Meaning.whole_plans es) ≤ tokens_of_all es
 at_all [] = omega arith
 at_all (e ∷ es) = omega (arith, at_expr e, at_all es)
 
-at_stmt : (s : Stmt) → work_bases (Meaning.work s) ≤ tokens_of_stmt s
+pub at_stmt : (s : Stmt) → work_bases (Meaning.work s) ≤ tokens_of_stmt s
 at_stmt syntax.Import = omega arith
 at_stmt (syntax.Bind n e) = omega (arith, at_expr e)
 at_stmt (syntax.Augment n op e) = omega arith

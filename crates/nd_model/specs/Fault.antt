@@ -24,9 +24,11 @@ pub data StmtFault : Type 0 where
   IntTooBig : StmtFault
   ZeroDivide : StmtFault
   NegativeShift : StmtFault
+  NeedsType : StmtFault
   NotAnArray : StmtFault
   TextTooLong : StmtFault
   BadArgument : StmtFault
+  BadType : StmtFault
 
 -- why a statement is refused
 pub data Fault : Type 0 where

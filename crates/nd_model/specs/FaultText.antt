@@ -1,7 +1,7 @@
 -- The texts of refusals, as a script is answered.
 use Rattle.std.specs.Prelude.{ℕ, List, ◌++◌, codes, decimal}
 use Rattle.std.specs.Fmt.{signed_decimal}
-use Rattle.nd_model.specs.Fault.{ViewFault, OutOfBlock, TooManyAxes, TooManyElements, AxesDiffer, IndexFault, OutOfBounds, TooManyIndices, NotAnIndex, UfuncFault, FloatResult, IntOutOfRange, ShapeMismatch, ReadOnly, NotNumbers, StmtFault, NoName, IntTooBig, ZeroDivide, NegativeShift, NotAnArray, TextTooLong, BadArgument, Fault, View, Index, Ufunc, Stmt, ParseKind, BadToken, Unexpected, TooDeep, TooManyStatements, UnknownCall, LeftOut, Refusal, Parse, Statement}
+use Rattle.nd_model.specs.Fault.{ViewFault, OutOfBlock, TooManyAxes, TooManyElements, AxesDiffer, IndexFault, OutOfBounds, TooManyIndices, NotAnIndex, UfuncFault, FloatResult, IntOutOfRange, ShapeMismatch, ReadOnly, NotNumbers, StmtFault, NoName, IntTooBig, ZeroDivide, NegativeShift, NeedsType, NotAnArray, TextTooLong, BadArgument, BadType, Fault, View, Index, Ufunc, Stmt, ParseKind, BadToken, Unexpected, TooDeep, TooManyStatements, UnknownCall, LeftOut, Refusal, Parse, Statement}
 use Rattle.nd_model.specs.Book as book
 use Rattle.nd_model.specs.Book.{EditFault, TooManyCells, CellTooLong, BadInputName, InputTooLarge, NoInputNamed, QueryFault}
 
@@ -28,9 +28,11 @@ stmt_text (NoName name) = codes "NoName " ++ name
 stmt_text IntTooBig = codes "IntTooBig"
 stmt_text ZeroDivide = codes "ZeroDivide"
 stmt_text NegativeShift = codes "NegativeShift"
+stmt_text NeedsType = codes "NeedsType"
 stmt_text NotAnArray = codes "NotAnArray"
 stmt_text TextTooLong = codes "TextTooLong"
 stmt_text BadArgument = codes "BadArgument"
+stmt_text BadType = codes "BadType"
 
 abbrev pub fault_text : Fault → List ℕ
 fault_text (View f) = codes "View." ++ view_text f

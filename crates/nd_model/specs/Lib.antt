@@ -33,6 +33,7 @@ pub mod Broadcast
 pub mod Operators
 pub mod Index
 pub mod Writing
+pub mod Types
 pub mod Creation
 pub mod Printing
 pub mod Viewing

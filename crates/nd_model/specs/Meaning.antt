@@ -4,13 +4,13 @@ use Rattle.nd_model.specs.Value.{Value}
 use Rattle.nd_model.specs.Running.{Source, Effect}
 use Rattle.nd_model.specs.Fault.{Fault, BadArgument}
 use Rattle.nd_model.specs.Fault as fault
-use Rattle.nd_model.specs.Syntax.{Expr, Name, Integer, Unary, Binary, Called, PythonAbs, Arange, Load, Buffer, Omitted, Item, Attribute, Index, Items, AndItem, NoItem, At, Stmt, Import, Bind, Assign, Delete, Print}
+use Rattle.nd_model.specs.Syntax.{Expr, Exprs, NoExpr, AndExpr, Name, Integer, Unary, Binary, Called, Call, Arange, Filled, Full, NewArray, Convert, PythonAbs, Load, Buffer, Omitted, Single, Item, Attribute, Index, Items, AndItem, NoItem, At, Stmt, Import, Bind, Assign, Delete, Print}
 use Rattle.nd_model.specs.Syntax as syntax
 use Rattle.nd_model.specs.Refusing as refusing
 use Rattle.nd_model.specs.Evaluation.{Eval}
-use Rattle.nd_model.specs.Operand.{Int, Truth, Operand, Whole, ArraysOnly, Unused, Made, ANumber, Deed, NoDeed, BindsFirst, Unbinds, Writes}
+use Rattle.nd_model.specs.Operand.{Int, Truth, Operand, Usage, Whole, ArraysOnly, Unused, Made, ANumber, Deed, NoDeed, BindsFirst, Unbinds, Writes}
 use Rattle.nd_model.specs.Operators.{Absolute, Of, binary, single}
-use Rattle.nd_model.specs.Creation.{arange}
+use Rattle.nd_model.specs.Creation.{arange, filled, full, array_of_number, convert}
 use Rattle.nd_model.specs.Writing.{assignment_writes}
 use Rattle.nd_model.specs.Viewing.{Indexed}
 use Rattle.nd_model.specs.Printing.{print_deed}
@@ -43,13 +43,25 @@ abbrev mutual
   plan (syntax.Truth t) = Does (Computes (λ os. Ok (ANumber (Truth t)))) Done
   plan (Unary op e) = Does (Computes (one (single (Of op)))) (And Whole (plan e) Done)
   plan (Binary op a b) = Does (Computes (two (binary op))) (And Whole (plan a) (And Whole (plan b) Done))
-  plan (Called (PythonAbs e)) = Does (Computes (one (single Absolute))) (And Whole (plan e) Done)
-  plan (Called (Arange Omitted e Omitted None)) = Does (Computes (one arange)) (And Unused (plan e) Done)
-  plan (Called (Load n)) = FromInput n unbuilt_input
-  plan (Called (Buffer n)) = FromInput n unbuilt_input
+  plan (Called c) = call_plan c
   plan (Item t x) = Does (Views Indexed) (And Unused (plan t) (item_plans x))
   plan (Attribute e m) = Does (Computes unbuilt_form) (And Unused (plan e) Done)
-  plan _ = Does (Computes unbuilt_form) Done
+
+  pub call_plan : Call → Plan
+  call_plan (Arange Omitted e Omitted None) = Does (Computes (one arange)) (And Unused (plan e) Done)
+  call_plan (Filled f shape t) = Does (Computes (filled f t)) (expr_plans Unused shape Done)
+  call_plan (Full shape e t) = Does (Computes (full t)) (expr_plans Whole shape (And Whole (plan e) Done))
+  call_plan (NewArray (Single e) t) = Does (Computes (one (array_of_number t))) (And Whole (plan e) Done)
+  call_plan (Convert k e) = Does (Computes (one (convert k))) (And Whole (plan e) Done)
+  call_plan (PythonAbs e) = Does (Computes (one (single Absolute))) (And Whole (plan e) Done)
+  call_plan (Load n) = FromInput n unbuilt_input
+  call_plan (Buffer n) = FromInput n unbuilt_input
+  call_plan _ = Does (Computes unbuilt_form) Done
+
+  -- from left to right, and then the others
+  pub expr_plans : Usage → Exprs → Plans → Plans
+  expr_plans u NoExpr rest = rest
+  expr_plans u (AndExpr e es) rest = And u (plan e) (expr_plans u es rest)
 
   -- an index of one expression; the other ones are not built yet
   pub item_plans : Index → Plans

@@ -145,8 +145,10 @@ fn push_statement_error(out: &mut Vec<u8>, error: &StmtError) -> Result<(), Allo
         StmtError::IntTooBig => push_text(out, "IntTooBig"),
         StmtError::ZeroDivide => push_text(out, "ZeroDivide"),
         StmtError::NegativeShift => push_text(out, "NegativeShift"),
+        StmtError::NeedsType => push_text(out, "NeedsType"),
         StmtError::NotAnArray => push_text(out, "NotAnArray"),
         StmtError::TextTooLong => push_text(out, "TextTooLong"),
         StmtError::BadArgument => push_text(out, "BadArgument"),
+        StmtError::BadType => push_text(out, "BadType"),
     }
 }

@@ -1,4 +1,5 @@
 pub mod Kinds
+pub mod Names
 pub mod Fields
 pub mod Structures
 pub mod Types

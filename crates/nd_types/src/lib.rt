@@ -1,6 +1,7 @@
 //! The kinds of numbers, the elements of arrays, and numbers outside arrays.
 #![tactic(auto)]
 
+mod descr;
 mod elem;
 mod field;
 mod kind;
@@ -10,6 +11,7 @@ mod promotion;
 mod structure;
 mod types;
 
+pub use descr::{kind_named, parse_descr};
 pub use elem::Elem;
 pub use field::Field;
 pub use kind::{Kind, fits, highest, lowest, wrap};

@@ -12,4 +12,5 @@ mod walk;
 
 pub use fault::ViewFault;
 pub use runs::{Run, Runs};
+pub use shapes::limit_fault;
 pub use strided::{Index, Shape, View};

@@ -101,8 +101,9 @@ fn is_too_large(size: u64, shape: &[u64]) -> bool
     }
 }
 
-// Why there is no array of these lengths, with elements of `size` bytes.
-pub(crate) fn limit_fault(size: u64, shape: &[u64]) -> Option<ViewFault>
+/// Returns why there is no array of these lengths, with elements of `size` bytes: `TooManyAxes` above 32 axes, else
+/// `TooManyElements` where an axis, the elements or their bytes are too many.
+pub fn limit_fault(size: u64, shape: &[u64]) -> Option<ViewFault>
     requires { size ≤ 65536 }
     ensures { option_map view_fault_of result ≡ model.limit_fault size shape.now }
 {

@@ -1,4 +1,4 @@
-use Rattle.nd_call.proofs.Nodes.{broadcast_is}
+use Rattle.nd_syntax.proofs.Nodes.{broadcast_is}
 use Rattle.nd_call.proofs.call.broadcast_call.Goals as goal
 
 pub returns : goal.returns

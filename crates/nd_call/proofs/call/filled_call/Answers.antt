@@ -1,4 +1,4 @@
-use Rattle.nd_call.proofs.Nodes.{filled_is}
+use Rattle.nd_syntax.proofs.Nodes.{filled_is}
 use Rattle.nd_call.proofs.call.filled_call.Goals as goal
 
 pub returns : goal.returns

@@ -1,4 +1,4 @@
-use Rattle.nd_call.proofs.Nodes.{full_is}
+use Rattle.nd_syntax.proofs.Nodes.{full_is}
 use Rattle.nd_call.proofs.call.full_call.Goals as goal
 
 pub returns : goal.returns

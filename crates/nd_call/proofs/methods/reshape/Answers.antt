@@ -1,4 +1,4 @@
-use Rattle.nd_call.proofs.Nodes.{reshape_is}
+use Rattle.nd_syntax.proofs.Nodes.{reshape_is}
 use Rattle.nd_call.proofs.methods.reshape.Goals as goal
 
 pub returns : goal.returns

@@ -3,7 +3,7 @@ use Rattle.std.specs.Int.{w128, int_div_euclid}
 use mir.Facts.{to_z-of_z}
 use Rattle.nd_model.specs.Operand.{python_int}
 use Rattle.nd_model.specs.Operators.{is_below}
-use Rattle.nd_eval.specs.Contents.{made_of}
+use Rattle.nd_eval.specs.Contents.{number_made}
 use Rattle.nd_eval.specs.Ends.{Says}
 use Rattle.nd_eval.proofs.WholeNumbers.{quotient_below, quotient_whole}
 use Rattle.nd_eval.proofs.python.floor_quotient.Goals as goal
@@ -15,7 +15,7 @@ returns-then-is_below c =
     let fits : FitsSigned w128 c.div_euclid-quotient.result = search rules in
     let less : is_below c.args.number c.args.divisor ≡ true = sym (simp to_z-of_z at c.is_below.ensures) ∙ c.if-is_below.true in
     let is : c.div_euclid-quotient.result ≡ int_div_euclid c.args.number c.args.divisor = simp to_z-of_z at c.div_euclid-quotient.ensures in
-    subst (λ z. Says made_of c.python_int.result (python_int z)) (ap (λ z. z -ℤ pos 1) (to_z-of_z fits ∙ is) ∙ sym (quotient_below c.args.number c.args.divisor less))
+    subst (λ z. Says number_made c.python_int.result (python_int z)) (ap (λ z. z -ℤ pos 1) (to_z-of_z fits ∙ is) ∙ sym (quotient_below c.args.number c.args.divisor less))
     (c.python_int.ensures _ c.checked_sub.ensures)
 
 pub returns : goal.returns
@@ -25,5 +25,5 @@ returns c =
     let fits : FitsSigned w128 c.div_euclid-quotient.result = search rules in
     let whole : is_below c.args.number c.args.divisor ≡ false = sym (simp to_z-of_z at c.is_below.ensures) ∙ c.if-is_below.false in
     let is : c.div_euclid-quotient.result ≡ int_div_euclid c.args.number c.args.divisor = simp to_z-of_z at c.div_euclid-quotient.ensures in
-    subst (λ z. Says made_of c.python_int-2.result (python_int z)) (is ∙ sym (quotient_whole c.args.number c.args.divisor whole))
+    subst (λ z. Says number_made c.python_int-2.result (python_int z)) (is ∙ sym (quotient_whole c.args.number c.args.divisor whole))
     (c.python_int-2.ensures c.div_euclid-quotient.result (fits, to_z-of_z fits))

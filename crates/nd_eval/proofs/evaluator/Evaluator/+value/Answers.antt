@@ -1,77 +1,88 @@
-use Rattle.std.proofs.Common.{rules, ◌≡◌, ◌+◌, List, ◌∷◌, length, refl, map, take, drop, ap, sym, ◌∙◌, arith}
+use Rattle.std.proofs.Common.{rules, ◌≡◌, ◌+◌, List, ◌∷◌, length, refl, map, option_map, take, drop, ap, sym, ◌∙◌, arith}
 use Rattle.std.proofs.lemmas.Bool.{eqb-false}
 use Rattle.std.proofs.lemmas.List.{drop_all}
 use Rattle.nd_model.specs.Evaluation.{run, ◌>>=◌, decide}
 use Rattle.nd_model.specs.Meaning as meaning
 use Rattle.nd_model.specs.Cells.{chained}
-use Rattle.nd_model.specs.Operators.{single}
 use Rattle.nd_model.specs.Creation.{arange}
 use Rattle.nd_model.specs.Operation.{give}
-use Rattle.nd_model.specs.Tokens.{tokens_of}
+use Rattle.nd_model.specs.Tokens.{tokens_of, tokens_of_call}
 use Rattle.nd_syntax.specs.Lists.{operation_of}
-use Rattle.nd_syntax.specs.Syntax.{expr_of, suffix_of, index_of}
+use Rattle.nd_syntax.specs.Syntax.{expr_of, call_of, suffix_of, index_of}
 use Rattle.nd_syntax.specs.declared.tree.Suffix.{Suffix}
 use Rattle.nd_heap.specs.Values.{value_of}
 use Rattle.nd_session.specs.Values.{inputs_of}
 use Rattle.nd_session.specs.Live.{live}
-use Rattle.nd_eval.proofs.Bounds.{next_value, next_at_index}
-use Rattle.nd_eval.specs.Contents.{operand_of, made_of, unused_of}
-use Rattle.nd_eval.specs.Parts.{item_value, element_value, binary_value}
-use Rattle.nd_eval.specs.Singles.{single_of}
-use Rattle.nd_eval.proofs.Chains.{exits, follows, goes, ends_as, exits_saying, follows_saying}
+use Rattle.nd_eval.proofs.Bounds.{next_value, next_values, next_at_index}
+use Rattle.nd_eval.proofs.Calls.{filled_first, filled_parts, full_first, full_follows}
+use Rattle.nd_syntax.specs.Calls.{dtype_of, fill_of}
+use Rattle.nd_model.specs.Creation.{filled, full_of}
+use Rattle.nd_eval.specs.Contents.{operand_of, unused_of, values_of}
+use Rattle.nd_eval.specs.Parts.{item_value, element_value, binary_value, values_then, values}
+use Rattle.nd_model.specs.Value as model
+use Rattle.nd_syntax.specs.declared.tree.Expr.{Expr}
+use Rattle.nd_eval.specs.New.{made_of_one}
+use Rattle.nd_eval.proofs.Creating.{exits_new, follows_new}
+use Rattle.nd_eval.proofs.Chains.{exits, follows, goes, ends_as, ends_alike}
+use Rattle.nd_model.specs.Syntax.{Called}
+use Rattle.nd_syntax.proofs.Nodes.{filled_is, full_is}
 use Rattle.nd_eval.proofs.Operating.{chain_step, chain_rest, exits_chain, exits_later, fewer_tokens}
 use Rattle.nd_eval.proofs.Turns.{stays_on}
 use Rattle.nd_eval.proofs.Parts.{arange_parts}
-use Rattle.nd_eval.proofs.Uses.{kept_bytes, kept_next, follows_use}
-use Rattle.nd_eval.proofs.Held.{held_after, held_marked, value_held, item_held}
-use Rattle.nd_eval.proofs.InTurn.{next_item}
-use Rattle.nd_eval.proofs.Indexing.{chain, next_index, run_postfix, tokens_of_postfix, nodes_of_postfix, arange_alone, items_in_index, nodes_of_its_items, more_refused, is_chain, nodes_of_chain}
+use Rattle.nd_model.specs.Running.{Running}
+use Rattle.nd_eval.specs.Uses.{marked, all_marked}
+use Rattle.nd_eval.proofs.Uses.{kept_bytes, kept_next, follows_use, all_marked_bytes, all_marked_next}
+use Rattle.nd_eval.proofs.Held.{held_after, held_marked, held_past, sound_after, value_held, item_held}
+use Rattle.nd_eval.proofs.InTurn.{next_item, onto, onto_more, pushed}
+use Rattle.nd_eval.proofs.Indexing.{chain, next_index, run_postfix, tokens_of_postfix, nodes_of_postfix, nodes_of_filled, nodes_of_full, range_only, shape_tokens, items_in_index, nodes_of_its_items, more_refused, is_chain, nodes_of_chain}
 use Rattle.nd_eval.proofs.evaluator.Evaluator.+value.Goals as goal
 
-pub value-single_value-requires : goal.value-single_value-requires
-value-single_value-requires t c =
+pub value-value_of_one-requires : goal.value-value_of_one-requires
+value-value_of_one-requires t c =
     let room = rw c.in-Unary.is at c.requires in
     let below = rw c.in-Unary.is at c.decreases in
     rw c.deref.ensures (omega arith, omega arith)
 
-pub single_value-returns-in_err-operand : goal.single_value-returns-in_err-operand
-single_value-returns-in_err-operand t c = (
+pub value_of_one-returns-in_err-operand : goal.value_of_one-returns-in_err-operand
+value_of_one-returns-in_err-operand t c = (
   exits value_of value_of (inputs_of c.args.self.now.inputs.now.entries) (meaning.value (expr_of c.args.operand.now)) _ _ _ _ _
       c.from_residual.ensures.1 c.in_err-operand.ensures.0,
   c.in_err-operand.ensures.1,
 )
 
-pub single_value-operand_in-requires : goal.single_value-operand_in-requires
-single_value-operand_in-requires t c =
+pub value_of_one-operand_in-requires : goal.value_of_one-operand_in-requires
+value_of_one-operand_in-requires t c =
     let v = c.in_ok-operand.operand in
     held_marked v v (live c.value.new.self.session.now) (live c.mark_operand.new.session) c.in_ok-mark_operand.ensures
     (value_held (inputs_of c.args.self.now.inputs.now.entries) (expr_of c.args.operand.now) _ _ v c.in_ok-operand.ensures.0 c.soundness.ensures)
 
-pub single_value-returns-in_err-made : goal.single_value-returns-in_err-made
-single_value-returns-in_err-made t c =
+pub value_of_one-returns-in_err-new : goal.value_of_one-returns-in_err-new
+value_of_one-returns-in_err-new t c =
     let i = inputs_of c.args.self.now.inputs.now.entries in
-    let v = c.in_ok-operand.operand in (
+    let v = c.in_ok-operand.operand in
+    let f = made_of_one c.args.call in (
       follows value_of value_of i (meaning.value (expr_of c.args.operand.now)) _ _ _ _ v _ c.in_ok-operand.ensures.0
-          (follows_use value_of i v (λ o. decide (single (single_of c.args.op) o) >>= give) _ _ _ _ c.operand_in.result _ c.in_ok-mark_operand.ensures
+          (follows_use value_of i v (λ o. decide (f o) >>= give) _ _ _ _ c.operand_in.result _ c.in_ok-mark_operand.ensures
           (kept_bytes v _ _ c.in_ok-mark_operand.ensures) c.operand_in.ensures
-          (exits_saying made_of value_of i (single (single_of c.args.op) (operand_of c.operand_in.result)) give _ _ _ c.from_residual-in_err-made.ensures.1 c.in_err-made.ensures)),
+          (exits_new i (f (operand_of c.operand_in.result)) _ _ _ c.from_residual-in_err-new.ensures.1 c.in_err-new.ensures)),
       c.in_ok-operand.ensures.1,
     )
 
-pub single_value-give-requires : goal.single_value-give-requires
-single_value-give-requires t c =
+pub value_of_one-give-requires : goal.value_of_one-give-requires
+value_of_one-give-requires t c =
     let made = next_value (inputs_of c.args.self.now.inputs.now.entries) (expr_of c.args.operand.now) _ _ _ c.in_ok-operand.ensures.0 in
     let none = kept_next c.in_ok-operand.operand _ _ c.in_ok-mark_operand.ensures in
     omega arith
 
-pub single_value-returns : goal.single_value-returns
-single_value-returns t c =
+pub value_of_one-returns : goal.value_of_one-returns
+value_of_one-returns t c =
     let i = inputs_of c.args.self.now.inputs.now.entries in
-    let v = c.in_ok-operand.operand in (
+    let v = c.in_ok-operand.operand in
+    let f = made_of_one c.args.call in (
       follows value_of value_of i (meaning.value (expr_of c.args.operand.now)) _ _ _ _ v _ c.in_ok-operand.ensures.0
-          (follows_use value_of i v (λ o. decide (single (single_of c.args.op) o) >>= give) _ _ _ _ c.operand_in.result _ c.in_ok-mark_operand.ensures
+          (follows_use value_of i v (λ o. decide (f o) >>= give) _ _ _ _ c.operand_in.result _ c.in_ok-mark_operand.ensures
           (kept_bytes v _ _ c.in_ok-mark_operand.ensures) c.operand_in.ensures
-          (follows_saying made_of value_of i (single (single_of c.args.op) (operand_of c.operand_in.result)) give _ _ c.in_ok-made.made _ c.in_ok-made.ensures (rw c.in_ok-operand.ensures.1.1 at c.give.ensures.0))),
+          (follows_new i (f (operand_of c.operand_in.result)) _ _ c.in_ok-new.new _ c.in_ok-new.ensures (rw c.in_ok-operand.ensures.1.1 at c.give.ensures.0))),
       stays_on c.in_ok-operand.ensures.1 c.give.ensures.1,
     )
 
@@ -168,62 +179,271 @@ pub value-returns-after-loop-suffix : goal.value-returns-after-loop-suffix
 value-returns-after-loop-suffix t c =
     (rw (drop_all _ _ c.loop-suffix-test.false) at c.loop-suffix.invariant.same, c.loop-suffix.invariant.stays)
 
-pub call_value-value-requires : goal.call_value-value-requires
-call_value-value-requires t c =
+-- ---- calls
+
+pub call_value-filled_value-requires : goal.call_value-filled_value-requires
+call_value-filled_value-requires t c =
+    let a = c.in-Filled in
+    let room = c.requires in
+    let whole = ap tokens_of_call (ap call_of a.is ∙ filled_is a.fill a.shape a.dtype) in
+    let few = shape_tokens (map expr_of a.shape.items) in
+    let size = nodes_of_filled c.args.call.now a.fill a.shape a.dtype a.is in
+    let below = c.decreases in
+    rw c.deref.ensures.value (omega arith, omega arith)
+
+pub call_value-full_value-requires : goal.call_value-full_value-requires
+call_value-full_value-requires t c =
+    let a = c.in-Full in
+    let room = c.requires in
+    let whole = ap tokens_of_call (ap call_of a.is ∙ full_is a.shape a.value a.dtype) in
+    let few = shape_tokens (map expr_of a.shape.items) in
+    let size = nodes_of_full c.args.call.now a.shape a.value a.dtype a.is in
+    let below = c.decreases in
+    rw c.deref-in-Full.ensures.value (omega arith, omega arith)
+
+pub call_value-range_value-requires : goal.call_value-range_value-requires
+call_value-range_value-requires t c =
     let a = c.in-Arange in
-    let alone = arange_alone c.args.call.now a.start a.end a.step a.dtype a.is
+    let alone = range_only c.args.call.now a.start a.end a.step a.dtype a.is
     (sym c.is_some.ensures ∙ c.if-is_some.false) (sym c.is_some-else-is_some.ensures ∙ c.if-is_some-2.false) (sym c.is_some-else-is_some-2.ensures ∙ c.if-is_some-3.false) in
     let room = rw alone at c.requires in
     let below = rw a.is at c.decreases in
     (omega arith, omega arith)
 
-pub call_value-returns-in_err-end-in-Arange : goal.call_value-returns-in_err-end-in-Arange
-call_value-returns-in_err-end-in-Arange t c =
+pub call_value-returns-else-is_some-3 : goal.call_value-returns-else-is_some-3
+call_value-returns-else-is_some-3 t c =
     let a = c.in-Arange in
-    let alone = arange_alone c.args.call.now a.start a.end a.step a.dtype a.is
-    (sym c.is_some.ensures ∙ c.if-is_some.false) (sym c.is_some-else-is_some.ensures ∙ c.if-is_some-2.false) (sym c.is_some-else-is_some-2.ensures ∙ c.if-is_some-3.false) in (
-      rw alone
-          (exits value_of value_of (inputs_of c.args.self.now.inputs.now.entries) (meaning.value (expr_of a.end)) _ _ _ _ _
-          c.from_residual.ensures.1 c.in_err-end-in-Arange.ensures.0),
-      c.in_err-end-in-Arange.ensures.1,
-    )
+    rw (range_only c.args.call.now a.start a.end a.step a.dtype a.is
+    (sym c.is_some.ensures ∙ c.if-is_some.false) (sym c.is_some-else-is_some.ensures ∙ c.if-is_some-2.false) (sym c.is_some-else-is_some-2.ensures ∙ c.if-is_some-3.false)) c.range_value.ensures
 
-pub call_value-returns-in_err-make_arange-in-Arange : goal.call_value-returns-in_err-make_arange-in-Arange
-call_value-returns-in_err-make_arange-in-Arange t c =
-    let a = c.in-Arange in
-    let alone = arange_alone c.args.call.now a.start a.end a.step a.dtype a.is
-    (sym c.is_some.ensures ∙ c.if-is_some.false) (sym c.is_some-else-is_some.ensures ∙ c.if-is_some-2.false) (sym c.is_some-else-is_some-2.ensures ∙ c.if-is_some-3.false) in
+pub call_value-returns-in-Filled : goal.call_value-returns-in-Filled
+call_value-returns-in-Filled t c =
+    let a = c.in-Filled in
     let i = inputs_of c.args.self.now.inputs.now.entries in
-    let v = c.in_ok-end-in-Arange.end in (
-      rw alone
-          (follows value_of value_of i (meaning.value (expr_of a.end)) _ _ _ _ v _ c.in_ok-end-in-Arange.ensures.0
-          (ends_as value_of i _ _ _ (arange_parts v)
-          (exits_saying made_of value_of i (arange (unused_of v)) give _ _ _ c.from_residual-in_err-make_arange-in-Arange.ensures.1 c.in_err-make_arange-in-Arange.ensures))),
-      c.in_ok-end-in-Arange.ensures.1,
+    let r = live c.args.self.now.session.now in
+    let same = ap (λ x. run i (meaning.value (Called x)) r) (ap call_of a.is ∙ filled_is a.fill a.shape a.dtype) in (
+      ends_alike value_of _ _ (same ∙ filled_first i (fill_of a.fill) (map expr_of a.shape.items) (option_map dtype_of a.dtype) r) (rw c.deref.ensures.value at c.filled_value.ensures.0),
+      c.filled_value.ensures.1,
     )
 
-pub call_value-give-requires : goal.call_value-give-requires
-call_value-give-requires t c =
-    let a = c.in-Arange in
-    let alone = arange_alone c.args.call.now a.start a.end a.step a.dtype a.is
-    (sym c.is_some.ensures ∙ c.if-is_some.false) (sym c.is_some-else-is_some.ensures ∙ c.if-is_some-2.false) (sym c.is_some-else-is_some-2.ensures ∙ c.if-is_some-3.false) in
-    let room = rw alone at c.requires in
-    let made = next_value (inputs_of c.args.self.now.inputs.now.entries) (expr_of a.end) _ _ _ c.in_ok-end-in-Arange.ensures.0 in
+pub call_value-returns-in-Full : goal.call_value-returns-in-Full
+call_value-returns-in-Full t c =
+    let a = c.in-Full in
+    let i = inputs_of c.args.self.now.inputs.now.entries in
+    let r = live c.args.self.now.session.now in
+    let same = ap (λ x. run i (meaning.value (Called x)) r) (ap call_of a.is ∙ full_is a.shape a.value a.dtype) in (
+      ends_alike value_of _ _ (same ∙ full_first i (map expr_of a.shape.items) (expr_of a.value) (option_map dtype_of a.dtype) r) (rw c.deref-in-Full.ensures.value at c.full_value.ensures.0),
+      c.full_value.ensures.1,
+    )
+
+pub call_value-returns-in-Array : goal.call_value-returns-in-Array
+call_value-returns-in-Array t c = rw c.in-Array.is c.array_value.ensures
+
+pub array_value-returns-in-Single : goal.array_value-returns-in-Single
+array_value-returns-in-Single t c = rw c.in-Single.is c.value_of_one.ensures
+
+pub call_value-returns-in-Convert : goal.call_value-returns-in-Convert
+call_value-returns-in-Convert t c = rw c.in-Convert.is c.value_of_one.ensures
+
+pub range_value-returns-in_err-end : goal.range_value-returns-in_err-end
+range_value-returns-in_err-end t c = (
+  exits value_of value_of (inputs_of c.args.self.now.inputs.now.entries) (meaning.value (expr_of c.args.end.now)) _ _ _ _ _
+      c.from_residual.ensures.1 c.in_err-end.ensures.0,
+  c.in_err-end.ensures.1,
+)
+
+pub range_value-returns-in_err-new : goal.range_value-returns-in_err-new
+range_value-returns-in_err-new t c =
+    let i = inputs_of c.args.self.now.inputs.now.entries in
+    let v = c.in_ok-end.end in (
+      follows value_of value_of i (meaning.value (expr_of c.args.end.now)) _ _ _ _ v _ c.in_ok-end.ensures.0
+          (ends_as value_of i _ _ _ (arange_parts v) (exits_new i (arange (unused_of v)) _ _ _ c.from_residual-in_err-new.ensures.1 c.in_err-new.ensures)),
+      c.in_ok-end.ensures.1,
+    )
+
+pub range_value-give-requires : goal.range_value-give-requires
+range_value-give-requires t c =
+    let made = next_value (inputs_of c.args.self.now.inputs.now.entries) (expr_of c.args.end.now) _ _ _ c.in_ok-end.ensures.0 in
     omega arith
 
-pub call_value-returns-in_ok-make_arange-in-Arange : goal.call_value-returns-in_ok-make_arange-in-Arange
-call_value-returns-in_ok-make_arange-in-Arange t c =
-    let a = c.in-Arange in
-    let alone = arange_alone c.args.call.now a.start a.end a.step a.dtype a.is
-    (sym c.is_some.ensures ∙ c.if-is_some.false) (sym c.is_some-else-is_some.ensures ∙ c.if-is_some-2.false) (sym c.is_some-else-is_some-2.ensures ∙ c.if-is_some-3.false) in
+pub range_value-returns : goal.range_value-returns
+range_value-returns t c =
     let i = inputs_of c.args.self.now.inputs.now.entries in
-    let v = c.in_ok-end-in-Arange.end in (
-      rw alone
-          (follows value_of value_of i (meaning.value (expr_of a.end)) _ _ _ _ v _ c.in_ok-end-in-Arange.ensures.0
+    let v = c.in_ok-end.end in (
+      follows value_of value_of i (meaning.value (expr_of c.args.end.now)) _ _ _ _ v _ c.in_ok-end.ensures.0
           (ends_as value_of i _ _ _ (arange_parts v)
-          (follows_saying made_of value_of i (arange (unused_of v)) give _ _ c.in_ok-make_arange-in-Arange.field-0 _ c.in_ok-make_arange-in-Arange.ensures (rw c.in_ok-end-in-Arange.ensures.1.1 at c.give.ensures.0)))),
-      stays_on c.in_ok-end-in-Arange.ensures.1 c.give.ensures.1,
+          (follows_new i (arange (unused_of v)) _ _ c.in_ok-new.new _ c.in_ok-new.ensures (rw c.in_ok-end.ensures.1.1 at c.give.ensures.0))),
+      stays_on c.in_ok-end.ensures.1 c.give.ensures.1,
     )
+
+pub filled_value-values-requires : goal.filled_value-values-requires
+filled_value-values-requires t c =
+    let below = c.decreases in
+    let room = c.requires in
+    (omega arith, omega arith)
+
+pub filled_value-returns-in_err-shape : goal.filled_value-returns-in_err-shape
+filled_value-returns-in_err-shape t c = (
+  exits values_of value_of (inputs_of c.args.self.now.inputs.now.entries) (values (map expr_of c.args.shape.now)) _ _ _ _ _
+      c.from_residual.ensures.1 c.in_err-shape.ensures.0,
+  c.in_err-shape.ensures.1,
+)
+
+pub filled_value-returns-in_err-new : goal.filled_value-returns-in_err-new
+filled_value-returns-in_err-new t c =
+    let i = inputs_of c.args.self.now.inputs.now.entries in
+    let f = fill_of c.args.fill in
+    let d = option_map dtype_of c.args.dtype.now in
+    let vs = c.in_ok-shape.shape.items in (
+      follows values_of value_of i (values (map expr_of c.args.shape.now)) _ _ _ _ c.in_ok-shape.shape _ c.in_ok-shape.ensures.0
+          (ends_as value_of i _ _ _ (filled_parts f d vs) (exits_new i (filled f d (map unused_of vs)) _ _ _ c.from_residual-in_err-new.ensures.1 (rw c.deref.ensures.value at c.in_err-new.ensures))),
+      c.in_ok-shape.ensures.1,
+    )
+
+pub filled_value-give-requires : goal.filled_value-give-requires
+filled_value-give-requires t c =
+    let made = next_values (inputs_of c.args.self.now.inputs.now.entries) (map expr_of c.args.shape.now) _ _ _ c.in_ok-shape.ensures.0 in
+    let room = c.requires in
+    omega arith
+
+pub filled_value-returns : goal.filled_value-returns
+filled_value-returns t c =
+    let i = inputs_of c.args.self.now.inputs.now.entries in
+    let f = fill_of c.args.fill in
+    let d = option_map dtype_of c.args.dtype.now in
+    let vs = c.in_ok-shape.shape.items in (
+      follows values_of value_of i (values (map expr_of c.args.shape.now)) _ _ _ _ c.in_ok-shape.shape _ c.in_ok-shape.ensures.0
+          (ends_as value_of i _ _ _ (filled_parts f d vs)
+          (follows_new i (filled f d (map unused_of vs)) _ _ c.in_ok-new.new _ (rw c.deref.ensures.value at c.in_ok-new.ensures) (rw c.in_ok-shape.ensures.1.1 at c.give.ensures.0))),
+      stays_on c.in_ok-shape.ensures.1 c.give.ensures.1,
+    )
+
+pub full_value-values-requires : goal.full_value-values-requires
+full_value-values-requires t c =
+    let below = c.decreases in
+    let room = c.requires in
+    (omega arith, omega arith)
+
+pub full_value-returns-in_err-shape : goal.full_value-returns-in_err-shape
+full_value-returns-in_err-shape t c = (
+  exits values_of value_of (inputs_of c.args.self.now.inputs.now.entries) (values (map expr_of c.args.shape.now)) _ _ _ _ _
+      c.from_residual.ensures.1 c.in_err-shape.ensures.0,
+  c.in_err-shape.ensures.1,
+)
+
+pub full_value-value-requires : goal.full_value-value-requires
+full_value-value-requires t c =
+    let below = c.decreases in
+    let room = c.requires in
+    let made = next_values (inputs_of c.args.self.now.inputs.now.entries) (map expr_of c.args.shape.now) _ _ _ c.in_ok-shape.ensures.0 in
+    (omega arith, omega arith)
+
+pub full_value-returns-in_err-value : goal.full_value-returns-in_err-value
+full_value-returns-in_err-value t c =
+    let i = inputs_of c.args.self.now.inputs.now.entries in (
+      follows values_of value_of i (values (map expr_of c.args.shape.now)) _ _ _ _ c.in_ok-shape.shape _ c.in_ok-shape.ensures.0
+          (exits value_of value_of i (meaning.value (expr_of c.args.value.now)) _ _ _ _ _ c.from_residual-in_err-value.ensures.1 (rw c.in_ok-shape.ensures.1.1 at c.in_err-value.ensures.0)),
+      stays_on c.in_ok-shape.ensures.1 c.in_err-value.ensures.1,
+    )
+
+pub full_value-operand_in-requires : goal.full_value-operand_in-requires
+full_value-operand_in-requires t c =
+    let i = inputs_of c.args.self.now.inputs.now.entries in
+    let vs = c.in_ok-shape.shape.items in
+    let v = c.in_ok-value.value in
+    let s = live c.value.new.self.session.now in
+    let sound = sound_after i (values (map expr_of c.args.shape.now)) _ _ _ c.in_ok-shape.ensures.0 c.soundness.ensures in
+    let held = value_held i (expr_of c.args.value.now) _ _ v (rw c.in_ok-shape.ensures.1.1 at c.in_ok-value.ensures.0) sound in
+    held_marked v v (live c.mark_operands.new.session) (live c.mark_operand.new.session) c.in_ok-mark_operand.ensures
+    (held_past vs v s (live c.mark_operands.new.session) (c.in_ok-mark_operands.ensures ∙ ap (λ vs. all_marked vs s) c.deref.ensures.value) held)
+
+pub full_value-returns-in_err-new : goal.full_value-returns-in_err-new
+full_value-returns-in_err-new t c =
+    let i = inputs_of c.args.self.now.inputs.now.entries in
+    let d = option_map dtype_of c.args.dtype.now in
+    let vs = c.in_ok-shape.shape.items in
+    let v = c.in_ok-value.value in
+    let s = live c.value.new.self.session.now in
+    let x = c.operand_in.result in
+    let marks = c.in_ok-mark_operands.ensures ∙ ap (λ vs. all_marked vs s) c.deref.ensures.value in
+    let kept = kept_bytes v _ _ c.in_ok-mark_operand.ensures ∙ ap (λ (q : Running). q.bytes) marks ∙ all_marked_bytes vs s in (
+      follows values_of value_of i (values (map expr_of c.args.shape.now)) _ _ _ _ c.in_ok-shape.shape _ c.in_ok-shape.ensures.0
+          (follows value_of value_of i (meaning.value (expr_of c.args.value.now)) _ _ _ _ v _ (rw c.in_ok-shape.ensures.1.1 at c.in_ok-value.ensures.0)
+          (full_follows i d vs v s _ _ _ x _ (c.in_ok-mark_operand.ensures ∙ ap (marked v) marks) kept c.operand_in.ensures
+          (exits_new i (full_of d (map unused_of vs) (operand_of x)) _ _ _ c.from_residual-in_err-new.ensures.1 (rw c.deref-2.ensures.value at c.in_err-new.ensures)))),
+      stays_on c.in_ok-shape.ensures.1 c.in_ok-value.ensures.1,
+    )
+
+pub full_value-give-requires : goal.full_value-give-requires
+full_value-give-requires t c =
+    let i = inputs_of c.args.self.now.inputs.now.entries in
+    let vs = c.in_ok-shape.shape.items in
+    let s = live c.value.new.self.session.now in
+    let room = c.requires in
+    let lengths = next_values i (map expr_of c.args.shape.now) _ _ _ c.in_ok-shape.ensures.0 in
+    let value = next_value i (expr_of c.args.value.now) _ _ _ (rw c.in_ok-shape.ensures.1.1 at c.in_ok-value.ensures.0) in
+    let marks = ap (λ (q : Running). q.next) (c.in_ok-mark_operands.ensures ∙ ap (λ vs. all_marked vs s) c.deref.ensures.value) ∙ all_marked_next vs s in
+    let none = kept_next c.in_ok-value.value _ _ c.in_ok-mark_operand.ensures in
+    omega arith
+
+pub full_value-returns : goal.full_value-returns
+full_value-returns t c =
+    let i = inputs_of c.args.self.now.inputs.now.entries in
+    let d = option_map dtype_of c.args.dtype.now in
+    let vs = c.in_ok-shape.shape.items in
+    let v = c.in_ok-value.value in
+    let s = live c.value.new.self.session.now in
+    let x = c.operand_in.result in
+    let marks = c.in_ok-mark_operands.ensures ∙ ap (λ vs. all_marked vs s) c.deref.ensures.value in
+    let kept = kept_bytes v _ _ c.in_ok-mark_operand.ensures ∙ ap (λ (q : Running). q.bytes) marks ∙ all_marked_bytes vs s in
+    let stays = stays_on c.in_ok-shape.ensures.1 c.in_ok-value.ensures.1 in (
+      follows values_of value_of i (values (map expr_of c.args.shape.now)) _ _ _ _ c.in_ok-shape.shape _ c.in_ok-shape.ensures.0
+          (follows value_of value_of i (meaning.value (expr_of c.args.value.now)) _ _ _ _ v _ (rw c.in_ok-shape.ensures.1.1 at c.in_ok-value.ensures.0)
+          (full_follows i d vs v s _ _ _ x _ (c.in_ok-mark_operand.ensures ∙ ap (marked v) marks) kept c.operand_in.ensures
+          (follows_new i (full_of d (map unused_of vs) (operand_of x)) _ _ c.in_ok-new.new _ (rw c.deref-2.ensures.value at c.in_ok-new.ensures) (rw stays.1 at c.give.ensures.0)))),
+      stays_on stays c.give.ensures.1,
+    )
+
+-- ---- expressions from left to right
+
+pub values-loop-expr-init : goal.values-loop-expr-init
+values-loop-expr-init t c = record { same = rw c.new-values.ensures.items refl; stays = (refl, refl); room = c.requires; below = omega arith }
+
+pub values-value-requires : goal.values-value-requires
+values-value-requires t c =
+    let next = next_item c.args.exprs.now c.loop-expr.expr-index c.expr-item.result c.loop-expr-test.true c.expr-item.is in
+    let room = rw next at c.loop-expr.invariant.room in
+    let left = rw next at c.loop-expr.invariant.below in
+    let below = c.decreases in
+    (omega arith, omega arith)
+
+pub values-returns-in_err-found : goal.values-returns-in_err-found
+values-returns-in_err-found t c =
+    let next = next_item c.args.exprs.now c.loop-expr.expr-index c.expr-item.result c.loop-expr-test.true c.expr-item.is in (
+      rw (c.loop-expr.invariant.same, next)
+          (exits value_of values_of (inputs_of c.args.self.now.inputs.now.entries) (meaning.value (expr_of c.expr-item.result)) _ _ _ _ _ c.from_residual.ensures.1 (rw c.loop-expr.invariant.stays.1 at c.in_err-found.ensures.0)),
+      stays_on c.loop-expr.invariant.stays c.in_err-found.ensures.1,
+    )
+
+pub values-loop-expr-preserved : goal.values-loop-expr-preserved
+values-loop-expr-preserved t c =
+    let i = inputs_of c.args.self.now.inputs.now.entries in
+    let e = expr_of c.expr-item.result in
+    let rest = map expr_of (drop (c.loop-expr.expr-index + 1) c.args.exprs.now) in
+    let next = next_item c.args.exprs.now c.loop-expr.expr-index c.expr-item.result c.loop-expr-test.true c.expr-item.is in
+    let room = rw next at c.loop-expr.invariant.room in
+    let left = rw next at c.loop-expr.invariant.below in
+    let found = rw c.loop-expr.invariant.stays.1 at c.in_ok-found.ensures.0 in
+    let made = next_value i e _ _ _ found in
+    record {
+      stays = stays_on c.loop-expr.invariant.stays c.in_ok-found.ensures.1;
+      same = c.loop-expr.invariant.same
+          ∙ ap (λ (es : List Expr). run i (values_then (map expr_of es) (onto (map value_of c.loop-expr.values.items))) (live c.loop-expr.self.session.now)) next
+          ∙ onto_more value_of i (meaning.value e) (values_then rest) (map value_of c.loop-expr.values.items) _ _ c.in_ok-found.found found
+          ∙ ap (λ (done : List model.Value). run i (values_then rest (onto done)) (live c.value.new.self.session.now)) (sym (pushed value_of _ _ _ c.in_ok-push.ensures.items));
+      room = omega arith;
+      below = omega arith;
+    }
 
 pub item_value-only_item-requires : goal.item_value-only_item-requires
 item_value-only_item-requires t c =
@@ -256,7 +476,7 @@ value-returns-in-Chain t c =
     rw (is_chain c.args.expr.now c.in-Chain.operand c.in-Chain.others c.in-Chain.is, ← c.deref-in-Chain.ensures, ← c.deref-in-Chain-2.ensures.value) c.chain_value.ensures
 
 pub value-returns-in-Unary : goal.value-returns-in-Unary
-value-returns-in-Unary t c = rw (c.in-Unary.is, ← c.deref.ensures) c.single_value.ensures
+value-returns-in-Unary t c = rw (c.in-Unary.is, ← c.deref.ensures) c.value_of_one.ensures
 
 -- ---- operators
 
@@ -274,12 +494,6 @@ binary_value-operate-requires-clause-left t c =
 pub binary_value-operate-requires-clause-right : goal.binary_value-operate-requires-clause-right
 binary_value-operate-requires-clause-right t c =
     value_held (inputs_of c.args.self.now.inputs.now.entries) (expr_of c.args.right.now) _ _ c.in_ok-right.right c.in_ok-right.ensures.0 c.soundness.ensures
-
-pub binary_value-operate-requires-clause-room : goal.binary_value-operate-requires-clause-room
-binary_value-operate-requires-clause-room t c =
-    let made = next_value (inputs_of c.args.self.now.inputs.now.entries) (expr_of c.args.right.now) _ _ _ c.in_ok-right.ensures.0 in
-    let room = c.requires.room in
-    omega arith
 
 pub binary_value-returns : goal.binary_value-returns
 binary_value-returns t c = (

@@ -2,20 +2,38 @@ use Rattle.std.proofs.Common.{◌≡◌, ◌+◌, ◌<◌, ◌≤◌, ◌^◌, O
 use Rattle.nd_model.specs.Cells.{chained}
 use Rattle.nd_model.specs.Evaluation.{run}
 use Rattle.nd_model.specs.Meaning as meaning
+use Rattle.nd_model.specs.Tokens.{tokens_of_all}
 use Rattle.nd_syntax.specs.Lists.{operation_of}
 use Rattle.nd_syntax.specs.Syntax.{expr_of, suffix_of}
 use Rattle.nd_heap.specs.Values.{value_of}
 use Rattle.nd_session.specs.Values.{inputs_of}
 use Rattle.nd_session.specs.Live.{live}
 use Rattle.nd_eval.specs.Ends.{Stays}
-use Rattle.nd_eval.proofs.Indexing.{chain, chain_tokens, nodes, nodes_of_call, nodes_of_index, nodes_of_items, nodes_of_item, nodes_of_all, nodes_of_operations}
+use Rattle.nd_eval.specs.Parts.{values, values_then}
+use Rattle.nd_eval.proofs.InTurn.{onto}
+use Rattle.nd_eval.proofs.Indexing.{chain, chain_tokens, nodes, nodes_of_call, nodes_of_element, nodes_of_exprs, nodes_of_index, nodes_of_items, nodes_of_item, nodes_of_all, nodes_of_operations}
 use Rattle.nd_eval.proofs.evaluator.Evaluator.+value.Given as goal
 
 abbrev pub decreases-value : goal.decreases-value
 decreases-value l = nodes l.expr.now
 
-abbrev pub decreases-single_value : goal.decreases-single_value
-decreases-single_value l = 1 + nodes l.operand.now
+abbrev pub decreases-value_of_one : goal.decreases-value_of_one
+decreases-value_of_one l = 1 + nodes l.operand.now
+
+abbrev pub decreases-range_value : goal.decreases-range_value
+decreases-range_value l = 1 + nodes l.end.now
+
+abbrev pub decreases-filled_value : goal.decreases-filled_value
+decreases-filled_value l = 2 + nodes_of_exprs l.shape.now
+
+abbrev pub decreases-full_value : goal.decreases-full_value
+decreases-full_value l = 2 + nodes_of_exprs l.shape.now + nodes l.value.now
+
+abbrev pub decreases-array_value : goal.decreases-array_value
+decreases-array_value l = nodes_of_element l.element.now
+
+abbrev pub decreases-values : goal.decreases-values
+decreases-values l = 1 + nodes_of_exprs l.exprs.now
 
 abbrev pub decreases-chain_value : goal.decreases-chain_value
 decreases-chain_value l = 1 + nodes l.operand.now + nodes_of_operations l.others.now
@@ -56,4 +74,13 @@ invariant-chain_value-loop-other l = record {
       ≡ (Ok (value_of l.found), live l.self.session.now);
   stays : Stays l.fn.self l.self;
   below : nodes_of_operations (drop l.other-index l.others) ≤ nodes_of_operations l.others;
+}
+
+abbrev pub invariant-values-loop-expr : goal.invariant-values-loop-expr
+invariant-values-loop-expr l = record {
+  same : run (inputs_of l.fn.self.inputs.now.entries) (values (map expr_of l.exprs)) (live l.fn.self.session.now)
+      ≡ run (inputs_of l.fn.self.inputs.now.entries) (values_then (map expr_of (drop l.expr-index l.exprs)) (onto (map value_of l.values.items))) (live l.self.session.now);
+  stays : Stays l.fn.self l.self;
+  room : (live l.self.session.now).next + tokens_of_all (map expr_of (drop l.expr-index l.exprs)) < 2 ^ 64;
+  below : nodes_of_exprs (drop l.expr-index l.exprs) ≤ nodes_of_exprs l.exprs;
 }

@@ -1,15 +1,17 @@
-use Rattle.std.proofs.Common.{◌∙◌, refl, arith}
+use Rattle.std.proofs.Common.{◌∙◌, Ok, refl}
 use Rattle.nd_model.specs.Evaluation.{◌>>=◌, decide}
 use Rattle.nd_model.specs.Operand.{Whole}
 use Rattle.nd_model.specs.Operators.{binary}
 use Rattle.nd_model.specs.Operation.{give, use_operand}
 use Rattle.nd_syntax.specs.Syntax.{binary_op}
 use Rattle.nd_heap.specs.Values.{value_of}
+use Rattle.nd_heap.specs.declared.value.Value.TheVariants.{Number}
 use Rattle.nd_session.specs.Values.{inputs_of}
 use Rattle.nd_session.specs.Live.{live}
-use Rattle.nd_eval.specs.Contents.{made_of, operand_of}
+use Rattle.nd_eval.specs.Contents.{number_made, operand_of}
 use Rattle.nd_eval.proofs.Chains.{exits_saying, follows_saying}
-use Rattle.nd_eval.proofs.Uses.{kept_bytes, kept_next, follows_use}
+use Rattle.nd_eval.proofs.Creating.{given_number}
+use Rattle.nd_eval.proofs.Uses.{kept_bytes, follows_use}
 use Rattle.nd_eval.proofs.Held.{held_marked}
 use Rattle.nd_eval.proofs.evaluator.Evaluator.operate.Goals as goal
 
@@ -25,8 +27,8 @@ operand_in-right-requires c =
     held_marked w w (live c.mark_operand.new.session) (live c.mark_operand-2.new.session) c.in_ok-mark_operand-2.ensures
     (held_marked c.args.left.now w (live c.args.self.now.session.now) (live c.mark_operand.new.session) c.in_ok-mark_operand.ensures c.requires.right)
 
-pub returns-in_err-made : goal.returns-in_err-made
-returns-in_err-made c =
+pub returns-in_err-number : goal.returns-in_err-number
+returns-in_err-number c =
     let i = inputs_of c.args.self.now.inputs.now.entries in
     let v = c.args.left.now in
     let w = c.args.right.now in
@@ -36,16 +38,9 @@ returns-in_err-made c =
     let again = kept_bytes w _ _ c.in_ok-mark_operand-2.ensures in (
       follows_use value_of i v (λ o. use_operand Whole (value_of w) >>= λ p. decide (binary op o p) >>= give) _ _ _ _ c.operand_in-left.result _ c.in_ok-mark_operand.ensures (again ∙ once) c.operand_in-left.ensures
           (follows_use value_of i w (λ p. decide (binary op o p) >>= give) _ _ _ _ c.operand_in-right.result _ c.in_ok-mark_operand-2.ensures again c.operand_in-right.ensures
-          (exits_saying made_of value_of i (binary op o (operand_of c.operand_in-right.result)) give _ _ _ c.from_residual-in_err-made.ensures.1 c.in_err-made.ensures)),
+          (exits_saying number_made value_of i (binary op o (operand_of c.operand_in-right.result)) give _ _ _ c.from_residual-in_err-number.ensures.1 c.in_err-number.ensures)),
       (refl, refl),
     )
-
-pub give-requires : goal.give-requires
-give-requires c =
-    let once = kept_next c.args.left.now _ _ c.in_ok-mark_operand.ensures in
-    let again = kept_next c.args.right.now _ _ c.in_ok-mark_operand-2.ensures in
-    let room = c.requires.room in
-    omega arith
 
 pub returns : goal.returns
 returns c =
@@ -54,10 +49,12 @@ returns c =
     let w = c.args.right.now in
     let op = binary_op c.args.op in
     let o = operand_of c.operand_in-left.result in
+    let last = live c.mark_operand-2.new.session in
+    let n = c.in_ok-number.number in
     let once = kept_bytes v _ _ c.in_ok-mark_operand.ensures in
     let again = kept_bytes w _ _ c.in_ok-mark_operand-2.ensures in (
-      follows_use value_of i v (λ o. use_operand Whole (value_of w) >>= λ p. decide (binary op o p) >>= give) _ _ _ _ c.operand_in-left.result _ c.in_ok-mark_operand.ensures (again ∙ once) c.operand_in-left.ensures
-          (follows_use value_of i w (λ p. decide (binary op o p) >>= give) _ _ _ _ c.operand_in-right.result _ c.in_ok-mark_operand-2.ensures again c.operand_in-right.ensures
-          (follows_saying made_of value_of i (binary op o (operand_of c.operand_in-right.result)) give _ _ c.in_ok-made.made _ c.in_ok-made.ensures c.give.ensures.0)),
-      c.give.ensures.1,
+      follows_use value_of i v (λ o. use_operand Whole (value_of w) >>= λ p. decide (binary op o p) >>= give) _ _ last _ c.operand_in-left.result (Ok (Number n)) c.in_ok-mark_operand.ensures (again ∙ once) c.operand_in-left.ensures
+          (follows_use value_of i w (λ p. decide (binary op o p) >>= give) _ _ last _ c.operand_in-right.result (Ok (Number n)) c.in_ok-mark_operand-2.ensures again c.operand_in-right.ensures
+          (follows_saying number_made value_of i (binary op o (operand_of c.operand_in-right.result)) give last last n (Ok (Number n)) c.in_ok-number.ensures (given_number i n last))),
+      (refl, refl),
     )

@@ -1,0 +1,66 @@
+//! Numbers written to elements that stand one after another. Which kind they have is asked once, not for each.
+
+ghost use Rattle.std.specs.Prelude.{◌≡◌, ◌*◌, ◌≤◌, ◌^◌, pos, length};
+ghost use Rattle.nd_model.specs.Element.{size_of};
+ghost use Rattle.nd_create.specs.Numbers.{bytes_below, bytes_of_copies};
+
+use nd_block::store_at;
+use nd_types::{Elem, Kind};
+
+/// Writes the same number to each of n elements.
+#[inline(always)]
+fn fill_each(bytes: &mut [u8], elem: Elem, number: i128, n: usize)
+    requires { (length bytes.old ≡ n * size_of elem.kind) × (n ≤ 2 ^ 24) }
+    ensures { bytes.new ≡ bytes_of_copies elem number n }
+{
+    let size = elem.size() as usize;
+    for index in 0..n {
+        store_at(bytes, index * size, elem, number);
+    }
+}
+
+/// The same for any element, where no loop is made for it alone.
+#[inline(never)]
+fn fill_any(bytes: &mut [u8], elem: Elem, number: i128, n: usize)
+    requires { (length bytes.old ≡ n * size_of elem.kind) × (n ≤ 2 ^ 24) }
+    ensures { bytes.new ≡ bytes_of_copies elem number n }
+{
+    fill_each(bytes, elem, number, n);
+}
+
+/// The same, by a loop for the one element that is known, if it is that one.
+#[inline(always)]
+fn fill_known(bytes: &mut [u8], known: Elem, elem: Elem, number: i128, n: usize)
+    requires { (length bytes.old ≡ n * size_of elem.kind) × (n ≤ 2 ^ 24) }
+    ensures { bytes.new ≡ bytes_of_copies elem number n }
+{
+    if elem == known {
+        fill_each(bytes, known, number, n);
+    } else {
+        fill_any(bytes, elem, number, n);
+    }
+}
+
+/// Writes the same number to each of n elements. Of a number that the kind does not hold the lowest bits are kept.
+pub(crate) fn fill(bytes: &mut [u8], elem: Elem, number: i128, n: usize)
+    requires { (length bytes.old ≡ n * size_of elem.kind) × (n ≤ 2 ^ 24) }
+    ensures { bytes.new ≡ bytes_of_copies elem number n }
+{
+    match elem.size() {
+        1 => fill_known(bytes, Elem::little(Kind::U8), elem, number, n),
+        2 => fill_known(bytes, Elem::little(Kind::I16), elem, number, n),
+        4 => fill_known(bytes, Elem::little(Kind::I32), elem, number, n),
+        _ => fill_known(bytes, Elem::little(Kind::I64), elem, number, n),
+    }
+}
+
+/// Writes the numbers from 0 to n-1 to n elements.
+pub(crate) fn fill_up(bytes: &mut [u8], elem: Elem, n: usize)
+    requires { (length bytes.old ≡ n * size_of elem.kind) × (n ≤ 2 ^ 24) }
+    ensures { bytes.new ≡ bytes_below elem pos n }
+{
+    let size = elem.size() as usize;
+    for number in 0..n {
+        store_at(bytes, number * size, elem, number as i128);
+    }
+}

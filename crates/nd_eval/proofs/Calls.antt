@@ -1,0 +1,105 @@
+-- The operands of calls with several, one after the other.
+use Rattle.std.proofs.Common.{◌≡◌, ℕ, List, [], ◌∷◌, ◌++◌, map, Option, Result, Ok, refl, sym, ap, ◌∙◌, append-nil}
+use Rattle.std.proofs.lemmas.List.{map-append}
+use Rattle.nd_model.specs.Calls.{Fill, DType}
+use Rattle.nd_model.specs.Syntax.{Expr, Called, Filled, Full}
+use Rattle.nd_model.specs.Cells.{exprs_of}
+use Rattle.nd_model.specs.Value as model
+use Rattle.nd_model.specs.Running.{Running, Inputs}
+use Rattle.nd_model.specs.Refusing as refusing
+use Rattle.nd_model.specs.Evaluation.{Eval, Gives, run, ◌>>=◌, decide}
+use Rattle.nd_model.specs.Operand.{Operand, Usage, Whole, Unused}
+use Rattle.nd_model.specs.Operation.{Computes, perform, operands, give, Plans, Done, And, with_values}
+use Rattle.nd_model.specs.Creation.{length_of, lengths_of, last_of, filled, full, full_of, full_array, plain_number}
+use Rattle.nd_model.specs.Meaning.{value, plan, expr_plans}
+use Rattle.nd_model.specs.Value.{Base}
+use Rattle.nd_heap.specs.declared.value.Value.{Value}
+use Rattle.nd_heap.specs.declared.value.Value.TheVariants.{Number, Array}
+use Rattle.nd_heap.specs.Values.{value_of}
+use Rattle.nd_eval.specs.declared.operand.Operand as lent
+use Rattle.nd_eval.specs.declared.stop.Stop.{Stop}
+use Rattle.nd_eval.specs.Contents.{operand_of, unused_of}
+use Rattle.nd_eval.specs.Ends.{Ends}
+use Rattle.nd_eval.proofs.Chains.{ends_alike}
+use Rattle.nd_eval.specs.Parts.{values_then, wholes, unused, filled_value, full_value}
+use Rattle.nd_eval.specs.Uses.{marked, all_marked, operand_over, operands_over}
+use Rattle.nd_eval.proofs.Parts.{then_same, regrouped, not_used}
+use Rattle.nd_eval.proofs.Uses.{all_used}
+
+-- ---- first all expressions are evaluated
+
+all_exprs : (i : Inputs) (u : Usage) (es : List Expr) (rest : Plans) (go : List (Usage × model.Value) → Eval model.Value) (k : List model.Value → List model.Value) (g : List model.Value → Eval model.Value) (r : Running)
+    → ((vs : List model.Value) → with_values rest (λ ws. go (map (λ v. (u, v)) vs ++ ws)) ≡ g (k vs)) → run i (with_values (expr_plans u (exprs_of es) rest) go) r ≡ run i (values_then es (λ vs. Gives (k vs)) >>= g) r
+all_exprs i u [] rest go k g r h = ap (λ t. run i t r) (h [])
+all_exprs i u (e ∷ es) rest go k g r h =
+    then_same i (value e) (λ v. with_values (expr_plans u (exprs_of es) rest) (λ vs. go ((u, v) ∷ vs))) (λ v. values_then es (λ vs. Gives (k (v ∷ vs))) >>= g) r
+    (λ v s. all_exprs i u es rest (λ vs. go ((u, v) ∷ vs)) (λ vs. k (v ∷ vs)) g s (λ vs. h (v ∷ vs)))
+    ∙ sym (regrouped i (value e) (λ v. values_then es (λ vs. Gives (k (v ∷ vs)))) g r)
+
+pub filled_first : (i : Inputs) (f : Fill) (es : List Expr) (t : Option DType) (r : Running) → run i (value (Called (Filled f (exprs_of es) t))) r ≡ run i (filled_value f es t) r
+filled_first i f es t r =
+    all_exprs i Unused es Done (perform (Computes (filled f t))) (λ vs. vs) (λ vs. perform (Computes (filled f t)) (unused vs)) r (λ vs. ap (perform (Computes (filled f t))) (append-nil (unused vs)))
+
+pub full_first : (i : Inputs) (es : List Expr) (e : Expr) (t : Option DType) (r : Running) → run i (value (Called (Full (exprs_of es) e t))) r ≡ run i (full_value es e t) r
+full_first i es e t r =
+    all_exprs i Whole es (And Whole (plan e) Done) (perform (Computes (full t))) (λ vs. vs) (λ vs. value e >>= λ v. perform (Computes (full t)) (wholes vs ++ (Whole, v) ∷ [])) r (λ vs. refl)
+
+-- ---- operands that are not used
+
+none_used : {A : Type 0} (vs : List Value) (go : List Operand → Eval A) → operands (unused (map value_of vs)) go ≡ go (map unused_of vs)
+none_used [] go = refl
+none_used (v ∷ vs) go =
+    ap (λ t. t >>= λ o. operands (unused (map value_of vs)) (λ os. go (o ∷ os))) (not_used v) ∙ none_used vs (λ os. go (unused_of v ∷ os))
+
+pub filled_parts : (f : Fill) (t : Option DType) (vs : List Value) → perform (Computes (filled f t)) (unused (map value_of vs)) ≡ (decide (filled f t (map unused_of vs)) >>= give)
+filled_parts f t vs = none_used vs (λ os. decide (filled f t os) >>= give)
+
+-- ---- and those that are
+
+wholes-last : (vs : List Value) (v : Value) → wholes (map value_of vs) ++ (Whole, value_of v) ∷ [] ≡ wholes (map value_of (vs ++ v ∷ []))
+wholes-last vs v = sym (ap (map (λ w. (Whole, w))) (map-append value_of vs (v ∷ [])) ∙ map-append (λ w. (Whole, w)) (map value_of vs) (value_of v ∷ []))
+
+marked-last : (vs : List Value) (v : Value) (r : Running) → all_marked (vs ++ v ∷ []) r ≡ marked v (all_marked vs r)
+marked-last [] v r = refl
+marked-last (w ∷ vs) v r = marked-last vs v (marked w r)
+
+last_is : (os : List Operand) (o : Operand) → last_of (os ++ o ∷ []) ≡ Ok (os, o)
+last_is [] o = refl
+last_is (p ∷ []) o = refl
+last_is (p ∷ q ∷ os) o = ap (λ r. refusing.◌>>=◌ r (λ rest. Ok (p ∷ rest.0, rest.1))) (last_is (q ∷ os) o)
+
+same_length : (bytes : Base → List ℕ) (v : Value) → length_of (operand_over bytes v) ≡ length_of (unused_of v)
+same_length bytes (Number n) = refl
+same_length bytes (Array a) = refl
+
+same_lengths : (bytes : Base → List ℕ) (vs : List Value) → lengths_of (operands_over bytes vs) ≡ lengths_of (map unused_of vs)
+same_lengths bytes [] = refl
+same_lengths bytes (v ∷ vs) =
+    ap (λ n. refusing.◌>>=◌ n (λ n. refusing.◌>>=◌ (lengths_of (operands_over bytes vs)) (λ ns. Ok (n ∷ ns)))) (same_length bytes v)
+    ∙ ap (λ l. refusing.◌>>=◌ (length_of (unused_of v)) (λ n. refusing.◌>>=◌ l (λ ns. Ok (n ∷ ns)))) (same_lengths bytes vs)
+
+full_same : (t : Option DType) (bytes : Base → List ℕ) (vs : List Value) (o : Operand) → full t (operands_over bytes vs ++ o ∷ []) ≡ full_of t (map unused_of vs) o
+full_same t bytes vs o =
+    ap (λ r. refusing.◌>>=◌ r (λ parts. full_of t parts.0 parts.1)) (last_is (operands_over bytes vs) o)
+    ∙ ap (λ l. refusing.◌>>=◌ l (λ shape. refusing.◌>>=◌ (plain_number o) (λ n. full_array t shape n))) (same_lengths bytes vs)
+
+pub full_parts : (i : Inputs) (t : Option DType) (vs : List Value) (v : Value) (r : Running)
+    → run i (perform (Computes (full t)) (wholes (map value_of vs) ++ (Whole, value_of v) ∷ [])) r
+    ≡ run i (decide (full_of t (map unused_of vs) (operand_over r.bytes v)) >>= give) (marked v (all_marked vs r))
+full_parts i t vs v r =
+    ap (λ ws. run i (perform (Computes (full t)) ws) r) (wholes-last vs v)
+    ∙ all_used i (vs ++ v ∷ []) (λ os. decide (full t os) >>= give) r
+    ∙ ap (λ os. run i (decide (full t os) >>= give) (all_marked (vs ++ v ∷ []) r)) (map-append (operand_over r.bytes) vs (v ∷ []))
+    ∙ ap (λ m. run i (decide m >>= give) (all_marked (vs ++ v ∷ []) r)) (full_same t r.bytes vs (operand_over r.bytes v))
+    ∙ ap (run i (decide (full_of t (map unused_of vs) (operand_over r.bytes v)) >>= give)) (marked-last vs v r)
+
+-- what comes after the uses, where the value's operand is lent by a session of these bytes
+pub full_follows : (i : Inputs) (t : Option DType) (vs : List Value) (v : Value) (r s u : Running) (bytes : Base → List ℕ) (x : lent.Operand) (o : Result Value Stop)
+    → s ≡ marked v (all_marked vs r) → bytes ≡ r.bytes → operand_of x ≡ operand_over bytes v
+    → Ends value_of o u (run i (decide (full_of t (map unused_of vs) (operand_of x)) >>= give) s)
+    → Ends value_of o u (run i (perform (Computes (full t)) (wholes (map value_of vs) ++ (Whole, value_of v) ∷ [])) r)
+full_follows i t vs v r s u bytes x o mark kept is rest =
+    let same : operand_over r.bytes v ≡ operand_of x = sym (is ∙ ap (λ b. operand_over b v) kept) in
+    ends_alike value_of o u
+    (full_parts i t vs v r ∙ ap (λ y. run i (decide (full_of t (map unused_of vs) y) >>= give) (marked v (all_marked vs r))) same
+    ∙ ap (run i (decide (full_of t (map unused_of vs) (operand_of x)) >>= give)) (sym mark)) rest

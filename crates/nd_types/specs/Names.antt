@@ -1,0 +1,10 @@
+-- The tables of kinds.
+use Rattle.std.specs.Prelude.{ℕ, List}
+use Rattle.std.specs.Borrow.{Bor}
+use Rattle.nd_model.specs.Element as element
+use Rattle.nd_types.specs.declared.kind.Kind.{Kind}
+use Rattle.nd_types.specs.Kinds.{kind_of}
+
+-- a table's word with its kind
+abbrev pub named_kind : Bor (List ℕ) × Kind → List ℕ × element.Kind
+named_kind e = (e.0.now, kind_of e.1)

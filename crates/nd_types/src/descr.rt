@@ -1,0 +1,86 @@
+//! Kinds by their names, and elements by array-protocol type strings.
+ghost use Rattle.std.specs.Prelude.{◌≡◌, None, map, option_map};
+ghost use Rattle.nd_model.specs.Session as session;
+ghost use Rattle.nd_model.specs.Types as model;
+ghost use Rattle.nd_types.specs.Kinds.{kind_of};
+ghost use Rattle.nd_types.specs.Names.{named_kind};
+
+use crate::elem::Elem;
+use crate::kind::Kind;
+
+static KIND_NAMES: [(&str, Kind); 9] = [
+    ("bool", Kind::Bool),
+    ("int8", Kind::I8),
+    ("int16", Kind::I16),
+    ("int32", Kind::I32),
+    ("int64", Kind::I64),
+    ("uint8", Kind::U8),
+    ("uint16", Kind::U16),
+    ("uint32", Kind::U32),
+    ("uint64", Kind::U64),
+];
+
+static KIND_CODES: [(&str, Kind); 9] = [
+    ("b1", Kind::Bool),
+    ("i1", Kind::I8),
+    ("i2", Kind::I16),
+    ("i4", Kind::I32),
+    ("i8", Kind::I64),
+    ("u1", Kind::U8),
+    ("u2", Kind::U16),
+    ("u4", Kind::U32),
+    ("u8", Kind::U64),
+];
+
+// What the table has for a name.
+fn find_kind(table: &[(&str, Kind)], name: &[u8]) -> Option<Kind>
+    ensures { option_map kind_of result ≡ session.lookup name.now (map named_kind table.now) }
+{
+    for (word, kind) in table {
+        if name == word.as_bytes() {
+            return Some(*kind);
+        }
+    }
+    None
+}
+
+/// Returns the kind of this name, such as `int8` or `bool` (NumPy user guide, "Data types").
+pub fn kind_named(name: &str) -> Option<Kind>
+    ensures { option_map kind_of result ≡ session.lookup name.now model.kind_names }
+{
+    find_kind(&KIND_NAMES, name.as_bytes())
+}
+
+// The element of this letter and size.
+fn element_of(code: &[u8], big: bool) -> Option<Elem>
+    ensures { result ≡ model.with_order big (session.lookup code.now model.kind_codes) }
+{
+    let kind = find_kind(&KIND_CODES, code)?;
+    Some(Elem::new(kind, big))
+}
+
+// The same where no order is said, if it has one byte.
+fn byte_element_of(code: &[u8]) -> Option<Elem>
+    ensures { result ≡ model.without_order (session.lookup code.now model.kind_codes) }
+{
+    let kind = find_kind(&KIND_CODES, code)?;
+    if kind.size() != 1 {
+        return None;
+    }
+    Some(Elem::little(kind))
+}
+
+/// Returns the element of an array-protocol type string, such as `<i4`: an order, which may be left out, a letter, and the number of
+/// bytes; `|` stands for one byte alone (NPY format description, "descr").
+pub fn parse_descr(text: &str) -> Option<Elem>
+    ensures { result ≡ model.or_coded None text.now }
+{
+    let bytes = text.as_bytes();
+    let (order, code) = bytes.split_first()?;
+    match *order {
+        b'<' | b'=' => element_of(code, false),
+        b'>' => element_of(code, true),
+        b'|' => byte_element_of(code),
+        _ => element_of(bytes, false),
+    }
+}

@@ -36,7 +36,7 @@ impl Model for RawBlock {
 }
 
 // The most bytes of an allocation, which is `isize::MAX`. Every allocator of Rust refuses more, so none is asked for more.
-const MOST_BYTES: usize = 0x7fff_ffff_ffff_ffff;
+pub(crate) const MOST_BYTES: usize = 0x7fff_ffff_ffff_ffff;
 
 impl RawBlock {
     ghost use Rattle.nd_block.specs.BlockLends.{lends_bytes};
@@ -73,6 +73,29 @@ impl RawBlock {
             right,
             alloc,
         })
+    }
+
+    // The block of these places, all of which are written.
+    pub(crate) fn of_places(
+        start: Start,
+        count: usize,
+        places: Places,
+        right: Right<Global>,
+        alloc: Global,
+    ) -> RawBlock
+        requires places { (places.first ≡ start.first) × (places.unwritten ≡ 0)
+            × (length places.written ≡ count) × (count < 2 ^ 63) }
+        requires right { (right.first ≡ start.first) × (right.count ≡ count)
+            × (right.from ≡ alloc) }
+        ensures { result ≡ places.written }
+    {
+        RawBlock {
+            start,
+            count,
+            places,
+            right,
+            alloc,
+        }
     }
 
     /// Returns a block of its own with the same bytes. It fails where there is no memory for them.

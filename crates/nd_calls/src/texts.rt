@@ -6,10 +6,11 @@ ghost use Rattle.nd_calls.specs.Held.{IsHeld};
 use crate::blocks::block_of;
 use crate::kinds::kind_of;
 use crate::refusal::Refusal;
-use crate::views::{still_view, view_of};
+use crate::views::{contiguous_like, still_view, view_of};
 use crate::words::{number, numbers};
 use nd_block::RawBlock;
-use nd_print::{array_text, scalar_text, text};
+use nd_element::push_bytes_of;
+use nd_print::{Fit, push_elements, scalar_text};
 use nd_types::{Elem, ElemType, Kind, Num, fits};
 use nd_view::View;
 use std::alloc::Global;
@@ -40,19 +41,31 @@ pub(crate) fn print_scalar(alloc: Global, words: &[&str]) -> Result<String, Refu
     scalar_text(alloc, num_of(sort, value)?).map_err(Refusal::from)
 }
 
+/// The text of a view's elements, as these bytes hold them.
+fn elements_text(alloc: Global, view: &View, bytes: &[u8]) -> Result<String, Refusal> {
+    let mut text = String::new(alloc);
+    match push_elements(alloc, &mut text, usize::MAX, view, bytes)? {
+        Fit::Whole => Ok(text),
+        Fit::TooLong => Err(Refusal::NotHeld),
+    }
+}
+
 /// The text of an array of these numbers, as many as the view has elements.
-fn text_of(alloc: Global, kind: Kind, view: &View, values: &str) -> Result<String, Refusal> {
+fn text_of(alloc: Global, elem: Elem, view: &View, values: &str) -> Result<String, Refusal> {
     let values = numbers(alloc, values)?;
     if view.count() != values.len() {
         return Err(Refusal::NotHeld);
     }
-    array_text(alloc, kind, view.shape(), &values).map_err(Refusal::from)
+    let mut bytes = Vec::new(alloc);
+    push_bytes_of(&mut bytes, elem, &values)?;
+    elements_text(alloc, view, &bytes)
 }
 
 /// The text of an array of this shape.
 fn print_shaped(alloc: Global, kind: Kind, shape: &[u64], values: &str) -> Result<String, Refusal> {
-    let still = still_view(alloc, ElemType::One(Elem::little(kind)), shape)?;
-    text_of(alloc, kind, &still, values)
+    let elem = Elem::little(kind);
+    let still = still_view(alloc, ElemType::One(elem), shape)?;
+    text_of(alloc, elem, &contiguous_like(alloc, &still)?, values)
 }
 
 /// The text of an array of numbers.
@@ -78,11 +91,10 @@ fn holds_view(block: &RawBlock, view: &View) -> bool
 
 /// The text of a view of a block.
 fn text_in(alloc: Global, block: &RawBlock, view: &View) -> Result<String, Refusal> {
-    match view.elem() {
-        ElemType::One(elem) if holds_view(block, view) => {
-            text(alloc, view, *elem, block).map_err(Refusal::from)
-        }
-        _ => Err(Refusal::NotHeld),
+    if holds_view(block, view) {
+        elements_text(alloc, view, block.as_slice())
+    } else {
+        Err(Refusal::NotHeld)
     }
 }
 

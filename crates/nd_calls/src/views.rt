@@ -26,7 +26,7 @@ pub(crate) fn still_view(alloc: Global, elem: ElemType, shape: &[u64]) -> Result
 }
 
 /// The view of an array of the same type and lengths, alone in its block.
-fn contiguous_like(alloc: Global, still: &View) -> Result<View, Refusal> {
+pub(crate) fn contiguous_like(alloc: Global, still: &View) -> Result<View, Refusal> {
     let elem = still.elem().try_clone()?;
     View::contiguous(alloc, elem, still.shape()).map_err(Refusal::from)
 }

@@ -14,6 +14,7 @@ fn add_index_fault(text: &mut String, fault: IndexFault) -> Result<(), AllocErro
         }
         IndexFault::TooManyIndices => write!(text, "too many indices"),
         IndexFault::NotAnIndex => write!(text, "not an index"),
+        IndexFault::ZeroStep => write!(text, "zero step"),
     }
 }
 
@@ -35,6 +36,8 @@ fn add_ufunc_fault(text: &mut String, fault: UfuncFault) -> Result<(), AllocErro
         UfuncFault::ShapeMismatch => write!(text, "shape mismatch"),
         UfuncFault::ReadOnly => write!(text, "read only"),
         UfuncFault::NotNumbers => write!(text, "not numbers"),
+        UfuncFault::BoolOp => write!(text, "an operation on Booleans"),
+        UfuncFault::NegativePower => write!(text, "negative power"),
     }
 }
 
@@ -50,6 +53,7 @@ fn add_error(text: &mut String, error: &StmtError) -> Result<(), AllocError> {
         StmtError::TextTooLong => write!(text, "text too long"),
         StmtError::BadArgument => write!(text, "bad argument"),
         StmtError::BadType => write!(text, "bad type"),
+        StmtError::RaggedList => write!(text, "ragged list"),
     }
 }
 

@@ -1,8 +1,11 @@
 -- Numbers that are written one after another.
-use Rattle.std.proofs.Common.{◌≡◌, ℕ, zero, suc, ◌+◌, ◌*◌, ℤ, List, [], ◌∷◌, ◌++◌, length, take, drop, sym, ap, ◌∙◌, arith, length-append, append-nil, replicate, drop_of_length-le}
+use Rattle.std.proofs.Common.{◌≡◌, ℕ, zero, suc, ◌+◌, ◌*◌, add-one, ℤ, pos, ◌+ℤ◌, ◌*ℤ◌, List, [], ◌∷◌, ◌++◌, length, take, drop, sym, ap, ◌∙◌, arith, length-append, append-nil, replicate, drop_of_length-le}
 use Rattle.std.proofs.lemmas.List.{drop-drop, take_at, length-replicate}
 use Rattle.std.proofs.lemmas.Grind.{flat_map-append}
 use Rattle.std.proofs.Math.Seq.{drop-append-add, take-length}
+use Rattle.std.specs.Int.{int_wrap, w128}
+use Rattle.std.proofs.lemmas.Int.{ints, int_wrap_fits, SFits-int_wrap, int_wrap-add_same}
+use Rattle.std.proofs.Math.IntN.{zero-*ℤ, suc_ℤ-*ℤ}
 use Rattle.std.specs.List.{flat_map}
 use Rattle.nd_model.specs.Element.{Element, size_of, bytes_of, with_bytes}
 use Rattle.nd_model.specs.Tuple.{count_up}
@@ -66,3 +69,22 @@ fill_all e f k n size first now end is long so_far =
     let whole : length first ≡ n * size = long ∙ ap (λ s. n * s) (sym is) in
     let none : drop (n * size) first ≡ [] = drop_of_length-le first {i = n * size} (omega (arith, whole)) in
     so_far ∙ ap (λ m. bytes_below e f m ++ drop (m * size) first) end ∙ ap (λ l. bytes_below e f n ++ l) none ∙ append-nil (bytes_below e f n)
+
+-- ---- numbers that are a step apart
+
+abbrev pub apart : ℤ → ℤ → ℕ → ℤ
+apart start step k = start +ℤ (pos k *ℤ step)
+
+pub apart-zero : (start step : ℤ) → apart start step 0 ≡ start
+apart-zero start step = let none : pos 0 *ℤ step ≡ pos 0 = zero-*ℤ step in omega (arith, ints, none)
+
+apart-more : (start step : ℤ) (k : ℕ) → apart start step k +ℤ step ≡ apart start step (k + 1)
+apart-more start step k =
+    let more : pos (k + 1) *ℤ step ≡ pos k *ℤ step +ℤ step = ap (λ n. pos n *ℤ step) (add-one k) ∙ suc_ℤ-*ℤ (pos k) step in omega (arith, ints, more)
+
+-- where only the lowest bits are kept
+pub next_apart : (start step number next : ℤ) (k : ℕ) → int_wrap w128 number ≡ int_wrap w128 (apart start step k) → next ≡ int_wrap w128 (number +ℤ step)
+    → int_wrap w128 next ≡ int_wrap w128 (apart start step (k + 1))
+next_apart start step number next k same is =
+    ap (int_wrap w128) is ∙ int_wrap_fits w128 (int_wrap w128 (number +ℤ step)) (SFits-int_wrap w128 (number +ℤ step))
+    ∙ int_wrap-add_same w128 number (apart start step k) step same ∙ ap (int_wrap w128) (apart-more start step k)

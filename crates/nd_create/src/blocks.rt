@@ -1,6 +1,6 @@
 //! The blocks of new arrays.
 
-ghost use Rattle.std.specs.Prelude.{◌≡◌, ◌≤◌, ◌^◌, pos, [], ◌∷◌, IfOk};
+ghost use Rattle.std.specs.Prelude.{◌≡◌, ◌≤◌, ◌^◌, ◌+ℤ◌, ◌*ℤ◌, pos, [], ◌∷◌, IfOk};
 ghost use Rattle.nd_model.specs.Content.{Num, array_bytes};
 ghost use Rattle.nd_model.specs.Creation.{zero_content};
 ghost use Rattle.nd_model.specs.Tuple.{first_index};
@@ -31,13 +31,20 @@ pub fn full(alloc: Global, view: &View, elem: Elem, number: i128) -> Result<RawB
     Ok(block)
 }
 
-/// Returns the block of an array of one axis with the numbers from 0 to n-1.
-pub fn range(alloc: Global, elem: Elem, n: usize) -> Result<RawBlock, AllocError>
+/// Returns the block of an array of one axis with n numbers that are a step apart, from the first one on. Of a number that the kind
+/// does not hold the lowest bits are kept.
+pub fn range(
+    alloc: Global,
+    elem: Elem,
+    start: i128,
+    step: i128,
+    n: usize,
+) -> Result<RawBlock, AllocError>
     requires { n ≤ 2 ^ 24 }
     ensures { IfOk result (λ b. b ≡ array_bytes (One elem) (n ∷ [])
-        (λ t. Num (pos (first_index t)))) }
+        (λ t. Num (start +ℤ (pos (first_index t) *ℤ step)))) }
 {
     let mut block = RawBlock::zeroed(alloc, n * elem.size() as usize)?;
-    fill_up(block.as_mut_slice(), elem, n);
+    fill_up(block.as_mut_slice(), elem, start, step, n);
     Ok(block)
 }

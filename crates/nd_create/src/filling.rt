@@ -1,6 +1,7 @@
 //! Numbers written to elements that stand one after another. Which kind they have is asked once, not for each.
 
-ghost use Rattle.std.specs.Prelude.{◌≡◌, ◌*◌, ◌≤◌, ◌^◌, pos, length};
+ghost use Rattle.std.specs.Prelude.{◌≡◌, ◌*◌, ◌≤◌, ◌^◌, ◌+ℤ◌, ◌*ℤ◌, pos, length};
+ghost use Rattle.std.specs.Int.{int_wrap, w128};
 ghost use Rattle.nd_model.specs.Element.{size_of};
 ghost use Rattle.nd_create.specs.Numbers.{bytes_below, bytes_of_copies};
 
@@ -54,13 +55,24 @@ pub(crate) fn fill(bytes: &mut [u8], elem: Elem, number: i128, n: usize)
     }
 }
 
-/// Writes the numbers from 0 to n-1 to n elements.
-pub(crate) fn fill_up(bytes: &mut [u8], elem: Elem, n: usize)
+/// The lowest 128 bits of the number that is a step farther.
+#[inline(always)]
+pub(crate) fn next_number(number: i128, step: i128) -> i128
+    ensures { result ≡ int_wrap w128 (number +ℤ step) }
+{
+    number.wrapping_add(step)
+}
+
+/// Writes numbers that are a step apart, from a first one on, to n elements. Of a number that the kind does not hold the lowest bits
+/// are kept.
+pub(crate) fn fill_up(bytes: &mut [u8], elem: Elem, start: i128, step: i128, n: usize)
     requires { (length bytes.old ≡ n * size_of elem.kind) × (n ≤ 2 ^ 24) }
-    ensures { bytes.new ≡ bytes_below elem pos n }
+    ensures { bytes.new ≡ bytes_below elem (λ k. start +ℤ (pos k *ℤ step)) n }
 {
     let size = elem.size() as usize;
-    for number in 0..n {
-        store_at(bytes, number * size, elem, number as i128);
+    let mut number = start;
+    for index in 0..n {
+        store_at(bytes, index * size, elem, number);
+        number = next_number(number, step);
     }
 }

@@ -1,6 +1,6 @@
 //! The bytes of elements as they are shown: each number in its type's own form, and pad bytes 0.
 
-ghost use Rattle.std.specs.Prelude.{◌≡◌, ◌+◌, ◌≤◌, ◌^◌, drop, slice_index, IfOk, OnOk};
+ghost use Rattle.std.specs.Prelude.{◌≡◌, ◌+◌, ◌≤◌, ◌^◌, drop, replicate, slice_index, IfOk, OnOk};
 ghost use Rattle.nd_model.specs.Content.{number_at};
 ghost use Rattle.nd_model.specs.Element.{IsValue};
 ghost use Rattle.nd_model.specs.View.{item_size};
@@ -8,7 +8,7 @@ ghost use Rattle.nd_types.specs.Types.{type_of};
 ghost use Rattle.nd_element.specs.Elements as elements;
 ghost use Rattle.nd_element.specs.Elements.{Appends, canonical_at, canonical_structure};
 
-use nd_block::{RawBlock, push_bytes, value_at};
+use nd_block::{RawBlock, push_bytes, store_at, value_at};
 use nd_types::{Elem, ElemType, RecType};
 use nd_view::View;
 use std::alloc::{AllocError, Global};
@@ -67,6 +67,19 @@ pub fn number_in(bytes: &[u8], place: u64, elem: Elem) -> i128
     number(bytes, place as usize, elem)
 }
 
+/// Writes the structure at a place of these bytes over as many zeros, so that its pad bytes are 0. A byte past the end is taken for 0.
+pub fn write_structure(out: &mut [u8], bytes: &[u8], place: u64, structure: &RecType)
+    requires zeros { out.old ≡ replicate structure.now.1 0 }
+    requires end { place + structure.now.1 ≤ 2 ^ 64 }
+    ensures { out.new ≡ canonical_structure structure.now bytes.now place }
+{
+    let _size = structure.size();
+    for field in structure.fields() {
+        let value = number(bytes, place as usize + field.at as usize, field.elem);
+        store_at(out, field.at as usize, field.elem, value);
+    }
+}
+
 // The structure at a place of these bytes, its pad bytes 0.
 fn structure_at(
     alloc: Global,
@@ -78,10 +91,7 @@ fn structure_at(
     ensures { IfOk result (λ b. b ≡ canonical_structure structure.now bytes.now place) }
 {
     let mut block = RawBlock::zeroed(alloc, structure.size() as usize)?;
-    for field in structure.fields() {
-        let value = number(bytes, place + field.at as usize, field.elem);
-        block.store(u64::from(field.at), field.elem, value);
-    }
+    write_structure(block.as_mut_slice(), bytes, place as u64, structure);
     Ok(block)
 }
 

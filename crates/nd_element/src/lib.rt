@@ -4,5 +4,5 @@
 mod canonical;
 mod numbers;
 
-pub use canonical::{canonical_bytes, number_in};
+pub use canonical::{canonical_bytes, number_in, write_structure};
 pub use numbers::{numbers_of, push_bytes_of, push_numbers};

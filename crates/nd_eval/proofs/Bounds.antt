@@ -2,8 +2,8 @@
 use Rattle.std.proofs.Common.{◌≡◌, ℕ, ◌+◌, ◌≤◌, List, [], ◌∷◌, Result, Ok, refl, subst, arith}
 use Rattle.nd_model.specs.Value.{Value}
 use Rattle.nd_model.specs.Fault.{Fault}
-use Rattle.nd_model.specs.Syntax.{Expr, Index, Items, AndItem, NoItem, At, Stmt}
-use Rattle.nd_model.specs.Tokens.{tokens_of, tokens_of_index, tokens_of_all, tokens_of_stmt}
+use Rattle.nd_model.specs.Syntax.{Expr, Bound, Omitted, Given, Index, Items, AndItem, NoItem, At, Stmt}
+use Rattle.nd_model.specs.Tokens.{tokens_of, tokens_of_bound, tokens_of_index, tokens_of_all, tokens_of_stmt}
 use Rattle.nd_model.specs.Running.{Inputs, Running, Effect, Nothing, Prints, Saves, Binding, Unbinding, Storing, done}
 use Rattle.nd_model.specs.Evaluation.{Eval, Gives, run, ◌>>=◌}
 use Rattle.nd_model.specs.Operand.{ArraysOnly, Unused}
@@ -11,7 +11,7 @@ use Rattle.nd_model.specs.Viewing.{Indexed}
 use Rattle.nd_model.specs.Operation.{Views}
 use Rattle.nd_model.specs.Meaning as meaning
 use Rattle.nd_model.proofs.Bases.{Few, few_more, few_bind, few_run, few_plan, few_performed, few_work, at_expr, at_stmt}
-use Rattle.nd_eval.specs.Parts.{item_value, element_value, values_then, values}
+use Rattle.nd_eval.specs.Parts.{bound_exprs, item_value, element_value, values_then, values}
 
 few_value : (e : Expr) → Few (meaning.value e) (tokens_of e)
 few_value e = few_more (meaning.value e) _ _ (at_expr e) (few_plan (meaning.plan e))
@@ -40,6 +40,13 @@ next_value i e r s o h = ended_next i (meaning.value e) (tokens_of e) r s o (few
 
 pub next_values : (i : Inputs) (es : List Expr) (r s : Running) (o : Result (List Value) Fault) → run i (values es) r ≡ (o, s) → s.next ≤ r.next + tokens_of_all es
 next_values i es r s o h = omega (arith, ended_next i (values es) (tokens_of_all es + 0) r s o (few_then es Gives 0 (λ vs. tt)) h)
+
+few_bound : (b : Bound) → Few (values (bound_exprs b)) (tokens_of_bound b)
+few_bound Omitted = tt
+few_bound (Given e) = few_more (values (e ∷ [])) (tokens_of e + 0) _ (omega arith) (few_bind (meaning.value e) _ (tokens_of e) 0 (few_value e) (λ v. tt))
+
+pub next_bound : (i : Inputs) (b : Bound) (r s : Running) (o : Result (List Value) Fault) → run i (values (bound_exprs b)) r ≡ (o, s) → s.next ≤ r.next + tokens_of_bound b
+next_bound i b r s o h = ended_next i (values (bound_exprs b)) (tokens_of_bound b) r s o (few_bound b) h
 
 -- an index makes one more than what it is made of at most
 pub next_at_index : (i : Inputs) (t : Value) (x : Index) (r s : Running) (o : Result Value Fault) → run i (item_value x >>= element_value t) r ≡ (o, s) → s.next ≤ r.next + (tokens_of_index x + 1)

@@ -46,7 +46,7 @@ full_first i es e t r =
 
 -- ---- operands that are not used
 
-none_used : {A : Type 0} (vs : List Value) (go : List Operand → Eval A) → operands (unused (map value_of vs)) go ≡ go (map unused_of vs)
+pub none_used : {A : Type 0} (vs : List Value) (go : List Operand → Eval A) → operands (unused (map value_of vs)) go ≡ go (map unused_of vs)
 none_used [] go = refl
 none_used (v ∷ vs) go =
     ap (λ t. t >>= λ o. operands (unused (map value_of vs)) (λ os. go (o ∷ os))) (not_used v) ∙ none_used vs (λ os. go (unused_of v ∷ os))

@@ -5,15 +5,14 @@ use Rattle.std.specs.List.{All}
 use Rattle.std.specs.Int.{byte_len, byte_worth, sum_through}
 use Rattle.nd_model.specs.Element.{Element, width_of, size_of, value_in, number_in as number_of_bytes, value_of, bytes_at}
 use Rattle.nd_model.specs.Tuple.{count_up}
-use Rattle.nd_model.specs.View.{ElementType, One, Structure, Geo, item_size}
-use Rattle.nd_model.specs.Content.{number_in, number_at, content_at}
+use Rattle.nd_model.specs.View.{Field, ElementType, One, Structure, Geo, item_size}
+use Rattle.nd_model.specs.Content.{number_at, content_at}
 use Rattle.nd_model.specs.Writing.{number_type, first_of}
-use Rattle.nd_model.specs.Text.{array_text}
-use Rattle.nd_model.specs.Printing.{elements_text}
 use Rattle.nd_model.specs.Sound.{LiesIn}
 use Rattle.nd_model.proofs.Uses.{used_numbers}
+use Rattle.nd_model.proofs.UsedStructures.{used_structures}
 use Rattle.nd_types.proofs.Sized.{some_bytes}
-use Rattle.nd_element.specs.Elements.{AreHeld, numbers_at}
+use Rattle.nd_element.specs.Elements.{AreHeld}
 use Rattle.nd_eval.specs.Contents.{contents_over}
 
 -- what has a number is no structure
@@ -40,16 +39,17 @@ numbers_held g e block one held = subst (λ t. All (λ p. p + item_size t ≤ le
 contents_are : (g : Geo) (e : Element) (block : List ℕ) → g.element ≡ One e → AreHeld e block g.places → contents_over g block ≡ map (content_at (One e) block) g.places
 contents_are g e block one held = rw one (used_numbers e block g.places held)
 
-numbers_of : (e : Element) (block places : List ℕ) → map number_in (map (content_at (One e) block) places) ≡ numbers_at e block places
-numbers_of e block [] = refl
-numbers_of e block (p ∷ ps) = ap (λ l. number_at e block p ∷ l) (numbers_of e block ps)
+-- the same of structures, whose fields lie inside
+pub structures_are : (g : Geo) (fields : List Field) (size : ℕ) (block : List ℕ) → g.element ≡ Structure fields size
+    → All (λ (f : Field). f.at + size_of f.element.kind ≤ size) fields → LiesIn (length block) g
+    → contents_over g block ≡ map (content_at g.element block) g.places
+structures_are g fields size block is inside held =
+    let places = subst (λ t. All (λ p. p + item_size t ≤ length block) g.places) is held.inside in
+    rw is (used_structures fields size block g.places inside places)
 
--- the text of all
-pub text_parts : (g : Geo) (e : Element) (block : List ℕ) → g.element ≡ One e → LiesIn (length block) g
-    → elements_text g.element g.shape (contents_over g block) ≡ Ok (array_text e.kind g.shape (numbers_at e block g.places))
-text_parts g e block one held =
-    (λ i. elements_text (one i) g.shape (contents_are g e block one (numbers_held g e block one held) i))
-    ∙ ap (λ zs. Ok (array_text e.kind g.shape zs)) (numbers_of e block g.places)
+pub numbers_are : (g : Geo) (e : Element) (block : List ℕ) → g.element ≡ One e → LiesIn (length block) g
+    → contents_over g block ≡ map (content_at g.element block) g.places
+numbers_are g e block one held = contents_are g e block one (numbers_held g e block one held) ∙ ap (λ t. map (content_at t block) g.places) (sym one)
 
 -- the first one
 first_at : (e : Element) (block places : List ℕ) → length places ≢ 0 → number_at e block (slice_index places 0) ≡ first_of (map (content_at (One e) block) places)

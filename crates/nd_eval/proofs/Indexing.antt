@@ -114,13 +114,20 @@ abbrev mutual
   nodes_in_chain (tree.more_of-Expr-Chain-1-2 op x xs) = 2 + nodes x + nodes_in_chain xs
 
   pub nodes_of_call : call.Call → ℕ
-  nodes_of_call (call.Arange' start e step t) = 2 + nodes e
+  nodes_of_call (call.Arange' start e step t) = 4 + nodes_in_bound start + nodes e + nodes_in_bound step
+  nodes_of_call (call.Minimum a b) = 3 + nodes a + nodes b
+  nodes_of_call (call.Maximum a b) = 3 + nodes a + nodes b
+  nodes_of_call (call.Absolute e) = 2 + nodes e
   nodes_of_call (call.Filled' f shape es t) = 3 + nodes_in_exprs es
   nodes_of_call (call.Full' shape es e t) = 3 + nodes_in_exprs es + nodes e
   nodes_of_call (call.Array x t) = 1 + nodes_of_element x
   nodes_of_call (call.Convert k e) = 2 + nodes e
   nodes_of_call (call.PythonAbs e) = 2 + nodes e
   nodes_of_call c = 1
+
+  pub nodes_in_bound : call.Held-Call-Arange-0 → ℕ
+  nodes_in_bound call.None' = 0
+  nodes_in_bound (call.Some' e) = 1 + nodes e
 
   pub nodes_in_exprs : {n : _} → call.Row_of-Expr n → ℕ
   nodes_in_exprs call.end_of-Expr = 0
@@ -168,14 +175,10 @@ pub next_index : (xs : List suffix.Suffix) (k : ℕ) (x : suffix.Suffix) (i : in
     → drop k xs ≡ suffix.Index i ∷ drop (k + 1) xs
 next_index xs k x i lt is same = next_item xs k x lt is ∙ ap (λ y. y ∷ drop (k + 1) xs) same
 
-none_if : {A : Type 0} (o : Option A) → is_some o ≡ false → o ≡ None
-none_if None h = refl
-none_if (Some x) h = absurd cc
-
--- `np.arange` of the end alone
-pub range_only : (x : call.Call) (start : Option tree.Expr) (e : tree.Expr) (step : Option tree.Expr) (t : Option DType) → x ≡ call.Arange start e step t
-    → is_some start ≡ false → is_some step ≡ false → is_some t ≡ false → call_of x ≡ model.Arange model.Omitted (expr_of e) model.Omitted None
-range_only x start e step t same no_start no_step no_type = rw (same, none_if start no_start, none_if step no_step, none_if t no_type) refl
+-- the bounds of a range
+abbrev pub nodes_of_bound : Option tree.Expr → ℕ
+nodes_of_bound None = 0
+nodes_of_bound (Some e) = 1 + nodes e
 
 -- ---- the expressions of a call
 

@@ -6,7 +6,6 @@ pub mod Indexing
 pub mod Parts
 pub mod Uses
 pub mod Held
-pub mod Texts
 pub mod Lines
 pub mod Quiet
 pub mod Prints
@@ -16,3 +15,4 @@ pub mod Operating
 pub mod WholeNumbers
 pub mod Creating
 pub mod Calls
+pub mod Ranging

@@ -6,32 +6,28 @@ use Rattle.std.proofs.lemmas.Result.{err_from_is_err_and}
 use Rattle.nd_model.specs.Fault.{Fault, Stmt, TextTooLong}
 use Rattle.nd_model.specs.Value as model
 use Rattle.nd_model.specs.Running.{Running, Inputs, Effect, Nothing, Prints, Saves, Binding, Unbinding, Storing, Output, output}
-use Rattle.nd_model.specs.Refusing as refusing
-use Rattle.nd_model.specs.View.{ElementType, One, Structure}
 use Rattle.nd_model.specs.Evaluation.{Gives, run, ◌>>=◌, decide}
-use Rattle.nd_model.specs.Operand.{Operand, Plain, Elements, Usage, Int, Truth, Scalar, PrintsText}
+use Rattle.nd_model.specs.Operand.{Operand, Usage}
 use Rattle.nd_model.specs.Operation.{do_deed}
-use Rattle.nd_model.specs.Writing.{number_type, are_numbers}
-use Rattle.nd_model.specs.Printing.{elements_text, text_of, texts_of, print_deed}
-use Rattle.nd_model.specs.Text.{joined}
+use Rattle.nd_model.specs.Printing.{text_of, printed_line, print_deed}
 use Rattle.nd_model.specs.Cell.{most_text, had}
 use Rattle.nd_eval.specs.declared.stop.Stop.{Stop}
 use Rattle.nd_eval.specs.declared.stop.Stop.TheVariants.{Memory, Refused}
 use Rattle.nd_eval.specs.Ends.{Ends, Makes}
 use Rattle.nd_eval.specs.Faults.{fault_of}
 use Rattle.nd_model.specs.Cell.{limit_text}
-use Rattle.nd_eval.specs.Lines.{limit_line, limit_effect, all_numbers, line_with, printed_line}
+use Rattle.nd_eval.specs.Lines.{limit_line, limit_effect, line_with}
 
 -- ---- one text
 
-pub in_limit : (t : List ℕ) → length t ≤ most_text → limit_line (Ok t) ≡ Ok t
+pub in_limit : (t : List ℕ) → length t ≤ most_text → limit_line t ≡ Ok t
 in_limit t le = ap (λ b. cond b (Ok t) (Err (Stmt TextTooLong))) (le-leb (length t) most_text le)
 
-pub over_limit : (t : List ℕ) → most_text < length t → limit_line (Ok t) ≡ Err (Stmt TextTooLong)
+pub over_limit : (t : List ℕ) → most_text < length t → limit_line t ≡ Err (Stmt TextTooLong)
 over_limit t lt = ap (λ b. cond b (Ok t) (Err (Stmt TextTooLong))) (lt-leb (length t) most_text lt)
 
 -- what is refused is too long
-too_long : (t : List ℕ) (f : Fault) → limit_line (Ok t) ≡ Err f → (most_text < length t) × (Stmt TextTooLong ≡ f)
+too_long : (t : List ℕ) (f : Fault) → limit_line t ≡ Err f → (most_text < length t) × (Stmt TextTooLong ≡ f)
 too_long t f refused = go (leb (length t) most_text) refl
   where
     go : (b : Bool) → leb (length t) most_text ≡ b → (most_text < length t) × (Stmt TextTooLong ≡ f)
@@ -39,139 +35,65 @@ too_long t f refused = go (leb (length t) most_text) refl
     go false is = (leb-false (length t) most_text is, (let same : ◌≡◌ {A = Result (List ℕ) Fault} (Err (Stmt TextTooLong)) (Err f) = sym (ap (λ b. cond b (Ok t) (Err (Stmt TextTooLong))) is) ∙ refused in cc))
 
 -- and stays so with more behind it
-more_behind : (a b : List ℕ) (f : Fault) → limit_line (Ok a) ≡ Err f → limit_line (Ok (a ++ b)) ≡ Err f
+more_behind : (a b : List ℕ) (f : Fault) → limit_line a ≡ Err f → limit_line (a ++ b) ≡ Err f
 more_behind a b f refused =
     let long : most_text < length a = (too_long a f refused).0 in
     over_limit (a ++ b) (omega (arith, length-append a b)) ∙ ap Err (too_long a f refused).1
 
 -- what is given is what was said
-pub kept : (m : Result (List ℕ) Fault) (t : List ℕ) → limit_line m ≡ Ok t → m ≡ Ok t
-kept (Err f) t h = h
-kept (Ok s) t h = go (leb (length s) most_text) refl
+pub kept : (s t : List ℕ) → limit_line s ≡ Ok t → s ≡ t
+kept s t h = go (leb (length s) most_text) refl
   where
-    go : (b : Bool) → leb (length s) most_text ≡ b → ◌≡◌ {A = Result (List ℕ) Fault} (Ok s) (Ok t)
-    go true is = sym (ap (λ b. cond b (Ok s) (Err (Stmt TextTooLong))) is) ∙ h
+    go : (b : Bool) → leb (length s) most_text ≡ b → s ≡ t
+    go true is = let same : ◌≡◌ {A = Result (List ℕ) Fault} (Ok s) (Ok t) = sym (ap (λ b. cond b (Ok s) (Err (Stmt TextTooLong))) is) ∙ h in cc
     go false is = let same : ◌≡◌ {A = Result (List ℕ) Fault} (Err (Stmt TextTooLong)) (Ok t) = sym (ap (λ b. cond b (Ok s) (Err (Stmt TextTooLong))) is) ∙ h in absurd (cc)
 
 -- ---- lines
 
--- the text of an operand that is no structure
-abbrev or_none : Result (List ℕ) Fault → List ℕ
-or_none (Ok t) = t
-or_none (Err f) = []
-
-abbrev text : Operand → List ℕ
-text o = or_none (text_of o)
-
-a_text : (o : Operand) → are_numbers o ≡ Ok tt → text_of o ≡ Ok (text o)
-a_text (Plain (Int z)) h = refl
-a_text (Plain (Truth t)) h = refl
-a_text (Plain (Scalar k z)) h = refl
-a_text (Elements row g cs) h = go g.element h
-  where
-    go : (t : ElementType) → refusing.◌>>=◌ (number_type t) (λ e. Ok (tt {0})) ≡ Ok tt → elements_text t g.shape cs ≡ Ok (or_none (elements_text t g.shape cs))
-    go (One e) h = refl
-    go (Structure fields size) h = absurd (cc)
-
-no_text : (o : Operand) (f : Fault) → are_numbers o ≡ Err f → text_of o ≡ Err f
-no_text (Plain n) f h = absurd (cc)
-no_text (Elements row g cs) f h = go g.element h
-  where
-    go : (t : ElementType) → refusing.◌>>=◌ (number_type t) (λ e. Ok (tt {0})) ≡ Err f → elements_text t g.shape cs ≡ Err f
-    go (One e) h = absurd (cc)
-    go (Structure fields size) h = cc
-
--- the first operand's check, and those of the others
-checks : (o : Operand) (os : List Operand) → all_numbers (o ∷ os) ≡ Ok tt → (are_numbers o ≡ Ok tt) × (all_numbers os ≡ Ok tt)
-checks o os h = go (are_numbers o) refl
-  where
-    go : (m : Result (Unit {0}) Fault) → are_numbers o ≡ m → (are_numbers o ≡ Ok tt) × (all_numbers os ≡ Ok tt)
-    go (Ok tt) is = (is, sym (ap (λ m. refusing.◌>>=◌ m (λ u. all_numbers os)) is) ∙ h)
-    go (Err f) is = let same : ◌≡◌ {A = Result (Unit {0}) Fault} (Err f) (Ok tt) = sym (ap (λ m. refusing.◌>>=◌ m (λ u. all_numbers os)) is) ∙ h in absurd (cc)
-
-all_texts : (os : List Operand) → all_numbers os ≡ Ok tt → texts_of os ≡ Ok (map text os)
-all_texts [] h = refl
-all_texts (o ∷ os) h =
-    let c = checks o os h in
-    ap (λ m. refusing.◌>>=◌ m (λ t. refusing.◌>>=◌ (texts_of os) (λ ts. Ok (t ∷ ts)))) (a_text o c.0)
-    ∙ ap (λ m. refusing.◌>>=◌ m (λ ts. Ok (text o ∷ ts))) (all_texts os c.1)
-
-no_texts : (os : List Operand) (f : Fault) → all_numbers os ≡ Err f → texts_of os ≡ Err f
-no_texts [] f h = absurd (cc)
-no_texts (o ∷ os) f h = go (are_numbers o) refl (no_texts os f)
-  where
-    go : (m : Result (Unit {0}) Fault) → are_numbers o ≡ m → (all_numbers os ≡ Err f → texts_of os ≡ Err f) → texts_of (o ∷ os) ≡ Err f
-    go (Ok tt) is others =
-        ap (λ m. refusing.◌>>=◌ m (λ t. refusing.◌>>=◌ (texts_of os) (λ ts. Ok (t ∷ ts)))) (a_text o is)
-        ∙ ap (λ m. refusing.◌>>=◌ m (λ ts. Ok (text o ∷ ts))) (others (sym (ap (λ m. refusing.◌>>=◌ m (λ u. all_numbers os)) is) ∙ h))
-    go (Err e) is others =
-        ap (λ m. refusing.◌>>=◌ m (λ t. refusing.◌>>=◌ (texts_of os) (λ ts. Ok (t ∷ ts)))) (no_text o e is)
-        ∙ (let same : ◌≡◌ {A = Result (Unit {0}) Fault} (Err e) (Err f) = sym (ap (λ m. refusing.◌>>=◌ m (λ u. all_numbers os)) is) ∙ h in cc)
-
--- a structure refuses the line
-pub no_line : (os : List Operand) (f : Fault) → all_numbers os ≡ Err f → limit_line (printed_line os) ≡ Err f
-no_line os f h = ap (λ m. limit_line (refusing.◌>>=◌ m (λ ts. Ok (joined (32 ∷ []) ts ++ 10 ∷ [])))) (no_texts os f h)
-
 -- what comes behind a line: a space and a text each, and the newline
 abbrev pub behind : List Operand → List ℕ
-behind os = flat_map (λ q. (32 ∷ []) ++ q) (map text os) ++ 10 ∷ []
+behind os = flat_map (λ q. (32 ∷ []) ++ q) (map text_of os) ++ 10 ∷ []
 
 -- the line so far, which goes on with these operands
-pub record GoesOn (all : Result (List ℕ) Fault) (line : List ℕ) (os : List Operand) : Type 0 where
-  pub numbers : all_numbers os ≡ Ok tt
-  pub same : all ≡ Ok (line ++ behind os)
+abbrev pub GoesOn : List ℕ → List ℕ → List Operand → Type 0
+GoesOn all line os = all ≡ line ++ behind os
 
 -- the first text
-first_numbers : (o : Operand) (os : List Operand) → all_numbers (o ∷ os) ≡ Ok tt → printed_line (o ∷ os) ≡ Ok (text o ++ behind os)
-first_numbers o os h =
-    ap (λ m. refusing.◌>>=◌ m (λ ts. Ok (joined (32 ∷ []) ts ++ 10 ∷ []))) (all_texts (o ∷ os) h)
-    ∙ ap Ok (append_assoc (text o) (flat_map (λ q. (32 ∷ []) ++ q) (map text os)) (10 ∷ []))
+first_text : (o : Operand) (os : List Operand) → printed_line (o ∷ os) ≡ text_of o ++ behind os
+first_text o os = append_assoc (text_of o) (flat_map (λ q. (32 ∷ []) ++ q) (map text_of os)) (10 ∷ [])
 
-line_is : (line : List ℕ) (o : Operand) → are_numbers o ≡ Ok tt → line_with line o ≡ Ok (line ++ text o)
-line_is line o h = ap (λ m. refusing.◌>>=◌ m (λ t. Ok (line ++ t))) (a_text o h)
+begun : (all line before : List ℕ) (o : Operand) (os : List Operand) → all ≡ (before ++ text_of o) ++ behind os → limit_line (line_with before o) ≡ Ok line → GoesOn all line os
+begun all line before o os same pushed = same ∙ ap (λ l. l ++ behind os) (kept (line_with before o) line pushed)
 
-ok_is : (x y : List ℕ) → ◌≡◌ {A = Result (List ℕ) Fault} (Ok x) (Ok y) → x ≡ y
-ok_is x y h = cc
+stopped : (all before : List ℕ) (o : Operand) (rest : List ℕ) (f : Fault) → all ≡ (before ++ text_of o) ++ rest → limit_line (line_with before o) ≡ Err f → limit_line all ≡ Err f
+stopped all before o rest f same refused = ap limit_line same ∙ more_behind (before ++ text_of o) rest f refused
 
-begun : (all : Result (List ℕ) Fault) (line before : List ℕ) (o : Operand) (os : List Operand) → are_numbers o ≡ Ok tt → all_numbers os ≡ Ok tt → all ≡ Ok ((before ++ text o) ++ behind os)
-    → limit_line (line_with before o) ≡ Ok line → GoesOn all line os
-begun all line before o os one numbers same pushed =
-    let is : line ≡ before ++ text o = ok_is line (before ++ text o) (sym (kept (line_with before o) line pushed) ∙ line_is before o one) in
-    record { numbers = numbers; same = same ∙ ap (λ l. Ok (l ++ behind os)) (sym is) }
+pub line_begun : (o : Operand) (os : List Operand) (line : List ℕ) → limit_line (line_with [] o) ≡ Ok line → GoesOn (printed_line (o ∷ os)) line os
+line_begun o os line pushed = begun (printed_line (o ∷ os)) line [] o os (first_text o os) pushed
 
-stopped : (all : Result (List ℕ) Fault) (before : List ℕ) (o : Operand) (rest : List ℕ) (f : Fault) → are_numbers o ≡ Ok tt → all ≡ Ok ((before ++ text o) ++ rest)
-    → limit_line (line_with before o) ≡ Err f → limit_line all ≡ Err f
-stopped all before o rest f one same refused =
-    ap limit_line same ∙ more_behind (before ++ text o) rest f (ap limit_line (sym (line_is before o one)) ∙ refused)
-
-pub line_begun : (o : Operand) (os : List Operand) (line : List ℕ) → all_numbers (o ∷ os) ≡ Ok tt → limit_line (line_with [] o) ≡ Ok line → GoesOn (printed_line (o ∷ os)) line os
-line_begun o os line h pushed = begun (printed_line (o ∷ os)) line [] o os (checks o os h).0 (checks o os h).1 (first_numbers o os h) pushed
-
-pub line_not_begun : (o : Operand) (os : List Operand) (f : Fault) → all_numbers (o ∷ os) ≡ Ok tt → limit_line (line_with [] o) ≡ Err f → limit_line (printed_line (o ∷ os)) ≡ Err f
-line_not_begun o os f h refused = stopped (printed_line (o ∷ os)) [] o (behind os) f (checks o os h).0 (first_numbers o os h) refused
+pub line_not_begun : (o : Operand) (os : List Operand) (f : Fault) → limit_line (line_with [] o) ≡ Err f → limit_line (printed_line (o ∷ os)) ≡ Err f
+line_not_begun o os f refused = stopped (printed_line (o ∷ os)) [] o (behind os) f (first_text o os) refused
 
 -- a space and one text more
-one_behind : (line : List ℕ) (o : Operand) (os : List Operand) → line ++ behind (o ∷ os) ≡ ((line ++ 32 ∷ []) ++ text o) ++ behind os
+one_behind : (line : List ℕ) (o : Operand) (os : List Operand) → line ++ behind (o ∷ os) ≡ ((line ++ 32 ∷ []) ++ text_of o) ++ behind os
 one_behind line o os =
-    let more : List ℕ = flat_map (λ q. (32 ∷ []) ++ q) (map text os) in
-    ap (λ l. line ++ l) (append_assoc ((32 ∷ []) ++ text o) more (10 ∷ []))
-    ∙ sym (append_assoc line ((32 ∷ []) ++ text o) (more ++ 10 ∷ []))
-    ∙ ap (λ l. l ++ (more ++ 10 ∷ [])) (sym (append_assoc line (32 ∷ []) (text o)))
+    let more : List ℕ = flat_map (λ q. (32 ∷ []) ++ q) (map text_of os) in
+    ap (λ l. line ++ l) (append_assoc ((32 ∷ []) ++ text_of o) more (10 ∷ []))
+    ∙ sym (append_assoc line ((32 ∷ []) ++ text_of o) (more ++ 10 ∷ []))
+    ∙ ap (λ l. l ++ (more ++ 10 ∷ [])) (sym (append_assoc line (32 ∷ []) (text_of o)))
 
-pub line_more : (all : Result (List ℕ) Fault) (line spaced new : List ℕ) (o : Operand) (os : List Operand) → GoesOn all line (o ∷ os) → spaced ≡ line ++ 32 ∷ []
+pub line_more : (all line spaced new : List ℕ) (o : Operand) (os : List Operand) → GoesOn all line (o ∷ os) → spaced ≡ line ++ 32 ∷ []
     → limit_line (line_with spaced o) ≡ Ok new → GoesOn all new os
 line_more all line spaced new o os so_far space pushed =
-    begun all new spaced o os (checks o os so_far.numbers).0 (checks o os so_far.numbers).1
-    (so_far.same ∙ ap Ok (one_behind line o os) ∙ ap (λ l. Ok ((l ++ text o) ++ behind os)) (sym space)) pushed
+    begun all new spaced o os (so_far ∙ one_behind line o os ∙ ap (λ l. (l ++ text_of o) ++ behind os) (sym space)) pushed
 
-pub line_not_more : (all : Result (List ℕ) Fault) (line spaced : List ℕ) (o : Operand) (os : List Operand) (f : Fault) → GoesOn all line (o ∷ os) → spaced ≡ line ++ 32 ∷ []
+pub line_not_more : (all line spaced : List ℕ) (o : Operand) (os : List Operand) (f : Fault) → GoesOn all line (o ∷ os) → spaced ≡ line ++ 32 ∷ []
     → limit_line (line_with spaced o) ≡ Err f → limit_line all ≡ Err f
 line_not_more all line spaced o os f so_far space refused =
-    stopped all spaced o (behind os) f (checks o os so_far.numbers).0
-    (so_far.same ∙ ap Ok (one_behind line o os) ∙ ap (λ l. Ok ((l ++ text o) ++ behind os)) (sym space)) refused
+    stopped all spaced o (behind os) f (so_far ∙ one_behind line o os ∙ ap (λ l. (l ++ text_of o) ++ behind os) (sym space)) refused
 
 -- the exit by `?` of a line that may be refused
-pub stops_line : {Y Z : Type 0} (v : Z → List ℕ) (w : Y → List ℕ) (part all : Result (List ℕ) Fault) (e : Stop) (out : Result Y Stop) → ((f : Fault) → limit_line part ≡ Err f → limit_line all ≡ Err f)
+pub stops_line : {Y Z : Type 0} (v : Z → List ℕ) (w : Y → List ℕ) (part all : List ℕ) (e : Stop) (out : Result Y Stop) → ((f : Fault) → limit_line part ≡ Err f → limit_line all ≡ Err f)
     → IsErrAnd out (λ x. x ≡ e) → Makes v (Err e) (limit_line part) → Makes w out (limit_line all)
 stops_line {Y} v w part all e out more is h =
     let p : (x : Stop) × (out ≡ Err x) × (x ≡ e) = err_from_is_err_and out is in
@@ -196,16 +118,10 @@ limit_exits {Y} w o e s m is h =
 -- the line that is printed
 pub limit_printed : (i : Inputs) (os : List Operand) (vs : List (Usage × model.Value)) (r : Running)
     → limit_effect (run i (decide (print_deed os) >>= do_deed vs) r) ≡ run i (decide (limit_line (printed_line os)) >>= λ t. Gives (Prints t)) r
-limit_printed i os vs r = go (texts_of os)
-  where
-    go : (m : Result (List (List ℕ)) Fault)
-        → limit_effect (run i (decide (refusing.◌>>=◌ m (λ ts. Ok (PrintsText (joined (32 ∷ []) ts ++ 10 ∷ [])))) >>= do_deed vs) r)
-        ≡ run i (decide (limit_line (refusing.◌>>=◌ m (λ ts. Ok (joined (32 ∷ []) ts ++ 10 ∷ [])))) >>= λ t. Gives (Prints t)) r
-    go (Err f) = refl
-    go (Ok ts) =
-        elim (leb (length (joined (32 ∷ []) ts ++ 10 ∷ [])) most_text)
-        as (λ b. ◌≡◌ {A = Result Effect Fault × Running} (cond b (Ok (Prints (joined (32 ∷ []) ts ++ 10 ∷ []))) (Err (Stmt TextTooLong)), r)
-        (run i (decide (cond b (Ok (joined (32 ∷ []) ts ++ 10 ∷ [])) (Err (Stmt TextTooLong))) >>= λ t. Gives (Prints t)) r)) [ true ↦ refl | false ↦ refl ]
+limit_printed i os vs r =
+    elim (leb (length (printed_line os)) most_text)
+    as (λ b. ◌≡◌ {A = Result Effect Fault × Running} (cond b (Ok (Prints (printed_line os))) (Err (Stmt TextTooLong)), r)
+    (run i (decide (cond b (Ok (printed_line os)) (Err (Stmt TextTooLong))) >>= λ t. Gives (Prints t)) r)) [ true ↦ refl | false ↦ refl ]
 
 -- what a statement gives to its cell
 pub limit_had : (m : Result Effect Fault × Running) → limit_text (had m) ≡ had (limit_effect m)

@@ -10,6 +10,7 @@ use Rattle.nd_model.specs.Cells.{chained}
 use Rattle.nd_model.specs.Running.{Running, Inputs}
 use Rattle.nd_model.specs.Evaluation.{run}
 use Rattle.nd_model.specs.Meaning.{value}
+use Rattle.nd_model.specs.Operators.{binary}
 use Rattle.nd_model.proofs.Steps.{goes_on, run_bind}
 use Rattle.nd_syntax.specs.declared.tree.Expr as tree
 use Rattle.nd_syntax.specs.declared.tree.BinaryOp as operators
@@ -33,7 +34,7 @@ chained-last e (y ∷ xs) x ys = chained-last (Binary y.0 e y.1) xs x ys
 refused_chain : (i : Inputs) (e : Expr) (ys : List (BinaryOp × Expr)) (r s : Running) (f : Fault) → run i (value e) r ≡ (Err f, s) → run i (value (chained e ys)) r ≡ (Err f, s)
 refused_chain i e [] r s f h = h
 refused_chain i e (y ∷ ys) r s f h =
-    refused_chain i (Binary y.0 e y.1) ys r s f (run_bind i (value e) (λ v. binary_value y.0 v y.1) r ∙ ap (λ m. goes_on i m (λ v. binary_value y.0 v y.1)) h)
+    refused_chain i (Binary y.0 e y.1) ys r s f (run_bind i (value e) (λ v. binary_value (binary y.0) v y.1) r ∙ ap (λ m. goes_on i m (λ v. binary_value (binary y.0) v y.1)) h)
 
 stopped_chain : (i : Inputs) (e : Expr) (ys : List (BinaryOp × Expr)) (r s : Running) (x : Stop) → Ends value_of (Err x) s (run i (value e) r) → Ends value_of (Err x) s (run i (value (chained e ys)) r)
 stopped_chain i e ys r s Memory h = tt
@@ -70,12 +71,12 @@ module _ (i : Inputs) (e : Expr) (ops : List (operators.BinaryOp × tree.Expr)) 
 
   -- the exit by `?` there
   pub exits_later : (found : Value) (r s u : Running) (f : Stop) (o : Result Value Stop) → run i (value so_far) r ≡ (Ok (value_of found), s)
-      → IsErrAnd o (λ y. y ≡ f) → Ends value_of (Err f) u (run i (binary_value (operation_of x).0 (value_of found) (operation_of x).1) s) → Ends value_of o u (run i (value (chained e (map operation_of ops))) r)
+      → IsErrAnd o (λ y. y ≡ f) → Ends value_of (Err f) u (run i (binary_value (binary (operation_of x).0) (value_of found) (operation_of x).1) s) → Ends value_of o u (run i (value (chained e (map operation_of ops))) r)
   exits_later found r s u f o same is h =
       ends_as value_of i r u o (ap value (chain_rest ops k x lt is' e))
       (exits_chain i (chained e (map operation_of (take (k + 1) ops))) (map operation_of (drop (k + 1) ops)) r u f o is
       (ends_as value_of i r u (Err f) (ap value (chain_step ops k x lt is' e))
-      (follows value_of value_of i (value so_far) (λ v. binary_value (operation_of x).0 v (operation_of x).1) r s u found (Err f) same h)))
+      (follows value_of value_of i (value so_far) (λ v. binary_value (binary (operation_of x).0) v (operation_of x).1) r s u found (Err f) same h)))
 
 -- an operand has no more tokens than it has with operators behind it
 pub fewer_tokens : (e : Expr) (xs : List (BinaryOp × Expr)) → tokens_of e ≤ tokens_of (chained e xs)

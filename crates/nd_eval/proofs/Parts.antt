@@ -7,7 +7,6 @@ use Rattle.nd_model.specs.Value as model
 use Rattle.nd_model.specs.Running.{Running, Inputs, Effect, Binding, Unbinding}
 use Rattle.nd_model.specs.Evaluation.{Eval, Gives, Refuses, run, ◌>>=◌, decide}
 use Rattle.nd_model.specs.Operand.{Operand, Plain, Usage, Whole, ArraysOnly, Unused, BindsFirst, Unbinds}
-use Rattle.nd_model.specs.Creation.{arange}
 use Rattle.nd_model.specs.Index.{index_array}
 use Rattle.nd_model.specs.Operation.{use_operand, Computes, perform, give, choose_of, act_on, with_values, evaluate_all}
 use Rattle.nd_model.specs.Meaning.{value, one, unbuilt_form, item_plans, whole_plans}
@@ -37,9 +36,6 @@ arrays_used (Number n) = use_number ArraysOnly n ∙ sym (use_number Whole n)
 arrays_used (Array a) = refl
 
 -- ---- operations
-
-pub arange_parts : (v : Value) → perform (Computes (one arange)) ((Unused, value_of v) ∷ []) ≡ (decide (arange (unused_of v)) >>= give)
-arange_parts v = ap (λ t. t >>= λ o. decide (arange o) >>= give) (not_used v)
 
 pub element_parts : (t i : Value)
     → element_value (value_of t) (value_of i) ≡ (use_operand Whole (value_of i) >>= λ o. decide (index_array (unused_of t) o) >>= λ c. choose_of (value_of t) c)

@@ -1,14 +1,12 @@
 -- What the parts of an evaluation stand for.
-use Rattle.std.specs.Prelude.{ℕ, List, [], length, map, slice_index, false, Vec, string_bytes}
+use Rattle.std.specs.Prelude.{ℕ, List, [], ◌∷◌, Option, Some, None, length, map, slice_index, false, Vec, string_bytes}
 use Rattle.std.specs.Global.{Global}
 use Rattle.nd_model.specs.View.{One, Geo, byte_places}
 use Rattle.nd_model.specs.Value as model
 use Rattle.nd_model.specs.Content.{Content, contents_in, number_writes}
 use Rattle.nd_model.specs.Operand as operand
 use Rattle.nd_model.specs.Running as running
-use Rattle.nd_types.specs.Kinds.{kind_of}
-use Rattle.nd_types.specs.declared.num.Num.{Num}
-use Rattle.nd_types.specs.declared.num.Num.TheVariants as num
+pub use Rattle.nd_ufunc.specs.Numbers.{num_of, number_made}
 use Rattle.nd_heap.specs.declared.value.Value.{Value}
 use Rattle.nd_heap.specs.declared.value.Value.TheVariants as value
 use Rattle.nd_heap.specs.Values.{base_of, geo_of, value_of}
@@ -19,13 +17,13 @@ use Rattle.nd_eval.specs.declared.effect.ElementWrite.{ElementWrite}
 use Rattle.nd_eval.specs.declared.effect.Effect.{Effect}
 use Rattle.nd_eval.specs.declared.effect.Effect.TheVariants.{Nothing, Print, Bind, Unbind, Store}
 
+-- the value that there may be
+abbrev pub option_values : Option Value → List model.Value
+option_values None = []
+option_values (Some v) = value_of v ∷ []
+
 abbrev pub values_of : Vec Value Global → List model.Value
 values_of vs = map value_of vs.items
-
-abbrev pub num_of : Num → operand.Number
-num_of (num.Int z) = operand.Int z
-num_of (num.Bool t) = operand.Truth t
-num_of (num.Scalar k z) = operand.Scalar (kind_of k) z
 
 -- the contents of a view's elements, in the block that they lie in
 abbrev pub contents_over : Geo → List ℕ → List Content
@@ -46,10 +44,6 @@ operands_of os = map operand_of os.items
 abbrev pub unused_of : Value → operand.Operand
 unused_of (value.Number n) = operand.Plain (num_of n)
 unused_of (value.Array a) = operand.Elements false (geo_of a) []
-
--- a number that an operation makes
-abbrev pub number_made : Num → operand.Made
-number_made n = operand.ANumber (num_of n)
 
 abbrev pub chosen_of : ElementPlace → operand.Chosen
 chosen_of c = operand.AnElement (One c.elem) c.place

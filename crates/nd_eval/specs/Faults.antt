@@ -2,26 +2,19 @@
 use Rattle.std.specs.Prelude.{string_bytes}
 use Rattle.nd_model.specs.Fault as model
 pub use Rattle.nd_view.specs.Faults.{view_fault_of}
+pub use Rattle.nd_ufunc.specs.Faults.{ufunc_fault_of}
 use Rattle.nd_eval.specs.declared.fault.IndexFault.{IndexFault}
-use Rattle.nd_eval.specs.declared.fault.IndexFault.TheVariants.{OutOfBounds, TooManyIndices, NotAnIndex}
-use Rattle.nd_eval.specs.declared.fault.UfuncFault.{UfuncFault}
-use Rattle.nd_eval.specs.declared.fault.UfuncFault.TheVariants.{FloatResult, IntOutOfRange, ShapeMismatch, ReadOnly, NotNumbers}
+use Rattle.nd_eval.specs.declared.fault.IndexFault.TheVariants.{OutOfBounds, TooManyIndices, ZeroStep, NotAnIndex}
 use Rattle.nd_eval.specs.declared.fault.StmtError.{StmtError}
-use Rattle.nd_eval.specs.declared.fault.StmtError.TheVariants.{NoName, IntTooBig, ZeroDivide, NegativeShift, NeedsType, NotAnArray, TextTooLong, BadArgument, BadType}
+use Rattle.nd_eval.specs.declared.fault.StmtError.TheVariants.{NoName, IntTooBig, ZeroDivide, NegativeShift, NeedsType, RaggedList, NotAnArray, TextTooLong, BadArgument, BadType}
 use Rattle.nd_eval.specs.declared.fault.StmtFault.{StmtFault}
 use Rattle.nd_eval.specs.declared.fault.StmtFault.TheVariants.{View, Index, Ufunc, Stmt}
 
 abbrev pub index_fault_of : IndexFault → model.IndexFault
 index_fault_of (OutOfBounds axis index size) = model.OutOfBounds axis index size
 index_fault_of TooManyIndices = model.TooManyIndices
+index_fault_of ZeroStep = model.ZeroStep
 index_fault_of NotAnIndex = model.NotAnIndex
-
-abbrev pub ufunc_fault_of : UfuncFault → model.UfuncFault
-ufunc_fault_of FloatResult = model.FloatResult
-ufunc_fault_of (IntOutOfRange z) = model.IntOutOfRange z
-ufunc_fault_of ShapeMismatch = model.ShapeMismatch
-ufunc_fault_of ReadOnly = model.ReadOnly
-ufunc_fault_of NotNumbers = model.NotNumbers
 
 abbrev pub stmt_error_of : StmtError → model.StmtFault
 stmt_error_of (NoName n) = model.NoName (string_bytes n)
@@ -29,6 +22,7 @@ stmt_error_of IntTooBig = model.IntTooBig
 stmt_error_of ZeroDivide = model.ZeroDivide
 stmt_error_of NegativeShift = model.NegativeShift
 stmt_error_of NeedsType = model.NeedsType
+stmt_error_of RaggedList = model.RaggedList
 stmt_error_of NotAnArray = model.NotAnArray
 stmt_error_of TextTooLong = model.TextTooLong
 stmt_error_of BadArgument = model.BadArgument

@@ -5,6 +5,6 @@ pub mod Parts
 pub mod Uses
 pub mod Lines
 pub mod Done
-pub mod Singles
 pub mod New
 pub mod Stops
+pub mod OfTwo

@@ -5,13 +5,12 @@ use Rattle.nd_model.specs.Running.{Effect}
 use Rattle.nd_model.specs.Fault.{Fault, Stmt, BadArgument}
 use Rattle.nd_model.specs.Calls.{Fill, DType}
 use Rattle.nd_model.specs.Creation.{arange, filled, full}
-use Rattle.nd_model.specs.Syntax.{Expr, BinaryOp, Index, Items, AndItem, NoItem, At}
+use Rattle.nd_model.specs.Syntax.{Expr, Bound, Omitted, Given, Index, Items, AndItem, NoItem, At}
 use Rattle.nd_model.specs.Evaluation.{Eval, Gives, Refuses, ◌>>=◌}
 use Rattle.nd_model.specs.Operand.{Operand, Usage, Whole, ArraysOnly, Unused, Made}
 use Rattle.nd_model.specs.Viewing.{Indexed}
-use Rattle.nd_model.specs.Operators.{binary}
 use Rattle.nd_model.specs.Operation.{Computes, Views, perform, act_on}
-use Rattle.nd_model.specs.Meaning.{one, two, value, assignment_deed}
+use Rattle.nd_model.specs.Meaning.{is_given, one, two, value, assignment_deed}
 
 -- an index of one expression; the other ones are not built yet
 abbrev pub item_value : Index → Eval Value
@@ -22,17 +21,17 @@ item_value x = Refuses (Stmt BadArgument)
 abbrev pub value_of_one : (Operand → Result Made Fault) → Expr → Eval Value
 value_of_one f e = value e >>= λ v. perform (Computes (one f)) ((Whole, v) ∷ [])
 
--- `np.arange` of the end alone
-abbrev pub range_value : Expr → Eval Value
-range_value e = value e >>= λ v. perform (Computes (one arange)) ((Unused, v) ∷ [])
+-- what is computed of two values
+abbrev pub operate : (Operand → Operand → Result Made Fault) → Value → Value → Eval Value
+operate f v w = perform (Computes (two f)) ((Whole, v) ∷ (Whole, w) ∷ [])
 
--- an operator and two values
-abbrev pub operate : BinaryOp → Value → Value → Eval Value
-operate op v w = perform (Computes (two (binary op))) ((Whole, v) ∷ (Whole, w) ∷ [])
+-- of a value, and of an expression behind it
+abbrev pub binary_value : (Operand → Operand → Result Made Fault) → Value → Expr → Eval Value
+binary_value f v e = value e >>= λ w. operate f v w
 
--- an operator, a value, and an expression behind it
-abbrev pub binary_value : BinaryOp → Value → Expr → Eval Value
-binary_value op v e = value e >>= λ w. operate op v w
+-- of two expressions
+abbrev pub value_of_two : (Operand → Operand → Result Made Fault) → Expr → Expr → Eval Value
+value_of_two f a b = value a >>= λ v. binary_value f v b
 
 -- `t[i]`
 abbrev pub element_value : Value → Value → Eval Value
@@ -64,3 +63,13 @@ filled_value f es t = values es >>= λ vs. perform (Computes (filled f t)) (unus
 -- `np.full`
 abbrev pub full_value : List Expr → Expr → Option DType → Eval Value
 full_value es e t = values es >>= λ vs. value e >>= λ v. perform (Computes (full t)) (wholes vs ++ (Whole, v) ∷ [])
+
+-- an expression that may be left out
+abbrev pub bound_exprs : Bound → List Expr
+bound_exprs Omitted = []
+bound_exprs (Given e) = e ∷ []
+
+-- `np.arange`
+abbrev pub range_value : Bound → Expr → Bound → Option DType → Eval Value
+range_value a b c t =
+    values (bound_exprs a) >>= λ xs. value b >>= λ v. values (bound_exprs c) >>= λ ys. perform (Computes (arange (is_given a) (is_given c) t)) (unused (xs ++ v ∷ ys))

@@ -18,24 +18,24 @@ ghost use Rattle.nd_eval.specs.New.{MakesNew, made_of_one, clip_length, clip_len
 
 use crate::fault::{StmtError, StmtFault, UfuncFault};
 use crate::operand::{New, Operand};
-use crate::operators::{Single, apply_single};
+use crate::operators::{apply_single, call_single};
 use crate::stop::Stop;
-use nd_create::{full, range, zeros};
+use nd_create::{full, zeros};
 use nd_dtype::element_type;
 use nd_session::Value;
 use nd_syntax::{DType, Fill};
 use nd_types::{Elem, ElemType, Kind, Num, fits, wrap};
-use nd_view::{View, ViewFault, limit_fault};
+use nd_ufunc::Single;
+use nd_view::{View, limit_fault};
 use smallvec::SmallVec;
 use std::alloc::Global;
-
-/// The most elements of an array.
-const MOST_ELEMENTS: i128 = 1 << 24;
 
 /// A call, or an operator, of one operand.
 #[derive(Clone, Copy)]
 pub(crate) enum OfOne<'c> {
     Operator(Single),
+    /// A function of NumPy.
+    Ufunc(Single),
     /// `np.array`, with the type that is written.
     ArrayOf(&'c Option<DType>),
     /// `np.int8` and the like.
@@ -43,7 +43,7 @@ pub(crate) enum OfOne<'c> {
 }
 
 /// The refusal of a value that the call does not take.
-fn bad_argument() -> StmtFault
+pub(crate) fn bad_argument() -> StmtFault
     ensures { result ≡ Stmt BadArgument }
 {
     StmtFault::Stmt(StmtError::BadArgument)
@@ -145,7 +145,7 @@ fn element_for(alloc: Global, dtype: &Option<DType>, number: Num) -> Result<Elem
 }
 
 /// Refuses an array over the limits.
-fn check_limits(size: u64, shape: &[u64]) -> Result<(), StmtFault>
+pub(crate) fn check_limits(size: u64, shape: &[u64]) -> Result<(), StmtFault>
     requires { size ≤ 65536 }
     ensures { Says (λ u. u) result (unless_fault (limit_fault size shape.now) (Ok (tt {0}))) }
 {
@@ -268,24 +268,8 @@ pub(crate) fn make_of_one(
 {
     match call {
         OfOne::Operator(op) => Ok(New::Number(apply_single(op, operand)?)),
+        OfOne::Ufunc(op) => Ok(New::Number(call_single(op, operand)?)),
         OfOne::ArrayOf(dtype) => full_array(alloc, dtype, &[], plain_number(operand)?),
         OfOne::Convert(kind) => Ok(New::Number(convert(kind, operand)?)),
     }
-}
-
-/// `np.arange` of the end alone, which is not used.
-pub(crate) fn make_range(alloc: Global, end: &Value) -> Result<New, Stop>
-    ensures { MakesNew result (creation.arange (unused_of end.now)) }
-{
-    let Value::Number(Num::Int(end)) = end else {
-        return Err(Stop::Refused(bad_argument()));
-    };
-    if *end > MOST_ELEMENTS {
-        return Err(Stop::Refused(StmtFault::View(ViewFault::TooManyElements)));
-    }
-    let count = if *end < 0 { 0 } else { *end as usize };
-    let elem = Elem::little(Kind::I64);
-    let view = View::contiguous(alloc, ElemType::One(elem), &[count as u64])?;
-    let block = range(alloc, elem, count)?;
-    Ok(New::Array(view, block))
 }

@@ -1,35 +1,39 @@
 //! Expressions.
 
-ghost use Rattle.std.specs.Prelude.{◌≡◌, ◌+◌, ◌<◌, ◌^◌, map, option_map};
+ghost use Rattle.std.specs.Prelude.{◌≡◌, ◌+◌, ◌<◌, ◌^◌, IfOk, is_some, map, option_map};
 ghost use Rattle.nd_model.specs.Cells.{chained, items_of};
 ghost use Rattle.nd_model.specs.Evaluation as evaluation;
 ghost use Rattle.nd_model.specs.Meaning as meaning;
+ghost use Rattle.nd_model.specs.Meaning.{is_given};
 ghost use Rattle.nd_model.specs.Operation as operation;
 ghost use Rattle.nd_model.specs.Syntax.{Called, Items, AndItem, NewArray, NoItem};
-ghost use Rattle.nd_model.specs.Tokens.{tokens_of, tokens_of_call, tokens_of_index, tokens_of_item, tokens_of_all, tokens_of_element};
+ghost use Rattle.nd_model.specs.Tokens.{tokens_of, tokens_of_call, tokens_of_index, tokens_of_item, tokens_of_all, tokens_of_bound, tokens_of_element};
 ghost use Rattle.nd_syntax.specs.Lists.{operation_of};
-ghost use Rattle.nd_syntax.specs.Syntax.{binary_op, expr_of, call_of, element_of, index_of, item_of};
+ghost use Rattle.nd_syntax.specs.Syntax.{bound_of, expr_of, call_of, element_of, index_of, item_of};
 ghost use Rattle.nd_heap.specs.Values.{value_of};
-ghost use Rattle.nd_eval.specs.Contents.{values_of};
+ghost use Rattle.nd_eval.specs.Contents.{option_values, values_of};
 ghost use Rattle.nd_eval.specs.Ends.{Evaluates, session_of};
 ghost use Rattle.nd_eval.specs.Uses.{IsHeld};
 ghost use Rattle.nd_eval.specs.Parts as parts;
 ghost use Rattle.nd_eval.specs.New.{made_of_one};
+ghost use Rattle.nd_eval.specs.OfTwo.{made_of_two};
 ghost use Rattle.nd_syntax.specs.Calls.{dtype_of, fill_of};
 ghost use Rattle.nd_eval.specs.declared.stop.Stop.TheVariants.{Refused};
 ghost use Rattle.nd_eval.specs.declared.fault.StmtFault.TheVariants.{Stmt};
 ghost use Rattle.nd_eval.specs.declared.fault.StmtError.TheVariants.{BadArgument};
 
-use crate::creation::{OfOne, make_filled, make_full, make_of_one, make_range};
+use crate::creation::{OfOne, make_filled, make_full, make_of_one};
 use crate::evaluator::Evaluator;
 use crate::fault::{StmtError, StmtFault};
 use crate::indexes::index_array;
 use crate::operation::{mark_operand, mark_operands, operand_in};
-use crate::operators::{Single, apply_binary};
+use crate::operators::{OfTwo, apply_binary};
+use crate::ranges::make_range;
 use crate::stop::Stop;
 use nd_session::Value;
 use nd_syntax::{BinaryOp, Call, DType, Element, Expr, Fill, Index, IndexItem, Suffix};
 use nd_types::Num;
+use nd_ufunc::{BinaryUfunc, Single};
 
 /// The refusal of a form that is not built yet.
 pub(crate) fn unbuilt_form() -> Stop
@@ -93,38 +97,52 @@ impl Evaluator<'_> {
         self.session.soundness();
         let mut found = self.value(operand)?;
         for other in others {
-            found = self.binary_value(other.0, &found, &other.1)?;
+            found = self.binary_value(OfTwo::Operator(other.0), &found, &other.1)?;
         }
         Ok(found)
     }
 
-    /// What an operator gives of a value that was found before and of the expression behind it.
+    /// What an operator, or a function of NumPy, gives of a value that was found before and of the expression behind it.
     #[cycle(value)]
-    fn binary_value(&mut self, op: BinaryOp, left: &Value, right: &Expr) -> Result<Value, Stop>
+    fn binary_value(&mut self, call: OfTwo, left: &Value, right: &Expr) -> Result<Value, Stop>
         requires held { IsHeld (session_of self.old) left.now }
         requires room { (session_of self.old).next + tokens_of (expr_of right.now) + 1 < 2 ^ 64 }
         ensures { Evaluates value_of result self.old
-            (parts.binary_value (binary_op op) (value_of left.now) (expr_of right.now))
+            (parts.binary_value (made_of_two call) (value_of left.now) (expr_of right.now))
             self.new }
     {
         self.session.soundness();
         let right = self.value(right)?;
-        self.operate(op, left, &right)
+        self.operate(call, left, &right)
     }
 
-    /// What an operator gives of two values.
-    fn operate(&mut self, op: BinaryOp, left: &Value, right: &Value) -> Result<Value, Stop>
+    /// What an operator, or a function of NumPy, gives of two values.
+    fn operate(&mut self, call: OfTwo, left: &Value, right: &Value) -> Result<Value, Stop>
         requires left { IsHeld (session_of self.old) left.now }
         requires right { IsHeld (session_of self.old) right.now }
         ensures { Evaluates value_of result self.old
-            (parts.operate (binary_op op) (value_of left.now) (value_of right.now)) self.new }
+            (parts.operate (made_of_two call) (value_of left.now) (value_of right.now)) self.new }
     {
         mark_operand(self.session, left)?;
         mark_operand(self.session, right)?;
         let left = operand_in(self.session, left);
         let right = operand_in(self.session, right);
-        let number = apply_binary(op, &left, &right)?;
+        let number = apply_binary(call, &left, &right)?;
         Ok(Value::Number(number))
+    }
+
+    /// What a function of NumPy gives of the values of two expressions.
+    #[cycle(value)]
+    fn value_of_two(&mut self, call: OfTwo, left: &Expr, right: &Expr) -> Result<Value, Stop>
+        requires { (session_of self.old).next + tokens_of (expr_of left.now)
+            + tokens_of (expr_of right.now) + 1 < 2 ^ 64 }
+        ensures { Evaluates value_of result self.old
+            (parts.value_of_two (made_of_two call) (expr_of left.now) (expr_of right.now))
+            self.new }
+    {
+        self.session.soundness();
+        let left = self.value(left)?;
+        self.binary_value(call, &left, right)
     }
 
     /// What a call or an operator gives of one expression's value.
@@ -186,16 +204,40 @@ impl Evaluator<'_> {
         self.give(new)
     }
 
-    /// `np.arange` of the end alone.
+    /// The value of an expression that may be left out.
     #[cycle(value)]
-    fn range_value(&mut self, end: &Expr) -> Result<Value, Stop>
-        requires { (session_of self.old).next + tokens_of (expr_of end.now) + 1 < 2 ^ 64 }
+    fn bound_value(&mut self, bound: &Option<Expr>) -> Result<Option<Value>, Stop>
+        requires { (session_of self.old).next + tokens_of_bound (bound_of bound.now) < 2 ^ 64 }
+        ensures value { Evaluates option_values result self.old
+            (parts.values (parts.bound_exprs (bound_of bound.now))) self.new }
+        ensures given { IfOk result (λ o. is_some o ≡ is_given (bound_of bound.now)) }
+    {
+        match bound {
+            Some(expr) => Ok(Some(self.value(expr)?)),
+            None => Ok(None),
+        }
+    }
+
+    /// `np.arange`
+    #[cycle(value)]
+    fn range_value(
+        &mut self,
+        start: &Option<Expr>,
+        stop: &Expr,
+        step: &Option<Expr>,
+        dtype: &Option<DType>,
+    ) -> Result<Value, Stop>
+        requires { (session_of self.old).next + tokens_of_bound (bound_of start.now)
+            + tokens_of (expr_of stop.now) + tokens_of_bound (bound_of step.now) + 1 < 2 ^ 64 }
         ensures { Evaluates value_of result self.old
-            (parts.range_value (expr_of end.now)) self.new }
+            (parts.range_value (bound_of start.now) (expr_of stop.now) (bound_of step.now)
+            (option_map dtype_of dtype.now)) self.new }
     {
         let alloc = self.session.allocator();
-        let end = self.value(end)?;
-        let new = make_range(alloc, &end)?;
+        let start = self.bound_value(start)?;
+        let stop = self.value(stop)?;
+        let step = self.bound_value(step)?;
+        let new = make_range(alloc, &start, &stop, &step, dtype)?;
         self.give(new)
     }
 
@@ -222,16 +264,18 @@ impl Evaluator<'_> {
             (meaning.value (Called (call_of call.now))) self.new }
     {
         match call {
-            Call::Arange(start, end, step, dtype) => {
-                if start.is_some() || step.is_some() || dtype.is_some() {
-                    return Err(unbuilt_form());
-                }
-                self.range_value(end)
-            }
+            Call::Arange(start, stop, step, dtype) => self.range_value(start, stop, step, dtype),
             Call::Filled(fill, shape, dtype) => self.filled_value(*fill, shape, dtype),
             Call::Full(shape, value, dtype) => self.full_value(shape, value, dtype),
             Call::Array(element, dtype) => self.array_value(element, dtype),
             Call::Convert(kind, value) => self.value_of_one(OfOne::Convert(*kind), value),
+            Call::Minimum(left, right) => {
+                self.value_of_two(OfTwo::Call(BinaryUfunc::Minimum), left, right)
+            }
+            Call::Maximum(left, right) => {
+                self.value_of_two(OfTwo::Call(BinaryUfunc::Maximum), left, right)
+            }
+            Call::Absolute(operand) => self.value_of_one(OfOne::Ufunc(Single::Absolute), operand),
             Call::PythonAbs(operand) => {
                 self.value_of_one(OfOne::Operator(Single::Absolute), operand)
             }

@@ -1,5 +1,6 @@
 //! Why a statement is refused.
 
+pub use nd_ufunc::UfuncFault;
 pub use nd_view::ViewFault;
 
 /// Why an index is none of this array.
@@ -9,23 +10,10 @@ pub enum IndexFault {
     OutOfBounds { axis: usize, index: i128, size: u64 },
     /// There are more indexes than axes.
     TooManyIndices,
+    /// A step of a range is zero.
+    ZeroStep,
     /// It is neither an integer nor an array.
     NotAnIndex,
-}
-
-/// Why numbers are not written, or have no result.
-#[derive(Clone, Copy)]
-pub enum UfuncFault {
-    /// The result is no integer.
-    FloatResult,
-    /// A Python integer that the array's kind of number has not.
-    IntOutOfRange(i128),
-    /// The shapes do not broadcast (NumPy user guide, "Broadcasting").
-    ShapeMismatch,
-    /// The array may not be written.
-    ReadOnly,
-    /// The operand has no numbers.
-    NotNumbers,
 }
 
 /// Other refusals of a statement.
@@ -41,6 +29,8 @@ pub enum StmtError {
     NegativeShift,
     /// A Python integer that an int64 does not take, where no type is written.
     NeedsType,
+    /// The lists in a list have not the same shape.
+    RaggedList,
     /// What is indexed is no array.
     NotAnArray,
     /// The text of a cell would have more than 2^20 bytes.

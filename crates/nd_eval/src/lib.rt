@@ -15,6 +15,7 @@ mod operation;
 mod operators;
 mod printing;
 mod python;
+mod ranges;
 mod stop;
 mod writing;
 

@@ -1,58 +1,57 @@
 //! The texts of operands, no longer than a cell's text may be.
 
-ghost use Rattle.std.specs.Prelude.{Ok, map, string_bytes};
-ghost use Rattle.nd_model.specs.Printing as printing;
-ghost use Rattle.nd_eval.specs.Contents.{contents_over, operand_of};
-ghost use Rattle.nd_eval.specs.Lines.{limit_line, line_with, printed_line};
+ghost use Rattle.std.specs.Prelude.{◌≡◌, map, string_bytes};
+ghost use Rattle.nd_model.specs.Content.{content_at};
+ghost use Rattle.nd_model.specs.Printing.{printed_line};
+ghost use Rattle.nd_eval.specs.Contents.{contents_over, elements_over, operand_of};
+ghost use Rattle.nd_eval.specs.Lines.{limit_line, line_with};
 ghost use Rattle.nd_eval.specs.Ends.{Makes, Says};
 
 use crate::fault::{StmtError, StmtFault};
 use crate::operand::{Elements, Operand};
 use crate::stop::Stop;
-use crate::writing::{check_all_numbers, number_type};
-use nd_element::numbers_of;
-use nd_print::{array_text, scalar_text};
+use nd_print::{Fit, push_elements, scalar_text};
+use nd_types::ElemType;
 use std::alloc::Global;
 
 /// The most bytes of a cell's text.
 const MOST_TEXT: usize = 1 << 20;
 
 /// Refuses a text of more bytes than a cell's may have.
-fn check_length(text: String) -> Result<String, StmtFault>
-    ensures { Says string_bytes result (limit_line (Ok (string_bytes text))) }
+fn check_length(text: &String) -> Result<(), StmtFault>
+    ensures { Says (λ u. string_bytes text.now) result (limit_line (string_bytes text.now)) }
 {
     if text.len() > MOST_TEXT {
         return Err(StmtFault::Stmt(StmtError::TextTooLong));
     }
-    Ok(text)
+    Ok(())
 }
 
-/// The text of an array's elements. Each has a byte at least: of more elements than a text has bytes none is built.
-fn elements_text(alloc: Global, elements: &Elements<'_>) -> Result<String, Stop>
-    ensures { Makes string_bytes result (limit_line (printing.elements_text
-        elements.now.view.now.element elements.now.view.now.shape
-        (contents_over elements.now.view.now elements.now.block.now))) }
+/// Says that the contents of an array are those of its places in its block, and does nothing.
+fn soundness(elements: &Elements<'_>)
+    ensures { contents_over elements.now.view.now elements.now.block.now
+        ≡ map (content_at elements.now.view.now.element elements.now.block.now)
+        elements.now.view.now.places }
 {
-    let view = elements.view;
-    let elem = number_type(view.elem())?;
-    if view.count() > MOST_TEXT {
-        return Err(Stop::Refused(StmtFault::Stmt(StmtError::TextTooLong)));
-    }
-    let numbers = numbers_of(alloc, view, elem, elements.block)?;
-    let text = array_text(alloc, elem.kind(), view.shape(), &numbers)?;
-    Ok(check_length(text)?)
-}
-
-/// The text of an operand.
-fn text_of(alloc: Global, operand: &Operand<'_>) -> Result<String, Stop>
-    ensures { Makes string_bytes result (limit_line (printing.text_of (operand_of operand.now))) }
-{
-    match operand {
-        Operand::Number(number) => {
-            let text = scalar_text(alloc, *number)?;
-            Ok(check_length(text)?)
+    match elements.view.elem() {
+        ElemType::One(_) => {}
+        ElemType::Rec(structure) => {
+            structure.fields();
         }
-        Operand::Elements(elements) => elements_text(alloc, elements),
+    }
+}
+
+/// Puts the text of an array's elements behind a line. Of an array whose text is too long none is built.
+fn push_array(alloc: Global, line: &mut String, elements: &Elements<'_>) -> Result<(), Stop>
+    ensures { Makes (λ u. string_bytes line.new) result
+        (limit_line (line_with (string_bytes line.old)
+        (elements_over elements.now.view.now elements.now.block.now))) }
+{
+    soundness(elements);
+    check_length(line)?;
+    match push_elements(alloc, line, MOST_TEXT, elements.view, elements.block)? {
+        Fit::Whole => Ok(()),
+        Fit::TooLong => Err(Stop::Refused(StmtFault::Stmt(StmtError::TextTooLong))),
     }
 }
 
@@ -61,21 +60,22 @@ fn push_text(alloc: Global, line: &mut String, operand: &Operand<'_>) -> Result<
     ensures { Makes (λ u. string_bytes line.new) result
         (limit_line (line_with (string_bytes line.old) (operand_of operand.now))) }
 {
-    let text = text_of(alloc, operand)?;
-    line.push_str(text.as_str())?;
-    if line.len() > MOST_TEXT {
-        return Err(Stop::Refused(StmtFault::Stmt(StmtError::TextTooLong)));
+    match operand {
+        Operand::Number(number) => {
+            let text = scalar_text(alloc, *number)?;
+            line.push_str(text.as_str())?;
+            Ok(check_length(line)?)
+        }
+        Operand::Elements(elements) => push_array(alloc, line, elements),
     }
-    Ok(())
 }
 
-/// The line that `print` makes of its operands: their texts with a space between two of them, and a newline. A structure
-/// is refused before any text is built, and a line as soon as it is too long.
+/// The line that `print` makes of its operands: their texts with a space between two of them, and a newline. It is refused as
+/// soon as it is too long.
 pub(crate) fn print_line(alloc: Global, operands: &[Operand<'_>]) -> Result<String, Stop>
     ensures { Makes string_bytes result
         (limit_line (printed_line (map operand_of operands.now))) }
 {
-    check_all_numbers(operands)?;
     let mut line = String::new(alloc);
     if let [first, rest @ ..] = operands {
         push_text(alloc, &mut line, first)?;
@@ -85,5 +85,6 @@ pub(crate) fn print_line(alloc: Global, operands: &[Operand<'_>]) -> Result<Stri
         }
     }
     line.push_str("\n")?;
-    Ok(check_length(line)?)
+    check_length(&line)?;
+    Ok(line)
 }

@@ -1,7 +1,7 @@
 //! Python's arithmetic on whole numbers.
 
-ghost use Rattle.std.specs.Prelude.{◌≡◌, ◌≢◌, ◌^◌, ◌≤◌, ◌*ℤ◌, ℤ, pos, FitsSigned};
-ghost use Rattle.std.specs.Int.{NotMinOverMinusOne, int_pow, w128};
+ghost use Rattle.std.specs.Prelude.{◌≢◌, ◌^◌, ◌*ℤ◌, ℤ, pos, FitsSigned};
+ghost use Rattle.std.specs.Int.{w128};
 ghost use Rattle.std.specs.Option.{SomeIff};
 ghost use Rattle.nd_model.specs.Operand as operand;
 ghost use Rattle.nd_model.specs.Operators as operators;
@@ -13,6 +13,7 @@ ghost use Rattle.nd_eval.specs.Ends.{Says};
 use crate::fault::{StmtError, StmtFault, UfuncFault};
 use nd_syntax::BinaryOp;
 use nd_types::Num;
+use nd_ufunc::{exact_power, is_below, is_negative, is_zero};
 
 /// A Python integer, in its bounds. A number that does not fit 128 bits, for which none stands, is out of them.
 pub(crate) fn python_int(exact: Option<i128>) -> Result<Num, StmtFault>
@@ -28,32 +29,6 @@ pub(crate) fn python_int(exact: Option<i128>) -> Result<Num, StmtFault>
         }
         None => Err(StmtFault::Stmt(StmtError::IntTooBig)),
     }
-}
-
-/// Whether the number is below zero.
-pub(crate) fn is_negative(number: i128) -> bool
-    ensures { result ≡ operators.is_negative number }
-{
-    number < 0
-}
-
-/// Whether the number is zero.
-fn is_zero(number: i128) -> bool
-    ensures { result ≡ operators.is_zero number }
-{
-    number == 0
-}
-
-/// Whether a quotient that is rounded down is less than Euclid's, whose remainder is not below zero.
-fn is_below(number: i128, divisor: i128) -> bool
-    requires nonzero { divisor ≢ pos 0 }
-    requires fits { NotMinOverMinusOne w128 number divisor }
-    ensures { result ≡ operators.is_below number divisor }
-{
-    if is_negative(divisor) {
-        return number.rem_euclid(divisor) != 0;
-    }
-    false
 }
 
 /// The quotient, rounded down.
@@ -86,36 +61,6 @@ fn floor_remainder(number: i128, divisor: i128) -> Result<Num, StmtFault>
         return python_int(rest.checked_add(divisor));
     }
     python_int(Some(rest))
-}
-
-/// The power, for an exponent that 32 bits don't hold.
-fn high_power(base: i128, exponent: u128) -> Result<Num, StmtFault>
-    requires { 2 ^ 32 ≤ exponent }
-    ensures { Says number_made result (operand.python_int (int_pow base exponent)) }
-{
-    if base == 0 {
-        return python_int(Some(0));
-    }
-    if base == 1 {
-        return python_int(Some(1));
-    }
-    if base != -1 {
-        return Err(StmtFault::Stmt(StmtError::IntTooBig));
-    }
-    if exponent % 2 == 0 {
-        return python_int(Some(1));
-    }
-    python_int(Some(-1))
-}
-
-/// The power.
-fn power(base: i128, exponent: u128) -> Result<Num, StmtFault>
-    ensures { Says number_made result (operand.python_int (int_pow base exponent)) }
-{
-    if exponent > u128::from(u32::MAX) {
-        return high_power(base, exponent);
-    }
-    python_int(base.checked_pow(exponent as u32))
 }
 
 /// The number with so many bits behind it.
@@ -170,7 +115,7 @@ pub(crate) fn arithmetic(op: BinaryOp, left: i128, right: i128) -> Result<Num, S
             if is_negative(right) {
                 return Err(StmtFault::Ufunc(UfuncFault::FloatResult));
             }
-            power(left, right.unsigned_abs())
+            python_int(exact_power(left, right.unsigned_abs()))
         }
         BinaryOp::LeftShift => {
             if is_negative(right) {

@@ -1,11 +1,10 @@
 //! Assignments to elements of arrays.
 
-ghost use Rattle.std.specs.Prelude.{◌≡◌, map};
+ghost use Rattle.std.specs.Prelude.{◌≡◌};
 ghost use Rattle.nd_model.specs.Writing as writing;
 ghost use Rattle.nd_types.specs.Kinds.{kind_of};
 ghost use Rattle.nd_types.specs.Types.{type_of};
 ghost use Rattle.nd_eval.specs.Contents.{contents_over, operand_of, unused_of, writes_of};
-ghost use Rattle.nd_eval.specs.Lines.{all_numbers};
 ghost use Rattle.nd_eval.specs.Ends.{Says};
 
 use crate::effect::ElementWrite;
@@ -33,16 +32,6 @@ pub(crate) fn check_numbers(operand: &Operand<'_>) -> Result<(), StmtFault>
 {
     if let Operand::Elements(elements) = operand {
         number_type(elements.view.elem())?;
-    }
-    Ok(())
-}
-
-/// Refuses structures among operands.
-pub(crate) fn check_all_numbers(operands: &[Operand<'_>]) -> Result<(), StmtFault>
-    ensures { Says (λ u. u) result (all_numbers (map operand_of operands.now)) }
-{
-    for operand in operands {
-        check_numbers(operand)?;
     }
     Ok(())
 }

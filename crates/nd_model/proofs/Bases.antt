@@ -10,7 +10,7 @@ use Rattle.nd_model.specs.Fault as fault
 use Rattle.nd_model.specs.InputName.{is_input_name}
 use Rattle.nd_model.specs.Syntax as syntax
 use Rattle.nd_model.specs.Syntax.{Expr, Call, Index, Stmt}
-use Rattle.nd_model.specs.Tokens.{tokens_of, tokens_of_call, tokens_of_shape, tokens_of_exprs, tokens_of_index, tokens_of_all, tokens_of_stmt}
+use Rattle.nd_model.specs.Tokens.{tokens_of, tokens_of_call, tokens_of_shape, tokens_of_exprs, tokens_of_bound, tokens_of_step, tokens_of_index, tokens_of_all, tokens_of_stmt}
 use Rattle.nd_model.specs.Evaluation.{Eval, Gives, Refuses, Asks, run, ◌>>=◌, decide}
 use Rattle.nd_model.specs.Operand as operand
 use Rattle.nd_model.specs.Operand.{Operand, Usage, Made, ANumber, AnArray, Chosen, AnElement, AView, ACopy, Stretched, Deed, NoDeed, PrintsText, SavesFile, BindsFirst, BindsMade, Unbinds, Writes, MakesAndWrites}
@@ -189,6 +189,10 @@ few_work (ActsOn f w ps p) = few_all ps _ (1 + (bases p + 1)) (λ vs. few_bind (
 
 -- ---- at most as many as tokens
 
+step_more : (b : syntax.Bound) → tokens_of_bound b ≤ tokens_of_step b
+step_more syntax.Omitted = omega arith
+step_more (syntax.Given e) = omega arith
+
 mutual
   pub at_expr : (e : Expr) → bases (Meaning.plan e) ≤ tokens_of e
   at_expr (syntax.Name n) = omega arith
@@ -201,19 +205,16 @@ mutual
   at_expr (syntax.Attribute t m) = omega (arith, at_expr t)
 
   pub at_call : (c : Call) → bases (Meaning.call_plan c) ≤ tokens_of_call c
-  at_call (syntax.Arange syntax.Omitted b syntax.Omitted None) = omega (arith, at_expr b)
-  at_call (syntax.Arange syntax.Omitted b syntax.Omitted (Some t)) = omega arith
-  at_call (syntax.Arange syntax.Omitted b (syntax.Given c) t) = omega arith
-  at_call (syntax.Arange (syntax.Given a) b c t) = omega arith
+  at_call (syntax.Arange a b c t) = omega (arith, at_bound a (And operand.Unused (Meaning.plan b) (Meaning.bound_plans c Done)), at_expr b, at_bound c Done, step_more a, step_more c)
   at_call (syntax.Filled f s t) = omega (arith, at_shape operand.Unused s Done)
   at_call (syntax.Full s e t) = omega (arith, at_shape operand.Whole s (And operand.Whole (Meaning.plan e) Done), at_expr e)
   at_call (syntax.NewArray (syntax.Single e) t) = omega (arith, at_expr e)
   at_call (syntax.NewArray (syntax.Nested es) t) = omega arith
   at_call (syntax.Convert k e) = omega (arith, at_expr e)
   at_call (syntax.BroadcastTo e s) = omega arith
-  at_call (syntax.Minimum a b) = omega arith
-  at_call (syntax.Maximum a b) = omega arith
-  at_call (syntax.Absolute e) = omega arith
+  at_call (syntax.Minimum a b) = omega (arith, at_expr a, at_expr b)
+  at_call (syntax.Maximum a b) = omega (arith, at_expr a, at_expr b)
+  at_call (syntax.Absolute e) = omega (arith, at_expr e)
   at_call (syntax.PythonAbs e) = omega (arith, at_expr e)
   at_call (syntax.Folded u f) = omega arith
   at_call (syntax.Load n) = omega arith
@@ -228,6 +229,10 @@ mutual
   pub at_exprs : (u : Usage) (es : syntax.Exprs) (rest : Plans) → all_bases (Meaning.expr_plans u es rest) ≤ tokens_of_exprs es + all_bases rest
   at_exprs u syntax.NoExpr rest = omega arith
   at_exprs u (syntax.AndExpr e es) rest = omega (arith, at_expr e, at_exprs u es rest)
+
+  pub at_bound : (b : syntax.Bound) (rest : Plans) → all_bases (Meaning.bound_plans b rest) ≤ tokens_of_bound b + all_bases rest
+  at_bound syntax.Omitted rest = omega arith
+  at_bound (syntax.Given e) rest = omega (arith, at_expr e)
 
   pub at_index : (x : Index) → all_bases (Meaning.item_plans x) ≤ tokens_of_index x
   at_index (syntax.Field n) = omega arith

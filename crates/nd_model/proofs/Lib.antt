@@ -37,6 +37,7 @@ pub mod Replaying
 pub mod Taking
 pub mod Contents
 pub mod Uses
+pub mod UsedStructures
 pub mod Bases
 pub mod Noted
 pub mod Storing
@@ -44,3 +45,4 @@ mod Rows
 pub mod Overlaying
 pub mod Dividing
 pub mod Adding
+pub mod LowestBits

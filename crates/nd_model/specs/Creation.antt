@@ -1,18 +1,24 @@
 -- New arrays, and numbers of a kind (NumPy user guide, "Array creation").
-use Rattle.std.specs.Prelude.{ℕ, ℤ, pos, int_le, int_lt, unsigned_abs, false, if◌then◌else◌, List, [], ◌∷◌, map, Option, Some, None, Result, Ok, Err}
+use Rattle.std.specs.Prelude.{ℕ, ◌+◌, ◌-◌, ◌/◌, ℤ, pos, ◌+ℤ◌, ◌-ℤ◌, ◌*ℤ◌, int_le, int_lt, unsigned_abs, Bool, true, false, not, if◌then◌else◌, List, [], ◌∷◌, map, Option, Some, None, Result, Ok, Err}
+use Rattle.std.specs.List.{find}
 use Rattle.nd_model.specs.Element.{Kind, Boolean, Int64, Element, fits, wrap}
-use Rattle.nd_model.specs.Tuple.{first_index}
+use Rattle.nd_model.specs.Tuple.{count_up, first_index}
 use Rattle.nd_model.specs.View.{ElementType, One, Structure}
 use Rattle.nd_model.specs.Content.{Content, Num, Rec}
 use Rattle.nd_model.specs.Calls.{Fill, Zeros, Ones, DType}
 use Rattle.nd_model.specs.Types.{element_type}
-use Rattle.nd_model.specs.Fault.{Fault, Stmt, Ufunc, BadArgument, NeedsType, FloatResult, NotNumbers, IntOutOfRange}
+use Rattle.nd_model.specs.Fault.{Fault, Stmt, Ufunc, Index, BadArgument, NeedsType, FloatResult, NotNumbers, BoolOp, IntOutOfRange, ZeroStep}
 use Rattle.nd_model.specs.Refusing.{◌>>=◌, when}
 use Rattle.nd_model.specs.Broadcast.{in_limits}
 use Rattle.nd_model.specs.Writing.{takes}
 use Rattle.nd_model.specs.Operand.{Number, Int, Truth, Scalar, Operand, Plain, Made, ANumber, AnArray, number_of}
+use Rattle.nd_model.specs.Operators.{is_negative, is_zero}
 
 -- ---- types
+
+abbrev pub is_boolean : Kind → Bool
+is_boolean Boolean = true
+is_boolean k = false
 
 abbrev pub little : Kind → Element
 little k = record { kind = k; big = false }
@@ -153,14 +159,75 @@ convert k o = do
 
 -- ---- `np.arange`
 
--- a number below zero counts as none
-abbrev pub at_least_zero : ℤ → ℕ
-at_least_zero z = if int_lt z (pos 0) then 0 else unsigned_abs z
+-- an integer
+abbrev pub integer_of : Operand → Result ℤ Fault
+integer_of (Plain (Int z)) = Ok z
+integer_of o = Err (Stmt BadArgument)
 
--- the whole numbers below n, as an array
-abbrev pub numbers_below : ℕ → Made
-numbers_below n = AnArray (One int64) (n ∷ []) (λ t. Num (pos (first_index t)))
+abbrev pub integers_of : List Operand → Result (List ℤ) Fault
+integers_of [] = Ok []
+integers_of (o ∷ os) = do
+  z ← integer_of o
+  zs ← integers_of os
+  Ok (z ∷ zs)
 
-abbrev pub arange : Operand → Result Made Fault
-arange (Plain (Int z)) = Ok (numbers_below (at_least_zero z))
-arange _ = Err (Stmt BadArgument)
+-- where the numbers begin, what they do not reach, and how far they are apart
+pub record Range : Type 0 where
+  pub start : ℤ
+  pub stop : ℤ
+  pub step : ℤ
+
+abbrev pub range_by : ℤ → ℤ → ℤ → Range
+range_by start stop step = record { start = start; stop = stop; step = step }
+
+-- a start that is left out is 0, and a step 1
+abbrev pub range_of : (has_start has_step : Bool) → List ℤ → Result Range Fault
+range_of false false (b ∷ []) = Ok (range_by (pos 0) b (pos 1))
+range_of true false (a ∷ b ∷ []) = Ok (range_by a b (pos 1))
+range_of false true (b ∷ s ∷ []) = Ok (range_by (pos 0) b s)
+range_of true true (a ∷ b ∷ s ∷ []) = Ok (range_by a b s)
+range_of _ _ zs = Err (Stmt BadArgument)
+
+-- the steps lead to the end
+abbrev pub leads : Range → Bool
+leads r = if is_negative r.step then int_lt r.stop r.start else int_lt r.start r.stop
+
+-- how many numbers there are before the end
+abbrev pub range_count : Range → ℕ
+range_count r = if leads r then (unsigned_abs (r.stop -ℤ r.start) - 1) / unsigned_abs r.step + 1 else 0
+
+abbrev pub range_number : Range → ℕ → ℤ
+range_number r k = r.start +ℤ (pos k *ℤ r.step)
+
+-- the first number that a kind has not
+abbrev pub range_misfit : Kind → Range → Option ℤ
+range_misfit k r = find (λ z. not (fits k z)) (map (range_number r) (count_up 0 (range_count r)))
+
+-- no number of a range is a Boolean
+abbrev pub range_element : Element → Result Element Fault
+range_element e = if is_boolean e.kind then Err (Ufunc BoolOp) else Ok e
+
+abbrev pub range_array : Element → Range → Result Made Fault
+range_array e r =
+    when (not (is_zero r.step)) (Index ZeroStep)
+    (in_limits (One e) (range_count r ∷ [])
+    (unless_misfit (range_misfit e.kind r) (Ok (AnArray (One e) (range_count r ∷ []) (λ t. Num (range_number r (first_index t)))))))
+
+-- what its numbers are: int64 where no type is written
+abbrev pub element_of_range : Option DType → Result Element Fault
+element_of_range dtype = do
+  t ← type_or dtype (Ok (One int64))
+  e ← number_element t
+  range_element e
+
+abbrev pub range_in : Option DType → Range → Result Made Fault
+range_in dtype r = do
+  e ← element_of_range dtype
+  range_array e r
+
+-- of the start, the end and the step
+abbrev pub arange : (has_start has_step : Bool) → Option DType → List Operand → Result Made Fault
+arange has_start has_step dtype os = do
+  zs ← integers_of os
+  r ← range_of has_start has_step zs
+  range_in dtype r

@@ -10,11 +10,14 @@ pub data ViewFault : Type 0 where
 pub data IndexFault : Type 0 where
   OutOfBounds : (axis : ℕ) → (index : ℤ) → (size : ℕ) → IndexFault
   TooManyIndices : IndexFault
+  ZeroStep : IndexFault
   NotAnIndex : IndexFault
 
 pub data UfuncFault : Type 0 where
   FloatResult : UfuncFault
   IntOutOfRange : ℤ → UfuncFault
+  BoolOp : UfuncFault
+  NegativePower : UfuncFault
   ShapeMismatch : UfuncFault
   ReadOnly : UfuncFault
   NotNumbers : UfuncFault
@@ -25,6 +28,7 @@ pub data StmtFault : Type 0 where
   ZeroDivide : StmtFault
   NegativeShift : StmtFault
   NeedsType : StmtFault
+  RaggedList : StmtFault
   NotAnArray : StmtFault
   TextTooLong : StmtFault
   BadArgument : StmtFault

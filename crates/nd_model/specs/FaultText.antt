@@ -1,7 +1,7 @@
 -- The texts of refusals, as a script is answered.
 use Rattle.std.specs.Prelude.{ℕ, List, ◌++◌, codes, decimal}
 use Rattle.std.specs.Fmt.{signed_decimal}
-use Rattle.nd_model.specs.Fault.{ViewFault, OutOfBlock, TooManyAxes, TooManyElements, AxesDiffer, IndexFault, OutOfBounds, TooManyIndices, NotAnIndex, UfuncFault, FloatResult, IntOutOfRange, ShapeMismatch, ReadOnly, NotNumbers, StmtFault, NoName, IntTooBig, ZeroDivide, NegativeShift, NeedsType, NotAnArray, TextTooLong, BadArgument, BadType, Fault, View, Index, Ufunc, Stmt, ParseKind, BadToken, Unexpected, TooDeep, TooManyStatements, UnknownCall, LeftOut, Refusal, Parse, Statement}
+use Rattle.nd_model.specs.Fault.{ViewFault, OutOfBlock, TooManyAxes, TooManyElements, AxesDiffer, IndexFault, OutOfBounds, TooManyIndices, ZeroStep, NotAnIndex, UfuncFault, FloatResult, IntOutOfRange, BoolOp, NegativePower, ShapeMismatch, ReadOnly, NotNumbers, StmtFault, NoName, IntTooBig, ZeroDivide, NegativeShift, NeedsType, RaggedList, NotAnArray, TextTooLong, BadArgument, BadType, Fault, View, Index, Ufunc, Stmt, ParseKind, BadToken, Unexpected, TooDeep, TooManyStatements, UnknownCall, LeftOut, Refusal, Parse, Statement}
 use Rattle.nd_model.specs.Book as book
 use Rattle.nd_model.specs.Book.{EditFault, TooManyCells, CellTooLong, BadInputName, InputTooLarge, NoInputNamed, QueryFault}
 
@@ -14,11 +14,14 @@ view_text AxesDiffer = codes "AxesDiffer"
 abbrev pub index_text : IndexFault → List ℕ
 index_text (OutOfBounds axis index size) = codes "OutOfBounds " ++ decimal axis ++ codes " " ++ signed_decimal index ++ codes " " ++ decimal size
 index_text TooManyIndices = codes "TooManyIndices"
+index_text ZeroStep = codes "ZeroStep"
 index_text NotAnIndex = codes "NotAnIndex"
 
 abbrev pub ufunc_text : UfuncFault → List ℕ
 ufunc_text FloatResult = codes "FloatResult"
 ufunc_text (IntOutOfRange number) = codes "IntOutOfRange " ++ signed_decimal number
+ufunc_text BoolOp = codes "BoolOp"
+ufunc_text NegativePower = codes "NegativePower"
 ufunc_text ShapeMismatch = codes "ShapeMismatch"
 ufunc_text ReadOnly = codes "ReadOnly"
 ufunc_text NotNumbers = codes "NotNumbers"
@@ -29,6 +32,7 @@ stmt_text IntTooBig = codes "IntTooBig"
 stmt_text ZeroDivide = codes "ZeroDivide"
 stmt_text NegativeShift = codes "NegativeShift"
 stmt_text NeedsType = codes "NeedsType"
+stmt_text RaggedList = codes "RaggedList"
 stmt_text NotAnArray = codes "NotAnArray"
 stmt_text TextTooLong = codes "TextTooLong"
 stmt_text BadArgument = codes "BadArgument"

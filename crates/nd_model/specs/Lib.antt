@@ -34,7 +34,9 @@ pub mod Operators
 pub mod Index
 pub mod Writing
 pub mod Types
+pub mod Conversion
 pub mod Creation
+pub mod StructureText
 pub mod Printing
 pub mod Viewing
 pub mod Operation

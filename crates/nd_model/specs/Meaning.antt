@@ -1,15 +1,16 @@
 -- What expressions and statements mean: for each form its operands, how they are used, and what is made of them.
-use Rattle.std.specs.Prelude.{pos, List, [], ◌∷◌, Option, None, Result, Ok, Err}
+use Rattle.std.specs.Prelude.{pos, Bool, true, false, List, [], ◌∷◌, Option, Result, Ok, Err}
 use Rattle.nd_model.specs.Value.{Value}
 use Rattle.nd_model.specs.Running.{Source, Effect}
 use Rattle.nd_model.specs.Fault.{Fault, BadArgument}
 use Rattle.nd_model.specs.Fault as fault
-use Rattle.nd_model.specs.Syntax.{Expr, Exprs, NoExpr, AndExpr, Name, Integer, Unary, Binary, Called, Call, Arange, Filled, Full, NewArray, Convert, PythonAbs, Load, Buffer, Omitted, Single, Item, Attribute, Index, Items, AndItem, NoItem, At, Stmt, Import, Bind, Assign, Delete, Print}
+use Rattle.nd_model.specs.Syntax.{Expr, Exprs, NoExpr, AndExpr, Name, Integer, Unary, Binary, Called, Call, Arange, Filled, Full, NewArray, Convert, Minimum, Maximum, Absolute, PythonAbs, Load, Buffer, Bound, Omitted, Given, Single, Item, Attribute, Index, Items, AndItem, NoItem, At, Stmt, Import, Bind, Assign, Delete, Print}
 use Rattle.nd_model.specs.Syntax as syntax
 use Rattle.nd_model.specs.Refusing as refusing
 use Rattle.nd_model.specs.Evaluation.{Eval}
 use Rattle.nd_model.specs.Operand.{Int, Truth, Operand, Usage, Whole, ArraysOnly, Unused, Made, ANumber, Deed, NoDeed, BindsFirst, Unbinds, Writes}
-use Rattle.nd_model.specs.Operators.{Absolute, Of, binary, single}
+use Rattle.nd_model.specs.Operators as operators
+use Rattle.nd_model.specs.Operators.{Of, binary, single, call_binary, call_single}
 use Rattle.nd_model.specs.Creation.{arange, filled, full, array_of_number, convert}
 use Rattle.nd_model.specs.Writing.{assignment_writes}
 use Rattle.nd_model.specs.Viewing.{Indexed}
@@ -34,6 +35,10 @@ unbuilt_form os = Err (fault.Stmt BadArgument)
 abbrev pub unbuilt_input : Option Source → Result Made Fault
 unbuilt_input source = Err (fault.Stmt BadArgument)
 
+abbrev pub is_given : Bound → Bool
+is_given Omitted = false
+is_given (Given e) = true
+
 -- ---- expressions
 
 abbrev mutual
@@ -48,12 +53,15 @@ abbrev mutual
   plan (Attribute e m) = Does (Computes unbuilt_form) (And Unused (plan e) Done)
 
   pub call_plan : Call → Plan
-  call_plan (Arange Omitted e Omitted None) = Does (Computes (one arange)) (And Unused (plan e) Done)
+  call_plan (Arange a b c t) = Does (Computes (arange (is_given a) (is_given c) t)) (bound_plans a (And Unused (plan b) (bound_plans c Done)))
   call_plan (Filled f shape t) = Does (Computes (filled f t)) (expr_plans Unused shape Done)
   call_plan (Full shape e t) = Does (Computes (full t)) (expr_plans Whole shape (And Whole (plan e) Done))
   call_plan (NewArray (Single e) t) = Does (Computes (one (array_of_number t))) (And Whole (plan e) Done)
   call_plan (Convert k e) = Does (Computes (one (convert k))) (And Whole (plan e) Done)
-  call_plan (PythonAbs e) = Does (Computes (one (single Absolute))) (And Whole (plan e) Done)
+  call_plan (Minimum a b) = Does (Computes (two (call_binary operators.Minimum))) (And Whole (plan a) (And Whole (plan b) Done))
+  call_plan (Maximum a b) = Does (Computes (two (call_binary operators.Maximum))) (And Whole (plan a) (And Whole (plan b) Done))
+  call_plan (Absolute e) = Does (Computes (one (call_single operators.Absolute))) (And Whole (plan e) Done)
+  call_plan (PythonAbs e) = Does (Computes (one (single operators.Absolute))) (And Whole (plan e) Done)
   call_plan (Load n) = FromInput n unbuilt_input
   call_plan (Buffer n) = FromInput n unbuilt_input
   call_plan _ = Does (Computes unbuilt_form) Done
@@ -62,6 +70,11 @@ abbrev mutual
   pub expr_plans : Usage → Exprs → Plans → Plans
   expr_plans u NoExpr rest = rest
   expr_plans u (AndExpr e es) rest = And u (plan e) (expr_plans u es rest)
+
+  -- none where nothing is written
+  pub bound_plans : Bound → Plans → Plans
+  bound_plans Omitted rest = rest
+  bound_plans (Given e) rest = And Unused (plan e) rest
 
   -- an index of one expression; the other ones are not built yet
   pub item_plans : Index → Plans

@@ -1,112 +1,156 @@
 -- The text of an array of several axes, part by part.
-use Rattle.std.proofs.Common.{◌≡◌, ℕ, zero, suc, ◌+◌, ◌-◌, ◌*◌, ◌/◌, ◌<◌, ◌≤◌, List, [], ◌∷◌, ◌++◌, map, length, get_or, take, drop, replicate, refl, sym, ap, ◌∙◌, arith, append_assoc}
-use Rattle.std.specs.Prelude.{ℤ}
-use Rattle.std.specs.List.{flat_map}
-use Rattle.std.proofs.lemmas.List.{take-map, take_rest}
-use Rattle.std.proofs.Math.Nat.{mul-div_cancel_left, mul-le-mul_right}
-use Rattle.nd_model.specs.Element.{Kind}
+use Rattle.std.proofs.Common.{◌≡◌, ℕ, zero, suc, ◌+◌, ◌-◌, ◌*◌, ◌/◌, ◌<◌, ◌≤◌, List, [], ◌∷◌, ◌++◌, map, length, get_or, take, drop, replicate, refl, sym, ap, ap₂, ◌∙◌, arith, append_assoc}
+use Rattle.std.specs.List.{flat_map, All}
+use Rattle.std.proofs.lemmas.List.{take-map, take-take, drop-take, drop-drop, length-take-le, length-drop}
+use Rattle.std.proofs.lemmas.List.Elements.{All-cons}
+use Rattle.std.proofs.Math.Nat.{div-mul-le_self}
+use Rattle.nd_model.specs.Runs.{pieces, in_pieces, last_length}
 use Rattle.nd_model.specs.Tuple.{elements_of}
-use Rattle.nd_model.specs.Text.{number_text, aligned, split, bracketed}
-use Rattle.nd_print.specs.Texts.{padded, row_text}
+use Rattle.nd_model.specs.Text.{split, bracketed, joined}
+use Rattle.nd_print.proofs.Sizes.{below_is}
 
 drop-map : {X Y : Type 0} (f : X → Y) (n : ℕ) (xs : List X) → drop n (map f xs) ≡ map f (drop n xs)
 drop-map f zero xs = refl
 drop-map f (suc n) [] = refl
 drop-map f (suc n) (x ∷ xs) = drop-map f n xs
 
-module _ (k : Kind) (width : ℕ) where
-  take-padded : (n : ℕ) (zs : List ℤ) → take n (padded k width zs) ≡ padded k width (take n zs)
-  take-padded n zs = take-map (aligned width) n (map (number_text k) zs) ∙ ap (map (aligned width)) (take-map (number_text k) n zs)
+-- n parts are made of what they have
+split-take : {X : Type 0} (n each : ℕ) (xs : List X) → split n each (take (n * each) xs) ≡ split n each xs
+split-take zero each xs = refl
+split-take (suc n) each xs =
+    let all : suc n * each ≡ each + n * each = omega arith in
+    let fits : each ≤ each + n * each = omega arith in
+    ap (λ m. take each (take m xs) ∷ split n each (drop each (take m xs))) all
+    ∙ ap₂ (λ a l. a ∷ split n each l) (take-take each (each + n * each) xs fits) (drop-take each (n * each) xs)
+    ∙ ap (λ l. take each xs ∷ l) (split-take n each (drop each xs))
 
-  drop-padded : (n : ℕ) (zs : List ℤ) → drop n (padded k width zs) ≡ padded k width (drop n zs)
-  drop-padded n zs = drop-map (aligned width) n (map (number_text k) zs) ∙ ap (map (aligned width)) (drop-map (number_text k) n zs)
-
+module _ (f : ℕ → List ℕ) where
   -- the text of a part
-  abbrev pub part : ℕ → List ℕ → List ℤ → List ℕ
-  part depth below zs = bracketed depth below (padded k width zs)
+  abbrev pub part : ℕ → List ℕ → List ℕ → List ℕ
+  part depth below ps = bracketed depth below (map f ps)
 
   -- what stands between two parts
   abbrev pub gap : ℕ → List ℕ → List ℕ
   gap depth below = replicate (length below) 10 ++ replicate depth 32
 
   -- the text of n further parts, each after a gap
-  abbrev pub further : ℕ → List ℕ → ℕ → ℕ → List ℤ → List ℕ
-  further depth below n each zs = flat_map (λ q. gap depth below ++ q) (map (bracketed depth below) (split n each (padded k width zs)))
+  abbrev pub further : ℕ → List ℕ → ℕ → List ℕ → List ℕ
+  further depth below n ps = flat_map (λ q. gap depth below ++ q) (map (bracketed depth below) (split n (elements_of below) (map f ps)))
 
-  further-suc : (depth : ℕ) (below : List ℕ) (n each : ℕ) (zs : List ℤ)
-      → further depth below (suc n) each zs ≡ (gap depth below ++ part depth below (take each zs)) ++ further depth below n each (drop each zs)
-  further-suc depth below n each zs = λ i.
-      (gap depth below ++ bracketed depth below (take-padded each zs i)) ++ flat_map (λ q. gap depth below ++ q) (map (bracketed depth below) (split n each (drop-padded each zs i)))
-
-  drop-none : (m : ℕ) → drop {A = ℤ} m [] ≡ []
-  drop-none zero = refl
-  drop-none (suc m) = refl
-
-  drop-drop : (m n : ℕ) (zs : List ℤ) → drop m (drop n zs) ≡ drop (n + m) zs
-  drop-drop m zero zs = let e : 0 + m ≡ m = omega arith in rw e refl
-  drop-drop m (suc n) [] = let e : suc n + m ≡ suc (n + m) = omega arith in rw e (drop-none m)
-  drop-drop m (suc n) (z ∷ zs) = let e : suc n + m ≡ suc (n + m) = omega arith in rw e (drop-drop m n zs)
+  further-suc : (depth : ℕ) (below : List ℕ) (n : ℕ) (ps : List ℕ)
+      → further depth below (suc n) ps ≡ (gap depth below ++ part depth below (take (elements_of below) ps)) ++ further depth below n (drop (elements_of below) ps)
+  further-suc depth below n ps = λ i.
+      (gap depth below ++ bracketed depth below (take-map f (elements_of below) ps i))
+      ++ flat_map (λ q. gap depth below ++ q) (map (bracketed depth below) (split n (elements_of below) (drop-map f (elements_of below) ps i)))
 
   -- the i-th part, and those behind it
-  pub further_more : (depth : ℕ) (below : List ℕ) (count each i : ℕ) (zs : List ℤ) → i < count
-      → further depth below (count - i) each (drop (i * each) zs)
-      ≡ (gap depth below ++ part depth below (take ((i + 1) * each - i * each) (drop (i * each) zs))) ++ further depth below (count - (i + 1)) each (drop ((i + 1) * each) zs)
-  further_more depth below count each i zs lt =
-      let left : count - i ≡ suc (count - (i + 1)) = omega arith in
-      let size : (i + 1) * each - i * each ≡ each = omega arith in
-      let next : i * each + each ≡ (i + 1) * each = omega arith in
-      let behind : drop each (drop (i * each) zs) ≡ drop ((i + 1) * each) zs = drop-drop each (i * each) zs ∙ ap (λ n. drop n zs) next in
-      ap (λ n. further depth below n each (drop (i * each) zs)) left
-      ∙ further-suc depth below (count - (i + 1)) each (drop (i * each) zs)
-      ∙ (λ j. (gap depth below ++ part depth below (take (sym size j) (drop (i * each) zs))) ++ further depth below (count - (i + 1)) each (behind j))
+  pub further_more : (depth : ℕ) (below : List ℕ) (end i : ℕ) (ps rest : List ℕ) → i < end → rest ≡ drop (elements_of below) ps
+      → further depth below (end - i) ps ≡ (gap depth below ++ part depth below (take (elements_of below) ps)) ++ further depth below (end - (i + 1)) rest
+  further_more depth below end i ps rest lt is =
+      let left : end - i ≡ suc (end - (i + 1)) = omega arith in
+      ap (λ n. further depth below n ps) left ∙ further-suc depth below (end - (i + 1)) ps
+      ∙ ap (λ l. (gap depth below ++ part depth below (take (elements_of below) ps)) ++ further depth below (end - (i + 1)) l) (sym is)
 
-  pub further_none : (depth : ℕ) (below : List ℕ) (count each i : ℕ) (zs : List ℤ) → count ≤ i → further depth below (count - i) each zs ≡ []
-  further_none depth below count each i zs le = let left : count - i ≡ 0 = omega arith in rw left refl
-
-  -- one axis
-  pub row_is : (depth : ℕ) (shape : List ℕ) (zs : List ℤ) → length shape ≡ 1 → part depth shape zs ≡ row_text k width zs
-  row_is depth [] zs e = absurd (omega arith)
-  row_is depth (n ∷ []) zs e = refl
-  row_is depth (n ∷ m ∷ shape) zs e = absurd (omega arith)
+  pub further_none : (depth : ℕ) (below : List ℕ) (end i : ℕ) (ps : List ℕ) → end ≤ i → further depth below (end - i) ps ≡ []
+  further_none depth below end i ps le = let left : end - i ≡ 0 = omega arith in rw left refl
 
   -- several axes
-  pub nested_is : (depth : ℕ) (shape : List ℕ) (each : ℕ) (zs : List ℤ) → 1 < length shape → 0 < get_or shape 0 0 → each ≡ elements_of (drop 1 shape)
-      → part depth shape zs
-      ≡ (91 ∷ (part (depth + 1) (drop 1 shape) (take each zs) ++ further (depth + 1) (drop 1 shape) (get_or shape 0 0 - 1) each (drop (1 * each) zs))) ++ 93 ∷ []
-  nested_is depth [] each zs several some e = absurd (omega arith)
-  nested_is depth (n ∷ []) each zs several some e = absurd (omega arith)
-  nested_is depth (zero ∷ m ∷ shape) each zs several some e = absurd (omega arith)
-  nested_is depth (suc n ∷ m ∷ shape) each zs several some e =
-      let left : suc n - 1 ≡ n = omega arith in let one : 1 * each ≡ each = omega arith in
-      rw (left, one, e)
-      (λ j. (91 ∷ (bracketed (depth + 1) (m ∷ shape) (take-padded (elements_of (m ∷ shape)) zs j)
-      ++ flat_map (λ q. gap (depth + 1) (m ∷ shape) ++ q) (map (bracketed (depth + 1) (m ∷ shape)) (split n (elements_of (m ∷ shape)) (drop-padded (elements_of (m ∷ shape)) zs j))))) ++ 93 ∷ [])
+  pub nested_is : (depth : ℕ) (shape below : List ℕ) (ps rest : List ℕ) → 1 < length shape → 0 < get_or shape 0 0 → below ≡ drop 1 shape → rest ≡ drop (elements_of below) ps
+      → part depth shape (take (elements_of shape) ps)
+      ≡ (91 ∷ (part (depth + 1) below (take (elements_of below) ps) ++ further (depth + 1) below (get_or shape 0 0 - 1) rest)) ++ 93 ∷ []
+  nested_is depth [] below ps rest several some b r = absurd (omega arith)
+  nested_is depth (n ∷ []) below ps rest several some b r = absurd (omega arith)
+  nested_is depth (zero ∷ m ∷ shape) below ps rest several some b r = absurd (omega arith)
+  nested_is depth (suc n ∷ m ∷ shape) below ps rest several some b r =
+      let left : suc n - 1 ≡ n = omega arith in
+      let all : split (suc n) (elements_of (m ∷ shape)) (map f (take (suc n * elements_of (m ∷ shape)) ps)) ≡ split (suc n) (elements_of (m ∷ shape)) (map f ps) =
+      ap (split (suc n) (elements_of (m ∷ shape))) (sym (take-map f (suc n * elements_of (m ∷ shape)) ps)) ∙ split-take (suc n) (elements_of (m ∷ shape)) (map f ps) in
+      rw (left, r, b)
+      (ap (λ l. 91 ∷ joined (gap (depth + 1) (m ∷ shape)) (map (bracketed (depth + 1) (m ∷ shape)) l) ++ 93 ∷ []) all
+      ∙ (λ j. (91 ∷ (bracketed (depth + 1) (m ∷ shape) (take-map f (elements_of (m ∷ shape)) ps j)
+      ++ flat_map (λ q. gap (depth + 1) (m ∷ shape) ++ q) (map (bracketed (depth + 1) (m ∷ shape)) (split n (elements_of (m ∷ shape)) (drop-map f (elements_of (m ∷ shape)) ps j))))) ++ 93 ∷ []))
 
-  pub nested_as : (depth : ℕ) (shape below : List ℕ) (each : ℕ) (zs : List ℤ) → 1 < length shape → 0 < get_or shape 0 0 → below ≡ drop 1 shape → each ≡ elements_of (drop 1 shape)
-      → part depth shape zs ≡ (91 ∷ (part (depth + 1) below (take each zs) ++ further (depth + 1) below (get_or shape 0 0 - 1) each (drop (1 * each) zs))) ++ 93 ∷ []
-  nested_as depth shape below each zs several some is e = rw is (nested_is depth shape each zs several some e)
+-- ---- rows
 
-pub below_is : (shape : List ℕ) → take (length shape - 1) (drop 1 shape) ≡ drop 1 shape
-below_is shape = take_rest shape 1
+even_pieces : (n count : ℕ) (ps : List ℕ) → count * n ≤ length ps → All (λ row. length row ≡ n) (pieces n count ps)
+even_pieces n zero ps le = λ k d lt. absurd (omega arith)
+even_pieces n (suc count) ps le =
+    All-cons (λ row. length row ≡ n) (take n ps) (pieces n count (drop n ps)) (length-take-le n ps (omega arith))
+    (even_pieces n count (drop n ps) (let long = length-drop n ps in omega arith))
+
+-- each row is as long as the last axis
+pub even_rows : (shape places : List ℕ) → All (λ row. length row ≡ last_length shape) (in_pieces (last_length shape) places)
+even_rows shape places = even_pieces (last_length shape) (length places / last_length shape) places (div-mul-le_self (length places) (last_length shape))
+
+-- the last axis stays the last one
+pub last_below : (shape : List ℕ) → 1 < length shape → last_length (drop 1 shape) ≡ last_length shape
+last_below [] several = absurd (omega arith)
+last_below (n ∷ []) several = absurd (omega arith)
+last_below (n ∷ m ∷ shape) several =
+    let one : suc (length shape) - 1 ≡ length shape = omega arith in
+    let two : suc (suc (length shape)) - 1 ≡ suc (length shape) = omega arith in
+    ap (λ i. get_or (m ∷ shape) i 1) one ∙ sym (ap (λ i. get_or (n ∷ m ∷ shape) i 1) two)
+
+module _ (shape : List ℕ) (rows : List (List ℕ)) (several : 1 < length shape) where
+  below : List ℕ
+  below = take (length shape - 1) (drop 1 shape)
+
+  same : last_length (take (length shape - 1) (drop 1 shape)) ≡ last_length shape
+  same = ap last_length (below_is shape) ∙ last_below shape several
+
+  pub even_below : All (λ row. length row ≡ last_length shape) rows → All (λ row. length row ≡ last_length (take (length shape - 1) (drop 1 shape))) rows
+  even_below even = λ k d lt. even k d lt ∙ sym same
+
+  pub even_above : All (λ row. length row ≡ last_length (take (length shape - 1) (drop 1 shape))) rows → All (λ row. length row ≡ last_length shape) rows
+  even_above even = λ k d lt. even k d lt ∙ same
+
+-- ---- what is left of the rows
+
+module _ (each : ℕ) (ps rest : List ℕ) (is : rest ≡ drop each ps) where
+  pub left_more : (end i : ℕ) → i < end → drop ((end - (i + 1)) * each) rest ≡ drop ((end - i) * each) ps
+  left_more end i lt =
+      let left : end - i ≡ suc (end - (i + 1)) = omega arith in
+      ap (drop ((end - (i + 1)) * each)) is ∙ drop-drop ((end - (i + 1)) * each) each ps ∙ ap (λ n. drop n ps) (one_more (end - i) (end - (i + 1)) left)
+    where
+      one_more : (a b : ℕ) → a ≡ suc b → each + b * each ≡ a * each
+      one_more a b e = rw e (again b)
+        where
+          again : (b : ℕ) → each + b * each ≡ suc b * each
+          again b = omega arith
+
+  pub left_all : (n all : ℕ) → 0 < n → all ≡ n * each → drop ((n - 1) * each) rest ≡ drop all ps
+  left_all zero all some e = absurd (omega arith)
+  left_all (suc n) all some e =
+      let one : suc n - 1 ≡ n = omega arith in
+      rw one (ap (drop (n * each)) is ∙ drop-drop (n * each) each ps ∙ ap (λ m. drop m ps) (whole n all e))
+    where
+      whole : (n all : ℕ) → all ≡ suc n * each → each + n * each ≡ all
+      whole n all e = omega arith
+
+  pub whole_more : (end i : ℕ) → i < end → (end - i) * each ≤ length ps → (end - (i + 1)) * each ≤ length rest
+  whole_more end i lt le =
+      let left : end - i ≡ suc (end - (i + 1)) = omega arith in
+      let long : length rest ≡ length ps - each = ap (λ l. length l) is ∙ length-drop each ps in
+      rw long (less (end - (i + 1)) (length ps) (rw left at le))
+    where
+      less : (a n : ℕ) → suc a * each ≤ n → a * each ≤ n - each
+      less a n le = omega arith
+
+pub none_left : (each : ℕ) (ps : List ℕ) (end i : ℕ) → end ≤ i → drop ((end - i) * each) ps ≡ ps
+none_left each ps end i le = let left : end - i ≡ 0 = omega arith in rw left (ap (λ n. drop n ps) (none each))
+  where
+    none : (each : ℕ) → 0 * each ≡ 0
+    none each = omega arith
+
+pub one_left : (each : ℕ) (n len : ℕ) → 0 < n → n * each ≤ len → each ≤ len
+one_left each zero len some le = absurd (omega arith)
+one_left each (suc n) len some le = omega arith
+
+pub whole_first : (n each all len : ℕ) → 0 < n → all ≡ n * each → all ≤ len → (n - 0) * each ≤ len
+whole_first n each all len some e le = let same : n - 0 ≡ n = omega arith in rw same (omega arith)
 
 pub open_and_closed : (a b c d e : List ℕ) → (((a ++ b) ++ c) ++ d) ++ e ≡ a ++ ((b ++ (c ++ d)) ++ e)
 open_and_closed a b c d e = simp append_assoc
 
 pub after_gap : (a b c d : List ℕ) → ((a ++ b) ++ c) ++ d ≡ a ++ ((b ++ c) ++ d)
 after_gap a b c d = simp append_assoc
-
--- ---- numbers of elements
-
-some_below : (m r n : ℕ) → m * r ≡ n → 0 < n → 0 < r
-some_below m zero n e some = absurd (omega arith)
-some_below m (suc r) n e some = omega arith
-
--- the parts of an axis are as long
-pub each_is : (shape : List ℕ) (n : ℕ) → 0 < length shape → elements_of shape ≡ n → 0 < n → (0 < get_or shape 0 0) × (n / get_or shape 0 0 ≡ elements_of (drop 1 shape)) × (get_or shape 0 0 * elements_of (drop 1 shape) ≡ n) × (0 < elements_of (drop 1 shape))
-each_is [] n axes e some = absurd (omega arith)
-each_is (zero ∷ shape) n axes e some = absurd (omega arith)
-each_is (suc m ∷ shape) n axes e some =
-    (omega arith, ap (λ x. x / suc m) (sym e) ∙ mul-div_cancel_left (elements_of shape) {n = suc m} (omega arith), e, some_below (suc m) (elements_of shape) n e some)
-
-pub ends_inside : (i count each n : ℕ) → i < count → count * each ≡ n → (i + 1) * each ≤ n
-ends_inside i count each n lt e = let more : i + 1 ≤ count = omega arith in rw (← e) (mul-le-mul_right each more)

@@ -1,137 +1,168 @@
-//! The text of an array.
-ghost use Rattle.std.specs.Prelude.{◌≡◌, ◌+◌, ◌^◌, ◌<◌, ◌≤◌, [], ◌∷◌, ◌++◌, map, max, length, replicate, string_bytes, OnOk, IfOk};
-ghost use Rattle.std.specs.List.{All};
-ghost use Rattle.nd_model.specs.View.{One, item_size};
+//! The text of an array's elements.
+ghost use Rattle.std.specs.Prelude.{◌≡◌, ◌+◌, ◌^◌, ◌<◌, ◌≤◌, [], ◌++◌, map, length, take, drop, replicate, slice_index_or, string_bytes, string_len, OnOk, IfOk};
+ghost use Rattle.std.specs.List.{All, concat};
+ghost use Rattle.nd_model.specs.Content.{content_at};
+ghost use Rattle.nd_model.specs.Runs.{last_length};
+ghost use Rattle.nd_model.specs.StructureText.{elements_text};
 ghost use Rattle.nd_model.specs.Text as model;
 ghost use Rattle.nd_model.specs.Tuple.{elements_of};
-ghost use Rattle.nd_types.specs.Kinds.{kind_of};
-ghost use Rattle.nd_element.specs.Elements.{numbers_at};
-ghost use Rattle.nd_print.specs.Texts.{padded, row_text};
+ghost use Rattle.nd_print.specs.Fits.{Ends};
+ghost use Rattle.nd_print.specs.Texts.{text_at, row_text};
 
-use crate::scalars::{push_aligned, push_number, push_times, text_len};
-use nd_block::RawBlock;
-use nd_element::numbers_of;
-use nd_types::{Elem, Kind};
-use nd_view::View;
+use crate::columns::bytes_from;
+use crate::elements::{Layout, push_element};
+use crate::lengths::has_room;
+use crate::scalars::push_times;
+use nd_view::{Run, Runs, View};
 use std::alloc::{AllocError, Global};
 
-/// Returns the text of an array, from the numbers of its elements in C order.
-pub fn array_text(
+/// Whether a text was appended to a line that has a limit.
+#[derive(Clone, Copy)]
+pub enum Fit {
+    /// It stands behind the line.
+    Whole,
+    /// The line would be longer than its limit.
+    TooLong,
+}
+
+/// Appends the text of a view's elements to a line of at most `limit` bytes, as the block with these bytes holds them. A byte past
+/// the end of the block is taken for 0. Where there is no room for the text, none of it is built.
+pub fn push_elements(
     alloc: Global,
-    kind: Kind,
-    shape: &[u64],
-    values: &[i128],
-) -> Result<String, AllocError>
-    requires { elements_of shape.now ≡ length values.now }
-    ensures { IfOk result (λ t. string_bytes t
-        ≡ model.array_text (kind_of kind) shape.now values.now) }
+    line: &mut String,
+    limit: usize,
+    view: &View,
+    bytes: &[u8],
+) -> Result<Fit, AllocError>
+    requires { string_len line.old ≤ limit }
+    ensures { IfOk result (Ends limit (elements_text view.now.element view.now.shape
+        (map (content_at view.now.element bytes.now) view.now.places))
+        (string_bytes line.old) (string_bytes line.new)) }
 {
-    if values.is_empty() {
-        return String::from_str(alloc, "[]");
+    let room = limit - line.len();
+    if view.count() == 0 {
+        return push_text(line, room, "[]");
     }
-    let mut text = String::new(alloc);
-    if shape.is_empty() {
-        push_number(&mut text, kind, values[0])?;
-    } else {
-        let width = widest(kind, values);
-        push_nested(&mut text, 0, shape, width, kind, values)?;
+    let shape = view.shape();
+    let mut layout = Layout::new(alloc, view)?;
+    if !has_room(&layout, shape, room) {
+        return Ok(Fit::TooLong);
     }
-    Ok(text)
+    layout.widen(view, bytes);
+    if !has_room(&layout, shape, room) {
+        return Ok(Fit::TooLong);
+    }
+    push_array(line, view, &layout, bytes)?;
+    Ok(Fit::Whole)
 }
 
-/// Returns the text of an array of numbers, the bytes of which are the block's.
-pub fn text(alloc: Global, view: &View, elem: Elem, block: &RawBlock) -> Result<String, AllocError>
-    requires type_is { view.now.element ≡ One elem }
-    requires inside { All (λ p. p + item_size view.now.element ≤ length block.now) view.now.places }
-    ensures { IfOk result (λ t. string_bytes t ≡ model.array_text elem.kind view.now.shape
-        (numbers_at elem block.now view.now.places)) }
+// Appends a text if there is room for it.
+fn push_text(line: &mut String, room: usize, text: &str) -> Result<Fit, AllocError>
+    ensures { IfOk result (Ends (string_len line.old + room) text.now
+        (string_bytes line.old) (string_bytes line.new)) }
 {
-    let values = numbers_of(alloc, view, elem, block.as_slice())?;
-    array_text(alloc, elem.kind(), view.shape(), &values)
-}
-
-// The width of the narrowest number: in an array a Boolean is as wide as False.
-fn least_width(kind: Kind) -> usize
-    ensures { result ≡ model.least_width (kind_of kind) }
-{
-    match kind {
-        Kind::Bool => 5,
-        _ => 0,
+    if text.len() > room {
+        return Ok(Fit::TooLong);
     }
+    line.push_str(text)?;
+    Ok(Fit::Whole)
 }
 
-// The width of each number in an array.
-fn widest(kind: Kind, values: &[i128]) -> usize
-    ensures { result ≡ max (model.least_width (kind_of kind))
-        (model.widest (map (model.number_text (kind_of kind)) values.now)) }
+// Appends the elements of a view that has some.
+fn push_array(
+    line: &mut String,
+    view: &View,
+    layout: &Layout,
+    bytes: &[u8],
+) -> Result<(), AllocError>
+    requires some { 0 < length view.now.places }
+    requires whole { elements_of view.now.shape ≡ length view.now.places }
+    ensures { OnOk result (string_bytes line.new
+        ≡ string_bytes line.old ++ model.bracketed 0 view.now.shape (map (text_at
+        layout.now.is_structure layout.now.columns.items bytes.now) view.now.places)) }
 {
-    let mut width = least_width(kind);
-    for value in values {
-        width = width.max(text_len(kind, *value));
+    if view.shape().is_empty() {
+        return push_element(line, layout, bytes_from(bytes, view.offset()));
     }
-    width
+    let mut rows = view.rows();
+    push_nested(line, 0, view.shape(), &mut rows, layout, bytes)
 }
 
-// Appends the numbers in brackets.
-fn push_row(text: &mut String, width: usize, kind: Kind, values: &[i128]) -> Result<(), AllocError>
-    ensures { OnOk result (string_bytes text.new ≡ string_bytes text.old ++ row_text
-        (kind_of kind) width values.now) }
+// Appends the elements of a run in brackets.
+fn push_row(line: &mut String, run: &Run, layout: &Layout, bytes: &[u8]) -> Result<(), AllocError>
+    ensures { OnOk result (string_bytes line.new ≡ string_bytes line.old ++ row_text
+        (text_at layout.now.is_structure layout.now.columns.items bytes.now) run.now) }
 {
-    text.push('[')?;
-    for (i, value) in values.iter().enumerate() {
-        if i > 0 {
-            text.push(' ')?;
+    line.push('[')?;
+    for number in 0..run.count() {
+        if number > 0 {
+            line.push(' ')?;
         }
-        push_aligned(text, width, kind, *value)?;
+        push_element(line, layout, bytes_from(bytes, run.place(number)))?;
     }
-    text.push(']')
+    line.push(']')
 }
 
-// Appends the brackets of the axes that are left, inside `depth` open ones.
+// Appends the elements of the next row in brackets.
+fn push_next(
+    line: &mut String,
+    rows: &mut Runs<'_>,
+    layout: &Layout,
+    bytes: &[u8],
+) -> Result<(), AllocError>
+    requires { 0 < length rows.old }
+    ensures text { OnOk result (string_bytes line.new ≡ string_bytes line.old ++ row_text
+        (text_at layout.now.is_structure layout.now.columns.items bytes.now)
+        (slice_index_or rows.old 0 [])) }
+    ensures rest { rows.new ≡ drop 1 rows.old }
+{
+    match rows.next() {
+        Some(row) => push_row(line, &row, layout, bytes),
+        None => Ok(()),
+    }
+}
+
+// Appends the brackets of the axes that are left, inside `depth` open ones, with the elements of the next rows.
 fn push_nested(
-    text: &mut String,
+    line: &mut String,
     depth: usize,
     shape: &[u64],
-    width: usize,
-    kind: Kind,
-    values: &[i128],
+    rows: &mut Runs<'_>,
+    layout: &Layout,
+    bytes: &[u8],
 ) -> Result<(), AllocError>
     requires axes { 0 < length shape.now }
     requires deep { depth + length shape.now < 2 ^ 64 }
-    requires whole { elements_of shape.now ≡ length values.now }
-    requires some { 0 < length values.now }
-    ensures { OnOk result (string_bytes text.new
-        ≡ string_bytes text.old ++ model.bracketed depth shape.now
-        (padded (kind_of kind) width values.now)) }
+    requires some { 0 < elements_of shape.now }
+    requires rows { All (λ row. length row ≡ last_length shape.now) rows.old }
+    requires whole { elements_of shape.now ≤ length (concat rows.old) }
+    ensures text { OnOk result (string_bytes line.new
+        ≡ string_bytes line.old ++ model.bracketed depth shape.now (map (text_at
+        layout.now.is_structure layout.now.columns.items bytes.now)
+        (take (elements_of shape.now) (concat rows.old)))) }
+    ensures rest { OnOk result (concat rows.new
+        ≡ drop (elements_of shape.now) (concat rows.old)) }
+    ensures rows { OnOk result (All (λ row. length row ≡ last_length shape.now) rows.new) }
 {
     if shape.len() == 1 {
-        return push_row(text, width, kind, values);
+        return push_next(line, rows, layout, bytes);
     }
     let below = &shape[1..];
-    let count = shape[0] as usize;
-    let each = values.len() / count;
-    text.push('[')?;
-    push_nested(text, depth + 1, below, width, kind, &values[..each])?;
-    for i in 1..count {
-        push_break(text, below.len(), depth + 1)?;
-        push_nested(
-            text,
-            depth + 1,
-            below,
-            width,
-            kind,
-            &values[i * each..(i + 1) * each],
-        )?;
+    line.push('[')?;
+    push_nested(line, depth + 1, below, rows, layout, bytes)?;
+    for _ in 1..shape[0] {
+        push_break(line, below.len(), depth + 1)?;
+        push_nested(line, depth + 1, below, rows, layout, bytes)?;
     }
-    text.push(']')?;
+    line.push(']')?;
     Ok(())
 }
 
 // Appends what stands between two parts of an axis.
-fn push_break(text: &mut String, lines: usize, blanks: usize) -> Result<(), AllocError>
-    ensures { OnOk result (string_bytes text.new
-        ≡ string_bytes text.old ++ (replicate lines 10 ++ replicate blanks 32)) }
+fn push_break(line: &mut String, lines: usize, blanks: usize) -> Result<(), AllocError>
+    ensures { OnOk result (string_bytes line.new
+        ≡ string_bytes line.old ++ (replicate lines 10 ++ replicate blanks 32)) }
 {
-    push_times(text, '\n', lines)?;
-    push_times(text, ' ', blanks)
+    push_times(line, '\n', lines)?;
+    push_times(line, ' ', blanks)
 }

@@ -2,7 +2,10 @@
 #![tactic(auto)]
 
 mod arrays;
+mod columns;
+mod elements;
+mod lengths;
 mod scalars;
 
-pub use arrays::{array_text, text};
+pub use arrays::{Fit, push_elements};
 pub use scalars::scalar_text;

@@ -37,7 +37,7 @@ fn push_decimal(text: &mut String, number: i128) -> Result<(), AllocError>
 }
 
 // Appends a number of the kind.
-pub(crate) fn push_number(text: &mut String, kind: Kind, number: i128) -> Result<(), AllocError>
+fn push_number(text: &mut String, kind: Kind, number: i128) -> Result<(), AllocError>
     ensures { OnOk result (string_bytes text.new ≡ string_bytes text.old ++ number_text
         (kind_of kind) number) }
 {
@@ -48,27 +48,38 @@ pub(crate) fn push_number(text: &mut String, kind: Kind, number: i128) -> Result
 }
 
 // The number of bytes of a number's text.
-pub(crate) fn text_len(kind: Kind, number: i128) -> usize
+pub(crate) fn text_len(kind: Kind, number: i128) -> u8
     ensures { result ≡ length (number_text (kind_of kind) number) }
 {
     match kind {
-        Kind::Bool => truth_text(number != 0).len(),
-        _ => Buffer::new().format(number).len(),
+        Kind::Bool => truth_text(number != 0).len() as u8,
+        _ => Buffer::new().format(number).len() as u8,
     }
+}
+
+// Appends a text, aligned to the right.
+fn push_right(line: &mut String, width: usize, text: &str) -> Result<(), AllocError>
+    ensures { OnOk result (string_bytes line.new ≡ string_bytes line.old ++ aligned width
+        text.now) }
+{
+    push_times(line, ' ', width.saturating_sub(text.len()))?;
+    line.push_str(text)
 }
 
 // Appends a number of the kind, aligned to the right.
 pub(crate) fn push_aligned(
-    text: &mut String,
+    line: &mut String,
     width: usize,
     kind: Kind,
     number: i128,
 ) -> Result<(), AllocError>
-    ensures { OnOk result (string_bytes text.new ≡ string_bytes text.old ++ aligned width
+    ensures { OnOk result (string_bytes line.new ≡ string_bytes line.old ++ aligned width
         (number_text (kind_of kind) number)) }
 {
-    push_times(text, ' ', width.saturating_sub(text_len(kind, number)))?;
-    push_number(text, kind, number)
+    match kind {
+        Kind::Bool => push_right(line, width, truth_text(number != 0)),
+        _ => push_right(line, width, Buffer::new().format(number)),
+    }
 }
 
 // Appends a character so many times.

@@ -88,6 +88,7 @@ fn push_index_fault(out: &mut Vec<u8>, fault: IndexFault) -> Result<(), AllocErr
         IndexFault::OutOfBounds { axis, index, size } => push_out_of_bounds(out, axis, index, size),
         IndexFault::TooManyIndices => push_text(out, "TooManyIndices"),
         IndexFault::NotAnIndex => push_text(out, "NotAnIndex"),
+        IndexFault::ZeroStep => push_text(out, "ZeroStep"),
     }
 }
 
@@ -130,6 +131,8 @@ fn push_ufunc_fault(out: &mut Vec<u8>, fault: UfuncFault) -> Result<(), AllocErr
         UfuncFault::ShapeMismatch => push_text(out, "ShapeMismatch"),
         UfuncFault::ReadOnly => push_text(out, "ReadOnly"),
         UfuncFault::NotNumbers => push_text(out, "NotNumbers"),
+        UfuncFault::BoolOp => push_text(out, "BoolOp"),
+        UfuncFault::NegativePower => push_text(out, "NegativePower"),
     }
 }
 
@@ -150,5 +153,6 @@ fn push_statement_error(out: &mut Vec<u8>, error: &StmtError) -> Result<(), Allo
         StmtError::TextTooLong => push_text(out, "TextTooLong"),
         StmtError::BadArgument => push_text(out, "BadArgument"),
         StmtError::BadType => push_text(out, "BadType"),
+        StmtError::RaggedList => push_text(out, "RaggedList"),
     }
 }

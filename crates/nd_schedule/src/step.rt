@@ -16,7 +16,7 @@ use std::alloc::{AllocError, Global};
 use std::rc::Rc;
 
 /// How many cells apart two versions are at least. They share most names and blocks with one another.
-pub(crate) const APART: usize = 32;
+pub(crate) const APART: usize = 256;
 
 /// Keeps the session.
 pub(crate) fn keep<C: Cells>(

@@ -13,6 +13,7 @@ pub mod Limits
 pub mod Fields
 pub mod Offsets
 pub mod RunPlaces
+pub mod RunParts
 pub mod Evened
 pub mod Made
 pub mod Walking

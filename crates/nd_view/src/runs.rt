@@ -1,5 +1,5 @@
 //! Runs: elements one step apart, as axes of a view have them.
-ghost use Rattle.std.specs.Prelude.{◌≡◌, ℕ, pos, ◌≤ℤ◌, ◌<◌, ◌≤◌, ◌^◌, [], ◌∷◌, length, slice_index, MatchOption};
+ghost use Rattle.std.specs.Prelude.{◌≡◌, ℕ, pos, ◌≤ℤ◌, ◌<◌, ◌≤◌, ◌^◌, [], ◌+◌, ◌∷◌, length, take, drop, slice_index, MatchOption};
 ghost use Rattle.std.specs.List.{concat};
 ghost use Rattle.nd_model.specs.Runs.{place_at, spot_at, run_places, in_pieces};
 ghost use Rattle.nd_view.specs.Walks.{IsInner};
@@ -72,6 +72,18 @@ impl Run {
         ensures { result ≡ slice_index self.now number }
     {
         shift_place(self.start, number, self.step)
+    }
+
+    /// Returns the run of so many of the elements, from the one of this number on.
+    pub fn part(&self, first: u64, count: u64) -> Run
+        requires some { 0 < count }
+        requires inside { first + count ≤ length self.now }
+        ensures { result ≡ take count (drop first self.now) }
+    {
+        if count == 1 {
+            return Run::new(self.place(first), 0, count);
+        }
+        Run::new(self.place(first), self.step, count)
     }
 }
 

@@ -1,16 +1,11 @@
-use Rattle.std.proofs.Common.{◌≡◌, ◌+◌, ◌-◌, List, [], ◌∷◌, Ok, length, map, string_bytes, take, drop, subst, sym, ap, ◌∙◌}
+use Rattle.std.proofs.Common.{◌≡◌, ◌+◌, ◌-◌, List, [], ◌∷◌, length, map, string_bytes, take, drop, subst, sym, ap, ◌∙◌}
 use Rattle.nd_eval.specs.declared.operand.Operand.{Operand}
 use Rattle.nd_eval.specs.Contents.{operand_of}
-use Rattle.nd_eval.specs.Lines.{limit_line, all_numbers, line_with, printed_line}
-use Rattle.nd_eval.proofs.Chains.{makes_refused}
+use Rattle.nd_model.specs.Printing.{printed_line}
+use Rattle.nd_eval.specs.Lines.{limit_line, line_with}
 use Rattle.nd_eval.proofs.InTurn.{first_and_rest, next_item}
-use Rattle.nd_eval.proofs.Lines.{GoesOn, no_line, line_begun, line_not_begun, line_not_more, stops_line}
+use Rattle.nd_eval.proofs.Lines.{GoesOn, line_begun, line_not_begun, line_not_more, stops_line}
 use Rattle.nd_eval.proofs.printing.print_line.Goals as goal
-
-pub returns-in_err-check_all_numbers : goal.returns-in_err-check_all_numbers
-returns-in_err-check_all_numbers c =
-    let os = map operand_of c.args.operands.now in
-    makes_refused string_bytes (limit_line (printed_line os)) c.in_err-check_all_numbers.field-0.0 c.from_residual.result c.from_residual.ensures.1 (no_line os _ c.in_err-check_all_numbers.ensures)
 
 pub returns-in_err-push_text : goal.returns-in_err-push_text
 returns-in_err-push_text c =
@@ -18,13 +13,12 @@ returns-in_err-push_text c =
     let x : Operand = c.first-item.result in
     let rest : List Operand = take (length xs - 1) (drop 1 xs) in
     let same : xs ≡ x ∷ rest = first_and_rest xs x c.in-len1-up.len_at_least c.first-item.is in
-    let numbers : all_numbers (map operand_of (x ∷ rest)) ≡ Ok tt = ap (λ l. all_numbers (map operand_of l)) (sym same) ∙ c.in_ok-check_all_numbers.ensures in
     let empty : string_bytes c.new-line.result ≡ [] = c.new-line.ensures.bytes in
     stops_line (λ (u : Unit {0}). string_bytes c.push_text.new.line) string_bytes (line_with (string_bytes c.new-line.result) (operand_of x)) (printed_line (map operand_of xs))
-    c.in_err-push_text.field-0.0 c.from_residual-in_err-push_text.result
+    c.in_err-push_text.field-0.0 c.from_residual.result
     (λ f h. ap (λ l. limit_line (printed_line (map operand_of l))) same
-    ∙ line_not_begun (operand_of x) (map operand_of rest) f numbers (ap (λ l. limit_line (line_with l (operand_of x))) (sym empty) ∙ h))
-    c.from_residual-in_err-push_text.ensures.1 c.in_err-push_text.ensures
+    ∙ line_not_begun (operand_of x) (map operand_of rest) f (ap (λ l. limit_line (line_with l (operand_of x))) (sym empty) ∙ h))
+    c.from_residual.ensures.1 c.in_err-push_text.ensures
 
 pub loop-operand-init : goal.loop-operand-init
 loop-operand-init c =
@@ -32,11 +26,10 @@ loop-operand-init c =
     let x : Operand = c.first-item.result in
     let rest : List Operand = take (length xs - 1) (drop 1 xs) in
     let same : xs ≡ x ∷ rest = first_and_rest xs x c.in-len1-up.len_at_least c.first-item.is in
-    let numbers : all_numbers (map operand_of (x ∷ rest)) ≡ Ok tt = ap (λ l. all_numbers (map operand_of l)) (sym same) ∙ c.in_ok-check_all_numbers.ensures in
     let empty : string_bytes c.new-line.result ≡ [] = c.new-line.ensures.bytes in
     let line : List _ = string_bytes c.push_text.new.line in
     subst (λ (l : List Operand). GoesOn (printed_line (map operand_of l)) line (map operand_of rest)) (sym same)
-    (line_begun (operand_of x) (map operand_of rest) line numbers (ap (λ l. limit_line (line_with l (operand_of x))) (sym empty) ∙ c.in_ok-push_text.ensures))
+    (line_begun (operand_of x) (map operand_of rest) line (ap (λ l. limit_line (line_with l (operand_of x))) (sym empty) ∙ c.in_ok-push_text.ensures))
 
 pub returns-in_err-push_text-2 : goal.returns-in_err-push_text-2
 returns-in_err-push_text-2 c =

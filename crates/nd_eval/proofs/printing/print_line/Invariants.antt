@@ -1,6 +1,6 @@
 use Rattle.std.proofs.Common.{map, string_bytes, drop}
 use Rattle.nd_eval.specs.Contents.{operand_of}
-use Rattle.nd_eval.specs.Lines.{printed_line}
+use Rattle.nd_model.specs.Printing.{printed_line}
 use Rattle.nd_eval.proofs.Lines.{GoesOn}
 use Rattle.nd_eval.proofs.printing.print_line.Given as goal
 

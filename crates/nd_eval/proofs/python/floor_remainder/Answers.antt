@@ -5,7 +5,7 @@ use Rattle.nd_model.specs.Operand.{python_int}
 use Rattle.nd_model.specs.Operators.{is_below}
 use Rattle.nd_eval.specs.Contents.{number_made}
 use Rattle.nd_eval.specs.Ends.{Says}
-use Rattle.nd_eval.proofs.WholeNumbers.{remainder_below, remainder_whole}
+use Rattle.nd_ufunc.proofs.WholeNumbers.{remainder_below, remainder_whole}
 use Rattle.nd_eval.proofs.python.floor_remainder.Goals as goal
 
 pub returns-then-is_below : goal.returns-then-is_below

@@ -1,6 +1,7 @@
 use Rattle.std.proofs.Common.{arith}
 use Rattle.std.proofs.lemmas.Nat.{pow_below}
-use Rattle.nd_eval.proofs.WholeNumbers.{far_shift, not_zero}
+use Rattle.nd_eval.proofs.WholeNumbers.{far_shift}
+use Rattle.nd_ufunc.proofs.WholeNumbers.{not_zero}
 use Rattle.nd_eval.proofs.python.left_shift.Goals as goal
 
 pub returns-then-count-gt126 : goal.returns-then-count-gt126

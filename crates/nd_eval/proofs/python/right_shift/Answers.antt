@@ -5,7 +5,7 @@ use Rattle.nd_eval.specs.Contents.{number_made}
 use Rattle.nd_eval.specs.Ends.{Says}
 use Rattle.std.proofs.lemmas.Nat.{pow_below}
 use Rattle.nd_model.specs.Operators.{is_negative}
-use Rattle.nd_eval.proofs.WholeNumbers.{out_above, out_below}
+use Rattle.nd_ufunc.proofs.WholeNumbers.{out_above, out_below}
 use Rattle.nd_eval.proofs.python.right_shift.Goals as goal
 
 pub pow-requires : goal.pow-requires

@@ -1,12 +1,19 @@
-use Rattle.std.proofs.Common.{◌≡◌, ◌+◌, ◌-◌, ◌*◌, ◌++◌, length, drop, string_bytes}
-use Rattle.nd_types.specs.Kinds.{kind_of}
+use Rattle.std.proofs.Common.{◌≡◌, ◌+◌, ◌-◌, ◌*◌, ◌≤◌, ◌++◌, length, drop, string_bytes}
+use Rattle.std.specs.List.{All, concat}
+use Rattle.nd_model.specs.Runs.{last_length}
+use Rattle.nd_model.specs.Tuple.{elements_of}
+use Rattle.nd_print.specs.Texts.{text_at}
 use Rattle.nd_print.proofs.Nested.{further}
 use Rattle.nd_print.proofs.arrays.+push_nested.Given as goal
 
 abbrev pub decreases-push_nested : goal.decreases-push_nested
 decreases-push_nested l = length l.shape.now
 
-abbrev pub invariant-loop-i : goal.invariant-loop-i
-invariant-loop-i l =
-    string_bytes l.text ++ further (kind_of l.kind) l.width (l.depth + 1) l.below (l.count - l.i) l.each (drop (l.i * l.each) l.values)
-    ≡ string_bytes l.initial.text ++ further (kind_of l.kind) l.width (l.depth + 1) l.below (l.count - 1) l.each (drop (1 * l.each) l.values)
+abbrev pub invariant-loop : goal.invariant-loop
+invariant-loop l = record {
+  text : string_bytes l.line ++ further (text_at l.layout.is_structure l.layout.columns.items l.bytes) (l.depth + 1) l.below (l.end - l.counter) (concat l.rows)
+      ≡ string_bytes l.initial.line ++ further (text_at l.layout.is_structure l.layout.columns.items l.bytes) (l.depth + 1) l.below (l.end - 1) (concat l.initial.rows);
+  rest : drop ((l.end - l.counter) * elements_of l.below) (concat l.rows) ≡ drop ((l.end - 1) * elements_of l.below) (concat l.initial.rows);
+  rows : All (λ row. length row ≡ last_length l.shape) l.rows;
+  whole : (l.end - l.counter) * elements_of l.below ≤ length (concat l.rows);
+}

@@ -1,40 +1,42 @@
-use Rattle.std.proofs.Common.{rules, ◌≡◌, ◌+◌, List, ◌∷◌, length, refl, map, option_map, take, drop, ap, sym, ◌∙◌, arith}
+use Rattle.std.proofs.Common.{rules, ◌≡◌, ◌+◌, List, [], ◌∷◌, length, refl, map, option_map, take, drop, ap, sym, ◌∙◌, arith}
 use Rattle.std.proofs.lemmas.Bool.{eqb-false}
 use Rattle.std.proofs.lemmas.List.{drop_all}
-use Rattle.nd_model.specs.Evaluation.{run, ◌>>=◌, decide}
+use Rattle.nd_model.specs.Evaluation.{Gives, run, ◌>>=◌, decide}
 use Rattle.nd_model.specs.Meaning as meaning
 use Rattle.nd_model.specs.Cells.{chained}
+use Rattle.nd_model.specs.Operators.{binary}
 use Rattle.nd_model.specs.Creation.{arange}
+use Rattle.nd_model.specs.Meaning.{is_given}
+use Rattle.nd_eval.proofs.Ranging.{range_first, range_is, range_parts}
 use Rattle.nd_model.specs.Operation.{give}
 use Rattle.nd_model.specs.Tokens.{tokens_of, tokens_of_call}
 use Rattle.nd_syntax.specs.Lists.{operation_of}
-use Rattle.nd_syntax.specs.Syntax.{expr_of, call_of, suffix_of, index_of}
+use Rattle.nd_syntax.specs.Syntax.{bound_of, expr_of, call_of, suffix_of, index_of}
 use Rattle.nd_syntax.specs.declared.tree.Suffix.{Suffix}
 use Rattle.nd_heap.specs.Values.{value_of}
 use Rattle.nd_session.specs.Values.{inputs_of}
 use Rattle.nd_session.specs.Live.{live}
-use Rattle.nd_eval.proofs.Bounds.{next_value, next_values, next_at_index}
+use Rattle.nd_eval.proofs.Bounds.{next_bound, next_value, next_values, next_at_index}
 use Rattle.nd_eval.proofs.Calls.{filled_first, filled_parts, full_first, full_follows}
 use Rattle.nd_syntax.specs.Calls.{dtype_of, fill_of}
 use Rattle.nd_model.specs.Creation.{filled, full_of}
-use Rattle.nd_eval.specs.Contents.{operand_of, unused_of, values_of}
-use Rattle.nd_eval.specs.Parts.{item_value, element_value, binary_value, values_then, values}
+use Rattle.nd_eval.specs.Contents.{operand_of, option_values, unused_of, values_of}
+use Rattle.nd_eval.specs.Parts.{bound_exprs, item_value, element_value, binary_value, values_then, values}
 use Rattle.nd_model.specs.Value as model
 use Rattle.nd_syntax.specs.declared.tree.Expr.{Expr}
-use Rattle.nd_eval.specs.New.{made_of_one}
+use Rattle.nd_eval.specs.New.{bounds_of, made_of_one}
 use Rattle.nd_eval.proofs.Creating.{exits_new, follows_new}
 use Rattle.nd_eval.proofs.Chains.{exits, follows, goes, ends_as, ends_alike}
 use Rattle.nd_model.specs.Syntax.{Called}
 use Rattle.nd_syntax.proofs.Nodes.{filled_is, full_is}
 use Rattle.nd_eval.proofs.Operating.{chain_step, chain_rest, exits_chain, exits_later, fewer_tokens}
 use Rattle.nd_eval.proofs.Turns.{stays_on}
-use Rattle.nd_eval.proofs.Parts.{arange_parts}
 use Rattle.nd_model.specs.Running.{Running}
 use Rattle.nd_eval.specs.Uses.{marked, all_marked}
 use Rattle.nd_eval.proofs.Uses.{kept_bytes, kept_next, follows_use, all_marked_bytes, all_marked_next}
 use Rattle.nd_eval.proofs.Held.{held_after, held_marked, held_past, sound_after, value_held, item_held}
 use Rattle.nd_eval.proofs.InTurn.{next_item, onto, onto_more, pushed}
-use Rattle.nd_eval.proofs.Indexing.{chain, next_index, run_postfix, tokens_of_postfix, nodes_of_postfix, nodes_of_filled, nodes_of_full, range_only, shape_tokens, items_in_index, nodes_of_its_items, more_refused, is_chain, nodes_of_chain}
+use Rattle.nd_eval.proofs.Indexing.{chain, next_index, run_postfix, tokens_of_postfix, nodes_of_postfix, nodes_of_filled, nodes_of_full, shape_tokens, items_in_index, nodes_of_its_items, more_refused, is_chain, nodes_of_chain}
 use Rattle.nd_eval.proofs.evaluator.Evaluator.+value.Goals as goal
 
 pub value-value_of_one-requires : goal.value-value_of_one-requires
@@ -201,21 +203,6 @@ call_value-full_value-requires t c =
     let below = c.decreases in
     rw c.deref-in-Full.ensures.value (omega arith, omega arith)
 
-pub call_value-range_value-requires : goal.call_value-range_value-requires
-call_value-range_value-requires t c =
-    let a = c.in-Arange in
-    let alone = range_only c.args.call.now a.start a.end a.step a.dtype a.is
-    (sym c.is_some.ensures ∙ c.if-is_some.false) (sym c.is_some-else-is_some.ensures ∙ c.if-is_some-2.false) (sym c.is_some-else-is_some-2.ensures ∙ c.if-is_some-3.false) in
-    let room = rw alone at c.requires in
-    let below = rw a.is at c.decreases in
-    (omega arith, omega arith)
-
-pub call_value-returns-else-is_some-3 : goal.call_value-returns-else-is_some-3
-call_value-returns-else-is_some-3 t c =
-    let a = c.in-Arange in
-    rw (range_only c.args.call.now a.start a.end a.step a.dtype a.is
-    (sym c.is_some.ensures ∙ c.if-is_some.false) (sym c.is_some-else-is_some.ensures ∙ c.if-is_some-2.false) (sym c.is_some-else-is_some-2.ensures ∙ c.if-is_some-3.false)) c.range_value.ensures
-
 pub call_value-returns-in-Filled : goal.call_value-returns-in-Filled
 call_value-returns-in-Filled t c =
     let a = c.in-Filled in
@@ -245,35 +232,125 @@ array_value-returns-in-Single t c = rw c.in-Single.is c.value_of_one.ensures
 pub call_value-returns-in-Convert : goal.call_value-returns-in-Convert
 call_value-returns-in-Convert t c = rw c.in-Convert.is c.value_of_one.ensures
 
-pub range_value-returns-in_err-end : goal.range_value-returns-in_err-end
-range_value-returns-in_err-end t c = (
-  exits value_of value_of (inputs_of c.args.self.now.inputs.now.entries) (meaning.value (expr_of c.args.end.now)) _ _ _ _ _
-      c.from_residual.ensures.1 c.in_err-end.ensures.0,
-  c.in_err-end.ensures.1,
+pub call_value-returns-in-Minimum : goal.call_value-returns-in-Minimum
+call_value-returns-in-Minimum t c = rw c.in-Minimum.is c.value_of_two.ensures
+
+pub call_value-returns-in-Maximum : goal.call_value-returns-in-Maximum
+call_value-returns-in-Maximum t c = rw c.in-Maximum.is c.value_of_two-in-Maximum.ensures
+
+pub call_value-returns-in-Arange : goal.call_value-returns-in-Arange
+call_value-returns-in-Arange t c =
+    let a = c.in-Arange in
+    let i = inputs_of c.args.self.now.inputs.now.entries in
+    let r = live c.args.self.now.session.now in
+    let same = ap (λ x. run i (meaning.value (Called x)) r) (ap call_of a.is ∙ range_is a.start a.stop a.step a.dtype) in (
+      ends_alike value_of _ _ (same ∙ range_first i (bound_of a.start) (expr_of a.stop) (bound_of a.step) (option_map dtype_of a.dtype) r) c.range_value.ensures.0,
+      c.range_value.ensures.1,
+    )
+
+pub bound_value-returns-in_err-value-in-Some-clause-value : goal.bound_value-returns-in_err-value-in-Some-clause-value
+bound_value-returns-in_err-value-in-Some-clause-value t c =
+    let e = expr_of c.in-Some.expr in (
+      rw c.in-Some.is (exits value_of option_values (inputs_of c.args.self.now.inputs.now.entries) (meaning.value e) (λ v. Gives (v ∷ [])) _ _ _ _
+          c.from_residual.ensures.1 c.in_err-value-in-Some.ensures.0),
+      c.in_err-value-in-Some.ensures.1,
+    )
+
+pub bound_value-returns-in_ok-value-in-Some-clause-value : goal.bound_value-returns-in_ok-value-in-Some-clause-value
+bound_value-returns-in_ok-value-in-Some-clause-value t c =
+    let e = expr_of c.in-Some.expr in (
+      rw c.in-Some.is (goes value_of (inputs_of c.args.self.now.inputs.now.entries) (meaning.value e) (λ v. Gives (v ∷ [])) _ _
+          c.in_ok-value-in-Some.field-0 c.in_ok-value-in-Some.ensures.0),
+      c.in_ok-value-in-Some.ensures.1,
+    )
+
+pub range_value-returns-in_err-start : goal.range_value-returns-in_err-start
+range_value-returns-in_err-start t c = (
+  exits option_values value_of (inputs_of c.args.self.now.inputs.now.entries) (values (bound_exprs (bound_of c.args.start.now))) _ _ _ _ _
+      c.from_residual.ensures.1 c.in_err-start.ensures.value.0,
+  c.in_err-start.ensures.value.1,
 )
+
+pub range_value-value-requires : goal.range_value-value-requires
+range_value-value-requires t c =
+    let below = c.decreases in
+    let room = c.requires in
+    let made = next_bound (inputs_of c.args.self.now.inputs.now.entries) (bound_of c.args.start.now) _ _ _ c.in_ok-start.ensures.value.0 in
+    (omega arith, omega arith)
+
+pub range_value-returns-in_err-stop : goal.range_value-returns-in_err-stop
+range_value-returns-in_err-stop t c =
+    let i = inputs_of c.args.self.now.inputs.now.entries in (
+      follows option_values value_of i (values (bound_exprs (bound_of c.args.start.now))) _ _ _ _ c.in_ok-start.start _ c.in_ok-start.ensures.value.0
+          (exits value_of value_of i (meaning.value (expr_of c.args.stop.now)) _ _ _ _ _ c.from_residual-in_err-stop.ensures.1 (rw c.in_ok-start.ensures.value.1.1 at c.in_err-stop.ensures.0)),
+      stays_on c.in_ok-start.ensures.value.1 c.in_err-stop.ensures.1,
+    )
+
+pub range_value-bound_value-requires-2 : goal.range_value-bound_value-requires-2
+range_value-bound_value-requires-2 t c =
+    let i = inputs_of c.args.self.now.inputs.now.entries in
+    let below = c.decreases in
+    let room = c.requires in
+    let first = next_bound i (bound_of c.args.start.now) _ _ _ c.in_ok-start.ensures.value.0 in
+    let second = next_value i (expr_of c.args.stop.now) _ _ _ (rw c.in_ok-start.ensures.value.1.1 at c.in_ok-stop.ensures.0) in
+    (omega arith, omega arith)
+
+pub range_value-returns-in_err-step : goal.range_value-returns-in_err-step
+range_value-returns-in_err-step t c =
+    let i = inputs_of c.args.self.now.inputs.now.entries in
+    let stays = stays_on c.in_ok-start.ensures.value.1 c.in_ok-stop.ensures.1 in (
+      follows option_values value_of i (values (bound_exprs (bound_of c.args.start.now))) _ _ _ _ c.in_ok-start.start _ c.in_ok-start.ensures.value.0
+          (follows value_of value_of i (meaning.value (expr_of c.args.stop.now)) _ _ _ _ c.in_ok-stop.stop _ (rw c.in_ok-start.ensures.value.1.1 at c.in_ok-stop.ensures.0)
+          (exits option_values value_of i (values (bound_exprs (bound_of c.args.step.now))) _ _ _ _ _ c.from_residual-in_err-step.ensures.1 (rw stays.1 at c.in_err-step.ensures.value.0))),
+      stays_on stays c.in_err-step.ensures.value.1,
+    )
 
 pub range_value-returns-in_err-new : goal.range_value-returns-in_err-new
 range_value-returns-in_err-new t c =
     let i = inputs_of c.args.self.now.inputs.now.entries in
-    let v = c.in_ok-end.end in (
-      follows value_of value_of i (meaning.value (expr_of c.args.end.now)) _ _ _ _ v _ c.in_ok-end.ensures.0
-          (ends_as value_of i _ _ _ (arange_parts v) (exits_new i (arange (unused_of v)) _ _ _ c.from_residual-in_err-new.ensures.1 c.in_err-new.ensures)),
-      c.in_ok-end.ensures.1,
+    let p = is_given (bound_of c.args.start.now) in
+    let q = is_given (bound_of c.args.step.now) in
+    let d = option_map dtype_of c.args.dtype.now in
+    let xs = c.in_ok-start.start in
+    let v = c.in_ok-stop.stop in
+    let ys = c.in_ok-step.step in
+    let stays = stays_on c.in_ok-start.ensures.value.1 c.in_ok-stop.ensures.1 in
+    let made = rw (c.in_ok-start.ensures.given, c.in_ok-step.ensures.given) at c.in_err-new.ensures in (
+      follows option_values value_of i (values (bound_exprs (bound_of c.args.start.now))) _ _ _ _ xs _ c.in_ok-start.ensures.value.0
+          (follows value_of value_of i (meaning.value (expr_of c.args.stop.now)) _ _ _ _ v _ (rw c.in_ok-start.ensures.value.1.1 at c.in_ok-stop.ensures.0)
+          (follows option_values value_of i (values (bound_exprs (bound_of c.args.step.now))) _ _ _ _ ys _ (rw stays.1 at c.in_ok-step.ensures.value.0)
+          (ends_as value_of i _ _ _ (range_parts p q d xs v ys) (exits_new i (arange p q d (bounds_of xs v ys)) _ _ _ c.from_residual-in_err-new.ensures.1 made)))),
+      stays_on stays c.in_ok-step.ensures.value.1,
     )
 
 pub range_value-give-requires : goal.range_value-give-requires
 range_value-give-requires t c =
-    let made = next_value (inputs_of c.args.self.now.inputs.now.entries) (expr_of c.args.end.now) _ _ _ c.in_ok-end.ensures.0 in
+    let i = inputs_of c.args.self.now.inputs.now.entries in
+    let room = c.requires in
+    let stays = stays_on c.in_ok-start.ensures.value.1 c.in_ok-stop.ensures.1 in
+    let first = next_bound i (bound_of c.args.start.now) _ _ _ c.in_ok-start.ensures.value.0 in
+    let second = next_value i (expr_of c.args.stop.now) _ _ _ (rw c.in_ok-start.ensures.value.1.1 at c.in_ok-stop.ensures.0) in
+    let third = next_bound i (bound_of c.args.step.now) _ _ _ (rw stays.1 at c.in_ok-step.ensures.value.0) in
     omega arith
 
 pub range_value-returns : goal.range_value-returns
 range_value-returns t c =
     let i = inputs_of c.args.self.now.inputs.now.entries in
-    let v = c.in_ok-end.end in (
-      follows value_of value_of i (meaning.value (expr_of c.args.end.now)) _ _ _ _ v _ c.in_ok-end.ensures.0
-          (ends_as value_of i _ _ _ (arange_parts v)
-          (follows_new i (arange (unused_of v)) _ _ c.in_ok-new.new _ c.in_ok-new.ensures (rw c.in_ok-end.ensures.1.1 at c.give.ensures.0))),
-      stays_on c.in_ok-end.ensures.1 c.give.ensures.1,
+    let p = is_given (bound_of c.args.start.now) in
+    let q = is_given (bound_of c.args.step.now) in
+    let d = option_map dtype_of c.args.dtype.now in
+    let xs = c.in_ok-start.start in
+    let v = c.in_ok-stop.stop in
+    let ys = c.in_ok-step.step in
+    let before = stays_on c.in_ok-start.ensures.value.1 c.in_ok-stop.ensures.1 in
+    let stays = stays_on before c.in_ok-step.ensures.value.1 in
+    let made = rw (c.in_ok-start.ensures.given, c.in_ok-step.ensures.given) at c.in_ok-new.ensures in (
+      follows option_values value_of i (values (bound_exprs (bound_of c.args.start.now))) _ _ _ _ xs _ c.in_ok-start.ensures.value.0
+          (follows value_of value_of i (meaning.value (expr_of c.args.stop.now)) _ _ _ _ v _ (rw c.in_ok-start.ensures.value.1.1 at c.in_ok-stop.ensures.0)
+          (follows option_values value_of i (values (bound_exprs (bound_of c.args.step.now))) _ _ _ _ ys _ (rw before.1 at c.in_ok-step.ensures.value.0)
+          (ends_as value_of i _ _ _ (range_parts p q d xs v ys)
+          (follows_new i (arange p q d (bounds_of xs v ys)) _ _ c.in_ok-new.new _ made (rw stays.1 at c.give.ensures.0))))),
+      stays_on stays c.give.ensures.1,
     )
 
 pub filled_value-values-requires : goal.filled_value-values-requires
@@ -502,6 +579,29 @@ binary_value-returns t c = (
   stays_on c.in_ok-right.ensures.1 c.operate.ensures.1,
 )
 
+pub value_of_two-returns-in_err-left : goal.value_of_two-returns-in_err-left
+value_of_two-returns-in_err-left t c = (
+  exits value_of value_of (inputs_of c.args.self.now.inputs.now.entries) (meaning.value (expr_of c.args.left.now)) _ _ _ _ _
+      c.from_residual.ensures.1 c.in_err-left.ensures.0,
+  c.in_err-left.ensures.1,
+)
+
+pub value_of_two-binary_value-requires : goal.value_of_two-binary_value-requires
+value_of_two-binary_value-requires t c =
+    let i = inputs_of c.args.self.now.inputs.now.entries in
+    let e = expr_of c.args.left.now in
+    let below = c.decreases in
+    let room = c.requires in
+    let made = next_value i e _ _ _ c.in_ok-left.ensures.0 in
+    (omega arith, (value_held i e _ _ c.in_ok-left.left c.in_ok-left.ensures.0 c.soundness.ensures, omega arith))
+
+pub value_of_two-returns : goal.value_of_two-returns
+value_of_two-returns t c = (
+  follows value_of value_of (inputs_of c.args.self.now.inputs.now.entries) (meaning.value (expr_of c.args.left.now)) _ _ _ _
+      c.in_ok-left.left _ c.in_ok-left.ensures.0 (rw c.in_ok-left.ensures.1.1 at c.binary_value.ensures.0),
+  stays_on c.in_ok-left.ensures.1 c.binary_value.ensures.1,
+)
+
 pub chain_value-value-requires : goal.chain_value-value-requires
 chain_value-value-requires t c =
     let few = fewer_tokens (expr_of c.args.operand.now) (map operation_of c.args.others.now) in
@@ -556,7 +656,7 @@ chain_value-loop-other-preserved t c =
     let left = rw next at c.loop-other.invariant.below in
     record {
       same = ap (λ f. run i (meaning.value f) (live c.args.self.now.session.now)) (chain_step ops k x c.loop-other-test.true c.other-item.is e)
-          ∙ goes value_of i (meaning.value so_far) (λ v. binary_value (operation_of x).0 v (operation_of x).1) _ _ c.loop-other.found c.loop-other.invariant.same
+          ∙ goes value_of i (meaning.value so_far) (λ v. binary_value (binary (operation_of x).0) v (operation_of x).1) _ _ c.loop-other.found c.loop-other.invariant.same
           ∙ rw c.loop-other.invariant.stays.1 at c.in_ok-found-2.ensures.0;
       stays = stays_on c.loop-other.invariant.stays c.in_ok-found-2.ensures.1;
       below = omega arith;

@@ -11,7 +11,7 @@ use Rattle.nd_session.specs.Live.{live}
 use Rattle.nd_eval.specs.Ends.{Stays}
 use Rattle.nd_eval.specs.Parts.{values, values_then}
 use Rattle.nd_eval.proofs.InTurn.{onto}
-use Rattle.nd_eval.proofs.Indexing.{chain, chain_tokens, nodes, nodes_of_call, nodes_of_element, nodes_of_exprs, nodes_of_index, nodes_of_items, nodes_of_item, nodes_of_all, nodes_of_operations}
+use Rattle.nd_eval.proofs.Indexing.{chain, chain_tokens, nodes, nodes_of_bound, nodes_of_call, nodes_of_element, nodes_of_exprs, nodes_of_index, nodes_of_items, nodes_of_item, nodes_of_all, nodes_of_operations}
 use Rattle.nd_eval.proofs.evaluator.Evaluator.+value.Given as goal
 
 abbrev pub decreases-value : goal.decreases-value
@@ -20,8 +20,14 @@ decreases-value l = nodes l.expr.now
 abbrev pub decreases-value_of_one : goal.decreases-value_of_one
 decreases-value_of_one l = 1 + nodes l.operand.now
 
+abbrev pub decreases-value_of_two : goal.decreases-value_of_two
+decreases-value_of_two l = 2 + nodes l.left.now + nodes l.right.now
+
+abbrev pub decreases-bound_value : goal.decreases-bound_value
+decreases-bound_value l = nodes_of_bound l.bound.now
+
 abbrev pub decreases-range_value : goal.decreases-range_value
-decreases-range_value l = 1 + nodes l.end.now
+decreases-range_value l = 1 + nodes_of_bound l.start.now + nodes l.stop.now + nodes_of_bound l.step.now
 
 abbrev pub decreases-filled_value : goal.decreases-filled_value
 decreases-filled_value l = 2 + nodes_of_exprs l.shape.now

@@ -1,14 +1,13 @@
 use Rattle.std.proofs.Common.{◌∙◌, Ok, refl}
 use Rattle.nd_model.specs.Evaluation.{◌>>=◌, decide}
 use Rattle.nd_model.specs.Operand.{Whole}
-use Rattle.nd_model.specs.Operators.{binary}
 use Rattle.nd_model.specs.Operation.{give, use_operand}
-use Rattle.nd_syntax.specs.Syntax.{binary_op}
 use Rattle.nd_heap.specs.Values.{value_of}
 use Rattle.nd_heap.specs.declared.value.Value.TheVariants.{Number}
 use Rattle.nd_session.specs.Values.{inputs_of}
 use Rattle.nd_session.specs.Live.{live}
 use Rattle.nd_eval.specs.Contents.{number_made, operand_of}
+use Rattle.nd_eval.specs.OfTwo.{made_of_two}
 use Rattle.nd_eval.proofs.Chains.{exits_saying, follows_saying}
 use Rattle.nd_eval.proofs.Creating.{given_number}
 use Rattle.nd_eval.proofs.Uses.{kept_bytes, follows_use}
@@ -32,13 +31,13 @@ returns-in_err-number c =
     let i = inputs_of c.args.self.now.inputs.now.entries in
     let v = c.args.left.now in
     let w = c.args.right.now in
-    let op = binary_op c.args.op in
+    let f = made_of_two c.args.call in
     let o = operand_of c.operand_in-left.result in
     let once = kept_bytes v _ _ c.in_ok-mark_operand.ensures in
     let again = kept_bytes w _ _ c.in_ok-mark_operand-2.ensures in (
-      follows_use value_of i v (λ o. use_operand Whole (value_of w) >>= λ p. decide (binary op o p) >>= give) _ _ _ _ c.operand_in-left.result _ c.in_ok-mark_operand.ensures (again ∙ once) c.operand_in-left.ensures
-          (follows_use value_of i w (λ p. decide (binary op o p) >>= give) _ _ _ _ c.operand_in-right.result _ c.in_ok-mark_operand-2.ensures again c.operand_in-right.ensures
-          (exits_saying number_made value_of i (binary op o (operand_of c.operand_in-right.result)) give _ _ _ c.from_residual-in_err-number.ensures.1 c.in_err-number.ensures)),
+      follows_use value_of i v (λ o. use_operand Whole (value_of w) >>= λ p. decide (f o p) >>= give) _ _ _ _ c.operand_in-left.result _ c.in_ok-mark_operand.ensures (again ∙ once) c.operand_in-left.ensures
+          (follows_use value_of i w (λ p. decide (f o p) >>= give) _ _ _ _ c.operand_in-right.result _ c.in_ok-mark_operand-2.ensures again c.operand_in-right.ensures
+          (exits_saying number_made value_of i (f o (operand_of c.operand_in-right.result)) give _ _ _ c.from_residual-in_err-number.ensures.1 c.in_err-number.ensures)),
       (refl, refl),
     )
 
@@ -47,14 +46,14 @@ returns c =
     let i = inputs_of c.args.self.now.inputs.now.entries in
     let v = c.args.left.now in
     let w = c.args.right.now in
-    let op = binary_op c.args.op in
+    let f = made_of_two c.args.call in
     let o = operand_of c.operand_in-left.result in
     let last = live c.mark_operand-2.new.session in
     let n = c.in_ok-number.number in
     let once = kept_bytes v _ _ c.in_ok-mark_operand.ensures in
     let again = kept_bytes w _ _ c.in_ok-mark_operand-2.ensures in (
-      follows_use value_of i v (λ o. use_operand Whole (value_of w) >>= λ p. decide (binary op o p) >>= give) _ _ last _ c.operand_in-left.result (Ok (Number n)) c.in_ok-mark_operand.ensures (again ∙ once) c.operand_in-left.ensures
-          (follows_use value_of i w (λ p. decide (binary op o p) >>= give) _ _ last _ c.operand_in-right.result (Ok (Number n)) c.in_ok-mark_operand-2.ensures again c.operand_in-right.ensures
-          (follows_saying number_made value_of i (binary op o (operand_of c.operand_in-right.result)) give last last n (Ok (Number n)) c.in_ok-number.ensures (given_number i n last))),
+      follows_use value_of i v (λ o. use_operand Whole (value_of w) >>= λ p. decide (f o p) >>= give) _ _ last _ c.operand_in-left.result (Ok (Number n)) c.in_ok-mark_operand.ensures (again ∙ once) c.operand_in-left.ensures
+          (follows_use value_of i w (λ p. decide (f o p) >>= give) _ _ last _ c.operand_in-right.result (Ok (Number n)) c.in_ok-mark_operand-2.ensures again c.operand_in-right.ensures
+          (follows_saying number_made value_of i (f o (operand_of c.operand_in-right.result)) give last last n (Ok (Number n)) c.in_ok-number.ensures (given_number i n last))),
       (refl, refl),
     )

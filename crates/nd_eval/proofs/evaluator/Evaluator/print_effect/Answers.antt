@@ -2,12 +2,12 @@ use Rattle.std.proofs.Common.{◌≡◌, ap, ◌∙◌, map, string_bytes, Strin
 use Rattle.nd_model.specs.Running.{Prints}
 use Rattle.nd_model.specs.Evaluation.{Gives}
 use Rattle.nd_model.specs.Operation.{act_on}
-use Rattle.nd_model.specs.Printing.{print_deed}
+use Rattle.nd_model.specs.Printing.{print_deed, printed_line}
 use Rattle.nd_syntax.specs.Syntax.{expr_of}
 use Rattle.nd_session.specs.Values.{inputs_of}
 use Rattle.nd_session.specs.Live.{live}
 use Rattle.nd_eval.specs.Contents.{effect_of, values_of, operand_of}
-use Rattle.nd_eval.specs.Lines.{limit_line, printed_line}
+use Rattle.nd_eval.specs.Lines.{limit_line}
 use Rattle.nd_eval.specs.Parts.{values}
 use Rattle.nd_eval.specs.Uses.{AreHeld, all_marked, operands_over}
 use Rattle.nd_eval.proofs.Chains.{exits, ends_alike, exits_making, goes_making}

@@ -1,0 +1,4 @@
+pub mod Alike
+pub mod InOrder
+pub mod Pieces
+pub mod Written

@@ -1,0 +1,3 @@
+pub mod Modulo
+pub mod Squares
+pub mod WholeNumbers

@@ -1,0 +1,209 @@
+//! What each function gives: its value as a whole number, wrapped to a kind.
+
+ghost use Rattle.std.specs.Prelude.{◌≡◌, ◌≢◌, ◌+ℤ◌, ◌-ℤ◌, ◌*ℤ◌, ◌<◌, ℤ, pos, neg_ℤ, FitsSigned, true, unsigned_abs};
+ghost use Rattle.std.specs.Int.{int_pow, int_wrap, w128};
+ghost use Rattle.std.specs.Option.{SomeIff};
+ghost use Rattle.nd_model.specs.Element.{wrap};
+ghost use Rattle.nd_model.specs.Operators as operators;
+ghost use Rattle.nd_types.specs.Kinds.{kind_of};
+ghost use Rattle.nd_ufunc.specs.Ufuncs.{single_of, ufunc_of};
+ghost use Rattle.nd_model.specs.Syntax.{LeftShift, RightShift};
+ghost use Rattle.nd_syntax.specs.Syntax.{binary_op};
+
+use crate::integers::{
+    is_below, is_negative, is_zero, wrapping_difference, wrapping_product, wrapping_sum,
+};
+use crate::powers::{exact_power, wrapping_power};
+use crate::ufunc::{BinaryUfunc, Single};
+use nd_syntax::{BinaryOp, UnaryOp};
+use nd_types::{Kind, wrap};
+
+/// A whole number, wrapped. Where 128 bits don't hold it, for which none stands, its lowest 128 bits are enough: only a Boolean is
+/// not told by them.
+fn wrap_exact(kind: Kind, exact: Option<i128>, lowest_bits: i128) -> i128
+    ensures { (z : ℤ) → SomeIff exact (FitsSigned w128 z) z
+        → int_wrap w128 lowest_bits ≡ int_wrap w128 z → result ≡ wrap (kind_of kind) z }
+{
+    match exact {
+        Some(number) => wrap(kind, number),
+        None => match kind {
+            Kind::Bool => 1,
+            _ => wrap(kind, lowest_bits),
+        },
+    }
+}
+
+/// A sum.
+fn sum(kind: Kind, left: i128, right: i128) -> i128
+    ensures { result ≡ wrap (kind_of kind) (left +ℤ right) }
+{
+    wrap_exact(kind, left.checked_add(right), wrapping_sum(left, right))
+}
+
+/// A difference.
+fn difference(kind: Kind, left: i128, right: i128) -> i128
+    ensures { result ≡ wrap (kind_of kind) (left -ℤ right) }
+{
+    wrap_exact(
+        kind,
+        left.checked_sub(right),
+        wrapping_difference(left, right),
+    )
+}
+
+/// A product.
+fn product(kind: Kind, left: i128, right: i128) -> i128
+    ensures { result ≡ wrap (kind_of kind) (left *ℤ right) }
+{
+    wrap_exact(kind, left.checked_mul(right), wrapping_product(left, right))
+}
+
+/// The number with the other sign.
+fn negation(kind: Kind, number: i128) -> i128
+    ensures { result ≡ wrap (kind_of kind) (neg_ℤ number) }
+{
+    wrap_exact(kind, number.checked_neg(), wrapping_difference(0, number))
+}
+
+/// The quotient, rounded down.
+fn floor_quotient(kind: Kind, number: i128, divisor: i128) -> i128
+    requires { divisor ≢ pos 0 }
+    ensures { result ≡ wrap (kind_of kind) (operators.floor_quotient number divisor) }
+{
+    if divisor == -1 {
+        return negation(kind, number);
+    }
+    let quotient = number.div_euclid(divisor);
+    if is_below(number, divisor) {
+        return difference(kind, quotient, 1);
+    }
+    wrap(kind, quotient)
+}
+
+/// What is left, with the sign of the divisor.
+fn floor_remainder(kind: Kind, number: i128, divisor: i128) -> i128
+    requires { divisor ≢ pos 0 }
+    ensures { result ≡ wrap (kind_of kind) (operators.floor_remainder number divisor) }
+{
+    if divisor == -1 {
+        return wrap(kind, 0);
+    }
+    let rest = number.rem_euclid(divisor);
+    if is_below(number, divisor) {
+        return sum(kind, rest, divisor);
+    }
+    wrap(kind, rest)
+}
+
+/// Whether a shift by so many bits leaves some of a kind's.
+fn leaves_bits(kind: Kind, count: i128) -> bool
+    ensures value { result ≡ operators.leaves_bits (kind_of kind) count }
+    ensures few { result ≡ true → unsigned_abs count < 64 }
+{
+    if is_negative(count) {
+        return false;
+    }
+    count.unsigned_abs() < u128::from(8 * kind.size())
+}
+
+/// The number with so many bits behind it.
+fn left_shift(kind: Kind, number: i128, count: i128) -> i128
+    ensures { result ≡ wrap (kind_of kind)
+        (operators.exact (kind_of kind) (operators.Operator LeftShift) number count) }
+{
+    if !leaves_bits(kind, count) {
+        return wrap(kind, 0);
+    }
+    product(kind, number, 2i128.pow(count.unsigned_abs() as u32))
+}
+
+/// The number without so many bits, rounded down.
+fn right_shift(kind: Kind, number: i128, count: i128) -> i128
+    ensures { result ≡ wrap (kind_of kind)
+        (operators.exact (kind_of kind) (operators.Operator RightShift) number count) }
+{
+    if leaves_bits(kind, count) {
+        return floor_quotient(kind, number, 2i128.pow(count.unsigned_abs() as u32));
+    }
+    if is_negative(number) {
+        return wrap(kind, -1);
+    }
+    wrap(kind, 0)
+}
+
+/// The power. An exponent below zero is refused before.
+fn power(kind: Kind, base: i128, exponent: i128) -> i128
+    ensures { result ≡ wrap (kind_of kind) (int_pow base (unsigned_abs exponent)) }
+{
+    let exponent = exponent.unsigned_abs();
+    wrap_exact(
+        kind,
+        exact_power(base, exponent),
+        wrapping_power(base, exponent),
+    )
+}
+
+/// What an operator gives.
+fn apply_operator(kind: Kind, op: BinaryOp, left: i128, right: i128) -> i128
+    ensures { result ≡ wrap (kind_of kind)
+        (operators.exact (kind_of kind) (operators.Operator (binary_op op)) left right) }
+{
+    match op {
+        BinaryOp::Add => sum(kind, left, right),
+        BinaryOp::Subtract => difference(kind, left, right),
+        BinaryOp::Multiply => product(kind, left, right),
+        BinaryOp::FloorDivide => {
+            if is_zero(right) {
+                return wrap(kind, 0);
+            }
+            floor_quotient(kind, left, right)
+        }
+        BinaryOp::Divide => wrap(kind, 0),
+        BinaryOp::Remainder => {
+            if is_zero(right) {
+                return wrap(kind, 0);
+            }
+            floor_remainder(kind, left, right)
+        }
+        BinaryOp::Power => power(kind, left, right),
+        BinaryOp::LeftShift => left_shift(kind, left, right),
+        BinaryOp::RightShift => right_shift(kind, left, right),
+        BinaryOp::BitAnd => wrap(kind, left & right),
+        BinaryOp::BitXor => wrap(kind, left ^ right),
+        BinaryOp::BitOr => wrap(kind, left | right),
+        BinaryOp::Less => wrap(kind, i128::from(left < right)),
+        BinaryOp::LessEqual => wrap(kind, i128::from(left <= right)),
+        BinaryOp::Greater => wrap(kind, i128::from(left > right)),
+        BinaryOp::GreaterEqual => wrap(kind, i128::from(left >= right)),
+        BinaryOp::Equal => wrap(kind, i128::from(left == right)),
+        BinaryOp::NotEqual => wrap(kind, i128::from(left != right)),
+    }
+}
+
+/// What a function of two numbers gives.
+pub(crate) fn apply_binary(kind: Kind, ufunc: BinaryUfunc, left: i128, right: i128) -> i128
+    ensures { result ≡ wrap (kind_of kind)
+        (operators.exact (kind_of kind) (ufunc_of ufunc) left right) }
+{
+    match ufunc {
+        BinaryUfunc::Operator(op) => apply_operator(kind, op, left, right),
+        BinaryUfunc::Minimum => wrap(kind, if left <= right { left } else { right }),
+        BinaryUfunc::Maximum => wrap(kind, if left <= right { right } else { left }),
+    }
+}
+
+/// What a function of one number gives.
+pub(crate) fn apply_single(kind: Kind, op: Single, number: i128) -> i128
+    ensures { result ≡ wrap (kind_of kind) (operators.exact_single (single_of op) number) }
+{
+    match op {
+        Single::Of(UnaryOp::Negative) => negation(kind, number),
+        Single::Of(UnaryOp::Invert) => difference(kind, -1, number),
+        Single::Absolute => {
+            if is_negative(number) {
+                return negation(kind, number);
+            }
+            wrap(kind, number)
+        }
+    }
+}

@@ -261,7 +261,7 @@ fn reorder_kind(out: &mut [u8], to: Elem, bytes: &[u8], from: Elem, run: &Run)
 }
 
 // The element of the signed kind of as many bits, which has the same bytes for each number. A Boolean is its own.
-fn signed(elem: Elem) -> Elem
+fn as_signed(elem: Elem) -> Elem
     ensures bytes { (z : ℤ) → bytes_of result (wrap result.kind z)
         ≡ bytes_of elem (wrap elem.kind z) }
     ensures size { size_of result.kind ≡ size_of elem.kind }
@@ -294,5 +294,5 @@ pub(crate) fn convert_held(out: &mut [u8], to: Elem, bytes: &[u8], from: Elem, r
     requires held { AreHeld from bytes.now run.now }
     ensures { out.new ≡ converted_bytes to from bytes.now run.now }
 {
-    convert_pair(out, signed(to), bytes, from, run);
+    convert_pair(out, as_signed(to), bytes, from, run);
 }

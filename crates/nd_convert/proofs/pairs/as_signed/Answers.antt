@@ -2,7 +2,7 @@ use Rattle.std.proofs.Common.{◌≡◌, Bool, true, false, refl, ap, ◌∙◌}
 use Rattle.std.specs.Prelude.{◌&&◌}
 use Rattle.nd_model.specs.Element.{Element, Int64, UInt64, bytes_of, wrap}
 use Rattle.nd_convert.proofs.Alike.{alike64}
-use Rattle.nd_convert.proofs.pairs.signed.Goals as goal
+use Rattle.nd_convert.proofs.pairs.as_signed.Goals as goal
 
 and_true : (b : Bool) → (b && true) ≡ b
 and_true true = refl

@@ -3,14 +3,13 @@ use Rattle.std.proofs.Common.{◌≡◌, Result, Ok, Err, IsErrAnd, sym, ap, ◌
 use Rattle.std.proofs.lemmas.Result.{err_from_is_err_and}
 use Rattle.nd_model.specs.Fault.{Fault}
 use Rattle.nd_model.specs.Running.{Running, Inputs}
-use Rattle.nd_model.specs.Refusing as refusing
 use Rattle.nd_model.specs.Evaluation.{Eval, run, ◌>>=◌, decide}
 use Rattle.nd_model.proofs.Steps.{goes_on, run_bind}
-use Rattle.nd_eval.specs.declared.fault.StmtFault.{StmtFault}
-use Rattle.nd_eval.specs.declared.stop.Stop.{Stop}
-use Rattle.nd_eval.specs.declared.stop.Stop.TheVariants.{Memory, Refused}
-use Rattle.nd_eval.specs.Ends.{Ends, Says, Makes}
-use Rattle.nd_eval.specs.Faults.{fault_of}
+use Rattle.nd_operation.specs.declared.fault.StmtFault.{StmtFault}
+use Rattle.nd_operation.specs.declared.stop.Stop.{Stop}
+use Rattle.nd_operation.specs.declared.stop.Stop.TheVariants.{Memory, Refused}
+use Rattle.nd_operation.specs.Ends.{Says, Makes}
+use Rattle.nd_eval.specs.Ends.{Ends}
 
 stops : {A B X Y : Type 0} (v : X → A) (w : Y → B) (i : Inputs) (t : Eval A) (f : A → Eval B) (r s : Running) (e : Stop)
     → Ends v (Err e) s (run i t r) → Ends w (Err e) s (run i (t >>= f) r)
@@ -65,22 +64,3 @@ exits_making v w i t f r e o is h = exits v w i (decide t) f r r e o is (made_en
 pub goes_making : {A B X : Type 0} (v : X → A) (i : Inputs) (t : Result A Fault) (f : A → Eval B) (r : Running) (x : X)
     → Makes v (Ok x) t → run i (decide t >>= f) r ≡ run i (f (v x)) r
 goes_making v i t f r x first = goes v i (decide t) f r r x (ap (λ t. run i (decide t) r) first)
-
--- a refusal that is told
-pub makes_refused : {A Y : Type 0} (w : Y → A) (m : Result A Fault) (f : StmtFault) (o : Result Y Stop) → IsErrAnd o (λ x. x ≡ Refused f) → m ≡ Err (fault_of f) → Makes w o m
-makes_refused {A} {Y} w m f o is h =
-    let p : (x : Stop) × (o ≡ Err x) × (x ≡ Refused f) = err_from_is_err_and o is in
-    subst (λ (o : Result Y Stop). Makes w o m) (sym (p.1 ∙ ap Err p.2)) h
-
--- the same of what takes no memory
-pub says_refused : {B Y : Type 0} (w : Y → B) (m : Result B Fault) (e : StmtFault) (o : Result Y StmtFault) → IsErrAnd o (λ x. x ≡ e) → m ≡ Err (fault_of e) → Says w o m
-says_refused {B} {Y} w m e o is h =
-    let p : (x : StmtFault) × (o ≡ Err x) × (x ≡ e) = err_from_is_err_and o is in
-    subst (λ (o : Result Y StmtFault). Says w o m) (sym (p.1 ∙ ap Err p.2)) h
-
--- and where what comes first is refused
-pub says_not : {A B Y : Type 0} (w : Y → B) (t : Result A Fault) (f : A → Result B Fault) (e : StmtFault) (o : Result Y StmtFault)
-    → IsErrAnd o (λ x. x ≡ e) → t ≡ Err (fault_of e) → Says w o (refusing.◌>>=◌ t f)
-says_not {A} {B} {Y} w t f e o is h =
-    let p : (x : StmtFault) × (o ≡ Err x) × (x ≡ e) = err_from_is_err_and o is in
-    subst (λ (o : Result Y StmtFault). Says w o (refusing.◌>>=◌ t f)) (sym (p.1 ∙ ap Err p.2)) (ap (λ m. refusing.◌>>=◌ m f) h)

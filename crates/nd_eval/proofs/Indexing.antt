@@ -30,7 +30,7 @@ use Rattle.nd_syntax.proofs.Nodes.{call_row}
 use Rattle.nd_syntax.proofs.Chains.{row_of, postfix_is, item_row, index_is, chain_is}
 use Rattle.nd_model.proofs.Steps.{goes_on, run_bind}
 use Rattle.nd_eval.specs.Parts.{item_value, element_value}
-use Rattle.nd_eval.proofs.InTurn.{next_item}
+use Rattle.nd_operation.proofs.InTurn.{next_item}
 use Rattle.nd_eval.proofs.Parts.{goes_same, item_with, attribute_refused}
 
 -- what goes on a value: indexes, and methods, which are not built yet

@@ -1,6 +1,5 @@
 pub mod Bounds
 pub mod Chains
-pub mod Decoding
 pub mod InTurn
 pub mod Indexing
 pub mod Parts
@@ -9,10 +8,8 @@ pub mod Held
 pub mod Lines
 pub mod Quiet
 pub mod Prints
-pub mod Writes
 pub mod Turns
 pub mod Operating
-pub mod WholeNumbers
 pub mod Creating
 pub mod Calls
 pub mod Ranging

@@ -16,7 +16,7 @@ use Rattle.nd_heap.specs.declared.value.Value.{Value}
 use Rattle.nd_heap.specs.declared.value.Value.TheVariants.{Number, Array}
 use Rattle.nd_heap.specs.Values.{value_of}
 use Rattle.nd_model.proofs.Steps.{goes_on, run_bind}
-use Rattle.nd_eval.specs.Contents.{num_of, unused_of}
+use Rattle.nd_operation.specs.Contents.{num_of, unused_of}
 use Rattle.nd_eval.specs.Parts.{item_value, element_value, values_then, values, wholes}
 
 -- ---- the code's values

@@ -10,7 +10,8 @@ use Rattle.nd_model.specs.Meaning.{whole_plans}
 use Rattle.nd_model.proofs.Steps.{goes_on, run_bind}
 use Rattle.nd_heap.specs.declared.value.Value.{Value}
 use Rattle.nd_heap.specs.Values.{value_of}
-use Rattle.nd_eval.specs.Lines.{limit_effect, limit_line}
+use Rattle.nd_operation.specs.Lines.{limit_line}
+use Rattle.nd_eval.specs.Lines.{limit_effect}
 use Rattle.nd_eval.specs.Parts.{values, wholes}
 use Rattle.nd_eval.specs.Uses.{all_marked, operands_over}
 use Rattle.nd_eval.proofs.Parts.{values_first}

@@ -12,7 +12,7 @@ use Rattle.nd_model.specs.Operation.{Named, Plans, Done, And, evaluate, evaluate
 use Rattle.nd_model.specs.Writing.{assignment_writes}
 use Rattle.nd_model.specs.Meaning.{plan, item_plans, assignment_deed, meaning}
 use Rattle.nd_model.proofs.Soundness.{Safe, safe_bind, safe_operands, IfGiven, given_run}
-use Rattle.nd_eval.specs.declared.stop.Stop.{Stop}
+use Rattle.nd_operation.specs.declared.stop.Stop.{Stop}
 use Rattle.nd_eval.specs.Ends.{Ends}
 use Rattle.nd_eval.specs.Lines.{limit_effect}
 

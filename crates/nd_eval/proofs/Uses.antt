@@ -9,9 +9,9 @@ use Rattle.nd_model.specs.Operation.{use_operand, operands}
 use Rattle.nd_heap.specs.declared.value.Value.{Value}
 use Rattle.nd_heap.specs.declared.value.Value.TheVariants.{Number, Array}
 use Rattle.nd_heap.specs.Values.{value_of}
-use Rattle.nd_eval.specs.declared.operand.Operand.{Operand}
-use Rattle.nd_eval.specs.declared.stop.Stop.{Stop}
-use Rattle.nd_eval.specs.Contents.{operand_of}
+use Rattle.nd_operation.specs.declared.operand.Operand.{Operand}
+use Rattle.nd_operation.specs.declared.stop.Stop.{Stop}
+use Rattle.nd_operation.specs.Contents.{operand_of}
 use Rattle.nd_eval.specs.Ends.{Ends}
 use Rattle.nd_eval.specs.Parts.{wholes}
 use Rattle.nd_eval.specs.Uses.{marked, all_marked, operand_over, operands_over}

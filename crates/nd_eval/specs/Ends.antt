@@ -1,15 +1,14 @@
--- How an evaluation ends, and what functions come to that ask nothing.
+-- How an evaluation ends.
 use Rattle.std.specs.Prelude.{◌≡◌, Result, Ok, Err}
 use Rattle.nd_model.specs.Fault.{Fault}
 use Rattle.nd_model.specs.Running.{Running, Effect}
 use Rattle.nd_model.specs.Evaluation.{Eval, run}
 use Rattle.nd_session.specs.Live.{live}
 use Rattle.nd_session.specs.Values.{inputs_of}
-use Rattle.nd_eval.specs.declared.fault.StmtFault.{StmtFault}
-use Rattle.nd_eval.specs.declared.stop.Stop.{Stop}
-use Rattle.nd_eval.specs.declared.stop.Stop.TheVariants.{Memory, Refused}
+use Rattle.nd_operation.specs.declared.stop.Stop.{Stop}
+use Rattle.nd_operation.specs.declared.stop.Stop.TheVariants.{Memory, Refused}
 use Rattle.nd_eval.specs.declared.evaluator.Evaluator.{Evaluator}
-use Rattle.nd_eval.specs.Faults.{fault_of}
+use Rattle.nd_operation.specs.Faults.{fault_of}
 use Rattle.nd_eval.specs.Lines.{limit_effect}
 
 -- as the definitions have it, unless memory ran out
@@ -37,14 +36,3 @@ Evaluates view result old t new = Ends view result (session_of new) (answer_of o
 -- the same of an effect, where a printed text over the limit is refused
 abbrev pub EvaluatesInLimit : {X : Type 0} → (X → Effect) → Result X Stop → Evaluator → Eval Effect → Evaluator → Type 0
 EvaluatesInLimit view result old t new = Ends view result (session_of new) (limit_effect (answer_of old t)) × Stays old new
-
--- what is worked out without a question, and takes no memory
-abbrev pub Says : {X Y : Type 0} → (X → Y) → Result X StmtFault → Result Y Fault → Type 0
-Says view (Ok x) y = y ≡ Ok (view x)
-Says view (Err f) y = y ≡ Err (fault_of f)
-
--- the same, unless memory ran out
-abbrev pub Makes : {X Y : Type 0} → (X → Y) → Result X Stop → Result Y Fault → Type 0
-Makes view (Ok x) y = y ≡ Ok (view x)
-Makes view (Err Memory) y = Unit {0}
-Makes view (Err (Refused f)) y = y ≡ Err (fault_of f)

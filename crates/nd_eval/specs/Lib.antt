@@ -1,10 +1,7 @@
-pub mod Faults
 pub mod Ends
 pub mod Contents
 pub mod Parts
 pub mod Uses
 pub mod Lines
 pub mod Done
-pub mod New
-pub mod Stops
-pub mod OfTwo
+pub use Rattle.nd_operation.specs.Faults

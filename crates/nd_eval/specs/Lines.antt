@@ -1,16 +1,10 @@
--- Texts that are no longer than a cell's may be.
-use Rattle.std.specs.Prelude.{ℕ, nat_le, if◌then◌else◌, List, ◌++◌, length, Result, Ok, Err}
+-- Effects that print a text no longer than a cell's may be.
+use Rattle.std.specs.Prelude.{nat_le, if◌then◌else◌, length, Result, Ok, Err}
 use Rattle.nd_model.specs.Fault.{Fault, Stmt, TextTooLong}
 use Rattle.nd_model.specs.Running.{Running, Effect, Nothing, Prints, Saves, Binding, Unbinding, Storing}
-use Rattle.nd_model.specs.Operand.{Operand}
-use Rattle.nd_model.specs.Printing.{text_of}
 use Rattle.nd_model.specs.Cell.{most_text}
 
--- a text over the limit is refused
-abbrev pub limit_line : List ℕ → Result (List ℕ) Fault
-limit_line t = if nat_le (length t) most_text then Ok t else Err (Stmt TextTooLong)
-
--- the same of an effect that prints one
+-- an effect that prints a text over the limit is refused
 abbrev pub limit_effect : Result Effect Fault × Running → Result Effect Fault × Running
 limit_effect (Ok Nothing, r) = (Ok Nothing, r)
 limit_effect (Ok (Prints t), r) = (if nat_le (length t) most_text then Ok (Prints t) else Err (Stmt TextTooLong), r)
@@ -19,7 +13,3 @@ limit_effect (Ok (Binding n v), r) = (Ok (Binding n v), r)
 limit_effect (Ok (Unbinding n), r) = (Ok (Unbinding n), r)
 limit_effect (Ok (Storing b ws), r) = (Ok (Storing b ws), r)
 limit_effect (Err f, r) = (Err f, r)
-
--- a line with an operand's text behind it
-abbrev pub line_with : List ℕ → Operand → List ℕ
-line_with line o = line ++ text_of o

@@ -9,7 +9,7 @@ use Rattle.nd_model.specs.Sound.{IsHeldView, IsViewOf}
 use Rattle.nd_heap.specs.declared.value.Value.{Value}
 use Rattle.nd_heap.specs.declared.value.Value.TheVariants.{Number, Array}
 use Rattle.nd_heap.specs.Values.{base_of, geo_of, value_of}
-use Rattle.nd_eval.specs.Contents.{num_of, elements_over}
+use Rattle.nd_operation.specs.Contents.{num_of, elements_over}
 
 -- an array lies in its block
 abbrev pub IsHeld : Running → Value → Type 0

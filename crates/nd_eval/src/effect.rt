@@ -1,19 +1,7 @@
 //! Effects.
 
-ghost use Rattle.std.specs.Prelude.{◌+◌, ◌≤◌, ◌^◌};
-ghost use Rattle.nd_model.specs.Element.{size_of};
-
+use nd_operation::ElementWrite;
 use nd_session::{Base, Value};
-use nd_types::Elem;
-
-/// A number for the element at a place.
-#[derive(Clone, Copy)]
-pub(crate) struct ElementWrite {
-    pub(crate) elem: Elem,
-    pub(crate) place: u64,
-    pub(crate) number: i128,
-    ghost within: { place + size_of elem.kind ≤ 2 ^ 64 },
-}
 
 /// What a statement does once it is evaluated.
 #[derive(Drop)]

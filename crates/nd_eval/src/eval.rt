@@ -15,21 +15,19 @@ ghost use Rattle.nd_eval.specs.Contents.{option_values, values_of};
 ghost use Rattle.nd_eval.specs.Ends.{Evaluates, session_of};
 ghost use Rattle.nd_eval.specs.Uses.{IsHeld};
 ghost use Rattle.nd_eval.specs.Parts as parts;
-ghost use Rattle.nd_eval.specs.New.{made_of_one};
-ghost use Rattle.nd_eval.specs.OfTwo.{made_of_two};
+ghost use Rattle.nd_operation.specs.New.{made_of_one};
+ghost use Rattle.nd_operation.specs.OfTwo.{made_of_two};
 ghost use Rattle.nd_syntax.specs.Calls.{dtype_of, fill_of};
-ghost use Rattle.nd_eval.specs.declared.stop.Stop.TheVariants.{Refused};
-ghost use Rattle.nd_eval.specs.declared.fault.StmtFault.TheVariants.{Stmt};
-ghost use Rattle.nd_eval.specs.declared.fault.StmtError.TheVariants.{BadArgument};
+ghost use Rattle.nd_operation.specs.declared.stop.Stop.TheVariants.{Refused};
+ghost use Rattle.nd_operation.specs.declared.fault.StmtFault.TheVariants.{Stmt};
+ghost use Rattle.nd_operation.specs.declared.fault.StmtError.TheVariants.{BadArgument};
 
-use crate::creation::{OfOne, make_filled, make_full, make_of_one};
 use crate::evaluator::Evaluator;
-use crate::fault::{StmtError, StmtFault};
-use crate::indexes::index_array;
 use crate::operation::{mark_operand, mark_operands, operand_in};
-use crate::operators::{OfTwo, apply_binary};
-use crate::ranges::make_range;
-use crate::stop::Stop;
+use nd_operation::{
+    OfOne, OfTwo, StmtError, StmtFault, Stop, apply_binary, index_array, make_filled, make_full,
+    make_of_one, make_range,
+};
 use nd_session::Value;
 use nd_syntax::{BinaryOp, Call, DType, Element, Expr, Fill, Index, IndexItem, Suffix};
 use nd_types::Num;

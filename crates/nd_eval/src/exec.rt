@@ -11,7 +11,8 @@ ghost use Rattle.nd_heap.specs.Values.{base_of, value_of};
 ghost use Rattle.nd_session.specs.Values.{inputs_of};
 ghost use Rattle.nd_session.specs.Live.{live};
 ghost use Rattle.nd_eval.specs.Ends.{Ends, Evaluates, EvaluatesInLimit, session_of};
-ghost use Rattle.nd_eval.specs.Contents.{effect_of, writes_of};
+ghost use Rattle.nd_operation.specs.Contents.{writes_of};
+ghost use Rattle.nd_eval.specs.Contents.{effect_of};
 ghost use Rattle.nd_eval.specs.Done.{output_of, outcome_of};
 ghost use Rattle.nd_model.specs.Cell.{limit_text};
 ghost use Rattle.nd_eval.specs.Uses.{IsHeld, IsHeldEffect};
@@ -19,15 +20,12 @@ ghost use Rattle.nd_eval.specs.Parts as parts;
 ghost use Rattle.nd_eval.specs.Lines.{limit_effect};
 ghost use Rattle.nd_model.specs.Evaluation.{run};
 
-use crate::effect::{Effect, ElementWrite};
+use crate::effect::Effect;
 use crate::eval::unbuilt_form;
 use crate::evaluator::Evaluator;
-use crate::fault::{StmtError, StmtFault};
 use crate::operation::{mark_operand, mark_operands, operand_in, operands_in};
-use crate::printing::print_line;
-use crate::stop::Stop;
-use crate::writing::assignment_write;
 use nd_block::push_bytes;
+use nd_operation::{ElementWrite, StmtError, StmtFault, Stop, assignment_write, print_line};
 use nd_session::{Base, Inputs, OutOfMemory, Session, Value};
 use nd_syntax::{Expr, Index, Stmt};
 

@@ -7,8 +7,7 @@ ghost use Rattle.nd_eval.specs.Ends.{Evaluates};
 
 use crate::eval::unbuilt_form;
 use crate::evaluator::Evaluator;
-use crate::fault::{StmtError, StmtFault};
-use crate::stop::Stop;
+use nd_operation::{StmtError, StmtFault, Stop};
 use nd_session::{Value, is_input_name};
 
 impl Evaluator<'_> {

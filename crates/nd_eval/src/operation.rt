@@ -4,17 +4,16 @@ ghost use Rattle.std.specs.Prelude.{◌≡◌, ◌+◌, ◌<◌, ◌≤◌, ◌^
 ghost use Rattle.nd_model.specs.Operation as operation;
 ghost use Rattle.nd_heap.specs.Values.{value_of};
 ghost use Rattle.nd_session.specs.Live.{live};
-ghost use Rattle.nd_eval.specs.Contents.{chosen_of, operand_of, operands_of};
+ghost use Rattle.nd_operation.specs.Contents.{chosen_of, operand_of};
+ghost use Rattle.nd_eval.specs.Contents.{operands_of};
 ghost use Rattle.nd_eval.specs.Ends.{Evaluates, session_of};
-ghost use Rattle.nd_eval.specs.New.{given};
+ghost use Rattle.nd_operation.specs.New.{given};
 ghost use Rattle.nd_eval.specs.Uses.{IsHeld, AreHeld, marked, all_marked};
 ghost use Rattle.nd_eval.specs.Uses.{operand_over, operands_over};
 
 use crate::evaluator::Evaluator;
-use crate::fault::{StmtError, StmtFault};
-use crate::operand::{ElementPlace, Elements, New, Operand};
-use crate::stop::Stop;
 use nd_element::number_in;
+use nd_operation::{ElementPlace, Elements, New, Operand, StmtError, StmtFault, Stop};
 use nd_session::{Array, OutOfMemory, Session, Value};
 use nd_types::{ElemType, Num};
 use std::alloc::AllocError;

@@ -2,9 +2,9 @@ use Rattle.std.proofs.Common.{◌+◌, ◌++◌, [], ◌∷◌, List, map, appen
 use Rattle.nd_model.specs.Operand as model
 use Rattle.nd_heap.specs.declared.value.Value.{Value}
 use Rattle.nd_session.specs.Live.{live}
-use Rattle.nd_eval.specs.Contents.{operand_of}
+use Rattle.nd_operation.specs.Contents.{operand_of}
 use Rattle.nd_eval.specs.Uses.{IsHeld, operands_over}
-use Rattle.nd_eval.proofs.InTurn.{next_item, pushed}
+use Rattle.nd_operation.proofs.InTurn.{next_item, pushed}
 use Rattle.nd_eval.proofs.operation.operands_in.Goals as goal
 
 pub operand_in-requires : goal.operand_in-requires

@@ -20,11 +20,12 @@ use Rattle.nd_eval.proofs.Bounds.{next_bound, next_value, next_values, next_at_i
 use Rattle.nd_eval.proofs.Calls.{filled_first, filled_parts, full_first, full_follows}
 use Rattle.nd_syntax.specs.Calls.{dtype_of, fill_of}
 use Rattle.nd_model.specs.Creation.{filled, full_of}
-use Rattle.nd_eval.specs.Contents.{operand_of, option_values, unused_of, values_of}
+use Rattle.nd_operation.specs.Contents.{operand_of, unused_of}
+use Rattle.nd_eval.specs.Contents.{option_values, values_of}
 use Rattle.nd_eval.specs.Parts.{bound_exprs, item_value, element_value, binary_value, values_then, values}
 use Rattle.nd_model.specs.Value as model
 use Rattle.nd_syntax.specs.declared.tree.Expr.{Expr}
-use Rattle.nd_eval.specs.New.{bounds_of, made_of_one}
+use Rattle.nd_operation.specs.New.{bounds_of, made_of_one}
 use Rattle.nd_eval.proofs.Creating.{exits_new, follows_new}
 use Rattle.nd_eval.proofs.Chains.{exits, follows, goes, ends_as, ends_alike}
 use Rattle.nd_model.specs.Syntax.{Called}
@@ -35,7 +36,8 @@ use Rattle.nd_model.specs.Running.{Running}
 use Rattle.nd_eval.specs.Uses.{marked, all_marked}
 use Rattle.nd_eval.proofs.Uses.{kept_bytes, kept_next, follows_use, all_marked_bytes, all_marked_next}
 use Rattle.nd_eval.proofs.Held.{held_after, held_marked, held_past, sound_after, value_held, item_held}
-use Rattle.nd_eval.proofs.InTurn.{next_item, onto, onto_more, pushed}
+use Rattle.nd_operation.proofs.InTurn.{next_item, pushed}
+use Rattle.nd_eval.proofs.InTurn.{onto, onto_more}
 use Rattle.nd_eval.proofs.Indexing.{chain, next_index, run_postfix, tokens_of_postfix, nodes_of_postfix, nodes_of_filled, nodes_of_full, shape_tokens, items_in_index, nodes_of_its_items, more_refused, is_chain, nodes_of_chain}
 use Rattle.nd_eval.proofs.evaluator.Evaluator.+value.Goals as goal
 

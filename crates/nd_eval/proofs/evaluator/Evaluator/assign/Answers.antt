@@ -7,7 +7,8 @@ use Rattle.nd_model.specs.Meaning.{assignment_deed}
 use Rattle.nd_heap.specs.Values.{value_of}
 use Rattle.nd_session.specs.Values.{inputs_of}
 use Rattle.nd_session.specs.Live.{live}
-use Rattle.nd_eval.specs.Contents.{effect_of, operand_of, unused_of, writes_of}
+use Rattle.nd_operation.specs.Contents.{operand_of, unused_of, writes_of}
+use Rattle.nd_eval.specs.Contents.{effect_of}
 use Rattle.nd_eval.proofs.Chains.{goes, ends_as, exits_saying}
 use Rattle.nd_eval.proofs.Parts.{target_parts}
 use Rattle.nd_eval.proofs.Uses.{kept_bytes, goes_used, follows_use}

@@ -12,8 +12,8 @@ use Rattle.nd_model.specs.Operation as operation
 use Rattle.nd_heap.specs.Values.{base_of, value_of}
 use Rattle.nd_session.specs.Values.{inputs_of}
 use Rattle.nd_session.specs.Live.{live}
-use Rattle.nd_eval.specs.Contents.{chosen_of}
-use Rattle.nd_eval.proofs.Decoding.{used_alone}
+use Rattle.nd_operation.specs.Contents.{chosen_of}
+use Rattle.nd_operation.proofs.Decoding.{used_alone}
 use Rattle.nd_eval.proofs.evaluator.Evaluator.choose_of.Goals as goal
 
 pub returns : goal.returns

@@ -5,7 +5,7 @@ use Rattle.nd_model.specs.Operation.{choose_of}
 use Rattle.nd_heap.specs.Values.{value_of}
 use Rattle.nd_session.specs.Values.{inputs_of}
 use Rattle.nd_session.specs.Live.{live}
-use Rattle.nd_eval.specs.Contents.{operand_of, unused_of, chosen_of}
+use Rattle.nd_operation.specs.Contents.{operand_of, unused_of, chosen_of}
 use Rattle.nd_eval.proofs.Chains.{ends_as, exits_saying, follows_saying}
 use Rattle.nd_eval.proofs.Parts.{element_parts}
 use Rattle.nd_eval.proofs.Uses.{kept_bytes, follows_use}

@@ -6,8 +6,8 @@ use Rattle.nd_heap.specs.Values.{value_of}
 use Rattle.nd_heap.specs.declared.value.Value.TheVariants.{Number}
 use Rattle.nd_session.specs.Values.{inputs_of}
 use Rattle.nd_session.specs.Live.{live}
-use Rattle.nd_eval.specs.Contents.{number_made, operand_of}
-use Rattle.nd_eval.specs.OfTwo.{made_of_two}
+use Rattle.nd_operation.specs.Contents.{number_made, operand_of}
+use Rattle.nd_operation.specs.OfTwo.{made_of_two}
 use Rattle.nd_eval.proofs.Chains.{exits_saying, follows_saying}
 use Rattle.nd_eval.proofs.Creating.{given_number}
 use Rattle.nd_eval.proofs.Uses.{kept_bytes, follows_use}

@@ -6,8 +6,9 @@ use Rattle.nd_model.specs.Printing.{print_deed, printed_line}
 use Rattle.nd_syntax.specs.Syntax.{expr_of}
 use Rattle.nd_session.specs.Values.{inputs_of}
 use Rattle.nd_session.specs.Live.{live}
-use Rattle.nd_eval.specs.Contents.{effect_of, values_of, operand_of}
-use Rattle.nd_eval.specs.Lines.{limit_line}
+use Rattle.nd_operation.specs.Contents.{operand_of}
+use Rattle.nd_eval.specs.Contents.{effect_of, values_of}
+use Rattle.nd_operation.specs.Lines.{limit_line}
 use Rattle.nd_eval.specs.Parts.{values}
 use Rattle.nd_eval.specs.Uses.{AreHeld, all_marked, operands_over}
 use Rattle.nd_eval.proofs.Chains.{exits, ends_alike, exits_making, goes_making}

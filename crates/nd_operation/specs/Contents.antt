@@ -1,0 +1,36 @@
+-- What the operands of an operation stand for, and what it chooses and writes.
+use Rattle.std.specs.Prelude.{ℕ, List, [], length, map, slice_index, false}
+use Rattle.nd_model.specs.View.{One, Geo, byte_places}
+use Rattle.nd_model.specs.Content.{Content, contents_in, number_writes}
+use Rattle.nd_model.specs.Operand as operand
+pub use Rattle.nd_ufunc.specs.Numbers.{num_of, number_made}
+use Rattle.nd_heap.specs.declared.value.Value.{Value}
+use Rattle.nd_heap.specs.declared.value.Value.TheVariants as value
+use Rattle.nd_heap.specs.Values.{geo_of}
+use Rattle.nd_operation.specs.declared.operand.Operand.{Operand}
+use Rattle.nd_operation.specs.declared.operand.Operand.TheVariants.{Number, Elements}
+use Rattle.nd_operation.specs.declared.operand.ElementPlace.{ElementPlace}
+use Rattle.nd_operation.specs.declared.effect.ElementWrite.{ElementWrite}
+
+-- the contents of a view's elements, in the block that they lie in
+abbrev pub contents_over : Geo → List ℕ → List Content
+contents_over g block = contents_in g.element (length g.places) (map (λ p. slice_index block p) (byte_places g))
+
+abbrev pub elements_over : Geo → List ℕ → operand.Operand
+elements_over g block = operand.Elements false g (contents_over g block)
+
+-- an operand that is used
+abbrev pub operand_of : Operand → operand.Operand
+operand_of (Number n) = operand.Plain (num_of n)
+operand_of (Elements e) = elements_over e.view.now e.block.now
+
+-- an operand that is not used
+abbrev pub unused_of : Value → operand.Operand
+unused_of (value.Number n) = operand.Plain (num_of n)
+unused_of (value.Array a) = operand.Elements false (geo_of a) []
+
+abbrev pub chosen_of : ElementPlace → operand.Chosen
+chosen_of c = operand.AnElement (One c.elem) c.place
+
+abbrev pub writes_of : ElementWrite → List (ℕ × ℕ)
+writes_of w = number_writes w.elem w.place w.number

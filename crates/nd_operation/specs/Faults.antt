@@ -1,0 +1,35 @@
+-- The refusals of the program as the definitions have them.
+use Rattle.std.specs.Prelude.{string_bytes}
+use Rattle.nd_model.specs.Fault as model
+pub use Rattle.nd_view.specs.Faults.{view_fault_of}
+pub use Rattle.nd_ufunc.specs.Faults.{ufunc_fault_of}
+use Rattle.nd_operation.specs.declared.fault.IndexFault.{IndexFault}
+use Rattle.nd_operation.specs.declared.fault.IndexFault.TheVariants.{OutOfBounds, TooManyIndices, ZeroStep, NotAnIndex}
+use Rattle.nd_operation.specs.declared.fault.StmtError.{StmtError}
+use Rattle.nd_operation.specs.declared.fault.StmtError.TheVariants.{NoName, IntTooBig, ZeroDivide, NegativeShift, NeedsType, RaggedList, NotAnArray, TextTooLong, BadArgument, BadType}
+use Rattle.nd_operation.specs.declared.fault.StmtFault.{StmtFault}
+use Rattle.nd_operation.specs.declared.fault.StmtFault.TheVariants.{View, Index, Ufunc, Stmt}
+
+abbrev pub index_fault_of : IndexFault → model.IndexFault
+index_fault_of (OutOfBounds axis index size) = model.OutOfBounds axis index size
+index_fault_of TooManyIndices = model.TooManyIndices
+index_fault_of ZeroStep = model.ZeroStep
+index_fault_of NotAnIndex = model.NotAnIndex
+
+abbrev pub stmt_error_of : StmtError → model.StmtFault
+stmt_error_of (NoName n) = model.NoName (string_bytes n)
+stmt_error_of IntTooBig = model.IntTooBig
+stmt_error_of ZeroDivide = model.ZeroDivide
+stmt_error_of NegativeShift = model.NegativeShift
+stmt_error_of NeedsType = model.NeedsType
+stmt_error_of RaggedList = model.RaggedList
+stmt_error_of NotAnArray = model.NotAnArray
+stmt_error_of TextTooLong = model.TextTooLong
+stmt_error_of BadArgument = model.BadArgument
+stmt_error_of BadType = model.BadType
+
+abbrev pub fault_of : StmtFault → model.Fault
+fault_of (View f) = model.View (view_fault_of f)
+fault_of (Index f) = model.Index (index_fault_of f)
+fault_of (Ufunc f) = model.Ufunc (ufunc_fault_of f)
+fault_of (Stmt f) = model.Stmt (stmt_error_of f)

@@ -1,0 +1,77 @@
+-- What calls make: numbers, and new arrays in blocks of their own.
+use Rattle.std.specs.Prelude.{◌≡◌, ℕ, ℤ, ◌^◌, ◌-◌, nat_lt, if◌then◌else◌, List, [], ◌∷◌, ◌++◌, map, Option, Some, None, Result, Ok, Err, option_map}
+use Rattle.nd_model.specs.Element.{Element}
+use Rattle.nd_model.specs.Tuple.{first_index}
+use Rattle.nd_model.specs.View.{One}
+use Rattle.nd_model.specs.Content.{Num}
+use Rattle.nd_model.specs.Value as model
+use Rattle.nd_model.specs.Fault.{Fault}
+use Rattle.nd_model.specs.Running.{Make}
+use Rattle.nd_model.specs.Evaluation.{Eval, Gives, Refuses, Asks, ◌>>=◌, decide}
+use Rattle.nd_model.specs.Operand as operand
+use Rattle.nd_model.specs.Operation.{give}
+use Rattle.nd_model.specs.Creation as creation
+use Rattle.nd_model.specs.Operators.{single, call_single}
+use Rattle.nd_types.specs.Kinds.{kind_of}
+use Rattle.nd_syntax.specs.Calls.{dtype_of}
+use Rattle.nd_heap.specs.declared.value.Value.{Value}
+use Rattle.nd_heap.specs.Values.{number_of}
+use Rattle.nd_operation.specs.declared.stop.Stop.{Stop}
+use Rattle.nd_operation.specs.declared.stop.Stop.TheVariants.{Memory, Refused}
+use Rattle.nd_operation.specs.declared.operand.New.{New}
+use Rattle.nd_operation.specs.declared.operand.New.TheVariants.{Number, Array}
+use Rattle.nd_operation.specs.declared.creation.OfOne.{OfOne}
+use Rattle.nd_operation.specs.declared.creation.OfOne.TheVariants.{Operator, Ufunc, ArrayOf, Convert}
+use Rattle.nd_operation.specs.Contents.{unused_of}
+use Rattle.nd_operation.specs.Faults.{fault_of}
+use Rattle.nd_ufunc.specs.Ufuncs.{single_of}
+
+-- what is given of what was made: an array gets a new base
+abbrev pub given : New → Eval model.Value
+given (Number n) = Gives (number_of n)
+given (Array view block) = Asks (Make block) (λ b. Gives (model.Array b view))
+
+-- what is given of the definition's result, unless memory ran out
+abbrev pub MakesNew : Result New Stop → Result operand.Made Fault → Type 0
+MakesNew (Ok n) made = (decide made >>= give) ≡ given n
+MakesNew (Err Memory) made = Unit {0}
+MakesNew (Err (Refused f)) made = (decide made >>= give) ≡ Refuses (fault_of f)
+
+-- what a call of one operand makes
+abbrev pub made_of_one : OfOne → operand.Operand → Result operand.Made Fault
+made_of_one (Operator op) = single (single_of op)
+made_of_one (Ufunc op) = call_single (single_of op)
+made_of_one (ArrayOf t) = creation.array_of_number (option_map dtype_of t.now)
+made_of_one (Convert k) = creation.convert (kind_of k)
+
+-- ---- lengths
+
+-- a length in 64 bits: a longer one is over the limits of arrays too
+abbrev pub clip : ℕ → ℕ
+clip n = if nat_lt (2 ^ 64 - 1) n then 2 ^ 64 - 1 else n
+
+abbrev pub clip_length : Result ℕ Fault → Result ℕ Fault
+clip_length (Ok n) = Ok (clip n)
+clip_length (Err f) = Err f
+
+abbrev pub clip_lengths : Result (List ℕ) Fault → Result (List ℕ) Fault
+clip_lengths (Ok ns) = Ok (map clip ns)
+clip_lengths (Err f) = Err f
+
+-- ---- ranges
+
+abbrev pub option_list : {A : Type 0} → Option A → List A
+option_list None = []
+option_list (Some x) = x ∷ []
+
+-- the bounds that are written, in order
+abbrev pub bounds_of : Option Value → Value → Option Value → List operand.Operand
+bounds_of start stop step = map unused_of (option_list start ++ stop ∷ option_list step)
+
+-- the integer that a bound is, or another one where it is left out
+abbrev pub bound_or : Option Value → ℤ → Result ℤ Fault
+bound_or None z = Ok z
+bound_or (Some v) z = creation.integer_of (unused_of v)
+
+abbrev pub range_made : Element → creation.Range → operand.Made
+range_made e r = operand.AnArray (One e) (creation.range_count r ∷ []) (λ t. Num (creation.range_number r (first_index t)))

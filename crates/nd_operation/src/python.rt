@@ -1,0 +1,142 @@
+//! Python's arithmetic on whole numbers.
+
+ghost use Rattle.std.specs.Prelude.{◌≢◌, ◌^◌, ◌*ℤ◌, ℤ, pos, FitsSigned};
+ghost use Rattle.std.specs.Int.{w128};
+ghost use Rattle.std.specs.Option.{SomeIff};
+ghost use Rattle.nd_model.specs.Operand as operand;
+ghost use Rattle.nd_model.specs.Operators as operators;
+ghost use Rattle.nd_model.specs.Syntax as syntax;
+ghost use Rattle.nd_syntax.specs.Syntax.{binary_op};
+ghost use Rattle.nd_operation.specs.Contents.{number_made};
+ghost use Rattle.nd_operation.specs.Ends.{Says};
+
+use crate::fault::{StmtError, StmtFault, UfuncFault};
+use nd_syntax::BinaryOp;
+use nd_types::Num;
+use nd_ufunc::{exact_power, is_below, is_negative, is_zero};
+
+/// A Python integer, in its bounds. A number that does not fit 128 bits, for which none stands, is out of them.
+pub(crate) fn python_int(exact: Option<i128>) -> Result<Num, StmtFault>
+    ensures { (z : ℤ) → SomeIff exact (FitsSigned w128 z) z
+        → Says number_made result (operand.python_int z) }
+{
+    match exact {
+        Some(number) => {
+            if number < i128::from(i64::MIN) || number > i128::from(u64::MAX) {
+                return Err(StmtFault::Stmt(StmtError::IntTooBig));
+            }
+            Ok(Num::Int(number))
+        }
+        None => Err(StmtFault::Stmt(StmtError::IntTooBig)),
+    }
+}
+
+/// The quotient, rounded down.
+fn floor_quotient(number: i128, divisor: i128) -> Result<Num, StmtFault>
+    requires { divisor ≢ pos 0 }
+    ensures { Says number_made result
+        (operand.python_int (operators.floor_quotient number divisor)) }
+{
+    if number == i128::MIN && divisor == -1 {
+        return Err(StmtFault::Stmt(StmtError::IntTooBig));
+    }
+    let quotient = number.div_euclid(divisor);
+    if is_below(number, divisor) {
+        return python_int(quotient.checked_sub(1));
+    }
+    python_int(Some(quotient))
+}
+
+/// What is left, with the sign of the divisor.
+fn floor_remainder(number: i128, divisor: i128) -> Result<Num, StmtFault>
+    requires { divisor ≢ pos 0 }
+    ensures { Says number_made result
+        (operand.python_int (operators.floor_remainder number divisor)) }
+{
+    if divisor == -1 {
+        return python_int(Some(0));
+    }
+    let rest = number.rem_euclid(divisor);
+    if is_below(number, divisor) {
+        return python_int(rest.checked_add(divisor));
+    }
+    python_int(Some(rest))
+}
+
+/// The number with so many bits behind it.
+fn left_shift(number: i128, count: u128) -> Result<Num, StmtFault>
+    ensures { Says number_made result (operand.python_int (number *ℤ pos (2 ^ count))) }
+{
+    if number == 0 {
+        return python_int(Some(0));
+    }
+    if count > 126 {
+        return Err(StmtFault::Stmt(StmtError::IntTooBig));
+    }
+    python_int(number.checked_mul(2i128.pow(count as u32)))
+}
+
+/// The number without so many bits, rounded down.
+fn right_shift(number: i128, count: u128) -> Result<Num, StmtFault>
+    ensures { Says number_made result
+        (operand.python_int (operators.floor_quotient number (pos (2 ^ count)))) }
+{
+    if count <= 126 {
+        return floor_quotient(number, 2i128.pow(count as u32));
+    }
+    if is_negative(number) {
+        return python_int(Some(-1));
+    }
+    python_int(Some(0))
+}
+
+/// What an operator gives.
+pub(crate) fn arithmetic(op: BinaryOp, left: i128, right: i128) -> Result<Num, StmtFault>
+    ensures { Says number_made result (operators.arithmetic (binary_op op) left right) }
+{
+    match op {
+        BinaryOp::Add => python_int(left.checked_add(right)),
+        BinaryOp::Subtract => python_int(left.checked_sub(right)),
+        BinaryOp::Multiply => python_int(left.checked_mul(right)),
+        BinaryOp::FloorDivide => {
+            if is_zero(right) {
+                return Err(StmtFault::Stmt(StmtError::ZeroDivide));
+            }
+            floor_quotient(left, right)
+        }
+        BinaryOp::Divide => Err(StmtFault::Ufunc(UfuncFault::FloatResult)),
+        BinaryOp::Remainder => {
+            if is_zero(right) {
+                return Err(StmtFault::Stmt(StmtError::ZeroDivide));
+            }
+            floor_remainder(left, right)
+        }
+        BinaryOp::Power => {
+            if is_negative(right) {
+                return Err(StmtFault::Ufunc(UfuncFault::FloatResult));
+            }
+            python_int(exact_power(left, right.unsigned_abs()))
+        }
+        BinaryOp::LeftShift => {
+            if is_negative(right) {
+                return Err(StmtFault::Stmt(StmtError::NegativeShift));
+            }
+            left_shift(left, right.unsigned_abs())
+        }
+        BinaryOp::RightShift => {
+            if is_negative(right) {
+                return Err(StmtFault::Stmt(StmtError::NegativeShift));
+            }
+            right_shift(left, right.unsigned_abs())
+        }
+        BinaryOp::BitAnd => python_int(Some(left & right)),
+        BinaryOp::BitXor => python_int(Some(left ^ right)),
+        BinaryOp::BitOr => python_int(Some(left | right)),
+        BinaryOp::Less => Ok(Num::Bool(left < right)),
+        BinaryOp::LessEqual => Ok(Num::Bool(left <= right)),
+        BinaryOp::Greater => Ok(Num::Bool(left > right)),
+        BinaryOp::GreaterEqual => Ok(Num::Bool(left >= right)),
+        BinaryOp::Equal => Ok(Num::Bool(left == right)),
+        BinaryOp::NotEqual => Ok(Num::Bool(left != right)),
+    }
+}

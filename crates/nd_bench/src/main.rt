@@ -1,25 +1,35 @@
 //! How long bulk work takes. `nd_bench copy` prints the times of a copy within a block and of the standard library's, and their
 //! ratio; `nd_bench numbers [COUNT]` prints for each of three arrays its name, how many numbers it has, their sum, and how many
-//! nanoseconds it takes to add them up; `nd_bench cells [COUNT]` edits notebooks of many cells, and prints how long that takes. Without a
-//! word it prints how it is called.
+//! nanoseconds it takes to add them up; `nd_bench convert [COUNT]` prints the same for each of three conversions to a new array, with
+//! the sum of what the numbers become; `nd_bench text [COUNT]` prints for each of three arrays its name, how many elements it has, how
+//! long its text is, and how many nanoseconds it takes to make it; `nd_bench cells [COUNT]` edits notebooks of many cells, and prints
+//! how long that takes. Without a word it prints how it is called.
 #![tactic(auto)]
 
 ghost use Rattle.std.specs.Prelude.{◌≤◌, ◌^◌, ⊤, MatchOption};
 
 mod cells;
+mod convert;
 mod copy;
+mod mixed;
 mod numbers;
+mod text;
 
 use crate::cells::measure_cells;
+use crate::convert::measure_convert;
 use crate::copy::measure_copy;
 use crate::numbers::measure_numbers;
+use crate::text::measure_text;
 use std::{env, io};
 
-/// How many elements of eight bytes are copied, or read.
+/// How many elements of eight bytes are copied, read or converted.
 const ELEMENTS: u64 = 10_000_000;
 
 /// The most elements that an array has.
 const MOST_ELEMENTS: u64 = 1 << 24;
+
+/// The most elements whose text is made. They have 2^20 bytes.
+const MOST_SHOWN: u64 = 1 << 17;
 
 /// The most cells of a notebook, but for the one that prints.
 const MOST_CELLS: u64 = 9_999;
@@ -48,7 +58,11 @@ fn main(rt: HostRuntime) -> io::Result<()> {
     match (word(1), count_of(word(2))) {
         (Some("copy"), _) => measure_copy(&rt, ELEMENTS),
         (Some("numbers"), Some(count)) => measure_numbers(&rt, count),
+        (Some("convert"), Some(count)) => measure_convert(&rt, count),
+        (Some("text"), Some(count)) => measure_text(&rt, count.min(MOST_SHOWN)),
         (Some("cells"), Some(count)) => measure_cells(&rt, count.min(MOST_CELLS)),
-        _ => println!(rt; "usage: nd_bench copy | numbers [COUNT] | cells [COUNT]"),
+        _ => println!(rt;
+            "usage: nd_bench copy | numbers [COUNT] | convert [COUNT] | text [COUNT] | cells [COUNT]"
+        ),
     }
 }

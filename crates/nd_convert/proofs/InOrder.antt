@@ -13,28 +13,8 @@ use Rattle.nd_model.proofs.Residues.{one_wrap}
 use Rattle.nd_element.specs.Elements.{canonical_at}
 use Rattle.nd_convert.specs.Converted.{converted_at, converted_bytes}
 use Rattle.nd_model.specs.Tuple.{count_up, elements_of, indices, number}
-use Rattle.nd_view.proofs.Tuples.{numbers, flat_map_same}
-use Rattle.nd_convert.proofs.Written.{flat_map-map}
-
--- an item for each number
-at_seam : (pre : List Content) (d : Content) (cs : List Content) → content_or (pre ++ d ∷ cs) (length pre) ≡ d
-at_seam [] d cs = refl
-at_seam (x ∷ pre) d cs = at_seam pre d cs
-
-counted : {B : Type 0} (g : Content → List B) (pre cs : List Content) → flat_map (λ k. g (content_or (pre ++ cs) k)) (count_up (length pre) (length cs)) ≡ flat_map g cs
-counted g pre [] = refl
-counted g pre (d ∷ cs) =
-    let next : length pre + 1 ≡ length (pre ++ d ∷ []) = sym (length-append pre (d ∷ [])) in
-    ap₂ (λ a b. a ++ b) (ap g (at_seam pre d cs))
-    ((λ i. flat_map (λ k. g (content_or (sym (append_assoc pre (d ∷ []) cs) i) k)) (count_up (next i) (length cs))) ∙ counted g (pre ++ d ∷ []) cs)
-
--- a list with a content for each element
-pub in_order : {B : Type 0} (g : Content → List B) (shape : List ℕ) (cs : List Content) → length cs ≡ elements_of shape
-    → flat_map (λ i. g (content_in_order shape cs i)) (indices shape) ≡ flat_map g cs
-in_order g shape cs same =
-    sym (flat_map-map (λ k. g (content_or cs k)) (number shape) (indices shape))
-    ∙ ap (flat_map (λ k. g (content_or cs k))) (numbers shape ∙ ap (count_up 0) (sym same))
-    ∙ counted g [] cs
+use Rattle.nd_view.proofs.Tuples.{flat_map_same}
+use Rattle.nd_view.proofs.InOrder.{flat_map-map, in_order}
 
 -- the bytes of numbers, converted
 pub converted_block : (to from : Element) (shape bytes places : List ℕ) → length places ≡ elements_of shape

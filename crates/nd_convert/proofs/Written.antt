@@ -38,10 +38,6 @@ one_more xs ys k size m p f at end long le same done =
     ∙ sym (flat_map-append f (count_up 0 k) (k ∷ [])) ∙ ap (λ j. flat_map f (count_up 0 k ++ j ∷ [])) (sym none)
     ∙ ap (flat_map f) (sym (count_up_more 0 k))
 
-pub flat_map-map : {A B C : Type 0} (f : B → List C) (g : A → B) (xs : List A) → flat_map f (map g xs) ≡ flat_map (λ x. f (g x)) xs
-flat_map-map f g [] = refl
-flat_map-map f g (x ∷ xs) = ap (λ l. f (g x) ++ l) (flat_map-map f g xs)
-
 -- what was written over all of a block
 pub all_written : (old new : List ℕ) → length new ≡ length old → take (length old) (new ++ drop (length new) old) ≡ new
 all_written old new same =

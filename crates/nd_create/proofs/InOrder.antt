@@ -17,13 +17,13 @@ up_more : (from k : ℕ) → count_up from (suc k) ≡ count_up from k ++ (from 
 up_more from zero = let e : from ≡ from + 0 = omega arith in ap (λ n. n ∷ []) e
 up_more from (suc k) = ap (λ l. from ∷ l) (up_more (from + 1) k ∙ (let e : from + 1 + k ≡ from + suc k = omega arith in ap (λ n. count_up (from + 1) k ++ n ∷ []) e))
 
-one_more : (k : ℕ) → count_up 0 (k + 1) ≡ count_up 0 k ++ k ∷ []
+pub one_more : (k : ℕ) → count_up 0 (k + 1) ≡ count_up 0 k ++ k ∷ []
 one_more k =
     let last : k + 1 ≡ suc k = omega arith in
     let same : 0 + k ≡ k = omega arith in
     ap (count_up 0) last ∙ up_more 0 k ∙ ap (λ n. count_up 0 k ++ n ∷ []) same
 
-length-all : (e : Element) (f : ℕ → ℤ) (ks : List ℕ) → length (flat_map (λ j. bytes_of e (f j)) ks) ≡ length ks * size_of e.kind
+pub length-all : (e : Element) (f : ℕ → ℤ) (ks : List ℕ) → length (flat_map (λ j. bytes_of e (f j)) ks) ≡ length ks * size_of e.kind
 length-all e f [] = omega arith
 length-all e f (k ∷ ks) = omega (arith, length-append (bytes_of e (f k)) (flat_map (λ j. bytes_of e (f j)) ks), length-bytes_of e (f k), length-all e f ks)
 

@@ -1,20 +1,26 @@
 -- The bytes of arrays whose elements are all the same.
-use Rattle.std.proofs.Common.{◌≡◌, ℕ, zero, suc, ◌+◌, ◌*◌, ℤ, pos, Bool, true, false, List, [], ◌∷◌, ◌++◌, map, length, replicate, refl, sym, ap, ap₂, ◌∙◌, arith}
-use Rattle.std.specs.Prelude.{slice_set}
+use Rattle.std.proofs.Common.{◌≡◌, ℕ, zero, suc, ◌+◌, ◌*◌, ℤ, pos, Bool, true, false, List, [], ◌∷◌, ◌++◌, map, length, replicate, refl, sym, ap, ap₂, ◌∙◌, arith, append-nil, append_assoc, length-append, take, drop, drop_of_length-le}
+use Rattle.std.specs.Prelude.{slice_set, slice_index_or}
 use Rattle.std.specs.List.{flat_map, zip}
-use Rattle.std.proofs.lemmas.List.{replicate-append-replicate}
+use Rattle.std.proofs.lemmas.List.{length-map, length-replicate, replicate-append-replicate}
+use Rattle.std.proofs.lemmas.Grind.{flat_map-append}
+use Rattle.std.proofs.Math.Seq.{take-length}
 use Rattle.nd_model.specs.Element.{Kind, Boolean, Int8, Int16, Int32, Int64, UInt8, UInt16, UInt32, UInt64, Element, size_of, bytes_of}
 use Rattle.nd_model.specs.Tuple.{count_up, elements_of, indices}
 use Rattle.nd_model.specs.View.{Field, ElementType, One, Structure, item_size}
 use Rattle.nd_model.specs.Session.{put}
-use Rattle.nd_model.specs.Content.{Num, number_writes, field_writes, element_bytes, array_bytes}
+use Rattle.nd_model.specs.Content.{Content, Num, content_in_order, number_writes, field_writes, element_bytes, array_bytes}
 use Rattle.nd_model.specs.Creation.{zero_content}
-use Rattle.nd_model.proofs.Contents.{numbers_bytes}
+use Rattle.nd_model.proofs.Contents.{number_bytes, numbers_bytes}
+use Rattle.nd_model.proofs.Values.{length-bytes_of}
+use Rattle.nd_view.proofs.Tuples.{flat_map_same}
+use Rattle.nd_view.proofs.InOrder.{flat_map-map, in_order}
 use Rattle.nd_model.proofs.Tuples.{length-count_up, length-indices}
 use Rattle.nd_create.specs.Numbers.{bytes_below}
+use Rattle.nd_create.proofs.InOrder.{one_more}
 
 -- the same bytes for each tuple, however they are counted
-same_each : {A B : Type 0} (l : List ℕ) (xs : List A) (ys : List B) → length xs ≡ length ys → flat_map (λ x. l) xs ≡ flat_map (λ y. l) ys
+pub same_each : {A B : Type 0} (l : List ℕ) (xs : List A) (ys : List B) → length xs ≡ length ys → flat_map (λ x. l) xs ≡ flat_map (λ y. l) ys
 same_each l [] [] e = refl
 same_each l [] (y ∷ ys) e = absurd cc
 same_each l (x ∷ xs) [] e = absurd cc
@@ -83,3 +89,43 @@ pub zeros_bytes : (t : ElementType) (shape : List ℕ) (n size : ℕ) → n ≡ 
 zeros_bytes t shape n size is same =
     ap₂ (λ a b. replicate (a * b) 0) (is ∙ sym (length-indices shape)) same
     ∙ sym (all_zeros (element_bytes t (zero_content t)) (item_size t) (indices shape) (element_zeros t))
+
+-- ---- elements that are given
+
+-- the same bytes once more
+pub repeat_more : (l : List ℕ) (k : ℕ) → flat_map (λ j. l) (count_up 0 (k + 1)) ≡ flat_map (λ j. l) (count_up 0 k) ++ l
+repeat_more l k = ap (flat_map (λ j. l)) (one_more k) ∙ flat_map-append (λ j. l) (count_up 0 k) (k ∷ []) ∙ ap (λ r. flat_map (λ j. l) (count_up 0 k) ++ r) (append-nil l)
+
+-- the items of a list, by their numbers
+item_seam : (pre : List ℤ) (z : ℤ) (zs : List ℤ) → slice_index_or (pre ++ z ∷ zs) (length pre) (pos 0) ≡ z
+item_seam [] z zs = refl
+item_seam (x ∷ pre) z zs = item_seam pre z zs
+
+items_from : (g : ℤ → List ℕ) (pre zs : List ℤ) → flat_map (λ k. g (slice_index_or (pre ++ zs) k (pos 0))) (count_up (length pre) (length zs)) ≡ flat_map g zs
+items_from g pre [] = refl
+items_from g pre (z ∷ zs) =
+    let next : length pre + 1 ≡ length (pre ++ z ∷ []) = sym (length-append pre (z ∷ [])) in
+    ap₂ (λ a b. a ++ b) (ap g (item_seam pre z zs))
+    ((λ i. flat_map (λ k. g (slice_index_or (sym (append_assoc pre (z ∷ []) zs) i) k (pos 0))) (count_up (next i) (length zs))) ∙ items_from g (pre ++ z ∷ []) zs)
+
+pub items : (e : Element) (zs : List ℤ) (n : ℕ) → n ≡ length zs → bytes_below e (λ k. slice_index_or zs k (pos 0)) n ≡ flat_map (bytes_of e) zs
+items e zs n is = ap (bytes_below e (λ k. slice_index_or zs k (pos 0))) is ∙ items_from (bytes_of e) [] zs
+
+length-numbers : (e : Element) (zs : List ℤ) → length (flat_map (bytes_of e) zs) ≡ length zs * size_of e.kind
+length-numbers e [] = omega arith
+length-numbers e (z ∷ zs) = omega (arith, length-append (bytes_of e z) (flat_map (bytes_of e) zs), length-bytes_of e z, length-numbers e zs)
+
+-- a block of as many bytes, with the numbers in their place
+pub in_place : (e : Element) (zs : List ℤ) (size : ℕ) (block new : List ℕ) → size ≡ size_of e.kind → block ≡ replicate (length zs * size) 0 → new ≡ flat_map (bytes_of e) zs
+    → take (length block) (new ++ drop (length new) block) ≡ flat_map (bytes_of e) zs
+in_place e zs size block new is zeros filled =
+    let long : length new ≡ length zs * size = ap length filled ∙ length-numbers e zs ∙ ap (λ s. length zs * s) (sym is) in
+    let same : length block ≡ length new = ap length zeros ∙ length-replicate (length zs * size) 0 ∙ sym long in
+    let none : drop (length new) block ≡ [] = drop_of_length-le block {i = length new} (omega (arith, same)) in
+    ap (λ l. take (length block) (new ++ l)) none ∙ ap (take (length block)) (append-nil new) ∙ ap (λ k. take k new) same ∙ take-length new ∙ filled
+
+-- numbers as the elements of an array
+pub list_bytes : (e : Element) (shape : List ℕ) (zs : List ℤ) → length zs ≡ elements_of shape → flat_map (bytes_of e) zs ≡ array_bytes (One e) shape (content_in_order shape (map Num zs))
+list_bytes e shape zs same =
+    let cs : List Content = map Num zs in
+    sym (in_order (element_bytes (One e)) shape cs (length-map zs Num ∙ same) ∙ flat_map-map (element_bytes (One e)) Num zs ∙ flat_map_same (λ z. element_bytes (One e) (Num z)) (bytes_of e) (number_bytes e) zs)

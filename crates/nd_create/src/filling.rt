@@ -2,7 +2,8 @@
 
 ghost use Rattle.std.specs.Prelude.{◌≡◌, ◌*◌, ◌≤◌, ◌^◌, ◌+ℤ◌, ◌*ℤ◌, pos, length};
 ghost use Rattle.std.specs.Int.{int_wrap, w128};
-ghost use Rattle.nd_model.specs.Element.{size_of};
+ghost use Rattle.std.specs.List.{flat_map};
+ghost use Rattle.nd_model.specs.Element.{bytes_of, size_of};
 ghost use Rattle.nd_create.specs.Numbers.{bytes_below, bytes_of_copies};
 
 use nd_block::store_at;
@@ -74,5 +75,17 @@ pub(crate) fn fill_up(bytes: &mut [u8], elem: Elem, start: i128, step: i128, n: 
     for index in 0..n {
         store_at(bytes, index * size, elem, number);
         number = next_number(number, step);
+    }
+}
+
+/// Writes numbers to as many elements. Of a number that the kind does not hold the lowest bits are kept.
+pub(crate) fn fill_in_turn(bytes: &mut [u8], elem: Elem, numbers: &[i128])
+    requires size { length bytes.old ≡ length numbers.now * size_of elem.kind }
+    requires count { length numbers.now ≤ 2 ^ 24 }
+    ensures { bytes.new ≡ flat_map (bytes_of elem) numbers.now }
+{
+    let size = elem.size() as usize;
+    for (index, number) in numbers.iter().enumerate() {
+        store_at(bytes, index * size, elem, *number);
     }
 }

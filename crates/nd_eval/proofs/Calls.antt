@@ -10,7 +10,7 @@ use Rattle.nd_model.specs.Refusing as refusing
 use Rattle.nd_model.specs.Evaluation.{Eval, Gives, run, ◌>>=◌, decide}
 use Rattle.nd_model.specs.Operand.{Operand, Usage, Whole, Unused}
 use Rattle.nd_model.specs.Operation.{Computes, perform, operands, give, Plans, Done, And, with_values}
-use Rattle.nd_model.specs.Creation.{length_of, lengths_of, last_of, filled, full, full_of, full_array, plain_number}
+use Rattle.nd_model.specs.Creation.{length_of, lengths_of, last_of, filled, full, full_of, full_array, without_axes}
 use Rattle.nd_model.specs.Meaning.{value, plan, expr_plans}
 use Rattle.nd_model.specs.Value.{Base}
 use Rattle.nd_heap.specs.declared.value.Value.{Value}
@@ -81,7 +81,7 @@ same_lengths bytes (v ∷ vs) =
 full_same : (t : Option DType) (bytes : Base → List ℕ) (vs : List Value) (o : Operand) → full t (operands_over bytes vs ++ o ∷ []) ≡ full_of t (map unused_of vs) o
 full_same t bytes vs o =
     ap (λ r. refusing.◌>>=◌ r (λ parts. full_of t parts.0 parts.1)) (last_is (operands_over bytes vs) o)
-    ∙ ap (λ l. refusing.◌>>=◌ l (λ shape. refusing.◌>>=◌ (plain_number o) (λ n. full_array t shape n))) (same_lengths bytes vs)
+    ∙ ap (λ l. refusing.◌>>=◌ l (λ shape. refusing.◌>>=◌ (without_axes o) (λ e. full_array t shape e))) (same_lengths bytes vs)
 
 pub full_parts : (i : Inputs) (t : Option DType) (vs : List Value) (v : Value) (r : Running)
     → run i (perform (Computes (full t)) (wholes (map value_of vs) ++ (Whole, value_of v) ∷ [])) r

@@ -1,8 +1,36 @@
 -- Conversion of elements to another type (NumPy user guide, "Data types"; NumPy's `astype`): a number is wrapped, or `not zero` for a
 -- Boolean; a structure stays as it is, in the same type alone.
-use Rattle.nd_model.specs.Element.{wrap}
-use Rattle.nd_model.specs.View.{ElementType, One, Structure}
+use Rattle.std.specs.Prelude.{ℕ, ◌==◌, bytes_eq, Bool, true, false, ◌&&◌, List, [], ◌∷◌}
+use Rattle.nd_model.specs.Element.{Element, size_of, wrap}
+use Rattle.nd_model.specs.Promotion.{sort_of}
+use Rattle.nd_model.specs.View.{Field, ElementType, One, Structure}
 use Rattle.nd_model.specs.Content.{Content, Num, number_in}
+
+-- ---- which types convert
+
+abbrev pub same_order : Bool → Bool → Bool
+same_order true true = true
+same_order false false = true
+same_order _ _ = false
+
+abbrev pub same_element : Element → Element → Bool
+same_element d e = (sort_of d.kind == sort_of e.kind) && (size_of d.kind == size_of e.kind) && same_order d.big e.big
+
+abbrev pub same_field : Field → Field → Bool
+same_field f g = bytes_eq f.name g.name && (f.at == g.at) && same_element f.element g.element
+
+abbrev pub same_fields : List Field → List Field → Bool
+same_fields [] [] = true
+same_fields (f ∷ fs) (g ∷ gs) = same_field f g && same_fields fs gs
+same_fields _ _ = false
+
+-- a number converts to each number, a structure to the same structure alone
+abbrev pub converts : ElementType → ElementType → Bool
+converts (One d) (One e) = true
+converts (Structure fs m) (Structure gs n) = same_fields fs gs && (m == n)
+converts _ _ = false
+
+-- ---- what becomes of them
 
 -- THE CONTENT of another type that a content becomes
 abbrev pub converted_content : ElementType → Content → Content

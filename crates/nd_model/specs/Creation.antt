@@ -1,17 +1,21 @@
 -- New arrays, and numbers of a kind (NumPy user guide, "Array creation").
-use Rattle.std.specs.Prelude.{ℕ, ◌+◌, ◌-◌, ◌/◌, ℤ, pos, ◌+ℤ◌, ◌-ℤ◌, ◌*ℤ◌, int_le, int_lt, unsigned_abs, Bool, true, false, not, if◌then◌else◌, List, [], ◌∷◌, map, Option, Some, None, Result, Ok, Err}
-use Rattle.std.specs.List.{find}
+use Rattle.std.specs.Prelude.{ℕ, ◌+◌, ◌-◌, ◌/◌, ◌==◌, ℤ, pos, ◌+ℤ◌, ◌-ℤ◌, ◌*ℤ◌, int_le, int_lt, unsigned_abs, Bool, true, false, not, ◌&&◌, if◌then◌else◌, List, [], ◌∷◌, length, map, Option, Some, None, Result, Ok, Err}
+use Rattle.std.specs.List.{find, list_all}
+use Rattle.std.specs.Option.{option_or}
 use Rattle.nd_model.specs.Element.{Kind, Boolean, Int64, Element, fits, wrap}
 use Rattle.nd_model.specs.Tuple.{count_up, first_index}
 use Rattle.nd_model.specs.View.{ElementType, One, Structure}
-use Rattle.nd_model.specs.Content.{Content, Num, Rec}
+use Rattle.nd_model.specs.Content.{Content, Num, Rec, number_in, content_in_order}
+use Rattle.nd_model.specs.Conversion.{converts, converted_content}
 use Rattle.nd_model.specs.Calls.{Fill, Zeros, Ones, DType}
+use Rattle.nd_model.specs.Syntax.{Elements as ElementList, NoElement, AndElement, Element as ListElement, Single, Nested}
 use Rattle.nd_model.specs.Types.{element_type}
-use Rattle.nd_model.specs.Fault.{Fault, Stmt, Ufunc, Index, BadArgument, NeedsType, FloatResult, NotNumbers, BoolOp, IntOutOfRange, ZeroStep}
+use Rattle.nd_model.specs.Fault.{Fault, Stmt, Ufunc, Index, BadArgument, NeedsType, RaggedList, FloatResult, NotNumbers, BoolOp, IntOutOfRange, ZeroStep}
 use Rattle.nd_model.specs.Refusing.{◌>>=◌, when}
 use Rattle.nd_model.specs.Broadcast.{in_limits}
 use Rattle.nd_model.specs.Writing.{takes}
-use Rattle.nd_model.specs.Operand.{Number, Int, Truth, Scalar, Operand, Plain, Made, ANumber, AnArray, number_of}
+use Rattle.nd_model.specs.Operand.{Number, Int, Truth, Scalar, Operand, Plain, Elements, Made, ANumber, AnArray, number_of, shape_of, content_of, made_of}
+use Rattle.nd_model.specs.Index.{array_of}
 use Rattle.nd_model.specs.Operators.{is_negative, is_zero}
 
 -- ---- types
@@ -37,10 +41,12 @@ array_kind (Int z) = when (fits Int64 z) (Stmt NeedsType) (Ok Int64)
 array_kind (Truth t) = Ok Boolean
 array_kind (Scalar k z) = Ok k
 
-abbrev pub array_type : Number → Result ElementType Fault
-array_type n = do
+-- the type of an array of an operand: elements keep theirs
+abbrev pub array_type : Operand → Result ElementType Fault
+array_type (Plain n) = do
   k ← array_kind n
   Ok (One (little k))
+array_type (Elements row g cs) = Ok g.element
 
 -- a structure is no number
 abbrev pub number_element : ElementType → Result Element Fault
@@ -61,10 +67,9 @@ lengths_of (o ∷ os) = do
   ns ← lengths_of os
   Ok (n ∷ ns)
 
--- a number; an array in its place is not built yet
-abbrev pub plain_number : Operand → Result Number Fault
-plain_number (Plain n) = Ok n
-plain_number o = Err (Stmt BadArgument)
+-- an operand without axes
+abbrev pub without_axes : Operand → Result Operand Fault
+without_axes o = when (length (shape_of o) == 0) (Stmt BadArgument) (Ok o)
 
 -- the operands before the last one, and the last one
 abbrev pub last_of : List Operand → Result (List Operand × Operand) Fault
@@ -81,13 +86,35 @@ abbrev pub misfit : Kind → Number → Option ℤ
 misfit k (Int z) = if takes k z then None else Some z
 misfit k n = None
 
+-- the same of the elements of a type; elements convert whatever their numbers are
+abbrev pub type_misfit : ElementType → Number → Option ℤ
+type_misfit (One e) n = misfit e.kind n
+type_misfit (Structure fields size) n = None
+
+abbrev pub operand_misfit : ElementType → Operand → Option ℤ
+operand_misfit t (Plain n) = type_misfit t n
+operand_misfit t (Elements row g cs) = None
+
 abbrev pub unless_misfit : {A : Type 0} → Option ℤ → Result A Fault → Result A Fault
 unless_misfit None then_this = then_this
 unless_misfit (Some z) then_this = Err (Ufunc (IntOutOfRange z))
 
--- the number of the kind that a number becomes: wrapped, or `not zero`
-abbrev pub converted : Kind → Number → ℤ
-converted k n = wrap k (number_of n)
+abbrev pub is_number_type : ElementType → Bool
+is_number_type (One e) = true
+is_number_type (Structure fields size) = false
+
+-- whether an operand becomes elements of a type
+abbrev pub operand_converts : Operand → ElementType → Bool
+operand_converts (Plain n) t = is_number_type t
+operand_converts (Elements row g cs) t = converts g.element t
+
+-- the content that its element at an index tuple becomes
+abbrev pub converted_at : ElementType → Operand → List ℕ → Content
+converted_at t o i = converted_content t (content_of o i)
+
+-- a new array of its elements
+abbrev pub converted_array : ElementType → Operand → Made
+converted_array t o = AnArray t (shape_of o) (converted_at t o)
 
 -- ---- `np.zeros`, `np.ones`
 
@@ -118,44 +145,149 @@ filled f dtype os = do
 
 -- ---- `np.full`, `np.array`
 
--- an array of one number
-abbrev pub copies : Element → (shape : List ℕ) → Number → Made
-copies e shape n = uniform (One e) shape (Num (converted e.kind n))
+-- what the elements of a new array are: of the type that is written, or else of the operand's own
+abbrev pub type_for : Option DType → Operand → Result ElementType Fault
+type_for dtype o = do
+  t ← type_or dtype (array_type o)
+  when (operand_converts o t) (Ufunc NotNumbers) (Ok t)
 
--- what its elements are: of the type that is written, or else of the number's own
-abbrev pub element_for : Option DType → Number → Result Element Fault
-element_for dtype n = do
-  t ← type_or dtype (array_type n)
-  number_element t
-
-abbrev pub full_array : Option DType → (shape : List ℕ) → Number → Result Made Fault
-full_array dtype shape n = do
-  e ← element_for dtype n
-  in_limits (One e) shape (unless_misfit (misfit e.kind n) (Ok (copies e shape n)))
+abbrev pub full_array : Option DType → (shape : List ℕ) → Operand → Result Made Fault
+full_array dtype shape o = do
+  t ← type_for dtype o
+  in_limits t shape (unless_misfit (operand_misfit t o) (Ok (uniform t shape (converted_at t o []))))
 
 -- of the lengths and the value
 abbrev pub full_of : Option DType → List Operand → Operand → Result Made Fault
 full_of dtype os o = do
   shape ← lengths_of os
-  n ← plain_number o
-  full_array dtype shape n
+  e ← without_axes o
+  full_array dtype shape e
 
 abbrev pub full : Option DType → List Operand → Result Made Fault
 full dtype os = do
   parts ← last_of os
   full_of dtype parts.0 parts.1
 
-abbrev pub array_of_number : Option DType → Operand → Result Made Fault
-array_of_number dtype o = do
-  n ← plain_number o
-  full_array dtype [] n
+-- of what is no list
+abbrev pub new_array : Option DType → Operand → Result Made Fault
+new_array dtype o = do
+  t ← type_for dtype o
+  unless_misfit (operand_misfit t o) (Ok (converted_array t o))
 
--- ---- `np.int8(e)` and the like
+-- ---- `np.array` of a list
+
+abbrev pub element_count : ElementList → ℕ
+element_count NoElement = 0
+element_count (AndElement e es) = 1 + element_count es
+
+-- the lengths down the first elements
+abbrev mutual
+  pub shape_of_element : ListElement → List ℕ
+  shape_of_element (Single e) = []
+  shape_of_element (Nested es) = element_count es ∷ shape_of_first es
+
+  pub shape_of_first : ElementList → List ℕ
+  shape_of_first NoElement = []
+  shape_of_first (AndElement e es) = shape_of_element e
+
+-- a number has no lengths; a list has as many elements as its first length says, and each of them has the others
+abbrev mutual
+  pub has_shape : List ℕ → ListElement → Bool
+  has_shape [] (Single e) = true
+  has_shape (n ∷ shape) (Nested es) = (element_count es == n) && have_shape shape es
+  has_shape _ _ = false
+
+  pub have_shape : List ℕ → ElementList → Bool
+  have_shape shape NoElement = true
+  have_shape shape (AndElement e es) = has_shape shape e && have_shape shape es
+
+-- the shape of a list that is nested evenly
+abbrev pub even_shape : ListElement → Result (List ℕ) Fault
+even_shape x = when (has_shape (shape_of_element x) x) (Stmt RaggedList) (Ok (shape_of_element x))
+
+-- items are Python numbers
+abbrev pub python_number : Operand → Result Number Fault
+python_number (Plain (Int z)) = Ok (Int z)
+python_number (Plain (Truth t)) = Ok (Truth t)
+python_number o = Err (Stmt BadArgument)
+
+abbrev pub python_numbers : List Operand → Result (List Number) Fault
+python_numbers [] = Ok []
+python_numbers (o ∷ os) = do
+  n ← python_number o
+  ns ← python_numbers os
+  Ok (n ∷ ns)
+
+abbrev pub is_truth : Number → Bool
+is_truth (Truth t) = true
+is_truth n = false
+
+abbrev pub fits_int64 : Number → Bool
+fits_int64 n = fits Int64 (number_of n)
+
+-- Booleans alone give Booleans, else the numbers are int64; no number gives float64, which there is not
+abbrev pub list_kind : List Number → Result Kind Fault
+list_kind [] = Err (Ufunc FloatResult)
+list_kind ns =
+    if list_all is_truth ns then Ok Boolean
+    else when (list_all fits_int64 ns) (Stmt NeedsType) (Ok Int64)
+
+abbrev pub list_type : List Number → Result ElementType Fault
+list_type ns = do
+  k ← list_kind ns
+  Ok (One (little k))
+
+-- the first Python integer that a kind does not take
+abbrev pub first_misfit : Kind → List Number → Option ℤ
+first_misfit k [] = None
+first_misfit k (n ∷ ns) = option_or (misfit k n) (first_misfit k ns)
+
+abbrev pub converted_numbers : Kind → List Number → List Content
+converted_numbers k ns = map (λ n. Num (wrap k (number_of n))) ns
+
+abbrev pub array_of_numbers : Element → (shape : List ℕ) → List Number → Result Made Fault
+array_of_numbers e shape ns =
+    in_limits (One e) shape (unless_misfit (first_misfit e.kind ns) (Ok (AnArray (One e) shape (content_in_order shape (converted_numbers e.kind ns)))))
+
+abbrev pub element_for_list : Option DType → List Number → Result Element Fault
+element_for_list dtype ns = do
+  t ← type_or dtype (list_type ns)
+  number_element t
+
+abbrev pub array_of_list : ListElement → Option DType → List Operand → Result Made Fault
+array_of_list x dtype os = do
+  ns ← python_numbers os
+  shape ← even_shape x
+  e ← element_for_list dtype ns
+  array_of_numbers e shape ns
+
+-- ---- `np.int8(e)` and the like, `.copy()`, `.astype(t)`
 
 abbrev pub convert : Kind → Operand → Result Made Fault
-convert k o = do
-  n ← plain_number o
-  unless_misfit (misfit k n) (Ok (ANumber (Scalar k (converted k n))))
+convert k o =
+    when (operand_converts o (One (little k))) (Ufunc NotNumbers)
+    (unless_misfit (operand_misfit (One (little k)) o) (Ok (made_of k (shape_of o) (λ i. wrap k (number_in (content_of o i))))))
+
+abbrev pub copy_array : Operand → Result Made Fault
+copy_array o = do
+  g ← array_of o
+  Ok (AnArray g.element g.shape (content_of o))
+
+-- a NumPy scalar stays one
+abbrev pub convert_to : ElementType → Operand → Result Made Fault
+convert_to t (Plain (Scalar k z)) = do
+  e ← number_element t
+  Ok (ANumber (Scalar e.kind (wrap e.kind z)))
+convert_to t o = do
+  g ← array_of o
+  d ← number_element g.element
+  e ← number_element t
+  Ok (converted_array t o)
+
+abbrev pub astype : DType → Operand → Result Made Fault
+astype dtype o = do
+  t ← element_type dtype
+  convert_to t o
 
 -- ---- `np.arange`
 

@@ -11,7 +11,7 @@ use Rattle.nd_model.specs.Evaluation.{Eval}
 use Rattle.nd_model.specs.Operand.{Int, Truth, Operand, Usage, Whole, ArraysOnly, Unused, Made, ANumber, Deed, NoDeed, BindsFirst, Unbinds, Writes}
 use Rattle.nd_model.specs.Operators as operators
 use Rattle.nd_model.specs.Operators.{Of, binary, single, call_binary, call_single}
-use Rattle.nd_model.specs.Creation.{arange, filled, full, array_of_number, convert}
+use Rattle.nd_model.specs.Creation.{arange, filled, full, new_array, convert}
 use Rattle.nd_model.specs.Writing.{assignment_writes}
 use Rattle.nd_model.specs.Viewing.{Indexed}
 use Rattle.nd_model.specs.Printing.{print_deed}
@@ -56,7 +56,7 @@ abbrev mutual
   call_plan (Arange a b c t) = Does (Computes (arange (is_given a) (is_given c) t)) (bound_plans a (And Unused (plan b) (bound_plans c Done)))
   call_plan (Filled f shape t) = Does (Computes (filled f t)) (expr_plans Unused shape Done)
   call_plan (Full shape e t) = Does (Computes (full t)) (expr_plans Whole shape (And Whole (plan e) Done))
-  call_plan (NewArray (Single e) t) = Does (Computes (one (array_of_number t))) (And Whole (plan e) Done)
+  call_plan (NewArray (Single e) t) = Does (Computes (one (new_array t))) (And Whole (plan e) Done)
   call_plan (Convert k e) = Does (Computes (one (convert k))) (And Whole (plan e) Done)
   call_plan (Minimum a b) = Does (Computes (two (call_binary operators.Minimum))) (And Whole (plan a) (And Whole (plan b) Done))
   call_plan (Maximum a b) = Does (Computes (two (call_binary operators.Maximum))) (And Whole (plan a) (And Whole (plan b) Done))

@@ -13,10 +13,10 @@ use Rattle.nd_model.specs.Strides.{limit_fault}
 use Rattle.nd_model.specs.Fault.{Fault, ViewFault, View, Ufunc, FloatResult, TooManyAxes, TooManyElements}
 use Rattle.nd_model.specs.Refusing as refusing
 use Rattle.nd_model.specs.Evaluation.{Refuses, ◌>>=◌, decide}
-use Rattle.nd_model.specs.Operand.{Number, Operand, Made}
+use Rattle.nd_model.specs.Operand.{Operand, Made}
 use Rattle.nd_model.specs.Operation.{give, fresh_array}
 use Rattle.nd_model.specs.Broadcast.{unless_fault, in_limits}
-use Rattle.nd_model.specs.Creation.{type_or, length_of, lengths_of, element_for, fill_content, uniform, copies, filled_array, full_array, full_of, plain_number, misfit, unless_misfit}
+use Rattle.nd_model.specs.Creation.{type_or, type_for, length_of, lengths_of, fill_content, uniform, filled_array, full_array, full_of, without_axes, operand_misfit, converted_at, unless_misfit}
 use Rattle.nd_operation.specs.declared.fault.StmtFault.{StmtFault}
 use Rattle.nd_operation.specs.declared.stop.Stop.{Stop}
 use Rattle.nd_operation.specs.declared.stop.Stop.TheVariants.{Memory, Refused}
@@ -138,8 +138,8 @@ filled_clip : (f : Fill) (dtype : Option DType) (ns : List ℕ) → filled_array
 filled_clip f dtype ns =
     same_then (type_or dtype (Err (Ufunc FloatResult))) _ _ (λ t. same_then (fill_content f t) _ _ (λ c. clip_limits t ns (λ s. Ok (uniform t s c))))
 
-full_clip : (dtype : Option DType) (n : Number) (ns : List ℕ) → full_array dtype (map clip ns) n ≡ full_array dtype ns n
-full_clip dtype n ns = same_then (element_for dtype n) _ _ (λ e. clip_limits (One e) ns (λ s. unless_misfit (misfit e.kind n) (Ok (copies e s n))))
+full_clip : (dtype : Option DType) (o : Operand) (ns : List ℕ) → full_array dtype (map clip ns) o ≡ full_array dtype ns o
+full_clip dtype o ns = same_then (type_for dtype o) _ _ (λ t. clip_limits t ns (λ s. unless_misfit (operand_misfit t o) (Ok (uniform t s (converted_at t o [])))))
 
 -- lengths that were read
 read_lengths : (L : Result (List ℕ) Fault) (v : List ℕ) (go : List ℕ → Result Made Fault) → clip_lengths L ≡ Ok v → ((ns : List ℕ) → go (map clip ns) ≡ go ns)
@@ -155,13 +155,22 @@ pub filled_lengths : (f : Fill) (dtype : Option DType) (os : List Operand) (v : 
     → MakesNew o (filled_array f dtype v) → MakesNew o (refusing.◌>>=◌ (lengths_of os) (filled_array f dtype))
 filled_lengths f dtype os v o h made = subst (MakesNew o) (sym (read_lengths (lengths_of os) v (filled_array f dtype) h (filled_clip f dtype))) made
 
-pub full_lengths : (dtype : Option DType) (os : List Operand) (x : Operand) (v : List ℕ) (n : Number) (o : Result New Stop) → clip_lengths (lengths_of os) ≡ Ok v → plain_number x ≡ Ok n
-    → MakesNew o (full_array dtype v n) → MakesNew o (full_of dtype os x)
-full_lengths dtype os x v n o h is made =
+pub full_lengths : (dtype : Option DType) (os : List Operand) (x : Operand) (v : List ℕ) (o : Result New Stop) → clip_lengths (lengths_of os) ≡ Ok v → without_axes x ≡ Ok x
+    → MakesNew o (full_array dtype v x) → MakesNew o (full_of dtype os x)
+full_lengths dtype os x v o h is made =
     subst (MakesNew o)
-    (sym (read_lengths (lengths_of os) v (λ shape. refusing.◌>>=◌ (plain_number x) (λ n. full_array dtype shape n)) h
-    (λ ns. same_then (plain_number x) _ _ (λ n. full_clip dtype n ns))
+    (sym (read_lengths (lengths_of os) v (λ shape. refusing.◌>>=◌ (without_axes x) (λ n. full_array dtype shape n)) h
+    (λ ns. same_then (without_axes x) _ _ (λ n. full_clip dtype n ns))
     ∙ ap (λ p. refusing.◌>>=◌ p (λ n. full_array dtype v n)) is)) made
+
+-- what has axes fills no array
+pub full_refused : (dtype : Option DType) (os : List Operand) (x : Operand) (v : List ℕ) (f : StmtFault) (o : Result New Stop) → IsErrAnd o (λ e. e ≡ Refused f)
+    → clip_lengths (lengths_of os) ≡ Ok v → without_axes x ≡ Err (fault_of f) → MakesNew o (full_of dtype os x)
+full_refused dtype os x v f o stops h is =
+    new_refused (full_of dtype os x) f o stops
+    (read_lengths (lengths_of os) v (λ shape. refusing.◌>>=◌ (without_axes x) (λ n. full_array dtype shape n)) h
+    (λ ns. same_then (without_axes x) _ _ (λ n. full_clip dtype n ns))
+    ∙ ap (λ p. refusing.◌>>=◌ p (λ n. full_array dtype v n)) is)
 
 -- the exit by `?` there
 pub lengths_exit : (os : List Operand) (go : List ℕ → Result Made Fault) (e : Stop) (o : Result New Stop) → IsErrAnd o (λ x. x ≡ e)

@@ -6,3 +6,5 @@ pub mod Writes
 pub mod WholeNumbers
 pub mod Creating
 pub mod Ranging
+pub mod Converting
+pub mod Listing

@@ -5,3 +5,4 @@ pub mod Lines
 pub mod New
 pub mod Stops
 pub mod OfTwo
+pub mod Listing

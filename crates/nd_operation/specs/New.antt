@@ -20,8 +20,8 @@ use Rattle.nd_operation.specs.declared.stop.Stop.{Stop}
 use Rattle.nd_operation.specs.declared.stop.Stop.TheVariants.{Memory, Refused}
 use Rattle.nd_operation.specs.declared.operand.New.{New}
 use Rattle.nd_operation.specs.declared.operand.New.TheVariants.{Number, Array}
-use Rattle.nd_operation.specs.declared.creation.OfOne.{OfOne}
-use Rattle.nd_operation.specs.declared.creation.OfOne.TheVariants.{Operator, Ufunc, ArrayOf, Convert}
+use Rattle.nd_operation.specs.declared.calls.OfOne.{OfOne}
+use Rattle.nd_operation.specs.declared.calls.OfOne.TheVariants.{Operator, Ufunc, ArrayOf, Convert, Copy, AsType}
 use Rattle.nd_operation.specs.Contents.{unused_of}
 use Rattle.nd_operation.specs.Faults.{fault_of}
 use Rattle.nd_ufunc.specs.Ufuncs.{single_of}
@@ -41,8 +41,10 @@ MakesNew (Err (Refused f)) made = (decide made >>= give) ≡ Refuses (fault_of f
 abbrev pub made_of_one : OfOne → operand.Operand → Result operand.Made Fault
 made_of_one (Operator op) = single (single_of op)
 made_of_one (Ufunc op) = call_single (single_of op)
-made_of_one (ArrayOf t) = creation.array_of_number (option_map dtype_of t.now)
+made_of_one (ArrayOf t) = creation.new_array (option_map dtype_of t.now)
 made_of_one (Convert k) = creation.convert (kind_of k)
+made_of_one Copy = creation.copy_array
+made_of_one (AsType t) = creation.astype (dtype_of t.now)
 
 -- ---- lengths
 

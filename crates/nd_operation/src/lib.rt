@@ -1,10 +1,14 @@
 //! What operations make of their operands: numbers, new arrays, texts, places and bytes to write.
 #![tactic(auto)]
 
+mod calls;
+mod conversion;
 mod creation;
 mod effect;
+mod elements;
 mod fault;
 mod indexes;
+mod lists;
 mod numbers;
 mod operand;
 mod operators;
@@ -14,10 +18,12 @@ mod ranges;
 mod stop;
 mod writing;
 
-pub use creation::{OfOne, make_filled, make_full, make_of_one};
+pub use calls::{OfOne, make_of_one};
+pub use creation::{make_filled, make_full};
 pub use effect::ElementWrite;
 pub use fault::{IndexFault, StmtError, StmtFault, UfuncFault, ViewFault};
 pub use indexes::index_array;
+pub use lists::make_list;
 pub use operand::{ElementPlace, Elements, New, Operand};
 pub use operators::{OfTwo, apply_binary};
 pub use printing::print_line;

@@ -1,9 +1,8 @@
 //! The texts of operands, no longer than a cell's text may be.
 
 ghost use Rattle.std.specs.Prelude.{◌≡◌, map, string_bytes};
-ghost use Rattle.nd_model.specs.Content.{content_at};
 ghost use Rattle.nd_model.specs.Printing.{printed_line};
-ghost use Rattle.nd_operation.specs.Contents.{contents_over, elements_over, operand_of};
+ghost use Rattle.nd_operation.specs.Contents.{elements_over, operand_of};
 ghost use Rattle.nd_operation.specs.Lines.{limit_line, line_with};
 ghost use Rattle.nd_operation.specs.Ends.{Makes, Says};
 
@@ -11,7 +10,6 @@ use crate::fault::{StmtError, StmtFault};
 use crate::operand::{Elements, Operand};
 use crate::stop::Stop;
 use nd_print::{Fit, push_elements, scalar_text};
-use nd_types::ElemType;
 use std::alloc::Global;
 
 /// The most bytes of a cell's text.
@@ -27,27 +25,13 @@ fn check_length(text: &String) -> Result<(), StmtFault>
     Ok(())
 }
 
-/// Says that the contents of an array are those of its places in its block, and does nothing.
-fn soundness(elements: &Elements<'_>)
-    ensures { contents_over elements.now.view.now elements.now.block.now
-        ≡ map (content_at elements.now.view.now.element elements.now.block.now)
-        elements.now.view.now.places }
-{
-    match elements.view.elem() {
-        ElemType::One(_) => {}
-        ElemType::Rec(structure) => {
-            structure.fields();
-        }
-    }
-}
-
 /// Puts the text of an array's elements behind a line. Of an array whose text is too long none is built.
 fn push_array(alloc: Global, line: &mut String, elements: &Elements<'_>) -> Result<(), Stop>
     ensures { Makes (λ u. string_bytes line.new) result
         (limit_line (line_with (string_bytes line.old)
         (elements_over elements.now.view.now elements.now.block.now))) }
 {
-    soundness(elements);
+    elements.soundness();
     check_length(line)?;
     match push_elements(alloc, line, MOST_TEXT, elements.view, elements.block)? {
         Fit::Whole => Ok(()),

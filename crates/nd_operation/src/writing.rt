@@ -47,7 +47,7 @@ fn takes(kind: Kind, number: i128) -> bool
 }
 
 /// The first number of elements, 0 where there is none.
-fn first_of(elements: &Elements<'_>) -> i128
+pub(crate) fn first_of(elements: &Elements<'_>) -> i128
     ensures { result ≡ writing.first_of (contents_over elements.now.view.now
         elements.now.block.now) }
 {

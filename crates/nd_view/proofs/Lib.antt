@@ -22,3 +22,4 @@ pub mod Inner
 pub mod ViewLoops
 pub mod Unravelled
 pub mod ByRuns
+pub mod InOrder

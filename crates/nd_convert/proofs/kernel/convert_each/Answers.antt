@@ -10,7 +10,8 @@ use Rattle.nd_model.specs.Runs.{spot_at}
 use Rattle.nd_model.specs.Tuple.{count_up}
 use Rattle.nd_model.proofs.Values.{length-bytes_of}
 use Rattle.nd_convert.specs.Converted.{converted_at}
-use Rattle.nd_convert.proofs.Written.{one_more, flat_map-map}
+use Rattle.nd_view.proofs.InOrder.{flat_map-map}
+use Rattle.nd_convert.proofs.Written.{one_more}
 use Rattle.nd_convert.proofs.kernel.convert_each.Goals as goal
 
 pub loop-index-preserved : goal.loop-index-preserved

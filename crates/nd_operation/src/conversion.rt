@@ -1,0 +1,322 @@
+//! Numbers and elements, converted to a type (NumPy user guide, "Data types").
+
+ghost use Rattle.std.specs.Prelude.{◌≡◌, [], option_map, true, IfOk, Ok};
+ghost use Rattle.nd_model.specs.Content.{array_bytes, content_in_order};
+ghost use Rattle.nd_model.specs.Conversion as conversion;
+ghost use Rattle.nd_model.specs.Creation as creation;
+ghost use Rattle.nd_model.specs.Operand as operand;
+ghost use Rattle.nd_model.specs.Operand.{Plain};
+ghost use Rattle.nd_model.specs.Strides.{IsInLimits};
+ghost use Rattle.nd_model.specs.View.{One, item_size};
+ghost use Rattle.nd_types.specs.Kinds.{kind_of};
+ghost use Rattle.nd_types.specs.Types.{type_of};
+ghost use Rattle.nd_syntax.specs.Calls.{dtype_of};
+ghost use Rattle.nd_operation.specs.Contents.{contents_over, elements_over, num_of, operand_of};
+ghost use Rattle.nd_operation.specs.Ends.{Makes, Says};
+ghost use Rattle.nd_operation.specs.New.{MakesNew};
+ghost use Rattle.nd_operation.specs.declared.fault.StmtFault.TheVariants.{Stmt, Ufunc};
+ghost use Rattle.nd_operation.specs.declared.fault.StmtError.TheVariants.{NotAnArray};
+ghost use Rattle.nd_ufunc.specs.declared.fault.UfuncFault.TheVariants.{NotNumbers};
+
+use crate::creation::{check_limits, copies};
+use crate::fault::{StmtError, StmtFault, UfuncFault};
+use crate::operand::{Elements, New, Operand};
+use crate::stop::Stop;
+use crate::writing::first_of;
+use nd_block::RawBlock;
+use nd_convert::{convert_numbers, copy_elements};
+use nd_create::repeat;
+use nd_dtype::element_type;
+use nd_syntax::DType;
+use nd_types::{Elem, ElemType, Kind, Num, fits, wrap};
+use nd_view::View;
+use std::alloc::{AllocError, Global};
+
+// ---- refusals
+
+/// The refusal of a structure where a number is wanted.
+pub(crate) fn not_numbers() -> StmtFault
+    ensures { result ≡ Ufunc NotNumbers }
+{
+    StmtFault::Ufunc(UfuncFault::NotNumbers)
+}
+
+/// The refusal of what is no array.
+fn not_an_array() -> StmtFault
+    ensures { result ≡ Stmt NotAnArray }
+{
+    StmtFault::Stmt(StmtError::NotAnArray)
+}
+
+// ---- numbers
+
+/// The kind of an array of a number.
+fn array_kind(number: Num) -> Result<Kind, StmtFault>
+    ensures { Says kind_of result (creation.array_kind (num_of number)) }
+{
+    match number {
+        Num::Int(int) => {
+            if !fits(Kind::I64, int) {
+                return Err(StmtFault::Stmt(StmtError::NeedsType));
+            }
+            Ok(Kind::I64)
+        }
+        Num::Bool(_) => Ok(Kind::Bool),
+        Num::Scalar(kind, _) => Ok(kind),
+    }
+}
+
+/// The whole number that a number counts as.
+pub(crate) fn whole_number(number: Num) -> i128
+    ensures { result ≡ operand.number_of (num_of number) }
+{
+    match number {
+        Num::Int(int) => int,
+        Num::Bool(truth) => i128::from(truth),
+        Num::Scalar(_, int) => int,
+    }
+}
+
+/// A Python integer that a kind does not take. A Boolean takes each.
+pub(crate) fn misfit(kind: Kind, number: Num) -> Option<i128>
+    ensures { result ≡ creation.misfit (kind_of kind) (num_of number) }
+{
+    match number {
+        Num::Int(int) => {
+            if kind == Kind::Bool || fits(kind, int) {
+                return None;
+            }
+            Some(int)
+        }
+        Num::Bool(_) | Num::Scalar(_, _) => None,
+    }
+}
+
+/// Refuses a Python integer that a kind does not take.
+fn check_fit(kind: Kind, number: Num) -> Result<(), StmtFault>
+    ensures { Says (λ u. u) result
+        (creation.unless_misfit (creation.misfit (kind_of kind) (num_of number)) (Ok (tt {0}))) }
+{
+    match misfit(kind, number) {
+        Some(int) => Err(StmtFault::Ufunc(UfuncFault::IntOutOfRange(int))),
+        None => Ok(()),
+    }
+}
+
+/// What the elements of an array of a number are: of the type that is written, or else of the number's own.
+fn element_for(alloc: Global, dtype: &Option<DType>, number: Num) -> Result<Elem, Stop>
+    ensures { Makes (λ e. One e) result
+        (creation.type_for (option_map dtype_of dtype.now) (Plain (num_of number))) }
+{
+    let Some(dtype) = dtype else {
+        let kind = array_kind(number)?;
+        return Ok(Elem::little(kind));
+    };
+    match element_type(alloc, dtype)? {
+        ElemType::One(elem) => Ok(elem),
+        ElemType::Rec(_) => Err(Stop::Refused(not_numbers())),
+    }
+}
+
+/// A new array of one number, of the type that is written or else of the number's own.
+pub(crate) fn number_array(
+    alloc: Global,
+    dtype: &Option<DType>,
+    shape: &[u64],
+    number: Num,
+) -> Result<New, Stop>
+    ensures { MakesNew result (creation.full_array (option_map dtype_of dtype.now) shape.now
+        (Plain (num_of number))) }
+{
+    let elem = element_for(alloc, dtype, number)?;
+    check_limits(elem.size(), shape)?;
+    check_fit(elem.kind(), number)?;
+    copies(alloc, elem, shape, wrap(elem.kind(), whole_number(number)))
+}
+
+// ---- elements
+
+/// Whether elements become elements of a type.
+fn converts(from: &ElemType, to: &ElemType) -> bool
+    ensures { result ≡ conversion.converts (type_of from.now) (type_of to.now) }
+{
+    match from {
+        ElemType::One(_) => matches!(to, ElemType::One(_)),
+        ElemType::Rec(_) => from.is_same(to),
+    }
+}
+
+/// What the elements of an array of elements are: of the type that is written, or else of their own.
+fn type_for(alloc: Global, dtype: &Option<DType>, elements: &Elements<'_>) -> Result<ElemType, Stop>
+    ensures { Makes type_of result (creation.type_for (option_map dtype_of dtype.now)
+        (elements_over elements.now.view.now elements.now.block.now)) }
+{
+    let own = elements.view.elem();
+    let Some(dtype) = dtype else {
+        return Ok(own.try_clone()?);
+    };
+    let elem = element_type(alloc, dtype)?;
+    if !converts(own, &elem) {
+        return Err(Stop::Refused(not_numbers()));
+    }
+    Ok(elem)
+}
+
+/// The block of a new array of elements in a type that they convert to.
+fn converted_block(
+    alloc: Global,
+    elements: &Elements<'_>,
+    elem: &ElemType,
+) -> Result<RawBlock, AllocError>
+    requires { conversion.converts elements.now.view.now.element (type_of elem.now) ≡ true }
+    ensures { IfOk result (λ b. b ≡ array_bytes (type_of elem.now) elements.now.view.now.shape
+        (creation.converted_at (type_of elem.now)
+        (elements_over elements.now.view.now elements.now.block.now))) }
+{
+    elements.soundness();
+    match (elem, elements.view.elem()) {
+        (ElemType::One(to), ElemType::One(from)) => {
+            convert_numbers(alloc, elements.view, *from, elements.block, *to)
+        }
+        (ElemType::One(_), ElemType::Rec(_)) => copy_elements(alloc, elements.view, elements.block),
+        (ElemType::Rec(_), _) => copy_elements(alloc, elements.view, elements.block),
+    }
+}
+
+/// A new array of elements in a type that they convert to.
+fn convert_elements(alloc: Global, elements: &Elements<'_>, elem: ElemType) -> Result<New, Stop>
+    requires { conversion.converts elements.now.view.now.element (type_of elem) ≡ true }
+    ensures { MakesNew result (Ok (creation.converted_array (type_of elem)
+        (elements_over elements.now.view.now elements.now.block.now))) }
+{
+    let shape = elements.view.shape();
+    check_limits(elem.size(), shape)?;
+    let block = converted_block(alloc, elements, &elem)?;
+    let view = View::contiguous(alloc, elem, shape)?;
+    Ok(New::Array(view, block))
+}
+
+/// A new array of structures that are all the same.
+fn structure_copies(
+    alloc: Global,
+    elem: ElemType,
+    shape: &[u64],
+    elements: &Elements<'_>,
+) -> Result<New, Stop>
+    requires type_is { type_of elem ≡ elements.now.view.now.element }
+    requires limits { IsInLimits (item_size (type_of elem)) shape.now }
+    requires alone { elements.now.view.now.shape ≡ [] }
+    ensures { MakesNew result (Ok (creation.uniform (type_of elem) shape.now
+        (content_in_order [] (contents_over elements.now.view.now elements.now.block.now) []))) }
+{
+    elements.soundness();
+    let element = copy_elements(alloc, elements.view, elements.block)?;
+    let view = View::contiguous(alloc, elem, shape)?;
+    let block = repeat(alloc, &view, element.as_slice())?;
+    Ok(New::Array(view, block))
+}
+
+/// A new array of the one element of an array without axes, in the type that is written or else in its own.
+pub(crate) fn element_array(
+    alloc: Global,
+    dtype: &Option<DType>,
+    shape: &[u64],
+    elements: &Elements<'_>,
+) -> Result<New, Stop>
+    requires { elements.now.view.now.shape ≡ [] }
+    ensures { MakesNew result (creation.full_array (option_map dtype_of dtype.now) shape.now
+        (elements_over elements.now.view.now elements.now.block.now)) }
+{
+    let elem = type_for(alloc, dtype, elements)?;
+    check_limits(elem.size(), shape)?;
+    if let ElemType::One(elem) = elem {
+        return copies(alloc, elem, shape, wrap(elem.kind(), first_of(elements)));
+    }
+    structure_copies(alloc, elem, shape, elements)
+}
+
+// ---- calls
+
+/// `np.array` of what is no list.
+pub(crate) fn new_array(
+    alloc: Global,
+    dtype: &Option<DType>,
+    operand: &Operand<'_>,
+) -> Result<New, Stop>
+    ensures { MakesNew result (creation.new_array (option_map dtype_of dtype.now)
+        (operand_of operand.now)) }
+{
+    match operand {
+        Operand::Number(number) => number_array(alloc, dtype, &[], *number),
+        Operand::Elements(elements) => {
+            let elem = type_for(alloc, dtype, elements)?;
+            convert_elements(alloc, elements, elem)
+        }
+    }
+}
+
+/// `np.int8` and the like: of what has no axes a number.
+pub(crate) fn convert(alloc: Global, kind: Kind, operand: &Operand<'_>) -> Result<New, Stop>
+    ensures { MakesNew result (creation.convert (kind_of kind) (operand_of operand.now)) }
+{
+    match operand {
+        Operand::Number(number) => {
+            check_fit(kind, *number)?;
+            let number = wrap(kind, whole_number(*number));
+            Ok(New::Number(Num::Scalar(kind, number)))
+        }
+        Operand::Elements(elements) => {
+            let ElemType::One(_) = elements.view.elem() else {
+                return Err(Stop::Refused(not_numbers()));
+            };
+            if elements.view.shape().is_empty() {
+                let number = wrap(kind, first_of(elements));
+                return Ok(New::Number(Num::Scalar(kind, number)));
+            }
+            convert_elements(alloc, elements, ElemType::One(Elem::little(kind)))
+        }
+    }
+}
+
+/// `.copy()`
+pub(crate) fn copy_array(alloc: Global, operand: &Operand<'_>) -> Result<New, Stop>
+    ensures { MakesNew result (creation.copy_array (operand_of operand.now)) }
+{
+    let Operand::Elements(elements) = operand else {
+        return Err(Stop::Refused(not_an_array()));
+    };
+    elements.soundness();
+    let view = elements.view;
+    check_limits(view.elem().size(), view.shape())?;
+    let block = copy_elements(alloc, view, elements.block)?;
+    let copy = View::contiguous(alloc, view.elem().try_clone()?, view.shape())?;
+    Ok(New::Array(copy, block))
+}
+
+/// What a type of numbers makes of an operand: a NumPy scalar stays one.
+fn convert_to(alloc: Global, elem: ElemType, operand: &Operand<'_>) -> Result<New, Stop>
+    ensures { MakesNew result (creation.convert_to (type_of elem) (operand_of operand.now)) }
+{
+    match (operand, &elem) {
+        (Operand::Number(Num::Scalar(_, number)), ElemType::One(elem)) => {
+            let number = wrap(elem.kind(), *number);
+            Ok(New::Number(Num::Scalar(elem.kind(), number)))
+        }
+        (Operand::Number(Num::Scalar(_, _)), ElemType::Rec(_)) => {
+            Err(Stop::Refused(not_numbers()))
+        }
+        (Operand::Number(_), _) => Err(Stop::Refused(not_an_array())),
+        (Operand::Elements(elements), _) => match (elements.view.elem(), &elem) {
+            (ElemType::One(_), ElemType::One(_)) => convert_elements(alloc, elements, elem),
+            _ => Err(Stop::Refused(not_numbers())),
+        },
+    }
+}
+
+/// `.astype(t)`
+pub(crate) fn astype(alloc: Global, dtype: &DType, operand: &Operand<'_>) -> Result<New, Stop>
+    ensures { MakesNew result (creation.astype (dtype_of dtype.now) (operand_of operand.now)) }
+{
+    let elem = element_type(alloc, dtype)?;
+    convert_to(alloc, elem, operand)
+}

@@ -1,0 +1,24 @@
+//! What elements stand for.
+
+ghost use Rattle.std.specs.Prelude.{◌≡◌, map};
+ghost use Rattle.nd_model.specs.Content.{content_at};
+ghost use Rattle.nd_operation.specs.Contents.{contents_over};
+
+use crate::operand::Elements;
+use nd_types::ElemType;
+
+impl Elements<'_> {
+    /// Says that the contents are those of the places in the block, and does nothing.
+    pub(crate) fn soundness(&self)
+        ensures { contents_over self.now.view.now self.now.block.now
+            ≡ map (content_at self.now.view.now.element self.now.block.now)
+            self.now.view.now.places }
+    {
+        match self.view.elem() {
+            ElemType::One(_) => {}
+            ElemType::Rec(structure) => {
+                structure.fields();
+            }
+        }
+    }
+}

@@ -40,6 +40,14 @@ fn add_structure(text: &mut String, structure: &RecType) -> Result<(), AllocErro
     Ok(())
 }
 
+/// Adds the type of an array or a row.
+fn add_type(text: &mut String, elem: &ElemType) -> Result<(), AllocError> {
+    match elem {
+        ElemType::One(elem) => add_elem(text, *elem),
+        ElemType::Rec(structure) => add_structure(text, structure.as_ref()),
+    }
+}
+
 /// Adds a value.
 fn add_value(text: &mut String, value: &Shown) -> Result<(), AllocError> {
     match value {
@@ -47,11 +55,12 @@ fn add_value(text: &mut String, value: &Shown) -> Result<(), AllocError> {
         Shown::Bool(truth) => write!(text, "{truth}"),
         Shown::Scalar(kind, number) => write!(text, "{kind:?} {number}"),
         Shown::Array { elem, shape, bytes } => {
-            match elem {
-                ElemType::One(elem) => add_elem(text, *elem)?,
-                ElemType::Rec(structure) => add_structure(text, structure.as_ref())?,
-            }
+            add_type(text, elem)?;
             write!(text, "{shape:?} {bytes:?}")
+        }
+        Shown::Row { elem, bytes } => {
+            add_type(text, elem)?;
+            write!(text, "row {bytes:?}")
         }
     }
 }

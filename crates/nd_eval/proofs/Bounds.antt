@@ -1,17 +1,20 @@
 -- How many bases an evaluation makes.
-use Rattle.std.proofs.Common.{◌≡◌, ℕ, ◌+◌, ◌≤◌, List, [], ◌∷◌, Result, Ok, refl, subst, arith}
+use Rattle.std.proofs.Common.{◌≡◌, ℕ, ◌+◌, ◌≤◌, List, [], ◌∷◌, ◌++◌, Result, Ok, refl, subst, arith}
 use Rattle.nd_model.specs.Value.{Value}
 use Rattle.nd_model.specs.Fault.{Fault}
-use Rattle.nd_model.specs.Syntax.{Expr, Bound, Omitted, Given, Index, Items, AndItem, NoItem, At, Stmt}
-use Rattle.nd_model.specs.Tokens.{tokens_of, tokens_of_bound, tokens_of_index, tokens_of_all, tokens_of_stmt}
+use Rattle.nd_model.specs.Syntax.{Expr, Bound, Omitted, Given, Elements, NoElement, AndElement, Element, Single, Nested, Method, Copy, AsType, Index, Items, AndItem, NoItem, At, Stmt}
+use Rattle.nd_model.specs.Cells.{Suffix, AtIndex, OfMethod}
+use Rattle.nd_model.specs.Creation.{copy_array, astype}
+use Rattle.nd_model.specs.Tokens.{tokens_of, tokens_of_bound, tokens_of_index, tokens_of_elements, tokens_of_others, tokens_of_element, tokens_of_all, tokens_of_stmt}
 use Rattle.nd_model.specs.Running.{Inputs, Running, Effect, Nothing, Prints, Saves, Binding, Unbinding, Storing, done}
 use Rattle.nd_model.specs.Evaluation.{Eval, Gives, run, ◌>>=◌}
-use Rattle.nd_model.specs.Operand.{ArraysOnly, Unused}
+use Rattle.nd_model.specs.Operand.{Whole, ArraysOnly, Unused}
 use Rattle.nd_model.specs.Viewing.{Indexed}
-use Rattle.nd_model.specs.Operation.{Views}
+use Rattle.nd_model.specs.Operation.{Computes, Views}
 use Rattle.nd_model.specs.Meaning as meaning
 use Rattle.nd_model.proofs.Bases.{Few, few_more, few_bind, few_run, few_plan, few_performed, few_work, at_expr, at_stmt}
-use Rattle.nd_eval.specs.Parts.{bound_exprs, item_value, element_value, values_then, values}
+use Rattle.nd_eval.specs.Parts.{bound_exprs, exprs_in, exprs_of_element, item_value, element_value, method_value, suffix_value, values_behind, values_then, values}
+use Rattle.nd_eval.specs.Suffixes.{suffix_tokens}
 
 few_value : (e : Expr) → Few (meaning.value e) (tokens_of e)
 few_value e = few_more (meaning.value e) _ _ (at_expr e) (few_plan (meaning.plan e))
@@ -48,11 +51,59 @@ few_bound (Given e) = few_more (values (e ∷ [])) (tokens_of e + 0) _ (omega ar
 pub next_bound : (i : Inputs) (b : Bound) (r s : Running) (o : Result (List Value) Fault) → run i (values (bound_exprs b)) r ≡ (o, s) → s.next ≤ r.next + tokens_of_bound b
 next_bound i b r s o h = ended_next i (values (bound_exprs b)) (tokens_of_bound b) r s o (few_bound b) h
 
--- an index makes one more than what it is made of at most
-pub next_at_index : (i : Inputs) (t : Value) (x : Index) (r s : Running) (o : Result Value Fault) → run i (item_value x >>= element_value t) r ≡ (o, s) → s.next ≤ r.next + (tokens_of_index x + 1)
-next_at_index i t x r s o h =
-    ended_next i (item_value x >>= element_value t) (tokens_of_index x + 1) r s o
-    (few_bind (item_value x) (element_value t) (tokens_of_index x) 1 (few_item x) (λ v. few_performed (Views Indexed) ((Unused, t) ∷ (ArraysOnly, v) ∷ []))) h
+-- ---- what goes on a value
+
+few_method : (m : Method) (v : Value) → Few (method_value m v) 1
+few_method Copy v = few_performed (Computes (meaning.one copy_array)) ((Whole, v) ∷ [])
+few_method (AsType t) v = few_performed (Computes (meaning.one (astype t))) ((Whole, v) ∷ [])
+few_method m v = tt
+
+few_suffix : (x : Suffix) (v : Value) → Few (suffix_value x v) (suffix_tokens x)
+few_suffix (AtIndex x) v =
+    few_more (item_value x >>= element_value v) (tokens_of_index x + 1) _ (omega arith)
+    (few_bind (item_value x) (element_value v) (tokens_of_index x) 1 (few_item x) (λ w. few_performed (Views Indexed) ((Unused, v) ∷ (ArraysOnly, w) ∷ [])))
+few_suffix (OfMethod m) v = few_more (method_value m v) 1 _ (omega arith) (few_method m v)
+
+pub next_at_suffix : (i : Inputs) (x : Suffix) (v : Value) (r s : Running) (o : Result Value Fault) → run i (suffix_value x v) r ≡ (o, s) → s.next ≤ r.next + suffix_tokens x
+next_at_suffix i x v r s o h = ended_next i (suffix_value x v) (suffix_tokens x) r s o (few_suffix x v) h
+
+-- ---- the expressions in a list
+
+abbrev tokens_in : List Expr → ℕ
+tokens_in [] = 0
+tokens_in (e ∷ es) = tokens_of e + tokens_in es
+
+tokens_in-append : (es fs : List Expr) → tokens_in (es ++ fs) ≡ tokens_in es + tokens_in fs
+tokens_in-append [] fs = omega arith
+tokens_in-append (e ∷ es) fs = omega (arith, tokens_in-append es fs)
+
+mutual
+  tokens_in_list : (es : Elements) → tokens_in (exprs_in es) ≤ tokens_of_elements es
+  tokens_in_list NoElement = omega arith
+  tokens_in_list (AndElement x xs) = omega (arith, tokens_in-append (exprs_of_element x) (exprs_in xs), tokens_in_element x, tokens_in_others xs)
+
+  tokens_in_others : (es : Elements) → tokens_in (exprs_in es) ≤ tokens_of_others es
+  tokens_in_others NoElement = omega arith
+  tokens_in_others (AndElement x xs) = omega (arith, tokens_in-append (exprs_of_element x) (exprs_in xs), tokens_in_element x, tokens_in_others xs)
+
+  tokens_in_element : (x : Element) → tokens_in (exprs_of_element x) ≤ tokens_of_element x
+  tokens_in_element (Single e) = omega arith
+  tokens_in_element (Nested es) = omega (arith, tokens_in_list es)
+
+-- a list's tokens with a comma before each element
+pub list_others : (es : Elements) → tokens_of_others es ≤ tokens_of_elements es + 1
+list_others NoElement = omega arith
+list_others (AndElement x xs) = omega arith
+
+few_behind : (vs : List Value) (es : List Expr) → Few (values_behind vs es) (tokens_in es)
+few_behind vs es = go es (λ ws. Gives (vs ++ ws)) (λ ws. tt)
+  where
+    go : {A : Type 0} (es : List Expr) (k : List Value → Eval A) → ((ws : List Value) → Few (k ws) 0) → Few (values_then es k) (tokens_in es)
+    go [] k h = h []
+    go (e ∷ es) k h = few_bind (meaning.value e) (λ v. values_then es (λ ws. k (v ∷ ws))) (tokens_of e) (tokens_in es) (few_value e) (λ v. go es (λ ws. k (v ∷ ws)) (λ ws. h (v ∷ ws)))
+
+pub next_behind : (i : Inputs) (vs : List Value) (x : Element) (r s : Running) (o : Result (List Value) Fault) → run i (values_behind vs (exprs_of_element x)) r ≡ (o, s) → s.next ≤ r.next + tokens_of_element x
+next_behind i vs x r s o h = omega (arith, tokens_in_element x, ended_next i (values_behind vs (exprs_of_element x)) (tokens_in (exprs_of_element x)) r s o (few_behind vs (exprs_of_element x)) h)
 
 done_next : (e : Effect) (r : Running) → (done e r).next ≡ r.next
 done_next Nothing r = refl

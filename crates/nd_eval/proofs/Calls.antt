@@ -2,7 +2,7 @@
 use Rattle.std.proofs.Common.{◌≡◌, ℕ, List, [], ◌∷◌, ◌++◌, map, Option, Result, Ok, refl, sym, ap, ◌∙◌, append-nil}
 use Rattle.std.proofs.lemmas.List.{map-append}
 use Rattle.nd_model.specs.Calls.{Fill, DType}
-use Rattle.nd_model.specs.Syntax.{Expr, Called, Filled, Full}
+use Rattle.nd_model.specs.Syntax.{Expr, Called, Filled, Full, NewArray, Elements, NoElement, AndElement, Element, Single, Nested}
 use Rattle.nd_model.specs.Cells.{exprs_of}
 use Rattle.nd_model.specs.Value as model
 use Rattle.nd_model.specs.Running.{Running, Inputs}
@@ -10,18 +10,18 @@ use Rattle.nd_model.specs.Refusing as refusing
 use Rattle.nd_model.specs.Evaluation.{Eval, Gives, run, ◌>>=◌, decide}
 use Rattle.nd_model.specs.Operand.{Operand, Usage, Whole, Unused}
 use Rattle.nd_model.specs.Operation.{Computes, perform, operands, give, Plans, Done, And, with_values}
-use Rattle.nd_model.specs.Creation.{length_of, lengths_of, last_of, filled, full, full_of, full_array, without_axes}
-use Rattle.nd_model.specs.Meaning.{value, plan, expr_plans}
+use Rattle.nd_model.specs.Creation.{length_of, lengths_of, last_of, filled, full, full_of, full_array, without_axes, python_number, python_numbers, even_shape, element_for_list, array_of_numbers, array_of_list}
+use Rattle.nd_model.specs.Meaning.{value, plan, expr_plans, list_plans, element_plans}
 use Rattle.nd_model.specs.Value.{Base}
 use Rattle.nd_heap.specs.declared.value.Value.{Value}
-use Rattle.nd_heap.specs.declared.value.Value.TheVariants.{Number, Array}
+use Rattle.nd_heap.specs.declared.value.Value.TheVariants.{Number, Array, Row}
 use Rattle.nd_heap.specs.Values.{value_of}
 use Rattle.nd_operation.specs.declared.operand.Operand as lent
 use Rattle.nd_operation.specs.declared.stop.Stop.{Stop}
 use Rattle.nd_operation.specs.Contents.{operand_of, unused_of}
 use Rattle.nd_eval.specs.Ends.{Ends}
 use Rattle.nd_eval.proofs.Chains.{ends_alike}
-use Rattle.nd_eval.specs.Parts.{values_then, wholes, unused, filled_value, full_value}
+use Rattle.nd_eval.specs.Parts.{values_then, wholes, unused, filled_value, full_value, exprs_in, exprs_of_element, list_value}
 use Rattle.nd_eval.specs.Uses.{marked, all_marked, operand_over, operands_over}
 use Rattle.nd_eval.proofs.Parts.{then_same, regrouped, not_used}
 use Rattle.nd_eval.proofs.Uses.{all_used}
@@ -43,6 +43,47 @@ filled_first i f es t r =
 pub full_first : (i : Inputs) (es : List Expr) (e : Expr) (t : Option DType) (r : Running) → run i (value (Called (Full (exprs_of es) e t))) r ≡ run i (full_value es e t) r
 full_first i es e t r =
     all_exprs i Whole es (And Whole (plan e) Done) (perform (Computes (full t))) (λ vs. vs) (λ vs. value e >>= λ v. perform (Computes (full t)) (wholes vs ++ (Whole, v) ∷ [])) r (λ vs. refl)
+
+-- ---- lists
+
+expr_plans-append : (u : Usage) (es fs : List Expr) (rest : Plans) → expr_plans u (exprs_of (es ++ fs)) rest ≡ expr_plans u (exprs_of es) (expr_plans u (exprs_of fs) rest)
+expr_plans-append u [] fs rest = refl
+expr_plans-append u (e ∷ es) fs rest = ap (And u (plan e)) (expr_plans-append u es fs rest)
+
+-- the plans of a list are those of its expressions
+mutual
+  plans_of_list : (es : Elements) (rest : Plans) → list_plans es rest ≡ expr_plans Whole (exprs_of (exprs_in es)) rest
+  plans_of_list NoElement rest = refl
+  plans_of_list (AndElement x xs) rest =
+      plans_of_element x (list_plans xs rest) ∙ ap (expr_plans Whole (exprs_of (exprs_of_element x))) (plans_of_list xs rest)
+      ∙ sym (expr_plans-append Whole (exprs_of_element x) (exprs_in xs) rest)
+
+  plans_of_element : (x : Element) (rest : Plans) → element_plans x rest ≡ expr_plans Whole (exprs_of (exprs_of_element x)) rest
+  plans_of_element (Single e) rest = refl
+  plans_of_element (Nested es) rest = plans_of_list es rest
+
+pub list_first : (i : Inputs) (es : Elements) (t : Option DType) (r : Running) → run i (value (Called (NewArray (Nested es) t))) r ≡ run i (list_value (Nested es) t) r
+list_first i es t r =
+    ap (λ ps. run i (with_values ps (perform (Computes (array_of_list (Nested es) t)))) r) (plans_of_list es Done)
+    ∙ all_exprs i Whole (exprs_in es) Done (perform (Computes (array_of_list (Nested es) t))) (λ vs. vs) (λ vs. perform (Computes (array_of_list (Nested es) t)) (wholes vs)) r
+    (λ vs. ap (perform (Computes (array_of_list (Nested es) t))) (append-nil (wholes vs)))
+
+same_python : (bytes : Base → List ℕ) (v : Value) → python_number (operand_over bytes v) ≡ python_number (unused_of v)
+same_python bytes (Number n) = refl
+same_python bytes (Array a) = refl
+same_python bytes (Row a) = refl
+
+same_pythons : (bytes : Base → List ℕ) (vs : List Value) → python_numbers (operands_over bytes vs) ≡ python_numbers (map unused_of vs)
+same_pythons bytes [] = refl
+same_pythons bytes (v ∷ vs) =
+    ap (λ n. refusing.◌>>=◌ n (λ n. refusing.◌>>=◌ (python_numbers (operands_over bytes vs)) (λ ns. Ok (n ∷ ns)))) (same_python bytes v)
+    ∙ ap (λ l. refusing.◌>>=◌ (python_number (unused_of v)) (λ n. refusing.◌>>=◌ l (λ ns. Ok (n ∷ ns)))) (same_pythons bytes vs)
+
+pub list_parts : (i : Inputs) (x : Element) (t : Option DType) (vs : List Value) (r : Running)
+    → run i (perform (Computes (array_of_list x t)) (wholes (map value_of vs))) r ≡ run i (decide (array_of_list x t (map unused_of vs)) >>= give) (all_marked vs r)
+list_parts i x t vs r =
+    all_used i vs (λ os. decide (array_of_list x t os) >>= give) r
+    ∙ ap (λ l. run i (decide (refusing.◌>>=◌ l (λ ns. refusing.◌>>=◌ (even_shape x) (λ shape. refusing.◌>>=◌ (element_for_list t ns) (λ e. array_of_numbers e shape ns)))) >>= give) (all_marked vs r)) (same_pythons r.bytes vs)
 
 -- ---- operands that are not used
 
@@ -71,6 +112,7 @@ last_is (p ∷ q ∷ os) o = ap (λ r. refusing.◌>>=◌ r (λ rest. Ok (p ∷ 
 same_length : (bytes : Base → List ℕ) (v : Value) → length_of (operand_over bytes v) ≡ length_of (unused_of v)
 same_length bytes (Number n) = refl
 same_length bytes (Array a) = refl
+same_length bytes (Row a) = refl
 
 same_lengths : (bytes : Base → List ℕ) (vs : List Value) → lengths_of (operands_over bytes vs) ≡ lengths_of (map unused_of vs)
 same_lengths bytes [] = refl

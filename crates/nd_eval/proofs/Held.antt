@@ -9,21 +9,24 @@ use Rattle.nd_model.specs.Session as session
 use Rattle.nd_model.specs.Session.{Names}
 use Rattle.nd_model.specs.Fault.{Fault}
 use Rattle.nd_model.specs.Running.{Running, Inputs, Use, reply, after, Effect, Nothing, Prints, Saves, Binding, Unbinding, Storing, done}
-use Rattle.nd_model.specs.Syntax.{Expr, Index, Items, AndItem, NoItem, At, Stmt, Bind}
+use Rattle.nd_model.specs.Syntax.{Expr, Method, Copy, AsType, Index, Items, AndItem, NoItem, At, Stmt, Bind}
 use Rattle.nd_model.specs.Evaluation.{Eval, Gives, Refuses, Asks, run}
-use Rattle.nd_model.specs.Operand.{BindsFirst, Unused}
-use Rattle.nd_model.specs.Operation.{act_on}
+use Rattle.nd_model.specs.Operand.{BindsFirst, Whole, ArraysOnly, Unused}
+use Rattle.nd_model.specs.Cells.{Suffix, AtIndex, OfMethod}
+use Rattle.nd_model.specs.Creation.{copy_array, astype}
+use Rattle.nd_model.specs.Viewing.{Indexed}
+use Rattle.nd_model.specs.Operation.{Computes, Views, act_on}
 use Rattle.nd_model.specs.Meaning as meaning
 use Rattle.nd_model.specs.Cell.{had}
 use Rattle.nd_model.specs.Sound.{LiesIn, IsViewOf, AreViewsOf, IsHeldView, IsSound}
 use Rattle.nd_model.proofs.Growing.{Grows, stays, grows_on, grows_after, grows_run}
 use Rattle.nd_model.proofs.Steps.{goes_on, run_bind}
-use Rattle.nd_model.proofs.Soundness.{Safe, safe_bind, IfGiven, given_run, stays_sound}
+use Rattle.nd_model.proofs.Soundness.{Safe, safe_bind, safe_performed, IfGiven, given_run, stays_sound}
 use Rattle.nd_heap.specs.declared.value.Value.{Value}
-use Rattle.nd_heap.specs.declared.value.Value.TheVariants.{Number, Array}
+use Rattle.nd_heap.specs.declared.value.Value.TheVariants.{Number, Array, Row}
 use Rattle.nd_heap.specs.Values.{base_of, geo_of, value_of}
-use Rattle.nd_eval.specs.Parts.{item_value, values, values_then}
-use Rattle.nd_eval.specs.Uses.{IsHeld, AreHeld, IsHeldEffect, marked, all_marked}
+use Rattle.nd_eval.specs.Parts.{item_value, element_value, method_value, suffix_value, values, values_then}
+use Rattle.nd_eval.specs.Uses.{IsHeld, AreHeld, IsHeldEffect, marked, item_marked, all_marked}
 use Rattle.nd_eval.proofs.Parts.{binding_parts}
 
 -- ---- what is held stays held
@@ -68,6 +71,15 @@ held_after i t r s o v h held = value_grows r s (grown i t r s o h) (value_of v)
 grows_marked : (v : Value) (r : Running) → Grows r (marked v r)
 grows_marked (Number n) r = stays r
 grows_marked (Array a) r = grows_after (Use (base_of a.base) (byte_places (geo_of a))) r
+grows_marked (Row a) r = grows_after (Use (base_of a.base) (byte_places (geo_of a))) r
+
+grows_item : (v : Value) (r : Running) → Grows r (item_marked v r)
+grows_item (Number n) r = stays r
+grows_item (Array a) r = grows_after (Use (base_of a.base) (byte_places (geo_of a))) r
+grows_item (Row a) r = stays r
+
+pub held_item_marked : (w v : Value) (r s : Running) → s ≡ item_marked w r → IsHeld r v → IsHeld s v
+held_item_marked w v r s mark held = rw mark (value_grows r (item_marked w r) (grows_item w r) (value_of v) held)
 
 pub held_marked : (w v : Value) (r s : Running) → s ≡ marked w r → IsHeld r v → IsHeld s v
 held_marked w v r s mark held = rw mark (value_grows r (marked w r) (grows_marked w r) (value_of v) held)
@@ -162,3 +174,24 @@ of_all r (v ∷ vs) h = All-cons (λ v. IsHeld r v) v vs h.0 (of_all r vs h.1)
 pub values_held : (i : Inputs) (es : List Expr) (r s : Running) (vs : List Value) → run i (values es) r ≡ (Ok (map value_of vs), s) → IsSound r → AreHeld s vs
 values_held i es r s vs found sound =
     of_all s vs (subst (λ (m : Result (List model.Value) Fault × Running). IfGiven AllV m) found (given_run AllV i r (values es) (safe_values AllV i r es Gives sound (λ q vs g h. h))))
+
+-- ---- what an index or a method gives
+
+safe_item : (i : Inputs) (r : Running) (x : Index) → IsSound r → Safe V i r (item_value x)
+safe_item i r (Items (AndItem (At e) NoItem)) sound = safe_value i r e sound
+safe_item i r x sound = tt
+
+safe_method : (i : Inputs) (r : Running) (m : Method) (v : model.Value) → V r v → Safe V i r (method_value m v)
+safe_method i r Copy v h = safe_performed i r (Computes (meaning.one copy_array)) ((Whole, v) ∷ []) (h, tt)
+safe_method i r (AsType t) v h = safe_performed i r (Computes (meaning.one (astype t))) ((Whole, v) ∷ []) (h, tt)
+safe_method i r m v h = tt
+
+safe_suffix : (i : Inputs) (r : Running) (x : Suffix) (v : model.Value) → IsSound r → V r v → Safe V i r (suffix_value x v)
+safe_suffix i r (AtIndex x) v sound h =
+    safe_bind V V i r (item_value x) (element_value v) (safe_item i r x sound)
+    (λ q w g hw. safe_performed i q (Views Indexed) ((Unused, v) ∷ (ArraysOnly, w) ∷ []) (value_grows r q g v h, (hw, tt)))
+safe_suffix i r (OfMethod m) v sound h = safe_method i r m v h
+
+pub suffix_held : (i : Inputs) (x : Suffix) (v : Value) (r s : Running) (w : Value) → run i (suffix_value x (value_of v)) r ≡ (Ok (value_of w), s) → IsSound r → IsHeld r v → IsHeld s w
+suffix_held i x v r s w found sound held =
+    subst (λ (m : Result model.Value Fault × Running). IfGiven V m) found (given_run V i r (suffix_value x (value_of v)) (safe_suffix i r x (value_of v) sound held))

@@ -1,13 +1,13 @@
 -- An operand and what goes on it, one after the other.
-use Rattle.std.proofs.Common.{◌≡◌, ◌≢◌, ℕ, ◌+◌, ◌<◌, ◌≤◌, length, get_or, drop, List, [], ◌∷◌, map, false, Option, None, Some, Result, Ok, Err, refl, sym, ap, ◌∙◌, arith, Box, Vec, Global}
-use Rattle.std.specs.Option.{is_some}
+use Rattle.std.proofs.Common.{◌≡◌, ◌≢◌, ℕ, ◌+◌, ◌≤◌, length, List, [], ◌∷◌, map, Option, None, Some, Result, Ok, Err, refl, sym, ap, ◌∙◌, arith, Box, Vec, Global}
 use mathlib.Core.Former.{Count}
 use Rattle.nd_model.specs.Fault.{Fault, BadArgument}
 use Rattle.nd_model.specs.Fault as fault
-use Rattle.nd_model.specs.Syntax.{Expr, Item, Attribute, Index, Method}
+use Rattle.nd_model.specs.Syntax.{Expr, Item, Attribute, Index, Method, Copy, AsType}
 use Rattle.nd_model.specs.Syntax as model
-use Rattle.nd_model.specs.Cells.{chained, Suffix, AtIndex, OfMethod, suffixed, exprs_of, items_of}
-use Rattle.nd_model.specs.Tokens.{tokens_of, tokens_of_all, tokens_of_exprs, tokens_of_shape, tokens_of_index, tokens_of_method}
+use Rattle.nd_model.specs.Cells.{chained, Suffix, AtIndex, OfMethod, suffixed, exprs_of, items_of, elements_of}
+use Rattle.nd_model.specs.Creation.{copy_array, astype}
+use Rattle.nd_model.specs.Tokens.{tokens_of, tokens_of_all, tokens_of_exprs, tokens_of_shape}
 use Rattle.nd_model.specs.Value.{Value}
 use Rattle.nd_model.specs.Running.{Running, Inputs}
 use Rattle.nd_model.specs.Evaluation.{Eval, Gives, Refuses, run, ◌>>=◌}
@@ -24,25 +24,23 @@ use Rattle.nd_syntax.specs.declared.calls.Fill.{Fill}
 use Rattle.nd_syntax.specs.declared.tree.Suffix as suffix
 use Rattle.nd_syntax.specs.declared.tree.Index as indexes
 use Rattle.nd_syntax.specs.declared.tree.IndexItem as item
-use Rattle.nd_syntax.specs.Syntax.{expr_of, call_of, suffix_of, index_of, item_of}
+use Rattle.nd_syntax.specs.Syntax.{expr_of, element_of, suffix_of, index_of, item_of}
 use Rattle.nd_syntax.specs.Lists.{operation_of}
 use Rattle.nd_syntax.proofs.Nodes.{call_row}
-use Rattle.nd_syntax.proofs.Chains.{row_of, postfix_is, item_row, index_is, chain_is}
+use Rattle.nd_syntax.proofs.Chains.{row_of, postfix_is, item_row, index_is, nested_is, chain_is}
 use Rattle.nd_model.proofs.Steps.{goes_on, run_bind}
-use Rattle.nd_eval.specs.Parts.{item_value, element_value}
-use Rattle.nd_operation.proofs.InTurn.{next_item}
+use Rattle.nd_eval.specs.Parts.{item_value, element_value, make_value, method_value, suffix_value}
+use Rattle.nd_eval.specs.Suffixes.{suffix_tokens}
 use Rattle.nd_eval.proofs.Parts.{goes_same, item_with, attribute_refused}
 
--- what goes on a value: indexes, and methods, which are not built yet
+-- what goes on a value, one after the other
 abbrev pub chain : Value → List Suffix → Eval Value
 chain v [] = Gives v
-chain v (AtIndex x ∷ xs) = (item_value x >>= element_value v) >>= (λ w. chain w xs)
-chain v (OfMethod m ∷ xs) = Refuses (fault.Stmt BadArgument)
+chain v (x ∷ xs) = suffix_value x v >>= (λ w. chain w xs)
 
 abbrev pub chain_tokens : List Suffix → ℕ
 chain_tokens [] = 0
-chain_tokens (AtIndex x ∷ xs) = 2 + tokens_of_index x + chain_tokens xs
-chain_tokens (OfMethod m ∷ xs) = 2 + tokens_of_method m + chain_tokens xs
+chain_tokens (x ∷ xs) = suffix_tokens x + chain_tokens xs
 
 pub tokens_of_suffixed : (e : Expr) (xs : List Suffix) → tokens_of (suffixed e xs) ≡ tokens_of e + chain_tokens xs
 tokens_of_suffixed e [] = omega arith
@@ -53,15 +51,10 @@ none_left : (i : Inputs) (m : Result Value Fault × Running) → m ≡ goes_on i
 none_left i (Ok v, r) = refl
 none_left i (Err f, r) = refl
 
-one_more : (i : Inputs) (x : Index) (xs : List Suffix) (m : Result Value Fault × Running)
-    → goes_on i (goes_on i m (λ t. item_value x >>= element_value t)) (λ v. chain v xs) ≡ goes_on i m (λ v. chain v (AtIndex x ∷ xs))
-one_more i x xs (Ok t, r) = sym (run_bind i (item_value x >>= element_value t) (λ v. chain v xs) r)
+one_more : (i : Inputs) (x : Suffix) (xs : List Suffix) (m : Result Value Fault × Running)
+    → goes_on i (goes_on i m (suffix_value x)) (λ v. chain v xs) ≡ goes_on i m (λ v. chain v (x ∷ xs))
+one_more i x xs (Ok t, r) = sym (run_bind i (suffix_value x t) (λ v. chain v xs) r)
 one_more i x xs (Err f, r) = refl
-
-refused_there : (i : Inputs) (a : Method) (xs : List Suffix) (m : Result Value Fault × Running)
-    → goes_on i (goes_on i m (λ v. Refuses (fault.Stmt BadArgument))) (λ v. chain v xs) ≡ goes_on i m (λ v. chain v (OfMethod a ∷ xs))
-refused_there i a xs (Ok t, r) = refl
-refused_there i a xs (Err f, r) = refl
 
 -- an index, and a method, on a value
 run_item : (i : Inputs) (e : Expr) (x : Index) (r : Running) → run i (value (Item e x)) r ≡ goes_on i (run i (value e) r) (λ t. item_value x >>= element_value t)
@@ -69,16 +62,18 @@ run_item i e x r =
     run_bind i (value e) (λ t. with_values (item_plans x) (λ vs. perform (Views Indexed) ((Unused, t) ∷ vs))) r
     ∙ goes_same i (run i (value e) r) _ (λ t. item_value x >>= element_value t) (λ t s. ap (λ a. run i a s) (item_with x (λ vs. perform (Views Indexed) ((Unused, t) ∷ vs))))
 
-run_attribute : (i : Inputs) (e : Expr) (a : Method) (r : Running) → run i (value (Attribute e a)) r ≡ goes_on i (run i (value e) r) (λ t. Refuses (fault.Stmt BadArgument))
+run_attribute : (i : Inputs) (e : Expr) (a : Method) (r : Running) → run i (value (Attribute e a)) r ≡ goes_on i (run i (value e) r) (method_value a)
+run_attribute i e Copy r = run_bind i (value e) (make_value copy_array) r
+run_attribute i e (AsType t) r = run_bind i (value e) (make_value (astype t)) r
 run_attribute i e a r =
     run_bind i (value e) (λ t. perform (Computes unbuilt_form) ((Unused, t) ∷ [])) r
     ∙ goes_same i (run i (value e) r) _ (λ t. Refuses (fault.Stmt BadArgument)) (λ t s. ap (λ a. run i a s) (attribute_refused t))
 
 in_steps : (i : Inputs) (e : Expr) (xs : List Suffix) (r : Running) → run i (value (suffixed e xs)) r ≡ goes_on i (run i (value e) r) (λ v. chain v xs)
 in_steps i e [] r = none_left i (run i (value e) r)
-in_steps i e (AtIndex x ∷ xs) r = in_steps i (Item e x) xs r ∙ ap (λ m. goes_on i m (λ v. chain v xs)) (run_item i e x r) ∙ one_more i x xs (run i (value e) r)
+in_steps i e (AtIndex x ∷ xs) r = in_steps i (Item e x) xs r ∙ ap (λ m. goes_on i m (λ v. chain v xs)) (run_item i e x r) ∙ one_more i (AtIndex x) xs (run i (value e) r)
 in_steps i e (OfMethod a ∷ xs) r =
-    in_steps i (Attribute e a) xs r ∙ ap (λ m. goes_on i m (λ v. chain v xs)) (run_attribute i e a r) ∙ refused_there i a xs (run i (value e) r)
+    in_steps i (Attribute e a) xs r ∙ ap (λ m. goes_on i m (λ v. chain v xs)) (run_attribute i e a r) ∙ one_more i (OfMethod a) xs (run i (value e) r)
 
 -- the operand first, and then what goes on it
 pub run_suffixed : (i : Inputs) (e : Expr) (xs : List Suffix) (r : Running) → run i (value (suffixed e xs)) r ≡ run i (value e >>= (λ v. chain v xs)) r
@@ -120,7 +115,7 @@ abbrev mutual
   nodes_of_call (call.Absolute e) = 2 + nodes e
   nodes_of_call (call.Filled' f shape es t) = 3 + nodes_in_exprs es
   nodes_of_call (call.Full' shape es e t) = 3 + nodes_in_exprs es + nodes e
-  nodes_of_call (call.Array x t) = 1 + nodes_of_element x
+  nodes_of_call (call.Array x t) = 3 + nodes_of_element x
   nodes_of_call (call.Convert k e) = 2 + nodes e
   nodes_of_call (call.PythonAbs e) = 2 + nodes e
   nodes_of_call c = 1
@@ -135,14 +130,18 @@ abbrev mutual
 
   pub nodes_of_element : element.Element → ℕ
   nodes_of_element (element.Single e) = 2 + nodes e
-  nodes_of_element x = 1
+  nodes_of_element (element.Nested' shape es) = 1 + nodes_in_elements es
+
+  pub nodes_in_elements : {n : _} → item.Row_of-Element n → ℕ
+  nodes_in_elements item.end_of-Element = 0
+  nodes_in_elements (item.more_of-Element x xs) = 1 + nodes_of_element x + nodes_in_elements xs
 
   pub nodes_in : {n : _} → tree.Row_of-Suffix n → ℕ
   nodes_in tree.end_of-Suffix = 0
   nodes_in (tree.more_of-Suffix x xs) = nodes_of_suffix x + nodes_in xs
 
   pub nodes_of_suffix : suffix.Suffix → ℕ
-  nodes_of_suffix (suffix.Index i) = 1 + nodes_of_index i
+  nodes_of_suffix (suffix.Index i) = 2 + nodes_of_index i
   nodes_of_suffix (suffix.Method m) = 1
 
   pub nodes_of_index : indexes.Index → ℕ
@@ -169,11 +168,6 @@ pub nodes_of_postfix : (x : tree.Expr) (e : Box tree.Expr Global) (xs : Vec suff
 nodes_of_postfix x e xs same =
     let row = row_of (tree.Postfix e xs) in
     ap nodes same ∙ ap (λ k. 1 + nodes e.value + k) (nodes_in_row row.0 row.1 ∙ ap nodes_of_all (tree.items_hidden-the_row-Suffix-3 xs))
-
--- the index that comes next
-pub next_index : (xs : List suffix.Suffix) (k : ℕ) (x : suffix.Suffix) (i : indexes.Index) → k < length xs → x ≡ get_or xs k x → x ≡ suffix.Index i
-    → drop k xs ≡ suffix.Index i ∷ drop (k + 1) xs
-next_index xs k x i lt is same = next_item xs k x lt is ∙ ap (λ y. y ∷ drop (k + 1) xs) same
 
 -- the bounds of a range
 abbrev pub nodes_of_bound : Option tree.Expr → ℕ
@@ -228,6 +222,29 @@ module _ (x : indexes.Index) (is : Vec item.IndexItem Global) (same : x ≡ inde
   nodes_of_its_items =
       let row = item_row (indexes.Items is) in
       ap nodes_of_index same ∙ ap (λ k. 2 + k) (nodes_in_item_row row.0 row.1 ∙ ap nodes_of_items (indexes.items_hidden-the_row-IndexItem-4 is))
+
+-- ---- the elements of a list
+
+abbrev pub nodes_of_elements : List element.Element → ℕ
+nodes_of_elements [] = 0
+nodes_of_elements (x ∷ xs) = 1 + nodes_of_element x + nodes_of_elements xs
+
+nodes_in_element_row : (n : _) (row : item.Row_of-Element n) → nodes_in_elements row ≡ nodes_of_elements (item.items-the_row-Element n row)
+nodes_in_element_row n item.end_of-Element = refl
+nodes_in_element_row n (item.more_of-Element x xs) = ap (λ k. 1 + nodes_of_element x + k) (nodes_in_element_row _ xs)
+
+abbrev list_row : element.Element → (n : Count) × item.Row_of-Element n
+list_row (element.Nested' shape es) = (_, es)
+list_row _ = (_, item.end_of-Element)
+
+module _ (x : element.Element) (es : Vec element.Element Global) (same : x ≡ element.Nested es) where
+  pub elements_in_list : element_of x ≡ model.Nested (elements_of (map element_of es.items))
+  elements_in_list = ap element_of same ∙ nested_is es
+
+  pub nodes_of_its_elements : nodes_of_element x ≡ 1 + nodes_of_elements es.items
+  nodes_of_its_elements =
+      let row = list_row (element.Nested es) in
+      ap nodes_of_element same ∙ ap (λ k. 1 + k) (nodes_in_element_row row.0 row.1 ∙ ap nodes_of_elements (item.items_hidden-the_row-Element-1 es))
 
 -- items that are not one expression are not built yet
 pub lone_refused : (x : item.IndexItem) → ((e : tree.Expr) → x ≡ item.At e → ⊥) → item_value (model.Items (model.AndItem (item_of x) model.NoItem)) ≡ Refuses (fault.Stmt BadArgument)

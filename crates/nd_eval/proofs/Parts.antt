@@ -8,12 +8,12 @@ use Rattle.nd_model.specs.Running.{Running, Inputs, Effect, Binding, Unbinding}
 use Rattle.nd_model.specs.Evaluation.{Eval, Gives, Refuses, run, ◌>>=◌, decide}
 use Rattle.nd_model.specs.Operand.{Operand, Plain, Usage, Whole, ArraysOnly, Unused, BindsFirst, Unbinds}
 use Rattle.nd_model.specs.Index.{index_array}
-use Rattle.nd_model.specs.Operation.{use_operand, Computes, perform, give, choose_of, act_on, with_values, evaluate_all}
-use Rattle.nd_model.specs.Meaning.{value, one, unbuilt_form, item_plans, whole_plans}
+use Rattle.nd_model.specs.Operation.{use_operand, Computes, perform, choose_of, act_on, with_values, evaluate_all}
+use Rattle.nd_model.specs.Meaning.{value, unbuilt_form, item_plans, whole_plans}
 use Rattle.nd_types.specs.declared.num.Num.{Num}
 use Rattle.nd_types.specs.declared.num.Num.TheVariants as num
 use Rattle.nd_heap.specs.declared.value.Value.{Value}
-use Rattle.nd_heap.specs.declared.value.Value.TheVariants.{Number, Array}
+use Rattle.nd_heap.specs.declared.value.Value.TheVariants.{Number, Array, Row}
 use Rattle.nd_heap.specs.Values.{value_of}
 use Rattle.nd_model.proofs.Steps.{goes_on, run_bind}
 use Rattle.nd_operation.specs.Contents.{num_of, unused_of}
@@ -29,25 +29,17 @@ use_number u (num.Scalar k z) = refl
 pub not_used : (v : Value) → use_operand Unused (value_of v) ≡ Gives (unused_of v)
 not_used (Number n) = use_number Unused n
 not_used (Array a) = refl
-
--- the code has no rows
-arrays_used : (v : Value) → use_operand ArraysOnly (value_of v) ≡ use_operand Whole (value_of v)
-arrays_used (Number n) = use_number ArraysOnly n ∙ sym (use_number Whole n)
-arrays_used (Array a) = refl
+not_used (Row a) = refl
 
 -- ---- operations
 
 pub element_parts : (t i : Value)
-    → element_value (value_of t) (value_of i) ≡ (use_operand Whole (value_of i) >>= λ o. decide (index_array (unused_of t) o) >>= λ c. choose_of (value_of t) c)
-element_parts t i =
-    ap (λ s. s >>= λ a. use_operand ArraysOnly (value_of i) >>= λ o. decide (index_array a o) >>= λ c. choose_of (value_of t) c) (not_used t)
-    ∙ ap (λ s. s >>= λ o. decide (index_array (unused_of t) o) >>= λ c. choose_of (value_of t) c) (arrays_used i)
+    → element_value (value_of t) (value_of i) ≡ (use_operand ArraysOnly (value_of i) >>= λ o. decide (index_array (unused_of t) o) >>= λ c. choose_of (value_of t) c)
+element_parts t i = ap (λ s. s >>= λ a. use_operand ArraysOnly (value_of i) >>= λ o. decide (index_array a o) >>= λ c. choose_of (value_of t) c) (not_used t)
 
 pub target_parts : {A : Type 0} (t i : Value) (go : Operand → Operand → Eval A)
-    → (use_operand Unused (value_of t) >>= λ a. use_operand ArraysOnly (value_of i) >>= λ p. go a p) ≡ (use_operand Whole (value_of i) >>= λ p. go (unused_of t) p)
-target_parts t i go =
-    ap (λ s. s >>= λ a. use_operand ArraysOnly (value_of i) >>= λ p. go a p) (not_used t)
-    ∙ ap (λ s. s >>= λ p. go (unused_of t) p) (arrays_used i)
+    → (use_operand Unused (value_of t) >>= λ a. use_operand ArraysOnly (value_of i) >>= λ p. go a p) ≡ (use_operand ArraysOnly (value_of i) >>= λ p. go (unused_of t) p)
+target_parts t i go = ap (λ s. s >>= λ a. use_operand ArraysOnly (value_of i) >>= λ p. go a p) (not_used t)
 
 -- a value that is not used stops nothing
 unused_only : {A : Type 0} (v : model.Value) (e : Eval A) → (use_operand Unused v >>= λ o. e) ≡ e

@@ -4,8 +4,9 @@ use Rattle.nd_model.specs.Value.{Value}
 use Rattle.nd_model.specs.Running.{Effect}
 use Rattle.nd_model.specs.Fault.{Fault, Stmt, BadArgument}
 use Rattle.nd_model.specs.Calls.{Fill, DType}
-use Rattle.nd_model.specs.Creation.{arange, filled, full}
-use Rattle.nd_model.specs.Syntax.{Expr, Bound, Omitted, Given, Index, Items, AndItem, NoItem, At}
+use Rattle.nd_model.specs.Creation.{arange, array_of_list, astype, copy_array, filled, full}
+use Rattle.nd_model.specs.Syntax.{Expr, Bound, Omitted, Given, Elements, NoElement, AndElement, Element, Single, Nested, Method, Copy, AsType, Index, Items, AndItem, NoItem, At}
+use Rattle.nd_model.specs.Cells.{Suffix, AtIndex, OfMethod}
 use Rattle.nd_model.specs.Evaluation.{Eval, Gives, Refuses, ◌>>=◌}
 use Rattle.nd_model.specs.Operand.{Operand, Usage, Whole, ArraysOnly, Unused, Made}
 use Rattle.nd_model.specs.Viewing.{Indexed}
@@ -17,9 +18,19 @@ abbrev pub item_value : Index → Eval Value
 item_value (Items (AndItem (At e) NoItem)) = value e
 item_value x = Refuses (Stmt BadArgument)
 
--- what is computed of one operand, which is an expression
+-- what is computed of one value
+abbrev pub make_value : (Operand → Result Made Fault) → Value → Eval Value
+make_value f v = perform (Computes (one f)) ((Whole, v) ∷ [])
+
+-- of one expression
 abbrev pub value_of_one : (Operand → Result Made Fault) → Expr → Eval Value
-value_of_one f e = value e >>= λ v. perform (Computes (one f)) ((Whole, v) ∷ [])
+value_of_one f e = value e >>= make_value f
+
+-- a method on a value; the other ones are not built yet
+abbrev pub method_value : Method → Value → Eval Value
+method_value Copy v = make_value copy_array v
+method_value (AsType t) v = make_value (astype t) v
+method_value _ v = Refuses (Stmt BadArgument)
 
 -- what is computed of two values
 abbrev pub operate : (Operand → Operand → Result Made Fault) → Value → Value → Eval Value
@@ -37,6 +48,11 @@ value_of_two f a b = value a >>= λ v. binary_value f v b
 abbrev pub element_value : Value → Value → Eval Value
 element_value t i = perform (Views Indexed) ((Unused, t) ∷ (ArraysOnly, i) ∷ [])
 
+-- what goes on a value: an index or a method
+abbrev pub suffix_value : Suffix → Value → Eval Value
+suffix_value (AtIndex x) v = item_value x >>= element_value v
+suffix_value (OfMethod m) v = method_value m v
+
 -- `t[i] = v`
 abbrev pub assignment : Value → Value → Value → Eval Effect
 assignment v t i = act_on assignment_deed ((Whole, v) ∷ (Unused, t) ∷ (ArraysOnly, i) ∷ [])
@@ -48,6 +64,10 @@ values_then (e ∷ es) go = value e >>= λ v. values_then es (λ vs. go (v ∷ v
 
 abbrev pub values : List Expr → Eval (List Value)
 values es = values_then es Gives
+
+-- values behind others
+abbrev pub values_behind : List Value → List Expr → Eval (List Value)
+values_behind vs es = values_then es (λ ws. Gives (vs ++ ws))
 
 -- values that are used whole, and values that are not used
 abbrev pub wholes : List Value → List (Usage × Value)
@@ -63,6 +83,20 @@ filled_value f es t = values es >>= λ vs. perform (Computes (filled f t)) (unus
 -- `np.full`
 abbrev pub full_value : List Expr → Expr → Option DType → Eval Value
 full_value es e t = values es >>= λ vs. value e >>= λ v. perform (Computes (full t)) (wholes vs ++ (Whole, v) ∷ [])
+
+-- the expressions in a list from left to right
+abbrev mutual
+  pub exprs_in : Elements → List Expr
+  exprs_in NoElement = []
+  exprs_in (AndElement x xs) = exprs_of_element x ++ exprs_in xs
+
+  pub exprs_of_element : Element → List Expr
+  exprs_of_element (Single e) = e ∷ []
+  exprs_of_element (Nested es) = exprs_in es
+
+-- `np.array` of a list
+abbrev pub list_value : Element → Option DType → Eval Value
+list_value x t = values (exprs_of_element x) >>= λ vs. perform (Computes (array_of_list x t)) (wholes vs)
 
 -- an expression that may be left out
 abbrev pub bound_exprs : Bound → List Expr

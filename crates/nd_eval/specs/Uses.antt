@@ -1,5 +1,5 @@
 -- The uses of values: what is noted of them, and the operands that they are in their blocks.
-use Rattle.std.specs.Prelude.{ℕ, List, [], ◌∷◌, map}
+use Rattle.std.specs.Prelude.{ℕ, true, false, List, [], ◌∷◌, map}
 use Rattle.std.specs.List.{All}
 use Rattle.nd_model.specs.View.{byte_places}
 use Rattle.nd_model.specs.Value.{Base}
@@ -7,7 +7,7 @@ use Rattle.nd_model.specs.Operand as operand
 use Rattle.nd_model.specs.Running.{Running, Use, after, Effect, Nothing, Prints, Saves, Binding, Unbinding, Storing}
 use Rattle.nd_model.specs.Sound.{IsHeldView, IsViewOf}
 use Rattle.nd_heap.specs.declared.value.Value.{Value}
-use Rattle.nd_heap.specs.declared.value.Value.TheVariants.{Number, Array}
+use Rattle.nd_heap.specs.declared.value.Value.TheVariants.{Number, Array, Row}
 use Rattle.nd_heap.specs.Values.{base_of, geo_of, value_of}
 use Rattle.nd_operation.specs.Contents.{num_of, elements_over}
 
@@ -31,6 +31,13 @@ IsHeldEffect r (Storing b ws) = Unit {0}
 abbrev pub marked : Value → Running → Running
 marked (Number n) r = r
 marked (Array a) r = after (Use (base_of a.base) (byte_places (geo_of a))) r
+marked (Row a) r = after (Use (base_of a.base) (byte_places (geo_of a))) r
+
+-- the session once an item of an index is noted as used: a row is not used
+abbrev pub item_marked : Value → Running → Running
+item_marked (Number n) r = r
+item_marked (Array a) r = after (Use (base_of a.base) (byte_places (geo_of a))) r
+item_marked (Row a) r = r
 
 -- one value after another
 abbrev pub all_marked : List Value → Running → Running
@@ -40,7 +47,8 @@ all_marked (v ∷ vs) r = all_marked vs (marked v r)
 -- the operand that a value is, its elements in these blocks
 abbrev pub operand_over : (Base → List ℕ) → Value → operand.Operand
 operand_over bytes (Number n) = operand.Plain (num_of n)
-operand_over bytes (Array a) = elements_over (geo_of a) (bytes (base_of a.base))
+operand_over bytes (Array a) = elements_over false (geo_of a) (bytes (base_of a.base))
+operand_over bytes (Row a) = elements_over true (geo_of a) (bytes (base_of a.base))
 
 abbrev pub operands_over : (Base → List ℕ) → List Value → List operand.Operand
 operands_over bytes vs = map (operand_over bytes) vs

@@ -9,12 +9,13 @@ ghost use Rattle.nd_model.specs.Operation as operation;
 ghost use Rattle.nd_model.specs.Syntax.{Called, Items, AndItem, NewArray, NoItem};
 ghost use Rattle.nd_model.specs.Tokens.{tokens_of, tokens_of_call, tokens_of_index, tokens_of_item, tokens_of_all, tokens_of_bound, tokens_of_element};
 ghost use Rattle.nd_syntax.specs.Lists.{operation_of};
-ghost use Rattle.nd_syntax.specs.Syntax.{bound_of, expr_of, call_of, element_of, index_of, item_of};
+ghost use Rattle.nd_syntax.specs.Syntax.{bound_of, expr_of, call_of, element_of, index_of, item_of, method_of, suffix_of};
 ghost use Rattle.nd_heap.specs.Values.{value_of};
 ghost use Rattle.nd_eval.specs.Contents.{option_values, values_of};
 ghost use Rattle.nd_eval.specs.Ends.{Evaluates, session_of};
 ghost use Rattle.nd_eval.specs.Uses.{IsHeld};
 ghost use Rattle.nd_eval.specs.Parts as parts;
+ghost use Rattle.nd_eval.specs.Suffixes.{suffix_tokens};
 ghost use Rattle.nd_operation.specs.New.{made_of_one};
 ghost use Rattle.nd_operation.specs.OfTwo.{made_of_two};
 ghost use Rattle.nd_syntax.specs.Calls.{dtype_of, fill_of};
@@ -23,13 +24,13 @@ ghost use Rattle.nd_operation.specs.declared.fault.StmtFault.TheVariants.{Stmt};
 ghost use Rattle.nd_operation.specs.declared.fault.StmtError.TheVariants.{BadArgument};
 
 use crate::evaluator::Evaluator;
-use crate::operation::{mark_operand, mark_operands, operand_in};
+use crate::operation::{mark_item, mark_operand, mark_operands, operand_in};
 use nd_operation::{
     OfOne, OfTwo, StmtError, StmtFault, Stop, apply_binary, index_array, make_filled, make_full,
-    make_of_one, make_range,
+    make_list, make_of_one, make_range,
 };
 use nd_session::Value;
-use nd_syntax::{BinaryOp, Call, DType, Element, Expr, Fill, Index, IndexItem, Suffix};
+use nd_syntax::{BinaryOp, Call, DType, Element, Expr, Fill, Index, IndexItem, Method, Suffix};
 use nd_types::Num;
 use nd_ufunc::{BinaryUfunc, Single};
 
@@ -61,6 +62,7 @@ impl Evaluator<'_> {
         requires { (session_of self.old).next + tokens_of (expr_of expr.now) < 2 ^ 64 }
         ensures { Evaluates value_of result self.old (meaning.value (expr_of expr.now)) self.new }
     {
+        self.session.soundness();
         match expr {
             Expr::Name(name) => self.look_up(name.as_str()),
             Expr::Integer(number) => Ok(Value::Number(Num::Int(i128::from(*number)))),
@@ -72,10 +74,7 @@ impl Evaluator<'_> {
             Expr::Postfix(operand, suffixes) => {
                 let mut found = self.value(operand)?;
                 for suffix in suffixes {
-                    let Suffix::Index(index) = suffix else {
-                        return Err(unbuilt_form());
-                    };
-                    found = self.index_into(&found, index)?;
+                    found = self.suffix_value(&found, suffix)?;
                 }
                 Ok(found)
             }
@@ -151,11 +150,35 @@ impl Evaluator<'_> {
             (parts.value_of_one (made_of_one call.entry) (expr_of operand.now)) self.new }
     {
         self.session.soundness();
-        let alloc = self.session.allocator();
         let operand = self.value(operand)?;
-        mark_operand(self.session, &operand)?;
-        let new = make_of_one(alloc, call, &operand_in(self.session, &operand))?;
+        self.make_value(call, &operand)
+    }
+
+    /// What a call or an operator gives of one value.
+    fn make_value(&mut self, call: OfOne<'_>, operand: &Value) -> Result<Value, Stop>
+        requires held { IsHeld (session_of self.old) operand.now }
+        requires room { (session_of self.old).next + 1 < 2 ^ 64 }
+        ensures { Evaluates value_of result self.old
+            (parts.make_value (made_of_one call.entry) (value_of operand.now)) self.new }
+    {
+        let alloc = self.session.allocator();
+        mark_operand(self.session, operand)?;
+        let new = make_of_one(alloc, call, &operand_in(self.session, operand))?;
         self.give(new)
+    }
+
+    /// What a method gives of a value that was found before.
+    fn method_value(&mut self, found: &Value, method: &Method) -> Result<Value, Stop>
+        requires held { IsHeld (session_of self.old) found.now }
+        requires room { (session_of self.old).next + 1 < 2 ^ 64 }
+        ensures { Evaluates value_of result self.old
+            (parts.method_value (method_of method.now) (value_of found.now)) self.new }
+    {
+        match method {
+            Method::Copy => self.make_value(OfOne::Copy, found),
+            Method::AsType(dtype) => self.make_value(OfOne::AsType(dtype), found),
+            _ => Err(unbuilt_form()),
+        }
     }
 
     /// `np.zeros`, `np.ones`
@@ -239,7 +262,47 @@ impl Evaluator<'_> {
         self.give(new)
     }
 
-    /// `np.array` of what is no list.
+    /// Puts the values of the numbers of a list behind others, from left to right.
+    #[cycle(value)]
+    fn push_values(&mut self, values: &mut Vec<Value>, element: &Element) -> Result<(), Stop>
+        requires { (session_of self.old).next + tokens_of_element (element_of element.now)
+            < 2 ^ 64 }
+        ensures { Evaluates (λ u. values_of values.new) result self.old
+            (parts.values_behind (values_of values.old)
+            (parts.exprs_of_element (element_of element.now))) self.new }
+    {
+        match element {
+            Element::Single(expr) => {
+                let found = self.value(expr)?;
+                values.push(found)?;
+                Ok(())
+            }
+            Element::Nested(elements) => {
+                for nested in elements {
+                    self.push_values(values, nested)?;
+                }
+                Ok(())
+            }
+        }
+    }
+
+    /// `np.array` of a list.
+    #[cycle(value)]
+    fn list_value(&mut self, element: &Element, dtype: &Option<DType>) -> Result<Value, Stop>
+        requires { (session_of self.old).next + tokens_of_element (element_of element.now) + 1
+            < 2 ^ 64 }
+        ensures { Evaluates value_of result self.old
+            (parts.list_value (element_of element.now) (option_map dtype_of dtype.now)) self.new }
+    {
+        let alloc = self.session.allocator();
+        let mut values = Vec::new(alloc);
+        self.push_values(&mut values, element)?;
+        mark_operands(self.session, &values)?;
+        let new = make_list(alloc, element, dtype, &values)?;
+        self.give(new)
+    }
+
+    /// `np.array`
     #[cycle(value)]
     fn array_value(&mut self, element: &Element, dtype: &Option<DType>) -> Result<Value, Stop>
         requires { (session_of self.old).next + tokens_of_element (element_of element.now) + 1
@@ -250,7 +313,7 @@ impl Evaluator<'_> {
     {
         match element {
             Element::Single(value) => self.value_of_one(OfOne::ArrayOf(dtype), value),
-            Element::Nested(_) => Err(unbuilt_form()),
+            Element::Nested(_) => self.list_value(element, dtype),
         }
     }
 
@@ -282,6 +345,21 @@ impl Evaluator<'_> {
         }
     }
 
+    /// What an index or a method gives of a value that was found before.
+    #[cycle(value)]
+    fn suffix_value(&mut self, found: &Value, suffix: &Suffix) -> Result<Value, Stop>
+        requires held { IsHeld (session_of self.old) found.now }
+        requires room { (session_of self.old).next + suffix_tokens (suffix_of suffix.now)
+            < 2 ^ 64 }
+        ensures { Evaluates value_of result self.old
+            (parts.suffix_value (suffix_of suffix.now) (value_of found.now)) self.new }
+    {
+        match suffix {
+            Suffix::Index(index) => self.index_into(found, index),
+            Suffix::Method(method) => self.method_value(found, method),
+        }
+    }
+
     /// What an index gives of a value that was found before.
     #[cycle(value)]
     fn index_into(&mut self, found: &Value, index: &Index) -> Result<Value, Stop>
@@ -301,9 +379,12 @@ impl Evaluator<'_> {
         ensures { Evaluates value_of result self.old
             (parts.element_value (value_of target.now) (value_of item.now)) self.new }
     {
-        mark_operand(self.session, item)?;
-        let chosen = index_array(target, &operand_in(self.session, item))?;
-        self.choose_of(target, chosen)
+        mark_item(self.session, item)?;
+        let Value::Array(array) = target else {
+            return Err(Stop::Refused(StmtFault::Stmt(StmtError::NotAnArray)));
+        };
+        let place = index_array(&array.view, &operand_in(self.session, item))?;
+        self.element_of(array, place)
     }
 
     /// The value of what stands in the brackets of an index.

@@ -23,7 +23,7 @@ ghost use Rattle.nd_model.specs.Evaluation.{run};
 use crate::effect::Effect;
 use crate::eval::unbuilt_form;
 use crate::evaluator::Evaluator;
-use crate::operation::{mark_operand, mark_operands, operand_in, operands_in};
+use crate::operation::{mark_item, mark_operand, mark_operands, operand_in, operands_in};
 use nd_block::push_bytes;
 use nd_operation::{ElementWrite, StmtError, StmtFault, Stop, assignment_write, print_line};
 use nd_session::{Base, Inputs, OutOfMemory, Session, Value};
@@ -57,7 +57,7 @@ impl Evaluator<'_> {
             self.new }
     {
         mark_operand(self.session, value)?;
-        mark_operand(self.session, item)?;
+        mark_item(self.session, item)?;
         let value = operand_in(self.session, value);
         let item = operand_in(self.session, item);
         let write = assignment_write(&value, target, &item)?;

@@ -2,18 +2,19 @@
 
 ghost use Rattle.std.specs.Prelude.{◌≡◌, ◌+◌, ◌<◌, ◌≤◌, ◌^◌, IfOk, OnOk};
 ghost use Rattle.nd_model.specs.Operation as operation;
-ghost use Rattle.nd_heap.specs.Values.{value_of};
+ghost use Rattle.nd_heap.specs.Values.{base_of, value_of};
 ghost use Rattle.nd_session.specs.Live.{live};
-ghost use Rattle.nd_operation.specs.Contents.{chosen_of, operand_of};
+ghost use Rattle.nd_model.specs.View.{item_size};
+ghost use Rattle.nd_operation.specs.Contents.{operand_of};
 ghost use Rattle.nd_eval.specs.Contents.{operands_of};
 ghost use Rattle.nd_eval.specs.Ends.{Evaluates, session_of};
 ghost use Rattle.nd_operation.specs.New.{given};
-ghost use Rattle.nd_eval.specs.Uses.{IsHeld, AreHeld, marked, all_marked};
+ghost use Rattle.nd_eval.specs.Uses.{IsHeld, AreHeld, item_marked, marked, all_marked};
 ghost use Rattle.nd_eval.specs.Uses.{operand_over, operands_over};
 
 use crate::evaluator::Evaluator;
 use nd_element::number_in;
-use nd_operation::{ElementPlace, Elements, New, Operand, StmtError, StmtFault, Stop};
+use nd_operation::{Elements, New, Operand, Stop};
 use nd_session::{Array, OutOfMemory, Session, Value};
 use nd_types::{ElemType, Num};
 use std::alloc::AllocError;
@@ -22,13 +23,26 @@ use std::alloc::AllocError;
 pub(crate) fn mark_operand(session: &mut Session, value: &Value) -> Result<(), OutOfMemory>
     ensures { OnOk result (live session.new ≡ marked value.now (live session.old)) }
 {
-    if let Value::Array(array) = value {
+    match value {
+        Value::Number(_) => {}
+        Value::Array(array) | Value::Row(array) => {
+            session.mark_used(array)?;
+        }
+    }
+    Ok(())
+}
+
+/// Notes that all elements of an item of an index are used, if it is an array. A row is none.
+pub(crate) fn mark_item(session: &mut Session, item: &Value) -> Result<(), OutOfMemory>
+    ensures { OnOk result (live session.new ≡ item_marked item.now (live session.old)) }
+{
+    if let Value::Array(array) = item {
         session.mark_used(array)?;
     }
     Ok(())
 }
 
-/// Notes the same of values, from left to right.
+/// Notes that all elements of values are used, from left to right.
 pub(crate) fn mark_operands(session: &mut Session, values: &[Value]) -> Result<(), OutOfMemory>
     ensures { OnOk result (live session.new ≡ all_marked values.now (live session.old)) }
 {
@@ -48,6 +62,12 @@ pub(crate) fn operand_in<'v>(session: &'v Session, value: &'v Value) -> Operand<
         Value::Array(array) => Operand::Elements(Elements {
             view: &array.view,
             block: session.bytes(array.base),
+            is_row: false,
+        }),
+        Value::Row(row) => Operand::Elements(Elements {
+            view: &row.view,
+            block: session.bytes(row.base),
+            is_row: true,
         }),
     }
 }
@@ -83,17 +103,28 @@ impl Evaluator<'_> {
         }
     }
 
-    /// Gives the element that was chosen of a value.
-    pub(crate) fn choose_of(&mut self, value: &Value, chosen: ElementPlace) -> Result<Value, Stop>
-        ensures { Evaluates value_of result self.old
-            (operation.choose_of (value_of value.now) (chosen_of chosen)) self.new }
+    /// Gives the element of an array at a place: a NumPy scalar, or a row, which uses none of its bytes.
+    pub(crate) fn element_of(&mut self, array: &Array, place: u64) -> Result<Value, Stop>
+        requires { place + item_size array.now.view.element ≤ 2 ^ 64 }
+        ensures { Evaluates value_of result self.old (operation.element_of
+            (base_of array.now.base) array.now.view.writable array.now.view.element place)
+            self.new }
     {
-        let Value::Array(array) = value else {
-            return Err(Stop::Refused(StmtFault::Stmt(StmtError::NotAnArray)));
-        };
-        self.session
-            .mark_element(array.base, chosen.place, &ElemType::One(chosen.elem))?;
-        let number = number_in(self.session.bytes(array.base), chosen.place, chosen.elem);
-        Ok(Value::Number(Num::Scalar(chosen.elem.kind(), number)))
+        let view = &array.view;
+        match view.elem() {
+            ElemType::One(elem) => {
+                self.session
+                    .mark_element(array.base, place, &ElemType::One(*elem))?;
+                let number = number_in(self.session.bytes(array.base), place, *elem);
+                Ok(Value::Number(Num::Scalar(elem.kind(), number)))
+            }
+            ElemType::Rec(_) => {
+                let view = view.element_view(place)?;
+                // Says that the row is in the limits of arrays.
+                let _shape = view.shape();
+                let base = array.base;
+                Ok(Value::Row(Array { base, view }))
+            }
+        }
     }
 }

@@ -1,11 +1,10 @@
 -- The bases that are held.
-use Rattle.std.proofs.Common.{◌≡◌, ℕ, Bool, true, false, ◌||◌, nat_eq, eqb-true, List, [], ◌∷◌, cond, refl, sym, ap, ◌∙◌, inl, inr, arith}
+use Rattle.std.proofs.Common.{◌≡◌, ℕ, Bool, true, false, ◌||◌, nat_eq, eqb-true, List, [], ◌∷◌, cond, refl, sym, ◌∙◌, inl, inr, arith}
 use Rattle.std.specs.Map.{lookup as find}
 use Rattle.std.specs.Prelude.{is_some, IsFalse}
 use Rattle.indexmap.specs.IndexMap.{insert_entry}
 use Rattle.std.proofs.lemmas.Bool.{cases_Bool, and_parts}
 use Rattle.std.proofs.lemmas.Bool.Decides.{nat_tests}
-use Rattle.nd_model.specs.View.{Geo}
 use Rattle.nd_model.specs.Value as model
 use Rattle.nd_heap.specs.declared.value.Base.{Base}
 use Rattle.nd_heap.specs.Values.{base_of}
@@ -35,12 +34,12 @@ none_kept true bytes e = refl
 none_kept false bytes e = e
 
 -- a label's test
-pub in_label : (label : ℕ) (c : model.Base) (g : Geo) (v : model.Value) → v ≡ model.Array c g
+pub in_label : (label : ℕ) (c : model.Base) (v : model.Value) → ((b : model.Base) → model.lies_in b v ≡ model.same_base b c)
     → (IsFalse (nat_eq c.label label) → (b : model.Base) → b.label ≡ label → model.lies_in b v ≡ false) × (((b : model.Base) → b.label ≡ label → model.lies_in b v ≡ false) → IsFalse (nat_eq c.label label))
-in_label label c g v is = (
-  λ f b own. ap (model.lies_in b) is ∙ apart b f own,
+in_label label c v is = (
+  λ f b own. is b ∙ apart b f own,
   λ all. elim (cases_Bool (nat_eq c.label label)) [
-    | inl own ↦ false_true (sym (all c (eqb-true _ _ own)) ∙ ap (model.lies_in c) is ∙ base_same c)
+    | inl own ↦ false_true (sym (all c (eqb-true _ _ own)) ∙ is c ∙ base_same c)
     | inr other ↦ other
   ],
 )

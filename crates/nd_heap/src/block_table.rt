@@ -83,7 +83,8 @@ impl BlockTable {
     {
         match value {
             Value::Number(_) => true,
-            Value::Array(array) => self.bytes(array.base) == others.bytes(array.base),
+            Value::Array(array) | Value::Row(array) => self.bytes(array.base)
+                == others.bytes(array.base),
         }
     }
 

@@ -132,8 +132,11 @@ pub(crate) fn note_base(bases: &mut Bases, value: &Value) -> Result<(), OutOfMem
         ≡ (is_base_among (bases_of bases.old.entries) b || values.lies_in b (value_of value.now))) }
     ensures err { OnErr result (bases_of bases.new.entries ≡ bases_of bases.old.entries) }
 {
-    if let Value::Array(array) = value {
-        bases.insert(array.base, ())?;
+    match value {
+        Value::Number(_) => {}
+        Value::Array(array) | Value::Row(array) => {
+            bases.insert(array.base, ())?;
+        }
     }
     Ok(())
 }

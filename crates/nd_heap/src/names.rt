@@ -58,7 +58,7 @@ pub(crate) fn lies_in(value: &Value, base: Base) -> bool
 {
     match value {
         Value::Number(_) => false,
-        Value::Array(array) => base == array.base,
+        Value::Array(array) | Value::Row(array) => base == array.base,
     }
 }
 
@@ -84,6 +84,6 @@ pub(crate) fn lies_in_label(value: &Value, label: u64) -> bool
 {
     match value {
         Value::Number(_) => false,
-        Value::Array(array) => array.base.label == label,
+        Value::Array(array) | Value::Row(array) => array.base.label == label,
     }
 }

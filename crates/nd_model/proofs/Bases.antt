@@ -9,8 +9,8 @@ use Rattle.nd_model.specs.Fault.{Fault, ViewFault, BadArgument}
 use Rattle.nd_model.specs.Fault as fault
 use Rattle.nd_model.specs.InputName.{is_input_name}
 use Rattle.nd_model.specs.Syntax as syntax
-use Rattle.nd_model.specs.Syntax.{Expr, Call, Index, Stmt}
-use Rattle.nd_model.specs.Tokens.{tokens_of, tokens_of_call, tokens_of_shape, tokens_of_exprs, tokens_of_bound, tokens_of_step, tokens_of_index, tokens_of_all, tokens_of_stmt}
+use Rattle.nd_model.specs.Syntax.{Expr, Call, Method, Elements, Element, Index, Stmt}
+use Rattle.nd_model.specs.Tokens.{tokens_of, tokens_of_call, tokens_of_shape, tokens_of_exprs, tokens_of_bound, tokens_of_step, tokens_of_index, tokens_of_method, tokens_of_elements, tokens_of_others, tokens_of_element, tokens_of_all, tokens_of_stmt}
 use Rattle.nd_model.specs.Evaluation.{Eval, Gives, Refuses, Asks, run, ◌>>=◌, decide}
 use Rattle.nd_model.specs.Operand as operand
 use Rattle.nd_model.specs.Operand.{Operand, Usage, Made, ANumber, AnArray, Chosen, AnElement, AView, ACopy, Stretched, Deed, NoDeed, PrintsText, SavesFile, BindsFirst, BindsMade, Unbinds, Writes, MakesAndWrites}
@@ -202,14 +202,14 @@ mutual
   at_expr (syntax.Binary op a b) = omega (arith, at_expr a, at_expr b)
   at_expr (syntax.Called c) = at_call c
   at_expr (syntax.Item t x) = omega (arith, at_expr t, at_index x)
-  at_expr (syntax.Attribute t m) = omega (arith, at_expr t)
+  at_expr (syntax.Attribute t m) = omega (arith, at_expr t, at_method m (Meaning.plan t))
 
   pub at_call : (c : Call) → bases (Meaning.call_plan c) ≤ tokens_of_call c
   at_call (syntax.Arange a b c t) = omega (arith, at_bound a (And operand.Unused (Meaning.plan b) (Meaning.bound_plans c Done)), at_expr b, at_bound c Done, step_more a, step_more c)
   at_call (syntax.Filled f s t) = omega (arith, at_shape operand.Unused s Done)
   at_call (syntax.Full s e t) = omega (arith, at_shape operand.Whole s (And operand.Whole (Meaning.plan e) Done), at_expr e)
   at_call (syntax.NewArray (syntax.Single e) t) = omega (arith, at_expr e)
-  at_call (syntax.NewArray (syntax.Nested es) t) = omega arith
+  at_call (syntax.NewArray (syntax.Nested es) t) = omega (arith, at_elements es Done)
   at_call (syntax.Convert k e) = omega (arith, at_expr e)
   at_call (syntax.BroadcastTo e s) = omega arith
   at_call (syntax.Minimum a b) = omega (arith, at_expr a, at_expr b)
@@ -219,6 +219,28 @@ mutual
   at_call (syntax.Folded u f) = omega arith
   at_call (syntax.Load n) = omega arith
   at_call (syntax.Buffer n) = omega arith
+
+  pub at_method : (m : Method) (x : Plan) → bases (Meaning.method_plan m x) ≤ 2 + bases x + tokens_of_method m
+  at_method (syntax.Transpose axes) x = omega arith
+  at_method (syntax.Reshape s) x = omega arith
+  at_method syntax.Copy x = omega arith
+  at_method (syntax.AsType t) x = omega arith
+  at_method (syntax.ViewAs t) x = omega arith
+  at_method (syntax.Reduced r a k) x = omega arith
+  at_method (syntax.Accumulated r a) x = omega arith
+
+  pub at_elements : (es : Elements) (rest : Plans) → all_bases (Meaning.list_plans es rest) ≤ tokens_of_elements es + all_bases rest
+  at_elements syntax.NoElement rest = omega arith
+  at_elements (syntax.AndElement e es) rest = omega (arith, at_element e (Meaning.list_plans es rest), at_others es rest)
+
+  -- each has a comma before it
+  pub at_others : (es : Elements) (rest : Plans) → all_bases (Meaning.list_plans es rest) ≤ tokens_of_others es + all_bases rest
+  at_others syntax.NoElement rest = omega arith
+  at_others (syntax.AndElement e es) rest = omega (arith, at_element e (Meaning.list_plans es rest), at_others es rest)
+
+  pub at_element : (e : Element) (rest : Plans) → all_bases (Meaning.element_plans e rest) ≤ tokens_of_element e + all_bases rest
+  at_element (syntax.Single e) rest = omega (arith, at_expr e)
+  at_element (syntax.Nested es) rest = omega (arith, at_elements es rest)
 
   pub at_shape : (u : Usage) (es : syntax.Exprs) (rest : Plans) → all_bases (Meaning.expr_plans u es rest) ≤ tokens_of_shape es + all_bases rest
   at_shape u syntax.NoExpr rest = omega arith

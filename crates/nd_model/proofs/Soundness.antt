@@ -227,7 +227,7 @@ safe_first i r w [] os x h is e = tt
 safe_first i r w (v ∷ vs) [] x h is e = absurd is
 safe_first i r w (v ∷ vs) (o ∷ os) x h is e = safe_choice i r w v.1 o os x h.0 is e
 
-safe_performed : (i : Inputs) (r : Running) (op : Operation) (vs : List (Usage × Value)) → AllV r vs → Safe V i r (perform op vs)
+pub safe_performed : (i : Inputs) (r : Running) (op : Operation) (vs : List (Usage × Value)) → AllV r vs → Safe V i r (perform op vs)
 safe_performed i r (Computes f) vs h = safe_operands V i r vs _ (λ q os g is. safe_decided V i q (f os) _ (λ m e. safe_given i q m))
 safe_performed i r (Views w) vs h = safe_operands V i r vs _ (λ q os g is. safe_decided V i q (choose w os) _ (λ x e. safe_first i q w vs os x (all_grow r q g vs h) is e))
 

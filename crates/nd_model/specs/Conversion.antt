@@ -1,6 +1,6 @@
 -- Conversion of elements to another type (NumPy user guide, "Data types"; NumPy's `astype`): a number is wrapped, or `not zero` for a
 -- Boolean; a structure stays as it is, in the same type alone.
-use Rattle.std.specs.Prelude.{ℕ, ◌==◌, bytes_eq, Bool, true, false, ◌&&◌, List, [], ◌∷◌}
+use Rattle.std.specs.Prelude.{◌==◌, bytes_eq, Bool, true, false, ◌&&◌, List, [], ◌∷◌}
 use Rattle.nd_model.specs.Element.{Element, size_of, wrap}
 use Rattle.nd_model.specs.Promotion.{sort_of}
 use Rattle.nd_model.specs.View.{Field, ElementType, One, Structure}

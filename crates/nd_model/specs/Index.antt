@@ -1,7 +1,7 @@
 -- Indexes: what is chosen of an array.
 use Rattle.std.specs.Prelude.{ℕ, ℤ, pos, neg_ℤ, ◌+ℤ◌, int_le, int_lt, unsigned_abs, Bool, true, false, ◌&&◌, if◌then◌else◌, List, [], ◌∷◌, slice_index, Result, Ok, Err}
 use Rattle.nd_model.specs.Element.{Boolean}
-use Rattle.nd_model.specs.View.{ElementType, One, Structure, Geo}
+use Rattle.nd_model.specs.View.{Geo}
 use Rattle.nd_model.specs.Fault.{Fault, Index, Stmt, OutOfBounds, TooManyIndices, NotAnIndex, NotAnArray, BadArgument}
 use Rattle.nd_model.specs.Refusing.{◌>>=◌, when}
 use Rattle.nd_model.specs.Operand.{Int, Truth, Scalar, Operand, Plain, Elements, Chosen, AnElement}
@@ -40,14 +40,9 @@ indexed_place t i = do
   z ← integer_of i
   place_in g.shape g.places z
 
--- structures are not built yet
-abbrev pub number_element : ElementType → ℕ → Result Chosen Fault
-number_element (One e) p = Ok (AnElement (One e) p)
-number_element (Structure fields size) p = Err (Stmt BadArgument)
-
--- `t[i]`
+-- `t[i]`: a NumPy scalar, or a row of an array of structures
 abbrev pub index_array : Operand → Operand → Result Chosen Fault
 index_array t i = do
   g ← array_of t
   p ← indexed_place t i
-  number_element g.element p
+  Ok (AnElement g.element p)

@@ -4,14 +4,14 @@ use Rattle.nd_model.specs.Value.{Value}
 use Rattle.nd_model.specs.Running.{Source, Effect}
 use Rattle.nd_model.specs.Fault.{Fault, BadArgument}
 use Rattle.nd_model.specs.Fault as fault
-use Rattle.nd_model.specs.Syntax.{Expr, Exprs, NoExpr, AndExpr, Name, Integer, Unary, Binary, Called, Call, Arange, Filled, Full, NewArray, Convert, Minimum, Maximum, Absolute, PythonAbs, Load, Buffer, Bound, Omitted, Given, Single, Item, Attribute, Index, Items, AndItem, NoItem, At, Stmt, Import, Bind, Assign, Delete, Print}
+use Rattle.nd_model.specs.Syntax.{Expr, Exprs, NoExpr, AndExpr, Name, Integer, Unary, Binary, Called, Call, Arange, Filled, Full, NewArray, Convert, Minimum, Maximum, Absolute, PythonAbs, Load, Buffer, Bound, Omitted, Given, Elements, NoElement, AndElement, Element, Single, Nested, Item, Attribute, Method, Copy, AsType, Index, Items, AndItem, NoItem, At, Stmt, Import, Bind, Assign, Delete, Print}
 use Rattle.nd_model.specs.Syntax as syntax
 use Rattle.nd_model.specs.Refusing as refusing
 use Rattle.nd_model.specs.Evaluation.{Eval}
 use Rattle.nd_model.specs.Operand.{Int, Truth, Operand, Usage, Whole, ArraysOnly, Unused, Made, ANumber, Deed, NoDeed, BindsFirst, Unbinds, Writes}
 use Rattle.nd_model.specs.Operators as operators
 use Rattle.nd_model.specs.Operators.{Of, binary, single, call_binary, call_single}
-use Rattle.nd_model.specs.Creation.{arange, filled, full, new_array, convert}
+use Rattle.nd_model.specs.Creation.{arange, filled, full, new_array, array_of_list, convert, copy_array, astype}
 use Rattle.nd_model.specs.Writing.{assignment_writes}
 use Rattle.nd_model.specs.Viewing.{Indexed}
 use Rattle.nd_model.specs.Printing.{print_deed}
@@ -50,13 +50,14 @@ abbrev mutual
   plan (Binary op a b) = Does (Computes (two (binary op))) (And Whole (plan a) (And Whole (plan b) Done))
   plan (Called c) = call_plan c
   plan (Item t x) = Does (Views Indexed) (And Unused (plan t) (item_plans x))
-  plan (Attribute e m) = Does (Computes unbuilt_form) (And Unused (plan e) Done)
+  plan (Attribute e m) = method_plan m (plan e)
 
   pub call_plan : Call → Plan
   call_plan (Arange a b c t) = Does (Computes (arange (is_given a) (is_given c) t)) (bound_plans a (And Unused (plan b) (bound_plans c Done)))
   call_plan (Filled f shape t) = Does (Computes (filled f t)) (expr_plans Unused shape Done)
   call_plan (Full shape e t) = Does (Computes (full t)) (expr_plans Whole shape (And Whole (plan e) Done))
   call_plan (NewArray (Single e) t) = Does (Computes (one (new_array t))) (And Whole (plan e) Done)
+  call_plan (NewArray (Nested es) t) = Does (Computes (array_of_list (Nested es) t)) (list_plans es Done)
   call_plan (Convert k e) = Does (Computes (one (convert k))) (And Whole (plan e) Done)
   call_plan (Minimum a b) = Does (Computes (two (call_binary operators.Minimum))) (And Whole (plan a) (And Whole (plan b) Done))
   call_plan (Maximum a b) = Does (Computes (two (call_binary operators.Maximum))) (And Whole (plan a) (And Whole (plan b) Done))
@@ -65,6 +66,21 @@ abbrev mutual
   call_plan (Load n) = FromInput n unbuilt_input
   call_plan (Buffer n) = FromInput n unbuilt_input
   call_plan _ = Does (Computes unbuilt_form) Done
+
+  -- of an array's method, and of the plan of the array
+  pub method_plan : Method → Plan → Plan
+  method_plan Copy x = Does (Computes (one copy_array)) (And Whole x Done)
+  method_plan (AsType t) x = Does (Computes (one (astype t))) (And Whole x Done)
+  method_plan _ x = Does (Computes unbuilt_form) (And Unused x Done)
+
+  -- the numbers of a list from left to right, and then the others
+  pub list_plans : Elements → Plans → Plans
+  list_plans NoElement rest = rest
+  list_plans (AndElement x xs) rest = element_plans x (list_plans xs rest)
+
+  pub element_plans : Element → Plans → Plans
+  element_plans (Single e) rest = And Whole (plan e) rest
+  element_plans (Nested es) rest = list_plans es rest
 
   -- from left to right, and then the others
   pub expr_plans : Usage → Exprs → Plans → Plans

@@ -1,6 +1,6 @@
 -- Views: what an array is, apart from the base that it lies in. There are no strides here: a view is the list of the
 -- places of its elements in C order (PEP 3118 gives the places by an offset and strides).
-use Rattle.std.specs.Prelude.{ℕ, ◌+◌, ◌*◌, Bool, true, List, map, slice_index}
+use Rattle.std.specs.Prelude.{ℕ, ◌+◌, ◌*◌, Bool, true, List, [], ◌∷◌, map, slice_index}
 use Rattle.std.specs.List.{flat_map}
 use Rattle.nd_model.specs.Element.{Element, size_of}
 use Rattle.nd_model.specs.Tuple.{count_up, elements_of, indices, number}
@@ -50,6 +50,10 @@ contiguous t shape = record {
 -- the place of the element at an index tuple
 abbrev pub place_of : Geo → List ℕ → ℕ
 place_of g t = slice_index g.places (number g.shape t)
+
+-- the view without axes of the element at a place
+abbrev pub element_view : Geo → ℕ → Geo
+element_view g p = record { element = g.element; shape = []; writable = g.writable; places = p ∷ [] }
 
 -- the view of this shape whose element at each index tuple is that of the old one at another tuple
 abbrev pub rearranged_view : Geo → (shape : List ℕ) → (List ℕ → List ℕ) → Geo

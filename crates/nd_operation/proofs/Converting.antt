@@ -1,8 +1,7 @@
 -- Which types convert, and what is made of elements that do.
-use Rattle.std.proofs.Common.{◌≡◌, ◌↔◌, ℕ, zero, suc, ◌+◌, ◌*◌, ◌≤◌, IsTrue, Bool, true, false, cond, ◌&&◌, ℤ, List, [], ◌∷◌, ◌++◌, length, map, replicate, Option, None, Some, Result, Ok, Err, refl, sym, ap, ap₂, subst, ◌∙◌, arith, append-nil}
+use Rattle.std.proofs.Common.{◌≡◌, ◌↔◌, ℕ, IsTrue, Bool, true, false, cond, ◌&&◌, ℤ, List, [], ◌∷◌, length, map, replicate, Option, None, Some, Result, Ok, Err, refl, sym, ap, ap₂, subst, ◌∙◌, append-nil}
 use Rattle.std.specs.Prelude.{bytes_eq, ◌==◌, IfOk}
 use Rattle.std.specs.declared.alloc.AllocError.{AllocError}
-use Rattle.std.specs.List.{flat_map}
 use Rattle.std.proofs.lemmas.Bool.{eqb-true, eq-eqb}
 use Rattle.std.proofs.lemmas.List.{length-replicate}
 use Rattle.nd_model.specs.Element.{Kind, Boolean, Int8, Int16, Int32, Int64, UInt8, UInt16, UInt32, UInt64, Element, size_of, wrap}
@@ -124,8 +123,8 @@ given_converts (Ok x) s t h = at (converts s x) refl h
     at false is h = absurd cc
 given_converts (Err f) s t h = absurd cc
 
-pub type_converts : (d : Option DType) (g : Geo) (block : List ℕ) (t : ElementType) → type_for d (elements_over g block) ≡ Ok t → converts g.element t ≡ true
-type_converts d g block t h = given_converts (type_or d (Ok g.element)) g.element t h
+pub type_converts : (d : Option DType) (row : Bool) (g : Geo) (block : List ℕ) (t : ElementType) → type_for d (elements_over row g block) ≡ Ok t → converts g.element t ≡ true
+type_converts d row g block t h = given_converts (type_or d (Ok g.element)) g.element t h
 
 -- ---- arrays of one number
 
@@ -176,20 +175,20 @@ made_many k [] f h = absurd cc
 made_many k (n ∷ shape) f h = refl
 
 -- numbers with axes, of a kind that is named
-pub convert_many : (k : Kind) (g : Geo) (block : List ℕ) (e : Element) → g.element ≡ One e → (length g.shape == 0) ≡ false
-    → convert k (elements_over g block) ≡ Ok (converted_array (One (little k)) (elements_over g block))
-convert_many k g block e one some =
-    ap (λ t. refusing.when (converts t (One (little k))) (Ufunc NotNumbers) (Ok (made_of k g.shape (λ i. wrap k (number_in (content_of (elements_over g block) i)))))) one
-    ∙ ap Ok (made_many k g.shape (λ i. wrap k (number_in (content_of (elements_over g block) i))) some)
+pub convert_many : (k : Kind) (row : Bool) (g : Geo) (block : List ℕ) (e : Element) → g.element ≡ One e → (length g.shape == 0) ≡ false
+    → convert k (elements_over row g block) ≡ Ok (converted_array (One (little k)) (elements_over row g block))
+convert_many k row g block e one some =
+    ap (λ t. refusing.when (converts t (One (little k))) (Ufunc NotNumbers) (Ok (made_of k g.shape (λ i. wrap k (number_in (content_of (elements_over row g block) i)))))) one
+    ∙ ap Ok (made_many k g.shape (λ i. wrap k (number_in (content_of (elements_over row g block) i))) some)
 
-module _ (g : Geo) (block : List ℕ) (sound : contents_over g block ≡ map (content_at g.element block) g.places) where
+module _ (row : Bool) (g : Geo) (block : List ℕ) (sound : contents_over g block ≡ map (content_at g.element block) g.places) where
   in_place : List ℕ → Content
   in_place = content_in_order g.shape (map (content_at g.element block) g.places)
 
   -- the bytes of numbers in another type
   pub numbers_become : (d e : Element) (made : Result (List ℕ) AllocError) → g.element ≡ One d
       → IfOk made (λ b. b ≡ array_bytes (One e) g.shape (λ i. converted_content (One e) (content_in_order g.shape (map (content_at (One d) block) g.places) i)))
-      → IfOk made (λ b. b ≡ array_bytes (One e) g.shape (converted_at (One e) (elements_over g block)))
+      → IfOk made (λ b. b ≡ array_bytes (One e) g.shape (converted_at (One e) (elements_over row g block)))
   numbers_become d e made one h =
       subst (λ cs. IfOk made (λ b. b ≡ array_bytes (One e) g.shape (λ i. converted_content (One e) (content_in_order g.shape cs i))))
       (ap (λ t. map (content_at t block) g.places) (sym one) ∙ sym sound) h
@@ -197,7 +196,7 @@ module _ (g : Geo) (block : List ℕ) (sound : contents_over g block ≡ map (co
   -- and of structures in their own type
   pub structures_stay : (fs : List Field) (n : ℕ) (made : Result (List ℕ) AllocError) → g.element ≡ Structure fs n
       → IfOk made (λ b. b ≡ array_bytes g.element g.shape (content_in_order g.shape (map (content_at g.element block) g.places)))
-      → IfOk made (λ b. b ≡ array_bytes (Structure fs n) g.shape (converted_at (Structure fs n) (elements_over g block)))
+      → IfOk made (λ b. b ≡ array_bytes (Structure fs n) g.shape (converted_at (Structure fs n) (elements_over row g block)))
   structures_stay fs n made is h =
       subst (λ t. IfOk made (λ b. b ≡ array_bytes t g.shape (content_in_order g.shape (contents_over g block)))) is
       (subst (λ cs. IfOk made (λ b. b ≡ array_bytes g.element g.shape (content_in_order g.shape cs))) (sym sound) h)

@@ -4,7 +4,7 @@ use Rattle.std.specs.List.{list_any}
 use Rattle.std.proofs.lemmas.Result.{err_from_is_err_and}
 use Rattle.std.proofs.lemmas.Bool.{le-ltb, lt-ltb, ltb-true, ltb-false}
 use Rattle.std.proofs.lemmas.List.{append_assoc, length-map}
-use Rattle.nd_model.specs.View.{ElementType, One, Geo, item_size, contiguous}
+use Rattle.nd_model.specs.View.{ElementType, Geo, item_size, contiguous}
 use Rattle.nd_model.specs.Tuple.{elements_of}
 use Rattle.nd_model.specs.Content.{Content, array_bytes}
 use Rattle.nd_model.specs.Calls.{Fill, DType}

@@ -1,5 +1,5 @@
 -- Values that are numbers, one after the other, and the shapes of lists.
-use Rattle.std.proofs.Common.{◌≡◌, ◌≢◌, ℕ, zero, suc, ◌+◌, ◌*◌, ◌<◌, ◌≤◌, ℤ, get_or, take, add-one, Bool, true, false, cond, ◌&&◌, List, [], ◌∷◌, ◌++◌, length, map, Option, None, Some, Result, Ok, Err, Vec, Global, refl, sym, ap, ap₂, subst, ◌∙◌, arith}
+use Rattle.std.proofs.Common.{◌≡◌, ℕ, ◌+◌, ◌*◌, ◌<◌, ℤ, get_or, take, add-one, Bool, true, false, ◌&&◌, List, [], ◌∷◌, ◌++◌, length, map, None, Some, Result, Ok, Err, Vec, Global, refl, sym, ap, ap₂, ◌∙◌, arith}
 use Rattle.std.specs.Prelude.{◌==◌}
 use Rattle.std.specs.List.{list_all}
 use Rattle.std.proofs.lemmas.Bool.{eqb-true, eq-eqb}
@@ -16,7 +16,7 @@ use Rattle.nd_model.specs.Syntax as syntax
 use Rattle.nd_model.specs.Syntax.{NoElement, AndElement, Single, Nested}
 use Rattle.nd_model.specs.Cells as cells
 use Rattle.nd_model.specs.Operand.{Number, number_of}
-use Rattle.nd_model.specs.Creation.{element_count, shape_of_element, shape_of_first, has_shape, have_shape, even_shape, python_number, python_numbers, is_truth, fits_int64, misfit, first_misfit, converted_numbers}
+use Rattle.nd_model.specs.Creation.{element_count, shape_of_element, shape_of_first, has_shape, have_shape, even_shape, python_number, python_numbers, is_truth, misfit, first_misfit, converted_numbers}
 use Rattle.nd_types.specs.declared.num.Num.{Num}
 use Rattle.nd_types.specs.declared.num.Num.TheVariants as num
 use Rattle.nd_heap.specs.declared.value.Value.{Value}
@@ -39,12 +39,14 @@ python_one (value.Number (num.Int z)) h = refl
 python_one (value.Number (num.Bool t)) h = refl
 python_one (value.Number (num.Scalar k z)) h = absurd cc
 python_one (value.Array a) h = absurd cc
+python_one (value.Row a) h = absurd cc
 
 python_none : (v : Value) → is_python v ≡ false → python_number (unused_of v) ≡ Err (Stmt BadArgument)
 python_none (value.Number (num.Int z)) h = absurd cc
 python_none (value.Number (num.Bool t)) h = absurd cc
 python_none (value.Number (num.Scalar k z)) h = refl
 python_none (value.Array a) h = refl
+python_none (value.Row a) h = refl
 
 abbrev after : Result Number Fault → Result (List Number) Fault → Result (List Number) Fault
 after n rest = refusing.◌>>=◌ n (λ n. refusing.◌>>=◌ rest (λ ns. Ok (n ∷ ns)))

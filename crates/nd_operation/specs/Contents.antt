@@ -1,6 +1,6 @@
--- What the operands of an operation stand for, and what it chooses and writes.
-use Rattle.std.specs.Prelude.{ℕ, List, [], length, map, slice_index, false}
-use Rattle.nd_model.specs.View.{One, Geo, byte_places}
+-- What the operands of an operation stand for, and what it writes.
+use Rattle.std.specs.Prelude.{ℕ, Bool, true, false, List, [], length, map, slice_index}
+use Rattle.nd_model.specs.View.{Geo, byte_places}
 use Rattle.nd_model.specs.Content.{Content, contents_in, number_writes}
 use Rattle.nd_model.specs.Operand as operand
 pub use Rattle.nd_ufunc.specs.Numbers.{num_of, number_made}
@@ -8,29 +8,30 @@ use Rattle.nd_heap.specs.declared.value.Value.{Value}
 use Rattle.nd_heap.specs.declared.value.Value.TheVariants as value
 use Rattle.nd_heap.specs.Values.{geo_of}
 use Rattle.nd_operation.specs.declared.operand.Operand.{Operand}
-use Rattle.nd_operation.specs.declared.operand.Operand.TheVariants.{Number, Elements}
-use Rattle.nd_operation.specs.declared.operand.ElementPlace.{ElementPlace}
+use Rattle.nd_operation.specs.declared.operand.Operand.TheVariants.{Number, Elements as ElementsOperand}
+use Rattle.nd_operation.specs.declared.operand.Elements.{Elements}
 use Rattle.nd_operation.specs.declared.effect.ElementWrite.{ElementWrite}
 
 -- the contents of a view's elements, in the block that they lie in
 abbrev pub contents_over : Geo → List ℕ → List Content
 contents_over g block = contents_in g.element (length g.places) (map (λ p. slice_index block p) (byte_places g))
 
-abbrev pub elements_over : Geo → List ℕ → operand.Operand
-elements_over g block = operand.Elements false g (contents_over g block)
+abbrev pub elements_over : (row : Bool) → Geo → List ℕ → operand.Operand
+elements_over row g block = operand.Elements row g (contents_over g block)
+
+abbrev pub elements_operand : Elements → operand.Operand
+elements_operand e = elements_over e.is_row e.view.now e.block.now
 
 -- an operand that is used
 abbrev pub operand_of : Operand → operand.Operand
 operand_of (Number n) = operand.Plain (num_of n)
-operand_of (Elements e) = elements_over e.view.now e.block.now
+operand_of (ElementsOperand e) = elements_operand e
 
 -- an operand that is not used
 abbrev pub unused_of : Value → operand.Operand
 unused_of (value.Number n) = operand.Plain (num_of n)
 unused_of (value.Array a) = operand.Elements false (geo_of a) []
-
-abbrev pub chosen_of : ElementPlace → operand.Chosen
-chosen_of c = operand.AnElement (One c.elem) c.place
+unused_of (value.Row a) = operand.Elements true (geo_of a) []
 
 abbrev pub writes_of : ElementWrite → List (ℕ × ℕ)
 writes_of w = number_writes w.elem w.place w.number

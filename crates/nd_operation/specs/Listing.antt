@@ -22,11 +22,13 @@ is_python (value.Number (num.Int z)) = true
 is_python (value.Number (num.Bool t)) = true
 is_python (value.Number (num.Scalar k z)) = false
 is_python (value.Array a) = false
+is_python (value.Row a) = false
 
--- the number that a value is; an array, which is none, counts as `False`
+-- the number that a value is; an array or a row, which is none, counts as `False`
 abbrev pub number_in : Value → Number
 number_in (value.Number n) = num_of n
 number_in (value.Array a) = Truth false
+number_in (value.Row a) = Truth false
 
 abbrev pub numbers_in : List Value → List Number
 numbers_in vs = map number_in vs

@@ -11,7 +11,7 @@ ghost use Rattle.nd_model.specs.View.{One, item_size};
 ghost use Rattle.nd_types.specs.Kinds.{kind_of};
 ghost use Rattle.nd_types.specs.Types.{type_of};
 ghost use Rattle.nd_syntax.specs.Calls.{dtype_of};
-ghost use Rattle.nd_operation.specs.Contents.{contents_over, elements_over, num_of, operand_of};
+ghost use Rattle.nd_operation.specs.Contents.{contents_over, elements_operand, num_of, operand_of};
 ghost use Rattle.nd_operation.specs.Ends.{Makes, Says};
 ghost use Rattle.nd_operation.specs.New.{MakesNew};
 ghost use Rattle.nd_operation.specs.declared.fault.StmtFault.TheVariants.{Stmt, Ufunc};
@@ -149,7 +149,7 @@ fn converts(from: &ElemType, to: &ElemType) -> bool
 /// What the elements of an array of elements are: of the type that is written, or else of their own.
 fn type_for(alloc: Global, dtype: &Option<DType>, elements: &Elements<'_>) -> Result<ElemType, Stop>
     ensures { Makes type_of result (creation.type_for (option_map dtype_of dtype.now)
-        (elements_over elements.now.view.now elements.now.block.now)) }
+        (elements_operand elements.now)) }
 {
     let own = elements.view.elem();
     let Some(dtype) = dtype else {
@@ -171,7 +171,7 @@ fn converted_block(
     requires { conversion.converts elements.now.view.now.element (type_of elem.now) ≡ true }
     ensures { IfOk result (λ b. b ≡ array_bytes (type_of elem.now) elements.now.view.now.shape
         (creation.converted_at (type_of elem.now)
-        (elements_over elements.now.view.now elements.now.block.now))) }
+        (elements_operand elements.now))) }
 {
     elements.soundness();
     match (elem, elements.view.elem()) {
@@ -187,7 +187,7 @@ fn converted_block(
 fn convert_elements(alloc: Global, elements: &Elements<'_>, elem: ElemType) -> Result<New, Stop>
     requires { conversion.converts elements.now.view.now.element (type_of elem) ≡ true }
     ensures { MakesNew result (Ok (creation.converted_array (type_of elem)
-        (elements_over elements.now.view.now elements.now.block.now))) }
+        (elements_operand elements.now))) }
 {
     let shape = elements.view.shape();
     check_limits(elem.size(), shape)?;
@@ -225,7 +225,7 @@ pub(crate) fn element_array(
 ) -> Result<New, Stop>
     requires { elements.now.view.now.shape ≡ [] }
     ensures { MakesNew result (creation.full_array (option_map dtype_of dtype.now) shape.now
-        (elements_over elements.now.view.now elements.now.block.now)) }
+        (elements_operand elements.now)) }
 {
     let elem = type_for(alloc, dtype, elements)?;
     check_limits(elem.size(), shape)?;
@@ -285,6 +285,9 @@ pub(crate) fn copy_array(alloc: Global, operand: &Operand<'_>) -> Result<New, St
     let Operand::Elements(elements) = operand else {
         return Err(Stop::Refused(not_an_array()));
     };
+    if elements.is_row {
+        return Err(Stop::Refused(not_an_array()));
+    }
     elements.soundness();
     let view = elements.view;
     check_limits(view.elem().size(), view.shape())?;
@@ -306,6 +309,9 @@ fn convert_to(alloc: Global, elem: ElemType, operand: &Operand<'_>) -> Result<Ne
             Err(Stop::Refused(not_numbers()))
         }
         (Operand::Number(_), _) => Err(Stop::Refused(not_an_array())),
+        (Operand::Elements(elements), _) if elements.is_row => {
+            Err(Stop::Refused(not_an_array()))
+        }
         (Operand::Elements(elements), _) => match (elements.view.elem(), &elem) {
             (ElemType::One(_), ElemType::One(_)) => convert_elements(alloc, elements, elem),
             _ => Err(Stop::Refused(not_numbers())),

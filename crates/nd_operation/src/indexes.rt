@@ -1,15 +1,15 @@
 //! Indexes into arrays.
 
-ghost use Rattle.std.specs.Prelude.{◌+◌, ◌≤◌, ◌^◌, IfOk};
+ghost use Rattle.std.specs.Prelude.{◌+◌, ◌≤◌, ◌^◌, [], false, IfOk};
 ghost use Rattle.nd_model.specs.View.{item_size};
 ghost use Rattle.nd_model.specs.Index as model;
 ghost use Rattle.nd_model.specs.Refusing as refusing;
-ghost use Rattle.nd_operation.specs.Contents.{chosen_of, operand_of, unused_of};
+ghost use Rattle.nd_model.specs.Operand.{AnElement, Elements};
+ghost use Rattle.nd_operation.specs.Contents.{operand_of, unused_of};
 ghost use Rattle.nd_operation.specs.Ends.{Says};
 
 use crate::fault::{IndexFault, StmtError, StmtFault};
-use crate::operand::{ElementPlace, Operand};
-use crate::writing::number_type;
+use crate::operand::Operand;
 use nd_heap::Value;
 use nd_types::{Kind, Num};
 use nd_view::View;
@@ -19,8 +19,8 @@ pub(crate) fn array_of(target: &Value) -> Result<&View, StmtFault>
     ensures { Says (λ v. v.now) result (model.array_of (unused_of target.now)) }
 {
     match target {
-        Value::Number(_) => Err(StmtFault::Stmt(StmtError::NotAnArray)),
         Value::Array(array) => Ok(&array.view),
+        Value::Number(_) | Value::Row(_) => Err(StmtFault::Stmt(StmtError::NotAnArray)),
     }
 }
 
@@ -35,6 +35,9 @@ fn integer_of(item: &Operand<'_>) -> Result<i128, StmtFault>
             Err(StmtFault::Index(IndexFault::NotAnIndex))
         }
         Operand::Number(Num::Scalar(_, z)) => Ok(*z),
+        Operand::Elements(elements) if elements.is_row => {
+            Err(StmtFault::Index(IndexFault::NotAnIndex))
+        }
         Operand::Elements(_) => Err(StmtFault::Stmt(StmtError::BadArgument)),
     }
 }
@@ -72,13 +75,11 @@ pub(crate) fn indexed_place(view: &View, item: &Operand<'_>) -> Result<u64, Stmt
     place_in(view, index)
 }
 
-/// The element that `target[item]` chooses.
-pub fn index_array(target: &Value, item: &Operand<'_>) -> Result<ElementPlace, StmtFault>
-    ensures { Says chosen_of result
-        (model.index_array (unused_of target.now) (operand_of item.now)) }
+/// The place of the element that `view[item]` chooses.
+pub fn index_array(view: &View, item: &Operand<'_>) -> Result<u64, StmtFault>
+    ensures place { Says (AnElement view.now.element) result
+        (model.index_array (Elements false view.now []) (operand_of item.now)) }
+    ensures limit { IfOk result (λ p. p + item_size view.now.element ≤ 2 ^ 64) }
 {
-    let view = array_of(target)?;
-    let place = indexed_place(view, item)?;
-    let elem = number_type(view.elem())?;
-    Ok(ElementPlace { elem, place })
+    indexed_place(view, item)
 }

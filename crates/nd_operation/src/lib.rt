@@ -24,7 +24,7 @@ pub use effect::ElementWrite;
 pub use fault::{IndexFault, StmtError, StmtFault, UfuncFault, ViewFault};
 pub use indexes::index_array;
 pub use lists::make_list;
-pub use operand::{ElementPlace, Elements, New, Operand};
+pub use operand::{Elements, New, Operand};
 pub use operators::{OfTwo, apply_binary};
 pub use printing::print_line;
 pub use ranges::make_range;

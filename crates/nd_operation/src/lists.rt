@@ -87,13 +87,13 @@ fn even_shape(alloc: Global, element: &Element) -> Result<SmallVec<u64, 32>, Sto
 
 // ---- its numbers
 
-/// The number that a value is. An array, which is none, counts as `False`.
+/// The number that a value is. An array or a row, which is none, counts as `False`.
 fn number_of(value: &Value) -> Num
     ensures { num_of result ≡ number_in value.now }
 {
     match value {
         Value::Number(number) => *number,
-        Value::Array(_) => Num::Bool(false),
+        Value::Array(_) | Value::Row(_) => Num::Bool(false),
     }
 }
 
@@ -105,7 +105,7 @@ fn is_python_number(value: &Value) -> bool
         Value::Number(Num::Int(_)) => true,
         Value::Number(Num::Bool(_)) => true,
         Value::Number(Num::Scalar(_, _)) => false,
-        Value::Array(_) => false,
+        Value::Array(_) | Value::Row(_) => false,
     }
 }
 

@@ -2,7 +2,7 @@
 
 ghost use Rattle.std.specs.Prelude.{◌≡◌, map, string_bytes};
 ghost use Rattle.nd_model.specs.Printing.{printed_line};
-ghost use Rattle.nd_operation.specs.Contents.{elements_over, operand_of};
+ghost use Rattle.nd_operation.specs.Contents.{elements_operand, operand_of};
 ghost use Rattle.nd_operation.specs.Lines.{limit_line, line_with};
 ghost use Rattle.nd_operation.specs.Ends.{Makes, Says};
 
@@ -29,7 +29,7 @@ fn check_length(text: &String) -> Result<(), StmtFault>
 fn push_array(alloc: Global, line: &mut String, elements: &Elements<'_>) -> Result<(), Stop>
     ensures { Makes (λ u. string_bytes line.new) result
         (limit_line (line_with (string_bytes line.old)
-        (elements_over elements.now.view.now elements.now.block.now))) }
+        (elements_operand elements.now))) }
 {
     elements.soundness();
     check_length(line)?;

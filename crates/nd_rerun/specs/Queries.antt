@@ -19,6 +19,7 @@ shown_of (values.Int z) = shown.ShownInt z
 shown_of (values.Bool t) = shown.ShownTruth t
 shown_of (values.Scalar k z) = shown.ShownScalar (kind_of k) z
 shown_of (values.Array elem shape bytes) = shown.ShownArray (type_of elem) shape.items bytes.items
+shown_of (values.Row elem bytes) = shown.ShownRow (type_of elem) bytes.items
 
 -- the fault of a query for a name
 abbrev pub query_fault_of : List ℕ → declared.QueryFault → model.QueryFault

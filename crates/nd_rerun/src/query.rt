@@ -23,7 +23,7 @@ pub enum QueryFault {
     OutOfMemory,
 }
 
-/// What shows of a value. The elements of an array are given by their bytes in C order, in the array's own type.
+/// What shows of a value. The elements of an array or a row are given by their bytes in C order, in its own type.
 #[derive(Drop)]
 pub enum Shown {
     Int(i128),
@@ -32,6 +32,10 @@ pub enum Shown {
     Array {
         elem: ElemType,
         shape: Vec<u64>,
+        bytes: Vec<u8>,
+    },
+    Row {
+        elem: ElemType,
         bytes: Vec<u8>,
     },
 }
@@ -80,6 +84,11 @@ pub fn what_shows(alloc: Global, version: &Version, value: &Value) -> Result<Sho
             let shape = Vec::from_slice(alloc, array.view.shape())?;
             let bytes = canonical_bytes(alloc, &array.view, version.bytes(array.base))?;
             Ok(Shown::Array { elem, shape, bytes })
+        }
+        Value::Row(row) => {
+            let elem = row.view.elem().try_clone()?;
+            let bytes = canonical_bytes(alloc, &row.view, version.bytes(row.base))?;
+            Ok(Shown::Row { elem, bytes })
         }
     }
 }

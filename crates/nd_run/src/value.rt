@@ -51,6 +51,14 @@ fn push_shown(out: &mut Vec<u8>, value: &Shown) -> Result<(), AllocError>
             push_text(out, " ")?;
             push_hex(out, bytes)
         }
+        Shown::Row { elem, bytes } => {
+            push_text(out, "row ")?;
+            push_format(out, elem)?;
+            push_text(out, " ")?;
+            push_number(out, elem.size())?;
+            push_text(out, " ")?;
+            push_hex(out, bytes)
+        }
     }
 }
 

@@ -24,7 +24,7 @@ fn is_own(value: &Value, label: u64) -> bool
 {
     match value {
         Value::Number(_) => true,
-        Value::Array(array) => array.base.label == label,
+        Value::Array(array) | Value::Row(array) => array.base.label == label,
     }
 }
 
@@ -34,7 +34,7 @@ fn is_foreign(value: &Value, label: u64) -> bool
 {
     match value {
         Value::Number(_) => true,
-        Value::Array(array) => array.base.label != label,
+        Value::Array(array) | Value::Row(array) => array.base.label != label,
     }
 }
 

@@ -249,7 +249,7 @@ impl Trace {
     {
         match value {
             Value::Number(_) => Ok(()),
-            Value::Array(array) => self.note_length(array.base),
+            Value::Array(array) | Value::Row(array) => self.note_length(array.base),
         }
     }
 

@@ -59,7 +59,7 @@ fn array_of(session: &Session) -> Result<Option<Array>, OutOfMemory> {
     match session.peek("x") {
         Some(value) => match value.try_clone()? {
             Value::Array(array) => Ok(Some(array)),
-            Value::Number(_) => Ok(None),
+            Value::Number(_) | Value::Row(_) => Ok(None),
         },
         None => Ok(None),
     }

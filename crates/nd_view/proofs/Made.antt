@@ -1,5 +1,5 @@
 -- The fields of new views.
-use Rattle.std.proofs.Common.{◌≡◌, ℕ, ◌+◌, ◌^◌, ◌<◌, ◌≤◌, ◌==◌, Bool, true, false, List, length, refl, sym, ap, ◌∙◌, inl, inr, arith}
+use Rattle.std.proofs.Common.{◌≡◌, ℕ, ◌+◌, ◌^◌, ◌<◌, ◌≤◌, ◌==◌, Bool, true, false, List, [], ◌∷◌, length, refl, sym, ap, ◌∙◌, inl, inr, arith}
 use Rattle.std.specs.Prelude.{ℤ, not, Option, Some, None, Result, Ok, if◌then◌else◌}
 use Rattle.std.proofs.lemmas.Bool.{cases_lt}
 use Rattle.std.proofs.lemmas.Bool.Decides.{nat_tests}
@@ -34,6 +34,23 @@ gapless_fields size shape lengths steps same is limits small =
       low = omega (arith, g.low);
       high = omega (arith, g.high);
     })
+
+-- ---- one element alone
+
+pub alone_fields : (size start : ℕ) (lengths : List ℕ) (steps : List ℤ) → lengths ≡ [] → steps ≡ [] → size ≤ 65536 → start + size ≤ 2 ^ 64 → AreFields size lengths steps start
+alone_fields size start lengths steps none still small fits = rw (none, still) (record {
+  limits = grind (arith, nat_tests);
+  axes = refl;
+  strides = refl;
+  offset = λ e. absurd (omega (arith, e));
+  low = omega arith;
+  high = omega arith;
+})
+
+pub alone : (t : ElementType) (writable : Bool) (start : ℕ) (lengths : List ℕ) (steps : List ℤ) → lengths ≡ []
+    → ◌≡◌ {A = Geo} (record { element = t; shape = lengths; writable = writable; places = places_by start steps lengths }) (record { element = t; shape = []; writable = writable; places = start ∷ [] })
+alone t writable start lengths steps none =
+    rw none (ap (λ p. record { element = t; shape = []; writable = writable; places = p ∷ [] }) (omega arith))
 
 -- ---- a view of parts
 

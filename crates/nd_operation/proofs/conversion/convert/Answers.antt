@@ -1,4 +1,4 @@
-use Rattle.std.proofs.Common.{◌≡◌, Result, Ok, length, sym, ap, subst, ◌∙◌}
+use Rattle.std.proofs.Common.{Result, Ok, length, sym, ap, subst, ◌∙◌}
 use Rattle.std.specs.Prelude.{◌==◌}
 use Rattle.nd_model.specs.Creation.{convert, converted_array}
 use Rattle.nd_model.specs.Fault.{Fault}
@@ -16,10 +16,10 @@ returns-else-is_empty c =
     let k = kind_of c.args.kind in
     let x = c.in-Elements.elements in
     let g = x.view.now in
-    let made = elements_over g x.block.now in
+    let made = elements_over x.is_row g x.block.now in
     subst (λ (m : Result Made Fault). MakesNew c.convert_elements.result m)
     (ap (λ e. Ok (converted_array (One e) made)) c.little.ensures
     ∙ sym (ap (λ y. convert k (operand_of y)) c.in-Elements.is
-    ∙ convert_many k g x.block.now c.in-One.field-0 (sym c.elem.ensures ∙ ap type_of c.in-One.is)
+    ∙ convert_many k x.is_row g x.block.now c.in-One.field-0 (sym c.elem.ensures ∙ ap type_of c.in-One.is)
     (ap (λ s. length s == 0) (sym c.shape.ensures.value) ∙ sym c.is_empty.ensures ∙ c.if-is_empty.false)))
     c.convert_elements.ensures

@@ -16,5 +16,5 @@ returns-in-Rec-default c =
     let block = c.args.elements.now.block.now in
     let made = c.copy_elements-in-Rec-default.result in
     let typed : type_of c.args.elem.now ≡ Structure s.0 s.1 = ap type_of c.in-Rec-default.is-0 in
-    subst (λ (t : ElementType). IfOk made (λ b. b ≡ array_bytes t g.shape (converted_at t (elements_over g block)))) (sym typed)
-    (structures_stay g block c.soundness.ensures s.0 s.1 made (structure_from g.element s.0 s.1 (ap (converts g.element) (sym typed) ∙ c.requires)) c.copy_elements-in-Rec-default.ensures)
+    subst (λ (t : ElementType). IfOk made (λ b. b ≡ array_bytes t g.shape (converted_at t (elements_over c.args.elements.now.is_row g block)))) (sym typed)
+    (structures_stay c.args.elements.now.is_row g block c.soundness.ensures s.0 s.1 made (structure_from g.element s.0 s.1 (ap (converts g.element) (sym typed) ∙ c.requires)) c.copy_elements-in-Rec-default.ensures)

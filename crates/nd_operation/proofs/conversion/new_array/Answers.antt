@@ -1,4 +1,4 @@
-use Rattle.std.proofs.Common.{◌≡◌, Result, option_map, sym, ap, subst, ◌∙◌}
+use Rattle.std.proofs.Common.{Result, option_map, sym, ap, subst, ◌∙◌}
 use Rattle.nd_model.specs.Creation.{new_array}
 use Rattle.nd_model.specs.Fault.{Fault}
 use Rattle.nd_model.specs.Operand.{Made}

@@ -2,18 +2,18 @@ use Rattle.std.proofs.Common.{◌≡◌, Result, Ok, None, FitsSigned, option_ma
 use Rattle.std.specs.Int.{w128}
 use mir.Facts.{to_z-of_z}
 use Rattle.nd_model.specs.Content.{Num}
-use Rattle.nd_model.specs.Element.{Element, Kind, size_of, wrap}
+use Rattle.nd_model.specs.Element.{size_of, wrap}
 use Rattle.nd_model.specs.Fault.{Fault}
 use Rattle.nd_model.specs.Operand.{Made, number_of}
 use Rattle.nd_model.specs.Strides.{limit_fault}
-use Rattle.nd_model.specs.Creation.{misfit, unless_misfit, uniform}
+use Rattle.nd_model.specs.Creation.{misfit, uniform}
 use Rattle.nd_model.specs.View.{One}
 use Rattle.nd_syntax.specs.Calls.{dtype_of}
 use Rattle.nd_operation.specs.Contents.{num_of}
 use Rattle.nd_operation.specs.Faults.{fault_of}
 use Rattle.nd_operation.specs.New.{MakesNew}
 use Rattle.nd_operation.proofs.Creating.{new_refused, within}
-use Rattle.nd_operation.proofs.Converting.{full_number, misfit_over, misfit_within, number_made}
+use Rattle.nd_operation.proofs.Converting.{full_number, misfit_over, misfit_within}
 use Rattle.nd_operation.proofs.conversion.number_array.Goals as goal
 
 pub returns-in_err-check_fit : goal.returns-in_err-check_fit

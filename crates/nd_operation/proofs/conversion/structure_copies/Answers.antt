@@ -1,4 +1,4 @@
-use Rattle.std.proofs.Common.{◌≡◌, List, [], length, map, sym, ap, ◌∙◌}
+use Rattle.std.proofs.Common.{List, [], length, map, sym, ap, ◌∙◌}
 use Rattle.nd_model.specs.Content.{Content, array_bytes, content_at, content_in_order}
 use Rattle.nd_model.specs.View.{Geo, item_size}
 use Rattle.nd_operation.proofs.Converting.{one_size}

@@ -1,4 +1,4 @@
-use Rattle.std.proofs.Common.{◌≡◌, Ok, option_map, sym, ap, ◌∙◌}
+use Rattle.std.proofs.Common.{Ok, option_map, sym, ap, ◌∙◌}
 use Rattle.nd_model.specs.Creation.{type_for}
 use Rattle.nd_syntax.specs.Calls.{dtype_of}
 use Rattle.nd_operation.specs.Contents.{elements_over}
@@ -8,5 +8,5 @@ use Rattle.nd_operation.proofs.conversion.type_for.Goals as goal
 pub returns-in_default : goal.returns-in_default
 returns-in_default c =
     let g = c.args.elements.now.view.now in
-    ap (λ d. type_for (option_map dtype_of d) (elements_over g c.args.elements.now.block.now)) c.in_default.is ∙ own_type g.element
+    ap (λ d. type_for (option_map dtype_of d) (elements_over c.args.elements.now.is_row g c.args.elements.now.block.now)) c.in_default.is ∙ own_type g.element
     ∙ ap Ok (sym (c.in_ok-try_clone.ensures ∙ c.elem-own.ensures))

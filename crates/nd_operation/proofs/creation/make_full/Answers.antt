@@ -1,6 +1,6 @@
-use Rattle.std.proofs.Common.{◌≡◌, Result, Ok, length, map, option_map, sym, ap, subst, ◌∙◌, refl}
+use Rattle.std.proofs.Common.{Result, Ok, length, map, option_map, sym, ap, subst, ◌∙◌, refl}
 use Rattle.std.specs.Prelude.{◌==◌}
-use Rattle.nd_model.specs.Creation.{full_array, full_of, without_axes}
+use Rattle.nd_model.specs.Creation.{full_of}
 use Rattle.nd_model.specs.Fault.{Fault, Stmt, BadArgument}
 use Rattle.nd_model.specs.Operand.{Made, Plain}
 use Rattle.nd_model.specs.Refusing as refusing
@@ -22,7 +22,7 @@ returns c =
     let d = option_map dtype_of c.args.dtype.now in
     let os = map unused_of c.args.shape.now in
     let e = c.in-Elements.elements in
-    let x = elements_over e.view.now e.block.now in
+    let x = elements_over e.is_row e.view.now e.block.now in
     subst (λ (m : Result Made Fault). MakesNew c.element_array.result m) (ap (λ x. full_of d os (operand_of x)) (sym c.in-Elements.is))
     (full_lengths d os x c.in_ok-shape.shape.items c.element_array.result c.in_ok-shape.ensures
     (ap (λ b. refusing.when b (Stmt BadArgument) (Ok x)) (ap (λ s. length s == 0) (sym c.shape-in-Elements.ensures.value) ∙ sym c.is_empty.ensures ∙ c.if-not-is_empty.false))

@@ -1,7 +1,7 @@
-use Rattle.std.proofs.Common.{◌≡◌, ◌+◌, List, ℕ, Bool, true, false, ◌∷◌, ◌&&◌, length, map, drop, refl, sym, ap, ◌∙◌}
+use Rattle.std.proofs.Common.{◌+◌, length, map, drop, refl, sym, ap, ◌∙◌}
 use Rattle.std.proofs.lemmas.List.{drop_all}
 use Rattle.nd_model.specs.Cells.{elements_of}
-use Rattle.nd_model.specs.Creation.{has_shape, have_shape}
+use Rattle.nd_model.specs.Creation.{have_shape}
 use Rattle.nd_syntax.specs.Syntax.{element_of}
 use Rattle.nd_operation.proofs.InTurn.{next_item}
 use Rattle.nd_operation.proofs.Listing.{other_count, same_count, next_shaped, not_shaped}

@@ -1,4 +1,4 @@
-use Rattle.std.proofs.Common.{◌≡◌, [], ◌∷◌, ◌++◌, length, sym, ap, ◌∙◌, append_assoc}
+use Rattle.std.proofs.Common.{[], ◌∷◌, ◌++◌, length, sym, ap, ◌∙◌, append_assoc}
 use Rattle.nd_model.specs.Creation.{shape_of_element}
 use Rattle.nd_syntax.specs.Syntax.{element_of}
 use Rattle.nd_operation.proofs.Listing.{some_lengths, no_lengths}

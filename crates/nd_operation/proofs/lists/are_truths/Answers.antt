@@ -1,10 +1,6 @@
-use Rattle.std.proofs.Common.{rules, ◌≡◌, ◌+◌, FitsSigned, true, false, drop, refl, sym, ap, ◌∙◌}
-use Rattle.std.specs.Int.{w128}
+use Rattle.std.proofs.Common.{◌+◌, drop, refl, sym, ap, ◌∙◌}
 use Rattle.std.specs.List.{list_all}
 use Rattle.std.proofs.lemmas.List.{drop_all}
-use mir.Facts.{to_z-of_z}
-use Rattle.nd_model.specs.Element.{Int64, fits}
-use Rattle.nd_model.specs.Operand.{number_of}
 use Rattle.nd_model.specs.Creation.{is_truth}
 use Rattle.nd_operation.specs.Listing.{numbers_in}
 use Rattle.nd_operation.proofs.Listing.{not_truth}

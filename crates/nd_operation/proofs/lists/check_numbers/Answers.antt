@@ -1,4 +1,4 @@
-use Rattle.std.proofs.Common.{rules, ◌≡◌, ◌+◌, [], true, false, drop, refl, sym, ap, ◌∙◌, Err}
+use Rattle.std.proofs.Common.{◌+◌, drop, refl, sym, ap, ◌∙◌, Err}
 use Rattle.std.proofs.lemmas.List.{drop_all}
 use Rattle.nd_operation.specs.Faults.{fault_of}
 use Rattle.nd_operation.proofs.InTurn.{next_item}

@@ -1,4 +1,4 @@
-use Rattle.std.proofs.Common.{rules, ◌≡◌, ◌+◌, ◌≤◌, [], FitsSigned, length, map, take, refl, sym, ap, ◌∙◌, take_all}
+use Rattle.std.proofs.Common.{rules, FitsSigned, map, ap, ◌∙◌, take_all}
 use Rattle.std.specs.Int.{w128}
 use mir.Facts.{to_z-of_z}
 use Rattle.nd_model.specs.Content.{Num}

@@ -1,4 +1,4 @@
-use Rattle.std.proofs.Common.{rules, ◌≡◌, ◌+◌, Some, FitsSigned, drop, refl, sym, ap, ◌∙◌}
+use Rattle.std.proofs.Common.{rules, ◌+◌, Some, FitsSigned, drop, refl, sym, ap, ◌∙◌}
 use Rattle.std.specs.Int.{w128}
 use mir.Facts.{to_z-of_z}
 use Rattle.std.proofs.lemmas.List.{drop_all}

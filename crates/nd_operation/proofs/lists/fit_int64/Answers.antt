@@ -1,4 +1,4 @@
-use Rattle.std.proofs.Common.{rules, ◌≡◌, ◌+◌, FitsSigned, true, false, drop, refl, sym, ap, ◌∙◌}
+use Rattle.std.proofs.Common.{rules, ◌+◌, FitsSigned, drop, refl, sym, ap, ◌∙◌}
 use Rattle.std.specs.Int.{w128}
 use Rattle.std.specs.List.{list_all}
 use Rattle.std.proofs.lemmas.List.{drop_all}
@@ -7,7 +7,6 @@ use Rattle.nd_model.specs.Element.{Int64, fits}
 use Rattle.nd_model.specs.Operand.{number_of}
 use Rattle.nd_model.specs.Creation.{fits_int64}
 use Rattle.nd_operation.specs.Listing.{numbers_in}
-use Rattle.nd_operation.proofs.Listing.{not_truth}
 use Rattle.nd_operation.proofs.InTurn.{next_item}
 use Rattle.nd_operation.proofs.Listing.{next_holds, next_fails}
 use Rattle.nd_operation.proofs.lists.fit_int64.Goals as goal

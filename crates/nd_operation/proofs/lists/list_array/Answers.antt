@@ -1,4 +1,4 @@
-use Rattle.std.proofs.Common.{◌≡◌, length, sym, ap, ◌∙◌}
+use Rattle.std.proofs.Common.{length, sym, ap, ◌∙◌}
 use Rattle.nd_model.specs.View.{Geo, One}
 use Rattle.nd_operation.proofs.Listing.{contiguous_count}
 use Rattle.nd_operation.proofs.lists.list_array.Goals as goal

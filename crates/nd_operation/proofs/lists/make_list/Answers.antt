@@ -1,4 +1,4 @@
-use Rattle.std.proofs.Common.{◌≡◌, sym, ap, ◌∙◌}
+use Rattle.std.proofs.Common.{sym, ap, ◌∙◌}
 use Rattle.nd_model.specs.Tuple.{elements_of}
 use Rattle.nd_syntax.specs.Syntax.{element_of}
 use Rattle.nd_operation.proofs.Listing.{count_is, even_has}

@@ -1,9 +1,9 @@
-use Rattle.std.proofs.Common.{rules, ◌≡◌, ◌+◌, List, [], ◌∷◌, length, refl, map, option_map, take, drop, ap, sym, ◌∙◌, arith}
+use Rattle.std.proofs.Common.{rules, Ok, append-nil, ◌≡◌, ◌+◌, List, [], ◌∷◌, ◌++◌, length, refl, map, option_map, take, drop, ap, sym, ◌∙◌, arith}
 use Rattle.std.proofs.lemmas.Bool.{eqb-false}
-use Rattle.std.proofs.lemmas.List.{drop_all}
+use Rattle.std.proofs.lemmas.List.{drop_all, length-map}
 use Rattle.nd_model.specs.Evaluation.{Gives, run, ◌>>=◌, decide}
 use Rattle.nd_model.specs.Meaning as meaning
-use Rattle.nd_model.specs.Cells.{chained}
+use Rattle.nd_model.specs.Cells.{chained, elements_of}
 use Rattle.nd_model.specs.Operators.{binary}
 use Rattle.nd_model.specs.Creation.{arange}
 use Rattle.nd_model.specs.Meaning.{is_given}
@@ -11,34 +11,35 @@ use Rattle.nd_eval.proofs.Ranging.{range_first, range_is, range_parts}
 use Rattle.nd_model.specs.Operation.{give}
 use Rattle.nd_model.specs.Tokens.{tokens_of, tokens_of_call}
 use Rattle.nd_syntax.specs.Lists.{operation_of}
-use Rattle.nd_syntax.specs.Syntax.{bound_of, expr_of, call_of, suffix_of, index_of}
+use Rattle.nd_syntax.specs.Syntax.{bound_of, element_of, expr_of, call_of, suffix_of, index_of}
 use Rattle.nd_syntax.specs.declared.tree.Suffix.{Suffix}
+use Rattle.nd_syntax.specs.declared.tree.Element.{Element}
 use Rattle.nd_heap.specs.Values.{value_of}
 use Rattle.nd_session.specs.Values.{inputs_of}
 use Rattle.nd_session.specs.Live.{live}
-use Rattle.nd_eval.proofs.Bounds.{next_bound, next_value, next_values, next_at_index}
-use Rattle.nd_eval.proofs.Calls.{filled_first, filled_parts, full_first, full_follows}
+use Rattle.nd_eval.proofs.Bounds.{list_others, next_behind, next_bound, next_value, next_values, next_at_suffix}
+use Rattle.nd_eval.proofs.Calls.{filled_first, filled_parts, full_first, full_follows, list_first, list_parts}
 use Rattle.nd_syntax.specs.Calls.{dtype_of, fill_of}
-use Rattle.nd_model.specs.Creation.{filled, full_of}
+use Rattle.nd_model.specs.Creation.{array_of_list, filled, full_of}
 use Rattle.nd_operation.specs.Contents.{operand_of, unused_of}
 use Rattle.nd_eval.specs.Contents.{option_values, values_of}
-use Rattle.nd_eval.specs.Parts.{bound_exprs, item_value, element_value, binary_value, values_then, values}
+use Rattle.nd_eval.specs.Parts.{bound_exprs, exprs_in, exprs_of_element, item_value, suffix_value, list_value, binary_value, values_behind, values_then, values}
 use Rattle.nd_model.specs.Value as model
 use Rattle.nd_syntax.specs.declared.tree.Expr.{Expr}
-use Rattle.nd_operation.specs.New.{bounds_of, made_of_one}
+use Rattle.nd_operation.specs.New.{bounds_of}
 use Rattle.nd_eval.proofs.Creating.{exits_new, follows_new}
 use Rattle.nd_eval.proofs.Chains.{exits, follows, goes, ends_as, ends_alike}
-use Rattle.nd_model.specs.Syntax.{Called}
+use Rattle.nd_model.specs.Syntax.{Called, NewArray}
 use Rattle.nd_syntax.proofs.Nodes.{filled_is, full_is}
 use Rattle.nd_eval.proofs.Operating.{chain_step, chain_rest, exits_chain, exits_later, fewer_tokens}
 use Rattle.nd_eval.proofs.Turns.{stays_on}
 use Rattle.nd_model.specs.Running.{Running}
 use Rattle.nd_eval.specs.Uses.{marked, all_marked}
-use Rattle.nd_eval.proofs.Uses.{kept_bytes, kept_next, follows_use, all_marked_bytes, all_marked_next}
-use Rattle.nd_eval.proofs.Held.{held_after, held_marked, held_past, sound_after, value_held, item_held}
+use Rattle.nd_eval.proofs.Uses.{kept_bytes, kept_next, all_marked_bytes, all_marked_next}
+use Rattle.nd_eval.proofs.Held.{held_after, held_marked, held_past, sound_after, suffix_held, value_held, item_held}
 use Rattle.nd_operation.proofs.InTurn.{next_item, pushed}
-use Rattle.nd_eval.proofs.InTurn.{onto, onto_more}
-use Rattle.nd_eval.proofs.Indexing.{chain, next_index, run_postfix, tokens_of_postfix, nodes_of_postfix, nodes_of_filled, nodes_of_full, shape_tokens, items_in_index, nodes_of_its_items, more_refused, is_chain, nodes_of_chain}
+use Rattle.nd_eval.proofs.InTurn.{as_many, behind_others, many_of_element, onto, onto_more}
+use Rattle.nd_eval.proofs.Indexing.{chain, elements_in_list, nodes_of_its_elements, run_postfix, tokens_of_postfix, nodes_of_postfix, nodes_of_filled, nodes_of_full, shape_tokens, items_in_index, nodes_of_its_items, more_refused, is_chain, nodes_of_chain}
 use Rattle.nd_eval.proofs.evaluator.Evaluator.+value.Goals as goal
 
 pub value-value_of_one-requires : goal.value-value_of_one-requires
@@ -54,41 +55,21 @@ value_of_one-returns-in_err-operand t c = (
   c.in_err-operand.ensures.1,
 )
 
-pub value_of_one-operand_in-requires : goal.value_of_one-operand_in-requires
-value_of_one-operand_in-requires t c =
-    let v = c.in_ok-operand.operand in
-    held_marked v v (live c.value.new.self.session.now) (live c.mark_operand.new.session) c.in_ok-mark_operand.ensures
-    (value_held (inputs_of c.args.self.now.inputs.now.entries) (expr_of c.args.operand.now) _ _ v c.in_ok-operand.ensures.0 c.soundness.ensures)
+pub value_of_one-make_value-requires-clause-held : goal.value_of_one-make_value-requires-clause-held
+value_of_one-make_value-requires-clause-held t c =
+    value_held (inputs_of c.args.self.now.inputs.now.entries) (expr_of c.args.operand.now) _ _ c.in_ok-operand.operand c.in_ok-operand.ensures.0 c.soundness.ensures
 
-pub value_of_one-returns-in_err-new : goal.value_of_one-returns-in_err-new
-value_of_one-returns-in_err-new t c =
-    let i = inputs_of c.args.self.now.inputs.now.entries in
-    let v = c.in_ok-operand.operand in
-    let f = made_of_one c.args.call in (
-      follows value_of value_of i (meaning.value (expr_of c.args.operand.now)) _ _ _ _ v _ c.in_ok-operand.ensures.0
-          (follows_use value_of i v (λ o. decide (f o) >>= give) _ _ _ _ c.operand_in.result _ c.in_ok-mark_operand.ensures
-          (kept_bytes v _ _ c.in_ok-mark_operand.ensures) c.operand_in.ensures
-          (exits_new i (f (operand_of c.operand_in.result)) _ _ _ c.from_residual-in_err-new.ensures.1 c.in_err-new.ensures)),
-      c.in_ok-operand.ensures.1,
-    )
-
-pub value_of_one-give-requires : goal.value_of_one-give-requires
-value_of_one-give-requires t c =
+pub value_of_one-make_value-requires-clause-room : goal.value_of_one-make_value-requires-clause-room
+value_of_one-make_value-requires-clause-room t c =
     let made = next_value (inputs_of c.args.self.now.inputs.now.entries) (expr_of c.args.operand.now) _ _ _ c.in_ok-operand.ensures.0 in
-    let none = kept_next c.in_ok-operand.operand _ _ c.in_ok-mark_operand.ensures in
     omega arith
 
 pub value_of_one-returns : goal.value_of_one-returns
-value_of_one-returns t c =
-    let i = inputs_of c.args.self.now.inputs.now.entries in
-    let v = c.in_ok-operand.operand in
-    let f = made_of_one c.args.call in (
-      follows value_of value_of i (meaning.value (expr_of c.args.operand.now)) _ _ _ _ v _ c.in_ok-operand.ensures.0
-          (follows_use value_of i v (λ o. decide (f o) >>= give) _ _ _ _ c.operand_in.result _ c.in_ok-mark_operand.ensures
-          (kept_bytes v _ _ c.in_ok-mark_operand.ensures) c.operand_in.ensures
-          (follows_new i (f (operand_of c.operand_in.result)) _ _ c.in_ok-new.new _ c.in_ok-new.ensures (rw c.in_ok-operand.ensures.1.1 at c.give.ensures.0))),
-      stays_on c.in_ok-operand.ensures.1 c.give.ensures.1,
-    )
+value_of_one-returns t c = (
+  follows value_of value_of (inputs_of c.args.self.now.inputs.now.entries) (meaning.value (expr_of c.args.operand.now)) _ _ _ _
+      c.in_ok-operand.operand _ c.in_ok-operand.ensures.0 (rw c.in_ok-operand.ensures.1.1 at c.make_value.ensures.0),
+  stays_on c.in_ok-operand.ensures.1 c.make_value.ensures.1,
+)
 
 pub index_into-returns-in_err-item : goal.index_into-returns-in_err-item
 index_into-returns-in_err-item t c = (
@@ -139,22 +120,24 @@ value-loop-suffix-init t c =
           ∙ ap (λ (es : List Suffix). run i (chain (value_of c.in_ok-found-in-Postfix.found) (map suffix_of es)) (live c.value.new.self.session.now)) (sym c.deref-suffix-items.ensures.value);
       room = rw c.deref-suffix-items.ensures.value (omega arith);
       below = rw c.deref-suffix-items.ensures.value (omega arith);
+      sound = sound_after i (meaning.value e) _ _ _ found c.soundness.ensures;
+      held = value_held i e _ _ c.in_ok-found-in-Postfix.found found c.soundness.ensures;
     }
 
-pub value-index_into-requires : goal.value-index_into-requires
-value-index_into-requires t c =
-    let next = next_index c.deref-suffix-items.result.now c.loop-suffix.suffix-index c.suffix-item.result c.in-Index.index c.loop-suffix-test.true c.suffix-item.is c.in-Index.is in
+pub value-suffix_value-requires : goal.value-suffix_value-requires
+value-suffix_value-requires t c =
+    let next = next_item c.deref-suffix-items.result.now c.loop-suffix.suffix-index c.suffix-item.result c.loop-suffix-test.true c.suffix-item.is in
     let room = rw next at c.loop-suffix.invariant.room in
     let below = c.decreases in
     let few = rw next at c.loop-suffix.invariant.below in
-    (omega arith, omega arith)
+    (omega arith, (c.loop-suffix.invariant.held, omega arith))
 
 pub value-returns-in_err-found-in-Postfix-2 : goal.value-returns-in_err-found-in-Postfix-2
 value-returns-in_err-found-in-Postfix-2 t c =
-    let next = next_index c.deref-suffix-items.result.now c.loop-suffix.suffix-index c.suffix-item.result c.in-Index.index c.loop-suffix-test.true c.suffix-item.is c.in-Index.is in (
+    let next = next_item c.deref-suffix-items.result.now c.loop-suffix.suffix-index c.suffix-item.result c.loop-suffix-test.true c.suffix-item.is in (
       rw (c.loop-suffix.invariant.same, next)
           (exits value_of value_of (inputs_of c.args.self.now.inputs.now.entries)
-          (item_value (index_of c.in-Index.index) >>= element_value (value_of c.loop-suffix.found)) _ _ _ _ _
+          (suffix_value (suffix_of c.suffix-item.result) (value_of c.loop-suffix.found)) _ _ _ _ _
           c.from_residual-in_err-found-in-Postfix-2.ensures.1 (rw c.loop-suffix.invariant.stays.1 at c.in_err-found-in-Postfix-2.ensures.0)),
       stays_on c.loop-suffix.invariant.stays c.in_err-found-in-Postfix-2.ensures.1,
     )
@@ -162,26 +145,182 @@ value-returns-in_err-found-in-Postfix-2 t c =
 pub value-loop-suffix-preserved : goal.value-loop-suffix-preserved
 value-loop-suffix-preserved t c =
     let i = inputs_of c.args.self.now.inputs.now.entries in
-    let x = index_of c.in-Index.index in
+    let x = suffix_of c.suffix-item.result in
+    let v = c.loop-suffix.found in
     let rest = map suffix_of (drop (c.loop-suffix.suffix-index + 1) c.deref-suffix-items.result.now) in
-    let next = next_index c.deref-suffix-items.result.now c.loop-suffix.suffix-index c.suffix-item.result c.in-Index.index c.loop-suffix-test.true c.suffix-item.is c.in-Index.is in
+    let next = next_item c.deref-suffix-items.result.now c.loop-suffix.suffix-index c.suffix-item.result c.loop-suffix-test.true c.suffix-item.is in
     let room = rw next at c.loop-suffix.invariant.room in
     let found = rw c.loop-suffix.invariant.stays.1 at c.in_ok-found-in-Postfix-2.ensures.0 in
-    let made = next_at_index i (value_of c.loop-suffix.found) x _ _ _ found in
+    let made = next_at_suffix i x (value_of v) _ _ _ found in
     let few = rw next at c.loop-suffix.invariant.below in
     record {
       stays = stays_on c.loop-suffix.invariant.stays c.in_ok-found-in-Postfix-2.ensures.1;
       same = c.loop-suffix.invariant.same
-          ∙ ap (λ (es : List Suffix). run i (chain (value_of c.loop-suffix.found) (map suffix_of es)) (live c.loop-suffix.self.session.now)) next
-          ∙ goes value_of i (item_value x >>= element_value (value_of c.loop-suffix.found)) (λ w. chain w rest) _ _
-          c.in_ok-found-in-Postfix-2.found found;
+          ∙ ap (λ (es : List Suffix). run i (chain (value_of v) (map suffix_of es)) (live c.loop-suffix.self.session.now)) next
+          ∙ goes value_of i (suffix_value x (value_of v)) (λ w. chain w rest) _ _ c.in_ok-found-in-Postfix-2.found found;
       room = omega arith;
       below = omega arith;
+      sound = sound_after i (suffix_value x (value_of v)) _ _ _ found c.loop-suffix.invariant.sound;
+      held = suffix_held i x v _ _ c.in_ok-found-in-Postfix-2.found found c.loop-suffix.invariant.sound c.loop-suffix.invariant.held;
     }
 
 pub value-returns-after-loop-suffix : goal.value-returns-after-loop-suffix
 value-returns-after-loop-suffix t c =
     (rw (drop_all _ _ c.loop-suffix-test.false) at c.loop-suffix.invariant.same, c.loop-suffix.invariant.stays)
+
+-- ---- lists
+
+pub push_values-returns-in_err-found-in-Single : goal.push_values-returns-in_err-found-in-Single
+push_values-returns-in_err-found-in-Single t c =
+    let bs = values_of c.args.values.now in (
+      rw c.in-Single.is (exits value_of (λ (u : Unit {0}). bs) (inputs_of c.args.self.now.inputs.now.entries) (meaning.value (expr_of c.in-Single.expr)) (λ v. Gives (bs ++ v ∷ [])) _ _ _ _
+          c.from_residual.ensures.1 c.in_err-found-in-Single.ensures.0),
+      c.in_err-found-in-Single.ensures.1,
+    )
+
+pub push_values-loop-nested-init : goal.push_values-loop-nested-init
+push_values-loop-nested-init t c =
+    let i = inputs_of c.args.self.now.inputs.now.entries in
+    let same = elements_in_list c.args.element.now c.in-Nested.elements c.in-Nested.is in
+    let size = nodes_of_its_elements c.args.element.now c.in-Nested.elements c.in-Nested.is in
+    let room = rw same at c.requires in
+    let few = list_others (elements_of (map element_of c.in-Nested.elements.items)) in
+    record {
+      stays = (refl, refl);
+      same = ap (λ x. run i (values_behind (values_of c.args.values.now) (exprs_of_element x)) (live c.args.self.now.session.now)) same
+          ∙ ap (λ (es : List Element). run i (values_behind (values_of c.args.values.now) (exprs_in (elements_of (map element_of es)))) (live c.args.self.now.session.now)) (sym c.deref-nested-items.ensures.value);
+      room = rw c.deref-nested-items.ensures.value (omega arith);
+      below = rw c.deref-nested-items.ensures.value (omega arith);
+    }
+
+pub push_values-push_values-requires : goal.push_values-push_values-requires
+push_values-push_values-requires t c =
+    let next = next_item c.deref-nested-items.result.now c.loop-nested.nested-index c.nested-item.result c.loop-nested-test.true c.nested-item.is in
+    let room = rw next at c.loop-nested.invariant.room in
+    let below = c.decreases in
+    let few = rw next at c.loop-nested.invariant.below in
+    (omega arith, omega arith)
+
+pub push_values-loop-nested-preserved : goal.push_values-loop-nested-preserved
+push_values-loop-nested-preserved t c =
+    let i = inputs_of c.args.self.now.inputs.now.entries in
+    let x = element_of c.nested-item.result in
+    let bs = values_of c.loop-nested.values in
+    let rest = elements_of (map element_of (drop (c.loop-nested.nested-index + 1) c.deref-nested-items.result.now)) in
+    let next = next_item c.deref-nested-items.result.now c.loop-nested.nested-index c.nested-item.result c.loop-nested-test.true c.nested-item.is in
+    let room = rw next at c.loop-nested.invariant.room in
+    let few = rw next at c.loop-nested.invariant.below in
+    let found = rw c.loop-nested.invariant.stays.1 at c.in_ok-push_values-in-Nested.ensures.0 in
+    let made = next_behind i bs x _ _ _ found in
+    record {
+      stays = stays_on c.loop-nested.invariant.stays c.in_ok-push_values-in-Nested.ensures.1;
+      same = c.loop-nested.invariant.same
+          ∙ ap (λ (es : List Element). run i (values_behind bs (exprs_in (elements_of (map element_of es)))) (live c.loop-nested.self.session.now)) next
+          ∙ behind_others i bs (exprs_of_element x) (exprs_in rest) (live c.loop-nested.self.session.now)
+          ∙ goes (λ (u : Unit {0}). values_of c.push_values.new.values) i (values_behind bs (exprs_of_element x)) (λ found. values_behind found (exprs_in rest)) _ _ _ found;
+      room = omega arith;
+      below = omega arith;
+    }
+
+pub push_values-returns-in_err-push_values-in-Nested : goal.push_values-returns-in_err-push_values-in-Nested
+push_values-returns-in_err-push_values-in-Nested t c =
+    let i = inputs_of c.args.self.now.inputs.now.entries in
+    let x = element_of c.nested-item.result in
+    let bs = values_of c.loop-nested.values in
+    let rest = elements_of (map element_of (drop (c.loop-nested.nested-index + 1) c.deref-nested-items.result.now)) in
+    let next = next_item c.deref-nested-items.result.now c.loop-nested.nested-index c.nested-item.result c.loop-nested-test.true c.nested-item.is in (
+      ends_alike (λ (u : Unit {0}). values_of c.push_values.new.values) _ _
+          (c.loop-nested.invariant.same
+          ∙ ap (λ (es : List Element). run i (values_behind bs (exprs_in (elements_of (map element_of es)))) (live c.loop-nested.self.session.now)) next
+          ∙ behind_others i bs (exprs_of_element x) (exprs_in rest) (live c.loop-nested.self.session.now))
+          (exits (λ (u : Unit {0}). values_of c.push_values.new.values) (λ (u : Unit {0}). values_of c.push_values.new.values) i (values_behind bs (exprs_of_element x)) (λ found. values_behind found (exprs_in rest)) _ _ _ _
+          c.from_residual-in_err-push_values-in-Nested.ensures.1 (rw c.loop-nested.invariant.stays.1 at c.in_err-push_values-in-Nested.ensures.0)),
+      stays_on c.loop-nested.invariant.stays c.in_err-push_values-in-Nested.ensures.1,
+    )
+
+pub push_values-returns-after-loop-nested : goal.push_values-returns-after-loop-nested
+push_values-returns-after-loop-nested t c =
+    let none = drop_all _ _ c.loop-nested-test.false in
+    let all = rw none at c.loop-nested.invariant.same in
+    (all ∙ ap (λ (l : List model.Value). (Ok l, live c.loop-nested.self.session.now)) (append-nil (values_of c.loop-nested.values)), c.loop-nested.invariant.stays)
+
+pub push_values-returns-in_ok-push-in-Single : goal.push_values-returns-in_ok-push-in-Single
+push_values-returns-in_ok-push-in-Single t c =
+    let bs = values_of c.args.values.now in (
+      rw c.in-Single.is (goes value_of (inputs_of c.args.self.now.inputs.now.entries) (meaning.value (expr_of c.in-Single.expr)) (λ v. Gives (bs ++ v ∷ [])) _ _ c.in_ok-found-in-Single.found c.in_ok-found-in-Single.ensures.0
+          ∙ ap (λ (l : List model.Value). (Ok l, live c.value.new.self.session.now)) (sym (pushed value_of _ _ _ c.in_ok-push-in-Single.ensures.items))),
+      c.in_ok-found-in-Single.ensures.1,
+    )
+
+pub list_value-returns-in_err-push_values : goal.list_value-returns-in_err-push_values
+list_value-returns-in_err-push_values t c =
+    let x = element_of c.args.element.now in (
+      exits (λ (u : Unit {0}). values_of c.push_values.new.values) value_of (inputs_of c.args.self.now.inputs.now.entries) (values (exprs_of_element x)) _ _ _ _ _
+          c.from_residual.ensures.1 (rw c.new-values.ensures.items at c.in_err-push_values.ensures.0),
+      c.in_err-push_values.ensures.1,
+    )
+
+pub list_value-make_list-requires : goal.list_value-make_list-requires
+list_value-make_list-requires t c =
+    let i = inputs_of c.args.self.now.inputs.now.entries in
+    let x = element_of c.args.element.now in
+    let vs = c.push_values.new.values.items in
+    let many = as_many i [] (exprs_of_element x) _ _ _ (rw c.new-values.ensures.items at c.in_ok-push_values.ensures.0) in
+    rw c.deref-2.ensures.value (omega (arith, many, many_of_element x, length-map vs value_of))
+
+pub list_value-returns-in_err-new : goal.list_value-returns-in_err-new
+list_value-returns-in_err-new t c =
+    let i = inputs_of c.args.self.now.inputs.now.entries in
+    let x = element_of c.args.element.now in
+    let d = option_map dtype_of c.args.dtype.now in
+    let vs = c.push_values.new.values.items in
+    let s = live c.push_values.new.self.session.now in
+    let found = rw c.new-values.ensures.items at c.in_ok-push_values.ensures.0 in
+    let marks = c.in_ok-mark_operands.ensures ∙ ap (λ vs. all_marked vs s) c.deref.ensures.value in (
+      follows (λ (u : Unit {0}). values_of c.push_values.new.values) value_of i (values (exprs_of_element x)) _ _ _ _ c.in_ok-push_values.field-0 _ found
+          (ends_alike value_of _ _ (list_parts i x d vs s ∙ ap (run i (decide (array_of_list x d (map unused_of vs)) >>= give)) (sym marks))
+          (exits_new i (array_of_list x d (map unused_of vs)) _ _ _ c.from_residual-in_err-new.ensures.1 (rw c.deref-2.ensures.value at c.in_err-new.ensures))),
+      c.in_ok-push_values.ensures.1,
+    )
+
+pub list_value-give-requires : goal.list_value-give-requires
+list_value-give-requires t c =
+    let i = inputs_of c.args.self.now.inputs.now.entries in
+    let x = element_of c.args.element.now in
+    let vs = c.push_values.new.values.items in
+    let s = live c.push_values.new.self.session.now in
+    let room = c.requires in
+    let made = next_behind i [] x _ _ _ (rw c.new-values.ensures.items at c.in_ok-push_values.ensures.0) in
+    let marks = ap (λ (q : Running). q.next) (c.in_ok-mark_operands.ensures ∙ ap (λ vs. all_marked vs s) c.deref.ensures.value) ∙ all_marked_next vs s in
+    omega arith
+
+pub list_value-returns : goal.list_value-returns
+list_value-returns t c =
+    let i = inputs_of c.args.self.now.inputs.now.entries in
+    let x = element_of c.args.element.now in
+    let d = option_map dtype_of c.args.dtype.now in
+    let vs = c.push_values.new.values.items in
+    let s = live c.push_values.new.self.session.now in
+    let found = rw c.new-values.ensures.items at c.in_ok-push_values.ensures.0 in
+    let marks = c.in_ok-mark_operands.ensures ∙ ap (λ vs. all_marked vs s) c.deref.ensures.value in (
+      follows (λ (u : Unit {0}). values_of c.push_values.new.values) value_of i (values (exprs_of_element x)) _ _ _ _ c.in_ok-push_values.field-0 _ found
+          (ends_alike value_of _ _ (list_parts i x d vs s ∙ ap (run i (decide (array_of_list x d (map unused_of vs)) >>= give)) (sym marks))
+          (follows_new i (array_of_list x d (map unused_of vs)) _ _ c.in_ok-new.new _ (rw c.deref-2.ensures.value at c.in_ok-new.ensures) (rw c.in_ok-push_values.ensures.1.1 at c.give.ensures.0))),
+      stays_on c.in_ok-push_values.ensures.1 c.give.ensures.1,
+    )
+
+pub array_value-returns-in-Nested : goal.array_value-returns-in-Nested
+array_value-returns-in-Nested t c =
+    let i = inputs_of c.args.self.now.inputs.now.entries in
+    let r = live c.args.self.now.session.now in
+    let d = option_map dtype_of c.args.dtype.now in
+    let same = elements_in_list c.args.element.now c.in-Nested.field-0 c.in-Nested.is in
+    let es = elements_of (map element_of c.in-Nested.field-0.items) in (
+      ends_alike value_of _ _
+          (ap (λ x. run i (meaning.value (Called (NewArray x d))) r) same ∙ list_first i es d r ∙ ap (λ x. run i (list_value x d) r) (sym same))
+          c.list_value.ensures.0,
+      c.list_value.ensures.1,
+    )
 
 -- ---- calls
 

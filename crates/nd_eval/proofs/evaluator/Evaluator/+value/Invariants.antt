@@ -1,17 +1,20 @@
 use Rattle.std.proofs.Common.{◌≡◌, ◌+◌, ◌<◌, ◌≤◌, ◌^◌, Ok, map, take, drop}
-use Rattle.nd_model.specs.Cells.{chained}
+use Rattle.nd_model.specs.Cells.{chained, elements_of}
+use Rattle.nd_model.specs.Sound.{IsSound}
 use Rattle.nd_model.specs.Evaluation.{run}
 use Rattle.nd_model.specs.Meaning as meaning
-use Rattle.nd_model.specs.Tokens.{tokens_of_all}
+use Rattle.nd_model.specs.Tokens.{tokens_of_all, tokens_of_others}
 use Rattle.nd_syntax.specs.Lists.{operation_of}
-use Rattle.nd_syntax.specs.Syntax.{expr_of, suffix_of}
+use Rattle.nd_syntax.specs.Syntax.{element_of, expr_of, suffix_of}
 use Rattle.nd_heap.specs.Values.{value_of}
 use Rattle.nd_session.specs.Values.{inputs_of}
 use Rattle.nd_session.specs.Live.{live}
 use Rattle.nd_eval.specs.Ends.{Stays}
-use Rattle.nd_eval.specs.Parts.{values, values_then}
+use Rattle.nd_eval.specs.Parts.{exprs_in, exprs_of_element, values, values_behind, values_then}
+use Rattle.nd_eval.specs.Contents.{values_of}
+use Rattle.nd_eval.specs.Uses.{IsHeld}
 use Rattle.nd_eval.proofs.InTurn.{onto}
-use Rattle.nd_eval.proofs.Indexing.{chain, chain_tokens, nodes, nodes_of_bound, nodes_of_call, nodes_of_element, nodes_of_exprs, nodes_of_index, nodes_of_items, nodes_of_item, nodes_of_all, nodes_of_operations}
+use Rattle.nd_eval.proofs.Indexing.{chain, chain_tokens, nodes, nodes_of_bound, nodes_of_call, nodes_of_element, nodes_of_elements, nodes_of_suffix, nodes_of_exprs, nodes_of_index, nodes_of_items, nodes_of_item, nodes_of_all, nodes_of_operations}
 use Rattle.nd_eval.proofs.evaluator.Evaluator.+value.Given as goal
 
 abbrev pub decreases-value : goal.decreases-value
@@ -36,7 +39,16 @@ abbrev pub decreases-full_value : goal.decreases-full_value
 decreases-full_value l = 2 + nodes_of_exprs l.shape.now + nodes l.value.now
 
 abbrev pub decreases-array_value : goal.decreases-array_value
-decreases-array_value l = nodes_of_element l.element.now
+decreases-array_value l = 2 + nodes_of_element l.element.now
+
+abbrev pub decreases-list_value : goal.decreases-list_value
+decreases-list_value l = 1 + nodes_of_element l.element.now
+
+abbrev pub decreases-push_values : goal.decreases-push_values
+decreases-push_values l = nodes_of_element l.element.now
+
+abbrev pub decreases-suffix_value : goal.decreases-suffix_value
+decreases-suffix_value l = nodes_of_suffix l.suffix.now
 
 abbrev pub decreases-values : goal.decreases-values
 decreases-values l = 1 + nodes_of_exprs l.exprs.now
@@ -71,6 +83,20 @@ invariant-value-loop-suffix l =
       stays : Stays l.fn.self l.self;
       room : (live l.self.session.now).next + chain_tokens left < 2 ^ 64;
       below : nodes_of_all (drop l.suffix-index l.suffix-items) < nodes l.expr;
+      sound : IsSound (live l.self.session.now);
+      held : IsHeld (live l.self.session.now) l.found;
+    }
+
+-- the values so far, and those of the elements that are left
+abbrev pub invariant-push_values-loop-nested : goal.invariant-push_values-loop-nested
+invariant-push_values-loop-nested l =
+    let left = elements_of (map element_of (drop l.nested-index l.nested-items)) in
+    record {
+      same : run (inputs_of l.fn.self.inputs.now.entries) (values_behind (values_of l.fn.values) (exprs_of_element (element_of l.element))) (live l.fn.self.session.now)
+          ≡ run (inputs_of l.fn.self.inputs.now.entries) (values_behind (values_of l.values) (exprs_in left)) (live l.self.session.now);
+      stays : Stays l.fn.self l.self;
+      room : (live l.self.session.now).next + tokens_of_others left < 2 ^ 64;
+      below : nodes_of_elements (drop l.nested-index l.nested-items) < nodes_of_element l.element;
     }
 
 -- the value of the operand with the operators so far

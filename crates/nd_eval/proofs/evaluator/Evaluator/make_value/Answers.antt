@@ -1,0 +1,32 @@
+use Rattle.std.proofs.Common.{refl}
+use Rattle.nd_model.specs.Evaluation.{◌>>=◌, decide}
+use Rattle.nd_model.specs.Operation.{give}
+use Rattle.nd_heap.specs.Values.{value_of}
+use Rattle.nd_session.specs.Values.{inputs_of}
+use Rattle.nd_operation.specs.Contents.{operand_of}
+use Rattle.nd_operation.specs.New.{made_of_one}
+use Rattle.nd_eval.proofs.Creating.{exits_new, follows_new}
+use Rattle.nd_eval.proofs.Uses.{kept_bytes, follows_use}
+use Rattle.nd_eval.proofs.evaluator.Evaluator.make_value.Goals as goal
+
+pub returns-in_err-new : goal.returns-in_err-new
+returns-in_err-new c =
+    let i = inputs_of c.args.self.now.inputs.now.entries in
+    let v = c.args.operand.now in
+    let f = made_of_one c.args.call in (
+      follows_use value_of i v (λ o. decide (f o) >>= give) _ _ _ _ c.operand_in.result _ c.in_ok-mark_operand.ensures
+          (kept_bytes v _ _ c.in_ok-mark_operand.ensures) c.operand_in.ensures
+          (exits_new i (f (operand_of c.operand_in.result)) _ _ _ c.from_residual-in_err-new.ensures.1 c.in_err-new.ensures),
+      (refl, refl),
+    )
+
+pub returns : goal.returns
+returns c =
+    let i = inputs_of c.args.self.now.inputs.now.entries in
+    let v = c.args.operand.now in
+    let f = made_of_one c.args.call in (
+      follows_use value_of i v (λ o. decide (f o) >>= give) _ _ _ _ c.operand_in.result _ c.in_ok-mark_operand.ensures
+          (kept_bytes v _ _ c.in_ok-mark_operand.ensures) c.operand_in.ensures
+          (follows_new i (f (operand_of c.operand_in.result)) _ _ c.in_ok-new.new _ c.in_ok-new.ensures c.give.ensures.0),
+      c.give.ensures.1,
+    )

@@ -5,6 +5,7 @@
 //! A kind is a word as `i1`, an element a word as `|i1`, `<i8` or `>u2`. A type is an element, or a structure as
 //! `8/a:0:|i1,b:4:<i4`: its size, and the name, the place and the element of each field. A list has commas; `-` is none. A block is the
 //! list of its bytes, or as `zeros:8`. A view is a type and a shape, or a type, a shape, strides, an offset and the length of its block.
+//! In `convert` and `copy_view` the block itself stands in the place of its length, and in `convert` the element that is wanted behind it.
 //!
 //! `cell TEXT` is answered with `cell`, or with the fault of the text as `LINE KIND COLUMN`; `tree TEXT` with its statements or its fault;
 //! `tokens TEXT` with its tokens, each as `LINE:COLUMN WORD` with a `^` before it where it begins a statement, or with the first place
@@ -13,6 +14,7 @@
 
 mod blocks;
 mod cells;
+mod conversions;
 mod copies;
 mod kinds;
 mod refusal;
@@ -42,6 +44,8 @@ fn answer(alloc: Global, call: &str, words: &[&str]) -> Result<String, Refusal> 
         "scalar" => texts::print_scalar(alloc, words),
         "array" => texts::print_array(alloc, words),
         "text" => texts::print_view(alloc, words),
+        "convert" => conversions::convert_view(alloc, words),
+        "copy_view" => conversions::copy_view(alloc, words),
         _ => Err(Refusal::BadLine),
     }
 }

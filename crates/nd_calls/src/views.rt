@@ -38,12 +38,12 @@ fn contiguous_of(alloc: Global, elem: &str, shape: &str) -> Result<View, Refusal
     contiguous_like(alloc, &still)
 }
 
-/// The view of a type, and of a shape, strides, an offset and the length of the block.
-fn parted_of(alloc: Global, elem: &str, shape: &str, rest: &[&str]) -> Result<View, Refusal> {
-    let [strides, offset, length] = rest else {
+/// The view of a type, a shape, strides and an offset, over a block of this length.
+pub(crate) fn view_over(alloc: Global, parts: &[&str], length: u64) -> Result<View, Refusal> {
+    let [elem, shape, strides, offset] = parts else {
         return Err(Refusal::BadLine);
     };
-    let (offset, length) = (number(offset)?, number(length)?);
+    let offset = number(offset)?;
     let shape = numbers(alloc, shape)?;
     let strides = numbers(alloc, strides)?;
     let elem = type_of(alloc, elem)?;
@@ -54,7 +54,7 @@ fn parted_of(alloc: Global, elem: &str, shape: &str, rest: &[&str]) -> Result<Vi
 pub(crate) fn view_of(alloc: Global, words: &[&str]) -> Result<View, Refusal> {
     match words {
         [elem, shape] => contiguous_of(alloc, elem, shape),
-        [elem, shape, rest @ ..] => parted_of(alloc, elem, shape, rest),
+        [parts @ .., length] => view_over(alloc, parts, number(length)?),
         _ => Err(Refusal::BadLine),
     }
 }

@@ -83,8 +83,9 @@ impl BlockTable {
     {
         match value {
             Value::Number(_) => true,
-            Value::Array(array) | Value::Row(array) => self.bytes(array.base)
-                == others.bytes(array.base),
+            Value::Array(array) | Value::Row(array) => {
+                self.bytes(array.base) == others.bytes(array.base)
+            }
         }
     }
 

@@ -1,9 +1,10 @@
 //! The texts of values.
 
-ghost use Rattle.std.specs.Prelude.{◌≡◌, ◌++◌, OnOk};
+ghost use Rattle.std.specs.Prelude.{◌≡◌, ◌++◌, OnOk, codes, decimal};
 ghost use Rattle.nd_model.specs.Format as formats;
 ghost use Rattle.nd_model.specs.Script as script;
 ghost use Rattle.nd_model.specs.Text.{truth_text};
+ghost use Rattle.nd_model.specs.View.{item_size};
 ghost use Rattle.nd_rerun.specs.Kinds.{kind_of};
 ghost use Rattle.nd_rerun.specs.Fields.{field_of, fields_of};
 ghost use Rattle.nd_rerun.specs.Types.{type_of};
@@ -43,23 +44,28 @@ fn push_shown(out: &mut Vec<u8>, value: &Shown) -> Result<(), AllocError>
         }
         Shown::Array { elem, shape, bytes } => {
             push_text(out, "array ")?;
-            push_format(out, elem)?;
-            push_text(out, " ")?;
-            push_number(out, elem.size())?;
-            push_text(out, " ")?;
+            push_type(out, elem)?;
             push_shape(out, shape)?;
             push_text(out, " ")?;
             push_hex(out, bytes)
         }
         Shown::Row { elem, bytes } => {
             push_text(out, "row ")?;
-            push_format(out, elem)?;
-            push_text(out, " ")?;
-            push_number(out, elem.size())?;
-            push_text(out, " ")?;
+            push_type(out, elem)?;
             push_hex(out, bytes)
         }
     }
+}
+
+// The format of a type, its size, and a space.
+fn push_type(out: &mut Vec<u8>, elem: &ElemType) -> Result<(), AllocError>
+    ensures { OnOk result (out.new.items ≡ out.old.items ++ (formats.format_text (type_of elem.now)
+        ++ codes " " ++ decimal (item_size (type_of elem.now)) ++ codes " ")) }
+{
+    push_format(out, elem)?;
+    push_text(out, " ")?;
+    push_number(out, elem.size())?;
+    push_text(out, " ")
 }
 
 fn truth_name(truth: bool) -> &'static str

@@ -117,12 +117,14 @@ impl View {
         // Says how large an element may be.
         let _size = self.elem.size();
         let alloc = *self.shape.allocator();
+        let elem = self.elem.try_clone()?;
+        let writable = self.writable;
         Ok(View {
-            elem: self.elem.try_clone()?,
+            elem,
             shape: SmallVec::new(alloc),
             strides: SmallVec::new(alloc),
             offset: place,
-            writable: self.writable,
+            writable,
         })
     }
 

@@ -6,6 +6,7 @@
 //! `8/a:0:|i1,b:4:<i4`: its size, and the name, the place and the element of each field. A list has commas; `-` is none. A block is the
 //! list of its bytes, or as `zeros:8`. A view is a type and a shape, or a type, a shape, strides, an offset and the length of its block.
 //! In `convert` and `copy_view` the block itself stands in the place of its length, and in `convert` the element that is wanted behind it.
+//! `select` has an index behind a view: a list of numbers, slices as `1::2`, `...` and `new`; `field` has a name there.
 //!
 //! `cell TEXT` is answered with `cell`, or with the fault of the text as `LINE KIND COLUMN`; `tree TEXT` with its statements or its fault;
 //! `tokens TEXT` with its tokens, each as `LINE:COLUMN WORD` with a `^` before it where it begins a statement, or with the first place
@@ -16,6 +17,7 @@ mod blocks;
 mod cells;
 mod conversions;
 mod copies;
+mod indexes;
 mod kinds;
 mod refusal;
 mod texts;
@@ -40,6 +42,8 @@ fn answer(alloc: Global, call: &str, words: &[&str]) -> Result<String, Refusal> 
         "store" | "store_at" | "put" | "copy" => blocks::answer_change(alloc, call, words),
         "push" => blocks::push_number(alloc, words),
         "view" => views::describe_view(alloc, words),
+        "select" => indexes::describe_selected(alloc, words),
+        "field" => indexes::describe_field(alloc, words),
         "same_view" => views::compare_views(alloc, words),
         "scalar" => texts::print_scalar(alloc, words),
         "array" => texts::print_array(alloc, words),

@@ -11,7 +11,7 @@ use std::alloc::{AllocError, Global};
 use std::fmt::Write;
 
 /// The most elements of which a view's places are printed.
-const MOST_PRINTED: usize = 64;
+pub(crate) const MOST_PRINTED: usize = 64;
 
 /// The view that was made, if the parts make one.
 fn check(made: Result<Result<View, ViewFault>, AllocError>) -> Result<View, Refusal> {
@@ -78,7 +78,7 @@ fn push_runs(text: &mut String, mut runs: Runs) -> Result<(), AllocError> {
 }
 
 /// Appends the places of the elements, as their numbers have them.
-fn push_numbered(text: &mut String, view: &View) -> Result<(), AllocError> {
+pub(crate) fn push_numbered(text: &mut String, view: &View) -> Result<(), AllocError> {
     for number in 0..view.count() as u64 {
         write!(text, " {}", view.place_of(number))?;
     }

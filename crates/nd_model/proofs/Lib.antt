@@ -46,3 +46,5 @@ pub mod Overlaying
 pub mod Dividing
 pub mod Adding
 pub mod LowestBits
+pub mod Selected
+pub mod Fielded

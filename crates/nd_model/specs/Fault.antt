@@ -12,6 +12,8 @@ pub data IndexFault : Type 0 where
   TooManyIndices : IndexFault
   ZeroStep : IndexFault
   NotAnIndex : IndexFault
+  TwoEllipses : IndexFault
+  NoField : (name : List ℕ) → IndexFault
 
 pub data UfuncFault : Type 0 where
   FloatResult : UfuncFault

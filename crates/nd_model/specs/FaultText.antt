@@ -1,7 +1,7 @@
 -- The texts of refusals, as a script is answered.
 use Rattle.std.specs.Prelude.{ℕ, List, ◌++◌, codes, decimal}
 use Rattle.std.specs.Fmt.{signed_decimal}
-use Rattle.nd_model.specs.Fault.{ViewFault, OutOfBlock, TooManyAxes, TooManyElements, AxesDiffer, IndexFault, OutOfBounds, TooManyIndices, ZeroStep, NotAnIndex, UfuncFault, FloatResult, IntOutOfRange, BoolOp, NegativePower, ShapeMismatch, ReadOnly, NotNumbers, StmtFault, NoName, IntTooBig, ZeroDivide, NegativeShift, NeedsType, RaggedList, NotAnArray, TextTooLong, BadArgument, BadType, Fault, View, Index, Ufunc, Stmt, ParseKind, BadToken, Unexpected, TooDeep, TooManyStatements, UnknownCall, LeftOut, Refusal, Parse, Statement}
+use Rattle.nd_model.specs.Fault.{ViewFault, OutOfBlock, TooManyAxes, TooManyElements, AxesDiffer, IndexFault, OutOfBounds, TooManyIndices, ZeroStep, NotAnIndex, TwoEllipses, NoField, UfuncFault, FloatResult, IntOutOfRange, BoolOp, NegativePower, ShapeMismatch, ReadOnly, NotNumbers, StmtFault, NoName, IntTooBig, ZeroDivide, NegativeShift, NeedsType, RaggedList, NotAnArray, TextTooLong, BadArgument, BadType, Fault, View, Index, Ufunc, Stmt, ParseKind, BadToken, Unexpected, TooDeep, TooManyStatements, UnknownCall, LeftOut, Refusal, Parse, Statement}
 use Rattle.nd_model.specs.Book as book
 use Rattle.nd_model.specs.Book.{EditFault, TooManyCells, CellTooLong, BadInputName, InputTooLarge, NoInputNamed, QueryFault}
 
@@ -16,6 +16,8 @@ index_text (OutOfBounds axis index size) = codes "OutOfBounds " ++ decimal axis 
 index_text TooManyIndices = codes "TooManyIndices"
 index_text ZeroStep = codes "ZeroStep"
 index_text NotAnIndex = codes "NotAnIndex"
+index_text TwoEllipses = codes "TwoEllipses"
+index_text (NoField name) = codes "NoField " ++ name
 
 abbrev pub ufunc_text : UfuncFault → List ℕ
 ufunc_text FloatResult = codes "FloatResult"

@@ -32,6 +32,8 @@ pub mod Operand
 pub mod Broadcast
 pub mod Operators
 pub mod Index
+pub mod Slicing
+pub mod Selecting
 pub mod Writing
 pub mod Types
 pub mod Conversion
@@ -44,6 +46,7 @@ pub mod Meaning
 pub mod Cell
 pub mod Footprint
 pub mod Sound
+pub mod Selected
 pub mod Bases
 pub mod Noting
 pub mod Storing

@@ -24,6 +24,7 @@ ghost use Rattle.nd_model.specs.Promotion.{PromotionTable};
 ghost use Rattle.nd_model.specs.Records.{Kept};
 ghost use Rattle.nd_model.specs.Renaming.{Rename, AnyLabels};
 ghost use Rattle.nd_model.specs.Scheduler.{AnyPass};
+ghost use Rattle.nd_model.specs.Selected.{FieldLies, SelectedLies};
 ghost use Rattle.nd_model.specs.Sound.{ReplaysSound, StaysSound};
 ghost use Rattle.nd_model.specs.Stale.{AtMostIsAtMost, FewRuns, FrontIsNotStale};
 ghost use Rattle.nd_model.specs.Storing.{StoresByParts};
@@ -59,6 +60,16 @@ pub fn promotion_table()
 /// A view that is made of parts has every byte of its elements in the block.
 pub fn parts_are_held()
     ensures { PartsAreHeld }
+{}
+
+/// What a basic index chooses of a view that lies in its base lies there.
+pub fn selected_lies()
+    ensures { SelectedLies }
+{}
+
+/// The view of a field of a view that lies in its base lies there.
+pub fn field_lies()
+    ensures { FieldLies }
 {}
 
 /// Sessions and inputs that agree on what a cell reads in the first give it the same reads and effects.

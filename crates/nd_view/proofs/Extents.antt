@@ -101,13 +101,13 @@ highest_is (suc n ∷ shape) (negsuc s ∷ strides) some same =
 
 -- ---- a block holds every element where it holds those two
 
-bounds : (size len : ℕ) (z : ℤ) → is_held size len z ≡ true → (pos 0 ≤ℤ z) × (unsigned_abs z + size ≤ len)
+pub bounds : (size len : ℕ) (z : ℤ) → is_held size len z ≡ true → (pos 0 ≤ℤ z) × (unsigned_abs z + size ≤ len)
 bounds size len z held = elim (int_le (pos 0) z) as (λ b. int_le (pos 0) z ≡ b → (b && nat_le (unsigned_abs z + size) len) ≡ true → (pos 0 ≤ℤ z) × (unsigned_abs z + size ≤ len)) [
   | true ↦ λ low high. (omega (arith, ints, low), grind (arith, nat_tests))
   | false ↦ λ low high. cc
 ] refl held
 
-held_by : (size len : ℕ) (z : ℤ) → pos 0 ≤ℤ z → unsigned_abs z + size ≤ len → is_held size len z ≡ true
+pub held_by : (size len : ℕ) (z : ℤ) → pos 0 ≤ℤ z → unsigned_abs z + size ≤ len → is_held size len z ≡ true
 held_by size len z low high =
     let above : int_le (pos 0) z ≡ true = search rules in let below : nat_le (unsigned_abs z + size) len ≡ true = grind (arith, nat_tests) in rw (above, below) refl
 

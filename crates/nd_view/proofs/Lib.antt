@@ -23,3 +23,4 @@ pub mod ViewLoops
 pub mod Unravelled
 pub mod ByRuns
 pub mod InOrder
+pub mod Ranges

@@ -1,5 +1,5 @@
 -- The fields of new views.
-use Rattle.std.proofs.Common.{◌≡◌, ℕ, ◌+◌, ◌^◌, ◌<◌, ◌≤◌, ◌==◌, Bool, true, false, List, [], ◌∷◌, length, refl, sym, ap, ◌∙◌, inl, inr, arith}
+use Rattle.std.proofs.Common.{◌≡◌, ℕ, ◌+◌, ◌^◌, ◌≤◌, ◌==◌, Bool, true, false, List, [], ◌∷◌, length, refl, sym, ap, ◌∙◌, inl, inr, arith}
 use Rattle.std.specs.Prelude.{ℤ, not, Option, Some, None, Result, Ok, if◌then◌else◌}
 use Rattle.std.proofs.lemmas.Bool.{cases_lt}
 use Rattle.std.proofs.lemmas.Bool.Decides.{nat_tests}
@@ -63,14 +63,14 @@ none_holds true held (Some fault) e = cc
 none_holds false held limit e = cc
 
 module _ (size : ℕ) (shape : List ℕ) (strides : List ℤ) (offset len : ℕ) (none : parts_fault size shape strides offset len ≡ None) where
-  facts : ((length shape == length strides) ≡ true) × (limit_fault size shape ≡ None) × (are_held size len offset strides shape ≡ true)
+  pub facts : ((length shape == length strides) ≡ true) × (limit_fault size shape ≡ None) × (are_held size len offset strides shape ≡ true)
   facts = none_holds (length shape == length strides) (are_held size len offset strides shape) (limit_fault size shape) none
 
-  axes : length strides ≡ length shape
+  pub axes : length strides ≡ length shape
   axes = let test = facts.0 in grind (arith, nat_tests)
 
   pub parted_fields : (lengths : List ℕ) (steps : List ℤ) (start : ℕ) → lengths ≡ shape → steps ≡ kept_all (elements_of shape) shape strides → start ≡ (if elements_of shape == 0 then 0 else offset)
-      → size ≤ 65536 → len < 2 ^ 64 → AreFields size lengths steps start
+      → size ≤ 65536 → len ≤ 2 ^ 64 → AreFields size lengths steps start
   parted_fields lengths steps start same kept at small fits =
       elim (cases_lt 0 (elements_of shape)) [
         | inl some ↦
@@ -113,3 +113,16 @@ pub parted : (t : ElementType) (shape lengths : List ℕ) (strides steps : List 
 parted t shape lengths strides steps offset start len none same kept at =
     let places = parted_places (item_size t) shape strides offset len none lengths steps start same kept at in
     rw none (λ i. Ok (record { element = t; shape = same i; writable = true; places = places i }))
+
+-- the parts of a view that lies from 0 to 2^64 - 1 have no fault
+pub no_fault : (size len offset : ℕ) (shape : List ℕ) (strides : List ℤ) → IsInLimits size shape → length strides ≡ length shape → are_held size len offset strides shape ≡ true → parts_fault size shape strides offset len ≡ None
+no_fault size len offset shape strides limits axes held = let test : (length shape == length strides) ≡ true = grind (arith, nat_tests) in rw (test, limits, held) refl
+
+-- the same with this right to write
+pub parted_as : (t : ElementType) (shape lengths : List ℕ) (strides steps : List ℤ) (offset start len : ℕ) (writable : Bool) → parts_fault (item_size t) shape strides offset len ≡ None
+    → lengths ≡ shape → steps ≡ kept_all (elements_of shape) shape strides → start ≡ (if elements_of shape == 0 then 0 else offset)
+    → ◌≡◌ {A = Geo} (record { element = t; shape = lengths; writable = writable; places = places_by start steps lengths })
+    (record { element = t; shape = shape; writable = writable; places = places_by offset strides shape })
+parted_as t shape lengths strides steps offset start len writable none same kept at =
+    let places = parted_places (item_size t) shape strides offset len none lengths steps start same kept at in
+    λ i. record { element = t; shape = same i; writable = writable; places = places i }

@@ -140,3 +140,28 @@ pub(crate) fn kept_strides(
     }
     Ok(all)
 }
+
+// The same of a stride that a view may already have.
+fn kept_step(count: u64, length: u64, stride: i128) -> i128
+    ensures { result ≡ strides.kept count length stride }
+{
+    if length > 1 && count > 0 { stride } else { 0 }
+}
+
+/// Returns strides that a view may already have, as another view keeps them.
+pub(crate) fn kept_steps(
+    alloc: Global,
+    shape: &[u64],
+    strides: &[i128],
+) -> Result<SmallVec<i128, 8>, AllocError>
+    requires axes { length shape.now ≡ length strides.now }
+    requires elements { elements_of shape.now ≤ 2 ^ 24 }
+    ensures { IfOk result (λ v. v.items ≡ kept_all (elements_of shape.now) shape.now strides.now) }
+{
+    let count = elements(shape);
+    let mut all = SmallVec::new(alloc);
+    for (axis, length) in shape.iter().enumerate() {
+        all.push(kept_step(count, *length, strides[axis]))?;
+    }
+    Ok(all)
+}

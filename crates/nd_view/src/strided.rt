@@ -1,5 +1,5 @@
 //! `View`: where the elements of an array lie in its bytes.
-ghost use Rattle.std.specs.Prelude.{◌≡◌, ◌+◌, ◌*◌, ◌^◌, ◌<◌, ◌≤◌, length, take, slice_index, false, IsTrue, ◌↔◌, IfOk, OnOk, MatchOption};
+ghost use Rattle.std.specs.Prelude.{◌≡◌, ◌+◌, ◌*◌, ◌^◌, ◌<◌, ◌≤◌, length, take, slice_index, false, IsTrue, ◌↔◌, IfOk, OnOk, MatchOption, unsigned_abs};
 ghost use Rattle.std.specs.List.{All, concat};
 ghost use Rattle.nd_model.specs.Runs.{runs_of};
 ghost use Rattle.nd_model.specs.Strides as model;
@@ -14,7 +14,7 @@ ghost use Rattle.nd_view.specs.Strides.{kept_all};
 use crate::elements::push_element;
 use crate::fault::ViewFault;
 use crate::inner_loop::{last_axis, widest_loop};
-use crate::parts::{kept_offset, kept_strides, parts_fault};
+use crate::parts::{kept_offset, kept_steps, kept_strides, parts_fault};
 use crate::runs::Runs;
 use crate::shapes::{elements, steps};
 use crate::walk::{advance, place_by, shift_place};
@@ -95,6 +95,33 @@ impl View {
         }))
     }
 
+    /// Returns the view with these lengths, strides in bytes, place of the first element and right to write. Each byte of each
+    /// element lies at a place from 0 to 2^64 - 1.
+    pub fn from_strides(
+        alloc: Global,
+        elem: ElemType,
+        shape: &[u64],
+        strides: &[i128],
+        offset: u64,
+        writable: bool,
+    ) -> Result<View, AllocError>
+        requires { model.parts_fault (item_size (type_of elem)) shape.now strides.now offset
+            (2 ^ 64) ≡ None }
+        ensures { IfOk result (λ v. v ≡ record (model.parted (type_of elem) shape.now strides.now
+            offset) { writable = writable }) }
+    {
+        let size = elem.size();
+        prove!(size > 0 && size <= 65536);
+        let start = kept_offset(shape, offset);
+        Ok(View {
+            elem,
+            shape: SmallVec::from_slice(alloc, shape)?,
+            strides: kept_steps(alloc, shape, strides)?,
+            offset: start,
+            writable,
+        })
+    }
+
     /// Returns a view of the same elements.
     pub fn try_clone(&self) -> Result<View, AllocError>
         ensures { IfOk result (λ v. v ≡ self.now) }
@@ -118,13 +145,13 @@ impl View {
         let _size = self.elem.size();
         let alloc = *self.shape.allocator();
         let elem = self.elem.try_clone()?;
-        let writable = self.writable;
+        let is_writable = self.writable;
         Ok(View {
             elem,
             shape: SmallVec::new(alloc),
             strides: SmallVec::new(alloc),
             offset: place,
-            writable,
+            writable: is_writable,
         })
     }
 
@@ -151,6 +178,17 @@ impl View {
         ensures kept { kept_all (length self.now.places) self.now.shape result.now ≡ result.now }
     {
         self.strides.as_slice()
+    }
+
+    /// Returns these strides, with what they keep to: from the first element they lead to places from 0 to 2^64 - 1.
+    pub fn held_strides(&self) -> &[i128]
+        ensures held { model.parts_fault (item_size self.now.element) self.now.shape result.now
+            (slice_index self.now.places 0) (2 ^ 64) ≡ None }
+        ensures places { self.now.places ≡ places_by (slice_index self.now.places 0) result.now
+            self.now.shape }
+        ensures range { All (λ s. unsigned_abs s < 2 ^ 64) result.now }
+    {
+        SmallVec::as_slice(&self.strides)
     }
 
     /// Returns the place of the first element, 0 where there are none.

@@ -1,6 +1,5 @@
-use Rattle.std.proofs.Common.{◌≡◌, ◌+◌, ◌≤◌, ◌^◌, [], ◌∷◌, ap₂, ◌∙◌, arith}
-use Rattle.nd_model.specs.View.{ElementType, item_size}
-use Rattle.nd_model.specs.View as model
+use Rattle.std.proofs.Common.{◌≡◌, [], ◌∷◌, ap₂, ◌∙◌, arith}
+use Rattle.nd_model.specs.View.{item_size}
 use Rattle.nd_types.specs.Types.{type_of}
 use Rattle.nd_view.proofs.Made.{alone_fields, alone}
 use Rattle.nd_view.proofs.strided.View.element_view.Goals as goal

@@ -1,0 +1,6 @@
+pub mod Evens
+pub mod Steps
+pub mod Ways
+pub mod Fillings
+pub mod Chosen
+pub mod Fielded

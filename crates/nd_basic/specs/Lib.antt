@@ -1,0 +1,4 @@
+pub mod Items
+pub mod Faults
+pub mod FullIndexes
+pub mod Layouts

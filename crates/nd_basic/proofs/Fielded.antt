@@ -1,12 +1,13 @@
 -- The parts of the view of a field.
 use Rattle.std.proofs.Common.{◌≡◌, ℕ, ◌+◌, ◌<◌, ◌≤◌, ◌^◌, true, List, [], map, length, get_or, refl, sym, ap, ◌∙◌, inl, inr, arith}
-use Rattle.std.specs.Prelude.{Bool, ℤ, pos, ◌+ℤ◌, ◌≤ℤ◌, None, unsigned_abs}
+use Rattle.std.specs.Prelude.{Bool, ℤ, pos, ◌+ℤ◌, ◌≤ℤ◌, None, Some, nat_le, unsigned_abs}
 use Rattle.nd_model.specs.Element.{size_of}
-use Rattle.nd_model.specs.Selecting.{view_of_field}
+use Rattle.nd_model.specs.Selecting.{if_inside, view_of_field}
 use Rattle.nd_model.proofs.Fielded.{within_limits}
 use Rattle.nd_model.specs.View.{Field, One, Structure, Geo, item_size}
 use Rattle.nd_types.proofs.Sized.{some_bytes}
 use Rattle.std.proofs.lemmas.Bool.{cases_lt}
+use Rattle.std.proofs.lemmas.Bool.Decides.{nat_tests}
 use Rattle.std.proofs.lemmas.Int.{ints}
 use Rattle.nd_model.specs.Strides.{way_to, begins_at, place_at, places_by, is_held, are_held, parts_fault}
 use Rattle.nd_model.specs.Tuple.{elements_of, indices}
@@ -56,6 +57,10 @@ module _ (size part at first : ℕ) (shape : List ℕ) (strides : List ℤ) (non
         let nothing : places ≡ [] = by ∙ no_places first strides shape zero_of in
         let start : first ≡ 0 = is ∙ ap (λ ps. get_or ps 0 0) nothing in omega (arith, start)
   ]
+
+-- a field that ends inside its structure is one
+pub kept_inside : (size : ℕ) (f : Field) → f.at + size_of f.element.kind ≤ size → if_inside size (Some f) ≡ Some f
+kept_inside size f le = let is : nat_le (f.at + size_of f.element.kind) size ≡ true = grind (arith, nat_tests) in rw is refl
 
 -- the view of a field, by what the code has of it
 module _ (g : Geo) (strides : List ℤ) (held : parts_fault (item_size g.element) g.shape strides (get_or g.places 0 0) (2 ^ 64) ≡ None) (by : g.places ≡ places_by (get_or g.places 0 0) strides g.shape)

@@ -5,7 +5,7 @@ use Rattle.std.specs.List.{list_any}
 use Rattle.std.proofs.lemmas.Int.{ints}
 use Rattle.std.proofs.lemmas.List.{drop-drop, get_or-drop}
 use Rattle.nd_model.specs.Fault.{IndexFault, OutOfBounds}
-use Rattle.nd_model.specs.Index.{is_within}
+use Rattle.nd_model.specs.Selecting.{is_within}
 use Rattle.nd_model.specs.Strides.{way_to}
 use Rattle.nd_model.specs.Selecting.{Item, At, Slice, Ellipsis, NewAxis, axes_of, axes_in, has_zero_step, whole_slice, outside_of, first_outside, Pick, pick_of, picks_of, picked_shape, source}
 use Rattle.nd_basic.specs.Layouts.{IsInside, stride_of, picked_strides, picked_way}

@@ -1,7 +1,7 @@
 -- The strides of what is picked.
 use Rattle.std.specs.Prelude.{◌≡◌, ℕ, ◌^◌, ◌≤◌, ℤ, pos, ◌+ℤ◌, ◌*ℤ◌, neg_ℤ, unsigned_abs, List, [], ◌∷◌, length, drop, slice_index, slice_index_or, true, ⊤}
 use Rattle.nd_model.specs.Strides.{way_to}
-use Rattle.nd_model.specs.Index.{is_within}
+use Rattle.nd_model.specs.Selecting.{is_within}
 use Rattle.nd_model.specs.Selecting.{Item, At, Pick, KeptAxis, OnePosition, AddedAxis, source}
 use Rattle.nd_basic.specs.declared.positions.Positions.{Positions}
 

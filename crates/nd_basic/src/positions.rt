@@ -1,6 +1,6 @@
 //! The positions that a slice chooses of an axis.
 ghost use Rattle.std.specs.Prelude.{◌≡◌, ◌+◌, ◌<◌, ◌≤◌, ◌^◌, pos, ◌+ℤ◌, ◌<ℤ◌, unsigned_abs, true, false, MatchOption};
-ghost use Rattle.nd_model.specs.Index.{counted_from, is_within};
+ghost use Rattle.nd_model.specs.Selecting.{counted_from, is_within};
 ghost use Rattle.nd_model.specs.Slicing as model;
 ghost use Rattle.nd_basic.specs.Layouts.{ArePositions};
 

@@ -7,7 +7,7 @@ use nd_session::OutOfMemory;
 use std::alloc::{AllocError, Global};
 
 /// Adds an index fault.
-fn add_index_fault(text: &mut String, fault: IndexFault) -> Result<(), AllocError> {
+fn add_index_fault(text: &mut String, fault: &IndexFault) -> Result<(), AllocError> {
     match fault {
         IndexFault::OutOfBounds { axis, index, size } => {
             write!(text, "index {index} of axis {axis} of size {size}")
@@ -15,6 +15,8 @@ fn add_index_fault(text: &mut String, fault: IndexFault) -> Result<(), AllocErro
         IndexFault::TooManyIndices => write!(text, "too many indices"),
         IndexFault::NotAnIndex => write!(text, "not an index"),
         IndexFault::ZeroStep => write!(text, "zero step"),
+        IndexFault::TwoEllipses => write!(text, "two ellipses"),
+        IndexFault::NoField(name) => write!(text, "no field {:?}", name.as_str()),
     }
 }
 
@@ -61,7 +63,7 @@ fn add_error(text: &mut String, error: &StmtError) -> Result<(), AllocError> {
 fn add_statement_fault(text: &mut String, fault: &StmtFault) -> Result<(), AllocError> {
     match fault {
         StmtFault::View(fault) => write!(text, "{}", view_fault_text(*fault)),
-        StmtFault::Index(fault) => add_index_fault(text, *fault),
+        StmtFault::Index(fault) => add_index_fault(text, fault),
         StmtFault::Ufunc(fault) => add_ufunc_fault(text, *fault),
         StmtFault::Stmt(error) => add_error(text, error),
     }

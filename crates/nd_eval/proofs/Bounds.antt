@@ -2,26 +2,21 @@
 use Rattle.std.proofs.Common.{◌≡◌, ℕ, ◌+◌, ◌≤◌, List, [], ◌∷◌, ◌++◌, Result, Ok, refl, subst, arith}
 use Rattle.nd_model.specs.Value.{Value}
 use Rattle.nd_model.specs.Fault.{Fault}
-use Rattle.nd_model.specs.Syntax.{Expr, Bound, Omitted, Given, Elements, NoElement, AndElement, Element, Single, Nested, Method, Copy, AsType, Index, Items, AndItem, NoItem, At, Stmt}
+use Rattle.nd_model.specs.Syntax.{Expr, Bound, Omitted, Given, Elements, NoElement, AndElement, Element, Single, Nested, Method, Copy, AsType, Index, Field, Items, IndexItems, IndexItem, AndItem, NoItem, At, Slice, Ellipsis, NewAxis, Listed, Stmt}
 use Rattle.nd_model.specs.Cells.{Suffix, AtIndex, OfMethod}
 use Rattle.nd_model.specs.Creation.{copy_array, astype}
-use Rattle.nd_model.specs.Tokens.{tokens_of, tokens_of_bound, tokens_of_index, tokens_of_elements, tokens_of_others, tokens_of_element, tokens_of_all, tokens_of_stmt}
+use Rattle.nd_model.specs.Tokens.{tokens_of, tokens_of_bound, tokens_of_step, tokens_of_index, tokens_of_items, tokens_of_item, tokens_of_elements, tokens_of_others, tokens_of_element, tokens_of_all, tokens_of_stmt}
 use Rattle.nd_model.specs.Running.{Inputs, Running, Effect, Nothing, Prints, Saves, Binding, Unbinding, Storing, done}
 use Rattle.nd_model.specs.Evaluation.{Eval, Gives, run, ◌>>=◌}
-use Rattle.nd_model.specs.Operand.{Whole, ArraysOnly, Unused}
-use Rattle.nd_model.specs.Viewing.{Indexed}
+use Rattle.nd_model.specs.Operand.{Whole, Unused}
 use Rattle.nd_model.specs.Operation.{Computes, Views}
 use Rattle.nd_model.specs.Meaning as meaning
 use Rattle.nd_model.proofs.Bases.{Few, few_more, few_bind, few_run, few_plan, few_performed, few_work, at_expr, at_stmt}
-use Rattle.nd_eval.specs.Parts.{bound_exprs, exprs_in, exprs_of_element, item_value, element_value, method_value, suffix_value, values_behind, values_then, values}
+use Rattle.nd_eval.specs.Parts.{bound_exprs, choose_value, exprs_in, exprs_of_element, index_parts, item_parts, items_parts, items_then, ItemParts, method_value, suffix_value, values_behind, values_then, values}
 use Rattle.nd_eval.specs.Suffixes.{suffix_tokens}
 
 few_value : (e : Expr) → Few (meaning.value e) (tokens_of e)
 few_value e = few_more (meaning.value e) _ _ (at_expr e) (few_plan (meaning.plan e))
-
-few_item : (x : Index) → Few (item_value x) (tokens_of_index x)
-few_item (Items (AndItem (At e) NoItem)) = few_more (meaning.value e) (tokens_of e) _ (omega arith) (few_value e)
-few_item x = tt
 
 few_then : {A : Type 0} (es : List Expr) (go : List Value → Eval A) (n : ℕ) → ((vs : List Value) → Few (go vs) n) → Few (values_then es go) (tokens_of_all es + n)
 few_then [] go n h = few_more (go []) n _ (omega arith) (h [])
@@ -58,10 +53,48 @@ few_method Copy v = few_performed (Computes (meaning.one copy_array)) ((Whole, v
 few_method (AsType t) v = few_performed (Computes (meaning.one (astype t))) ((Whole, v) ∷ [])
 few_method m v = tt
 
+pub step_more : (b : Bound) → tokens_of_bound b ≤ tokens_of_step b
+step_more Omitted = omega arith
+step_more (Given e) = omega arith
+
+few_item : (x : IndexItem) → Few (item_parts x) (tokens_of_item x)
+few_item (At e) = few_more (item_parts (At e)) (tokens_of e + 0) _ (omega arith) (few_bind (meaning.value e) _ (tokens_of e) 0 (few_value e) (λ v. tt))
+few_item (Slice a b c) =
+    few_more (item_parts (Slice a b c)) (tokens_of_bound a + (tokens_of_bound b + (tokens_of_bound c + 0))) _ (omega (arith, step_more c))
+    (few_bind (values (bound_exprs a)) _ (tokens_of_bound a) (tokens_of_bound b + (tokens_of_bound c + 0)) (few_bound a)
+    (λ xs. few_bind (values (bound_exprs b)) _ (tokens_of_bound b) (tokens_of_bound c + 0) (few_bound b)
+    (λ ys. few_bind (values (bound_exprs c)) _ (tokens_of_bound c) 0 (few_bound c) (λ zs. tt))))
+few_item Ellipsis = tt
+few_item NewAxis = tt
+few_item (Listed es) = tt
+
+pub next_item_parts : (i : Inputs) (x : IndexItem) (r s : Running) (o : Result ItemParts Fault) → run i (item_parts x) r ≡ (o, s) → s.next ≤ r.next + tokens_of_item x
+next_item_parts i x r s o h = ended_next i (item_parts x) (tokens_of_item x) r s o (few_item x) h
+
+few_items : {A : Type 0} (is : IndexItems) (go : List ItemParts → Eval A) → ((xs : List ItemParts) → Few (go xs) 0) → Few (items_then is go) (tokens_of_items is)
+few_items NoItem go h = h []
+few_items (AndItem i is) go h =
+    few_more (items_then (AndItem i is) go) (tokens_of_item i + tokens_of_items is) _ (omega arith)
+    (few_bind (item_parts i) _ (tokens_of_item i) (tokens_of_items is) (few_item i) (λ x. few_items is (λ xs. go (x ∷ xs)) (λ xs. h (x ∷ xs))))
+
+-- items with a comma before each
+pub few_of_items : (is : IndexItems) → tokens_of_items is ≤ tokens_of_index (Items is) + 1
+few_of_items NoItem = omega arith
+few_of_items (AndItem i is) = omega arith
+
+few_all_items : (is : IndexItems) → Few (items_parts is) (tokens_of_index (Items is))
+few_all_items NoItem = tt
+few_all_items (AndItem i is) = few_bind (item_parts i) _ (tokens_of_item i) (tokens_of_items is) (few_item i) (λ x. few_items is (λ xs. Gives (x ∷ xs)) (λ xs. tt))
+
+few_index : (x : Index) → Few (index_parts x) (tokens_of_index x)
+few_index (Field n) = tt
+few_index (Items is) =
+    few_more (index_parts (Items is)) (tokens_of_index (Items is) + 0) _ (omega arith) (few_bind (items_parts is) _ (tokens_of_index (Items is)) 0 (few_all_items is) (λ xs. tt))
+
 few_suffix : (x : Suffix) (v : Value) → Few (suffix_value x v) (suffix_tokens x)
 few_suffix (AtIndex x) v =
-    few_more (item_value x >>= element_value v) (tokens_of_index x + 1) _ (omega arith)
-    (few_bind (item_value x) (element_value v) (tokens_of_index x) 1 (few_item x) (λ w. few_performed (Views Indexed) ((Unused, v) ∷ (ArraysOnly, w) ∷ [])))
+    few_more (index_parts x >>= choose_value v) (tokens_of_index x + 1) _ (omega arith)
+    (few_bind (index_parts x) (choose_value v) (tokens_of_index x) 1 (few_index x) (λ p. few_performed (Views p.0) ((Unused, v) ∷ p.1)))
 few_suffix (OfMethod m) v = few_more (method_value m v) 1 _ (omega arith) (few_method m v)
 
 pub next_at_suffix : (i : Inputs) (x : Suffix) (v : Value) (r s : Running) (o : Result Value Fault) → run i (suffix_value x v) r ≡ (o, s) → s.next ≤ r.next + suffix_tokens x

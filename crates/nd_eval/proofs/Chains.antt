@@ -1,7 +1,8 @@
 -- An evaluation after another, and what is worked out after another.
-use Rattle.std.proofs.Common.{◌≡◌, Result, Ok, Err, IsErrAnd, sym, ap, ◌∙◌, subst}
+use Rattle.std.proofs.Common.{◌≡◌, Result, Ok, Err, IsErrAnd, refl, sym, ap, ◌∙◌, subst}
 use Rattle.std.proofs.lemmas.Result.{err_from_is_err_and}
 use Rattle.nd_model.specs.Fault.{Fault}
+use Rattle.nd_model.specs.Refusing as refusing
 use Rattle.nd_model.specs.Running.{Running, Inputs}
 use Rattle.nd_model.specs.Evaluation.{Eval, run, ◌>>=◌, decide}
 use Rattle.nd_model.proofs.Steps.{goes_on, run_bind}
@@ -64,3 +65,9 @@ exits_making v w i t f r e o is h = exits v w i (decide t) f r r e o is (made_en
 pub goes_making : {A B X : Type 0} (v : X → A) (i : Inputs) (t : Result A Fault) (f : A → Eval B) (r : Running) (x : X)
     → Makes v (Ok x) t → run i (decide t >>= f) r ≡ run i (f (v x)) r
 goes_making v i t f r x first = goes v i (decide t) f r r x (ap (λ t. run i (decide t) r) first)
+
+-- what is made of a result, once it is decided
+pub decided_later : {A B C : Type 0} (i : Inputs) (m : Result A Fault) (f : A → B) (k : B → Eval C) (r : Running)
+    → run i (decide (refusing.◌>>=◌ m (λ x. Ok (f x))) >>= k) r ≡ run i (decide m >>= λ x. k (f x)) r
+decided_later i (Ok x) f k r = refl
+decided_later i (Err e) f k r = refl

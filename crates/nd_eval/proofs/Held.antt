@@ -1,6 +1,7 @@
 -- Arrays that an evaluation finds lie in their blocks.
-use Rattle.std.proofs.Common.{◌≡◌, ℕ, cond, true, false, List, [], ◌∷◌, map, length, Result, Ok, Err, refl, sym, ap, subst, ◌∙◌, arith}
+use Rattle.std.proofs.Common.{◌≡◌, ℕ, cond, true, false, List, [], ◌∷◌, ◌++◌, map, length, Result, Ok, Err, refl, sym, ap, subst, ◌∙◌, arith}
 use Rattle.std.specs.Prelude.{bytes_eq}
+use Rattle.std.specs.List.{flat_map}
 use Rattle.std.proofs.lemmas.List.Elements.{All-nil, All-cons, All-head, All-tail}
 use Rattle.nd_model.specs.View.{Geo, byte_places}
 use Rattle.nd_model.specs.Value as model
@@ -9,24 +10,27 @@ use Rattle.nd_model.specs.Session as session
 use Rattle.nd_model.specs.Session.{Names}
 use Rattle.nd_model.specs.Fault.{Fault}
 use Rattle.nd_model.specs.Running.{Running, Inputs, Use, reply, after, Effect, Nothing, Prints, Saves, Binding, Unbinding, Storing, done}
-use Rattle.nd_model.specs.Syntax.{Expr, Method, Copy, AsType, Index, Items, AndItem, NoItem, At, Stmt, Bind}
+use Rattle.nd_model.specs.Syntax.{Expr, Bound, Method, Copy, AsType, Index, Field, Items, IndexItems, IndexItem, AndItem, NoItem, At, Slice, Ellipsis, NewAxis, Listed, Stmt, Bind}
 use Rattle.nd_model.specs.Evaluation.{Eval, Gives, Refuses, Asks, run}
-use Rattle.nd_model.specs.Operand.{BindsFirst, Whole, ArraysOnly, Unused}
+use Rattle.nd_model.specs.Operand.{BindsFirst, Usage, Whole, Unused}
 use Rattle.nd_model.specs.Cells.{Suffix, AtIndex, OfMethod}
 use Rattle.nd_model.specs.Creation.{copy_array, astype}
-use Rattle.nd_model.specs.Viewing.{Indexed}
 use Rattle.nd_model.specs.Operation.{Computes, Views, act_on}
 use Rattle.nd_model.specs.Meaning as meaning
 use Rattle.nd_model.specs.Cell.{had}
 use Rattle.nd_model.specs.Sound.{LiesIn, IsViewOf, AreViewsOf, IsHeldView, IsSound}
 use Rattle.nd_model.proofs.Growing.{Grows, stays, grows_on, grows_after, grows_run}
 use Rattle.nd_model.proofs.Steps.{goes_on, run_bind}
-use Rattle.nd_model.proofs.Soundness.{Safe, safe_bind, safe_performed, IfGiven, given_run, stays_sound}
+use Rattle.nd_model.proofs.Soundness.{AllV as AreHeldValues, Safe, safe_bind, safe_performed, IfGiven, given_run, stays_sound}
 use Rattle.nd_heap.specs.declared.value.Value.{Value}
 use Rattle.nd_heap.specs.declared.value.Value.TheVariants.{Number, Array, Row}
 use Rattle.nd_heap.specs.Values.{base_of, geo_of, value_of}
-use Rattle.nd_eval.specs.Parts.{item_value, element_value, method_value, suffix_value, values, values_then}
-use Rattle.nd_eval.specs.Uses.{IsHeld, AreHeld, IsHeldEffect, marked, item_marked, all_marked}
+use Rattle.nd_operation.specs.declared.indexes.ItemValue.{ItemValue}
+use Rattle.nd_operation.specs.declared.indexes.ItemValue.TheVariants as item
+use Rattle.nd_operation.specs.declared.indexes.IndexValue.{IndexValue}
+use Rattle.nd_operation.specs.declared.indexes.IndexValue.TheVariants as index
+use Rattle.nd_eval.specs.Parts.{bound_exprs, choose_value, index_parts, item_parts, items_parts, items_then, method_value, suffix_value, unused, values, values_then, IndexParts, ItemParts}
+use Rattle.nd_eval.specs.Uses.{IsHeld, AreHeld, IsHeldEffect, marked, item_marked, items_marked, index_marked, all_marked}
 use Rattle.nd_eval.proofs.Parts.{binding_parts}
 
 -- ---- what is held stays held
@@ -78,8 +82,19 @@ grows_item (Number n) r = stays r
 grows_item (Array a) r = grows_after (Use (base_of a.base) (byte_places (geo_of a))) r
 grows_item (Row a) r = stays r
 
-pub held_item_marked : (w v : Value) (r s : Running) → s ≡ item_marked w r → IsHeld r v → IsHeld s v
-held_item_marked w v r s mark held = rw mark (value_grows r (item_marked w r) (grows_item w r) (value_of v) held)
+grows_items : (xs : List ItemValue) (r : Running) → Grows r (items_marked xs r)
+grows_items [] r = stays r
+grows_items (item.At v ∷ xs) r = grows_on r (item_marked v r) (items_marked xs (item_marked v r)) (grows_item v r) (grows_items xs (item_marked v r))
+grows_items (item.Slice a b c ∷ xs) r = grows_items xs r
+grows_items (item.Ellipsis ∷ xs) r = grows_items xs r
+grows_items (item.NewAxis ∷ xs) r = grows_items xs r
+
+grows_index : (x : IndexValue) (r : Running) → Grows r (index_marked x r)
+grows_index (index.Field n) r = stays r
+grows_index (index.Items xs) r = grows_items xs.items r
+
+pub held_index_marked : (x : IndexValue) (v : Value) (r s : Running) → s ≡ index_marked x r → IsHeld r v → IsHeld s v
+held_index_marked x v r s mark held = rw mark (value_grows r (index_marked x r) (grows_index x r) (value_of v) held)
 
 pub held_marked : (w v : Value) (r s : Running) → s ≡ marked w r → IsHeld r v → IsHeld s v
 held_marked w v r s mark held = rw mark (value_grows r (marked w r) (grows_marked w r) (value_of v) held)
@@ -123,14 +138,6 @@ value_held i e r s v found sound = value_found i e r s (value_of v) sound found
 
 no_value : {A : Type 0} {f : Fault} {v : A} {r s : Running} → ◌≡◌ {A = Result A Fault × Running} (Err f, r) (Ok v, s) → ⊥
 no_value {A} {f} {v} {r} {s} h = let same : ◌≡◌ {A = Result A Fault} (Err f) (Ok v) = ap (λ (m : Result A Fault × Running). m.0) h in absurd (cc)
-
-item_found : (i : Inputs) (x : Index) (r s : Running) (v : model.Value) → IsSound r → run i (item_value x) r ≡ (Ok v, s) → V s v
-item_found i (Items (AndItem (At e) NoItem)) r s v sound found = value_found i e r s v sound found
-item_found i x r s v sound found = absurd (no_value found)
-
--- the value of an index
-pub item_held : (i : Inputs) (x : Index) (r s : Running) (v : Value) → run i (item_value x) r ≡ (Ok (value_of v), s) → IsSound r → IsHeld s v
-item_held i x r s v found sound = item_found i x r s (value_of v) sound found
 
 -- the value that a statement binds
 pub effect_held : (i : Inputs) (t : Stmt) (e : Effect) (r s : Running) → run i (meaning.meaning t) r ≡ (Ok e, s) → IsSound r → IsHeldEffect s e
@@ -177,9 +184,58 @@ values_held i es r s vs found sound =
 
 -- ---- what an index or a method gives
 
-safe_item : (i : Inputs) (r : Running) (x : Index) → IsSound r → Safe V i r (item_value x)
-safe_item i r (Items (AndItem (At e) NoItem)) sound = safe_value i r e sound
-safe_item i r x sound = tt
+-- the values of an index
+abbrev P : Running → IndexParts → Type 0
+P r x = AreHeldValues r x.1
+
+all_unused : (r : Running) (vs : List model.Value) → AllV r vs → AreHeldValues r (unused vs)
+all_unused r [] h = tt
+all_unused r (v ∷ vs) h = (h.0, all_unused r vs h.1)
+
+all_together : (r : Running) (xs ys : List model.Value) → AllV r xs → AllV r ys → AllV r (xs ++ ys)
+all_together r [] ys h k = k
+all_together r (x ∷ xs) ys h k = (h.0, all_together r xs ys h.1 k)
+
+all_behind : (r : Running) (vs ws : List (Usage × model.Value)) → AreHeldValues r vs → AreHeldValues r ws → AreHeldValues r (vs ++ ws)
+all_behind r [] ws h k = k
+all_behind r (v ∷ vs) ws h k = (h.0, all_behind r vs ws h.1 k)
+
+all_grow : (x y : Running) → Grows x y → (vs : List model.Value) → AllV x vs → AllV y vs
+all_grow x y grows [] h = tt
+all_grow x y grows (v ∷ vs) h = (value_grows x y grows v h.0, all_grow x y grows vs h.1)
+
+held_grow : (x y : Running) → Grows x y → (vs : List (Usage × model.Value)) → AreHeldValues x vs → AreHeldValues y vs
+held_grow x y grows [] h = tt
+held_grow x y grows (v ∷ vs) h = (value_grows x y grows v.1 h.0, held_grow x y grows vs h.1)
+
+safe_bound : (i : Inputs) (r : Running) (b : Bound) → IsSound r → Safe AllV i r (values (bound_exprs b))
+safe_bound i r b sound = safe_values AllV i r (bound_exprs b) Gives sound (λ q vs g h. h)
+
+safe_item : (i : Inputs) (r : Running) (x : IndexItem) → IsSound r → Safe (λ q p. AreHeldValues q p.1) i r (item_parts x)
+safe_item i r (At e) sound = safe_bind V (λ q (p : ItemParts). AreHeldValues q p.1) i r (meaning.value e) _ (safe_value i r e sound) (λ q v g h. (h, tt))
+safe_item i r (Slice a b c) sound =
+    safe_bind AllV (λ q (p : ItemParts). AreHeldValues q p.1) i r (values (bound_exprs a)) _ (safe_bound i r a sound)
+    (λ q xs g hx. safe_bind AllV (λ q (p : ItemParts). AreHeldValues q p.1) i q (values (bound_exprs b)) _ (safe_bound i q b (sound_grows r q g sound))
+    (λ m ys g' hy. safe_bind AllV (λ q (p : ItemParts). AreHeldValues q p.1) i m (values (bound_exprs c)) _ (safe_bound i m c (sound_grows q m g' (sound_grows r q g sound)))
+    (λ n zs g'' hz. all_unused n (xs ++ ys ++ zs) (all_together n (xs ++ ys) zs (all_together n xs ys (all_grow m n g'' xs (all_grow q m g' xs hx)) (all_grow m n g'' ys hy)) hz))))
+safe_item i r Ellipsis sound = tt
+safe_item i r NewAxis sound = tt
+safe_item i r (Listed es) sound = tt
+
+abbrev AllItems : Running → List ItemParts → Type 0
+AllItems r xs = AreHeldValues r (flat_map (λ (x : ItemParts). x.1) xs)
+
+safe_items : {A : Type 0} (Q : Running → A → Type 0) (i : Inputs) (r : Running) (is : IndexItems) (k : List ItemParts → Eval A) → IsSound r
+    → ((q : Running) (xs : List ItemParts) → Grows r q → AllItems q xs → Safe Q i q (k xs)) → Safe Q i r (items_then is k)
+safe_items Q i r NoItem k sound h = h r [] (stays r) tt
+safe_items Q i r (AndItem x is) k sound h =
+    safe_bind (λ q (p : ItemParts). AreHeldValues q p.1) Q i r (item_parts x) _ (safe_item i r x sound)
+    (λ q p g hp. safe_items Q i q is (λ xs. k (p ∷ xs)) (sound_grows r q g sound)
+    (λ m xs g' hxs. h m (p ∷ xs) (grows_on r q m g g') (all_behind m p.1 (flat_map (λ (x : ItemParts). x.1) xs) (held_grow q m g' p.1 hp) hxs)))
+
+safe_index : (i : Inputs) (r : Running) (x : Index) → IsSound r → Safe P i r (index_parts x)
+safe_index i r (Field n) sound = tt
+safe_index i r (Items is) sound = safe_bind AllItems P i r (items_parts is) _ (safe_items AllItems i r is Gives sound (λ q xs g h. h)) (λ q xs g h. h)
 
 safe_method : (i : Inputs) (r : Running) (m : Method) (v : model.Value) → V r v → Safe V i r (method_value m v)
 safe_method i r Copy v h = safe_performed i r (Computes (meaning.one copy_array)) ((Whole, v) ∷ []) (h, tt)
@@ -188,8 +244,8 @@ safe_method i r m v h = tt
 
 safe_suffix : (i : Inputs) (r : Running) (x : Suffix) (v : model.Value) → IsSound r → V r v → Safe V i r (suffix_value x v)
 safe_suffix i r (AtIndex x) v sound h =
-    safe_bind V V i r (item_value x) (element_value v) (safe_item i r x sound)
-    (λ q w g hw. safe_performed i q (Views Indexed) ((Unused, v) ∷ (ArraysOnly, w) ∷ []) (value_grows r q g v h, (hw, tt)))
+    safe_bind P V i r (index_parts x) (choose_value v) (safe_index i r x sound)
+    (λ q p g hp. safe_performed i q (Views p.0) ((Unused, v) ∷ p.1) (value_grows r q g v h, hp))
 safe_suffix i r (OfMethod m) v sound h = safe_method i r m v h
 
 pub suffix_held : (i : Inputs) (x : Suffix) (v : Value) (r s : Running) (w : Value) → run i (suffix_value x (value_of v)) r ≡ (Ok (value_of w), s) → IsSound r → IsHeld r v → IsHeld s w

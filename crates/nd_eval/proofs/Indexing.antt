@@ -12,9 +12,8 @@ use Rattle.nd_model.specs.Value.{Value}
 use Rattle.nd_model.specs.Running.{Running, Inputs}
 use Rattle.nd_model.specs.Evaluation.{Eval, Gives, Refuses, run, ◌>>=◌}
 use Rattle.nd_model.specs.Operand.{Unused}
-use Rattle.nd_model.specs.Viewing.{Indexed}
 use Rattle.nd_model.specs.Operation.{Computes, Views, perform, with_values}
-use Rattle.nd_model.specs.Meaning.{value, item_plans, unbuilt_form}
+use Rattle.nd_model.specs.Meaning.{value, index_plans, viewing_of, unbuilt_form}
 use Rattle.nd_syntax.specs.declared.tree.Expr as tree
 use Rattle.nd_syntax.specs.declared.tree.BinaryOp.{BinaryOp}
 use Rattle.nd_syntax.specs.declared.calls.DType.{DType}
@@ -24,14 +23,14 @@ use Rattle.nd_syntax.specs.declared.calls.Fill.{Fill}
 use Rattle.nd_syntax.specs.declared.tree.Suffix as suffix
 use Rattle.nd_syntax.specs.declared.tree.Index as indexes
 use Rattle.nd_syntax.specs.declared.tree.IndexItem as item
-use Rattle.nd_syntax.specs.Syntax.{expr_of, element_of, suffix_of, index_of, item_of}
+use Rattle.nd_syntax.specs.Syntax.{expr_of, bound_of, element_of, suffix_of, index_of, item_of}
 use Rattle.nd_syntax.specs.Lists.{operation_of}
 use Rattle.nd_syntax.proofs.Nodes.{call_row}
 use Rattle.nd_syntax.proofs.Chains.{row_of, postfix_is, item_row, index_is, nested_is, chain_is}
 use Rattle.nd_model.proofs.Steps.{goes_on, run_bind}
-use Rattle.nd_eval.specs.Parts.{item_value, element_value, make_value, method_value, suffix_value}
+use Rattle.nd_eval.specs.Parts.{choose_value, index_parts, make_value, method_value, suffix_value}
 use Rattle.nd_eval.specs.Suffixes.{suffix_tokens}
-use Rattle.nd_eval.proofs.Parts.{goes_same, item_with, attribute_refused}
+use Rattle.nd_eval.proofs.Parts.{goes_same, index_with, attribute_refused}
 
 -- what goes on a value, one after the other
 abbrev pub chain : Value → List Suffix → Eval Value
@@ -57,10 +56,10 @@ one_more i x xs (Ok t, r) = sym (run_bind i (suffix_value x t) (λ v. chain v xs
 one_more i x xs (Err f, r) = refl
 
 -- an index, and a method, on a value
-run_item : (i : Inputs) (e : Expr) (x : Index) (r : Running) → run i (value (Item e x)) r ≡ goes_on i (run i (value e) r) (λ t. item_value x >>= element_value t)
+run_item : (i : Inputs) (e : Expr) (x : Index) (r : Running) → run i (value (Item e x)) r ≡ goes_on i (run i (value e) r) (λ t. index_parts x >>= choose_value t)
 run_item i e x r =
-    run_bind i (value e) (λ t. with_values (item_plans x) (λ vs. perform (Views Indexed) ((Unused, t) ∷ vs))) r
-    ∙ goes_same i (run i (value e) r) _ (λ t. item_value x >>= element_value t) (λ t s. ap (λ a. run i a s) (item_with x (λ vs. perform (Views Indexed) ((Unused, t) ∷ vs))))
+    run_bind i (value e) (λ t. with_values (index_plans x) (λ vs. perform (Views (viewing_of x)) ((Unused, t) ∷ vs))) r
+    ∙ goes_same i (run i (value e) r) _ (λ t. index_parts x >>= choose_value t) (λ t s. index_with i x (λ w vs. perform (Views w) ((Unused, t) ∷ vs)) s)
 
 run_attribute : (i : Inputs) (e : Expr) (a : Method) (r : Running) → run i (value (Attribute e a)) r ≡ goes_on i (run i (value e) r) (method_value a)
 run_attribute i e Copy r = run_bind i (value e) (make_value copy_array) r
@@ -154,6 +153,7 @@ abbrev mutual
 
   pub nodes_of_item : item.IndexItem → ℕ
   nodes_of_item (item.At e) = 1 + nodes e
+  nodes_of_item (item.Slice' a b c) = 1 + nodes_in_bound a + nodes_in_bound b + nodes_in_bound c
   nodes_of_item i = 1
 
 abbrev pub nodes_of_all : List suffix.Suffix → ℕ
@@ -246,15 +246,26 @@ module _ (x : element.Element) (es : Vec element.Element Global) (same : x ≡ e
       let row = list_row (element.Nested es) in
       ap nodes_of_element same ∙ ap (λ k. 1 + k) (nodes_in_element_row row.0 row.1 ∙ ap nodes_of_elements (item.items_hidden-the_row-Element-1 es))
 
--- items that are not one expression are not built yet
-pub lone_refused : (x : item.IndexItem) → ((e : tree.Expr) → x ≡ item.At e → ⊥) → item_value (model.Items (model.AndItem (item_of x) model.NoItem)) ≡ Refuses (fault.Stmt BadArgument)
-lone_refused (item.At e) h = absurd (h e refl)
-lone_refused x h = refl
+-- a slice with its bounds
+pub slice_is : (a b c : Option tree.Expr) → item_of (item.Slice a b c) ≡ model.Slice (bound_of a) (bound_of b) (bound_of c)
+slice_is None None None = refl
+slice_is None None (Some c) = refl
+slice_is None (Some b) None = refl
+slice_is None (Some b) (Some c) = refl
+slice_is (Some a) None None = refl
+slice_is (Some a) None (Some c) = refl
+slice_is (Some a) (Some b) None = refl
+slice_is (Some a) (Some b) (Some c) = refl
 
-pub more_refused : (x : item.IndexItem) (xs : List item.IndexItem) → length xs ≢ 0 → item_value (model.Items (items_of (map item_of (x ∷ xs)))) ≡ Refuses (fault.Stmt BadArgument)
-more_refused x [] h = absurd (h refl)
-more_refused (item.At e) (y ∷ ys) h = refl
-more_refused x (y ∷ ys) h = refl
+pub nodes_of_slice : (a b c : Option tree.Expr) → nodes_of_item (item.Slice a b c) ≡ 1 + nodes_of_bound a + nodes_of_bound b + nodes_of_bound c
+nodes_of_slice None None None = refl
+nodes_of_slice None None (Some c) = refl
+nodes_of_slice None (Some b) None = refl
+nodes_of_slice None (Some b) (Some c) = refl
+nodes_of_slice (Some a) None None = refl
+nodes_of_slice (Some a) None (Some c) = refl
+nodes_of_slice (Some a) (Some b) None = refl
+nodes_of_slice (Some a) (Some b) (Some c) = refl
 
 -- ---- operators
 

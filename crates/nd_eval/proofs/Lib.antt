@@ -13,4 +13,3 @@ pub mod Operating
 pub mod Creating
 pub mod Calls
 pub mod Ranging
-pub mod Rows

@@ -9,8 +9,9 @@ use Rattle.nd_model.specs.Syntax.{Expr, Index, Bind, Assign, Delete}
 use Rattle.nd_model.specs.Evaluation.{Eval, Gives, Refuses, Asks, run, ◌>>=◌, decide}
 use Rattle.nd_model.specs.Operand.{Operand, Usage, Whole, Unused, Deed, BindsFirst, Unbinds, Writes}
 use Rattle.nd_model.specs.Operation.{Named, Plans, Done, And, evaluate, evaluate_all, act_on, do_deed, with_value, store_in}
+use Rattle.nd_model.specs.Viewing.{Viewing}
 use Rattle.nd_model.specs.Writing.{assignment_writes}
-use Rattle.nd_model.specs.Meaning.{plan, item_plans, assignment_deed, meaning}
+use Rattle.nd_model.specs.Meaning.{plan, viewing_of, index_plans, assignment_deed, meaning}
 use Rattle.nd_model.proofs.Soundness.{Safe, safe_bind, safe_operands, IfGiven, given_run}
 use Rattle.nd_operation.specs.declared.stop.Stop.{Stop}
 use Rattle.nd_eval.specs.Ends.{Ends}
@@ -55,9 +56,10 @@ writes_only : (i : Inputs) (r : Running) (vs : List (Usage × model.Value)) (m :
 writes_only i r vs (Ok ws) = quiet_with i r vs 1 (store_in ws) (quiet_store i r ws)
 writes_only i r vs (Err f) = tt
 
-quiet_deed : (i : Inputs) (r : Running) (vs : List (Usage × model.Value)) (os : List Operand) → Safe IsQuiet i r (decide (assignment_deed os) >>= do_deed vs)
-quiet_deed i r vs (v ∷ t ∷ x ∷ []) = writes_only i r vs (assignment_writes v t x)
-quiet_deed i r vs os = tt
+quiet_deed : (w : Viewing) (i : Inputs) (r : Running) (vs : List (Usage × model.Value)) (os : List Operand) → Safe IsQuiet i r (decide (assignment_deed w os) >>= do_deed vs)
+quiet_deed w i r vs [] = tt
+quiet_deed w i r vs (v ∷ []) = tt
+quiet_deed w i r vs (v ∷ t ∷ os) = writes_only i r vs (assignment_writes w v t os)
 
 quiet_act : (i : Inputs) (r : Running) (f : List Operand → Result Deed Fault) (ps : Plans) → ((q : Running) (vs : List (Usage × model.Value)) (os : List Operand) → Safe IsQuiet i q (decide (f os) >>= do_deed vs))
     → Safe IsQuiet i r (evaluate_all ps (act_on f))
@@ -81,7 +83,7 @@ module _ {Y : Type 0} (w : Y → Effect) (i : Inputs) (r s : Running) (o : Resul
       quiet w i (meaning (Bind n e)) r s o (quiet_act i r (λ os. Ok (BindsFirst n)) (And Unused (plan e) Done) (λ q vs os. quiet_with i q vs 0 (λ v. Gives (Binding n v)) (λ v. tt))) h
 
   pub quiet_assignment : (t : Expr) (x : Index) (e : Expr) → Ends w o s (run i (meaning (Assign t x e)) r) → Ends w o s (limit_effect (run i (meaning (Assign t x e)) r))
-  quiet_assignment t x e h = quiet w i (meaning (Assign t x e)) r s o (quiet_act i r assignment_deed (And Whole (plan e) (And Unused (plan t) (item_plans x))) (quiet_deed i)) h
+  quiet_assignment t x e h = quiet w i (meaning (Assign t x e)) r s o (quiet_act i r (assignment_deed (viewing_of x)) (And Whole (plan e) (And Unused (plan t) (index_plans x))) (quiet_deed (viewing_of x) i)) h
 
   pub quiet_deletion : (n : List ℕ) → Ends w o s (run i (meaning (Delete n)) r) → Ends w o s (limit_effect (run i (meaning (Delete n)) r))
   quiet_deletion n h = quiet w i (meaning (Delete n)) r s o (quiet_act i r (λ os. Ok (Unbinds n)) (And Unused (Named n) Done) (λ q vs os. tt)) h

@@ -1,22 +1,19 @@
 -- Parts of the meaning, as the functions work them out.
 use Rattle.std.specs.Prelude.{List, [], ◌∷◌, ◌++◌, map, Option, Result}
+use Rattle.std.specs.List.{flat_map}
 use Rattle.nd_model.specs.Value.{Value}
 use Rattle.nd_model.specs.Running.{Effect}
 use Rattle.nd_model.specs.Fault.{Fault, Stmt, BadArgument}
 use Rattle.nd_model.specs.Calls.{Fill, DType}
 use Rattle.nd_model.specs.Creation.{arange, array_of_list, astype, copy_array, filled, full}
-use Rattle.nd_model.specs.Syntax.{Expr, Bound, Omitted, Given, Elements, NoElement, AndElement, Element, Single, Nested, Method, Copy, AsType, Index, Items, AndItem, NoItem, At}
+use Rattle.nd_model.specs.Syntax.{Expr, Bound, Omitted, Given, Elements, NoElement, AndElement, Element, Single, Nested, Method, Copy, AsType, Index, Field, Items, IndexItems, IndexItem, AndItem, NoItem, At, Slice, Ellipsis, NewAxis, Listed}
 use Rattle.nd_model.specs.Cells.{Suffix, AtIndex, OfMethod}
 use Rattle.nd_model.specs.Evaluation.{Eval, Gives, Refuses, ◌>>=◌}
 use Rattle.nd_model.specs.Operand.{Operand, Usage, Whole, ArraysOnly, Unused, Made}
-use Rattle.nd_model.specs.Viewing.{Indexed}
+use Rattle.nd_model.specs.Index.{Form, AtForm, SliceForm, EllipsisForm, NewAxisForm}
+use Rattle.nd_model.specs.Viewing.{Viewing, Indexed, Fielded}
 use Rattle.nd_model.specs.Operation.{Computes, Views, perform, act_on}
 use Rattle.nd_model.specs.Meaning.{is_given, one, two, value, assignment_deed}
-
--- an index of one expression; the other ones are not built yet
-abbrev pub item_value : Index → Eval Value
-item_value (Items (AndItem (At e) NoItem)) = value e
-item_value x = Refuses (Stmt BadArgument)
 
 -- what is computed of one value
 abbrev pub make_value : (Operand → Result Made Fault) → Value → Eval Value
@@ -44,19 +41,6 @@ binary_value f v e = value e >>= λ w. operate f v w
 abbrev pub value_of_two : (Operand → Operand → Result Made Fault) → Expr → Expr → Eval Value
 value_of_two f a b = value a >>= λ v. binary_value f v b
 
--- `t[i]`
-abbrev pub element_value : Value → Value → Eval Value
-element_value t i = perform (Views Indexed) ((Unused, t) ∷ (ArraysOnly, i) ∷ [])
-
--- what goes on a value: an index or a method
-abbrev pub suffix_value : Suffix → Value → Eval Value
-suffix_value (AtIndex x) v = item_value x >>= element_value v
-suffix_value (OfMethod m) v = method_value m v
-
--- `t[i] = v`
-abbrev pub assignment : Value → Value → Value → Eval Effect
-assignment v t i = act_on assignment_deed ((Whole, v) ∷ (Unused, t) ∷ (ArraysOnly, i) ∷ [])
-
 -- values of expressions from left to right, and then it goes on
 abbrev pub values_then : {A : Type 0} → List Expr → (List Value → Eval A) → Eval A
 values_then [] go = go []
@@ -65,16 +49,66 @@ values_then (e ∷ es) go = value e >>= λ v. values_then es (λ vs. go (v ∷ v
 abbrev pub values : List Expr → Eval (List Value)
 values es = values_then es Gives
 
--- values behind others
-abbrev pub values_behind : List Value → List Expr → Eval (List Value)
-values_behind vs es = values_then es (λ ws. Gives (vs ++ ws))
-
 -- values that are used whole, and values that are not used
 abbrev pub wholes : List Value → List (Usage × Value)
 wholes vs = map (λ v. (Whole, v)) vs
 
 abbrev pub unused : List Value → List (Usage × Value)
 unused vs = map (λ v. (Unused, v)) vs
+
+-- an expression that may be left out
+abbrev pub bound_exprs : Bound → List Expr
+bound_exprs Omitted = []
+bound_exprs (Given e) = e ∷ []
+
+-- ---- indexes
+
+-- how an item is written, and the values of its expressions with how they are used
+abbrev pub ItemParts : Type 0
+ItemParts = Form × List (Usage × Value)
+
+abbrev pub item_parts : IndexItem → Eval ItemParts
+item_parts (At e) = value e >>= λ v. Gives (AtForm, (ArraysOnly, v) ∷ [])
+item_parts (Slice a b c) = values (bound_exprs a) >>= λ xs. values (bound_exprs b) >>= λ ys. values (bound_exprs c) >>= λ zs. Gives (SliceForm (is_given a) (is_given b) (is_given c), unused (xs ++ ys ++ zs))
+item_parts Ellipsis = Gives (EllipsisForm, [])
+item_parts NewAxis = Gives (NewAxisForm, [])
+item_parts (Listed es) = Refuses (Stmt BadArgument)
+
+-- from left to right, and then it goes on
+abbrev pub items_then : {A : Type 0} → IndexItems → (List ItemParts → Eval A) → Eval A
+items_then NoItem go = go []
+items_then (AndItem i is) go = item_parts i >>= λ x. items_then is (λ xs. go (x ∷ xs))
+
+abbrev pub items_parts : IndexItems → Eval (List ItemParts)
+items_parts is = items_then is Gives
+
+-- what an index says, and the values of its expressions
+abbrev pub IndexParts : Type 0
+IndexParts = Viewing × List (Usage × Value)
+
+abbrev pub parts_of_items : List ItemParts → IndexParts
+parts_of_items xs = (Indexed (map (λ (x : ItemParts). x.0) xs), flat_map (λ (x : ItemParts). x.1) xs)
+
+abbrev pub index_parts : Index → Eval IndexParts
+index_parts (Field n) = Gives (Fielded n, [])
+index_parts (Items is) = items_parts is >>= λ xs. Gives (parts_of_items xs)
+
+-- `t[..]`
+abbrev pub choose_value : Value → IndexParts → Eval Value
+choose_value t x = perform (Views x.0) ((Unused, t) ∷ x.1)
+
+-- what goes on a value: an index or a method
+abbrev pub suffix_value : Suffix → Value → Eval Value
+suffix_value (AtIndex x) v = index_parts x >>= choose_value v
+suffix_value (OfMethod m) v = method_value m v
+
+-- `t[..] = v`
+abbrev pub assignment : Value → Value → IndexParts → Eval Effect
+assignment v t x = act_on (assignment_deed x.0) ((Whole, v) ∷ (Unused, t) ∷ x.1)
+
+-- values behind others
+abbrev pub values_behind : List Value → List Expr → Eval (List Value)
+values_behind vs es = values_then es (λ ws. Gives (vs ++ ws))
 
 -- `np.zeros`, `np.ones`
 abbrev pub filled_value : Fill → List Expr → Option DType → Eval Value
@@ -97,11 +131,6 @@ abbrev mutual
 -- `np.array` of a list
 abbrev pub list_value : Element → Option DType → Eval Value
 list_value x t = values (exprs_of_element x) >>= λ vs. perform (Computes (array_of_list x t)) (wholes vs)
-
--- an expression that may be left out
-abbrev pub bound_exprs : Bound → List Expr
-bound_exprs Omitted = []
-bound_exprs (Given e) = e ∷ []
 
 -- `np.arange`
 abbrev pub range_value : Bound → Expr → Bound → Option DType → Eval Value

@@ -9,6 +9,10 @@ use Rattle.nd_model.specs.Sound.{IsHeldView, IsViewOf}
 use Rattle.nd_heap.specs.declared.value.Value.{Value}
 use Rattle.nd_heap.specs.declared.value.Value.TheVariants.{Number, Array, Row}
 use Rattle.nd_heap.specs.Values.{base_of, geo_of, value_of}
+use Rattle.nd_operation.specs.declared.indexes.ItemValue.{ItemValue}
+use Rattle.nd_operation.specs.declared.indexes.ItemValue.TheVariants as item
+use Rattle.nd_operation.specs.declared.indexes.IndexValue.{IndexValue}
+use Rattle.nd_operation.specs.declared.indexes.IndexValue.TheVariants as index
 use Rattle.nd_operation.specs.Contents.{num_of, elements_over}
 
 -- an array lies in its block
@@ -38,6 +42,16 @@ abbrev pub item_marked : Value → Running → Running
 item_marked (Number n) r = r
 item_marked (Array a) r = after (Use (base_of a.base) (byte_places (geo_of a))) r
 item_marked (Row a) r = r
+
+-- the arrays among the items of an index, from left to right; the bounds of slices are not used
+abbrev pub items_marked : List ItemValue → Running → Running
+items_marked [] r = r
+items_marked (item.At v ∷ xs) r = items_marked xs (item_marked v r)
+items_marked (x ∷ xs) r = items_marked xs r
+
+abbrev pub index_marked : IndexValue → Running → Running
+index_marked (index.Field n) r = r
+index_marked (index.Items xs) r = items_marked xs.items r
 
 -- one value after another
 abbrev pub all_marked : List Value → Running → Running

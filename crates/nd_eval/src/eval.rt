@@ -6,11 +6,12 @@ ghost use Rattle.nd_model.specs.Evaluation as evaluation;
 ghost use Rattle.nd_model.specs.Meaning as meaning;
 ghost use Rattle.nd_model.specs.Meaning.{is_given};
 ghost use Rattle.nd_model.specs.Operation as operation;
-ghost use Rattle.nd_model.specs.Syntax.{Called, Items, AndItem, NewArray, NoItem};
+ghost use Rattle.nd_model.specs.Syntax.{Called, Items, NewArray};
 ghost use Rattle.nd_model.specs.Tokens.{tokens_of, tokens_of_call, tokens_of_index, tokens_of_item, tokens_of_all, tokens_of_bound, tokens_of_element};
 ghost use Rattle.nd_syntax.specs.Lists.{operation_of};
 ghost use Rattle.nd_syntax.specs.Syntax.{bound_of, expr_of, call_of, element_of, index_of, item_of, method_of, suffix_of};
 ghost use Rattle.nd_heap.specs.Values.{value_of};
+ghost use Rattle.nd_eval.specs.Contents as contents;
 ghost use Rattle.nd_eval.specs.Contents.{option_values, values_of};
 ghost use Rattle.nd_eval.specs.Ends.{Evaluates, session_of};
 ghost use Rattle.nd_eval.specs.Uses.{IsHeld};
@@ -24,10 +25,10 @@ ghost use Rattle.nd_operation.specs.declared.fault.StmtFault.TheVariants.{Stmt};
 ghost use Rattle.nd_operation.specs.declared.fault.StmtError.TheVariants.{BadArgument};
 
 use crate::evaluator::Evaluator;
-use crate::operation::{mark_item, mark_operand, mark_operands, operand_in};
+use crate::operation::{mark_index, mark_operand, mark_operands, operand_in};
 use nd_operation::{
-    OfOne, OfTwo, StmtError, StmtFault, Stop, apply_binary, index_array, make_filled, make_full,
-    make_list, make_of_one, make_range,
+    IndexValue, ItemValue, OfOne, OfTwo, StmtError, StmtFault, Stop, apply_binary, choose,
+    make_filled, make_full, make_list, make_of_one, make_range,
 };
 use nd_session::Value;
 use nd_syntax::{BinaryOp, Call, DType, Element, Expr, Fill, Index, IndexItem, Method, Suffix};
@@ -365,70 +366,80 @@ impl Evaluator<'_> {
     fn index_into(&mut self, found: &Value, index: &Index) -> Result<Value, Stop>
         requires { (session_of self.old).next + tokens_of_index (index_of index.now) < 2 ^ 64 }
         ensures { Evaluates value_of result self.old
-            (evaluation.◌>>=◌ (parts.item_value (index_of index.now))
-            (parts.element_value (value_of found.now))) self.new }
+            (evaluation.◌>>=◌ (parts.index_parts (index_of index.now))
+            (parts.choose_value (value_of found.now))) self.new }
     {
-        self.session.soundness();
-        let item = self.item_value(index)?;
-        self.element_value(found, &item)
+        let index = self.index_value(index)?;
+        self.choose_value(found, &index)
     }
 
-    /// The element of a value at an index.
-    fn element_value(&mut self, target: &Value, item: &Value) -> Result<Value, Stop>
-        requires { IsHeld (session_of self.old) item.now }
-        ensures { Evaluates value_of result self.old
-            (parts.element_value (value_of target.now) (value_of item.now)) self.new }
-    {
-        mark_item(self.session, item)?;
-        let Value::Array(array) = target else {
-            return Err(Stop::Refused(StmtFault::Stmt(StmtError::NotAnArray)));
-        };
-        let place = index_array(&array.view, &operand_in(self.session, item))?;
-        self.element_of(array, place)
-    }
-
-    /// The value of what stands in the brackets of an index.
+    /// An index with the values of its expressions.
     #[cycle(value)]
-    pub(crate) fn item_value(&mut self, index: &Index) -> Result<Value, Stop>
+    pub(crate) fn index_value<'n>(&mut self, index: &'n Index) -> Result<IndexValue<'n>, Stop>
         requires { (session_of self.old).next + tokens_of_index (index_of index.now) < 2 ^ 64 }
-        ensures { Evaluates value_of result self.old
-            (parts.item_value (index_of index.now)) self.new }
+        ensures { Evaluates contents.index_of result self.old
+            (parts.index_parts (index_of index.now)) self.new }
     {
         match index {
-            Index::Items(items) => self.only_item(items),
-            _ => Err(unbuilt_form()),
+            Index::Field(name) => Ok(IndexValue::Field(name.as_str())),
+            Index::Items(items) => {
+                let items = self.item_values(items)?;
+                Ok(IndexValue::Items(items))
+            }
         }
     }
 
-    /// The value of the only item, if there is one.
+    /// Items of an index with the values of their expressions, from left to right.
     #[cycle(value)]
-    fn only_item(&mut self, items: &[IndexItem]) -> Result<Value, Stop>
+    fn item_values(&mut self, items: &[IndexItem]) -> Result<Vec<ItemValue>, Stop>
         requires { (session_of self.old).next
             + tokens_of_index (Items (items_of (map item_of items.now))) < 2 ^ 64 }
-        ensures { Evaluates value_of result self.old
-            (parts.item_value (Items (items_of (map item_of items.now)))) self.new }
+        ensures { Evaluates contents.items_of result self.old
+            (parts.items_parts (items_of (map item_of items.now))) self.new }
     {
-        match items.split_first() {
-            Some((item, rest)) => {
-                if !rest.is_empty() {
-                    return Err(unbuilt_form());
-                }
-                self.lone_item(item)
+        let mut values = Vec::new(self.session.allocator());
+        for item in items {
+            let found = self.item_value(item)?;
+            values.push(found)?;
+        }
+        Ok(values)
+    }
+
+    /// An item of an index with the values of its expressions. A list is not built yet.
+    #[cycle(value)]
+    fn item_value(&mut self, item: &IndexItem) -> Result<ItemValue, Stop>
+        requires { (session_of self.old).next + tokens_of_item (item_of item.now) < 2 ^ 64 }
+        ensures { Evaluates contents.item_of result self.old
+            (parts.item_parts (item_of item.now)) self.new }
+    {
+        match item {
+            IndexItem::At(expr) => {
+                let value = self.value(expr)?;
+                Ok(ItemValue::At(value))
             }
-            None => Err(unbuilt_form()),
+            IndexItem::Slice(start, stop, step) => {
+                let start = self.bound_value(start)?;
+                let stop = self.bound_value(stop)?;
+                let step = self.bound_value(step)?;
+                Ok(ItemValue::Slice { start, stop, step })
+            }
+            IndexItem::Ellipsis => Ok(ItemValue::Ellipsis),
+            IndexItem::NewAxis => Ok(ItemValue::NewAxis),
+            IndexItem::List(_) => Err(unbuilt_form()),
         }
     }
 
-    /// The value of the item, if it is an expression.
-    #[cycle(value)]
-    fn lone_item(&mut self, item: &IndexItem) -> Result<Value, Stop>
-        requires { (session_of self.old).next + tokens_of_item (item_of item.now) < 2 ^ 64 }
+    /// What an index chooses of a value.
+    fn choose_value(&mut self, target: &Value, index: &IndexValue<'_>) -> Result<Value, Stop>
         ensures { Evaluates value_of result self.old
-            (parts.item_value (Items (AndItem (item_of item.now) NoItem))) self.new }
+            (parts.choose_value (value_of target.now) (contents.index_of index.now)) self.new }
     {
-        match item {
-            IndexItem::At(expr) => self.value(expr),
-            _ => Err(unbuilt_form()),
+        mark_index(self.session, index)?;
+        let chosen = choose(self.session.allocator(), target, index)?;
+        match target {
+            Value::Number(_) => Err(Stop::Refused(StmtFault::Stmt(StmtError::NotAnArray))),
+            Value::Array(array) => self.chosen_value(array, chosen),
+            Value::Row(row) => self.chosen_value(row, chosen),
         }
     }
 

@@ -12,6 +12,7 @@ ghost use Rattle.nd_session.specs.Values.{inputs_of};
 ghost use Rattle.nd_session.specs.Live.{live};
 ghost use Rattle.nd_eval.specs.Ends.{Ends, Evaluates, EvaluatesInLimit, session_of};
 ghost use Rattle.nd_operation.specs.Contents.{writes_of};
+ghost use Rattle.nd_eval.specs.Contents as contents;
 ghost use Rattle.nd_eval.specs.Contents.{effect_of};
 ghost use Rattle.nd_eval.specs.Done.{output_of, outcome_of};
 ghost use Rattle.nd_model.specs.Cell.{limit_text};
@@ -23,9 +24,11 @@ ghost use Rattle.nd_model.specs.Evaluation.{run};
 use crate::effect::Effect;
 use crate::eval::unbuilt_form;
 use crate::evaluator::Evaluator;
-use crate::operation::{mark_item, mark_operand, mark_operands, operand_in, operands_in};
+use crate::operation::{mark_index, mark_operand, mark_operands, operand_in, operands_in};
 use nd_block::push_bytes;
-use nd_operation::{ElementWrite, StmtError, StmtFault, Stop, assignment_write, print_line};
+use nd_operation::{
+    ElementWrite, IndexValue, StmtError, StmtFault, Stop, assignment_write, print_line,
+};
 use nd_session::{Base, Inputs, OutOfMemory, Session, Value};
 use nd_syntax::{Expr, Index, Stmt};
 
@@ -49,42 +52,40 @@ impl Evaluator<'_> {
     }
 
     /// What an assignment of these values comes to.
-    fn assign(&mut self, value: &Value, target: &Value, item: &Value) -> Result<Effect, Stop>
-        requires value { IsHeld (session_of self.old) value.now }
-        requires item { IsHeld (session_of self.old) item.now }
-        ensures { Evaluates effect_of result self.old
-            (parts.assignment (value_of value.now) (value_of target.now) (value_of item.now))
-            self.new }
+    fn assign(&mut self, value: &Value, target: &Value, index: &IndexValue<'_>) -> Result<Effect, Stop>
+        requires { IsHeld (session_of self.old) value.now }
+        ensures { Evaluates effect_of result self.old (parts.assignment (value_of value.now)
+            (value_of target.now) (contents.index_of index.now)) self.new }
     {
         mark_operand(self.session, value)?;
-        mark_item(self.session, item)?;
-        let value = operand_in(self.session, value);
-        let item = operand_in(self.session, item);
-        let write = assignment_write(&value, target, &item)?;
-        let Value::Array(array) = target else {
-            return Err(Stop::Refused(StmtFault::Stmt(StmtError::NotAnArray)));
-        };
-        Ok(Effect::Store(array.base, write))
+        mark_index(self.session, index)?;
+        let alloc = self.session.allocator();
+        let write = assignment_write(alloc, &operand_in(self.session, value), target, index)?;
+        match target {
+            Value::Number(_) => Err(Stop::Refused(StmtFault::Stmt(StmtError::NotAnArray))),
+            Value::Array(array) => Ok(Effect::Store(array.base, write)),
+            Value::Row(row) => Ok(Effect::Store(row.base, write)),
+        }
     }
 
     /// What an assignment to an element comes to: the value, the target and the index are evaluated in this order.
     fn assignment_effect(
         &mut self,
         target: &Expr,
-        item: &Index,
+        index: &Index,
         expr: &Expr,
     ) -> Result<Effect, Stop>
         requires { (session_of self.old).next + tokens_of_stmt (Assign (expr_of target.now)
-            (index_of item.now) (expr_of expr.now)) < 2 ^ 64 }
+            (index_of index.now) (expr_of expr.now)) < 2 ^ 64 }
         ensures { Evaluates effect_of result self.old
-            (meaning.meaning (Assign (expr_of target.now) (index_of item.now) (expr_of expr.now)))
+            (meaning.meaning (Assign (expr_of target.now) (index_of index.now) (expr_of expr.now)))
             self.new }
     {
         self.session.soundness();
         let written = self.value(expr)?;
         let target = self.value(target)?;
-        let item = self.item_value(item)?;
-        self.assign(&written, &target, &item)
+        let index = self.index_value(index)?;
+        self.assign(&written, &target, &index)
     }
 
     /// What a deletion comes to.
@@ -119,7 +120,7 @@ impl Evaluator<'_> {
         match stmt {
             Stmt::Import => Ok(Effect::Nothing),
             Stmt::Bind(name, expr) => self.binding_effect(name.as_str(), expr),
-            Stmt::Assign(target, item, expr) => self.assignment_effect(target, item, expr),
+            Stmt::Assign(target, index, expr) => self.assignment_effect(target, index, expr),
             Stmt::Delete(name) => self.deletion_effect(name.as_str()),
             Stmt::Print(exprs) => self.print_effect(exprs),
             _ => Err(unbuilt_form()),

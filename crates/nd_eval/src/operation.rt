@@ -1,22 +1,24 @@
 //! Operations: how values become operands, and results become values.
 
-ghost use Rattle.std.specs.Prelude.{◌≡◌, ◌+◌, ◌<◌, ◌≤◌, ◌^◌, IfOk, OnOk};
+ghost use Rattle.std.specs.Prelude.{◌≡◌, ◌+◌, ◌<◌, ◌^◌, [], IfOk, OnOk, slice_index};
 ghost use Rattle.nd_model.specs.Operation as operation;
-ghost use Rattle.nd_heap.specs.Values.{base_of, value_of};
+ghost use Rattle.nd_heap.specs.Values.{base_of, geo_of, value_of};
 ghost use Rattle.nd_session.specs.Live.{live};
-ghost use Rattle.nd_model.specs.View.{item_size};
 ghost use Rattle.nd_operation.specs.Contents.{operand_of};
 ghost use Rattle.nd_eval.specs.Contents.{operands_of};
 ghost use Rattle.nd_eval.specs.Ends.{Evaluates, session_of};
+ghost use Rattle.nd_operation.specs.Indexing.{IsOne, chosen_of};
 ghost use Rattle.nd_operation.specs.New.{given};
-ghost use Rattle.nd_eval.specs.Uses.{IsHeld, AreHeld, item_marked, marked, all_marked};
+ghost use Rattle.nd_eval.specs.Uses.{IsHeld, AreHeld, item_marked, items_marked, index_marked};
+ghost use Rattle.nd_eval.specs.Uses.{marked, all_marked};
 ghost use Rattle.nd_eval.specs.Uses.{operand_over, operands_over};
 
 use crate::evaluator::Evaluator;
 use nd_element::number_in;
-use nd_operation::{Elements, New, Operand, Stop};
-use nd_session::{Array, OutOfMemory, Session, Value};
+use nd_operation::{Chosen, Elements, IndexValue, ItemValue, New, Operand, Stop};
+use nd_session::{Array, Base, OutOfMemory, Session, Value};
 use nd_types::{ElemType, Num};
+use nd_view::View;
 use std::alloc::AllocError;
 
 /// Notes that all elements of a value are used.
@@ -33,13 +35,35 @@ pub(crate) fn mark_operand(session: &mut Session, value: &Value) -> Result<(), O
 }
 
 /// Notes that all elements of an item of an index are used, if it is an array. A row is none.
-pub(crate) fn mark_item(session: &mut Session, item: &Value) -> Result<(), OutOfMemory>
+fn mark_item(session: &mut Session, item: &Value) -> Result<(), OutOfMemory>
     ensures { OnOk result (live session.new ≡ item_marked item.now (live session.old)) }
 {
     if let Value::Array(array) = item {
         session.mark_used(array)?;
     }
     Ok(())
+}
+
+/// Notes that the arrays among the items of an index are used, from left to right.
+fn mark_items(session: &mut Session, items: &[ItemValue]) -> Result<(), OutOfMemory>
+    ensures { OnOk result (live session.new ≡ items_marked items.now (live session.old)) }
+{
+    for item in items {
+        if let ItemValue::At(value) = item {
+            mark_item(session, value)?;
+        }
+    }
+    Ok(())
+}
+
+/// Notes what an index uses.
+pub(crate) fn mark_index(session: &mut Session, index: &IndexValue<'_>) -> Result<(), OutOfMemory>
+    ensures { OnOk result (live session.new ≡ index_marked index.now (live session.old)) }
+{
+    match index {
+        IndexValue::Field(_) => Ok(()),
+        IndexValue::Items(items) => mark_items(session, items),
+    }
 }
 
 /// Notes that all elements of values are used, from left to right.
@@ -103,27 +127,41 @@ impl Evaluator<'_> {
         }
     }
 
-    /// Gives the element of an array at a place: a NumPy scalar, or a row, which uses none of its bytes.
-    pub(crate) fn element_of(&mut self, array: &Array, place: u64) -> Result<Value, Stop>
-        requires { place + item_size array.now.view.element ≤ 2 ^ 64 }
-        ensures { Evaluates value_of result self.old (operation.element_of
-            (base_of array.now.base) array.now.view.writable array.now.view.element place)
-            self.new }
+    /// Gives an element that was chosen in a base: a NumPy scalar, or a row, which uses none of its bytes.
+    fn element_value(&mut self, base: Base, view: View) -> Result<Value, Stop>
+        requires { view.shape ≡ [] }
+        ensures { Evaluates value_of result self.old (operation.element_of (base_of base)
+            view.writable view.element (slice_index view.places 0)) self.new }
     {
-        let view = &array.view;
+        // Says that there is one element, in the limits of arrays.
+        let _count = view.count();
+        let _shape = view.shape();
         match view.elem() {
             ElemType::One(elem) => {
+                let elem = *elem;
+                let place = view.place_of(0);
                 self.session
-                    .mark_element(array.base, place, &ElemType::One(*elem))?;
-                let number = number_in(self.session.bytes(array.base), place, *elem);
+                    .mark_element(base, place, &ElemType::One(elem))?;
+                let number = number_in(self.session.bytes(base), place, elem);
                 Ok(Value::Number(Num::Scalar(elem.kind(), number)))
             }
-            ElemType::Rec(_) => {
-                let view = view.element_view(place)?;
-                // Says that the row is in the limits of arrays.
+            ElemType::Rec(_) => Ok(Value::Row(Array { base, view })),
+        }
+    }
+
+    /// Gives what was chosen of an array.
+    pub(crate) fn chosen_value(&mut self, array: &Array, chosen: Chosen) -> Result<Value, Stop>
+        requires { IsOne array.now.view.writable chosen }
+        ensures { Evaluates value_of result self.old (operation.choose_in
+            (base_of array.now.base) (geo_of array.now) (chosen_of chosen)) self.new }
+    {
+        let base = array.base;
+        match chosen {
+            Chosen::Element(view) => self.element_value(base, view),
+            Chosen::View(view) => {
+                // Says that it is in the limits of arrays.
                 let _shape = view.shape();
-                let base = array.base;
-                Ok(Value::Row(Array { base, view }))
+                Ok(Value::Array(Array { base, view }))
             }
         }
     }

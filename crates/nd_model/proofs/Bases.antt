@@ -9,8 +9,8 @@ use Rattle.nd_model.specs.Fault.{Fault, ViewFault, BadArgument}
 use Rattle.nd_model.specs.Fault as fault
 use Rattle.nd_model.specs.InputName.{is_input_name}
 use Rattle.nd_model.specs.Syntax as syntax
-use Rattle.nd_model.specs.Syntax.{Expr, Call, Method, Elements, Element, Index, Stmt}
-use Rattle.nd_model.specs.Tokens.{tokens_of, tokens_of_call, tokens_of_shape, tokens_of_exprs, tokens_of_bound, tokens_of_step, tokens_of_index, tokens_of_method, tokens_of_elements, tokens_of_others, tokens_of_element, tokens_of_all, tokens_of_stmt}
+use Rattle.nd_model.specs.Syntax.{Expr, Call, Method, Elements, Element, Index, IndexItems, IndexItem, Stmt}
+use Rattle.nd_model.specs.Tokens.{tokens_of, tokens_of_call, tokens_of_shape, tokens_of_exprs, tokens_of_bound, tokens_of_step, tokens_of_index, tokens_of_items, tokens_of_item, tokens_of_method, tokens_of_elements, tokens_of_others, tokens_of_element, tokens_of_all, tokens_of_stmt}
 use Rattle.nd_model.specs.Evaluation.{Eval, Gives, Refuses, Asks, run, ◌>>=◌, decide}
 use Rattle.nd_model.specs.Operand as operand
 use Rattle.nd_model.specs.Operand.{Operand, Usage, Made, ANumber, AnArray, Chosen, AnElement, AView, ACopy, Stretched, Deed, NoDeed, PrintsText, SavesFile, BindsFirst, BindsMade, Unbinds, Writes, MakesAndWrites}
@@ -256,15 +256,23 @@ mutual
   at_bound syntax.Omitted rest = omega arith
   at_bound (syntax.Given e) rest = omega (arith, at_expr e)
 
-  pub at_index : (x : Index) → all_bases (Meaning.item_plans x) ≤ tokens_of_index x
+  pub at_index : (x : Index) → all_bases (Meaning.index_plans x) ≤ tokens_of_index x
   at_index (syntax.Field n) = omega arith
   at_index (syntax.Items syntax.NoItem) = omega arith
-  at_index (syntax.Items (syntax.AndItem (syntax.At e) syntax.NoItem)) = omega (arith, at_expr e)
-  at_index (syntax.Items (syntax.AndItem (syntax.At e) (syntax.AndItem i is))) = omega arith
-  at_index (syntax.Items (syntax.AndItem (syntax.Slice a b c) is)) = omega arith
-  at_index (syntax.Items (syntax.AndItem syntax.Ellipsis is)) = omega arith
-  at_index (syntax.Items (syntax.AndItem syntax.NewAxis is)) = omega arith
-  at_index (syntax.Items (syntax.AndItem (syntax.Listed es) is)) = omega arith
+  at_index (syntax.Items (syntax.AndItem i is)) = omega (arith, at_item i (Meaning.items_plans is), at_items is)
+
+  -- each has a comma before it
+  pub at_items : (is : IndexItems) → all_bases (Meaning.items_plans is) ≤ tokens_of_items is
+  at_items syntax.NoItem = omega arith
+  at_items (syntax.AndItem i is) = omega (arith, at_item i (Meaning.items_plans is), at_items is)
+
+  pub at_item : (i : IndexItem) (rest : Plans) → all_bases (Meaning.item_plans i rest) ≤ tokens_of_item i + all_bases rest
+  at_item (syntax.At e) rest = omega (arith, at_expr e)
+  at_item (syntax.Slice a b c) rest =
+      omega (arith, at_bound a (Meaning.bound_plans b (Meaning.bound_plans c rest)), at_bound b (Meaning.bound_plans c rest), at_bound c rest, step_more c)
+  at_item syntax.Ellipsis rest = omega arith
+  at_item syntax.NewAxis rest = omega arith
+  at_item (syntax.Listed es) rest = omega arith
 
 pub at_all : (es : List Expr) → all_bases (Meaning.whole_plans es) ≤ tokens_of_all es
 at_all [] = omega arith

@@ -1,9 +1,10 @@
 -- The view of a field lies where the view lies.
-use Rattle.std.proofs.Common.{◌≡◌, ℕ, suc, ◌+◌, ◌*◌, ◌≤◌, ◌^◌, Bool, true, false, cond, ◌||◌, List, [], ◌∷◌, length, Option, Some, None, refl, subst, ◌∙◌, arith}
-use Rattle.std.specs.Prelude.{nat_lt, bytes_eq, if◌then◌else◌}
+use Rattle.std.proofs.Common.{◌≡◌, ℕ, suc, ◌+◌, ◌*◌, ◌≤◌, ◌^◌, Bool, true, false, cond, ◌||◌, List, [], ◌∷◌, length, Option, Some, None, refl, subst, ◌∙◌, inl, inr, arith}
+use Rattle.std.specs.Prelude.{nat_lt, nat_le, bytes_eq, if◌then◌else◌}
 use Rattle.std.specs.List.{All, list_any}
 use Rattle.std.specs.Option.{option_map}
 use Rattle.std.proofs.Math.Nat.{mul-le-mul_left}
+use Rattle.std.proofs.lemmas.Bool.{cases_Bool}
 use Rattle.std.proofs.lemmas.Bool.Decides.{nat_tests}
 use Rattle.std.proofs.lemmas.List.{length-map}
 use Rattle.std.proofs.lemmas.List.Elements.{All-map, All-weaker}
@@ -12,8 +13,7 @@ use Rattle.nd_model.specs.Fault.{TooManyAxes, TooManyElements}
 use Rattle.nd_model.specs.Strides.{is_too_large, IsInLimits}
 use Rattle.nd_model.specs.Tuple.{elements_of}
 use Rattle.nd_model.specs.View.{Field, ElementType, One, Structure, Geo, item_size}
-use Rattle.nd_model.specs.Selected.{HoldsFields}
-use Rattle.nd_model.specs.Selecting.{field_in, field_of, view_of_field, field_view}
+use Rattle.nd_model.specs.Selecting.{field_in, if_inside, field_of, view_of_field, field_view}
 use Rattle.nd_model.specs.Sound.{LiesIn}
 
 -- the field that is found is one of them
@@ -45,9 +45,20 @@ within_limits size part shape le limits =
     below : (m n k : ℕ) → n ≤ k → nat_lt m k ≡ false → nat_lt m n ≡ false
     below m n k le e = grind (arith, nat_tests)
 
-found_inside : (name : List ℕ) (t : ElementType) (f : Field) → HoldsFields t → field_of name t ≡ Some f → f.at + size_of f.element.kind ≤ item_size t
-found_inside name (One e) f holds found = absurd (cc)
-found_inside name (Structure fields size) f holds found = found_is (λ (f : Field). f.at + size_of f.element.kind ≤ size) name fields f found holds
+-- and it ends inside its structure
+inside_is : (size : ℕ) (o : Option Field) (f : Field) → if_inside size o ≡ Some f → f.at + size_of f.element.kind ≤ size
+inside_is size None f e = absurd (cc)
+inside_is size (Some h) f e = elim (cases_Bool (nat_le (h.at + size_of h.element.kind) size)) [
+  | inl is ↦ let same : h ≡ f = some_same h f (rw is at e) in subst (λ (f : Field). f.at + size_of f.element.kind ≤ size) same (grind (arith, nat_tests))
+  | inr other ↦ let none : ◌≡◌ {A = Option Field} None (Some f) = rw other at e in absurd (cc)
+]
+  where
+    some_same : (x y : Field) → ◌≡◌ {A = Option Field} (Some x) (Some y) → x ≡ y
+    some_same x y e = cc
+
+found_inside : (name : List ℕ) (t : ElementType) (f : Field) → field_of name t ≡ Some f → f.at + size_of f.element.kind ≤ item_size t
+found_inside name (One e) f found = absurd (cc)
+found_inside name (Structure fields size) f found = inside_is size (field_in name fields) f found
 
 view_lies : (g : Geo) (f : Field) (len : ℕ) → f.at + size_of f.element.kind ≤ item_size g.element → LiesIn len g → LiesIn len (view_of_field g f)
 view_lies g f len inside lies = record {
@@ -57,9 +68,12 @@ view_lies g f len inside lies = record {
       (All-weaker (λ p. p + item_size g.element ≤ len) (λ p. p + f.at + size_of f.element.kind ≤ len) (λ p le. omega (arith, inside, le)) g.places lies.inside);
 }
 
-pub field_lies : (name : List ℕ) (g h : Geo) (len : ℕ) → HoldsFields g.element → LiesIn len g → field_view name g ≡ Some h → LiesIn len h
-field_lies name g h len holds lies e = by (field_of name g.element) (λ f found. found_inside name g.element f holds found) e
+pub found_lies : (name : List ℕ) (g : Geo) (f : Field) (len : ℕ) → LiesIn len g → field_of name g.element ≡ Some f → LiesIn len (view_of_field g f)
+found_lies name g f len lies found = view_lies g f len (found_inside name g.element f found) lies
+
+pub field_lies : (name : List ℕ) (g h : Geo) (len : ℕ) → LiesIn len g → field_view name g ≡ Some h → LiesIn len h
+field_lies name g h len lies e = by (field_of name g.element) (λ f found. found_lies name g f len lies found) e
   where
-    by : (o : Option Field) → ((f : Field) → o ≡ Some f → f.at + size_of f.element.kind ≤ item_size g.element) → option_map (view_of_field g) o ≡ Some h → LiesIn len h
+    by : (o : Option Field) → ((f : Field) → o ≡ Some f → LiesIn len (view_of_field g f)) → option_map (view_of_field g) o ≡ Some h → LiesIn len h
     by None inside e = absurd (cc)
-    by (Some f) inside e = let same : view_of_field g f ≡ h = cc in subst (LiesIn len) same (view_lies g f len (inside f refl) lies)
+    by (Some f) inside e = let same : view_of_field g f ≡ h = cc in subst (LiesIn len) same (inside f refl)

@@ -47,4 +47,8 @@ pub mod Dividing
 pub mod Adding
 pub mod LowestBits
 pub mod Selected
+pub mod Orders
+pub mod Transposed
+pub mod Stretched
+pub mod Recast
 pub mod Fielded

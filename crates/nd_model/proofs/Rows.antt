@@ -83,6 +83,26 @@ copy_stays : gives (codes "x = np.arange(2)\ny = x.copy()\ny[0] = 9\nprint(x, y.
 unfolding digits reading tokens tokens_from piece_at word_at keywords symbols cell lines line stmt bind assign target groups group place imports module_name delete print printed save saved value expr comparison bor bxor band shift sum term unary signed power exponent under postfix suffix operand function call arange second third filled full new_array broadcast_to two fold reduce accumulate comma_options options first_axis named_axis numbered_axis comma_keepdims only_keepdims named_keepdims comma_typing only_typing typing dtype fields pair type_name kind_name shape tuple no_lengths quoted exprs method attribute axes lengths empty type_argument reduction reduction_options accumulation index contents nothing item part list elements newaxis slice step_in bound_in grouped name has keyword_kinds name_kinds
 copy_stays = refl
 
+slices_of_a_slice : gives (codes "x = np.arange(6)\nprint(x[1:4], x[::-2], x[-2:][0], x[7:])") ≡ (codes "[1 2 3] [5 3 1] 4 []\n", codes "ok")
+unfolding digits reading tokens tokens_from piece_at word_at keywords symbols cell lines line stmt bind assign target groups group place imports module_name delete print printed save saved value expr comparison bor bxor band shift sum term unary signed power exponent under postfix suffix operand function call arange second third filled full new_array broadcast_to two fold reduce accumulate comma_options options first_axis named_axis numbered_axis comma_keepdims only_keepdims named_keepdims comma_typing only_typing typing dtype fields pair type_name kind_name shape tuple no_lengths quoted exprs method attribute axes lengths empty type_argument reduction reduction_options accumulation index contents nothing item part list elements newaxis slice step_in bound_in grouped name has keyword_kinds name_kinds
+slices_of_a_slice = refl
+
+axes_of_a_table : gives (codes "x = np.array([[0, 1, 2], [3, 4, 5]])\nprint(x[1], x[..., 1], x[-1, -2], x[:, None, 2])") ≡ (codes "[3 4 5] [1 4] 4 [[2]\n [5]]\n", codes "ok")
+unfolding digits reading tokens tokens_from piece_at word_at keywords symbols cell lines line stmt bind assign target groups group place imports module_name delete print printed save saved value expr comparison bor bxor band shift sum term unary signed power exponent under postfix suffix operand function call arange second third filled full new_array broadcast_to two fold reduce accumulate comma_options options first_axis named_axis numbered_axis comma_keepdims only_keepdims named_keepdims comma_typing only_typing typing dtype fields pair type_name kind_name shape tuple no_lengths quoted exprs method attribute axes lengths empty type_argument reduction reduction_options accumulation index contents nothing item part list elements newaxis slice step_in bound_in grouped name has keyword_kinds name_kinds
+axes_of_a_table = refl
+
+slice_shares : gives (codes "x = np.arange(4)\ny = x[1:]\nx[2] = 9\ny[0] = 7\nprint(x, y)") ≡ (codes "[0 7 9 3] [7 9 3]\n", codes "ok")
+unfolding digits reading tokens tokens_from piece_at word_at keywords symbols cell lines line stmt bind assign target groups group place imports module_name delete print printed save saved value expr comparison bor bxor band shift sum term unary signed power exponent under postfix suffix operand function call arange second third filled full new_array broadcast_to two fold reduce accumulate comma_options options first_axis named_axis numbered_axis comma_keepdims only_keepdims named_keepdims comma_typing only_typing typing dtype fields pair type_name kind_name shape tuple no_lengths quoted exprs method attribute axes lengths empty type_argument reduction reduction_options accumulation index contents nothing item part list elements newaxis slice step_in bound_in grouped name has keyword_kinds name_kinds
+slice_shares = refl
+
+field_shares : gives (codes "r = np.zeros(2, dtype=[('a', '|i1'), ('b', '<i2')])\nr[1]['b'] = 5\nr['a'][0] = 3\nprint(r, r['b'], r[1]['b'])\nx = r['c']") ≡ (codes "[(3, 0) (0, 5)] [0 5] 5\n", codes "Index.NoField c")
+unfolding digits reading tokens tokens_from piece_at word_at keywords symbols cell lines line stmt bind assign target groups group place imports module_name delete print printed save saved value expr comparison bor bxor band shift sum term unary signed power exponent under postfix suffix operand function call arange second third filled full new_array broadcast_to two fold reduce accumulate comma_options options first_axis named_axis numbered_axis comma_keepdims only_keepdims named_keepdims comma_typing only_typing typing dtype fields pair type_name kind_name shape tuple no_lengths quoted exprs method attribute axes lengths empty type_argument reduction reduction_options accumulation index contents nothing item part list elements newaxis slice step_in bound_in grouped name has keyword_kinds name_kinds
+field_shares = refl
+
+first_index_fault : gives (codes "x = np.array([[0, 1, 2], [3, 4, 5]])\ny = x[5, ::0]") ≡ (codes "", codes "Index.ZeroStep")
+unfolding digits reading tokens tokens_from piece_at word_at keywords symbols cell lines line stmt bind assign target groups group place imports module_name delete print printed save saved value expr comparison bor bxor band shift sum term unary signed power exponent under postfix suffix operand function call arange second third filled full new_array broadcast_to two fold reduce accumulate comma_options options first_axis named_axis numbered_axis comma_keepdims only_keepdims named_keepdims comma_typing only_typing typing dtype fields pair type_name kind_name shape tuple no_lengths quoted exprs method attribute axes lengths empty type_argument reduction reduction_options accumulation index contents nothing item part list elements newaxis slice step_in bound_in grouped name has keyword_kinds name_kinds
+first_index_fault = refl
+
 row_of_structures : gives (codes "r = np.zeros(2, dtype=[('a', '|i1'), ('b', '<i2')])\nx = r[1]\nprint(r, x, np.array(x))\ny = x.copy()") ≡ (codes "[(0, 0) (0, 0)] (0, 0) (0, 0)\n", codes "Stmt.NotAnArray")
 unfolding digits reading tokens tokens_from piece_at word_at keywords symbols cell lines line stmt bind assign target groups group place imports module_name delete print printed save saved value expr comparison bor bxor band shift sum term unary signed power exponent under postfix suffix operand function call arange second third filled full new_array broadcast_to two fold reduce accumulate comma_options options first_axis named_axis numbered_axis comma_keepdims only_keepdims named_keepdims comma_typing only_typing typing dtype fields pair type_name kind_name shape tuple no_lengths quoted exprs method attribute axes lengths empty type_argument reduction reduction_options accumulation index contents nothing item part list elements newaxis slice step_in bound_in grouped name has keyword_kinds name_kinds
 row_of_structures = refl

@@ -13,7 +13,7 @@ use Rattle.nd_model.specs.Strides.{limit_fault}
 use Rattle.nd_model.specs.Fault.{Fault, ViewFault, IndexFault, OutOfBounds}
 use Rattle.nd_model.specs.Refusing.{when}
 use Rattle.nd_model.specs.Broadcast.{unless_fault}
-use Rattle.nd_model.specs.Index.{counted_from, is_within}
+use Rattle.nd_model.specs.Selecting.{counted_from, is_within}
 use Rattle.nd_model.specs.Slicing.{from_end, clipped, bound_or, step_or, steps, upwards, downwards, slice_positions}
 use Rattle.nd_model.specs.Selecting.{Item, At, Slice, Ellipsis, NewAxis, axes_in, whole_slice, filled_items, items_for, Pick, KeptAxis, OnePosition, AddedAxis, picks_of, first_outside, unless_outside, picked_shape, source, picked_view, select}
 use Rattle.nd_model.specs.Sound.{LiesIn}

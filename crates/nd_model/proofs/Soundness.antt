@@ -184,7 +184,7 @@ FirstIsOf (v ∷ vs) (o ∷ os) = IsOf v.1 o
 FirstIsOf (v ∷ vs) [] = ⊥
 FirstIsOf [] os = Unit {0}
 
-abbrev AllV : Running → List (Usage × Value) → Type 0
+abbrev pub AllV : Running → List (Usage × Value) → Type 0
 AllV r [] = Unit {0}
 AllV r (v ∷ vs) = V r v.1 × AllV r vs
 

@@ -1,48 +1,106 @@
--- Indexes: what is chosen of an array.
-use Rattle.std.specs.Prelude.{ℕ, ℤ, pos, neg_ℤ, ◌+ℤ◌, int_le, int_lt, unsigned_abs, Bool, true, false, ◌&&◌, if◌then◌else◌, List, [], ◌∷◌, slice_index, Result, Ok, Err}
+-- Indexes: what is chosen of an array by items and their operands, and by the name of a field.
+use Rattle.std.specs.Prelude.{ℕ, ℤ, Bool, true, false, List, [], ◌∷◌, slice_index, Option, Some, None, Result, Ok, Err}
+use Rattle.std.specs.List.{list_all}
 use Rattle.nd_model.specs.Element.{Boolean}
-use Rattle.nd_model.specs.View.{Geo}
-use Rattle.nd_model.specs.Fault.{Fault, Index, Stmt, OutOfBounds, TooManyIndices, NotAnIndex, NotAnArray, BadArgument}
-use Rattle.nd_model.specs.Refusing.{◌>>=◌, when}
-use Rattle.nd_model.specs.Operand.{Int, Truth, Scalar, Operand, Plain, Elements, Chosen, AnElement}
+use Rattle.nd_model.specs.View.{Field, ElementType, One, Geo}
+use Rattle.nd_model.specs.Fault.{Fault, Index, Stmt, NotAnIndex, NoField, NotAnArray, BadArgument}
+use Rattle.nd_model.specs.Refusing.{◌>>=◌}
+use Rattle.nd_model.specs.Selecting.{Item, At, Slice, Ellipsis, NewAxis, select, field_of, view_of_field}
+use Rattle.nd_model.specs.Operand.{Int, Truth, Scalar, Operand, Plain, Elements, Chosen, AnElement, AView}
 
 -- an array that is indexed, or written to
 abbrev pub array_of : Operand → Result Geo Fault
 array_of (Elements false g cs) = Ok g
 array_of _ = Err (Stmt NotAnArray)
 
--- an integer that an index may be; an index by an array is not built yet
+-- ---- items and their operands
+
+-- how an item is written: an operand, a slice and which of its bounds are written, `...`, a new axis
+pub data Form : Type 0 where
+  AtForm : Form
+  SliceForm : (start stop step : Bool) → Form
+  EllipsisForm : Form
+  NewAxisForm : Form
+
+-- a whole number that an item or a bound may be
 abbrev pub integer_of : Operand → Result ℤ Fault
 integer_of (Plain (Int z)) = Ok z
 integer_of (Plain (Truth t)) = Err (Index NotAnIndex)
 integer_of (Plain (Scalar Boolean z)) = Err (Index NotAnIndex)
 integer_of (Plain (Scalar k z)) = Ok z
-integer_of (Elements true g cs) = Err (Index NotAnIndex)
-integer_of (Elements false g cs) = Err (Stmt BadArgument)
+integer_of (Elements row g cs) = Err (Index NotAnIndex)
 
--- a negative index counts from the end
-abbrev pub counted_from : ℕ → ℤ → ℕ
-counted_from n z = if int_lt z (pos 0) then unsigned_abs (z +ℤ pos n) else unsigned_abs z
+-- an array of numbers with axes makes an index that is not built yet
+abbrev pub array_item : ElementType → List ℕ → Result Item Fault
+array_item (One e) (n ∷ shape) = Err (Stmt BadArgument)
+array_item t shape = Err (Index NotAnIndex)
 
-abbrev pub is_within : ℕ → ℤ → Bool
-is_within n z = int_le (neg_ℤ (pos n)) z && int_lt z (pos n)
+abbrev pub item_of : Operand → Result Item Fault
+item_of (Elements false g cs) = array_item g.element g.shape
+item_of o = do
+  z ← integer_of o
+  Ok (At z)
 
--- the place of the element at an index; an integer into several axes is not built yet
-abbrev pub place_in : List ℕ → List ℕ → ℤ → Result ℕ Fault
-place_in [] places z = Err (Index TooManyIndices)
-place_in (n ∷ []) places z = when (is_within n z) (Index (OutOfBounds 0 z n)) (Ok (slice_index places (counted_from n z)))
-place_in (n ∷ m ∷ shape) places z = Err (Stmt BadArgument)
+-- the bound, if it is written, and the operands behind it
+abbrev pub bound_of : (is_given : Bool) → List Operand → Result (Option ℤ × List Operand) Fault
+bound_of true (o ∷ os) = do
+  z ← integer_of o
+  Ok (Some z, os)
+bound_of is_given os = Ok (None, os)
 
--- the place that `t[i]` means
-abbrev pub indexed_place : Operand → Operand → Result ℕ Fault
-indexed_place t i = do
+-- the items that are written so, of these operands
+abbrev pub items_of : List Form → List Operand → Result (List Item) Fault
+items_of [] os = Ok []
+items_of (AtForm ∷ fs) [] = Err (Index NotAnIndex)
+items_of (AtForm ∷ fs) (o ∷ os) = do
+  i ← item_of o
+  is ← items_of fs os
+  Ok (i ∷ is)
+items_of (SliceForm a b c ∷ fs) os = do
+  start ← bound_of a os
+  stop ← bound_of b start.1
+  step ← bound_of c stop.1
+  is ← items_of fs step.1
+  Ok (Slice start.0 stop.0 step.0 ∷ is)
+items_of (EllipsisForm ∷ fs) os = do
+  is ← items_of fs os
+  Ok (Ellipsis ∷ is)
+items_of (NewAxisForm ∷ fs) os = do
+  is ← items_of fs os
+  Ok (NewAxis ∷ is)
+
+-- ---- what items choose
+
+abbrev pub is_number : Item → Bool
+is_number (At z) = true
+is_number i = false
+
+-- one element, where no axis is left; all else is a view
+abbrev pub choice_of : (is_one : Bool) → (shape : List ℕ) → Geo → Chosen
+choice_of true [] h = AnElement h.element (slice_index h.places 0)
+choice_of is_one shape h = AView h
+
+-- whole numbers alone, one for each axis, choose an element
+abbrev pub choose_items : List Item → Geo → Result Chosen Fault
+choose_items is g = do
+  h ← select is g
+  Ok (choice_of (list_all is_number is) h.shape h)
+
+-- `t[..]`: a NumPy scalar, a row of an array of structures, or a view
+abbrev pub index_array : List Form → Operand → List Operand → Result Chosen Fault
+index_array forms t os = do
   g ← array_of t
-  z ← integer_of i
-  place_in g.shape g.places z
+  is ← items_of forms os
+  choose_items is g
 
--- `t[i]`: a NumPy scalar, or a row of an array of structures
-abbrev pub index_array : Operand → Operand → Result Chosen Fault
-index_array t i = do
-  g ← array_of t
-  p ← indexed_place t i
-  Ok (AnElement g.element p)
+-- ---- fields
+
+-- of an array a view, of a row a number
+abbrev pub choose_field : (row : Bool) → Geo → (name : List ℕ) → Option Field → Result Chosen Fault
+choose_field row g name None = Err (Index (NoField name))
+choose_field row g name (Some f) = Ok (choice_of row g.shape (view_of_field g f))
+
+-- `t['name']`
+abbrev pub index_field : (name : List ℕ) → Operand → Result Chosen Fault
+index_field name (Plain n) = Err (Stmt NotAnArray)
+index_field name (Elements row g cs) = choose_field row g name (field_of name g.element)

@@ -47,6 +47,12 @@ pub mod Cell
 pub mod Footprint
 pub mod Sound
 pub mod Selected
+pub mod ShapeFault
+pub mod Transposing
+pub mod Stretching
+pub mod Recasting
+pub mod Shaped
+pub mod Assigning
 pub mod Bases
 pub mod Noting
 pub mod Storing

@@ -4,7 +4,7 @@ use Rattle.nd_model.specs.Value.{Value}
 use Rattle.nd_model.specs.Running.{Source, Effect}
 use Rattle.nd_model.specs.Fault.{Fault, BadArgument}
 use Rattle.nd_model.specs.Fault as fault
-use Rattle.nd_model.specs.Syntax.{Expr, Exprs, NoExpr, AndExpr, Name, Integer, Unary, Binary, Called, Call, Arange, Filled, Full, NewArray, Convert, Minimum, Maximum, Absolute, PythonAbs, Load, Buffer, Bound, Omitted, Given, Elements, NoElement, AndElement, Element, Single, Nested, Item, Attribute, Method, Copy, AsType, Index, Items, AndItem, NoItem, At, Stmt, Import, Bind, Assign, Delete, Print}
+use Rattle.nd_model.specs.Syntax.{Expr, Exprs, NoExpr, AndExpr, Name, Integer, Unary, Binary, Called, Call, Arange, Filled, Full, NewArray, Convert, Minimum, Maximum, Absolute, PythonAbs, Load, Buffer, Bound, Omitted, Given, Elements, NoElement, AndElement, Element, Single, Nested, Item, Attribute, Method, Copy, AsType, Index, Field, Items, IndexItems, IndexItem, AndItem, NoItem, At, Slice, Ellipsis, NewAxis, Listed, Stmt, Import, Bind, Assign, Delete, Print}
 use Rattle.nd_model.specs.Syntax as syntax
 use Rattle.nd_model.specs.Refusing as refusing
 use Rattle.nd_model.specs.Evaluation.{Eval}
@@ -13,7 +13,8 @@ use Rattle.nd_model.specs.Operators as operators
 use Rattle.nd_model.specs.Operators.{Of, binary, single, call_binary, call_single}
 use Rattle.nd_model.specs.Creation.{arange, filled, full, new_array, array_of_list, convert, copy_array, astype}
 use Rattle.nd_model.specs.Writing.{assignment_writes}
-use Rattle.nd_model.specs.Viewing.{Indexed}
+use Rattle.nd_model.specs.Index.{Form, AtForm, SliceForm, EllipsisForm, NewAxisForm}
+use Rattle.nd_model.specs.Viewing.{Viewing, Indexed, Fielded}
 use Rattle.nd_model.specs.Printing.{print_deed}
 use Rattle.nd_model.specs.Operation.{Computes, Views, Plan, Named, FromInput, Does, Plans, Done, And, evaluate, Work, Acts, do_work}
 
@@ -39,6 +40,21 @@ abbrev pub is_given : Bound → Bool
 is_given Omitted = false
 is_given (Given e) = true
 
+-- ---- indexes
+
+-- how an item is written; a list has no form yet, and is refused before it is asked for
+abbrev pub forms_of : IndexItems → List Form
+forms_of NoItem = []
+forms_of (AndItem (At e) is) = AtForm ∷ forms_of is
+forms_of (AndItem (Slice start stop step) is) = SliceForm (is_given start) (is_given stop) (is_given step) ∷ forms_of is
+forms_of (AndItem Ellipsis is) = EllipsisForm ∷ forms_of is
+forms_of (AndItem NewAxis is) = NewAxisForm ∷ forms_of is
+forms_of (AndItem (Listed es) is) = forms_of is
+
+abbrev pub viewing_of : Index → Viewing
+viewing_of (Field n) = Fielded n
+viewing_of (Items is) = Indexed (forms_of is)
+
 -- ---- expressions
 
 abbrev mutual
@@ -49,7 +65,7 @@ abbrev mutual
   plan (Unary op e) = Does (Computes (one (single (Of op)))) (And Whole (plan e) Done)
   plan (Binary op a b) = Does (Computes (two (binary op))) (And Whole (plan a) (And Whole (plan b) Done))
   plan (Called c) = call_plan c
-  plan (Item t x) = Does (Views Indexed) (And Unused (plan t) (item_plans x))
+  plan (Item t x) = Does (Views (viewing_of x)) (And Unused (plan t) (index_plans x))
   plan (Attribute e m) = method_plan m (plan e)
 
   pub call_plan : Call → Plan
@@ -92,10 +108,21 @@ abbrev mutual
   bound_plans Omitted rest = rest
   bound_plans (Given e) rest = And Unused (plan e) rest
 
-  -- an index of one expression; the other ones are not built yet
-  pub item_plans : Index → Plans
-  item_plans (Items (AndItem (At e) NoItem)) = And ArraysOnly (plan e) Done
-  item_plans _ = And Unused (Does (Computes unbuilt_form) Done) Done
+  pub index_plans : Index → Plans
+  index_plans (Field n) = Done
+  index_plans (Items is) = items_plans is
+
+  pub items_plans : IndexItems → Plans
+  items_plans NoItem = Done
+  items_plans (AndItem i is) = item_plans i (items_plans is)
+
+  -- an array among the items is used whole; a list is not built yet
+  pub item_plans : IndexItem → Plans → Plans
+  item_plans (At e) rest = And ArraysOnly (plan e) rest
+  item_plans (Slice start stop step) rest = bound_plans start (bound_plans stop (bound_plans step rest))
+  item_plans Ellipsis rest = rest
+  item_plans NewAxis rest = rest
+  item_plans (Listed es) rest = And Unused (Does (Computes unbuilt_form) Done) rest
 
 -- from left to right
 abbrev pub whole_plans : List Expr → Plans
@@ -108,14 +135,14 @@ value e = evaluate (plan e)
 
 -- ---- statements
 
-abbrev pub assignment_deed : List Operand → Result Deed Fault
-assignment_deed (v ∷ t ∷ i ∷ []) = refusing.◌>>=◌ (assignment_writes v t i) (λ ws. Ok (Writes 1 ws))
-assignment_deed _ = Err (fault.Stmt BadArgument)
+abbrev pub assignment_deed : Viewing → List Operand → Result Deed Fault
+assignment_deed w (v ∷ t ∷ os) = refusing.◌>>=◌ (assignment_writes w v t os) (λ ws. Ok (Writes 1 ws))
+assignment_deed w _ = Err (fault.Stmt BadArgument)
 
 abbrev pub work : Stmt → Work
 work Import = Acts (λ os. Ok NoDeed) Done
 work (Bind n e) = Acts (λ os. Ok (BindsFirst n)) (And Unused (plan e) Done)
-work (Assign t x e) = Acts assignment_deed (And Whole (plan e) (And Unused (plan t) (item_plans x)))
+work (Assign t x e) = Acts (assignment_deed (viewing_of x)) (And Whole (plan e) (And Unused (plan t) (index_plans x)))
 work (Delete n) = Acts (λ os. Ok (Unbinds n)) (And Unused (Named n) Done)
 work (Print es) = Acts print_deed (whole_plans es)
 work _ = Acts unbuilt_form Done

@@ -1,13 +1,13 @@
 -- Basic indexes: the view that items choose, by NumPy's user guide ("Indexing on ndarrays", basic indexing), and the view of a field.
-use Rattle.std.specs.Prelude.{ℕ, ◌+◌, ◌-◌, ◌==◌, ℤ, Bool, false, not, nat_lt, nat_le, unsigned_abs, bytes_eq, if◌then◌else◌, List, [], ◌∷◌, ◌++◌, map, length, drop, replicate, slice_index, Option, Some, None, Result, Ok, Err}
+use Rattle.std.specs.Prelude.{ℕ, ◌+◌, ◌-◌, ◌==◌, ℤ, pos, neg_ℤ, ◌+ℤ◌, int_le, int_lt, Bool, false, not, ◌&&◌, nat_lt, nat_le, unsigned_abs, bytes_eq, if◌then◌else◌, List, [], ◌∷◌, ◌++◌, map, length, drop, replicate, slice_index, Option, Some, None, Result, Ok, Err}
 use Rattle.std.specs.Option.{option_map}
 use Rattle.std.specs.List.{list_any}
+use Rattle.nd_model.specs.Element.{size_of}
 use Rattle.nd_model.specs.Tuple.{first_index}
 use Rattle.nd_model.specs.View.{Field, ElementType, One, Structure, Geo, rearranged_view}
 use Rattle.nd_model.specs.Fault.{Fault, IndexFault, Index, OutOfBounds, TooManyIndices, TwoEllipses, ZeroStep}
 use Rattle.nd_model.specs.Refusing.{when}
 use Rattle.nd_model.specs.Broadcast.{in_limits}
-use Rattle.nd_model.specs.Index.{counted_from, is_within}
 use Rattle.nd_model.specs.Slicing.{step_or, slice_positions}
 
 -- an item: a whole number, a slice by its bounds and step, `...`, a new axis
@@ -60,6 +60,13 @@ pub data Pick : Type 0 where
   KeptAxis : List ℕ → Pick
   OnePosition : ℕ → Pick
   AddedAxis : Pick
+
+-- a negative number counts from the end
+abbrev pub counted_from : ℕ → ℤ → ℕ
+counted_from n z = if int_lt z (pos 0) then unsigned_abs (z +ℤ pos n) else unsigned_abs z
+
+abbrev pub is_within : ℕ → ℤ → Bool
+is_within n z = int_le (neg_ℤ (pos n)) z && int_lt z (pos n)
 
 -- what an item picks of an axis of length n, before what the others pick
 abbrev pub pick_of : ℕ → Item → List Pick → List Pick
@@ -123,9 +130,14 @@ abbrev pub field_in : List ℕ → List Field → Option Field
 field_in name [] = None
 field_in name (f ∷ fs) = if bytes_eq name f.name then Some f else field_in name fs
 
+-- a field that would end behind its structure is none: no array has such a type
+abbrev pub if_inside : (size : ℕ) → Option Field → Option Field
+if_inside size None = None
+if_inside size (Some f) = if nat_le (f.at + size_of f.element.kind) size then Some f else None
+
 abbrev pub field_of : List ℕ → ElementType → Option Field
 field_of name (One e) = None
-field_of name (Structure fields size) = field_in name fields
+field_of name (Structure fields size) = if_inside size (field_in name fields)
 
 -- the field of each element, where it lies
 abbrev pub view_of_field : Geo → Field → Geo

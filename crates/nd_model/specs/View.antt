@@ -51,10 +51,6 @@ contiguous t shape = record {
 abbrev pub place_of : Geo → List ℕ → ℕ
 place_of g t = slice_index g.places (number g.shape t)
 
--- the view without axes of the element at a place
-abbrev pub element_view : Geo → ℕ → Geo
-element_view g p = record { element = g.element; shape = []; writable = g.writable; places = p ∷ [] }
-
 -- the view of this shape whose element at each index tuple is that of the old one at another tuple
 abbrev pub rearranged_view : Geo → (shape : List ℕ) → (List ℕ → List ℕ) → Geo
 rearranged_view g shape from = record { element = g.element; shape = shape; writable = g.writable; places = map (λ t. place_of g (from t)) (indices shape) }

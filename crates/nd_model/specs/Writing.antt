@@ -1,12 +1,12 @@
 -- Assignments: the bytes that are written, each with its place.
-use Rattle.std.specs.Prelude.{ℕ, ◌==◌, ℤ, pos, Bool, true, ◌&&◌, List, [], ◌∷◌, Result, Ok, Err}
+use Rattle.std.specs.Prelude.{ℕ, ◌==◌, ℤ, pos, Bool, true, false, ◌&&◌, List, [], ◌∷◌, Result, Ok, Err}
 use Rattle.nd_model.specs.Element.{Kind, Boolean, Element, fits, wrap}
 use Rattle.nd_model.specs.View.{ElementType, One, Structure}
 use Rattle.nd_model.specs.Content.{Content, Num, number_in, writes}
 use Rattle.nd_model.specs.Fault.{Fault, Ufunc, Stmt, IntOutOfRange, ShapeMismatch, ReadOnly, BadArgument}
 use Rattle.nd_model.specs.Refusing.{◌>>=◌, when}
-use Rattle.nd_model.specs.Operand.{Int, Truth, Scalar, Operand, Plain, Elements, truth_number}
-use Rattle.nd_model.specs.Index.{array_of, indexed_place}
+use Rattle.nd_model.specs.Operand.{Int, Truth, Scalar, Operand, Plain, Elements, Chosen, AnElement, truth_number}
+use Rattle.nd_model.specs.Viewing.{Viewing, choose_of_first}
 
 -- whether a kind takes a Python integer: a Boolean takes each
 abbrev pub takes : Kind → ℤ → Bool
@@ -40,12 +40,20 @@ are_numbers (Elements row g cs) = do
   e ← number_type g.element
   Ok (tt {0})
 
--- `t[i] = v`
-abbrev pub assignment_writes : Operand → Operand → Operand → Result (List (ℕ × ℕ)) Fault
-assignment_writes v t i = do
-  numbers ← are_numbers v
-  g ← array_of t
-  p ← indexed_place t i
-  e ← number_type g.element
-  z ← when g.writable (Ufunc ReadOnly) (written_number e.kind v)
+-- a number is written to an element of numbers; more elements, and structures, are not built yet
+abbrev pub element_writes : (writable : Bool) → Chosen → Operand → Result (List (ℕ × ℕ)) Fault
+element_writes writable (AnElement (One e) p) v = do
+  z ← when writable (Ufunc ReadOnly) (written_number e.kind v)
   Ok (writes (One e) p (Num (wrap e.kind z)))
+element_writes writable c v = Err (Stmt BadArgument)
+
+abbrev pub may_be_written : Operand → Bool
+may_be_written (Plain n) = false
+may_be_written (Elements row g cs) = g.writable
+
+-- `t[..] = v`: the value, and then the target and what its index says
+abbrev pub assignment_writes : Viewing → Operand → Operand → List Operand → Result (List (ℕ × ℕ)) Fault
+assignment_writes w v t os = do
+  numbers ← are_numbers v
+  c ← choose_of_first w t os
+  element_writes (may_be_written t) c v

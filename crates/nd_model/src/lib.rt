@@ -25,6 +25,7 @@ ghost use Rattle.nd_model.specs.Records.{Kept};
 ghost use Rattle.nd_model.specs.Renaming.{Rename, AnyLabels};
 ghost use Rattle.nd_model.specs.Scheduler.{AnyPass};
 ghost use Rattle.nd_model.specs.Selected.{FieldLies, SelectedLies};
+ghost use Rattle.nd_model.specs.Shaped.{RecastLies, ReversedLies, StretchedLies, TransposedLies};
 ghost use Rattle.nd_model.specs.Sound.{ReplaysSound, StaysSound};
 ghost use Rattle.nd_model.specs.Stale.{AtMostIsAtMost, FewRuns, FrontIsNotStale};
 ghost use Rattle.nd_model.specs.Storing.{StoresByParts};
@@ -70,6 +71,26 @@ pub fn selected_lies()
 /// The view of a field of a view that lies in its base lies there.
 pub fn field_lies()
     ensures { FieldLies }
+{}
+
+/// What is transposed of a view that lies in its base lies there.
+pub fn transposed_lies()
+    ensures { TransposedLies }
+{}
+
+/// So does the view with its axes the other way round.
+pub fn reversed_lies()
+    ensures { ReversedLies }
+{}
+
+/// What is broadcast of a view that lies in its base lies there.
+pub fn stretched_lies()
+    ensures { StretchedLies }
+{}
+
+/// What is seen of a view that lies in its base as numbers of another kind lies there.
+pub fn recast_lies()
+    ensures { RecastLies }
 {}
 
 /// Sessions and inputs that agree on what a cell reads in the first give it the same reads and effects.

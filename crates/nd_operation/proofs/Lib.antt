@@ -2,9 +2,9 @@ pub mod Decoding
 pub mod InTurn
 pub mod Refusals
 pub mod Lines
-pub mod Writes
 pub mod WholeNumbers
 pub mod Creating
 pub mod Ranging
 pub mod Converting
 pub mod Listing
+pub mod Indexing

@@ -3,8 +3,10 @@ use Rattle.std.specs.Prelude.{string_bytes}
 use Rattle.nd_model.specs.Fault as model
 pub use Rattle.nd_view.specs.Faults.{view_fault_of}
 pub use Rattle.nd_ufunc.specs.Faults.{ufunc_fault_of}
+use Rattle.nd_basic.specs.declared.fault.SelectFault.{SelectFault}
+use Rattle.nd_basic.specs.declared.fault.SelectFault.TheVariants as select_fault
 use Rattle.nd_operation.specs.declared.fault.IndexFault.{IndexFault}
-use Rattle.nd_operation.specs.declared.fault.IndexFault.TheVariants.{OutOfBounds, TooManyIndices, ZeroStep, NotAnIndex}
+use Rattle.nd_operation.specs.declared.fault.IndexFault.TheVariants.{OutOfBounds, TooManyIndices, ZeroStep, NotAnIndex, TwoEllipses, NoField}
 use Rattle.nd_operation.specs.declared.fault.StmtError.{StmtError}
 use Rattle.nd_operation.specs.declared.fault.StmtError.TheVariants.{NoName, IntTooBig, ZeroDivide, NegativeShift, NeedsType, RaggedList, NotAnArray, TextTooLong, BadArgument, BadType}
 use Rattle.nd_operation.specs.declared.fault.StmtFault.{StmtFault}
@@ -15,6 +17,8 @@ index_fault_of (OutOfBounds axis index size) = model.OutOfBounds axis index size
 index_fault_of TooManyIndices = model.TooManyIndices
 index_fault_of ZeroStep = model.ZeroStep
 index_fault_of NotAnIndex = model.NotAnIndex
+index_fault_of TwoEllipses = model.TwoEllipses
+index_fault_of (NoField n) = model.NoField (string_bytes n)
 
 abbrev pub stmt_error_of : StmtError → model.StmtFault
 stmt_error_of (NoName n) = model.NoName (string_bytes n)
@@ -33,3 +37,11 @@ fault_of (View f) = model.View (view_fault_of f)
 fault_of (Index f) = model.Index (index_fault_of f)
 fault_of (Ufunc f) = model.Ufunc (ufunc_fault_of f)
 fault_of (Stmt f) = model.Stmt (stmt_error_of f)
+
+-- what a basic index refuses
+abbrev pub refusal_of_select : SelectFault → StmtFault
+refusal_of_select select_fault.TwoEllipses = Index TwoEllipses
+refusal_of_select select_fault.TooManyIndices = Index TooManyIndices
+refusal_of_select select_fault.ZeroStep = Index ZeroStep
+refusal_of_select (select_fault.OutOfBounds axis index size) = Index (OutOfBounds axis index size)
+refusal_of_select (select_fault.View f) = View f

@@ -6,3 +6,4 @@ pub mod New
 pub mod Stops
 pub mod OfTwo
 pub mod Listing
+pub mod Indexing

@@ -4,7 +4,7 @@ pub use nd_ufunc::UfuncFault;
 pub use nd_view::ViewFault;
 
 /// Why an index is none of this array.
-#[derive(Clone, Copy)]
+#[derive(Drop)]
 pub enum IndexFault {
     /// The index is not below the size of its axis, nor from -size on. Axes are counted from 0.
     OutOfBounds { axis: usize, index: i128, size: u64 },
@@ -14,6 +14,10 @@ pub enum IndexFault {
     ZeroStep,
     /// It is neither an integer nor an array.
     NotAnIndex,
+    /// There is more than one `...`.
+    TwoEllipses,
+    /// The elements have no field with this name.
+    NoField(String),
 }
 
 /// Other refusals of a statement.

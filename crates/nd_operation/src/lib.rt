@@ -22,7 +22,7 @@ pub use calls::{OfOne, make_of_one};
 pub use creation::{make_filled, make_full};
 pub use effect::ElementWrite;
 pub use fault::{IndexFault, StmtError, StmtFault, UfuncFault, ViewFault};
-pub use indexes::index_array;
+pub use indexes::{Chosen, IndexValue, ItemValue, choose};
 pub use lists::make_list;
 pub use operand::{Elements, New, Operand};
 pub use operators::{OfTwo, apply_binary};

@@ -2,9 +2,11 @@
 
 ghost use Rattle.std.specs.Prelude.{◌≡◌};
 ghost use Rattle.nd_operation.specs.declared.stop.Stop.TheVariants.{Memory, Refused};
+ghost use Rattle.nd_operation.specs.Faults.{refusal_of_select};
 ghost use Rattle.nd_operation.specs.Stops.{type_stop};
 
-use crate::fault::{StmtError, StmtFault};
+use crate::fault::{IndexFault, StmtError, StmtFault};
+use nd_basic::SelectFault;
 use nd_dtype::TypeFault;
 use nd_heap::OutOfMemory;
 use std::alloc::{AllocError, AllocFailed};
@@ -21,6 +23,22 @@ impl From<StmtFault> for Stop {
 
     fn from(fault: StmtFault) -> Stop {
         Stop::Refused(fault)
+    }
+}
+
+impl From<SelectFault> for Stop {
+    ghost from_gives = { λ f e. e ≡ Refused (refusal_of_select f) };
+
+    fn from(fault: SelectFault) -> Stop {
+        Stop::Refused(match fault {
+            SelectFault::TwoEllipses => StmtFault::Index(IndexFault::TwoEllipses),
+            SelectFault::TooManyIndices => StmtFault::Index(IndexFault::TooManyIndices),
+            SelectFault::ZeroStep => StmtFault::Index(IndexFault::ZeroStep),
+            SelectFault::OutOfBounds { axis, index, size } => {
+                StmtFault::Index(IndexFault::OutOfBounds { axis, index, size })
+            }
+            SelectFault::View(fault) => StmtFault::View(fault),
+        })
     }
 }
 

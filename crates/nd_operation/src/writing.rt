@@ -5,16 +5,19 @@ ghost use Rattle.nd_model.specs.Writing as writing;
 ghost use Rattle.nd_types.specs.Kinds.{kind_of};
 ghost use Rattle.nd_types.specs.Types.{type_of};
 ghost use Rattle.nd_operation.specs.Contents.{contents_over, operand_of, unused_of, writes_of};
-ghost use Rattle.nd_operation.specs.Ends.{Says};
+ghost use Rattle.nd_operation.specs.Ends.{Makes, Says};
+ghost use Rattle.nd_operation.specs.Indexing.{HasNoAxes, chosen_of, is_writable, operands_of, viewing_of};
 
 use crate::effect::ElementWrite;
 use crate::fault::{StmtError, StmtFault, UfuncFault};
-use crate::indexes::{array_of, indexed_place};
+use crate::indexes::{Chosen, IndexValue, choose};
 use crate::numbers::is_single;
 use crate::operand::{Elements, Operand};
+use crate::stop::Stop;
 use nd_element::number_in;
 use nd_heap::Value;
 use nd_types::{Elem, ElemType, Kind, Num, fits, wrap};
+use std::alloc::Global;
 
 /// The number that lies at each place. Structures are refused.
 pub(crate) fn number_type(element: &ElemType) -> Result<Elem, StmtFault>
@@ -84,26 +87,41 @@ fn written_number(kind: Kind, value: &Operand<'_>) -> Result<i128, StmtFault>
     }
 }
 
-/// What `target[item] = value` writes.
-pub fn assignment_write(
-    value: &Operand<'_>,
-    target: &Value,
-    item: &Operand<'_>,
-) -> Result<ElementWrite, StmtFault>
-    ensures { Says writes_of result (writing.assignment_writes (operand_of value.now)
-        (unused_of target.now) (operand_of item.now)) }
+/// What is written to the element that was chosen. More elements, and structures, are not built yet.
+fn element_write(chosen: &Chosen, value: &Operand<'_>) -> Result<ElementWrite, StmtFault>
+    requires { HasNoAxes chosen.now }
+    ensures { Says writes_of result (writing.element_writes (is_writable chosen.now)
+        (chosen_of chosen.now) (operand_of value.now)) }
 {
-    check_numbers(value)?;
-    let view = array_of(target)?;
-    let place = indexed_place(view, item)?;
+    let Chosen::Element(view) = chosen else {
+        return Err(StmtFault::Stmt(StmtError::BadArgument));
+    };
     let elem = number_type(view.elem())?;
     if !view.writable() {
         return Err(StmtFault::Ufunc(UfuncFault::ReadOnly));
     }
     let number = wrap(elem.kind(), written_number(elem.kind(), value)?);
+    // Says that there is an element.
+    let _count = view.count();
     Ok(ElementWrite {
         elem,
-        place,
+        place: view.place_of(0),
         number,
     })
+}
+
+/// What `target[index] = value` writes.
+pub fn assignment_write(
+    alloc: Global,
+    value: &Operand<'_>,
+    target: &Value,
+    index: &IndexValue<'_>,
+) -> Result<ElementWrite, Stop>
+    ensures { Makes writes_of result (writing.assignment_writes (viewing_of index.now)
+        (operand_of value.now) (unused_of target.now) (operands_of index.now)) }
+{
+    check_numbers(value)?;
+    let chosen = choose(alloc, target, index)?;
+    let write = element_write(&chosen, value)?;
+    Ok(write)
 }

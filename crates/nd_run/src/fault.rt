@@ -56,7 +56,7 @@ fn push_statement_fault(out: &mut Vec<u8>, fault: &StmtFault) -> Result<(), Allo
         }
         StmtFault::Index(fault) => {
             push_text(out, "Index.")?;
-            push_index_fault(out, *fault)
+            push_index_fault(out, fault)
         }
         StmtFault::Ufunc(fault) => {
             push_text(out, "Ufunc.")?;
@@ -80,15 +80,22 @@ fn view_name(fault: ViewFault) -> &'static str
     }
 }
 
-fn push_index_fault(out: &mut Vec<u8>, fault: IndexFault) -> Result<(), AllocError>
+fn push_index_fault(out: &mut Vec<u8>, fault: &IndexFault) -> Result<(), AllocError>
     ensures { OnOk result (out.new.items ≡ out.old.items ++ texts.index_text
-        (index_fault_of fault)) }
+        (index_fault_of fault.now)) }
 {
     match fault {
-        IndexFault::OutOfBounds { axis, index, size } => push_out_of_bounds(out, axis, index, size),
+        IndexFault::OutOfBounds { axis, index, size } => {
+            push_out_of_bounds(out, *axis, *index, *size)
+        }
         IndexFault::TooManyIndices => push_text(out, "TooManyIndices"),
         IndexFault::NotAnIndex => push_text(out, "NotAnIndex"),
         IndexFault::ZeroStep => push_text(out, "ZeroStep"),
+        IndexFault::TwoEllipses => push_text(out, "TwoEllipses"),
+        IndexFault::NoField(name) => {
+            push_text(out, "NoField ")?;
+            push_text(out, name.as_str())
+        }
     }
 }
 

@@ -5,7 +5,7 @@ ghost use Rattle.nd_model.specs.Runs.{runs_of};
 ghost use Rattle.nd_model.specs.Strides as model;
 ghost use Rattle.nd_model.specs.Strides.{IsInLimits, places_by};
 ghost use Rattle.nd_model.specs.Tuple.{elements_of, number};
-ghost use Rattle.nd_model.specs.View.{Geo, item_size, byte_places, contiguous, element_view};
+ghost use Rattle.nd_model.specs.View.{Geo, item_size, byte_places, contiguous};
 ghost use Rattle.nd_types.specs.Types.{type_of};
 ghost use Rattle.nd_view.specs.Faults.{view_given};
 ghost use Rattle.nd_view.specs.Indexes.{IsIndex};
@@ -133,25 +133,6 @@ impl View {
             strides: SmallVec::from_slice(alloc, self.strides.as_slice())?,
             offset: self.offset,
             writable: self.writable,
-        })
-    }
-
-    /// Returns the view without axes of the element at a place. It may be written to where this view may.
-    pub fn element_view(&self, place: u64) -> Result<View, AllocError>
-        requires { place + item_size self.now.element ≤ 2 ^ 64 }
-        ensures { IfOk result (λ v. v ≡ element_view self.now place) }
-    {
-        // Says how large an element may be.
-        let _size = self.elem.size();
-        let alloc = *self.shape.allocator();
-        let elem = self.elem.try_clone()?;
-        let is_writable = self.writable;
-        Ok(View {
-            elem,
-            shape: SmallVec::new(alloc),
-            strides: SmallVec::new(alloc),
-            offset: place,
-            writable: is_writable,
         })
     }
 

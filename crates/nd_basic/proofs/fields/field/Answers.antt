@@ -7,7 +7,7 @@ use Rattle.nd_model.specs.View.{Field, Structure}
 use Rattle.nd_types.specs.Fields.{field_of}
 use Rattle.nd_types.specs.Types.{type_of}
 use Rattle.nd_model.proofs.Fielded.{found_is}
-use Rattle.nd_basic.proofs.Fielded.{fielded_start, fielded_fault, fielded_view}
+use Rattle.nd_basic.proofs.Fielded.{kept_inside, fielded_start, fielded_fault, fielded_view}
 use Rattle.nd_basic.proofs.fields.field.Goals as goal
 
 pub overflow_add-offset : goal.overflow_add-offset
@@ -47,5 +47,5 @@ returns c =
     let start : c.offset.result + c.from.result ≡ get_or g.places 0 0 + f.at = λ i. c.offset.ensures i + c.from.ensures i in
     let same = fielded_view g c.held_strides.result.now c.held_strides.ensures.held c.held_strides.ensures.places s.0 s.1 is f inside c.shape.result.now (c.offset.result + c.from.result) c.shape.ensures.value start
     c.writable.result c.writable.ensures in
-    let named : model.field_of c.args.name.now g.element ≡ Some f = ap (model.field_of c.args.name.now) is ∙ found in
+    let named : model.field_of c.args.name.now g.element ≡ Some f = ap (model.field_of c.args.name.now) is ∙ ap (model.if_inside s.1) found ∙ kept_inside s.1 f inside in
     rw named (λ i. Some ((c.in_ok-fielded.ensures ∙ same) i))

@@ -1,9 +1,10 @@
 use Rattle.std.proofs.Common.{rules, Ok, append-nil, ◌≡◌, ◌+◌, List, [], ◌∷◌, ◌++◌, length, refl, map, option_map, take, drop, ap, sym, ◌∙◌, arith}
-use Rattle.std.proofs.lemmas.Bool.{eqb-false}
 use Rattle.std.proofs.lemmas.List.{drop_all, length-map}
-use Rattle.nd_model.specs.Evaluation.{Gives, run, ◌>>=◌, decide}
+use Rattle.nd_model.specs.Index.{Form, AtForm, SliceForm}
+use Rattle.nd_model.specs.Operand.{ArraysOnly}
+use Rattle.nd_model.specs.Evaluation.{Eval, Gives, run, ◌>>=◌, decide}
 use Rattle.nd_model.specs.Meaning as meaning
-use Rattle.nd_model.specs.Cells.{chained, elements_of}
+use Rattle.nd_model.specs.Cells.{chained, elements_of, items_of}
 use Rattle.nd_model.specs.Operators.{binary}
 use Rattle.nd_model.specs.Creation.{arange}
 use Rattle.nd_model.specs.Meaning.{is_given}
@@ -11,19 +12,21 @@ use Rattle.nd_eval.proofs.Ranging.{range_first, range_is, range_parts}
 use Rattle.nd_model.specs.Operation.{give}
 use Rattle.nd_model.specs.Tokens.{tokens_of, tokens_of_call}
 use Rattle.nd_syntax.specs.Lists.{operation_of}
-use Rattle.nd_syntax.specs.Syntax.{bound_of, element_of, expr_of, call_of, suffix_of, index_of}
+use Rattle.nd_syntax.specs.Syntax.{bound_of, element_of, expr_of, call_of, suffix_of, index_of, item_of}
 use Rattle.nd_syntax.specs.declared.tree.Suffix.{Suffix}
 use Rattle.nd_syntax.specs.declared.tree.Element.{Element}
+use Rattle.nd_syntax.specs.declared.tree.IndexItem.{IndexItem}
 use Rattle.nd_heap.specs.Values.{value_of}
 use Rattle.nd_session.specs.Values.{inputs_of}
 use Rattle.nd_session.specs.Live.{live}
-use Rattle.nd_eval.proofs.Bounds.{list_others, next_behind, next_bound, next_value, next_values, next_at_suffix}
+use Rattle.nd_eval.proofs.Bounds.{few_of_items, step_more, list_others, next_behind, next_item_parts, next_bound, next_value, next_values, next_at_suffix}
 use Rattle.nd_eval.proofs.Calls.{filled_first, filled_parts, full_first, full_follows, list_first, list_parts}
 use Rattle.nd_syntax.specs.Calls.{dtype_of, fill_of}
 use Rattle.nd_model.specs.Creation.{array_of_list, filled, full_of}
 use Rattle.nd_operation.specs.Contents.{operand_of, unused_of}
+use Rattle.nd_eval.specs.Contents as contents
 use Rattle.nd_eval.specs.Contents.{option_values, values_of}
-use Rattle.nd_eval.specs.Parts.{bound_exprs, exprs_in, exprs_of_element, item_value, suffix_value, list_value, binary_value, values_behind, values_then, values}
+use Rattle.nd_eval.specs.Parts.{bound_exprs, exprs_in, exprs_of_element, index_parts, item_parts, items_parts, items_then, parts_of_items, unused, ItemParts, suffix_value, list_value, binary_value, values_behind, values_then, values}
 use Rattle.nd_model.specs.Value as model
 use Rattle.nd_syntax.specs.declared.tree.Expr.{Expr}
 use Rattle.nd_operation.specs.New.{bounds_of}
@@ -35,11 +38,11 @@ use Rattle.nd_eval.proofs.Operating.{chain_step, chain_rest, exits_chain, exits_
 use Rattle.nd_eval.proofs.Turns.{stays_on}
 use Rattle.nd_model.specs.Running.{Running}
 use Rattle.nd_eval.specs.Uses.{marked, all_marked}
-use Rattle.nd_eval.proofs.Uses.{kept_bytes, kept_next, all_marked_bytes, all_marked_next}
-use Rattle.nd_eval.proofs.Held.{held_after, held_marked, held_past, sound_after, suffix_held, value_held, item_held}
+use Rattle.nd_eval.proofs.Uses.{slice_seen, kept_bytes, kept_next, all_marked_bytes, all_marked_next}
+use Rattle.nd_eval.proofs.Held.{held_after, held_marked, held_past, sound_after, suffix_held, value_held}
 use Rattle.nd_operation.proofs.InTurn.{next_item, pushed}
 use Rattle.nd_eval.proofs.InTurn.{as_many, behind_others, many_of_element, onto, onto_more}
-use Rattle.nd_eval.proofs.Indexing.{chain, elements_in_list, nodes_of_its_elements, run_postfix, tokens_of_postfix, nodes_of_postfix, nodes_of_filled, nodes_of_full, shape_tokens, items_in_index, nodes_of_its_items, more_refused, is_chain, nodes_of_chain}
+use Rattle.nd_eval.proofs.Indexing.{chain, elements_in_list, nodes_of_its_elements, run_postfix, tokens_of_postfix, nodes_of_postfix, nodes_of_filled, nodes_of_full, nodes_of_item, nodes_of_slice, slice_is, shape_tokens, items_in_index, nodes_of_its_items, is_chain, nodes_of_chain}
 use Rattle.nd_eval.proofs.evaluator.Evaluator.+value.Goals as goal
 
 pub value-value_of_one-requires : goal.value-value_of_one-requires
@@ -69,24 +72,6 @@ value_of_one-returns t c = (
   follows value_of value_of (inputs_of c.args.self.now.inputs.now.entries) (meaning.value (expr_of c.args.operand.now)) _ _ _ _
       c.in_ok-operand.operand _ c.in_ok-operand.ensures.0 (rw c.in_ok-operand.ensures.1.1 at c.make_value.ensures.0),
   stays_on c.in_ok-operand.ensures.1 c.make_value.ensures.1,
-)
-
-pub index_into-returns-in_err-item : goal.index_into-returns-in_err-item
-index_into-returns-in_err-item t c = (
-  exits value_of value_of (inputs_of c.args.self.now.inputs.now.entries) (item_value (index_of c.args.index.now)) _ _ _ _ _
-      c.from_residual.ensures.1 c.in_err-item.ensures.0,
-  c.in_err-item.ensures.1,
-)
-
-pub index_into-element_value-requires : goal.index_into-element_value-requires
-index_into-element_value-requires t c =
-    item_held (inputs_of c.args.self.now.inputs.now.entries) (index_of c.args.index.now) _ _ c.in_ok-item.item c.in_ok-item.ensures.0 c.soundness.ensures
-
-pub index_into-returns : goal.index_into-returns
-index_into-returns t c = (
-  follows value_of value_of (inputs_of c.args.self.now.inputs.now.entries) (item_value (index_of c.args.index.now)) _ _ _ _
-      c.in_ok-item.item _ c.in_ok-item.ensures.0 (rw c.in_ok-item.ensures.1.1 at c.element_value.ensures.0),
-  stays_on c.in_ok-item.ensures.1 c.element_value.ensures.1,
 )
 
 pub value-value-requires : goal.value-value-requires
@@ -663,24 +648,6 @@ values-loop-expr-preserved t c =
       below = omega arith;
     }
 
-pub item_value-only_item-requires : goal.item_value-only_item-requires
-item_value-only_item-requires t c =
-    let same = items_in_index c.args.index.now c.in-Items.items c.in-Items.is in
-    let room = rw same at c.requires in
-    let size = nodes_of_its_items c.args.index.now c.in-Items.items c.in-Items.is in
-    let below = c.decreases in
-    rw c.deref.ensures.value (omega arith, omega arith)
-
-pub item_value-returns-in-Items : goal.item_value-returns-in-Items
-item_value-returns-in-Items t c =
-    rw (items_in_index c.args.index.now c.in-Items.items c.in-Items.is, ← c.deref.ensures.value) c.only_item.ensures
-
-pub only_item-returns-then-not-is_empty : goal.only_item-returns-then-not-is_empty
-only_item-returns-then-not-is_empty t c =
-    let some = eqb-false (length c.in-Some.rest.now) 0 (sym c.is_empty.ensures ∙ c.if-not-is_empty.true) in
-    let same : c.args.items.now ≡ c.in-Some.item.now ∷ c.in-Some.rest.now = search (rules, c.in-Some.ensures) in
-    (rw (same, more_refused c.in-Some.item.now c.in-Some.rest.now some, c.unbuilt_form.ensures) refl, (refl, refl))
-
 pub value-chain_value-requires : goal.value-chain_value-requires
 value-chain_value-requires t c =
     let same = is_chain c.args.expr.now c.in-Chain.operand c.in-Chain.others c.in-Chain.is in
@@ -802,3 +769,176 @@ chain_value-loop-other-preserved t c =
       stays = stays_on c.loop-other.invariant.stays c.in_ok-found-2.ensures.1;
       below = omega arith;
     }
+
+pub index_into-returns-in_err-index : goal.index_into-returns-in_err-index
+index_into-returns-in_err-index t c = (
+  exits contents.index_of value_of (inputs_of c.args.self.now.inputs.now.entries) (index_parts (index_of c.args.index.now)) _ _ _ _ _
+      c.from_residual.ensures.1 c.in_err-index.ensures.0,
+  c.in_err-index.ensures.1,
+)
+
+pub index_into-returns : goal.index_into-returns
+index_into-returns t c = (
+  follows contents.index_of value_of (inputs_of c.args.self.now.inputs.now.entries) (index_parts (index_of c.args.index.now)) _ _ _ _
+      c.in_ok-index.index _ c.in_ok-index.ensures.0 (rw c.in_ok-index.ensures.1.1 at c.choose_value.ensures.0),
+  stays_on c.in_ok-index.ensures.1 c.choose_value.ensures.1,
+)
+
+-- ---- the items of an index
+
+pub index_value-item_values-requires : goal.index_value-item_values-requires
+index_value-item_values-requires t c =
+    let same = items_in_index c.args.index.now c.in-Items.items c.in-Items.is in
+    let room = rw same at c.requires in
+    let size = nodes_of_its_items c.args.index.now c.in-Items.items c.in-Items.is in
+    let below = c.decreases in
+    rw c.deref.ensures.value (omega arith, omega arith)
+
+pub item_values-loop-item-init : goal.item_values-loop-item-init
+item_values-loop-item-init t c = record { same = rw c.new-values.ensures.items refl; stays = (refl, refl); room = omega (arith, few_of_items (items_of (map item_of c.args.items.now)), c.requires); below = omega arith }
+
+pub item_values-item_value-requires : goal.item_values-item_value-requires
+item_values-item_value-requires t c =
+    let next = next_item c.args.items.now c.loop-item.item-index c.item-item.result c.loop-item-test.true c.item-item.is in
+    let room = rw next at c.loop-item.invariant.room in
+    let left = rw next at c.loop-item.invariant.below in
+    let below = c.decreases in
+    (omega arith, omega arith)
+
+pub item_values-returns-in_err-found : goal.item_values-returns-in_err-found
+item_values-returns-in_err-found t c =
+    let next = next_item c.args.items.now c.loop-item.item-index c.item-item.result c.loop-item-test.true c.item-item.is in (
+      rw (c.loop-item.invariant.same, next)
+          (exits contents.item_of contents.items_of (inputs_of c.args.self.now.inputs.now.entries) (item_parts (item_of c.item-item.result)) _ _ _ _ _ c.from_residual.ensures.1 (rw c.loop-item.invariant.stays.1 at c.in_err-found.ensures.0)),
+      stays_on c.loop-item.invariant.stays c.in_err-found.ensures.1,
+    )
+
+pub item_values-loop-item-preserved : goal.item_values-loop-item-preserved
+item_values-loop-item-preserved t c =
+    let i = inputs_of c.args.self.now.inputs.now.entries in
+    let e = item_of c.item-item.result in
+    let rest = items_of (map item_of (drop (c.loop-item.item-index + 1) c.args.items.now)) in
+    let next = next_item c.args.items.now c.loop-item.item-index c.item-item.result c.loop-item-test.true c.item-item.is in
+    let room = rw next at c.loop-item.invariant.room in
+    let left = rw next at c.loop-item.invariant.below in
+    let found = rw c.loop-item.invariant.stays.1 at c.in_ok-found.ensures.0 in
+    let made = next_item_parts i e _ _ _ found in
+    record {
+      stays = stays_on c.loop-item.invariant.stays c.in_ok-found.ensures.1;
+      same = c.loop-item.invariant.same
+          ∙ ap (λ (xs : List IndexItem). run i (items_then (items_of (map item_of xs)) (onto (map contents.item_of c.loop-item.values.items))) (live c.loop-item.self.session.now)) next
+          ∙ onto_more contents.item_of i (item_parts e) (items_then rest) (map contents.item_of c.loop-item.values.items) _ _ c.in_ok-found.found found
+          ∙ ap (λ (done : List ItemParts). run i (items_then rest (onto done)) (live c.item_value.new.self.session.now)) (sym (pushed contents.item_of _ _ _ c.in_ok-push.ensures.items));
+      room = omega arith;
+      below = omega arith;
+    }
+
+pub index_value-returns-in_err-items-in-Items : goal.index_value-returns-in_err-items-in-Items
+index_value-returns-in_err-items-in-Items t c =
+    let i = inputs_of c.args.self.now.inputs.now.entries in
+    let same = items_in_index c.args.index.now c.in-Items.items c.in-Items.is in (
+      rw same (exits contents.items_of contents.index_of i (items_parts (items_of (map item_of c.in-Items.items.items))) (λ xs. Gives (parts_of_items xs)) _ _ _ _
+          c.from_residual.ensures.1 (rw c.deref.ensures.value at c.in_err-items-in-Items.ensures.0)),
+      c.in_err-items-in-Items.ensures.1,
+    )
+
+pub index_value-returns-in_ok-items-in-Items : goal.index_value-returns-in_ok-items-in-Items
+index_value-returns-in_ok-items-in-Items t c =
+    let i = inputs_of c.args.self.now.inputs.now.entries in
+    let same = items_in_index c.args.index.now c.in-Items.items c.in-Items.is in (
+      rw same (goes contents.items_of i (items_parts (items_of (map item_of c.in-Items.items.items))) (λ xs. Gives (parts_of_items xs)) _ _
+          c.in_ok-items-in-Items.items (rw c.deref.ensures.value at c.in_ok-items-in-Items.ensures.0)),
+      c.in_ok-items-in-Items.ensures.1,
+    )
+
+pub item_value-returns-in_err-value-in-At : goal.item_value-returns-in_err-value-in-At
+item_value-returns-in_err-value-in-At t c = (
+  rw c.in-At.is (exits value_of contents.item_of (inputs_of c.args.self.now.inputs.now.entries) (meaning.value (expr_of c.in-At.expr)) (λ v. Gives (AtForm, (ArraysOnly, v) ∷ [])) _ _ _ _
+      c.from_residual.ensures.1 c.in_err-value-in-At.ensures.0),
+  c.in_err-value-in-At.ensures.1,
+)
+
+pub item_value-returns-in_ok-value-in-At : goal.item_value-returns-in_ok-value-in-At
+item_value-returns-in_ok-value-in-At t c = (
+  rw c.in-At.is (goes value_of (inputs_of c.args.self.now.inputs.now.entries) (meaning.value (expr_of c.in-At.expr)) (λ v. Gives (AtForm, (ArraysOnly, v) ∷ [])) _ _
+      c.in_ok-value-in-At.value c.in_ok-value-in-At.ensures.0),
+  c.in_ok-value-in-At.ensures.1,
+)
+
+pub item_value-returns-in_err-start-in-Slice : goal.item_value-returns-in_err-start-in-Slice
+item_value-returns-in_err-start-in-Slice t c =
+    let i = inputs_of c.args.self.now.inputs.now.entries in
+    let s = c.in-Slice in
+    let same = ap item_of s.is ∙ slice_is s.start s.stop s.step in (
+      ends_alike contents.item_of _ _ (ap (λ x. run i (item_parts x) (live c.args.self.now.session.now)) same)
+          (exits option_values contents.item_of i (values (bound_exprs (bound_of s.start))) _ _ _ _ _ c.from_residual-in_err-start-in-Slice.ensures.1 c.in_err-start-in-Slice.ensures.value.0),
+      c.in_err-start-in-Slice.ensures.value.1,
+    )
+
+pub item_value-bound_value-requires-in-Slice : goal.item_value-bound_value-requires-in-Slice
+item_value-bound_value-requires-in-Slice t c =
+    let i = inputs_of c.args.self.now.inputs.now.entries in
+    let s = c.in-Slice in
+    let same = ap item_of s.is ∙ slice_is s.start s.stop s.step in
+    let size = ap nodes_of_item s.is ∙ nodes_of_slice s.start s.stop s.step in
+    let room = rw same at c.requires in
+    let below = c.decreases in
+    let first = next_bound i (bound_of s.start) _ _ _ c.in_ok-start-in-Slice.ensures.value.0 in
+    (omega arith, omega arith)
+
+pub item_value-returns-in_err-stop-in-Slice : goal.item_value-returns-in_err-stop-in-Slice
+item_value-returns-in_err-stop-in-Slice t c =
+    let i = inputs_of c.args.self.now.inputs.now.entries in
+    let s = c.in-Slice in
+    let same = ap item_of s.is ∙ slice_is s.start s.stop s.step in
+    let stays = c.in_ok-start-in-Slice.ensures.value.1 in (
+      ends_alike contents.item_of _ _ (ap (λ x. run i (item_parts x) (live c.args.self.now.session.now)) same)
+          (follows option_values contents.item_of i (values (bound_exprs (bound_of s.start))) _ _ _ _ c.in_ok-start-in-Slice.start _ c.in_ok-start-in-Slice.ensures.value.0
+          (exits option_values contents.item_of i (values (bound_exprs (bound_of s.stop))) _ _ _ _ _ c.from_residual-in_err-stop-in-Slice.ensures.1 (rw stays.1 at c.in_err-stop-in-Slice.ensures.value.0))),
+      stays_on stays c.in_err-stop-in-Slice.ensures.value.1,
+    )
+
+pub item_value-bound_value-requires-in-Slice-2 : goal.item_value-bound_value-requires-in-Slice-2
+item_value-bound_value-requires-in-Slice-2 t c =
+    let i = inputs_of c.args.self.now.inputs.now.entries in
+    let s = c.in-Slice in
+    let same = ap item_of s.is ∙ slice_is s.start s.stop s.step in
+    let size = ap nodes_of_item s.is ∙ nodes_of_slice s.start s.stop s.step in
+    let room = rw same at c.requires in
+    let below = c.decreases in
+    let more = step_more (bound_of s.step) in
+    let first = next_bound i (bound_of s.start) _ _ _ c.in_ok-start-in-Slice.ensures.value.0 in
+    let second = next_bound i (bound_of s.stop) _ _ _ (rw c.in_ok-start-in-Slice.ensures.value.1.1 at c.in_ok-stop-in-Slice.ensures.value.0) in
+    (omega arith, omega arith)
+
+pub item_value-returns-in_err-step-in-Slice : goal.item_value-returns-in_err-step-in-Slice
+item_value-returns-in_err-step-in-Slice t c =
+    let i = inputs_of c.args.self.now.inputs.now.entries in
+    let s = c.in-Slice in
+    let same = ap item_of s.is ∙ slice_is s.start s.stop s.step in
+    let stays = stays_on c.in_ok-start-in-Slice.ensures.value.1 c.in_ok-stop-in-Slice.ensures.value.1 in (
+      ends_alike contents.item_of _ _ (ap (λ x. run i (item_parts x) (live c.args.self.now.session.now)) same)
+          (follows option_values contents.item_of i (values (bound_exprs (bound_of s.start))) _ _ _ _ c.in_ok-start-in-Slice.start _ c.in_ok-start-in-Slice.ensures.value.0
+          (follows option_values contents.item_of i (values (bound_exprs (bound_of s.stop))) _ _ _ _ c.in_ok-stop-in-Slice.stop _ (rw c.in_ok-start-in-Slice.ensures.value.1.1 at c.in_ok-stop-in-Slice.ensures.value.0)
+          (exits option_values contents.item_of i (values (bound_exprs (bound_of s.step))) _ _ _ _ _ c.from_residual-in_err-step-in-Slice.ensures.1 (rw stays.1 at c.in_err-step-in-Slice.ensures.value.0)))),
+      stays_on stays c.in_err-step-in-Slice.ensures.value.1,
+    )
+
+pub item_value-returns-in_ok-step-in-Slice : goal.item_value-returns-in_ok-step-in-Slice
+item_value-returns-in_ok-step-in-Slice t c =
+    let i = inputs_of c.args.self.now.inputs.now.entries in
+    let s = c.in-Slice in
+    let xs = c.in_ok-start-in-Slice.start in
+    let ys = c.in_ok-stop-in-Slice.stop in
+    let zs = c.in_ok-step-in-Slice.step in
+    let same = ap item_of s.is ∙ slice_is s.start s.stop s.step in
+    let before = stays_on c.in_ok-start-in-Slice.ensures.value.1 c.in_ok-stop-in-Slice.ensures.value.1 in
+    let form : Form = SliceForm (is_given (bound_of s.start)) (is_given (bound_of s.stop)) (is_given (bound_of s.step)) in
+    let gives : List model.Value → List model.Value → List model.Value → Eval ItemParts = λ ks bs ds. Gives (form, unused (ks ++ bs ++ ds)) in (
+      ap (λ x. run i (item_parts x) (live c.args.self.now.session.now)) same
+          ∙ goes option_values i (values (bound_exprs (bound_of s.start))) (λ ks. values (bound_exprs (bound_of s.stop)) >>= λ bs. values (bound_exprs (bound_of s.step)) >>= gives ks bs) _ _ xs c.in_ok-start-in-Slice.ensures.value.0
+          ∙ goes option_values i (values (bound_exprs (bound_of s.stop))) (λ bs. values (bound_exprs (bound_of s.step)) >>= gives (option_values xs) bs) _ _ ys (rw c.in_ok-start-in-Slice.ensures.value.1.1 at c.in_ok-stop-in-Slice.ensures.value.0)
+          ∙ goes option_values i (values (bound_exprs (bound_of s.step))) (gives (option_values xs) (option_values ys)) _ _ zs (rw before.1 at c.in_ok-step-in-Slice.ensures.value.0)
+          ∙ slice_seen _ _ _ _ xs ys zs c.in_ok-start-in-Slice.ensures.given c.in_ok-stop-in-Slice.ensures.given c.in_ok-step-in-Slice.ensures.given,
+      stays_on before c.in_ok-step-in-Slice.ensures.value.1,
+    )

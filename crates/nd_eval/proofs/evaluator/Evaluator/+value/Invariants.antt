@@ -1,16 +1,17 @@
 use Rattle.std.proofs.Common.{◌≡◌, ◌+◌, ◌<◌, ◌≤◌, ◌^◌, Ok, map, take, drop}
-use Rattle.nd_model.specs.Cells.{chained, elements_of}
+use Rattle.nd_model.specs.Cells.{chained, elements_of, items_of}
 use Rattle.nd_model.specs.Sound.{IsSound}
 use Rattle.nd_model.specs.Evaluation.{run}
 use Rattle.nd_model.specs.Meaning as meaning
-use Rattle.nd_model.specs.Tokens.{tokens_of_all, tokens_of_others}
+use Rattle.nd_model.specs.Tokens.{tokens_of_all, tokens_of_items, tokens_of_others}
 use Rattle.nd_syntax.specs.Lists.{operation_of}
-use Rattle.nd_syntax.specs.Syntax.{element_of, expr_of, suffix_of}
+use Rattle.nd_syntax.specs.Syntax.{element_of, expr_of, item_of, suffix_of}
 use Rattle.nd_heap.specs.Values.{value_of}
 use Rattle.nd_session.specs.Values.{inputs_of}
 use Rattle.nd_session.specs.Live.{live}
 use Rattle.nd_eval.specs.Ends.{Stays}
-use Rattle.nd_eval.specs.Parts.{exprs_in, exprs_of_element, values, values_behind, values_then}
+use Rattle.nd_eval.specs.Parts.{exprs_in, exprs_of_element, items_parts, items_then, values, values_behind, values_then}
+use Rattle.nd_eval.specs.Contents as contents
 use Rattle.nd_eval.specs.Contents.{values_of}
 use Rattle.nd_eval.specs.Uses.{IsHeld}
 use Rattle.nd_eval.proofs.InTurn.{onto}
@@ -65,14 +66,14 @@ decreases-index_into l = 1 + nodes_of_index l.index.now
 abbrev pub decreases-call_value : goal.decreases-call_value
 decreases-call_value l = nodes_of_call l.call.now
 
+abbrev pub decreases-index_value : goal.decreases-index_value
+decreases-index_value l = nodes_of_index l.index.now
+
+abbrev pub decreases-item_values : goal.decreases-item_values
+decreases-item_values l = 1 + nodes_of_items l.items.now
+
 abbrev pub decreases-item_value : goal.decreases-item_value
-decreases-item_value l = nodes_of_index l.index.now
-
-abbrev pub decreases-only_item : goal.decreases-only_item
-decreases-only_item l = 1 + nodes_of_items l.items.now
-
-abbrev pub decreases-lone_item : goal.decreases-lone_item
-decreases-lone_item l = nodes_of_item l.item.now
+decreases-item_value l = nodes_of_item l.item.now
 
 abbrev pub invariant-value-loop-suffix : goal.invariant-value-loop-suffix
 invariant-value-loop-suffix l =
@@ -115,4 +116,14 @@ invariant-values-loop-expr l = record {
   stays : Stays l.fn.self l.self;
   room : (live l.self.session.now).next + tokens_of_all (map expr_of (drop l.expr-index l.exprs)) < 2 ^ 64;
   below : nodes_of_exprs (drop l.expr-index l.exprs) ≤ nodes_of_exprs l.exprs;
+}
+
+-- the items so far stand before the others
+abbrev pub invariant-item_values-loop-item : goal.invariant-item_values-loop-item
+invariant-item_values-loop-item l = record {
+  same : run (inputs_of l.fn.self.inputs.now.entries) (items_parts (items_of (map item_of l.items))) (live l.fn.self.session.now)
+      ≡ run (inputs_of l.fn.self.inputs.now.entries) (items_then (items_of (map item_of (drop l.item-index l.items))) (onto (map contents.item_of l.values.items))) (live l.self.session.now);
+  stays : Stays l.fn.self l.self;
+  room : (live l.self.session.now).next + tokens_of_items (items_of (map item_of (drop l.item-index l.items))) ≤ 2 ^ 64;
+  below : nodes_of_items (drop l.item-index l.items) ≤ nodes_of_items l.items;
 }

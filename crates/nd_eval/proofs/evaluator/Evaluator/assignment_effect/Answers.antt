@@ -5,13 +5,14 @@ use Rattle.nd_model.specs.Operation.{act_on}
 use Rattle.nd_syntax.specs.Syntax.{expr_of, index_of}
 use Rattle.nd_heap.specs.Values.{value_of}
 use Rattle.nd_session.specs.Values.{inputs_of}
+use Rattle.nd_eval.specs.Contents as contents
 use Rattle.nd_eval.specs.Contents.{effect_of}
-use Rattle.nd_eval.specs.Parts.{item_value}
+use Rattle.nd_eval.specs.Parts.{index_parts}
 use Rattle.nd_eval.proofs.Bounds.{next_value}
-use Rattle.nd_eval.proofs.Chains.{exits, follows, ends_as}
+use Rattle.nd_eval.proofs.Chains.{exits, follows, ends_alike}
 use Rattle.nd_eval.proofs.Turns.{stays_on}
-use Rattle.nd_eval.proofs.Parts.{item_all}
-use Rattle.nd_eval.proofs.Held.{held_after, sound_after, value_held, item_held}
+use Rattle.nd_eval.proofs.Parts.{index_all}
+use Rattle.nd_eval.proofs.Held.{held_after, value_held}
 use Rattle.nd_eval.proofs.evaluator.Evaluator.assignment_effect.Goals as goal
 
 pub returns-in_err-written : goal.returns-in_err-written
@@ -35,48 +36,44 @@ returns-in_err-target c = (
   stays_on c.in_ok-written.ensures.1 c.in_err-target.ensures.1,
 )
 
-pub item_value-requires : goal.item_value-requires
-item_value-requires c =
+pub index_value-requires : goal.index_value-requires
+index_value-requires c =
     let i = inputs_of c.args.self.now.inputs.now.entries in
     let made = next_value i (expr_of c.args.expr.now) _ _ _ c.in_ok-written.ensures.0 in
     let more = next_value i (expr_of c.args.target.now) _ _ _ (rw c.in_ok-written.ensures.1.1 at c.in_ok-target.ensures.0) in
     omega arith
 
-pub returns-in_err-item : goal.returns-in_err-item
-returns-in_err-item c =
+pub returns-in_err-index : goal.returns-in_err-index
+returns-in_err-index c =
     let i = inputs_of c.args.self.now.inputs.now.entries in
     let v = value_of c.in_ok-written.written in
-    let t = value_of c.in_ok-target.target in (
+    let t = value_of c.in_ok-target.target in
+    let stays = stays_on c.in_ok-written.ensures.1 c.in_ok-target.ensures.1 in (
       follows value_of effect_of i (meaning.value (expr_of c.args.expr.now)) _ _ _ _ c.in_ok-written.written _ c.in_ok-written.ensures.0
           (follows value_of effect_of i (meaning.value (expr_of c.args.target.now)) _ _ _ _ c.in_ok-target.target _ (rw c.in_ok-written.ensures.1.1 at c.in_ok-target.ensures.0)
-          (ends_as effect_of i _ _ _ (item_all (index_of c.args.item.now) (λ vs. act_on meaning.assignment_deed ((Whole, v) ∷ (Unused, t) ∷ vs)))
-          (exits value_of effect_of i (item_value (index_of c.args.item.now)) _ _ _ _ _ c.from_residual-in_err-item.ensures.1 (rw (stays_on c.in_ok-written.ensures.1 c.in_ok-target.ensures.1).1 at c.in_err-item.ensures.0)))),
-      stays_on (stays_on c.in_ok-written.ensures.1 c.in_ok-target.ensures.1) c.in_err-item.ensures.1,
+          (ends_alike effect_of _ _ (index_all i (index_of c.args.index.now) (λ w vs. act_on (meaning.assignment_deed w) ((Whole, v) ∷ (Unused, t) ∷ vs)) _)
+          (exits contents.index_of effect_of i (index_parts (index_of c.args.index.now)) _ _ _ _ _ c.from_residual-in_err-index.ensures.1 (rw stays.1 at c.in_err-index.ensures.0)))),
+      stays_on stays c.in_err-index.ensures.1,
     )
+
+pub assign-requires : goal.assign-requires
+assign-requires c =
+    let i = inputs_of c.args.self.now.inputs.now.entries in
+    let v = c.in_ok-written.written in
+    held_after i (index_parts (index_of c.args.index.now)) _ _ _ v (rw (stays_on c.in_ok-written.ensures.1 c.in_ok-target.ensures.1).1 at c.in_ok-index.ensures.0)
+    (held_after i (meaning.value (expr_of c.args.target.now)) _ _ _ v (rw c.in_ok-written.ensures.1.1 at c.in_ok-target.ensures.0)
+    (value_held i (expr_of c.args.expr.now) _ _ v c.in_ok-written.ensures.0 c.soundness.ensures))
 
 pub returns : goal.returns
 returns c =
     let i = inputs_of c.args.self.now.inputs.now.entries in
     let v = value_of c.in_ok-written.written in
-    let t = value_of c.in_ok-target.target in (
+    let t = value_of c.in_ok-target.target in
+    let before = stays_on c.in_ok-written.ensures.1 c.in_ok-target.ensures.1 in
+    let stays = stays_on before c.in_ok-index.ensures.1 in (
       follows value_of effect_of i (meaning.value (expr_of c.args.expr.now)) _ _ _ _ c.in_ok-written.written _ c.in_ok-written.ensures.0
           (follows value_of effect_of i (meaning.value (expr_of c.args.target.now)) _ _ _ _ c.in_ok-target.target _ (rw c.in_ok-written.ensures.1.1 at c.in_ok-target.ensures.0)
-          (ends_as effect_of i _ _ _ (item_all (index_of c.args.item.now) (λ vs. act_on meaning.assignment_deed ((Whole, v) ∷ (Unused, t) ∷ vs)))
-          (follows value_of effect_of i (item_value (index_of c.args.item.now)) _ _ _ _ c.in_ok-item.item _ (rw (stays_on c.in_ok-written.ensures.1 c.in_ok-target.ensures.1).1 at c.in_ok-item.ensures.0) (rw (stays_on (stays_on c.in_ok-written.ensures.1 c.in_ok-target.ensures.1) c.in_ok-item.ensures.1).1 at c.assign.ensures.0)))),
-      stays_on (stays_on (stays_on c.in_ok-written.ensures.1 c.in_ok-target.ensures.1) c.in_ok-item.ensures.1) c.assign.ensures.1,
+          (ends_alike effect_of _ _ (index_all i (index_of c.args.index.now) (λ w vs. act_on (meaning.assignment_deed w) ((Whole, v) ∷ (Unused, t) ∷ vs)) _)
+          (follows contents.index_of effect_of i (index_parts (index_of c.args.index.now)) _ _ _ _ c.in_ok-index.index _ (rw before.1 at c.in_ok-index.ensures.0) (rw stays.1 at c.assign.ensures.0)))),
+      stays_on stays c.assign.ensures.1,
     )
-
-pub assign-requires-clause-value : goal.assign-requires-clause-value
-assign-requires-clause-value c =
-    let i = inputs_of c.args.self.now.inputs.now.entries in
-    let v = c.in_ok-written.written in
-    held_after i (item_value (index_of c.args.item.now)) _ _ _ v (rw (stays_on c.in_ok-written.ensures.1 c.in_ok-target.ensures.1).1 at c.in_ok-item.ensures.0)
-    (held_after i (meaning.value (expr_of c.args.target.now)) _ _ _ v (rw c.in_ok-written.ensures.1.1 at c.in_ok-target.ensures.0)
-    (value_held i (expr_of c.args.expr.now) _ _ v c.in_ok-written.ensures.0 c.soundness.ensures))
-
-pub assign-requires-clause-item : goal.assign-requires-clause-item
-assign-requires-clause-item c =
-    let i = inputs_of c.args.self.now.inputs.now.entries in
-    item_held i (index_of c.args.item.now) _ _ c.in_ok-item.item (rw (stays_on c.in_ok-written.ensures.1 c.in_ok-target.ensures.1).1 at c.in_ok-item.ensures.0)
-    (sound_after i (meaning.value (expr_of c.args.target.now)) _ _ _ (rw c.in_ok-written.ensures.1.1 at c.in_ok-target.ensures.0)
-    (sound_after i (meaning.value (expr_of c.args.expr.now)) _ _ _ c.in_ok-written.ensures.0 c.soundness.ensures))

@@ -1,47 +1,37 @@
-use Rattle.std.proofs.Common.{refl, ap}
-use Rattle.nd_model.specs.Evaluation.{◌>>=◌, decide}
-use Rattle.nd_model.specs.Index.{index_array}
-use Rattle.nd_model.specs.Operand.{AnElement}
-use Rattle.nd_model.specs.Operation.{choose_of}
-use Rattle.nd_heap.specs.declared.value.Value.TheVariants as found
-use Rattle.nd_heap.specs.Values.{value_of}
+use Rattle.std.proofs.Common.{refl, rules, ◌≡◌, ◌∙◌, ℤ, Ok, get_or, sym, ap, ap₂, to_z, of_z}
+use Rattle.std.specs.Int.{w128}
+use Rattle.std.specs.Int.RustNames.{FitsSigned}
+use Rattle.std.proofs.lemmas.Int.{to_z-of_z}
+use Rattle.nd_model.specs.Element.{Kind}
+use Rattle.nd_model.specs.Value.{Scalar}
+use Rattle.nd_model.specs.Running.{Running, Use, after}
+use Rattle.nd_model.specs.View.{One, element_places}
+use Rattle.nd_model.specs.Evaluation.{run}
+use Rattle.nd_model.specs.Content.{number_at}
+use Rattle.nd_model.specs.Operation as operation
+use Rattle.nd_types.specs.Types.{type_of}
+use Rattle.nd_heap.specs.Values.{base_of}
 use Rattle.nd_session.specs.Values.{inputs_of}
 use Rattle.nd_session.specs.Live.{live}
-use Rattle.nd_operation.specs.Contents.{operand_of, unused_of}
-use Rattle.nd_eval.proofs.Chains.{ends_as, exits_saying, follows_saying}
-use Rattle.nd_eval.proofs.Parts.{element_parts}
-use Rattle.nd_eval.proofs.Uses.{index_alike, item_kept, follows_item}
-use Rattle.nd_eval.proofs.Held.{held_item_marked}
+use Rattle.nd_operation.proofs.Decoding.{used_alone}
 use Rattle.nd_eval.proofs.evaluator.Evaluator.element_value.Goals as goal
 
-pub operand_in-requires : goal.operand_in-requires
-operand_in-requires c =
-    held_item_marked c.args.item.now c.args.item.now (live c.args.self.now.session.now) (live c.mark_item.new.session) c.in_ok-mark_item.ensures c.requires
-
-pub returns-in_err-place : goal.returns-in_err-place
-returns-in_err-place c =
+pub returns-in_ok-mark_element-in-One : goal.returns-in_ok-mark_element-in-One
+returns-in_ok-mark_element-in-One c =
     let i = inputs_of c.args.self.now.inputs.now.entries in
-    let t = found.Array c.in-Array.array in
-    let v = c.args.item.now in (
-      rw c.in-Array.is (ends_as value_of i _ _ _ (element_parts t v)
-          (follows_item value_of i v (λ o. decide (index_array (unused_of t) o) >>= λ x. choose_of (value_of t) x) _ _ _ _ c.operand_in.result _
-          (λ b. ap (λ m. decide m >>= λ x. choose_of (value_of t) x) (index_alike (unused_of t) v b)) c.in_ok-mark_item.ensures
-          (item_kept v _ _ c.in_ok-mark_item.ensures) c.operand_in.ensures
-          (exits_saying (AnElement c.in-Array.array.view.element) value_of i (index_array (unused_of t) (operand_of c.operand_in.result)) (λ x. choose_of (value_of t) x) _ _ _
-          c.from_residual-in_err-place.ensures.1 c.in_err-place.ensures.place))),
+    let r = live c.args.self.now.session.now in
+    let g = c.args.view in
+    let b = base_of c.args.base in
+    let e = c.in-One.elem in
+    let p = c.place_of-place.result in
+    let z : ℤ = c.number_in-number.result in
+    let fits : FitsSigned w128 z = search rules in
+    let typed : g.element ≡ One e = sym c.elem.ensures ∙ ap type_of c.in-One.is in
+    let place : get_or g.places 0 0 ≡ p = sym c.place_of-place.ensures.value in
+    let block : c.bytes.result.now ≡ r.bytes b = c.bytes.ensures ∙ ap (λ (q : Running). q.bytes b) c.in_ok-mark_element-in-One.ensures in
+    let number : to_z w128 (of_z w128 z) ≡ number_at e (r.bytes b) p = to_z-of_z w128 z fits ∙ c.number_in-number.ensures ∙ ap (λ l. number_at e l p) block in (
+      (λ j. run i (operation.element_of b g.writable (typed j) (place j)) r)
+          ∙ ap (λ z. (Ok (Scalar e.kind z), after (Use b (element_places (One e) p)) r)) (used_alone e (r.bytes b) p ∙ sym number)
+          ∙ ap₂ (λ (k : Kind) (s : Running). (Ok (Scalar k (to_z w128 (of_z w128 z))), s)) (sym c.kind.ensures) (sym c.in_ok-mark_element-in-One.ensures),
       (refl, refl),
-    )
-
-pub returns : goal.returns
-returns c =
-    let i = inputs_of c.args.self.now.inputs.now.entries in
-    let t = found.Array c.in-Array.array in
-    let v = c.args.item.now in (
-      rw c.in-Array.is (ends_as value_of i _ _ _ (element_parts t v)
-          (follows_item value_of i v (λ o. decide (index_array (unused_of t) o) >>= λ x. choose_of (value_of t) x) _ _ _ _ c.operand_in.result _
-          (λ b. ap (λ m. decide m >>= λ x. choose_of (value_of t) x) (index_alike (unused_of t) v b)) c.in_ok-mark_item.ensures
-          (item_kept v _ _ c.in_ok-mark_item.ensures) c.operand_in.ensures
-          (follows_saying (AnElement c.in-Array.array.view.element) value_of i (index_array (unused_of t) (operand_of c.operand_in.result)) (λ x. choose_of (value_of t) x) _ _
-          c.in_ok-place.place _ c.in_ok-place.ensures.place c.element_of.ensures.0))),
-      c.element_of.ensures.1,
     )

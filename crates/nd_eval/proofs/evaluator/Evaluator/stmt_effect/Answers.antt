@@ -13,4 +13,4 @@ pub returns-in-Assign : goal.returns-in-Assign
 returns-in-Assign c =
     let a = c.in-Assign in
     rw a.is
-    (quiet_assignment effect_of (inputs_of c.args.self.now.inputs.now.entries) _ _ c.assignment_effect.result (expr_of a.target) (index_of a.item) (expr_of a.expr) c.assignment_effect.ensures.0, c.assignment_effect.ensures.1)
+    (quiet_assignment effect_of (inputs_of c.args.self.now.inputs.now.entries) _ _ c.assignment_effect.result (expr_of a.target) (index_of a.index) (expr_of a.expr) c.assignment_effect.ensures.0, c.assignment_effect.ensures.1)

@@ -1,0 +1,26 @@
+-- Views of another shape or type lie where the view lies.
+use Rattle.std.specs.Prelude.{◌≡◌, ℕ, ◌<◌, ◌≤◌, ◌^◌, true, ℤ, pos, ◌↔◌, List, length, slice_index, Ok}
+use Rattle.std.specs.List.{All}
+use Rattle.nd_model.specs.Element.{Element}
+use Rattle.nd_model.specs.Tuple.{elements_of, number}
+use Rattle.nd_model.specs.View.{Geo}
+use Rattle.nd_model.specs.Sound.{LiesIn}
+use Rattle.nd_model.specs.Transposing.{transpose, reversed_view}
+use Rattle.nd_model.specs.Stretching.{broadcast_to}
+use Rattle.nd_model.specs.Recasting.{view_as}
+
+-- THE LAW OF TRANSPOSED VIEWS
+abbrev pub TransposedLies : Type 0
+TransposedLies = (zs : List ℤ) (g h : Geo) (len : ℕ) → LiesIn len g → transpose zs g ≡ Ok h → LiesIn len h
+
+-- THE LAW OF REVERSED AXES
+abbrev pub ReversedLies : Type 0
+ReversedLies = (g : Geo) (len : ℕ) → LiesIn len g → LiesIn len (reversed_view g)
+
+-- THE LAW OF BROADCASTING
+abbrev pub StretchedLies : Type 0
+StretchedLies = (shape : List ℕ) (g h : Geo) (len : ℕ) → LiesIn len g → broadcast_to shape g ≡ Ok h → LiesIn len h
+
+-- THE LAW OF OTHER TYPES
+abbrev pub RecastLies : Type 0
+RecastLies = (e : Element) (g h : Geo) (len : ℕ) → LiesIn len g → view_as e g ≡ Ok h → LiesIn len h

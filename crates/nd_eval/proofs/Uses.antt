@@ -188,7 +188,7 @@ pub each_used : {A : Type 0} (i : Inputs) (vs : List (Usage × model_value.Value
 each_used i [] go r h = refl
 each_used i (v ∷ vs) go r h =
     one_used i v.0 v.1 (λ o. operands vs (λ os. go (o ∷ os))) r (λ o. ap (operands vs) (λ k os. (h (o ∷ os) ∙ sym (h (bare o ∷ os) ∙ ap (λ p. go (p ∷ map bare os)) (sym (twice_bare o)))) k))
-    ∙ each_used i vs (λ os. go (bare_value v.1 ∷ os)) (mark v.0 v.1 r) (λ os. h (bare_value v.1 ∷ os) ∙ ap (λ p. go (p ∷ map bare os)) (bare_is v.1) )
+    ∙ each_used i vs (λ os. go (bare_value v.1 ∷ os)) (mark v.0 v.1 r) (λ os. h (bare_value v.1 ∷ os) ∙ ap (λ p. go (p ∷ map bare os)) (bare_is v.1))
   where
     twice_bare : (o : model.Operand) → bare o ≡ bare (bare o)
     twice_bare (model.Plain n) = refl

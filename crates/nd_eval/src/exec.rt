@@ -52,7 +52,12 @@ impl Evaluator<'_> {
     }
 
     /// What an assignment of these values comes to.
-    fn assign(&mut self, value: &Value, target: &Value, index: &IndexValue<'_>) -> Result<Effect, Stop>
+    fn assign(
+        &mut self,
+        value: &Value,
+        target: &Value,
+        index: &IndexValue<'_>,
+    ) -> Result<Effect, Stop>
         requires { IsHeld (session_of self.old) value.now }
         ensures { Evaluates effect_of result self.old (parts.assignment (value_of value.now)
             (value_of target.now) (contents.index_of index.now)) self.new }

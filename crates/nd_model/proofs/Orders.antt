@@ -101,7 +101,7 @@ pub all_distinct : (xs ys : List ℕ) → AreDistinct ys → AreIn ys xs → len
 all_distinct [] ys d all le = tt
 all_distinct (x ∷ xs) ys d all le =
     let once : is_in x xs ≡ false = is_not (is_in x xs) (λ twice.
-        let fewer = enough ys xs d (λ y e. elim (in_cases y x xs (all y e)) [ inl is ↦ let same : y ≡ x = is.1 in rw same twice | inr later ↦ later.1 ]) in absurd (omega (arith, fewer))) in
+    let fewer = enough ys xs d (λ y e. elim (in_cases y x xs (all y e)) [ inl is ↦ let same : y ≡ x = is.1 in rw same twice | inr later ↦ later.1 ]) in absurd (omega (arith, fewer))) in
     let rest : AreIn (without x ys) xs = λ y e. elim (in_cases y x xs (all y (of_without x y ys e))) [
       | inl is ↦ let same : y ≡ x = is.1 in absurd (not_both (is_in x (without x ys)) (rw same at e) (gone x ys d))
       | inr later ↦ later.1

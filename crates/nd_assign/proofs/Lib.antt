@@ -1,0 +1,9 @@
+pub mod Assigned
+pub mod Bytewise
+pub mod Copied
+pub mod Fielded
+pub mod Limited
+pub mod Nearer
+pub mod Parted
+pub mod SameTypes
+pub mod Stretched

@@ -1,0 +1,6 @@
+pub mod Assigned
+pub mod Copies
+pub mod SideBySide
+pub mod Sources
+pub mod Stretched
+pub mod Walks

@@ -1,0 +1,135 @@
+//! Which loop copies a run of numbers. Each has the kernel's contract, so which elements have a loop of their own is a question of
+//! speed alone.
+ghost use Rattle.std.specs.Prelude.{◌≡◌, length, IsTrue, ◌↔◌};
+ghost use Rattle.nd_model.specs.View.{One};
+ghost use Rattle.nd_element.specs.Elements.{AreHeld};
+ghost use Rattle.nd_assign.specs.Copies.{with_copies};
+
+use crate::gapless::{copy_gapless, is_gapless, keeps_bytes};
+use crate::kernel::copy_run;
+use nd_types::{Elem, Kind};
+use nd_view::Run;
+
+// The numbers of a run for any elements, where no loop is made for them alone.
+#[inline(never)]
+fn copy_any(out: &mut [u8], to: Elem, run: &Run, bytes: &[u8], from: Elem, from_run: &Run)
+    requires counts { length from_run.now ≡ length run.now }
+    requires out { AreHeld to out.old run.now }
+    requires held { AreHeld from bytes.now from_run.now }
+    ensures len { length out.new ≡ length out.old }
+    ensures bytes { out.new ≡ with_copies (One to) (One from) bytes.now run.now from_run.now
+        out.old }
+{
+    copy_run(out, to, run, bytes, from, from_run);
+}
+
+/// Returns whether both are one element.
+#[inline(always)]
+pub(crate) fn is_elem(elem: Elem, other: Elem) -> bool
+    ensures { IsTrue result ↔ (elem ≡ other) }
+{
+    elem == other
+}
+
+// The same, by a loop for the two elements that are known, if they are these.
+#[inline(always)]
+fn copy_known(
+    known_to: Elem,
+    known_from: Elem,
+    out: &mut [u8],
+    to: Elem,
+    run: &Run,
+    bytes: &[u8],
+    from: Elem,
+    from_run: &Run,
+)
+    requires counts { length from_run.now ≡ length run.now }
+    requires out { AreHeld to out.old run.now }
+    requires held { AreHeld from bytes.now from_run.now }
+    ensures len { length out.new ≡ length out.old }
+    ensures bytes { out.new ≡ with_copies (One to) (One from) bytes.now run.now from_run.now
+        out.old }
+{
+    if is_elem(to, known_to) && is_elem(from, known_from) {
+        copy_run(out, known_to, run, bytes, known_from, from_run);
+    } else {
+        copy_any(out, to, run, bytes, from, from_run);
+    }
+}
+
+// The same, by a loop for each kind of numbers that stay in their kind. The lowest byte comes first.
+#[inline(never)]
+fn copy_alike(out: &mut [u8], to: Elem, run: &Run, bytes: &[u8], from: Elem, from_run: &Run)
+    requires counts { length from_run.now ≡ length run.now }
+    requires out { AreHeld to out.old run.now }
+    requires held { AreHeld from bytes.now from_run.now }
+    ensures len { length out.new ≡ length out.old }
+    ensures bytes { out.new ≡ with_copies (One to) (One from) bytes.now run.now from_run.now
+        out.old }
+{
+    match from.kind() {
+        Kind::Bool => {
+            let known = Elem::little(Kind::Bool);
+            copy_known(known, known, out, to, run, bytes, from, from_run);
+        }
+        Kind::I8 => {
+            let known = Elem::little(Kind::I8);
+            copy_known(known, known, out, to, run, bytes, from, from_run);
+        }
+        Kind::I16 => {
+            let known = Elem::little(Kind::I16);
+            copy_known(known, known, out, to, run, bytes, from, from_run);
+        }
+        Kind::I32 => {
+            let known = Elem::little(Kind::I32);
+            copy_known(known, known, out, to, run, bytes, from, from_run);
+        }
+        Kind::I64 => {
+            let known = Elem::little(Kind::I64);
+            copy_known(known, known, out, to, run, bytes, from, from_run);
+        }
+        Kind::U8 => {
+            let known = Elem::little(Kind::U8);
+            copy_known(known, known, out, to, run, bytes, from, from_run);
+        }
+        Kind::U16 => {
+            let known = Elem::little(Kind::U16);
+            copy_known(known, known, out, to, run, bytes, from, from_run);
+        }
+        Kind::U32 => {
+            let known = Elem::little(Kind::U32);
+            copy_known(known, known, out, to, run, bytes, from, from_run);
+        }
+        Kind::U64 => {
+            let known = Elem::little(Kind::U64);
+            copy_known(known, known, out, to, run, bytes, from, from_run);
+        }
+    }
+}
+
+/// Copies the numbers of a run to another one, converted.
+pub(crate) fn copy_numbers(
+    out: &mut [u8],
+    to: Elem,
+    run: &Run,
+    bytes: &[u8],
+    from: Elem,
+    from_run: &Run,
+)
+    requires counts { length from_run.now ≡ length run.now }
+    requires out { AreHeld to out.old run.now }
+    requires held { AreHeld from bytes.now from_run.now }
+    ensures len { length out.new ≡ length out.old }
+    ensures bytes { out.new ≡ with_copies (One to) (One from) bytes.now run.now from_run.now
+        out.old }
+{
+    if is_elem(to, from) {
+        if keeps_bytes(to) && is_gapless(run, to) && is_gapless(from_run, to) {
+            copy_gapless(out, to, run, bytes, from_run);
+            return;
+        }
+        copy_alike(out, to, run, bytes, from, from_run);
+    } else {
+        copy_any(out, to, run, bytes, from, from_run);
+    }
+}

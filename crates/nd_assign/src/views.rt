@@ -1,0 +1,87 @@
+//! Copies of the elements of one view to those of another, in C order.
+ghost use Rattle.std.specs.Prelude.{◌≡◌, ◌+◌, ◌≤◌, ◌++◌, length, take, true};
+ghost use Rattle.std.specs.List.{All};
+ghost use Rattle.nd_model.specs.Conversion.{converts};
+ghost use Rattle.nd_model.specs.View.{item_size};
+ghost use Rattle.nd_types.specs.Types.{type_of};
+ghost use Rattle.nd_assign.specs.Copies.{with_copies};
+
+use crate::pairs::copy_numbers;
+use crate::structures::copy_structures;
+use crate::walk::Walk;
+use nd_types::ElemType;
+use nd_view::{Run, View};
+
+// Copies the elements of a run to another one.
+fn copy_part(
+    out: &mut [u8],
+    to: &ElemType,
+    run: &Run,
+    bytes: &[u8],
+    from: &ElemType,
+    from_run: &Run,
+)
+    requires types { converts (type_of from.now) (type_of to.now) ≡ true }
+    requires counts { length from_run.now ≡ length run.now }
+    requires out { All (λ p. p + item_size (type_of to.now) ≤ length out.old) run.now }
+    requires held { All (λ p. p + item_size (type_of from.now) ≤ length bytes.now) from_run.now }
+    ensures len { length out.new ≡ length out.old }
+    ensures bytes { out.new ≡ with_copies (type_of to.now) (type_of from.now) bytes.now run.now
+        from_run.now out.old }
+{
+    match (to, from) {
+        (ElemType::One(to), ElemType::One(from)) => {
+            copy_numbers(out, *to, run, bytes, *from, from_run);
+        }
+        (ElemType::Rec(structure), ElemType::Rec(_)) => {
+            copy_structures(out, structure, run, bytes, from_run);
+        }
+        _ => unreachable!(),
+    }
+}
+
+// Copies to a run as many of the elements that are left of a walk.
+fn copy_next(
+    out: &mut [u8],
+    to: &ElemType,
+    run: &Run,
+    bytes: &[u8],
+    from: &ElemType,
+    walk: &mut Walk<'_>,
+)
+    requires types { converts (type_of from.now) (type_of to.now) ≡ true }
+    requires enough { length run.now ≤ length walk.old }
+    requires out { All (λ p. p + item_size (type_of to.now) ≤ length out.old) run.now }
+    requires held { All (λ p. p + item_size (type_of from.now) ≤ length bytes.now) walk.old }
+    ensures len { length out.new ≡ length out.old }
+    ensures walk { walk.old ≡ take (length run.now) walk.old ++ walk.new }
+    ensures bytes { out.new ≡ with_copies (type_of to.now) (type_of from.now) bytes.now run.now
+        (take (length run.now) walk.old) out.old }
+{
+    let count = run.count();
+    let mut at = 0;
+    while at < count {
+        let next = walk.next(count - at);
+        let some = next.count();
+        copy_part(out, to, &run.part(at, some), bytes, from, &next);
+        at += some;
+    }
+}
+
+/// Copies the elements of a view of these bytes to the target, converted, in C order.
+pub(crate) fn copy_views(out: &mut [u8], target: &View, bytes: &[u8], source: &View)
+    requires types { converts source.now.element target.now.element ≡ true }
+    requires counts { length source.now.places ≡ length target.now.places }
+    requires out { All (λ p. p + item_size target.now.element ≤ length out.old) target.now.places }
+    requires held { All (λ p. p + item_size source.now.element ≤ length bytes.now)
+        source.now.places }
+    ensures len { length out.new ≡ length out.old }
+    ensures bytes { out.new ≡ with_copies target.now.element source.now.element bytes.now
+        target.now.places source.now.places out.old }
+{
+    let mut walk = Walk::new(source);
+    let mut runs = target.runs();
+    while let Some(run) = runs.next() {
+        copy_next(out, target.elem(), &run, bytes, source.elem(), &mut walk);
+    }
+}

@@ -1,5 +1,5 @@
 -- What is assigned to a target, by the places of the values beside it.
-use Rattle.std.proofs.Common.{◌≡◌, ℕ, ℤ, zero, suc, ◌+◌, ◌-◌, ◌*◌, ◌<◌, ◌≤◌, true, List, [], ◌∷◌, ◌++◌, map, length, take, drop, get_or, refl, sym, ap, ◌∙◌, subst, arith}
+use Rattle.std.proofs.Common.{◌≡◌, ℕ, ℤ, ◌+◌, ◌-◌, ◌*◌, true, List, [], ◌∷◌, map, length, drop, get_or, sym, ap, ◌∙◌, arith}
 use Rattle.std.specs.Prelude.{pos}
 use Rattle.std.proofs.lemmas.List.{get_or-map, take_at}
 use Rattle.nd_model.specs.Assigning.{value_shape, fits_into, assigned_writes}
@@ -11,7 +11,6 @@ use Rattle.nd_model.specs.Tuple.{elements_of, indices, number}
 use Rattle.nd_model.specs.View.{Geo, One, contiguous}
 use Rattle.nd_model.specs.Element.{Element, size_of, IsValue, value_of, bytes_of, with_bytes, wrap}
 use Rattle.nd_model.proofs.Values.{length-bytes_of, round_trip, wrap_value, wrap_in_range}
-use Rattle.nd_view.specs.Indexes.{IsIndex}
 use Rattle.nd_view.proofs.Indexed.{same_indexes}
 use Rattle.nd_view.proofs.Tuples.{map-map, map_same}
 use Rattle.nd_assign.specs.Assigned.{with_elements, with_number}

@@ -1,12 +1,11 @@
 -- Numbers that stay in their type, byte by byte.
 use Rattle.std.proofs.Common.{◌≡◌, ◌≢◌, ℕ, ℤ, pos, zero, suc, ◌+◌, ◌-◌, ◌*◌, ◌<◌, ◌≤◌, List, [], ◌∷◌, ◌++◌, map, length, take, drop, get_or, refl, sym, ap, ◌∙◌, subst, arith, append-nil, append_assoc, Fits, w8}
 use Rattle.std.specs.List.{All}
-use Rattle.std.proofs.Math.Nat.{mul-le-mul_right}
-use Rattle.std.proofs.lemmas.List.{take-append-drop, drop-drop, length-map, get_or-map}
+use Rattle.std.proofs.lemmas.List.{take-append-drop, drop-drop, get_or-map}
 use Rattle.std.proofs.lemmas.List.Elements.{All-take, All-drop}
 use borrow.Rule.Slice.PartMut.{put_mid}
-use Rattle.nd_model.specs.Content.{Num, number_at, writes, all_writes}
-use Rattle.nd_model.specs.Element.{Kind, Boolean, Element, width_of, size_of, residue, value_of, bytes_in, bytes_of, bytes_at, with_bytes, wrap}
+use Rattle.nd_model.specs.Content.{number_at, writes, all_writes}
+use Rattle.nd_model.specs.Element.{Kind, Boolean, Element, width_of, size_of, residue, bytes_in, bytes_of, bytes_at, with_bytes, wrap}
 use Rattle.nd_model.specs.Runs.{place_at, run_places}
 use Rattle.nd_model.specs.Session.{put}
 use Rattle.nd_model.specs.Tuple.{count_up}

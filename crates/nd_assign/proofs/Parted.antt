@@ -1,13 +1,13 @@
 -- Copies within parts of a block.
-use Rattle.std.proofs.Common.{◌≡◌, ℕ, ℤ, zero, suc, ◌+◌, ◌-◌, ◌*◌, ◌<◌, ◌≤◌, List, [], ◌∷◌, ◌++◌, map, length, take, drop, get_or, refl, sym, ap, ap₂, ◌∙◌, subst, arith}
+use Rattle.std.proofs.Common.{◌≡◌, ℕ, ℤ, zero, suc, ◌+◌, ◌-◌, ◌<◌, ◌≤◌, List, [], ◌∷◌, ◌++◌, map, take, drop, refl, sym, ap, ap₂, ◌∙◌, arith}
 use Rattle.std.specs.Prelude.{slice_set}
 use Rattle.std.specs.List.{All, zip}
 use Rattle.std.proofs.lemmas.List.{take-append-drop, drop-drop, drop-take, map-append}
 use Rattle.std.proofs.lemmas.List.Elements.{All-map}
 use Rattle.nd_model.specs.Content.{Content, Num, Rec, number_at, content_at, number_writes, field_writes, writes, all_writes}
 use Rattle.nd_model.specs.Conversion.{converted_content}
-use Rattle.nd_model.specs.Element.{Element, size_of, value_of, bytes_of, bytes_at}
-use Rattle.nd_model.specs.Selected.{HoldsFields}
+use Rattle.nd_model.specs.Element.{size_of, value_of, bytes_of, bytes_at}
+use Rattle.nd_assign.specs.HeldFields.{HoldsFields}
 use Rattle.nd_model.specs.Session.{put}
 use Rattle.nd_model.specs.Tuple.{count_up}
 use Rattle.nd_model.specs.View.{Field, ElementType, One, Structure, item_size}

@@ -8,7 +8,7 @@ use Rattle.std.proofs.lemmas.Bool.Decides.{nat_tests}
 use Rattle.std.proofs.lemmas.Int.{ints}
 use Rattle.std.proofs.lemmas.List.{length-replicate, length-map, drop_all}
 use Rattle.nd_model.specs.Assigning.{without_ones, value_shape, fits_into}
-use Rattle.nd_model.specs.Broadcast.{can_stretch, narrowed_axes, own_tuple, broadcasts_to}
+use Rattle.nd_model.specs.Broadcast.{can_stretch, narrowed_axes, own_tuple}
 use Rattle.nd_model.specs.Strides.{way_to, begins_at, place_at, places_by, is_held, are_held, IsInLimits, parts_fault}
 use Rattle.nd_model.specs.Tuple.{elements_of, indices, number}
 use Rattle.nd_model.specs.View.{Geo}

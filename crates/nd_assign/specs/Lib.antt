@@ -4,3 +4,4 @@ pub mod SideBySide
 pub mod Sources
 pub mod Stretched
 pub mod Walks
+pub mod HeldFields

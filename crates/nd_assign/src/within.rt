@@ -3,7 +3,7 @@ ghost use Rattle.std.specs.Prelude.{◌≡◌, ◌≢◌, ◌+◌, ◌≤◌, �
 ghost use Rattle.std.specs.List.{All};
 ghost use Rattle.nd_model.specs.Conversion.{converts};
 ghost use Rattle.nd_model.specs.Element.{Boolean, size_of};
-ghost use Rattle.nd_model.specs.Selected.{HoldsFields};
+ghost use Rattle.nd_assign.specs.HeldFields.{HoldsFields};
 ghost use Rattle.nd_model.specs.View.{item_size};
 ghost use Rattle.nd_types.specs.Types.{type_of};
 ghost use Rattle.nd_assign.specs.Copies.{with_copies};

@@ -1,13 +1,15 @@
 //! How long bulk work takes. `nd_bench copy` prints the times of a copy within a block and of the standard library's, and their
 //! ratio; `nd_bench numbers [COUNT]` prints for each of three arrays its name, how many numbers it has, their sum, and how many
 //! nanoseconds it takes to add them up; `nd_bench convert [COUNT]` prints the same for each of three conversions to a new array, with
-//! the sum of what the numbers become; `nd_bench text [COUNT]` prints for each of three arrays its name, how many elements it has, how
-//! long its text is, and how many nanoseconds it takes to make it; `nd_bench cells [COUNT]` edits notebooks of many cells, and prints
-//! how long that takes. Without a word it prints how it is called.
+//! the sum of what the numbers become; `nd_bench assign` prints the same for each of five assignments to the elements of an array of
+//! 10,000,000 numbers, with the sum of its block; `nd_bench text [COUNT]` prints for each of three arrays its name, how many elements
+//! it has, how long its text is, and how many nanoseconds it takes to make it; `nd_bench cells [COUNT]` edits notebooks of many cells,
+//! and prints how long that takes. Without a word it prints how it is called.
 #![tactic(auto)]
 
 ghost use Rattle.std.specs.Prelude.{◌≤◌, ◌^◌, ⊤, MatchOption};
 
+mod assign;
 mod cells;
 mod convert;
 mod copy;
@@ -15,6 +17,7 @@ mod mixed;
 mod numbers;
 mod text;
 
+use crate::assign::measure_assign;
 use crate::cells::measure_cells;
 use crate::convert::measure_convert;
 use crate::copy::measure_copy;
@@ -59,10 +62,11 @@ fn main(rt: HostRuntime) -> io::Result<()> {
         (Some("copy"), _) => measure_copy(&rt, ELEMENTS),
         (Some("numbers"), Some(count)) => measure_numbers(&rt, count),
         (Some("convert"), Some(count)) => measure_convert(&rt, count),
+        (Some("assign"), _) => measure_assign(&rt),
         (Some("text"), Some(count)) => measure_text(&rt, count.min(MOST_SHOWN)),
         (Some("cells"), Some(count)) => measure_cells(&rt, count.min(MOST_CELLS)),
         _ => println!(rt;
-            "usage: nd_bench copy | numbers [COUNT] | convert [COUNT] | text [COUNT] | cells [COUNT]"
+            "usage: nd_bench copy | numbers [COUNT] | convert [COUNT] | assign | text [COUNT] | cells [COUNT]"
         ),
     }
 }

@@ -1,4 +1,4 @@
-use Rattle.std.proofs.Common.{rules, tests, ◌≡◌, ℤ, pos, sym, ap, ◌∙◌}
+use Rattle.std.proofs.Common.{rules, tests, ◌≡◌, pos, sym, ap, ◌∙◌}
 use Rattle.std.specs.Int.{w128, cast_signed, cast_unsigned}
 use Rattle.std.specs.Int.RustNames.{FitsSigned}
 use mir.Facts.{to_z-of_z}

@@ -1,8 +1,8 @@
-use Rattle.std.proofs.Common.{rules, ◌≡◌, ℕ, ℤ, List, ◌+◌, ◌<◌, ◌≤◌, length, get_or, refl, sym, ap, ◌∙◌, subst, arith}
+use Rattle.std.proofs.Common.{rules, ◌≡◌, ℕ, ℤ, List, ◌+◌, ◌<◌, ◌≤◌, length, get_or, sym, ◌∙◌, subst, arith}
 use Rattle.std.specs.Int.{w128, cast_signed, cast_unsigned}
 use Rattle.std.specs.Int.RustNames.{FitsSigned}
 use mir.Facts.{to_z-of_z}
-use Rattle.nd_model.specs.Content.{Num, number_at, writes}
+use Rattle.nd_model.specs.Content.{number_at, writes}
 use Rattle.nd_model.specs.Element.{size_of, bytes_of, with_bytes, wrap}
 use Rattle.nd_model.specs.Runs.{spot_at, run_places}
 use Rattle.nd_model.specs.Session.{put}

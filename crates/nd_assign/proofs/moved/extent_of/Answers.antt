@@ -1,7 +1,6 @@
-use Rattle.std.proofs.Common.{◌≡◌, ◌<◌, ◌≤◌, ◌-◌, ℕ, List, length, get_or, sym, ap, ◌∙◌, arith}
+use Rattle.std.proofs.Common.{◌≡◌, ◌<◌, ◌-◌, ℕ, List, length, get_or, ap, ◌∙◌, arith}
 use Rattle.std.specs.List.{concat}
-use Rattle.nd_model.specs.Runs.{place_at}
-use Rattle.nd_assign.proofs.Nearer.{further, ended}
+use Rattle.nd_assign.proofs.Nearer.{further}
 use Rattle.nd_assign.proofs.moved.extent_of.Goals as goal
 
 pub loop-run-preserved : goal.loop-run-preserved

@@ -1,5 +1,5 @@
-use Rattle.std.proofs.Common.{◌≡◌, ◌≤◌, ◌++◌, List, ℕ, length}
-use Rattle.std.specs.List.{All, concat}
+use Rattle.std.proofs.Common.{length}
+use Rattle.std.specs.List.{concat}
 use Rattle.nd_assign.proofs.Nearer.{SoFar}
 use Rattle.nd_assign.proofs.moved.extent_of.Given as goal
 

@@ -1,4 +1,4 @@
-use Rattle.std.proofs.Common.{◌≡◌, ◌≢◌, ◌<◌, ◌≤◌, length, get_or, sym, ◌∙◌, arith}
+use Rattle.std.proofs.Common.{◌≡◌, ◌≢◌, get_or, sym, ◌∙◌, arith}
 use Rattle.nd_assign.proofs.Stretched.{ones_more, ones_end, ones_none}
 use Rattle.nd_assign.proofs.shape.count_ones.Goals as goal
 

@@ -1,5 +1,4 @@
-use Rattle.std.proofs.Common.{◌≡◌, ◌^◌, ℕ, ℤ, List, get_or, sym, ap, ◌∙◌, refl}
-use Rattle.std.specs.Prelude.{IfOk, None}
+use Rattle.std.proofs.Common.{◌≡◌, ◌^◌, ℕ, ℤ, List, get_or, ◌∙◌}
 use Rattle.std.proofs.lemmas.Result.{IfOk-weaker}
 use Rattle.nd_model.specs.Strides.{parts_fault, places_by}
 use Rattle.nd_model.specs.View.{item_size}

@@ -4,7 +4,7 @@ use Rattle.std.specs.Int.{w128}
 use Rattle.std.specs.Int.RustNames.{FitsSigned}
 use Rattle.std.proofs.lemmas.List.{get_or-map, length-map, drop_all}
 use Rattle.std.proofs.lemmas.Int.{to_z-of_z}
-use Rattle.nd_model.specs.Content.{number_at, field_writes}
+use Rattle.nd_model.specs.Content.{field_writes}
 use Rattle.nd_model.specs.Element.{size_of, bytes_of, with_bytes}
 use Rattle.nd_model.specs.Session.{put}
 use Rattle.nd_model.specs.View as view

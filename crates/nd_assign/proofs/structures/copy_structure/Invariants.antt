@@ -1,7 +1,6 @@
-use Rattle.std.proofs.Common.{◌≡◌, ◌+◌, length, drop, map}
-use Rattle.nd_model.specs.Content.{number_at, field_writes}
+use Rattle.std.proofs.Common.{◌≡◌, length, drop}
+use Rattle.nd_model.specs.Content.{field_writes}
 use Rattle.nd_model.specs.Session.{put}
-use Rattle.nd_model.specs.View.{Field}
 use Rattle.nd_types.specs.Fields.{fields_of}
 use Rattle.nd_assign.proofs.Fielded.{numbers_in}
 use Rattle.nd_assign.proofs.structures.copy_structure.Given as goal

@@ -1,4 +1,4 @@
-use Rattle.std.proofs.Common.{◌≡◌, ℕ, List, ◌<◌, length, get_or, sym, ap, ◌∙◌, arith}
+use Rattle.std.proofs.Common.{◌<◌, length, ◌∙◌, arith}
 use Rattle.nd_model.specs.Content.{content_at, writes}
 use Rattle.nd_model.specs.Session.{put}
 use Rattle.nd_model.specs.View.{ElementType, Structure}

@@ -1,9 +1,6 @@
-use Rattle.std.proofs.Common.{◌≡◌, ◌+◌, ◌≤◌, ℕ, List, length, true, sym, ap, ◌∙◌, subst, arith}
+use Rattle.std.proofs.Common.{◌≡◌, ◌+◌, ◌≤◌, length, sym, ap, ◌∙◌, subst}
 use Rattle.std.specs.List.{All}
-use Rattle.nd_model.specs.Conversion.{converts}
-use Rattle.nd_model.specs.Assigning.{fits_into}
 use Rattle.nd_model.specs.Strides.{IsInLimits}
-use Rattle.nd_model.specs.Tuple.{elements_of}
 use Rattle.nd_model.specs.View.{ElementType, item_size}
 use Rattle.nd_convert.proofs.Written.{all_written}
 use Rattle.nd_assign.specs.Copies.{with_copies}

@@ -1,10 +1,10 @@
-use Rattle.std.proofs.Common.{rules, ◌≡◌, ℕ, ℤ, List, sym, ap, ◌∙◌, subst}
+use Rattle.std.proofs.Common.{rules, ◌≡◌, ℕ, List, sym, ap, ◌∙◌, subst}
 use Rattle.std.specs.Prelude.{OnOk}
 use Rattle.std.specs.Int.{w128, cast_signed, cast_unsigned}
 use Rattle.std.specs.Int.RustNames.{FitsSigned}
 use mir.Facts.{to_z-of_z}
 use Rattle.nd_model.specs.Content.{number_at}
-use Rattle.nd_model.specs.Element.{bytes_of, with_bytes, wrap}
+use Rattle.nd_model.specs.Element.{wrap}
 use Rattle.nd_model.specs.View.{One}
 use Rattle.nd_model.proofs.Values.{wrap_in_range}
 use Rattle.nd_types.specs.Types.{type_of}

@@ -1,8 +1,7 @@
-use Rattle.std.proofs.Common.{◌≡◌, ◌+◌, ◌-◌, ◌≤◌, ◌++◌, ℕ, List, map, length, take, drop, get_or, sym, ap, ◌∙◌, subst, arith, length-take, length-drop}
+use Rattle.std.proofs.Common.{◌≡◌, ◌+◌, ◌-◌, ◌≤◌, ℕ, List, map, length, take, drop, sym, ap, ◌∙◌, subst, arith, length-take, length-drop}
 use Rattle.std.specs.List.{All}
-use Rattle.nd_model.specs.Selected.{HoldsFields}
+use Rattle.nd_assign.specs.HeldFields.{HoldsFields}
 use Rattle.nd_model.specs.View.{ElementType, item_size}
-use Rattle.nd_types.specs.Types.{type_of}
 use Rattle.nd_convert.proofs.Written.{all_written}
 use Rattle.nd_assign.specs.Copies.{with_copies}
 use Rattle.nd_assign.proofs.Parted.{moved_inside, apart}

@@ -1,0 +1,12 @@
+pub mod Pushed
+pub mod Rearranged
+pub mod Ordered
+pub mod Stretches
+pub mod Recasts
+pub mod Digits
+pub mod Fronts
+pub mod Lengths
+pub mod Ways
+pub mod LengthLoops
+pub mod Reshapes
+pub mod ReshapedViews

@@ -1,0 +1,8 @@
+pub mod Faults
+pub mod Layouts
+pub mod Stretches
+pub mod Recasts
+pub mod Reshapes
+pub mod NewShapes
+pub mod Reshaping
+pub mod ReshapedViews

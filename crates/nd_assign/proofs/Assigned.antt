@@ -1,6 +1,6 @@
 -- What is assigned to a target, by the places of the values beside it.
 use Rattle.std.proofs.Common.{◌≡◌, ℕ, ℤ, ◌+◌, ◌-◌, ◌*◌, true, List, [], ◌∷◌, map, length, drop, get_or, sym, ap, ◌∙◌, arith}
-use Rattle.std.specs.Prelude.{pos}
+use Rattle.std.specs.Prelude.{pos, Result, Ok, Err, IfOk}
 use Rattle.std.proofs.lemmas.List.{get_or-map, take_at}
 use Rattle.nd_model.specs.Assigning.{value_shape, fits_into, assigned_writes}
 use Rattle.nd_model.specs.Broadcast.{own_tuple}
@@ -17,6 +17,11 @@ use Rattle.nd_assign.specs.Assigned.{with_elements, with_number}
 use Rattle.nd_assign.specs.Copies.{copied_content, with_copies}
 use Rattle.nd_assign.specs.Stretched.{value_places}
 use Rattle.nd_assign.proofs.Stretched.{own_below, without_nil}
+
+-- what two facts about a value give
+pub of_both : {X Y : Type 0} (r : Result X Y) (P Q R : X → Type 0) → ((x : X) → P x → Q x → R x) → IfOk r P → IfOk r Q → IfOk r R
+of_both (Ok x) P Q R f p q = f x p q
+of_both (Err e) P Q R f p q = tt
 
 pub assigned : (g s : Geo) (bytes old : List ℕ) → fits_into s.shape g.shape ≡ true → length s.places ≡ elements_of s.shape
     → with_copies g.element s.element bytes g.places (value_places s g.shape) old ≡ with_elements g s bytes old

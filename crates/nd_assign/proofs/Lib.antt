@@ -5,5 +5,7 @@ pub mod Fielded
 pub mod Limited
 pub mod Nearer
 pub mod Parted
+pub mod Placed
+pub mod Readied
 pub mod SameTypes
 pub mod Stretched

@@ -175,9 +175,6 @@ module _ (shape to : List ℕ) (fits : fits_into shape to ≡ true) where
   fewer : (length own ≤ length to) × (can_stretch own (drop more to) ≡ true)
   fewer = let t = both (nat_le (length own) (length to)) (can_stretch own (drop more to)) fits in let test = t.0 in (grind (arith, nat_tests), t.1)
 
-  pub own_fewer : length own ≤ length to
-  own_fewer = fewer.0
-
   last : (t : List ℕ) → IsIndex to t → length t - length own ≡ more
   last t is = ap (λ n. n - length own) (length-index to t is)
 

@@ -1,7 +1,11 @@
 pub mod Assigned
+pub mod AssignedPlaces
 pub mod Copies
+pub mod HeldFields
+pub mod KeptLength
+pub mod Prepared
 pub mod SideBySide
 pub mod Sources
 pub mod Stretched
 pub mod Walks
-pub mod HeldFields
+pub mod Ways

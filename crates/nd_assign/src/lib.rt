@@ -1,19 +1,28 @@
 //! Assignments to the elements of a view, as NumPy makes them.
 #![tactic(auto)]
 
+ghost use Rattle.nd_assign.specs.AssignedPlaces.{AssignedPlaces};
+
+mod assignment;
 mod gapless;
 mod kernel;
 mod moved;
 mod pairs;
+mod preparation;
 mod shape;
 mod source;
 mod stretch;
 mod structures;
-mod targets;
 mod views;
 mod walk;
 mod within;
 
+pub use assignment::Assignment;
+pub use preparation::prepare;
 pub use shape::fits;
-pub use source::{Source, assign};
-pub use targets::{assign_from, assign_number, assign_within};
+pub use source::{Source, assign, assign_from, assign_within};
+
+/// Says which places an assignment writes, and does nothing.
+pub fn assigned_places()
+    ensures { AssignedPlaces }
+{}

@@ -1,26 +1,29 @@
 //! What is assigned to the elements of a view.
-ghost use Rattle.std.specs.Prelude.{◌≡◌, length, OnOk, OnErr};
+ghost use Rattle.std.specs.Prelude.{◌≡◌, length, true, OnOk, OnErr};
+ghost use Rattle.nd_model.specs.Assigning.{fits_into};
+ghost use Rattle.nd_model.specs.Conversion.{converts};
 ghost use Rattle.nd_model.specs.Sound.{LiesIn};
+ghost use Rattle.nd_assign.specs.Assigned.{with_elements};
 ghost use Rattle.nd_assign.specs.Sources.{IsSource, with_source};
 
-use crate::targets::{assign_from, assign_number, assign_within};
+use crate::preparation::prepare;
 use nd_block::RawBlock;
 use nd_view::View;
 use std::alloc::{AllocError, Global};
 
-/// What is assigned to each element of a target.
+/// What is assigned to each element of a target. Numbers are wrapped to the target's kind, or `not zero` for a Boolean; of a structure
+/// its fields are written, and pad bytes stay (NumPy user guide, "Assigning values to indexed arrays").
 #[derive(Clone, Copy)]
 pub enum Source<'v> {
     /// One number.
     Number(i128),
-    /// The elements of a view of the target's own block.
+    /// The elements of a view of the target's own block, as they were before any is written.
     Same(&'v View),
     /// The elements of a view of another block, which has these bytes.
     Other(&'v View, &'v [u8]),
 }
 
-/// Assigns to the elements of a target, as `assign_number`, `assign_within` or `assign_from` does. Where it fails, the block is as it
-/// was.
+/// Assigns to the elements of a target: what `prepare` makes ready is written. Where that fails, the block is as it was.
 pub fn assign(
     alloc: Global,
     target: &View,
@@ -32,9 +35,44 @@ pub fn assign(
     ensures done { OnOk result (block.new ≡ with_source target.now source.entry block.old) }
     ensures refused { OnErr result (block.new ≡ block.old) }
 {
-    match source {
-        Source::Number(number) => assign_number(alloc, target, block, number),
-        Source::Same(view) => assign_within(alloc, target, block, view),
-        Source::Other(view, bytes) => assign_from(alloc, target, block, view, bytes),
-    }
+    let assignment = prepare(alloc, target, block.as_slice(), source)?;
+    assignment.write(block);
+    Ok(())
+}
+
+/// Assigns the elements of a view of another block, as `assign` does.
+pub fn assign_from(
+    alloc: Global,
+    target: &View,
+    block: &mut RawBlock,
+    source: &View,
+    bytes: &[u8],
+) -> Result<(), AllocError>
+    requires target { LiesIn (length block.old) target.now }
+    requires source { LiesIn (length bytes.now) source.now }
+    requires types { converts source.now.element target.now.element ≡ true }
+    requires shapes { fits_into source.now.shape target.now.shape ≡ true }
+    ensures done { OnOk result (block.new
+        ≡ with_elements target.now source.now bytes.now block.old) }
+    ensures refused { OnErr result (block.new ≡ block.old) }
+{
+    assign(alloc, target, block, Source::Other(source, bytes))
+}
+
+/// Assigns the elements of a view of the same block, as `assign` does.
+pub fn assign_within(
+    alloc: Global,
+    target: &View,
+    block: &mut RawBlock,
+    source: &View,
+) -> Result<(), AllocError>
+    requires target { LiesIn (length block.old) target.now }
+    requires source { LiesIn (length block.old) source.now }
+    requires types { converts source.now.element target.now.element ≡ true }
+    requires shapes { fits_into source.now.shape target.now.shape ≡ true }
+    ensures done { OnOk result (block.new
+        ≡ with_elements target.now source.now block.old block.old) }
+    ensures refused { OnErr result (block.new ≡ block.old) }
+{
+    assign(alloc, target, block, Source::Same(source))
 }

@@ -1,5 +1,5 @@
 //! Copies within one block, where what is read may be what is written: all contents are as they were before.
-ghost use Rattle.std.specs.Prelude.{◌≡◌, ◌≢◌, ◌+◌, ◌≤◌, ◌++◌, ⊤, length, take, drop, slice_index, true, false, IsTrue, OnOk, OnErr, MatchOption};
+ghost use Rattle.std.specs.Prelude.{◌≡◌, ◌≢◌, ℕ, ◌+◌, ◌≤◌, ◌++◌, ⊤, length, take, drop, slice_index, true, None, IfOk, MatchOption};
 ghost use Rattle.std.specs.List.{All};
 ghost use Rattle.nd_model.specs.Conversion.{converts};
 ghost use Rattle.nd_model.specs.Element.{Boolean, size_of};
@@ -7,9 +7,12 @@ ghost use Rattle.nd_assign.specs.HeldFields.{HoldsFields};
 ghost use Rattle.nd_model.specs.View.{item_size};
 ghost use Rattle.nd_types.specs.Types.{type_of};
 ghost use Rattle.nd_assign.specs.Copies.{with_copies};
+ghost use Rattle.nd_assign.specs.Prepared.{written_by};
 ghost use Rattle.nd_assign.specs.SideBySide.{side_by_side};
+ghost use Rattle.nd_assign.specs.Ways.{AreIn, IsWay, bytes_read, own_copy};
 
-use crate::gapless::{is_gapless, keeps_bytes, move_gapless};
+use crate::assignment::{Assignment, Way};
+use crate::gapless::{is_gapless, keeps_bytes};
 use crate::moved::{extent_of, moved_view};
 use crate::pairs::is_elem;
 use crate::views::copy_views;
@@ -27,8 +30,8 @@ fn hold_fields(elem: &ElemType)
     }
 }
 
-// Copies from the bytes before a place to those behind it, where the target's places are counted from there.
-fn copy_up(bytes: &mut [u8], middle: usize, target: &View, source: &View)
+/// Copies from the bytes before a place to those behind it, where the target's places are counted from there.
+pub(crate) fn copy_up(bytes: &mut [u8], middle: usize, target: &View, source: &View)
     requires types { converts source.now.element target.now.element ≡ true }
     requires counts { length source.now.places ≡ length target.now.places }
     requires middle { middle ≤ length bytes.old }
@@ -44,8 +47,8 @@ fn copy_up(bytes: &mut [u8], middle: usize, target: &View, source: &View)
     copy_views(tail, target, head, source);
 }
 
-// Copies from the bytes behind a place, from where the source's places are counted, to those before it.
-fn copy_down(bytes: &mut [u8], middle: usize, target: &View, source: &View)
+/// Copies from the bytes behind a place, from where the source's places are counted, to those before it.
+pub(crate) fn copy_down(bytes: &mut [u8], middle: usize, target: &View, source: &View)
     requires types { converts source.now.element target.now.element ≡ true }
     requires counts { length source.now.places ≡ length target.now.places }
     requires middle { middle ≤ length bytes.old }
@@ -61,72 +64,64 @@ fn copy_down(bytes: &mut [u8], middle: usize, target: &View, source: &View)
     copy_views(head, target, tail, source);
 }
 
-// Copies to elements behind a place from elements before it.
-fn copy_behind(
+// The way to elements behind a place from elements before it.
+fn prepare_up<'v>(
     alloc: Global,
-    target: &View,
-    block: &mut RawBlock,
-    source: &View,
+    target: &'v View,
+    source: View,
     middle: usize,
-) -> Result<(), AllocError>
-    requires types { converts source.now.element target.now.element ≡ true }
-    requires counts { length source.now.places ≡ length target.now.places }
-    requires out { All (λ p. p + item_size target.now.element ≤ length block.old)
-        target.now.places }
-    requires middle { middle ≤ length block.old }
+    len: usize,
+) -> Result<Assignment<'v>, AllocError>
+    requires types { converts source.element target.now.element ≡ true }
+    requires counts { length source.places ≡ length target.now.places }
+    requires out { AreIn len target.now }
+    requires middle { middle ≤ len }
     requires behind { All (λ p. middle ≤ p) target.now.places }
-    requires before { All (λ p. p + item_size source.now.element ≤ middle) source.now.places }
-    ensures done { OnOk result (block.new ≡ with_copies target.now.element source.now.element
-        block.old target.now.places source.now.places block.old) }
-    ensures refused { OnErr result (block.new ≡ block.old) }
+    requires before { AreIn middle source }
+    ensures { IfOk result (λ a. a ≡ own_copy target.now source len) }
 {
     hold_fields(source.elem());
     let moved = moved_view(alloc, target, middle as u64)?;
-    copy_up(block.as_mut_slice(), middle, &moved, source);
-    Ok(())
+    let way = Way::Up(middle, moved);
+    Ok(Assignment::new(target, source, way, len))
 }
 
-// Copies to elements before a place from elements behind it.
-fn copy_before(
+// The way to elements before a place from elements behind it.
+fn prepare_down<'v>(
     alloc: Global,
-    target: &View,
-    block: &mut RawBlock,
-    source: &View,
+    target: &'v View,
+    source: View,
     middle: usize,
-) -> Result<(), AllocError>
-    requires types { converts source.now.element target.now.element ≡ true }
-    requires counts { length source.now.places ≡ length target.now.places }
-    requires held { All (λ p. p + item_size source.now.element ≤ length block.old)
-        source.now.places }
-    requires middle { middle ≤ length block.old }
-    requires before { All (λ p. p + item_size target.now.element ≤ middle) target.now.places }
-    requires behind { All (λ p. middle ≤ p) source.now.places }
-    ensures done { OnOk result (block.new ≡ with_copies target.now.element source.now.element
-        block.old target.now.places source.now.places block.old) }
-    ensures refused { OnErr result (block.new ≡ block.old) }
+    len: usize,
+) -> Result<Assignment<'v>, AllocError>
+    requires types { converts source.element target.now.element ≡ true }
+    requires counts { length source.places ≡ length target.now.places }
+    requires held { AreIn len source }
+    requires middle { middle ≤ len }
+    requires before { AreIn middle target.now }
+    requires behind { All (λ p. middle ≤ p) source.places }
+    ensures { IfOk result (λ a. a ≡ own_copy target.now source len) }
 {
     hold_fields(target.elem());
-    let moved = moved_view(alloc, source, middle as u64)?;
-    copy_down(block.as_mut_slice(), middle, target, &moved);
-    Ok(())
+    let moved = moved_view(alloc, &source, middle as u64)?;
+    let way = Way::Down(middle, moved);
+    Ok(Assignment::new(target, source, way, len))
 }
 
-// Copies from a copy of the bytes that the source reaches over.
-fn copy_crossed(
+// The way from a copy of the bytes that the source reaches over.
+fn prepare_copied<'v>(
     alloc: Global,
-    target: &View,
-    block: &mut RawBlock,
+    target: &'v View,
+    block: &[u8],
     source: &View,
-) -> Result<(), AllocError>
+) -> Result<Assignment<'v>, AllocError>
     requires types { converts source.now.element target.now.element ≡ true }
     requires counts { length source.now.places ≡ length target.now.places }
-    requires out { All (λ p. p + item_size target.now.element ≤ length block.old)
-        target.now.places }
-    requires held { All (λ p. p + item_size source.now.element ≤ length block.old)
-        source.now.places }
-    ensures done { OnOk result (block.new ≡ with_copies target.now.element source.now.element
-        block.old target.now.places source.now.places block.old) }
-    ensures refused { OnErr result (block.new ≡ block.old) }
+    requires out { AreIn (length block.now) target.now }
+    requires held { AreIn (length block.now) source.now }
+    ensures len { IfOk result (λ a. a.len ≡ length block.now) }
+    ensures written { IfOk result (λ a. written_by a block.now ≡ with_copies target.now.element
+        source.now.element block.now target.now.places source.now.places block.now) }
 {
     hold_fields(source.elem());
     let len = block.len() as u64;
@@ -134,10 +129,10 @@ fn copy_crossed(
     let last = extent.last.min(len);
     let end = len.min(last + source.elem().size());
     let first = extent.first.min(end);
-    let read = RawBlock::from_slice(alloc, &block.as_slice()[first as usize..end as usize])?;
+    let read = RawBlock::from_slice(alloc, &block[first as usize..end as usize])?;
     let moved = moved_view(alloc, source, first)?;
-    copy_views(block.as_mut_slice(), target, read.as_slice(), &moved);
-    Ok(())
+    let way = Way::Copied(read);
+    Ok(Assignment::new(target, moved, way, block.len()))
 }
 
 // The run of all elements of a view of numbers that lie side by side and keep their bytes, if it is one.
@@ -156,60 +151,51 @@ fn gapless_run(view: &View, elem: Elem) -> Option<Run>
     }
 }
 
-// Moves the numbers of a view to a target of the same type, where both lie side by side, and returns whether they do.
-fn move_numbers(target: &View, block: &mut RawBlock, source: &View) -> bool
-    requires counts { length source.now.places ≡ length target.now.places }
-    requires out { All (λ p. p + item_size target.now.element ≤ length block.old)
-        target.now.places }
-    requires held { All (λ p. p + item_size source.now.element ≤ length block.old)
-        source.now.places }
-    ensures done { IsTrue result → block.new ≡ with_copies target.now.element source.now.element
-        block.old target.now.places source.now.places block.old }
-    ensures stays { result ≡ false → block.new ≡ block.old }
+// The way that moves the numbers of a view at once to a target of the same type, if both lie side by side.
+fn moved_way<'v>(target: &View, source: &View) -> Option<Way<'v>>
+    ensures { MatchOption result ⊤ (λ way. (bytes_read way ≡ None)
+        × ((len : ℕ) → AreIn len source.now → IsWay target.now source.now len way)) }
 {
     let (ElemType::One(to), ElemType::One(from)) = (target.elem(), source.elem()) else {
-        return false;
+        return None;
     };
     if !is_elem(*to, *from) {
-        return false;
+        return None;
     }
-    let (Some(run), Some(from_run)) = (gapless_run(target, *to), gapless_run(source, *to)) else {
-        return false;
-    };
-    move_gapless(block.as_mut_slice(), *to, &run, &from_run);
-    true
+    let run = gapless_run(target, *to)?;
+    let from_run = gapless_run(source, *to)?;
+    Some(Way::Moved(*to, run, from_run))
 }
 
-/// Copies the elements of a view to those of a target in the same block, converted, in C order. Numbers that lie side by side
-/// and keep their type are moved at once; where the two views do not cross it is done in one pass, and else from a copy of what is read, for which there may be no memory.
-pub(crate) fn copy_within(
+/// Makes ready to copy the elements of a view to those of a target in the same block, converted, in C order. Numbers that lie side by
+/// side and keep their type are moved at once; where the two views do not cross it is done in one pass, and else from a copy of what is
+/// read, for which there may be no memory.
+pub(crate) fn prepare_own<'v>(
     alloc: Global,
-    target: &View,
-    block: &mut RawBlock,
-    source: &View,
-) -> Result<(), AllocError>
-    requires types { converts source.now.element target.now.element ≡ true }
-    requires counts { length source.now.places ≡ length target.now.places }
-    requires out { All (λ p. p + item_size target.now.element ≤ length block.old)
-        target.now.places }
-    requires held { All (λ p. p + item_size source.now.element ≤ length block.old)
-        source.now.places }
-    ensures done { OnOk result (block.new ≡ with_copies target.now.element source.now.element
-        block.old target.now.places source.now.places block.old) }
-    ensures refused { OnErr result (block.new ≡ block.old) }
+    target: &'v View,
+    block: &[u8],
+    source: View,
+) -> Result<Assignment<'v>, AllocError>
+    requires types { converts source.element target.now.element ≡ true }
+    requires counts { length source.places ≡ length target.now.places }
+    requires out { AreIn (length block.now) target.now }
+    requires held { AreIn (length block.now) source }
+    ensures len { IfOk result (λ a. a.len ≡ length block.now) }
+    ensures written { IfOk result (λ a. written_by a block.now ≡ with_copies target.now.element
+        source.element block.now target.now.places source.places block.now) }
 {
-    if move_numbers(target, block, source) {
-        return Ok(());
+    if let Some(way) = moved_way(target, &source) {
+        return Ok(Assignment::new(target, source, way, block.len()));
     }
     let len = block.len() as u64;
-    let (from, to) = (extent_of(source), extent_of(target));
+    let (from, to) = (extent_of(&source), extent_of(target));
     if from.ends_before(source.elem().size(), to.first) {
         let middle = to.first.min(len);
-        return copy_behind(alloc, target, block, source, middle as usize);
+        return prepare_up(alloc, target, source, middle as usize, block.len());
     }
     if to.ends_before(target.elem().size(), from.first) {
         let middle = from.first.min(len);
-        return copy_before(alloc, target, block, source, middle as usize);
+        return prepare_down(alloc, target, source, middle as usize, block.len());
     }
-    copy_crossed(alloc, target, block, source)
+    prepare_copied(alloc, target, block, &source)
 }

@@ -5,7 +5,7 @@ ghost use Rattle.nd_assign.specs.Sources.{IsValue};
 
 use crate::TURNS;
 use crate::mixed::mixed_block;
-use nd_assign::{assign_from, assign_within, fits};
+use nd_assign::{Source, assign, fits};
 use nd_block::RawBlock;
 use nd_types::{Elem, ElemType, Kind, wrap};
 use nd_view::View;
@@ -71,7 +71,7 @@ fn measure_from(
     for _ in 0..TURNS {
         if block.len() == len {
             let start = Instant::now(rt)?;
-            assign_from(rt.alloc(), target, block, source, bytes)?;
+            assign(rt.alloc(), target, block, Source::Other(source, bytes))?;
             best = best.min(start.elapsed(rt)?.as_nanos());
         }
     }
@@ -94,7 +94,7 @@ fn measure_within(
     for _ in 0..TURNS {
         if block.len() == len {
             let start = Instant::now(rt)?;
-            assign_within(rt.alloc(), target, block, source)?;
+            assign(rt.alloc(), target, block, Source::Same(source))?;
             best = best.min(start.elapsed(rt)?.as_nanos());
         }
     }

@@ -2,7 +2,8 @@
 //! ratio; `nd_bench numbers [COUNT]` prints for each of three arrays its name, how many numbers it has, their sum, and how many
 //! nanoseconds it takes to add them up; `nd_bench convert [COUNT]` prints the same for each of three conversions to a new array, with
 //! the sum of what the numbers become; `nd_bench assign` prints the same for each of five assignments to the elements of an array of
-//! 10,000,000 numbers, with the sum of its block; `nd_bench text [COUNT]` prints for each of three arrays its name, how many elements
+//! 10,000,000 numbers, with the sum of its block; `nd_bench views` prints the same for views that are made of a view, of which it makes
+//! 100,000: by a basic index and in another shape; `nd_bench text [COUNT]` prints for each of three arrays its name, how many elements
 //! it has, how long its text is, and how many nanoseconds it takes to make it; `nd_bench cells [COUNT]` edits notebooks of many cells,
 //! and prints how long that takes. Without a word it prints how it is called.
 #![tactic(auto)]
@@ -16,6 +17,7 @@ mod copy;
 mod mixed;
 mod numbers;
 mod text;
+mod views;
 
 use crate::assign::measure_assign;
 use crate::cells::measure_cells;
@@ -23,6 +25,7 @@ use crate::convert::measure_convert;
 use crate::copy::measure_copy;
 use crate::numbers::measure_numbers;
 use crate::text::measure_text;
+use crate::views::measure_views;
 use std::{env, io};
 
 /// How many elements of eight bytes are copied, read or converted.
@@ -63,10 +66,11 @@ fn main(rt: HostRuntime) -> io::Result<()> {
         (Some("numbers"), Some(count)) => measure_numbers(&rt, count),
         (Some("convert"), Some(count)) => measure_convert(&rt, count),
         (Some("assign"), _) => measure_assign(&rt),
+        (Some("views"), _) => measure_views(&rt),
         (Some("text"), Some(count)) => measure_text(&rt, count.min(MOST_SHOWN)),
         (Some("cells"), Some(count)) => measure_cells(&rt, count.min(MOST_CELLS)),
         _ => println!(rt;
-            "usage: nd_bench copy | numbers [COUNT] | convert [COUNT] | assign | text [COUNT] | cells [COUNT]"
+            "usage: nd_bench copy | numbers [COUNT] | convert [COUNT] | assign | views | text [COUNT] | cells [COUNT]"
         ),
     }
 }

@@ -11,7 +11,7 @@ use nd_view::{View, ViewFault};
 use std::alloc::Global;
 
 /// The view of some words, which lies in this block.
-fn view_in(alloc: Global, parts: &[&str], block: &RawBlock) -> Result<View, Refusal> {
+pub(crate) fn view_in(alloc: Global, parts: &[&str], block: &RawBlock) -> Result<View, Refusal> {
     match view_over(alloc, parts, block.len() as u64) {
         Err(Refusal::NoView(ViewFault::OutOfBlock)) => Err(Refusal::NotHeld),
         made => made,
@@ -19,7 +19,7 @@ fn view_in(alloc: Global, parts: &[&str], block: &RawBlock) -> Result<View, Refu
 }
 
 /// The bytes of a block as a list.
-fn list_bytes(alloc: Global, block: &RawBlock) -> Result<String, Refusal> {
+pub(crate) fn list_bytes(alloc: Global, block: &RawBlock) -> Result<String, Refusal> {
     format!(in alloc; "{:?}", block.as_slice()).map_err(Refusal::from)
 }
 

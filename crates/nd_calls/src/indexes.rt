@@ -2,7 +2,7 @@
 
 use crate::refusal::Refusal;
 use crate::views::{MOST_PRINTED, push_numbered, view_of};
-use crate::words::number;
+use crate::words::{last_of, number};
 use nd_basic::{Item, SelectFault, field, select};
 use nd_view::View;
 use std::alloc::Global;
@@ -43,14 +43,6 @@ fn items_of(alloc: Global, list: &str) -> Result<Vec<Item>, Refusal> {
         return Ok(Vec::new(alloc));
     }
     list.split(',').map(|word| item_of(word)).try_collect(alloc)
-}
-
-/// The words before the last one, and the last one.
-fn last_of<'w, 'a>(words: &'w [&'a str]) -> Result<(&'w [&'a str], &'a str), Refusal> {
-    match words {
-        [front @ .., last] => Ok((front, last)),
-        [] => Err(Refusal::BadLine),
-    }
 }
 
 /// What a fault is called.

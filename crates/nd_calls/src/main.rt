@@ -7,12 +7,16 @@
 //! list of its bytes, or as `zeros:8`. A view is a type and a shape, or a type, a shape, strides, an offset and the length of its block.
 //! In `convert` and `copy_view` the block itself stands in the place of its length, and in `convert` the element that is wanted behind it.
 //! `select` has an index behind a view: a list of numbers, slices as `1::2`, `...` and `new`; `field` has a name there.
+//! `transpose` has a list of axes there, `reverse` nothing, `broadcast_to` a shape, `reshape` a list of lengths and `view_as` an element;
+//! `broadcast` has two shapes. `assign` has a block, a view without a length, and what is assigned to it: a number, a view of the same
+//! block, or a view and the block in which it lies.
 //!
 //! `cell TEXT` is answered with `cell`, or with the fault of the text as `LINE KIND COLUMN`; `tree TEXT` with its statements or its fault;
 //! `tokens TEXT` with its tokens, each as `LINE:COLUMN WORD` with a `^` before it where it begins a statement, or with the first place
 //! that is none. A text, and the name in `field_name NAME`, has the escapes of `nd_rows`.
 #![tactic(auto)]
 
+mod assignments;
 mod blocks;
 mod cells;
 mod conversions;
@@ -20,6 +24,7 @@ mod copies;
 mod indexes;
 mod kinds;
 mod refusal;
+mod shapes;
 mod texts;
 mod types;
 mod views;
@@ -45,11 +50,18 @@ fn answer(alloc: Global, call: &str, words: &[&str]) -> Result<String, Refusal> 
         "select" => indexes::describe_selected(alloc, words),
         "field" => indexes::describe_field(alloc, words),
         "same_view" => views::compare_views(alloc, words),
+        "transpose" => shapes::transpose_view(alloc, words),
+        "reverse" => shapes::reverse_view(alloc, words),
+        "broadcast_to" => shapes::stretch_view(alloc, words),
+        "broadcast" => shapes::join_shapes(alloc, words),
+        "reshape" => shapes::reshape_view(alloc, words),
+        "view_as" => shapes::recast_view(alloc, words),
         "scalar" => texts::print_scalar(alloc, words),
         "array" => texts::print_array(alloc, words),
         "text" => texts::print_view(alloc, words),
         "convert" => conversions::convert_view(alloc, words),
         "copy_view" => conversions::copy_view(alloc, words),
+        "assign" => assignments::assign_view(alloc, words),
         _ => Err(Refusal::BadLine),
     }
 }

@@ -1,5 +1,6 @@
 //! Why a line has no answer.
 
+use nd_shape::ShapeFault;
 use nd_view::ViewFault;
 use std::alloc::{AllocError, AllocFailed};
 use std::fmt;
@@ -15,6 +16,8 @@ pub enum Refusal {
     NoStructure,
     /// The parts make no view.
     NoView(ViewFault),
+    /// There is no such view of the view.
+    NoShape(ShapeFault),
     /// The memory ran out.
     Memory,
 }
@@ -37,6 +40,12 @@ impl From<ViewFault> for Refusal {
     }
 }
 
+impl From<ShapeFault> for Refusal {
+    fn from(fault: ShapeFault) -> Refusal {
+        Refusal::NoShape(fault)
+    }
+}
+
 /// The word of a fault.
 fn fault_word(fault: ViewFault) -> &'static str {
     match fault {
@@ -47,6 +56,18 @@ fn fault_word(fault: ViewFault) -> &'static str {
     }
 }
 
+/// The word of a fault of another shape.
+fn shape_word(fault: ShapeFault) -> &'static str {
+    match fault {
+        ShapeFault::BadAxes => "bad axes",
+        ShapeFault::ShapeMismatch => "shape mismatch",
+        ShapeFault::ItemSizes => "item sizes",
+        ShapeFault::TwoUnknown => "two unknown",
+        ShapeFault::SizeMismatch => "size mismatch",
+        ShapeFault::View(fault) => fault_word(fault),
+    }
+}
+
 impl fmt::Display for Refusal {
     fn fmt<W: fmt::Write>(&self, f: &mut fmt::Formatter<W>) -> fmt::Result {
         match self {
@@ -54,6 +75,7 @@ impl fmt::Display for Refusal {
             Refusal::NotHeld => f.write_str("not held"),
             Refusal::NoStructure => f.write_str("no structure"),
             Refusal::NoView(fault) => f.write_str(fault_word(*fault)),
+            Refusal::NoShape(fault) => f.write_str(shape_word(*fault)),
             Refusal::Memory => f.write_str("out of memory"),
         }
     }

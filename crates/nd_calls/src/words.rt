@@ -22,3 +22,11 @@ where
     }
     list.split(',').map(|word| number(word)).try_collect(alloc)
 }
+
+/// The words before the last one, and the last one.
+pub(crate) fn last_of<'w, 'a>(words: &'w [&'a str]) -> Result<(&'w [&'a str], &'a str), Refusal> {
+    match words {
+        [front @ .., last] => Ok((front, last)),
+        [] => Err(Refusal::BadLine),
+    }
+}

@@ -5,7 +5,7 @@ mod record;
 mod result;
 mod run;
 
-pub use nd_eval::{IndexFault, StmtError, StmtFault, UfuncFault, ViewFault};
+pub use nd_eval::{IndexFault, ShapeFault, StmtError, StmtFault, UfuncFault, ViewFault};
 pub use nd_meter::Meter;
 pub use nd_parse::ParseKind;
 pub use record::Record;

@@ -1,7 +1,8 @@
 //! Refusals, as texts of which no two are the same.
 
 use nd_rerun::{
-    CellFault, EditFault, IndexFault, Refusal, StmtError, StmtFault, UfuncFault, ViewFault,
+    CellFault, EditFault, IndexFault, Refusal, ShapeFault, StmtError, StmtFault, UfuncFault,
+    ViewFault,
 };
 use nd_session::OutOfMemory;
 use std::alloc::{AllocError, Global};
@@ -59,11 +60,24 @@ fn add_error(text: &mut String, error: &StmtError) -> Result<(), AllocError> {
     }
 }
 
+/// The words for a fault of another shape.
+fn shape_fault_text(fault: ShapeFault) -> &'static str {
+    match fault {
+        ShapeFault::BadAxes => "bad axes",
+        ShapeFault::ShapeMismatch => "shapes do not broadcast",
+        ShapeFault::ItemSizes => "item sizes",
+        ShapeFault::TwoUnknown => "two unknown lengths",
+        ShapeFault::SizeMismatch => "sizes differ",
+        ShapeFault::View(fault) => view_fault_text(fault),
+    }
+}
+
 /// Adds a fault of a statement.
 fn add_statement_fault(text: &mut String, fault: &StmtFault) -> Result<(), AllocError> {
     match fault {
         StmtFault::View(fault) => write!(text, "{}", view_fault_text(*fault)),
         StmtFault::Index(fault) => add_index_fault(text, fault),
+        StmtFault::Shape(fault) => write!(text, "{}", shape_fault_text(*fault)),
         StmtFault::Ufunc(fault) => add_ufunc_fault(text, *fault),
         StmtFault::Stmt(error) => add_error(text, error),
     }

@@ -2,17 +2,18 @@
 use Rattle.std.proofs.Common.{◌≡◌, ℕ, ◌+◌, ◌≤◌, List, [], ◌∷◌, ◌++◌, Result, Ok, refl, subst, arith}
 use Rattle.nd_model.specs.Value.{Value}
 use Rattle.nd_model.specs.Fault.{Fault}
-use Rattle.nd_model.specs.Syntax.{Expr, Bound, Omitted, Given, Elements, NoElement, AndElement, Element, Single, Nested, Method, Copy, AsType, Index, Field, Items, IndexItems, IndexItem, AndItem, NoItem, At, Slice, Ellipsis, NewAxis, Listed, Stmt}
+use Rattle.nd_model.specs.Syntax.{Expr, Bound, Omitted, Given, Elements, NoElement, AndElement, Element, Single, Nested, Exprs, NoExpr, AndExpr, Method, Copy, AsType, Transpose, Reshape, ViewAs, Index, Field, Items, IndexItems, IndexItem, AndItem, NoItem, At, Slice, Ellipsis, NewAxis, Listed, Stmt}
 use Rattle.nd_model.specs.Cells.{Suffix, AtIndex, OfMethod}
 use Rattle.nd_model.specs.Creation.{copy_array, astype}
-use Rattle.nd_model.specs.Tokens.{tokens_of, tokens_of_bound, tokens_of_step, tokens_of_index, tokens_of_items, tokens_of_item, tokens_of_elements, tokens_of_others, tokens_of_element, tokens_of_all, tokens_of_stmt}
+use Rattle.nd_model.specs.Tokens.{tokens_of, tokens_of_bound, tokens_of_step, tokens_of_index, tokens_of_items, tokens_of_item, tokens_of_elements, tokens_of_others, tokens_of_element, tokens_of_all, tokens_of_exprs, tokens_of_method, tokens_of_stmt}
 use Rattle.nd_model.specs.Running.{Inputs, Running, Effect, Nothing, Prints, Saves, Binding, Unbinding, Storing, done}
 use Rattle.nd_model.specs.Evaluation.{Eval, Gives, run, ◌>>=◌}
 use Rattle.nd_model.specs.Operand.{Whole, Unused}
+use Rattle.nd_model.specs.Viewing.{Viewing, Transposed, Reshaped, ViewedAs}
 use Rattle.nd_model.specs.Operation.{Computes, Views}
 use Rattle.nd_model.specs.Meaning as meaning
 use Rattle.nd_model.proofs.Bases.{Few, few_more, few_bind, few_run, few_plan, few_performed, few_work, at_expr, at_stmt}
-use Rattle.nd_eval.specs.Parts.{bound_exprs, choose_value, exprs_in, exprs_of_element, index_parts, item_parts, items_parts, items_then, ItemParts, method_value, suffix_value, values_behind, values_then, values}
+use Rattle.nd_eval.specs.Parts.{bound_exprs, choose_value, exprs_in, exprs_of_element, index_parts, item_parts, items_parts, items_then, ItemParts, listed, method_value, suffix_value, unused, view_value, viewed_value, values_behind, values_then, values}
 use Rattle.nd_eval.specs.Suffixes.{suffix_tokens}
 
 few_value : (e : Expr) → Few (meaning.value e) (tokens_of e)
@@ -48,9 +49,28 @@ next_bound i b r s o h = ended_next i (values (bound_exprs b)) (tokens_of_bound 
 
 -- ---- what goes on a value
 
-few_method : (m : Method) (v : Value) → Few (method_value m v) 1
-few_method Copy v = few_performed (Computes (meaning.one copy_array)) ((Whole, v) ∷ [])
-few_method (AsType t) v = few_performed (Computes (meaning.one (astype t))) ((Whole, v) ∷ [])
+-- expressions with a comma before each
+listed_tokens : (es : Exprs) → tokens_of_all (listed es) ≤ tokens_of_exprs es
+listed_tokens NoExpr = omega arith
+listed_tokens (AndExpr e es) = omega (arith, listed_tokens es)
+
+axes_tokens : (es : Exprs) → tokens_of_all (listed es) ≤ tokens_of_method (Transpose es)
+axes_tokens NoExpr = omega arith
+axes_tokens (AndExpr e es) = omega (arith, listed_tokens es)
+
+lengths_tokens : (es : Exprs) → tokens_of_all (listed es) ≤ tokens_of_method (Reshape es)
+lengths_tokens NoExpr = omega arith
+lengths_tokens (AndExpr e es) = omega (arith, listed_tokens es)
+
+few_viewed : (w : Viewing) (es : List Expr) (v : Value) → Few (viewed_value w es v) (tokens_of_all es + 0 + 1)
+few_viewed w es v = few_bind (values es) (view_value w v) (tokens_of_all es + 0) 1 (few_then es Gives 0 (λ vs. tt)) (λ ws. few_performed (Views w) ((Unused, v) ∷ unused ws))
+
+few_method : (m : Method) (v : Value) → Few (method_value m v) (1 + tokens_of_method m)
+few_method Copy v = few_more (method_value Copy v) 1 _ (omega arith) (few_performed (Computes (meaning.one copy_array)) ((Whole, v) ∷ []))
+few_method (AsType t) v = few_more (method_value (AsType t) v) 1 _ (omega arith) (few_performed (Computes (meaning.one (astype t))) ((Whole, v) ∷ []))
+few_method (Transpose axes) v = few_more (method_value (Transpose axes) v) (tokens_of_all (listed axes) + 0 + 1) _ (omega (arith, axes_tokens axes)) (few_viewed Transposed (listed axes) v)
+few_method (Reshape shape) v = few_more (method_value (Reshape shape) v) (tokens_of_all (listed shape) + 0 + 1) _ (omega (arith, lengths_tokens shape)) (few_viewed Reshaped (listed shape) v)
+few_method (ViewAs t) v = few_more (method_value (ViewAs t) v) 1 _ (omega arith) (few_performed (Views (ViewedAs t)) ((Unused, v) ∷ []))
 few_method m v = tt
 
 pub step_more : (b : Bound) → tokens_of_bound b ≤ tokens_of_step b
@@ -95,7 +115,7 @@ few_suffix : (x : Suffix) (v : Value) → Few (suffix_value x v) (suffix_tokens 
 few_suffix (AtIndex x) v =
     few_more (index_parts x >>= choose_value v) (tokens_of_index x + 1) _ (omega arith)
     (few_bind (index_parts x) (choose_value v) (tokens_of_index x) 1 (few_index x) (λ p. few_performed (Views p.0) ((Unused, v) ∷ p.1)))
-few_suffix (OfMethod m) v = few_more (method_value m v) 1 _ (omega arith) (few_method m v)
+few_suffix (OfMethod m) v = few_more (method_value m v) (1 + tokens_of_method m) _ (omega arith) (few_method m v)
 
 pub next_at_suffix : (i : Inputs) (x : Suffix) (v : Value) (r s : Running) (o : Result Value Fault) → run i (suffix_value x v) r ≡ (o, s) → s.next ≤ r.next + suffix_tokens x
 next_at_suffix i x v r s o h = ended_next i (suffix_value x v) (suffix_tokens x) r s o (few_suffix x v) h

@@ -2,15 +2,17 @@
 use Rattle.std.proofs.Common.{◌≡◌, ℕ, List, [], ◌∷◌, ◌++◌, map, Option, Result, Ok, refl, sym, ap, ◌∙◌, append-nil}
 use Rattle.std.proofs.lemmas.List.{map-append}
 use Rattle.nd_model.specs.Calls.{Fill, DType}
-use Rattle.nd_model.specs.Syntax.{Expr, Called, Filled, Full, NewArray, Elements, NoElement, AndElement, Element, Single, Nested}
+use Rattle.nd_model.specs.Syntax.{Expr, Called, Filled, Full, BroadcastTo, NewArray, Elements, NoElement, AndElement, Element, Single, Nested}
 use Rattle.nd_model.specs.Cells.{exprs_of}
 use Rattle.nd_model.specs.Value as model
 use Rattle.nd_model.specs.Running.{Running, Inputs}
 use Rattle.nd_model.specs.Refusing as refusing
 use Rattle.nd_model.specs.Evaluation.{Eval, Gives, run, ◌>>=◌, decide}
-use Rattle.nd_model.specs.Operand.{Operand, Usage, Whole, Unused}
-use Rattle.nd_model.specs.Operation.{Computes, perform, operands, give, Plans, Done, And, with_values}
+use Rattle.nd_model.specs.Operand.{Operand, Usage, Whole, RowsOnly, Unused}
+use Rattle.nd_model.specs.Operation.{Operation, Computes, Views, perform, operands, give, choose_of, Plans, Done, And, with_values}
 use Rattle.nd_model.specs.Creation.{length_of, lengths_of, last_of, filled, full, full_of, full_array, without_axes, python_number, python_numbers, even_shape, element_for_list, array_of_numbers, array_of_list}
+use Rattle.nd_model.specs.Viewing as viewing
+use Rattle.nd_model.specs.Viewing.{Viewing, choose_of_first}
 use Rattle.nd_model.specs.Meaning.{value, plan, expr_plans, list_plans, element_plans}
 use Rattle.nd_model.specs.Value.{Base}
 use Rattle.nd_heap.specs.declared.value.Value.{Value}
@@ -21,14 +23,14 @@ use Rattle.nd_operation.specs.declared.stop.Stop.{Stop}
 use Rattle.nd_operation.specs.Contents.{operand_of, unused_of}
 use Rattle.nd_eval.specs.Ends.{Ends}
 use Rattle.nd_eval.proofs.Chains.{ends_alike}
-use Rattle.nd_eval.specs.Parts.{values_then, wholes, unused, filled_value, full_value, exprs_in, exprs_of_element, list_value}
+use Rattle.nd_eval.specs.Parts.{values_then, values, wholes, unused, filled_value, full_value, stretch, stretched_value, view_value, exprs_in, exprs_of_element, list_value}
 use Rattle.nd_eval.specs.Uses.{marked, all_marked, operand_over, operands_over}
 use Rattle.nd_eval.proofs.Parts.{then_same, regrouped, not_used}
 use Rattle.nd_eval.proofs.Uses.{all_used}
 
 -- ---- first all expressions are evaluated
 
-all_exprs : (i : Inputs) (u : Usage) (es : List Expr) (rest : Plans) (go : List (Usage × model.Value) → Eval model.Value) (k : List model.Value → List model.Value) (g : List model.Value → Eval model.Value) (r : Running)
+pub all_exprs : (i : Inputs) (u : Usage) (es : List Expr) (rest : Plans) (go : List (Usage × model.Value) → Eval model.Value) (k : List model.Value → List model.Value) (g : List model.Value → Eval model.Value) (r : Running)
     → ((vs : List model.Value) → with_values rest (λ ws. go (map (λ v. (u, v)) vs ++ ws)) ≡ g (k vs)) → run i (with_values (expr_plans u (exprs_of es) rest) go) r ≡ run i (values_then es (λ vs. Gives (k vs)) >>= g) r
 all_exprs i u [] rest go k g r h = ap (λ t. run i t r) (h [])
 all_exprs i u (e ∷ es) rest go k g r h =
@@ -39,6 +41,16 @@ all_exprs i u (e ∷ es) rest go k g r h =
 pub filled_first : (i : Inputs) (f : Fill) (es : List Expr) (t : Option DType) (r : Running) → run i (value (Called (Filled f (exprs_of es) t))) r ≡ run i (filled_value f es t) r
 filled_first i f es t r =
     all_exprs i Unused es Done (perform (Computes (filled f t))) (λ vs. vs) (λ vs. perform (Computes (filled f t)) (unused vs)) r (λ vs. ap (perform (Computes (filled f t))) (append-nil (unused vs)))
+
+-- expressions that are not used, behind a value
+pub unused_first : (i : Inputs) (es : List Expr) (op : Operation) (v : Usage × model.Value) (r : Running)
+    → run i (with_values (expr_plans Unused (exprs_of es) Done) (λ vs. perform op (v ∷ vs))) r ≡ run i (values es >>= λ ws. perform op (v ∷ unused ws)) r
+unused_first i es op v r =
+    all_exprs i Unused es Done (λ vs. perform op (v ∷ vs)) (λ vs. vs) (λ ws. perform op (v ∷ unused ws)) r (λ ws. ap (λ l. perform op (v ∷ l)) (append-nil (unused ws)))
+
+pub stretched_first : (i : Inputs) (e : Expr) (es : List Expr) (r : Running) → run i (value (Called (BroadcastTo e (exprs_of es)))) r ≡ run i (stretched_value e es) r
+stretched_first i e es r =
+    then_same i (value e) _ (λ v. values es >>= stretch v) r (λ v s. unused_first i es (Views viewing.BroadcastTo) (RowsOnly, v) s)
 
 pub full_first : (i : Inputs) (es : List Expr) (e : Expr) (t : Option DType) (r : Running) → run i (value (Called (Full (exprs_of es) e t))) r ≡ run i (full_value es e t) r
 full_first i es e t r =
@@ -91,6 +103,13 @@ pub none_used : {A : Type 0} (vs : List Value) (go : List Operand → Eval A) �
 none_used [] go = refl
 none_used (v ∷ vs) go =
     ap (λ t. t >>= λ o. operands (unused (map value_of vs)) (λ os. go (o ∷ os))) (not_used v) ∙ none_used vs (λ os. go (unused_of v ∷ os))
+
+-- what is seen of a value, by values that are not used
+pub view_parts : (i : Inputs) (w : Viewing) (v : Value) (ws : List Value) (r : Running)
+    → run i (view_value w (value_of v) (map value_of ws)) r ≡ run i (decide (choose_of_first w (unused_of v) (map unused_of ws)) >>= choose_of (value_of v)) r
+view_parts i w v ws r =
+    ap (λ t. run i (t >>= λ o. operands (unused (map value_of ws)) (λ os. decide (choose_of_first w o os) >>= choose_of (value_of v))) r) (not_used v)
+    ∙ ap (λ t. run i t r) (none_used ws (λ os. decide (choose_of_first w (unused_of v) os) >>= choose_of (value_of v)))
 
 pub filled_parts : (f : Fill) (t : Option DType) (vs : List Value) → perform (Computes (filled f t)) (unused (map value_of vs)) ≡ (decide (filled f t (map unused_of vs)) >>= give)
 filled_parts f t vs = none_used vs (λ os. decide (filled f t os) >>= give)

@@ -10,12 +10,13 @@ use Rattle.nd_model.specs.Session as session
 use Rattle.nd_model.specs.Session.{Names}
 use Rattle.nd_model.specs.Fault.{Fault}
 use Rattle.nd_model.specs.Running.{Running, Inputs, Use, reply, after, Effect, Nothing, Prints, Saves, Binding, Unbinding, Storing, done}
-use Rattle.nd_model.specs.Syntax.{Expr, Bound, Method, Copy, AsType, Index, Field, Items, IndexItems, IndexItem, AndItem, NoItem, At, Slice, Ellipsis, NewAxis, Listed, Stmt, Bind}
+use Rattle.nd_model.specs.Syntax.{Expr, Bound, Method, Copy, AsType, Transpose, Reshape, ViewAs, Index, Field, Items, IndexItems, IndexItem, AndItem, NoItem, At, Slice, Ellipsis, NewAxis, Listed, Stmt, Bind}
 use Rattle.nd_model.specs.Evaluation.{Eval, Gives, Refuses, Asks, run}
 use Rattle.nd_model.specs.Operand.{BindsFirst, Usage, Whole, Unused}
 use Rattle.nd_model.specs.Cells.{Suffix, AtIndex, OfMethod}
 use Rattle.nd_model.specs.Creation.{copy_array, astype}
 use Rattle.nd_model.specs.Operation.{Computes, Views, act_on}
+use Rattle.nd_model.specs.Viewing.{Viewing, Transposed, Reshaped, ViewedAs}
 use Rattle.nd_model.specs.Meaning as meaning
 use Rattle.nd_model.specs.Cell.{had}
 use Rattle.nd_model.specs.Sound.{LiesIn, IsViewOf, AreViewsOf, IsHeldView, IsSound}
@@ -25,12 +26,12 @@ use Rattle.nd_model.proofs.Soundness.{AllV as AreHeldValues, Safe, safe_bind, sa
 use Rattle.nd_heap.specs.declared.value.Value.{Value}
 use Rattle.nd_heap.specs.declared.value.Value.TheVariants.{Number, Array, Row}
 use Rattle.nd_heap.specs.Values.{base_of, geo_of, value_of}
-use Rattle.nd_operation.specs.declared.indexes.ItemValue.{ItemValue}
-use Rattle.nd_operation.specs.declared.indexes.ItemValue.TheVariants as item
-use Rattle.nd_operation.specs.declared.indexes.IndexValue.{IndexValue}
-use Rattle.nd_operation.specs.declared.indexes.IndexValue.TheVariants as index
-use Rattle.nd_eval.specs.Parts.{bound_exprs, choose_value, index_parts, item_parts, items_parts, items_then, method_value, suffix_value, unused, values, values_then, IndexParts, ItemParts}
-use Rattle.nd_eval.specs.Uses.{IsHeld, AreHeld, IsHeldEffect, marked, item_marked, items_marked, index_marked, all_marked}
+use Rattle.nd_choice.specs.declared.indexes.ItemValue.{ItemValue}
+use Rattle.nd_choice.specs.declared.indexes.ItemValue.TheVariants as item
+use Rattle.nd_choice.specs.declared.indexes.IndexValue.{IndexValue}
+use Rattle.nd_choice.specs.declared.indexes.IndexValue.TheVariants as index
+use Rattle.nd_eval.specs.Parts.{bound_exprs, choose_value, index_parts, item_parts, items_parts, items_then, listed, method_value, suffix_value, unused, values, values_then, view_value, viewed_value, IndexParts, ItemParts}
+use Rattle.nd_eval.specs.Uses.{IsHeld, AreHeld, marked, item_marked, items_marked, index_marked, all_marked}
 use Rattle.nd_eval.proofs.Parts.{binding_parts}
 
 -- ---- what is held stays held
@@ -139,15 +140,6 @@ value_held i e r s v found sound = value_found i e r s (value_of v) sound found
 no_value : {A : Type 0} {f : Fault} {v : A} {r s : Running} → ◌≡◌ {A = Result A Fault × Running} (Err f, r) (Ok v, s) → ⊥
 no_value {A} {f} {v} {r} {s} h = let same : ◌≡◌ {A = Result A Fault} (Err f) (Ok v) = ap (λ (m : Result A Fault × Running). m.0) h in absurd (cc)
 
--- the value that a statement binds
-pub effect_held : (i : Inputs) (t : Stmt) (e : Effect) (r s : Running) → run i (meaning.meaning t) r ≡ (Ok e, s) → IsSound r → IsHeldEffect s e
-effect_held i t Nothing r s h sound = tt
-effect_held i t (Prints text) r s h sound = tt
-effect_held i t (Saves n f) r s h sound = tt
-effect_held i t (Binding n v) r s h sound = if_bound n v s (subst (λ (m : Result Effect Fault × Running). IsSound (had m).1) h (stays_sound.statement i t r sound))
-effect_held i t (Unbinding n) r s h sound = tt
-effect_held i t (Storing b ws) r s h sound = tt
-
 -- ---- values one after another
 
 abbrev AllV : Running → List model.Value → Type 0
@@ -237,16 +229,24 @@ safe_index : (i : Inputs) (r : Running) (x : Index) → IsSound r → Safe P i r
 safe_index i r (Field n) sound = tt
 safe_index i r (Items is) sound = safe_bind AllItems P i r (items_parts is) _ (safe_items AllItems i r is Gives sound (λ q xs g h. h)) (λ q xs g h. h)
 
-safe_method : (i : Inputs) (r : Running) (m : Method) (v : model.Value) → V r v → Safe V i r (method_value m v)
-safe_method i r Copy v h = safe_performed i r (Computes (meaning.one copy_array)) ((Whole, v) ∷ []) (h, tt)
-safe_method i r (AsType t) v h = safe_performed i r (Computes (meaning.one (astype t))) ((Whole, v) ∷ []) (h, tt)
-safe_method i r m v h = tt
+safe_viewed : (i : Inputs) (r : Running) (w : Viewing) (es : List Expr) (v : model.Value) → IsSound r → V r v → Safe V i r (viewed_value w es v)
+safe_viewed i r w es v sound h =
+    safe_bind AllV V i r (values es) (view_value w v) (safe_values AllV i r es Gives sound (λ q vs g hvs. hvs))
+    (λ q vs g hvs. safe_performed i q (Views w) ((Unused, v) ∷ unused vs) (value_grows r q g v h, all_unused q vs hvs))
+
+safe_method : (i : Inputs) (r : Running) (m : Method) (v : model.Value) → IsSound r → V r v → Safe V i r (method_value m v)
+safe_method i r Copy v sound h = safe_performed i r (Computes (meaning.one copy_array)) ((Whole, v) ∷ []) (h, tt)
+safe_method i r (AsType t) v sound h = safe_performed i r (Computes (meaning.one (astype t))) ((Whole, v) ∷ []) (h, tt)
+safe_method i r (Transpose axes) v sound h = safe_viewed i r Transposed (listed axes) v sound h
+safe_method i r (Reshape shape) v sound h = safe_viewed i r Reshaped (listed shape) v sound h
+safe_method i r (ViewAs t) v sound h = safe_performed i r (Views (ViewedAs t)) ((Unused, v) ∷ []) (h, tt)
+safe_method i r m v sound h = tt
 
 safe_suffix : (i : Inputs) (r : Running) (x : Suffix) (v : model.Value) → IsSound r → V r v → Safe V i r (suffix_value x v)
 safe_suffix i r (AtIndex x) v sound h =
     safe_bind P V i r (index_parts x) (choose_value v) (safe_index i r x sound)
     (λ q p g hp. safe_performed i q (Views p.0) ((Unused, v) ∷ p.1) (value_grows r q g v h, hp))
-safe_suffix i r (OfMethod m) v sound h = safe_method i r m v h
+safe_suffix i r (OfMethod m) v sound h = safe_method i r m v sound h
 
 pub suffix_held : (i : Inputs) (x : Suffix) (v : Value) (r s : Running) (w : Value) → run i (suffix_value x (value_of v)) r ≡ (Ok (value_of w), s) → IsSound r → IsHeld r v → IsHeld s w
 suffix_held i x v r s w found sound held =

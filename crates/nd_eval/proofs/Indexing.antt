@@ -3,17 +3,18 @@ use Rattle.std.proofs.Common.{◌≡◌, ◌≢◌, ℕ, ◌+◌, ◌≤◌, len
 use mathlib.Core.Former.{Count}
 use Rattle.nd_model.specs.Fault.{Fault, BadArgument}
 use Rattle.nd_model.specs.Fault as fault
-use Rattle.nd_model.specs.Syntax.{Expr, Item, Attribute, Index, Method, Copy, AsType}
+use Rattle.nd_model.specs.Syntax.{Expr, Exprs, NoExpr, AndExpr, Item, Attribute, Index, Method, Copy, AsType, Transpose, Reshape, ViewAs}
 use Rattle.nd_model.specs.Syntax as model
 use Rattle.nd_model.specs.Cells.{chained, Suffix, AtIndex, OfMethod, suffixed, exprs_of, items_of, elements_of}
 use Rattle.nd_model.specs.Creation.{copy_array, astype}
-use Rattle.nd_model.specs.Tokens.{tokens_of, tokens_of_all, tokens_of_exprs, tokens_of_shape}
+use Rattle.nd_model.specs.Tokens.{tokens_of, tokens_of_all, tokens_of_exprs, tokens_of_method, tokens_of_shape}
 use Rattle.nd_model.specs.Value.{Value}
 use Rattle.nd_model.specs.Running.{Running, Inputs}
 use Rattle.nd_model.specs.Evaluation.{Eval, Gives, Refuses, run, ◌>>=◌}
 use Rattle.nd_model.specs.Operand.{Unused}
-use Rattle.nd_model.specs.Operation.{Computes, Views, perform, with_values}
-use Rattle.nd_model.specs.Meaning.{value, index_plans, viewing_of, unbuilt_form}
+use Rattle.nd_model.specs.Operation.{Computes, Views, perform, Done, with_values}
+use Rattle.nd_model.specs.Viewing.{Viewing, Transposed, Reshaped, ViewedAs}
+use Rattle.nd_model.specs.Meaning.{value, expr_plans, index_plans, viewing_of, unbuilt_form}
 use Rattle.nd_syntax.specs.declared.tree.Expr as tree
 use Rattle.nd_syntax.specs.declared.tree.BinaryOp.{BinaryOp}
 use Rattle.nd_syntax.specs.declared.calls.DType.{DType}
@@ -21,6 +22,7 @@ use Rattle.nd_syntax.specs.declared.tree.Call as call
 use Rattle.nd_syntax.specs.declared.tree.Element as element
 use Rattle.nd_syntax.specs.declared.calls.Fill.{Fill}
 use Rattle.nd_syntax.specs.declared.tree.Suffix as suffix
+use Rattle.nd_syntax.specs.declared.tree.Method as method
 use Rattle.nd_syntax.specs.declared.tree.Index as indexes
 use Rattle.nd_syntax.specs.declared.tree.IndexItem as item
 use Rattle.nd_syntax.specs.Syntax.{expr_of, bound_of, element_of, suffix_of, index_of, item_of}
@@ -28,9 +30,10 @@ use Rattle.nd_syntax.specs.Lists.{operation_of}
 use Rattle.nd_syntax.proofs.Nodes.{call_row}
 use Rattle.nd_syntax.proofs.Chains.{row_of, postfix_is, item_row, index_is, nested_is, chain_is}
 use Rattle.nd_model.proofs.Steps.{goes_on, run_bind}
-use Rattle.nd_eval.specs.Parts.{choose_value, index_parts, make_value, method_value, suffix_value}
+use Rattle.nd_eval.specs.Parts.{choose_value, index_parts, listed, make_value, method_value, suffix_value, viewed_value, view_value}
 use Rattle.nd_eval.specs.Suffixes.{suffix_tokens}
 use Rattle.nd_eval.proofs.Parts.{goes_same, index_with, attribute_refused}
+use Rattle.nd_eval.proofs.Calls.{unused_first}
 
 -- what goes on a value, one after the other
 abbrev pub chain : Value → List Suffix → Eval Value
@@ -61,9 +64,24 @@ run_item i e x r =
     run_bind i (value e) (λ t. with_values (index_plans x) (λ vs. perform (Views (viewing_of x)) ((Unused, t) ∷ vs))) r
     ∙ goes_same i (run i (value e) r) _ (λ t. index_parts x >>= choose_value t) (λ t s. index_with i x (λ w vs. perform (Views w) ((Unused, t) ∷ vs)) s)
 
+-- expressions are those of their list
+exprs_listed : (es : Exprs) → es ≡ exprs_of (listed es)
+exprs_listed NoExpr = refl
+exprs_listed (AndExpr e es) = ap (AndExpr e) (exprs_listed es)
+
+run_viewed : (i : Inputs) (e : Expr) (w : Viewing) (es : Exprs) (r : Running)
+    → run i (value e >>= λ v. with_values (expr_plans Unused es Done) (λ vs. perform (Views w) ((Unused, v) ∷ vs))) r ≡ goes_on i (run i (value e) r) (viewed_value w (listed es))
+run_viewed i e w es r =
+    run_bind i (value e) (λ v. with_values (expr_plans Unused es Done) (λ vs. perform (Views w) ((Unused, v) ∷ vs))) r
+    ∙ goes_same i (run i (value e) r) _ (viewed_value w (listed es)) (λ v s.
+    ap (λ es. run i (with_values (expr_plans Unused es Done) (λ vs. perform (Views w) ((Unused, v) ∷ vs))) s) (exprs_listed es) ∙ unused_first i (listed es) (Views w) (Unused, v) s)
+
 run_attribute : (i : Inputs) (e : Expr) (a : Method) (r : Running) → run i (value (Attribute e a)) r ≡ goes_on i (run i (value e) r) (method_value a)
 run_attribute i e Copy r = run_bind i (value e) (make_value copy_array) r
 run_attribute i e (AsType t) r = run_bind i (value e) (make_value (astype t)) r
+run_attribute i e (Transpose axes) r = run_viewed i e Transposed axes r
+run_attribute i e (Reshape shape) r = run_viewed i e Reshaped shape r
+run_attribute i e (ViewAs t) r = run_bind i (value e) (λ v. view_value (ViewedAs t) v []) r
 run_attribute i e a r =
     run_bind i (value e) (λ t. perform (Computes unbuilt_form) ((Unused, t) ∷ [])) r
     ∙ goes_same i (run i (value e) r) _ (λ t. Refuses (fault.Stmt BadArgument)) (λ t s. ap (λ a. run i a s) (attribute_refused t))
@@ -117,6 +135,7 @@ abbrev mutual
   nodes_of_call (call.Array x t) = 3 + nodes_of_element x
   nodes_of_call (call.Convert k e) = 2 + nodes e
   nodes_of_call (call.PythonAbs e) = 2 + nodes e
+  nodes_of_call (call.BroadcastTo' e shape es) = 3 + nodes e + nodes_in_exprs es
   nodes_of_call c = 1
 
   pub nodes_in_bound : call.Held-Call-Arange-0 → ℕ
@@ -141,7 +160,12 @@ abbrev mutual
 
   pub nodes_of_suffix : suffix.Suffix → ℕ
   nodes_of_suffix (suffix.Index i) = 2 + nodes_of_index i
-  nodes_of_suffix (suffix.Method m) = 1
+  nodes_of_suffix (suffix.Method m) = 1 + nodes_of_method m
+
+  pub nodes_of_method : method.Method → ℕ
+  nodes_of_method (method.Transpose' shape es) = 3 + nodes_in_exprs es
+  nodes_of_method (method.Reshape' shape es) = 3 + nodes_in_exprs es
+  nodes_of_method m = 1
 
   pub nodes_of_index : indexes.Index → ℕ
   nodes_of_index (indexes.Items' shape is) = 2 + nodes_in_items is
@@ -203,6 +227,41 @@ pub nodes_of_full : (x : call.Call) (es : Vec tree.Expr Global) (e : tree.Expr) 
 nodes_of_full x es e t same =
     let row = call_row (call.Full es e t) in
     ap nodes_of_call same ∙ ap (λ k. 3 + k + nodes e) (nodes_in_expr_row row.0 row.1 ∙ ap nodes_of_exprs (call.items_hidden-the_row-Expr-0 es))
+
+pub nodes_of_stretched : (x : call.Call) (e : tree.Expr) (es : Vec tree.Expr Global) → x ≡ call.BroadcastTo e es → nodes_of_call x ≡ 3 + nodes e + nodes_of_exprs es.items
+nodes_of_stretched x e es same =
+    let row = call_row (call.BroadcastTo e es) in
+    ap nodes_of_call same ∙ ap (λ k. 3 + nodes e + k) (nodes_in_expr_row row.0 row.1 ∙ ap nodes_of_exprs (call.items_hidden-the_row-Expr-0 es))
+
+-- ---- and of a method
+
+abbrev method_row : method.Method → (n : Count) × call.Row_of-Expr n
+method_row (method.Transpose' shape es) = (_, es)
+method_row (method.Reshape' shape es) = (_, es)
+method_row _ = (_, call.end_of-Expr)
+
+pub transposed_tokens : (es : List Expr) → tokens_of_all es ≤ tokens_of_method (Transpose (exprs_of es))
+transposed_tokens [] = omega arith
+transposed_tokens (e ∷ es) = omega (arith, more_tokens es)
+
+pub reshaped_tokens : (es : List Expr) → tokens_of_all es ≤ tokens_of_method (Reshape (exprs_of es))
+reshaped_tokens [] = omega arith
+reshaped_tokens (e ∷ es) = omega (arith, more_tokens es)
+
+pub nodes_of_transposed : (x : method.Method) (es : Vec tree.Expr Global) → x ≡ method.Transpose es → nodes_of_method x ≡ 3 + nodes_of_exprs es.items
+nodes_of_transposed x es same =
+    let row = method_row (method.Transpose es) in
+    ap nodes_of_method same ∙ ap (λ k. 3 + k) (nodes_in_expr_row row.0 row.1 ∙ ap nodes_of_exprs (call.items_hidden-the_row-Expr-0 es))
+
+pub nodes_of_reshaped : (x : method.Method) (es : Vec tree.Expr Global) → x ≡ method.Reshape es → nodes_of_method x ≡ 3 + nodes_of_exprs es.items
+nodes_of_reshaped x es same =
+    let row = method_row (method.Reshape es) in
+    ap nodes_of_method same ∙ ap (λ k. 3 + k) (nodes_in_expr_row row.0 row.1 ∙ ap nodes_of_exprs (call.items_hidden-the_row-Expr-0 es))
+
+-- the expressions are those of the code
+pub listed_is : (es : List Expr) → listed (exprs_of es) ≡ es
+listed_is [] = refl
+listed_is (e ∷ es) = ap (λ l. e ∷ l) (listed_is es)
 
 -- ---- the items of an index
 

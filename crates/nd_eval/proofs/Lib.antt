@@ -13,3 +13,4 @@ pub mod Operating
 pub mod Creating
 pub mod Calls
 pub mod Ranging
+pub mod Seeing

@@ -14,7 +14,7 @@ use Rattle.nd_model.specs.Operand.{Usage, Whole, ArraysOnly, Unused, is_used}
 use Rattle.nd_model.specs.Selecting.{Item, Slice, Ellipsis, NewAxis}
 use Rattle.nd_model.specs.Index.{Form, AtForm, SliceForm, EllipsisForm, NewAxisForm, array_of, integer_of, item_of, bound_of, items_of, choose_items}
 use Rattle.nd_model.specs.Viewing.{Viewing, Indexed, Fielded, choose_of_first}
-use Rattle.nd_model.specs.Writing.{are_numbers, element_writes, assignment_writes}
+use Rattle.nd_model.specs.Writing.{assignment_writes}
 use Rattle.nd_model.specs.Running.{Running, Inputs, Use, reply, after}
 use Rattle.nd_model.specs.Evaluation.{Eval, run, ◌>>=◌}
 use Rattle.nd_model.specs.Operation.{use_operand, operands, elements}
@@ -23,15 +23,15 @@ use Rattle.nd_types.specs.declared.num.Num.TheVariants as num
 use Rattle.nd_heap.specs.declared.value.Value.{Value}
 use Rattle.nd_heap.specs.declared.value.Value.TheVariants.{Number, Array, Row}
 use Rattle.nd_heap.specs.Values.{base_of, geo_of, value_of}
-use Rattle.nd_operation.specs.declared.indexes.ItemValue.{ItemValue}
-use Rattle.nd_operation.specs.declared.indexes.ItemValue.TheVariants as item
-use Rattle.nd_operation.specs.declared.indexes.IndexValue.{IndexValue}
-use Rattle.nd_operation.specs.declared.indexes.IndexValue.TheVariants as index
+use Rattle.nd_choice.specs.declared.indexes.ItemValue.{ItemValue}
+use Rattle.nd_choice.specs.declared.indexes.ItemValue.TheVariants as item
+use Rattle.nd_choice.specs.declared.indexes.IndexValue.{IndexValue}
+use Rattle.nd_choice.specs.declared.indexes.IndexValue.TheVariants as index
 use Rattle.nd_operation.specs.declared.operand.Operand.{Operand}
 use Rattle.nd_operation.specs.declared.stop.Stop.{Stop}
 use Rattle.nd_operation.specs.Contents.{num_of, operand_of, unused_of}
 use Rattle.nd_operation.specs.New.{option_list}
-use Rattle.nd_operation.specs.Indexing.{form_of, forms_of, operands_in_item, operands_in, operands_of, viewing_of}
+use Rattle.nd_choice.specs.Indexing.{form_of, forms_of, operands_in_item, operands_in, operands_of, viewing_of}
 use Rattle.nd_eval.specs.Ends.{Ends}
 use Rattle.nd_eval.specs.Contents as contents
 use Rattle.nd_eval.specs.Contents.{option_values}
@@ -148,9 +148,10 @@ items_bare (SliceForm a b c ∷ fs) os =
 items_bare (EllipsisForm ∷ fs) os = ap (λ (n : Result (List Item) Fault). refusing.◌>>=◌ n (λ is. Ok (Ellipsis ∷ is))) (items_bare fs os)
 items_bare (NewAxisForm ∷ fs) os = ap (λ (n : Result (List Item) Fault). refusing.◌>>=◌ n (λ is. Ok (NewAxis ∷ is))) (items_bare fs os)
 
-choose_bare : (w : Viewing) (t : model.Operand) (os : List model.Operand) → choose_of_first w t os ≡ choose_of_first w t (map bare os)
-choose_bare (Indexed fs) t os = ap (λ (n : Result (List Item) Fault). refusing.◌>>=◌ (array_of t) (λ g. refusing.◌>>=◌ n (λ is. choose_items is g))) (items_bare fs os)
-choose_bare (Fielded n) t os = refl
+choose_bare : (x : IndexValue) (t : model.Operand) (os : List model.Operand) → choose_of_first (contents.index_of x).0 t os ≡ choose_of_first (contents.index_of x).0 t (map bare os)
+choose_bare (index.Items xs) t os =
+    ap (λ (n : Result (List Item) Fault). refusing.◌>>=◌ (array_of t) (λ g. refusing.◌>>=◌ n (λ is. choose_items is g))) (items_bare (map (λ (x : ItemParts). x.0) (map contents.item_of xs.items)) os)
+choose_bare (index.Field n) t os = refl
 
 -- what the values of an index stand for, and the session once they are used
 abbrev bare_value : model_value.Value → model.Operand
@@ -294,22 +295,17 @@ index_chosen i t x go r =
     let w : Viewing = (contents.index_of x).0 in
     let vs : List (Usage × model_value.Value) = (contents.index_of x).1 in
     ap (λ s. run i (s >>= λ o. operands vs (λ os. go o (choose_of_first w o os))) r) (not_used t)
-    ∙ each_used i vs (λ os. go (unused_of t) (choose_of_first w (unused_of t) os)) r (λ os. ap (go (unused_of t)) (choose_bare w (unused_of t) os))
+    ∙ each_used i vs (λ os. go (unused_of t) (choose_of_first w (unused_of t) os)) r (λ os. ap (go (unused_of t)) (choose_bare x (unused_of t) os))
     ∙ (λ j. run i (go (unused_of t) (choose_of_first (viewing_is x j) (unused_of t) (operands_are x j))) (marks_are x r j))
 
 -- of a number nothing is chosen, and nothing is written to it
-pub nothing_chosen : (n : Num) (w : Viewing) (os : List model.Operand) (x : model.Chosen) → choose_of_first w (unused_of (Number n)) os ≡ Ok x → ⊥
-nothing_chosen n (Indexed fs) os x h = absurd (cc)
-nothing_chosen n (Fielded f) os x h = absurd (cc)
+pub nothing_chosen : (n : Num) (x : IndexValue) (os : List model.Operand) (y : model.Chosen) → choose_of_first (viewing_of x) (unused_of (Number n)) os ≡ Ok y → ⊥
+nothing_chosen n (index.Items xs) os y h = absurd (cc)
+nothing_chosen n (index.Field f) os y h = absurd (cc)
 
-pub nothing_written : (n : Num) (w : Viewing) (o : model.Operand) (os : List model.Operand) (ws : List (ℕ × ℕ)) → assignment_writes w o (unused_of (Number n)) os ≡ Ok ws → ⊥
-nothing_written n w o os ws = go w (are_numbers o)
-  where
-    go : (w : Viewing) (m : Result (Unit {0}) Fault) → refusing.◌>>=◌ m (λ u. refusing.◌>>=◌ (choose_of_first w (unused_of (Number n)) os) (λ y. element_writes false y o)) ≡ Ok ws → ⊥
-    go (Indexed fs) (Ok u) h = absurd (cc)
-    go (Indexed fs) (Err f) h = absurd (cc)
-    go (Fielded g) (Ok u) h = absurd (cc)
-    go (Fielded g) (Err f) h = absurd (cc)
+pub nothing_written : (n : Num) (x : IndexValue) (o : model.Operand) (os : List model.Operand) (ws : List (ℕ × ℕ)) → assignment_writes (viewing_of x) o (unused_of (Number n)) os ≡ Ok ws → ⊥
+nothing_written n (index.Items xs) o os ws h = absurd (cc)
+nothing_written n (index.Field f) o os ws h = absurd (cc)
 
 -- a slice whose bounds are written as its values are there
 pub slice_seen : (r : Running) (a b c : Bool) (xs ys zs : Option Value) → is_some xs ≡ a → is_some ys ≡ b → is_some zs ≡ c

@@ -1,22 +1,22 @@
 -- What the parts of an evaluation stand for.
-use Rattle.std.specs.Prelude.{List, [], ◌∷◌, ◌++◌, Option, Some, None, map, Vec, string_bytes}
+use Rattle.std.specs.Prelude.{List, [], ◌∷◌, ◌++◌, Option, Some, None, map, Vec}
 use Rattle.std.specs.Global.{Global}
 use Rattle.nd_model.specs.Value as model
 use Rattle.nd_model.specs.Operand as operand
-use Rattle.nd_model.specs.Viewing.{Fielded}
-use Rattle.nd_model.specs.Running as running
+use Rattle.nd_model.specs.Viewing.{Viewing, Fielded, Transposed, Reshaped, ViewedAs}
+use Rattle.nd_syntax.specs.Calls.{dtype_of}
 use Rattle.nd_heap.specs.declared.value.Value.{Value}
-use Rattle.nd_heap.specs.Values.{base_of, value_of}
+use Rattle.nd_heap.specs.Values.{value_of}
 use Rattle.nd_operation.specs.declared.operand.Operand.{Operand}
-use Rattle.nd_operation.specs.declared.indexes.ItemValue.{ItemValue}
-use Rattle.nd_operation.specs.declared.indexes.ItemValue.TheVariants as item
-use Rattle.nd_operation.specs.declared.indexes.IndexValue.{IndexValue}
-use Rattle.nd_operation.specs.declared.indexes.IndexValue.TheVariants as index
-use Rattle.nd_operation.specs.Contents.{operand_of, writes_of}
-use Rattle.nd_operation.specs.Indexing.{form_of}
+use Rattle.nd_choice.specs.declared.indexes.ItemValue.{ItemValue}
+use Rattle.nd_choice.specs.declared.indexes.ItemValue.TheVariants as item
+use Rattle.nd_choice.specs.declared.indexes.IndexValue.{IndexValue}
+use Rattle.nd_choice.specs.declared.indexes.IndexValue.TheVariants as index
+use Rattle.nd_operation.specs.Contents.{operand_of}
+use Rattle.nd_choice.specs.Indexing.{form_of}
 use Rattle.nd_eval.specs.Parts.{ItemParts, IndexParts, parts_of_items, unused}
-use Rattle.nd_eval.specs.declared.effect.Effect.{Effect}
-use Rattle.nd_eval.specs.declared.effect.Effect.TheVariants.{Nothing, Print, Bind, Unbind, Store}
+use Rattle.nd_eval.specs.declared.views.ViewMethod.{ViewMethod}
+use Rattle.nd_eval.specs.declared.views.ViewMethod.TheVariants.{Transpose, Reshape, ViewAs}
 
 -- the value that there may be
 abbrev pub option_values : Option Value → List model.Value
@@ -29,12 +29,12 @@ values_of vs = map value_of vs.items
 abbrev pub operands_of : Vec Operand Global → List operand.Operand
 operands_of os = map operand_of os.items
 
-abbrev pub effect_of : Effect → running.Effect
-effect_of Nothing = running.Nothing
-effect_of (Print text) = running.Prints (string_bytes text)
-effect_of (Bind n v) = running.Binding (string_bytes n) (value_of v)
-effect_of (Unbind n) = running.Unbinding (string_bytes n)
-effect_of (Store b w) = running.Storing (base_of b) (writes_of w)
+-- ---- views
+
+abbrev pub viewing_of : ViewMethod → Viewing
+viewing_of Transpose = Transposed
+viewing_of Reshape = Reshaped
+viewing_of (ViewAs t) = ViewedAs (dtype_of t.now)
 
 -- ---- indexes
 

@@ -6,3 +6,4 @@ pub mod Lines
 pub mod Suffixes
 pub mod Done
 pub use Rattle.nd_operation.specs.Faults
+pub mod Effects

@@ -6,12 +6,12 @@ use Rattle.nd_model.specs.Running.{Effect}
 use Rattle.nd_model.specs.Fault.{Fault, Stmt, BadArgument}
 use Rattle.nd_model.specs.Calls.{Fill, DType}
 use Rattle.nd_model.specs.Creation.{arange, array_of_list, astype, copy_array, filled, full}
-use Rattle.nd_model.specs.Syntax.{Expr, Bound, Omitted, Given, Elements, NoElement, AndElement, Element, Single, Nested, Method, Copy, AsType, Index, Field, Items, IndexItems, IndexItem, AndItem, NoItem, At, Slice, Ellipsis, NewAxis, Listed}
+use Rattle.nd_model.specs.Syntax.{Expr, Bound, Omitted, Given, Elements, NoElement, AndElement, Element, Single, Nested, Method, Copy, AsType, Transpose, Reshape, ViewAs, Exprs, NoExpr, AndExpr, Index, Field, Items, IndexItems, IndexItem, AndItem, NoItem, At, Slice, Ellipsis, NewAxis, Listed}
 use Rattle.nd_model.specs.Cells.{Suffix, AtIndex, OfMethod}
 use Rattle.nd_model.specs.Evaluation.{Eval, Gives, Refuses, ◌>>=◌}
-use Rattle.nd_model.specs.Operand.{Operand, Usage, Whole, ArraysOnly, Unused, Made}
+use Rattle.nd_model.specs.Operand.{Operand, Usage, Whole, ArraysOnly, RowsOnly, Unused, Made}
 use Rattle.nd_model.specs.Index.{Form, AtForm, SliceForm, EllipsisForm, NewAxisForm}
-use Rattle.nd_model.specs.Viewing.{Viewing, Indexed, Fielded}
+use Rattle.nd_model.specs.Viewing.{Viewing, Indexed, Fielded, Transposed, Reshaped, BroadcastTo, ViewedAs}
 use Rattle.nd_model.specs.Operation.{Computes, Views, perform, act_on}
 use Rattle.nd_model.specs.Meaning.{is_given, one, two, value, assignment_deed}
 
@@ -22,12 +22,6 @@ make_value f v = perform (Computes (one f)) ((Whole, v) ∷ [])
 -- of one expression
 abbrev pub value_of_one : (Operand → Result Made Fault) → Expr → Eval Value
 value_of_one f e = value e >>= make_value f
-
--- a method on a value; the other ones are not built yet
-abbrev pub method_value : Method → Value → Eval Value
-method_value Copy v = make_value copy_array v
-method_value (AsType t) v = make_value (astype t) v
-method_value _ v = Refuses (Stmt BadArgument)
 
 -- what is computed of two values
 abbrev pub operate : (Operand → Operand → Result Made Fault) → Value → Value → Eval Value
@@ -55,6 +49,37 @@ wholes vs = map (λ v. (Whole, v)) vs
 
 abbrev pub unused : List Value → List (Usage × Value)
 unused vs = map (λ v. (Unused, v)) vs
+
+-- expressions as a list
+abbrev pub listed : Exprs → List Expr
+listed NoExpr = []
+listed (AndExpr e es) = e ∷ listed es
+
+-- ---- views of values
+
+-- what is seen of a value, by the values of expressions
+abbrev pub view_value : Viewing → Value → List Value → Eval Value
+view_value w v ws = perform (Views w) ((Unused, v) ∷ unused ws)
+
+-- by the expressions
+abbrev pub viewed_value : Viewing → List Expr → Value → Eval Value
+viewed_value w es v = values es >>= view_value w v
+
+-- `np.broadcast_to` of a value, and of an expression
+abbrev pub stretch : Value → List Value → Eval Value
+stretch v ws = perform (Views BroadcastTo) ((RowsOnly, v) ∷ unused ws)
+
+abbrev pub stretched_value : Expr → List Expr → Eval Value
+stretched_value e es = value e >>= λ v. values es >>= stretch v
+
+-- a method on a value; the other ones are not built yet
+abbrev pub method_value : Method → Value → Eval Value
+method_value Copy v = make_value copy_array v
+method_value (AsType t) v = make_value (astype t) v
+method_value (Transpose axes) v = viewed_value Transposed (listed axes) v
+method_value (Reshape shape) v = viewed_value Reshaped (listed shape) v
+method_value (ViewAs t) v = view_value (ViewedAs t) v []
+method_value _ v = Refuses (Stmt BadArgument)
 
 -- an expression that may be left out
 abbrev pub bound_exprs : Bound → List Expr

@@ -1,7 +1,6 @@
 //! Effects.
 
-use nd_operation::ElementWrite;
-use nd_session::{Base, Value};
+use nd_session::{Array, Value};
 
 /// What a statement does once it is evaluated.
 #[derive(Drop)]
@@ -10,5 +9,6 @@ pub(crate) enum Effect {
     Print(String),
     Bind(String, Value),
     Unbind(String),
-    Store(Base, ElementWrite),
+    /// The elements of an array get those of a value.
+    Store(Array, Value),
 }

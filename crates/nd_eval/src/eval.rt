@@ -7,7 +7,7 @@ ghost use Rattle.nd_model.specs.Meaning as meaning;
 ghost use Rattle.nd_model.specs.Meaning.{is_given};
 ghost use Rattle.nd_model.specs.Operation as operation;
 ghost use Rattle.nd_model.specs.Syntax.{Called, Items, NewArray};
-ghost use Rattle.nd_model.specs.Tokens.{tokens_of, tokens_of_call, tokens_of_index, tokens_of_item, tokens_of_all, tokens_of_bound, tokens_of_element};
+ghost use Rattle.nd_model.specs.Tokens.{tokens_of, tokens_of_call, tokens_of_index, tokens_of_item, tokens_of_all, tokens_of_bound, tokens_of_element, tokens_of_method};
 ghost use Rattle.nd_syntax.specs.Lists.{operation_of};
 ghost use Rattle.nd_syntax.specs.Syntax.{bound_of, expr_of, call_of, element_of, index_of, item_of, method_of, suffix_of};
 ghost use Rattle.nd_heap.specs.Values.{value_of};
@@ -26,9 +26,11 @@ ghost use Rattle.nd_operation.specs.declared.fault.StmtError.TheVariants.{BadArg
 
 use crate::evaluator::Evaluator;
 use crate::operation::{mark_index, mark_operand, mark_operands, operand_in};
+use crate::views::ViewMethod;
+use nd_choice::{IndexValue, ItemValue, choose};
 use nd_operation::{
-    IndexValue, ItemValue, OfOne, OfTwo, StmtError, StmtFault, Stop, apply_binary, choose,
-    make_filled, make_full, make_list, make_of_one, make_range,
+    OfOne, OfTwo, StmtError, StmtFault, Stop, apply_binary, make_filled, make_full, make_list,
+    make_of_one, make_range,
 };
 use nd_session::Value;
 use nd_syntax::{BinaryOp, Call, DType, Element, Expr, Fill, Index, IndexItem, Method, Suffix};
@@ -168,16 +170,54 @@ impl Evaluator<'_> {
         self.give(new)
     }
 
+    /// What a method that gives a view gives of a value, by its expressions.
+    #[cycle(value)]
+    fn viewed_value(
+        &mut self,
+        method: ViewMethod<'_>,
+        found: &Value,
+        exprs: &[Expr],
+    ) -> Result<Value, Stop>
+        requires held { IsHeld (session_of self.old) found.now }
+        requires room { (session_of self.old).next + tokens_of_all (map expr_of exprs.now) + 1
+            < 2 ^ 64 }
+        ensures { Evaluates value_of result self.old (parts.viewed_value
+            (contents.viewing_of method.entry) (map expr_of exprs.now) (value_of found.now))
+            self.new }
+    {
+        let others = self.values(exprs)?;
+        self.view_value(method, found, &others)
+    }
+
+    /// `np.broadcast_to`
+    #[cycle(value)]
+    fn stretched_value(&mut self, operand: &Expr, shape: &[Expr]) -> Result<Value, Stop>
+        requires { (session_of self.old).next + tokens_of (expr_of operand.now)
+            + tokens_of_all (map expr_of shape.now) + 1 < 2 ^ 64 }
+        ensures { Evaluates value_of result self.old
+            (parts.stretched_value (expr_of operand.now) (map expr_of shape.now)) self.new }
+    {
+        self.session.soundness();
+        let found = self.value(operand)?;
+        let shape = self.values(shape)?;
+        self.stretch_value(&found, &shape)
+    }
+
     /// What a method gives of a value that was found before.
+    #[cycle(value)]
     fn method_value(&mut self, found: &Value, method: &Method) -> Result<Value, Stop>
         requires held { IsHeld (session_of self.old) found.now }
-        requires room { (session_of self.old).next + 1 < 2 ^ 64 }
+        requires room { (session_of self.old).next + 2 + tokens_of_method (method_of method.now)
+            < 2 ^ 64 }
         ensures { Evaluates value_of result self.old
             (parts.method_value (method_of method.now) (value_of found.now)) self.new }
     {
         match method {
             Method::Copy => self.make_value(OfOne::Copy, found),
             Method::AsType(dtype) => self.make_value(OfOne::AsType(dtype), found),
+            Method::Transpose(axes) => self.viewed_value(ViewMethod::Transpose, found, axes),
+            Method::Reshape(shape) => self.viewed_value(ViewMethod::Reshape, found, shape),
+            Method::View(dtype) => self.view_value(ViewMethod::ViewAs(dtype), found, &[]),
             _ => Err(unbuilt_form()),
         }
     }
@@ -331,6 +371,7 @@ impl Evaluator<'_> {
             Call::Full(shape, value, dtype) => self.full_value(shape, value, dtype),
             Call::Array(element, dtype) => self.array_value(element, dtype),
             Call::Convert(kind, value) => self.value_of_one(OfOne::Convert(*kind), value),
+            Call::BroadcastTo(operand, shape) => self.stretched_value(operand, shape),
             Call::Minimum(left, right) => {
                 self.value_of_two(OfTwo::Call(BinaryUfunc::Minimum), left, right)
             }

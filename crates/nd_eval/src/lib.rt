@@ -7,6 +7,7 @@ mod evaluator;
 mod exec;
 mod inputs;
 mod operation;
+mod views;
 
 pub use exec::{Output, run_stmt};
-pub use nd_operation::{IndexFault, StmtError, StmtFault, UfuncFault, ViewFault};
+pub use nd_operation::{IndexFault, ShapeFault, StmtError, StmtFault, UfuncFault, ViewFault};

@@ -7,15 +7,16 @@ ghost use Rattle.nd_session.specs.Live.{live};
 ghost use Rattle.nd_operation.specs.Contents.{operand_of};
 ghost use Rattle.nd_eval.specs.Contents.{operands_of};
 ghost use Rattle.nd_eval.specs.Ends.{Evaluates, session_of};
-ghost use Rattle.nd_operation.specs.Indexing.{IsOne, chosen_of};
+ghost use Rattle.nd_choice.specs.Indexing.{IsOne, chosen_of};
 ghost use Rattle.nd_operation.specs.New.{given};
 ghost use Rattle.nd_eval.specs.Uses.{IsHeld, AreHeld, item_marked, items_marked, index_marked};
 ghost use Rattle.nd_eval.specs.Uses.{marked, all_marked};
 ghost use Rattle.nd_eval.specs.Uses.{operand_over, operands_over};
 
 use crate::evaluator::Evaluator;
+use nd_choice::{Chosen, IndexValue, ItemValue};
 use nd_element::number_in;
-use nd_operation::{Chosen, Elements, IndexValue, ItemValue, New, Operand, Stop};
+use nd_operation::{Elements, New, Operand, Stop};
 use nd_session::{Array, Base, OutOfMemory, Session, Value};
 use nd_types::{ElemType, Num};
 use nd_view::View;

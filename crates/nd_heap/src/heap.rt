@@ -187,6 +187,13 @@ impl Heap {
         self.blocks.bytes(base)
     }
 
+    /// The block of a base, shared, if there is one. As long as it is shared, a write to it copies it first.
+    pub fn share(&self, base: Base) -> Result<Option<Rc<RawBlock>>, OutOfMemory>
+        ensures { IfOk result (λ o. bytes_in o ≡ bytes_at self.now.blocks (base_of base)) }
+    {
+        self.blocks.share(base)
+    }
+
     /// The bytes of a block that some bound value lies in, none where there is no such block.
     pub fn held_bytes(&self, base: Base) -> &[u8]
         ensures { result.now ≡ (if model.is_held (base_of base) self.now.names

@@ -10,7 +10,7 @@ use Rattle.nd_model.specs.Fault as fault
 use Rattle.nd_model.specs.InputName.{is_input_name}
 use Rattle.nd_model.specs.Syntax as syntax
 use Rattle.nd_model.specs.Syntax.{Expr, Call, Method, Elements, Element, Index, IndexItems, IndexItem, Stmt}
-use Rattle.nd_model.specs.Tokens.{tokens_of, tokens_of_call, tokens_of_shape, tokens_of_exprs, tokens_of_bound, tokens_of_step, tokens_of_index, tokens_of_items, tokens_of_item, tokens_of_method, tokens_of_elements, tokens_of_others, tokens_of_element, tokens_of_all, tokens_of_stmt}
+use Rattle.nd_model.specs.Tokens.{tokens_of, tokens_of_call, tokens_of_shape, tokens_of_lengths, tokens_of_exprs, tokens_of_bound, tokens_of_step, tokens_of_index, tokens_of_items, tokens_of_item, tokens_of_method, tokens_of_elements, tokens_of_others, tokens_of_element, tokens_of_all, tokens_of_stmt}
 use Rattle.nd_model.specs.Evaluation.{Eval, Gives, Refuses, Asks, run, ◌>>=◌, decide}
 use Rattle.nd_model.specs.Operand as operand
 use Rattle.nd_model.specs.Operand.{Operand, Usage, Made, ANumber, AnArray, Chosen, AnElement, AView, ACopy, Stretched, Deed, NoDeed, PrintsText, SavesFile, BindsFirst, BindsMade, Unbinds, Writes, MakesAndWrites}
@@ -211,7 +211,7 @@ mutual
   at_call (syntax.NewArray (syntax.Single e) t) = omega (arith, at_expr e)
   at_call (syntax.NewArray (syntax.Nested es) t) = omega (arith, at_elements es Done)
   at_call (syntax.Convert k e) = omega (arith, at_expr e)
-  at_call (syntax.BroadcastTo e s) = omega arith
+  at_call (syntax.BroadcastTo e s) = omega (arith, at_expr e, at_shape operand.Unused s Done)
   at_call (syntax.Minimum a b) = omega (arith, at_expr a, at_expr b)
   at_call (syntax.Maximum a b) = omega (arith, at_expr a, at_expr b)
   at_call (syntax.Absolute e) = omega (arith, at_expr e)
@@ -221,8 +221,8 @@ mutual
   at_call (syntax.Buffer n) = omega arith
 
   pub at_method : (m : Method) (x : Plan) → bases (Meaning.method_plan m x) ≤ 2 + bases x + tokens_of_method m
-  at_method (syntax.Transpose axes) x = omega arith
-  at_method (syntax.Reshape s) x = omega arith
+  at_method (syntax.Transpose axes) x = at_axes axes x
+  at_method (syntax.Reshape s) x = omega (arith, at_lengths s)
   at_method syntax.Copy x = omega arith
   at_method (syntax.AsType t) x = omega arith
   at_method (syntax.ViewAs t) x = omega arith
@@ -246,6 +246,14 @@ mutual
   at_shape u syntax.NoExpr rest = omega arith
   at_shape u (syntax.AndExpr e syntax.NoExpr) rest = omega (arith, at_expr e)
   at_shape u (syntax.AndExpr e (syntax.AndExpr f es)) rest = omega (arith, at_expr e, at_expr f, at_exprs u es rest)
+
+  pub at_axes : (es : syntax.Exprs) (x : Plan) → bases (Meaning.method_plan (syntax.Transpose es) x) ≤ 2 + bases x + tokens_of_method (syntax.Transpose es)
+  at_axes syntax.NoExpr x = omega arith
+  at_axes (syntax.AndExpr e es) x = omega (arith, at_expr e, at_exprs operand.Unused es Done)
+
+  pub at_lengths : (es : syntax.Exprs) → all_bases (Meaning.expr_plans operand.Unused es Done) ≤ tokens_of_lengths es
+  at_lengths syntax.NoExpr = omega arith
+  at_lengths (syntax.AndExpr e es) = omega (arith, at_expr e, at_exprs operand.Unused es Done)
 
   -- each has a comma before it
   pub at_exprs : (u : Usage) (es : syntax.Exprs) (rest : Plans) → all_bases (Meaning.expr_plans u es rest) ≤ tokens_of_exprs es + all_bases rest

@@ -51,4 +51,6 @@ pub mod Orders
 pub mod Transposed
 pub mod Stretched
 pub mod Recast
+pub mod Reshaped
+pub mod EvenPlaces
 pub mod Fielded

@@ -1,6 +1,6 @@
 -- The axes of an array in some order: each is there once, and what is gathered over them is what is gathered in their own order.
 use Rattle.std.proofs.Common.{◌≡◌, ℕ, zero, suc, ◌+◌, ◌<◌, ◌≤◌, Bool, true, false, ◌||◌, nat_eq, if◌then◌else◌, List, [], ◌∷◌, length, get_or, refl, sym, ap, ◌∙◌, ◌⊎◌, inl, inr, arith, eqb-true}
-use Rattle.std.proofs.lemmas.Bool.{cases_Bool, or_cases}
+use Rattle.std.proofs.lemmas.Bool.{cases_Bool}
 use Rattle.std.proofs.lemmas.Bool.Decides.{nat_tests}
 use Rattle.nd_model.specs.Session.{is_in}
 use Rattle.nd_model.specs.Transposing.{position_in}

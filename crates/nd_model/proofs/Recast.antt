@@ -1,5 +1,5 @@
 -- What is seen of a view as other numbers lies where the view lies.
-use Rattle.std.proofs.Common.{◌≡◌, ℕ, zero, suc, ◌+◌, ◌-◌, ◌*◌, ◌/◌, ◌%◌, ◌<◌, ◌≤◌, Bool, true, false, ◌&&◌, eqb, not, List, [], ◌∷◌, map, length, Result, Ok, refl, sym, ap, subst, ◌∙◌, inl, inr, arith, eqb-true}
+use Rattle.std.proofs.Common.{◌≡◌, ℕ, zero, suc, ◌+◌, ◌-◌, ◌*◌, ◌/◌, ◌%◌, ◌<◌, ◌≤◌, Bool, true, ◌&&◌, eqb, not, List, [], ◌∷◌, map, length, Result, Ok, refl, sym, ap, subst, ◌∙◌, inl, inr, arith, eqb-true}
 use Rattle.std.specs.Prelude.{◌==◌, None}
 use Rattle.std.specs.List.{All, list_all, flat_map}
 use Rattle.std.proofs.Math.Nat.{div-mul-le_self, mul-le-mul_right}
@@ -9,15 +9,18 @@ use Rattle.std.proofs.lemmas.List.{length-map}
 use Rattle.std.proofs.lemmas.List.Elements.{All-map, All-weaker}
 use Rattle.std.proofs.lemmas.List.Folds.{list_all-append}
 use Rattle.nd_model.specs.Element.{Element, size_of}
-use Rattle.nd_model.specs.Tuple.{count_up, elements_of, indices}
+use Rattle.nd_model.specs.Tuple.{count_up, indices}
 use Rattle.nd_model.specs.Strides.{limit_fault}
 use Rattle.nd_model.specs.View.{Geo, One, item_size, place_of}
-use Rattle.nd_model.specs.ShapeFault.{ShapeFault, ItemSizes, only_if, unless_limit}
+use Rattle.nd_model.specs.Fault.{Fault, View, ItemSizes}
+use Rattle.nd_model.specs.Refusing.{when}
+use Rattle.nd_model.specs.Broadcast.{in_limits}
+use Rattle.nd_model.specs.Creation.{is_number_type}
 use Rattle.nd_model.specs.Recasting.{last_of, with_last, row_start, has_whole_rows, row_bytes, can_recast, recast_shape, recast_view, view_as}
 use Rattle.nd_model.specs.Sound.{LiesIn}
 use Rattle.nd_model.proofs.Tuples.{length-indices, IsTuple, all_tuples}
 use Rattle.nd_model.proofs.Taking.{place_within}
-use Rattle.nd_model.proofs.Transposed.{both, only_ok, ok_same}
+use Rattle.nd_model.proofs.Transposed.{both, when_ok, ok_same}
 use Rattle.nd_model.proofs.Stretched.{unless_ok}
 
 -- ---- what is so of all tuples is so of each
@@ -160,11 +163,11 @@ same_size e g len same lies = record {
 
 pub recast_lies : (e : Element) (g h : Geo) (len : ℕ) → LiesIn len g → view_as e g ≡ Ok h → LiesIn len h
 recast_lies e g h len lies made = elim (cases_Bool (item_size g.element == size_of e.kind)) [
-  | inl is ↦ let made' : ◌≡◌ {A = Result Geo ShapeFault} (Ok (record g { element = One e })) (Ok h) = rw is at made in
+  | inl is ↦ let made' : ◌≡◌ {A = Result Geo Fault} (Ok (record g { element = One e })) (Ok h) = rw is at made in
       subst (LiesIn len) (ok_same (record g { element = One e }) h made') (same_size e g len (eqb-true _ _ is) lies)
   | inr other ↦
-      let made' : only_if (can_recast e g) ItemSizes (unless_limit (limit_fault (size_of e.kind) (recast_shape e g)) (Ok (recast_view e g))) ≡ Ok h = rw other at made in
-      let can = only_ok (can_recast e g) ItemSizes _ h made' in
+      let made' : when (is_number_type g.element && can_recast e g) (View ItemSizes) (in_limits (One e) (recast_shape e g) (Ok (recast_view e g))) ≡ Ok h = rw other at made in
+      let can = when_ok (is_number_type g.element && can_recast e g) (View ItemSizes) _ h made' in
       let limited = unless_ok (limit_fault (size_of e.kind) (recast_shape e g)) _ h can.1 in
-      subst (LiesIn len) (ok_same (recast_view e g) h limited.1) (recast_within e g len lies can.0 limited.0)
+      subst (LiesIn len) (ok_same (recast_view e g) h limited.1) (recast_within e g len lies (both (is_number_type g.element) (can_recast e g) can.0).1 limited.0)
 ]

@@ -106,3 +106,35 @@ first_index_fault = refl
 row_of_structures : gives (codes "r = np.zeros(2, dtype=[('a', '|i1'), ('b', '<i2')])\nx = r[1]\nprint(r, x, np.array(x))\ny = x.copy()") ≡ (codes "[(0, 0) (0, 0)] (0, 0) (0, 0)\n", codes "Stmt.NotAnArray")
 unfolding digits reading tokens tokens_from piece_at word_at keywords symbols cell lines line stmt bind assign target groups group place imports module_name delete print printed save saved value expr comparison bor bxor band shift sum term unary signed power exponent under postfix suffix operand function call arange second third filled full new_array broadcast_to two fold reduce accumulate comma_options options first_axis named_axis numbered_axis comma_keepdims only_keepdims named_keepdims comma_typing only_typing typing dtype fields pair type_name kind_name shape tuple no_lengths quoted exprs method attribute axes lengths empty type_argument reduction reduction_options accumulation index contents nothing item part list elements newaxis slice step_in bound_in grouped name has keyword_kinds name_kinds
 row_of_structures = refl
+
+transposed_shares : gives (codes "x = np.arange(6).reshape(2, 3)\ny = x.T\ny[2, 1] = 9\nprint(x, y[0], x.transpose(1, 0)[1])") ≡ (codes "[[0 1 2]\n [3 4 9]] [0 3] [1 4]\n", codes "ok")
+unfolding digits reading tokens tokens_from piece_at word_at keywords symbols cell lines line stmt bind assign target groups group place imports module_name delete print printed save saved value expr comparison bor bxor band shift sum term unary signed power exponent under postfix suffix operand function call arange second third filled full new_array broadcast_to two fold reduce accumulate comma_options options first_axis named_axis numbered_axis comma_keepdims only_keepdims named_keepdims comma_typing only_typing typing dtype fields pair type_name kind_name shape tuple no_lengths quoted exprs method attribute axes lengths empty type_argument reduction reduction_options accumulation index contents nothing item part list elements newaxis slice step_in bound_in grouped name has keyword_kinds name_kinds
+transposed_shares = refl
+
+reshape_copies_where_it_must : gives (codes "v = np.broadcast_to(np.arange(2), (2, 2))\nw = v.reshape(4)\nw[0] = 7\nprint(v, w)\nv[0].reshape(2, 1)[0] = 1") ≡ (codes "[[0 1]\n [0 1]] [7 1 0 1]\n", codes "Ufunc.ReadOnly")
+unfolding digits reading tokens tokens_from piece_at word_at keywords symbols cell lines line stmt bind assign target groups group place imports module_name delete print printed save saved value expr comparison bor bxor band shift sum term unary signed power exponent under postfix suffix operand function call arange second third filled full new_array broadcast_to two fold reduce accumulate comma_options options first_axis named_axis numbered_axis comma_keepdims only_keepdims named_keepdims comma_typing only_typing typing dtype fields pair type_name kind_name shape tuple no_lengths quoted exprs method attribute axes lengths empty type_argument reduction reduction_options accumulation index contents nothing item part list elements newaxis slice step_in bound_in grouped name has keyword_kinds name_kinds
+reshape_copies_where_it_must = refl
+
+stretched_element_is_one : gives (codes "b = np.array(5)\nv = np.broadcast_to(b, (2, 3)).reshape(6)\nb[()] = 7\nprint(v)") ≡ (codes "[7 7 7 7 7 7]\n", codes "ok")
+unfolding digits reading tokens tokens_from piece_at word_at keywords symbols cell lines line stmt bind assign target groups group place imports module_name delete print printed save saved value expr comparison bor bxor band shift sum term unary signed power exponent under postfix suffix operand function call arange second third filled full new_array broadcast_to two fold reduce accumulate comma_options options first_axis named_axis numbered_axis comma_keepdims only_keepdims named_keepdims comma_typing only_typing typing dtype fields pair type_name kind_name shape tuple no_lengths quoted exprs method attribute axes lengths empty type_argument reduction reduction_options accumulation index contents nothing item part list elements newaxis slice step_in bound_in grouped name has keyword_kinds name_kinds
+stretched_element_is_one = refl
+
+first_shape_fault : gives (codes "x = np.arange(6)\nx.reshape(-1, -1, -5)[0] = 1") ≡ (codes "", codes "Shape.TwoUnknown")
+unfolding digits reading tokens tokens_from piece_at word_at keywords symbols cell lines line stmt bind assign target groups group place imports module_name delete print printed save saved value expr comparison bor bxor band shift sum term unary signed power exponent under postfix suffix operand function call arange second third filled full new_array broadcast_to two fold reduce accumulate comma_options options first_axis named_axis numbered_axis comma_keepdims only_keepdims named_keepdims comma_typing only_typing typing dtype fields pair type_name kind_name shape tuple no_lengths quoted exprs method attribute axes lengths empty type_argument reduction reduction_options accumulation index contents nothing item part list elements newaxis slice step_in bound_in grouped name has keyword_kinds name_kinds
+first_shape_fault = refl
+
+bytes_as_numbers : gives (codes "x = np.array([256, 1], dtype=np.int16)\ny = x.view(np.uint8)\ny[3] = 1\nprint(y, x, x.view('>i2'))\nz = y[::2].view(np.int16)") ≡ (codes "[0 1 1 1] [256 257] [  1 257]\n", codes "View.ItemSizes")
+unfolding digits reading tokens tokens_from piece_at word_at keywords symbols cell lines line stmt bind assign target groups group place imports module_name delete print printed save saved value expr comparison bor bxor band shift sum term unary signed power exponent under postfix suffix operand function call arange second third filled full new_array broadcast_to two fold reduce accumulate comma_options options first_axis named_axis numbered_axis comma_keepdims only_keepdims named_keepdims comma_typing only_typing typing dtype fields pair type_name kind_name shape tuple no_lengths quoted exprs method attribute axes lengths empty type_argument reduction reduction_options accumulation index contents nothing item part list elements newaxis slice step_in bound_in grouped name has keyword_kinds name_kinds
+bytes_as_numbers = refl
+
+all_is_read_first : gives (codes "x = np.arange(5)\nx[1:] = x[:-1]\nprint(x)\nx[::-1] = x\nprint(x)") ≡ (codes "[0 0 1 2 3]\n[3 2 1 0 0]\n", codes "ok")
+unfolding digits reading tokens tokens_from piece_at word_at keywords symbols cell lines line stmt bind assign target groups group place imports module_name delete print printed save saved value expr comparison bor bxor band shift sum term unary signed power exponent under postfix suffix operand function call arange second third filled full new_array broadcast_to two fold reduce accumulate comma_options options first_axis named_axis numbered_axis comma_keepdims only_keepdims named_keepdims comma_typing only_typing typing dtype fields pair type_name kind_name shape tuple no_lengths quoted exprs method attribute axes lengths empty type_argument reduction reduction_options accumulation index contents nothing item part list elements newaxis slice step_in bound_in grouped name has keyword_kinds name_kinds
+all_is_read_first = refl
+
+rows_are_stretched : gives (codes "x = np.zeros((2, 3), dtype=np.int8)\nx[...] = np.array([[1, 2, 300]])\nx[:, 0] = 7\nprint(x)\nx[0:0] = 300") ≡ (codes "[[ 7  2 44]\n [ 7  2 44]]\n", codes "Ufunc.IntOutOfRange 300")
+unfolding digits reading tokens tokens_from piece_at word_at keywords symbols cell lines line stmt bind assign target groups group place imports module_name delete print printed save saved value expr comparison bor bxor band shift sum term unary signed power exponent under postfix suffix operand function call arange second third filled full new_array broadcast_to two fold reduce accumulate comma_options options first_axis named_axis numbered_axis comma_keepdims only_keepdims named_keepdims comma_typing only_typing typing dtype fields pair type_name kind_name shape tuple no_lengths quoted exprs method attribute axes lengths empty type_argument reduction reduction_options accumulation index contents nothing item part list elements newaxis slice step_in bound_in grouped name has keyword_kinds name_kinds
+rows_are_stretched = refl
+
+structures_are_assigned : gives (codes "r = np.zeros(2, dtype=[('a', '|i1'), ('b', '<i2')])\nr['b'] = np.arange(2)\nr[0]['a'] = 5\nr[1] = r[0]\nprint(r)\nr[0] = 1") ≡ (codes "[(5, 0) (5, 0)]\n", codes "Ufunc.NotNumbers")
+unfolding digits reading tokens tokens_from piece_at word_at keywords symbols cell lines line stmt bind assign target groups group place imports module_name delete print printed save saved value expr comparison bor bxor band shift sum term unary signed power exponent under postfix suffix operand function call arange second third filled full new_array broadcast_to two fold reduce accumulate comma_options options first_axis named_axis numbered_axis comma_keepdims only_keepdims named_keepdims comma_typing only_typing typing dtype fields pair type_name kind_name shape tuple no_lengths quoted exprs method attribute axes lengths empty type_argument reduction reduction_options accumulation index contents nothing item part list elements newaxis slice step_in bound_in grouped name has keyword_kinds name_kinds
+structures_are_assigned = refl

@@ -32,7 +32,7 @@ use Rattle.nd_model.proofs.Lists.{not_both, length-put}
 use Rattle.nd_model.proofs.Frames.{either_end}
 use Rattle.nd_model.proofs.Growing.{Grows, stays, grows_on, grows_after, grows_run}
 use Rattle.nd_model.proofs.Taking.{IsWithin, spread_alone}
-use Rattle.nd_model.proofs.Choosing.{IsRowWithin, ChoosesWithin, chooses_within}
+use Rattle.nd_model.proofs.Choosing.{ChoosesWithin, chooses_within}
 use Rattle.nd_model.proofs.Tuples.{length-count_up, length-indices}
 
 -- ---- new arrays
@@ -150,7 +150,7 @@ safe_array i r b g old h = safe_limits V i r (limit_fault (item_size g.element) 
 safe_row : (i : Inputs) (r : Running) (b : Base) (g : Geo) → (b.label ≡ r.label → b.number < r.next) → IsWithin (length (r.bytes b)) g → Safe V i r (Operation.view_value Row b g)
 safe_row i r b g old h = safe_limits V i r (limit_fault (item_size g.element) g.shape) _ (within r b g old h)
 
-safe_element : (i : Inputs) (r : Running) (b : Base) (w : Bool) (t : ElementType) (p : ℕ) → (b.label ≡ r.label → b.number < r.next) → IsRowWithin (length (r.bytes b)) t p → Safe V i r (Operation.element_of b w t p)
+safe_element : (i : Inputs) (r : Running) (b : Base) (w : Bool) (t : ElementType) (p : ℕ) → (b.label ≡ r.label → b.number < r.next) → p + item_size t ≤ length (r.bytes b) → Safe V i r (Operation.element_of b w t p)
 safe_element i r b w (One e) p old h = tt
 safe_element i r b w (Structure fields size) p old h =
     safe_row i r b (record { element = Structure fields size; shape = []; writable = w; places = p ∷ [] }) old (refl, All-cons (λ p. p + size ≤ length (r.bytes b)) p [] h (All-nil (λ p. p + size ≤ length (r.bytes b))))

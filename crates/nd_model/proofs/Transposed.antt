@@ -1,5 +1,5 @@
 -- What is transposed of a view lies where the view lies.
-use Rattle.std.proofs.Common.{◌≡◌, ℕ, zero, suc, ◌+◌, ◌*◌, ◌<◌, ◌≤◌, ◌^◌, Bool, true, false, ◌&&◌, ◌||◌, eqb, ℤ, List, [], ◌∷◌, map, length, get_or, Result, Ok, refl, sym, ap, ap₂, subst, ◌∙◌, inl, inr, arith, eqb-true}
+use Rattle.std.proofs.Common.{◌≡◌, ℕ, zero, suc, ◌+◌, ◌*◌, ◌<◌, ◌≤◌, ◌^◌, Bool, true, false, ◌&&◌, ◌||◌, eqb, ℤ, List, [], ◌∷◌, map, length, get_or, Result, Ok, refl, sym, ap, subst, ◌∙◌, inl, inr, arith, eqb-true}
 use Rattle.std.specs.Prelude.{nat_lt, ◌==◌, if◌then◌else◌, Some, None}
 use Rattle.std.specs.List.{list_all, list_any}
 use Rattle.std.proofs.lemmas.Bool.{cases_Bool}
@@ -7,26 +7,27 @@ use Rattle.std.proofs.lemmas.Bool.Decides.{nat_tests}
 use Rattle.std.proofs.lemmas.List.{length-map, get_or-map}
 use Rattle.nd_model.specs.Session.{is_in}
 use Rattle.nd_model.specs.Fault.{TooManyAxes, TooManyElements}
-use Rattle.nd_model.specs.Strides.{IsInLimits, limit_fault}
+use Rattle.nd_model.specs.Strides.{limit_fault}
 use Rattle.nd_model.specs.Tuple.{count_up, elements_of}
 use Rattle.nd_model.specs.View.{Geo, item_size}
 use Rattle.nd_model.specs.Selecting.{is_within}
-use Rattle.nd_model.specs.ShapeFault.{ShapeFault, only_if}
+use Rattle.nd_model.specs.Fault.{Fault}
+use Rattle.nd_model.specs.Refusing.{when}
 use Rattle.nd_model.specs.Transposing.{axes_of, is_order, position_in, ordered_tuple, transposed_view, transpose, count_down, reversed_view}
 use Rattle.nd_model.specs.Sound.{LiesIn}
-use Rattle.nd_model.proofs.Tuples.{IsTuple, tuple_at, tuple_by, length-count_up}
+use Rattle.nd_model.proofs.Tuples.{IsTuple, tuple_at, tuple_by}
 use Rattle.nd_model.proofs.Taking.{taking_within}
-use Rattle.nd_model.proofs.Orders.{IsOrder, gather, over_order, position_is, same_is, in_more}
+use Rattle.nd_model.proofs.Orders.{IsOrder, gather, over_order, position_is, in_more}
 
 pub both : (a b : Bool) → (a && b) ≡ true → (a ≡ true) × (b ≡ true)
 both true b e = (refl, e)
 both false b e = cc
 
-pub only_ok : {A : Type 0} (b : Bool) (f : ShapeFault) (x : Result A ShapeFault) (y : A) → only_if b f x ≡ Ok y → (b ≡ true) × (x ≡ Ok y)
-only_ok true f x y e = (refl, e)
-only_ok false f x y e = absurd (cc)
+pub when_ok : {A : Type 0} (b : Bool) (f : Fault) (x : Result A Fault) (y : A) → when b f x ≡ Ok y → (b ≡ true) × (x ≡ Ok y)
+when_ok true f x y e = (refl, e)
+when_ok false f x y e = absurd (cc)
 
-pub ok_same : {A : Type 0} (x y : A) → ◌≡◌ {A = Result A ShapeFault} (Ok x) (Ok y) → x ≡ y
+pub ok_same : {A : Type 0} (x y : A) → ◌≡◌ {A = Result A Fault} (Ok x) (Ok y) → x ≡ y
 ok_same x y e = cc
 
 -- ---- orders
@@ -140,7 +141,7 @@ ordered_lies g order len is lies =
 
 pub transposed_lies : (zs : List ℤ) (g h : Geo) (len : ℕ) → LiesIn len g → transpose zs g ≡ Ok h → LiesIn len h
 transposed_lies zs g h len lies e =
-    let made = only_ok _ _ _ h e in
+    let made = when_ok _ _ _ h e in
     subst (LiesIn len) (ok_same (transposed_view g (axes_of (length g.shape) zs)) h made.1) (ordered_lies g (axes_of (length g.shape) zs) len (order_is (length g.shape) zs made.0) lies)
 
 pub reversed_lies : (g : Geo) (len : ℕ) → LiesIn len g → LiesIn len (reversed_view g)

@@ -13,7 +13,6 @@ use Rattle.nd_model.specs.Types.{element_type}
 use Rattle.nd_model.specs.Fault.{Fault, Stmt, Ufunc, Index, BadArgument, NeedsType, RaggedList, FloatResult, NotNumbers, BoolOp, IntOutOfRange, ZeroStep}
 use Rattle.nd_model.specs.Refusing.{◌>>=◌, when}
 use Rattle.nd_model.specs.Broadcast.{in_limits}
-use Rattle.nd_model.specs.Writing.{takes}
 use Rattle.nd_model.specs.Operand.{Number, Int, Truth, Scalar, Operand, Plain, Elements, Made, ANumber, AnArray, number_of, shape_of, content_of, made_of}
 use Rattle.nd_model.specs.Index.{array_of}
 use Rattle.nd_model.specs.Operators.{is_negative, is_zero}
@@ -80,6 +79,11 @@ last_of (o ∷ p ∷ os) = do
   Ok (o ∷ rest.0, rest.1)
 
 -- ---- conversion
+
+-- whether a kind takes a Python integer: a Boolean takes each
+abbrev pub takes : Kind → ℤ → Bool
+takes Boolean z = true
+takes k z = fits k z
 
 -- a Python integer that a kind does not take
 abbrev pub misfit : Kind → Number → Option ℤ

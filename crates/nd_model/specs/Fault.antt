@@ -1,11 +1,13 @@
 -- Refusals by their groups, each with its arguments.
 use Rattle.std.specs.Prelude.{ℕ, ℤ, List}
+use Rattle.nd_model.specs.ShapeFault.{ShapeFault}
 
 pub data ViewFault : Type 0 where
   OutOfBlock : ViewFault
   TooManyAxes : ViewFault
   TooManyElements : ViewFault
   AxesDiffer : ViewFault
+  ItemSizes : ViewFault
 
 pub data IndexFault : Type 0 where
   OutOfBounds : (axis : ℕ) → (index : ℤ) → (size : ℕ) → IndexFault
@@ -40,6 +42,7 @@ pub data StmtFault : Type 0 where
 pub data Fault : Type 0 where
   View : ViewFault → Fault
   Index : IndexFault → Fault
+  Shape : ShapeFault → Fault
   Ufunc : UfuncFault → Fault
   Stmt : StmtFault → Fault
 

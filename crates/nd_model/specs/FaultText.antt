@@ -1,7 +1,9 @@
 -- The texts of refusals, as a script is answered.
 use Rattle.std.specs.Prelude.{ℕ, List, ◌++◌, codes, decimal}
 use Rattle.std.specs.Fmt.{signed_decimal}
-use Rattle.nd_model.specs.Fault.{ViewFault, OutOfBlock, TooManyAxes, TooManyElements, AxesDiffer, IndexFault, OutOfBounds, TooManyIndices, ZeroStep, NotAnIndex, TwoEllipses, NoField, UfuncFault, FloatResult, IntOutOfRange, BoolOp, NegativePower, ShapeMismatch, ReadOnly, NotNumbers, StmtFault, NoName, IntTooBig, ZeroDivide, NegativeShift, NeedsType, RaggedList, NotAnArray, TextTooLong, BadArgument, BadType, Fault, View, Index, Ufunc, Stmt, ParseKind, BadToken, Unexpected, TooDeep, TooManyStatements, UnknownCall, LeftOut, Refusal, Parse, Statement}
+use Rattle.nd_model.specs.Fault.{ViewFault, OutOfBlock, TooManyAxes, TooManyElements, AxesDiffer, ItemSizes, IndexFault, OutOfBounds, TooManyIndices, ZeroStep, NotAnIndex, TwoEllipses, NoField, UfuncFault, FloatResult, IntOutOfRange, BoolOp, NegativePower, ShapeMismatch, ReadOnly, NotNumbers, StmtFault, NoName, IntTooBig, ZeroDivide, NegativeShift, NeedsType, RaggedList, NotAnArray, TextTooLong, BadArgument, BadType, Fault, View, Index, Shape, Ufunc, Stmt, ParseKind, BadToken, Unexpected, TooDeep, TooManyStatements, UnknownCall, LeftOut, Refusal, Parse, Statement}
+use Rattle.nd_model.specs.ShapeFault as shape
+use Rattle.nd_model.specs.ShapeFault.{ShapeFault}
 use Rattle.nd_model.specs.Book as book
 use Rattle.nd_model.specs.Book.{EditFault, TooManyCells, CellTooLong, BadInputName, InputTooLarge, NoInputNamed, QueryFault}
 
@@ -10,6 +12,7 @@ view_text OutOfBlock = codes "OutOfBlock"
 view_text TooManyAxes = codes "TooManyAxes"
 view_text TooManyElements = codes "TooManyElements"
 view_text AxesDiffer = codes "AxesDiffer"
+view_text ItemSizes = codes "ItemSizes"
 
 abbrev pub index_text : IndexFault → List ℕ
 index_text (OutOfBounds axis index size) = codes "OutOfBounds " ++ decimal axis ++ codes " " ++ signed_decimal index ++ codes " " ++ decimal size
@@ -18,6 +21,12 @@ index_text ZeroStep = codes "ZeroStep"
 index_text NotAnIndex = codes "NotAnIndex"
 index_text TwoEllipses = codes "TwoEllipses"
 index_text (NoField name) = codes "NoField " ++ name
+
+abbrev pub shape_text : ShapeFault → List ℕ
+shape_text shape.BadAxes = codes "BadAxes"
+shape_text shape.ShapeMismatch = codes "ShapeMismatch"
+shape_text shape.TwoUnknown = codes "TwoUnknown"
+shape_text shape.SizeMismatch = codes "SizeMismatch"
 
 abbrev pub ufunc_text : UfuncFault → List ℕ
 ufunc_text FloatResult = codes "FloatResult"
@@ -43,6 +52,7 @@ stmt_text BadType = codes "BadType"
 abbrev pub fault_text : Fault → List ℕ
 fault_text (View f) = codes "View." ++ view_text f
 fault_text (Index f) = codes "Index." ++ index_text f
+fault_text (Shape f) = codes "Shape." ++ shape_text f
 fault_text (Ufunc f) = codes "Ufunc." ++ ufunc_text f
 fault_text (Stmt f) = codes "Stmt." ++ stmt_text f
 

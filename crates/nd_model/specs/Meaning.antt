@@ -4,17 +4,17 @@ use Rattle.nd_model.specs.Value.{Value}
 use Rattle.nd_model.specs.Running.{Source, Effect}
 use Rattle.nd_model.specs.Fault.{Fault, BadArgument}
 use Rattle.nd_model.specs.Fault as fault
-use Rattle.nd_model.specs.Syntax.{Expr, Exprs, NoExpr, AndExpr, Name, Integer, Unary, Binary, Called, Call, Arange, Filled, Full, NewArray, Convert, Minimum, Maximum, Absolute, PythonAbs, Load, Buffer, Bound, Omitted, Given, Elements, NoElement, AndElement, Element, Single, Nested, Item, Attribute, Method, Copy, AsType, Index, Field, Items, IndexItems, IndexItem, AndItem, NoItem, At, Slice, Ellipsis, NewAxis, Listed, Stmt, Import, Bind, Assign, Delete, Print}
+use Rattle.nd_model.specs.Syntax.{Expr, Exprs, NoExpr, AndExpr, Name, Integer, Unary, Binary, Called, Call, Arange, Filled, Full, NewArray, Convert, Minimum, Maximum, Absolute, PythonAbs, Load, Buffer, Bound, Omitted, Given, Elements, NoElement, AndElement, Element, Single, Nested, Item, Attribute, Method, Copy, AsType, Transpose, Reshape, ViewAs, Index, Field, Items, IndexItems, IndexItem, AndItem, NoItem, At, Slice, Ellipsis, NewAxis, Listed, Stmt, Import, Bind, Assign, Delete, Print}
 use Rattle.nd_model.specs.Syntax as syntax
 use Rattle.nd_model.specs.Refusing as refusing
 use Rattle.nd_model.specs.Evaluation.{Eval}
-use Rattle.nd_model.specs.Operand.{Int, Truth, Operand, Usage, Whole, ArraysOnly, Unused, Made, ANumber, Deed, NoDeed, BindsFirst, Unbinds, Writes}
+use Rattle.nd_model.specs.Operand.{Int, Truth, Operand, Usage, Whole, ArraysOnly, RowsOnly, Unused, Made, ANumber, Deed, NoDeed, BindsFirst, Unbinds, Writes}
 use Rattle.nd_model.specs.Operators as operators
 use Rattle.nd_model.specs.Operators.{Of, binary, single, call_binary, call_single}
 use Rattle.nd_model.specs.Creation.{arange, filled, full, new_array, array_of_list, convert, copy_array, astype}
 use Rattle.nd_model.specs.Writing.{assignment_writes}
 use Rattle.nd_model.specs.Index.{Form, AtForm, SliceForm, EllipsisForm, NewAxisForm}
-use Rattle.nd_model.specs.Viewing.{Viewing, Indexed, Fielded}
+use Rattle.nd_model.specs.Viewing.{Viewing, Indexed, Fielded, Transposed, Reshaped, BroadcastTo, ViewedAs}
 use Rattle.nd_model.specs.Printing.{print_deed}
 use Rattle.nd_model.specs.Operation.{Computes, Views, Plan, Named, FromInput, Does, Plans, Done, And, evaluate, Work, Acts, do_work}
 
@@ -75,6 +75,7 @@ abbrev mutual
   call_plan (NewArray (Single e) t) = Does (Computes (one (new_array t))) (And Whole (plan e) Done)
   call_plan (NewArray (Nested es) t) = Does (Computes (array_of_list (Nested es) t)) (list_plans es Done)
   call_plan (Convert k e) = Does (Computes (one (convert k))) (And Whole (plan e) Done)
+  call_plan (syntax.BroadcastTo e shape) = Does (Views BroadcastTo) (And RowsOnly (plan e) (expr_plans Unused shape Done))
   call_plan (Minimum a b) = Does (Computes (two (call_binary operators.Minimum))) (And Whole (plan a) (And Whole (plan b) Done))
   call_plan (Maximum a b) = Does (Computes (two (call_binary operators.Maximum))) (And Whole (plan a) (And Whole (plan b) Done))
   call_plan (Absolute e) = Does (Computes (one (call_single operators.Absolute))) (And Whole (plan e) Done)
@@ -87,6 +88,9 @@ abbrev mutual
   pub method_plan : Method → Plan → Plan
   method_plan Copy x = Does (Computes (one copy_array)) (And Whole x Done)
   method_plan (AsType t) x = Does (Computes (one (astype t))) (And Whole x Done)
+  method_plan (Transpose axes) x = Does (Views Transposed) (And Unused x (expr_plans Unused axes Done))
+  method_plan (Reshape shape) x = Does (Views Reshaped) (And Unused x (expr_plans Unused shape Done))
+  method_plan (ViewAs t) x = Does (Views (ViewedAs t)) (And Unused x Done)
   method_plan _ x = Does (Computes unbuilt_form) (And Unused x Done)
 
   -- the numbers of a list from left to right, and then the others

@@ -4,8 +4,10 @@ use Rattle.std.specs.List.{list_all}
 use Rattle.nd_model.specs.Element.{Element, size_of}
 use Rattle.nd_model.specs.Tuple.{indices}
 use Rattle.nd_model.specs.View.{Geo, One, item_size, place_of}
-use Rattle.nd_model.specs.Strides.{limit_fault}
-use Rattle.nd_model.specs.ShapeFault.{ShapeFault, ItemSizes, only_if, unless_limit}
+use Rattle.nd_model.specs.Broadcast.{in_limits}
+use Rattle.nd_model.specs.Creation.{is_number_type}
+use Rattle.nd_model.specs.Fault.{Fault, View, ItemSizes}
+use Rattle.nd_model.specs.Refusing.{when}
 
 -- the last number of a shape or a tuple, 0 where there is none
 abbrev pub last_of : List ℕ → ℕ
@@ -47,8 +49,8 @@ recast_view e g = record {
   places = map (λ t. row_start g t + last_of t * size_of e.kind) (indices (recast_shape e g));
 }
 
--- THE VIEW OF THE SAME BYTES as numbers of this kind and order, or the first refusal
-abbrev pub view_as : Element → Geo → Result Geo ShapeFault
+-- THE VIEW OF THE SAME BYTES as numbers of this kind and order, or the first refusal; structures of another size are not seen so
+abbrev pub view_as : Element → Geo → Result Geo Fault
 view_as e g =
     if item_size g.element == size_of e.kind then Ok (record g { element = One e })
-    else only_if (can_recast e g) ItemSizes (unless_limit (limit_fault (size_of e.kind) (recast_shape e g)) (Ok (recast_view e g)))
+    else when (is_number_type g.element && can_recast e g) (View ItemSizes) (in_limits (One e) (recast_shape e g) (Ok (recast_view e g)))

@@ -1,13 +1,13 @@
 -- Views of another shape or type lie where the view lies.
-use Rattle.std.specs.Prelude.{◌≡◌, ℕ, ◌<◌, ◌≤◌, ◌^◌, true, ℤ, pos, ◌↔◌, List, length, slice_index, Ok}
+use Rattle.std.specs.Prelude.{◌≡◌, ℕ, ◌≤◌, ◌^◌, ℤ, pos, ◌≤ℤ◌, List, length, Ok}
 use Rattle.std.specs.List.{All}
 use Rattle.nd_model.specs.Element.{Element}
-use Rattle.nd_model.specs.Tuple.{elements_of, number}
 use Rattle.nd_model.specs.View.{Geo}
 use Rattle.nd_model.specs.Sound.{LiesIn}
 use Rattle.nd_model.specs.Transposing.{transpose, reversed_view}
 use Rattle.nd_model.specs.Stretching.{broadcast_to}
 use Rattle.nd_model.specs.Recasting.{view_as}
+use Rattle.nd_model.specs.Reshaping.{View, reshape}
 
 -- THE LAW OF TRANSPOSED VIEWS
 abbrev pub TransposedLies : Type 0
@@ -24,3 +24,7 @@ StretchedLies = (shape : List ℕ) (g h : Geo) (len : ℕ) → LiesIn len g → 
 -- THE LAW OF OTHER TYPES
 abbrev pub RecastLies : Type 0
 RecastLies = (e : Element) (g h : Geo) (len : ℕ) → LiesIn len g → view_as e g ≡ Ok h → LiesIn len h
+
+-- THE LAW OF OTHER SHAPES: of at most 32 lengths, none above 2^32
+abbrev pub ReshapedLies : Type 0
+ReshapedLies = (zs : List ℤ) (g h : Geo) (len : ℕ) → length zs ≤ 32 → All (λ z. z ≤ℤ pos (2 ^ 32)) zs → LiesIn len g → reshape zs g ≡ Ok (View h) → LiesIn len h

@@ -5,7 +5,9 @@ use Rattle.nd_model.specs.Tuple.{count_up}
 use Rattle.nd_model.specs.View.{Geo, rearranged_view}
 use Rattle.nd_model.specs.Session.{is_in}
 use Rattle.nd_model.specs.Selecting.{counted_from, is_within}
-use Rattle.nd_model.specs.ShapeFault.{ShapeFault, BadAxes, only_if}
+use Rattle.nd_model.specs.ShapeFault.{BadAxes}
+use Rattle.nd_model.specs.Fault.{Fault, Shape}
+use Rattle.nd_model.specs.Refusing.{when}
 
 -- the axes that are meant; a negative one counts from the end
 abbrev pub axes_of : ℕ → List ℤ → List ℕ
@@ -28,8 +30,8 @@ abbrev pub transposed_view : Geo → List ℕ → Geo
 transposed_view g order = rearranged_view g (map (slice_index g.shape) order) (ordered_tuple order (length g.shape))
 
 -- THE VIEW WITH THE AXES IN THIS ORDER
-abbrev pub transpose : List ℤ → Geo → Result Geo ShapeFault
-transpose zs g = only_if (is_order (length g.shape) zs) BadAxes (Ok (transposed_view g (axes_of (length g.shape) zs)))
+abbrev pub transpose : List ℤ → Geo → Result Geo Fault
+transpose zs g = when (is_order (length g.shape) zs) (Shape BadAxes) (Ok (transposed_view g (axes_of (length g.shape) zs)))
 
 -- the numbers below n, the greatest first
 abbrev pub count_down : ℕ → List ℕ

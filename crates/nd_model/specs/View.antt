@@ -1,6 +1,6 @@
 -- Views: what an array is, apart from the base that it lies in. There are no strides here: a view is the list of the
 -- places of its elements in C order (PEP 3118 gives the places by an offset and strides).
-use Rattle.std.specs.Prelude.{ℕ, ◌+◌, ◌*◌, Bool, true, List, [], ◌∷◌, map, slice_index}
+use Rattle.std.specs.Prelude.{ℕ, ◌+◌, ◌*◌, Bool, true, List, map, slice_index}
 use Rattle.std.specs.List.{flat_map}
 use Rattle.nd_model.specs.Element.{Element, size_of}
 use Rattle.nd_model.specs.Tuple.{count_up, elements_of, indices, number}

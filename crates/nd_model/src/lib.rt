@@ -23,9 +23,16 @@ ghost use Rattle.nd_model.specs.Operators.{FloorDivision};
 ghost use Rattle.nd_model.specs.Promotion.{PromotionTable};
 ghost use Rattle.nd_model.specs.Records.{Kept};
 ghost use Rattle.nd_model.specs.Renaming.{Rename, AnyLabels};
+ghost use Rattle.nd_model.specs.Reshaping.{EvenPlaces};
 ghost use Rattle.nd_model.specs.Scheduler.{AnyPass};
 ghost use Rattle.nd_model.specs.Selected.{FieldLies, SelectedLies};
-ghost use Rattle.nd_model.specs.Shaped.{RecastLies, ReversedLies, StretchedLies, TransposedLies};
+ghost use Rattle.nd_model.specs.Shaped.{
+  RecastLies,
+  ReshapedLies,
+  ReversedLies,
+  StretchedLies,
+  TransposedLies,
+};
 ghost use Rattle.nd_model.specs.Sound.{ReplaysSound, StaysSound};
 ghost use Rattle.nd_model.specs.Stale.{AtMostIsAtMost, FewRuns, FrontIsNotStale};
 ghost use Rattle.nd_model.specs.Storing.{StoresByParts};
@@ -86,6 +93,16 @@ pub fn reversed_lies()
 /// What is broadcast of a view that lies in its base lies there.
 pub fn stretched_lies()
     ensures { StretchedLies }
+{}
+
+/// What is seen of a view that lies in its base in another shape lies there.
+pub fn reshaped_lies()
+    ensures { ReshapedLies }
+{}
+
+/// Elements are a view in a shape where, and only where, a start and one number for each axis lead to all their places.
+pub fn even_places()
+    ensures { EvenPlaces }
 {}
 
 /// What is seen of a view that lies in its base as numbers of another kind lies there.

@@ -1,5 +1,5 @@
 -- What is made: numbers, and new arrays.
-use Rattle.std.proofs.Common.{◌≡◌, ℕ, ◌*◌, ◌<◌, ◌≤◌, ◌^◌, ◌-◌, ltb, Bool, true, false, cond, ◌||◌, List, [], ◌∷◌, ◌++◌, length, map, Option, None, Some, Result, Ok, Err, IsErrAnd, refl, sym, ap, ap₂, subst, ◌∙◌, arith}
+use Rattle.std.proofs.Common.{◌≡◌, ℕ, ◌*◌, ◌<◌, ◌≤◌, ◌^◌, ◌-◌, ltb, Bool, true, false, cond, ℤ, ◌||◌, List, [], ◌∷◌, ◌++◌, length, map, Option, None, Some, Result, Ok, Err, IsErrAnd, refl, sym, ap, ap₂, subst, ◌∙◌, arith}
 use Rattle.std.specs.List.{list_any}
 use Rattle.std.proofs.lemmas.Result.{err_from_is_err_and}
 use Rattle.std.proofs.lemmas.Bool.{le-ltb, lt-ltb, ltb-true, ltb-false}
@@ -16,7 +16,7 @@ use Rattle.nd_model.specs.Evaluation.{Refuses, ◌>>=◌, decide}
 use Rattle.nd_model.specs.Operand.{Operand, Made}
 use Rattle.nd_model.specs.Operation.{give, fresh_array}
 use Rattle.nd_model.specs.Broadcast.{unless_fault, in_limits}
-use Rattle.nd_model.specs.Creation.{type_or, type_for, length_of, lengths_of, fill_content, uniform, filled_array, full_array, full_of, without_axes, operand_misfit, converted_at, unless_misfit}
+use Rattle.nd_model.specs.Creation.{type_or, type_for, length_of, lengths_of, integer_of, integers_of, fill_content, uniform, filled_array, full_array, full_of, without_axes, operand_misfit, converted_at, unless_misfit}
 use Rattle.nd_operation.specs.declared.fault.StmtFault.{StmtFault}
 use Rattle.nd_operation.specs.declared.stop.Stop.{Stop}
 use Rattle.nd_operation.specs.declared.stop.Stop.TheVariants.{Memory, Refused}
@@ -115,12 +115,12 @@ long_fault : (size : ℕ) (ns : List ℕ) → list_any (ltb (2 ^ 32)) ns ≡ tru
 long_fault size ns h =
     ap (λ b. cond (ltb 32 (length ns)) (Some TooManyAxes) (cond (b || (ltb (2 ^ 24) (elements_of ns) || ltb (2 ^ 27) (elements_of ns * size))) (Some TooManyElements) None)) h
 
-refused_both : (b : Bool) (x y : Result Made Fault) → unless_fault (cond b (Some TooManyAxes) (Some TooManyElements)) x ≡ unless_fault (cond b (Some TooManyAxes) (Some TooManyElements)) y
+refused_both : {A : Type 0} (b : Bool) (x y : Result A Fault) → unless_fault (cond b (Some TooManyAxes) (Some TooManyElements)) x ≡ unless_fault (cond b (Some TooManyAxes) (Some TooManyElements)) y
 refused_both true x y = refl
 refused_both false x y = refl
 
 -- so the limits say the same of them, and what is made in the limits is the same
-pub clip_limits : (t : ElementType) (ns : List ℕ) (m : List ℕ → Result Made Fault) → in_limits t (map clip ns) (m (map clip ns)) ≡ in_limits t ns (m ns)
+pub clip_limits : {A : Type 0} (t : ElementType) (ns : List ℕ) (m : List ℕ → Result A Fault) → in_limits t (map clip ns) (m (map clip ns)) ≡ in_limits t ns (m ns)
 clip_limits t ns m = at (list_any (ltb (2 ^ 32)) ns) refl
   where
     at : (b : Bool) → list_any (ltb (2 ^ 32)) ns ≡ b → in_limits t (map clip ns) (m (map clip ns)) ≡ in_limits t ns (m ns)
@@ -207,6 +207,27 @@ no_length o os f done h = at (length_of o) h
     at : (l : Result ℕ Fault) → clip_length l ≡ Err f → before done (clip_lengths (refusing.◌>>=◌ l (λ m. refusing.◌>>=◌ (lengths_of os) (λ ms. Ok (m ∷ ms))))) ≡ Err f
     at (Ok m) h = absurd cc
     at (Err e) h = let is : e ≡ f = cc in ap Err is
+
+-- ---- integers
+
+abbrev pub before_integers : List ℤ → Result (List ℤ) Fault → Result (List ℤ) Fault
+before_integers done (Ok zs) = Ok (done ++ zs)
+before_integers done (Err f) = Err f
+
+pub none_before_integers : (r : Result (List ℤ) Fault) → r ≡ before_integers [] r
+none_before_integers (Ok zs) = refl
+none_before_integers (Err f) = refl
+
+pub one_integer : (o : Operand) (os : List Operand) (z : ℤ) (done : List ℤ) → integer_of o ≡ Ok z
+    → before_integers done (integers_of (o ∷ os)) ≡ before_integers (done ++ z ∷ []) (integers_of os)
+one_integer o os z done h = ap (λ r. before_integers done (refusing.◌>>=◌ r (λ y. refusing.◌>>=◌ (integers_of os) (λ ys. Ok (y ∷ ys))))) h ∙ at (integers_of os)
+  where
+    at : (r : Result (List ℤ) Fault) → before_integers done (refusing.◌>>=◌ r (λ ys. Ok (z ∷ ys))) ≡ before_integers (done ++ z ∷ []) r
+    at (Ok ys) = ap Ok (sym (append_assoc done (z ∷ []) ys))
+    at (Err f) = refl
+
+pub no_integer : (o : Operand) (os : List Operand) (f : Fault) (done : List ℤ) → integer_of o ≡ Err f → before_integers done (integers_of (o ∷ os)) ≡ Err f
+no_integer o os f done h = ap (λ r. before_integers done (refusing.◌>>=◌ r (λ y. refusing.◌>>=◌ (integers_of os) (λ ys. Ok (y ∷ ys))))) h
 
 -- ---- an array of zeros or ones over the limits
 

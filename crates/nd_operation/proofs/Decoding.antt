@@ -1,24 +1,18 @@
 -- The numbers of elements that are used, in the block that they lie in.
-use Rattle.std.proofs.Common.{◌≡◌, ◌≢◌, ℕ, zero, suc, length, ◌+◌, ◌-◌, ◌<◌, ◌≤◌, List, [], ◌∷◌, ◌++◌, map, take, drop, Bool, true, false, Ok, refl, sym, ap, ap₂, subst, ◌∙◌, arith}
+use Rattle.std.proofs.Common.{◌≡◌, ◌≢◌, ℕ, zero, suc, length, ◌+◌, ◌-◌, ◌<◌, ◌≤◌, List, [], ◌∷◌, ◌++◌, map, take, drop, Bool, true, false, refl, sym, ap, ap₂, subst, ◌∙◌, arith}
 use Rattle.std.specs.Prelude.{slice_index}
 use Rattle.std.specs.List.{All}
 use Rattle.std.specs.Int.{byte_len, byte_worth, sum_through}
 use Rattle.nd_model.specs.Element.{Element, width_of, size_of, value_in, number_in as number_of_bytes, value_of, bytes_at}
 use Rattle.nd_model.specs.Tuple.{count_up}
-use Rattle.nd_model.specs.View.{Field, ElementType, One, Structure, Geo, item_size}
-use Rattle.nd_model.specs.Content.{number_at, content_at}
-use Rattle.nd_model.specs.Writing.{number_type, first_of}
+use Rattle.nd_model.specs.View.{Field, One, Structure, Geo, item_size}
+use Rattle.nd_model.specs.Content.{number_at, content_at, content_or, number_in}
 use Rattle.nd_model.specs.Sound.{LiesIn}
 use Rattle.nd_model.proofs.Uses.{used_numbers}
 use Rattle.nd_model.proofs.UsedStructures.{used_structures}
 use Rattle.nd_types.proofs.Sized.{some_bytes}
 use Rattle.nd_element.specs.Elements.{AreHeld}
 use Rattle.nd_operation.specs.Contents.{contents_over}
-
--- what has a number is no structure
-pub is_one : (t : ElementType) (e : Element) → number_type t ≡ Ok e → t ≡ One e
-is_one (One x) e h = cc
-is_one (Structure fields size) e h = absurd (cc)
 
 pub up_more : (from k : ℕ) → count_up from (suc k) ≡ count_up from k ++ (from + k) ∷ []
 up_more from zero = let e : from ≡ from + 0 = omega arith in ap (λ n. n ∷ []) e
@@ -52,12 +46,12 @@ pub numbers_are : (g : Geo) (e : Element) (block : List ℕ) → g.element ≡ O
 numbers_are g e block one held = contents_are g e block one (numbers_held g e block one held) ∙ ap (λ t. map (content_at t block) g.places) (sym one)
 
 -- the first one
-first_at : (e : Element) (block places : List ℕ) → length places ≢ 0 → number_at e block (slice_index places 0) ≡ first_of (map (content_at (One e) block) places)
+first_at : (e : Element) (block places : List ℕ) → length places ≢ 0 → number_at e block (slice_index places 0) ≡ number_in (content_or (map (content_at (One e) block) places) 0)
 first_at e block [] some = absurd (some refl)
 first_at e block (p ∷ ps) some = refl
 
-pub first_in : (g : Geo) (e : Element) (block : List ℕ) → g.element ≡ One e → LiesIn (length block) g → length g.places ≢ 0 → number_at e block (slice_index g.places 0) ≡ first_of (contents_over g block)
-first_in g e block one held some = first_at e block g.places some ∙ ap first_of (sym (contents_are g e block one (numbers_held g e block one held)))
+pub first_in : (g : Geo) (e : Element) (block : List ℕ) → g.element ≡ One e → LiesIn (length block) g → length g.places ≢ 0 → number_at e block (slice_index g.places 0) ≡ number_in (content_or (contents_over g block) 0)
+first_in g e block one held some = first_at e block g.places some ∙ ap (λ cs. number_in (content_or cs 0)) (sym (contents_are g e block one (numbers_held g e block one held)))
 
 -- ---- one element, whose bytes are 0 past the end of the block
 

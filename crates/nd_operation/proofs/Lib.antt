@@ -7,4 +7,3 @@ pub mod Creating
 pub mod Ranging
 pub mod Converting
 pub mod Listing
-pub mod Indexing

@@ -1,7 +1,7 @@
--- What the operands of an operation stand for, and what it writes.
+-- What the operands of an operation stand for.
 use Rattle.std.specs.Prelude.{ℕ, Bool, true, false, List, [], length, map, slice_index}
 use Rattle.nd_model.specs.View.{Geo, byte_places}
-use Rattle.nd_model.specs.Content.{Content, contents_in, number_writes}
+use Rattle.nd_model.specs.Content.{Content, contents_in}
 use Rattle.nd_model.specs.Operand as operand
 pub use Rattle.nd_ufunc.specs.Numbers.{num_of, number_made}
 use Rattle.nd_heap.specs.declared.value.Value.{Value}
@@ -10,7 +10,6 @@ use Rattle.nd_heap.specs.Values.{geo_of}
 use Rattle.nd_operation.specs.declared.operand.Operand.{Operand}
 use Rattle.nd_operation.specs.declared.operand.Operand.TheVariants.{Number, Elements as ElementsOperand}
 use Rattle.nd_operation.specs.declared.operand.Elements.{Elements}
-use Rattle.nd_operation.specs.declared.effect.ElementWrite.{ElementWrite}
 
 -- the contents of a view's elements, in the block that they lie in
 abbrev pub contents_over : Geo → List ℕ → List Content
@@ -32,6 +31,3 @@ abbrev pub unused_of : Value → operand.Operand
 unused_of (value.Number n) = operand.Plain (num_of n)
 unused_of (value.Array a) = operand.Elements false (geo_of a) []
 unused_of (value.Row a) = operand.Elements true (geo_of a) []
-
-abbrev pub writes_of : ElementWrite → List (ℕ × ℕ)
-writes_of w = number_writes w.elem w.place w.number

@@ -2,6 +2,7 @@
 use Rattle.std.specs.Prelude.{string_bytes}
 use Rattle.nd_model.specs.Fault as model
 pub use Rattle.nd_view.specs.Faults.{view_fault_of}
+use Rattle.nd_shape.specs.Faults.{fault_of as shape_fault_of}
 pub use Rattle.nd_ufunc.specs.Faults.{ufunc_fault_of}
 use Rattle.nd_basic.specs.declared.fault.SelectFault.{SelectFault}
 use Rattle.nd_basic.specs.declared.fault.SelectFault.TheVariants as select_fault
@@ -10,7 +11,7 @@ use Rattle.nd_operation.specs.declared.fault.IndexFault.TheVariants.{OutOfBounds
 use Rattle.nd_operation.specs.declared.fault.StmtError.{StmtError}
 use Rattle.nd_operation.specs.declared.fault.StmtError.TheVariants.{NoName, IntTooBig, ZeroDivide, NegativeShift, NeedsType, RaggedList, NotAnArray, TextTooLong, BadArgument, BadType}
 use Rattle.nd_operation.specs.declared.fault.StmtFault.{StmtFault}
-use Rattle.nd_operation.specs.declared.fault.StmtFault.TheVariants.{View, Index, Ufunc, Stmt}
+use Rattle.nd_operation.specs.declared.fault.StmtFault.TheVariants.{View, Index, Shape, Ufunc, Stmt}
 
 abbrev pub index_fault_of : IndexFault → model.IndexFault
 index_fault_of (OutOfBounds axis index size) = model.OutOfBounds axis index size
@@ -35,6 +36,7 @@ stmt_error_of BadType = model.BadType
 abbrev pub fault_of : StmtFault → model.Fault
 fault_of (View f) = model.View (view_fault_of f)
 fault_of (Index f) = model.Index (index_fault_of f)
+fault_of (Shape f) = shape_fault_of f
 fault_of (Ufunc f) = model.Ufunc (ufunc_fault_of f)
 fault_of (Stmt f) = model.Stmt (stmt_error_of f)
 

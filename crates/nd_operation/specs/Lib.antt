@@ -6,4 +6,3 @@ pub mod New
 pub mod Stops
 pub mod OfTwo
 pub mod Listing
-pub mod Indexing

@@ -7,6 +7,7 @@ ghost use Rattle.nd_model.specs.Creation as creation;
 ghost use Rattle.nd_model.specs.Operand as operand;
 ghost use Rattle.nd_model.specs.Operand.{Plain};
 ghost use Rattle.nd_model.specs.Strides.{IsInLimits};
+ghost use Rattle.nd_model.specs.Tuple.{elements_of};
 ghost use Rattle.nd_model.specs.View.{One, item_size};
 ghost use Rattle.nd_types.specs.Kinds.{kind_of};
 ghost use Rattle.nd_types.specs.Types.{type_of};
@@ -22,7 +23,6 @@ use crate::creation::{check_limits, copies};
 use crate::fault::{StmtError, StmtFault, UfuncFault};
 use crate::operand::{Elements, New, Operand};
 use crate::stop::Stop;
-use crate::writing::first_of;
 use nd_block::RawBlock;
 use nd_convert::{convert_numbers, copy_elements};
 use nd_create::repeat;
@@ -35,14 +35,14 @@ use std::alloc::{AllocError, Global};
 // ---- refusals
 
 /// The refusal of a structure where a number is wanted.
-pub(crate) fn not_numbers() -> StmtFault
+pub fn not_numbers() -> StmtFault
     ensures { result ≡ Ufunc NotNumbers }
 {
     StmtFault::Ufunc(UfuncFault::NotNumbers)
 }
 
 /// The refusal of what is no array.
-fn not_an_array() -> StmtFault
+pub fn not_an_array() -> StmtFault
     ensures { result ≡ Stmt NotAnArray }
 {
     StmtFault::Stmt(StmtError::NotAnArray)
@@ -51,7 +51,7 @@ fn not_an_array() -> StmtFault
 // ---- numbers
 
 /// The kind of an array of a number.
-fn array_kind(number: Num) -> Result<Kind, StmtFault>
+pub fn array_kind(number: Num) -> Result<Kind, StmtFault>
     ensures { Says kind_of result (creation.array_kind (num_of number)) }
 {
     match number {
@@ -67,7 +67,7 @@ fn array_kind(number: Num) -> Result<Kind, StmtFault>
 }
 
 /// The whole number that a number counts as.
-pub(crate) fn whole_number(number: Num) -> i128
+pub fn whole_number(number: Num) -> i128
     ensures { result ≡ operand.number_of (num_of number) }
 {
     match number {
@@ -230,7 +230,12 @@ pub(crate) fn element_array(
     let elem = type_for(alloc, dtype, elements)?;
     check_limits(elem.size(), shape)?;
     if let ElemType::One(elem) = elem {
-        return copies(alloc, elem, shape, wrap(elem.kind(), first_of(elements)));
+        return copies(
+            alloc,
+            elem,
+            shape,
+            wrap(elem.kind(), elements.first_number()),
+        );
     }
     structure_copies(alloc, elem, shape, elements)
 }
@@ -270,7 +275,7 @@ pub(crate) fn convert(alloc: Global, kind: Kind, operand: &Operand<'_>) -> Resul
                 return Err(Stop::Refused(not_numbers()));
             };
             if elements.view.shape().is_empty() {
-                let number = wrap(kind, first_of(elements));
+                let number = wrap(kind, elements.first_number());
                 return Ok(New::Number(Num::Scalar(kind, number)));
             }
             convert_elements(alloc, elements, ElemType::One(Elem::little(kind)))
@@ -294,6 +299,42 @@ pub(crate) fn copy_array(alloc: Global, operand: &Operand<'_>) -> Result<New, St
     let block = copy_elements(alloc, view, elements.block)?;
     let copy = View::contiguous(alloc, view.elem().try_clone()?, view.shape())?;
     Ok(New::Array(copy, block))
+}
+
+/// Returns a new array of elements in C order, in another shape of as many. It refuses an array over the limits.
+pub fn copy_reshaped(alloc: Global, elements: &Elements<'_>, shape: &[u64]) -> Result<New, Stop>
+    requires { elements_of shape.now ≡ elements_of elements.now.view.now.shape }
+    ensures { MakesNew result (Ok (operand.AnArray elements.now.view.now.element shape.now
+        (content_in_order shape.now
+        (contents_over elements.now.view.now elements.now.block.now)))) }
+{
+    elements.soundness();
+    let view = elements.view;
+    check_limits(view.elem().size(), shape)?;
+    let block = copy_elements(alloc, view, elements.block)?;
+    let copy = View::contiguous(alloc, view.elem().try_clone()?, shape)?;
+    Ok(New::Array(copy, block))
+}
+
+/// Returns whether an operand becomes elements of a type: a number does of numbers alone, elements do as `astype` and assignments
+/// convert them.
+pub fn operand_converts(operand: &Operand<'_>, elem: &ElemType) -> bool
+    ensures { result ≡ creation.operand_converts (operand_of operand.now) (type_of elem.now) }
+{
+    match operand {
+        Operand::Number(_) => matches!(elem, ElemType::One(_)),
+        Operand::Elements(elements) => converts(elements.view.elem(), elem),
+    }
+}
+
+/// Returns the Python integer that elements of a type do not take, if the operand is one. Elements are converted whatever they are.
+pub fn operand_misfit(operand: &Operand<'_>, elem: &ElemType) -> Option<i128>
+    ensures { result ≡ creation.operand_misfit (type_of elem.now) (operand_of operand.now) }
+{
+    match (operand, elem) {
+        (Operand::Number(number), ElemType::One(elem)) => misfit(elem.kind(), *number),
+        _ => None,
+    }
 }
 
 /// What a type of numbers makes of an operand: a NumPy scalar stays one.

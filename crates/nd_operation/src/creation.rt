@@ -11,60 +11,23 @@ ghost use Rattle.nd_types.specs.Types.{type_of};
 ghost use Rattle.nd_syntax.specs.Calls.{dtype_of, fill_of};
 ghost use Rattle.nd_operation.specs.Contents.{operand_of, unused_of};
 ghost use Rattle.nd_operation.specs.Ends.{Makes, Says};
-ghost use Rattle.nd_operation.specs.declared.fault.StmtFault.TheVariants.{Stmt};
-ghost use Rattle.nd_operation.specs.declared.fault.StmtError.TheVariants.{BadArgument};
-ghost use Rattle.nd_operation.specs.New.{MakesNew, clip_length, clip_lengths};
+ghost use Rattle.nd_operation.specs.New.{MakesNew};
 
+use crate::arguments::{bad_argument, lengths_of};
 use crate::conversion::{element_array, number_array};
-use crate::fault::{StmtError, StmtFault, UfuncFault};
+use crate::fault::{StmtFault, UfuncFault};
 use crate::operand::{New, Operand};
 use crate::stop::Stop;
 use nd_create::{full, zeros};
 use nd_dtype::element_type;
 use nd_heap::Value;
 use nd_syntax::{DType, Fill};
-use nd_types::{Elem, ElemType, Num};
+use nd_types::{Elem, ElemType};
 use nd_view::{View, limit_fault};
-use smallvec::SmallVec;
 use std::alloc::Global;
 
-/// The refusal of a value that the call does not take.
-pub(crate) fn bad_argument() -> StmtFault
-    ensures { result ≡ Stmt BadArgument }
-{
-    StmtFault::Stmt(StmtError::BadArgument)
-}
-
-/// A length of a shape. One that is over 64 bits, and so over every limit, counts as the greatest of 64 bits.
-fn length_of(value: &Value) -> Result<u64, StmtFault>
-    ensures { Says (λ n. n) result (clip_length (creation.length_of (unused_of value.now))) }
-{
-    let Value::Number(Num::Int(length)) = value else {
-        return Err(bad_argument());
-    };
-    if *length < 0 {
-        return Err(bad_argument());
-    }
-    if *length > i128::from(u64::MAX) {
-        return Ok(u64::MAX);
-    }
-    Ok(*length as u64)
-}
-
-/// The lengths of a shape.
-fn lengths_of(alloc: Global, values: &[Value]) -> Result<SmallVec<u64, 32>, Stop>
-    ensures { Makes (λ v. v.items) result
-        (clip_lengths (creation.lengths_of (map unused_of values.now))) }
-{
-    let mut lengths = SmallVec::new(alloc);
-    for value in values {
-        lengths.push(length_of(value)?)?;
-    }
-    Ok(lengths)
-}
-
 /// Refuses an array over the limits.
-pub(crate) fn check_limits(size: u64, shape: &[u64]) -> Result<(), StmtFault>
+pub fn check_limits(size: u64, shape: &[u64]) -> Result<(), StmtFault>
     requires { size ≤ 65536 }
     ensures { Says (λ u. u) result (unless_fault (limit_fault size shape.now) (Ok (tt {0}))) }
 {

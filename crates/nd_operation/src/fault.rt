@@ -1,5 +1,6 @@
 //! Why a statement is refused.
 
+pub use nd_shape::ShapeFault;
 pub use nd_ufunc::UfuncFault;
 pub use nd_view::ViewFault;
 
@@ -50,6 +51,7 @@ pub enum StmtError {
 pub enum StmtFault {
     View(ViewFault),
     Index(IndexFault),
+    Shape(ShapeFault),
     Ufunc(UfuncFault),
     Stmt(StmtError),
 }

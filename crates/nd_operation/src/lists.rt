@@ -18,8 +18,9 @@ ghost use Rattle.nd_operation.specs.Ends.{Makes, Says};
 ghost use Rattle.nd_operation.specs.Listing.{is_python, number_count, number_in, numbers_in};
 ghost use Rattle.nd_operation.specs.New.{MakesNew};
 
+use crate::arguments::bad_argument;
 use crate::conversion::{misfit, not_numbers, whole_number};
-use crate::creation::{bad_argument, check_limits};
+use crate::creation::check_limits;
 use crate::fault::{StmtError, StmtFault, UfuncFault};
 use crate::operand::New;
 use crate::stop::Stop;

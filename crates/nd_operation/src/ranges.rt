@@ -10,7 +10,8 @@ ghost use Rattle.nd_operation.specs.Contents.{unused_of};
 ghost use Rattle.nd_operation.specs.Ends.{Makes, Says};
 ghost use Rattle.nd_operation.specs.New.{MakesNew, bound_or, bounds_of, clip, range_made};
 
-use crate::creation::{bad_argument, check_limits};
+use crate::arguments::integer_of;
+use crate::creation::check_limits;
 use crate::fault::{IndexFault, StmtFault, UfuncFault};
 use crate::operand::New;
 use crate::stop::Stop;
@@ -18,19 +19,9 @@ use nd_create::{Range, range, range_count, range_misfit};
 use nd_dtype::element_type;
 use nd_heap::Value;
 use nd_syntax::DType;
-use nd_types::{Elem, ElemType, Kind, Num};
+use nd_types::{Elem, ElemType, Kind};
 use nd_view::View;
 use std::alloc::Global;
-
-/// The integer that a bound of a range is.
-fn integer_of(value: &Value) -> Result<i128, StmtFault>
-    ensures { Says (λ z. z) result (creation.integer_of (unused_of value.now)) }
-{
-    match value {
-        Value::Number(Num::Int(int)) => Ok(*int),
-        _ => Err(bad_argument()),
-    }
-}
 
 /// The integer that a bound is, or another one where it is left out.
 fn integer_or(bound: &Option<Value>, otherwise: i128) -> Result<i128, StmtFault>

@@ -1,6 +1,7 @@
 //! Why an evaluation stops.
 
 ghost use Rattle.std.specs.Prelude.{◌≡◌};
+ghost use Rattle.nd_operation.specs.declared.fault.StmtFault.TheVariants.{Shape};
 ghost use Rattle.nd_operation.specs.declared.stop.Stop.TheVariants.{Memory, Refused};
 ghost use Rattle.nd_operation.specs.Faults.{refusal_of_select};
 ghost use Rattle.nd_operation.specs.Stops.{type_stop};
@@ -9,6 +10,7 @@ use crate::fault::{IndexFault, StmtError, StmtFault};
 use nd_basic::SelectFault;
 use nd_dtype::TypeFault;
 use nd_heap::OutOfMemory;
+use nd_shape::ShapeFault;
 use std::alloc::{AllocError, AllocFailed};
 
 /// Why an evaluation stops: a growth was refused, or the statement is.
@@ -39,6 +41,14 @@ impl From<SelectFault> for Stop {
             }
             SelectFault::View(fault) => StmtFault::View(fault),
         })
+    }
+}
+
+impl From<ShapeFault> for Stop {
+    ghost from_gives = { λ f e. e ≡ Refused (Shape f) };
+
+    fn from(fault: ShapeFault) -> Stop {
+        Stop::Refused(StmtFault::Shape(fault))
     }
 }
 

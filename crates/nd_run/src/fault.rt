@@ -4,10 +4,13 @@ ghost use Rattle.std.specs.Prelude.{◌≡◌, ◌++◌, codes, decimal, OnOk};
 ghost use Rattle.std.specs.Fmt.{signed_decimal};
 ghost use Rattle.nd_model.specs.FaultText as texts;
 ghost use Rattle.nd_rerun.specs.Syntax.{kind_of};
+ghost use Rattle.nd_shape.specs.Faults.{fault_of as shape_fault_of};
 ghost use Rattle.nd_rerun.specs.Faults.{view_fault_of, index_fault_of, ufunc_fault_of, stmt_error_of, fault_of};
 ghost use Rattle.nd_rerun.specs.Results.{cell_fault_of};
 
-use nd_rerun::{CellFault, IndexFault, ParseKind, StmtError, StmtFault, UfuncFault, ViewFault};
+use nd_rerun::{
+    CellFault, IndexFault, ParseKind, ShapeFault, StmtError, StmtFault, UfuncFault, ViewFault,
+};
 use nd_script::{push_integer, push_number, push_text};
 use std::alloc::AllocError;
 
@@ -58,6 +61,11 @@ fn push_statement_fault(out: &mut Vec<u8>, fault: &StmtFault) -> Result<(), Allo
             push_text(out, "Index.")?;
             push_index_fault(out, fault)
         }
+        StmtFault::Shape(fault) => {
+            let (group, name) = shape_words(*fault);
+            push_text(out, group)?;
+            push_text(out, name)
+        }
         StmtFault::Ufunc(fault) => {
             push_text(out, "Ufunc.")?;
             push_ufunc_fault(out, *fault)
@@ -77,6 +85,20 @@ fn view_name(fault: ViewFault) -> &'static str
         ViewFault::TooManyAxes => "TooManyAxes",
         ViewFault::TooManyElements => "TooManyElements",
         ViewFault::AxesDiffer => "AxesDiffer",
+    }
+}
+
+/// The group of a refusal of another shape, and its name.
+fn shape_words(fault: ShapeFault) -> (&'static str, &'static str)
+    ensures { result.0.now ++ result.1.now ≡ texts.fault_text (shape_fault_of fault) }
+{
+    match fault {
+        ShapeFault::BadAxes => ("Shape.", "BadAxes"),
+        ShapeFault::ShapeMismatch => ("Shape.", "ShapeMismatch"),
+        ShapeFault::ItemSizes => ("View.", "ItemSizes"),
+        ShapeFault::TwoUnknown => ("Shape.", "TwoUnknown"),
+        ShapeFault::SizeMismatch => ("Shape.", "SizeMismatch"),
+        ShapeFault::View(fault) => ("View.", view_name(fault)),
     }
 }
 

@@ -11,6 +11,7 @@ ghost use Rattle.nd_session.specs.Changes.{changed, going_on};
 ghost use Rattle.nd_model.specs.Sound.{IsHeldView, IsSound, IsViewOf};
 ghost use Rattle.nd_model.specs.View.{item_size, byte_places, element_places};
 ghost use Rattle.nd_types.specs.Types.{type_of};
+ghost use Rattle.nd_heap.specs.Contents.{bytes_in};
 ghost use Rattle.nd_heap.specs.Values.{base_of, geo_of, value_of};
 ghost use Rattle.nd_session.specs.Live.{live};
 ghost use Rattle.nd_session.specs.Kept.{thawed, version_of};
@@ -131,6 +132,15 @@ impl Session {
         ensures { result.now ≡ (live self.now).bytes (base_of base) }
     {
         self.heap.bytes(base)
+    }
+
+    /// The block of a base, shared, if there is one, so that it may be read while another is written. It notes nothing. As long
+    /// as it is shared, a write to it copies it first.
+    #[tactic(auto, unfolding(crate::specs::Live::live))]
+    pub fn share(&self, base: Base) -> Result<Option<Rc<RawBlock>>, OutOfMemory>
+        ensures { IfOk result (λ o. bytes_in o ≡ (live self.now).bytes (base_of base)) }
+    {
+        self.heap.share(base)
     }
 
     /// The bytes of a block that some bound value lies in, none where there is no such block. It notes nothing.

@@ -6,7 +6,8 @@ use Rattle.std.proofs.Math.Nat.{div-eq_of_lt, mod-eq_of_lt}
 use Rattle.std.proofs.lemmas.Nat.{div-add-mod'}
 use Rattle.std.proofs.lemmas.Bool.{cases_Bool, cases_lt, cases_eq}
 use Rattle.std.proofs.lemmas.Bool.Decides.{nat_tests}
-use Rattle.nd_shape.specs.Reshaping.{is_unknown, is_length, unknowns, lengths_with, known_elements, is_left, shape_for}
+use Rattle.nd_model.specs.Reshaping.{is_unknown, is_length, unknowns, lengths_with, known_elements, is_left, shape_for}
+use Rattle.nd_model.specs.Fault.{Shape}
 use Rattle.nd_model.specs.ShapeFault.{SizeMismatch}
 use Rattle.nd_model.specs.Tuple.{elements_of}
 use Rattle.nd_shape.specs.Reshapes.{fills, IsLeft}
@@ -131,7 +132,7 @@ module _ (count : ℕ) (zs : List ℤ) (u : ℕ) (u_is : u ≡ unknowns zs) (few
   own_test : fills count u known ≡ (is_left zs && (elements_of (lengths_with (count / known_elements zs) zs) == count))
   own_test = (λ i. fills count u (known_is i)) ∙ cut_off count u (known_elements zs) within ∙ ap (λ n. fills count n (known_elements zs)) u_is ∙ fills_is count zs (omega (arith, u_is, few))
 
-  pub no_shape : fills count u known ≡ false → Err SizeMismatch ≡ shape_for count zs
+  pub no_shape : fills count u known ≡ false → Err (Shape SizeMismatch) ≡ shape_for count zs
   no_shape e =
       let no_fit : (is_left zs && (elements_of (lengths_with (count / known_elements zs) zs) == count)) ≡ false = sym own_test ∙ e in
       rw (two, all, no_fit) refl

@@ -9,4 +9,3 @@ pub mod Lengths
 pub mod Ways
 pub mod LengthLoops
 pub mod Reshapes
-pub mod ReshapedViews

@@ -4,5 +4,3 @@ pub mod Stretches
 pub mod Recasts
 pub mod Reshapes
 pub mod NewShapes
-pub mod Reshaping
-pub mod ReshapedViews

@@ -1,5 +1,6 @@
 //! Views of the same bytes as numbers of another kind or order.
 ghost use Rattle.std.specs.Prelude.{◌≡◌, ◌/◌, ◌*◌, ◌≤◌, ◌<◌, ◌^◌, pos, length, true, false, IsTrue, ◌↔◌, IfOk, MatchOption};
+ghost use Rattle.nd_model.specs.Creation.{is_number_type};
 ghost use Rattle.nd_model.specs.Element.{size_of};
 ghost use Rattle.nd_model.specs.Recasting as model;
 ghost use Rattle.nd_model.specs.Recasting.{can_recast, has_whole_rows, row_bytes, with_last};
@@ -16,6 +17,13 @@ fn is_step(stride: i128, size: u64) -> bool
     ensures { IsTrue result ↔ (stride ≡ pos size) }
 {
     stride == i128::from(size)
+}
+
+// Whether the elements are numbers, and no structures.
+fn holds_numbers(view: &View) -> bool
+    ensures { result ≡ is_number_type view.now.element }
+{
+    matches!(view.elem(), ElemType::One(_))
 }
 
 // Whether the elements along the last axis lie one behind the other.
@@ -76,7 +84,7 @@ fn recast_axes(
 
 /// Returns the view of the same bytes as numbers of another kind or order, as NumPy's `ndarray.view`. The same size always works;
 /// another one changes the length of the last axis, whose elements lie one behind the other. The first refusal that holds:
-/// `ItemSizes` where there is no such axis, or its bytes are no whole number of elements; the limits of arrays.
+/// `ItemSizes` where there is no such axis, its bytes are no whole number of elements, or it is one of structures; the limits of arrays.
 pub fn view_as(
     alloc: Global,
     view: &View,
@@ -95,6 +103,9 @@ pub fn view_as(
             view.writable(),
         )?;
         return Ok(Ok(same));
+    }
+    if !holds_numbers(view) {
+        return Ok(Err(ShapeFault::ItemSizes));
     }
     let Some(last) = recast_length(view, elem) else {
         return Ok(Err(ShapeFault::ItemSizes));

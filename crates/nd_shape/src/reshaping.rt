@@ -1,8 +1,8 @@
 //! Other shapes of the same elements in C order.
 ghost use Rattle.std.specs.Prelude.{◌≡◌, ◌+◌, ◌*◌, ◌/◌, ◌^◌, ◌<◌, ◌≤◌, min, pos, ◌≤ℤ◌, ◌+ℤ◌, ◌*ℤ◌, length, map, replicate, true, false, unsigned_abs, IfOk, MatchOption};
 ghost use Rattle.std.specs.List.{All, list_all};
-ghost use Rattle.nd_shape.specs.Reshaping as model;
-ghost use Rattle.nd_shape.specs.Reshaping.{known_elements, length_or, lengths_with, unknowns};
+ghost use Rattle.nd_model.specs.Reshaping as model;
+ghost use Rattle.nd_model.specs.Reshaping.{known_elements, length_or, lengths_with, unknowns};
 ghost use Rattle.nd_model.specs.Strides.{IsInLimits};
 ghost use Rattle.nd_model.specs.Tuple.{elements_of};
 ghost use Rattle.nd_model.specs.View.{item_size};

@@ -1,8 +1,15 @@
-use Rattle.std.proofs.Common.{◌≡◌, option_map, sym, ap, ◌∙◌}
+use Rattle.std.proofs.Common.{◌≡◌, option_map, [], Ok, sym, ap, ◌∙◌}
 use Rattle.nd_model.specs.Conversion.{converts}
-use Rattle.nd_model.specs.View.{Structure}
+use Rattle.nd_model.specs.View.{Structure, item_size}
+use Rattle.nd_model.specs.Refusing as refusing
+use Rattle.nd_model.specs.Strides.{limit_fault}
+use Rattle.nd_model.specs.Broadcast.{in_limits}
+use Rattle.nd_model.specs.Creation.{operand_misfit, unless_misfit, uniform, converted_at, full_array}
 use Rattle.nd_types.specs.Types.{type_of}
 use Rattle.nd_syntax.specs.Calls.{dtype_of}
+use Rattle.nd_operation.specs.Contents.{elements_operand}
+use Rattle.nd_operation.specs.Faults.{fault_of}
+use Rattle.nd_operation.proofs.Creating.{new_refused, over}
 use Rattle.nd_operation.proofs.Converting.{structure_from, type_converts}
 use Rattle.nd_operation.proofs.conversion.element_array.Goals as goal
 
@@ -12,3 +19,13 @@ structure_copies-requires-clause-type_is c =
     let g = c.args.elements.now.view.now in
     let same : type_of c.in_ok-elem.elem ≡ Structure s.0 s.1 = ap type_of c.in_default.is in
     same ∙ sym (structure_from g.element s.0 s.1 (ap (converts g.element) (sym same) ∙ type_converts (option_map dtype_of c.args.dtype.now) c.args.elements.now.is_row g c.args.elements.now.block.now (type_of c.in_ok-elem.elem) c.in_ok-elem.ensures))
+
+pub returns-in_err-check_limits : goal.returns-in_err-check_limits
+returns-in_err-check_limits c =
+    let o = elements_operand c.args.elements.now in
+    let shape = c.args.shape.now in
+    let t = type_of c.in_ok-elem.elem in
+    let f = c.in_err-check_limits.field-0.0 in
+    new_refused (full_array (option_map dtype_of c.args.dtype.now) shape o) f _ c.from_residual-in_err-check_limits.ensures.1
+    (ap (λ r. refusing.◌>>=◌ r (λ t. in_limits t shape (unless_misfit (operand_misfit t o) (Ok (uniform t shape (converted_at t o [])))))) c.in_ok-elem.ensures
+    ∙ over (limit_fault (item_size t) shape) _ (fault_of f) (rw c.size.ensures.value at c.in_err-check_limits.ensures))

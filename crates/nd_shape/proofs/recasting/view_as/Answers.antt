@@ -2,6 +2,7 @@ use Rattle.std.proofs.Common.{◌≡◌, ◌≢◌, ℕ, true, false, pos, sym, 
 use Rattle.std.specs.Prelude.{Ok, ◌==◌}
 use Rattle.std.specs.Option.{option_map}
 use Rattle.std.proofs.lemmas.Bool.Decides.{nat_tests}
+use Rattle.nd_model.specs.Creation.{is_number_type}
 use Rattle.nd_model.specs.Element.{size_of}
 use Rattle.nd_model.specs.Recasting.{with_last, can_recast, recast_shape}
 use Rattle.nd_model.specs.Strides.{IsInLimits, limit_fault}
@@ -39,4 +40,5 @@ returns c =
     = differ c.size.result c.size-size.result (item_size g.element) (size_of e.kind) (c.size.ensures.value ∙ ap item_size c.elem.ensures) c.size-size.ensures.value c.if-size.false in
     let same = recast_is g strides (record { held = c.held_strides-2.ensures.held; by = c.held_strides-2.ensures.places }) e can c.as_slice-2.result.now c.as_slice-3.result.now c.offset-2.result
     (c.as_slice-2.ensures ∙ lengths) (c.as_slice-3.ensures ∙ c.in_ok-layout.ensures.strides ∙ ap (λ n. with_last_step strides (pos n)) c.size-size.ensures.value) c.offset-2.ensures c.writable-2.result c.writable-2.ensures in
-    rw (other, can, limits) (λ i. Ok ((c.in_ok-recast.ensures ∙ same) i))
+    let numbers : is_number_type g.element ≡ true = sym c.holds_numbers.ensures ∙ c.if-not-holds_numbers.false in
+    rw (other, numbers, can, limits) (λ i. Ok ((c.in_ok-recast.ensures ∙ same) i))

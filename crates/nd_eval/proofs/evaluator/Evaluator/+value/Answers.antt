@@ -4,15 +4,16 @@ use Rattle.nd_model.specs.Index.{Form, AtForm, SliceForm}
 use Rattle.nd_model.specs.Operand.{ArraysOnly}
 use Rattle.nd_model.specs.Evaluation.{Eval, Gives, run, ◌>>=◌, decide}
 use Rattle.nd_model.specs.Meaning as meaning
+use Rattle.nd_model.specs.Viewing as viewing
 use Rattle.nd_model.specs.Cells.{chained, elements_of, items_of}
 use Rattle.nd_model.specs.Operators.{binary}
 use Rattle.nd_model.specs.Creation.{arange}
 use Rattle.nd_model.specs.Meaning.{is_given}
 use Rattle.nd_eval.proofs.Ranging.{range_first, range_is, range_parts}
 use Rattle.nd_model.specs.Operation.{give}
-use Rattle.nd_model.specs.Tokens.{tokens_of, tokens_of_call}
+use Rattle.nd_model.specs.Tokens.{tokens_of, tokens_of_call, tokens_of_method}
 use Rattle.nd_syntax.specs.Lists.{operation_of}
-use Rattle.nd_syntax.specs.Syntax.{bound_of, element_of, expr_of, call_of, suffix_of, index_of, item_of}
+use Rattle.nd_syntax.specs.Syntax.{bound_of, element_of, expr_of, call_of, suffix_of, index_of, item_of, method_of}
 use Rattle.nd_syntax.specs.declared.tree.Suffix.{Suffix}
 use Rattle.nd_syntax.specs.declared.tree.Element.{Element}
 use Rattle.nd_syntax.specs.declared.tree.IndexItem.{IndexItem}
@@ -20,20 +21,20 @@ use Rattle.nd_heap.specs.Values.{value_of}
 use Rattle.nd_session.specs.Values.{inputs_of}
 use Rattle.nd_session.specs.Live.{live}
 use Rattle.nd_eval.proofs.Bounds.{few_of_items, step_more, list_others, next_behind, next_item_parts, next_bound, next_value, next_values, next_at_suffix}
-use Rattle.nd_eval.proofs.Calls.{filled_first, filled_parts, full_first, full_follows, list_first, list_parts}
+use Rattle.nd_eval.proofs.Calls.{filled_first, filled_parts, full_first, full_follows, list_first, list_parts, stretched_first}
 use Rattle.nd_syntax.specs.Calls.{dtype_of, fill_of}
 use Rattle.nd_model.specs.Creation.{array_of_list, filled, full_of}
 use Rattle.nd_operation.specs.Contents.{operand_of, unused_of}
 use Rattle.nd_eval.specs.Contents as contents
 use Rattle.nd_eval.specs.Contents.{option_values, values_of}
-use Rattle.nd_eval.specs.Parts.{bound_exprs, exprs_in, exprs_of_element, index_parts, item_parts, items_parts, items_then, parts_of_items, unused, ItemParts, suffix_value, list_value, binary_value, values_behind, values_then, values}
+use Rattle.nd_eval.specs.Parts.{bound_exprs, exprs_in, exprs_of_element, index_parts, item_parts, items_parts, items_then, parts_of_items, unused, ItemParts, suffix_value, list_value, binary_value, values_behind, values_then, values, method_value, viewed_value}
 use Rattle.nd_model.specs.Value as model
 use Rattle.nd_syntax.specs.declared.tree.Expr.{Expr}
 use Rattle.nd_operation.specs.New.{bounds_of}
 use Rattle.nd_eval.proofs.Creating.{exits_new, follows_new}
 use Rattle.nd_eval.proofs.Chains.{exits, follows, goes, ends_as, ends_alike}
 use Rattle.nd_model.specs.Syntax.{Called, NewArray}
-use Rattle.nd_syntax.proofs.Nodes.{filled_is, full_is}
+use Rattle.nd_syntax.proofs.Nodes.{filled_is, full_is, broadcast_is, reshape_is, transpose_is}
 use Rattle.nd_eval.proofs.Operating.{chain_step, chain_rest, exits_chain, exits_later, fewer_tokens}
 use Rattle.nd_eval.proofs.Turns.{stays_on}
 use Rattle.nd_model.specs.Running.{Running}
@@ -42,7 +43,7 @@ use Rattle.nd_eval.proofs.Uses.{slice_seen, kept_bytes, kept_next, all_marked_by
 use Rattle.nd_eval.proofs.Held.{held_after, held_marked, held_past, sound_after, suffix_held, value_held}
 use Rattle.nd_operation.proofs.InTurn.{next_item, pushed}
 use Rattle.nd_eval.proofs.InTurn.{as_many, behind_others, many_of_element, onto, onto_more}
-use Rattle.nd_eval.proofs.Indexing.{chain, elements_in_list, nodes_of_its_elements, run_postfix, tokens_of_postfix, nodes_of_postfix, nodes_of_filled, nodes_of_full, nodes_of_item, nodes_of_slice, slice_is, shape_tokens, items_in_index, nodes_of_its_items, is_chain, nodes_of_chain}
+use Rattle.nd_eval.proofs.Indexing.{chain, elements_in_list, nodes_of_its_elements, run_postfix, tokens_of_postfix, nodes_of_postfix, nodes_of_filled, nodes_of_full, nodes_of_item, nodes_of_slice, slice_is, shape_tokens, items_in_index, nodes_of_its_items, is_chain, nodes_of_chain, listed_is, nodes_of_reshaped, nodes_of_stretched, nodes_of_transposed, reshaped_tokens, transposed_tokens}
 use Rattle.nd_eval.proofs.evaluator.Evaluator.+value.Goals as goal
 
 pub value-value_of_one-requires : goal.value-value_of_one-requires
@@ -942,3 +943,159 @@ item_value-returns-in_ok-step-in-Slice t c =
           ∙ slice_seen _ _ _ _ xs ys zs c.in_ok-start-in-Slice.ensures.given c.in_ok-stop-in-Slice.ensures.given c.in_ok-step-in-Slice.ensures.given,
       stays_on before c.in_ok-step-in-Slice.ensures.value.1,
     )
+
+-- ---- methods that give a view, and `np.broadcast_to`
+
+pub call_value-stretched_value-requires : goal.call_value-stretched_value-requires
+call_value-stretched_value-requires t c =
+    let a = c.in-BroadcastTo in
+    let room = c.requires in
+    let whole = ap tokens_of_call (ap call_of a.is ∙ broadcast_is a.operand a.shape) in
+    let few = shape_tokens (map expr_of a.shape.items) in
+    let size = nodes_of_stretched c.args.call.now a.operand a.shape a.is in
+    let below = c.decreases in
+    rw c.deref-in-BroadcastTo.ensures.value (omega arith, omega arith)
+
+pub call_value-returns-in-BroadcastTo : goal.call_value-returns-in-BroadcastTo
+call_value-returns-in-BroadcastTo t c =
+    let a = c.in-BroadcastTo in
+    let i = inputs_of c.args.self.now.inputs.now.entries in
+    let r = live c.args.self.now.session.now in
+    let same = ap (λ x. run i (meaning.value (Called x)) r) (ap call_of a.is ∙ broadcast_is a.operand a.shape) in (
+      ends_alike value_of _ _ (same ∙ stretched_first i (expr_of a.operand) (map expr_of a.shape.items) r) (rw c.deref-in-BroadcastTo.ensures.value at c.stretched_value.ensures.0),
+      c.stretched_value.ensures.1,
+    )
+
+pub stretched_value-value-requires : goal.stretched_value-value-requires
+stretched_value-value-requires t c =
+    let below = c.decreases in
+    let room = c.requires in
+    (omega arith, omega arith)
+
+pub stretched_value-returns-in_err-found : goal.stretched_value-returns-in_err-found
+stretched_value-returns-in_err-found t c = (
+  exits value_of value_of (inputs_of c.args.self.now.inputs.now.entries) (meaning.value (expr_of c.args.operand.now)) _ _ _ _ _
+      c.from_residual.ensures.1 c.in_err-found.ensures.0,
+  c.in_err-found.ensures.1,
+)
+
+pub stretched_value-values-requires : goal.stretched_value-values-requires
+stretched_value-values-requires t c =
+    let below = c.decreases in
+    let room = c.requires in
+    let made = next_value (inputs_of c.args.self.now.inputs.now.entries) (expr_of c.args.operand.now) _ _ _ c.in_ok-found.ensures.0 in
+    (omega arith, omega arith)
+
+pub stretched_value-returns-in_err-shape : goal.stretched_value-returns-in_err-shape
+stretched_value-returns-in_err-shape t c =
+    let i = inputs_of c.args.self.now.inputs.now.entries in (
+      follows value_of value_of i (meaning.value (expr_of c.args.operand.now)) _ _ _ _ c.in_ok-found.found _ c.in_ok-found.ensures.0
+          (exits values_of value_of i (values (map expr_of c.args.shape.now)) _ _ _ _ _ c.from_residual-in_err-shape.ensures.1 (rw c.in_ok-found.ensures.1.1 at c.in_err-shape.ensures.0)),
+      stays_on c.in_ok-found.ensures.1 c.in_err-shape.ensures.1,
+    )
+
+pub stretched_value-stretch_value-requires-clause-held : goal.stretched_value-stretch_value-requires-clause-held
+stretched_value-stretch_value-requires-clause-held t c =
+    let i = inputs_of c.args.self.now.inputs.now.entries in
+    let v = c.in_ok-found.found in
+    held_after i (values (map expr_of c.args.shape.now)) _ _ _ v (rw c.in_ok-found.ensures.1.1 at c.in_ok-shape.ensures.0)
+    (value_held i (expr_of c.args.operand.now) _ _ v c.in_ok-found.ensures.0 c.soundness.ensures)
+
+pub stretched_value-stretch_value-requires-clause-room : goal.stretched_value-stretch_value-requires-clause-room
+stretched_value-stretch_value-requires-clause-room t c =
+    let i = inputs_of c.args.self.now.inputs.now.entries in
+    let room = c.requires in
+    let first = next_value i (expr_of c.args.operand.now) _ _ _ c.in_ok-found.ensures.0 in
+    let lengths = next_values i (map expr_of c.args.shape.now) _ _ _ (rw c.in_ok-found.ensures.1.1 at c.in_ok-shape.ensures.0) in
+    omega arith
+
+pub stretched_value-returns : goal.stretched_value-returns
+stretched_value-returns t c =
+    let i = inputs_of c.args.self.now.inputs.now.entries in
+    let stays = stays_on c.in_ok-found.ensures.1 c.in_ok-shape.ensures.1 in (
+      follows value_of value_of i (meaning.value (expr_of c.args.operand.now)) _ _ _ _ c.in_ok-found.found _ c.in_ok-found.ensures.0
+          (follows values_of value_of i (values (map expr_of c.args.shape.now)) _ _ _ _ c.in_ok-shape.shape _ (rw c.in_ok-found.ensures.1.1 at c.in_ok-shape.ensures.0)
+          (rw (stays.1, c.deref.ensures.value) at c.stretch_value.ensures.0)),
+      stays_on stays c.stretch_value.ensures.1,
+    )
+
+pub suffix_value-method_value-requires : goal.suffix_value-method_value-requires
+suffix_value-method_value-requires t c =
+    let held = c.requires.held in
+    let room = rw c.in-Method.is at c.requires.room in
+    let below = rw c.in-Method.is at c.decreases in
+    (omega arith, (held, omega arith))
+
+pub method_value-viewed_value-requires : goal.method_value-viewed_value-requires
+method_value-viewed_value-requires t c =
+    let a = c.in-Transpose in
+    let room = c.requires.room in
+    let whole = ap tokens_of_method (ap method_of a.is ∙ transpose_is a.axes) in
+    let few = transposed_tokens (map expr_of a.axes.items) in
+    let size = nodes_of_transposed c.args.method.now a.axes a.is in
+    let below = c.decreases in
+    rw c.deref.ensures.value (omega arith, (c.requires.held, omega arith))
+
+pub method_value-viewed_value-requires-in-Reshape : goal.method_value-viewed_value-requires-in-Reshape
+method_value-viewed_value-requires-in-Reshape t c =
+    let a = c.in-Reshape in
+    let room = c.requires.room in
+    let whole = ap tokens_of_method (ap method_of a.is ∙ reshape_is a.shape) in
+    let few = reshaped_tokens (map expr_of a.shape.items) in
+    let size = nodes_of_reshaped c.args.method.now a.shape a.is in
+    let below = c.decreases in
+    rw c.deref-in-Reshape.ensures.value (omega arith, (c.requires.held, omega arith))
+
+pub method_value-returns-in-Transpose : goal.method_value-returns-in-Transpose
+method_value-returns-in-Transpose t c =
+    let a = c.in-Transpose in
+    let i = inputs_of c.args.self.now.inputs.now.entries in
+    let r = live c.args.self.now.session.now in
+    let v = value_of c.args.found.now in
+    let same = ap (λ m. run i (method_value m v) r) (ap method_of a.is ∙ transpose_is a.axes)
+    ∙ ap (λ es. run i (viewed_value viewing.Transposed es v) r) (listed_is (map expr_of a.axes.items)) in (
+      ends_alike value_of _ _ same (rw c.deref.ensures.value at c.viewed_value.ensures.0),
+      c.viewed_value.ensures.1,
+    )
+
+pub method_value-returns-in-Reshape : goal.method_value-returns-in-Reshape
+method_value-returns-in-Reshape t c =
+    let a = c.in-Reshape in
+    let i = inputs_of c.args.self.now.inputs.now.entries in
+    let r = live c.args.self.now.session.now in
+    let v = value_of c.args.found.now in
+    let same = ap (λ m. run i (method_value m v) r) (ap method_of a.is ∙ reshape_is a.shape)
+    ∙ ap (λ es. run i (viewed_value viewing.Reshaped es v) r) (listed_is (map expr_of a.shape.items)) in (
+      ends_alike value_of _ _ same (rw c.deref-in-Reshape.ensures.value at c.viewed_value-in-Reshape.ensures.0),
+      c.viewed_value-in-Reshape.ensures.1,
+    )
+
+pub viewed_value-values-requires : goal.viewed_value-values-requires
+viewed_value-values-requires t c =
+    let below = c.decreases in
+    let room = c.requires.room in
+    (omega arith, omega arith)
+
+pub viewed_value-returns-in_err-others : goal.viewed_value-returns-in_err-others
+viewed_value-returns-in_err-others t c = (
+  exits values_of value_of (inputs_of c.args.self.now.inputs.now.entries) (values (map expr_of c.args.exprs.now)) _ _ _ _ _
+      c.from_residual.ensures.1 c.in_err-others.ensures.0,
+  c.in_err-others.ensures.1,
+)
+
+pub viewed_value-view_value-requires-clause-held : goal.viewed_value-view_value-requires-clause-held
+viewed_value-view_value-requires-clause-held t c =
+    held_after (inputs_of c.args.self.now.inputs.now.entries) (values (map expr_of c.args.exprs.now)) _ _ _ c.args.found.now c.in_ok-others.ensures.0 c.requires.held
+
+pub viewed_value-view_value-requires-clause-room : goal.viewed_value-view_value-requires-clause-room
+viewed_value-view_value-requires-clause-room t c =
+    let room = c.requires.room in
+    let made = next_values (inputs_of c.args.self.now.inputs.now.entries) (map expr_of c.args.exprs.now) _ _ _ c.in_ok-others.ensures.0 in
+    omega arith
+
+pub viewed_value-returns : goal.viewed_value-returns
+viewed_value-returns t c = (
+  follows values_of value_of (inputs_of c.args.self.now.inputs.now.entries) (values (map expr_of c.args.exprs.now)) _ _ _ _ c.in_ok-others.others _ c.in_ok-others.ensures.0
+      (rw (c.in_ok-others.ensures.1.1, c.deref.ensures.value) at c.view_value.ensures.0),
+  stays_on c.in_ok-others.ensures.1 c.view_value.ensures.1,
+)

@@ -15,7 +15,7 @@ use Rattle.nd_eval.specs.Contents as contents
 use Rattle.nd_eval.specs.Contents.{values_of}
 use Rattle.nd_eval.specs.Uses.{IsHeld}
 use Rattle.nd_eval.proofs.InTurn.{onto}
-use Rattle.nd_eval.proofs.Indexing.{chain, chain_tokens, nodes, nodes_of_bound, nodes_of_call, nodes_of_element, nodes_of_elements, nodes_of_suffix, nodes_of_exprs, nodes_of_index, nodes_of_items, nodes_of_item, nodes_of_all, nodes_of_operations}
+use Rattle.nd_eval.proofs.Indexing.{chain, chain_tokens, nodes, nodes_of_bound, nodes_of_call, nodes_of_element, nodes_of_elements, nodes_of_method, nodes_of_suffix, nodes_of_exprs, nodes_of_index, nodes_of_items, nodes_of_item, nodes_of_all, nodes_of_operations}
 use Rattle.nd_eval.proofs.evaluator.Evaluator.+value.Given as goal
 
 abbrev pub decreases-value : goal.decreases-value
@@ -50,6 +50,15 @@ decreases-push_values l = nodes_of_element l.element.now
 
 abbrev pub decreases-suffix_value : goal.decreases-suffix_value
 decreases-suffix_value l = nodes_of_suffix l.suffix.now
+
+abbrev pub decreases-method_value : goal.decreases-method_value
+decreases-method_value l = nodes_of_method l.method.now
+
+abbrev pub decreases-viewed_value : goal.decreases-viewed_value
+decreases-viewed_value l = 2 + nodes_of_exprs l.exprs.now
+
+abbrev pub decreases-stretched_value : goal.decreases-stretched_value
+decreases-stretched_value l = 2 + nodes l.operand.now + nodes_of_exprs l.shape.now
 
 abbrev pub decreases-values : goal.decreases-values
 decreases-values l = 1 + nodes_of_exprs l.exprs.now

@@ -6,18 +6,17 @@ use Rattle.nd_syntax.specs.Syntax.{expr_of, index_of}
 use Rattle.nd_heap.specs.Values.{value_of}
 use Rattle.nd_session.specs.Values.{inputs_of}
 use Rattle.nd_eval.specs.Contents as contents
-use Rattle.nd_eval.specs.Contents.{effect_of}
 use Rattle.nd_eval.specs.Parts.{index_parts}
 use Rattle.nd_eval.proofs.Bounds.{next_value}
 use Rattle.nd_eval.proofs.Chains.{exits, follows, ends_alike}
 use Rattle.nd_eval.proofs.Turns.{stays_on}
 use Rattle.nd_eval.proofs.Parts.{index_all}
-use Rattle.nd_eval.proofs.Held.{held_after, value_held}
+use Rattle.nd_eval.proofs.Held.{held_after, sound_after, value_held}
 use Rattle.nd_eval.proofs.evaluator.Evaluator.assignment_effect.Goals as goal
 
-pub returns-in_err-written : goal.returns-in_err-written
-returns-in_err-written c = (
-  exits value_of effect_of (inputs_of c.args.self.now.inputs.now.entries) (meaning.value (expr_of c.args.expr.now)) _ _ _ _ _
+pub returns-in_err-written-clause-effect : goal.returns-in_err-written-clause-effect
+returns-in_err-written-clause-effect c = (
+  exits value_of _ (inputs_of c.args.self.now.inputs.now.entries) (meaning.value (expr_of c.args.expr.now)) _ _ _ _ _
       c.from_residual.ensures.1 c.in_err-written.ensures.0,
   c.in_err-written.ensures.1,
 )
@@ -27,11 +26,11 @@ value-requires-2 c =
     let made = next_value (inputs_of c.args.self.now.inputs.now.entries) (expr_of c.args.expr.now) _ _ _ c.in_ok-written.ensures.0 in
     omega arith
 
-pub returns-in_err-target : goal.returns-in_err-target
-returns-in_err-target c = (
-  follows value_of effect_of (inputs_of c.args.self.now.inputs.now.entries) (meaning.value (expr_of c.args.expr.now)) _ _ _ _
+pub returns-in_err-target-clause-effect : goal.returns-in_err-target-clause-effect
+returns-in_err-target-clause-effect c = (
+  follows value_of _ (inputs_of c.args.self.now.inputs.now.entries) (meaning.value (expr_of c.args.expr.now)) _ _ _ _
       c.in_ok-written.written _ c.in_ok-written.ensures.0
-      (exits value_of effect_of (inputs_of c.args.self.now.inputs.now.entries) (meaning.value (expr_of c.args.target.now)) _ _ _ _ _
+      (exits value_of _ (inputs_of c.args.self.now.inputs.now.entries) (meaning.value (expr_of c.args.target.now)) _ _ _ _ _
       c.from_residual-in_err-target.ensures.1 (rw c.in_ok-written.ensures.1.1 at c.in_err-target.ensures.0)),
   stays_on c.in_ok-written.ensures.1 c.in_err-target.ensures.1,
 )
@@ -43,37 +42,45 @@ index_value-requires c =
     let more = next_value i (expr_of c.args.target.now) _ _ _ (rw c.in_ok-written.ensures.1.1 at c.in_ok-target.ensures.0) in
     omega arith
 
-pub returns-in_err-index : goal.returns-in_err-index
-returns-in_err-index c =
+pub returns-in_err-index-clause-effect : goal.returns-in_err-index-clause-effect
+returns-in_err-index-clause-effect c =
     let i = inputs_of c.args.self.now.inputs.now.entries in
     let v = value_of c.in_ok-written.written in
     let t = value_of c.in_ok-target.target in
     let stays = stays_on c.in_ok-written.ensures.1 c.in_ok-target.ensures.1 in (
-      follows value_of effect_of i (meaning.value (expr_of c.args.expr.now)) _ _ _ _ c.in_ok-written.written _ c.in_ok-written.ensures.0
-          (follows value_of effect_of i (meaning.value (expr_of c.args.target.now)) _ _ _ _ c.in_ok-target.target _ (rw c.in_ok-written.ensures.1.1 at c.in_ok-target.ensures.0)
-          (ends_alike effect_of _ _ (index_all i (index_of c.args.index.now) (λ w vs. act_on (meaning.assignment_deed w) ((Whole, v) ∷ (Unused, t) ∷ vs)) _)
-          (exits contents.index_of effect_of i (index_parts (index_of c.args.index.now)) _ _ _ _ _ c.from_residual-in_err-index.ensures.1 (rw stays.1 at c.in_err-index.ensures.0)))),
+      follows value_of _ i (meaning.value (expr_of c.args.expr.now)) _ _ _ _ c.in_ok-written.written _ c.in_ok-written.ensures.0
+          (follows value_of _ i (meaning.value (expr_of c.args.target.now)) _ _ _ _ c.in_ok-target.target _ (rw c.in_ok-written.ensures.1.1 at c.in_ok-target.ensures.0)
+          (ends_alike _ _ _ (index_all i (index_of c.args.index.now) (λ w vs. act_on (meaning.assignment_deed w) ((Whole, v) ∷ (Unused, t) ∷ vs)) _)
+          (exits contents.index_of _ i (index_parts (index_of c.args.index.now)) _ _ _ _ _ c.from_residual-in_err-index.ensures.1 (rw stays.1 at c.in_err-index.ensures.0)))),
       stays_on stays c.in_err-index.ensures.1,
     )
 
-pub assign-requires : goal.assign-requires
-assign-requires c =
+pub assign-requires-clause-value : goal.assign-requires-clause-value
+assign-requires-clause-value c =
     let i = inputs_of c.args.self.now.inputs.now.entries in
     let v = c.in_ok-written.written in
     held_after i (index_parts (index_of c.args.index.now)) _ _ _ v (rw (stays_on c.in_ok-written.ensures.1 c.in_ok-target.ensures.1).1 at c.in_ok-index.ensures.0)
     (held_after i (meaning.value (expr_of c.args.target.now)) _ _ _ v (rw c.in_ok-written.ensures.1.1 at c.in_ok-target.ensures.0)
     (value_held i (expr_of c.args.expr.now) _ _ v c.in_ok-written.ensures.0 c.soundness.ensures))
 
-pub returns : goal.returns
-returns c =
+pub assign-requires-clause-target : goal.assign-requires-clause-target
+assign-requires-clause-target c =
+    let i = inputs_of c.args.self.now.inputs.now.entries in
+    let t = c.in_ok-target.target in
+    held_after i (index_parts (index_of c.args.index.now)) _ _ _ t (rw (stays_on c.in_ok-written.ensures.1 c.in_ok-target.ensures.1).1 at c.in_ok-index.ensures.0)
+    (value_held i (expr_of c.args.target.now) _ _ t (rw c.in_ok-written.ensures.1.1 at c.in_ok-target.ensures.0)
+    (sound_after i (meaning.value (expr_of c.args.expr.now)) _ _ _ c.in_ok-written.ensures.0 c.soundness.ensures))
+
+pub returns-clause-effect : goal.returns-clause-effect
+returns-clause-effect c =
     let i = inputs_of c.args.self.now.inputs.now.entries in
     let v = value_of c.in_ok-written.written in
     let t = value_of c.in_ok-target.target in
     let before = stays_on c.in_ok-written.ensures.1 c.in_ok-target.ensures.1 in
     let stays = stays_on before c.in_ok-index.ensures.1 in (
-      follows value_of effect_of i (meaning.value (expr_of c.args.expr.now)) _ _ _ _ c.in_ok-written.written _ c.in_ok-written.ensures.0
-          (follows value_of effect_of i (meaning.value (expr_of c.args.target.now)) _ _ _ _ c.in_ok-target.target _ (rw c.in_ok-written.ensures.1.1 at c.in_ok-target.ensures.0)
-          (ends_alike effect_of _ _ (index_all i (index_of c.args.index.now) (λ w vs. act_on (meaning.assignment_deed w) ((Whole, v) ∷ (Unused, t) ∷ vs)) _)
-          (follows contents.index_of effect_of i (index_parts (index_of c.args.index.now)) _ _ _ _ c.in_ok-index.index _ (rw before.1 at c.in_ok-index.ensures.0) (rw stays.1 at c.assign.ensures.0)))),
-      stays_on stays c.assign.ensures.1,
+      follows value_of _ i (meaning.value (expr_of c.args.expr.now)) _ _ _ _ c.in_ok-written.written _ c.in_ok-written.ensures.0
+          (follows value_of _ i (meaning.value (expr_of c.args.target.now)) _ _ _ _ c.in_ok-target.target _ (rw c.in_ok-written.ensures.1.1 at c.in_ok-target.ensures.0)
+          (ends_alike _ _ _ (index_all i (index_of c.args.index.now) (λ w vs. act_on (meaning.assignment_deed w) ((Whole, v) ∷ (Unused, t) ∷ vs)) _)
+          (follows contents.index_of _ i (index_parts (index_of c.args.index.now)) _ _ _ _ c.in_ok-index.index _ (rw before.1 at c.in_ok-index.ensures.0) (rw stays.1 at c.assign.ensures.effect.0)))),
+      stays_on stays c.assign.ensures.effect.1,
     )

@@ -8,20 +8,20 @@ use Rattle.nd_syntax.specs.Syntax.{expr_of}
 use Rattle.nd_heap.specs.Values.{value_of}
 use Rattle.nd_session.specs.Values.{inputs_of}
 use Rattle.nd_session.specs.Live.{live}
-use Rattle.nd_eval.specs.Contents.{effect_of}
+use Rattle.nd_eval.proofs.Held.{value_held}
 use Rattle.nd_eval.proofs.Chains.{exits, goes}
 use Rattle.nd_eval.proofs.Parts.{binding_parts}
 use Rattle.nd_eval.proofs.evaluator.Evaluator.binding_effect.Goals as goal
 
-pub returns-in_err-bound : goal.returns-in_err-bound
-returns-in_err-bound c = (
-  exits value_of effect_of (inputs_of c.args.self.now.inputs.now.entries) (meaning.value (expr_of c.args.expr.now)) _ _ _ _ _
+pub returns-in_err-bound-clause-effect : goal.returns-in_err-bound-clause-effect
+returns-in_err-bound-clause-effect c = (
+  exits value_of _ (inputs_of c.args.self.now.inputs.now.entries) (meaning.value (expr_of c.args.expr.now)) _ _ _ _ _
       c.from_residual.ensures.1 c.in_err-bound.ensures.0,
   c.in_err-bound.ensures.1,
 )
 
-pub returns : goal.returns
-returns c =
+pub returns-clause-effect : goal.returns-clause-effect
+returns-clause-effect c =
     let i = inputs_of c.args.self.now.inputs.now.entries in
     let v = value_of c.in_ok-bound.bound in (
       goes value_of i (meaning.value (expr_of c.args.expr.now)) (λ v. act_on (λ os. Ok (BindsFirst c.args.name.now)) ((Unused, v) ∷ [])) _ _ c.in_ok-bound.bound c.in_ok-bound.ensures.0
@@ -29,3 +29,7 @@ returns c =
           ∙ ap (λ n. (Ok (running.Binding n v), live c.value.new.self.session.now)) (sym c.in_ok-name.ensures.ok),
       c.in_ok-bound.ensures.1,
     )
+
+pub returns-clause-ready : goal.returns-clause-ready
+returns-clause-ready c =
+    value_held (inputs_of c.args.self.now.inputs.now.entries) (expr_of c.args.expr.now) _ _ c.in_ok-bound.bound c.in_ok-bound.ensures.0 c.soundness.ensures

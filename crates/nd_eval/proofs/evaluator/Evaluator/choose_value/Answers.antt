@@ -7,7 +7,7 @@ use Rattle.nd_heap.specs.Values.{value_of}
 use Rattle.nd_session.specs.Values.{inputs_of}
 use Rattle.nd_session.specs.Live.{live}
 use Rattle.nd_operation.specs.Contents.{unused_of}
-use Rattle.nd_operation.specs.Indexing.{chosen_of, operands_of, viewing_of}
+use Rattle.nd_choice.specs.Indexing.{chosen_of, operands_of, viewing_of}
 use Rattle.nd_eval.specs.Contents as contents
 use Rattle.nd_eval.proofs.Chains.{ends_alike, exits_making, goes_making}
 use Rattle.nd_eval.proofs.Uses.{index_chosen, nothing_chosen}
@@ -64,4 +64,4 @@ returns-in-Row c =
 pub returns-in-Number : goal.returns-in-Number
 returns-in-Number c =
     let x = c.args.index.now in
-    absurd (nothing_chosen c.in-Number.field-0 (viewing_of x) (operands_of x) _ (rw c.in-Number.is at c.in_ok-chosen.ensures.choice))
+    absurd (nothing_chosen c.in-Number.field-0 x (operands_of x) _ (rw c.in-Number.is at c.in_ok-chosen.ensures.choice))

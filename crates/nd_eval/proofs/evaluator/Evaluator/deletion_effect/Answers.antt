@@ -10,8 +10,8 @@ use Rattle.nd_eval.proofs.Chains.{goes}
 use Rattle.nd_eval.proofs.Parts.{deletion_parts}
 use Rattle.nd_eval.proofs.evaluator.Evaluator.deletion_effect.Goals as goal
 
-pub returns : goal.returns
-returns c =
+pub returns-clause-effect : goal.returns-clause-effect
+returns-clause-effect c =
     let i = inputs_of c.args.self.now.inputs.now.entries in
     let n = c.args.name.now in
     let s = live c.look_up.new.self.session.now in

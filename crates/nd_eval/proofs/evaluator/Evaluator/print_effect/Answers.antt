@@ -7,7 +7,7 @@ use Rattle.nd_syntax.specs.Syntax.{expr_of}
 use Rattle.nd_session.specs.Values.{inputs_of}
 use Rattle.nd_session.specs.Live.{live}
 use Rattle.nd_operation.specs.Contents.{operand_of}
-use Rattle.nd_eval.specs.Contents.{effect_of, values_of}
+use Rattle.nd_eval.specs.Contents.{values_of}
 use Rattle.nd_operation.specs.Lines.{limit_line}
 use Rattle.nd_eval.specs.Parts.{values}
 use Rattle.nd_eval.specs.Uses.{AreHeld, all_marked, operands_over}
@@ -18,13 +18,13 @@ use Rattle.nd_eval.proofs.Lines.{limit_exits}
 use Rattle.nd_eval.proofs.Prints.{print_parts}
 use Rattle.nd_eval.proofs.evaluator.Evaluator.print_effect.Goals as goal
 
-pub returns-in_err-shown : goal.returns-in_err-shown
-returns-in_err-shown c =
+pub returns-in_err-shown-clause-effect : goal.returns-in_err-shown-clause-effect
+returns-in_err-shown-clause-effect c =
     let i = inputs_of c.args.self.now.inputs.now.entries in
     let es = map expr_of c.args.exprs.now in (
-      limit_exits effect_of _ _ _ _ c.from_residual.ensures.1
-          (ends_alike effect_of _ _ (values_first i es (act_on print_deed) (live c.args.self.now.session.now))
-          (exits values_of effect_of i (values es) _ _ _ _ _ c.from_residual.ensures.1 c.in_err-shown.ensures.0)),
+      limit_exits _ _ _ _ _ c.from_residual.ensures.1
+          (ends_alike _ _ _ (values_first i es (act_on print_deed) (live c.args.self.now.session.now))
+          (exits values_of _ i (values es) _ _ _ _ _ c.from_residual.ensures.1 c.in_err-shown.ensures.0)),
       c.in_err-shown.ensures.1,
     )
 
@@ -36,23 +36,23 @@ operands_in-requires c =
     rw c.deref-2.ensures.value
     (held_all_marked vs vs s (live c.mark_operands.new.session) (c.in_ok-mark_operands.ensures ∙ ap (λ vs. all_marked vs s) c.deref.ensures.value) held)
 
-pub returns-in_err-line : goal.returns-in_err-line
-returns-in_err-line c =
+pub returns-in_err-line-clause-effect : goal.returns-in_err-line-clause-effect
+returns-in_err-line-clause-effect c =
     let i = inputs_of c.args.self.now.inputs.now.entries in
     let s = live c.values.new.self.session.now in
     let u = live c.mark_operands.new.session in
     let vs = c.in_ok-shown.shown.items in
     let os = map operand_of c.in_ok-operands.operands.items in
     let lent : os ≡ operands_over u.bytes vs = c.in_ok-operands.ensures ∙ ap (operands_over u.bytes) c.deref-2.ensures.value in (
-      ends_alike effect_of _ _
+      ends_alike _ _ _
           (print_parts i (map expr_of c.args.exprs.now) _ s u vs os c.in_ok-shown.ensures.0 (c.in_ok-mark_operands.ensures ∙ ap (λ vs. all_marked vs s) c.deref.ensures.value) lent)
-          (exits_making (λ (line : String Global). string_bytes line) effect_of i (limit_line (printed_line os)) (λ t. Gives (Prints t)) _ _ _ c.from_residual-in_err-line.ensures.1
+          (exits_making (λ (line : String Global). string_bytes line) _ i (limit_line (printed_line os)) (λ t. Gives (Prints t)) _ _ _ c.from_residual-in_err-line.ensures.1
           (rw c.deref-3.ensures.value at c.in_err-line.ensures)),
       c.in_ok-shown.ensures.1,
     )
 
-pub returns : goal.returns
-returns c =
+pub returns-clause-effect : goal.returns-clause-effect
+returns-clause-effect c =
     let i = inputs_of c.args.self.now.inputs.now.entries in
     let s = live c.values.new.self.session.now in
     let u = live c.mark_operands.new.session in

@@ -1,0 +1,91 @@
+//! `Assignment`: an assignment that is made ready.
+ghost use Rattle.std.specs.Prelude.{◌≡◌};
+ghost use Rattle.nd_assign.specs.Prepared.{written_by};
+ghost use Rattle.nd_assign.specs.Ways.{IsPrepared, bytes_read};
+
+use crate::gapless::move_gapless;
+use crate::views::copy_views;
+use crate::within::{copy_down, copy_up};
+use nd_block::RawBlock;
+use nd_types::Elem;
+use nd_view::{Run, View};
+use std::marker::Model;
+
+/// Where the elements are read, and how they come to the target.
+#[derive(Drop)]
+pub(crate) enum Way<'v> {
+    /// From bytes that are lent.
+    Lent(&'v [u8]),
+    /// From the bytes of one number.
+    Number([u8; 8]),
+    /// From a copy of what is read.
+    Copied(RawBlock),
+    /// In the block: numbers of one type that lie side by side are moved at once, from the second run to the first one.
+    Moved(Elem, Run, Run),
+    /// In the block, from before a place to behind it: the target as seen from there.
+    Up(usize, View),
+    /// In the block, to before a place from behind it: the source as seen from there.
+    Down(usize, View),
+}
+
+/// An assignment that `prepare` made ready: its write takes no memory. A clause sees the views of the elements that are copied and of
+/// those that they are copied to, the bytes that they are read from where these are not the block's, and the length of the block.
+#[derive(Drop)]
+pub struct Assignment<'v> {
+    target: &'v View,
+    // the view of the value as it stands beside the target
+    source: View,
+    way: Way<'v>,
+    // how many bytes the block has
+    len: usize,
+}
+
+impl<'v> Model for Assignment<'v> {
+    ghost use Rattle.nd_assign.specs.Prepared.{Prepared};
+
+    ghost Value = { Prepared };
+
+    ghost use Rattle.nd_assign.specs.Ways.{prepared_of, IsAssignment};
+
+    ghost view = { prepared_of };
+
+    ghost invariant = { IsAssignment };
+}
+
+impl<'v> Assignment<'v> {
+    pub(crate) fn new(target: &'v View, source: View, way: Way<'v>, len: usize) -> Assignment<'v>
+        requires { IsPrepared target.now source len way }
+        ensures { result ≡ record {
+          target = target.now;
+          source = source;
+          bytes = bytes_read way.entry;
+          len = len;
+        } }
+    {
+        Assignment {
+            target,
+            source,
+            way,
+            len,
+        }
+    }
+
+    /// Writes it to a block of as many bytes as it was made ready for, and leaves any other one as it is.
+    pub fn write(&self, block: &mut RawBlock)
+        ensures { block.new ≡ written_by self.now block.old }
+    {
+        if block.len() != self.len {
+            return;
+        }
+        let (target, source) = (self.target, &self.source);
+        let bytes = block.as_mut_slice();
+        match &self.way {
+            Way::Lent(read) => copy_views(bytes, target, read, source),
+            Way::Number(read) => copy_views(bytes, target, read, source),
+            Way::Copied(read) => copy_views(bytes, target, read.as_slice(), source),
+            Way::Moved(elem, run, from_run) => move_gapless(bytes, *elem, run, from_run),
+            Way::Up(middle, target) => copy_up(bytes, *middle, target, source),
+            Way::Down(middle, source) => copy_down(bytes, *middle, target, source),
+        }
+    }
+}

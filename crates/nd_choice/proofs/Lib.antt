@@ -1,0 +1,3 @@
+pub mod Indexing
+pub mod Stretching
+pub mod Lying

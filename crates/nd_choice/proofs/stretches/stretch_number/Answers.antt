@@ -1,0 +1,22 @@
+use Rattle.std.proofs.Common.{rules, ap, ◌∙◌, arith}
+use Rattle.std.proofs.lemmas.Int.{to_z-of_z}
+use mir.Val.{SFits}
+use mir.Syntax.{w128}
+use Rattle.nd_model.specs.Content.{Num, array_bytes}
+use Rattle.nd_model.specs.View.{One}
+use Rattle.nd_model.specs.Strides.{limit_fault}
+use Rattle.nd_types.specs.Kinds.{kind_of}
+use Rattle.nd_operation.specs.Contents.{num_of}
+use Rattle.nd_operation.proofs.Creating.{within}
+use Rattle.nd_choice.proofs.Stretching.{number_stretched, alone_in_limits}
+use Rattle.nd_choice.proofs.stretches.stretch_number.Goals as goal
+
+pub returns : goal.returns
+returns c =
+    let e = c.little-elem.result in
+    let fits : SFits w128 c.whole_number.result = search rules in
+    number_stretched (num_of c.args.number) (kind_of c.in_ok-array_kind.field-0) e c.args.shape.now c.in_ok-element.element c.in_ok-view.view c.in_ok-block.block
+    c.in_ok-array_kind.ensures c.little-elem.ensures
+    (within (limit_fault _ c.args.shape.now) (rw c.size.ensures.value at c.in_ok-check_limits.ensures))
+    (alone_in_limits _ (omega (arith, c.size.ensures.value, c.size.ensures.range)))
+    c.in_ok-element.ensures (c.in_ok-block.ensures ∙ ap (λ z. array_bytes (One e) c.in_ok-element.element.shape (λ t. Num z)) (to_z-of_z w128 c.whole_number.result fits ∙ c.whole_number.ensures)) c.in_ok-view.ensures

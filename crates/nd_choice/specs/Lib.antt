@@ -1,0 +1,3 @@
+pub mod Indexing
+pub mod Shapes
+pub mod Targets

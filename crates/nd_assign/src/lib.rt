@@ -20,7 +20,7 @@ mod within;
 pub use assignment::Assignment;
 pub use preparation::prepare;
 pub use shape::fits;
-pub use source::{Source, assign, assign_from, assign_within};
+pub use source::{Source, assign};
 
 /// Says which places an assignment writes, and does nothing.
 pub fn assigned_places()

@@ -139,7 +139,7 @@ fn measure_arrays(
         return println!(rt; "{name}: no view of so many numbers");
     };
     let read = mixed_block(rt.alloc(), Elem::little(Kind::I64), COUNT)?;
-    let mut block = RawBlock::zeroed(rt.alloc(), LEN as usize)?;
+    let mut block = RawBlock::zeros(rt.alloc(), LEN as usize)?;
     measure_from(rt, name, &target, &mut block, &source, read.as_slice())
 }
 

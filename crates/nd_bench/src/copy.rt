@@ -27,7 +27,7 @@ fn copy_bytes(bytes: &mut [u8], elements: u64)
 pub(crate) fn measure_copy(rt: &HostRuntime, elements: u64) -> io::Result<()>
     requires { elements ≤ 2 ^ 32 }
 {
-    let mut block = RawBlock::zeroed(rt.alloc(), elements as usize * 16)?;
+    let mut block = RawBlock::zeros(rt.alloc(), elements as usize * 16)?;
     let mut best_run = u128::MAX;
     let mut best_bytes = u128::MAX;
     for _ in 0..TURNS {

@@ -25,7 +25,7 @@ pub(crate) fn mixed_block(alloc: Global, elem: Elem, count: u64) -> Result<RawBl
     requires limit { count ≤ 2 ^ 24 }
     ensures { IfOk result (λ b. length b ≡ count * 8) }
 {
-    let mut block = RawBlock::zeroed(alloc, count as usize * 8)?;
+    let mut block = RawBlock::zeros(alloc, count as usize * 8)?;
     for index in 0..count {
         block.store(index * 8, elem, i128::from(mixed_number(index)));
     }

@@ -21,7 +21,7 @@ fn counting_block(alloc: Global, elem: Elem, count: u64) -> Result<RawBlock, All
     requires limit { count ≤ 2 ^ 25 }
     ensures { IfOk result (λ b. length b ≡ count * 8) }
 {
-    let mut block = RawBlock::zeroed(alloc, count as usize * 8)?;
+    let mut block = RawBlock::zeros(alloc, count as usize * 8)?;
     for number in 0..count {
         block.store(number * 8, elem, i128::from(number));
     }

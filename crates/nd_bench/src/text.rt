@@ -59,7 +59,7 @@ fn structures_block(alloc: Global, structure: &RecType, count: u64) -> Result<Ra
     ensures { IfOk result (λ b. length b ≡ count * structure.now.1) }
 {
     let size = structure.size() as usize;
-    let mut block = RawBlock::zeroed(alloc, count as usize * size)?;
+    let mut block = RawBlock::zeros(alloc, count as usize * size)?;
     let bytes = block.as_mut_slice();
     for index in 0..count {
         let start = index as usize * size;

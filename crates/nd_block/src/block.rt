@@ -1,10 +1,8 @@
 //! `RawBlock`: raw memory, which a clause sees as the list of its bytes.
 ghost use Rattle.std.specs.Prelude.{◌≡◌, ℕ, ◌+◌, ◌^◌, ◌<◌, ◌≤◌, List, [], length, replicate, IfOk, IsTrue, ◌↔◌};
-ghost use Rattle.std.specs.List.{zip};
 ghost use Rattle.std.specs.Borrow.{sem};
 ghost use Rattle.nd_model.specs.Element.{size_of, value_of, bytes_at, with_bytes, bytes_of, IsValue};
 ghost use Rattle.nd_model.specs.Runs.{AreWithin, AreApart, copied};
-ghost use Rattle.nd_model.specs.Session as session;
 
 use crate::bytes::{store_at, value_at};
 use crate::memory::{Places, Right, Start, allocate, deallocate};
@@ -42,7 +40,7 @@ impl RawBlock {
     ghost use Rattle.nd_block.specs.BlockLends.{lends_bytes};
 
     /// Returns a block of `n` zero bytes. It fails where there is no memory for them.
-    pub fn zeroed(alloc: Global, n: usize) -> Result<RawBlock, AllocError>
+    pub fn zeros(alloc: Global, n: usize) -> Result<RawBlock, AllocError>
         ensures { IfOk result (λ b. b ≡ replicate n 0) }
     {
         if n > MOST_BYTES {
@@ -164,14 +162,6 @@ impl RawBlock {
         store_at(self.as_mut_slice(), place as usize, elem, value);
     }
 
-    /// Writes each byte to the place of the same index. A place past the end is left out.
-    pub fn put(&mut self, places: &[u64], bytes: &[u8])
-        ensures bytes { self.new ≡ session.put (zip places.now bytes.now) self.old }
-        ensures len { length self.new ≡ length self.old }
-    {
-        put_bytes(self.as_mut_slice(), places, bytes);
-    }
-
     /// Copies `n` elements of `size` bytes. The first one is read at the place `src` and written at the place `dst`, and
     /// each further one is `src_step` and `dst_step` bytes on, which may be negative. No byte that is written for an
     /// element may belong to one that is read later.
@@ -237,18 +227,5 @@ fn fill_from(places: &mut Places, start: Start, bytes: &[u8])
 {
     for i in 0..bytes.len() {
         places.write(start, i, bytes[i]);
-    }
-}
-
-fn put_bytes(target: &mut [u8], places: &[u64], bytes: &[u8])
-    ensures bytes { target.new ≡ session.put (zip places.now bytes.now) target.old }
-    ensures len { length target.new ≡ length target.old }
-{
-    let len = target.len() as u64;
-    for i in 0..places.len().min(bytes.len()) {
-        let place = places[i];
-        if place < len {
-            target[place as usize] = bytes[i];
-        }
     }
 }

@@ -17,7 +17,7 @@ use nd_read::kinds::{
     FULL, KIND, LOAD, NO_FOLD, NO_FUNCTION, OPEN, REDUCE, UFUNC, next_in,
 };
 use nd_read::names::{fill_named, kind_named, ufunc_named};
-use nd_read::read::{Read, Reason, Tokens, behind, close, pair, shut, skip, text_of};
+use nd_read::read::{Read, Reason, Tokens, behind, close, pair, refuse, skip, text_of};
 use nd_read::spot::Spot;
 use nd_read::types::{comma_typing, quoted, typing};
 use nd_syntax::{Call, DType, Expr, Fill, Fold};
@@ -83,7 +83,7 @@ impl<'f, F: for<'t> Fn(u8, Spot, Tokens<'t>) -> Read<'t, Expr>> Calls<'f, F> {
             let (name, rest) = quoted(self.rules.alloc, levels, rest)?;
             return Ok((Call::Load(name), rest));
         }
-        Err(shut(tokens, NO_FUNCTION, Reason::UnknownCall))
+        Err(refuse(tokens, NO_FUNCTION, Reason::UnknownCall))
     }
 
     /// `np.arange`
@@ -95,7 +95,7 @@ impl<'f, F: for<'t> Fn(u8, Spot, Tokens<'t>) -> Read<'t, Expr>> Calls<'f, F> {
         let (levels, rest) = open(levels, OPEN, tokens)?;
         let (first, rest) = self.rules.expr(levels, Spot::Anywhere, rest)?;
         let ((first, (more, dtype)), rest) = pair(first, self.second(levels, rest))?;
-        close(ranged(first, more, dtype), CLOSE, rest)
+        close(arange_of(first, more, dtype), CLOSE, rest)
     }
 
     /// What stands behind the first number: a second one, a third one, a type.
@@ -219,7 +219,7 @@ impl<'f, F: for<'t> Fn(u8, Spot, Tokens<'t>) -> Read<'t, Expr>> Calls<'f, F> {
         if let Some(rest) = behind(rest, ACCUMULATE) {
             return self.accumulate(levels, rest);
         }
-        Err(shut(rest, NO_FOLD, Reason::UnknownCall))
+        Err(refuse(rest, NO_FOLD, Reason::UnknownCall))
     }
 
     fn reduce<'t>(&self, levels: u8, tokens: Tokens<'t>) -> Read<'t, Fold>
@@ -277,7 +277,7 @@ fn extremum_named(name: &str, left: Expr, right: Expr) -> Call
 }
 
 /// `np.arange` of a first number, those behind it, and a type.
-fn ranged(first: Expr, more: Option<(Expr, Option<Expr>)>, dtype: Option<DType>) -> Call
+fn arange_of(first: Expr, more: Option<(Expr, Option<Expr>)>, dtype: Option<DType>) -> Call
     ensures { call_of result ≡ ranged (expr_of first) (second_of (more, dtype)) }
 {
     match more {

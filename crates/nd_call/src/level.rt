@@ -6,7 +6,7 @@ ghost use Rattle.nd_model.specs.Cells.{under};
 ghost use Rattle.nd_read.specs.Gives.{Gives, tokens_of, front};
 ghost use Rattle.nd_call.specs.Readers.{opens, Closes};
 
-use nd_read::read::{Failure, Read, Reason, Tokens, close, shut, skip};
+use nd_read::read::{Failure, Read, Reason, Tokens, close, refuse, skip};
 
 /// How many levels may be opened behind a token of the set, which opens one, and the tokens there.
 pub(crate) fn open<'t>(
@@ -19,7 +19,7 @@ pub(crate) fn open<'t>(
         (read kind (opens set (under levels)) (tokens_of tokens.now)) }
 {
     if levels == 0 {
-        return Err(shut(tokens, set, Reason::TooDeep));
+        return Err(refuse(tokens, set, Reason::TooDeep));
     }
     let rest = skip(tokens, set)?;
     Ok((levels - 1, rest))

@@ -6,4 +6,4 @@ mod level;
 mod methods;
 mod operands;
 
-pub use operands::{Calls, postfixed};
+pub use operands::{Calls, with_suffixes};

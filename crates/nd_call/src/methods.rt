@@ -18,7 +18,7 @@ use nd_read::kinds::{
     TRANSPOSED, next_in,
 };
 use nd_read::names::{accumulation_named, reduction_named};
-use nd_read::read::{Read, Reason, Tokens, behind, close, pair, shut, skip, stop_at, text_of};
+use nd_read::read::{Read, Reason, Tokens, behind, close, pair, refuse, skip, stop_at, text_of};
 use nd_read::spot::Spot;
 use nd_read::types::{comma_keepdims, empty, named_keepdims, no_lengths, type_argument};
 use nd_syntax::{Axis, DType, Expr, Method};
@@ -78,7 +78,7 @@ impl<'f, F: for<'t> Fn(u8, Spot, Tokens<'t>) -> Read<'t, Expr>> Calls<'f, F> {
                 rest,
             ));
         }
-        Err(shut(tokens, NO_METHOD, Reason::UnknownCall))
+        Err(refuse(tokens, NO_METHOD, Reason::UnknownCall))
     }
 
     /// `([expr {"," expr}])`

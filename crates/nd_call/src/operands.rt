@@ -14,10 +14,10 @@ use nd_read::kinds::{
     ABS, BUFFER, CALLED, CLOSE, OPEN, OPEN_BRACKET, PLUS, POWER, SIGN, SUFFIX, next_in,
 };
 use nd_read::operators::{binary_of, unary_of};
-use nd_read::read::{Read, Reason, Tokens, behind, leaf, pair, shut, stop_at, take};
+use nd_read::read::{Read, Reason, Tokens, behind, leaf, pair, refuse, stop_at, take};
 use nd_read::spot::{Spot, leaves, modules, openings};
 use nd_read::types::quoted;
-use nd_rule::{Rules, operated};
+use nd_rule::{Rules, with_operation};
 use nd_syntax::{BinaryOp, Call, Expr, Suffix};
 use nd_token::Token;
 use std::alloc::{AllocError, Global};
@@ -58,7 +58,7 @@ impl<'f, F: for<'t> Fn(u8, Spot, Tokens<'t>) -> Read<'t, Expr>> Calls<'f, F> {
             (tokens_of tokens.now)) }
     {
         if levels == 0 {
-            return Err(shut(tokens, SIGN, Reason::TooDeep));
+            return Err(refuse(tokens, SIGN, Reason::TooDeep));
         }
         self.with_sign(levels - 1, tokens)
     }
@@ -84,7 +84,7 @@ impl<'f, F: for<'t> Fn(u8, Spot, Tokens<'t>) -> Read<'t, Expr>> Calls<'f, F> {
         let (base, rest) = self.postfix(levels, spot, tokens)?;
         if next_in(rest, POWER) {
             let ((base, exponent), rest) = pair(base, self.exponent(levels, rest))?;
-            return Ok((operated(self.rules.alloc, base, exponent)?, rest));
+            return Ok((with_operation(self.rules.alloc, base, exponent)?, rest));
         }
         Ok((base, rest))
     }
@@ -96,7 +96,7 @@ impl<'f, F: for<'t> Fn(u8, Spot, Tokens<'t>) -> Read<'t, Expr>> Calls<'f, F> {
             (tokens_of tokens.now)) }
     {
         if levels == 0 {
-            return Err(shut(tokens, POWER, Reason::TooDeep));
+            return Err(refuse(tokens, POWER, Reason::TooDeep));
         }
         self.raised(levels - 1, tokens)
     }
@@ -120,7 +120,7 @@ impl<'f, F: for<'t> Fn(u8, Spot, Tokens<'t>) -> Read<'t, Expr>> Calls<'f, F> {
     {
         let (operand, rest) = self.operand(levels, spot, tokens)?;
         let ((operand, suffixes), rest) = pair(operand, self.suffixes(levels, rest))?;
-        Ok((postfixed(self.rules.alloc, operand, suffixes)?, rest))
+        Ok((with_suffixes(self.rules.alloc, operand, suffixes)?, rest))
     }
 
     /// Any number of indexes and methods.
@@ -203,7 +203,7 @@ pub(crate) fn next_token<'t>(tokens: Tokens<'t>, set: u128) -> (Token<'t>, Token
 }
 
 /// An operand with its indexes and methods, if it has any. It allocates one node.
-pub fn postfixed(alloc: Global, operand: Expr, suffixes: Vec<Suffix>) -> Result<Expr, AllocError>
+pub fn with_suffixes(alloc: Global, operand: Expr, suffixes: Vec<Suffix>) -> Result<Expr, AllocError>
     ensures { IfOk result (λ e. expr_of e ≡ suffixed (expr_of operand) (suffixes_of suffixes)) }
 {
     if suffixes.is_empty() {

@@ -14,7 +14,7 @@ const MOST_PRINTED: usize = 64;
 /// The block of a word.
 pub(crate) fn block_of(alloc: Global, word: &str) -> Result<RawBlock, Refusal> {
     match word.strip_prefix("zeros:") {
-        Some(count) => Ok(RawBlock::zeroed(alloc, number(count)?)?),
+        Some(count) => Ok(RawBlock::zeros(alloc, number(count)?)?),
         None => Ok(RawBlock::from_slice(alloc, &numbers(alloc, word)?)?),
     }
 }
@@ -48,7 +48,6 @@ fn change(alloc: Global, block: &mut RawBlock, call: &str, words: &[&str]) -> Re
     match call {
         "store" => store(block, words),
         "store_at" => store_lowest(block, words),
-        "put" => put_bytes(alloc, block, words),
         _ => copy_named(block, words),
     }
 }
@@ -112,15 +111,6 @@ fn store_lowest(block: &mut RawBlock, words: &[&str]) -> Result<(), Refusal> {
         return Err(Refusal::NotHeld);
     }
     store_at(block.as_mut_slice(), place as usize, elem, value);
-    Ok(())
-}
-
-/// Puts bytes to their places.
-fn put_bytes(alloc: Global, block: &mut RawBlock, words: &[&str]) -> Result<(), Refusal> {
-    let [places, bytes] = words else {
-        return Err(Refusal::BadLine);
-    };
-    block.put(&numbers(alloc, places)?, &numbers(alloc, bytes)?);
     Ok(())
 }
 

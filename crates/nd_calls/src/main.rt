@@ -44,7 +44,7 @@ fn answer(alloc: Global, call: &str, words: &[&str]) -> Result<String, Refusal> 
         "type" => types::describe_type(alloc, words),
         "same_type" => types::compare_types(alloc, words),
         "block" | "holds" | "load" | "clone" => blocks::answer(alloc, call, words),
-        "store" | "store_at" | "put" | "copy" => blocks::answer_change(alloc, call, words),
+        "store" | "store_at" | "copy" => blocks::answer_change(alloc, call, words),
         "push" => blocks::push_number(alloc, words),
         "view" => views::describe_view(alloc, words),
         "select" => indexes::describe_selected(alloc, words),

@@ -18,7 +18,8 @@ use Rattle.nd_model.proofs.Soundness.{held_map}
 use Rattle.nd_model.proofs.Tracks.{tracks_cell}
 use Rattle.nd_session.specs.State.{State}
 use Rattle.nd_session.specs.Live.{live}
-use Rattle.nd_session.specs.Seen.{Seen, seen_of, is_read_in}
+use Rattle.nd_trace.specs.Seen.{Seen, is_read_in}
+use Rattle.nd_session.specs.Listed.{seen_of}
 use Rattle.nd_session.specs.Reads.{found_in, found_of, found_when_collected, keys_of}
 use Rattle.nd_session.specs.Changes.{bases_in, going_on, writes_in}
 use Rattle.nd_session.proofs.Listed.{listed}

@@ -13,7 +13,7 @@ ghost use Rattle.nd_model.specs.Sound.{IsSoundSession};
 ghost use Rattle.nd_session.specs.Changes.{is_bound};
 ghost use Rattle.nd_session.specs.Kept.{version_of};
 ghost use Rattle.nd_session.specs.Live.{live};
-ghost use Rattle.nd_session.specs.Values.{inputs_of};
+ghost use Rattle.nd_input.specs.Values.{inputs_of};
 ghost use Rattle.nd_cell.specs.Records.{EndsRun, ended_in, record_at_end, recorded};
 ghost use Rattle.nd_cell.specs.Results.{ended_of, refusal_of, saves_of};
 

@@ -10,7 +10,7 @@ ghost use Rattle.nd_model.specs.Tokens.{tokens_of_lines, tokens_of_stmt};
 ghost use Rattle.nd_model.specs.Reading.{reading};
 ghost use Rattle.nd_model.specs.Records.{record_of};
 ghost use Rattle.nd_syntax.specs.Syntax.{kind_of, lines_of, stmt_of};
-ghost use Rattle.nd_session.specs.Values.{inputs_of};
+ghost use Rattle.nd_input.specs.Values.{inputs_of};
 ghost use Rattle.nd_session.specs.Live.{live};
 ghost use Rattle.nd_eval.specs.Done.{output_of};
 ghost use Rattle.nd_cell.specs.Records.{ended_in, recorded};

@@ -42,7 +42,7 @@ fn copy_structures(
     ensures { IfOk result (λ b. b ≡ flat_map (canonical_structure structure.now bytes.now)
         view.now.places) }
 {
-    let mut block = RawBlock::zeroed(alloc, view.count() * structure.size() as usize)?;
+    let mut block = RawBlock::zeros(alloc, view.count() * structure.size() as usize)?;
     copy_view(block.as_mut_slice(), structure, bytes, view);
     Ok(block)
 }

@@ -17,7 +17,7 @@ pub fn zeros(alloc: Global, view: &View) -> Result<RawBlock, AllocError>
     ensures { IfOk result (λ b. b ≡ array_bytes view.now.element view.now.shape
         (λ t. zero_content view.now.element)) }
 {
-    RawBlock::zeroed(alloc, view.count() * view.elem().size() as usize)
+    RawBlock::zeros(alloc, view.count() * view.elem().size() as usize)
 }
 
 /// Returns the block of an array that is alone in it, where each element is the same number. Of a number that the kind does not hold
@@ -26,7 +26,7 @@ pub fn full(alloc: Global, view: &View, elem: Elem, number: i128) -> Result<RawB
     ensures { IfOk result (λ b. b ≡ array_bytes (One elem) view.now.shape (λ t. Num number)) }
 {
     let count = view.count();
-    let mut block = RawBlock::zeroed(alloc, count * elem.size() as usize)?;
+    let mut block = RawBlock::zeros(alloc, count * elem.size() as usize)?;
     fill(block.as_mut_slice(), elem, number, count);
     Ok(block)
 }
@@ -44,7 +44,7 @@ pub fn range(
     ensures { IfOk result (λ b. b ≡ array_bytes (One elem) (n ∷ [])
         (λ t. Num (start +ℤ (pos (first_index t) *ℤ step)))) }
 {
-    let mut block = RawBlock::zeroed(alloc, n * elem.size() as usize)?;
+    let mut block = RawBlock::zeros(alloc, n * elem.size() as usize)?;
     fill_up(block.as_mut_slice(), elem, start, step, n);
     Ok(block)
 }

@@ -39,7 +39,7 @@ pub fn list(
         (content_in_order view.now.shape (map Num numbers.now))) }
 {
     let _count = view.count();
-    let mut block = RawBlock::zeroed(alloc, numbers.len() * elem.size() as usize)?;
+    let mut block = RawBlock::zeros(alloc, numbers.len() * elem.size() as usize)?;
     fill_in_turn(block.as_mut_slice(), elem, numbers);
     Ok(block)
 }

@@ -90,7 +90,7 @@ fn structure_at(
     requires { place + structure.now.1 ≤ 2 ^ 64 }
     ensures { IfOk result (λ b. b ≡ canonical_structure structure.now bytes.now place) }
 {
-    let mut block = RawBlock::zeroed(alloc, structure.size() as usize)?;
+    let mut block = RawBlock::zeros(alloc, structure.size() as usize)?;
     write_structure(block.as_mut_slice(), bytes, place as u64, structure);
     Ok(block)
 }

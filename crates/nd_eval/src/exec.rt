@@ -8,7 +8,7 @@ ghost use Rattle.nd_model.specs.Syntax.{Assign, Bind, Delete, Print};
 ghost use Rattle.nd_model.specs.Tokens.{tokens_of, tokens_of_all, tokens_of_stmt};
 ghost use Rattle.nd_syntax.specs.Syntax.{expr_of, index_of, stmt_of};
 ghost use Rattle.nd_heap.specs.Values.{value_of};
-ghost use Rattle.nd_session.specs.Values.{inputs_of};
+ghost use Rattle.nd_input.specs.Values.{inputs_of};
 ghost use Rattle.nd_session.specs.Live.{live};
 ghost use Rattle.nd_eval.specs.Ends.{Ends, session_of};
 ghost use Rattle.nd_eval.specs.Contents as contents;

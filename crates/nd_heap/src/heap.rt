@@ -156,7 +156,7 @@ impl Heap {
         }
     }
 
-    /// The block of a base, shared.
+    /// The block of a base, shared, if there is one. As long as it is shared, a write to it copies it first.
     pub fn share_block(&self, base: Base) -> Result<Option<Rc<RawBlock>>, OutOfMemory>
         ensures { IfOk result (λ o. bytes_in o ≡ bytes_at self.now.blocks (base_of base)) }
     {
@@ -185,13 +185,6 @@ impl Heap {
         ensures { result.now ≡ bytes_at self.now.blocks (base_of base) }
     {
         self.blocks.bytes(base)
-    }
-
-    /// The block of a base, shared, if there is one. As long as it is shared, a write to it copies it first.
-    pub fn share(&self, base: Base) -> Result<Option<Rc<RawBlock>>, OutOfMemory>
-        ensures { IfOk result (λ o. bytes_in o ≡ bytes_at self.now.blocks (base_of base)) }
-    {
-        self.blocks.share(base)
     }
 
     /// The bytes of a block that some bound value lies in, none where there is no such block.

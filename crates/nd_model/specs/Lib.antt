@@ -32,6 +32,7 @@ pub mod Evaluation
 pub mod Operand
 pub mod Broadcast
 pub mod Operators
+pub mod Elementwise
 pub mod Index
 pub mod Slicing
 pub mod Selecting

@@ -126,7 +126,7 @@ pub fn replay()
 {}
 
 /// A record that still holds is the record of the run that it stands for.
-pub fn kept()
+pub fn record_stands()
     ensures { Kept }
 {}
 

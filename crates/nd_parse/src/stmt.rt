@@ -13,13 +13,13 @@ ghost use Rattle.nd_rule.specs.Readers.{Operands};
 ghost use Rattle.nd_parse.specs.Readers.{trailing, saved_body};
 
 use crate::expr::unary;
-use nd_call::{Calls, postfixed};
+use nd_call::{Calls, with_suffixes};
 use nd_read::kinds::{
     AS, ASSIGNMENT, BOUND, CLOSE, COMMA, DEL, DOT, END, IMPORT, NP, NP_SAVE, NUMPY, NUMPY_CALLED,
     OPEN, PRINT, SAVE, SUFFIX, next_in,
 };
 use nd_read::operators::augment_of;
-use nd_read::read::{Read, Reason, Tokens, close, line_at, name, name_of, pair, shut, skip, take};
+use nd_read::read::{Read, Reason, Tokens, close, line_at, name, name_of, pair, refuse, skip, take};
 use nd_read::spot::Spot;
 use nd_read::types::quoted_text;
 use nd_rule::append;
@@ -61,7 +61,7 @@ impl<'f, F: for<'t> Fn(u8, Spot, Tokens<'t>) -> Read<'t, Expr>> Statements<'f, F
             (read kind (printed (under levels)) (tokens_of tokens.now)) }
     {
         if levels == 0 {
-            return Err(shut(tokens, OPEN, Reason::TooDeep));
+            return Err(refuse(tokens, OPEN, Reason::TooDeep));
         }
         self.listed(levels - 1, tokens)
     }
@@ -85,7 +85,7 @@ impl<'f, F: for<'t> Fn(u8, Spot, Tokens<'t>) -> Read<'t, Expr>> Statements<'f, F
             (read kind (saved (under levels)) (tokens_of tokens.now)) }
     {
         if levels == 0 {
-            return Err(shut(tokens, OPEN, Reason::TooDeep));
+            return Err(refuse(tokens, OPEN, Reason::TooDeep));
         }
         self.saved_in(levels - 1, tokens)
     }
@@ -195,7 +195,7 @@ impl<'f, F: for<'t> Fn(u8, Spot, Tokens<'t>) -> Read<'t, Expr>> Statements<'f, F
         let (operand, rest) = self.calls.operand(levels, Spot::Target, tokens)?;
         let ((array, (before, last)), rest) = pair(operand, self.trailing(levels, rest))?;
         Ok((
-            (postfixed(self.calls.rules.alloc, array, before)?, last),
+            (with_suffixes(self.calls.rules.alloc, array, before)?, last),
             rest,
         ))
     }
@@ -268,7 +268,7 @@ fn module_name<'t>(tokens: Tokens<'t>) -> Read<'t, Token<'t>>
     if next_in(tokens, NUMPY) {
         return take(tokens, NUMPY);
     }
-    Err(shut(tokens, NUMPY_CALLED, Reason::UnknownCall))
+    Err(refuse(tokens, NUMPY_CALLED, Reason::UnknownCall))
 }
 
 /// `import numpy as np`

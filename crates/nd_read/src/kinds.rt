@@ -416,7 +416,7 @@ fn holds_comma(tokens: &[Token]) -> bool
 }
 
 /// The kind of a symbol before these tokens.
-fn refined(symbol: u8, rest: &[Token]) -> u8
+fn refine(symbol: u8, rest: &[Token]) -> u8
     ensures { result ≡ refined symbol (tokens_of rest.now) }
 {
     if symbol == 16 && is_before(15, rest) {
@@ -442,7 +442,7 @@ fn kind_of_word(word: Word, rest: &[Token]) -> u32
     match word {
         Word::Name(name) => u32::from(kind_of_name(name)) + u32::from(before_next(rest)),
         Word::Keyword(keyword) => u32::from(kind_of_keyword(keyword)),
-        _ => u32::from(refined(kind_of_symbol(word), rest)),
+        _ => u32::from(refine(kind_of_symbol(word), rest)),
     }
 }
 

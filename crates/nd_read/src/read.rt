@@ -72,7 +72,7 @@ pub fn stop_at(tokens: &[Token], why: Reason) -> Failure
 }
 
 /// The next token is refused, for this reason if it is in the set.
-pub fn shut(tokens: &[Token], set: u128, why: Reason) -> Failure
+pub fn refuse(tokens: &[Token], set: u128, why: Reason) -> Failure
     ensures { result ≡ Stopped
         (record {
           left = length tokens.now;
@@ -203,7 +203,7 @@ pub fn name<'t>(alloc: Global, tokens: Tokens<'t>) -> Read<'t, String>
         let (token, rest) = take(tokens, NAME)?;
         return Ok((name_of(alloc, token)?, rest));
     }
-    Err(shut(tokens, CALLED, Reason::UnknownCall))
+    Err(refuse(tokens, CALLED, Reason::UnknownCall))
 }
 
 /// The text between two quotes.

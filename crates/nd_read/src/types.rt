@@ -15,7 +15,7 @@ use crate::kinds::{
     next_in,
 };
 use crate::names::kind_named;
-use crate::read::{Read, Reason, Tokens, behind, close, quoted_of, shut, skip, take, text_of};
+use crate::read::{Read, Reason, Tokens, behind, close, quoted_of, refuse, skip, take, text_of};
 use nd_syntax::{DType, Expr, FieldType, TypeName};
 use nd_token::{Token, Word};
 use std::alloc::Global;
@@ -34,7 +34,7 @@ pub fn quoted<'t>(alloc: Global, levels: u8, tokens: Tokens<'t>) -> Read<'t, Str
         (tokens_of tokens.now)) }
 {
     if levels == 0 {
-        return Err(shut(tokens, OPEN, Reason::TooDeep));
+        return Err(refuse(tokens, OPEN, Reason::TooDeep));
     }
     in_brackets(alloc, tokens)
 }
@@ -54,7 +54,7 @@ pub fn no_lengths<'t>(alloc: Global, levels: u8, tokens: Tokens<'t>) -> Read<'t,
         (tokens_of tokens.now)) }
 {
     if levels == 0 {
-        return Err(shut(tokens, OPEN_NONE, Reason::TooDeep));
+        return Err(refuse(tokens, OPEN_NONE, Reason::TooDeep));
     }
     closed(alloc, tokens)
 }
@@ -73,7 +73,7 @@ pub fn empty<'t>(levels: u8, tokens: Tokens<'t>) -> Read<'t, ()>
         (tokens_of tokens.now)) }
 {
     if levels == 0 {
-        return Err(shut(tokens, OPEN, Reason::TooDeep));
+        return Err(refuse(tokens, OPEN, Reason::TooDeep));
     }
     opened(tokens)
 }
@@ -95,7 +95,7 @@ fn kind_name<'t>(tokens: Tokens<'t>) -> Read<'t, TypeName>
         let (token, rest) = take(tokens, KIND_PLAIN)?;
         return Ok((TypeName::Kind(kind_named(text_of(token))), rest));
     }
-    Err(shut(tokens, NO_KIND, Reason::UnknownCall))
+    Err(refuse(tokens, NO_KIND, Reason::UnknownCall))
 }
 
 /// `np.int8` and the like, or a text
@@ -124,7 +124,7 @@ fn pair<'t>(alloc: Global, levels: u8, tokens: Tokens<'t>) -> Read<'t, FieldType
         (tokens_of tokens.now)) }
 {
     if levels == 0 {
-        return Err(shut(tokens, OPEN, Reason::TooDeep));
+        return Err(refuse(tokens, OPEN, Reason::TooDeep));
     }
     field(alloc, tokens)
 }
@@ -211,7 +211,7 @@ fn fields<'t>(alloc: Global, levels: u8, tokens: Tokens<'t>) -> Read<'t, Vec<Fie
         (tokens_of tokens.now)) }
 {
     if levels == 0 {
-        return Err(shut(tokens, OPEN_BRACKET, Reason::TooDeep));
+        return Err(refuse(tokens, OPEN_BRACKET, Reason::TooDeep));
     }
     some_fields(alloc, levels - 1, tokens)
 }
@@ -249,7 +249,7 @@ fn only_typing<'t>(alloc: Global, levels: u8, tokens: Tokens<'t>) -> Read<'t, DT
     if next_in(tokens, DTYPE) {
         return typing(alloc, levels, DTYPE, tokens);
     }
-    Err(shut(tokens, DTYPE_CALLED, Reason::UnknownCall))
+    Err(refuse(tokens, DTYPE_CALLED, Reason::UnknownCall))
 }
 
 /// `, dtype = type`, if it is there
@@ -271,7 +271,7 @@ pub fn type_argument<'t>(alloc: Global, levels: u8, tokens: Tokens<'t>) -> Read<
         (tokens_of tokens.now)) }
 {
     if levels == 0 {
-        return Err(shut(tokens, OPEN, Reason::TooDeep));
+        return Err(refuse(tokens, OPEN, Reason::TooDeep));
     }
     type_in_brackets(alloc, levels - 1, tokens)
 }
@@ -315,7 +315,7 @@ pub fn only_keepdims<'t>(tokens: Tokens<'t>) -> Read<'t, bool>
     if next_in(tokens, KEEPDIMS) {
         return named_keepdims(KEEPDIMS, tokens);
     }
-    Err(shut(tokens, KEEPDIMS_CALLED, Reason::UnknownCall))
+    Err(refuse(tokens, KEEPDIMS_CALLED, Reason::UnknownCall))
 }
 
 /// `, keepdims = True`, if it is there

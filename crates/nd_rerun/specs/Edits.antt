@@ -1,7 +1,7 @@
 -- Edits and their answers as the definitions have them.
 use Rattle.std.specs.Prelude.{ℕ, List, [], ◌∷◌, Result, Ok, Err}
 use Rattle.nd_model.specs.Book as model
-use Rattle.nd_session.specs.Values.{source_of}
+use Rattle.nd_input.specs.Values.{source_of}
 use Rattle.nd_rerun.specs.declared.edit.Edit.{Edit}
 use Rattle.nd_rerun.specs.declared.edit.Edit.TheVariants.{Insert, Change, Move, Remove, SetInput, DropInput}
 use Rattle.nd_rerun.specs.declared.edit.EditFault.{EditFault}

@@ -4,7 +4,7 @@ ghost use Rattle.nd_model.specs.Session.{collected};
 ghost use Rattle.nd_model.specs.Running as running;
 ghost use Rattle.nd_session.specs.Kept.{version_of};
 ghost use Rattle.nd_session.specs.Live.{live};
-ghost use Rattle.nd_session.specs.Values.{given_of};
+ghost use Rattle.nd_input.specs.Values.{given_of};
 ghost use Rattle.nd_cell.specs.Records.{recorded};
 
 use nd_cell::{Meter, Record, run_cell};

@@ -3,7 +3,7 @@
 ghost use Rattle.std.specs.Prelude.{◌≡◌, IfOk, OnErr, OnOk, length};
 ghost use Rattle.nd_model.specs.Book as model;
 ghost use Rattle.nd_model.specs.Notebook.{Answers, CountsRuns, no_sheet};
-ghost use Rattle.nd_session.specs.Values.{source_of};
+ghost use Rattle.nd_input.specs.Values.{source_of};
 ghost use Rattle.nd_rerun.specs.Edits.{outcome_of};
 
 use crate::edit::{Edit, EditFault};

@@ -15,7 +15,7 @@ use nd_read::kinds::{
     AXIS, AXIS_CALLED, CLOSE, COMMA, COMMA_CLOSING, COMMA_INNER, EQUAL, NONE, OPEN_NONE,
     OPEN_TUPLE, next_in,
 };
-use nd_read::read::{Read, Reason, Tokens, behind, close, pair, shut, skip, stop_at};
+use nd_read::read::{Read, Reason, Tokens, behind, close, pair, refuse, skip, stop_at};
 use nd_read::spot::Spot;
 use nd_read::types::{behind_last, comma_keepdims, no_lengths, only_keepdims};
 use nd_syntax::{Axis, Expr};
@@ -53,7 +53,7 @@ impl<'f, F: for<'t> Fn(u8, Spot, Tokens<'t>) -> Read<'t, Expr>> Rules<'f, F> {
             (tokens_of tokens.now)) }
     {
         if levels == 0 {
-            return Err(shut(tokens, OPEN_TUPLE, Reason::TooDeep));
+            return Err(refuse(tokens, OPEN_TUPLE, Reason::TooDeep));
         }
         self.tuple_in(levels - 1, tokens)
     }
@@ -177,7 +177,7 @@ impl<'f, F: for<'t> Fn(u8, Spot, Tokens<'t>) -> Read<'t, Expr>> Rules<'f, F> {
         if next_in(tokens, AXIS) {
             return self.numbered_axis(levels, tokens);
         }
-        Err(shut(tokens, AXIS_CALLED, Reason::UnknownCall))
+        Err(refuse(tokens, AXIS_CALLED, Reason::UnknownCall))
     }
 
     /// `axis = .. [, keepdims = ..]`, or `keepdims = ..`
@@ -236,7 +236,7 @@ impl<'f, F: for<'t> Fn(u8, Spot, Tokens<'t>) -> Read<'t, Expr>> Rules<'f, F> {
             (tokens_of tokens.now)) }
     {
         if levels == 0 {
-            return Err(shut(tokens, opening, Reason::TooDeep));
+            return Err(refuse(tokens, opening, Reason::TooDeep));
         }
         self.between(levels - 1, opening, tokens)
     }

@@ -15,7 +15,7 @@ use nd_read::kinds::{
     CLOSE, CLOSE_BRACKET, COLON, COMMA_LAST, COMMA_MORE, DOT, ELEMENT, ELLIPSIS, EXPR, NEWAXIS,
     NEWAXIS_CALLED, NONE, NP_NEWAXIS, OPEN_BRACKET, OPEN_NONE, QUOTED, next_in,
 };
-use nd_read::read::{Read, Reason, Tokens, behind, close, pair, quoted_of, shut, skip, take};
+use nd_read::read::{Read, Reason, Tokens, behind, close, pair, quoted_of, refuse, skip, take};
 use nd_read::spot::Spot;
 use nd_read::types::behind_last;
 use nd_syntax::{Element, Expr, Index, IndexItem};
@@ -29,7 +29,7 @@ impl<'f, F: for<'t> Fn(u8, Spot, Tokens<'t>) -> Read<'t, Expr>> Rules<'f, F> {
             (tokens_of tokens.now)) }
     {
         if levels == 0 {
-            return Err(shut(tokens, OPEN_BRACKET, Reason::TooDeep));
+            return Err(refuse(tokens, OPEN_BRACKET, Reason::TooDeep));
         }
         self.bracketed(levels - 1, tokens)
     }
@@ -216,7 +216,7 @@ impl<'f, F: for<'t> Fn(u8, Spot, Tokens<'t>) -> Read<'t, Expr>> Rules<'f, F> {
             (tokens_of tokens.now)) }
     {
         if levels == 0 {
-            return Err(shut(tokens, OPEN_BRACKET, Reason::TooDeep));
+            return Err(refuse(tokens, OPEN_BRACKET, Reason::TooDeep));
         }
         self.listed(levels - 1, tokens)
     }
@@ -319,7 +319,7 @@ fn nothing<'t>(alloc: Global, levels: u8, tokens: Tokens<'t>) -> Read<'t, Vec<In
         (tokens_of tokens.now)) }
 {
     if levels == 0 {
-        return Err(shut(tokens, OPEN_NONE, Reason::TooDeep));
+        return Err(refuse(tokens, OPEN_NONE, Reason::TooDeep));
     }
     no_items(alloc, tokens)
 }
@@ -340,7 +340,7 @@ fn newaxis_name<'t>(tokens: Tokens<'t>) -> Read<'t, IndexItem>
     if let Some(rest) = behind(tokens, NEWAXIS) {
         return Ok((IndexItem::NewAxis, rest));
     }
-    Err(shut(tokens, NEWAXIS_CALLED, Reason::UnknownCall))
+    Err(refuse(tokens, NEWAXIS_CALLED, Reason::UnknownCall))
 }
 
 /// `np.newaxis`

@@ -6,5 +6,5 @@ mod indexes;
 mod operators;
 mod rows;
 
-pub use operators::{Rules, operated};
+pub use operators::{Rules, with_operation};
 pub use rows::append;

@@ -55,7 +55,7 @@ impl<'f, F: for<'t> Fn(u8, Spot, Tokens<'t>) -> Read<'t, Expr>> Rules<'f, F> {
         let (first, rest) = self.bor(levels, spot, tokens)?;
         if next_in(rest, COMPARISON) {
             let ((first, other), rest) = pair(first, self.comparison(levels, rest))?;
-            return Ok((operated(self.alloc, first, other)?, rest));
+            return Ok((with_operation(self.alloc, first, other)?, rest));
         }
         Ok((first, rest))
     }
@@ -115,7 +115,7 @@ impl<'f, F: for<'t> Fn(u8, Spot, Tokens<'t>) -> Read<'t, Expr>> Rules<'f, F> {
     {
         let (first, rest) = self.ranked(levels, rank, spot, tokens)?;
         let ((first, others), rest) = pair(first, self.operations(levels, rank, set, rest))?;
-        Ok((chained(self.alloc, first, others)?, rest))
+        Ok((with_operations(self.alloc, first, others)?, rest))
     }
 
     /// Any number of operators of the set with their right operands.
@@ -178,7 +178,7 @@ fn operators(rank: u8) -> u128
 }
 
 /// An operand with what is done to it, if anything is.
-fn chained(alloc: Global, operand: Expr, others: Vec<(BinaryOp, Expr)>) -> Result<Expr, AllocError>
+fn with_operations(alloc: Global, operand: Expr, others: Vec<(BinaryOp, Expr)>) -> Result<Expr, AllocError>
     ensures { IfOk result (λ e. expr_of e ≡ chained (expr_of operand) (operations_of others)) }
 {
     if others.is_empty() {
@@ -188,11 +188,11 @@ fn chained(alloc: Global, operand: Expr, others: Vec<(BinaryOp, Expr)>) -> Resul
 }
 
 /// An operand with one operation. It allocates a node and its row.
-pub fn operated(alloc: Global, operand: Expr, other: (BinaryOp, Expr)) -> Result<Expr, AllocError>
+pub fn with_operation(alloc: Global, operand: Expr, other: (BinaryOp, Expr)) -> Result<Expr, AllocError>
     ensures { IfOk result (λ e. expr_of e ≡ Binary (operation_of other).0 (expr_of operand)
         (operation_of other).1) }
 {
     let mut others = Vec::new(alloc);
     others.push(other)?;
-    chained(alloc, operand, others)
+    with_operations(alloc, operand, others)
 }

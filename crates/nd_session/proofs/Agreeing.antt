@@ -10,11 +10,11 @@ use Rattle.nd_model.specs.Running.{Key, Name, Input, Length, Byte, Inputs, Sourc
 use Rattle.nd_model.specs.Footprint.{Bound, Given, Number, found}
 use Rattle.nd_heap.specs.declared.value.Base.{Base}
 use Rattle.nd_heap.specs.declared.value.Value.{Value}
-use Rattle.nd_session.specs.declared.input.Input as code
+use Rattle.nd_input.specs.declared.input.Input as code
 use Rattle.nd_session.specs.declared.reads.BytesRead.{BytesRead}
 use Rattle.std.specs.Option.{option_copied}
 use Rattle.nd_heap.specs.Values.{base_of, value_of}
-use Rattle.nd_session.specs.Values.{source_of}
+use Rattle.nd_input.specs.Values.{source_of}
 use Rattle.nd_session.proofs.Reading.{some_same}
 use Rattle.nd_session.specs.Reading.{value_at, source_at, bytes_of}
 use Rattle.nd_session.specs.Reads.{ReadsData, lookup_base, byte_at, found_of, keys_of}

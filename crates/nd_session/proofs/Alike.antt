@@ -10,9 +10,9 @@ use Rattle.nd_model.specs.Footprint.{replayed}
 use Rattle.nd_model.specs.Session.{is_held}
 use Rattle.nd_session.specs.Changes.{ChangesData, bases_in, written_by}
 use Rattle.nd_heap.specs.Contents.{blocks_of}
-use Rattle.nd_session.specs.Contents.{marks_of}
+use Rattle.nd_trace.specs.Contents.{marks_of}
 use Rattle.nd_heap.specs.Live.{bytes_at}
-use Rattle.nd_session.specs.Live.{is_marked}
+use Rattle.nd_trace.specs.Marked.{is_marked}
 use Rattle.nd_heap.specs.Values.{base_of}
 use Rattle.nd_heap.proofs.Bases.{Shared}
 use Rattle.nd_heap.proofs.Same.{same_bases}

@@ -14,10 +14,10 @@ use Rattle.nd_model.specs.Session.{Names, lookup}
 use Rattle.nd_heap.proofs.Entries.{AllBefore}
 use Rattle.nd_heap.proofs.Same.{bytes_same, same_bytes}
 use Rattle.nd_session.specs.Changes.{ChangesData, events_in, is_bound}
-use Rattle.nd_session.specs.Events.{name_of_event}
-use Rattle.nd_session.specs.Live.{is_among}
+use Rattle.nd_trace.specs.Events.{name_of_event}
+use Rattle.nd_trace.specs.Marked.{is_among}
 use Rattle.nd_session.specs.Noted.{AreUnread, StaysNoted, has_bound, has_noted}
-use Rattle.nd_session.proofs.Traces.{bytes_eq_sym, or_right, text_more}
+use Rattle.nd_trace.proofs.Traces.{bytes_eq_sym, or_right, text_more}
 
 -- ---- names and labels that are there
 

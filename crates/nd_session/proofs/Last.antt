@@ -7,8 +7,8 @@ use Rattle.nd_model.specs.Running.{Event, Binds, Unbinds}
 use Rattle.nd_model.specs.Footprint.{replayed}
 use Rattle.nd_model.proofs.Lists.{lookup-bind, lookup-unbind}
 use Rattle.nd_session.specs.Changes.{is_bound}
-use Rattle.nd_session.specs.Events.{binds, event_of, name_of_event}
-use Rattle.nd_session.specs.declared.trace.Event as code
+use Rattle.nd_trace.specs.Events.{binds, event_of, name_of_event}
+use Rattle.nd_trace.specs.declared.trace.Event as code
 
 replayed-more : (es : List Event) (e : Event) (names : Names) → replayed (es ++ e ∷ []) names ≡ replayed (e ∷ []) (replayed es names)
 replayed-more [] e names = refl

@@ -1,13 +1,7 @@
 pub mod Alike
-pub mod Places
-pub mod Noting
-pub mod Traces
-pub mod Touched
 pub mod Listed
 pub mod Sessions
-pub mod Storing
 pub mod Intact
-pub mod Inputs
 pub mod Reading
 pub mod Agreeing
 pub mod Redoing

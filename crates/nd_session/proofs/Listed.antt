@@ -2,7 +2,7 @@
 use Rattle.std.proofs.Common.{refl}
 use Rattle.nd_session.specs.Live.{live}
 use Rattle.nd_session.specs.State.{State}
-use Rattle.nd_session.specs.Seen.{IsListed}
+use Rattle.nd_session.specs.Listed.{IsListed}
 
 pub listed : (s : State) → IsListed s
 unfolding live

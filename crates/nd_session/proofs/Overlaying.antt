@@ -14,9 +14,9 @@ use Rattle.nd_heap.specs.declared.value.Base.{Base}
 use Rattle.nd_heap.specs.Values.{base_of}
 use Rattle.nd_heap.proofs.Same.{same_bases}
 use Rattle.nd_session.specs.Changes.{ChangesData, writes_in}
-use Rattle.nd_session.specs.Contents.{marks_of}
+use Rattle.nd_trace.specs.Contents.{marks_of}
 use Rattle.nd_session.specs.Intact.{AllLie}
-use Rattle.nd_session.specs.Live.{is_marked}
+use Rattle.nd_trace.specs.Marked.{is_marked}
 use Rattle.nd_session.specs.Reads.{byte_at}
 use Rattle.nd_session.proofs.Intact.{with_binding}
 

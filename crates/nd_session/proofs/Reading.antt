@@ -10,15 +10,15 @@ use Rattle.nd_model.specs.Value as model
 use Rattle.nd_model.specs.Session.{lookup}
 use Rattle.nd_heap.specs.declared.value.Base.{Base}
 use Rattle.nd_heap.specs.Values.{base_of}
-use Rattle.nd_session.specs.Contents.{marks_of}
+use Rattle.nd_trace.specs.Contents.{marks_of}
 use Rattle.nd_heap.specs.Live.{is_base_among}
-use Rattle.nd_session.specs.Live.{is_among, is_marked}
+use Rattle.nd_trace.specs.Marked.{is_among, is_marked}
 use Rattle.nd_session.specs.Reading.{by_text, by_base}
 use Rattle.nd_session.specs.Reads.{lookup_base, byte_at}
 use Rattle.nd_heap.proofs.Same.{same_bases, same_bytes, bytes_same}
 use Rattle.nd_heap.proofs.Bases.{base_eq}
-use Rattle.nd_session.proofs.Places.{found_marks, found_marked}
-use Rattle.nd_session.proofs.Traces.{bytes_eq_sym, or_right}
+use Rattle.nd_trace.proofs.Places.{found_marks, found_marked}
+use Rattle.nd_trace.proofs.Traces.{bytes_eq_sym, or_right}
 
 or_false : (x : Bool) → (x || false) ≡ x
 or_false true = refl

@@ -1,9 +1,7 @@
 -- The effects of a run, block by block.
-use Rattle.std.proofs.Common.{◌≡◌, ◌<◌, eqb-true, ◌||◌, ℕ, zero, suc, Bool, true, false, cond, nat_eq, List, [], ◌∷◌, drop, take, length, append-nil, ◌++◌, slice_get, slice_index, Option, Some, None, refl, sym, ap, ap₂, ◌∙◌, inl, inr, arith}
+use Rattle.std.proofs.Common.{◌≡◌, eqb-true, ◌||◌, ℕ, zero, suc, Bool, true, false, cond, nat_eq, List, [], ◌∷◌, drop, take, slice_get, slice_index, Option, Some, None, refl, sym, ap, ap₂, ◌∙◌, inl, inr}
 use Rattle.std.specs.Prelude.{unwrap_or}
 use Rattle.std.proofs.lemmas.Bool.{cases_Bool, or_right}
-use Rattle.std.proofs.lemmas.List.{ext_get_or, drop_all, take_all}
-use Rattle.std.specs.List.{refill}
 use Rattle.nd_marks.specs.Marks.{Places, holds}
 use Rattle.nd_model.specs.Value as model
 use Rattle.nd_model.specs.Running as running
@@ -14,14 +12,14 @@ use mathlib.Core.Path.{fun_ext}
 use Rattle.nd_heap.specs.declared.value.Base.{Base}
 use Rattle.nd_heap.specs.Values.{base_of}
 use Rattle.nd_heap.specs.Contents.{blocks_of}
-use Rattle.nd_session.specs.Contents.{marks_of}
+use Rattle.nd_trace.specs.Contents.{marks_of}
 use Rattle.nd_heap.specs.Live.{bytes_at}
-use Rattle.nd_session.specs.Live.{is_marked}
+use Rattle.nd_trace.specs.Marked.{is_marked}
 use Rattle.nd_session.specs.Changes.{ended}
-use Rattle.nd_session.specs.Patching.{has_marks, marked_of, writes_of, length-patched}
+use Rattle.nd_trace.specs.Patching.{has_marks, marked_of, writes_of}
 use Rattle.nd_heap.proofs.Bases.{Shared}
 use Rattle.nd_heap.proofs.Same.{same_bases}
-use Rattle.nd_session.proofs.Places.{marked_has}
+use Rattle.nd_trace.proofs.Places.{marked_has}
 
 false_true : {P : Type 0} → false ≡ true → P
 false_true e = cc
@@ -153,25 +151,6 @@ patched_all es from old b = elim (cases_Bool (has_marks (marks_of es) b)) [
     | inr free ↦ rw free refl
   ])))
 ]
-
-get_or-patched : (w : ℕ → Option ℕ) (xs : List ℕ) (p : ℕ) → p < length xs → slice_index (patched w xs) p ≡ unwrap_or (w p) (slice_index xs p)
-get_or-patched w [] p h = absurd (omega arith)
-get_or-patched w (x ∷ xs) zero h = refl
-get_or-patched w (x ∷ xs) (suc p) h = get_or-patched (λ p. w (suc p)) xs p (omega arith)
-
--- a block whose marked bytes are put in
-pub is_patched : (m : Places) (source xs ys : List ℕ) → length ys ≡ length xs → ((p : ℕ) → p < length xs → slice_index ys p ≡ cond (holds m p) (slice_index source p) (slice_index xs p)) → ys ≡ patched (marked_of m source) xs
-is_patched m source xs ys long each = ext_get_or 0 ys (patched (marked_of m source) xs) (long ∙ sym (length-patched (marked_of m source) xs))
-    (λ p lt. each p (omega arith) ∙ go (holds m p) (slice_index source p) (slice_index xs p) ∙ sym (get_or-patched (marked_of m source) xs p (omega arith)))
-  where
-    go : (h : Bool) (x y : ℕ) → cond h x y ≡ unwrap_or (cond h (Some x) None) y
-    go true x y = refl
-    go false x y = refl
-
--- a row that is written whole
-pub refilled : (xs ys : List ℕ) → length ys ≡ length xs → refill (length xs) xs ys ≡ ys
-refilled xs ys long =
-    ap (λ zs. take (length xs) (ys ++ zs)) (drop_all (length ys) xs (omega arith)) ∙ ap (take (length xs)) (append-nil ys) ∙ take_all (length xs) ys (omega arith)
 
 where_held : (t : Bool) (x y : List ℕ) → (t ≡ true → x ≡ y) → cond t x [] ≡ cond t y []
 where_held true x y h = h refl

@@ -11,14 +11,14 @@ use Rattle.nd_model.specs.Footprint.{replayed, effects_of}
 use Rattle.nd_heap.specs.declared.value.Base.{Base}
 use Rattle.nd_heap.specs.Values.{base_of}
 use Rattle.nd_heap.specs.Contents.{bases_of}
-use Rattle.nd_session.specs.Contents.{marks_of}
+use Rattle.nd_trace.specs.Contents.{marks_of}
 use Rattle.nd_session.specs.Changes.{ChangesData, ended, writes_in}
 use Rattle.nd_heap.specs.Live.{is_base_among}
-use Rattle.nd_session.specs.Live.{is_marked}
-use Rattle.nd_session.specs.Patching.{has_marks}
+use Rattle.nd_trace.specs.Marked.{is_marked}
+use Rattle.nd_trace.specs.Patching.{has_marks}
 use Rattle.nd_heap.proofs.Bases.{base_eq}
 use Rattle.nd_heap.proofs.Held.{base-insert}
-use Rattle.nd_session.proofs.Places.{marked_has}
+use Rattle.nd_trace.proofs.Places.{marked_has}
 use Rattle.nd_session.proofs.Redoing.{has_more}
 use Rattle.nd_heap.proofs.Same.{same_bases}
 

@@ -7,7 +7,7 @@ use Rattle.nd_model.specs.Session as model
 use Rattle.nd_model.specs.Running.{Key}
 use Rattle.nd_model.specs.Running as running
 use Rattle.nd_model.specs.Storing.{having_written}
-use Rattle.nd_session.specs.Seen.{having_event}
+use Rattle.nd_trace.specs.Seen.{having_event}
 
 pub noted_over : (keys : Key → Bool) (t u : running.Running) (names : List (List ℕ × Value)) (bytes : Base → List ℕ) (next : ℕ) → u ≡ running.having_read keys t
     → record u { names = names; bytes = bytes; next = next } ≡ running.having_read keys (record t { names = names; bytes = bytes; next = next })

@@ -8,7 +8,7 @@ use Rattle.nd_model.specs.Running.{Event, Running, start}
 use Rattle.nd_model.specs.Footprint.{Effects, replayed, with_effects}
 use Rattle.nd_marks.specs.Marks.{Places}
 use Rattle.nd_heap.specs.Live.{bytes_at}
-use Rattle.nd_session.specs.Live.{is_marked}
+use Rattle.nd_trace.specs.Marked.{is_marked}
 
 pub record ChangesData : Type 0 where
   -- the cell, and the number of its next base

@@ -1,12 +1,11 @@
 -- What contracts see of a session's fields.
 use Rattle.std.specs.Prelude.{ℕ, List, []}
 use Rattle.nd_model.specs.Value as model
-use Rattle.nd_model.specs.Running as running
 use Rattle.nd_session.specs.declared.session.Session.TheInside.{Inside}
 use Rattle.nd_session.specs.State.{State}
 use Rattle.nd_model.specs.Footprint.{Effects, effects_of}
 use Rattle.nd_session.specs.Changes.{ended}
-use Rattle.nd_session.specs.Seen.{Seen}
+use Rattle.nd_trace.specs.Seen.{Seen}
 use Rattle.nd_session.specs.Live.{running_of}
 
 -- the state of a trace over some names and blocks
@@ -23,10 +22,6 @@ traced t names blocks next = record {
   lengths = t.lengths;
   used = t.used;
 }
-
--- a trace alone
-abbrev pub trace_of : Seen → running.Running
-trace_of t = running_of (traced t [] [] 0)
 
 abbrev pub state_of : Inside → State
 state_of s = traced s.trace s.heap.names s.heap.blocks s.next

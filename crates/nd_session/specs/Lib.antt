@@ -1,15 +1,10 @@
-pub mod Values
-pub mod Contents
 pub mod State
 pub mod Live
-pub mod Seen
-pub mod Events
+pub mod Listed
 pub mod Kept
 pub mod Fields
 pub mod Intact
-pub mod Placing
 pub mod Reads
 pub mod Reading
-pub mod Patching
 pub mod Changes
 pub mod Noted

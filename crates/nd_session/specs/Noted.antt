@@ -4,8 +4,8 @@ use Rattle.nd_model.specs.Beside.{Readings}
 use Rattle.nd_model.specs.Running.{Event, is_touched}
 use Rattle.nd_model.specs.Session.{Names}
 use Rattle.nd_session.specs.Changes.{ChangesData, events_in, is_bound}
-use Rattle.nd_session.specs.Events.{name_of_event}
-use Rattle.nd_session.specs.Live.{is_among}
+use Rattle.nd_trace.specs.Events.{name_of_event}
+use Rattle.nd_trace.specs.Marked.{is_among}
 
 -- what was noted is noted still
 pub record StaysNoted (old new : Readings) : Type 0 where

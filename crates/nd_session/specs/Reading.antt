@@ -5,14 +5,14 @@ use Rattle.std.specs.declared.rc.Rc.{Rc}
 use Rattle.nd_marks.specs.Marks.{Places}
 use Rattle.nd_model.specs.Value as model
 use Rattle.nd_model.specs.Running.{Source}
-use Rattle.nd_session.specs.declared.input.Input.{Input}
+use Rattle.nd_input.specs.declared.input.Input.{Input}
 use Rattle.nd_heap.specs.declared.value.Base.{Base}
 use Rattle.nd_heap.specs.declared.value.Value.{Value}
 use Rattle.nd_session.specs.declared.reads.BytesRead.{BytesRead}
 use Rattle.nd_session.specs.declared.reads.Reads.TheInside.{Inside}
 use Rattle.nd_heap.specs.Contents.{bytes_in}
 use Rattle.nd_heap.specs.Values.{base_of, value_of}
-use Rattle.nd_session.specs.Values.{source_of}
+use Rattle.nd_input.specs.Values.{source_of}
 use Rattle.nd_session.specs.Reads.{ReadsData}
 
 -- entries by their texts, and by their bases

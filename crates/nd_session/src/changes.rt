@@ -7,20 +7,20 @@ ghost use Rattle.nd_model.specs.Value as values;
 ghost use Rattle.nd_session.specs.Changes.{bases_in, ended, events_in, is_bound, writes_in};
 ghost use Rattle.nd_session.specs.Fields.{effects_over};
 ghost use Rattle.nd_heap.specs.Contents.{bases_of, blocks_of};
-ghost use Rattle.nd_session.specs.Contents.{marks_of};
-ghost use Rattle.nd_session.specs.Events.{event_of};
+ghost use Rattle.nd_trace.specs.Contents.{marks_of};
+ghost use Rattle.nd_trace.specs.Events.{event_of};
 ghost use Rattle.nd_heap.specs.Live.{is_base_among};
-ghost use Rattle.nd_session.specs.Live.{is_marked, live};
-ghost use Rattle.nd_session.specs.Patching.{has_marks};
+ghost use Rattle.nd_trace.specs.Marked.{is_marked};
+ghost use Rattle.nd_session.specs.Live.{live};
+ghost use Rattle.nd_trace.specs.Patching.{has_marks};
 ghost use Rattle.nd_heap.specs.Values.{base_of};
 
-use crate::marking::Footprint;
 use crate::matching::{are_among, are_same_events, are_written_among};
 use crate::redo::replay;
 use crate::session::Session;
-use crate::trace::{Event, Trace};
 use indexmap::IndexMap;
 use nd_heap::{Base, Bases, Blocks, Heap, OutOfMemory};
+use nd_trace::{Event, Footprint, Trace};
 use std::alloc::Global;
 use std::marker::Model;
 
@@ -42,8 +42,8 @@ impl Model for Changes {
 
     ghost use Rattle.std.specs.Prelude.{map};
     ghost use Rattle.nd_heap.specs.Contents.{blocks_of};
-    ghost use Rattle.nd_session.specs.Contents.{marks_of};
-    ghost use Rattle.nd_session.specs.Events.{event_of};
+    ghost use Rattle.nd_trace.specs.Contents.{marks_of};
+    ghost use Rattle.nd_trace.specs.Events.{event_of};
 
     ghost view = { λ c. record {
       label = c.label;
@@ -131,13 +131,16 @@ fn keep(alloc: Global, trace: &Trace, heap: &Heap, next: u64) -> Result<Changes,
     ensures writes { IfOk result (λ c. (b : values.Base) (p : ℕ) → writes_in c b p
         ≡ (effects_over trace.now heap.now.blocks).writes b p) }
 {
-    let mut bases = own_bases(alloc, trace.label, &trace.events)?;
-    note_marked(&mut bases, &trace.written)?;
+    let label = trace.label();
+    let done = trace.events();
+    let marked = trace.written_bytes();
+    let mut bases = own_bases(alloc, label, done)?;
+    note_marked(&mut bases, marked)?;
     let kept = heap.pick_blocks(alloc, &bases)?;
-    let events = copy_events(alloc, &trace.events)?;
-    let written = copy_marks(alloc, &trace.written)?;
+    let events = copy_events(alloc, done)?;
+    let written = copy_marks(alloc, marked)?;
     Ok(Changes {
-        label: trace.label,
+        label,
         next,
         events,
         written,

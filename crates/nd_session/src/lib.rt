@@ -2,30 +2,24 @@
 #![tactic(auto)]
 
 ghost use Rattle.nd_session.specs.State.{State};
-ghost use Rattle.nd_session.specs.Seen.{IsListed};
+ghost use Rattle.nd_session.specs.Listed.{IsListed};
 
 mod changes;
-mod input;
-mod input_name;
-mod marking;
 mod matching;
 mod overlay;
 mod readings;
 mod reads;
 mod redo;
 mod session;
-mod trace;
 mod version;
-mod writer;
 
 pub use changes::Changes;
-pub use input::{Input, Inputs, has_input, with_input, without_input};
-pub use input_name::is_input_name;
 pub use nd_heap::{Array, Base, BlockWriter, OutOfMemory, Value};
+pub use nd_input::{Input, Inputs, has_input, is_input_name, with_input, without_input};
+pub use nd_trace::{Event, Trace};
 pub use readings::Readings;
 pub use reads::Reads;
 pub use session::Session;
-pub use trace::{Event, Trace};
 pub use version::Version;
 
 /// What a session has read and written is what its trace lists.

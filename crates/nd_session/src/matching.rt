@@ -5,16 +5,15 @@ ghost use Rattle.nd_marks.specs.Marks.{holds};
 ghost use Rattle.nd_model.specs.Value as values;
 ghost use Rattle.nd_session.specs.Changes.{written_by};
 ghost use Rattle.nd_heap.specs.Contents.{blocks_of};
-ghost use Rattle.nd_session.specs.Contents.{marks_of};
-ghost use Rattle.nd_session.specs.Events.{event_of};
+ghost use Rattle.nd_trace.specs.Contents.{marks_of};
+ghost use Rattle.nd_trace.specs.Events.{event_of};
 ghost use Rattle.nd_heap.specs.Live.{bytes_at};
-ghost use Rattle.nd_session.specs.Live.{is_marked};
+ghost use Rattle.nd_trace.specs.Marked.{is_marked};
 ghost use Rattle.nd_heap.specs.Values.{base_of};
 
-use crate::marking::Footprint;
-use crate::trace::Event;
 use nd_heap::{Base, Blocks, bytes_of};
 use nd_marks::Marks;
+use nd_trace::{Event, Footprint};
 
 /// Whether the events are the same, in the same order.
 pub(crate) fn are_same_events(one: &[Event], other: &[Event]) -> bool

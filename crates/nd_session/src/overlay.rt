@@ -8,12 +8,12 @@ ghost use Rattle.nd_model.specs.Running.{is_touched};
 ghost use Rattle.nd_model.specs.Value as values;
 ghost use Rattle.nd_heap.specs.Values.{value_of};
 ghost use Rattle.nd_session.specs.Changes.{events_in, writes_in};
-ghost use Rattle.nd_session.specs.Events.{event_of};
+ghost use Rattle.nd_trace.specs.Events.{event_of};
 
 use crate::changes::{Changes, are_own};
-use crate::trace::Event;
 use indexmap::IndexMap;
 use nd_heap::{Base, Heap, OutOfMemory, Value};
+use nd_trace::Event;
 use nd_types::Num;
 use std::alloc::Global;
 use std::rc::Rc;

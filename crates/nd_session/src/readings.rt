@@ -4,16 +4,16 @@ ghost use Rattle.std.specs.Prelude.{◌≡◌, ◌↔◌, ℕ, Contains, IsTrue,
 ghost use Rattle.nd_model.specs.Running as running;
 ghost use Rattle.nd_model.specs.Session as model;
 ghost use Rattle.nd_session.specs.Changes.{events_in};
-ghost use Rattle.nd_session.specs.Events.{event_of};
+ghost use Rattle.nd_trace.specs.Events.{event_of};
 ghost use Rattle.nd_session.specs.Kept.{version_of};
-ghost use Rattle.nd_session.specs.Live.{is_among};
+ghost use Rattle.nd_trace.specs.Marked.{is_among};
 ghost use Rattle.nd_session.specs.Noted.{AreUnread, StaysNoted, has_bound, has_noted};
 
 use crate::changes::Changes;
-use crate::trace::Event;
 use crate::version::Version;
 use indexmap::IndexSet;
 use nd_heap::OutOfMemory;
+use nd_trace::Event;
 use std::alloc::Global;
 use std::marker::Model;
 

@@ -7,19 +7,17 @@ ghost use Rattle.nd_model.specs.Session as session;
 ghost use Rattle.nd_model.specs.Value as values;
 ghost use Rattle.nd_session.specs.Changes.{changed};
 ghost use Rattle.nd_heap.specs.Contents.{blocks_of};
-ghost use Rattle.nd_session.specs.Contents.{marks_of};
-ghost use Rattle.nd_session.specs.Events.{event_of};
+ghost use Rattle.nd_trace.specs.Contents.{marks_of};
+ghost use Rattle.nd_trace.specs.Events.{event_of};
 ghost use Rattle.nd_heap.specs.Live.{bytes_at};
-ghost use Rattle.nd_session.specs.Patching.{writes_of};
+ghost use Rattle.nd_trace.specs.Patching.{writes_of};
 ghost use Rattle.nd_heap.specs.Loose.{session_in};
 ghost use Rattle.nd_heap.specs.Values.{base_of};
 
 use crate::changes::Changes;
-use crate::marking::Footprint;
-use crate::trace::Event;
-use crate::writer::MarkedBytes;
 use nd_block::RawBlock;
 use nd_heap::{Base, Blocks, Heap, OutOfMemory, bytes_of};
+use nd_trace::{Event, Footprint, MarkedBytes};
 use std::rc::Rc;
 
 /// Binds and unbinds as the events do.

@@ -1,8 +1,6 @@
 // Sessions.
 
-ghost use Rattle.std.specs.Prelude.{◌≡◌, ◌+◌, ◌<◌, ◌≤◌, ◌^◌, [], IfOk, IsFalse, IsTrue, OnOk, ◌↔◌, option_map, string_bytes, length};
-ghost use Rattle.std.specs.List.{zip};
-ghost use Rattle.nd_model.specs.Tuple.{count_up};
+ghost use Rattle.std.specs.Prelude.{◌≡◌, ◌+◌, ◌<◌, ◌≤◌, ◌^◌, [], IfOk, IsFalse, IsTrue, OnOk, ◌↔◌, option_map, string_bytes};
 ghost use Rattle.nd_model.specs.Session as model;
 ghost use Rattle.nd_model.specs.Running as running;
 ghost use Rattle.nd_model.specs.Footprint.{HasNone, replayed};
@@ -15,21 +13,18 @@ ghost use Rattle.nd_heap.specs.Contents.{bytes_in};
 ghost use Rattle.nd_heap.specs.Values.{base_of, geo_of, value_of};
 ghost use Rattle.nd_session.specs.Live.{live};
 ghost use Rattle.nd_session.specs.Kept.{thawed, version_of};
-ghost use Rattle.nd_session.specs.Fields.{trace_of};
-ghost use Rattle.nd_session.specs.Seen.{seen_of};
+ghost use Rattle.nd_session.specs.Listed.{seen_of};
 ghost use Rattle.nd_model.specs.Storing.{having_written, having_block};
 
 use crate::changes::Changes;
 use crate::overlay::blank;
 use crate::redo::redo;
-use crate::trace::{Event, Trace};
 use crate::version::Version;
-use crate::writer::PlacedBytes;
-use indexmap::{IndexMap, IndexSet};
 use nd_block::RawBlock;
 use nd_heap::{Array, Base, BlockWriter, Heap, OutOfMemory, Value};
+use nd_trace::{Event, Trace};
 use nd_types::ElemType;
-use std::alloc::{AllocError, Global};
+use std::alloc::Global;
 use std::marker::Model;
 use std::mem::replace;
 use std::rc::{Rc, RcStr};
@@ -59,34 +54,6 @@ impl Model for Session {
     ghost invariant = { IsIntact };
 }
 
-/// The trace of a cell of this label that has read and done nothing.
-fn new_trace(alloc: Global, label: u64) -> Trace
-    ensures { trace_of result ≡ running.start label model.no_session }
-{
-    Trace {
-        label,
-        events: Vec::new(alloc),
-        touched: IndexSet::new(alloc),
-        written: IndexMap::new(alloc),
-        looked: IndexSet::new(alloc),
-        asked: IndexSet::new(alloc),
-        lengths: IndexSet::new(alloc),
-        used: IndexMap::new(alloc),
-    }
-}
-
-/// The places from the first one on.
-fn places_from(alloc: Global, first: u64, count: u64) -> Result<Vec<u64>, AllocError>
-    requires { first + count ≤ 2 ^ 64 }
-    ensures { IfOk result (λ v. v.items ≡ count_up first count) }
-{
-    let mut places = Vec::new(alloc);
-    for i in 0..count {
-        places.push(first + i)?;
-    }
-    Ok(places)
-}
-
 impl Session {
     /// A session with no names, as a cell of label 0 begins.
     pub fn new(alloc: Global) -> Result<Session, OutOfMemory>
@@ -95,7 +62,7 @@ impl Session {
         let heap = Heap::new(alloc)?;
         Ok(Session {
             heap,
-            trace: new_trace(alloc, 0),
+            trace: Trace::new(alloc, 0),
             next: 0,
             alloc,
         })
@@ -113,7 +80,7 @@ impl Session {
             ≡ running.start label (running.session_of (live self.old))) }
     {
         self.heap.collect()?;
-        self.trace = new_trace(self.alloc, label);
+        self.trace = Trace::new(self.alloc, label);
         self.next = 0;
         Ok(())
     }
@@ -140,7 +107,7 @@ impl Session {
     pub fn share(&self, base: Base) -> Result<Option<Rc<RawBlock>>, OutOfMemory>
         ensures { IfOk result (λ o. bytes_in o ≡ (live self.now).bytes (base_of base)) }
     {
-        self.heap.share(base)
+        self.heap.share_block(base)
     }
 
     /// The bytes of a block that some bound value lies in, none where there is no such block. It notes nothing.
@@ -249,24 +216,6 @@ impl Session {
         Ok(())
     }
 
-    /// Writes the bytes of one element from a place on. Those past the end of the block are passed over.
-    pub fn store(&mut self, base: Base, place: u64, bytes: &[u8]) -> Result<(), OutOfMemory>
-        requires { place + length bytes.now ≤ 2 ^ 64 }
-        ensures { OnOk result (live self.new
-            ≡ running.done (running.Storing (base_of base)
-            (zip (count_up place (length bytes.now)) bytes.now)) (live self.old)) }
-    {
-        let count = bytes.len() as u64;
-        let places = places_from(self.alloc, place, count)?;
-        self.trace.write_run(self.alloc, base, place, count)?;
-        let writer = PlacedBytes {
-            places: &places,
-            bytes,
-        };
-        self.heap.write(base, writer)?;
-        Ok(())
-    }
-
     /// Makes a block. Its base has the running cell's label and the next number.
     #[tactic(auto, unfolding(crate::specs::Live::live))]
     pub fn new_block(&mut self, block: RawBlock) -> Result<Base, OutOfMemory>
@@ -349,7 +298,7 @@ impl Session {
             ≡ record { label = (live self.now).label; number = (live self.now).next } }
     {
         Base {
-            label: self.trace.label,
+            label: self.trace.label(),
             number: self.next,
         }
     }
@@ -362,7 +311,7 @@ impl Session {
         let heap = version.heap.try_clone()?;
         Ok(Session {
             heap,
-            trace: new_trace(alloc, version.label),
+            trace: Trace::new(alloc, version.label),
             next: version.next,
             alloc,
         })
@@ -428,7 +377,7 @@ impl Session {
         let nothing = Heap::new(self.alloc)?;
         let mut heap = replace(&mut self.heap, nothing);
         redo(&mut heap, changes)?;
-        self.trace = new_trace(self.alloc, changes.label);
+        self.trace = Trace::new(self.alloc, changes.label);
         self.next = changes.next;
         self.heap = heap;
         Ok(())

@@ -4,7 +4,7 @@
 ghost use Rattle.std.specs.Prelude.{◌≡◌, ◌+◌, ◌<◌, ◌^◌, IfOk};
 ghost use Rattle.nd_session.specs.Live.{live};
 
-use crate::sessions::{BASE, FrontByte, begun_session, bind_array};
+use crate::sessions::{BASE, PlacedByte, begun_session, bind_array, store_byte};
 use nd_block::RawBlock;
 use nd_session::{Array, OutOfMemory, Session, Value};
 use nd_types::Num;
@@ -92,8 +92,8 @@ fn make_call(alloc: Global, session: &mut Session, call: Call) -> Result<(), Out
         Call::Ask => session.ask("file"),
         Call::MarkUsed => mark(session, false),
         Call::MarkWritten => mark(session, true),
-        Call::Store => session.store(BASE, 8, &[7]),
-        Call::Write => session.write(BASE, FrontByte { byte: 9 }),
+        Call::Store => store_byte(session, 8, 7),
+        Call::Write => session.write(BASE, PlacedByte { place: 0, byte: 9 }),
         Call::NewBlock => make_block(alloc, session),
         Call::Bind => bind_number(alloc, session),
         Call::Unbind => session.unbind("y"),

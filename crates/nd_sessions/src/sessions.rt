@@ -1,7 +1,6 @@
 //! Each call of a session once, where memory is there.
 
-ghost use Rattle.std.specs.Prelude.{◌≡◌, [], ◌∷◌, IfOk, OnOk};
-ghost use Rattle.nd_model.specs.Session as model;
+ghost use Rattle.std.specs.Prelude.{◌≡◌, IfOk, OnOk, slice_set};
 ghost use Rattle.nd_model.specs.Sound.{IsHeldView, IsViewOf};
 ghost use Rattle.nd_session.specs.Live.{live};
 ghost use Rattle.nd_heap.specs.Values.{value_of};
@@ -33,22 +32,35 @@ pub(crate) fn begun_session(alloc: Global) -> Result<Session, OutOfMemory>
     }
 }
 
-/// Writes one byte at the front of a block.
+/// Writes one byte at its place, where the block has one there.
 #[derive(Drop)]
-pub(crate) struct FrontByte {
+pub(crate) struct PlacedByte {
+    pub(crate) place: usize,
     pub(crate) byte: u8,
 }
 
-impl BlockWriter for FrontByte {
-    ghost use Rattle.nd_session.specs.Placing.{length-put};
+impl BlockWriter for PlacedByte {
+    ghost use Rattle.std.proofs.lemmas.List.{length-set};
 
-    ghost written = { λ w bytes. model.put ((0, w.byte) ∷ []) bytes };
+    ghost written = { λ w bytes. slice_set bytes w.place w.byte };
 
     fn write(self, block: &mut RawBlock) {
-        block.put(&[0], &[self.byte]);
+        let PlacedByte { place, byte } = self;
+        if place < block.len() {
+            block.as_mut_slice()[place] = byte;
+        }
     }
 
-    ghost keeps_length = { λ w bytes. length-put ((0, w.byte) ∷ []) bytes };
+    ghost keeps_length = { λ w bytes. length-set bytes w.place w.byte };
+}
+
+/// Notes that the byte at the place is written, and writes it.
+pub(crate) fn store_byte(session: &mut Session, place: u16, byte: u8) -> Result<(), OutOfMemory>
+    ensures { OnOk result ((live session.new).next ≡ (live session.old).next) }
+{
+    let elem = ElemType::One(Elem::little(Kind::U8));
+    session.mark_written_element(BASE, u64::from(place), &elem)?;
+    session.write(BASE, PlacedByte { place: usize::from(place), byte })
 }
 
 /// Binds a name to a value that lies in the session.
@@ -89,9 +101,9 @@ fn describe_writes(
     before: &Version,
     array: &Array,
 ) -> Result<String, OutOfMemory> {
-    session.store(array.base, 8, &[7, 0])?;
+    store_byte(session, 8, 7)?;
     session.mark_written(array)?;
-    session.write(array.base, FrontByte { byte: 9 })?;
+    session.write(array.base, PlacedByte { place: 0, byte: 9 })?;
     session.mark_used(array)?;
     let mut thawed = Session::thaw(alloc, before)?;
     let text = describe_thawed(alloc, session, before, &mut thawed, array.base);
@@ -107,7 +119,7 @@ fn describe_thawed(
     thawed: &mut Session,
     base: Base,
 ) -> Result<String, OutOfMemory> {
-    thawed.write(base, FrontByte { byte: 5 })?;
+    thawed.write(base, PlacedByte { place: 0, byte: 5 })?;
     let (all, kept) = (session.bytes(base), before.bytes(base));
     let thawed = thawed.bytes(base);
     format!(in alloc; "all: {all:?}, kept: {kept:?}, thawed: {thawed:?}").map_err(OutOfMemory::from)
@@ -195,7 +207,7 @@ fn describe_trace(alloc: Global, session: &mut Session) -> Result<String, OutOfM
     bind_array(alloc, session)?;
     let is_found = is_found(session, "x")? && is_found(session, "other")?;
     session.ask("file")?;
-    session.store(BASE, 8, &[7])?;
+    store_byte(session, 8, 7)?;
     let trace = session.seen();
     let (name, input, base) = (trace.name(0), trace.input(0), trace.base(0).is_some());
     let (is_bound, is_more) = (trace.event(0).is_some(), trace.event(1).is_some());

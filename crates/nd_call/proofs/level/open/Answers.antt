@@ -4,7 +4,7 @@ use Rattle.nd_read.specs.Gives.{tokens_of}
 use Rattle.nd_call.proofs.level.open.Goals as goal
 
 pub returns-then-levels-eq0-clause-read : goal.returns-then-levels-eq0-clause-read
-returns-then-levels-eq0-clause-read c = rw c.shut.ensures (enter_shut c.args.levels c.args.set (λ _. token c.args.set) c.args.tokens.now c.if-levels-eq0.true)
+returns-then-levels-eq0-clause-read c = rw c.refuse.ensures (enter_shut c.args.levels c.args.set (λ _. token c.args.set) c.args.tokens.now c.if-levels-eq0.true)
 
 pub returns-clause-read : goal.returns-clause-read
 returns-clause-read c = rw (enter_in c.args.levels c.args.set (λ _. token c.args.set) (tokens_of c.args.tokens.now) c.if-levels-eq0.false) c.in_ok-rest.ensures

@@ -5,7 +5,7 @@ use Rattle.nd_model.specs.Running.{Running, session_of}
 use Rattle.nd_model.specs.Session.{collected}
 use Rattle.nd_session.specs.Kept.{version_of}
 use Rattle.nd_session.specs.Live.{live}
-use Rattle.nd_session.specs.Values.{inputs_of}
+use Rattle.nd_input.specs.Values.{inputs_of}
 use Rattle.nd_cell.specs.Records.{recorded}
 use Rattle.nd_cell.specs.Results.{ended_of}
 use Rattle.nd_cell.proofs.Recording.{collected_start, ends_run, recorded_run, sound_now}

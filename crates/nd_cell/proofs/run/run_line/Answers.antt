@@ -1,7 +1,7 @@
 use Rattle.std.proofs.Common.{◌∙◌, ap, string_bytes}
 use Rattle.nd_model.specs.Cell.{statement}
 use Rattle.nd_syntax.specs.Syntax.{stmt_of}
-use Rattle.nd_session.specs.Values.{inputs_of}
+use Rattle.nd_input.specs.Values.{inputs_of}
 use Rattle.nd_session.specs.Live.{live}
 use Rattle.nd_eval.specs.Done.{outcome_of, output_of}
 use Rattle.nd_cell.specs.Results.{saves_of}

@@ -8,4 +8,4 @@ returns c =
     let g = c.args.view.now in
     let size = c.size.ensures.value ∙ ap item_size c.elem.ensures in
     let made = zeros_bytes g.element g.shape c.count.result c.size.result c.count.ensures.elements size in
-    rw (← made) c.zeroed.ensures
+    rw (← made) c.zeros.ensures

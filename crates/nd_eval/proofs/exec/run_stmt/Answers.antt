@@ -5,7 +5,7 @@ use Rattle.nd_model.specs.Running.{Running, Effect, Output}
 use Rattle.nd_model.specs.Cell.{had}
 use Rattle.nd_model.specs.Fault.{Fault}
 use Rattle.nd_syntax.specs.Syntax.{stmt_of}
-use Rattle.nd_session.specs.Values.{inputs_of}
+use Rattle.nd_input.specs.Values.{inputs_of}
 use Rattle.nd_session.specs.Live.{live}
 use Rattle.nd_eval.specs.Effects.{effect_of}
 use Rattle.nd_eval.proofs.Bounds.{next_done, next_ended}

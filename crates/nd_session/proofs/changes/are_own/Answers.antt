@@ -1,8 +1,8 @@
 use Rattle.std.proofs.Common.{◌≡◌, ◌∙◌, true, nat_eq, ap, sym, add-one, arith}
 use Rattle.std.proofs.lemmas.Bool.Decides.{nat_tests}
 use Rattle.std.proofs.lemmas.List.{take_all}
-use Rattle.nd_session.specs.Contents.{marks_of}
-use Rattle.nd_session.specs.Patching.{has_marks}
+use Rattle.nd_trace.specs.Contents.{marks_of}
+use Rattle.nd_trace.specs.Patching.{has_marks}
 use Rattle.nd_session.proofs.Retaining.{own_more}
 use Rattle.nd_session.proofs.changes.are_own.Goals as goal
 

@@ -1,5 +1,5 @@
 use Rattle.std.proofs.Common.{◌≡◌, ◌++◌, map, drop}
-use Rattle.nd_session.specs.Events.{event_of}
+use Rattle.nd_trace.specs.Events.{event_of}
 use Rattle.nd_session.proofs.changes.copy_events.Given as goal
 
 abbrev pub invariant-loop-event : goal.invariant-loop-event

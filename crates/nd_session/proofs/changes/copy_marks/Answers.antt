@@ -1,8 +1,8 @@
 use Rattle.std.proofs.Common.{◌≡◌, ◌∙◌, ◌-◌, suc, ap, sym, drop, arith}
 use Rattle.std.proofs.lemmas.List.{drop_all}
-use Rattle.nd_session.specs.Contents.{marks_of}
-use Rattle.nd_session.specs.Live.{is_marked}
-use Rattle.nd_session.proofs.Places.{marked_from}
+use Rattle.nd_trace.specs.Contents.{marks_of}
+use Rattle.nd_trace.specs.Marked.{is_marked}
+use Rattle.nd_trace.proofs.Places.{marked_from}
 use Rattle.nd_session.proofs.changes.copy_marks.Goals as goal
 
 pub loop-i-init : goal.loop-i-init

@@ -1,7 +1,7 @@
 use Rattle.std.proofs.Common.{◌≡◌, ℕ, drop}
 use Rattle.nd_model.specs.Value as values
-use Rattle.nd_session.specs.Contents.{marks_of}
-use Rattle.nd_session.specs.Live.{is_marked}
+use Rattle.nd_trace.specs.Contents.{marks_of}
+use Rattle.nd_trace.specs.Marked.{is_marked}
 use Rattle.nd_session.proofs.changes.copy_marks.Given as goal
 
 abbrev pub invariant-loop-i : goal.invariant-loop-i

@@ -1,6 +1,6 @@
 use Rattle.std.proofs.Common.{◌≡◌, Some, List, true, false, bytes_eq, map, take, subst, sym, ap, ◌∙◌}
 use Rattle.nd_model.specs.Running as running
-use Rattle.nd_session.specs.Events.{event_of, name_of_event}
+use Rattle.nd_trace.specs.Events.{event_of, name_of_event}
 use Rattle.nd_session.proofs.Last.{IsLast, events_more, last_is, last_stays}
 use Rattle.nd_session.proofs.changes.last_of.Goals as goal
 use Rattle.nd_session.proofs.changes.last_of.Goals.{then-eq, else-eq}

@@ -1,5 +1,5 @@
 use Rattle.std.proofs.Common.{map, take}
-use Rattle.nd_session.specs.Events.{event_of}
+use Rattle.nd_trace.specs.Events.{event_of}
 use Rattle.nd_session.proofs.Last.{IsLast}
 use Rattle.nd_session.proofs.changes.last_of.Given as goal
 

@@ -1,9 +1,9 @@
 use Rattle.std.proofs.Common.{◌∙◌, ◌||◌, ap, sym, add-one, arith}
 use Rattle.std.proofs.lemmas.List.{take_all}
 use Rattle.nd_heap.specs.Contents.{bases_of}
-use Rattle.nd_session.specs.Contents.{marks_of}
+use Rattle.nd_trace.specs.Contents.{marks_of}
 use Rattle.nd_heap.specs.Live.{is_base_among}
-use Rattle.nd_session.specs.Patching.{has_marks}
+use Rattle.nd_trace.specs.Patching.{has_marks}
 use Rattle.nd_session.proofs.Retaining.{marked_more}
 use Rattle.nd_session.proofs.changes.note_marked.Goals as goal
 

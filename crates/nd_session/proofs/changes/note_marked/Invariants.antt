@@ -1,9 +1,9 @@
 use Rattle.std.proofs.Common.{◌≡◌, ◌||◌, take}
 use Rattle.nd_model.specs.Value as values
 use Rattle.nd_heap.specs.Contents.{bases_of}
-use Rattle.nd_session.specs.Contents.{marks_of}
+use Rattle.nd_trace.specs.Contents.{marks_of}
 use Rattle.nd_heap.specs.Live.{is_base_among}
-use Rattle.nd_session.specs.Patching.{has_marks}
+use Rattle.nd_trace.specs.Patching.{has_marks}
 use Rattle.nd_session.proofs.changes.note_marked.Given as goal
 
 abbrev pub invariant-loop-i : goal.invariant-loop-i

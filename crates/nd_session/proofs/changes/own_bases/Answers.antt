@@ -2,7 +2,7 @@ use Rattle.std.proofs.Common.{◌∙◌, ap, map}
 use Rattle.nd_model.specs.Session.{is_held}
 use Rattle.nd_model.specs.Footprint.{replayed}
 use Rattle.nd_heap.specs.Contents.{bases_of}
-use Rattle.nd_session.specs.Events.{event_of}
+use Rattle.nd_trace.specs.Events.{event_of}
 use Rattle.nd_heap.specs.Live.{is_base_among}
 use Rattle.nd_session.proofs.Retaining.{own_kept}
 use Rattle.nd_session.proofs.changes.own_bases.Goals as goal

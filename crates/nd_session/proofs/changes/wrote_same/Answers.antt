@@ -1,7 +1,7 @@
 use Rattle.std.proofs.Common.{◌≡◌, ◌∙◌, ap, sym, inl, inr}
 use Rattle.nd_session.specs.Changes.{ChangesData, writes_in, written_by}
 use Rattle.nd_heap.specs.Contents.{blocks_of}
-use Rattle.nd_session.specs.Contents.{marks_of}
+use Rattle.nd_trace.specs.Contents.{marks_of}
 use Rattle.nd_session.proofs.changes.wrote_same.Goals as goal
 
 pub returns : goal.returns

@@ -1,11 +1,11 @@
 use Rattle.std.proofs.Common.{◌∙◌, ap, sym, arith}
 use Rattle.nd_session.specs.Changes.{written_by}
 use Rattle.nd_heap.specs.Contents.{blocks_of}
-use Rattle.nd_session.specs.Contents.{marks_of}
+use Rattle.nd_trace.specs.Contents.{marks_of}
 use Rattle.nd_heap.specs.Values.{base_of}
 use Rattle.nd_session.proofs.Alike.{IsWrittenAmong, all_written, written_here}
 use Rattle.nd_heap.proofs.Entries.{all_more, all_of}
-use Rattle.nd_session.proofs.Places.{found_marks, found_marked}
+use Rattle.nd_trace.proofs.Places.{found_marks, found_marked}
 use Rattle.nd_session.proofs.matching.are_written_among.Goals as goal
 
 pub loop-i-init : goal.loop-i-init

@@ -1,6 +1,6 @@
 use Rattle.nd_session.specs.Changes.{written_by}
 use Rattle.nd_heap.specs.Contents.{blocks_of}
-use Rattle.nd_session.specs.Contents.{marks_of}
+use Rattle.nd_trace.specs.Contents.{marks_of}
 use Rattle.nd_session.proofs.Alike.{IsWrittenAmong}
 use Rattle.nd_heap.proofs.Entries.{AllBefore}
 use Rattle.nd_session.proofs.matching.are_written_among.Given as goal

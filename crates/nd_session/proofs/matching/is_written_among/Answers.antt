@@ -1,6 +1,6 @@
 use Rattle.std.proofs.Common.{◌∙◌, ap, slice_index, sym}
 use Rattle.nd_marks.specs.Marks.{holds}
-use Rattle.nd_session.proofs.Places.{found_marks, found_marked}
+use Rattle.nd_trace.proofs.Places.{found_marks, found_marked}
 use Rattle.nd_session.proofs.matching.is_written_among.Goals as goal
 
 pub returns-clause-places : goal.returns-clause-places

@@ -1,7 +1,7 @@
 use Rattle.std.proofs.Common.{◌≡◌, map, drop}
 use Rattle.nd_model.specs.Footprint.{replayed}
 use Rattle.nd_model.specs.Overlay.{blanks}
-use Rattle.nd_session.specs.Events.{event_of}
+use Rattle.nd_trace.specs.Events.{event_of}
 use Rattle.nd_session.proofs.overlay.blank.Given as goal
 
 abbrev pub invariant-loop-event : goal.invariant-loop-event

@@ -1,5 +1,5 @@
 use Rattle.std.proofs.Common.{◌≡◌, map, drop}
-use Rattle.nd_session.specs.Events.{event_of}
+use Rattle.nd_trace.specs.Events.{event_of}
 use Rattle.nd_session.specs.Noted.{has_noted}
 use Rattle.nd_session.proofs.readings.touches_noted.Given as goal
 

@@ -1,6 +1,6 @@
 use Rattle.std.proofs.Common.{◌≡◌, ◌∙◌, ap, sym, refl, arith, string_bytes}
 use Rattle.nd_session.specs.Reading.{source_at}
-use Rattle.nd_session.specs.Values.{inputs_of}
+use Rattle.nd_input.specs.Values.{inputs_of}
 use Rattle.nd_session.proofs.Agreeing.{IsUnchanged, false_true}
 use Rattle.nd_heap.proofs.Entries.{all_more, all_of}
 use Rattle.nd_session.proofs.Reading.{text_all, text_entry}

@@ -1,9 +1,9 @@
 use Rattle.std.proofs.Common.{◌≡◌, ℕ, cond, ◌&&◌, take, slice_index, Some, None}
 use Rattle.nd_model.specs.Value as values
-use Rattle.nd_session.specs.Contents.{marks_of}
+use Rattle.nd_trace.specs.Contents.{marks_of}
 use Rattle.nd_session.specs.Kept.{version_of}
 use Rattle.nd_heap.specs.Live.{is_base_among}
-use Rattle.nd_session.specs.Live.{is_marked}
+use Rattle.nd_trace.specs.Marked.{is_marked}
 use Rattle.nd_session.specs.Reading.{by_base, bytes_of}
 use Rattle.nd_session.specs.Reads.{lookup_base, byte_at}
 use Rattle.nd_session.proofs.Reading.{marked_bases}

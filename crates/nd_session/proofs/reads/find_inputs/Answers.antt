@@ -1,6 +1,6 @@
 use Rattle.std.proofs.Common.{add-one}
 use Rattle.nd_session.specs.Reading.{by_text, source_at}
-use Rattle.nd_session.specs.Values.{inputs_of}
+use Rattle.nd_input.specs.Values.{inputs_of}
 use Rattle.nd_session.proofs.Reading.{text_noted}
 use Rattle.nd_session.proofs.reads.find_inputs.Goals as goal
 

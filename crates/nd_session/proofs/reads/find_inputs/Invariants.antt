@@ -1,8 +1,8 @@
 use Rattle.std.proofs.Common.{◌≡◌, ℕ, List, cond, map, take, Some, None, string_bytes}
 use Rattle.nd_model.specs.Session as model
-use Rattle.nd_session.specs.Live.{is_among}
+use Rattle.nd_trace.specs.Marked.{is_among}
 use Rattle.nd_session.specs.Reading.{by_text, source_at}
-use Rattle.nd_session.specs.Values.{inputs_of}
+use Rattle.nd_input.specs.Values.{inputs_of}
 use Rattle.nd_session.proofs.reads.find_inputs.Given as goal
 
 abbrev pub invariant-loop-name : goal.invariant-loop-name

@@ -1,7 +1,7 @@
 use Rattle.std.proofs.Common.{◌≡◌, ℕ, List, cond, map, take, Some, None, string_bytes}
 use Rattle.nd_model.specs.Session as model
 use Rattle.nd_session.specs.Kept.{version_of}
-use Rattle.nd_session.specs.Live.{is_among}
+use Rattle.nd_trace.specs.Marked.{is_among}
 use Rattle.nd_session.specs.Reading.{by_text, value_at}
 use Rattle.nd_session.proofs.reads.find_names.Given as goal
 

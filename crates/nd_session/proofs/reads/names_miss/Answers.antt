@@ -4,7 +4,7 @@ use Rattle.nd_model.specs.Running.{is_touched}
 use Rattle.nd_model.specs.Session.{lookup}
 use Rattle.nd_heap.specs.declared.value.Value.{Value}
 use Rattle.nd_heap.proofs.Entries.{all_more, all_of}
-use Rattle.nd_session.specs.Events.{event_of}
+use Rattle.nd_trace.specs.Events.{event_of}
 use Rattle.nd_session.specs.Reading.{by_text, value_at}
 use Rattle.nd_session.proofs.Overlaying.{something}
 use Rattle.nd_session.proofs.Reading.{text_all}

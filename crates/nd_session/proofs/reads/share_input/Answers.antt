@@ -1,5 +1,5 @@
 use Rattle.std.proofs.Common.{◌∙◌, ap, Some}
-use Rattle.nd_session.specs.Values.{source_of}
+use Rattle.nd_input.specs.Values.{source_of}
 use Rattle.nd_session.proofs.reads.share_input.Goals as goal
 
 pub returns-in_ok-clone-in-Some : goal.returns-in_ok-clone-in-Some

@@ -5,13 +5,13 @@ use Rattle.nd_model.specs.Footprint.{patched}
 use Rattle.nd_marks.specs.Marks.{Places}
 use Rattle.nd_heap.specs.declared.value.Base.{Base}
 use Rattle.nd_heap.specs.Contents.{blocks_of}
-use Rattle.nd_session.specs.Contents.{marks_of}
+use Rattle.nd_trace.specs.Contents.{marks_of}
 use Rattle.nd_heap.specs.Live.{bytes_at}
-use Rattle.nd_session.specs.Patching.{has_marks}
-use Rattle.nd_session.specs.Patching.{writes_of, marked_of}
+use Rattle.nd_trace.specs.Patching.{has_marks}
+use Rattle.nd_trace.specs.Patching.{writes_of, marked_of}
 use Rattle.nd_heap.specs.Values.{base_of}
 use Rattle.nd_model.specs.Running as running
-use Rattle.nd_session.proofs.Places.{found_marks, found_marked}
+use Rattle.nd_trace.proofs.Places.{found_marks, found_marked}
 use Rattle.nd_session.proofs.Redoing.{patched_other, patched_own, patched_all}
 use Rattle.nd_session.proofs.redo.patch.Goals as goal
 use Rattle.nd_session.proofs.redo.patch.Goals.{then-base-label+in_ok-write, else-base-label}

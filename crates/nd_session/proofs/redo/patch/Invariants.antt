@@ -2,10 +2,10 @@ use Rattle.std.proofs.Common.{◌≡◌, cond, nat_eq, take}
 use Rattle.nd_model.specs.Footprint.{patched}
 use Rattle.nd_model.specs.Value as values
 use Rattle.nd_heap.specs.Contents.{blocks_of}
-use Rattle.nd_session.specs.Contents.{marks_of}
+use Rattle.nd_trace.specs.Contents.{marks_of}
 use Rattle.nd_heap.specs.Live.{bytes_at}
-use Rattle.nd_session.specs.Patching.{has_marks}
-use Rattle.nd_session.specs.Patching.{writes_of}
+use Rattle.nd_trace.specs.Patching.{has_marks}
+use Rattle.nd_trace.specs.Patching.{writes_of}
 use Rattle.nd_session.proofs.redo.patch.Given as goal
 
 abbrev pub invariant-loop-i : goal.invariant-loop-i

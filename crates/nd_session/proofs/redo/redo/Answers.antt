@@ -4,10 +4,10 @@ use Rattle.nd_model.specs.Running as running
 use Rattle.nd_model.specs.Footprint.{replayed, HasNone}
 use Rattle.nd_session.specs.Changes.{ChangesData, changed}
 use Rattle.nd_heap.specs.Contents.{blocks_of}
-use Rattle.nd_session.specs.Contents.{marks_of}
-use Rattle.nd_session.specs.Events.{event_of}
+use Rattle.nd_trace.specs.Contents.{marks_of}
+use Rattle.nd_trace.specs.Events.{event_of}
 use Rattle.nd_heap.specs.Live.{bytes_at}
-use Rattle.nd_session.specs.Live.{is_marked}
+use Rattle.nd_trace.specs.Marked.{is_marked}
 use Rattle.nd_session.proofs.Redoing.{redone}
 use Rattle.nd_session.proofs.redo.redo.Goals as goal
 

@@ -18,7 +18,7 @@ use Rattle.nd_syntax.specs.declared.tree.Suffix.{Suffix}
 use Rattle.nd_syntax.specs.declared.tree.Element.{Element}
 use Rattle.nd_syntax.specs.declared.tree.IndexItem.{IndexItem}
 use Rattle.nd_heap.specs.Values.{value_of}
-use Rattle.nd_session.specs.Values.{inputs_of}
+use Rattle.nd_input.specs.Values.{inputs_of}
 use Rattle.nd_session.specs.Live.{live}
 use Rattle.nd_eval.proofs.Bounds.{few_of_items, step_more, list_others, next_behind, next_item_parts, next_bound, next_value, next_values, next_at_suffix}
 use Rattle.nd_eval.proofs.Calls.{filled_first, filled_parts, full_first, full_follows, list_first, list_parts, stretched_first}

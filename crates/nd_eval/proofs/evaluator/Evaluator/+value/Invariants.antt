@@ -7,7 +7,7 @@ use Rattle.nd_model.specs.Tokens.{tokens_of_all, tokens_of_items, tokens_of_othe
 use Rattle.nd_syntax.specs.Lists.{operation_of}
 use Rattle.nd_syntax.specs.Syntax.{element_of, expr_of, item_of, suffix_of}
 use Rattle.nd_heap.specs.Values.{value_of}
-use Rattle.nd_session.specs.Values.{inputs_of}
+use Rattle.nd_input.specs.Values.{inputs_of}
 use Rattle.nd_session.specs.Live.{live}
 use Rattle.nd_eval.specs.Ends.{Stays}
 use Rattle.nd_eval.specs.Parts.{exprs_in, exprs_of_element, items_parts, items_then, values, values_behind, values_then}

@@ -9,7 +9,7 @@ use Rattle.nd_model.specs.Operation.{do_deed, store_in}
 use Rattle.nd_model.specs.Writing.{assign_to, assignment_writes, may_be_written, target_of}
 use Rattle.nd_heap.specs.declared.value.Value.{Value}
 use Rattle.nd_heap.specs.Values.{base_of, geo_of, value_of}
-use Rattle.nd_session.specs.Values.{inputs_of}
+use Rattle.nd_input.specs.Values.{inputs_of}
 use Rattle.nd_session.specs.Live.{live}
 use Rattle.nd_operation.specs.Contents.{operand_of, unused_of}
 use Rattle.nd_choice.specs.Indexing.{operands_of, viewing_of}

@@ -6,7 +6,7 @@ use Rattle.nd_model.specs.Operand.{Unused, BindsFirst}
 use Rattle.nd_model.specs.Operation.{act_on}
 use Rattle.nd_syntax.specs.Syntax.{expr_of}
 use Rattle.nd_heap.specs.Values.{value_of}
-use Rattle.nd_session.specs.Values.{inputs_of}
+use Rattle.nd_input.specs.Values.{inputs_of}
 use Rattle.nd_session.specs.Live.{live}
 use Rattle.nd_eval.proofs.Held.{value_held}
 use Rattle.nd_eval.proofs.Chains.{exits, goes}

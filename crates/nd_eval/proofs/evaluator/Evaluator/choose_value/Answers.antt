@@ -4,7 +4,7 @@ use Rattle.nd_model.specs.Operand.{Unused}
 use Rattle.nd_model.specs.Operation.{choose_of, with_value}
 use Rattle.nd_model.specs.Viewing.{choose_of_first}
 use Rattle.nd_heap.specs.Values.{value_of}
-use Rattle.nd_session.specs.Values.{inputs_of}
+use Rattle.nd_input.specs.Values.{inputs_of}
 use Rattle.nd_session.specs.Live.{live}
 use Rattle.nd_operation.specs.Contents.{unused_of}
 use Rattle.nd_choice.specs.Indexing.{chosen_of, operands_of, viewing_of}

@@ -7,7 +7,7 @@ use Rattle.nd_model.specs.Running.{Running, Use, after}
 use Rattle.nd_model.specs.Operand.{AnArray}
 use Rattle.nd_model.specs.Operation.{fresh_array}
 use Rattle.nd_heap.specs.Values.{base_of, geo_of, value_of}
-use Rattle.nd_session.specs.Values.{inputs_of}
+use Rattle.nd_input.specs.Values.{inputs_of}
 use Rattle.nd_session.specs.Live.{live}
 use Rattle.nd_operation.specs.Contents.{contents_over}
 use Rattle.nd_eval.proofs.Chains.{ends_alike}

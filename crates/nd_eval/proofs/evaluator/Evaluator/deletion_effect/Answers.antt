@@ -4,7 +4,7 @@ use Rattle.nd_model.specs.Evaluation.{run}
 use Rattle.nd_model.specs.Operand.{Unused, Unbinds}
 use Rattle.nd_model.specs.Operation as operation
 use Rattle.nd_heap.specs.Values.{value_of}
-use Rattle.nd_session.specs.Values.{inputs_of}
+use Rattle.nd_input.specs.Values.{inputs_of}
 use Rattle.nd_session.specs.Live.{live}
 use Rattle.nd_eval.proofs.Chains.{goes}
 use Rattle.nd_eval.proofs.Parts.{deletion_parts}

@@ -11,7 +11,7 @@ use Rattle.nd_model.specs.Content.{number_at}
 use Rattle.nd_model.specs.Operation as operation
 use Rattle.nd_types.specs.Types.{type_of}
 use Rattle.nd_heap.specs.Values.{base_of}
-use Rattle.nd_session.specs.Values.{inputs_of}
+use Rattle.nd_input.specs.Values.{inputs_of}
 use Rattle.nd_session.specs.Live.{live}
 use Rattle.nd_operation.proofs.Decoding.{used_alone}
 use Rattle.nd_eval.proofs.evaluator.Evaluator.element_value.Goals as goal

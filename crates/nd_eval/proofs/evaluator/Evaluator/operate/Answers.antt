@@ -4,7 +4,7 @@ use Rattle.nd_model.specs.Operand.{Whole}
 use Rattle.nd_model.specs.Operation.{give, use_operand}
 use Rattle.nd_heap.specs.Values.{value_of}
 use Rattle.nd_heap.specs.declared.value.Value.TheVariants.{Number}
-use Rattle.nd_session.specs.Values.{inputs_of}
+use Rattle.nd_input.specs.Values.{inputs_of}
 use Rattle.nd_session.specs.Live.{live}
 use Rattle.nd_operation.specs.Contents.{number_made, operand_of}
 use Rattle.nd_operation.specs.OfTwo.{made_of_two}

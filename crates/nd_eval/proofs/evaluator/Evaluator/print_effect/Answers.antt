@@ -4,7 +4,7 @@ use Rattle.nd_model.specs.Evaluation.{Gives}
 use Rattle.nd_model.specs.Operation.{act_on}
 use Rattle.nd_model.specs.Printing.{print_deed, printed_line}
 use Rattle.nd_syntax.specs.Syntax.{expr_of}
-use Rattle.nd_session.specs.Values.{inputs_of}
+use Rattle.nd_input.specs.Values.{inputs_of}
 use Rattle.nd_session.specs.Live.{live}
 use Rattle.nd_operation.specs.Contents.{operand_of}
 use Rattle.nd_eval.specs.Contents.{values_of}

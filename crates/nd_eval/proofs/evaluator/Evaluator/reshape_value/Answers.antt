@@ -5,7 +5,7 @@ use Rattle.nd_model.specs.Viewing.{Reshaped, choose_of_first}
 use Rattle.nd_heap.specs.declared.value.Array.{Array}
 use Rattle.nd_heap.specs.declared.value.Value.TheVariants as values
 use Rattle.nd_heap.specs.Values.{geo_of, value_of}
-use Rattle.nd_session.specs.Values.{inputs_of}
+use Rattle.nd_input.specs.Values.{inputs_of}
 use Rattle.nd_session.specs.Live.{live}
 use Rattle.nd_operation.specs.Contents.{unused_of}
 use Rattle.nd_choice.specs.Shapes.{choice_of}

@@ -1,5 +1,5 @@
 use Rattle.nd_syntax.specs.Syntax.{expr_of, index_of}
-use Rattle.nd_session.specs.Values.{inputs_of}
+use Rattle.nd_input.specs.Values.{inputs_of}
 use Rattle.nd_eval.proofs.Quiet.{quiet_binding, quiet_assignment}
 use Rattle.nd_eval.proofs.evaluator.Evaluator.stmt_effect.Goals as goal
 

@@ -8,7 +8,7 @@ use Rattle.nd_model.specs.Evaluation.{Gives}
 use Rattle.nd_model.specs.Value as model
 use Rattle.nd_heap.specs.declared.value.Value.TheVariants.{Array}
 use Rattle.nd_heap.specs.Values.{base_of, value_of}
-use Rattle.nd_session.specs.Values.{inputs_of}
+use Rattle.nd_input.specs.Values.{inputs_of}
 use Rattle.nd_session.specs.Live.{live}
 use Rattle.nd_operation.specs.Contents.{unused_of}
 use Rattle.nd_eval.proofs.Chains.{ends_alike, exits_making, goes_making}

@@ -1,7 +1,7 @@
 use Rattle.std.proofs.Common.{map, refl, sym, ap, ◌∙◌}
 use Rattle.nd_model.specs.ShapeChoices.{stretch_to}
 use Rattle.nd_heap.specs.Values.{value_of}
-use Rattle.nd_session.specs.Values.{inputs_of}
+use Rattle.nd_input.specs.Values.{inputs_of}
 use Rattle.nd_session.specs.Live.{live}
 use Rattle.nd_operation.specs.Contents.{operand_of, unused_of}
 use Rattle.nd_eval.proofs.Chains.{ends_alike}

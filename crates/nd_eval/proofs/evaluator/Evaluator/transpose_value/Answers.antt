@@ -3,7 +3,7 @@ use Rattle.nd_model.specs.Operand.{AView}
 use Rattle.nd_model.specs.Operation.{choose_of}
 use Rattle.nd_model.specs.Viewing.{Transposed, choose_of_first}
 use Rattle.nd_heap.specs.Values.{value_of}
-use Rattle.nd_session.specs.Values.{inputs_of}
+use Rattle.nd_input.specs.Values.{inputs_of}
 use Rattle.nd_session.specs.Live.{live}
 use Rattle.nd_operation.specs.Contents.{unused_of}
 use Rattle.nd_eval.proofs.Calls.{view_parts}

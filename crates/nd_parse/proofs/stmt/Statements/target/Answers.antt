@@ -22,4 +22,4 @@ returns g c =
     let one = pair_reads trailing_of c.in_ok-operand.operand c.trailing.result _ c.in_ok-array.array (c.in_ok-array.before, c.in_ok-array.last) c.in_ok-array.rest c.in_ok-array.ensures c.trailing.ensures in
     target_ends c.args.levels (tokens_of c.args.tokens.now) (tokens_of c.in_ok-operand.rest.now) (tokens_of c.in_ok-array.rest.now)
     (expr_of c.in_ok-operand.operand) (suffixes_of c.in_ok-array.before) (index_of c.in_ok-array.last) c.in_ok-operand.ensures one.0
-    ∙ ap (λ e. Ok ((e, index_of c.in_ok-array.last), tokens_of c.in_ok-array.rest.now)) (ap (λ a. suffixed (expr_of a) (suffixes_of c.in_ok-array.before)) (sym one.1) ∙ sym c.in_ok-postfixed.ensures)
+    ∙ ap (λ e. Ok ((e, index_of c.in_ok-array.last), tokens_of c.in_ok-array.rest.now)) (ap (λ a. suffixed (expr_of a) (suffixes_of c.in_ok-array.before)) (sym one.1) ∙ sym c.in_ok-with_suffixes.ensures)

@@ -1,7 +1,7 @@
 use Rattle.nd_model.specs.Reading.{reading}
 use Rattle.nd_model.specs.Running.{session_of}
 use Rattle.nd_session.specs.Live.{live}
-use Rattle.nd_session.specs.Values.{inputs_of}
+use Rattle.nd_input.specs.Values.{inputs_of}
 use Rattle.nd_cell.specs.Records.{recorded}
 use Rattle.nd_rerun.proofs.Sessions.{after_over, made_over, none_uncollected}
 use Rattle.nd_rerun.proofs.kernel.KernelCells.run.Goals as goal

@@ -14,7 +14,7 @@ use Rattle.nd_rule.proofs.operators.Rules.+lists.Goals as goal
 
 pub list-returns-then-levels-eq0 : goal.list-returns-then-levels-eq0
 unfolding list
-list-returns-then-levels-eq0 g t c = rw c.shut.ensures (enter_shut c.args.levels _ _ c.args.tokens.now c.if-levels-eq0.true)
+list-returns-then-levels-eq0 g t c = rw c.refuse.ensures (enter_shut c.args.levels _ _ c.args.tokens.now c.if-levels-eq0.true)
 
 pub list-returns : goal.list-returns
 list-returns g t c = rw (steps.list_is c.args.levels (tokens_of c.args.tokens.now) c.if-levels-eq0.false) c.listed.ensures

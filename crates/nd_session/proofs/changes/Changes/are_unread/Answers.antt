@@ -1,7 +1,7 @@
 use Rattle.std.proofs.Common.{◌∙◌, ap, map, not, subst}
 use Rattle.std.specs.Prelude.{◌↔◌, IsTrue}
 use Rattle.nd_session.specs.Changes.{ChangesData}
-use Rattle.nd_session.specs.Events.{event_of}
+use Rattle.nd_trace.specs.Events.{event_of}
 use Rattle.nd_session.specs.Noted.{AreUnread, has_noted}
 use Rattle.nd_session.proofs.Gathering.{unread_answer}
 use Rattle.nd_session.proofs.changes.Changes.are_unread.Goals as goal

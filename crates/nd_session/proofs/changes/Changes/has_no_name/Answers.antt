@@ -1,6 +1,6 @@
 use Rattle.std.proofs.Common.{◌∙◌, ap, map}
 use Rattle.nd_session.specs.Changes.{events_in}
-use Rattle.nd_session.specs.Events.{event_of}
+use Rattle.nd_trace.specs.Events.{event_of}
 use Rattle.nd_session.specs.Kept.{version_of}
 use Rattle.nd_session.proofs.Gathering.{bound_answer}
 use Rattle.nd_session.proofs.changes.Changes.has_no_name.Goals as goal

@@ -4,8 +4,8 @@ use Rattle.nd_marks.specs.Marks.{Places}
 use Rattle.nd_heap.specs.declared.value.Base.{Base}
 use Rattle.nd_session.specs.Changes.{ChangesData, writes_in}
 use Rattle.nd_heap.specs.Contents.{blocks_of}
-use Rattle.nd_session.specs.Contents.{marks_of}
-use Rattle.nd_session.specs.Events.{event_of}
+use Rattle.nd_trace.specs.Contents.{marks_of}
+use Rattle.nd_trace.specs.Events.{event_of}
 use Rattle.nd_session.proofs.Overlaying.{unmarked, unwritten}
 use Rattle.nd_session.proofs.changes.Changes.is_apart.Goals as goal
 

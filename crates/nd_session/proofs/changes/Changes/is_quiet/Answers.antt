@@ -1,8 +1,8 @@
 use Rattle.std.proofs.Common.{◌∙◌, ap, sym, map}
 use Rattle.nd_session.specs.Changes.{ChangesData, writes_in}
 use Rattle.nd_heap.specs.Contents.{blocks_of}
-use Rattle.nd_session.specs.Contents.{marks_of}
-use Rattle.nd_session.specs.Events.{event_of}
+use Rattle.nd_trace.specs.Contents.{marks_of}
+use Rattle.nd_trace.specs.Events.{event_of}
 use Rattle.nd_session.proofs.Retaining.{none_written}
 use Rattle.nd_session.proofs.changes.Changes.is_quiet.Goals as goal
 

@@ -1,7 +1,8 @@
 use Rattle.std.proofs.Common.{◌∙◌, ap}
 use Rattle.nd_session.specs.Fields.{effects_over}
 use Rattle.nd_session.specs.Live.{live}
-use Rattle.nd_session.specs.Seen.{Seen, seen_of}
+use Rattle.nd_trace.specs.Seen.{Seen}
+use Rattle.nd_session.specs.Listed.{seen_of}
 use Rattle.nd_session.specs.State.{State}
 use Rattle.nd_session.proofs.changes.Changes.new.Goals as goal
 

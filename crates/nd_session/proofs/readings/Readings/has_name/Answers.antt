@@ -1,7 +1,7 @@
 use Rattle.std.proofs.Common.{◌∙◌, ap, sym}
 use Rattle.nd_model.specs.Beside.{Readings}
-use Rattle.nd_session.specs.Live.{is_among}
-use Rattle.nd_session.proofs.Traces.{found_text}
+use Rattle.nd_trace.specs.Marked.{is_among}
+use Rattle.nd_trace.proofs.Traces.{found_text}
 use Rattle.nd_session.proofs.readings.Readings.has_name.Goals as goal
 
 pub returns : goal.returns

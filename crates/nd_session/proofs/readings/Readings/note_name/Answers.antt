@@ -2,7 +2,7 @@ use Rattle.std.proofs.Common.{◌∙◌, map, string_bytes, subst, sym}
 use Rattle.std.specs.Prelude.{Contains}
 use Rattle.nd_model.specs.Beside.{Readings}
 use Rattle.nd_session.proofs.Gathering.{name_last, name_there}
-use Rattle.nd_session.proofs.Traces.{found_text}
+use Rattle.nd_trace.proofs.Traces.{found_text}
 use Rattle.nd_session.proofs.readings.Readings.note_name.Goals as goal
 
 pub returns-then-contains-clause-noted : goal.returns-then-contains-clause-noted

@@ -4,7 +4,7 @@ use Rattle.nd_model.specs.Running as running
 use Rattle.nd_session.specs.Live.{live}
 use Rattle.nd_session.specs.Reading.{reads_of}
 use Rattle.nd_session.specs.Reads.{ReadsData}
-use Rattle.nd_session.specs.Values.{inputs_of}
+use Rattle.nd_input.specs.Values.{inputs_of}
 use Rattle.nd_session.proofs.Agreeing.{Agreed, false_true, agreeing, agree_names, agree_inputs, agree_lengths, agree_bytes}
 use Rattle.nd_session.proofs.reads.Reads.agree.Goals as goal
 

@@ -2,9 +2,9 @@ use Rattle.std.proofs.Common.{◌∙◌, ap, cond, length, slice_index, Some, No
 use Rattle.nd_model.specs.Session as model
 use Rattle.nd_session.specs.Kept.{version_of}
 use Rattle.nd_heap.specs.Live.{is_base_among}
-use Rattle.nd_session.specs.Live.{is_among, is_marked}
+use Rattle.nd_trace.specs.Marked.{is_among, is_marked}
 use Rattle.nd_session.specs.Reading.{reads_of}
-use Rattle.nd_session.specs.Values.{inputs_of}
+use Rattle.nd_input.specs.Values.{inputs_of}
 use Rattle.nd_session.proofs.Keeping.{kept_keys, kept_found}
 use Rattle.nd_session.proofs.reads.Reads.new.Goals as goal
 

@@ -1,7 +1,8 @@
 use Rattle.std.proofs.Common.{◌≡◌, ◌∙◌, ap, subst, sym, string_bytes}
 use Rattle.std.specs.Rc.{rc_str_bytes}
 use Rattle.nd_model.specs.Running as running
-use Rattle.nd_session.specs.Fields.{state_of, trace_of}
+use Rattle.nd_session.specs.Fields.{state_of}
+use Rattle.nd_trace.specs.Traced.{trace_of}
 use Rattle.nd_heap.specs.Live.{bytes_at}
 use Rattle.nd_session.specs.Live.{live}
 use Rattle.nd_session.specs.State.{State}

@@ -3,8 +3,8 @@ use Rattle.nd_model.specs.Footprint.{replayed}
 use Rattle.nd_model.specs.Overlay.{blanks}
 use Rattle.nd_heap.specs.Live.{bytes_at}
 use Rattle.nd_heap.proofs.Bases.{not_ok}
-use Rattle.nd_session.specs.Events.{event_of}
-use Rattle.nd_session.specs.Fields.{trace_of}
+use Rattle.nd_trace.specs.Events.{event_of}
+use Rattle.nd_trace.specs.Traced.{trace_of}
 use Rattle.nd_session.specs.Live.{live}
 use Rattle.nd_session.proofs.Intact.{same_lie}
 use Rattle.nd_session.proofs.Overlaying.{with_blanks}

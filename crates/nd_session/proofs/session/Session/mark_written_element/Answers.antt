@@ -1,7 +1,7 @@
 use Rattle.std.proofs.Common.{◌∙◌, ap}
 use Rattle.nd_model.specs.View.{element_places}
 use Rattle.nd_types.specs.Types.{type_of}
-use Rattle.nd_session.specs.Fields.{trace_of}
+use Rattle.nd_trace.specs.Traced.{trace_of}
 use Rattle.nd_heap.specs.Live.{bytes_at}
 use Rattle.nd_session.specs.Live.{live}
 use Rattle.nd_session.specs.State.{State}

@@ -1,6 +1,6 @@
 use Rattle.std.proofs.Common.{ap}
 use Rattle.nd_model.specs.Session as model
-use Rattle.nd_session.specs.Fields.{trace_of}
+use Rattle.nd_trace.specs.Traced.{trace_of}
 use Rattle.nd_heap.specs.Live.{bytes_at}
 use Rattle.nd_session.specs.Live.{live}
 use Rattle.nd_session.proofs.Sessions.{begun}
@@ -8,5 +8,5 @@ use Rattle.nd_session.proofs.session.Session.new.Goals as goal
 
 pub returns : goal.returns
 unfolding live
-returns c = begun 0 (trace_of c.new_trace.result) c.in_ok-heap.heap.names (bytes_at c.in_ok-heap.heap.blocks) model.no_session
-    c.new_trace.ensures c.in_ok-heap.ensures.names (λ b. ap (λ bs. bytes_at bs b) c.in_ok-heap.ensures.blocks)
+returns c = begun 0 (trace_of c.new-2.result) c.in_ok-heap.heap.names (bytes_at c.in_ok-heap.heap.blocks) model.no_session
+    c.new-2.ensures c.in_ok-heap.ensures.names (λ b. ap (λ bs. bytes_at bs b) c.in_ok-heap.ensures.blocks)

@@ -23,13 +23,13 @@ invariant_of-self-2 c =
     let w = changed k (running.session_of (live (state_of c.self.inside))) in
     let is : model.collected s ≡ w = c.in_ok-redo.ensures.session ∙ ap (λ (h : HeapData). changed k (session_in h)) c.replace-heap.ensures.value in
     let sound : IsSound (going_on k (running.session_of (live (state_of c.self.inside)))) = subst (λ (s : State). IsSound (going_on k (running.session_of (live s)))) (sym c.self.view_is) c.requires.sound in
-    let label : c.new_trace.result.label ≡ c.changes.inside.label = ap (λ r. r.label) c.new_trace.ensures in
+    let label : c.new-2.result.label ≡ c.changes.inside.label = ap (λ r. r.label) c.new-2.ensures in
     subst (λ (l : ℕ). AllLie l c.changes.inside.next bytes names) (sym label)
     (subst (λ (k : ChangesData). AllLie k.label k.next bytes names) (sym c.changes.view_is) (with_changes k.label k.next s w is sound))
 
 pub returns-clause-cell : goal.returns-clause-cell
 unfolding live
-returns-clause-cell c = ap (λ (r : running.Running). record r { next = c.changes.inside.next }) c.new_trace.ensures
+returns-clause-cell c = ap (λ (r : running.Running). record r { next = c.changes.inside.next }) c.new-2.ensures
     ∙ ap (λ (k : ChangesData). record (running.start k.label model.no_session) { next = k.next }) c.changes.view_is
 
 pub returns-in_err-redo-clause-names : goal.returns-in_err-redo-clause-names

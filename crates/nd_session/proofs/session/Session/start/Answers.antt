@@ -3,7 +3,8 @@ use Rattle.nd_model.specs.Session as model
 use Rattle.nd_model.specs.Running as running
 use Rattle.nd_model.specs.Footprint.{HasNone}
 use Rattle.nd_session.specs.Intact.{AllLie}
-use Rattle.nd_session.specs.Fields.{trace_of, state_of}
+use Rattle.nd_trace.specs.Traced.{trace_of}
+use Rattle.nd_session.specs.Fields.{state_of}
 use Rattle.nd_heap.specs.Live.{bytes_at}
 use Rattle.nd_session.specs.Live.{live}
 use Rattle.nd_session.specs.State.{State}
@@ -15,15 +16,15 @@ use Rattle.nd_session.proofs.session.Session.start.Goals as goal
 pub returns : goal.returns
 unfolding live
 returns c =
-    begun c.args.label (trace_of c.new_trace.result) c.collect.new.self.names (bytes_at c.collect.new.self.blocks) (running.session_of (live (state_of c.self.inside)))
-    c.new_trace.ensures c.collect.ensures.names c.in_ok-collect.ensures.ok
+    begun c.args.label (trace_of c.new.result) c.collect.new.self.names (bytes_at c.collect.new.self.blocks) (running.session_of (live (state_of c.self.inside)))
+    c.new.ensures c.collect.ensures.names c.in_ok-collect.ensures.ok
     ∙ ap (λ (s : State). running.start c.args.label (running.session_of (live s))) c.self.view_is
 
 pub invariant_of-self-2 : goal.invariant_of-self-2
 unfolding live
 invariant_of-self-2 c =
     let s = running.session_of (live (state_of c.self.inside)) in
-    let label : c.new_trace.result.label ≡ c.args.label = ap (λ r. r.label) c.new_trace.ensures in
+    let label : c.new.result.label ≡ c.args.label = ap (λ r. r.label) c.new.ensures in
     let none : HasNone c.args.label s = subst (λ (s : State). HasNone c.args.label (running.session_of (live s))) (sym c.self.view_is) c.requires in
     subst (λ (l : ℕ). AllLie l 0 (bytes_at c.collect.new.self.blocks) c.collect.new.self.names) (sym label)
     (subst (λ (ns : model.Names). AllLie c.args.label 0 (bytes_at c.collect.new.self.blocks) ns) (sym c.collect.ensures.names)

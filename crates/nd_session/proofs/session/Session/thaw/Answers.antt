@@ -9,7 +9,7 @@ use Rattle.nd_session.proofs.session.Session.thaw.Goals as goal
 pub returns : goal.returns
 unfolding live
 returns c =
-    (λ i. record (c.new_trace.ensures i) {
+    (λ i. record (c.new.ensures i) {
       names = (c.in_ok-heap.ensures i).names;
       bytes = bytes_at (c.in_ok-heap.ensures i).blocks;
       next = c.version.inside.next;
@@ -19,5 +19,5 @@ pub invariant_of-result : goal.invariant_of-result
 invariant_of-result c =
     let next = c.version.inside.next in
     let h = c.in_ok-heap.heap in
-    subst (λ (l : ℕ). AllLie l next (bytes_at h.blocks) h.names) (sym (ap (λ r. r.label) c.new_trace.ensures))
+    subst (λ (l : ℕ). AllLie l next (bytes_at h.blocks) h.names) (sym (ap (λ r. r.label) c.new.ensures))
     (subst (λ (h : HeapData). AllLie c.version.inside.label next (bytes_at h.blocks) h.names) (sym c.in_ok-heap.ensures) c.version.invariant)

@@ -2,7 +2,7 @@ use Rattle.std.proofs.Common.{◌∙◌, ℕ, List, ap}
 use Rattle.nd_model.specs.Value.{Base}
 use Rattle.nd_model.specs.Running as running
 use Rattle.nd_model.specs.Storing.{having_block}
-use Rattle.nd_session.specs.Fields.{trace_of}
+use Rattle.nd_trace.specs.Traced.{trace_of}
 use Rattle.nd_heap.specs.Live.{bytes_at}
 use Rattle.nd_session.specs.Live.{live}
 use Rattle.nd_session.specs.State.{State}

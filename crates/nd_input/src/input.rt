@@ -1,0 +1,180 @@
+// Inputs.
+
+ghost use Rattle.std.specs.Prelude.{◌≡◌, ◌↔◌, IfOk, IsTrue, is_none, not, option_map};
+ghost use Rattle.nd_model.specs.Book.{size_of_input};
+ghost use Rattle.nd_model.specs.Session.{bind, unbind};
+ghost use Rattle.nd_input.specs.Values.{given_of, inputs_of, source_of};
+
+use indexmap::IndexMap;
+use nd_heap::OutOfMemory;
+use std::alloc::Global;
+use std::rc::{Rc, RcStr};
+
+/// What a cell may load: the bytes of an NPY file, or a strided buffer (PEP 3118).
+#[derive(Drop)]
+pub enum Input {
+    Npy(Vec<u8>),
+    /// Strides and the offset of the first element are counted in bytes.
+    Buffer {
+        format: String,
+        itemsize: u64,
+        shape: Vec<u64>,
+        strides: Vec<i64>,
+        offset: u64,
+        bytes: Vec<u8>,
+    },
+}
+
+/// The inputs of a notebook by name. A copy of them shares each name's text and its input.
+pub type Inputs = IndexMap<RcStr, Rc<Input>>;
+
+impl Input {
+    /// How many bytes it takes: its own, those of its format, and 8 for each length and stride.
+    pub fn size(&self) -> u128
+        ensures { result ≡ size_of_input (source_of self.now) }
+    {
+        match self {
+            Input::Npy(bytes) => bytes.len() as u128,
+            Input::Buffer {
+                format,
+                shape,
+                strides,
+                bytes,
+                ..
+            } => {
+                let numbers = shape.len() as u128 + strides.len() as u128;
+                bytes.len() as u128 + format.len() as u128 + 8 * numbers
+            }
+        }
+    }
+
+    /// The same input, with bytes of its own.
+    pub fn try_clone(&self, alloc: Global) -> Result<Input, OutOfMemory>
+        ensures { IfOk result (λ i. source_of i ≡ source_of self.now) }
+    {
+        match self {
+            Input::Npy(bytes) => Ok(Input::Npy(Vec::from_slice(alloc, bytes)?)),
+            Input::Buffer {
+                format,
+                itemsize,
+                shape,
+                strides,
+                offset,
+                bytes,
+            } => Ok(Input::Buffer {
+                format: String::from_str(alloc, format.as_str())?,
+                itemsize: *itemsize,
+                shape: Vec::from_slice(alloc, shape)?,
+                strides: Vec::from_slice(alloc, strides)?,
+                offset: *offset,
+                bytes: Vec::from_slice(alloc, bytes)?,
+            }),
+        }
+    }
+
+    /// Whether both are of one form, with the same numbers and the same bytes.
+    pub fn is_same(&self, other: &Input) -> bool
+        ensures { IsTrue result ↔ (source_of self.now ≡ source_of other.now) }
+    {
+        match (self, other) {
+            (Input::Npy(a), Input::Npy(b)) => a.as_slice() == b.as_slice(),
+            (
+                Input::Buffer {
+                    format: a_format,
+                    itemsize: a_itemsize,
+                    shape: a_shape,
+                    strides: a_strides,
+                    offset: a_offset,
+                    bytes: a_bytes,
+                },
+                Input::Buffer {
+                    format: b_format,
+                    itemsize: b_itemsize,
+                    shape: b_shape,
+                    strides: b_strides,
+                    offset: b_offset,
+                    bytes: b_bytes,
+                },
+            ) => {
+                if a_format.as_str() != b_format.as_str() {
+                    return false;
+                }
+                if *a_itemsize != *b_itemsize || *a_offset != *b_offset {
+                    return false;
+                }
+                if !are_same_axes(a_shape, b_shape, a_strides, b_strides) {
+                    return false;
+                }
+                a_bytes.as_slice() == b_bytes.as_slice()
+            }
+            _ => false,
+        }
+    }
+}
+
+/// Whether both have the same lengths and strides.
+fn are_same_axes(a_shape: &[u64], b_shape: &[u64], a_strides: &[i64], b_strides: &[i64]) -> bool
+    ensures { IsTrue result
+        ↔ ((a_shape.now ≡ b_shape.now) × (a_strides.now ≡ b_strides.now)) }
+{
+    if a_shape != b_shape {
+        return false;
+    }
+    a_strides == b_strides
+}
+
+/// The input of a name.
+pub fn find_input<'a>(inputs: &'a Inputs, name: &str) -> Option<&'a Rc<Input>>
+    ensures { option_map (λ x. source_of x.now.value) result
+        ≡ inputs_of inputs.now.entries name.now }
+{
+    inputs.get(name)
+}
+
+/// Whether both are the same input, or both are none.
+pub fn are_same_inputs(a: Option<&Rc<Input>>, b: Option<&Rc<Input>>) -> bool
+    ensures { IsTrue result ↔ (option_map (λ x. source_of x.now.value) a.entry
+        ≡ option_map (λ x. source_of x.now.value) b.entry) }
+{
+    match (a, b) {
+        (Some(a), Some(b)) => a.as_ref().is_same(b.as_ref()),
+        (None, None) => true,
+        _ => false,
+    }
+}
+
+/// Whether some input has the name.
+pub fn has_input(inputs: &Inputs, name: &str) -> bool
+    ensures { is_none (inputs_of inputs.now.entries name.now) ≡ not result }
+{
+    find_input(inputs, name).is_some()
+}
+
+/// The inputs with a copy of another one under a name, in the place of one that has it.
+pub fn with_input(
+    alloc: Global,
+    inputs: &Inputs,
+    name: &str,
+    input: &Input,
+) -> Result<Inputs, OutOfMemory>
+    ensures { IfOk result (λ all. given_of all.entries
+        ≡ bind name.now (source_of input.now) (given_of inputs.now.entries)) }
+{
+    let mut all = inputs.clone()?;
+    let key = RcStr::from_str(alloc, name)?;
+    let copy = input.try_clone(alloc)?;
+    let shared = Rc::new(alloc, copy)?;
+    all.insert(key, shared)?;
+    Ok(all)
+}
+
+/// The inputs without the one of a name.
+pub fn without_input(inputs: &Inputs, name: &str) -> Result<Inputs, OutOfMemory>
+    ensures { IfOk result (λ all. given_of all.entries
+        ≡ unbind name.now (given_of inputs.now.entries)) }
+{
+    let mut all = inputs.clone()?;
+    let _ = all.get_index_of(name);
+    all.shift_remove(name);
+    Ok(all)
+}

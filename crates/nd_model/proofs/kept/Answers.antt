@@ -1,5 +1,0 @@
-use Rattle.nd_model.proofs.Keeping.{kept}
-use Rattle.nd_model.proofs.kept.Goals as goal
-
-pub returns : goal.returns
-returns c = kept

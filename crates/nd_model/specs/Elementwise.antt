@@ -1,0 +1,82 @@
+-- NumPy's operators on arrays, element by element (NumPy user guide, "Broadcasting"; NEP 50): the kind of the result is that of the
+-- kinds of both, the shape is the common one, and each number is the operator's of the numbers at its tuple, wrapped to the kind.
+use Rattle.std.specs.Prelude.{ℕ, ℤ, Bool, true, false, not, List, Option, Some, None, Result, Ok, Err}
+use Rattle.std.specs.List.{list_any}
+use Rattle.nd_model.specs.Element.{Kind, Element, Boolean, wrap}
+use Rattle.nd_model.specs.Tuple.{indices}
+use Rattle.nd_model.specs.View.{ElementType, One, Structure}
+use Rattle.nd_model.specs.Content.{number_in}
+use Rattle.nd_model.specs.Syntax.{Negative, Invert}
+use Rattle.nd_model.specs.Fault.{Fault, Ufunc, NotNumbers, BoolOp, ShapeMismatch, NegativePower}
+use Rattle.nd_model.specs.Refusing.{◌>>=◌, when}
+use Rattle.nd_model.specs.Operand.{Operand, Plain, Elements, truth_number, shape_of, content_of}
+use Rattle.nd_model.specs.Operators.{BinaryUfunc, Single, Of, Sort, OfKind, sort_of, result_kind, is_power_below, is_zero, exact, exact_single}
+use Rattle.nd_model.specs.Broadcast.{broadcast, own_tuple, in_limits}
+
+-- numbers of one kind, one at each index tuple of a shape
+pub record Numbers : Type 0 where
+  pub kind : Kind
+  pub shape : List ℕ
+  pub number : List ℕ → ℤ
+
+-- the elements of a new array
+abbrev pub little : Kind → Element
+little k = record { kind = k; big = false }
+
+-- what an operand counts as beside another; a structure is no number
+abbrev pub element_sort : ElementType → Option Sort
+element_sort (One e) = Some (OfKind e.kind)
+element_sort (Structure fields size) = None
+
+abbrev pub operand_sort : Operand → Option Sort
+operand_sort (Plain n) = Some (sort_of n)
+operand_sort (Elements row g cs) = element_sort g.element
+
+-- the number of an operand that stands at an index tuple of the common shape
+abbrev pub number_beside : Operand → List ℕ → ℤ
+number_beside o t = number_in (content_of o (own_tuple (shape_of o) t))
+
+-- ---- of two operands
+
+abbrev pub binary_kind : BinaryUfunc → Option Sort → Option Sort → Result Kind Fault
+binary_kind f (Some a) (Some b) = result_kind f a b
+binary_kind f _ _ = Err (Ufunc NotNumbers)
+
+abbrev pub common_shape : Option (List ℕ) → Result (List ℕ) Fault
+common_shape None = Err (Ufunc ShapeMismatch)
+common_shape (Some shape) = Ok shape
+
+-- some exponent of a result is below zero
+abbrev pub has_power_below : BinaryUfunc → Operand → (shape : List ℕ) → Bool
+has_power_below f y shape = list_any (λ t. is_power_below f (number_beside y t)) (indices shape)
+
+abbrev pub binary_number : Kind → BinaryUfunc → Operand → Operand → List ℕ → ℤ
+binary_number k f x y t = wrap k (exact k f (number_beside x t) (number_beside y t))
+
+-- `x op y`, `np.minimum(x, y)`, `np.maximum(x, y)`
+abbrev pub binary_numbers : BinaryUfunc → Operand → Operand → Result Numbers Fault
+binary_numbers f x y = do
+  k ← binary_kind f (operand_sort x) (operand_sort y)
+  shape ← common_shape (broadcast (shape_of x) (shape_of y))
+  in_limits (One (little k)) shape
+      (when (not (has_power_below f y shape)) (Ufunc NegativePower)
+      (Ok (record { kind = k; shape = shape; number = binary_number k f x y })))
+
+-- ---- of one operand
+
+abbrev pub single_kind : Single → Option Sort → Result Kind Fault
+single_kind (Of Negative) (Some (OfKind Boolean)) = Err (Ufunc BoolOp)
+single_kind op (Some (OfKind k)) = Ok k
+single_kind op _ = Err (Ufunc NotNumbers)
+
+-- `~` of a Boolean is its contrary
+abbrev pub single_number : Single → Kind → ℤ → ℤ
+single_number (Of Invert) Boolean z = truth_number (is_zero z)
+single_number op k z = wrap k (exact_single op z)
+
+-- `-x`, `~x`, `abs(x)`, `np.abs(x)`
+abbrev pub single_numbers : Single → Operand → Result Numbers Fault
+single_numbers op x = do
+  k ← single_kind op (operand_sort x)
+  in_limits (One (little k)) (shape_of x)
+      (Ok (record { kind = k; shape = shape_of x; number = λ t. single_number op k (number_in (content_of x t)) }))

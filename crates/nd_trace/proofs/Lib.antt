@@ -1,0 +1,5 @@
+pub mod Places
+pub mod Noting
+pub mod Traces
+pub mod Touched
+pub mod Patches

@@ -1,0 +1,124 @@
+-- What traces stand for.
+use Rattle.std.proofs.Common.{◌≡◌, ℕ, Bool, true, false, not, ◌||◌, ◌&&◌, cond, nat_eq, bytes_eq, List, [], ◌∷◌, ◌++◌, map, string_bytes, String, None, slice_get, zero, suc, ◌≤◌, length, Global, ap, ap₂, ◌∙◌, sym, refl, arith}
+use mathlib.Core.Path.{fun_ext}
+use Rattle.std.specs.Prelude.{nat_lt, string_eq}
+use Rattle.std.specs.List.{list_any, IsDistinct, AllByRecursion}
+use Rattle.std.proofs.lemmas.Bool.Decides.{nat_tests, same_from_decides}
+use Rattle.std.proofs.lemmas.List.{map-append}
+use Rattle.std.proofs.lemmas.Slice.Eq.{bytes_eq-Decides}
+use Rattle.indexmap.specs.IndexSet.{insert_key}
+use Rattle.nd_marks.specs.Marks.{Places}
+use Rattle.nd_model.specs.Session.{is_in}
+use Rattle.nd_model.specs.Session as session
+use Rattle.nd_model.specs.Value as model
+use Rattle.nd_model.specs.Running.{Key, Name, Input, Length, Byte}
+use Rattle.nd_model.specs.Running as running
+use Rattle.nd_heap.specs.declared.value.Base.{Base}
+use Rattle.nd_heap.specs.Values.{base_of}
+use Rattle.nd_trace.specs.Seen.{Seen}
+use Rattle.nd_heap.specs.Live.{is_base_among}
+use Rattle.nd_trace.specs.Marked.{is_among, is_marked, is_read}
+use Rattle.nd_trace.specs.Traced.{trace_of}
+use Rattle.nd_heap.proofs.Bases.{base_eq, base_eq_sym}
+use Rattle.nd_trace.proofs.Noting.{noted, name_more, name_there, input_more, input_there, length_more, length_there, bytes_more}
+
+pub bytes_eq_sym : (m n : List ℕ) → bytes_eq m n ≡ bytes_eq n m
+bytes_eq_sym m n = same_from_decides (bytes_eq m n) (bytes_eq n m) (bytes_eq-Decides m n) (let d = bytes_eq-Decides n m in (λ h. sym (d.0 h), λ e. d.1 (sym e)))
+
+pub or_right : (x y : Bool) → y ≡ true → (x || y) ≡ true
+or_right true y h = refl
+or_right false y h = h
+
+-- a text is among the keys
+pub found_text : (n : List ℕ) (ks : List (String Global)) → is_among (map string_bytes ks) n ≡ list_any (λ k. bytes_eq n (string_bytes k)) ks
+found_text n [] = refl
+found_text n (k ∷ ks) = ap₂ (λ a b. a || b) (bytes_eq_sym (string_bytes k) n) (found_text n ks)
+
+pub found_base : (b : Base) (ks : List Base) → is_base_among (map base_of ks) (base_of b) ≡ list_any (base_eq b) ks
+found_base b [] = refl
+found_base b (k ∷ ks) = ap₂ (λ x y. x || y) (base_eq_sym k b) (found_base b ks)
+
+-- a key that is not there goes last
+pub text_more : (n : List ℕ) (k : String Global) (ks ls : List (String Global)) → string_bytes k ≡ n → list_any (λ k. bytes_eq n (string_bytes k)) ks ≡ false → ls ≡ insert_key string_eq ks k
+    → map string_bytes ls ≡ map string_bytes ks ++ n ∷ []
+text_more n k ks ls is new set =
+    let absent : list_any (string_eq k) ks ≡ false = ap (λ n. list_any (λ l. bytes_eq n (string_bytes l)) ks) is ∙ new in
+    ap (map string_bytes) (set ∙ ap (λ t. cond t ks (ks ++ k ∷ [])) absent) ∙ map-append string_bytes ks (k ∷ []) ∙ ap (λ n. map string_bytes ks ++ n ∷ []) is
+
+pub base_more : (b : Base) (ks ls : List Base) → list_any (base_eq b) ks ≡ false → ls ≡ insert_key base_eq ks b → map base_of ls ≡ map base_of ks ++ base_of b ∷ []
+base_more b ks ls new set = ap (map base_of) (set ∙ ap (λ t. cond t ks (ks ++ b ∷ [])) new) ∙ map-append base_of ks (b ∷ [])
+
+-- past the last
+none_at : {X Y : Type 0} (f : X → Y) (xs : List X) (i : ℕ) → length xs ≤ i → None ≡ slice_get (map f xs) i
+none_at f [] i h = refl
+none_at f (x ∷ xs) zero h = absurd (omega arith)
+none_at f (x ∷ xs) (suc i) h = none_at f xs i (omega arith)
+
+pub none_past : {X Y : Type 0} (f : X → Y) (xs ys : List X) (i : ℕ) → false ≡ nat_lt i (length ys) → ys ≡ xs → None ≡ slice_get (map f xs) i
+none_past f xs ys i past same = none_at f xs i (le_of (length xs) i (sym (past ∙ ap (λ ys. nat_lt i (length ys)) same)))
+  where
+    le_of : (n i : ℕ) → nat_lt i n ≡ false → n ≤ i
+    le_of n i h = grind (arith, nat_tests, h)
+
+-- nothing is read and done
+reads_none : (k : Key) → is_read [] [] [] [] k ≡ false
+reads_none (Name n) = refl
+reads_none (Input n) = refl
+reads_none (Length b) = refl
+reads_none (Byte b p) = refl
+
+pub nothing_seen : (t : Seen) → t.events ≡ [] → t.written ≡ [] → t.looked ≡ [] → t.asked ≡ [] → t.lengths ≡ [] → t.used ≡ [] → trace_of t ≡ running.start t.label session.no_session
+nothing_seen t events written looked asked lengths used =
+    (λ i. trace_of (record { label = t.label; events = events i; written = written i; looked = looked i; asked = asked i; lengths = lengths i; used = used i }))
+    ∙ ap (λ f. record (running.start t.label session.no_session) { read = f }) (fun_ext reads_none)
+
+-- each text once, each base once
+pub texts_once : (ks : List (String Global)) → IsDistinct string_eq ks → IsDistinct bytes_eq (map string_bytes ks)
+unfolding IsDistinct
+texts_once [] h = tt
+texts_once (k ∷ ks) h = (others ks h.0, texts_once ks h.1)
+  where
+    others : (ks : List (String Global)) → AllByRecursion (λ l. string_eq k l ≡ false) ks → AllByRecursion (λ m. bytes_eq (string_bytes k) m ≡ false) (map string_bytes ks)
+    others [] h = tt
+    others (l ∷ ks) h = (h.0, others ks h.1)
+
+pub bases_once : (ks : List Base) → IsDistinct base_eq ks → IsDistinct model.same_base (map base_of ks)
+unfolding IsDistinct
+bases_once [] h = tt
+bases_once (k ∷ ks) h = (others ks h.0, bases_once ks h.1)
+  where
+    others : (ks : List Base) → AllByRecursion (λ l. base_eq k l ≡ false) ks → AllByRecursion (λ m. model.same_base (base_of k) m ≡ false) (map base_of ks)
+    others [] h = tt
+    others (l ∷ ks) h = (h.0, others ks h.1)
+
+module _ (t : Seen) where
+  pub looks_up : (n : List ℕ) (looked : List (List ℕ)) → running.is_touched n t.events ≡ false → looked ≡ t.looked ++ n ∷ []
+      → trace_of (record t { looked = looked }) ≡ running.having_read (running.is_name n) (trace_of t)
+  looks_up n looked other more = ap (λ looked. trace_of (record t { looked = looked })) more
+      ∙ noted (running.is_name n) (trace_of t) _ (name_more t.looked t.asked t.lengths t.used (running.is_own (trace_of t)) n other)
+
+  pub looked_up_before : (n : List ℕ) → (running.is_touched n t.events || is_among t.looked n) ≡ true → trace_of t ≡ running.having_read (running.is_name n) (trace_of t)
+  looked_up_before n h = noted (running.is_name n) (trace_of t) _ (name_there t.looked t.asked t.lengths t.used (running.is_own (trace_of t)) n h)
+
+  pub asks : (n : List ℕ) (asked : List (List ℕ)) → asked ≡ t.asked ++ n ∷ []
+      → trace_of (record t { asked = asked }) ≡ running.having_read (running.is_input n) (trace_of t)
+  asks n asked more = ap (λ asked. trace_of (record t { asked = asked })) more
+      ∙ noted (running.is_input n) (trace_of t) _ (input_more t.looked t.asked t.lengths t.used (running.is_own (trace_of t)) n (λ m. refl))
+
+  pub asked_before : (n : List ℕ) → is_among t.asked n ≡ true → trace_of t ≡ running.having_read (running.is_input n) (trace_of t)
+  asked_before n h = noted (running.is_input n) (trace_of t) _ (input_there t.looked t.asked t.lengths t.used (running.is_own (trace_of t)) n h)
+
+  pub reads_length : (b : Base) (lengths : List model.Base) → nat_eq b.label t.label ≡ false → lengths ≡ t.lengths ++ base_of b ∷ []
+      → trace_of (record t { lengths = lengths }) ≡ running.having_read (running.is_length (base_of b)) (trace_of t)
+  reads_length b lengths other more = ap (λ lengths. trace_of (record t { lengths = lengths })) more
+      ∙ noted (running.is_length (base_of b)) (trace_of t) _ (length_more t.looked t.asked t.lengths t.used (running.is_own (trace_of t)) (base_of b) other)
+
+  pub length_before : (b : Base) → (nat_eq b.label t.label || is_base_among t.lengths (base_of b)) ≡ true → trace_of t ≡ running.having_read (running.is_length (base_of b)) (trace_of t)
+  length_before b h = noted (running.is_length (base_of b)) (trace_of t) _ (length_there t.looked t.asked t.lengths t.used (running.is_own (trace_of t)) (base_of b) h)
+
+  pub uses : (b : Base) (ps : List ℕ) (used : List (model.Base × Places)) (except : ℕ → Bool) → nat_eq b.label t.label ≡ false → ((p : ℕ) → except p ≡ is_marked t.written (base_of b) p)
+      → ((c : model.Base) (p : ℕ) → is_marked used c p ≡ (is_marked t.used c p || (model.same_base (base_of b) c && (is_in p ps && not (except p)))))
+      → trace_of (record t { used = used }) ≡ running.having_read (running.is_byte (base_of b) ps) (trace_of t)
+  uses b ps used except other is marked = noted (running.is_byte (base_of b) ps) (trace_of t) _
+      (bytes_more t.looked t.asked t.lengths t.used (running.is_own (trace_of t)) (base_of b) ps used except
+      (λ p. ap (λ o. o || is_marked t.written (base_of b) p) other ∙ sym (is p)) marked)

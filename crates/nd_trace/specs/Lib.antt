@@ -1,0 +1,6 @@
+pub mod Contents
+pub mod Marked
+pub mod Seen
+pub mod Traced
+pub mod Events
+pub mod Patching

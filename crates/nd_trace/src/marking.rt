@@ -1,0 +1,98 @@
+// The marked places of several blocks.
+
+ghost use Rattle.std.specs.Prelude.{◌≡◌, ℕ, ◌+◌, ◌≤◌, ◌^◌, ◌||◌, ◌&&◌, not, false, IfOk, OnOk};
+ghost use Rattle.nd_marks.specs.Marks.{holds};
+ghost use Rattle.nd_model.specs.Session.{is_in};
+ghost use Rattle.nd_model.specs.Value as values;
+ghost use Rattle.nd_model.specs.Value.{same_base};
+ghost use Rattle.nd_model.specs.View.{item_size, byte_places, element_places};
+ghost use Rattle.nd_types.specs.Types.{type_of};
+ghost use Rattle.nd_heap.specs.Values.{base_of};
+ghost use Rattle.nd_trace.specs.Contents.{marks_of};
+ghost use Rattle.nd_trace.specs.Marked.{is_marked};
+
+use indexmap::IndexMap;
+use nd_heap::{Base, OutOfMemory};
+use nd_marks::Marks;
+use nd_types::ElemType;
+use nd_view::View;
+use std::alloc::Global;
+
+/// A set of places for each base. A base without one has no place in it.
+pub type Footprint = IndexMap<Base, Marks>;
+
+/// Whether the place of the base is marked.
+pub(crate) fn has_mark(marked: &Footprint, base: Base, place: u64) -> bool
+    ensures { result ≡ is_marked (marks_of marked.now.entries) (base_of base) place }
+{
+    match marked.get(&base) {
+        Some(marks) => marks.holds(place),
+        None => false,
+    }
+}
+
+/// The marks of a base, where there are any, and else those of no place.
+pub(crate) fn marks_in<'a>(marked: &'a Footprint, base: Base, nothing: &'a Marks) -> &'a Marks
+    requires { (p : ℕ) → holds nothing.now p ≡ false }
+    ensures { (p : ℕ)
+        → holds result.now p ≡ is_marked (marks_of marked.now.entries) (base_of base) p }
+{
+    match marked.get(&base) {
+        Some(marks) => marks,
+        None => nothing,
+    }
+}
+
+/// Takes out the marks of a base, which the caller puts back.
+fn take_marks(alloc: Global, marked: &mut Footprint, base: Base) -> Result<Marks, OutOfMemory>
+    ensures marks { IfOk result (λ m. (p : ℕ)
+        → holds m p ≡ is_marked (marks_of marked.old.entries) (base_of base) p) }
+    ensures others { OnOk result ((c : values.Base) (p : ℕ) → same_base (base_of base) c ≡ false
+        → is_marked (marks_of marked.new.entries) c p
+        ≡ is_marked (marks_of marked.old.entries) c p) }
+{
+    match marked.insert(base, Marks::new(alloc))? {
+        Some(marks) => Ok(marks),
+        None => Ok(Marks::new(alloc)),
+    }
+}
+
+/// Marks the bytes of all elements of a view, but for those of the other set.
+pub(crate) fn mark_view(
+    alloc: Global,
+    marked: &mut Footprint,
+    base: Base,
+    view: &View,
+    except: &Marks,
+) -> Result<(), OutOfMemory>
+    ensures { OnOk result ((c : values.Base) (p : ℕ) → is_marked (marks_of marked.new.entries) c p
+        ≡ (is_marked (marks_of marked.old.entries) c p
+        || (same_base (base_of base) c && (is_in p (byte_places view.now)
+        && not (holds except.now p))))) }
+{
+    let mut marks = take_marks(alloc, marked, base)?;
+    marks.mark_view(view, except)?;
+    marked.insert(base, marks)?;
+    Ok(())
+}
+
+/// Marks the bytes of the element that begins at the place, but for those of the other set.
+pub(crate) fn mark_element(
+    alloc: Global,
+    marked: &mut Footprint,
+    base: Base,
+    elem: &ElemType,
+    place: u64,
+    except: &Marks,
+) -> Result<(), OutOfMemory>
+    requires { place + item_size (type_of elem.now) ≤ 2 ^ 64 }
+    ensures { OnOk result ((c : values.Base) (p : ℕ) → is_marked (marks_of marked.new.entries) c p
+        ≡ (is_marked (marks_of marked.old.entries) c p
+        || (same_base (base_of base) c && (is_in p (element_places (type_of elem.now) place)
+        && not (holds except.now p))))) }
+{
+    let mut marks = take_marks(alloc, marked, base)?;
+    marks.mark_element(elem, place, except)?;
+    marked.insert(base, marks)?;
+    Ok(())
+}

@@ -1,0 +1,366 @@
+// What the running cell has read and done.
+
+ghost use Rattle.std.specs.Prelude.{◌≡◌, ◌+◌, ◌≤◌, ◌^◌, IfOk, IsTrue, OnOk, Some, bytes_eq, map, option_map, slice_get, string_bytes};
+ghost use Rattle.std.specs.List.{IsDistinct};
+ghost use Rattle.std.specs.Rc.{rc_str_bytes};
+ghost use Rattle.nd_model.specs.Running as running;
+ghost use Rattle.nd_model.specs.Session as model;
+ghost use Rattle.nd_model.specs.Value.{same_base};
+ghost use Rattle.nd_model.specs.View.{item_size, byte_places, element_places};
+ghost use Rattle.nd_types.specs.Types.{type_of};
+ghost use Rattle.nd_heap.specs.Values.{base_of, geo_of, value_of};
+ghost use Rattle.nd_trace.specs.Contents.{marks_of};
+ghost use Rattle.nd_trace.specs.Events.{binds, event_of, name_of_event};
+ghost use Rattle.nd_trace.specs.Traced.{trace_of};
+ghost use Rattle.nd_trace.specs.Seen.{names_read, inputs_read, bases_read, is_used, is_written};
+ghost use Rattle.nd_model.specs.Storing.{having_written};
+ghost use Rattle.nd_trace.specs.Seen.{having_event};
+
+use crate::marking::{Footprint, has_mark, mark_element, mark_view, marks_in};
+use indexmap::{IndexMap, IndexSet};
+use nd_heap::{Array, Base, OutOfMemory, Value};
+use nd_marks::Marks;
+use nd_types::ElemType;
+use std::alloc::Global;
+use std::marker::Model;
+use std::rc::{Rc, RcStr};
+
+/// What a cell did to a name.
+#[derive(Drop)]
+pub enum Event {
+    Binds(RcStr, Rc<Value>),
+    Unbinds(RcStr),
+}
+
+impl Event {
+    /// The name that it binds or unbinds.
+    pub fn name(&self) -> &RcStr
+        ensures { rc_str_bytes result.now ≡ name_of_event (event_of self.now) }
+    {
+        match self {
+            Event::Binds(name, _) => name,
+            Event::Unbinds(name) => name,
+        }
+    }
+
+    /// Whether it binds its name.
+    pub fn binds(&self) -> bool
+        ensures { result ≡ binds (event_of self.now) }
+    {
+        matches!(self, Event::Binds(_, _))
+    }
+
+    /// Whether both bind, or both unbind, the same name, to the same value.
+    pub fn is_same(&self, other: &Event) -> bool
+        ensures { IsTrue result → event_of self.now ≡ event_of other.now }
+    {
+        match (self, other) {
+            (Event::Binds(name, value), Event::Binds(other_name, other_value)) => {
+                name.as_str() == other_name.as_str() && value.as_ref().is_same(other_value.as_ref())
+            }
+            (Event::Unbinds(name), Event::Unbinds(other_name)) => {
+                name.as_str() == other_name.as_str()
+            }
+            _ => false,
+        }
+    }
+
+    /// The same event, which shares the name and the value.
+    pub fn try_clone(&self) -> Result<Event, OutOfMemory>
+        ensures { IfOk result (λ e. event_of e ≡ event_of self.now) }
+    {
+        match self {
+            Event::Binds(name, value) => Ok(Event::Binds(name.clone()?, value.clone()?)),
+            Event::Unbinds(name) => Ok(Event::Unbinds(name.clone()?)),
+        }
+    }
+}
+
+/// The running cell's label, and what it has read and done: the names that it looked up and the inputs that it asked for, the
+/// bases whose length it read, and the bytes that it used and wrote. No byte of a base of its own is noted as used, and no name
+/// that it bound or unbound before as looked up. The names of the events are kept as a set too.
+#[derive(Drop)]
+pub struct Trace {
+    label: u64,
+    events: Vec<Event>,
+    touched: IndexSet<RcStr>,
+    written: Footprint,
+    looked: IndexSet<String>,
+    asked: IndexSet<String>,
+    lengths: IndexSet<Base>,
+    used: Footprint,
+}
+
+impl Model for Trace {
+    ghost use Rattle.nd_trace.specs.Seen.{Seen};
+
+    ghost Value = { Seen };
+
+    ghost use Rattle.nd_trace.specs.Events.{seen_in, AreTouched};
+
+    ghost view = { seen_in };
+
+    ghost invariant = { AreTouched };
+}
+
+impl Trace {
+    /// The trace of a cell of this label that has read and done nothing.
+    pub fn new(alloc: Global, label: u64) -> Trace
+        ensures { trace_of result ≡ running.start label model.no_session }
+    {
+        Trace {
+            label,
+            events: Vec::new(alloc),
+            touched: IndexSet::new(alloc),
+            written: IndexMap::new(alloc),
+            looked: IndexSet::new(alloc),
+            asked: IndexSet::new(alloc),
+            lengths: IndexSet::new(alloc),
+            used: IndexMap::new(alloc),
+        }
+    }
+
+    /// The running cell's label.
+    pub fn label(&self) -> u64
+        ensures { result ≡ self.now.label }
+    {
+        self.label
+    }
+
+    /// The name at this place in the order in which names were first looked up, none past the last.
+    pub fn name(&self, i: usize) -> Option<&str>
+        ensures name { option_map (λ n. n.now) result ≡ slice_get (names_read self.now) i }
+        ensures once { IsDistinct bytes_eq (names_read self.now) }
+    {
+        match self.looked.as_slice().get(i) {
+            Some(name) => Some(name.as_str()),
+            None => None,
+        }
+    }
+
+    /// The input at this place in the order in which inputs were first asked for, none past the last.
+    pub fn input(&self, i: usize) -> Option<&str>
+        ensures name { option_map (λ n. n.now) result ≡ slice_get (inputs_read self.now) i }
+        ensures once { IsDistinct bytes_eq (inputs_read self.now) }
+    {
+        match self.asked.as_slice().get(i) {
+            Some(name) => Some(name.as_str()),
+            None => None,
+        }
+    }
+
+    /// The base at this place in the order in which the lengths of bases were first read, none past the last: those that a value
+    /// that was looked up lies in, or that were written, but for the running cell's own.
+    pub fn base(&self, i: usize) -> Option<Base>
+        ensures base { option_map base_of result ≡ slice_get (bases_read self.now) i }
+        ensures once { IsDistinct same_base (bases_read self.now) }
+    {
+        match self.lengths.as_slice().get(i) {
+            Some(base) => Some(*base),
+            None => None,
+        }
+    }
+
+    /// The binding or unbinding at this place in their order, none past the last.
+    pub fn event(&self, i: usize) -> Option<&Event>
+        ensures { option_map (λ e. event_of e.now) result ≡ slice_get self.now.events i }
+    {
+        self.events.get(i)
+    }
+
+    /// The bindings and unbindings in their order.
+    pub fn events(&self) -> &[Event]
+        ensures { map event_of result.now ≡ self.now.events }
+    {
+        &self.events
+    }
+
+    /// Whether the byte was read as another cell had left it.
+    pub fn is_used(&self, base: Base, place: u64) -> bool
+        ensures { result ≡ is_used self.now (base_of base) place }
+    {
+        has_mark(&self.used, base, place)
+    }
+
+    /// Whether the byte was written.
+    pub fn is_written(&self, base: Base, place: u64) -> bool
+        ensures { result ≡ is_written self.now (base_of base) place }
+    {
+        has_mark(&self.written, base, place)
+    }
+
+    /// The names in the order in which they were first looked up.
+    pub fn names(&self) -> &[String]
+        ensures { map string_bytes result.now ≡ names_read self.now }
+    {
+        self.looked.as_slice()
+    }
+
+    /// The inputs in the order in which they were first asked for.
+    pub fn inputs(&self) -> &[String]
+        ensures { map string_bytes result.now ≡ inputs_read self.now }
+    {
+        self.asked.as_slice()
+    }
+
+    /// The bases in the order in which their lengths were first read.
+    pub fn bases(&self) -> &[Base]
+        ensures { map base_of result.now ≡ bases_read self.now }
+    {
+        self.lengths.as_slice()
+    }
+
+    /// The bytes that were read as other cells had left them.
+    pub fn used_bytes(&self) -> &Footprint
+        ensures { marks_of result.now.entries ≡ self.now.used }
+    {
+        &self.used
+    }
+
+    /// The bytes that were written.
+    pub fn written_bytes(&self) -> &Footprint
+        ensures { marks_of result.now.entries ≡ self.now.written }
+    {
+        &self.written
+    }
+
+    /// Notes a binding or unbinding.
+    pub fn note_event(&mut self, event: Event) -> Result<(), OutOfMemory>
+        ensures after { OnOk result (trace_of self.new
+            ≡ having_event (event_of event) (trace_of self.old)) }
+        ensures label { self.new.label ≡ self.old.label }
+    {
+        let name = event.name().clone()?;
+        self.events.reserve(1)?;
+        self.touched.insert(name)?;
+        self.events.push_reserved(event);
+        Ok(())
+    }
+
+    /// Notes that a name is looked up.
+    pub fn note_name(&mut self, alloc: Global, name: &str) -> Result<(), OutOfMemory>
+        ensures after { OnOk result (trace_of self.new
+            ≡ running.having_read (running.is_name name.now) (trace_of self.old)) }
+        ensures label { self.new.label ≡ self.old.label }
+    {
+        if self.touched.contains(name) || self.looked.contains(name) {
+            return Ok(());
+        }
+        let key = String::from_str(alloc, name)?;
+        self.looked.insert(key)?;
+        Ok(())
+    }
+
+    /// Notes that an input is asked for.
+    pub fn note_input(&mut self, alloc: Global, name: &str) -> Result<(), OutOfMemory>
+        ensures after { OnOk result (trace_of self.new
+            ≡ running.having_read (running.is_input name.now) (trace_of self.old)) }
+        ensures label { self.new.label ≡ self.old.label }
+    {
+        if self.asked.contains(name) {
+            return Ok(());
+        }
+        let key = String::from_str(alloc, name)?;
+        self.asked.insert(key)?;
+        Ok(())
+    }
+
+    /// Notes that the length of a base is read.
+    pub fn note_length(&mut self, base: Base) -> Result<(), OutOfMemory>
+        ensures after { OnOk result (trace_of self.new
+            ≡ running.having_read (running.is_length (base_of base)) (trace_of self.old)) }
+        ensures label { self.new.label ≡ self.old.label }
+    {
+        if base.label == self.label || self.lengths.contains(&base) {
+            return Ok(());
+        }
+        self.lengths.insert(base)?;
+        Ok(())
+    }
+
+    /// Notes that the length of the block is read that the value lies in, if it lies in one.
+    pub fn note_length_of(&mut self, value: &Value) -> Result<(), OutOfMemory>
+        ensures after { OnOk result (trace_of self.new
+            ≡ running.having_read (running.is_length_of (Some (value_of value.now)))
+            (trace_of self.old)) }
+        ensures label { self.new.label ≡ self.old.label }
+    {
+        match value {
+            Value::Number(_) => Ok(()),
+            Value::Array(array) | Value::Row(array) => self.note_length(array.base),
+        }
+    }
+
+    /// Notes that all elements of an array are read.
+    pub fn note_view(&mut self, alloc: Global, array: &Array) -> Result<(), OutOfMemory>
+        ensures after { OnOk result (trace_of self.new ≡ running.having_read
+            (running.is_byte (base_of array.now.base) (byte_places (geo_of array.now)))
+            (trace_of self.old)) }
+        ensures label { self.new.label ≡ self.old.label }
+    {
+        let base = array.base;
+        if base.label == self.label {
+            return Ok(());
+        }
+        let nothing = Marks::new(alloc);
+        let written = marks_in(&self.written, base, &nothing);
+        mark_view(alloc, &mut self.used, base, &array.view, written)?;
+        Ok(())
+    }
+
+    /// Notes that the element is read that begins at the place.
+    pub fn note_element(
+        &mut self,
+        alloc: Global,
+        base: Base,
+        place: u64,
+        elem: &ElemType,
+    ) -> Result<(), OutOfMemory>
+        requires { place + item_size (type_of elem.now) ≤ 2 ^ 64 }
+        ensures after { OnOk result (trace_of self.new ≡ running.having_read
+            (running.is_byte (base_of base) (element_places (type_of elem.now) place))
+            (trace_of self.old)) }
+        ensures label { self.new.label ≡ self.old.label }
+    {
+        if base.label == self.label {
+            return Ok(());
+        }
+        let nothing = Marks::new(alloc);
+        let written = marks_in(&self.written, base, &nothing);
+        mark_element(alloc, &mut self.used, base, elem, place, written)?;
+        Ok(())
+    }
+
+    /// Notes that all elements of an array are written.
+    pub fn write_view(&mut self, alloc: Global, array: &Array) -> Result<(), OutOfMemory>
+        ensures after { OnOk result (trace_of self.new
+            ≡ having_written (base_of array.now.base) (byte_places (geo_of array.now))
+            (trace_of self.old)) }
+        ensures label { self.new.label ≡ self.old.label }
+    {
+        self.note_length(array.base)?;
+        let nothing = Marks::new(alloc);
+        mark_view(alloc, &mut self.written, array.base, &array.view, &nothing)?;
+        Ok(())
+    }
+
+    /// Notes that the element is written that begins at the place.
+    pub fn write_element(
+        &mut self,
+        alloc: Global,
+        base: Base,
+        place: u64,
+        elem: &ElemType,
+    ) -> Result<(), OutOfMemory>
+        requires { place + item_size (type_of elem.now) ≤ 2 ^ 64 }
+        ensures after { OnOk result (trace_of self.new
+            ≡ having_written (base_of base) (element_places (type_of elem.now) place)
+            (trace_of self.old)) }
+        ensures label { self.new.label ≡ self.old.label }
+    {
+        self.note_length(base)?;
+        let nothing = Marks::new(alloc);
+        mark_element(alloc, &mut self.written, base, elem, place, &nothing)?;
+        Ok(())
+    }
+}

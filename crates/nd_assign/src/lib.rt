@@ -21,6 +21,7 @@ pub use assignment::Assignment;
 pub use preparation::prepare;
 pub use shape::fits;
 pub use source::{Source, assign};
+pub use walk::Walk;
 
 /// Says which places an assignment writes, and does nothing.
 pub fn assigned_places()

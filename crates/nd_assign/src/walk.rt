@@ -8,7 +8,7 @@ use std::marker::Model;
 
 /// A walk over the places of a view in C order. A clause sees the list of those that are left.
 #[derive(Drop)]
-pub(crate) struct Walk<'v> {
+pub struct Walk<'v> {
     // what is left of the run that the walk is in, and the runs behind it
     ahead: Option<Run>,
     runs: Runs<'v>,
@@ -41,7 +41,7 @@ fn take_run(ahead: &mut Option<Run>, runs: &mut Runs<'_>) -> Run
 
 impl<'v> Walk<'v> {
     /// Begins a walk over a view.
-    pub(crate) fn new(view: &'v View) -> Walk<'v>
+    pub fn new(view: &'v View) -> Walk<'v>
         ensures { result ≡ view.now.places }
     {
         Walk {
@@ -51,7 +51,7 @@ impl<'v> Walk<'v> {
     }
 
     /// Returns the next places, as many as lie one step apart and no more than are asked for.
-    pub(crate) fn next(&mut self, most: u64) -> Run
+    pub fn next(&mut self, most: u64) -> Run
         requires left { 0 < length self.old }
         requires most { 0 < most }
         ensures split { self.old ≡ result ++ self.new }

@@ -19,8 +19,8 @@ const COUNT: u64 = 10_000_000;
 // How many bytes they have.
 const LEN: u64 = 80_000_000;
 
-// Whether each element of a view lies in so many bytes.
-fn lies_in(view: &View, len: usize) -> bool
+/// Whether each element of a view lies in so many bytes.
+pub(crate) fn lies_in(view: &View, len: usize) -> bool
     ensures { IsTrue result → LiesIn len view.now }
 {
     let _shape = view.shape();

@@ -3,7 +3,8 @@
 //! nanoseconds it takes to add them up; `nd_bench convert [COUNT]` prints the same for each of three conversions to a new array, with
 //! the sum of what the numbers become; `nd_bench assign` prints the same for each of five assignments to the elements of an array of
 //! 10,000,000 numbers, with the sum of its block; `nd_bench views` prints the same for views that are made of a view, of which it makes
-//! 100,000: by a basic index and in another shape; `nd_bench text [COUNT]` prints for each of three arrays its name, how many elements
+//! 100,000: by a basic index and in another shape; `nd_bench operators` prints for operators on an array of 10,000,000 numbers the name, how
+//! many results there are, the sum of their bytes, and the nanoseconds; `nd_bench text [COUNT]` prints for each of three arrays its name, how many elements
 //! it has, how long its text is, and how many nanoseconds it takes to make it; `nd_bench cells [COUNT]` edits notebooks of many cells,
 //! and prints how long that takes. Without a word it prints how it is called.
 #![tactic(auto)]
@@ -16,6 +17,7 @@ mod convert;
 mod copy;
 mod mixed;
 mod numbers;
+mod operators;
 mod text;
 mod views;
 
@@ -24,6 +26,7 @@ use crate::cells::measure_cells;
 use crate::convert::measure_convert;
 use crate::copy::measure_copy;
 use crate::numbers::measure_numbers;
+use crate::operators::measure_operators;
 use crate::text::measure_text;
 use crate::views::measure_views;
 use std::{env, io};
@@ -67,10 +70,11 @@ fn main(rt: HostRuntime) -> io::Result<()> {
         (Some("convert"), Some(count)) => measure_convert(&rt, count),
         (Some("assign"), _) => measure_assign(&rt),
         (Some("views"), _) => measure_views(&rt),
+        (Some("operators"), _) => measure_operators(&rt),
         (Some("text"), Some(count)) => measure_text(&rt, count.min(MOST_SHOWN)),
         (Some("cells"), Some(count)) => measure_cells(&rt, count.min(MOST_CELLS)),
         _ => println!(rt;
-            "usage: nd_bench copy | numbers [COUNT] | convert [COUNT] | assign | views | text [COUNT] | cells [COUNT]"
+            "usage: nd_bench copy | numbers [COUNT] | convert [COUNT] | assign | views | operators | text [COUNT] | cells [COUNT]"
         ),
     }
 }

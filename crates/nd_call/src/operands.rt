@@ -203,7 +203,11 @@ pub(crate) fn next_token<'t>(tokens: Tokens<'t>, set: u128) -> (Token<'t>, Token
 }
 
 /// An operand with its indexes and methods, if it has any. It allocates one node.
-pub fn with_suffixes(alloc: Global, operand: Expr, suffixes: Vec<Suffix>) -> Result<Expr, AllocError>
+pub fn with_suffixes(
+    alloc: Global,
+    operand: Expr,
+    suffixes: Vec<Suffix>,
+) -> Result<Expr, AllocError>
     ensures { IfOk result (λ e. expr_of e ≡ suffixed (expr_of operand) (suffixes_of suffixes)) }
 {
     if suffixes.is_empty() {

@@ -9,3 +9,4 @@ mod run;
 mod structures;
 
 pub use blocks::{convert_numbers, copy_elements};
+pub use run::convert;

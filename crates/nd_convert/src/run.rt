@@ -39,7 +39,7 @@ fn convert_past(out: &mut [u8], to: Elem, bytes: &[u8], from: Elem, run: &Run)
 }
 
 /// Writes the numbers of a run, converted and one after another. A byte past the end is taken for 0.
-pub(crate) fn convert(out: &mut [u8], to: Elem, bytes: &[u8], from: Elem, run: &Run)
+pub fn convert(out: &mut [u8], to: Elem, bytes: &[u8], from: Elem, run: &Run)
     requires { length out.old ≡ length run.now * size_of to.kind }
     ensures { out.new ≡ converted_bytes to from bytes.now run.now }
 {

@@ -10,7 +10,7 @@ use Rattle.nd_model.specs.Cells.{chained}
 use Rattle.nd_model.specs.Running.{Running, Inputs}
 use Rattle.nd_model.specs.Evaluation.{run}
 use Rattle.nd_model.specs.Meaning.{value}
-use Rattle.nd_model.specs.Operators.{binary}
+use Rattle.nd_model.specs.Elementwise.{binary}
 use Rattle.nd_model.proofs.Steps.{goes_on, run_bind}
 use Rattle.nd_syntax.specs.declared.tree.Expr as tree
 use Rattle.nd_syntax.specs.declared.tree.BinaryOp as operators

@@ -29,8 +29,8 @@ use crate::operation::{mark_index, mark_operand, mark_operands, operand_in};
 use crate::views::ViewMethod;
 use nd_choice::{IndexValue, ItemValue, choose};
 use nd_operation::{
-    OfOne, OfTwo, StmtError, StmtFault, Stop, apply_binary, make_filled, make_full, make_list,
-    make_of_one, make_range,
+    OfOne, OfTwo, StmtError, StmtFault, Stop, make_filled, make_full, make_list, make_of_one,
+    make_of_two, make_range,
 };
 use nd_session::Value;
 use nd_syntax::{BinaryOp, Call, DType, Element, Expr, Fill, Index, IndexItem, Method, Suffix};
@@ -120,15 +120,17 @@ impl Evaluator<'_> {
     fn operate(&mut self, call: OfTwo, left: &Value, right: &Value) -> Result<Value, Stop>
         requires left { IsHeld (session_of self.old) left.now }
         requires right { IsHeld (session_of self.old) right.now }
+        requires room { (session_of self.old).next + 1 < 2 ^ 64 }
         ensures { Evaluates value_of result self.old
             (parts.operate (made_of_two call) (value_of left.now) (value_of right.now)) self.new }
     {
+        let alloc = self.session.allocator();
         mark_operand(self.session, left)?;
         mark_operand(self.session, right)?;
         let left = operand_in(self.session, left);
         let right = operand_in(self.session, right);
-        let number = apply_binary(call, &left, &right)?;
-        Ok(Value::Number(number))
+        let new = make_of_two(alloc, call, &left, &right)?;
+        self.give(new)
     }
 
     /// What a function of NumPy gives of the values of two expressions.

@@ -1,16 +1,16 @@
 -- NumPy's operators on arrays, element by element (NumPy user guide, "Broadcasting"; NEP 50): the kind of the result is that of the
 -- kinds of both, the shape is the common one, and each number is the operator's of the numbers at its tuple, wrapped to the kind.
-use Rattle.std.specs.Prelude.{ℕ, ℤ, Bool, true, false, not, List, Option, Some, None, Result, Ok, Err}
+use Rattle.std.specs.Prelude.{ℕ, ℤ, Bool, false, not, ◌||◌, if◌then◌else◌, List, Option, Some, None, Result, Ok, Err}
 use Rattle.std.specs.List.{list_any}
 use Rattle.nd_model.specs.Element.{Kind, Element, Boolean, wrap}
 use Rattle.nd_model.specs.Tuple.{indices}
 use Rattle.nd_model.specs.View.{ElementType, One, Structure}
 use Rattle.nd_model.specs.Content.{number_in}
-use Rattle.nd_model.specs.Syntax.{Negative, Invert}
+use Rattle.nd_model.specs.Syntax.{Negative, Invert, BinaryOp}
 use Rattle.nd_model.specs.Fault.{Fault, Ufunc, NotNumbers, BoolOp, ShapeMismatch, NegativePower}
 use Rattle.nd_model.specs.Refusing.{◌>>=◌, when}
-use Rattle.nd_model.specs.Operand.{Operand, Plain, Elements, truth_number, shape_of, content_of}
-use Rattle.nd_model.specs.Operators.{BinaryUfunc, Single, Of, Sort, OfKind, sort_of, result_kind, is_power_below, is_zero, exact, exact_single}
+use Rattle.nd_model.specs.Operand.{Operand, Plain, Elements, Made, truth_number, shape_of, content_of, made_of}
+use Rattle.nd_model.specs.Operators.{BinaryUfunc, Operator, Single, Of, Sort, OfKind, sort_of, result_kind, is_power_below, is_zero, is_scalar, exact, exact_single, of_numbers, of_scalars, of_numpy, of_number, numpy_number}
 use Rattle.nd_model.specs.Broadcast.{broadcast, own_tuple, in_limits}
 
 -- numbers of one kind, one at each index tuple of a shape
@@ -80,3 +80,29 @@ single_numbers op x = do
   k ← single_kind op (operand_sort x)
   in_limits (One (little k)) (shape_of x)
       (Ok (record { kind = k; shape = shape_of x; number = λ t. single_number op k (number_in (content_of x t)) }))
+
+-- ---- what operators make: of numbers alone a number, and else an array, or a number where there are no axes
+
+abbrev pub numbers_made : Result Numbers Fault → Result Made Fault
+numbers_made (Ok n) = Ok (made_of n.kind n.shape n.number)
+numbers_made (Err f) = Err f
+
+-- `x op y`
+abbrev pub binary : BinaryOp → Operand → Operand → Result Made Fault
+binary op (Plain a) (Plain b) = of_numbers op a b
+binary op x y = numbers_made (binary_numbers (Operator op) x y)
+
+-- `np.minimum(x, y)`, `np.maximum(x, y)`
+abbrev pub call_binary : BinaryUfunc → Operand → Operand → Result Made Fault
+call_binary f (Plain a) (Plain b) = if is_scalar a || is_scalar b then of_scalars f a b else of_numpy f a b
+call_binary f x y = numbers_made (binary_numbers f x y)
+
+-- `-x`, `~x`, `abs(x)`
+abbrev pub single : Single → Operand → Result Made Fault
+single op (Plain n) = of_number op n
+single op x = numbers_made (single_numbers op x)
+
+-- `np.abs(x)`
+abbrev pub call_single : Single → Operand → Result Made Fault
+call_single op (Plain n) = numpy_number n >>= of_number op
+call_single op x = numbers_made (single_numbers op x)

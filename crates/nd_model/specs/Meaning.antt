@@ -10,7 +10,8 @@ use Rattle.nd_model.specs.Refusing as refusing
 use Rattle.nd_model.specs.Evaluation.{Eval}
 use Rattle.nd_model.specs.Operand.{Int, Truth, Operand, Usage, Whole, ArraysOnly, RowsOnly, Unused, Made, ANumber, Deed, NoDeed, BindsFirst, Unbinds, Writes}
 use Rattle.nd_model.specs.Operators as operators
-use Rattle.nd_model.specs.Operators.{Of, binary, single, call_binary, call_single}
+use Rattle.nd_model.specs.Operators.{Of}
+use Rattle.nd_model.specs.Elementwise.{binary, single, call_binary, call_single}
 use Rattle.nd_model.specs.Creation.{arange, filled, full, new_array, array_of_list, convert, copy_array, astype}
 use Rattle.nd_model.specs.Writing.{assignment_writes}
 use Rattle.nd_model.specs.Index.{Form, AtForm, SliceForm, EllipsisForm, NewAxisForm}

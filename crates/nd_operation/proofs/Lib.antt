@@ -7,3 +7,4 @@ pub mod Creating
 pub mod Ranging
 pub mod Converting
 pub mod Listing
+pub mod NumberArrays

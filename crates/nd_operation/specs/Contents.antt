@@ -1,19 +1,15 @@
 -- What the operands of an operation stand for.
-use Rattle.std.specs.Prelude.{ℕ, Bool, true, false, List, [], length, map, slice_index}
-use Rattle.nd_model.specs.View.{Geo, byte_places}
-use Rattle.nd_model.specs.Content.{Content, contents_in}
+use Rattle.std.specs.Prelude.{ℕ, Bool, true, false, List, []}
+use Rattle.nd_model.specs.View.{Geo}
 use Rattle.nd_model.specs.Operand as operand
 pub use Rattle.nd_ufunc.specs.Numbers.{num_of, number_made}
+pub use Rattle.nd_elementwise.specs.Arguments.{contents_over}
 use Rattle.nd_heap.specs.declared.value.Value.{Value}
 use Rattle.nd_heap.specs.declared.value.Value.TheVariants as value
 use Rattle.nd_heap.specs.Values.{geo_of}
 use Rattle.nd_operation.specs.declared.operand.Operand.{Operand}
 use Rattle.nd_operation.specs.declared.operand.Operand.TheVariants.{Number, Elements as ElementsOperand}
 use Rattle.nd_operation.specs.declared.operand.Elements.{Elements}
-
--- the contents of a view's elements, in the block that they lie in
-abbrev pub contents_over : Geo → List ℕ → List Content
-contents_over g block = contents_in g.element (length g.places) (map (λ p. slice_index block p) (byte_places g))
 
 abbrev pub elements_over : (row : Bool) → Geo → List ℕ → operand.Operand
 elements_over row g block = operand.Elements row g (contents_over g block)

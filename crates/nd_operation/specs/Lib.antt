@@ -5,4 +5,5 @@ pub mod Lines
 pub mod New
 pub mod Stops
 pub mod OfTwo
+pub mod Elementwise
 pub mod Listing

@@ -11,7 +11,7 @@ use Rattle.nd_model.specs.Evaluation.{Eval, Gives, Refuses, Asks, ◌>>=◌, dec
 use Rattle.nd_model.specs.Operand as operand
 use Rattle.nd_model.specs.Operation.{give}
 use Rattle.nd_model.specs.Creation as creation
-use Rattle.nd_model.specs.Operators.{single, call_single}
+use Rattle.nd_model.specs.Elementwise.{single, call_single}
 use Rattle.nd_types.specs.Kinds.{kind_of}
 use Rattle.nd_syntax.specs.Calls.{dtype_of}
 use Rattle.nd_heap.specs.declared.value.Value.{Value}

@@ -1,7 +1,9 @@
--- Why an evaluation stops at a type that is written.
+-- Why an evaluation stops at a type that is written, or where a function takes no arrays.
 use Rattle.nd_dtype.specs.declared.fault.TypeFault.{TypeFault}
 use Rattle.nd_dtype.specs.declared.fault.TypeFault.TheVariants as type_fault
-use Rattle.nd_operation.specs.declared.fault.StmtFault.TheVariants.{Stmt}
+use Rattle.nd_elementwise.specs.declared.fault.MapFault.{MapFault}
+use Rattle.nd_elementwise.specs.declared.fault.MapFault.TheVariants as map_fault
+use Rattle.nd_operation.specs.declared.fault.StmtFault.TheVariants.{Stmt, Ufunc, View}
 use Rattle.nd_operation.specs.declared.fault.StmtError.TheVariants.{BadType}
 use Rattle.nd_operation.specs.declared.stop.Stop.{Stop}
 use Rattle.nd_operation.specs.declared.stop.Stop.TheVariants.{Memory, Refused}
@@ -9,3 +11,8 @@ use Rattle.nd_operation.specs.declared.stop.Stop.TheVariants.{Memory, Refused}
 abbrev pub type_stop : TypeFault → Stop
 type_stop type_fault.BadType = Refused (Stmt BadType)
 type_stop type_fault.OutOfMemory = Memory
+
+abbrev pub map_stop : MapFault → Stop
+map_stop map_fault.Memory = Memory
+map_stop (map_fault.Ufunc f) = Refused (Ufunc f)
+map_stop (map_fault.View f) = Refused (View f)

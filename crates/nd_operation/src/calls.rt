@@ -5,7 +5,7 @@ ghost use Rattle.nd_operation.specs.New.{MakesNew, made_of_one};
 
 use crate::conversion::{astype, convert, copy_array, new_array};
 use crate::operand::{New, Operand};
-use crate::operators::{apply_single, call_single};
+use crate::operators::{call_single, make_single};
 use crate::stop::Stop;
 use nd_syntax::DType;
 use nd_types::Kind;
@@ -33,8 +33,8 @@ pub fn make_of_one(alloc: Global, call: OfOne<'_>, operand: &Operand<'_>) -> Res
     ensures { MakesNew result (made_of_one call.entry (operand_of operand.now)) }
 {
     match call {
-        OfOne::Operator(op) => Ok(New::Number(apply_single(op, operand)?)),
-        OfOne::Ufunc(op) => Ok(New::Number(call_single(op, operand)?)),
+        OfOne::Operator(op) => make_single(alloc, op, operand),
+        OfOne::Ufunc(op) => call_single(alloc, op, operand),
         OfOne::ArrayOf(dtype) => new_array(alloc, dtype, operand),
         OfOne::Convert(kind) => convert(alloc, kind, operand),
         OfOne::Copy => copy_array(alloc, operand),

@@ -1,20 +1,25 @@
-//! Operators on operands, and NumPy's functions of numbers. On arrays they are not built yet.
+//! Operators on operands, and NumPy's functions of them.
 
 ghost use Rattle.std.specs.Prelude.{◌≡◌};
 ghost use Rattle.nd_model.specs.Operand as operand;
+ghost use Rattle.nd_model.specs.Elementwise as elementwise;
 ghost use Rattle.nd_model.specs.Operators as operators;
 ghost use Rattle.nd_syntax.specs.Syntax.{binary_op};
 ghost use Rattle.nd_ufunc.specs.Ufuncs.{single_of, ufunc_of};
 ghost use Rattle.nd_operation.specs.Contents.{number_made, num_of, operand_of};
 ghost use Rattle.nd_operation.specs.Ends.{Says};
-ghost use Rattle.nd_operation.specs.OfTwo.{made_of_two};
+ghost use Rattle.nd_operation.specs.New.{MakesNew};
+ghost use Rattle.nd_operation.specs.OfTwo.{made_of_two, ufunc_of_two};
 
+use crate::elementwise::{map_one, map_two};
 use crate::fault::{StmtError, StmtFault};
-use crate::operand::Operand;
+use crate::operand::{New, Operand};
 use crate::python::{arithmetic, python_int};
+use crate::stop::Stop;
 use nd_syntax::{BinaryOp, UnaryOp};
 use nd_types::{Kind, Num, fits};
 use nd_ufunc::{BinaryUfunc, Single, is_negative, scalar1, scalar2};
+use std::alloc::Global;
 
 /// An operator, or a function of NumPy, of two operands.
 #[derive(Clone, Copy)]
@@ -54,13 +59,13 @@ fn single_number(op: Single, number: Num) -> Result<Num, StmtFault>
     }
 }
 
-/// What an operator, or Python's `abs`, gives of an operand.
-pub(crate) fn apply_single(op: Single, operand: &Operand<'_>) -> Result<Num, StmtFault>
-    ensures { Says number_made result (operators.single (single_of op) (operand_of operand.now)) }
+/// What an operator, or Python's `abs`, makes of an operand.
+pub(crate) fn make_single(alloc: Global, op: Single, operand: &Operand<'_>) -> Result<New, Stop>
+    ensures { MakesNew result (elementwise.single (single_of op) (operand_of operand.now)) }
 {
     match operand {
-        Operand::Number(number) => single_number(op, *number),
-        Operand::Elements(_) => Err(StmtFault::Stmt(StmtError::BadArgument)),
+        Operand::Number(number) => Ok(New::Number(single_number(op, *number)?)),
+        Operand::Elements(_) => map_one(alloc, op, operand),
     }
 }
 
@@ -80,17 +85,16 @@ fn numpy_number(number: Num) -> Result<Num, StmtFault>
     }
 }
 
-/// What NumPy's function of one number gives of an operand.
-pub(crate) fn call_single(op: Single, operand: &Operand<'_>) -> Result<Num, StmtFault>
-    ensures { Says number_made result
-        (operators.call_single (single_of op) (operand_of operand.now)) }
+/// What NumPy's function of one operand makes.
+pub(crate) fn call_single(alloc: Global, op: Single, operand: &Operand<'_>) -> Result<New, Stop>
+    ensures { MakesNew result (elementwise.call_single (single_of op) (operand_of operand.now)) }
 {
     match operand {
         Operand::Number(number) => {
             let number = numpy_number(*number)?;
-            single_number(op, number)
+            Ok(New::Number(single_number(op, number)?))
         }
-        Operand::Elements(_) => Err(StmtFault::Stmt(StmtError::BadArgument)),
+        Operand::Elements(_) => map_one(alloc, op, operand),
     }
 }
 
@@ -145,7 +149,7 @@ fn is_scalar(number: Num) -> bool
 
 /// What NumPy's function gives of two numbers.
 fn call_numbers(ufunc: BinaryUfunc, left: Num, right: Num) -> Result<Num, StmtFault>
-    ensures { Says number_made result (operators.call_binary (ufunc_of ufunc)
+    ensures { Says number_made result (elementwise.call_binary (ufunc_of ufunc)
         (operand.Plain (num_of left)) (operand.Plain (num_of right))) }
 {
     if is_scalar(left) || is_scalar(right) {
@@ -156,18 +160,40 @@ fn call_numbers(ufunc: BinaryUfunc, left: Num, right: Num) -> Result<Num, StmtFa
     scalars(ufunc, left, right)
 }
 
-/// What an operator, or a function of NumPy, gives of two operands.
-pub fn apply_binary(call: OfTwo, left: &Operand<'_>, right: &Operand<'_>) -> Result<Num, StmtFault>
+/// What an operator, or a function of NumPy, gives of two numbers.
+fn two_numbers(call: OfTwo, left: Num, right: Num) -> Result<Num, StmtFault>
     ensures { Says number_made result
-        (made_of_two call (operand_of left.now) (operand_of right.now)) }
+        (made_of_two call (operand.Plain (num_of left)) (operand.Plain (num_of right))) }
+{
+    match call {
+        OfTwo::Operator(op) => numbers(op, left, right),
+        OfTwo::Call(ufunc) => call_numbers(ufunc, left, right),
+    }
+}
+
+/// The function of NumPy that arrays are given to.
+fn ufunc_of(call: OfTwo) -> BinaryUfunc
+    ensures { ufunc_of result ≡ ufunc_of_two call }
+{
+    match call {
+        OfTwo::Operator(op) => BinaryUfunc::Operator(op),
+        OfTwo::Call(ufunc) => ufunc,
+    }
+}
+
+/// What an operator, or a function of NumPy, makes of two operands.
+pub fn make_of_two(
+    alloc: Global,
+    call: OfTwo,
+    left: &Operand<'_>,
+    right: &Operand<'_>,
+) -> Result<New, Stop>
+    ensures { MakesNew result (made_of_two call (operand_of left.now) (operand_of right.now)) }
 {
     match (left, right) {
-        (Operand::Number(a), Operand::Number(b)) => match call {
-            OfTwo::Operator(op) => numbers(op, *a, *b),
-            OfTwo::Call(ufunc) => call_numbers(ufunc, *a, *b),
-        },
+        (Operand::Number(a), Operand::Number(b)) => Ok(New::Number(two_numbers(call, *a, *b)?)),
         (Operand::Elements(_), _) | (_, Operand::Elements(_)) => {
-            Err(StmtFault::Stmt(StmtError::BadArgument))
+            map_two(alloc, ufunc_of(call), left, right)
         }
     }
 }

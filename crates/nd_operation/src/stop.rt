@@ -4,11 +4,12 @@ ghost use Rattle.std.specs.Prelude.{◌≡◌};
 ghost use Rattle.nd_operation.specs.declared.fault.StmtFault.TheVariants.{Shape};
 ghost use Rattle.nd_operation.specs.declared.stop.Stop.TheVariants.{Memory, Refused};
 ghost use Rattle.nd_operation.specs.Faults.{refusal_of_select};
-ghost use Rattle.nd_operation.specs.Stops.{type_stop};
+ghost use Rattle.nd_operation.specs.Stops.{map_stop, type_stop};
 
 use crate::fault::{IndexFault, StmtError, StmtFault};
 use nd_basic::SelectFault;
 use nd_dtype::TypeFault;
+use nd_elementwise::MapFault;
 use nd_heap::OutOfMemory;
 use nd_shape::ShapeFault;
 use std::alloc::{AllocError, AllocFailed};
@@ -67,6 +68,18 @@ impl From<TypeFault> for Stop {
         match fault {
             TypeFault::BadType => Stop::Refused(StmtFault::Stmt(StmtError::BadType)),
             TypeFault::OutOfMemory => Stop::Memory,
+        }
+    }
+}
+
+impl From<MapFault> for Stop {
+    ghost from_gives = { λ f e. e ≡ map_stop f };
+
+    fn from(fault: MapFault) -> Stop {
+        match fault {
+            MapFault::Memory => Stop::Memory,
+            MapFault::Ufunc(fault) => Stop::Refused(StmtFault::Ufunc(fault)),
+            MapFault::View(fault) => Stop::Refused(StmtFault::View(fault)),
         }
     }
 }

@@ -19,7 +19,9 @@ use nd_read::kinds::{
     OPEN, PRINT, SAVE, SUFFIX, next_in,
 };
 use nd_read::operators::augment_of;
-use nd_read::read::{Read, Reason, Tokens, close, line_at, name, name_of, pair, refuse, skip, take};
+use nd_read::read::{
+    Read, Reason, Tokens, close, line_at, name, name_of, pair, refuse, skip, take,
+};
 use nd_read::spot::Spot;
 use nd_read::types::quoted_text;
 use nd_rule::append;

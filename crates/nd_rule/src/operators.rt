@@ -178,7 +178,11 @@ fn operators(rank: u8) -> u128
 }
 
 /// An operand with what is done to it, if anything is.
-fn with_operations(alloc: Global, operand: Expr, others: Vec<(BinaryOp, Expr)>) -> Result<Expr, AllocError>
+fn with_operations(
+    alloc: Global,
+    operand: Expr,
+    others: Vec<(BinaryOp, Expr)>,
+) -> Result<Expr, AllocError>
     ensures { IfOk result (λ e. expr_of e ≡ chained (expr_of operand) (operations_of others)) }
 {
     if others.is_empty() {
@@ -188,7 +192,11 @@ fn with_operations(alloc: Global, operand: Expr, others: Vec<(BinaryOp, Expr)>) 
 }
 
 /// An operand with one operation. It allocates a node and its row.
-pub fn with_operation(alloc: Global, operand: Expr, other: (BinaryOp, Expr)) -> Result<Expr, AllocError>
+pub fn with_operation(
+    alloc: Global,
+    operand: Expr,
+    other: (BinaryOp, Expr),
+) -> Result<Expr, AllocError>
     ensures { IfOk result (λ e. expr_of e ≡ Binary (operation_of other).0 (expr_of operand)
         (operation_of other).1) }
 {

@@ -60,7 +60,13 @@ pub(crate) fn store_byte(session: &mut Session, place: u16, byte: u8) -> Result<
 {
     let elem = ElemType::One(Elem::little(Kind::U8));
     session.mark_written_element(BASE, u64::from(place), &elem)?;
-    session.write(BASE, PlacedByte { place: usize::from(place), byte })
+    session.write(
+        BASE,
+        PlacedByte {
+            place: usize::from(place),
+            byte,
+        },
+    )
 }
 
 /// Binds a name to a value that lies in the session.

@@ -40,7 +40,7 @@ index_drop (suc k) [] (i ∷ t) is = absurd is
 index_drop (suc k) (n ∷ to) [] is = absurd is
 index_drop (suc k) (n ∷ to) (i ∷ t) is = index_drop k to t is.1
 
-own_index : (s to t : List ℕ) → broadcasts_to s to ≡ true → IsIndex to t → IsIndex s (own_tuple s t)
+pub own_index : (s to t : List ℕ) → broadcasts_to s to ≡ true → IsIndex to t → IsIndex s (own_tuple s t)
 own_index s to t e is =
     let parts = both (leb (length s) (length to)) (can_stretch s (drop (length to - length s) to)) e in
     rw (length_index to t is) (narrowed_index s (drop (length to - length s) to) (drop (length to - length s) t) parts.1 (index_drop (length to - length s) to t is))

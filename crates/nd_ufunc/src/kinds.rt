@@ -13,15 +13,17 @@ use crate::ufunc::BinaryUfunc;
 use nd_syntax::BinaryOp;
 use nd_types::{FloatResult, Kind, Num, fits, promote};
 
-/// What a number counts as beside another.
+/// What an operand counts as beside another.
 #[derive(Clone, Copy)]
-pub(crate) enum Sort {
+pub enum Sort {
+    /// A Python integer.
     PythonInt(i128),
+    /// Numbers of a kind.
     OfKind(Kind),
 }
 
-/// What a number counts as.
-fn sort_of(number: Num) -> Sort
+/// Returns what a number counts as.
+pub fn sort_of(number: Num) -> Sort
     ensures { sort_from result ≡ operators.sort_of (num_of number) }
 {
     match number {
@@ -92,10 +94,10 @@ fn common_kind(ufunc: BinaryUfunc, left: Sort, right: Sort) -> Result<Kind, Ufun
     }
 }
 
-/// The kind of the result, or why there is none.
-pub(crate) fn result_kind(ufunc: BinaryUfunc, left: Num, right: Num) -> Result<Kind, UfuncFault>
-    ensures { Says kind_of result (operators.result_kind (ufunc_of ufunc)
-        (operators.sort_of (num_of left)) (operators.sort_of (num_of right))) }
+/// Returns the kind of the result as NEP 50 gives it, or why there is none.
+pub fn result_kind(ufunc: BinaryUfunc, left: Sort, right: Sort) -> Result<Kind, UfuncFault>
+    ensures { Says kind_of result
+        (operators.result_kind (ufunc_of ufunc) (sort_from left) (sort_from right)) }
 {
     match ufunc {
         BinaryUfunc::Operator(
@@ -107,6 +109,6 @@ pub(crate) fn result_kind(ufunc: BinaryUfunc, left: Num, right: Num) -> Result<K
             | BinaryOp::NotEqual,
         ) => Ok(Kind::Bool),
         BinaryUfunc::Operator(BinaryOp::Divide) => Err(UfuncFault::FloatResult),
-        _ => common_kind(ufunc, sort_of(left), sort_of(right)),
+        _ => common_kind(ufunc, left, right),
     }
 }

@@ -11,6 +11,11 @@ mod ufunc;
 
 pub use fault::UfuncFault;
 pub use integers::{is_below, is_negative, is_zero};
+pub use kinds::{Sort, result_kind, sort_of};
 pub use powers::exact_power;
-pub use scalars::{scalar1, scalar2};
+pub use scalars::{is_power_below, scalar1, scalar2, whole_number};
+pub use table::{
+    apply_single, difference, floor_quotient, floor_remainder, left_shift, power, product,
+    right_shift, sum,
+};
 pub use ufunc::{BinaryUfunc, Single};

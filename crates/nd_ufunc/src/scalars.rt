@@ -10,14 +10,14 @@ ghost use Rattle.nd_ufunc.specs.Ufuncs.{single_of, ufunc_of};
 
 use crate::fault::UfuncFault;
 use crate::integers::{is_negative, is_zero};
-use crate::kinds::result_kind;
+use crate::kinds::{result_kind, sort_of};
 use crate::table::{apply_binary, apply_single};
 use crate::ufunc::{BinaryUfunc, Single};
 use nd_syntax::{BinaryOp, UnaryOp};
 use nd_types::{Kind, Num, wrap};
 
-/// The whole number that a number counts as.
-fn whole_number(number: Num) -> i128
+/// Returns the whole number that a number counts as.
+pub fn whole_number(number: Num) -> i128
     ensures { result ≡ operand.number_of (num_of number) }
 {
     match number {
@@ -27,8 +27,9 @@ fn whole_number(number: Num) -> i128
     }
 }
 
-/// Whether it is a power with an exponent below zero.
-fn is_power_below(ufunc: BinaryUfunc, right: i128) -> bool
+/// Returns whether the function is the power, and the number an exponent below zero.
+#[inline]
+pub fn is_power_below(ufunc: BinaryUfunc, right: i128) -> bool
     ensures { result ≡ operators.is_power_below (ufunc_of ufunc) right }
 {
     match ufunc {
@@ -58,7 +59,7 @@ pub fn scalar2(ufunc: BinaryUfunc, left: Num, right: Num) -> Result<Num, UfuncFa
     ensures { Says number_made result
         (operators.of_scalars (ufunc_of ufunc) (num_of left) (num_of right)) }
 {
-    let kind = result_kind(ufunc, left, right)?;
+    let kind = result_kind(ufunc, sort_of(left), sort_of(right))?;
     let right = whole_number(right);
     if is_power_below(ufunc, right) {
         return Err(UfuncFault::NegativePower);

@@ -11,7 +11,8 @@ ghost use Rattle.nd_model.specs.Syntax.{LeftShift, RightShift};
 ghost use Rattle.nd_syntax.specs.Syntax.{binary_op};
 
 use crate::integers::{
-    is_below, is_negative, is_zero, wrapping_difference, wrapping_product, wrapping_sum,
+    euclid_quotient, euclid_remainder, floor_shift, is_below, is_negative, is_zero,
+    wrapping_difference, wrapping_product, wrapping_sum,
 };
 use crate::powers::{exact_power, wrapping_power};
 use crate::ufunc::{BinaryUfunc, Single};
@@ -20,6 +21,7 @@ use nd_types::{Kind, wrap};
 
 /// A whole number, wrapped. Where 128 bits don't hold it, for which none stands, its lowest 128 bits are enough: only a Boolean is
 /// not told by them.
+#[inline(always)]
 fn wrap_exact(kind: Kind, exact: Option<i128>, lowest_bits: i128) -> i128
     ensures { (z : ℤ) → SomeIff exact (FitsSigned w128 z) z
         → int_wrap w128 lowest_bits ≡ int_wrap w128 z → result ≡ wrap (kind_of kind) z }
@@ -33,15 +35,17 @@ fn wrap_exact(kind: Kind, exact: Option<i128>, lowest_bits: i128) -> i128
     }
 }
 
-/// A sum.
-fn sum(kind: Kind, left: i128, right: i128) -> i128
+/// Returns the sum, wrapped to the kind.
+#[inline(always)]
+pub fn sum(kind: Kind, left: i128, right: i128) -> i128
     ensures { result ≡ wrap (kind_of kind) (left +ℤ right) }
 {
     wrap_exact(kind, left.checked_add(right), wrapping_sum(left, right))
 }
 
-/// A difference.
-fn difference(kind: Kind, left: i128, right: i128) -> i128
+/// Returns the difference, wrapped to the kind.
+#[inline(always)]
+pub fn difference(kind: Kind, left: i128, right: i128) -> i128
     ensures { result ≡ wrap (kind_of kind) (left -ℤ right) }
 {
     wrap_exact(
@@ -51,44 +55,48 @@ fn difference(kind: Kind, left: i128, right: i128) -> i128
     )
 }
 
-/// A product.
-fn product(kind: Kind, left: i128, right: i128) -> i128
+/// Returns the product, wrapped to the kind.
+#[inline(always)]
+pub fn product(kind: Kind, left: i128, right: i128) -> i128
     ensures { result ≡ wrap (kind_of kind) (left *ℤ right) }
 {
     wrap_exact(kind, left.checked_mul(right), wrapping_product(left, right))
 }
 
 /// The number with the other sign.
+#[inline(always)]
 fn negation(kind: Kind, number: i128) -> i128
     ensures { result ≡ wrap (kind_of kind) (neg_ℤ number) }
 {
     wrap_exact(kind, number.checked_neg(), wrapping_difference(0, number))
 }
 
-/// The quotient, rounded down.
-fn floor_quotient(kind: Kind, number: i128, divisor: i128) -> i128
+/// Returns the quotient, rounded down and wrapped to the kind.
+#[inline(always)]
+pub fn floor_quotient(kind: Kind, number: i128, divisor: i128) -> i128
     requires { divisor ≢ pos 0 }
     ensures { result ≡ wrap (kind_of kind) (operators.floor_quotient number divisor) }
 {
     if divisor == -1 {
         return negation(kind, number);
     }
-    let quotient = number.div_euclid(divisor);
+    let quotient = euclid_quotient(number, divisor);
     if is_below(number, divisor) {
         return difference(kind, quotient, 1);
     }
     wrap(kind, quotient)
 }
 
-/// What is left, with the sign of the divisor.
-fn floor_remainder(kind: Kind, number: i128, divisor: i128) -> i128
+/// Returns what is left, with the sign of the divisor, wrapped to the kind.
+#[inline(always)]
+pub fn floor_remainder(kind: Kind, number: i128, divisor: i128) -> i128
     requires { divisor ≢ pos 0 }
     ensures { result ≡ wrap (kind_of kind) (operators.floor_remainder number divisor) }
 {
     if divisor == -1 {
         return wrap(kind, 0);
     }
-    let rest = number.rem_euclid(divisor);
+    let rest = euclid_remainder(number, divisor);
     if is_below(number, divisor) {
         return sum(kind, rest, divisor);
     }
@@ -96,6 +104,7 @@ fn floor_remainder(kind: Kind, number: i128, divisor: i128) -> i128
 }
 
 /// Whether a shift by so many bits leaves some of a kind's.
+#[inline(always)]
 fn leaves_bits(kind: Kind, count: i128) -> bool
     ensures value { result ≡ operators.leaves_bits (kind_of kind) count }
     ensures few { result ≡ true → unsigned_abs count < 64 }
@@ -106,8 +115,9 @@ fn leaves_bits(kind: Kind, count: i128) -> bool
     count.unsigned_abs() < u128::from(8 * kind.size())
 }
 
-/// The number with so many bits behind it.
-fn left_shift(kind: Kind, number: i128, count: i128) -> i128
+/// Returns the number with so many bits behind it, wrapped to the kind.
+#[inline(always)]
+pub fn left_shift(kind: Kind, number: i128, count: i128) -> i128
     ensures { result ≡ wrap (kind_of kind)
         (operators.exact (kind_of kind) (operators.Operator LeftShift) number count) }
 {
@@ -117,13 +127,14 @@ fn left_shift(kind: Kind, number: i128, count: i128) -> i128
     product(kind, number, 2i128.pow(count.unsigned_abs() as u32))
 }
 
-/// The number without so many bits, rounded down.
-fn right_shift(kind: Kind, number: i128, count: i128) -> i128
+/// Returns the number without so many bits, rounded down and wrapped to the kind.
+#[inline(always)]
+pub fn right_shift(kind: Kind, number: i128, count: i128) -> i128
     ensures { result ≡ wrap (kind_of kind)
         (operators.exact (kind_of kind) (operators.Operator RightShift) number count) }
 {
     if leaves_bits(kind, count) {
-        return floor_quotient(kind, number, 2i128.pow(count.unsigned_abs() as u32));
+        return wrap(kind, floor_shift(number, count.unsigned_abs() as u32));
     }
     if is_negative(number) {
         return wrap(kind, -1);
@@ -131,8 +142,8 @@ fn right_shift(kind: Kind, number: i128, count: i128) -> i128
     wrap(kind, 0)
 }
 
-/// The power. An exponent below zero is refused before.
-fn power(kind: Kind, base: i128, exponent: i128) -> i128
+/// Returns the power, wrapped to the kind. An exponent below zero counts as its absolute value.
+pub fn power(kind: Kind, base: i128, exponent: i128) -> i128
     ensures { result ≡ wrap (kind_of kind) (int_pow base (unsigned_abs exponent)) }
 {
     let exponent = exponent.unsigned_abs();
@@ -192,8 +203,9 @@ pub(crate) fn apply_binary(kind: Kind, ufunc: BinaryUfunc, left: i128, right: i1
     }
 }
 
-/// What a function of one number gives.
-pub(crate) fn apply_single(kind: Kind, op: Single, number: i128) -> i128
+/// Returns what a function of one number gives: its exact value, wrapped to the kind.
+#[inline(always)]
+pub fn apply_single(kind: Kind, op: Single, number: i128) -> i128
     ensures { result ≡ wrap (kind_of kind) (operators.exact_single (single_of op) number) }
 {
     match op {

@@ -18,8 +18,8 @@ pub returns-then-is_below : goal.returns-then-is_below
 returns-then-is_below c =
     let number = c.ranges.number in
     let divisor = c.ranges.divisor in
-    let fits : FitsSigned w128 c.div_euclid-quotient.result = search rules in
+    let fits : FitsSigned w128 c.euclid_quotient-quotient.result = search rules in
     let less : is_below c.args.number c.args.divisor ≡ true = sym (simp to_z-of_z at c.is_below.ensures) ∙ c.if-is_below.true in
-    let is : c.div_euclid-quotient.result ≡ int_div_euclid c.args.number c.args.divisor = simp to_z-of_z at c.div_euclid-quotient.ensures in
+    let is : c.euclid_quotient-quotient.result ≡ int_div_euclid c.args.number c.args.divisor = simp to_z-of_z at c.euclid_quotient-quotient.ensures in
     to_z-of_z {w = w128} (search rules) ∙ c.difference.ensures
     ∙ ap (wrap (kind_of c.args.kind)) (ap (λ z. z -ℤ pos 1) (to_z-of_z fits ∙ is) ∙ sym (quotient_below c.args.number c.args.divisor less))

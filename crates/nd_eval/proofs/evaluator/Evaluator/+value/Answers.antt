@@ -6,7 +6,7 @@ use Rattle.nd_model.specs.Evaluation.{Eval, Gives, run, ◌>>=◌, decide}
 use Rattle.nd_model.specs.Meaning as meaning
 use Rattle.nd_model.specs.Viewing as viewing
 use Rattle.nd_model.specs.Cells.{chained, elements_of, items_of}
-use Rattle.nd_model.specs.Operators.{binary}
+use Rattle.nd_model.specs.Elementwise.{binary}
 use Rattle.nd_model.specs.Creation.{arange}
 use Rattle.nd_model.specs.Meaning.{is_given}
 use Rattle.nd_eval.proofs.Ranging.{range_first, range_is, range_parts}
@@ -680,6 +680,11 @@ binary_value-operate-requires-clause-left t c =
 pub binary_value-operate-requires-clause-right : goal.binary_value-operate-requires-clause-right
 binary_value-operate-requires-clause-right t c =
     value_held (inputs_of c.args.self.now.inputs.now.entries) (expr_of c.args.right.now) _ _ c.in_ok-right.right c.in_ok-right.ensures.0 c.soundness.ensures
+
+pub binary_value-operate-requires-clause-room : goal.binary_value-operate-requires-clause-room
+binary_value-operate-requires-clause-room t c =
+    let made = next_value (inputs_of c.args.self.now.inputs.now.entries) (expr_of c.args.right.now) _ _ _ c.in_ok-right.ensures.0 in
+    omega arith
 
 pub binary_value-returns : goal.binary_value-returns
 binary_value-returns t c = (

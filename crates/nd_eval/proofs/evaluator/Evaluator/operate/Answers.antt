@@ -1,16 +1,14 @@
-use Rattle.std.proofs.Common.{◌∙◌, Ok, refl}
+use Rattle.std.proofs.Common.{◌∙◌, refl}
 use Rattle.nd_model.specs.Evaluation.{◌>>=◌, decide}
 use Rattle.nd_model.specs.Operand.{Whole}
 use Rattle.nd_model.specs.Operation.{give, use_operand}
 use Rattle.nd_heap.specs.Values.{value_of}
-use Rattle.nd_heap.specs.declared.value.Value.TheVariants.{Number}
 use Rattle.nd_input.specs.Values.{inputs_of}
 use Rattle.nd_session.specs.Live.{live}
-use Rattle.nd_operation.specs.Contents.{number_made, operand_of}
+use Rattle.nd_operation.specs.Contents.{operand_of}
 use Rattle.nd_operation.specs.OfTwo.{made_of_two}
-use Rattle.nd_eval.proofs.Chains.{exits_saying, follows_saying}
-use Rattle.nd_eval.proofs.Creating.{given_number}
-use Rattle.nd_eval.proofs.Uses.{kept_bytes, follows_use}
+use Rattle.nd_eval.proofs.Creating.{exits_new, follows_new}
+use Rattle.nd_eval.proofs.Uses.{kept_bytes, kept_next, follows_use}
 use Rattle.nd_eval.proofs.Held.{held_marked}
 use Rattle.nd_eval.proofs.evaluator.Evaluator.operate.Goals as goal
 
@@ -26,8 +24,14 @@ operand_in-right-requires c =
     held_marked w w (live c.mark_operand.new.session) (live c.mark_operand-2.new.session) c.in_ok-mark_operand-2.ensures
     (held_marked c.args.left.now w (live c.args.self.now.session.now) (live c.mark_operand.new.session) c.in_ok-mark_operand.ensures c.requires.right)
 
-pub returns-in_err-number : goal.returns-in_err-number
-returns-in_err-number c =
+pub give-requires : goal.give-requires
+give-requires c =
+    let once = kept_next c.args.left.now _ _ c.in_ok-mark_operand.ensures in
+    let again = kept_next c.args.right.now _ _ c.in_ok-mark_operand-2.ensures in
+    rw (again, once) c.requires.room
+
+pub returns-in_err-new : goal.returns-in_err-new
+returns-in_err-new c =
     let i = inputs_of c.args.self.now.inputs.now.entries in
     let v = c.args.left.now in
     let w = c.args.right.now in
@@ -37,7 +41,7 @@ returns-in_err-number c =
     let again = kept_bytes w _ _ c.in_ok-mark_operand-2.ensures in (
       follows_use value_of i v (λ o. use_operand Whole (value_of w) >>= λ p. decide (f o p) >>= give) _ _ _ _ c.operand_in-left.result _ c.in_ok-mark_operand.ensures (again ∙ once) c.operand_in-left.ensures
           (follows_use value_of i w (λ p. decide (f o p) >>= give) _ _ _ _ c.operand_in-right.result _ c.in_ok-mark_operand-2.ensures again c.operand_in-right.ensures
-          (exits_saying number_made value_of i (f o (operand_of c.operand_in-right.result)) give _ _ _ c.from_residual-in_err-number.ensures.1 c.in_err-number.ensures)),
+          (exits_new i (f o (operand_of c.operand_in-right.result)) _ _ _ c.from_residual-in_err-new.ensures.1 c.in_err-new.ensures)),
       (refl, refl),
     )
 
@@ -48,12 +52,10 @@ returns c =
     let w = c.args.right.now in
     let f = made_of_two c.args.call in
     let o = operand_of c.operand_in-left.result in
-    let last = live c.mark_operand-2.new.session in
-    let n = c.in_ok-number.number in
     let once = kept_bytes v _ _ c.in_ok-mark_operand.ensures in
     let again = kept_bytes w _ _ c.in_ok-mark_operand-2.ensures in (
-      follows_use value_of i v (λ o. use_operand Whole (value_of w) >>= λ p. decide (f o p) >>= give) _ _ last _ c.operand_in-left.result (Ok (Number n)) c.in_ok-mark_operand.ensures (again ∙ once) c.operand_in-left.ensures
-          (follows_use value_of i w (λ p. decide (f o p) >>= give) _ _ last _ c.operand_in-right.result (Ok (Number n)) c.in_ok-mark_operand-2.ensures again c.operand_in-right.ensures
-          (follows_saying number_made value_of i (f o (operand_of c.operand_in-right.result)) give last last n (Ok (Number n)) c.in_ok-number.ensures (given_number i n last))),
-      (refl, refl),
+      follows_use value_of i v (λ o. use_operand Whole (value_of w) >>= λ p. decide (f o p) >>= give) _ _ _ _ c.operand_in-left.result _ c.in_ok-mark_operand.ensures (again ∙ once) c.operand_in-left.ensures
+          (follows_use value_of i w (λ p. decide (f o p) >>= give) _ _ _ _ c.operand_in-right.result _ c.in_ok-mark_operand-2.ensures again c.operand_in-right.ensures
+          (follows_new i (f o (operand_of c.operand_in-right.result)) _ _ c.in_ok-new.new _ c.in_ok-new.ensures c.give.ensures.0)),
+      c.give.ensures.1,
     )

@@ -1,0 +1,71 @@
+//! Kinds, each a type of its own, so that a loop over numbers of one is a loop of its own.
+use nd_types::Kind;
+
+/// Numbers of a kind that is known where the code is compiled.
+pub(crate) trait KnownKind {
+    /// Which kind it is.
+    const KIND: Kind;
+}
+
+/// Booleans.
+pub(crate) struct Booleans;
+
+impl KnownKind for Booleans {
+    const KIND: Kind = Kind::Bool;
+}
+
+/// Signed numbers of 8 bits.
+pub(crate) struct Int8s;
+
+impl KnownKind for Int8s {
+    const KIND: Kind = Kind::I8;
+}
+
+/// Signed numbers of 16 bits.
+pub(crate) struct Int16s;
+
+impl KnownKind for Int16s {
+    const KIND: Kind = Kind::I16;
+}
+
+/// Signed numbers of 32 bits.
+pub(crate) struct Int32s;
+
+impl KnownKind for Int32s {
+    const KIND: Kind = Kind::I32;
+}
+
+/// Signed numbers of 64 bits.
+pub(crate) struct Int64s;
+
+impl KnownKind for Int64s {
+    const KIND: Kind = Kind::I64;
+}
+
+/// Unsigned numbers of 8 bits.
+pub(crate) struct UInt8s;
+
+impl KnownKind for UInt8s {
+    const KIND: Kind = Kind::U8;
+}
+
+/// Unsigned numbers of 16 bits.
+pub(crate) struct UInt16s;
+
+impl KnownKind for UInt16s {
+    const KIND: Kind = Kind::U16;
+}
+
+/// Unsigned numbers of 32 bits.
+pub(crate) struct UInt32s;
+
+impl KnownKind for UInt32s {
+    const KIND: Kind = Kind::U32;
+}
+
+/// Unsigned numbers of 64 bits.
+pub(crate) struct UInt64s;
+
+impl KnownKind for UInt64s {
+    const KIND: Kind = Kind::U64;
+}

@@ -1,0 +1,22 @@
+//! NumPy's operators on arrays, element by element: the shapes are broadcast, and the results are a new array.
+#![tactic(auto)]
+
+mod argument;
+mod elements;
+mod fault;
+mod feed;
+mod fill;
+mod kernel;
+mod known;
+mod map;
+mod operation;
+mod pairs;
+mod powers;
+mod reading;
+mod repeated;
+mod results;
+mod stretched;
+
+pub use argument::Argument;
+pub use fault::MapFault;
+pub use map::{map1, map2};

@@ -1,0 +1,109 @@
+//! Arguments in a greater shape.
+ghost use Rattle.std.specs.Prelude.{◌≡◌, ◌≢◌, None, true, IfOk, IsTrue};
+ghost use Rattle.nd_model.specs.Broadcast.{broadcasts_to, broadcast_view};
+ghost use Rattle.nd_model.specs.Element as element;
+ghost use Rattle.nd_model.specs.Elementwise.{operand_sort};
+ghost use Rattle.nd_model.specs.Operand as operand;
+ghost use Rattle.nd_model.specs.Strides.{IsInLimits};
+ghost use Rattle.nd_model.specs.Tuple.{elements_of};
+ghost use Rattle.nd_model.specs.View.{One};
+ghost use Rattle.nd_types.specs.Kinds.{kind_of};
+ghost use Rattle.nd_elementwise.specs.Arguments.{LiesInBlock, argument_of, numbers_beside};
+ghost use Rattle.nd_elementwise.specs.Feeds.{numbers_left};
+ghost use Rattle.nd_elementwise.specs.Sides.{Keeps};
+ghost use Rattle.nd_elementwise.specs.Stretched.{IsHeld, stretched_numbers};
+
+use crate::argument::Argument;
+use crate::elements::Elements;
+use crate::feed::Feed;
+use crate::repeated::Repeated;
+use nd_shape::broadcast_to;
+use nd_types::{Elem, ElemType, Kind, highest, lowest};
+use nd_ufunc::whole_number;
+use nd_view::View;
+use std::alloc::{AllocError, Global};
+
+/// An argument in a greater shape: one number in each place of it, or elements in the bytes of their block.
+#[derive(Drop)]
+pub(crate) enum Stretched<'v> {
+    Number(i128),
+    Elements(View, Elem, &'v [u8]),
+}
+
+// The view of a shape to which it is known to broadcast.
+fn stretch_view(alloc: Global, view: &View, elem: Elem, shape: &[u64]) -> Result<View, AllocError>
+    requires numbers { view.now.element ≡ One elem }
+    requires limits { (k : element.Kind) → IsInLimits (element.size_of k) shape.now }
+    requires fits { broadcasts_to view.now.shape shape.now ≡ true }
+    ensures { IfOk result (λ v. v ≡ broadcast_view view.now shape.now) }
+{
+    let _elem = elem;
+    match broadcast_to(alloc, view, shape)? {
+        Ok(stretched) => Ok(stretched),
+        Err(_) => unreachable!(),
+    }
+}
+
+/// Returns an argument of numbers in a shape to which it is known to broadcast.
+pub(crate) fn stretch<'v>(
+    alloc: Global,
+    argument: Argument<'v>,
+    shape: &[u64],
+) -> Result<Stretched<'v>, AllocError>
+    requires numbers { operand_sort (argument_of argument) ≢ None }
+    requires lies { LiesInBlock argument }
+    requires limits { (k : element.Kind) → IsInLimits (element.size_of k) shape.now }
+    requires fits { broadcasts_to (operand.shape_of (argument_of argument)) shape.now ≡ true }
+    ensures numbers { IfOk result (λ s. stretched_numbers s (elements_of shape.now)
+        ≡ numbers_beside (argument_of argument.entry) shape.now) }
+    ensures held { IfOk result IsHeld }
+{
+    match argument {
+        Argument::Number(number) => Ok(Stretched::Number(whole_number(number))),
+        Argument::Elements(view, bytes) => match view.elem() {
+            ElemType::One(elem) => {
+                let stretched = stretch_view(alloc, view, *elem, shape)?;
+                Ok(Stretched::Elements(stretched, *elem, bytes))
+            }
+            ElemType::Rec(_) => unreachable!(),
+        },
+    }
+}
+
+// Whether a kind has each number of another.
+fn has_numbers_of(kind: Kind, of: Kind) -> bool
+    ensures { IsTrue result → Keeps (kind_of of) (kind_of kind) }
+{
+    lowest(kind) <= lowest(of) && highest(of) <= highest(kind)
+}
+
+// The kind that is wanted, if it has each number of their own, which it is else.
+fn side_kind(kind: Kind, own: Kind) -> Kind
+    ensures { Keeps (kind_of own) (kind_of result) }
+{
+    if has_numbers_of(kind, own) { kind } else { own }
+}
+
+impl<'v> Stretched<'v> {
+    /// Begins with all numbers of a shape that has so many elements. They are wanted in a kind.
+    pub(crate) fn begin(&self, kind: Kind, count: usize) -> Feed<'_>
+        requires { IsHeld self.now }
+        ensures { numbers_left result ≡ stretched_numbers self.now count }
+    {
+        match self {
+            Stretched::Number(number) => Feed::Number(Repeated::new(*number, count)),
+            Stretched::Elements(view, elem, bytes) => {
+                let kind = side_kind(kind, elem.kind());
+                Feed::All(Elements::new(view, bytes, *elem, kind))
+            }
+        }
+    }
+
+    /// Returns the kind of elements, `None` of a number.
+    pub(crate) fn kind(&self) -> Option<Kind> {
+        match self {
+            Stretched::Number(_) => None,
+            Stretched::Elements(_, elem, _) => Some(elem.kind()),
+        }
+    }
+}

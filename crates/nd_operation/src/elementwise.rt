@@ -1,0 +1,76 @@
+//! Functions of NumPy on arrays, element by element: they make a new array, or a NumPy scalar where it has no axes.
+
+ghost use Rattle.std.specs.Prelude.{◌≡◌};
+ghost use Rattle.nd_model.specs.Elementwise as elementwise;
+ghost use Rattle.nd_model.specs.Elementwise.{Numbers, numbers_made};
+ghost use Rattle.nd_model.specs.Operand.{made_of};
+ghost use Rattle.nd_model.specs.Operation.{give};
+ghost use Rattle.nd_ufunc.specs.Ufuncs.{single_of, ufunc_of};
+ghost use Rattle.nd_elementwise.specs.Arguments.{LiesInBlock, argument_of};
+ghost use Rattle.nd_operation.specs.Contents.{operand_of};
+ghost use Rattle.nd_operation.specs.Elementwise.{IsArrayOf, as_array};
+ghost use Rattle.nd_operation.specs.New.{MakesNew, given};
+ghost use Rattle.nd_operation.specs.Stops.{map_stop};
+ghost use Rattle.nd_elementwise.specs.declared.fault.MapFault.{MapFault};
+
+use crate::operand::{New, Operand};
+use crate::stop::Stop;
+use nd_block::RawBlock;
+use nd_elementwise::{Argument, map1, map2};
+use nd_types::{ElemType, Num};
+use nd_ufunc::{BinaryUfunc, Single};
+use nd_view::View;
+use std::alloc::Global;
+
+/// An operand as an argument of a function. A row is an array without axes there.
+fn argument_of<'v>(operand: &Operand<'v>) -> Argument<'v>
+    ensures value { argument_of result ≡ as_array (operand_of operand.now) }
+    ensures held { LiesInBlock result }
+{
+    match operand {
+        Operand::Number(number) => Argument::Number(*number),
+        Operand::Elements(elements) => {
+            elements.soundness();
+            Argument::Elements(elements.view, elements.block)
+        }
+    }
+}
+
+/// What is made of a new array of numbers: the number, where there are no axes.
+fn new_numbers(view: View, block: RawBlock) -> New
+    requires { (n : Numbers) × IsArrayOf n view block }
+    ensures { (n : Numbers) → IsArrayOf n view block
+        → give (made_of n.kind n.shape n.number) ≡ given result }
+{
+    if view.shape().is_empty() {
+        let ElemType::One(elem) = view.elem() else {
+            unreachable!();
+        };
+        let number = block.load(0, *elem);
+        return New::Number(Num::Scalar(elem.kind(), number));
+    }
+    New::Array(view, block)
+}
+
+/// What a function of two operands makes, where one is no number.
+pub(crate) fn map_two(
+    alloc: Global,
+    ufunc: BinaryUfunc,
+    left: &Operand<'_>,
+    right: &Operand<'_>,
+) -> Result<New, Stop>
+    ensures { MakesNew result (numbers_made (elementwise.binary_numbers (ufunc_of ufunc)
+        (operand_of left.now) (operand_of right.now))) }
+{
+    let (view, block) = map2(alloc, ufunc, argument_of(left), argument_of(right))?;
+    Ok(new_numbers(view, block))
+}
+
+/// What a function of one operand makes that is no number.
+pub(crate) fn map_one(alloc: Global, op: Single, operand: &Operand<'_>) -> Result<New, Stop>
+    ensures { MakesNew result
+        (numbers_made (elementwise.single_numbers (single_of op) (operand_of operand.now))) }
+{
+    let (view, block) = map1(alloc, op, argument_of(operand))?;
+    Ok(new_numbers(view, block))
+}

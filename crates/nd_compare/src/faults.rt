@@ -40,6 +40,7 @@ fn add_ufunc_fault(text: &mut String, fault: UfuncFault) -> Result<(), AllocErro
         UfuncFault::ReadOnly => write!(text, "read only"),
         UfuncFault::NotNumbers => write!(text, "not numbers"),
         UfuncFault::BoolOp => write!(text, "an operation on Booleans"),
+        UfuncFault::KindCast => write!(text, "kind cast"),
         UfuncFault::NegativePower => write!(text, "negative power"),
     }
 }

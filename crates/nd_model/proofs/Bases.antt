@@ -289,9 +289,9 @@ at_all (e ∷ es) = omega (arith, at_expr e, at_all es)
 pub at_stmt : (s : Stmt) → work_bases (Meaning.work s) ≤ tokens_of_stmt s
 at_stmt syntax.Import = omega arith
 at_stmt (syntax.Bind n e) = omega (arith, at_expr e)
-at_stmt (syntax.Augment n op e) = omega arith
+at_stmt (syntax.Augment n op e) = omega (arith, at_expr e)
 at_stmt (syntax.Assign t x e) = omega (arith, at_expr t, at_index x, at_expr e)
-at_stmt (syntax.AugmentItem t x op e) = omega arith
+at_stmt (syntax.AugmentItem t x op e) = omega (arith, at_expr t, at_index x, at_expr e)
 at_stmt (syntax.Delete n) = omega arith
 at_stmt (syntax.Print es) = omega (arith, at_all es)
 at_stmt (syntax.Save n e) = omega arith

@@ -21,6 +21,7 @@ pub data UfuncFault : Type 0 where
   FloatResult : UfuncFault
   IntOutOfRange : ℤ → UfuncFault
   BoolOp : UfuncFault
+  KindCast : UfuncFault
   NegativePower : UfuncFault
   ShapeMismatch : UfuncFault
   ReadOnly : UfuncFault

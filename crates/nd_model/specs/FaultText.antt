@@ -1,7 +1,7 @@
 -- The texts of refusals, as a script is answered.
 use Rattle.std.specs.Prelude.{ℕ, List, ◌++◌, codes, decimal}
 use Rattle.std.specs.Fmt.{signed_decimal}
-use Rattle.nd_model.specs.Fault.{ViewFault, OutOfBlock, TooManyAxes, TooManyElements, AxesDiffer, ItemSizes, IndexFault, OutOfBounds, TooManyIndices, ZeroStep, NotAnIndex, TwoEllipses, NoField, UfuncFault, FloatResult, IntOutOfRange, BoolOp, NegativePower, ShapeMismatch, ReadOnly, NotNumbers, StmtFault, NoName, IntTooBig, ZeroDivide, NegativeShift, NeedsType, RaggedList, NotAnArray, TextTooLong, BadArgument, BadType, Fault, View, Index, Shape, Ufunc, Stmt, ParseKind, BadToken, Unexpected, TooDeep, TooManyStatements, UnknownCall, LeftOut, Refusal, Parse, Statement}
+use Rattle.nd_model.specs.Fault.{ViewFault, OutOfBlock, TooManyAxes, TooManyElements, AxesDiffer, ItemSizes, IndexFault, OutOfBounds, TooManyIndices, ZeroStep, NotAnIndex, TwoEllipses, NoField, UfuncFault, FloatResult, IntOutOfRange, BoolOp, KindCast, NegativePower, ShapeMismatch, ReadOnly, NotNumbers, StmtFault, NoName, IntTooBig, ZeroDivide, NegativeShift, NeedsType, RaggedList, NotAnArray, TextTooLong, BadArgument, BadType, Fault, View, Index, Shape, Ufunc, Stmt, ParseKind, BadToken, Unexpected, TooDeep, TooManyStatements, UnknownCall, LeftOut, Refusal, Parse, Statement}
 use Rattle.nd_model.specs.ShapeFault as shape
 use Rattle.nd_model.specs.ShapeFault.{ShapeFault}
 use Rattle.nd_model.specs.Book as book
@@ -32,6 +32,7 @@ abbrev pub ufunc_text : UfuncFault → List ℕ
 ufunc_text FloatResult = codes "FloatResult"
 ufunc_text (IntOutOfRange number) = codes "IntOutOfRange " ++ signed_decimal number
 ufunc_text BoolOp = codes "BoolOp"
+ufunc_text KindCast = codes "KindCast"
 ufunc_text NegativePower = codes "NegativePower"
 ufunc_text ShapeMismatch = codes "ShapeMismatch"
 ufunc_text ReadOnly = codes "ReadOnly"

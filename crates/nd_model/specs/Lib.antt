@@ -49,6 +49,7 @@ pub mod ShapeChoices
 pub mod Viewing
 pub mod Assigning
 pub mod Writing
+pub mod Augmenting
 pub mod Operation
 pub mod Meaning
 pub mod Cell

@@ -4,7 +4,7 @@ use Rattle.nd_model.specs.Value.{Value}
 use Rattle.nd_model.specs.Running.{Source, Effect}
 use Rattle.nd_model.specs.Fault.{Fault, BadArgument}
 use Rattle.nd_model.specs.Fault as fault
-use Rattle.nd_model.specs.Syntax.{Expr, Exprs, NoExpr, AndExpr, Name, Integer, Unary, Binary, Called, Call, Arange, Filled, Full, NewArray, Convert, Minimum, Maximum, Absolute, PythonAbs, Load, Buffer, Bound, Omitted, Given, Elements, NoElement, AndElement, Element, Single, Nested, Item, Attribute, Method, Copy, AsType, Transpose, Reshape, ViewAs, Index, Field, Items, IndexItems, IndexItem, AndItem, NoItem, At, Slice, Ellipsis, NewAxis, Listed, Stmt, Import, Bind, Assign, Delete, Print}
+use Rattle.nd_model.specs.Syntax.{Expr, Exprs, NoExpr, AndExpr, Name, Integer, Unary, Binary, Called, Call, Arange, Filled, Full, NewArray, Convert, Minimum, Maximum, Absolute, PythonAbs, Load, Buffer, Bound, Omitted, Given, Elements, NoElement, AndElement, Element, Single, Nested, Item, Attribute, Method, Copy, AsType, Transpose, Reshape, ViewAs, Index, Field, Items, IndexItems, IndexItem, AndItem, NoItem, At, Slice, Ellipsis, NewAxis, Listed, Stmt, Import, Bind, Augment, Assign, AugmentItem, Delete, Print}
 use Rattle.nd_model.specs.Syntax as syntax
 use Rattle.nd_model.specs.Refusing as refusing
 use Rattle.nd_model.specs.Evaluation.{Eval}
@@ -14,10 +14,11 @@ use Rattle.nd_model.specs.Operators.{Of}
 use Rattle.nd_model.specs.Elementwise.{binary, single, call_binary, call_single}
 use Rattle.nd_model.specs.Creation.{arange, filled, full, new_array, array_of_list, convert, copy_array, astype}
 use Rattle.nd_model.specs.Writing.{assignment_writes}
+use Rattle.nd_model.specs.Augmenting.{augment_name, augment_item}
 use Rattle.nd_model.specs.Index.{Form, AtForm, SliceForm, EllipsisForm, NewAxisForm}
 use Rattle.nd_model.specs.Viewing.{Viewing, Indexed, Fielded, Transposed, Reshaped, BroadcastTo, ViewedAs}
 use Rattle.nd_model.specs.Printing.{print_deed}
-use Rattle.nd_model.specs.Operation.{Computes, Views, Plan, Named, FromInput, Does, Plans, Done, And, evaluate, Work, Acts, do_work}
+use Rattle.nd_model.specs.Operation.{Computes, Views, Plan, Named, FromInput, Does, Plans, Done, And, evaluate, Work, Acts, ActsOn, do_work}
 
 -- a function of one operand
 abbrev pub one : (Operand → Result Made Fault) → List Operand → Result Made Fault
@@ -25,7 +26,7 @@ one f (x ∷ []) = f x
 one f _ = Err (fault.Stmt BadArgument)
 
 -- and of two
-abbrev pub two : (Operand → Operand → Result Made Fault) → List Operand → Result Made Fault
+abbrev pub two : {A : Type 0} → (Operand → Operand → Result A Fault) → List Operand → Result A Fault
 two f (x ∷ y ∷ []) = f x y
 two f _ = Err (fault.Stmt BadArgument)
 
@@ -148,6 +149,8 @@ abbrev pub work : Stmt → Work
 work Import = Acts (λ os. Ok NoDeed) Done
 work (Bind n e) = Acts (λ os. Ok (BindsFirst n)) (And Unused (plan e) Done)
 work (Assign t x e) = Acts (assignment_deed (viewing_of x)) (And Whole (plan e) (And Unused (plan t) (index_plans x)))
+work (Augment n op e) = Acts (two (augment_name n op)) (And Whole (Named n) (And Whole (plan e) Done))
+work (AugmentItem t x op e) = ActsOn (augment_item op (viewing_of x)) (viewing_of x) (And Unused (plan t) (index_plans x)) (plan e)
 work (Delete n) = Acts (λ os. Ok (Unbinds n)) (And Unused (Named n) Done)
 work (Print es) = Acts print_deed (whole_plans es)
 work _ = Acts unbuilt_form Done

@@ -161,6 +161,7 @@ fn push_ufunc_fault(out: &mut Vec<u8>, fault: UfuncFault) -> Result<(), AllocErr
         UfuncFault::ReadOnly => push_text(out, "ReadOnly"),
         UfuncFault::NotNumbers => push_text(out, "NotNumbers"),
         UfuncFault::BoolOp => push_text(out, "BoolOp"),
+        UfuncFault::KindCast => push_text(out, "KindCast"),
         UfuncFault::NegativePower => push_text(out, "NegativePower"),
     }
 }

@@ -1,19 +1,7 @@
 //! Behind a new cell that does nothing but bind new names.
 
-ghost use Rattle.std.specs.Prelude.{
-  ◌≡◌,
-  ◌<◌,
-  ◌≤◌,
-  ◌+◌,
-  ◌^◌,
-  IfOk,
-  IfSome,
-  IsTrue,
-  MatchOption,
-  ℕ,
-  length,
-  map,
-};
+ghost use Rattle.std.specs.Prelude.{◌≡◌, ◌<◌, ◌≤◌, ◌+◌, ◌^◌, IfOk, IfSome, IsTrue, MatchOption, ℕ};
+ghost use Rattle.std.specs.Prelude.{length, map};
 ghost use Rattle.nd_model.specs.Beside.{HasNoName, IsBeside};
 ghost use Rattle.nd_model.specs.Renaming.{AreDistinct};
 ghost use Rattle.nd_model.specs.Book.{labels_of};

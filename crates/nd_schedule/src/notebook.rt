@@ -1,32 +1,8 @@
 //! The notebook.
 
-ghost use Rattle.std.specs.Prelude.{
-  ◌≡◌,
-  ◌<◌,
-  ◌≤◌,
-  ◌+◌,
-  ◌-◌,
-  ◌^◌,
-  ◌⊎◌,
-  ◌++◌,
-  [],
-  Some,
-  IfOk,
-  IfSome,
-  IsTrue,
-  MatchOption,
-  ℕ,
-  OnErr,
-  OnOk,
-  drop,
-  is_some,
-  length,
-  map,
-  slice_get,
-  slice_index_or,
-  take,
-  unwrap_or,
-};
+ghost use Rattle.std.specs.Prelude.{◌≡◌, ◌<◌, ◌≤◌, ◌+◌, ◌-◌, ◌^◌, ◌⊎◌, ◌++◌, [], Some, IfOk};
+ghost use Rattle.std.specs.Prelude.{IfSome, IsTrue, MatchOption, ℕ, OnErr, OnOk, drop, is_some};
+ghost use Rattle.std.specs.Prelude.{length, map, slice_get, slice_index_or, take, unwrap_or};
 ghost use Rattle.std.specs.List.{splice};
 ghost use Rattle.nd_model.specs.Session.{lookup};
 ghost use Rattle.nd_model.specs.Renaming.{AreDistinct};

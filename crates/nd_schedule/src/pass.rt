@@ -1,33 +1,9 @@
 //! A pass over the cells of an edited notebook.
 
-ghost use Rattle.std.specs.Prelude.{
-  ◌≡◌,
-  ◌<◌,
-  ◌≤◌,
-  ◌+◌,
-  ◌-◌,
-  ◌^◌,
-  ◌⊎◌,
-  ◌++◌,
-  [],
-  Some,
-  IfOk,
-  IfSome,
-  IsFalse,
-  IsTrue,
-  MatchOption,
-  ℕ,
-  OnErr,
-  OnOk,
-  drop,
-  is_some,
-  length,
-  map,
-  slice_get,
-  slice_index_or,
-  take,
-  unwrap_or,
-};
+ghost use Rattle.std.specs.Prelude.{◌≡◌, ◌<◌, ◌≤◌, ◌+◌, ◌-◌, ◌^◌, ◌⊎◌, ◌++◌, [], Some, IfOk};
+ghost use Rattle.std.specs.Prelude.{IfSome, IsFalse, IsTrue, MatchOption, ℕ, OnErr, OnOk, drop};
+ghost use Rattle.std.specs.Prelude.{is_some, length, map, slice_get, slice_index_or, take};
+ghost use Rattle.std.specs.Prelude.{unwrap_or};
 ghost use Rattle.std.specs.List.{splice};
 ghost use Rattle.nd_model.specs.Session.{lookup};
 ghost use Rattle.nd_model.specs.Renaming.{AreDistinct};

@@ -2,12 +2,13 @@
 use Rattle.std.specs.Prelude.{◌≡◌, Result, Ok, Err}
 use Rattle.nd_model.specs.Fault as model
 use Rattle.nd_ufunc.specs.declared.fault.UfuncFault.{UfuncFault}
-use Rattle.nd_ufunc.specs.declared.fault.UfuncFault.TheVariants.{FloatResult, IntOutOfRange, BoolOp, NegativePower, ShapeMismatch, ReadOnly, NotNumbers}
+use Rattle.nd_ufunc.specs.declared.fault.UfuncFault.TheVariants.{FloatResult, IntOutOfRange, BoolOp, KindCast, NegativePower, ShapeMismatch, ReadOnly, NotNumbers}
 
 abbrev pub ufunc_fault_of : UfuncFault → model.UfuncFault
 ufunc_fault_of FloatResult = model.FloatResult
 ufunc_fault_of (IntOutOfRange z) = model.IntOutOfRange z
 ufunc_fault_of BoolOp = model.BoolOp
+ufunc_fault_of KindCast = model.KindCast
 ufunc_fault_of NegativePower = model.NegativePower
 ufunc_fault_of ShapeMismatch = model.ShapeMismatch
 ufunc_fault_of ReadOnly = model.ReadOnly

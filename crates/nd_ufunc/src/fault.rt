@@ -9,6 +9,8 @@ pub enum UfuncFault {
     IntOutOfRange(i128),
     /// NumPy does not do this with Booleans.
     BoolOp,
+    /// The kind of the results is not written in place to the array's.
+    KindCast,
     /// A power with an exponent below zero.
     NegativePower,
     /// The shapes do not broadcast (NumPy user guide, "Broadcasting").

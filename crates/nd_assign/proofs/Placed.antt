@@ -97,4 +97,5 @@ assigned_places = record {
   elements = λ g s bytes count from_count types fits p.
       elements p g.places g.shape count g.element s.element (value_shape s.shape g.shape) s.places bytes types (own_below s g.shape fits from_count);
   number = λ g z count is p. one_number p g.places g.shape count g.element (λ t. content_or (Num z ∷ []) (number [] (own_tuple [] t))) is;
+  numbers = λ g content count is p. one_number p g.places g.shape count g.element content is;
 }

@@ -1,7 +1,8 @@
 //! `Assignment`: an assignment that is made ready.
-ghost use Rattle.std.specs.Prelude.{◌≡◌};
+ghost use Rattle.std.specs.Prelude.{◌≡◌, Some, length, true};
+ghost use Rattle.nd_model.specs.Conversion.{converts};
 ghost use Rattle.nd_assign.specs.Prepared.{written_by};
-ghost use Rattle.nd_assign.specs.Ways.{IsPrepared, bytes_read};
+ghost use Rattle.nd_assign.specs.Ways.{AreIn, IsPrepared, bytes_read};
 
 use crate::gapless::move_gapless;
 use crate::views::copy_views;
@@ -68,6 +69,23 @@ impl<'v> Assignment<'v> {
             way,
             len,
         }
+    }
+
+    /// Makes ready what has been found in a block of its own: the elements of its view, for as many of the target, in C order. It takes
+    /// no memory.
+    pub fn of_block(target: &'v View, source: View, block: RawBlock, len: usize) -> Assignment<'v>
+        requires types { converts source.element target.now.element ≡ true }
+        requires counts { length source.places ≡ length target.now.places }
+        requires target { AreIn len target.now }
+        requires source { AreIn (length block) source }
+        ensures { result ≡ record {
+          target = target.now;
+          source = source;
+          bytes = Some block;
+          len = len;
+        } }
+    {
+        Assignment::new(target, source, Way::Copied(block), len)
     }
 
     /// Writes it to a block of as many bytes as it was made ready for, and leaves any other one as it is.

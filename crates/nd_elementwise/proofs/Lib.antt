@@ -1,3 +1,4 @@
+pub mod Alone
 pub mod Any
 pub mod Common
 pub mod Mapped

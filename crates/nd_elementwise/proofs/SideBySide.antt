@@ -53,7 +53,7 @@ side_by_side e bytes ps start step places is =
 
 -- numbers that are written in a kind that has them are read back
 module _ (e : Element) {A : Type 0} (f : A → ℤ) (held : (x : A) → IsValue e.kind (f x)) where
-  behind : (front : List ℕ) (xs : List A) (k : ℕ) → length front ≡ k * size_of e.kind
+  pub behind : (front : List ℕ) (xs : List A) (k : ℕ) → length front ≡ k * size_of e.kind
       → map (λ j. number_at e (front ++ flat_map (λ x. bytes_of e (f x)) xs) (j * size_of e.kind)) (count_up k (length xs)) ≡ map f xs
   behind front [] k long = refl
   behind front (x ∷ xs) k long =

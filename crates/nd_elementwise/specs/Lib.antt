@@ -6,3 +6,6 @@ pub mod Arguments
 pub mod Faults
 pub mod Stretched
 pub mod Made
+pub mod Prepared
+pub mod KeptLength
+pub mod WaysInPlace

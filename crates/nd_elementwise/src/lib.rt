@@ -6,6 +6,7 @@ mod elements;
 mod fault;
 mod feed;
 mod fill;
+mod in_place;
 mod kernel;
 mod known;
 mod map;
@@ -19,4 +20,5 @@ mod stretched;
 
 pub use argument::Argument;
 pub use fault::MapFault;
+pub use in_place::{InPlace, RightSide, in_place_kind, prepare_in_place};
 pub use map::{map1, map2};

@@ -1,7 +1,7 @@
 -- Augmented assignments (NumPy user guide, "Assigning values to indexed arrays"; NumPy's `out` with `casting='same_kind'`): an operator
 -- in place has the kind of its operands; its result is converted to the target's kind, within Booleans, unsigned and signed numbers in
 -- this order. All numbers are read first.
-use Rattle.std.specs.Prelude.{ℕ, Bool, true, false, not, List, [], ◌∷◌, map, Result, Ok, Err}
+use Rattle.std.specs.Prelude.{ℕ, Bool, false, not, List, ◌∷◌, map, Result, Ok, Err}
 use Rattle.nd_model.specs.Element.{Kind}
 use Rattle.nd_model.specs.Promotion.{same_kind}
 use Rattle.nd_model.specs.Tuple.{indices}
@@ -11,13 +11,13 @@ use Rattle.nd_model.specs.Conversion.{converted_content}
 use Rattle.nd_model.specs.Syntax.{BinaryOp}
 use Rattle.nd_model.specs.Fault.{Fault, Ufunc, KindCast, ReadOnly, ShapeMismatch, NegativePower, Stmt, BadArgument}
 use Rattle.nd_model.specs.Refusing.{◌>>=◌, when}
-use Rattle.nd_model.specs.Operand.{Operand, Plain, Elements, Made, ANumber, AnArray, Chosen, AnElement, Deed, BindsMade, Writes, MakesAndWrites, shape_of}
+use Rattle.nd_model.specs.Operand.{Operand, Plain, Elements, Made, ANumber, AnArray, Deed, BindsMade, Writes, MakesAndWrites, shape_of}
 use Rattle.nd_model.specs.Operators.{Operator}
 use Rattle.nd_model.specs.Elementwise.{element_sort, operand_sort, binary_kind, binary_number, has_power_below, binary}
 use Rattle.nd_model.specs.Broadcast.{broadcasts_to}
 use Rattle.nd_model.specs.Assigning.{view_writes}
-use Rattle.nd_model.specs.Writing.{may_be_written, element_view, assign_to}
-use Rattle.nd_model.specs.Viewing.{Viewing, choose_of_first}
+use Rattle.nd_model.specs.Writing.{assignment_writes}
+use Rattle.nd_model.specs.Viewing.{Viewing}
 
 -- numbers of the kind may be written in place to elements of the type
 abbrev pub casts_in_place : Kind → ElementType → Bool
@@ -63,20 +63,13 @@ abbrev pub deed_of_made : Made → List (ℕ × ℕ) → Deed
 deed_of_made (ANumber n) ws = Writes 2 ws
 deed_of_made (AnArray t shape f) ws = MakesAndWrites (AnArray t shape f) 2 ws
 
--- it is assigned to an element
-abbrev pub assign_made : (writable : Bool) → Chosen → Made → Result Deed Fault
-assign_made writable (AnElement t p) m = do
-  ws ← assign_to (element_view writable t p) (operand_of_made m)
-  Ok (deed_of_made m ws)
-assign_made writable c m = Err (Stmt BadArgument)
-
--- `t[..] op= y`, where x is `t[..]`: in place on a view; what the operator makes of an element and y is assigned to the element
+-- `t[..] op= y`, where x is `t[..]`: in place where it is an array; else what the operator makes is assigned to it
 abbrev pub augment_item : BinaryOp → Viewing → List Operand → Result Deed Fault
 augment_item op w (y ∷ Elements false g cs ∷ t ∷ os) = do
   ws ← in_place_writes op g cs y
   Ok (Writes 1 ws)
 augment_item op w (y ∷ x ∷ t ∷ os) = do
   m ← binary op x y
-  c ← choose_of_first w t os
-  assign_made (may_be_written t) c m
+  ws ← assignment_writes w (operand_of_made m) t os
+  Ok (deed_of_made m ws)
 augment_item op w _ = Err (Stmt BadArgument)

@@ -1,5 +1,5 @@
 -- What calls make: numbers, and new arrays in blocks of their own.
-use Rattle.std.specs.Prelude.{◌≡◌, ℕ, ℤ, ◌^◌, ◌-◌, nat_lt, if◌then◌else◌, List, [], ◌∷◌, ◌++◌, map, Option, Some, None, Result, Ok, Err, option_map}
+use Rattle.std.specs.Prelude.{◌≡◌, ℕ, ℤ, ◌^◌, ◌-◌, false, nat_lt, if◌then◌else◌, List, [], ◌∷◌, ◌++◌, map, Option, Some, None, Result, Ok, Err, option_map}
 use Rattle.nd_model.specs.Element.{Element}
 use Rattle.nd_model.specs.Tuple.{first_index}
 use Rattle.nd_model.specs.View.{One}
@@ -10,6 +10,7 @@ use Rattle.nd_model.specs.Running.{Make}
 use Rattle.nd_model.specs.Evaluation.{Eval, Gives, Refuses, Asks, ◌>>=◌, decide}
 use Rattle.nd_model.specs.Operand as operand
 use Rattle.nd_model.specs.Operation.{give}
+use Rattle.nd_model.specs.Augmenting.{operand_of_made}
 use Rattle.nd_model.specs.Creation as creation
 use Rattle.nd_model.specs.Elementwise.{single, call_single}
 use Rattle.nd_types.specs.Kinds.{kind_of}
@@ -22,7 +23,7 @@ use Rattle.nd_operation.specs.declared.operand.New.{New}
 use Rattle.nd_operation.specs.declared.operand.New.TheVariants.{Number, Array}
 use Rattle.nd_operation.specs.declared.calls.OfOne.{OfOne}
 use Rattle.nd_operation.specs.declared.calls.OfOne.TheVariants.{Operator, Ufunc, ArrayOf, Convert, Copy, AsType}
-use Rattle.nd_operation.specs.Contents.{unused_of}
+use Rattle.nd_operation.specs.Contents.{elements_over, num_of, unused_of}
 use Rattle.nd_operation.specs.Faults.{fault_of}
 use Rattle.nd_ufunc.specs.Ufuncs.{single_of}
 
@@ -30,6 +31,15 @@ use Rattle.nd_ufunc.specs.Ufuncs.{single_of}
 abbrev pub given : New → Eval model.Value
 given (Number n) = Gives (number_of n)
 given (Array view block) = Asks (Make block) (λ b. Gives (model.Array b view))
+
+-- as an operand, its elements in its block
+abbrev pub operand_of_new : New → operand.Operand
+operand_of_new (Number n) = operand.Plain (num_of n)
+operand_of_new (Array view block) = elements_over false view block
+
+-- the definition's result is made, and as an operand it is the one that was made
+abbrev pub StandsFor : New → Result operand.Made Fault → Type 0
+StandsFor new made = (m : operand.Made) × (made ≡ Ok m) × (operand_of_made m ≡ operand_of_new new)
 
 -- what is given of the definition's result, unless memory ran out
 abbrev pub MakesNew : Result New Stop → Result operand.Made Fault → Type 0

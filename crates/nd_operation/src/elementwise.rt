@@ -1,6 +1,7 @@
 //! Functions of NumPy on arrays, element by element: they make a new array, or a NumPy scalar where it has no axes.
 
-ghost use Rattle.std.specs.Prelude.{◌≡◌};
+ghost use Rattle.std.specs.Prelude.{◌≡◌, IfOk};
+ghost use Rattle.nd_model.specs.Augmenting.{operand_of_made};
 ghost use Rattle.nd_model.specs.Elementwise as elementwise;
 ghost use Rattle.nd_model.specs.Elementwise.{Numbers, numbers_made};
 ghost use Rattle.nd_model.specs.Operand.{made_of};
@@ -9,7 +10,7 @@ ghost use Rattle.nd_ufunc.specs.Ufuncs.{single_of, ufunc_of};
 ghost use Rattle.nd_elementwise.specs.Arguments.{LiesInBlock, argument_of};
 ghost use Rattle.nd_operation.specs.Contents.{operand_of};
 ghost use Rattle.nd_operation.specs.Elementwise.{IsArrayOf, as_array};
-ghost use Rattle.nd_operation.specs.New.{MakesNew, given};
+ghost use Rattle.nd_operation.specs.New.{MakesNew, StandsFor, given, operand_of_new};
 ghost use Rattle.nd_operation.specs.Stops.{map_stop};
 ghost use Rattle.nd_elementwise.specs.declared.fault.MapFault.{MapFault};
 
@@ -39,8 +40,10 @@ fn argument_of<'v>(operand: &Operand<'v>) -> Argument<'v>
 /// What is made of a new array of numbers: the number, where there are no axes.
 fn new_numbers(view: View, block: RawBlock) -> New
     requires { (n : Numbers) × IsArrayOf n view block }
-    ensures { (n : Numbers) → IsArrayOf n view block
+    ensures gives { (n : Numbers) → IsArrayOf n view block
         → give (made_of n.kind n.shape n.number) ≡ given result }
+    ensures operand { (n : Numbers) → IsArrayOf n view block
+        → operand_of_made (made_of n.kind n.shape n.number) ≡ operand_of_new result }
 {
     if view.shape().is_empty() {
         let ElemType::One(elem) = view.elem() else {
@@ -59,8 +62,11 @@ pub(crate) fn map_two(
     left: &Operand<'_>,
     right: &Operand<'_>,
 ) -> Result<New, Stop>
-    ensures { MakesNew result (numbers_made (elementwise.binary_numbers (ufunc_of ufunc)
+    ensures new { MakesNew result (numbers_made (elementwise.binary_numbers (ufunc_of ufunc)
         (operand_of left.now) (operand_of right.now))) }
+    ensures operand { IfOk result (λ made. StandsFor made (numbers_made
+        (elementwise.binary_numbers (ufunc_of ufunc) (operand_of left.now)
+        (operand_of right.now)))) }
 {
     let (view, block) = map2(alloc, ufunc, argument_of(left), argument_of(right))?;
     Ok(new_numbers(view, block))

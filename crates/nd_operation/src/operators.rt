@@ -8,7 +8,7 @@ ghost use Rattle.nd_syntax.specs.Syntax.{binary_op};
 ghost use Rattle.nd_ufunc.specs.Ufuncs.{single_of, ufunc_of};
 ghost use Rattle.nd_operation.specs.Contents.{number_made, num_of, operand_of};
 ghost use Rattle.nd_operation.specs.Ends.{Says};
-ghost use Rattle.nd_operation.specs.New.{MakesNew};
+ghost use Rattle.nd_operation.specs.New.{MakesNew, StandsFor};
 ghost use Rattle.nd_operation.specs.OfTwo.{made_of_two, ufunc_of_two};
 
 use crate::elementwise::{map_one, map_two};
@@ -188,7 +188,10 @@ pub fn make_of_two(
     left: &Operand<'_>,
     right: &Operand<'_>,
 ) -> Result<New, Stop>
-    ensures { MakesNew result (made_of_two call (operand_of left.now) (operand_of right.now)) }
+    ensures new { MakesNew result
+        (made_of_two call (operand_of left.now) (operand_of right.now)) }
+    ensures operand { IfOk result (λ made. StandsFor made
+        (made_of_two call (operand_of left.now) (operand_of right.now))) }
 {
     match (left, right) {
         (Operand::Number(a), Operand::Number(b)) => Ok(New::Number(two_numbers(call, *a, *b)?)),

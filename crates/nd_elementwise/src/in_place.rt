@@ -1,0 +1,92 @@
+//! Operators in place.
+ghost use Rattle.std.specs.Prelude.{◌≡◌, Ok, false, length, IfOk};
+ghost use Rattle.nd_model.specs.Augmenting as augmenting;
+ghost use Rattle.nd_model.specs.Sound.{LiesIn};
+ghost use Rattle.nd_syntax.specs.Syntax.{binary_op};
+ghost use Rattle.nd_types.specs.Kinds.{kind_of};
+ghost use Rattle.nd_elementwise.specs.Arguments.{LiesInBlock, argument_of};
+ghost use Rattle.nd_elementwise.specs.Faults.{Makes};
+ghost use Rattle.nd_elementwise.specs.Prepared.{IsRightSide, right_operand, with_results};
+ghost use Rattle.nd_elementwise.specs.Prepared.{written_in_place};
+
+use crate::argument::Argument;
+use crate::fault::MapFault;
+use nd_assign::Assignment;
+use nd_block::RawBlock;
+use nd_syntax::BinaryOp;
+use nd_types::{Kind, Num};
+use nd_view::View;
+use std::alloc::{AllocError, Global};
+use std::marker::Model;
+
+/// What stands on the right of an operator in place.
+#[derive(Clone, Copy)]
+pub enum RightSide<'v> {
+    /// A number, which stands beside each element.
+    Number(Num),
+    /// A view of the target's own block.
+    Own(&'v View),
+    /// A view of another block, which has these bytes.
+    Other(&'v View, &'v [u8]),
+}
+
+/// Results of an operator that are ready to be written where its target lies: to write them takes no memory.
+#[derive(Drop)]
+pub struct InPlace<'v> {
+    assignment: Assignment<'v>,
+}
+
+impl<'v> Model for InPlace<'v> {
+    ghost use Rattle.nd_elementwise.specs.Prepared.{PreparedInPlace};
+
+    ghost Value = { PreparedInPlace };
+
+    ghost use Rattle.nd_elementwise.specs.WaysInPlace.{prepared_in_place};
+
+    ghost view = { prepared_in_place };
+}
+
+impl<'v> InPlace<'v> {
+    /// Writes them to a block of as many bytes as they were made ready for, and leaves any other one as it is.
+    pub fn write(&self, block: &mut RawBlock)
+        ensures { block.new ≡ written_in_place self.now block.old }
+    {
+        self.assignment.write(block);
+    }
+}
+
+/// Returns the kind of the operation `target op= right`. Refused in this order: what the operator does not take, results that are of no
+/// kind for the target, a target that may not be written, a right side that does not broadcast to the target's shape, a power with an
+/// exponent below zero.
+pub fn in_place_kind(
+    alloc: Global,
+    op: BinaryOp,
+    target: &View,
+    right: Argument<'_>,
+) -> Result<Kind, MapFault>
+    requires { LiesInBlock right }
+    ensures { Makes kind_of result
+        (augmenting.in_place_kind (binary_op op) target.now (argument_of right.entry)) }
+{
+    Err(MapFault::Memory)
+}
+
+/// Makes the results of `target op= right` ready for blocks with as many bytes as this one, which is the target's. All numbers are read
+/// before any is written.
+pub fn prepare_in_place<'v>(
+    alloc: Global,
+    op: BinaryOp,
+    kind: Kind,
+    target: &'v View,
+    block: &[u8],
+    right: RightSide<'v>,
+) -> Result<InPlace<'v>, AllocError>
+    requires target { LiesIn (length block.now) target.now }
+    requires right { IsRightSide (length block.now) right }
+    requires kind { augmenting.in_place_kind (binary_op op) target.now
+        (right_operand right block.now) ≡ Ok (kind_of kind) }
+    ensures { IfOk result (λ p. written_in_place p block.now
+        ≡ with_results (kind_of kind) (binary_op op) target.now right.entry block.now) }
+{
+    Err(AllocError)
+}

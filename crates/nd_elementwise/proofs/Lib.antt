@@ -1,5 +1,6 @@
 pub mod Alone
 pub mod Any
+pub mod Augmented
 pub mod Common
 pub mod Mapped
 pub mod Ranges

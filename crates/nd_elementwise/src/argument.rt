@@ -23,8 +23,8 @@ pub enum Argument<'v> {
     Elements(&'v View, &'v [u8]),
 }
 
-// What the elements of a type count as. A structure is no number.
-fn element_sort(elem: &ElemType) -> Option<Sort>
+/// Returns what the elements of a type count as. A structure is no number.
+pub(crate) fn element_sort(elem: &ElemType) -> Option<Sort>
     ensures { option_map sort_from result ≡ elementwise.element_sort (type_of elem.now) }
 {
     match elem {

@@ -4,17 +4,23 @@ ghost use Rattle.nd_model.specs.Augmenting as augmenting;
 ghost use Rattle.nd_model.specs.Sound.{LiesIn};
 ghost use Rattle.nd_syntax.specs.Syntax.{binary_op};
 ghost use Rattle.nd_types.specs.Kinds.{kind_of};
+ghost use Rattle.nd_types.specs.Types.{type_of};
 ghost use Rattle.nd_elementwise.specs.Arguments.{LiesInBlock, argument_of};
 ghost use Rattle.nd_elementwise.specs.Faults.{Makes};
 ghost use Rattle.nd_elementwise.specs.Prepared.{IsRightSide, right_operand, with_results};
 ghost use Rattle.nd_elementwise.specs.Prepared.{written_in_place};
 
-use crate::argument::Argument;
+use crate::argument::{Argument, argument_sort, binary_kind, element_sort, shape_of};
 use crate::fault::MapFault;
+use crate::powers::has_power_below;
+use crate::results::binary_results;
+use crate::stretched::stretch;
 use nd_assign::Assignment;
 use nd_block::RawBlock;
+use nd_shape::broadcasts_to;
 use nd_syntax::BinaryOp;
-use nd_types::{Kind, Num};
+use nd_types::{Elem, ElemType, Kind, Num, same_kind};
+use nd_ufunc::{BinaryUfunc, UfuncFault};
 use nd_view::View;
 use std::alloc::{AllocError, Global};
 use std::marker::Model;
@@ -55,6 +61,29 @@ impl<'v> InPlace<'v> {
     }
 }
 
+// Whether results of a kind may be written in place to elements of a type.
+fn casts_in_place(kind: Kind, elem: &ElemType) -> bool
+    ensures { result ≡ augmenting.casts_in_place (kind_of kind) (type_of elem.now) }
+{
+    match elem {
+        ElemType::One(elem) => same_kind(kind, elem.kind()),
+        ElemType::Rec(_) => false,
+    }
+}
+
+// The right side as an argument, beside a target in a block of these bytes.
+fn argument_beside<'b>(right: RightSide<'b>, block: &'b [u8]) -> Argument<'b>
+    requires { IsRightSide (length block.now) right }
+    ensures operand { argument_of result ≡ right_operand right.entry block.now }
+    ensures lies { LiesInBlock result }
+{
+    match right {
+        RightSide::Number(number) => Argument::Number(number),
+        RightSide::Own(view) => Argument::Elements(view, block),
+        RightSide::Other(view, bytes) => Argument::Elements(view, bytes),
+    }
+}
+
 /// Returns the kind of the operation `target op= right`. Refused in this order: what the operator does not take, results that are of no
 /// kind for the target, a target that may not be written, a right side that does not broadcast to the target's shape, a power with an
 /// exponent below zero.
@@ -68,7 +97,22 @@ pub fn in_place_kind(
     ensures { Makes kind_of result
         (augmenting.in_place_kind (binary_op op) target.now (argument_of right.entry)) }
 {
-    Err(MapFault::Memory)
+    let ufunc = BinaryUfunc::Operator(op);
+    let kind = binary_kind(ufunc, element_sort(target.elem()), argument_sort(right))?;
+    if !casts_in_place(kind, target.elem()) {
+        return Err(MapFault::Ufunc(UfuncFault::KindCast));
+    }
+    if !target.writable() {
+        return Err(MapFault::Ufunc(UfuncFault::ReadOnly));
+    }
+    if !broadcasts_to(shape_of(right), target.shape()) {
+        return Err(MapFault::Ufunc(UfuncFault::ShapeMismatch));
+    }
+    let exponents = stretch(alloc, right, target.shape())?;
+    if has_power_below(ufunc, &exponents, target.count()) {
+        return Err(MapFault::Ufunc(UfuncFault::NegativePower));
+    }
+    Ok(kind)
 }
 
 /// Makes the results of `target op= right` ready for blocks with as many bytes as this one, which is the target's. All numbers are read
@@ -88,5 +132,13 @@ pub fn prepare_in_place<'v>(
     ensures { IfOk result (λ p. written_in_place p block.now
         ≡ with_results (kind_of kind) (binary_op op) target.now right.entry block.now) }
 {
-    Err(AllocError)
+    let (shape, count) = (target.shape(), target.count());
+    let left = stretch(alloc, Argument::Elements(target, block), shape)?;
+    let right = stretch(alloc, argument_beside(right, block), shape)?;
+    let ufunc = BinaryUfunc::Operator(op);
+    let results = binary_results(alloc, ufunc, kind, &left, &right, count)?;
+    let view = View::contiguous(alloc, ElemType::One(Elem::little(kind)), shape)?;
+    Ok(InPlace {
+        assignment: Assignment::of_block(target, view, results, block.len()),
+    })
 }

@@ -9,26 +9,31 @@ use Rattle.nd_choice.specs.Targets.{writes_to}
 use Rattle.nd_operation.specs.declared.stop.Stop.{Stop}
 use Rattle.nd_eval.specs.declared.evaluator.Evaluator.{Evaluator}
 use Rattle.nd_eval.specs.declared.effect.Effect.{Effect}
-use Rattle.nd_eval.specs.declared.effect.Effect.TheVariants.{Nothing, Print, Bind, Unbind, Store}
+use Rattle.nd_eval.specs.declared.effect.Effect.TheVariants.{Nothing, Print, Bind, Unbind, Store, Update}
 use Rattle.nd_eval.specs.Ends.{Evaluates, EvaluatesInLimit, session_of}
 use Rattle.nd_eval.specs.Uses.{IsHeld, operand_over}
 use Rattle.nd_store.specs.Storable.{IsStorable}
+use Rattle.nd_store.specs.Updatable.{IsUpdatable, updates}
+use Rattle.nd_syntax.specs.Syntax.{binary_op}
+use Rattle.nd_types.specs.Kinds.{kind_of}
 
--- the elements that are stored are those that the value has in these blocks
+-- the elements that are stored, and those that an operator reads, are those in these blocks
 abbrev pub effect_of : (model.Base → List ℕ) → Effect → running.Effect
 effect_of bytes Nothing = running.Nothing
 effect_of bytes (Print text) = running.Prints (string_bytes text)
 effect_of bytes (Bind n v) = running.Binding (string_bytes n) (value_of v)
 effect_of bytes (Unbind n) = running.Unbinding (string_bytes n)
 effect_of bytes (Store target v) = running.Storing (base_of target.base) (writes_to (geo_of target) (operand_over bytes v))
+effect_of bytes (Update kind op target v) = running.Storing (base_of target.base) (updates (kind_of kind) (binary_op op) bytes target v)
 
--- what is bound lies in its block, and what is stored may be stored
+-- what is bound lies in its block, what is stored may be stored, and an operator may be applied in place
 abbrev pub IsReady : Running → Effect → Type 0
 IsReady r Nothing = Unit {0}
 IsReady r (Print text) = Unit {0}
 IsReady r (Bind n v) = IsHeld r v
 IsReady r (Unbind n) = Unit {0}
 IsReady r (Store target v) = IsStorable r target v
+IsReady r (Update kind op target v) = IsUpdatable (kind_of kind) (binary_op op) r target v
 
 -- an effect of an evaluation, over the blocks as they are after it
 abbrev pub EvaluatesEffect : Result Effect Stop → Evaluator → Eval running.Effect → Evaluator → Type 0

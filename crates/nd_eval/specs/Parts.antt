@@ -1,18 +1,24 @@
 -- Parts of the meaning, as the functions work them out.
-use Rattle.std.specs.Prelude.{List, [], ◌∷◌, ◌++◌, map, Option, Result}
+use Rattle.std.specs.Prelude.{ℕ, List, [], ◌∷◌, ◌++◌, map, Option, Result, Ok}
 use Rattle.std.specs.List.{flat_map}
-use Rattle.nd_model.specs.Value.{Value}
-use Rattle.nd_model.specs.Running.{Effect}
+use Rattle.nd_model.specs.View.{Geo}
+use Rattle.nd_model.specs.Content.{Content}
+use Rattle.nd_model.specs.Value.{Base, Value}
+use Rattle.nd_model.specs.Running.{Effect, Storing}
+use Rattle.nd_model.specs.Refusing as refusing
 use Rattle.nd_model.specs.Fault.{Fault, Stmt, BadArgument}
 use Rattle.nd_model.specs.Calls.{Fill, DType}
 use Rattle.nd_model.specs.Creation.{arange, array_of_list, astype, copy_array, filled, full}
-use Rattle.nd_model.specs.Syntax.{Expr, Bound, Omitted, Given, Elements, NoElement, AndElement, Element, Single, Nested, Method, Copy, AsType, Transpose, Reshape, ViewAs, Exprs, NoExpr, AndExpr, Index, Field, Items, IndexItems, IndexItem, AndItem, NoItem, At, Slice, Ellipsis, NewAxis, Listed}
+use Rattle.nd_model.specs.Elementwise.{binary}
+use Rattle.nd_model.specs.Writing.{assignment_writes}
+use Rattle.nd_model.specs.Augmenting.{augment_item, augment_name, in_place_writes, operand_of_made}
+use Rattle.nd_model.specs.Syntax.{BinaryOp, Expr, Bound, Omitted, Given, Elements, NoElement, AndElement, Element, Single, Nested, Method, Copy, AsType, Transpose, Reshape, ViewAs, Exprs, NoExpr, AndExpr, Index, Field, Items, IndexItems, IndexItem, AndItem, NoItem, At, Slice, Ellipsis, NewAxis, Listed}
 use Rattle.nd_model.specs.Cells.{Suffix, AtIndex, OfMethod}
 use Rattle.nd_model.specs.Evaluation.{Eval, Gives, Refuses, ◌>>=◌}
 use Rattle.nd_model.specs.Operand.{Operand, Usage, Whole, ArraysOnly, RowsOnly, Unused, Made}
 use Rattle.nd_model.specs.Index.{Form, AtForm, SliceForm, EllipsisForm, NewAxisForm}
 use Rattle.nd_model.specs.Viewing.{Viewing, Indexed, Fielded, Transposed, Reshaped, BroadcastTo, ViewedAs}
-use Rattle.nd_model.specs.Operation.{Computes, Views, perform, act_on}
+use Rattle.nd_model.specs.Operation.{Computes, Views, perform, act_on, give, store_in}
 use Rattle.nd_model.specs.Meaning.{is_given, one, two, value, assignment_deed}
 
 -- what is computed of one value
@@ -130,6 +136,25 @@ suffix_value (OfMethod m) v = method_value m v
 -- `t[..] = v`
 abbrev pub assignment : Value → Value → IndexParts → Eval Effect
 assignment v t x = act_on (assignment_deed x.0) ((Whole, v) ∷ (Unused, t) ∷ x.1)
+
+-- `x op= y` of an array: what is stored in its base, whose elements have these contents
+abbrev pub update : BinaryOp → Base → Geo → List Content → Operand → Result Effect Fault
+update op b g cs y = refusing.◌>>=◌ (in_place_writes op g cs y) (λ ws. Ok (Storing b ws))
+
+-- `n op= y`
+abbrev pub augmentation : List ℕ → BinaryOp → Value → Value → Eval Effect
+augmentation n op x y = act_on (two (augment_name n op)) ((Whole, x) ∷ (Whole, y) ∷ [])
+
+-- `t[..] op= y`, where x is `t[..]`
+abbrev pub item_augmentation : BinaryOp → Value → Value → Value → IndexParts → Eval Effect
+item_augmentation op y x t p = act_on (augment_item op p.0) ((Whole, y) ∷ (Whole, x) ∷ (Unused, t) ∷ p.1)
+
+-- the same where x is no array, once all is used: what the operator makes is assigned
+abbrev pub made_assignment : BinaryOp → Operand → Operand → Viewing → Operand → List Operand → Result (Made × List (ℕ × ℕ)) Fault
+made_assignment op x y w t os = refusing.◌>>=◌ (binary op x y) (λ m. refusing.◌>>=◌ (assignment_writes w (operand_of_made m) t os) (λ ws. Ok (m, ws)))
+
+abbrev pub store_made : Value → Made × List (ℕ × ℕ) → Eval Effect
+store_made t made = give made.0 >>= λ v. store_in made.1 t
 
 -- values behind others
 abbrev pub values_behind : List Value → List Expr → Eval (List Value)

@@ -1,6 +1,8 @@
 //! Effects.
 
 use nd_session::{Array, Value};
+use nd_syntax::BinaryOp;
+use nd_types::Kind;
 
 /// What a statement does once it is evaluated.
 #[derive(Drop)]
@@ -11,4 +13,6 @@ pub(crate) enum Effect {
     Unbind(String),
     /// The elements of an array get those of a value.
     Store(Array, Value),
+    /// The elements of an array get what an operator of this kind gives of them and a value.
+    Update(Kind, BinaryOp, Array, Value),
 }

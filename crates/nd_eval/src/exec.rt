@@ -27,7 +27,7 @@ use crate::operation::{mark_index, mark_operand, mark_operands, operand_in, oper
 use nd_choice::{IndexValue, assignment_target};
 use nd_operation::{StmtFault, Stop, not_an_array, print_line};
 use nd_session::{Array, Inputs, OutOfMemory, Session, Value};
-use nd_store::store;
+use nd_store::{store, update};
 use nd_syntax::{Expr, Index, Stmt};
 
 /// What a statement gives to its cell: the text that it prints, and perhaps a file that it saves, by its name.
@@ -139,7 +139,11 @@ impl Evaluator<'_> {
         match stmt {
             Stmt::Import => Ok(Effect::Nothing),
             Stmt::Bind(name, expr) => self.binding_effect(name.as_str(), expr),
+            Stmt::Augment(name, op, expr) => self.augment_effect(name.as_str(), *op, expr),
             Stmt::Assign(target, index, expr) => self.assignment_effect(target, index, expr),
+            Stmt::AugmentItem(target, index, op, expr) => {
+                self.augment_item_effect(target, index, *op, expr)
+            }
             Stmt::Delete(name) => self.deletion_effect(name.as_str()),
             Stmt::Print(exprs) => self.print_effect(exprs),
             _ => Err(unbuilt_form()),
@@ -162,6 +166,7 @@ fn do_effect(session: &mut Session, effect: Effect) -> Result<Output, OutOfMemor
         Effect::Bind(name, bound) => session.bind(name, bound)?,
         Effect::Unbind(name) => session.unbind(name.as_str())?,
         Effect::Store(target, value) => store(session, &target, &value)?,
+        Effect::Update(kind, op, target, value) => update(session, op, kind, &target, &value)?,
     }
     Ok(Output { text, save: None })
 }

@@ -1,6 +1,7 @@
 //! Statements, evaluated over a session.
 #![tactic(auto)]
 
+mod augment;
 mod effect;
 mod eval;
 mod evaluator;

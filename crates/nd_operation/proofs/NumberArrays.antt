@@ -1,8 +1,10 @@
 -- The arrays that functions of NumPy make, element by element, and the number of one without axes.
-use Rattle.std.proofs.Common.{◌≡◌, ℕ, suc, Bool, true, false, not, ℤ, List, [], ◌∷◌, take, length, Option, None, Some, Result, Ok, Err, IsErrAnd, append-nil, refl, sym, ap, ap₂, subst, ◌∙◌, arith}
+use Rattle.std.proofs.Common.{◌≡◌, ℕ, suc, Bool, true, false, not, ℤ, List, [], ◌∷◌, map, take, length, Option, None, Some, Result, Ok, Err, IsErrAnd, append-nil, refl, sym, ap, ap₂, subst, ◌∙◌, arith}
 use Rattle.std.specs.Prelude.{◌==◌}
+use Rattle.std.specs.List.{flat_map}
 use Rattle.std.proofs.lemmas.Bool.Decides.{nat_tests}
 use Rattle.std.proofs.lemmas.List.{take_all}
+use Rattle.nd_model.specs.Augmenting.{in_place_kind, operand_of_made}
 use Rattle.nd_model.specs.Broadcast.{broadcast, in_limits, unless_fault}
 use Rattle.nd_model.specs.Content.{Num, array_bytes, element_bytes, number_at, number_in}
 use Rattle.nd_model.specs.Evaluation.{Gives, ◌>>=◌, decide}
@@ -10,16 +12,19 @@ use Rattle.nd_model.specs.Value as value
 use Rattle.nd_model.specs.Element.{Element, Kind, Boolean, Int8, Int16, Int32, Int64, UInt8, UInt16, UInt32, UInt64, IsValue, bytes_of, size_of, value_of, wrap}
 use Rattle.nd_model.specs.Elementwise.{Numbers, little, binary_kind, binary_number, binary_numbers, common_shape, has_power_below, numbers_made, operand_sort, single_kind, single_number, single_numbers}
 use Rattle.nd_model.specs.Fault.{Fault, ViewFault, Ufunc, NegativePower}
-use Rattle.nd_model.specs.Operand.{Operand, Plain, Elements, made_of, shape_of, content_of, truth_number}
+use Rattle.nd_model.specs.Operand.{Operand, Plain, Elements, Scalar, made_of, shape_of, content_of, truth_number}
 use Rattle.nd_model.specs.Operation.{give, fresh_array}
 use Rattle.nd_model.specs.Operators.{BinaryUfunc, Single, Of, Absolute, is_zero}
 use Rattle.nd_model.specs.Refusing.{when}
 use Rattle.nd_model.specs.Refusing as refusing
 use Rattle.nd_model.specs.Strides.{limit_fault}
-use Rattle.nd_model.specs.Syntax.{Negative, Invert}
-use Rattle.nd_model.specs.View.{ElementType, Geo, One, Structure}
-use Rattle.nd_model.proofs.Contents.{number_bytes}
+use Rattle.nd_model.specs.Syntax.{Negative, Invert, BinaryOp}
+use Rattle.nd_model.specs.Sound.{LiesIn}
+use Rattle.nd_model.specs.Tuple.{indices}
+use Rattle.nd_model.specs.View.{ElementType, Geo, One, Structure, contiguous}
+use Rattle.nd_model.proofs.Contents.{number_bytes, numbers_bytes}
 use Rattle.nd_model.proofs.Values.{length-bytes_of, round_trip, wrap_in_range}
+use Rattle.nd_elementwise.proofs.Alone.{contents_alone, count_alone, held_alone, length-alone}
 use Rattle.nd_elementwise.specs.Made.{array_of, new_array}
 use Rattle.nd_elementwise.specs.Faults.{Makes}
 use Rattle.nd_elementwise.specs.declared.fault.MapFault.{MapFault}
@@ -30,7 +35,8 @@ use Rattle.nd_operation.specs.declared.operand.New.{New}
 use Rattle.nd_operation.specs.declared.operand.New.TheVariants.{Array}
 use Rattle.nd_operation.specs.declared.stop.Stop.{Stop}
 use Rattle.nd_operation.specs.Elementwise.{IsArrayOf, as_array}
-use Rattle.nd_operation.specs.New.{MakesNew, given}
+use Rattle.nd_operation.specs.Contents.{elements_over}
+use Rattle.nd_operation.specs.New.{MakesNew, StandsFor, given, operand_of_new}
 use Rattle.nd_operation.specs.Stops.{map_stop}
 use Rattle.nd_operation.proofs.Creating.{gives_array, new_memory, new_refused}
 
@@ -42,6 +48,11 @@ no_axes (n ∷ shape) b e is = absurd (by (length shape) (sym e ∙ is))
   where
     by : (n : ℕ) → (suc n == 0) ≡ true → ⊥
     by n e = grind (arith, nat_tests)
+
+-- and some where there are some
+pub some_axes : (shape : List ℕ) (b : Bool) → b ≡ (length shape == 0) → b ≡ false → (n : ℕ) × (s : List ℕ) × (shape ≡ n ∷ s)
+some_axes [] b e is = absurd cc
+some_axes (n ∷ shape) b e is = (n, shape, refl)
 
 pub lone_bytes : (n : Numbers) (view : Geo) (block : List ℕ) → IsArrayOf n view block → n.shape ≡ [] → block ≡ bytes_of (little n.kind) (n.number [])
 lone_bytes n view block is none =
@@ -164,25 +175,69 @@ single_array op (Elements row g cs) = refl
 pub mapped_two : (f : BinaryUfunc) (x y x' y' : Operand) → x' ≡ as_array x → y' ≡ as_array y → binary_numbers f x' y' ≡ binary_numbers f x y
 mapped_two f x y x' y' is is' = ap₂ (binary_numbers f) is is' ∙ binary_arrays f x y
 
+in_place_arrays : (op : BinaryOp) (g : Geo) (y : Operand) → in_place_kind op g (as_array y) ≡ in_place_kind op g y
+in_place_arrays op g (Plain n) = refl
+in_place_arrays op g (Elements row h cs) = refl
+
+pub in_place_alike : (op : BinaryOp) (g : Geo) (y y' : Operand) → y' ≡ as_array y → in_place_kind op g y' ≡ in_place_kind op g y
+in_place_alike op g y y' is = ap (in_place_kind op g) is ∙ in_place_arrays op g y
+
 pub mapped_one : (op : Single) (x x' : Operand) → x' ≡ as_array x → single_numbers op x' ≡ single_numbers op x
 mapped_one op x x' is = ap (single_numbers op) is ∙ single_array op x
 
--- ---- what is given of a new array
+-- ---- what is given of a new array, and what it is as an operand
 
-pub gives_lone : (n : Numbers) (view : Geo) (block : List ℕ) (e : Element) (k : Kind) (z : ℤ) → IsArrayOf n view block → view.shape ≡ [] → view.element ≡ One e → k ≡ e.kind → z ≡ number_at e block 0
-    → give (made_of n.kind n.shape n.number) ≡ Gives (value.Scalar k z)
-gives_lone n view block e k z is none typed kind number =
-    let alone : n.shape ≡ [] = sym (ap (λ g. g.shape) is.view) ∙ none in
+-- a number alone
+lone_is : (n : Numbers) (view : Geo) (block : List ℕ) (e : Element) (k : Kind) (z : ℤ) → IsArrayOf n view block → n.shape ≡ [] → view.element ≡ One e → k ≡ e.kind → z ≡ number_at e block 0
+    → (n.kind ≡ k) × (n.number [] ≡ z)
+lone_is n view block e k z is alone typed kind number =
     let same : little n.kind ≡ e = ap element_in (sym (ap (λ g. g.element) is.view) ∙ typed) in
-    ap (λ s. give (made_of n.kind s n.number)) alone
-    ∙ ap₂ (λ j z. Gives (value.Scalar j z)) (ap (λ e. e.kind) same ∙ sym kind) (sym (number ∙ ap (λ e. number_at e block 0) (sym same) ∙ lone_number n view block is alone))
+    (ap (λ e. e.kind) same ∙ sym kind, sym (number ∙ ap (λ e. number_at e block 0) (sym same) ∙ lone_number n view block is alone))
   where
     element_in : ElementType → Element
     element_in (One e) = e
     element_in (Structure fields size) = little n.kind
 
-pub gives_many : (n : Numbers) (view : Geo) (block : List ℕ) (m : ℕ) (s : List ℕ) → IsArrayOf n view block → n.shape ≡ m ∷ s → give (made_of n.kind n.shape n.number) ≡ given (Array view block)
-gives_many n view block m s is more =
-    ap (λ s. give (made_of n.kind s n.number)) more
-    ∙ ap (λ s. fresh_array (One (little n.kind)) s (λ t. Num (n.number t))) (sym more)
-    ∙ gives_array (One (little n.kind)) n.shape (λ t. Num (n.number t)) view block is.limits is.view is.block
+module _ (n : Numbers) (view : Geo) (block : List ℕ) (is : IsArrayOf n view block) where
+  module _ (e : Element) (k : Kind) (z : ℤ) (none : view.shape ≡ []) (typed : view.element ≡ One e) (kind : k ≡ e.kind) (number : z ≡ number_at e block 0) where
+    alone : n.shape ≡ []
+    alone = sym (ap (λ g. g.shape) is.view) ∙ none
+
+    pub gives_lone : give (made_of n.kind n.shape n.number) ≡ Gives (value.Scalar k z)
+    gives_lone =
+        let same = lone_is n view block e k z is alone typed kind number in
+        ap (λ s. give (made_of n.kind s n.number)) alone ∙ ap₂ (λ j z. Gives (value.Scalar j z)) same.0 same.1
+
+    pub operand_lone : operand_of_made (made_of n.kind n.shape n.number) ≡ Plain (Scalar k z)
+    operand_lone =
+        let same = lone_is n view block e k z is alone typed kind number in
+        ap (λ s. operand_of_made (made_of n.kind s n.number)) alone ∙ ap₂ (λ j z. Plain (Scalar j z)) same.0 same.1
+
+  bytes_are : block ≡ flat_map (λ t. bytes_of (little n.kind) (n.number t)) (indices n.shape)
+  bytes_are = is.block ∙ numbers_bytes (little n.kind) n.shape n.number
+
+  module _ (m : ℕ) (s : List ℕ) (more : n.shape ≡ m ∷ s) where
+    pub gives_many : give (made_of n.kind n.shape n.number) ≡ given (Array view block)
+    gives_many =
+        ap (λ s. give (made_of n.kind s n.number)) more
+        ∙ ap (λ s. fresh_array (One (little n.kind)) s (λ t. Num (n.number t))) (sym more)
+        ∙ gives_array (One (little n.kind)) n.shape (λ t. Num (n.number t)) view block is.limits is.view is.block
+
+    pub operand_many : operand_of_made (made_of n.kind n.shape n.number) ≡ elements_over false view block
+    operand_many =
+        ap (λ s. operand_of_made (made_of n.kind s n.number)) more
+        ∙ ap (λ s. Elements false (contiguous (One (little n.kind)) s) (map (λ t. Num (n.number t)) (indices s))) (sym more)
+        ∙ ap (Elements false (contiguous (One (little n.kind)) n.shape)) (sym (contents_alone (little n.kind) n.shape n.number is.valid block bytes_are))
+        ∙ ap (λ g. elements_over false g block) (sym is.view)
+
+  -- it lies in its block
+  pub array_lies : LiesIn (length block) view
+  array_lies = subst (LiesIn (length block)) (sym is.view) (record {
+    count = count_alone (little n.kind) n.shape;
+    limits = is.limits;
+    inside = held_alone (little n.kind) n.shape (length block) (length-alone (little n.kind) n.shape n.number is.valid block bytes_are);
+  })
+
+-- what is made of numbers stands for it
+pub stands_for : (r : Result Numbers Fault) (n : Numbers) (new : New) → r ≡ Ok n → operand_of_made (made_of n.kind n.shape n.number) ≡ operand_of_new new → StandsFor new (numbers_made r)
+stands_for r n new is same = (made_of n.kind n.shape n.number, ap numbers_made is, same)

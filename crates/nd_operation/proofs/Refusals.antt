@@ -3,11 +3,16 @@ use Rattle.std.proofs.Common.{◌≡◌, Result, Err, IsErrAnd, sym, ap, ◌∙�
 use Rattle.std.proofs.lemmas.Result.{err_from_is_err_and}
 use Rattle.nd_model.specs.Fault.{Fault}
 use Rattle.nd_model.specs.Refusing as refusing
+use Rattle.nd_elementwise.specs.Faults as mapping
+use Rattle.nd_elementwise.specs.declared.fault.MapFault.{MapFault}
+use Rattle.nd_elementwise.specs.declared.fault.MapFault.TheVariants as map_fault
 use Rattle.nd_operation.specs.declared.fault.StmtFault.{StmtFault}
+use Rattle.nd_operation.specs.declared.fault.StmtFault.TheVariants as stmt_fault
 use Rattle.nd_operation.specs.declared.stop.Stop.{Stop}
-use Rattle.nd_operation.specs.declared.stop.Stop.TheVariants.{Refused}
+use Rattle.nd_operation.specs.declared.stop.Stop.TheVariants.{Memory, Refused}
 use Rattle.nd_operation.specs.Ends.{Says, Makes}
 use Rattle.nd_operation.specs.Faults.{fault_of}
+use Rattle.nd_operation.specs.Stops.{map_stop}
 
 -- a refusal that is told
 pub makes_refused : {A Y : Type 0} (w : Y → A) (m : Result A Fault) (f : StmtFault) (o : Result Y Stop) → IsErrAnd o (λ x. x ≡ Refused f) → m ≡ Err (fault_of f) → Makes w o m
@@ -27,3 +32,11 @@ pub says_not : {A B Y : Type 0} (w : Y → B) (t : Result A Fault) (f : A → Re
 says_not {A} {B} {Y} w t f e o is h =
     let p : (x : StmtFault) × (o ≡ Err x) × (x ≡ e) = err_from_is_err_and o is in
     subst (λ (o : Result Y StmtFault). Says w o (refusing.◌>>=◌ t f)) (sym (p.1 ∙ ap Err p.2)) (ap (λ m. refusing.◌>>=◌ m f) h)
+
+-- what a function takes no arrays for is told
+pub makes_mapped : {A X Y : Type 0} (v : X → A) (w : Y → A) (m : Result A Fault) (f : MapFault) (o : Result Y Stop) → IsErrAnd o (λ x. x ≡ map_stop f) → mapping.Makes v (Err f) m → Makes w o m
+makes_mapped {A} {X} {Y} v w m map_fault.Memory o is h =
+    let p : (x : Stop) × (o ≡ Err x) × (x ≡ Memory) = err_from_is_err_and o is in
+    subst (λ (o : Result Y Stop). Makes w o m) (sym (p.1 ∙ ap Err p.2)) tt
+makes_mapped v w m (map_fault.Ufunc f) o is h = makes_refused w m (stmt_fault.Ufunc f) o is h
+makes_mapped v w m (map_fault.View f) o is h = makes_refused w m (stmt_fault.View f) o is h

@@ -1,5 +1,5 @@
 -- What calls make: numbers, and new arrays in blocks of their own.
-use Rattle.std.specs.Prelude.{◌≡◌, ℕ, ℤ, ◌^◌, ◌-◌, false, nat_lt, if◌then◌else◌, List, [], ◌∷◌, ◌++◌, map, Option, Some, None, Result, Ok, Err, option_map}
+use Rattle.std.specs.Prelude.{◌≡◌, ℕ, ℤ, ◌^◌, ◌-◌, false, nat_lt, if◌then◌else◌, List, [], ◌∷◌, ◌++◌, length, map, Option, Some, None, Result, Ok, Err, option_map}
 use Rattle.nd_model.specs.Element.{Element}
 use Rattle.nd_model.specs.Tuple.{first_index}
 use Rattle.nd_model.specs.View.{One}
@@ -12,6 +12,7 @@ use Rattle.nd_model.specs.Operand as operand
 use Rattle.nd_model.specs.Operation.{give}
 use Rattle.nd_model.specs.Augmenting.{operand_of_made}
 use Rattle.nd_model.specs.Creation as creation
+use Rattle.nd_model.specs.Sound.{LiesIn}
 use Rattle.nd_model.specs.Elementwise.{single, call_single}
 use Rattle.nd_types.specs.Kinds.{kind_of}
 use Rattle.nd_syntax.specs.Calls.{dtype_of}
@@ -36,6 +37,11 @@ given (Array view block) = Asks (Make block) (λ b. Gives (model.Array b view))
 abbrev pub operand_of_new : New → operand.Operand
 operand_of_new (Number n) = operand.Plain (num_of n)
 operand_of_new (Array view block) = elements_over false view block
+
+-- an array lies in its block
+abbrev pub NewLies : New → Type 0
+NewLies (Number n) = Unit {0}
+NewLies (Array view block) = LiesIn (length block) view
 
 -- the definition's result is made, and as an operand it is the one that was made
 abbrev pub StandsFor : New → Result operand.Made Fault → Type 0

@@ -2,9 +2,10 @@
 
 ghost use Rattle.std.specs.Prelude.{◌≡◌, map};
 ghost use Rattle.nd_model.specs.Content.{content_at, content_or, number_in};
-ghost use Rattle.nd_operation.specs.Contents.{contents_over};
+ghost use Rattle.nd_operation.specs.Contents.{contents_over, operand_of};
+ghost use Rattle.nd_operation.specs.New.{NewLies, operand_of_new};
 
-use crate::operand::Elements;
+use crate::operand::{Elements, New, Operand};
 use nd_element::number_in;
 use nd_types::ElemType;
 
@@ -33,6 +34,23 @@ impl Elements<'_> {
                 number_in(self.block, self.view.offset(), *elem)
             }
             _ => 0,
+        }
+    }
+}
+
+impl New {
+    /// Returns it as an operand of another operation: all elements of an array are used.
+    pub fn operand(&self) -> Operand<'_>
+        requires { NewLies self.now }
+        ensures { operand_of result ≡ operand_of_new self.now }
+    {
+        match self {
+            New::Number(number) => Operand::Number(*number),
+            New::Array(view, block) => Operand::Elements(Elements {
+                view,
+                block: block.as_slice(),
+                is_row: false,
+            }),
         }
     }
 }

@@ -23,6 +23,7 @@ pub use conversion::{
     whole_number,
 };
 pub use creation::{check_limits, make_filled, make_full};
+pub use elementwise::kind_in_place;
 pub use fault::{IndexFault, ShapeFault, StmtError, StmtFault, UfuncFault, ViewFault};
 pub use lists::make_list;
 pub use operand::{Elements, New, Operand};

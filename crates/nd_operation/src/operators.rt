@@ -1,6 +1,6 @@
 //! Operators on operands, and NumPy's functions of them.
 
-ghost use Rattle.std.specs.Prelude.{◌≡◌};
+ghost use Rattle.std.specs.Prelude.{◌≡◌, IfOk};
 ghost use Rattle.nd_model.specs.Operand as operand;
 ghost use Rattle.nd_model.specs.Elementwise as elementwise;
 ghost use Rattle.nd_model.specs.Operators as operators;
@@ -8,7 +8,7 @@ ghost use Rattle.nd_syntax.specs.Syntax.{binary_op};
 ghost use Rattle.nd_ufunc.specs.Ufuncs.{single_of, ufunc_of};
 ghost use Rattle.nd_operation.specs.Contents.{number_made, num_of, operand_of};
 ghost use Rattle.nd_operation.specs.Ends.{Says};
-ghost use Rattle.nd_operation.specs.New.{MakesNew, StandsFor};
+ghost use Rattle.nd_operation.specs.New.{MakesNew, NewLies, StandsFor};
 ghost use Rattle.nd_operation.specs.OfTwo.{made_of_two, ufunc_of_two};
 
 use crate::elementwise::{map_one, map_two};
@@ -192,6 +192,7 @@ pub fn make_of_two(
         (made_of_two call (operand_of left.now) (operand_of right.now)) }
     ensures operand { IfOk result (λ made. StandsFor made
         (made_of_two call (operand_of left.now) (operand_of right.now))) }
+    ensures lies { IfOk result NewLies }
 {
     match (left, right) {
         (Operand::Number(a), Operand::Number(b)) => Ok(New::Number(two_numbers(call, *a, *b)?)),

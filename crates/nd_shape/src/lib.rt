@@ -11,5 +11,5 @@ mod transposing;
 pub use fault::ShapeFault;
 pub use recasting::view_as;
 pub use reshaping::{Reshaped, reshape};
-pub use stretching::{broadcast, broadcast_to};
+pub use stretching::{broadcast, broadcast_to, broadcasts_to};
 pub use transposing::{reverse_axes, transpose};

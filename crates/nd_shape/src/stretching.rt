@@ -12,8 +12,9 @@ use nd_view::{Shape, View, limit_fault};
 use smallvec::SmallVec;
 use std::alloc::{AllocError, Global};
 
-// Whether a shape broadcasts to another.
-fn broadcasts_to(shape: &[u64], to: &[u64]) -> bool
+/// Returns whether a shape broadcasts to another: aligned at the last axis, each length is the same or 1, and an axis that is missing
+/// is stretched too (NumPy user guide, "Broadcasting").
+pub fn broadcasts_to(shape: &[u64], to: &[u64]) -> bool
     ensures { result ≡ broadcasting.broadcasts_to shape.now to.now }
 {
     if shape.len() > to.len() {

@@ -1,2 +1,3 @@
 pub mod Operands
 pub mod Storable
+pub mod Updatable

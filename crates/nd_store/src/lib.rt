@@ -2,6 +2,8 @@
 #![tactic(auto)]
 
 mod storing;
+mod updating;
 mod writer;
 
 pub use storing::store;
+pub use updating::update;

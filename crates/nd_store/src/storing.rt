@@ -16,7 +16,7 @@ ghost use Rattle.nd_choice.specs.Targets.{writes_to};
 ghost use Rattle.nd_store.specs.Operands.{operand_over};
 ghost use Rattle.nd_store.specs.Storable.{IsStorable};
 
-use crate::writer::AssignedBytes;
+use crate::writer::{AssignedBytes, write_noted};
 use nd_assign::{Assignment, Source, prepare};
 use nd_operation::{Elements, whole_number};
 use nd_session::{Array, OutOfMemory, Session, Value};
@@ -33,8 +33,7 @@ fn write_elements(
         (having_written (base_of target.now.base) (byte_places (geo_of target.now))
         (live session.old))) }
 {
-    session.mark_written(target)?;
-    session.write(target.base, AssignedBytes { assignment })
+    write_noted(session, target, AssignedBytes { assignment })
 }
 
 /// Assigns one number to the elements of an array.

@@ -1,12 +1,20 @@
-//! The bytes that an assignment writes to a block.
+//! What is written to a block.
 
-ghost use Rattle.std.specs.Prelude.{◌≡◌, ℕ, List, length};
+ghost use Rattle.std.specs.Prelude.{◌≡◌, ℕ, List, length, OnOk};
+ghost use Rattle.nd_model.specs.Storing.{having_block, having_written};
+ghost use Rattle.nd_model.specs.View.{byte_places};
 ghost use Rattle.nd_assign.specs.KeptLength.{length-written_by};
 ghost use Rattle.nd_assign.specs.Prepared.{written_by};
+ghost use Rattle.nd_elementwise.specs.KeptLength.{length-written_in_place};
+ghost use Rattle.nd_elementwise.specs.Prepared.{written_in_place};
+ghost use Rattle.nd_heap.specs.Values.{base_of, geo_of};
+ghost use Rattle.nd_session.specs.Live.{live};
 
 use nd_assign::Assignment;
 use nd_block::RawBlock;
+use nd_elementwise::InPlace;
 use nd_heap::BlockWriter;
+use nd_session::{Array, OutOfMemory, Session};
 
 /// The bytes of an assignment that was made ready.
 #[derive(Drop)]
@@ -22,4 +30,35 @@ impl<'v> BlockWriter for AssignedBytes<'v> {
     }
 
     ghost keeps_length = { λ w bytes. length-written_by w.assignment bytes };
+}
+
+/// The bytes of results in place that were made ready.
+#[derive(Drop)]
+pub(crate) struct ResultBytes<'v> {
+    pub(crate) results: InPlace<'v>,
+}
+
+impl<'v> BlockWriter for ResultBytes<'v> {
+    ghost written = { λ w bytes. written_in_place w.results bytes };
+
+    fn write(self, block: &mut RawBlock) {
+        self.results.write(block);
+    }
+
+    ghost keeps_length = { λ w bytes. length-written_in_place w.results bytes };
+}
+
+/// Notes the elements of an array as written, and then writes to their block.
+pub(crate) fn write_noted<W: BlockWriter + Drop>(
+    session: &mut Session,
+    target: &Array,
+    writer: W,
+) -> Result<(), OutOfMemory>
+    ensures { OnOk result (live session.new ≡ having_block (base_of target.now.base)
+        (W.written writer ((live session.old).bytes (base_of target.now.base)))
+        (having_written (base_of target.now.base) (byte_places (geo_of target.now))
+        (live session.old))) }
+{
+    session.mark_written(target)?;
+    session.write(target.base, writer)
 }

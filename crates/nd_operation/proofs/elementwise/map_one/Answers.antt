@@ -28,4 +28,4 @@ returns c =
     let x = operand_of c.args.operand.now in
     let made = array_is (elementwise.single_numbers op x) (single_are op x) c.in_ok-view.view c.in_ok-view.block
     (subst (λ r. array_of r ≡ Ok (c.in_ok-view.view, c.in_ok-view.block)) (mapped_one op x _ c.argument_of.ensures.value) c.in_ok-view.ensures) in
-    gives_numbers (elementwise.single_numbers op x) made.0 c.new_numbers.result made.1 (c.new_numbers.ensures made.0 made.2)
+    gives_numbers (elementwise.single_numbers op x) made.0 c.new_numbers.result made.1 (c.new_numbers.ensures.gives made.0 made.2)

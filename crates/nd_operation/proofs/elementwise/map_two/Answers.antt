@@ -4,11 +4,11 @@ use Rattle.nd_ufunc.specs.Ufuncs.{ufunc_of}
 use Rattle.nd_elementwise.specs.Made.{array_of}
 use Rattle.nd_elementwise.specs.Faults.{Makes}
 use Rattle.nd_operation.specs.Contents.{operand_of}
-use Rattle.nd_operation.proofs.NumberArrays.{array_is, binary_are, exits_map, gives_numbers, mapped_two}
+use Rattle.nd_operation.proofs.NumberArrays.{array_is, binary_are, exits_map, gives_numbers, mapped_two, stands_for}
 use Rattle.nd_operation.proofs.elementwise.map_two.Goals as goal
 
-pub returns-in_err-view : goal.returns-in_err-view
-returns-in_err-view c =
+pub returns-in_err-view-clause-new : goal.returns-in_err-view-clause-new
+returns-in_err-view-clause-new c =
     let f = ufunc_of c.args.ufunc in
     let x = operand_of c.args.left.now in
     let y = operand_of c.args.right.now in
@@ -24,11 +24,20 @@ new_numbers-requires c =
     (subst (λ r. array_of r ≡ Ok (c.in_ok-view.view, c.in_ok-view.block)) (mapped_two f x y _ _ c.argument_of.ensures.value c.argument_of-2.ensures.value) c.in_ok-view.ensures) in
     (made.0, made.2)
 
-pub returns : goal.returns
-returns c =
+pub returns-clause-new : goal.returns-clause-new
+returns-clause-new c =
     let f = ufunc_of c.args.ufunc in
     let x = operand_of c.args.left.now in
     let y = operand_of c.args.right.now in
     let made = array_is (elementwise.binary_numbers f x y) (binary_are f x y) c.in_ok-view.view c.in_ok-view.block
     (subst (λ r. array_of r ≡ Ok (c.in_ok-view.view, c.in_ok-view.block)) (mapped_two f x y _ _ c.argument_of.ensures.value c.argument_of-2.ensures.value) c.in_ok-view.ensures) in
-    gives_numbers (elementwise.binary_numbers f x y) made.0 c.new_numbers.result made.1 (c.new_numbers.ensures made.0 made.2)
+    gives_numbers (elementwise.binary_numbers f x y) made.0 c.new_numbers.result made.1 (c.new_numbers.ensures.gives made.0 made.2)
+
+pub returns-clause-operand : goal.returns-clause-operand
+returns-clause-operand c =
+    let f = ufunc_of c.args.ufunc in
+    let x = operand_of c.args.left.now in
+    let y = operand_of c.args.right.now in
+    let made = array_is (elementwise.binary_numbers f x y) (binary_are f x y) c.in_ok-view.view c.in_ok-view.block
+    (subst (λ r. array_of r ≡ Ok (c.in_ok-view.view, c.in_ok-view.block)) (mapped_two f x y _ _ c.argument_of.ensures.value c.argument_of-2.ensures.value) c.in_ok-view.ensures) in
+    stands_for (elementwise.binary_numbers f x y) made.0 c.new_numbers.result made.1 (c.new_numbers.ensures.operand made.0 made.2)

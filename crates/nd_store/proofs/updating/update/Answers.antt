@@ -1,0 +1,21 @@
+use Rattle.std.proofs.Common.{◌≡◌, inl, inr, sym, subst}
+use Rattle.std.specs.Prelude.{OnOk}
+use Rattle.nd_model.specs.Running as running
+use Rattle.nd_heap.specs.Values.{base_of}
+use Rattle.nd_heap.specs.declared.value.Value.{Value}
+use Rattle.nd_session.specs.Live.{live}
+use Rattle.nd_syntax.specs.Syntax.{binary_op}
+use Rattle.nd_types.specs.Kinds.{kind_of}
+use Rattle.nd_store.specs.Updatable.{updates}
+use Rattle.nd_store.proofs.updating.update.Goals as goal
+
+-- an array and a row of the same elements count alike
+pub returns-in-Array : goal.returns-in-Array
+returns-in-Array c =
+    let r = live c.args.session.now in
+    let Updates : Value → Type 0 = λ v. OnOk c.update_by_elements.result (live c.update_by_elements.new.session
+    ≡ running.done (running.Storing (base_of c.args.target.now.base) (updates (kind_of c.args.kind) (binary_op c.args.op) r.bytes c.args.target.now v)) r) in
+    elim c.in-Array.is [
+      | inl array ↦ subst Updates (sym array) c.update_by_elements.ensures
+      | inr row ↦ subst Updates (sym row) c.update_by_elements.ensures
+    ]

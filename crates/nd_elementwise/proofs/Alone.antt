@@ -10,7 +10,6 @@ use Rattle.nd_model.specs.Tuple.{count_up, elements_of, indices}
 use Rattle.nd_model.specs.View.{One, contiguous}
 use Rattle.nd_model.proofs.Tuples.{length-count_up, length-indices}
 use Rattle.nd_model.proofs.Uses.{used_numbers}
-use Rattle.nd_model.proofs.Values.{length-bytes_of}
 use Rattle.nd_view.proofs.Tuples.{map-map}
 use Rattle.nd_elementwise.specs.Arguments.{contents_over}
 use Rattle.nd_elementwise.proofs.SideBySide.{behind}

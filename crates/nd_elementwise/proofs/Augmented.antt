@@ -1,9 +1,9 @@
 -- What an operator in place comes to, step by step, and what is copied to its target.
-use Rattle.std.proofs.Common.{◌≡◌, ◌≢◌, ℕ, Bool, true, false, List, map, length, Option, Some, None, Result, Ok, Err, refl, sym, ap, ◌∙◌, subst}
+use Rattle.std.proofs.Common.{◌≡◌, ◌≢◌, ℕ, Bool, true, false, List, map, Option, Some, None, Result, Ok, Err, refl, sym, ap, ◌∙◌, subst}
 use Rattle.std.specs.Prelude.{not}
 use Rattle.nd_model.specs.Augmenting.{casts_in_place, in_place_kind, results_in_place}
 use Rattle.nd_model.specs.Broadcast.{broadcasts_to}
-use Rattle.nd_model.specs.Content.{Content, Num, content_at, all_writes}
+use Rattle.nd_model.specs.Content.{Num, content_at, all_writes}
 use Rattle.nd_model.specs.Conversion.{converts, converted_content}
 use Rattle.nd_model.specs.Element.{Kind, size_of}
 use Rattle.nd_model.specs.Elementwise.{little, element_sort, operand_sort, binary_kind, binary_number, has_power_below, number_beside}

@@ -2,7 +2,10 @@ pub mod Alone
 pub mod Any
 pub mod Augmented
 pub mod Common
+pub mod Given
+pub mod KeptOff
 pub mod Mapped
+pub mod Overwritten
 pub mod Ranges
 pub mod SideBySide
 pub mod Standing

@@ -74,7 +74,7 @@ narrowed_itself (n ∷ s) (i ∷ t) is = elim (cases_Bool (eqb n 1)) [
   | inr other ↦ rw other (ap (λ l. i ∷ l) (narrowed_itself s t is.1))
 ]
 
-own_itself : (s t : List ℕ) → IsIndex s t → own_tuple s t ≡ t
+pub own_itself : (s t : List ℕ) → IsIndex s t → own_tuple s t ≡ t
 own_itself s t is = let none : length t - length s ≡ 0 = omega (arith, length_index s t is) in ap (λ n. narrowed_axes s (drop n t)) none ∙ narrowed_itself s t is
 
 module _ (op : Single) (x : Operand) (k : Kind) (view : Geo)

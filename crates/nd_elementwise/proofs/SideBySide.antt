@@ -13,6 +13,7 @@ use Rattle.nd_model.proofs.Values.{round_trip, wrap_value, wrap_in_range, length
 use Rattle.nd_view.proofs.Tuples.{map-map, map_same}
 use Rattle.nd_convert.proofs.Pieces.{run_is}
 use Rattle.nd_convert.specs.Converted.{converted_bytes}
+use Rattle.nd_elementwise.specs.Replaced.{AreValues}
 
 -- what two functions give for numbers in order
 same_counted : {X : Type 0} (f g : ℕ → X) (from n : ℕ) → ((j : ℕ) → from ≤ j → j < from + n → f j ≡ g j) → map f (count_up from n) ≡ map g (count_up from n)
@@ -72,3 +73,24 @@ converted_back to from bytes places out valid keeps is =
     ap (λ l. map (λ j. number_at to l (j * size_of to.kind)) (count_up 0 (length places))) is
     ∙ behind to (λ p. wrap to.kind (number_at from bytes p)) (λ p. wrap_in_range to.kind (number_at from bytes p)) [] places 0 (omega arith)
     ∙ map_same (λ p. wrap to.kind (number_at from bytes p)) (number_at from bytes) (λ p. wrap_value to.kind (number_at from bytes p) (keeps (number_at from bytes p) (valid p))) places
+
+-- numbers of a kind that stand one after another are read back
+pub numbers_back : (e : Element) (zs : List ℤ) (bytes : List ℕ) → AreValues e.kind zs → bytes ≡ flat_map (bytes_of e) zs
+    → map (λ j. number_at e bytes (0 + j * size_of e.kind)) (count_up 0 (length zs)) ≡ zs
+numbers_back e zs bytes are is =
+    ap (λ l. map (λ j. number_at e l (0 + j * size_of e.kind)) (count_up 0 (length zs))) is
+    ∙ same_counted (λ j. number_at e (flat_map (bytes_of e) zs) (0 + j * size_of e.kind)) (λ j. number_at e (flat_map (bytes_of e) zs) (j * size_of e.kind)) 0 (length zs)
+    (λ j le lt. ap (number_at e (flat_map (bytes_of e) zs)) (let same : 0 + j * size_of e.kind ≡ j * size_of e.kind = omega arith in same))
+    ∙ each [] zs 0 are (omega arith)
+  where
+    each : (front : List ℕ) (xs : List ℤ) (k : ℕ) → AreValues e.kind xs → length front ≡ k * size_of e.kind
+        → map (λ j. number_at e (front ++ flat_map (bytes_of e) xs) (j * size_of e.kind)) (count_up k (length xs)) ≡ xs
+    each front [] k valid long = refl
+    each front (x ∷ xs) k valid long =
+        let b : List ℕ = bytes_of e x in let rest : List ℕ = flat_map (bytes_of e) xs in
+        let size : length b ≡ size_of e.kind = length-bytes_of e x in
+        let here : bytes_at (front ++ (b ++ rest)) (k * size_of e.kind) (size_of e.kind) ≡ b
+        = ap (take (size_of e.kind)) (drop_at front (b ++ rest) (k * size_of e.kind) long) ∙ take_at b rest (size_of e.kind) size in
+        let next : length (front ++ b) ≡ (k + 1) * size_of e.kind = omega (arith, length-append front b, long, size) in
+        (λ i. (ap (value_of e) here ∙ round_trip e x valid.0) i ∷ map (λ j. number_at e (sym (append_assoc front b rest) i) (j * size_of e.kind)) (count_up (k + 1) (length xs)))
+        ∙ ap (λ l. x ∷ l) (each (front ++ b) xs (k + 1) valid.1 next)

@@ -5,7 +5,11 @@ pub mod Feeds
 pub mod Arguments
 pub mod Faults
 pub mod Stretched
+pub mod KeptOff
+pub mod Beside
+pub mod Replaced
 pub mod Made
 pub mod Prepared
 pub mod KeptLength
+pub mod WaysDirect
 pub mod WaysInPlace

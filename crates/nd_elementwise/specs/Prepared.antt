@@ -1,5 +1,5 @@
 -- Operators in place: what stands on the right, what is made ready, and what its write leaves of a block.
-use Rattle.std.specs.Prelude.{ℕ, false, List, length}
+use Rattle.std.specs.Prelude.{ℕ, ◌==◌, if◌then◌else◌, false, List, length}
 use Rattle.nd_model.specs.Augmenting.{results_in_place}
 use Rattle.nd_model.specs.Element.{Kind}
 use Rattle.nd_model.specs.Operand as operand
@@ -29,9 +29,23 @@ IsRightSide len (Other v bytes) = LiesIn (length bytes.now) v.now
 abbrev pub with_results : (k : Kind) → BinaryOp → (target : Geo) → RightSide → List ℕ → List ℕ
 with_results k op g right block = put (results_in_place k op g (contents_over g block) (right_operand right block)) block
 
+-- an operator in place that finds its results as it writes them, in a block of so many bytes
+pub record DirectInPlace : Type 0 where
+  pub kind : Kind
+  pub op : BinaryOp
+  pub target : Geo
+  pub right : RightSide
+  pub len : ℕ
+
+-- a block of another length stays as it is
+abbrev pub written_directly : DirectInPlace → List ℕ → List ℕ
+written_directly d block = if length block == d.len then with_results d.kind d.op d.target d.right block else block
+
 -- results that are to be written, and what their write leaves of a block
 pub data PreparedInPlace : Type 0 where
   Found : assigning.Prepared → PreparedInPlace
+  Directly : DirectInPlace → PreparedInPlace
 
 abbrev pub written_in_place : PreparedInPlace → List ℕ → List ℕ
 written_in_place (Found a) block = assigning.written_by a block
+written_in_place (Directly d) block = written_directly d block

@@ -16,7 +16,7 @@ use nd_view::{Run, View};
 use std::marker::Model;
 
 /// The elements of a view that are left of a walk over it, and the kind in which their numbers are wanted. A clause sees the list
-/// of the numbers.
+/// of the numbers, and the kind.
 #[derive(Drop)]
 pub(crate) struct Elements<'v> {
     bytes: &'v [u8],
@@ -26,11 +26,9 @@ pub(crate) struct Elements<'v> {
 }
 
 impl<'v> Model for Elements<'v> {
-    ghost use Rattle.std.specs.Prelude.{List, ℤ};
+    ghost use Rattle.nd_elementwise.specs.ElementsLeft.{ElementsLeft, elements_left, AreElements};
 
-    ghost Value = { List ℤ };
-
-    ghost use Rattle.nd_elementwise.specs.ElementsLeft.{elements_left, AreElements};
+    ghost Value = { ElementsLeft };
 
     ghost view = { elements_left };
 
@@ -77,12 +75,41 @@ fn gather(
     }
 }
 
+/// Takes the numbers of so many elements of a walk over places in these bytes. Those that are converted lie in the buffer.
+pub(crate) fn take_numbers<'b>(
+    walk: &mut Walk<'_>,
+    buffer: &'b mut [u8],
+    kind: Kind,
+    bytes: &'b [u8],
+    elem: Elem,
+    count: usize,
+) -> Side<'b>
+    requires some { 0 < count }
+    requires enough { count ≤ length walk.old }
+    requires held { AreHeld elem bytes.now walk.old }
+    requires keeps { Keeps elem.kind (kind_of kind) }
+    requires buffer { count * size_of (kind_of kind) ≤ length buffer.old }
+    ensures enough { HasNumbers result count }
+    ensures walk { walk.old ≡ take count walk.old ++ walk.new }
+    ensures numbers { numbers_on result count ≡ numbers_at elem bytes.now (take count walk.old) }
+{
+    let run = walk.next(count as u64);
+    if run.count() == count as u64 {
+        return side_of(buffer, kind, bytes, elem, &run);
+    }
+    numbers_are_valid(bytes, elem);
+    let end = count * kind.size() as usize;
+    gather(&mut buffer[..end], kind, bytes, elem, &run, walk, count);
+    Side::Each(&buffer[..end], kind)
+}
+
 impl<'v> Elements<'v> {
     /// Begins with all elements of a view.
     pub(crate) fn new(view: &'v View, bytes: &'v [u8], elem: Elem, kind: Kind) -> Elements<'v>
         requires held { AreHeld elem bytes.now view.now.places }
         requires keeps { Keeps elem.kind (kind_of kind) }
-        ensures { result ≡ numbers_at elem bytes.now view.now.places }
+        ensures numbers { result.numbers ≡ numbers_at elem bytes.now view.now.places }
+        ensures kind { result.kind ≡ kind_of kind }
     {
         Elements {
             bytes,
@@ -97,26 +124,20 @@ impl<'v> Elements<'v> {
     where
         'v: 'b,
         requires some { 0 < count }
-        requires enough { count ≤ length self.old }
-        requires buffer { count * 8 ≤ length buffer.old }
+        requires enough { count ≤ length self.old.numbers }
+        requires buffer { count * size_of self.old.kind ≤ length buffer.old }
         ensures enough { HasNumbers result count }
-        ensures split { self.old ≡ numbers_on result count ++ self.new }
+        ensures split { self.old.numbers ≡ numbers_on result count ++ self.new.numbers }
+        ensures kind { self.new.kind ≡ self.old.kind }
     {
-        let run = self.walk.next(count as u64);
-        if run.count() == count as u64 {
-            return side_of(buffer, self.kind, self.bytes, self.elem, &run);
-        }
-        numbers_are_valid(self.bytes, self.elem);
-        let end = count * self.kind.size() as usize;
-        gather(
-            &mut buffer[..end],
-            self.kind,
-            self.bytes,
-            self.elem,
-            &run,
-            &mut self.walk,
-            count,
-        );
-        Side::Each(&buffer[..end], self.kind)
+        let bytes = self.bytes;
+        take_numbers(&mut self.walk, buffer, self.kind, bytes, self.elem, count)
+    }
+    /// Returns the size of the numbers that are converted.
+    pub(crate) fn size(&self) -> usize
+        ensures value { result ≡ size_of self.now.kind }
+        ensures range { (0 < result) × (result ≤ 8) }
+    {
+        self.kind.size() as usize
     }
 }

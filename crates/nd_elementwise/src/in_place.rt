@@ -2,6 +2,7 @@
 ghost use Rattle.std.specs.Prelude.{◌≡◌, Ok, false, length, IfOk};
 ghost use Rattle.nd_model.specs.Augmenting as augmenting;
 ghost use Rattle.nd_model.specs.Sound.{LiesIn};
+ghost use Rattle.nd_assign.specs.Prepared.{written_by};
 ghost use Rattle.nd_syntax.specs.Syntax.{binary_op};
 ghost use Rattle.nd_types.specs.Kinds.{kind_of};
 ghost use Rattle.nd_types.specs.Types.{type_of};
@@ -11,6 +12,7 @@ ghost use Rattle.nd_elementwise.specs.Prepared.{IsRightSide, right_operand, with
 ghost use Rattle.nd_elementwise.specs.Prepared.{written_in_place};
 
 use crate::argument::{Argument, argument_sort, binary_kind, element_sort, shape_of};
+use crate::direct::{Direct, prepare_directly};
 use crate::fault::MapFault;
 use crate::powers::has_power_below;
 use crate::results::binary_results;
@@ -36,10 +38,19 @@ pub enum RightSide<'v> {
     Other(&'v View, &'v [u8]),
 }
 
+// How results come to the target.
+#[derive(Drop)]
+enum Way<'v> {
+    // They are found before any is written.
+    Found(Assignment<'v>),
+    // They are found as they are written.
+    Directly(Direct<'v>),
+}
+
 /// Results of an operator that are ready to be written where its target lies: to write them takes no memory.
 #[derive(Drop)]
 pub struct InPlace<'v> {
-    assignment: Assignment<'v>,
+    way: Way<'v>,
 }
 
 impl<'v> Model for InPlace<'v> {
@@ -57,7 +68,10 @@ impl<'v> InPlace<'v> {
     pub fn write(&self, block: &mut RawBlock)
         ensures { block.new ≡ written_in_place self.now block.old }
     {
-        self.assignment.write(block);
+        match &self.way {
+            Way::Found(assignment) => assignment.write(block),
+            Way::Directly(direct) => direct.write(block),
+        }
     }
 }
 
@@ -115,6 +129,31 @@ pub fn in_place_kind(
     Ok(kind)
 }
 
+// Finds all results before any is written.
+fn find_all<'v>(
+    alloc: Global,
+    op: BinaryOp,
+    kind: Kind,
+    target: &'v View,
+    block: &[u8],
+    right: RightSide<'v>,
+) -> Result<Assignment<'v>, AllocError>
+    requires target { LiesIn (length block.now) target.now }
+    requires right { IsRightSide (length block.now) right }
+    requires kind { augmenting.in_place_kind (binary_op op) target.now
+        (right_operand right block.now) ≡ Ok (kind_of kind) }
+    ensures { IfOk result (λ a. written_by a block.now
+        ≡ with_results (kind_of kind) (binary_op op) target.now right.entry block.now) }
+{
+    let (shape, count) = (target.shape(), target.count());
+    let left = stretch(alloc, Argument::Elements(target, block), shape)?;
+    let right = stretch(alloc, argument_beside(right, block), shape)?;
+    let ufunc = BinaryUfunc::Operator(op);
+    let results = binary_results(alloc, ufunc, kind, &left, &right, count)?;
+    let view = View::contiguous(alloc, ElemType::One(Elem::little(kind)), shape)?;
+    Ok(Assignment::of_block(target, view, results, block.len()))
+}
+
 /// Makes the results of `target op= right` ready for blocks with as many bytes as this one, which is the target's. All numbers are read
 /// before any is written.
 pub fn prepare_in_place<'v>(
@@ -132,13 +171,13 @@ pub fn prepare_in_place<'v>(
     ensures { IfOk result (λ p. written_in_place p block.now
         ≡ with_results (kind_of kind) (binary_op op) target.now right.entry block.now) }
 {
-    let (shape, count) = (target.shape(), target.count());
-    let left = stretch(alloc, Argument::Elements(target, block), shape)?;
-    let right = stretch(alloc, argument_beside(right, block), shape)?;
-    let ufunc = BinaryUfunc::Operator(op);
-    let results = binary_results(alloc, ufunc, kind, &left, &right, count)?;
-    let view = View::contiguous(alloc, ElemType::One(Elem::little(kind)), shape)?;
+    if let Some(direct) = prepare_directly(alloc, op, kind, target, block, right)? {
+        return Ok(InPlace {
+            way: Way::Directly(direct),
+        });
+    }
+    let assignment = find_all(alloc, op, kind, target, block, right)?;
     Ok(InPlace {
-        assignment: Assignment::of_block(target, view, results, block.len()),
+        way: Way::Found(assignment),
     })
 }

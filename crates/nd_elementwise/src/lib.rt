@@ -1,7 +1,10 @@
 //! NumPy's operators on arrays, element by element: the shapes are broadcast, and the results are a new array.
 #![tactic(auto)]
 
+mod apart;
 mod argument;
+mod beside;
+mod direct;
 mod elements;
 mod fault;
 mod feed;
@@ -11,10 +14,12 @@ mod kernel;
 mod known;
 mod map;
 mod operation;
+mod own;
 mod pairs;
 mod powers;
 mod reading;
 mod repeated;
+mod replacing;
 mod results;
 mod stretched;
 

@@ -13,8 +13,9 @@ use nd_convert::convert;
 use nd_types::{Elem, Kind};
 use nd_view::Run;
 
+/// Returns whether both are the same.
 #[inline(always)]
-fn is_elem(elem: Elem, other: Elem) -> bool
+pub(crate) fn is_elem(elem: Elem, other: Elem) -> bool
     ensures { IsTrue result → elem ≡ other }
 {
     elem == other

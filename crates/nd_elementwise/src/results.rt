@@ -20,12 +20,17 @@ use nd_types::{Kind, promote};
 use nd_ufunc::{BinaryUfunc, Single};
 use std::alloc::{AllocError, Global};
 
-// The kind in which numbers are compared, which is any kind; for other functions the kind of the results.
-fn operand_kind<O: Operation>(to: Kind, left: &Stretched<'_>, right: &Stretched<'_>) -> Kind {
+/// Returns the kind in which numbers are compared, which is any kind; for other functions the kind of the results. Numbers that are of
+/// no kind are taken in the other's.
+pub(crate) fn operand_kind<O: Operation>(
+    to: Kind,
+    left: Option<Kind>,
+    right: Option<Kind>,
+) -> Kind {
     if !O::IS_COMPARISON {
         return to;
     }
-    match (left.kind(), right.kind()) {
+    match (left, right) {
         (Some(left), Some(right)) => promote(left, right).unwrap_or(left),
         (Some(left), None) => left,
         (None, Some(right)) => right,
@@ -49,7 +54,7 @@ fn results<O: Operation>(
     ensures { IfOk result (λ b. b ≡ result_bytes (little (kind_of to)) (O.gives (kind_of to))
         (stretched_numbers left.now count) (stretched_numbers right.now count)) }
 {
-    let kind = operand_kind::<O>(to, left, right);
+    let kind = operand_kind::<O>(to, left.kind(), right.kind());
     let mut out = Filling::with_room(alloc, count * to.size() as usize)?;
     let mut left = left.begin(kind, count);
     let mut right = right.begin(kind, count);

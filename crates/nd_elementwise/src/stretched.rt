@@ -30,8 +30,13 @@ pub(crate) enum Stretched<'v> {
     Elements(View, Elem, &'v [u8]),
 }
 
-// The view of a shape to which it is known to broadcast.
-fn stretch_view(alloc: Global, view: &View, elem: Elem, shape: &[u64]) -> Result<View, AllocError>
+/// Returns the view of a shape to which it is known to broadcast.
+pub(crate) fn stretch_view(
+    alloc: Global,
+    view: &View,
+    elem: Elem,
+    shape: &[u64],
+) -> Result<View, AllocError>
     requires numbers { view.now.element ≡ One elem }
     requires limits { (k : element.Kind) → IsInLimits (element.size_of k) shape.now }
     requires fits { broadcasts_to view.now.shape shape.now ≡ true }
@@ -77,8 +82,8 @@ fn has_numbers_of(kind: Kind, of: Kind) -> bool
     lowest(kind) <= lowest(of) && highest(of) <= highest(kind)
 }
 
-// The kind that is wanted, if it has each number of their own, which it is else.
-fn side_kind(kind: Kind, own: Kind) -> Kind
+/// Returns the kind that is wanted, if it has each number of their own, which it is else.
+pub(crate) fn side_kind(kind: Kind, own: Kind) -> Kind
     ensures { Keeps (kind_of own) (kind_of result) }
 {
     if has_numbers_of(kind, own) { kind } else { own }

@@ -54,7 +54,7 @@ pub follows_saying : {A B X Y : Type 0} (v : X → A) (w : Y → B) (i : Inputs)
 follows_saying v w i t f r u x o first rest = follows v w i (decide t) f r r u x o (ap (λ t. run i (decide t) r) first) rest
 
 -- where what is made takes memory
-made_ends : {A X : Type 0} (v : X → A) (i : Inputs) (t : Result A Fault) (r : Running) (e : Stop) → Makes v (Err e) t → Ends v (Err e) r (run i (decide t) r)
+pub made_ends : {A X : Type 0} (v : X → A) (i : Inputs) (t : Result A Fault) (r : Running) (e : Stop) → Makes v (Err e) t → Ends v (Err e) r (run i (decide t) r)
 made_ends v i t r Memory h = tt
 made_ends v i t r (Refused f) h = ap (λ t. run i (decide t) r) h
 

@@ -14,3 +14,4 @@ pub mod Creating
 pub mod Calls
 pub mod Ranging
 pub mod Seeing
+pub mod Augmented

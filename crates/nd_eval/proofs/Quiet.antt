@@ -1,17 +1,19 @@
 -- Statements that print nothing, so that no limit meets them.
-use Rattle.std.proofs.Common.{◌≡◌, ℕ, zero, suc, List, [], ◌∷◌, Result, Ok, Err, refl}
+use Rattle.std.proofs.Common.{◌≡◌, ℕ, zero, suc, true, false, List, [], ◌∷◌, Result, Ok, Err, refl}
 use Rattle.nd_model.specs.Fault.{Fault}
 use Rattle.nd_model.specs.Value as model
 use Rattle.nd_model.specs.Value.{Int, Truth, Scalar, Array, Row}
 use Rattle.nd_model.specs.Running.{Running, Inputs, reply, after, Effect, Nothing, Prints, Saves, Binding, Unbinding, Storing}
 use Rattle.nd_model.specs.Refusing as refusing
-use Rattle.nd_model.specs.Syntax.{Expr, Index, Bind, Assign, Delete}
+use Rattle.nd_model.specs.Syntax.{Expr, Index, BinaryOp, Augment, AugmentItem, Bind, Assign, Delete}
 use Rattle.nd_model.specs.Evaluation.{Eval, Gives, Refuses, Asks, run, ◌>>=◌, decide}
-use Rattle.nd_model.specs.Operand.{Operand, Usage, Whole, Unused, Deed, BindsFirst, Unbinds, Writes}
-use Rattle.nd_model.specs.Operation.{Named, Plans, Done, And, evaluate, evaluate_all, act_on, do_deed, with_value, store_in}
+use Rattle.nd_model.specs.Operand.{Operand, Plain, Elements, Usage, Whole, Unused, Made, ANumber, AnArray, Deed, BindsFirst, BindsMade, Unbinds, Writes}
+use Rattle.nd_model.specs.Operation.{Views, Named, Plans, Done, And, perform, evaluate, evaluate_all, act_on, do_deed, give, with_value, store_in}
 use Rattle.nd_model.specs.Viewing.{Viewing}
 use Rattle.nd_model.specs.Writing.{assignment_writes}
-use Rattle.nd_model.specs.Meaning.{plan, viewing_of, index_plans, assignment_deed, meaning}
+use Rattle.nd_model.specs.Elementwise.{binary}
+use Rattle.nd_model.specs.Augmenting.{augment_item, augment_name, deed_of_made, in_place_writes, operand_of_made}
+use Rattle.nd_model.specs.Meaning.{plan, two, viewing_of, index_plans, assignment_deed, meaning}
 use Rattle.nd_model.proofs.Soundness.{Safe, safe_bind, safe_operands, IfGiven, given_run}
 use Rattle.nd_operation.specs.declared.stop.Stop.{Stop}
 use Rattle.nd_eval.specs.Ends.{Ends}
@@ -51,19 +53,56 @@ quiet_store i r ws (Scalar k z) = tt
 quiet_store i r ws (Array b g) = tt
 quiet_store i r ws (Row b g) = tt
 
-writes_only : (i : Inputs) (r : Running) (vs : List (Usage × model.Value)) (m : Result (List (ℕ × ℕ)) Fault)
-    → Safe IsQuiet i r (decide (refusing.◌>>=◌ m (λ ws. Ok (Writes 1 ws))) >>= do_deed vs)
-writes_only i r vs (Ok ws) = quiet_with i r vs 1 (store_in ws) (quiet_store i r ws)
-writes_only i r vs (Err f) = tt
+writes_only : (i : Inputs) (r : Running) (vs : List (Usage × model.Value)) (k : ℕ) (m : Result (List (ℕ × ℕ)) Fault)
+    → Safe IsQuiet i r (decide (refusing.◌>>=◌ m (λ ws. Ok (Writes k ws))) >>= do_deed vs)
+writes_only i r vs k (Ok ws) = quiet_with i r vs k (store_in ws) (quiet_store i r ws)
+writes_only i r vs k (Err f) = tt
 
 quiet_deed : (w : Viewing) (i : Inputs) (r : Running) (vs : List (Usage × model.Value)) (os : List Operand) → Safe IsQuiet i r (decide (assignment_deed w os) >>= do_deed vs)
 quiet_deed w i r vs [] = tt
 quiet_deed w i r vs (v ∷ []) = tt
-quiet_deed w i r vs (v ∷ t ∷ os) = writes_only i r vs (assignment_writes w v t os)
+quiet_deed w i r vs (v ∷ t ∷ os) = writes_only i r vs 1 (assignment_writes w v t os)
 
 quiet_act : (i : Inputs) (r : Running) (f : List Operand → Result Deed Fault) (ps : Plans) → ((q : Running) (vs : List (Usage × model.Value)) (os : List Operand) → Safe IsQuiet i q (decide (f os) >>= do_deed vs))
     → Safe IsQuiet i r (evaluate_all ps (act_on f))
 quiet_act i r f ps h = quiet_plans i r ps (act_on f) (λ q vs. safe_operands IsQuiet i q vs (λ os. decide (f os) >>= do_deed vs) (λ p os g is. h p vs os))
+
+-- what is bound to what an operator makes, and what is assigned of it
+binds_only : (i : Inputs) (r : Running) (vs : List (Usage × model.Value)) (n : List ℕ) (m : Result Made Fault)
+    → Safe IsQuiet i r (decide (refusing.◌>>=◌ m (λ made. Ok (BindsMade n made))) >>= do_deed vs)
+binds_only i r vs n (Ok made) = safe_bind Always IsQuiet i r (give made) (λ v. Gives (Binding n v)) (anything i r (give made)) (λ q v g always. tt)
+binds_only i r vs n (Err f) = tt
+
+quiet_made : (i : Inputs) (r : Running) (vs : List (Usage × model.Value)) (made : Made) (ws : List (ℕ × ℕ)) → Safe IsQuiet i r (do_deed vs (deed_of_made made ws))
+quiet_made i r vs (ANumber n) ws = quiet_with i r vs 2 (store_in ws) (quiet_store i r ws)
+quiet_made i r vs (AnArray t shape f) ws =
+    safe_bind Always IsQuiet i r (give (AnArray t shape f)) (λ v. with_value vs 2 (store_in ws)) (anything i r (give (AnArray t shape f))) (λ q v g always. quiet_with i q vs 2 (store_in ws) (quiet_store i q ws))
+
+assigns_only : (i : Inputs) (r : Running) (vs : List (Usage × model.Value)) (m : Result Made Fault) (k : Made → Result (List (ℕ × ℕ)) Fault)
+    → Safe IsQuiet i r (decide (refusing.◌>>=◌ m (λ made. refusing.◌>>=◌ (k made) (λ ws. Ok (deed_of_made made ws)))) >>= do_deed vs)
+assigns_only i r vs (Err f) k = tt
+assigns_only i r vs (Ok made) k = by (k made)
+  where
+    by : (q : Result (List (ℕ × ℕ)) Fault) → Safe IsQuiet i r (decide (refusing.◌>>=◌ q (λ ws. Ok (deed_of_made made ws))) >>= do_deed vs)
+    by (Ok ws) = quiet_made i r vs made ws
+    by (Err f) = tt
+
+quiet_name : (n : List ℕ) (op : BinaryOp) (i : Inputs) (r : Running) (vs : List (Usage × model.Value)) (os : List Operand) → Safe IsQuiet i r (decide (two (augment_name n op) os) >>= do_deed vs)
+quiet_name n op i r vs [] = tt
+quiet_name n op i r vs (x ∷ []) = tt
+quiet_name n op i r vs (Plain k ∷ y ∷ []) = binds_only i r vs n (binary op (Plain k) y)
+quiet_name n op i r vs (Elements false g cs ∷ y ∷ []) = writes_only i r vs 0 (in_place_writes op g cs y)
+quiet_name n op i r vs (Elements true g cs ∷ y ∷ []) = binds_only i r vs n (binary op (Elements true g cs) y)
+quiet_name n op i r vs (x ∷ y ∷ z ∷ os) = tt
+
+quiet_item : (op : BinaryOp) (w : Viewing) (i : Inputs) (r : Running) (vs : List (Usage × model.Value)) (os : List Operand) → Safe IsQuiet i r (decide (augment_item op w os) >>= do_deed vs)
+quiet_item op w i r vs [] = tt
+quiet_item op w i r vs (y ∷ []) = tt
+quiet_item op w i r vs (y ∷ Plain k ∷ []) = tt
+quiet_item op w i r vs (y ∷ Elements row g cs ∷ []) = tt
+quiet_item op w i r vs (y ∷ Plain k ∷ t ∷ os) = assigns_only i r vs (binary op (Plain k) y) (λ m. assignment_writes w (operand_of_made m) t os)
+quiet_item op w i r vs (y ∷ Elements false g cs ∷ t ∷ os) = writes_only i r vs 1 (in_place_writes op g cs y)
+quiet_item op w i r vs (y ∷ Elements true g cs ∷ t ∷ os) = assigns_only i r vs (binary op (Elements true g cs) y) (λ m. assignment_writes w (operand_of_made m) t os)
 
 unlimited : (m : Result Effect Fault × Running) → IfGiven IsQuiet m → limit_effect m ≡ m
 unlimited (Ok Nothing, r) h = refl
@@ -84,6 +123,18 @@ module _ {Y : Type 0} (w : Y → Effect) (i : Inputs) (r s : Running) (o : Resul
 
   pub quiet_assignment : (t : Expr) (x : Index) (e : Expr) → Ends w o s (run i (meaning (Assign t x e)) r) → Ends w o s (limit_effect (run i (meaning (Assign t x e)) r))
   quiet_assignment t x e h = quiet w i (meaning (Assign t x e)) r s o (quiet_act i r (assignment_deed (viewing_of x)) (And Whole (plan e) (And Unused (plan t) (index_plans x))) (quiet_deed (viewing_of x) i)) h
+
+  pub quiet_augment : (n : List ℕ) (op : BinaryOp) (e : Expr) → Ends w o s (run i (meaning (Augment n op e)) r) → Ends w o s (limit_effect (run i (meaning (Augment n op e)) r))
+  quiet_augment n op e h = quiet w i (meaning (Augment n op e)) r s o (quiet_act i r (two (augment_name n op)) (And Whole (Named n) (And Whole (plan e) Done)) (quiet_name n op i)) h
+
+  pub quiet_augment_item : (t : Expr) (x : Index) (op : BinaryOp) (e : Expr) → Ends w o s (run i (meaning (AugmentItem t x op e)) r) → Ends w o s (limit_effect (run i (meaning (AugmentItem t x op e)) r))
+  quiet_augment_item t x op e h =
+      quiet w i (meaning (AugmentItem t x op e)) r s o
+      (quiet_plans i r (And Unused (plan t) (index_plans x)) (λ vs. perform (Views (viewing_of x)) vs >>= λ v. evaluate (plan e) >>= λ y. act_on (augment_item op (viewing_of x)) ((Whole, y) ∷ (Whole, v) ∷ vs))
+      (λ q vs. safe_bind Always IsQuiet i q (perform (Views (viewing_of x)) vs) _ (anything i q (perform (Views (viewing_of x)) vs))
+      (λ p v g always. safe_bind Always IsQuiet i p (evaluate (plan e)) _ (anything i p (evaluate (plan e)))
+      (λ m y g always. safe_operands IsQuiet i m ((Whole, y) ∷ (Whole, v) ∷ vs) (λ os. decide (augment_item op (viewing_of x) os) >>= do_deed ((Whole, y) ∷ (Whole, v) ∷ vs))
+      (λ k os g is. quiet_item op (viewing_of x) i k ((Whole, y) ∷ (Whole, v) ∷ vs) os))))) h
 
   pub quiet_deletion : (n : List ℕ) → Ends w o s (run i (meaning (Delete n)) r) → Ends w o s (limit_effect (run i (meaning (Delete n)) r))
   quiet_deletion n h = quiet w i (meaning (Delete n)) r s o (quiet_act i r (λ os. Ok (Unbinds n)) (And Unused (Named n) Done) (λ q vs os. tt)) h

@@ -1,6 +1,6 @@
 //! Assignments with an operator.
 
-ghost use Rattle.std.specs.Prelude.{◌≡◌, ◌+◌, ◌<◌, ◌^◌, IfOk};
+ghost use Rattle.std.specs.Prelude.{◌≡◌, ◌+◌, ◌<◌, ◌^◌, IfOk, MatchResult};
 ghost use Rattle.nd_model.specs.Evaluation as evaluation;
 ghost use Rattle.nd_model.specs.Meaning as meaning;
 ghost use Rattle.nd_model.specs.Sound.{IsHeldView};
@@ -8,6 +8,7 @@ ghost use Rattle.nd_model.specs.Syntax.{Augment, AugmentItem};
 ghost use Rattle.nd_model.specs.Tokens.{tokens_of_stmt};
 ghost use Rattle.nd_syntax.specs.Syntax.{binary_op, expr_of, index_of};
 ghost use Rattle.nd_heap.specs.Values.{base_of, geo_of, value_of};
+ghost use Rattle.nd_heap.specs.declared.value.Value.TheVariants as values;
 ghost use Rattle.nd_session.specs.Live.{live};
 ghost use Rattle.nd_operation.specs.Contents.{contents_over, unused_of};
 ghost use Rattle.nd_operation.specs.Ends.{Makes};
@@ -25,6 +26,16 @@ use nd_choice::{IndexValue, assignment_target};
 use nd_operation::{OfTwo, Stop, kind_in_place, make_of_two, not_an_array};
 use nd_session::{Array, Session, Value};
 use nd_syntax::{BinaryOp, Expr, Index};
+
+/// The array that a value is, or the value again.
+fn array_of(value: Value) -> Result<Array, Value>
+    ensures { MatchResult result (λ a. value ≡ values.Array a) (λ v. (v ≡ value) × IsNoArray v) }
+{
+    match value {
+        Value::Array(array) => Ok(array),
+        other => Err(other),
+    }
+}
 
 /// What an operator in place on an array comes to, once the elements of both are noted as used.
 fn update_effect(
@@ -83,13 +94,13 @@ impl Evaluator<'_> {
             (binary_op op) (value_of found) (value_of value)) self.new }
         ensures ready { IfOk result (IsReady (session_of self.new)) }
     {
-        match found {
-            Value::Array(array) => {
+        match array_of(found) {
+            Ok(array) => {
                 self.session.mark_used(&array)?;
                 mark_operand(self.session, &value)?;
                 update_effect(self.session, op, array, value)
             }
-            Value::Number(_) | Value::Row(_) => self.rebind(name, op, &found, &value),
+            Err(found) => self.rebind(name, op, &found, &value),
         }
     }
 
@@ -174,11 +185,9 @@ impl Evaluator<'_> {
         mark_operand(self.session, &value)?;
         mark_operand(self.session, &found)?;
         mark_index(self.session, index)?;
-        match found {
-            Value::Array(array) => update_effect(self.session, op, array, value),
-            Value::Number(_) | Value::Row(_) => {
-                self.assign_made(op, &value, &found, target, index)
-            }
+        match array_of(found) {
+            Ok(array) => update_effect(self.session, op, array, value),
+            Err(found) => self.assign_made(op, &value, &found, target, index),
         }
     }
 

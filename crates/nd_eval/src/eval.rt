@@ -117,7 +117,12 @@ impl Evaluator<'_> {
     }
 
     /// What an operator, or a function of NumPy, gives of two values.
-    pub(crate) fn operate(&mut self, call: OfTwo, left: &Value, right: &Value) -> Result<Value, Stop>
+    pub(crate) fn operate(
+        &mut self,
+        call: OfTwo,
+        left: &Value,
+        right: &Value,
+    ) -> Result<Value, Stop>
         requires left { IsHeld (session_of self.old) left.now }
         requires right { IsHeld (session_of self.old) right.now }
         requires room { (session_of self.old).next + 1 < 2 ^ 64 }
@@ -473,7 +478,11 @@ impl Evaluator<'_> {
     }
 
     /// What an index chooses of a value.
-    pub(crate) fn choose_value(&mut self, target: &Value, index: &IndexValue<'_>) -> Result<Value, Stop>
+    pub(crate) fn choose_value(
+        &mut self,
+        target: &Value,
+        index: &IndexValue<'_>,
+    ) -> Result<Value, Stop>
         ensures { Evaluates value_of result self.old
             (parts.choose_value (value_of target.now) (contents.index_of index.now)) self.new }
     {

@@ -4,6 +4,7 @@ use Rattle.std.specs.Prelude.{◌==◌}
 use Rattle.std.specs.List.{flat_map}
 use Rattle.std.proofs.lemmas.Bool.Decides.{nat_tests}
 use Rattle.std.proofs.lemmas.List.{take_all}
+use Rattle.std.proofs.lemmas.Result.{err_from_is_err_and}
 use Rattle.nd_model.specs.Augmenting.{in_place_kind, operand_of_made}
 use Rattle.nd_model.specs.Broadcast.{broadcast, in_limits, unless_fault}
 use Rattle.nd_model.specs.Content.{Num, array_bytes, element_bytes, number_at, number_in}
@@ -161,6 +162,17 @@ exits_map r Memory o is h = new_memory (numbers_made r) o is
 exits_map r (map_fault.Ufunc f) o is h = new_refused (numbers_made r) (stmt_fault.Ufunc f) o is (not_made r _ h)
 exits_map r (map_fault.View f) o is h = new_refused (numbers_made r) (stmt_fault.View f) o is (not_made r _ h)
 
+-- and what that says of an operand
+pub exits_operand : (r : Result Numbers Fault) (f : MapFault) (o : Result New Stop) → IsErrAnd o (λ x. x ≡ map_stop f) → Makes (λ (m : Geo × List ℕ). m) (Err f) (array_of r) → StandsFor o (numbers_made r)
+exits_operand r f o is h =
+    let p : (x : Stop) × (o ≡ Err x) × (x ≡ map_stop f) = err_from_is_err_and o is in
+    subst (λ (o : Result New Stop). StandsFor o (numbers_made r)) (sym (p.1 ∙ ap Err p.2)) (at f h)
+  where
+    at : (f : MapFault) → Makes (λ (m : Geo × List ℕ). m) (Err f) (array_of r) → StandsFor (Err (map_stop f)) (numbers_made r)
+    at Memory h = tt
+    at (map_fault.Ufunc f) h = not_made r _ h
+    at (map_fault.View f) h = not_made r _ h
+
 -- a row counts as an array without axes
 binary_arrays : (f : BinaryUfunc) (x y : Operand) → binary_numbers f (as_array x) (as_array y) ≡ binary_numbers f x y
 binary_arrays f (Plain m) (Plain n) = refl
@@ -239,5 +251,5 @@ module _ (n : Numbers) (view : Geo) (block : List ℕ) (is : IsArrayOf n view bl
   })
 
 -- what is made of numbers stands for it
-pub stands_for : (r : Result Numbers Fault) (n : Numbers) (new : New) → r ≡ Ok n → operand_of_made (made_of n.kind n.shape n.number) ≡ operand_of_new new → StandsFor new (numbers_made r)
+pub stands_for : (r : Result Numbers Fault) (n : Numbers) (new : New) → r ≡ Ok n → operand_of_made (made_of n.kind n.shape n.number) ≡ operand_of_new new → StandsFor (Ok new) (numbers_made r)
 stands_for r n new is same = (made_of n.kind n.shape n.number, ap numbers_made is, same)

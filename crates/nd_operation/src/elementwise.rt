@@ -70,9 +70,8 @@ pub(crate) fn map_two(
 ) -> Result<New, Stop>
     ensures new { MakesNew result (numbers_made (elementwise.binary_numbers (ufunc_of ufunc)
         (operand_of left.now) (operand_of right.now))) }
-    ensures operand { IfOk result (λ made. StandsFor made (numbers_made
-        (elementwise.binary_numbers (ufunc_of ufunc) (operand_of left.now)
-        (operand_of right.now)))) }
+    ensures operand { StandsFor result (numbers_made (elementwise.binary_numbers
+        (ufunc_of ufunc) (operand_of left.now) (operand_of right.now))) }
     ensures lies { IfOk result NewLies }
 {
     let (view, block) = map2(alloc, ufunc, argument_of(left), argument_of(right))?;

@@ -190,8 +190,8 @@ pub fn make_of_two(
 ) -> Result<New, Stop>
     ensures new { MakesNew result
         (made_of_two call (operand_of left.now) (operand_of right.now)) }
-    ensures operand { IfOk result (λ made. StandsFor made
-        (made_of_two call (operand_of left.now) (operand_of right.now))) }
+    ensures operand { StandsFor result
+        (made_of_two call (operand_of left.now) (operand_of right.now)) }
     ensures lies { IfOk result NewLies }
 {
     match (left, right) {

@@ -23,9 +23,9 @@ loop-rest-preserved g c =
     let length-Y : length Y ≡ n = length-map (count_up 0 n) (number_on c.take-ys.result) ∙ length-count_up 0 n in
     let left : length (numbers_left c.loop-rest.left) ≡ length X + length L = ap length c.take-xs.ensures.split ∙ length-append X L in
     let right : length (numbers_left c.loop-rest.right) ≡ length Y + length R = ap length c.take-ys.ensures.split ∙ length-append Y R in
-    let few : n ≤ 512 = omega (arith, c.min-some.ensures) in
-    let most : n * size ≤ 512 * size = mul-le-mul_right size few in
-    let room : n * size ≤ length buffer = omega (arith, most, c.size-size.ensures.range, is.buffer) in
+    let few : n ≤ c.chunk_of-chunk.result = omega (arith, c.min-some.ensures) in
+    let most : n * size ≤ c.chunk_of-chunk.result * size = mul-le-mul_right size few in
+    let room : n * size ≤ length buffer = omega (arith, most, c.chunk_of-chunk.ensures.size, is.buffer) in
     let long : length part ≡ n * size = c.apply_sides.auto.out ∙ length-take-le (n * size) buffer room in
     let pushed : take (n * size) (part ++ drop (n * size) buffer) ≡ part = ap (λ m. take m (part ++ drop (n * size) buffer)) (sym long) ∙ take-append_seam part (drop (n * size) buffer) in
     let bytes : n * size ≡ n * size_of to = ap (λ m. n * m) c.size-size.ensures.value in
@@ -34,6 +34,8 @@ loop-rest-preserved g c =
     record {
       left = omega (arith, left, length-X, is.left);
       right = omega (arith, right, length-Y, is.right);
+      left_size = c.take-xs.ensures.size ∙ is.left_size;
+      right_size = c.take-ys.ensures.size ∙ is.right_size;
       buffer = length-append part (drop (n * size) buffer) ∙ omega (arith, long, length-drop (n * size) buffer, room, is.buffer);
       room = omega (arith, is.room, c.push.ensures.left, ap length pushed, long, bytes, whole, rest, ap (λ m. m * size_of to) (let e : c.loop-rest.rest - n ≡ length L = omega (arith, rest) in e));
       written = ap (λ l. l ++ f L R) c.push.ensures.written ∙ append_assoc c.loop-rest.out.0 (take (n * size) (part ++ drop (n * size) buffer)) (f L R)

@@ -5,7 +5,7 @@ use Rattle.nd_model.specs.Broadcast.{broadcasts_to}
 use Rattle.nd_model.specs.Element.{Kind}
 use Rattle.nd_model.specs.Elementwise.{element_sort, operand_sort, binary_kind, has_power_below}
 use Rattle.nd_model.specs.Operand.{Operand, shape_of}
-use Rattle.nd_model.specs.Operators.{BinaryUfunc, Operator, is_power_below}
+use Rattle.nd_model.specs.Operators.{Operator, is_power_below}
 use Rattle.nd_model.specs.Syntax.{BinaryOp}
 use Rattle.nd_model.specs.Tuple.{elements_of}
 use Rattle.nd_model.specs.View.{Geo}

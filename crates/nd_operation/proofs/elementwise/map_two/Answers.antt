@@ -4,7 +4,7 @@ use Rattle.nd_ufunc.specs.Ufuncs.{ufunc_of}
 use Rattle.nd_elementwise.specs.Made.{array_of}
 use Rattle.nd_elementwise.specs.Faults.{Makes}
 use Rattle.nd_operation.specs.Contents.{operand_of}
-use Rattle.nd_operation.proofs.NumberArrays.{array_is, binary_are, exits_map, gives_numbers, mapped_two, stands_for}
+use Rattle.nd_operation.proofs.NumberArrays.{array_is, binary_are, exits_map, exits_operand, gives_numbers, mapped_two, stands_for}
 use Rattle.nd_operation.proofs.elementwise.map_two.Goals as goal
 
 pub returns-in_err-view-clause-new : goal.returns-in_err-view-clause-new
@@ -13,6 +13,14 @@ returns-in_err-view-clause-new c =
     let x = operand_of c.args.left.now in
     let y = operand_of c.args.right.now in
     exits_map (elementwise.binary_numbers f x y) c.in_err-view.field-0.0 _ c.from_residual.ensures.1
+    (subst (λ r. Makes (λ m. m) (Err c.in_err-view.field-0.0) (array_of r)) (mapped_two f x y _ _ c.argument_of.ensures.value c.argument_of-2.ensures.value) c.in_err-view.ensures)
+
+pub returns-in_err-view-clause-operand : goal.returns-in_err-view-clause-operand
+returns-in_err-view-clause-operand c =
+    let f = ufunc_of c.args.ufunc in
+    let x = operand_of c.args.left.now in
+    let y = operand_of c.args.right.now in
+    exits_operand (elementwise.binary_numbers f x y) c.in_err-view.field-0.0 _ c.from_residual.ensures.1
     (subst (λ r. Makes (λ m. m) (Err c.in_err-view.field-0.0) (array_of r)) (mapped_two f x y _ _ c.argument_of.ensures.value c.argument_of-2.ensures.value) c.in_err-view.ensures)
 
 pub new_numbers-requires : goal.new_numbers-requires

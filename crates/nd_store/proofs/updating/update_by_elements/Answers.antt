@@ -1,6 +1,6 @@
 use Rattle.std.proofs.Common.{◌≡◌, ◌∙◌, Ok, List, ℕ, Bor, ap, sym, subst}
 use Rattle.std.specs.Prelude.{OnOk, false}
-use Rattle.nd_model.specs.Augmenting.{results_in_place}
+use Rattle.nd_model.specs.Augmenting.{in_place_kind, results_in_place}
 use Rattle.nd_model.specs.Running.{Running}
 use Rattle.nd_model.specs.Session.{put}
 use Rattle.nd_model.proofs.Storing.{equal_bases}
@@ -14,6 +14,23 @@ use Rattle.nd_operation.specs.Contents.{contents_over, elements_over}
 use Rattle.nd_store.proofs.Updated.{updated_in_parts}
 use Rattle.nd_store.proofs.updating.update_by_elements.Goals as goal
 use Rattle.nd_store.proofs.updating.update_by_elements.Goals.{in-Some, in-None}
+
+pub prepare_in_place-requires-clause-kind : goal.prepare_in_place-requires-clause-kind
+prepare_in_place-requires-clause-kind c =
+    let r = live c.args.session.now in
+    let b = base_of c.args.target.now.base in
+    let own = ap r.bytes (sym (equal_bases (base_of c.args.source.now.base) b (sym c.eq.ensures ∙ c.if-eq.true))) in
+    ap (λ (bytes : List ℕ). in_place_kind (binary_op c.args.op) (geo_of c.args.target.now) (elements_over false (geo_of c.args.source.now) bytes)) (c.bytes-block.ensures ∙ own) ∙ c.requires.kind
+
+pub prepare_in_place-requires-2-clause-kind : goal.prepare_in_place-requires-2-clause-kind
+prepare_in_place-requires-2-clause-kind c =
+    let r = live c.args.session.now in
+    let bytes = r.bytes (base_of c.args.source.now.base) in
+    let lent : c.match-shared.bytes.now ≡ bytes = elim c.match-shared.branch [
+      | in-Some w ↦ ap (λ (x : Bor (List ℕ)). x.now) w.bytes-is ∙ w.as_slice-bytes.ensures ∙ w.as_ref.ensures ∙ ap bytes_in (sym w.in-Some.is) ∙ c.in_ok-shared.ensures
+      | in-None w ↦ ap (λ (x : Bor (List ℕ)). x.now) w.bytes-is ∙ ap bytes_in (sym w.in-None.is) ∙ c.in_ok-shared.ensures
+    ] in
+    ap (λ (bytes : List ℕ). in_place_kind (binary_op c.args.op) (geo_of c.args.target.now) (elements_over false (geo_of c.args.source.now) bytes)) lent ∙ c.requires.kind
 
 pub returns-then-eq : goal.returns-then-eq
 returns-then-eq c =

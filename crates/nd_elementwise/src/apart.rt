@@ -1,0 +1,104 @@
+//! Whether what is read of a block keeps off what is written to it.
+ghost use Rattle.std.specs.Prelude.{◌≡◌, ◌+◌, ◌*◌, ◌^◌, ◌<◌, ◌≤◌, length, slice_index, IsTrue, IfSome};
+ghost use Rattle.nd_model.specs.Element.{size_of};
+ghost use Rattle.nd_assign.specs.SideBySide.{side_by_side};
+ghost use Rattle.nd_elementwise.specs.KeptOff.{KeepsOff};
+
+use nd_types::Elem;
+use nd_view::{Run, View};
+
+// Whether the elements of a run lie side by side.
+fn is_gapless(run: &Run, elem: Elem) -> bool
+    ensures { IsTrue result → run.now ≡ side_by_side (size_of elem.kind) (slice_index run.now 0)
+        (length run.now) }
+{
+    let step = run.step();
+    run.count() == 1 || step == i128::from(elem.size())
+}
+
+/// Returns the places of a view whose elements lie side by side, `None` of others and where there are none.
+pub(crate) fn gapless_run(view: &View, elem: Elem) -> Option<Run>
+    ensures { IfSome result (λ run. (run ≡ view.now.places)
+        × (run ≡ side_by_side (size_of elem.kind) (slice_index run 0) (length run))) }
+{
+    let mut runs = view.runs();
+    let run = runs.next()?;
+    if run.count() as usize != view.count() {
+        return None;
+    }
+    if !is_gapless(&run, elem) {
+        return None;
+    }
+    Some(run)
+}
+
+// The place of the target's element of this number.
+fn place_at(first: u64, step: u64, number: u64) -> u128
+    requires { step ≤ 8 }
+    ensures { result ≡ first + number * step }
+{
+    u128::from(first) + u128::from(number) * u128::from(step)
+}
+
+// Whether an element at a place ends before the target.
+fn ends_before(place: u64, size: u64, first: u64) -> bool
+    ensures { IsTrue result → place + size ≤ first }
+{
+    u128::from(place) + u128::from(size) <= u128::from(first)
+}
+
+// Whether each element of a run lies before the target or not before the element that it stands beside.
+fn each_keeps_off(run: &Run, size: u64, first: u64, step: u64, at: u64) -> bool
+    requires step { step ≤ 8 }
+    requires few { at + length run.now ≤ 2 ^ 24 }
+    ensures { IsTrue result → KeepsOff size first step at run.now }
+{
+    for number in 0..run.count() {
+        let place = run.place(number);
+        if !ends_before(place, size, first)
+            && u128::from(place) < place_at(first, step, at + number)
+        {
+            return false;
+        }
+    }
+    true
+}
+
+// Whether each does. Element by element this is asked only of a run that reaches over the target and does not go along with it.
+fn run_keeps_off(run: &Run, size: u64, first: u64, step: u64, at: u64) -> bool
+    requires step { step ≤ 8 }
+    requires few { at + length run.now ≤ 2 ^ 24 }
+    ensures { IsTrue result → KeepsOff size first step at run.now }
+{
+    let (own, count) = (run.step(), run.count());
+    let (start, last) = (run.place(0), run.place(count - 1));
+    if ends_before(start, size, first) && ends_before(last, size, first) {
+        return true;
+    }
+    let end = place_at(first, step, at + count);
+    if end <= u128::from(start) && end <= u128::from(last) {
+        return true;
+    }
+    if own == i128::from(step) && place_at(first, step, at) <= u128::from(start) {
+        return true;
+    }
+    each_keeps_off(run, size, first, step, at)
+}
+
+/// Returns whether each element of a view lies before a target or not before the target's element that it stands beside. The target's
+/// elements lie `step` bytes apart from `first` on.
+pub(crate) fn view_keeps_off(view: &View, size: u64, first: u64, step: u64) -> bool
+    requires { step ≤ 8 }
+    ensures { IsTrue result → KeepsOff size first step 0 view.now.places }
+{
+    let _count = view.count();
+    let mut runs = view.runs();
+    let mut at = 0;
+    while let Some(run) = runs.next() {
+        if !run_keeps_off(&run, size, first, step, at) {
+            return false;
+        }
+        at += run.count();
+    }
+    true
+}

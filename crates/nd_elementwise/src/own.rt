@@ -1,0 +1,65 @@
+//! The elements of a block that is written to between one part of them and the next.
+ghost use Rattle.std.specs.Prelude.{◌≡◌, ◌*◌, ◌<◌, ◌≤◌, ◌++◌, length, take};
+ghost use Rattle.nd_model.specs.Element.{size_of};
+ghost use Rattle.nd_types.specs.Kinds.{kind_of};
+ghost use Rattle.nd_element.specs.Elements.{AreHeld, numbers_at};
+ghost use Rattle.nd_elementwise.specs.Sides.{HasNumbers, Keeps, numbers_on};
+
+use crate::elements::take_numbers;
+use crate::kernel::Side;
+use nd_assign::Walk;
+use nd_types::{Elem, Kind};
+use nd_view::View;
+
+/// The elements that are left of a walk over a block that is written to.
+#[derive(Drop)]
+pub(crate) struct OwnElements<'v> {
+    walk: Walk<'v>,
+    elem: Elem,
+    kind: Kind,
+    ghost keeps: { Keeps elem.kind (kind_of kind) },
+}
+
+impl<'v> OwnElements<'v> {
+    /// Begins with all elements of a view. Their numbers are wanted in a kind.
+    pub(crate) fn new(view: &'v View, elem: Elem, kind: Kind) -> OwnElements<'v>
+        requires { Keeps elem.kind (kind_of kind) }
+        ensures walk { result.walk ≡ view.now.places }
+        ensures elem { result.elem ≡ elem }
+        ensures kind { result.kind ≡ kind }
+    {
+        OwnElements {
+            walk: Walk::new(view),
+            elem,
+            kind,
+        }
+    }
+
+    /// Takes the numbers of so many elements, as they stand in the block now.
+    pub(crate) fn take<'b>(
+        &mut self,
+        buffer: &'b mut [u8],
+        block: &'b [u8],
+        count: usize,
+    ) -> Side<'b>
+        requires some { 0 < count }
+        requires enough { count ≤ length self.old.walk }
+        requires held { AreHeld self.old.elem block.now self.old.walk }
+        requires buffer { count * size_of (kind_of self.old.kind) ≤ length buffer.old }
+        ensures enough { HasNumbers result count }
+        ensures elem { self.new.elem ≡ self.old.elem }
+        ensures kind { self.new.kind ≡ self.old.kind }
+        ensures walk { self.old.walk ≡ take count self.old.walk ++ self.new.walk }
+        ensures numbers { numbers_on result count
+            ≡ numbers_at self.old.elem block.now (take count self.old.walk) }
+    {
+        take_numbers(&mut self.walk, buffer, self.kind, block, self.elem, count)
+    }
+    /// Returns the size of the numbers that are converted.
+    pub(crate) fn size(&self) -> usize
+        ensures value { result ≡ size_of (kind_of self.now.kind) }
+        ensures range { (0 < result) × (result ≤ 8) }
+    {
+        self.kind.size() as usize
+    }
+}

@@ -130,7 +130,13 @@ pub(crate) fn measure_in_place(rt: &HostRuntime) -> io::Result<()> {
     let right = RightSide::Other(&all, other.as_slice());
     measure(rt, "sums", &all, right, &mut block)?;
     let mut block = mixed_block(rt.alloc(), int, COUNT)?;
-    measure(rt, "increments", &all, RightSide::Number(Num::Int(1)), &mut block)?;
+    measure(
+        rt,
+        "increments",
+        &all,
+        RightSide::Number(Num::Int(1)),
+        &mut block,
+    )?;
     let mut block = mixed_block(rt.alloc(), int, COUNT)?;
     measure(rt, "neighbours", &rest, RightSide::Own(&front), &mut block)
 }

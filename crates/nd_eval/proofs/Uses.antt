@@ -114,6 +114,25 @@ index_marked_bytes (index.Items xs) r = items_marked_bytes xs.items r
 pub index_kept : (x : IndexValue) (r s : Running) → s ≡ index_marked x r → s.bytes ≡ r.bytes
 index_kept x r s mark = ap (λ (q : Running). q.bytes) mark ∙ index_marked_bytes x r
 
+item_marked_next : (v : Value) (r : Running) → (item_marked v r).next ≡ r.next
+item_marked_next (Number n) r = refl
+item_marked_next (Array a) r = refl
+item_marked_next (Row a) r = refl
+
+items_marked_next : (xs : List ItemValue) (r : Running) → (items_marked xs r).next ≡ r.next
+items_marked_next [] r = refl
+items_marked_next (item.At v ∷ xs) r = items_marked_next xs (item_marked v r) ∙ item_marked_next v r
+items_marked_next (item.Slice a b c ∷ xs) r = items_marked_next xs r
+items_marked_next (item.Ellipsis ∷ xs) r = items_marked_next xs r
+items_marked_next (item.NewAxis ∷ xs) r = items_marked_next xs r
+
+index_marked_next : (x : IndexValue) (r : Running) → (index_marked x r).next ≡ r.next
+index_marked_next (index.Field n) r = refl
+index_marked_next (index.Items xs) r = items_marked_next xs.items r
+
+pub index_next : (x : IndexValue) (r s : Running) → s ≡ index_marked x r → s.next ≡ r.next
+index_next x r s mark = ap (λ (q : Running). q.next) mark ∙ index_marked_next x r
+
 -- no contents of operands say what an index chooses
 abbrev bare : model.Operand → model.Operand
 bare (model.Plain n) = model.Plain n

@@ -11,7 +11,6 @@ use Rattle.nd_model.specs.Operators.{Operator, Sort}
 use Rattle.nd_model.specs.Refusing as refusing
 use Rattle.nd_model.specs.Running.{Running, done, Storing}
 use Rattle.nd_model.specs.Session.{put}
-use Rattle.nd_model.specs.Sound.{LiesIn}
 use Rattle.nd_model.specs.Storing.{having_block, having_written}
 use Rattle.nd_model.specs.Syntax.{BinaryOp}
 use Rattle.nd_model.specs.Tuple.{elements_of}

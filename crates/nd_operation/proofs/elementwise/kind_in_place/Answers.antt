@@ -1,4 +1,4 @@
-use Rattle.std.proofs.Common.{◌≡◌, sym, subst, Err, ◌∙◌}
+use Rattle.std.proofs.Common.{sym, subst, Err, ◌∙◌}
 use Rattle.nd_model.specs.Augmenting.{in_place_kind}
 use Rattle.nd_elementwise.specs.Faults.{Makes}
 use Rattle.nd_syntax.specs.Syntax.{binary_op}

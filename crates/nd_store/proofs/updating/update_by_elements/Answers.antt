@@ -1,4 +1,4 @@
-use Rattle.std.proofs.Common.{◌≡◌, ◌∙◌, Ok, List, ℕ, Bor, ap, sym, subst}
+use Rattle.std.proofs.Common.{◌≡◌, ◌∙◌, List, ℕ, Bor, ap, sym, subst}
 use Rattle.std.specs.Prelude.{OnOk, false}
 use Rattle.nd_model.specs.Augmenting.{in_place_kind, results_in_place}
 use Rattle.nd_model.specs.Running.{Running}

@@ -41,7 +41,7 @@ returns-in_err-new c =
     let again = kept_bytes w _ _ c.in_ok-mark_operand-2.ensures in (
       follows_use value_of i v (λ o. use_operand Whole (value_of w) >>= λ p. decide (f o p) >>= give) _ _ _ _ c.operand_in-left.result _ c.in_ok-mark_operand.ensures (again ∙ once) c.operand_in-left.ensures
           (follows_use value_of i w (λ p. decide (f o p) >>= give) _ _ _ _ c.operand_in-right.result _ c.in_ok-mark_operand-2.ensures again c.operand_in-right.ensures
-          (exits_new i (f o (operand_of c.operand_in-right.result)) _ _ _ c.from_residual-in_err-new.ensures.1 c.in_err-new.ensures)),
+          (exits_new i (f o (operand_of c.operand_in-right.result)) _ _ _ c.from_residual-in_err-new.ensures.1 c.in_err-new.ensures.new)),
       (refl, refl),
     )
 
@@ -56,6 +56,6 @@ returns c =
     let again = kept_bytes w _ _ c.in_ok-mark_operand-2.ensures in (
       follows_use value_of i v (λ o. use_operand Whole (value_of w) >>= λ p. decide (f o p) >>= give) _ _ _ _ c.operand_in-left.result _ c.in_ok-mark_operand.ensures (again ∙ once) c.operand_in-left.ensures
           (follows_use value_of i w (λ p. decide (f o p) >>= give) _ _ _ _ c.operand_in-right.result _ c.in_ok-mark_operand-2.ensures again c.operand_in-right.ensures
-          (follows_new i (f o (operand_of c.operand_in-right.result)) _ _ c.in_ok-new.new _ c.in_ok-new.ensures c.give.ensures.0)),
+          (follows_new i (f o (operand_of c.operand_in-right.result)) _ _ c.in_ok-new.new _ c.in_ok-new.ensures.new c.give.ensures.0)),
       c.give.ensures.1,
     )

@@ -1,6 +1,6 @@
-use Rattle.nd_syntax.specs.Syntax.{expr_of, index_of}
+use Rattle.nd_syntax.specs.Syntax.{binary_op, expr_of, index_of}
 use Rattle.nd_input.specs.Values.{inputs_of}
-use Rattle.nd_eval.proofs.Quiet.{quiet_binding, quiet_assignment}
+use Rattle.nd_eval.proofs.Quiet.{quiet_assignment, quiet_augment, quiet_augment_item, quiet_binding}
 use Rattle.nd_eval.proofs.evaluator.Evaluator.stmt_effect.Goals as goal
 
 pub returns-in-Bind-clause-effect : goal.returns-in-Bind-clause-effect
@@ -13,3 +13,15 @@ returns-in-Assign-clause-effect c =
     let a = c.in-Assign in
     rw a.is
     (quiet_assignment _ (inputs_of c.args.self.now.inputs.now.entries) _ _ c.assignment_effect.result (expr_of a.target) (index_of a.index) (expr_of a.expr) c.assignment_effect.ensures.effect.0, c.assignment_effect.ensures.effect.1)
+
+pub returns-in-Augment-clause-effect : goal.returns-in-Augment-clause-effect
+returns-in-Augment-clause-effect c =
+    let a = c.in-Augment in
+    rw a.is
+    (quiet_augment _ (inputs_of c.args.self.now.inputs.now.entries) _ _ c.augment_effect.result _ (binary_op a.op) (expr_of a.expr) (rw c.as_str-in-Augment.ensures.value at c.augment_effect.ensures.effect.0), c.augment_effect.ensures.effect.1)
+
+pub returns-in-AugmentItem-clause-effect : goal.returns-in-AugmentItem-clause-effect
+returns-in-AugmentItem-clause-effect c =
+    let a = c.in-AugmentItem in
+    rw a.is
+    (quiet_augment_item _ (inputs_of c.args.self.now.inputs.now.entries) _ _ c.augment_item_effect.result (expr_of a.target) (index_of a.index) (binary_op a.op) (expr_of a.expr) c.augment_item_effect.ensures.effect.0, c.augment_item_effect.ensures.effect.1)

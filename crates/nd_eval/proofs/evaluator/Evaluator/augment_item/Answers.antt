@@ -1,0 +1,110 @@
+use Rattle.std.proofs.Common.{refl, sym, ap, subst, ◌∙◌, ◌≡◌}
+use Rattle.nd_model.specs.Evaluation.{run}
+use Rattle.nd_model.specs.Running.{Running}
+use Rattle.nd_syntax.specs.Syntax.{binary_op}
+use Rattle.nd_heap.specs.declared.value.Value.{Value}
+use Rattle.nd_heap.specs.declared.value.Value.TheVariants.{Array}
+use Rattle.nd_heap.specs.Values.{value_of}
+use Rattle.nd_input.specs.Values.{inputs_of}
+use Rattle.nd_session.specs.Live.{live}
+use Rattle.nd_eval.specs.Contents as contents
+use Rattle.nd_eval.specs.Effects.{effect_of}
+use Rattle.nd_eval.specs.Parts.{item_augmentation}
+use Rattle.nd_eval.specs.Uses.{IsHeld, marked}
+use Rattle.nd_eval.proofs.Augmented.{array_item_augmented, made_assigned, makes_ends}
+use Rattle.nd_eval.proofs.Chains.{ends_alike}
+use Rattle.nd_eval.proofs.Held.{held_index_marked, held_marked}
+use Rattle.nd_eval.proofs.Uses.{index_next, kept_next}
+use Rattle.nd_eval.proofs.evaluator.Evaluator.augment_item.Goals as goal
+
+pub update_effect-requires-clause-array : goal.update_effect-requires-clause-array
+update_effect-requires-clause-array c =
+    let r = live c.args.self.now.session.now in
+    let s = live c.mark_operand.new.session in
+    let q = live c.mark_operand-2.new.session in
+    let u = live c.mark_index.new.session in
+    let f = c.args.found in
+    subst (IsHeld u) c.in-Ok.ensures (held_index_marked c.args.index.now f q u c.in_ok-mark_index.ensures
+    (held_marked f f s q c.in_ok-mark_operand-2.ensures (held_marked c.args.value f r s c.in_ok-mark_operand.ensures c.requires.found)))
+
+pub update_effect-requires-clause-value : goal.update_effect-requires-clause-value
+update_effect-requires-clause-value c =
+    let r = live c.args.self.now.session.now in
+    let s = live c.mark_operand.new.session in
+    let q = live c.mark_operand-2.new.session in
+    let u = live c.mark_index.new.session in
+    let v = c.args.value in
+    held_index_marked c.args.index.now v q u c.in_ok-mark_index.ensures
+    (held_marked c.args.found v s q c.in_ok-mark_operand-2.ensures (held_marked v v r s c.in_ok-mark_operand.ensures c.requires.value))
+
+pub returns-in-Ok-clause-effect : goal.returns-in-Ok-clause-effect
+returns-in-Ok-clause-effect c =
+    let i = inputs_of c.args.self.now.inputs.now.entries in
+    let op = binary_op c.args.op in
+    let v = c.args.value in
+    let t = c.args.target.now in
+    let x = c.args.index.now in
+    let r = live c.args.self.now.session.now in
+    let s = live c.mark_operand.new.session in
+    let q = live c.mark_operand-2.new.session in
+    let u = live c.mark_index.new.session in (
+      ends_alike _ _ _ (ap (λ f. run i (item_augmentation op (value_of v) (value_of f) (value_of t) (contents.index_of x)) r) c.in-Ok.ensures
+          ∙ array_item_augmented i op c.in-Ok.array v t x r s q u c.in_ok-mark_operand.ensures (c.in_ok-mark_operand-2.ensures ∙ ap (λ f. marked f s) c.in-Ok.ensures) c.in_ok-mark_index.ensures)
+          (makes_ends (effect_of u.bytes) i u _ _ c.update_effect.ensures.effect),
+      (refl, refl),
+    )
+
+pub assign_made-requires-clause-value : goal.assign_made-requires-clause-value
+assign_made-requires-clause-value c =
+    let r = live c.args.self.now.session.now in
+    let s = live c.mark_operand.new.session in
+    let q = live c.mark_operand-2.new.session in
+    let u = live c.mark_index.new.session in
+    let v = c.args.value in
+    held_index_marked c.args.index.now v q u c.in_ok-mark_index.ensures
+    (held_marked c.args.found v s q c.in_ok-mark_operand-2.ensures (held_marked v v r s c.in_ok-mark_operand.ensures c.requires.value))
+
+pub assign_made-requires-clause-found : goal.assign_made-requires-clause-found
+assign_made-requires-clause-found c =
+    let r = live c.args.self.now.session.now in
+    let s = live c.mark_operand.new.session in
+    let q = live c.mark_operand-2.new.session in
+    let u = live c.mark_index.new.session in
+    let f = c.args.found in
+    subst (IsHeld u) (sym c.in-Err.ensures.0) (held_index_marked c.args.index.now f q u c.in_ok-mark_index.ensures
+    (held_marked f f s q c.in_ok-mark_operand-2.ensures (held_marked c.args.value f r s c.in_ok-mark_operand.ensures c.requires.found)))
+
+pub assign_made-requires-clause-target : goal.assign_made-requires-clause-target
+assign_made-requires-clause-target c =
+    let r = live c.args.self.now.session.now in
+    let s = live c.mark_operand.new.session in
+    let q = live c.mark_operand-2.new.session in
+    let u = live c.mark_index.new.session in
+    let t = c.args.target.now in
+    held_index_marked c.args.index.now t q u c.in_ok-mark_index.ensures
+    (held_marked c.args.found t s q c.in_ok-mark_operand-2.ensures (held_marked c.args.value t r s c.in_ok-mark_operand.ensures c.requires.target))
+
+pub assign_made-requires-clause-room : goal.assign_made-requires-clause-room
+assign_made-requires-clause-room c =
+    let once = kept_next c.args.value _ _ c.in_ok-mark_operand.ensures in
+    let again = kept_next c.args.found _ _ c.in_ok-mark_operand-2.ensures in
+    let last = index_next c.args.index.now _ _ c.in_ok-mark_index.ensures in
+    rw (last, again, once) c.requires.room
+
+pub returns-in-Err-clause-effect : goal.returns-in-Err-clause-effect
+returns-in-Err-clause-effect c =
+    let i = inputs_of c.args.self.now.inputs.now.entries in
+    let op = binary_op c.args.op in
+    let v = c.args.value in
+    let f = c.in-Err.found in
+    let t = c.args.target.now in
+    let x = c.args.index.now in
+    let r = live c.args.self.now.session.now in
+    let s = live c.mark_operand.new.session in
+    let q = live c.mark_operand-2.new.session in
+    let u = live c.mark_index.new.session in (
+      ends_alike _ _ _ (ap (λ f. run i (item_augmentation op (value_of v) (value_of f) (value_of t) (contents.index_of x)) r) (sym c.in-Err.ensures.0)
+          ∙ made_assigned i op v f t x r s q u c.in-Err.ensures.1 c.in_ok-mark_operand.ensures (c.in_ok-mark_operand-2.ensures ∙ ap (λ f. marked f s) (sym c.in-Err.ensures.0)) c.in_ok-mark_index.ensures)
+          c.assign_made.ensures.effect.0,
+      c.assign_made.ensures.effect.1,
+    )

@@ -1,5 +1,5 @@
 -- Assignments with an operator: what is used, and then what is done.
-use Rattle.std.proofs.Common.{◌≡◌, ℕ, Bool, true, false, List, [], ◌∷◌, length, Result, Ok, Err, IsErrAnd, refl, sym, ap, ◌∙◌, subst, arith}
+use Rattle.std.proofs.Common.{◌≡◌, ℕ, true, false, List, [], ◌∷◌, length, Result, Ok, Err, IsErrAnd, refl, sym, ap, ◌∙◌, subst, arith}
 use Rattle.std.specs.Prelude.{nat_eq, ◌&&◌, if◌then◌else◌}
 use Rattle.std.proofs.lemmas.Bool.Decides.{nat_tests}
 use Rattle.std.proofs.lemmas.Result.{err_from_is_err_and}
@@ -12,9 +12,9 @@ use Rattle.nd_model.specs.Fault.{Fault}
 use Rattle.nd_model.specs.Meaning.{two}
 use Rattle.nd_model.specs.Operand as model
 use Rattle.nd_model.specs.Operand.{Usage, Whole, Unused, Made, ANumber, AnArray, BindsMade, Writes}
-use Rattle.nd_model.specs.Operation.{Computes, do_deed, give, operands, perform, store_in, use_operand}
+use Rattle.nd_model.specs.Operation.{Computes, do_deed, give, operands, store_in, use_operand}
 use Rattle.nd_model.specs.Refusing as refusing
-use Rattle.nd_model.specs.Running.{Running, Inputs, Effect, Binding, Storing, Make, after}
+use Rattle.nd_model.specs.Running.{Running, Inputs, Effect, Binding, Storing}
 use Rattle.nd_model.specs.Sound.{IsHeldView, IsViewOf, LiesIn}
 use Rattle.nd_model.specs.Syntax.{BinaryOp}
 use Rattle.nd_model.specs.Value as value
@@ -24,13 +24,12 @@ use Rattle.nd_model.specs.Viewing.{Viewing}
 use Rattle.nd_model.specs.Writing.{assign_to, assignment_writes, may_be_written, target_of}
 use Rattle.nd_model.proofs.Soundness.{given_run, safe_performed, IfGiven}
 use Rattle.nd_types.specs.Kinds.{kind_of}
-use Rattle.nd_types.specs.declared.num.Num.{Num}
 use Rattle.nd_types.specs.declared.num.Num.TheVariants as num
 use Rattle.nd_heap.specs.declared.value.Array.{Array as ArrayValue}
 use Rattle.nd_heap.specs.declared.value.Value.{Value}
 use Rattle.nd_heap.specs.declared.value.Value.TheVariants.{Number, Array, Row}
-use Rattle.nd_heap.specs.Values.{base_of, geo_of, number_of, value_of}
-use Rattle.nd_operation.specs.Contents.{contents_over, elements_over, num_of, unused_of}
+use Rattle.nd_heap.specs.Values.{base_of, geo_of, value_of}
+use Rattle.nd_operation.specs.Contents.{contents_over, elements_over, unused_of}
 use Rattle.nd_operation.specs.New.{given, MakesNew, NewLies, StandsFor, operand_of_new}
 use Rattle.nd_operation.specs.declared.operand.New.{New}
 use Rattle.nd_operation.specs.declared.operand.New.TheVariants as new
@@ -182,7 +181,7 @@ module _ (i : Inputs) (op : BinaryOp) (v found t : Value) (x : IndexValue) where
       let done = λ (p : model.Operand) (c : Result model.Chosen Fault). decide (refusing.◌>>=◌ (binary op z y) (λ made. refusing.◌>>=◌ (made_of made p c) (λ ws. Ok (deed_of_made made ws)))) >>= do_deed vs in
       used i v (λ y. use_operand Whole (value_of found) >>= rest y) r
       ∙ used i found (rest y) m
-      ∙ ap (λ k. run i (use_operand Unused (value_of t) >>= λ p. operands (contents.index_of x).1 (k p)) n) (λ j p os. decide (not_array m.bytes y w p os none j) >>= do_deed vs)
+      ∙ ap (λ (k : model.Operand → List model.Operand → Eval Effect). run i (use_operand Unused (value_of t) >>= λ p. operands (contents.index_of x).1 (k p)) n) (λ j p os. decide (not_array m.bytes y w p os none j) >>= do_deed vs)
       ∙ index_chosen i t x done n
       ∙ made_stored i (binary op z y) (λ made. assignment_writes (viewing_of x) (operand_of_made made) (unused_of t) (operands_of x)) (Whole, value_of v) (Whole, value_of found) (Unused, value_of t) (contents.index_of x).1 (index_marked x n)
       ∙ (λ j. run i (decide (made_assignment op (operand_over (kept_bytes v r m refl j) found) y (viewing_of x) (unused_of t) (operands_of x)) >>= store_made (value_of t)) (index_marked x n))

@@ -9,8 +9,8 @@ use Rattle.nd_model.specs.Value.{Base}
 use Rattle.nd_model.specs.Session as session
 use Rattle.nd_model.specs.Session.{Names}
 use Rattle.nd_model.specs.Fault.{Fault}
-use Rattle.nd_model.specs.Running.{Running, Inputs, Use, reply, after, Effect, Nothing, Prints, Saves, Binding, Unbinding, Storing, done}
-use Rattle.nd_model.specs.Syntax.{Expr, Bound, Method, Copy, AsType, Transpose, Reshape, ViewAs, Index, Field, Items, IndexItems, IndexItem, AndItem, NoItem, At, Slice, Ellipsis, NewAxis, Listed, Stmt, Bind}
+use Rattle.nd_model.specs.Running.{Running, Inputs, Use, reply, after, Effect, Binding, done}
+use Rattle.nd_model.specs.Syntax.{Expr, Bound, Method, Copy, AsType, Transpose, Reshape, ViewAs, Index, Field, Items, IndexItems, IndexItem, AndItem, NoItem, At, Slice, Ellipsis, NewAxis, Listed, Bind}
 use Rattle.nd_model.specs.Evaluation.{Eval, Gives, Refuses, Asks, run}
 use Rattle.nd_model.specs.Operand.{BindsFirst, Usage, Whole, Unused}
 use Rattle.nd_model.specs.Cells.{Suffix, AtIndex, OfMethod}

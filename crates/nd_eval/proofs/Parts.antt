@@ -7,8 +7,8 @@ use Rattle.nd_model.specs.Fault as fault
 use Rattle.nd_model.specs.Syntax.{Expr, Bound, Omitted, Given, Index, Field, Items, IndexItems, AndItem, NoItem, At, Slice, Ellipsis, NewAxis, Listed}
 use Rattle.nd_model.specs.Value as model
 use Rattle.nd_model.specs.Running.{Running, Inputs, Effect, Binding, Unbinding}
-use Rattle.nd_model.specs.Evaluation.{Eval, Gives, Refuses, run, ◌>>=◌, decide}
-use Rattle.nd_model.specs.Operand.{Operand, Plain, Usage, Whole, ArraysOnly, Unused, BindsFirst, Unbinds}
+use Rattle.nd_model.specs.Evaluation.{Eval, Gives, Refuses, run, ◌>>=◌}
+use Rattle.nd_model.specs.Operand.{Plain, Usage, Whole, ArraysOnly, Unused, BindsFirst, Unbinds}
 use Rattle.nd_model.specs.Index.{Form, AtForm, SliceForm, EllipsisForm, NewAxisForm}
 use Rattle.nd_model.specs.Viewing.{Viewing, Indexed, Fielded}
 use Rattle.nd_model.specs.Operation.{use_operand, Computes, perform, act_on, Plan, Does, Plans, Done, And, evaluate, with_values, evaluate_all}

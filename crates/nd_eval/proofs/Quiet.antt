@@ -99,7 +99,8 @@ quiet_item : (op : BinaryOp) (w : Viewing) (i : Inputs) (r : Running) (vs : List
 quiet_item op w i r vs [] = tt
 quiet_item op w i r vs (y ∷ []) = tt
 quiet_item op w i r vs (y ∷ Plain k ∷ []) = tt
-quiet_item op w i r vs (y ∷ Elements row g cs ∷ []) = tt
+quiet_item op w i r vs (y ∷ Elements false g cs ∷ []) = tt
+quiet_item op w i r vs (y ∷ Elements true g cs ∷ []) = tt
 quiet_item op w i r vs (y ∷ Plain k ∷ t ∷ os) = assigns_only i r vs (binary op (Plain k) y) (λ m. assignment_writes w (operand_of_made m) t os)
 quiet_item op w i r vs (y ∷ Elements false g cs ∷ t ∷ os) = writes_only i r vs 1 (in_place_writes op g cs y)
 quiet_item op w i r vs (y ∷ Elements true g cs ∷ t ∷ os) = assigns_only i r vs (binary op (Elements true g cs) y) (λ m. assignment_writes w (operand_of_made m) t os)

@@ -1,5 +1,5 @@
 -- Views of values, and `np.broadcast_to`.
-use Rattle.std.proofs.Common.{◌≡◌, ℕ, Bool, true, false, cond, List, [], ◌∷◌, map, Option, None, Some, Result, Ok, Err, IsErrAnd, refl, sym, ap, subst, ◌∙◌}
+use Rattle.std.proofs.Common.{◌≡◌, ℕ, true, List, map, Option, None, Some, Result, Ok, Err, IsErrAnd, refl, sym, ap, subst, ◌∙◌}
 use Rattle.std.proofs.lemmas.Result.{err_from_is_err_and}
 use Rattle.nd_model.specs.View.{Geo, item_size}
 use Rattle.nd_model.specs.Content.{Content, content_or}
@@ -11,10 +11,10 @@ use Rattle.nd_model.specs.Creation.{lengths_of, without_axes}
 use Rattle.nd_model.specs.Running.{Running, Inputs}
 use Rattle.nd_model.specs.Value as model
 use Rattle.nd_model.specs.Value.{Base}
-use Rattle.nd_model.specs.Evaluation.{Eval, Gives, Refuses, run, ◌>>=◌, decide}
+use Rattle.nd_model.specs.Evaluation.{Eval, run, ◌>>=◌, decide}
 use Rattle.nd_model.specs.Operand as operand
 use Rattle.nd_model.specs.Operand.{Operand, Plain, Elements, Chosen, AView, Stretched, RowsOnly}
-use Rattle.nd_model.specs.Operation.{use_operand, operands, choose_in, choose_of, choose_of_number}
+use Rattle.nd_model.specs.Operation.{operands, choose_in, choose_of, choose_of_number}
 use Rattle.nd_model.specs.ShapeChoices.{stretch_operand, stretch_to}
 use Rattle.nd_types.specs.declared.num.Num.{Num}
 use Rattle.nd_types.specs.declared.num.Num.TheVariants as num

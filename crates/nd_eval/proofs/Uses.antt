@@ -13,7 +13,7 @@ use Rattle.nd_model.specs.Operand as model
 use Rattle.nd_model.specs.Operand.{Usage, Whole, ArraysOnly, Unused, is_used}
 use Rattle.nd_model.specs.Selecting.{Item, Slice, Ellipsis, NewAxis}
 use Rattle.nd_model.specs.Index.{Form, AtForm, SliceForm, EllipsisForm, NewAxisForm, array_of, integer_of, item_of, bound_of, items_of, choose_items}
-use Rattle.nd_model.specs.Viewing.{Viewing, Indexed, Fielded, choose_of_first}
+use Rattle.nd_model.specs.Viewing.{Viewing, Indexed, choose_of_first}
 use Rattle.nd_model.specs.Writing.{assignment_writes}
 use Rattle.nd_model.specs.Running.{Running, Inputs, Use, reply, after}
 use Rattle.nd_model.specs.Evaluation.{Eval, run, ◌>>=◌}
@@ -22,14 +22,14 @@ use Rattle.nd_types.specs.declared.num.Num.{Num}
 use Rattle.nd_types.specs.declared.num.Num.TheVariants as num
 use Rattle.nd_heap.specs.declared.value.Value.{Value}
 use Rattle.nd_heap.specs.declared.value.Value.TheVariants.{Number, Array, Row}
-use Rattle.nd_heap.specs.Values.{base_of, geo_of, value_of}
+use Rattle.nd_heap.specs.Values.{value_of}
 use Rattle.nd_choice.specs.declared.indexes.ItemValue.{ItemValue}
 use Rattle.nd_choice.specs.declared.indexes.ItemValue.TheVariants as item
 use Rattle.nd_choice.specs.declared.indexes.IndexValue.{IndexValue}
 use Rattle.nd_choice.specs.declared.indexes.IndexValue.TheVariants as index
 use Rattle.nd_operation.specs.declared.operand.Operand.{Operand}
 use Rattle.nd_operation.specs.declared.stop.Stop.{Stop}
-use Rattle.nd_operation.specs.Contents.{num_of, operand_of, unused_of}
+use Rattle.nd_operation.specs.Contents.{operand_of, unused_of}
 use Rattle.nd_operation.specs.New.{option_list}
 use Rattle.nd_choice.specs.Indexing.{form_of, forms_of, operands_in_item, operands_in, operands_of, viewing_of}
 use Rattle.nd_eval.specs.Ends.{Ends}

@@ -1,14 +1,10 @@
 -- The uses of values: what is noted of them, and the operands that they are in their blocks.
-use Rattle.std.specs.Prelude.{ℕ, true, false, List, [], ◌∷◌, map}
-use Rattle.std.specs.List.{All}
+use Rattle.std.specs.Prelude.{List, [], ◌∷◌}
 use Rattle.nd_model.specs.View.{byte_places}
-use Rattle.nd_model.specs.Value.{Base}
-use Rattle.nd_model.specs.Operand as operand
 use Rattle.nd_model.specs.Running.{Running, Use, after}
-use Rattle.nd_model.specs.Sound.{IsHeldView, IsViewOf}
 use Rattle.nd_heap.specs.declared.value.Value.{Value}
 use Rattle.nd_heap.specs.declared.value.Value.TheVariants.{Number, Array, Row}
-use Rattle.nd_heap.specs.Values.{base_of, geo_of, value_of}
+use Rattle.nd_heap.specs.Values.{base_of, geo_of}
 use Rattle.nd_choice.specs.declared.indexes.ItemValue.{ItemValue}
 use Rattle.nd_choice.specs.declared.indexes.ItemValue.TheVariants as item
 use Rattle.nd_choice.specs.declared.indexes.IndexValue.{IndexValue}

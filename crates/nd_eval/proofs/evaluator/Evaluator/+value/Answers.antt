@@ -1,4 +1,4 @@
-use Rattle.std.proofs.Common.{rules, Ok, append-nil, ◌≡◌, ◌+◌, List, [], ◌∷◌, ◌++◌, length, refl, map, option_map, take, drop, ap, sym, ◌∙◌, arith}
+use Rattle.std.proofs.Common.{Ok, append-nil, ◌+◌, List, [], ◌∷◌, ◌++◌, refl, map, option_map, take, drop, ap, sym, ◌∙◌, arith}
 use Rattle.std.proofs.lemmas.List.{drop_all, length-map}
 use Rattle.nd_model.specs.Index.{Form, AtForm, SliceForm}
 use Rattle.nd_model.specs.Operand.{ArraysOnly}

@@ -1,4 +1,4 @@
-use Rattle.std.proofs.Common.{◌≡◌, refl, sym, ap, subst, ◌∙◌, [], ◌∷◌, Ok, length}
+use Rattle.std.proofs.Common.{refl, sym, ap, subst, ◌∙◌, ◌∷◌, Ok, length}
 use Rattle.nd_model.specs.Assigning.{fits_into}
 use Rattle.nd_model.specs.Creation.{operand_converts}
 use Rattle.nd_model.specs.Refusing as refusing
@@ -8,14 +8,14 @@ use Rattle.nd_model.specs.Operand.{Whole, Unused, Writes, shape_of}
 use Rattle.nd_model.specs.Operation.{do_deed, store_in}
 use Rattle.nd_model.specs.Writing.{assign_to, assignment_writes, may_be_written, target_of}
 use Rattle.nd_heap.specs.declared.value.Value.{Value}
-use Rattle.nd_heap.specs.Values.{base_of, geo_of, value_of}
+use Rattle.nd_heap.specs.Values.{base_of, value_of}
 use Rattle.nd_input.specs.Values.{inputs_of}
 use Rattle.nd_session.specs.Live.{live}
 use Rattle.nd_operation.specs.Contents.{operand_of, unused_of}
 use Rattle.nd_choice.specs.Indexing.{operands_of, viewing_of}
 use Rattle.nd_choice.specs.Targets.{Lies, writes_to}
 use Rattle.nd_eval.specs.Contents as contents
-use Rattle.nd_eval.specs.Uses.{IsHeld, operand_over}
+use Rattle.nd_eval.specs.Uses.{IsHeld}
 use Rattle.nd_eval.proofs.Chains.{decided_later, ends_alike, exits_making, goes_making}
 use Rattle.nd_eval.proofs.Uses.{kept_bytes, goes_used, index_chosen, index_kept, nothing_written}
 use Rattle.nd_eval.proofs.Held.{held_marked, held_index_marked}

@@ -6,8 +6,7 @@ use Rattle.nd_model.specs.Evaluation.{run}
 use Rattle.nd_model.specs.Operand.{shape_of}
 use Rattle.nd_model.specs.Operation.{store_in}
 use Rattle.nd_model.specs.Running.{Storing}
-use Rattle.nd_heap.specs.declared.value.Value.{Value}
-use Rattle.nd_heap.specs.Values.{base_of, geo_of, value_of}
+use Rattle.nd_heap.specs.Values.{base_of, value_of}
 use Rattle.nd_input.specs.Values.{inputs_of}
 use Rattle.nd_session.specs.Live.{live}
 use Rattle.nd_syntax.specs.Syntax.{binary_op}
@@ -26,7 +25,9 @@ pub returns-in_err-new-clause-effect : goal.returns-in_err-new-clause-effect
 returns-in_err-new-clause-effect c =
     let i = inputs_of c.args.self.now.inputs.now.entries in
     let op = binary_op c.args.op in
-    let same = λ j. binary op (c.operand_in-left.ensures j) (c.operand_in-right.ensures j) in (
+    let r = live c.args.self.now.session.now in
+    let same : binary op (operand_of c.operand_in-left.result) (operand_of c.operand_in-right.result) ≡ binary op (operand_over r.bytes c.args.found.now) (operand_over r.bytes c.args.value.now)
+    = λ j. binary op (c.operand_in-left.ensures j) (c.operand_in-right.ensures j) in (
       exits_made _ i (value_of c.args.target.now) _ op _ _ (viewing_of c.args.index.now) (unused_of c.args.target.now) (operands_of c.args.index.now) _ _ c.from_residual.ensures.1
           (subst (StandsFor (Err c.in_err-new.field-0.0)) same c.in_err-new.ensures.operand),
       (refl, refl),
@@ -37,7 +38,9 @@ returns-in_err-view-clause-effect c =
     let i = inputs_of c.args.self.now.inputs.now.entries in
     let op = binary_op c.args.op in
     let n = c.in_ok-new.new in
-    let same = λ j. binary op (c.operand_in-left.ensures j) (c.operand_in-right.ensures j) in (
+    let r = live c.args.self.now.session.now in
+    let same : binary op (operand_of c.operand_in-left.result) (operand_of c.operand_in-right.result) ≡ binary op (operand_over r.bytes c.args.found.now) (operand_over r.bytes c.args.value.now)
+    = λ j. binary op (c.operand_in-left.ensures j) (c.operand_in-right.ensures j) in (
       exits_assigned _ i (value_of c.args.target.now) _ op _ _ (viewing_of c.args.index.now) (unused_of c.args.target.now) (operands_of c.args.index.now) n (operand_of c.operand.result)
           (subst (StandsFor (Ok n)) same c.in_ok-new.ensures.operand) (subst (MakesNew (Ok n)) same c.in_ok-new.ensures.new) c.operand.ensures _ _ c.from_residual-in_err-view.ensures.1 c.in_err-view.ensures.writes,
       (refl, refl),
@@ -51,7 +54,9 @@ returns-in_err-made-clause-effect c =
     let o = operand_of c.operand.result in
     let view = c.in_ok-view.view in
     let t = value_of c.args.target.now in
-    let same = λ j. binary op (c.operand_in-left.ensures j) (c.operand_in-right.ensures j) in (
+    let r = live c.args.self.now.session.now in
+    let same : binary op (operand_of c.operand_in-left.result) (operand_of c.operand_in-right.result) ≡ binary op (operand_over r.bytes c.args.found.now) (operand_over r.bytes c.args.value.now)
+    = λ j. binary op (c.operand_in-left.ensures j) (c.operand_in-right.ensures j) in (
       ends_alike _ _ _ (goes_made (λ e. e) i t _ op _ _ (viewing_of c.args.index.now) (unused_of c.args.target.now) (operands_of c.args.index.now) n o
           (subst (StandsFor (Ok n)) same c.in_ok-new.ensures.operand) (subst (MakesNew (Ok n)) same c.in_ok-new.ensures.new) c.operand.ensures view c.in_ok-view.ensures.writes)
           (exits value_of _ i (given n) (λ v. store_in (writes_to view o) t) _ _ _ _ c.from_residual-in_err-made.ensures.1 c.in_err-made.ensures.0),
@@ -67,7 +72,9 @@ returns-in-Array-clause-effect c =
     let view = c.in_ok-view.view in
     let t = value_of c.args.target.now in
     let s = live c.give.new.self.session.now in
-    let same = λ j. binary op (c.operand_in-left.ensures j) (c.operand_in-right.ensures j) in (
+    let r = live c.args.self.now.session.now in
+    let same : binary op (operand_of c.operand_in-left.result) (operand_of c.operand_in-right.result) ≡ binary op (operand_over r.bytes c.args.found.now) (operand_over r.bytes c.args.value.now)
+    = λ j. binary op (c.operand_in-left.ensures j) (c.operand_in-right.ensures j) in (
       goes_made (λ e. e) i t _ op _ _ (viewing_of c.args.index.now) (unused_of c.args.target.now) (operands_of c.args.index.now) n o
           (subst (StandsFor (Ok n)) same c.in_ok-new.ensures.operand) (subst (MakesNew (Ok n)) same c.in_ok-new.ensures.new) c.operand.ensures view c.in_ok-view.ensures.writes
           ∙ goes value_of i (given n) (λ v. store_in (writes_to view o) t) _ s c.in_ok-made.made c.in_ok-made.ensures.0
@@ -85,7 +92,9 @@ returns-in-Row-clause-effect c =
     let view = c.in_ok-view.view in
     let t = value_of c.args.target.now in
     let s = live c.give.new.self.session.now in
-    let same = λ j. binary op (c.operand_in-left.ensures j) (c.operand_in-right.ensures j) in (
+    let r = live c.args.self.now.session.now in
+    let same : binary op (operand_of c.operand_in-left.result) (operand_of c.operand_in-right.result) ≡ binary op (operand_over r.bytes c.args.found.now) (operand_over r.bytes c.args.value.now)
+    = λ j. binary op (c.operand_in-left.ensures j) (c.operand_in-right.ensures j) in (
       goes_made (λ e. e) i t _ op _ _ (viewing_of c.args.index.now) (unused_of c.args.target.now) (operands_of c.args.index.now) n o
           (subst (StandsFor (Ok n)) same c.in_ok-new.ensures.operand) (subst (MakesNew (Ok n)) same c.in_ok-new.ensures.new) c.operand.ensures view c.in_ok-view.ensures.writes
           ∙ goes value_of i (given n) (λ v. store_in (writes_to view o) t) _ s c.in_ok-made.made c.in_ok-made.ensures.0

@@ -19,7 +19,7 @@ update_effect-requires-clause-array c =
     let s = live c.mark_used.new.self in
     let t = live c.mark_operand.new.session in
     let a = Array c.in-Ok.array in
-    held_marked c.args.value a s t c.in_ok-mark_operand.ensures (held_marked a a r s c.in_ok-mark_used.ensures (subst (IsHeld r) c.in-Ok.ensures c.requires.found))
+    held_marked c.args.value a s t c.in_ok-mark_operand-in-Ok.ensures (held_marked a a r s c.in_ok-mark_used-in-Ok.ensures (subst (IsHeld r) c.in-Ok.ensures c.requires.found))
 
 pub update_effect-requires-clause-value : goal.update_effect-requires-clause-value
 update_effect-requires-clause-value c =
@@ -27,10 +27,10 @@ update_effect-requires-clause-value c =
     let s = live c.mark_used.new.self in
     let t = live c.mark_operand.new.session in
     let v = c.args.value in
-    held_marked v v s t c.in_ok-mark_operand.ensures (held_marked (Array c.in-Ok.array) v r s c.in_ok-mark_used.ensures c.requires.value)
+    held_marked v v s t c.in_ok-mark_operand-in-Ok.ensures (held_marked (Array c.in-Ok.array) v r s c.in_ok-mark_used-in-Ok.ensures c.requires.value)
 
-pub returns-in-Ok-clause-effect : goal.returns-in-Ok-clause-effect
-returns-in-Ok-clause-effect c =
+pub returns-in_ok-mark_operand-in-Ok-clause-effect : goal.returns-in_ok-mark_operand-in-Ok-clause-effect
+returns-in_ok-mark_operand-in-Ok-clause-effect c =
     let i = inputs_of c.args.self.now.inputs.now.entries in
     let op = binary_op c.args.op in
     let n = c.args.name.now in
@@ -38,7 +38,7 @@ returns-in-Ok-clause-effect c =
     let r = live c.args.self.now.session.now in
     let s = live c.mark_used.new.self in
     let t = live c.mark_operand.new.session in (
-      ends_alike _ _ _ (ap (λ f. run i (augmentation n op (value_of f) (value_of v)) r) c.in-Ok.ensures ∙ array_augmented i op c.in-Ok.array v n r s t c.in_ok-mark_used.ensures c.in_ok-mark_operand.ensures)
+      ends_alike _ _ _ (ap (λ f. run i (augmentation n op (value_of f) (value_of v)) r) c.in-Ok.ensures ∙ array_augmented i op c.in-Ok.array v n r s t c.in_ok-mark_used-in-Ok.ensures c.in_ok-mark_operand-in-Ok.ensures)
           (makes_ends (effect_of t.bytes) i t _ _ c.update_effect.ensures.effect),
       (refl, refl),
     )

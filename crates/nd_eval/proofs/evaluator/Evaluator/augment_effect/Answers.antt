@@ -2,7 +2,7 @@ use Rattle.std.proofs.Common.{arith}
 use Rattle.nd_model.specs.Meaning as meaning
 use Rattle.nd_model.specs.Operation as operation
 use Rattle.nd_model.specs.Syntax.{Name}
-use Rattle.nd_syntax.specs.Syntax.{binary_op, expr_of}
+use Rattle.nd_syntax.specs.Syntax.{expr_of}
 use Rattle.nd_heap.specs.Values.{value_of}
 use Rattle.nd_input.specs.Values.{inputs_of}
 use Rattle.nd_eval.proofs.Bounds.{next_value}

@@ -1,9 +1,6 @@
-use Rattle.std.proofs.Common.{refl, sym, ap, subst, ◌∙◌, ◌≡◌}
+use Rattle.std.proofs.Common.{refl, sym, ap, subst, ◌∙◌}
 use Rattle.nd_model.specs.Evaluation.{run}
-use Rattle.nd_model.specs.Running.{Running}
 use Rattle.nd_syntax.specs.Syntax.{binary_op}
-use Rattle.nd_heap.specs.declared.value.Value.{Value}
-use Rattle.nd_heap.specs.declared.value.Value.TheVariants.{Array}
 use Rattle.nd_heap.specs.Values.{value_of}
 use Rattle.nd_input.specs.Values.{inputs_of}
 use Rattle.nd_session.specs.Live.{live}

@@ -9,7 +9,7 @@ use Rattle.nd_syntax.specs.Syntax.{binary_op, expr_of, index_of}
 use Rattle.nd_heap.specs.Values.{value_of}
 use Rattle.nd_input.specs.Values.{inputs_of}
 use Rattle.nd_eval.specs.Contents as contents
-use Rattle.nd_eval.specs.Parts.{choose_value, index_parts, suffix_value}
+use Rattle.nd_eval.specs.Parts.{choose_value, index_parts}
 use Rattle.nd_eval.proofs.Bounds.{next_at_suffix, next_value}
 use Rattle.nd_eval.proofs.Chains.{exits, follows, ends_alike, goes}
 use Rattle.nd_eval.proofs.Turns.{stays_on}

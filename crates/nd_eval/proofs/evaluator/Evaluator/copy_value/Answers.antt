@@ -1,9 +1,7 @@
-use Rattle.std.proofs.Common.{map, refl, sym, ap, ◌∙◌, Ok, false}
-use Rattle.std.specs.Prelude.{slice_index}
-use Rattle.nd_model.specs.Content.{content_in_order, contents_in}
-use Rattle.nd_model.specs.View.{byte_places}
+use Rattle.std.proofs.Common.{refl, sym, ap, ◌∙◌, Ok}
+use Rattle.nd_model.specs.Content.{content_in_order}
 use Rattle.nd_model.specs.Evaluation.{run}
-use Rattle.nd_model.specs.Running.{Running, Use, after}
+use Rattle.nd_model.specs.Running.{Running}
 use Rattle.nd_model.specs.Operand.{AnArray}
 use Rattle.nd_model.specs.Operation.{fresh_array}
 use Rattle.nd_heap.specs.Values.{base_of, geo_of, value_of}

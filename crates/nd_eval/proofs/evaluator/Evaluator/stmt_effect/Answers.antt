@@ -1,3 +1,11 @@
+use Rattle.std.proofs.Common.{ℕ, List, subst}
+use Rattle.std.specs.Prelude.{string_bytes}
+use Rattle.nd_model.specs.Evaluation.{run}
+use Rattle.nd_model.specs.Meaning.{meaning}
+use Rattle.nd_model.specs.Syntax.{Augment}
+use Rattle.nd_session.specs.Live.{live}
+use Rattle.nd_eval.specs.Effects.{effect_of}
+use Rattle.nd_eval.specs.Ends.{Ends}
 use Rattle.nd_syntax.specs.Syntax.{binary_op, expr_of, index_of}
 use Rattle.nd_input.specs.Values.{inputs_of}
 use Rattle.nd_eval.proofs.Quiet.{quiet_assignment, quiet_augment, quiet_augment_item, quiet_binding}
@@ -17,8 +25,12 @@ returns-in-Assign-clause-effect c =
 pub returns-in-Augment-clause-effect : goal.returns-in-Augment-clause-effect
 returns-in-Augment-clause-effect c =
     let a = c.in-Augment in
-    rw a.is
-    (quiet_augment _ (inputs_of c.args.self.now.inputs.now.entries) _ _ c.augment_effect.result _ (binary_op a.op) (expr_of a.expr) (rw c.as_str-in-Augment.ensures.value at c.augment_effect.ensures.effect.0), c.augment_effect.ensures.effect.1)
+    let i = inputs_of c.args.self.now.inputs.now.entries in
+    let r = live c.args.self.now.session.now in
+    let s = live c.augment_effect.new.self.session.now in
+    let w = effect_of s.bytes in
+    let told = subst (λ (n : List ℕ). Ends w c.augment_effect.result s (run i (meaning (Augment n (binary_op a.op) (expr_of a.expr))) r)) c.as_str-in-Augment.ensures.value c.augment_effect.ensures.effect.0 in
+    rw a.is (quiet_augment w i r s c.augment_effect.result (string_bytes a.name) (binary_op a.op) (expr_of a.expr) told, c.augment_effect.ensures.effect.1)
 
 pub returns-in-AugmentItem-clause-effect : goal.returns-in-AugmentItem-clause-effect
 returns-in-AugmentItem-clause-effect c =

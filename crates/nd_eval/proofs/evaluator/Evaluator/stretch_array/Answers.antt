@@ -1,4 +1,4 @@
-use Rattle.std.proofs.Common.{map, refl, ap, ◌∙◌, Ok}
+use Rattle.std.proofs.Common.{map, refl, ap, ◌∙◌}
 use Rattle.nd_model.specs.Evaluation.{run}
 use Rattle.nd_model.specs.Operand.{AView}
 use Rattle.nd_model.specs.Operation as operation

@@ -1,4 +1,4 @@
-use Rattle.std.proofs.Common.{map, refl, sym, ap, ◌∙◌}
+use Rattle.std.proofs.Common.{map, refl}
 use Rattle.nd_model.specs.ShapeChoices.{stretch_to}
 use Rattle.nd_heap.specs.Values.{value_of}
 use Rattle.nd_input.specs.Values.{inputs_of}

@@ -37,6 +37,35 @@ const WRITES: &[&str] = &[
     "z[0] = 18",
 ];
 
+/// Views of arrays, and what is written and printed through them.
+const VIEWS: &[&str] = &[
+    "y = x[1:]",
+    "z = x[::-1]",
+    "x = z[:3]",
+    "z = y[::2]",
+    "y[:2] = x[-2:]",
+    "print(x[1:])",
+    "print(z[::-2])",
+];
+
+/// Assignments with an operator.
+const AUGMENTED: &[&str] = &[
+    "x += 1",
+    "y -= 2",
+    "x[1:] += x[:-1]",
+    "z[::2] *= 3",
+    "x[0] += 5",
+    "y[-1] -= z[0]",
+    "z += z[0]",
+    "x += y",
+    "y //= 2",
+    "z[:2] ^= y[-2:]",
+    "a += 1",
+    "b *= a",
+    "b -= x",
+    "x += b",
+];
+
 /// What is printed of arrays, or of their elements.
 const PRINTS: &[&str] = &[
     "print(x)",
@@ -131,10 +160,16 @@ pub(crate) const POOLS: &[Pool] = &[
         groups: &[ARRAYS, WRITES, PRINTS, LOADED],
     },
     Pool {
+        name: "in place",
+        seed: 7_000_000,
+        groups: &[ARRAYS, SHARED, VIEWS, AUGMENTED, AUGMENTED, PRINTS],
+    },
+    Pool {
         name: "all",
         seed: 6_000_000,
         groups: &[
             ARRAYS, SHARED, WRITES, PRINTS, NUMBERS, UNBOUND, REFUSED, UNREAD, SILENT, LOADED,
+            VIEWS, AUGMENTED,
         ],
     },
 ];

@@ -19,10 +19,10 @@ use nd_view::View;
 use std::alloc::Global;
 
 /// How many words a view without its length has.
-const VIEW_WORDS: usize = 4;
+pub(crate) const VIEW_WORDS: usize = 4;
 
 /// Whether each element of a view lies in so many bytes.
-fn lies_in(view: &View, len: usize) -> bool
+pub(crate) fn lies_in(view: &View, len: usize) -> bool
     ensures { IsTrue result → LiesIn len view.now }
 {
     let _shape = view.shape();

@@ -11,6 +11,11 @@
 //! `broadcast` has two shapes. `assign` has a block, a view without a length, and what is assigned to it: a number, a view of the same
 //! block, or a view and the block in which it lies.
 //!
+//! `map1` and `map2` have the name of a function, and one or two arguments: each is a Python integer, a NumPy scalar as `i1:7`, a Python
+//! Boolean as `truth:true`, or a view and its block as in `copy_view`. The name is Python's operator, or `abs`, `minimum` or `maximum`.
+//! `in_place` has the operator, a block, a view without a length, and a right side: a number, a view of the same block, or a view and the
+//! block in which it lies.
+//!
 //! `cell TEXT` is answered with `cell`, or with the fault of the text as `LINE KIND COLUMN`; `tree TEXT` with its statements or its fault;
 //! `tokens TEXT` with its tokens, each as `LINE:COLUMN WORD` with a `^` before it where it begins a statement, or with the first place
 //! that is none. A text, and the name in `field_name NAME`, has the escapes of `nd_rows`.
@@ -23,6 +28,7 @@ mod conversions;
 mod copies;
 mod indexes;
 mod kinds;
+mod operators;
 mod refusal;
 mod shapes;
 mod texts;
@@ -62,6 +68,9 @@ fn answer(alloc: Global, call: &str, words: &[&str]) -> Result<String, Refusal> 
         "convert" => conversions::convert_view(alloc, words),
         "copy_view" => conversions::copy_view(alloc, words),
         "assign" => assignments::assign_view(alloc, words),
+        "map1" => operators::map_one(alloc, words),
+        "map2" => operators::map_two(alloc, words),
+        "in_place" => operators::update_in_place(alloc, words),
         _ => Err(Refusal::BadLine),
     }
 }

@@ -1,6 +1,8 @@
 //! Why a line has no answer.
 
+use nd_elementwise::MapFault;
 use nd_shape::ShapeFault;
+use nd_ufunc::UfuncFault;
 use nd_view::ViewFault;
 use std::alloc::{AllocError, AllocFailed};
 use std::fmt;
@@ -18,6 +20,8 @@ pub enum Refusal {
     NoView(ViewFault),
     /// There is no such view of the view.
     NoShape(ShapeFault),
+    /// The operator or the function is not for these arguments.
+    NoResult(UfuncFault),
     /// The memory ran out.
     Memory,
 }
@@ -46,6 +50,16 @@ impl From<ShapeFault> for Refusal {
     }
 }
 
+impl From<MapFault> for Refusal {
+    fn from(fault: MapFault) -> Refusal {
+        match fault {
+            MapFault::Memory => Refusal::Memory,
+            MapFault::Ufunc(fault) => Refusal::NoResult(fault),
+            MapFault::View(fault) => Refusal::NoView(fault),
+        }
+    }
+}
+
 /// The word of a fault.
 fn fault_word(fault: ViewFault) -> &'static str {
     match fault {
@@ -68,6 +82,20 @@ fn shape_word(fault: ShapeFault) -> &'static str {
     }
 }
 
+/// The word of a fault of an operator or a function.
+fn ufunc_word(fault: UfuncFault) -> &'static str {
+    match fault {
+        UfuncFault::FloatResult => "float result",
+        UfuncFault::IntOutOfRange(_) => "integer out of range",
+        UfuncFault::BoolOp => "boolean operator",
+        UfuncFault::KindCast => "kind cast",
+        UfuncFault::NegativePower => "negative power",
+        UfuncFault::ShapeMismatch => "shape mismatch",
+        UfuncFault::ReadOnly => "read only",
+        UfuncFault::NotNumbers => "not numbers",
+    }
+}
+
 impl fmt::Display for Refusal {
     fn fmt<W: fmt::Write>(&self, f: &mut fmt::Formatter<W>) -> fmt::Result {
         match self {
@@ -76,6 +104,7 @@ impl fmt::Display for Refusal {
             Refusal::NoStructure => f.write_str("no structure"),
             Refusal::NoView(fault) => f.write_str(fault_word(*fault)),
             Refusal::NoShape(fault) => f.write_str(shape_word(*fault)),
+            Refusal::NoResult(fault) => f.write_str(ufunc_word(*fault)),
             Refusal::Memory => f.write_str("out of memory"),
         }
     }

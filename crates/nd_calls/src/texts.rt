@@ -25,7 +25,7 @@ fn scalar_of(kind: Kind, value: i128) -> Result<Num, Refusal> {
 }
 
 /// The number of a word for its sort and another for its value.
-fn num_of(sort: &str, value: &str) -> Result<Num, Refusal> {
+pub(crate) fn num_of(sort: &str, value: &str) -> Result<Num, Refusal> {
     match sort {
         "truth" => Ok(Num::Bool(number(value)?)),
         "integer" => Ok(Num::Int(number(value)?)),
@@ -90,7 +90,7 @@ fn holds_view(block: &RawBlock, view: &View) -> bool
 }
 
 /// The text of a view of a block.
-fn text_in(alloc: Global, block: &RawBlock, view: &View) -> Result<String, Refusal> {
+pub(crate) fn text_in(alloc: Global, block: &RawBlock, view: &View) -> Result<String, Refusal> {
     if holds_view(block, view) {
         elements_text(alloc, view, block.as_slice())
     } else {

@@ -54,7 +54,7 @@ fn push_fields(text: &mut String, fields: &[Field]) -> Result<(), AllocError> {
 }
 
 /// Appends the word of an element, or those of the fields of a structure.
-fn push_type(text: &mut String, elem: &ElemType) -> Result<(), AllocError> {
+pub(crate) fn push_type(text: &mut String, elem: &ElemType) -> Result<(), AllocError> {
     match elem {
         ElemType::One(elem) => {
             text.push(' ')?;

@@ -115,28 +115,46 @@ fn measure(
     println!(rt; "{name} {} {sum} {best}", target.count())
 }
 
-/// Prints a line for each of some sums in place: of an array and another one, of an array and one number, and of each number of an array
-/// and the one before it.
-pub(crate) fn measure_in_place(rt: &HostRuntime) -> io::Result<()> {
+// Each number of an array and the one of another array.
+fn measure_sums(rt: &HostRuntime) -> io::Result<()> {
     let int = Elem::little(Kind::I64);
-    let all = view_of(rt.alloc(), int, &[COUNT], &[8], 0)?;
-    let front = view_of(rt.alloc(), int, &[COUNT - 1], &[8], 0)?;
-    let rest = view_of(rt.alloc(), int, &[COUNT - 1], &[8], 8)?;
-    let (Some(all), Some(front), Some(rest)) = (all, front, rest) else {
-        return println!(rt; "in place: no such views");
+    let Some(all) = view_of(rt.alloc(), int, &[COUNT], &[8], 0)? else {
+        return println!(rt; "sums: no such view");
     };
     let other = mixed_block(rt.alloc(), int, COUNT)?;
     let mut block = mixed_block(rt.alloc(), int, COUNT)?;
     let right = RightSide::Other(&all, other.as_slice());
-    measure(rt, "sums", &all, right, &mut block)?;
+    measure(rt, "sums", &all, right, &mut block)
+}
+
+// Each number of an array and one number.
+fn measure_increments(rt: &HostRuntime) -> io::Result<()> {
+    let int = Elem::little(Kind::I64);
+    let Some(all) = view_of(rt.alloc(), int, &[COUNT], &[8], 0)? else {
+        return println!(rt; "increments: no such view");
+    };
     let mut block = mixed_block(rt.alloc(), int, COUNT)?;
-    measure(
-        rt,
-        "increments",
-        &all,
-        RightSide::Number(Num::Int(1)),
-        &mut block,
-    )?;
+    let right = RightSide::Number(Num::Int(1));
+    measure(rt, "increments", &all, right, &mut block)
+}
+
+// Each number of an array and the one before it.
+fn measure_neighbours(rt: &HostRuntime) -> io::Result<()> {
+    let int = Elem::little(Kind::I64);
+    let Some(front) = view_of(rt.alloc(), int, &[COUNT - 1], &[8], 0)? else {
+        return println!(rt; "neighbours: no such view");
+    };
+    let Some(rest) = view_of(rt.alloc(), int, &[COUNT - 1], &[8], 8)? else {
+        return println!(rt; "neighbours: no such view");
+    };
     let mut block = mixed_block(rt.alloc(), int, COUNT)?;
     measure(rt, "neighbours", &rest, RightSide::Own(&front), &mut block)
+}
+
+/// Prints a line for each of some sums in place: of an array and another one, of an array and one number, and of each number of an array
+/// and the one before it.
+pub(crate) fn measure_in_place(rt: &HostRuntime) -> io::Result<()> {
+    measure_sums(rt)?;
+    measure_increments(rt)?;
+    measure_neighbours(rt)
 }

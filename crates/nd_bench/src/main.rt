@@ -4,7 +4,7 @@
 //! the sum of what the numbers become; `nd_bench assign` prints the same for each of five assignments to the elements of an array of
 //! 10,000,000 numbers, with the sum of its block; `nd_bench views` prints the same for views that are made of a view, of which it makes
 //! 100,000: by a basic index and in another shape; `nd_bench operators` prints for operators on an array of 10,000,000 numbers the name, how
-//! many results there are, the sum of their bytes, and the nanoseconds; `nd_bench in_place` prints the same for sums in place; `nd_bench text [COUNT]` prints for each of three arrays its name, how many elements
+//! many results there are, the sum of their bytes, and the nanoseconds; `nd_bench text [COUNT]` prints for each of three arrays its name, how many elements
 //! it has, how long its text is, and how many nanoseconds it takes to make it; `nd_bench cells [COUNT]` edits notebooks of many cells,
 //! and prints how long that takes. Without a word it prints how it is called.
 #![tactic(auto)]
@@ -15,7 +15,6 @@ mod assign;
 mod cells;
 mod convert;
 mod copy;
-mod in_place;
 mod mixed;
 mod numbers;
 mod operators;
@@ -26,7 +25,6 @@ use crate::assign::measure_assign;
 use crate::cells::measure_cells;
 use crate::convert::measure_convert;
 use crate::copy::measure_copy;
-use crate::in_place::measure_in_place;
 use crate::numbers::measure_numbers;
 use crate::operators::measure_operators;
 use crate::text::measure_text;
@@ -73,11 +71,10 @@ fn main(rt: HostRuntime) -> io::Result<()> {
         (Some("assign"), _) => measure_assign(&rt),
         (Some("views"), _) => measure_views(&rt),
         (Some("operators"), _) => measure_operators(&rt),
-        (Some("in_place"), _) => measure_in_place(&rt),
         (Some("text"), Some(count)) => measure_text(&rt, count.min(MOST_SHOWN)),
         (Some("cells"), Some(count)) => measure_cells(&rt, count.min(MOST_CELLS)),
         _ => println!(rt;
-            "usage: nd_bench copy | numbers [COUNT] | convert [COUNT] | assign | views | operators | in_place | text [COUNT] | cells [COUNT]"
+            "usage: nd_bench copy | numbers [COUNT] | convert [COUNT] | assign | views | operators | text [COUNT] | cells [COUNT]"
         ),
     }
 }

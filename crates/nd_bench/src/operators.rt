@@ -19,8 +19,8 @@ const COUNT: u64 = 10_000_000;
 // How many bytes they have.
 const LEN: u64 = 80_000_000;
 
-/// The sum of the bytes of a block, wrapped to 64 bits.
-pub(crate) fn byte_sum(block: &RawBlock) -> u64 {
+// The sum of the bytes of a block, wrapped to 64 bits.
+fn byte_sum(block: &RawBlock) -> u64 {
     let mut sum: u64 = 0;
     for byte in block.as_slice() {
         sum = sum.wrapping_add(u64::from(*byte));
@@ -28,15 +28,14 @@ pub(crate) fn byte_sum(block: &RawBlock) -> u64 {
     sum
 }
 
-/// Elements of this kind in the block from a place on, each so many bytes behind the last one.
-pub(crate) fn view_of(
+// The first elements of this kind in the block, each so many bytes behind the last one.
+fn view_of(
     alloc: Global,
     elem: Elem,
     shape: &[u64],
     strides: &[i64],
-    offset: u64,
 ) -> Result<Option<View>, AllocError> {
-    match View::from_parts(alloc, ElemType::One(elem), shape, strides, offset, LEN)? {
+    match View::from_parts(alloc, ElemType::One(elem), shape, strides, 0, LEN)? {
         Ok(view) => Ok(Some(view)),
         Err(_) => Ok(None),
     }
@@ -84,7 +83,7 @@ fn measure_number(
     block: &RawBlock,
 ) -> io::Result<()> {
     let bytes = block.as_slice();
-    let Some(left) = view_of(rt.alloc(), Elem::little(Kind::I64), &[COUNT], &[8], 0)? else {
+    let Some(left) = view_of(rt.alloc(), Elem::little(Kind::I64), &[COUNT], &[8])? else {
         return println!(rt; "{name}: no view of so many numbers");
     };
     if !lies_in(&left, bytes.len()) {
@@ -118,8 +117,8 @@ fn measure_kinds(
     right: Elem,
     block: &RawBlock,
 ) -> io::Result<()> {
-    let left = view_of(rt.alloc(), left, &[COUNT], &[left.size() as i64], 0)?;
-    let right = view_of(rt.alloc(), right, &[COUNT], &[right.size() as i64], 0)?;
+    let left = view_of(rt.alloc(), left, &[COUNT], &[left.size() as i64])?;
+    let right = view_of(rt.alloc(), right, &[COUNT], &[right.size() as i64])?;
     match (left, right) {
         (Some(left), Some(right)) => measure_views(rt, name, op, &left, &right, block),
         _ => println!(rt; "{name}: no view of so many numbers"),
@@ -129,15 +128,15 @@ fn measure_kinds(
 // The same of a table and its first row, or every second number of the block.
 fn measure_shapes(rt: &HostRuntime, block: &RawBlock) -> io::Result<()> {
     let int = Elem::little(Kind::I64);
-    let table = view_of(rt.alloc(), int, &[2441, 4096], &[32768, 8], 0)?;
-    let row = view_of(rt.alloc(), int, &[4096], &[8], 0)?;
+    let table = view_of(rt.alloc(), int, &[2441, 4096], &[32768, 8])?;
+    let row = view_of(rt.alloc(), int, &[4096], &[8])?;
     match (table, row) {
         (Some(table), Some(row)) => {
             measure_views(rt, "row", BinaryOp::Add, &table, &row, block)?;
         }
         _ => println!(rt; "row: no such views")?,
     }
-    match view_of(rt.alloc(), int, &[COUNT / 2], &[16], 0)? {
+    match view_of(rt.alloc(), int, &[COUNT / 2], &[16])? {
         Some(view) => measure_views(rt, "strided", BinaryOp::Add, &view, &view, block),
         None => println!(rt; "strided: no such view"),
     }

@@ -1,6 +1,8 @@
 -- Refusals by their groups, each with its arguments.
 use Rattle.std.specs.Prelude.{ℕ, ℤ, List}
 use Rattle.nd_model.specs.ShapeFault.{ShapeFault}
+use Rattle.nd_model.specs.FormatFault.{FormatFault}
+use Rattle.nd_model.specs.NpyFault.{NpyFault}
 
 pub data ViewFault : Type 0 where
   OutOfBlock : ViewFault
@@ -29,6 +31,7 @@ pub data UfuncFault : Type 0 where
 
 pub data StmtFault : Type 0 where
   NoName : List ℕ → StmtFault
+  NoInput : List ℕ → StmtFault
   IntTooBig : StmtFault
   ZeroDivide : StmtFault
   NegativeShift : StmtFault
@@ -41,6 +44,8 @@ pub data StmtFault : Type 0 where
 
 -- why a statement is refused
 pub data Fault : Type 0 where
+  Format : FormatFault → Fault
+  Npy : NpyFault → Fault
   View : ViewFault → Fault
   Index : IndexFault → Fault
   Shape : ShapeFault → Fault

@@ -1,11 +1,35 @@
 -- The texts of refusals, as a script is answered.
 use Rattle.std.specs.Prelude.{ℕ, List, ◌++◌, codes, decimal}
 use Rattle.std.specs.Fmt.{signed_decimal}
-use Rattle.nd_model.specs.Fault.{ViewFault, OutOfBlock, TooManyAxes, TooManyElements, AxesDiffer, ItemSizes, IndexFault, OutOfBounds, TooManyIndices, ZeroStep, NotAnIndex, TwoEllipses, NoField, UfuncFault, FloatResult, IntOutOfRange, BoolOp, KindCast, NegativePower, ShapeMismatch, ReadOnly, NotNumbers, StmtFault, NoName, IntTooBig, ZeroDivide, NegativeShift, NeedsType, RaggedList, NotAnArray, TextTooLong, BadArgument, BadType, Fault, View, Index, Shape, Ufunc, Stmt, ParseKind, BadToken, Unexpected, TooDeep, TooManyStatements, UnknownCall, LeftOut, Refusal, Parse, Statement}
+use Rattle.nd_model.specs.Fault.{ViewFault, OutOfBlock, TooManyAxes, TooManyElements, AxesDiffer, ItemSizes, IndexFault, OutOfBounds, TooManyIndices, ZeroStep, NotAnIndex, TwoEllipses, NoField, UfuncFault, FloatResult, IntOutOfRange, BoolOp, KindCast, NegativePower, ShapeMismatch, ReadOnly, NotNumbers, StmtFault, NoName, NoInput, IntTooBig, ZeroDivide, NegativeShift, NeedsType, RaggedList, NotAnArray, TextTooLong, BadArgument, BadType, Fault, Format, Npy, View, Index, Shape, Ufunc, Stmt, ParseKind, BadToken, Unexpected, TooDeep, TooManyStatements, UnknownCall, LeftOut, Refusal, Parse, Statement}
 use Rattle.nd_model.specs.ShapeFault as shape
 use Rattle.nd_model.specs.ShapeFault.{ShapeFault}
+use Rattle.nd_model.specs.FormatFault as format
+use Rattle.nd_model.specs.FormatFault.{FormatFault}
+use Rattle.nd_model.specs.NpyFault as npy
+use Rattle.nd_model.specs.NpyFault.{NpyFault}
 use Rattle.nd_model.specs.Book as book
 use Rattle.nd_model.specs.Book.{EditFault, TooManyCells, CellTooLong, BadInputName, InputTooLarge, NoInputNamed, QueryFault}
+
+abbrev pub format_text : FormatFault → List ℕ
+format_text (format.UnknownCode at) = codes "UnknownCode " ++ decimal at
+format_text (format.Unclosed at) = codes "Unclosed " ++ decimal at
+format_text (format.NoName at) = codes "NoName " ++ decimal at
+format_text (format.DoubleName at) = codes "DoubleName " ++ decimal at
+format_text (format.CountNotHere at) = codes "CountNotHere " ++ decimal at
+format_text format.LargerThanItem = codes "LargerThanItem"
+format_text format.TooManyFields = codes "TooManyFields"
+format_text format.BadItemSize = codes "BadItemSize"
+
+abbrev pub npy_text : NpyFault → List ℕ
+npy_text npy.BadMagic = codes "BadMagic"
+npy_text npy.BadVersion = codes "BadVersion"
+npy_text npy.Truncated = codes "Truncated"
+npy_text (npy.NotText at) = codes "NotText " ++ decimal at
+npy_text (npy.BadHeader at) = codes "BadHeader " ++ decimal at
+npy_text npy.BadKeys = codes "BadKeys"
+npy_text npy.BadDescr = codes "BadDescr"
+npy_text npy.TooLarge = codes "TooLarge"
 
 abbrev pub view_text : ViewFault → List ℕ
 view_text OutOfBlock = codes "OutOfBlock"
@@ -40,6 +64,7 @@ ufunc_text NotNumbers = codes "NotNumbers"
 
 abbrev pub stmt_text : StmtFault → List ℕ
 stmt_text (NoName name) = codes "NoName " ++ name
+stmt_text (NoInput name) = codes "NoInput " ++ name
 stmt_text IntTooBig = codes "IntTooBig"
 stmt_text ZeroDivide = codes "ZeroDivide"
 stmt_text NegativeShift = codes "NegativeShift"
@@ -51,6 +76,8 @@ stmt_text BadArgument = codes "BadArgument"
 stmt_text BadType = codes "BadType"
 
 abbrev pub fault_text : Fault → List ℕ
+fault_text (Format f) = codes "Format." ++ format_text f
+fault_text (Npy f) = codes "Npy." ++ npy_text f
 fault_text (View f) = codes "View." ++ view_text f
 fault_text (Index f) = codes "Index." ++ index_text f
 fault_text (Shape f) = codes "Shape." ++ shape_text f

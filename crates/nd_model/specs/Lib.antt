@@ -74,3 +74,8 @@ pub mod Notebook
 pub mod ScriptRuns
 pub mod Overlay
 pub mod Beside
+pub mod Rules
+pub mod RuleReading
+pub mod Judging
+pub mod FormatFault
+pub mod NpyFault

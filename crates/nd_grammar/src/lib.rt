@@ -59,9 +59,12 @@ fn read_rule<'t>(
 ) -> Result<Option<&'t [u8]>, AllocError>
     requires { (look (rule_of rule.now)).fits ≡ true }
     // The rest is read by the rules that are to come, whichever they are.
-    ensures read { IfOk result (λ o. (k : List rules.Rule) → ahead roles.old.items (run (rule_of rule.now ∷ k) tokens.now) ≡ after roles.new.items (rest_of o) k) }
+    ensures read { IfOk result (λ o. (k : List rules.Rule)
+        → ahead roles.old.items (run (rule_of rule.now ∷ k) tokens.now)
+        ≡ after roles.new.items (rest_of o) k) }
     ensures shorter { IfOk result (λ o. IfSome o (λ rest. length rest.now ≤ length tokens.now)) }
-    ensures taken { IfOk result (λ o. IfSome o (λ rest. (look (rule_of rule.now)).empty ≡ false → length rest.now < length tokens.now)) }
+    ensures taken { IfOk result (λ o. IfSome o (λ rest. (look (rule_of rule.now)).empty ≡ false
+        → length rest.now < length tokens.now)) }
 {
     match rule {
         Rule::Nothing => Ok(Some(tokens)),
@@ -99,7 +102,8 @@ fn read_rule<'t>(
 /// Reads the tokens by the rule, which one token of lookahead has to be enough for.
 pub fn read(alloc: Global, rule: &Rule, tokens: &[u8]) -> Result<Reading, AllocError>
     requires { (look (rule_of rule.now)).fits ≡ true }
-    ensures read { IfOk result (λ r. (r.roles.items, r.whole) ≡ seen (runs.reading (rule_of rule.now) tokens.now)) }
+    ensures read { IfOk result (λ r. (r.roles.items, r.whole)
+        ≡ seen (runs.reading (rule_of rule.now) tokens.now)) }
     ensures within { IfOk result (λ r. length r.roles.items ≤ length tokens.now) }
 {
     let mut roles = Vec::new(alloc);

@@ -13,7 +13,7 @@ use Rattle.nd_model.specs.Syntax.{Expr, Call, Method, Elements, Element, Index, 
 use Rattle.nd_model.specs.Tokens.{tokens_of, tokens_of_call, tokens_of_shape, tokens_of_lengths, tokens_of_exprs, tokens_of_bound, tokens_of_step, tokens_of_index, tokens_of_items, tokens_of_item, tokens_of_method, tokens_of_elements, tokens_of_others, tokens_of_element, tokens_of_all, tokens_of_stmt}
 use Rattle.nd_model.specs.Evaluation.{Eval, Gives, Refuses, Asks, run, ◌>>=◌, decide}
 use Rattle.nd_model.specs.Operand as operand
-use Rattle.nd_model.specs.Operand.{Operand, Usage, Made, ANumber, AnArray, Chosen, AnElement, AView, ACopy, Stretched, Deed, NoDeed, PrintsText, SavesFile, BindsFirst, BindsMade, Unbinds, Writes, MakesAndWrites}
+use Rattle.nd_model.specs.Operand.{Operand, Usage, Made, ANumber, AnArray, Loaded, AFile, ABuffer, Chosen, AnElement, AView, ACopy, Stretched, Deed, NoDeed, PrintsText, SavesFile, BindsFirst, BindsMade, Unbinds, Writes, MakesAndWrites}
 use Rattle.nd_model.specs.Viewing.{choose}
 use Rattle.nd_model.specs.Operation
 use Rattle.nd_model.specs.Operation.{operands, Operation, Computes, Views, perform, Plan, Named, FromInput, Does, Plans, Done, And, evaluate, with_values, evaluate_all, Work, Acts, ActsOn, do_work}
@@ -87,6 +87,14 @@ pub few_given : (m : Made) → Few (Operation.give m) 1
 few_given (ANumber n) = tt
 few_given (AnArray t shape f) = few_fresh t shape f
 
+few_over : (bytes : List ℕ) (o : Result Geo ViewFault) → Few (Operation.array_over bytes o) 1
+few_over bytes (Ok g) = (0, omega arith, λ b. tt)
+few_over bytes (Err f) = tt
+
+few_loaded : (l : Loaded) → Few (Operation.give_loaded l) 1
+few_loaded (AFile t shape f) = few_fresh t shape f
+few_loaded (ABuffer t shape strides offset bytes) = few_over bytes _
+
 few_stretched : (t : ElementType) (c : Content) (shape : List ℕ) → Few (Operation.stretch_content t c shape) 1
 few_stretched t c shape = few_limits (limit_fault (item_size t) []) _ 1 (0, omega arith, λ b. few_limits (limit_fault (item_size t) shape) _ 0 tt)
 
@@ -136,10 +144,10 @@ few_bound : (n : List ℕ) (o : Option Value) → Few (Operation.bound_value n o
 few_bound n None = tt
 few_bound n (Some v) = tt
 
-pub few_input : (n : List ℕ) (f : Option Source → Result Made Fault) → Few (Operation.input_value n f) 1
+pub few_input : (n : List ℕ) (f : Option Source → Result Loaded Fault) → Few (Operation.input_value n f) 1
 few_input n f =
-    elim (is_input_name n) as (λ t. Few (cond t (Asks (Ask n) (λ source. decide (f source) >>= Operation.give)) (Refuses (fault.Stmt BadArgument))) 1) [
-      | true ↦ λ source. few_decided (f source) Operation.give 1 few_given
+    elim (is_input_name n) as (λ t. Few (cond t (Asks (Ask n) (λ source. decide (f source) >>= Operation.give_loaded)) (Refuses (fault.Stmt BadArgument))) 1) [
+      | true ↦ λ source. few_decided (f source) Operation.give_loaded 1 few_loaded
       | false ↦ tt
     ]
 
@@ -294,7 +302,7 @@ at_stmt (syntax.Assign t x e) = omega (arith, at_expr t, at_index x, at_expr e)
 at_stmt (syntax.AugmentItem t x op e) = omega (arith, at_expr t, at_index x, at_expr e)
 at_stmt (syntax.Delete n) = omega arith
 at_stmt (syntax.Print es) = omega (arith, at_all es)
-at_stmt (syntax.Save n e) = omega arith
+at_stmt (syntax.Save n e) = omega (arith, at_expr e)
 
 -- the effect makes none
 had_next : (o : Result Effect Fault) (r : Running) → (had (o, r)).1.next ≡ r.next

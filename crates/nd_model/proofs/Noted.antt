@@ -1,5 +1,5 @@
 -- What is written lies in a base whose length was read, or in one of the cell's own.
-use Rattle.std.proofs.Common.{◌≡◌, ℕ, zero, suc, Bool, true, false, not, ◌&&◌, ◌||◌, eqb-true, eq-eqb, List, [], ◌∷◌, Option, Some, None, Result, Ok, refl, sym, ap, ap₂, subst, ◌∙◌, inl, inr}
+use Rattle.std.proofs.Common.{◌≡◌, ℕ, zero, suc, Bool, true, false, not, ◌&&◌, ◌||◌, eqb-true, eq-eqb, List, [], ◌∷◌, Option, Some, None, Result, Ok, Err, refl, sym, ap, ap₂, subst, ◌∙◌, inl, inr}
 use Rattle.std.specs.Prelude.{nat_eq}
 use mathlib.Core.Path.{fun_ext}
 use Rattle.std.proofs.lemmas.Bool.{cases_Bool, or_left, and_from}
@@ -10,10 +10,10 @@ use Rattle.nd_model.specs.Strides.{limit_fault}
 use Rattle.nd_model.specs.Session.{lookup}
 use Rattle.nd_model.specs.Content.{Content, array_bytes}
 use Rattle.nd_model.specs.Running.{Inputs, Key, Name, Input, Length, Byte, Running, Lookup, Use, Make, after, is_name, is_length_of, is_own, Effect, Storing, done}
-use Rattle.nd_model.specs.Fault.{Fault}
+use Rattle.nd_model.specs.Fault.{Fault, ViewFault}
 use Rattle.nd_model.specs.Evaluation.{Eval, run}
 use Rattle.nd_model.specs.Operand as operand
-use Rattle.nd_model.specs.Operand.{Operand, Usage, Made, ANumber, AnArray, Chosen, AnElement, AView, ACopy, Stretched, Deed, NoDeed, PrintsText, SavesFile, BindsFirst, BindsMade, Unbinds, Writes, MakesAndWrites}
+use Rattle.nd_model.specs.Operand.{Operand, Usage, Made, ANumber, AnArray, Loaded, AFile, ABuffer, Chosen, AnElement, AView, ACopy, Stretched, Deed, NoDeed, PrintsText, SavesFile, BindsFirst, BindsMade, Unbinds, Writes, MakesAndWrites}
 use Rattle.nd_model.specs.Viewing.{choose}
 use Rattle.nd_model.specs.Operation
 use Rattle.nd_model.specs.Operation.{Operation, Computes, Views, perform, Plan, Named, FromInput, Does, Plans, Done, And, evaluate, with_values, evaluate_all, Work, Acts, ActsOn}
@@ -57,6 +57,14 @@ known_number r (operand.Scalar k z) = tt
 known_given : (i : Inputs) (r : Running) (m : Made) → Safe K i r (Operation.give m)
 known_given i r (ANumber n) = known_number r n
 known_given i r (AnArray t shape f) = known_fresh i r t shape f
+
+known_over : (i : Inputs) (r : Running) (bytes : List ℕ) (o : Result Geo ViewFault) → Safe K i r (Operation.array_over bytes o)
+known_over i r bytes (Ok g) = own (after (Make bytes) r) r.next
+known_over i r bytes (Err f) = tt
+
+known_loaded : (i : Inputs) (r : Running) (l : Loaded) → Safe K i r (Operation.give_loaded l)
+known_loaded i r (AFile t shape f) = known_fresh i r t shape f
+known_loaded i r (ABuffer t shape strides offset bytes) = known_over i r bytes _
 
 known_array : (i : Inputs) (r : Running) (b : Base) (g : Geo) → IsKnown r b → Safe K i r (Operation.view_value Array b g)
 known_array i r b g h = safe_limits K i r (limit_fault (item_size g.element) g.shape) _ (λ fine. h)
@@ -140,7 +148,7 @@ known_bound i r n (Some v) h = h
 mutual
   known_plan : (p : Plan) (i : Inputs) (r : Running) → Safe K i r (evaluate p)
   known_plan (Named n) i r = known_bound i (after (Lookup n) r) n (lookup n r.names) (looked_up r n (lookup n r.names) refl)
-  known_plan (FromInput n f) i r = safe_input K i r n f (known_given i)
+  known_plan (FromInput n f) i r = safe_input K i r n f (known_loaded i)
   known_plan (Does op ps) i r = known_values ps (perform op) i r (λ q vs g h. known_performed i q op vs h)
 
   known_values : (ps : Plans) (k : List (Usage × Value) → Eval Value) (i : Inputs) (r : Running) → ((q : Running) (vs : List (Usage × Value)) → Grows r q → AllK q vs → Safe K i q (k vs))

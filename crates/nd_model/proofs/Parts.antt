@@ -1,13 +1,16 @@
 -- Views that are made of parts lie in the block.
-use Rattle.std.proofs.Common.{◌≡◌, ℕ, ◌+◌, ◌≤◌, Bool, true, false, List, [], ◌∷◌, map, length, refl, arith}
+use Rattle.std.proofs.Common.{◌≡◌, ℕ, ◌+◌, ◌≤◌, Bool, true, false, List, [], ◌∷◌, map, length, refl, arith, subst, ◌∙◌}
 use Rattle.std.specs.Prelude.{ℤ, pos, unsigned_abs, int_le, nat_le, ◌&&◌, not, ◌==◌, Option, Some, None, Ok, if◌then◌else◌}
 use Rattle.std.specs.List.{list_all, All}
 use Rattle.std.proofs.lemmas.List.Elements.{All-nil, All-cons}
+use Rattle.std.proofs.lemmas.List.{length-map}
 use Rattle.std.proofs.lemmas.Bool.Decides.{nat_tests}
 use Rattle.nd_model.specs.Fault.{ViewFault, AxesDiffer, OutOfBlock}
 use Rattle.nd_model.specs.Tuple.{indices}
-use Rattle.nd_model.specs.View.{item_size}
-use Rattle.nd_model.specs.Strides.{begins_at, place_at, is_held, are_held, limit_fault, or_else, parts_fault, unless, parted, PartsAreHeld}
+use Rattle.nd_model.specs.View.{ElementType, Geo, item_size}
+use Rattle.nd_model.specs.Sound.{LiesIn}
+use Rattle.nd_model.proofs.Tuples.{length-indices}
+use Rattle.nd_model.specs.Strides.{begins_at, place_at, is_held, are_held, limit_fault, or_else, parts_fault, unless, parted, from_parts, PartsAreHeld}
 
 held_end : (size len : ℕ) (z : ℤ) → is_held size len z ≡ true → unsigned_abs z + size ≤ len
 held_end size len z held =
@@ -33,6 +36,11 @@ no_fault false true None e = refl
 no_fault false false None e = cc
 no_fault false held (Some fault) e = cc
 
+no_limit : (differ held : Bool) (limit : Option ViewFault) → (if differ then Some AxesDiffer else or_else limit (if held then None else Some OutOfBlock)) ≡ None → limit ≡ None
+no_limit true held limit e = cc
+no_limit false held None e = refl
+no_limit false held (Some fault) e = cc
+
 of_ok : {A : Type 0} (fault : Option ViewFault) (a b : A) → unless fault a ≡ Ok b → (fault ≡ None) × (a ≡ b)
 of_ok None a b e = (refl, cc)
 of_ok (Some fault) a b e = absurd (cc)
@@ -43,3 +51,14 @@ parts_are_held t shape strides offset len g e =
     let held : are_held (item_size t) len offset strides shape ≡ true = no_fault (not (length shape == length strides)) _ (limit_fault (item_size t) shape) made.0 in
     let places : (parted t shape strides offset).places ≡ g.places = λ i. (made.1 i).places in
     rw (← places) (ends (item_size t) len offset strides (indices shape) held)
+
+-- THE VIEW OF PARTS LIES in the block
+pub parts_lie : (t : ElementType) (shape : List ℕ) (strides : List ℤ) (offset len : ℕ) (g : Geo) → from_parts t shape strides offset len ≡ Ok g → LiesIn len g
+parts_lie t shape strides offset len g e =
+    let made = of_ok (parts_fault (item_size t) shape strides offset len) (parted t shape strides offset) g e in
+    let held : are_held (item_size t) len offset strides shape ≡ true = no_fault (not (length shape == length strides)) _ (limit_fault (item_size t) shape) made.0 in
+    subst (LiesIn len) made.1 (record {
+      count = length-map (indices shape) (place_at offset strides) ∙ length-indices shape;
+      limits = no_limit (not (length shape == length strides)) (are_held (item_size t) len offset strides shape) (limit_fault (item_size t) shape) made.0;
+      inside = ends (item_size t) len offset strides (indices shape) held;
+    })

@@ -15,7 +15,7 @@ use Rattle.nd_model.specs.Strides.{limit_fault}
 use Rattle.nd_model.specs.Syntax.{Stmt, Line, Parsed}
 use Rattle.nd_model.specs.Evaluation.{Eval, Gives, Refuses, Asks, run, ◌>>=◌, decide}
 use Rattle.nd_model.specs.Operand as operand
-use Rattle.nd_model.specs.Operand.{Operand, Usage, Made, ANumber, AnArray, Chosen, AnElement, AView, ACopy, Stretched, Deed, NoDeed, PrintsText, SavesFile, BindsFirst, BindsMade, Unbinds, Writes, MakesAndWrites}
+use Rattle.nd_model.specs.Operand.{Operand, Usage, Made, ANumber, AnArray, Loaded, AFile, ABuffer, Chosen, AnElement, AView, ACopy, Stretched, Deed, NoDeed, PrintsText, SavesFile, BindsFirst, BindsMade, Unbinds, Writes, MakesAndWrites}
 use Rattle.nd_model.specs.Viewing.{choose}
 use Rattle.nd_model.specs.Operation
 use Rattle.nd_model.specs.Operation.{operands, Operation, Computes, Views, perform, Plan, Named, FromInput, Does, Plans, Done, And, evaluate, with_values, evaluate_all, Work, Acts, ActsOn}
@@ -102,6 +102,14 @@ module _ (r : ℕ → ℕ → Bool) where
   at_given (ANumber n) = gives _ _ (at_number n)
   at_given (AnArray t shape f) = at_fresh t shape f
 
+  at_over : (bytes : List ℕ) (o : Result Geo ViewFault) → Same Value (SameValue r) (Operation.array_over bytes o) (Operation.array_over bytes o)
+  at_over bytes (Ok g) = makes _ _ _ (λ b c e. gives _ _ (array b c g e))
+  at_over bytes (Err f) = refuses _
+
+  at_loaded : (l : Loaded) → Same Value (SameValue r) (Operation.give_loaded l) (Operation.give_loaded l)
+  at_loaded (AFile t shape f) = at_fresh t shape f
+  at_loaded (ABuffer t shape strides offset bytes) = at_over bytes _
+
   at_element : (b c : Base) (t : Bool) (e : ElementType) (p : ℕ) → SameBase r b c → Same Value (SameValue r) (Operation.element_of b t e p) (Operation.element_of c t e p)
   at_element b c t (One e) p s = uses b c _ _ _ s (λ l. gives _ _ (scalar _ _))
   at_element b c t (Structure fields size) p s = at_limits (SameValue r) (limit_fault size []) _ _ (gives _ _ (row b c _ s))
@@ -158,12 +166,12 @@ module _ (r : ℕ → ℕ → Bool) where
   at_name : (n : List ℕ) → Same Value (SameValue r) (Operation.name n) (Operation.name n)
   at_name n = looks n _ _ (λ o p e. at_bound n o p e)
 
-  at_input : (n : List ℕ) (f : Option Source → Result Made Fault) → Same Value (SameValue r) (Operation.input_value n f) (Operation.input_value n f)
+  at_input : (n : List ℕ) (f : Option Source → Result Loaded Fault) → Same Value (SameValue r) (Operation.input_value n f) (Operation.input_value n f)
   at_input n f =
-      let read : Eval Value = Asks (Ask n) (λ source. decide (f source) >>= Operation.give) in
+      let read : Eval Value = Asks (Ask n) (λ source. decide (f source) >>= Operation.give_loaded) in
       let refused : Eval Value = Refuses (fault.Stmt BadArgument) in
       elim (is_input_name n) as (λ t. Same Value (SameValue r) (cond t read refused) (cond t read refused)) [
-        | true ↦ asks n _ _ (λ source. at_decided (SameValue r) (f source) _ _ at_given)
+        | true ↦ asks n _ _ (λ source. at_decided (SameValue r) (f source) _ _ at_loaded)
         | false ↦ refuses _
       ]
 

@@ -1,9 +1,16 @@
 -- Rows: cells that compute.
-use Rattle.std.proofs.Common.{◌≡◌, ℕ, List, Option, Some, None, refl, codes}
+use Rattle.std.proofs.Common.{◌≡◌, ℕ, pos, negsuc, List, [], ◌∷◌, ◌++◌, Option, Some, None, refl, codes}
 use Rattle.std.specs.Fmt.{digits}
 use Rattle.nd_model.specs.Session.{no_session}
 use Rattle.nd_model.specs.Fault.{Refusal}
-use Rattle.nd_model.specs.Cell.{Ended, cell as cell_of}
+use Rattle.nd_model.specs.Cell.{Ended, Saved, cell as cell_of}
+use Rattle.nd_model.specs.Running.{Source, Npy, Buffer}
+use Rattle.nd_model.specs.RuleReading.{reading as rule_reading}
+use Rattle.nd_model.specs.FormatGrammar.{format}
+use Rattle.nd_model.specs.FormatReading.{read_format}
+use Rattle.nd_model.specs.NpyHeader.{header, header_in}
+use Rattle.nd_model.specs.NpyReading.{header_of, elements_in, read_npy}
+use Rattle.nd_model.specs.NpyWriting.{npy_front}
 use Rattle.nd_model.specs.Reading.{reading}
 use Rattle.nd_model.specs.FaultText.{refusal_text}
 use Rattle.nd_model.specs.Grammar.{has}
@@ -138,3 +145,45 @@ rows_are_stretched = refl
 structures_are_assigned : gives (codes "r = np.zeros(2, dtype=[('a', '|i1'), ('b', '<i2')])\nr['b'] = np.arange(2)\nr[0]['a'] = 5\nr[1] = r[0]\nprint(r)\nr[0] = 1") ≡ (codes "[(5, 0) (5, 0)]\n", codes "Ufunc.NotNumbers")
 unfolding digits reading tokens tokens_from piece_at word_at keywords symbols cell lines line stmt bind assign target groups group place imports module_name delete print printed save saved value expr comparison bor bxor band shift sum term unary signed power exponent under postfix suffix operand function call arange second third filled full new_array broadcast_to two fold reduce accumulate comma_options options first_axis named_axis numbered_axis comma_keepdims only_keepdims named_keepdims comma_typing only_typing typing dtype fields pair type_name kind_name shape tuple no_lengths quoted exprs method attribute axes lengths empty type_argument reduction reduction_options accumulation index contents nothing item part list elements newaxis slice step_in bound_in grouped name has keyword_kinds name_kinds
 structures_are_assigned = refl
+
+-- ---- files and buffers
+
+-- the same over one input
+abbrev gives_of : Source → List ℕ → List ℕ × List ℕ
+gives_of source text = outcome (cell_of 7 (reading text) (λ n. Some source) no_session)
+
+-- the files that a cell saves
+abbrev saves : List ℕ → Saved
+saves text = (cell_of 7 (reading text) (λ n. None) no_session).saves
+
+buffer_in_place : gives_of (Buffer (codes ">h") 2 (3 ∷ []) (pos 0 ∷ []) 0 (0 ∷ 5 ∷ [])) (codes "v = buffer('b')\nv += 1\nprint(v)") ≡ (codes "[6 6 6]\n", codes "ok")
+unfolding digits reading tokens tokens_from piece_at word_at keywords symbols cell lines line stmt bind assign target groups group place imports module_name delete print printed save saved value expr comparison bor bxor band shift sum term unary signed power exponent under postfix suffix operand function call arange second third filled full new_array broadcast_to two fold reduce accumulate comma_options options first_axis named_axis numbered_axis comma_keepdims only_keepdims named_keepdims comma_typing only_typing typing dtype fields pair type_name kind_name shape tuple no_lengths quoted exprs method attribute axes lengths empty type_argument reduction reduction_options accumulation index contents nothing item part list elements newaxis slice step_in bound_in grouped name has keyword_kinds name_kinds format header read_format read_npy header_in header_of elements_in npy_front rule_reading
+buffer_in_place = refl
+
+buffer_backwards : gives_of (Buffer (codes "<h") 2 (3 ∷ []) (negsuc 1 ∷ []) 4 (1 ∷ 0 ∷ 2 ∷ 0 ∷ 3 ∷ 0 ∷ [])) (codes "print(buffer('c'))") ≡ (codes "[3 2 1]\n", codes "ok")
+unfolding digits reading tokens tokens_from piece_at word_at keywords symbols cell lines line stmt bind assign target groups group place imports module_name delete print printed save saved value expr comparison bor bxor band shift sum term unary signed power exponent under postfix suffix operand function call arange second third filled full new_array broadcast_to two fold reduce accumulate comma_options options first_axis named_axis numbered_axis comma_keepdims only_keepdims named_keepdims comma_typing only_typing typing dtype fields pair type_name kind_name shape tuple no_lengths quoted exprs method attribute axes lengths empty type_argument reduction reduction_options accumulation index contents nothing item part list elements newaxis slice step_in bound_in grouped name has keyword_kinds name_kinds format header read_format read_npy header_in header_of elements_in npy_front rule_reading
+buffer_backwards = refl
+
+buffer_past_its_end : gives_of (Buffer (codes "<h") 2 (3 ∷ []) (pos 2 ∷ []) 2 (1 ∷ 0 ∷ 2 ∷ 0 ∷ 3 ∷ 0 ∷ [])) (codes "print(buffer('d'))") ≡ (codes "", codes "View.OutOfBlock")
+unfolding digits reading tokens tokens_from piece_at word_at keywords symbols cell lines line stmt bind assign target groups group place imports module_name delete print printed save saved value expr comparison bor bxor band shift sum term unary signed power exponent under postfix suffix operand function call arange second third filled full new_array broadcast_to two fold reduce accumulate comma_options options first_axis named_axis numbered_axis comma_keepdims only_keepdims named_keepdims comma_typing only_typing typing dtype fields pair type_name kind_name shape tuple no_lengths quoted exprs method attribute axes lengths empty type_argument reduction reduction_options accumulation index contents nothing item part list elements newaxis slice step_in bound_in grouped name has keyword_kinds name_kinds format header read_format read_npy header_in header_of elements_in npy_front rule_reading
+buffer_past_its_end = refl
+
+format_before_view : gives_of (Buffer (codes "2b") 2 [] (pos 2 ∷ []) 2 []) (codes "print(buffer('d'))") ≡ (codes "", codes "Format.CountNotHere 0")
+unfolding digits reading tokens tokens_from piece_at word_at keywords symbols cell lines line stmt bind assign target groups group place imports module_name delete print printed save saved value expr comparison bor bxor band shift sum term unary signed power exponent under postfix suffix operand function call arange second third filled full new_array broadcast_to two fold reduce accumulate comma_options options first_axis named_axis numbered_axis comma_keepdims only_keepdims named_keepdims comma_typing only_typing typing dtype fields pair type_name kind_name shape tuple no_lengths quoted exprs method attribute axes lengths empty type_argument reduction reduction_options accumulation index contents nothing item part list elements newaxis slice step_in bound_in grouped name has keyword_kinds name_kinds format header read_format read_npy header_in header_of elements_in npy_front rule_reading
+format_before_view = refl
+
+file_in_fortran_order : gives_of (Npy (147 ∷ codes "NUMPY" ++ 1 ∷ 0 ∷ 51 ∷ 0 ∷ codes "{'descr':'|u1','fortran_order':True,'shape':(2,3)}\n" ++ 0 ∷ 1 ∷ 2 ∷ 3 ∷ 4 ∷ 5 ∷ [])) (codes "x = np.load('f')\nprint(x)") ≡ (codes "[[0 2 4]\n [1 3 5]]\n", codes "ok")
+unfolding digits reading tokens tokens_from piece_at word_at keywords symbols cell lines line stmt bind assign target groups group place imports module_name delete print printed save saved value expr comparison bor bxor band shift sum term unary signed power exponent under postfix suffix operand function call arange second third filled full new_array broadcast_to two fold reduce accumulate comma_options options first_axis named_axis numbered_axis comma_keepdims only_keepdims named_keepdims comma_typing only_typing typing dtype fields pair type_name kind_name shape tuple no_lengths quoted exprs method attribute axes lengths empty type_argument reduction reduction_options accumulation index contents nothing item part list elements newaxis slice step_in bound_in grouped name has keyword_kinds name_kinds format header read_format read_npy header_in header_of elements_in npy_front rule_reading
+file_in_fortran_order = refl
+
+no_file : gives_of (Npy []) (codes "x = np.load('e')") ≡ (codes "", codes "Npy.BadMagic")
+unfolding digits reading tokens tokens_from piece_at word_at keywords symbols cell lines line stmt bind assign target groups group place imports module_name delete print printed save saved value expr comparison bor bxor band shift sum term unary signed power exponent under postfix suffix operand function call arange second third filled full new_array broadcast_to two fold reduce accumulate comma_options options first_axis named_axis numbered_axis comma_keepdims only_keepdims named_keepdims comma_typing only_typing typing dtype fields pair type_name kind_name shape tuple no_lengths quoted exprs method attribute axes lengths empty type_argument reduction reduction_options accumulation index contents nothing item part list elements newaxis slice step_in bound_in grouped name has keyword_kinds name_kinds format header read_format read_npy header_in header_of elements_in npy_front rule_reading
+no_file = refl
+
+other_sort : gives_of (Npy []) (codes "x = buffer('e')") ≡ (codes "", codes "Stmt.NoInput e")
+unfolding digits reading tokens tokens_from piece_at word_at keywords symbols cell lines line stmt bind assign target groups group place imports module_name delete print printed save saved value expr comparison bor bxor band shift sum term unary signed power exponent under postfix suffix operand function call arange second third filled full new_array broadcast_to two fold reduce accumulate comma_options options first_axis named_axis numbered_axis comma_keepdims only_keepdims named_keepdims comma_typing only_typing typing dtype fields pair type_name kind_name shape tuple no_lengths quoted exprs method attribute axes lengths empty type_argument reduction reduction_options accumulation index contents nothing item part list elements newaxis slice step_in bound_in grouped name has keyword_kinds name_kinds format header read_format read_npy header_in header_of elements_in npy_front rule_reading
+other_sort = refl
+
+file_of_a_range : saves (codes "np.save('s', np.arange(3, dtype=np.int8))") ≡ (codes "s", 147 ∷ codes "NUMPY" ++ 1 ∷ 0 ∷ 118 ∷ 0 ∷ codes "{'descr': '|i1', 'fortran_order': False, 'shape': (3,), }                                                            \n" ++ 0 ∷ 1 ∷ 2 ∷ []) ∷ []
+unfolding digits reading tokens tokens_from piece_at word_at keywords symbols cell lines line stmt bind assign target groups group place imports module_name delete print printed save saved value expr comparison bor bxor band shift sum term unary signed power exponent under postfix suffix operand function call arange second third filled full new_array broadcast_to two fold reduce accumulate comma_options options first_axis named_axis numbered_axis comma_keepdims only_keepdims named_keepdims comma_typing only_typing typing dtype fields pair type_name kind_name shape tuple no_lengths quoted exprs method attribute axes lengths empty type_argument reduction reduction_options accumulation index contents nothing item part list elements newaxis slice step_in bound_in grouped name has keyword_kinds name_kinds format header read_format read_npy header_in header_of elements_in npy_front rule_reading
+file_of_a_range = refl

@@ -1,5 +1,5 @@
 -- Sessions stay sound: one lemma for each way in which a value is had, and none for the forms of expressions.
-use Rattle.std.proofs.Common.{◌≡◌, ℕ, zero, suc, ◌+◌, ◌*◌, ◌<◌, ◌≤◌, Bool, true, false, cond, leb, eq-eqb, List, [], ◌∷◌, ◌++◌, map, length, replicate, Option, Some, None, Result, Ok, Err, refl, sym, ap, ap₂, subst, ◌∙◌, arith, length-append}
+use Rattle.std.proofs.Common.{◌≡◌, ℕ, ℤ, zero, suc, ◌+◌, ◌*◌, ◌<◌, ◌≤◌, Bool, true, false, cond, leb, eq-eqb, List, [], ◌∷◌, ◌++◌, map, length, replicate, Option, Some, None, Result, Ok, Err, refl, sym, ap, ap₂, subst, ◌∙◌, arith, length-append}
 use Rattle.std.specs.Prelude.{bytes_eq}
 use Rattle.std.specs.List.{All, flat_map}
 use Rattle.std.proofs.Math.Nat.{mul-le-mul_right}
@@ -9,7 +9,8 @@ use Rattle.std.proofs.lemmas.List.Elements.{All-nil, All-cons}
 use Rattle.nd_model.specs.Tuple.{count_up, elements_of, indices}
 use Rattle.nd_model.specs.View.{ElementType, One, Structure, Geo, item_size, byte_places, contiguous}
 use Rattle.nd_model.specs.Value.{Base, same_base, Value, Int, Truth, Scalar, Array, Row, lies_in}
-use Rattle.nd_model.specs.Strides.{limit_fault}
+use Rattle.nd_model.specs.Strides.{limit_fault, from_parts}
+use Rattle.nd_model.proofs.Parts.{parts_lie}
 use Rattle.nd_model.specs.Session.{Names, lookup, bind, unbind, is_held, Session, held_bytes, put}
 use Rattle.nd_model.specs.Content.{Content, element_bytes, writes, array_bytes}
 use Rattle.nd_model.specs.Running.{Source, Inputs, Running, start, Lookup, Ask, Use, Make, reply, with_base, after, Effect, Nothing, Prints, Saves, Binding, Unbinding, Storing, done, Output}
@@ -19,7 +20,7 @@ use Rattle.nd_model.specs.InputName.{is_input_name}
 use Rattle.nd_model.specs.Syntax.{Stmt, Line, Parsed}
 use Rattle.nd_model.specs.Evaluation.{Eval, Gives, Refuses, Asks, run, ◌>>=◌, decide}
 use Rattle.nd_model.specs.Operand as operand
-use Rattle.nd_model.specs.Operand.{Operand, Plain, Elements, Usage, Made, ANumber, AnArray, Chosen, AnElement, AView, ACopy, Stretched, Deed, NoDeed, PrintsText, SavesFile, BindsFirst, BindsMade, Unbinds, Writes, MakesAndWrites}
+use Rattle.nd_model.specs.Operand.{Operand, Plain, Elements, Usage, Made, ANumber, AnArray, Loaded, AFile, ABuffer, Chosen, AnElement, AView, ACopy, Stretched, Deed, NoDeed, PrintsText, SavesFile, BindsFirst, BindsMade, Unbinds, Writes, MakesAndWrites}
 use Rattle.nd_model.specs.Viewing.{Viewing, choose}
 use Rattle.nd_model.specs.Broadcast.{broadcast_view}
 use Rattle.nd_model.specs.Operation
@@ -140,6 +141,19 @@ safe_given : (i : Inputs) (r : Running) (m : Made) → Safe V i r (Operation.giv
 safe_given i r (ANumber n) = safe_number r n
 safe_given i r (AnArray t shape f) = safe_fresh i r t shape f
 
+-- the view of parts over a new base of these bytes
+safe_over : (i : Inputs) (r : Running) (t : ElementType) (shape : List ℕ) (strides : List ℤ) (offset : ℕ) (bytes : List ℕ) (o : Result Geo ViewFault)
+    → from_parts t shape strides offset (length bytes) ≡ o → Safe V i r (Operation.array_over bytes o)
+safe_over i r t shape strides offset bytes (Err f) e = tt
+safe_over i r t shape strides offset bytes (Ok g) e = record {
+  lies = subst (λ l. LiesIn (length l) g) (sym (new_base r bytes)) (parts_lie t shape strides offset (length bytes) g e);
+  old = λ e. omega arith;
+}
+
+safe_loaded : (i : Inputs) (r : Running) (l : Loaded) → Safe V i r (Operation.give_loaded l)
+safe_loaded i r (AFile t shape f) = safe_fresh i r t shape f
+safe_loaded i r (ABuffer t shape strides offset bytes) = safe_over i r t shape strides offset bytes _ refl
+
 -- OLD BASES
 within : (r : Running) (b : Base) (g : Geo) → (b.label ≡ r.label → b.number < r.next) → IsWithin (length (r.bytes b)) g → limit_fault (item_size g.element) g.shape ≡ None → IsHeldView r b g
 within r b g old h fine = record { lies = record { count = h.0; limits = fine; inside = h.1 }; old = old }
@@ -249,18 +263,18 @@ safe_name : (i : Inputs) (r : Running) (n : List ℕ) → IsSound r → Safe V i
 safe_name i r n s = safe_bound i (after (Lookup n) r) n (lookup n r.names) (found_sound _ n r.names (sound_grows r (after (Lookup n) r) (grows_after (Lookup n) r) s))
 
 -- what is made of an input is as it should be where whatever is made is so
-pub safe_input : (P : Running → Value → Type 0) (i : Inputs) (r : Running) (n : List ℕ) (f : Option Source → Result Made Fault) → ((q : Running) (m : Made) → Safe P i q (Operation.give m))
+pub safe_input : (P : Running → Value → Type 0) (i : Inputs) (r : Running) (n : List ℕ) (f : Option Source → Result Loaded Fault) → ((q : Running) (l : Loaded) → Safe P i q (Operation.give_loaded l))
     → Safe P i r (Operation.input_value n f)
 safe_input P i r n f h =
-    elim (is_input_name n) as (λ t. Safe P i r (cond t (Asks (Ask n) (λ source. decide (f source) >>= Operation.give)) (Refuses (fault.Stmt BadArgument)))) [
-      | true ↦ safe_decided P i (after (Ask n) r) (f (i n)) Operation.give (λ m e. h (after (Ask n) r) m)
+    elim (is_input_name n) as (λ t. Safe P i r (cond t (Asks (Ask n) (λ source. decide (f source) >>= Operation.give_loaded)) (Refuses (fault.Stmt BadArgument)))) [
+      | true ↦ safe_decided P i (after (Ask n) r) (f (i n)) Operation.give_loaded (λ m e. h (after (Ask n) r) m)
       | false ↦ tt
     ]
 
 mutual
   safe_plan : (p : Plan) (i : Inputs) (r : Running) → IsSound r → Safe V i r (evaluate p)
   safe_plan (Named n) i r s = safe_name i r n s
-  safe_plan (FromInput n f) i r s = safe_input V i r n f (safe_given i)
+  safe_plan (FromInput n f) i r s = safe_input V i r n f (safe_loaded i)
   safe_plan (Does op ps) i r s = safe_values ps (perform op) i r s (λ q vs g h. safe_performed i q op vs h)
 
   safe_values : (ps : Plans) (k : List (Usage × Value) → Eval Value) (i : Inputs) (r : Running) → IsSound r → ((q : Running) (vs : List (Usage × Value)) → Grows r q → AllV q vs → Safe V i q (k vs))

@@ -174,6 +174,7 @@ told_book b = told (ended_cells b)
 pub data QueryFault : Type 0 where
   NoCell : (at : ℕ) → (count : ℕ) → QueryFault
   NoName : (name : List ℕ) → QueryFault
+  NoSave : (name : List ℕ) → QueryFault
   OutOfMemory : QueryFault
 
 -- what is asked of the cell at a place, where one stands
@@ -208,6 +209,14 @@ found_value name (Some v) = Ok v
 -- what shows of a name's value after the cell
 abbrev pub value_at : Book → ℕ → List ℕ → Result Shown QueryFault
 value_at b at name = ask_told (λ (t : Told). found_value name (lookup name t.names)) b at
+
+abbrev pub found_file : List ℕ → Option (List ℕ) → Result (List ℕ) QueryFault
+found_file name None = Err (NoSave name)
+found_file name (Some file) = Ok file
+
+-- the file that the cell saved by this name
+abbrev pub saved_at : Book → ℕ → List ℕ → Result (List ℕ) QueryFault
+saved_at b at name = ask_told (λ (t : Told). found_file name (lookup name t.saves)) b at
 
 -- ---- labels are not seen
 

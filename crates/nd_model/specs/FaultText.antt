@@ -108,4 +108,5 @@ edit_fault_text book.OutOfMemory = codes "OutOfMemory"
 abbrev pub query_fault_text : QueryFault → List ℕ
 query_fault_text (book.NoCell at count) = codes "NoCell " ++ decimal at ++ codes " " ++ decimal count
 query_fault_text (book.NoName name) = codes "NoName " ++ name
+query_fault_text (book.NoSave name) = codes "NoSave " ++ name
 query_fault_text book.OutOfMemory = codes "OutOfMemory"

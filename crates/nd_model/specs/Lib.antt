@@ -79,3 +79,9 @@ pub mod RuleReading
 pub mod Judging
 pub mod FormatFault
 pub mod NpyFault
+pub mod FormatGrammar
+pub mod FormatReading
+pub mod NpyHeader
+pub mod NpyReading
+pub mod NpyWriting
+pub mod Files

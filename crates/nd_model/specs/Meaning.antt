@@ -1,27 +1,28 @@
 -- What expressions and statements mean: for each form its operands, how they are used, and what is made of them.
-use Rattle.std.specs.Prelude.{pos, Bool, true, false, List, [], ◌∷◌, Option, Result, Ok, Err}
+use Rattle.std.specs.Prelude.{pos, Bool, true, false, List, [], ◌∷◌, Result, Ok, Err}
 use Rattle.nd_model.specs.Value.{Value}
-use Rattle.nd_model.specs.Running.{Source, Effect}
+use Rattle.nd_model.specs.Running.{Effect}
 use Rattle.nd_model.specs.Fault.{Fault, BadArgument}
 use Rattle.nd_model.specs.Fault as fault
-use Rattle.nd_model.specs.Syntax.{Expr, Exprs, NoExpr, AndExpr, Name, Integer, Unary, Binary, Called, Call, Arange, Filled, Full, NewArray, Convert, Minimum, Maximum, Absolute, PythonAbs, Load, Buffer, Bound, Omitted, Given, Elements, NoElement, AndElement, Element, Single, Nested, Item, Attribute, Method, Copy, AsType, Transpose, Reshape, ViewAs, Index, Field, Items, IndexItems, IndexItem, AndItem, NoItem, At, Slice, Ellipsis, NewAxis, Listed, Stmt, Import, Bind, Augment, Assign, AugmentItem, Delete, Print}
+use Rattle.nd_model.specs.Syntax.{Expr, Exprs, NoExpr, AndExpr, Name, Integer, Unary, Binary, Called, Call, Arange, Filled, Full, NewArray, Convert, Minimum, Maximum, Absolute, PythonAbs, Load, Buffer, Bound, Omitted, Given, Elements, NoElement, AndElement, Element, Single, Nested, Item, Attribute, Method, Copy, AsType, Transpose, Reshape, ViewAs, Index, Field, Items, IndexItems, IndexItem, AndItem, NoItem, At, Slice, Ellipsis, NewAxis, Listed, Stmt, Import, Bind, Augment, Assign, AugmentItem, Delete, Print, Save}
 use Rattle.nd_model.specs.Syntax as syntax
 use Rattle.nd_model.specs.Refusing as refusing
 use Rattle.nd_model.specs.Evaluation.{Eval}
-use Rattle.nd_model.specs.Operand.{Int, Truth, Operand, Usage, Whole, ArraysOnly, RowsOnly, Unused, Made, ANumber, Deed, NoDeed, BindsFirst, Unbinds, Writes}
+use Rattle.nd_model.specs.Operand.{Int, Truth, Operand, Usage, Whole, ArraysOnly, RowsOnly, Unused, ANumber, Deed, NoDeed, BindsFirst, Unbinds, Writes}
 use Rattle.nd_model.specs.Operators as operators
 use Rattle.nd_model.specs.Operators.{Of}
 use Rattle.nd_model.specs.Elementwise.{binary, single, call_binary, call_single}
 use Rattle.nd_model.specs.Creation.{arange, filled, full, new_array, array_of_list, convert, copy_array, astype}
 use Rattle.nd_model.specs.Writing.{assignment_writes}
 use Rattle.nd_model.specs.Augmenting.{augment_name, augment_item}
+use Rattle.nd_model.specs.Files.{load, buffer, save}
 use Rattle.nd_model.specs.Index.{Form, AtForm, SliceForm, EllipsisForm, NewAxisForm}
 use Rattle.nd_model.specs.Viewing.{Viewing, Indexed, Fielded, Transposed, Reshaped, BroadcastTo, ViewedAs}
 use Rattle.nd_model.specs.Printing.{print_deed}
 use Rattle.nd_model.specs.Operation.{Computes, Views, Plan, Named, FromInput, Does, Plans, Done, And, evaluate, Work, Acts, ActsOn, do_work}
 
 -- a function of one operand
-abbrev pub one : (Operand → Result Made Fault) → List Operand → Result Made Fault
+abbrev pub one : {A : Type 0} → (Operand → Result A Fault) → List Operand → Result A Fault
 one f (x ∷ []) = f x
 one f _ = Err (fault.Stmt BadArgument)
 
@@ -33,10 +34,6 @@ two f _ = Err (fault.Stmt BadArgument)
 -- a form that is not built yet
 abbrev pub unbuilt_form : {A : Type 0} → List Operand → Result A Fault
 unbuilt_form os = Err (fault.Stmt BadArgument)
-
--- arrays of inputs are not built yet
-abbrev pub unbuilt_input : Option Source → Result Made Fault
-unbuilt_input source = Err (fault.Stmt BadArgument)
 
 abbrev pub is_given : Bound → Bool
 is_given Omitted = false
@@ -82,8 +79,8 @@ abbrev mutual
   call_plan (Maximum a b) = Does (Computes (two (call_binary operators.Maximum))) (And Whole (plan a) (And Whole (plan b) Done))
   call_plan (Absolute e) = Does (Computes (one (call_single operators.Absolute))) (And Whole (plan e) Done)
   call_plan (PythonAbs e) = Does (Computes (one (single operators.Absolute))) (And Whole (plan e) Done)
-  call_plan (Load n) = FromInput n unbuilt_input
-  call_plan (Buffer n) = FromInput n unbuilt_input
+  call_plan (Load n) = FromInput n (load n)
+  call_plan (Buffer n) = FromInput n (buffer n)
   call_plan _ = Does (Computes unbuilt_form) Done
 
   -- of an array's method, and of the plan of the array
@@ -152,8 +149,8 @@ work (Assign t x e) = Acts (assignment_deed (viewing_of x)) (And Whole (plan e) 
 work (Augment n op e) = Acts (two (augment_name n op)) (And Whole (Named n) (And Whole (plan e) Done))
 work (AugmentItem t x op e) = ActsOn (augment_item op (viewing_of x)) (viewing_of x) (And Unused (plan t) (index_plans x)) (plan e)
 work (Delete n) = Acts (λ os. Ok (Unbinds n)) (And Unused (Named n) Done)
+work (Save n e) = Acts (one (save n)) (And Whole (plan e) Done)
 work (Print es) = Acts print_deed (whole_plans es)
-work _ = Acts unbuilt_form Done
 
 -- WHAT A STATEMENT DOES: it is evaluated, and then has one effect or is refused
 abbrev pub meaning : Stmt → Eval Effect

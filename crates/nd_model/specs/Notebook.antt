@@ -82,4 +82,5 @@ abbrev pub Tells : {X : Type 0} → Result X QueryFault → Result X QueryFault 
 Tells (Ok x) meant = meant ≡ Ok x
 Tells (Err (QueryFault.NoCell at count)) meant = meant ≡ Err (QueryFault.NoCell at count)
 Tells (Err (QueryFault.NoName name)) meant = meant ≡ Err (QueryFault.NoName name)
+Tells (Err (QueryFault.NoSave name)) meant = meant ≡ Err (QueryFault.NoSave name)
 Tells (Err QueryFault.OutOfMemory) meant = IsTrue (is_ok meant)

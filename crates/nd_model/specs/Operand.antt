@@ -35,6 +35,11 @@ pub data Made : Type 0 where
   ANumber : Number → Made
   AnArray : ElementType → (shape : List ℕ) → (List ℕ → Content) → Made
 
+-- what an input comes to: a fresh array with its element at each index tuple, or the view of these parts over a fresh copy of bytes
+pub data Loaded : Type 0 where
+  AFile : ElementType → (shape : List ℕ) → (List ℕ → Content) → Loaded
+  ABuffer : ElementType → (shape : List ℕ) → (strides : List ℤ) → (offset : ℕ) → (bytes : List ℕ) → Loaded
+
 -- what is chosen of an array or a row: an element at a place, some elements to be seen, some to be copied; or an element that is
 -- seen in each place of a shape
 pub data Chosen : Type 0 where

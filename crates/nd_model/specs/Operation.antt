@@ -1,17 +1,17 @@
 -- Operations: how values become operands and results become values. Here alone inputs and bytes are asked for and bases made.
-use Rattle.std.specs.Prelude.{ℕ, zero, suc, Bool, true, false, if◌then◌else◌, List, [], ◌∷◌, length, Option, Some, None, Result}
+use Rattle.std.specs.Prelude.{ℕ, zero, suc, Bool, true, false, if◌then◌else◌, List, [], ◌∷◌, length, Option, Some, None, Result, Ok, Err}
 use Rattle.nd_model.specs.View.{ElementType, One, Structure, Geo, item_size, element_places, byte_places, contiguous}
 use Rattle.nd_model.specs.Content.{Content, number_at, contents_in, array_bytes, content_in_order}
 use Rattle.nd_model.specs.Value.{Base, Value}
 use Rattle.nd_model.specs.Value as value
 use Rattle.nd_model.specs.Running.{Source, Lookup, Ask, Use, Make, Effect, Nothing, Prints, Saves, Binding, Unbinding, Storing}
 use Rattle.nd_model.specs.InputName.{is_input_name}
-use Rattle.nd_model.specs.Strides.{limit_fault}
+use Rattle.nd_model.specs.Strides.{limit_fault, from_parts}
 use Rattle.nd_model.specs.Fault.{Fault, ViewFault, View, Stmt, NoName, NotAnArray, BadArgument}
 use Rattle.nd_model.specs.Evaluation.{Eval, Gives, Refuses, Asks, ◌>>=◌, decide}
 use Rattle.nd_model.specs.Broadcast.{broadcast_view}
 use Rattle.nd_model.specs.Viewing.{Viewing, choose}
-use Rattle.nd_model.specs.Operand.{Number, Int, Truth, Scalar, Operand, Plain, Elements, Usage, Whole, is_used, Made, ANumber, AnArray, Chosen, AnElement, AView, ACopy, Stretched, Deed, NoDeed, PrintsText, SavesFile, BindsFirst, BindsMade, Unbinds, Writes, MakesAndWrites}
+use Rattle.nd_model.specs.Operand.{Number, Int, Truth, Scalar, Operand, Plain, Elements, Usage, Whole, is_used, Made, ANumber, AnArray, Chosen, Loaded, AFile, ABuffer, AnElement, AView, ACopy, Stretched, Deed, NoDeed, PrintsText, SavesFile, BindsFirst, BindsMade, Unbinds, Writes, MakesAndWrites}
 
 -- ---- values to operands
 
@@ -52,6 +52,16 @@ fresh_array t shape f = unless_too_large (limit_fault (item_size t) shape) (Asks
 abbrev pub give : Made → Eval Value
 give (ANumber n) = Gives (number_value n)
 give (AnArray t shape f) = fresh_array t shape f
+
+-- an array in a new base of these bytes
+abbrev pub array_over : List ℕ → Result Geo ViewFault → Eval Value
+array_over bytes (Ok g) = Asks (Make bytes) (λ b. Gives (value.Array b g))
+array_over bytes (Err f) = Refuses (View f)
+
+-- GIVES what an input comes to
+abbrev pub give_loaded : Loaded → Eval Value
+give_loaded (AFile t shape f) = fresh_array t shape f
+give_loaded (ABuffer t shape strides offset bytes) = array_over bytes (from_parts t shape strides offset (length bytes))
 
 -- an element in a base: a NumPy scalar, or a row, which uses nothing
 abbrev pub element_of : Base → (writable : Bool) → ElementType → ℕ → Eval Value
@@ -119,14 +129,14 @@ abbrev pub name : List ℕ → Eval Value
 name n = Asks (Lookup n) (λ found. bound_value n found)
 
 -- what is made of an input: it is read, also where it is then refused. A name that no input may have is refused, and nothing is read.
-abbrev pub input_value : List ℕ → (Option Source → Result Made Fault) → Eval Value
-input_value n f = if is_input_name n then Asks (Ask n) (λ source. decide (f source) >>= give) else Refuses (Stmt BadArgument)
+abbrev pub input_value : List ℕ → (Option Source → Result Loaded Fault) → Eval Value
+input_value n f = if is_input_name n then Asks (Ask n) (λ source. decide (f source) >>= give_loaded) else Refuses (Stmt BadArgument)
 
 -- what an expression comes to: a name, what is made of an input, or an operation and its operands, from left to right
 mutual
   pub data Plan : Type 0 where
     Named : List ℕ → Plan
-    FromInput : List ℕ → (Option Source → Result Made Fault) → Plan
+    FromInput : List ℕ → (Option Source → Result Loaded Fault) → Plan
     Does : Operation → Plans → Plan
 
   pub data Plans : Type 0 where

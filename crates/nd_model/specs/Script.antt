@@ -12,7 +12,7 @@ use Rattle.nd_model.specs.Fault.{Refusal}
 use Rattle.nd_model.specs.FaultText.{edit_fault_text, query_fault_text, refusal_text}
 use Rattle.nd_model.specs.Format.{format_text, kind_text}
 use Rattle.nd_model.specs.Renaming.{Shown, ShownInt, ShownTruth, ShownScalar, ShownArray, ShownRow}
-use Rattle.nd_model.specs.Book.{Book, count_of, Edit, Insert, Change, Move, Remove, SetInput, DropInput, EditFault, refusal, after_edit, QueryFault, CellResult, source_at, result_at, names_at, value_at}
+use Rattle.nd_model.specs.Book.{Book, count_of, Edit, Insert, Change, Move, Remove, SetInput, DropInput, EditFault, refusal, after_edit, QueryFault, CellResult, source_at, result_at, names_at, value_at, saved_at}
 
 -- ---- lines and words
 
@@ -95,6 +95,7 @@ pub data Query : Type 0 where
   ShowsSource : (at : ℕ) → Query
   ShowsNames : (at : ℕ) → Query
   ShowsValue : (at : ℕ) → (name : List ℕ) → Query
+  ShowsSave : (at : ℕ) → (name : List ℕ) → Query
   Counts : Query
 
 pub data Command : Type 0 where
@@ -138,6 +139,10 @@ abbrev pub value_line : List ℕ → ℕ → Line
 value_line [] at = Whole Bad
 value_line (c ∷ cs) at = Whole (Asks (ShowsValue at (c ∷ cs)))
 
+abbrev pub save_line : List ℕ → ℕ → Line
+save_line [] at = Whole Bad
+save_line (c ∷ cs) at = Whole (Asks (ShowsSave at (c ∷ cs)))
+
 -- so is that of an input
 abbrev pub drop_line : List ℕ → Line
 drop_line [] = Whole Bad
@@ -171,6 +176,7 @@ line_of_words (word ∷ a ∷ []) =
 line_of_words (word ∷ a ∷ b ∷ []) =
     if bytes_eq word (codes "move") then with_number (number_word a) (λ from. with_number (number_word b) (move_line from))
     else if bytes_eq word (codes "value") then with_number (number_word a) (value_line b)
+    else if bytes_eq word (codes "saved") then with_number (number_word a) (save_line b)
     else Whole Bad
 line_of_words (word ∷ a ∷ b ∷ c ∷ more) =
     if bytes_eq word (codes "input") then input_line a (input_of_words b (c ∷ more)) else Whole Bad
@@ -301,6 +307,9 @@ names_answer names = codes "names " ++ decimal (length names) ++ codes "\n" ++ n
 abbrev pub value_answer : Shown → List ℕ
 value_answer v = shown_text v ++ codes "\n"
 
+abbrev pub save_answer : List ℕ → List ℕ
+save_answer file = codes "saved " ++ hex_text file ++ codes "\n"
+
 abbrev pub count_answer : ℕ → List ℕ
 count_answer n = codes "count " ++ decimal n ++ codes "\n"
 
@@ -319,6 +328,7 @@ query (Shows at) b = with_text result_answer (result_at b at)
 query (ShowsSource at) b = with_text source_answer (source_at b at)
 query (ShowsNames at) b = with_text names_answer (names_at b at)
 query (ShowsValue at name) b = with_text value_answer (value_at b at name)
+query (ShowsSave at name) b = with_text save_answer (saved_at b at name)
 query Counts b = Ok (count_answer (count_of b))
 
 -- names and values are made for their answer, which takes memory

@@ -4,7 +4,7 @@ use Rattle.nd_model.specs.Book as book
 use Rattle.nd_model.specs.Running as running
 use Rattle.nd_model.specs.Script as script
 use Rattle.nd_script.specs.declared.command.LineCommand.{LineCommand}
-use Rattle.nd_script.specs.declared.command.LineCommand.TheVariants.{Insert, Edit, Remove, Move, Show, Source, Names, Value, SetInput, DropInput, Count, Silent, Bad}
+use Rattle.nd_script.specs.declared.command.LineCommand.TheVariants.{Insert, Edit, Remove, Move, Show, Source, Names, Value, Saved, SetInput, DropInput, Count, Silent, Bad}
 use Rattle.nd_script.specs.declared.input.LineInput.{LineInput}
 use Rattle.nd_script.specs.declared.input.LineInput.TheVariants.{Npy, Buffer}
 use Rattle.nd_script.specs.declared.input.BufferWords.{BufferWords}
@@ -27,6 +27,7 @@ line_of (Show at) = script.Whole (script.Asks (script.Shows at))
 line_of (Source at) = script.Whole (script.Asks (script.ShowsSource at))
 line_of (Names at) = script.Whole (script.Asks (script.ShowsNames at))
 line_of (Value at name) = script.Whole (script.Asks (script.ShowsValue at name.now))
+line_of (Saved at name) = script.Whole (script.Asks (script.ShowsSave at name.now))
 line_of (SetInput name input) = script.Whole (script.Edits (book.SetInput name.now (source_in input)))
 line_of (DropInput name) = script.Whole (script.Edits (book.DropInput name.now))
 line_of Count = script.Whole (script.Asks script.Counts)

@@ -29,6 +29,7 @@ pub enum LineCommand<'a> {
     Source(usize),
     Names(usize),
     Value { at: usize, name: &'a str },
+    Saved { at: usize, name: &'a str },
     SetInput { name: &'a str, input: LineInput },
     DropInput(&'a str),
     Count,
@@ -152,6 +153,10 @@ fn pair_command<'a>(word: &str, first: &str, second: &'a str) -> LineCommand<'a>
         },
         "value" => match number_of(first) {
             Some(at) if !second.is_empty() => LineCommand::Value { at, name: second },
+            _ => LineCommand::Bad,
+        },
+        "saved" => match number_of(first) {
+            Some(at) if !second.is_empty() => LineCommand::Saved { at, name: second },
             _ => LineCommand::Bad,
         },
         _ => LineCommand::Bad,

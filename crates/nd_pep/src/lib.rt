@@ -1,0 +1,12 @@
+//! Format strings of PEP 3118, read and written.
+#![tactic(auto)]
+
+mod fault;
+mod grammar;
+mod parse;
+mod progress;
+mod write;
+
+pub use fault::{FormatError, FormatFault};
+pub use parse::{one_meaning, parse_format, reading_is_exact};
+pub use write::write_format;

@@ -12,8 +12,8 @@ use Rattle.nd_model.proofs.Tuples.{length-count_up, length-indices}
 use Rattle.nd_model.proofs.Uses.{used_numbers}
 use Rattle.nd_view.proofs.Tuples.{map-map}
 use Rattle.nd_elementwise.specs.Arguments.{contents_over}
-use Rattle.nd_elementwise.proofs.SideBySide.{behind}
-use Rattle.nd_elementwise.proofs.Zipped.{by_items, length-result}
+use Rattle.nd_loops.proofs.SideBySide.{behind}
+use Rattle.nd_loops.proofs.Zipped.{by_items, length-result}
 
 in_run : (size k n : ℕ) → k < n → k * size + size ≤ n * size
 in_run size k n lt = omega (arith, mul-le-mul_right size lt)

@@ -21,10 +21,10 @@ use Rattle.nd_model.proofs.Values.{wrap_in_range}
 use Rattle.nd_view.proofs.Tuples.{map-map}
 use Rattle.nd_assign.specs.Copies.{copied_content, with_copies}
 use Rattle.nd_elementwise.specs.Arguments.{contents_over, numbers_beside}
-use Rattle.nd_elementwise.specs.Results.{binary_result, result_bytes}
+use Rattle.nd_loops.specs.Results.{binary_result, result_bytes}
 use Rattle.nd_elementwise.proofs.Alone.{contents_at}
 use Rattle.nd_elementwise.proofs.Common.{limits_alike}
-use Rattle.nd_elementwise.proofs.Zipped.{by_items}
+use Rattle.nd_loops.proofs.Zipped.{by_items}
 
 -- ---- the refusals in their order
 

@@ -1,16 +1,38 @@
 -- Results as they are written over the numbers that they are found from.
-use Rattle.std.proofs.Common.{◌≡◌, ℕ, ℤ, suc, ◌+◌, ◌*◌, List, [], ◌∷◌, ◌++◌, length, refl, sym, ap, ap₂, ◌∙◌, arith}
+use Rattle.std.proofs.Common.{◌≡◌, ℕ, ℤ, suc, ◌+◌, ◌*◌, List, [], ◌∷◌, ◌++◌, map, length, take, drop, refl, sym, ap, ap₂, ◌∙◌, arith, append_assoc, length-append}
 use Rattle.std.specs.List.{flat_map}
+use Rattle.std.proofs.lemmas.List.{take_at, drop_at}
 use Rattle.std.proofs.lemmas.List.Folds.{flat_map-map}
 use Rattle.nd_model.specs.Content.{number_at}
-use Rattle.nd_model.specs.Element.{Element, Kind, size_of, bytes_of, wrap}
+use Rattle.nd_model.specs.Element.{Element, Kind, size_of, bytes_at, bytes_of, value_of, wrap}
 use Rattle.nd_model.specs.Tuple.{count_up}
-use Rattle.nd_model.proofs.Values.{wrap_value}
+use Rattle.nd_model.proofs.Values.{round_trip, wrap_value, length-bytes_of}
 use Rattle.nd_assign.specs.SideBySide.{side_by_side}
 use Rattle.nd_convert.specs.Converted.{converted_bytes}
 use Rattle.nd_elementwise.specs.Replaced.{AreValues, Wraps, written_numbers, replaced}
-use Rattle.nd_elementwise.specs.Results.{result_bytes}
-use Rattle.nd_elementwise.proofs.SideBySide.{numbers_back}
+use Rattle.nd_loops.specs.Results.{result_bytes}
+use Rattle.nd_loops.proofs.SideBySide.{same_counted}
+
+-- numbers of a kind that stand one after another are read back
+numbers_back : (e : Element) (zs : List ℤ) (bytes : List ℕ) → AreValues e.kind zs → bytes ≡ flat_map (bytes_of e) zs
+    → map (λ j. number_at e bytes (0 + j * size_of e.kind)) (count_up 0 (length zs)) ≡ zs
+numbers_back e zs bytes are is =
+    ap (λ l. map (λ j. number_at e l (0 + j * size_of e.kind)) (count_up 0 (length zs))) is
+    ∙ same_counted (λ j. number_at e (flat_map (bytes_of e) zs) (0 + j * size_of e.kind)) (λ j. number_at e (flat_map (bytes_of e) zs) (j * size_of e.kind)) 0 (length zs)
+    (λ j le lt. ap (number_at e (flat_map (bytes_of e) zs)) (let same : 0 + j * size_of e.kind ≡ j * size_of e.kind = omega arith in same))
+    ∙ each [] zs 0 are (omega arith)
+  where
+    each : (front : List ℕ) (xs : List ℤ) (k : ℕ) → AreValues e.kind xs → length front ≡ k * size_of e.kind
+        → map (λ j. number_at e (front ++ flat_map (bytes_of e) xs) (j * size_of e.kind)) (count_up k (length xs)) ≡ xs
+    each front [] k valid long = refl
+    each front (x ∷ xs) k valid long =
+        let b : List ℕ = bytes_of e x in let rest : List ℕ = flat_map (bytes_of e) xs in
+        let size : length b ≡ size_of e.kind = length-bytes_of e x in
+        let here : bytes_at (front ++ (b ++ rest)) (k * size_of e.kind) (size_of e.kind) ≡ b
+        = ap (take (size_of e.kind)) (drop_at front (b ++ rest) (k * size_of e.kind) long) ∙ take_at b rest (size_of e.kind) size in
+        let next : length (front ++ b) ≡ (k + 1) * size_of e.kind = omega (arith, length-append front b, long, size) in
+        (λ i. (ap (value_of e) here ∙ round_trip e x valid.0) i ∷ map (λ j. number_at e (sym (append_assoc front b rest) i) (j * size_of e.kind)) (count_up (k + 1) (length xs)))
+        ∙ ap (λ l. x ∷ l) (each (front ++ b) xs (k + 1) valid.1 next)
 
 -- values of a kind keep their bytes in it
 pub kept_values : (e : Element) (zs : List ℤ) → AreValues e.kind zs → flat_map (bytes_of e) zs ≡ written_numbers e zs

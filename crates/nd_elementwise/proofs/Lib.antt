@@ -6,7 +6,4 @@ pub mod Given
 pub mod KeptOff
 pub mod Mapped
 pub mod Overwritten
-pub mod Ranges
-pub mod SideBySide
 pub mod Standing
-pub mod Zipped

@@ -21,7 +21,7 @@ use Rattle.nd_view.proofs.Indexed.{same_indexes}
 use Rattle.nd_shape.proofs.Ordered.{length_index}
 use Rattle.nd_elementwise.specs.Arguments.{numbers_beside}
 use Rattle.nd_elementwise.specs.Made.{array_of}
-use Rattle.nd_elementwise.specs.Results.{binary_result, result_bytes}
+use Rattle.nd_loops.specs.Results.{binary_result, result_bytes}
 use Rattle.nd_elementwise.proofs.Any.{any_of_map}
 use Rattle.nd_elementwise.proofs.Common.{broadcast_fits}
 use Rattle.nd_elementwise.proofs.Standing.{all_alike, array_of_results}

@@ -25,11 +25,11 @@ use Rattle.nd_view.proofs.Indexed.{length-indices, same_indexes}
 use Rattle.nd_view.proofs.Tuples.{map-map, numbers, length-count_up, get_or-count_up}
 use Rattle.nd_elementwise.specs.Arguments.{contents_over, numbers_beside}
 use Rattle.nd_elementwise.specs.Replaced.{replaced}
-use Rattle.nd_elementwise.specs.Results.{binary_result}
+use Rattle.nd_loops.specs.Results.{binary_result}
 use Rattle.nd_elementwise.proofs.Common.{fits_itself}
 use Rattle.nd_elementwise.proofs.Mapped.{own_itself}
 use Rattle.nd_elementwise.proofs.Standing.{beside_is}
-use Rattle.nd_elementwise.proofs.Zipped.{by_items}
+use Rattle.nd_loops.proofs.Zipped.{by_items}
 
 -- ---- the numbers of a target in its own shape
 

@@ -20,8 +20,8 @@ use Rattle.nd_view.proofs.Tuples.{map-map}
 use Rattle.nd_shape.proofs.Rearranged.{tuple_of_index}
 use Rattle.nd_shape.proofs.Stretches.{own_index}
 use Rattle.nd_elementwise.specs.Arguments.{contents_over, numbers_beside}
-use Rattle.nd_elementwise.specs.Results.{result_bytes}
-use Rattle.nd_elementwise.proofs.Zipped.{by_items}
+use Rattle.nd_loops.specs.Results.{result_bytes}
+use Rattle.nd_loops.proofs.Zipped.{by_items}
 
 -- one number stands everywhere
 pub all_alike : {A : Type 0} (z : ℤ) (xs : List A) → map (λ x. z) xs ≡ replicate (length xs) z

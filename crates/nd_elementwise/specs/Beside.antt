@@ -4,7 +4,7 @@ use Rattle.std.specs.List.{All}
 use Rattle.nd_model.specs.Element.{size_of}
 use Rattle.nd_types.specs.Kinds.{kind_of}
 use Rattle.nd_element.specs.Elements.{numbers_at}
-use Rattle.nd_elementwise.specs.Feeds.{numbers_left, size_left}
+use Rattle.nd_loops.specs.Feeds.{numbers_left, size_left}
 use Rattle.nd_elementwise.specs.KeptOff.{KeepsOff}
 use Rattle.nd_elementwise.specs.Stretched.{IsHeld, stretched_numbers}
 use Rattle.nd_elementwise.specs.declared.beside.Beside.{Beside}

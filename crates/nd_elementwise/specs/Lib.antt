@@ -1,7 +1,3 @@
-pub mod Results
-pub mod Sides
-pub mod ElementsLeft
-pub mod Feeds
 pub mod Arguments
 pub mod Faults
 pub mod Stretched

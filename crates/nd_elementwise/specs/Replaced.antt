@@ -2,7 +2,7 @@
 use Rattle.std.specs.Prelude.{ℕ, ℤ, List, [], ◌∷◌}
 use Rattle.std.specs.List.{flat_map}
 use Rattle.nd_model.specs.Element.{Element, Kind, IsValue, bytes_of, wrap}
-use Rattle.nd_elementwise.specs.Results.{result_bytes}
+use Rattle.nd_loops.specs.Results.{result_bytes}
 
 -- each is one of the kind
 abbrev pub AreValues : Kind → List ℤ → Type 0

@@ -10,15 +10,14 @@ ghost use Rattle.nd_elementwise.specs.Arguments.{numbers_beside};
 ghost use Rattle.nd_elementwise.specs.Beside.{HeldBeside, IsBeside, IsFixedHeld, KeepsOffTarget, StaysBeside};
 ghost use Rattle.nd_elementwise.specs.Beside.{beside_numbers, left_beside, size_beside};
 ghost use Rattle.nd_elementwise.specs.Prepared.{IsRightSide, right_operand};
-ghost use Rattle.nd_elementwise.specs.Sides.{HasNumbers, numbers_on};
+ghost use Rattle.nd_loops.specs.Sides.{HasNumbers, numbers_on};
 
 use crate::apart::view_keeps_off;
 use crate::argument::Argument;
-use crate::feed::Feed;
 use crate::in_place::RightSide;
-use crate::kernel::Side;
 use crate::own::OwnElements;
 use crate::stretched::{Stretched, side_kind, stretch, stretch_view};
+use nd_loops::{Feed, Side};
 use nd_types::{Elem, ElemType, Kind};
 use nd_view::View;
 use std::alloc::{AllocError, Global};

@@ -85,8 +85,8 @@ fn casts_in_place(kind: Kind, elem: &ElemType) -> bool
     }
 }
 
-// The right side as an argument, beside a target in a block of these bytes.
-fn argument_beside<'b>(right: RightSide<'b>, block: &'b [u8]) -> Argument<'b>
+/// Returns the right side as an argument, beside a target in a block of these bytes.
+pub fn argument_beside<'b>(right: RightSide<'b>, block: &'b [u8]) -> Argument<'b>
     requires { IsRightSide (length block.now) right }
     ensures operand { argument_of result ≡ right_operand right.entry block.now }
     ensures lies { LiesInBlock result }

@@ -3,11 +3,10 @@ ghost use Rattle.std.specs.Prelude.{◌≡◌, ◌*◌, ◌<◌, ◌≤◌, ◌+
 ghost use Rattle.nd_model.specs.Element.{size_of};
 ghost use Rattle.nd_types.specs.Kinds.{kind_of};
 ghost use Rattle.nd_element.specs.Elements.{AreHeld, numbers_at};
-ghost use Rattle.nd_elementwise.specs.Sides.{HasNumbers, Keeps, numbers_on};
+ghost use Rattle.nd_loops.specs.Sides.{HasNumbers, Keeps, numbers_on};
 
-use crate::elements::take_numbers;
-use crate::kernel::Side;
 use nd_assign::Walk;
+use nd_loops::{Side, take_numbers};
 use nd_types::{Elem, Kind};
 use nd_view::View;
 

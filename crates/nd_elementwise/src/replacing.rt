@@ -8,16 +8,14 @@ ghost use Rattle.nd_assign.specs.SideBySide.{side_by_side};
 ghost use Rattle.nd_element.specs.Elements.{AreHeld, numbers_at};
 ghost use Rattle.nd_elementwise.specs.Beside.{HeldBeside, StaysBeside, left_beside, size_beside};
 ghost use Rattle.nd_elementwise.specs.Replaced.{AreValues, Wraps, replaced, written_numbers};
-ghost use Rattle.nd_elementwise.specs.Results.{result_bytes};
-ghost use Rattle.nd_elementwise.specs.Sides.{Keeps};
+ghost use Rattle.nd_loops.specs.Results.{result_bytes};
+ghost use Rattle.nd_loops.specs.Sides.{Keeps};
 
 use crate::beside::LeftBeside;
-use crate::fill::{CHUNK, chunk_of};
-use crate::operation::Operation;
-use crate::pairs::apply_sides;
-use crate::reading::{is_elem, side_of};
 use crate::stretched::side_kind;
 use nd_convert::convert;
+use nd_loops::operation::Operation;
+use nd_loops::{CHUNK, apply_sides, chunk_of, is_elem, side_of};
 use nd_types::{Elem, Kind};
 use nd_view::Run;
 

@@ -7,14 +7,13 @@ ghost use Rattle.nd_model.specs.Syntax as syntax;
 ghost use Rattle.nd_syntax.specs.Syntax.{binary_op};
 ghost use Rattle.nd_types.specs.Kinds.{kind_of};
 ghost use Rattle.nd_ufunc.specs.Ufuncs.{single_of, ufunc_of};
-ghost use Rattle.nd_elementwise.specs.Results.{binary_result, result_bytes};
+ghost use Rattle.nd_loops.specs.Results.{binary_result, result_bytes};
 ghost use Rattle.nd_elementwise.specs.Stretched.{HasCount, IsHeld, stretched_numbers};
 
-use crate::fill::fill;
-use crate::operation as functions;
-use crate::operation::Operation;
 use crate::stretched::Stretched;
 use nd_block::{Filling, RawBlock};
+use nd_loops::operation::Operation;
+use nd_loops::{fill, operation as functions};
 use nd_syntax::{BinaryOp, UnaryOp};
 use nd_types::{Kind, promote};
 use nd_ufunc::{BinaryUfunc, Single};

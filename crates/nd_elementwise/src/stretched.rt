@@ -9,14 +9,12 @@ ghost use Rattle.nd_model.specs.Tuple.{elements_of};
 ghost use Rattle.nd_model.specs.View.{One};
 ghost use Rattle.nd_types.specs.Kinds.{kind_of};
 ghost use Rattle.nd_elementwise.specs.Arguments.{LiesInBlock, argument_of, numbers_beside};
-ghost use Rattle.nd_elementwise.specs.Feeds.{numbers_left};
-ghost use Rattle.nd_elementwise.specs.Sides.{Keeps};
+ghost use Rattle.nd_loops.specs.Feeds.{numbers_left};
+ghost use Rattle.nd_loops.specs.Sides.{Keeps};
 ghost use Rattle.nd_elementwise.specs.Stretched.{IsHeld, stretched_numbers};
 
 use crate::argument::Argument;
-use crate::elements::Elements;
-use crate::feed::Feed;
-use crate::repeated::Repeated;
+use nd_loops::{Elements, Feed, Repeated};
 use nd_shape::broadcast_to;
 use nd_types::{Elem, ElemType, Kind, highest, lowest};
 use nd_ufunc::whole_number;

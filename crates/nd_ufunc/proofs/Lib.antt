@@ -1,3 +1,4 @@
 pub mod Modulo
+pub mod Reciprocals
 pub mod Squares
 pub mod WholeNumbers

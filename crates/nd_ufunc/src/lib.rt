@@ -1,6 +1,7 @@
 //! NumPy's operators on numbers: each is a function of whole numbers, whose value is wrapped to a kind.
 #![tactic(auto)]
 
+mod division;
 mod fault;
 mod integers;
 mod kinds;
@@ -9,6 +10,7 @@ mod scalars;
 mod table;
 mod ufunc;
 
+pub use division::{floor_quotient_by, floor_remainder_by, reciprocal_of};
 pub use fault::UfuncFault;
 pub use integers::{is_below, is_negative, is_zero};
 pub use kinds::{Sort, result_kind, sort_of};

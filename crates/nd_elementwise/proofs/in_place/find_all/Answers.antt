@@ -15,13 +15,13 @@ use Rattle.nd_assign.specs.Prepared.{Prepared, written_by}
 use Rattle.nd_assign.proofs.Readied.{copies_written}
 use Rattle.nd_elementwise.specs.Arguments.{argument_of, contents_over, numbers_beside}
 use Rattle.nd_elementwise.specs.Prepared.{right_operand}
-use Rattle.nd_elementwise.specs.Results.{binary_result, result_bytes}
+use Rattle.nd_loops.specs.Results.{binary_result, result_bytes}
 use Rattle.nd_elementwise.specs.Stretched.{stretched_numbers}
 use Rattle.nd_elementwise.proofs.Alone.{held_alone, count_alone}
 use Rattle.nd_elementwise.proofs.Augmented.{kind_facts, written}
 use Rattle.nd_elementwise.proofs.Common.{fits_itself}
 use Rattle.nd_elementwise.proofs.Mapped.{length-beside}
-use Rattle.nd_elementwise.proofs.Zipped.{length-result}
+use Rattle.nd_loops.proofs.Zipped.{length-result}
 use Rattle.nd_elementwise.proofs.in_place.find_all.Goals as goal
 
 pub stretch-requires-clause-fits : goal.stretch-requires-clause-fits

@@ -9,7 +9,7 @@ use Rattle.nd_model.specs.View.{One, Geo, contiguous}
 use Rattle.nd_types.specs.Kinds.{kind_of}
 use Rattle.nd_ufunc.specs.Ufuncs.{single_of}
 use Rattle.nd_elementwise.specs.Arguments.{argument_of, numbers_beside}
-use Rattle.nd_elementwise.specs.Results.{result_bytes}
+use Rattle.nd_loops.specs.Results.{result_bytes}
 use Rattle.nd_elementwise.specs.Stretched.{stretched_numbers}
 use Rattle.nd_elementwise.proofs.Common.{fits_itself}
 use Rattle.nd_elementwise.proofs.Mapped.{length-beside, viewed, is_single}

@@ -10,7 +10,7 @@ use Rattle.nd_model.specs.View.{One, Geo, contiguous}
 use Rattle.nd_types.specs.Kinds.{kind_of}
 use Rattle.nd_ufunc.specs.Ufuncs.{ufunc_of}
 use Rattle.nd_elementwise.specs.Arguments.{argument_of, numbers_beside}
-use Rattle.nd_elementwise.specs.Results.{binary_result, result_bytes}
+use Rattle.nd_loops.specs.Results.{binary_result, result_bytes}
 use Rattle.nd_elementwise.specs.Stretched.{stretched_numbers}
 use Rattle.nd_elementwise.proofs.Mapped.{length-beside, viewed, both_fit, powers_below, is_refused, is_made}
 use Rattle.nd_elementwise.proofs.map.map2.Goals as goal

@@ -16,10 +16,10 @@ use Rattle.nd_element.specs.Elements.{numbers_at}
 use Rattle.nd_view.proofs.Tuples.{length-count_up}
 use Rattle.nd_elementwise.specs.Beside.{StaysBeside, left_beside}
 use Rattle.nd_elementwise.specs.Replaced.{replaced}
-use Rattle.nd_elementwise.specs.Results.{result_bytes}
+use Rattle.nd_loops.specs.Results.{result_bytes}
 use Rattle.nd_elementwise.proofs.Given.{given, given_bytes, given_written, given_values, length-given}
 use Rattle.nd_elementwise.proofs.KeptOff.{same_beside, same_target}
-use Rattle.nd_elementwise.proofs.Zipped.{result-append, length-result}
+use Rattle.nd_loops.proofs.Zipped.{result-append, length-result}
 use Rattle.nd_elementwise.proofs.replacing.replace_numbers.Goals as goal
 
 -- the elements that are next end inside

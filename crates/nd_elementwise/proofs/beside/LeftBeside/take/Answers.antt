@@ -8,8 +8,8 @@ use Rattle.nd_view.proofs.ByRuns.{behind_run}
 use Rattle.nd_view.proofs.Tuples.{length-count_up}
 use Rattle.nd_elementwise.specs.KeptOff.{KeepsOff}
 use Rattle.nd_elementwise.specs.Beside.{HeldBeside, StaysBeside, left_beside}
-use Rattle.nd_elementwise.specs.Feeds.{numbers_left}
-use Rattle.nd_elementwise.specs.Sides.{number_on, numbers_on}
+use Rattle.nd_loops.specs.Feeds.{numbers_left}
+use Rattle.nd_loops.specs.Sides.{number_on, numbers_on}
 use Rattle.nd_elementwise.proofs.KeptOff.{keeps_further}
 use Rattle.nd_elementwise.proofs.beside.LeftBeside.take.Goals as goal
 

@@ -16,7 +16,7 @@ use Rattle.nd_elementwise.specs.Arguments.{numbers_beside}
 use Rattle.nd_elementwise.specs.Beside.{beside_numbers, left_beside}
 use Rattle.nd_elementwise.specs.Prepared.{DirectInPlace, right_operand, with_results}
 use Rattle.nd_elementwise.specs.Replaced.{replaced}
-use Rattle.nd_elementwise.specs.Results.{binary_result}
+use Rattle.nd_loops.specs.Results.{binary_result}
 use Rattle.nd_elementwise.proofs.Mapped.{length-beside}
 use Rattle.nd_elementwise.proofs.Overwritten.{written_over}
 use Rattle.nd_elementwise.proofs.direct.Direct.replace.Goals as goal

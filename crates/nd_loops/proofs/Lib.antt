@@ -1,0 +1,4 @@
+pub mod Joined
+pub mod Ranges
+pub mod SideBySide
+pub mod Zipped

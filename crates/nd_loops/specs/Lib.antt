@@ -1,0 +1,4 @@
+pub mod Results
+pub mod Sides
+pub mod ElementsLeft
+pub mod Feeds

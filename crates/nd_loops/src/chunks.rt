@@ -1,0 +1,63 @@
+//! The loop that appends the results of a function to a block that fills. So many are found at a time as lie in a near cache, and
+//! each byte of the block is written once.
+ghost use Rattle.std.specs.Prelude.{◌≡◌, ◌*◌, ◌<◌, ◌≤◌, ◌++◌, length};
+ghost use Rattle.nd_model.specs.Element.{size_of};
+ghost use Rattle.nd_model.specs.Elementwise.{little};
+ghost use Rattle.nd_types.specs.Kinds.{kind_of};
+ghost use Rattle.nd_loops.specs.Feeds.{numbers_left};
+ghost use Rattle.nd_loops.specs.Results.{result_bytes};
+
+use crate::feed::Feed;
+use crate::operation::Operation;
+use crate::pairs::apply_sides;
+use nd_block::Filling;
+use nd_types::Kind;
+
+/// How many bytes the numbers have that are taken at a time.
+pub const CHUNK: usize = 4096;
+
+/// Returns how many numbers are taken at a time, where they have these sizes.
+pub fn chunk_of(size: usize, left: usize, right: usize) -> usize
+    requires size { (0 < size) × (size ≤ 8) }
+    requires left { (0 < left) × (left ≤ 8) }
+    requires right { (0 < right) × (right ≤ 8) }
+    ensures some { 0 < result }
+    ensures size { result * size ≤ 4096 }
+    ensures left { result * left ≤ 4096 }
+    ensures right { result * right ≤ 4096 }
+{
+    CHUNK / size.max(left).max(right)
+}
+
+/// Appends what a function gives for the numbers that are left of both arguments.
+pub fn fill<O: Operation>(
+    out: &mut Filling,
+    to: Kind,
+    kind: Kind,
+    left: &mut Feed<'_>,
+    right: &mut Feed<'_>,
+    count: usize,
+)
+    requires left { length (numbers_left left.old) ≡ count }
+    requires right { length (numbers_left right.old) ≡ count }
+    requires room { count * size_of (kind_of to) ≡ out.old.1 }
+    ensures left { out.new.1 ≡ 0 }
+    ensures written { out.new.0 ≡ out.old.0 ++ result_bytes (little (kind_of to))
+        (O.gives (kind_of to)) (numbers_left left.old) (numbers_left right.old) }
+{
+    let size = to.size() as usize;
+    let chunk = chunk_of(size, left.size(), right.size());
+    let mut left_buffer = [0; CHUNK];
+    let mut right_buffer = [0; CHUNK];
+    let mut buffer = [0; CHUNK];
+    let mut rest = count;
+    while rest > 0 {
+        let some = chunk.min(rest);
+        let end = some * size;
+        let xs = left.take(&mut left_buffer, some);
+        let ys = right.take(&mut right_buffer, some);
+        apply_sides::<O>(kind, &mut buffer[..end], to, xs, ys, some);
+        out.push(&buffer[..end]);
+        rest -= some;
+    }
+}

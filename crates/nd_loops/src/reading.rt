@@ -1,0 +1,84 @@
+//! The numbers of a run as one side of a function.
+ghost use Rattle.std.specs.Prelude.{◌≡◌, ℕ, ◌*◌, ◌<◌, ◌≤◌, pos, length, take, drop, slice_index, IsTrue};
+ghost use Rattle.nd_model.specs.Content.{number_at};
+ghost use Rattle.nd_model.specs.Element.{IsValue, size_of};
+ghost use Rattle.nd_model.specs.Runs.{place_at};
+ghost use Rattle.nd_types.specs.Kinds.{kind_of};
+ghost use Rattle.nd_element.specs.Elements.{AreHeld, numbers_at};
+ghost use Rattle.nd_loops.specs.Sides.{HasNumbers, Keeps, numbers_on};
+
+use crate::kernel::Side;
+use nd_block::value_at;
+use nd_convert::convert;
+use nd_types::{Elem, Kind};
+use nd_view::Run;
+
+/// Returns whether both are the same.
+#[inline(always)]
+pub fn is_elem(elem: Elem, other: Elem) -> bool
+    ensures { IsTrue result → elem ≡ other }
+{
+    elem == other
+}
+
+// The number of the elements of a run that all lie at one place.
+fn lone_number(bytes: &[u8], elem: Elem, run: &Run) -> i128
+    requires { AreHeld elem bytes.now run.now }
+    ensures { result ≡ number_at elem bytes.now (slice_index run.now 0) }
+{
+    let _count = run.count();
+    let _len = bytes.len();
+    value_at(bytes, run.start() as usize, elem)
+}
+
+// The bytes of elements that lie side by side.
+fn bytes_of_run<'b>(bytes: &'b [u8], elem: Elem, run: &Run) -> &'b [u8]
+    requires held { AreHeld elem bytes.now run.now }
+    requires step { (k : ℕ) → k < length run.now
+        → place_at (slice_index run.now 0) (pos (size_of elem.kind)) k
+        ≡ pos (slice_index run.now k) }
+    ensures value { result.now ≡ take (length run.now * size_of elem.kind)
+        (drop (slice_index run.now 0) bytes.now) }
+    ensures len { length result.now ≡ length run.now * size_of elem.kind }
+{
+    let start = run.start() as usize;
+    let end = start + run.count() as usize * elem.size() as usize;
+    &bytes[start..end]
+}
+
+/// Says that what is read of these bytes is a number of its kind.
+#[inline(always)]
+pub(crate) fn numbers_are_valid(bytes: &[u8], elem: Elem)
+    ensures { (p : ℕ) → IsValue elem.kind (number_at elem bytes.now p) }
+{
+    let _len = bytes.len();
+    let _size = elem.size();
+}
+
+/// Returns the numbers of a run: lent where they lie side by side in the kind that is asked for, one where they are at one place,
+/// and else converted into the buffer.
+pub fn side_of<'b>(
+    buffer: &'b mut [u8],
+    kind: Kind,
+    bytes: &'b [u8],
+    elem: Elem,
+    run: &Run,
+) -> Side<'b>
+    requires held { AreHeld elem bytes.now run.now }
+    requires keeps { Keeps elem.kind (kind_of kind) }
+    requires buffer { length run.now * size_of (kind_of kind) ≤ length buffer.old }
+    ensures enough { HasNumbers result (length run.now) }
+    ensures numbers { numbers_on result (length run.now) ≡ numbers_at elem bytes.now run.now }
+{
+    let step = run.step();
+    if step == 0 {
+        return Side::Same(lone_number(bytes, elem, run));
+    }
+    if step == i128::from(elem.size()) && is_elem(elem, Elem::little(kind)) {
+        return Side::Each(bytes_of_run(bytes, elem, run), kind);
+    }
+    numbers_are_valid(bytes, elem);
+    let end = run.count() as usize * kind.size() as usize;
+    convert(&mut buffer[..end], Elem::little(kind), bytes, elem, run);
+    Side::Each(&buffer[..end], kind)
+}

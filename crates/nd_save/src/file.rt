@@ -1,0 +1,35 @@
+//! Files.
+ghost use Rattle.std.specs.Prelude.{◌≡◌, ◌++◌, map, IfOk};
+ghost use Rattle.nd_model.specs.Content.{content_at};
+ghost use Rattle.nd_model.specs.NpyWriting as model;
+
+use crate::header::front;
+use crate::plain::plain_bytes;
+use nd_convert::copy_elements;
+use nd_view::View;
+use std::alloc::{AllocError, Global};
+
+fn join(alloc: Global, front: &[u8], elements: &[u8]) -> Result<Vec<u8>, AllocError>
+    ensures { IfOk result (λ v. v.items ≡ front.now ++ elements.now) }
+{
+    let mut file = Vec::with_capacity(alloc, front.len() + elements.len())?;
+    file.extend_from_slice(front)?;
+    file.extend_from_slice(elements)?;
+    Ok(file)
+}
+
+/// Returns the NPY file of an array, its elements in C order (NumPy's description of the format). The version is 1.0, or 3.0 where
+/// the name of a field has a character past U+00FF. A Boolean is 0 or 1, and pad bytes are 0. A byte past the end of the block is
+/// taken for 0.
+pub fn write_npy(alloc: Global, view: &View, block: &[u8]) -> Result<Vec<u8>, AllocError>
+    ensures { IfOk result (λ file. file.items ≡ model.npy_bytes view.now.element view.now.shape
+        (map (content_at view.now.element block.now) view.now.places)) }
+{
+    let _count = view.count();
+    let front = front(alloc, view.elem(), view.shape())?;
+    if let Some(elements) = plain_bytes(view, block) {
+        return join(alloc, &front, elements);
+    }
+    let elements = copy_elements(alloc, view, block)?;
+    join(alloc, &front, elements.as_slice())
+}

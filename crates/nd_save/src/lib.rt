@@ -1,0 +1,10 @@
+//! NPY files, written.
+#![tactic(auto)]
+
+mod file;
+mod header;
+mod items;
+mod literal;
+mod plain;
+
+pub use file::write_npy;

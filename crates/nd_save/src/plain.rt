@@ -1,0 +1,70 @@
+//! Numbers that lie in a block as they stand in a file.
+ghost use Rattle.std.specs.Prelude.{◌≡◌, ◌≢◌, ◌+◌, ◌*◌, ◌<◌, ◌≤◌, length, slice_index, IsTrue, IfSome};
+ghost use Rattle.std.specs.List.{All};
+ghost use Rattle.nd_model.specs.Element.{Boolean, size_of, bytes_at};
+ghost use Rattle.nd_assign.specs.SideBySide.{side_by_side};
+ghost use Rattle.nd_element.specs.Elements.{canonical_bytes};
+
+use nd_types::{Elem, ElemType, Kind};
+use nd_view::{Run, View};
+
+// Whether the elements of a run lie side by side.
+fn is_gapless(run: &Run, elem: Elem) -> bool
+    ensures { IsTrue result → run.now ≡ side_by_side (size_of elem.kind) (slice_index run.now 0)
+        (length run.now) }
+{
+    let step = run.step();
+    run.count() == 1 || step == i128::from(elem.size())
+}
+
+// Whether the bytes of a number are those of its value. Those of a Boolean may be others than 0 and 1.
+fn keeps_bytes(elem: Elem) -> bool
+    ensures { IsTrue result → elem.kind ≢ Boolean }
+{
+    match elem.kind() {
+        Kind::Bool => false,
+        _ => true,
+    }
+}
+
+// The run of all elements of a view, if they lie side by side and keep their bytes.
+fn plain_run(view: &View, elem: Elem) -> Option<Run>
+    ensures { IfSome result (λ run. (run ≡ view.now.places)
+        × (elem.kind ≢ Boolean)
+        × (run ≡ side_by_side (size_of elem.kind) (slice_index run 0) (length run))) }
+{
+    let mut runs = view.runs();
+    let run = runs.next()?;
+    let is_whole = run.count() == view.count() as u64;
+    if is_whole && keeps_bytes(elem) && is_gapless(&run, elem) {
+        Some(run)
+    } else {
+        None
+    }
+}
+
+// So many bytes as the elements of a run have, from its first place on.
+fn run_bytes<'b>(run: &Run, elem: Elem, bytes: &'b [u8]) -> Option<&'b [u8]>
+    ensures value { IfSome result (λ part. part.now ≡ bytes_at bytes.now (slice_index run.now 0)
+        (length run.now * size_of elem.kind)) }
+    ensures inside { IfSome result (λ part. slice_index run.now 0 + length run.now * size_of
+        elem.kind ≤ length bytes.now) }
+    ensures small { All (λ byte. byte < 256) bytes.now }
+{
+    let start = run.start() as usize;
+    let len = (run.count() as usize).checked_mul(elem.size() as usize)?;
+    let end = start.checked_add(len)?;
+    bytes.get(start..end)
+}
+
+/// Returns the part of these bytes that is the bytes of a view's elements in C order, if there is one: numbers side by side that are
+/// no Booleans.
+pub fn plain_bytes<'b>(view: &View, bytes: &'b [u8]) -> Option<&'b [u8]>
+    ensures { IfSome result (λ part. part.now ≡ canonical_bytes view.now bytes.now) }
+{
+    let ElemType::One(elem) = view.elem() else {
+        return None;
+    };
+    let run = plain_run(view, *elem)?;
+    run_bytes(&run, *elem, bytes)
+}

@@ -1,6 +1,8 @@
 -- The refusals of the program as the definitions have them.
 use Rattle.std.specs.Prelude.{string_bytes}
 use Rattle.nd_model.specs.Fault as model
+use Rattle.nd_pep.specs.Gives.{fault_of as format_fault_of}
+use Rattle.nd_npy.specs.Gives.{fault_of as npy_fault_of}
 pub use Rattle.nd_view.specs.Faults.{view_fault_of}
 use Rattle.nd_shape.specs.Faults.{fault_of as shape_fault_of}
 pub use Rattle.nd_ufunc.specs.Faults.{ufunc_fault_of}
@@ -9,9 +11,9 @@ use Rattle.nd_basic.specs.declared.fault.SelectFault.TheVariants as select_fault
 use Rattle.nd_operation.specs.declared.fault.IndexFault.{IndexFault}
 use Rattle.nd_operation.specs.declared.fault.IndexFault.TheVariants.{OutOfBounds, TooManyIndices, ZeroStep, NotAnIndex, TwoEllipses, NoField}
 use Rattle.nd_operation.specs.declared.fault.StmtError.{StmtError}
-use Rattle.nd_operation.specs.declared.fault.StmtError.TheVariants.{NoName, IntTooBig, ZeroDivide, NegativeShift, NeedsType, RaggedList, NotAnArray, TextTooLong, BadArgument, BadType}
+use Rattle.nd_operation.specs.declared.fault.StmtError.TheVariants.{NoName, NoInput, IntTooBig, ZeroDivide, NegativeShift, NeedsType, RaggedList, NotAnArray, TextTooLong, BadArgument, BadType}
 use Rattle.nd_operation.specs.declared.fault.StmtFault.{StmtFault}
-use Rattle.nd_operation.specs.declared.fault.StmtFault.TheVariants.{View, Index, Shape, Ufunc, Stmt}
+use Rattle.nd_operation.specs.declared.fault.StmtFault.TheVariants.{Format, Npy, View, Index, Shape, Ufunc, Stmt}
 
 abbrev pub index_fault_of : IndexFault → model.IndexFault
 index_fault_of (OutOfBounds axis index size) = model.OutOfBounds axis index size
@@ -23,6 +25,7 @@ index_fault_of (NoField n) = model.NoField (string_bytes n)
 
 abbrev pub stmt_error_of : StmtError → model.StmtFault
 stmt_error_of (NoName n) = model.NoName (string_bytes n)
+stmt_error_of (NoInput n) = model.NoInput (string_bytes n)
 stmt_error_of IntTooBig = model.IntTooBig
 stmt_error_of ZeroDivide = model.ZeroDivide
 stmt_error_of NegativeShift = model.NegativeShift
@@ -34,6 +37,8 @@ stmt_error_of BadArgument = model.BadArgument
 stmt_error_of BadType = model.BadType
 
 abbrev pub fault_of : StmtFault → model.Fault
+fault_of (Format f) = model.Format (format_fault_of f)
+fault_of (Npy f) = model.Npy (npy_fault_of f)
 fault_of (View f) = model.View (view_fault_of f)
 fault_of (Index f) = model.Index (index_fault_of f)
 fault_of (Shape f) = shape_fault_of f

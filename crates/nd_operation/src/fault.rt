@@ -1,5 +1,7 @@
 //! Why a statement is refused.
 
+pub use nd_npy::NpyFault;
+pub use nd_pep::FormatFault;
 pub use nd_shape::ShapeFault;
 pub use nd_ufunc::UfuncFault;
 pub use nd_view::ViewFault;
@@ -26,6 +28,8 @@ pub enum IndexFault {
 pub enum StmtError {
     /// No value is bound to this name.
     NoName(String),
+    /// There is no input of this name, or it is of another sort.
+    NoInput(String),
     /// A Python integer below -2^63 or above 2^64 - 1.
     IntTooBig,
     /// A Python integer is divided by zero.
@@ -49,6 +53,8 @@ pub enum StmtError {
 /// Why a statement is refused.
 #[derive(Drop)]
 pub enum StmtFault {
+    Format(FormatFault),
+    Npy(NpyFault),
     View(ViewFault),
     Index(IndexFault),
     Shape(ShapeFault),

@@ -24,7 +24,9 @@ pub use conversion::{
 };
 pub use creation::{check_limits, make_filled, make_full};
 pub use elementwise::kind_in_place;
-pub use fault::{IndexFault, ShapeFault, StmtError, StmtFault, UfuncFault, ViewFault};
+pub use fault::{
+    FormatFault, IndexFault, NpyFault, ShapeFault, StmtError, StmtFault, UfuncFault, ViewFault,
+};
 pub use lists::make_list;
 pub use operand::{Elements, New, Operand};
 pub use operators::{OfTwo, make_of_two};

@@ -4,13 +4,15 @@ ghost use Rattle.std.specs.Prelude.{◌≡◌};
 ghost use Rattle.nd_operation.specs.declared.fault.StmtFault.TheVariants.{Shape};
 ghost use Rattle.nd_operation.specs.declared.stop.Stop.TheVariants.{Memory, Refused};
 ghost use Rattle.nd_operation.specs.Faults.{refusal_of_select};
-ghost use Rattle.nd_operation.specs.Stops.{map_stop, type_stop};
+ghost use Rattle.nd_operation.specs.Stops.{format_stop, map_stop, npy_stop, type_stop};
 
 use crate::fault::{IndexFault, StmtError, StmtFault};
 use nd_basic::SelectFault;
 use nd_dtype::TypeFault;
 use nd_elementwise::MapFault;
 use nd_heap::OutOfMemory;
+use nd_npy::NpyError;
+use nd_pep::FormatError;
 use nd_shape::ShapeFault;
 use std::alloc::{AllocError, AllocFailed};
 
@@ -68,6 +70,28 @@ impl From<TypeFault> for Stop {
         match fault {
             TypeFault::BadType => Stop::Refused(StmtFault::Stmt(StmtError::BadType)),
             TypeFault::OutOfMemory => Stop::Memory,
+        }
+    }
+}
+
+impl From<FormatError> for Stop {
+    ghost from_gives = { λ f e. e ≡ format_stop f };
+
+    fn from(error: FormatError) -> Stop {
+        match error {
+            FormatError::Memory => Stop::Memory,
+            FormatError::Fault(fault) => Stop::Refused(StmtFault::Format(fault)),
+        }
+    }
+}
+
+impl From<NpyError> for Stop {
+    ghost from_gives = { λ f e. e ≡ npy_stop f };
+
+    fn from(error: NpyError) -> Stop {
+        match error {
+            NpyError::Memory => Stop::Memory,
+            NpyError::Fault(fault) => Stop::Refused(StmtFault::Npy(fault)),
         }
     }
 }

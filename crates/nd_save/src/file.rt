@@ -2,13 +2,16 @@
 ghost use Rattle.std.specs.Prelude.{◌≡◌, ◌++◌, map, IfOk};
 ghost use Rattle.nd_model.specs.Content.{content_at};
 ghost use Rattle.nd_model.specs.NpyWriting as model;
+ghost use Rattle.nd_types.specs.Types.{type_of};
 
 use crate::header::front;
 use crate::plain::plain_bytes;
 use nd_convert::copy_elements;
+use nd_types::ElemType;
 use nd_view::View;
 use std::alloc::{AllocError, Global};
 
+// The front of a file, and its elements.
 fn join(alloc: Global, front: &[u8], elements: &[u8]) -> Result<Vec<u8>, AllocError>
     ensures { IfOk result (λ v. v.items ≡ front.now ++ elements.now) }
 {
@@ -18,18 +21,31 @@ fn join(alloc: Global, front: &[u8], elements: &[u8]) -> Result<Vec<u8>, AllocEr
     Ok(file)
 }
 
-/// Returns the NPY file of an array, its elements in C order (NumPy's description of the format). The version is 1.0, or 3.0 where
-/// the name of a field has a character past U+00FF. A Boolean is 0 or 1, and pad bytes are 0. A byte past the end of the block is
-/// taken for 0.
+/// Returns the NPY file of an array with these elements and this shape, of which the elements have these bytes in C order (NumPy's
+/// description of the format). The version is 1.0, or 3.0 where the name of a field has a character past U+00FF.
+pub fn write_elements(
+    alloc: Global,
+    elem: &ElemType,
+    shape: &[u64],
+    elements: &[u8],
+) -> Result<Vec<u8>, AllocError>
+    ensures { IfOk result (λ file. file.items
+        ≡ model.npy_front (type_of elem.now) shape.now ++ elements.now) }
+{
+    let front = front(alloc, elem, shape)?;
+    join(alloc, &front, elements)
+}
+
+/// Returns the NPY file of an array, its elements in C order. A Boolean is 0 or 1, and pad bytes are 0. A byte past the end of the
+/// block is taken for 0.
 pub fn write_npy(alloc: Global, view: &View, block: &[u8]) -> Result<Vec<u8>, AllocError>
     ensures { IfOk result (λ file. file.items ≡ model.npy_bytes view.now.element view.now.shape
         (map (content_at view.now.element block.now) view.now.places)) }
 {
     let _count = view.count();
-    let front = front(alloc, view.elem(), view.shape())?;
     if let Some(elements) = plain_bytes(view, block) {
-        return join(alloc, &front, elements);
+        return write_elements(alloc, view.elem(), view.shape(), elements);
     }
     let elements = copy_elements(alloc, view, block)?;
-    join(alloc, &front, elements.as_slice())
+    write_elements(alloc, view.elem(), view.shape(), elements.as_slice())
 }

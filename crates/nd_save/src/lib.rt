@@ -7,4 +7,4 @@ mod items;
 mod literal;
 mod plain;
 
-pub use file::write_npy;
+pub use file::{write_elements, write_npy};

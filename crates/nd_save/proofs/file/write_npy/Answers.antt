@@ -1,5 +1,4 @@
-use Rattle.std.proofs.Common.{◌≡◌, ◌++◌, ℕ, List, map, length, sym, ap, ap₂, ◌∙◌, subst, IfOk}
-use Rattle.nd_model.specs.Content.{array_bytes, content_at, content_in_order}
+use Rattle.std.proofs.Common.{◌≡◌, ◌++◌, ℕ, List, length, sym, ap₂, ◌∙◌, subst, IfOk}
 use Rattle.nd_model.specs.NpyWriting as model
 use Rattle.nd_model.specs.Tuple.{elements_of}
 use Rattle.nd_convert.proofs.InOrder.{copied_block}
@@ -9,12 +8,12 @@ pub returns-in-Some : goal.returns-in-Some
 returns-in-Some c =
     let g = c.args.view.now in
     let same : length g.places ≡ elements_of g.shape = sym c.count-count.ensures.value ∙ c.count-count.ensures.elements in
-    let front = c.deref.ensures.value ∙ c.in_ok-front.ensures ∙ ap₂ model.npy_front c.elem.ensures c.shape.ensures.value in
+    let front = ap₂ model.npy_front c.elem.ensures c.shape.ensures.value in
     let elements = c.in-Some.ensures ∙ copied_block g.element g.shape c.args.block.now g.places same in
-    subst (λ (l : List ℕ). IfOk c.join.result (λ v. v.items ≡ l)) (ap₂ (λ xs ys. xs ++ ys) front elements) c.join.ensures
+    subst (λ (l : List ℕ). IfOk c.write_elements.result (λ v. v.items ≡ l)) (ap₂ (λ xs ys. xs ++ ys) front elements) c.write_elements.ensures
 
 pub returns : goal.returns
 returns c =
-    let front = c.deref-2.ensures.value ∙ c.in_ok-front.ensures ∙ ap₂ model.npy_front c.elem.ensures c.shape.ensures.value in
+    let front = ap₂ model.npy_front c.elem-2.ensures c.shape-2.ensures.value in
     let elements = c.as_slice.ensures ∙ c.in_ok-elements.ensures in
-    subst (λ (l : List ℕ). IfOk c.join-2.result (λ v. v.items ≡ l)) (ap₂ (λ xs ys. xs ++ ys) front elements) c.join-2.ensures
+    subst (λ (l : List ℕ). IfOk c.write_elements-2.result (λ v. v.items ≡ l)) (ap₂ (λ xs ys. xs ++ ys) front elements) c.write_elements-2.ensures

@@ -1,19 +1,21 @@
 -- Statements that print nothing, so that no limit meets them.
 use Rattle.std.proofs.Common.{◌≡◌, ℕ, zero, suc, true, false, List, [], ◌∷◌, Result, Ok, Err, refl}
-use Rattle.nd_model.specs.Fault.{Fault}
+use Rattle.nd_model.specs.Fault.{Fault, Stmt, BadArgument}
+use Rattle.nd_model.specs.Files.{operand_file, save}
+use Rattle.nd_model.specs.InputName.{is_input_name}
 use Rattle.nd_model.specs.Value as model
 use Rattle.nd_model.specs.Value.{Int, Truth, Scalar, Array, Row}
 use Rattle.nd_model.specs.Running.{Running, Inputs, reply, after, Effect, Nothing, Prints, Saves, Binding, Unbinding, Storing}
 use Rattle.nd_model.specs.Refusing as refusing
-use Rattle.nd_model.specs.Syntax.{Expr, Index, BinaryOp, Augment, AugmentItem, Bind, Assign, Delete}
+use Rattle.nd_model.specs.Syntax.{Expr, Index, BinaryOp, Augment, AugmentItem, Bind, Assign, Delete, Save}
 use Rattle.nd_model.specs.Evaluation.{Eval, Gives, Refuses, Asks, run, ◌>>=◌, decide}
-use Rattle.nd_model.specs.Operand.{Operand, Plain, Elements, Usage, Whole, Unused, Made, ANumber, AnArray, Deed, BindsFirst, BindsMade, Unbinds, Writes}
+use Rattle.nd_model.specs.Operand.{Operand, Plain, Elements, Usage, Whole, Unused, Made, ANumber, AnArray, Deed, BindsFirst, BindsMade, SavesFile, Unbinds, Writes}
 use Rattle.nd_model.specs.Operation.{Views, Named, Plans, Done, And, perform, evaluate, evaluate_all, act_on, do_deed, give, with_value, store_in}
 use Rattle.nd_model.specs.Viewing.{Viewing}
 use Rattle.nd_model.specs.Writing.{assignment_writes}
 use Rattle.nd_model.specs.Elementwise.{binary}
 use Rattle.nd_model.specs.Augmenting.{augment_item, augment_name, deed_of_made, in_place_writes, operand_of_made}
-use Rattle.nd_model.specs.Meaning.{plan, two, viewing_of, index_plans, assignment_deed, meaning}
+use Rattle.nd_model.specs.Meaning.{plan, one, two, viewing_of, index_plans, assignment_deed, meaning}
 use Rattle.nd_model.proofs.Soundness.{Safe, safe_bind, safe_operands, IfGiven, given_run}
 use Rattle.nd_operation.specs.declared.stop.Stop.{Stop}
 use Rattle.nd_eval.specs.Ends.{Ends}
@@ -105,6 +107,22 @@ quiet_item op w i r vs (y ∷ Plain k ∷ t ∷ os) = assigns_only i r vs (binar
 quiet_item op w i r vs (y ∷ Elements false g cs ∷ t ∷ os) = writes_only i r vs 1 (in_place_writes op g cs y)
 quiet_item op w i r vs (y ∷ Elements true g cs ∷ t ∷ os) = assigns_only i r vs (binary op (Elements true g cs) y) (λ m. assignment_writes w (operand_of_made m) t os)
 
+-- a file that is saved
+saves_only : (i : Inputs) (r : Running) (vs : List (Usage × model.Value)) (n : List ℕ) (m : Result (List ℕ) Fault)
+    → Safe IsQuiet i r (decide (refusing.◌>>=◌ m (λ file. Ok (SavesFile n file))) >>= do_deed vs)
+saves_only i r vs n (Ok file) = tt
+saves_only i r vs n (Err f) = tt
+
+quiet_save : (n : List ℕ) (i : Inputs) (r : Running) (vs : List (Usage × model.Value)) (os : List Operand) → Safe IsQuiet i r (decide (one (save n) os) >>= do_deed vs)
+quiet_save n i r vs [] = tt
+quiet_save n i r vs (o ∷ []) =
+    elim (is_input_name n)
+    as (λ t. Safe IsQuiet i r (decide (refusing.when t (Stmt BadArgument) (refusing.◌>>=◌ (operand_file o) (λ file. Ok (SavesFile n file)))) >>= do_deed vs)) [
+      | true ↦ saves_only i r vs n (operand_file o)
+      | false ↦ tt
+    ]
+quiet_save n i r vs (o ∷ p ∷ os) = tt
+
 unlimited : (m : Result Effect Fault × Running) → IfGiven IsQuiet m → limit_effect m ≡ m
 unlimited (Ok Nothing, r) h = refl
 unlimited (Ok (Prints t), r) h = absurd h
@@ -136,6 +154,9 @@ module _ {Y : Type 0} (w : Y → Effect) (i : Inputs) (r s : Running) (o : Resul
       (λ p v g always. safe_bind Always IsQuiet i p (evaluate (plan e)) _ (anything i p (evaluate (plan e)))
       (λ m y g always. safe_operands IsQuiet i m ((Whole, y) ∷ (Whole, v) ∷ vs) (λ os. decide (augment_item op (viewing_of x) os) >>= do_deed ((Whole, y) ∷ (Whole, v) ∷ vs))
       (λ k os g is. quiet_item op (viewing_of x) i k ((Whole, y) ∷ (Whole, v) ∷ vs) os))))) h
+
+  pub quiet_saving : (n : List ℕ) (e : Expr) → Ends w o s (run i (meaning (Save n e)) r) → Ends w o s (limit_effect (run i (meaning (Save n e)) r))
+  quiet_saving n e h = quiet w i (meaning (Save n e)) r s o (quiet_act i r (one (save n)) (And Whole (plan e) Done) (quiet_save n i)) h
 
   pub quiet_deletion : (n : List ℕ) → Ends w o s (run i (meaning (Delete n)) r) → Ends w o s (limit_effect (run i (meaning (Delete n)) r))
   quiet_deletion n h = quiet w i (meaning (Delete n)) r s o (quiet_act i r (λ os. Ok (Unbinds n)) (And Unused (Named n) Done) (λ q vs os. tt)) h

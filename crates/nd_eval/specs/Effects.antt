@@ -9,7 +9,7 @@ use Rattle.nd_choice.specs.Targets.{writes_to}
 use Rattle.nd_operation.specs.declared.stop.Stop.{Stop}
 use Rattle.nd_eval.specs.declared.evaluator.Evaluator.{Evaluator}
 use Rattle.nd_eval.specs.declared.effect.Effect.{Effect}
-use Rattle.nd_eval.specs.declared.effect.Effect.TheVariants.{Nothing, Print, Bind, Unbind, Store, Update}
+use Rattle.nd_eval.specs.declared.effect.Effect.TheVariants.{Nothing, Print, Save, Bind, Unbind, Store, Update}
 use Rattle.nd_eval.specs.Ends.{Evaluates, EvaluatesInLimit, session_of}
 use Rattle.nd_eval.specs.Uses.{IsHeld, operand_over}
 use Rattle.nd_store.specs.Storable.{IsStorable}
@@ -21,6 +21,7 @@ use Rattle.nd_types.specs.Kinds.{kind_of}
 abbrev pub effect_of : (model.Base → List ℕ) → Effect → running.Effect
 effect_of bytes Nothing = running.Nothing
 effect_of bytes (Print text) = running.Prints (string_bytes text)
+effect_of bytes (Save n file) = running.Saves (string_bytes n) file.items
 effect_of bytes (Bind n v) = running.Binding (string_bytes n) (value_of v)
 effect_of bytes (Unbind n) = running.Unbinding (string_bytes n)
 effect_of bytes (Store target v) = running.Storing (base_of target.base) (writes_to (geo_of target) (operand_over bytes v))
@@ -30,6 +31,7 @@ effect_of bytes (Update kind op target v) = running.Storing (base_of target.base
 abbrev pub IsReady : Running → Effect → Type 0
 IsReady r Nothing = Unit {0}
 IsReady r (Print text) = Unit {0}
+IsReady r (Save n file) = Unit {0}
 IsReady r (Bind n v) = IsHeld r v
 IsReady r (Unbind n) = Unit {0}
 IsReady r (Store target v) = IsStorable r target v

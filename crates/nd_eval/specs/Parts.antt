@@ -10,6 +10,7 @@ use Rattle.nd_model.specs.Fault.{Fault, Stmt, BadArgument}
 use Rattle.nd_model.specs.Calls.{Fill, DType}
 use Rattle.nd_model.specs.Creation.{arange, array_of_list, astype, copy_array, filled, full}
 use Rattle.nd_model.specs.Elementwise.{binary}
+use Rattle.nd_model.specs.Files.{save}
 use Rattle.nd_model.specs.Writing.{assignment_writes}
 use Rattle.nd_model.specs.Augmenting.{augment_item, augment_name, in_place_writes, operand_of_made}
 use Rattle.nd_model.specs.Syntax.{BinaryOp, Expr, Bound, Omitted, Given, Elements, NoElement, AndElement, Element, Single, Nested, Method, Copy, AsType, Transpose, Reshape, ViewAs, Exprs, NoExpr, AndExpr, Index, Field, Items, IndexItems, IndexItem, AndItem, NoItem, At, Slice, Ellipsis, NewAxis, Listed}
@@ -186,3 +187,7 @@ list_value x t = values (exprs_of_element x) >>= λ vs. perform (Computes (array
 abbrev pub range_value : Bound → Expr → Bound → Option DType → Eval Value
 range_value a b c t =
     values (bound_exprs a) >>= λ xs. value b >>= λ v. values (bound_exprs c) >>= λ ys. perform (Computes (arange (is_given a) (is_given c) t)) (unused (xs ++ v ∷ ys))
+
+-- what saving a value by a name comes to
+abbrev pub saving : List ℕ → Value → Eval Effect
+saving n v = act_on (one (save n)) ((Whole, v) ∷ [])

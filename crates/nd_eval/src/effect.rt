@@ -9,6 +9,8 @@ use nd_types::Kind;
 pub(crate) enum Effect {
     Nothing,
     Print(String),
+    /// A file is saved by a name.
+    Save(String, Vec<u8>),
     Bind(String, Value),
     Unbind(String),
     /// The elements of an array get those of a value.

@@ -28,6 +28,7 @@ use crate::evaluator::Evaluator;
 use crate::operation::{mark_index, mark_operand, mark_operands, operand_in};
 use crate::views::ViewMethod;
 use nd_choice::{IndexValue, ItemValue, choose};
+use nd_files::InputSort;
 use nd_operation::{
     OfOne, OfTwo, StmtError, StmtFault, Stop, make_filled, make_full, make_list, make_of_one,
     make_of_two, make_range,
@@ -389,7 +390,8 @@ impl Evaluator<'_> {
             Call::PythonAbs(operand) => {
                 self.value_of_one(OfOne::Operator(Single::Absolute), operand)
             }
-            Call::Load(name) | Call::Buffer(name) => self.input_value(name.as_str()),
+            Call::Load(name) => self.input_value(InputSort::File, name.as_str()),
+            Call::Buffer(name) => self.input_value(InputSort::Buffer, name.as_str()),
             _ => Err(unbuilt_form()),
         }
     }

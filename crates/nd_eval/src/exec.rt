@@ -21,7 +21,6 @@ ghost use Rattle.nd_eval.specs.Lines.{limit_effect};
 ghost use Rattle.nd_model.specs.Evaluation.{run};
 
 use crate::effect::Effect;
-use crate::eval::unbuilt_form;
 use crate::evaluator::Evaluator;
 use crate::operation::{mark_index, mark_operand, mark_operands, operand_in, operands_in};
 use nd_choice::{IndexValue, assignment_target};
@@ -146,7 +145,7 @@ impl Evaluator<'_> {
             }
             Stmt::Delete(name) => self.deletion_effect(name.as_str()),
             Stmt::Print(exprs) => self.print_effect(exprs),
-            _ => Err(unbuilt_form()),
+            Stmt::Save(name, expr) => self.save_effect(name.as_str(), expr),
         }
     }
 }
@@ -160,15 +159,17 @@ fn do_effect(session: &mut Session, effect: Effect) -> Result<Output, OutOfMemor
         ≡ running.done (effect_of (live session.old).bytes effect) (live session.old)) }
 {
     let mut text = String::new(session.allocator());
+    let mut save = None;
     match effect {
         Effect::Nothing => {}
         Effect::Print(line) => text = line,
+        Effect::Save(name, file) => save = Some((name, file)),
         Effect::Bind(name, bound) => session.bind(name, bound)?,
         Effect::Unbind(name) => session.unbind(name.as_str())?,
         Effect::Store(target, value) => store(session, &target, &value)?,
         Effect::Update(kind, op, target, value) => update(session, op, kind, &target, &value)?,
     }
-    Ok(Output { text, save: None })
+    Ok(Output { text, save })
 }
 
 /// What a statement comes to, evaluated over a session.
@@ -185,7 +186,7 @@ fn evaluate_stmt(session: &mut Session, inputs: &Inputs, stmt: &Stmt) -> Result<
 
 /// Runs a statement: what it gives to its cell, or why it is refused. A refused statement binds, unbinds and writes
 /// nothing, yet it may have made bases. A text that no cell takes is refused here already, so that it is not built to its
-/// end. No statement of this language saves a file.
+/// end.
 pub fn run_stmt(
     session: &mut Session,
     inputs: &Inputs,

@@ -6,9 +6,11 @@ mod effect;
 mod eval;
 mod evaluator;
 mod exec;
-mod inputs;
+mod files;
 mod operation;
 mod views;
 
 pub use exec::{Output, run_stmt};
-pub use nd_operation::{IndexFault, ShapeFault, StmtError, StmtFault, UfuncFault, ViewFault};
+pub use nd_operation::{
+    FormatFault, IndexFault, NpyFault, ShapeFault, StmtError, StmtFault, UfuncFault, ViewFault,
+};

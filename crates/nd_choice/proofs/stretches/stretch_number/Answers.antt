@@ -1,15 +1,34 @@
-use Rattle.std.proofs.Common.{rules, ap, ◌∙◌, arith}
+use Rattle.std.proofs.Common.{rules, ap, ◌∙◌, arith, Ok, Result}
 use Rattle.std.proofs.lemmas.Int.{to_z-of_z}
 use mir.Val.{SFits}
 use mir.Syntax.{w128}
+use Rattle.nd_model.specs.Broadcast.{in_limits}
 use Rattle.nd_model.specs.Content.{Num, array_bytes}
+use Rattle.nd_model.specs.Creation.{little}
+use Rattle.nd_model.specs.Element.{Kind, size_of}
+use Rattle.nd_model.specs.Fault.{Fault}
+use Rattle.nd_model.specs.Operand.{Plain, Stretched, number_of}
+use Rattle.nd_model.specs.Refusing as refusing
+use Rattle.nd_model.specs.ShapeChoices.{stretch_operand}
+use Rattle.nd_operation.specs.Faults.{fault_of}
 use Rattle.nd_model.specs.View.{One}
 use Rattle.nd_model.specs.Strides.{limit_fault}
 use Rattle.nd_types.specs.Kinds.{kind_of}
 use Rattle.nd_operation.specs.Contents.{num_of}
-use Rattle.nd_operation.proofs.Creating.{within}
-use Rattle.nd_choice.proofs.Stretching.{number_stretched, alone_in_limits}
+use Rattle.nd_operation.proofs.Creating.{over, within}
+use Rattle.nd_choice.proofs.Stretching.{number_stretched, stretched_refused, alone_in_limits}
 use Rattle.nd_choice.proofs.stretches.stretch_number.Goals as goal
+
+pub returns-in_err-check_limits : goal.returns-in_err-check_limits
+returns-in_err-check_limits c =
+    let n = num_of c.args.number in
+    let shape = c.args.shape.now in
+    let e = c.little-elem.result in
+    let f = c.in_err-check_limits.field-0.0 in
+    stretched_refused (stretch_operand (Plain n) shape) f c.from_residual-in_err-check_limits.result c.from_residual-in_err-check_limits.ensures.1
+    (ap (λ (k : Result Kind Fault). refusing.◌>>=◌ k (λ k. in_limits (One (little k)) shape (Ok (Stretched (One (little k)) (Num (number_of n)) shape)))) c.in_ok-array_kind.ensures
+    ∙ over (limit_fault (size_of (kind_of c.in_ok-array_kind.field-0)) shape) (Ok (Stretched (One (little (kind_of c.in_ok-array_kind.field-0))) (Num (number_of n)) shape)) (fault_of f)
+    (rw (c.size.ensures.value, c.little-elem.ensures) at c.in_err-check_limits.ensures))
 
 pub returns : goal.returns
 returns c =

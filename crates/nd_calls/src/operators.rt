@@ -1,9 +1,9 @@
 //! Calls of NumPy's operators and functions on numbers and on the elements of views.
 
-ghost use Rattle.std.specs.Prelude.{◌≡◌, length, IfOk};
+ghost use Rattle.std.specs.Prelude.{length, IfOk};
 ghost use Rattle.nd_model.specs.Sound.{LiesIn};
-ghost use Rattle.nd_elementwise.specs.Arguments.{LiesInBlock, argument_of};
-ghost use Rattle.nd_elementwise.specs.Prepared.{IsRightSide, right_operand};
+ghost use Rattle.nd_elementwise.specs.Arguments.{LiesInBlock};
+ghost use Rattle.nd_elementwise.specs.Prepared.{IsRightSide};
 
 use crate::assignments::{VIEW_WORDS, lies_in};
 use crate::blocks::block_of;
@@ -13,7 +13,9 @@ use crate::texts::{num_of, text_in};
 use crate::types::push_type;
 use crate::words::{last_of, number};
 use nd_block::RawBlock;
-use nd_elementwise::{Argument, RightSide, in_place_kind, map1, map2, prepare_in_place};
+use nd_elementwise::{
+    Argument, RightSide, argument_beside, in_place_kind, map1, map2, prepare_in_place,
+};
 use nd_syntax::{BinaryOp, UnaryOp};
 use nd_types::Num;
 use nd_ufunc::{BinaryUfunc, Single};
@@ -208,19 +210,6 @@ fn check_right(right: RightSide<'_>, len: usize) -> Result<(), Refusal>
         RightSide::Number(_) => Ok(()),
         RightSide::Own(view) => check_view(view, len),
         RightSide::Other(view, bytes) => check_view(view, bytes.len()),
-    }
-}
-
-/// The right side as an argument, beside a target in a block of these bytes.
-fn argument_beside<'b>(right: RightSide<'b>, block: &'b [u8]) -> Argument<'b>
-    requires { IsRightSide (length block.now) right }
-    ensures operand { argument_of result ≡ right_operand right.entry block.now }
-    ensures lies { LiesInBlock result }
-{
-    match right {
-        RightSide::Number(number) => Argument::Number(number),
-        RightSide::Own(view) => Argument::Elements(view, block),
-        RightSide::Other(view, bytes) => Argument::Elements(view, bytes),
     }
 }
 

@@ -3,7 +3,8 @@ use Rattle.std.proofs.Common.{◌≡◌, ℕ, ◌+◌, ◌<◌, true, false, leb
 use Rattle.std.specs.Prelude.{string_eq, bytes_eq}
 use Rattle.std.proofs.lemmas.Bool.{cases_Bool}
 use Rattle.indexmap.specs.IndexMap.{insert_entry}
-use Rattle.nd_model.specs.Session.{bind}
+use Rattle.std.specs.Map.{lookup as find}
+use Rattle.nd_model.specs.Session.{bind, lookup}
 use Rattle.nd_model.specs.Running.{Running, Inputs, Output}
 use Rattle.nd_model.specs.Fault.{Fault, Statement, TextTooLong}
 use Rattle.nd_model.specs.Fault as fault
@@ -69,6 +70,12 @@ saves-insert n v (e ∷ es) = elim (cases_Bool (bytes_eq (string_bytes n) (strin
   | inl is ↦ rw is refl
   | inr other ↦ rw other (ap (λ es. saved_of e ∷ es) (saves-insert n v es))
 ]
+
+-- the file of a name
+pub saves_found : (n : List ℕ) (es : List (String Global × Vec ℕ Global))
+    → lookup n (saves_of es) ≡ option_map (λ (f : Vec ℕ Global). f.items) (find (λ k. bytes_eq n (string_bytes k)) es)
+saves_found n [] = refl
+saves_found n (e ∷ es) = elim (cases_Bool (bytes_eq n (string_bytes e.0))) [ inl is ↦ rw is refl | inr other ↦ rw other (saves_found n es) ]
 
 -- ---- a text that no cell takes
 

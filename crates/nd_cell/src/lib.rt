@@ -5,7 +5,9 @@ mod record;
 mod result;
 mod run;
 
-pub use nd_eval::{IndexFault, ShapeFault, StmtError, StmtFault, UfuncFault, ViewFault};
+pub use nd_eval::{
+    FormatFault, IndexFault, NpyFault, ShapeFault, StmtError, StmtFault, UfuncFault, ViewFault,
+};
 pub use nd_meter::Meter;
 pub use nd_parse::ParseKind;
 pub use record::Record;

@@ -1,5 +1,9 @@
 //! What cells give.
 
+ghost use Rattle.std.specs.Prelude.{◌≡◌, option_map};
+ghost use Rattle.nd_model.specs.Session.{lookup};
+ghost use Rattle.nd_cell.specs.Results.{saves_of};
+
 use indexmap::IndexMap;
 use nd_eval::StmtFault;
 use nd_parse::ParseKind;
@@ -26,4 +30,15 @@ pub struct CellResult {
     pub text: String,
     pub refusal: Option<Refusal>,
     pub saves: IndexMap<String, Vec<u8>>,
+}
+
+impl CellResult {
+    /// The file that the cell saved by this name.
+    pub fn file(&self, name: &str) -> Option<&[u8]>
+        ensures { option_map (λ f. f.now) result
+            ≡ lookup name.now (saves_of self.now.saves.entries) }
+    {
+        let file = self.saves.get(name)?;
+        Some(file.as_slice())
+    }
 }

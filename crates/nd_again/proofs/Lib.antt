@@ -1,0 +1,6 @@
+mod Marks
+mod Following
+mod AllFields
+mod Spelled
+mod Lettered
+mod Again

@@ -85,3 +85,5 @@ pub mod NpyHeader
 pub mod NpyReading
 pub mod NpyWriting
 pub mod Files
+pub mod AdvancedFault
+pub mod Advanced

@@ -1,0 +1,6 @@
+mod Numbers
+mod Items
+mod Loops
+mod Sliced
+mod InOrder
+mod Walks

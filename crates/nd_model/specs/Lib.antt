@@ -85,5 +85,3 @@ pub mod NpyHeader
 pub mod NpyReading
 pub mod NpyWriting
 pub mod Files
-pub mod AdvancedFault
-pub mod Advanced

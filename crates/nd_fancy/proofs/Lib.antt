@@ -1,6 +1,0 @@
-mod Numbers
-mod Items
-mod Loops
-mod Sliced
-mod InOrder
-mod Walks

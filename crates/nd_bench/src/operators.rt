@@ -125,21 +125,30 @@ fn measure_kinds(
     }
 }
 
-// The same of a table and its first row, or every second number of the block.
-fn measure_shapes(rt: &HostRuntime, block: &RawBlock) -> io::Result<()> {
+// The same of a sum of two views of numbers of the block, each with a shape and strides.
+fn measure_sum(
+    rt: &HostRuntime,
+    name: &str,
+    left: (&[u64], &[i64]),
+    right: (&[u64], &[i64]),
+    block: &RawBlock,
+) -> io::Result<()> {
     let int = Elem::little(Kind::I64);
-    let table = view_of(rt.alloc(), int, &[2441, 4096], &[32768, 8])?;
-    let row = view_of(rt.alloc(), int, &[4096], &[8])?;
-    match (table, row) {
-        (Some(table), Some(row)) => {
-            measure_views(rt, "row", BinaryOp::Add, &table, &row, block)?;
-        }
-        _ => println!(rt; "row: no such views")?,
+    let left = view_of(rt.alloc(), int, left.0, left.1)?;
+    let right = view_of(rt.alloc(), int, right.0, right.1)?;
+    match (left, right) {
+        (Some(left), Some(right)) => measure_views(rt, name, BinaryOp::Add, &left, &right, block),
+        _ => println!(rt; "{name}: no such views"),
     }
-    match view_of(rt.alloc(), int, &[COUNT / 2], &[16])? {
-        Some(view) => measure_views(rt, "strided", BinaryOp::Add, &view, &view, block),
-        None => println!(rt; "strided: no such view"),
-    }
+}
+
+// The same of tables and rows, and of every second number of the block.
+fn measure_shapes(rt: &HostRuntime, block: &RawBlock) -> io::Result<()> {
+    let (row, short): ((&[u64], &[i64]), (&[u64], &[i64])) = ((&[4096], &[8]), (&[3], &[8]));
+    measure_sum(rt, "row", (&[2441, 4096], &[32768, 8]), row, block)?;
+    measure_sum(rt, "short-row", (&[1_000_000, 3], &[24, 8]), short, block)?;
+    let every_second: (&[u64], &[i64]) = (&[COUNT / 2], &[16]);
+    measure_sum(rt, "strided", every_second, every_second, block)
 }
 
 /// Prints a line for each of some operators on the numbers of an array of eight bytes each.
@@ -153,6 +162,14 @@ pub(crate) fn measure_operators(rt: &HostRuntime) -> io::Result<()> {
     measure_kinds(rt, "multiply", BinaryOp::Multiply, int, int, &block)?;
     measure_kinds(rt, "and", BinaryOp::BitAnd, int, int, &block)?;
     measure_kinds(rt, "less", BinaryOp::Less, int, int, &block)?;
+    measure_kinds(
+        rt,
+        "mixed-less",
+        BinaryOp::Less,
+        Elem::little(Kind::U64),
+        int,
+        &block,
+    )?;
     measure_kinds(rt, "bytes", BinaryOp::Add, byte, byte, &block)?;
     measure_kinds(
         rt,

@@ -49,6 +49,7 @@ fn add_ufunc_fault(text: &mut String, fault: UfuncFault) -> Result<(), AllocErro
 fn add_error(text: &mut String, error: &StmtError) -> Result<(), AllocError> {
     match error {
         StmtError::NoName(name) => write!(text, "no name {:?}", name.as_str()),
+        StmtError::NoInput(name) => write!(text, "no input {:?}", name.as_str()),
         StmtError::IntTooBig => write!(text, "integer too big"),
         StmtError::ZeroDivide => write!(text, "zero divide"),
         StmtError::NegativeShift => write!(text, "negative shift"),
@@ -76,6 +77,8 @@ fn shape_fault_text(fault: ShapeFault) -> &'static str {
 /// Adds a fault of a statement.
 fn add_statement_fault(text: &mut String, fault: &StmtFault) -> Result<(), AllocError> {
     match fault {
+        StmtFault::Format(fault) => write!(text, "{fault:?}"),
+        StmtFault::Npy(fault) => write!(text, "{fault:?}"),
         StmtFault::View(fault) => write!(text, "{}", view_fault_text(*fault)),
         StmtFault::Index(fault) => add_index_fault(text, fault),
         StmtFault::Shape(fault) => write!(text, "{}", shape_fault_text(*fault)),

@@ -9,13 +9,14 @@ use Rattle.nd_model.specs.Reading.{reading}
 use Rattle.nd_model.specs.Cell.{cell, notebook, session_after}
 use Rattle.nd_model.specs.Entries.{session_before}
 use Rattle.nd_model.specs.Renaming.{Told, Shown, shown, shown_names, told}
-use Rattle.nd_model.specs.Book.{Book, Cell, QueryFault, ask_cell, ask_told, count_of, found_value, names_at, no_cell, read_cells, result_at, source_at, told_book, value_at}
+use Rattle.nd_model.specs.Book.{Book, Cell, QueryFault, ask_cell, ask_told, count_of, found_value, names_at, no_cell, read_cells, result_at, saved_at, source_at, told_book, value_at, found_file}
+use Rattle.nd_model.specs.Book as model
 use Rattle.nd_model.specs.Notebook.{Sheet, Tells, book_of}
 use Rattle.nd_model.specs.Scheduler.{told_of}
 use Rattle.nd_model.proofs.Entries.{told_by_records}
 use Rattle.nd_rerun.specs.declared.query.QueryFault as declared
 use Rattle.nd_rerun.specs.declared.query.QueryFault.TheVariants as faults
-use Rattle.nd_rerun.specs.Queries.{answer_of, result_of}
+use Rattle.nd_rerun.specs.Queries.{answer_of, query_fault_of, result_of}
 use Rattle.nd_cell.specs.declared.result.CellResult as declaredResult
 use Rattle.nd_cell.specs.Records.{RecordData, recorded}
 use Rattle.nd_cell.specs.Results.{refusal_of, saves_of}
@@ -129,6 +130,27 @@ value_is_told b at n lt is = ap is_ok (value_at_is b at n (session_before b (at 
     some : (s : Session) (o : Option Value) → is_some o ≡ true → is_ok (found_value n (option_map (shown s) o)) ≡ true
     some s None h = absurd (cc)
     some s (Some v) h = refl
+
+-- ---- what is told of the files that a cell saved
+
+pub save_told : (b : Book) (at : ℕ) (n : List ℕ) (r : model.CellResult) → Ok r ≡ result_at b at → found_file n (lookup n r.saves) ≡ saved_at b at n
+save_told b at n r e = by (slice_get (told_book b) at) e
+  where
+    by : (o : Option Told) → Ok r ≡ ask_cell at (count_of b) o (λ (t : Told). Ok (record { text = t.text; refusal = t.refusal; saves = t.saves }))
+        → found_file n (lookup n r.saves) ≡ ask_cell at (count_of b) o (λ (t : Told). found_file n (lookup n t.saves))
+    by None e = absurd (cc)
+    by (Some t) e = let same : r ≡ record { text = t.text; refusal = t.refusal; saves = t.saves } = cc in ap (λ (r : model.CellResult). found_file n (lookup n r.saves)) same
+
+pub save_not_told : (b : Book) (at : ℕ) (n : List ℕ) (f : declared.QueryFault) → Err (query_fault_of [] f) ≡ result_at b at → Err (query_fault_of n f) ≡ saved_at b at n
+save_not_told b at n f e = by (slice_get (told_book b) at) f e
+  where
+    by : (o : Option Told) (f : declared.QueryFault) → Err (query_fault_of [] f) ≡ ask_cell {C = Told} {X = model.CellResult} at (count_of b) o (λ (t : Told). Ok (record { text = t.text; refusal = t.refusal; saves = t.saves }))
+        → Err (query_fault_of n f) ≡ ask_cell at (count_of b) o (λ (t : Told). found_file n (lookup n t.saves))
+    by None (faults.NoCell a k) e = cc
+    by None faults.NoName e = absurd (cc)
+    by None faults.NoSave e = absurd (cc)
+    by None faults.OutOfMemory e = absurd (cc)
+    by (Some t) f e = absurd (cc)
 
 -- memory is wanted where there is a value
 pub wants_memory : {X Y : Type 0} (name : List ℕ) (view : X → Y) (r : Result X declared.QueryFault) (answer : Result Y QueryFault)

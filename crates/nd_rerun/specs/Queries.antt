@@ -25,6 +25,7 @@ shown_of (values.Row elem bytes) = shown.ShownRow (type_of elem) bytes.items
 abbrev pub query_fault_of : List ℕ → declared.QueryFault → model.QueryFault
 query_fault_of name (faults.NoCell at count) = model.QueryFault.NoCell at count
 query_fault_of name faults.NoName = model.QueryFault.NoName name
+query_fault_of name faults.NoSave = model.QueryFault.NoSave name
 query_fault_of name faults.OutOfMemory = model.QueryFault.OutOfMemory
 
 -- the answer to a query for a name, seen by view

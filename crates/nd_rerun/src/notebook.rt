@@ -210,6 +210,17 @@ impl Notebook {
         Ok(self.schedule.record_at(at).result())
     }
 
+    /// The file that the cell at the place saved by this name. It takes no memory.
+    pub fn file(&self, at: usize, name: &str) -> Result<&[u8], QueryFault>
+        ensures { answer_of name.now (λ f. f.now) result
+            ≡ model.saved_at (book_of self.now) at name.now }
+    {
+        match self.result(at) {
+            Ok(shown) => shown.file(name).ok_or(QueryFault::NoSave),
+            Err(fault) => Err(fault),
+        }
+    }
+
     /// The session before the cell at the place, or after the last one.
     fn version_before(&self, at: usize) -> Result<Version, OutOfMemory>
         requires { at ≤ length self.now.cells }

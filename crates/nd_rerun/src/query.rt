@@ -19,6 +19,8 @@ pub enum QueryFault {
     NoCell(usize, usize),
     /// The name that was asked for is not bound after the cell.
     NoName,
+    /// The cell saved no file by the name that was asked for.
+    NoSave,
     /// A growth was refused.
     OutOfMemory,
 }

@@ -11,7 +11,7 @@ ghost use Rattle.nd_run.specs.Answer.{edit_answer_of};
 use crate::fault::push_cell_fault;
 use indexmap::IndexMap;
 use nd_rerun::{CellResult, EditFault, QueryFault, Refusal};
-use nd_script::{push_count_line, push_names, push_number, push_text};
+use nd_script::{push_count_line, push_hex, push_names, push_number, push_text};
 use std::alloc::AllocError;
 
 /// Appends the answer to an edit of the input of a name, or of a cell.
@@ -32,10 +32,11 @@ pub fn push_edit_answer(
     }
 }
 
-fn push_no_input(out: &mut Vec<u8>, name: &str) -> Result<(), AllocError>
-    ensures { OnOk result (out.new.items ≡ out.old.items ++ (codes "NoInputNamed " ++ name.now)) }
+// A refusal, and the name that it tells.
+fn push_words(out: &mut Vec<u8>, refusal: &str, name: &str) -> Result<(), AllocError>
+    ensures { OnOk result (out.new.items ≡ out.old.items ++ (refusal.now ++ name.now)) }
 {
-    push_text(out, "NoInputNamed ")?;
+    push_text(out, refusal)?;
     push_text(out, name)?;
     Ok(())
 }
@@ -50,7 +51,7 @@ fn push_edit_fault(out: &mut Vec<u8>, name: &str, fault: EditFault) -> Result<()
         EditFault::CellTooLong => push_text(out, "CellTooLong"),
         EditFault::BadInputName => push_text(out, "BadInputName"),
         EditFault::InputTooLarge => push_text(out, "InputTooLarge"),
-        EditFault::NoInputNamed => push_no_input(out, name),
+        EditFault::NoInputNamed => push_words(out, "NoInputNamed ", name),
         EditFault::OutOfMemory => push_text(out, "OutOfMemory"),
     }
 }
@@ -75,10 +76,8 @@ fn push_query_fault(out: &mut Vec<u8>, name: &str, fault: QueryFault) -> Result<
 {
     match fault {
         QueryFault::NoCell(at, count) => push_no_cell(out, at, count),
-        QueryFault::NoName => {
-            push_text(out, "NoName ")?;
-            push_text(out, name)
-        }
+        QueryFault::NoName => push_words(out, "NoName ", name),
+        QueryFault::NoSave => push_words(out, "NoSave ", name),
         QueryFault::OutOfMemory => push_text(out, "OutOfMemory"),
     }
 }
@@ -137,6 +136,15 @@ pub fn push_source_answer(out: &mut Vec<u8>, source: &str) -> Result<(), AllocEr
 {
     push_count_line(out, "source", source.len())?;
     push_text(out, source)?;
+    push_text(out, "\n")
+}
+
+/// Appends the answer that shows a file which a cell saved.
+pub fn push_save_answer(out: &mut Vec<u8>, file: &[u8]) -> Result<(), AllocError>
+    ensures { OnOk result (out.new.items ≡ out.old.items ++ script.save_answer file.now) }
+{
+    push_text(out, "saved ")?;
+    push_hex(out, file)?;
     push_text(out, "\n")
 }
 

@@ -9,7 +9,8 @@ ghost use Rattle.nd_rerun.specs.Values.{source_of};
 ghost use Rattle.nd_run.specs.Carry.{Carried};
 
 use crate::answer::{
-    push_edit_answer, push_names_answer, push_query_refusal, push_result_answer, push_source_answer,
+    push_edit_answer, push_names_answer, push_query_refusal, push_result_answer, push_save_answer,
+    push_source_answer,
 };
 use crate::value::push_value_answer;
 use nd_rerun::{Input, Meter, Notebook};
@@ -160,6 +161,22 @@ pub fn show_value(
 {
     match notebook.value(at, name) {
         Ok(value) => push_value_answer(out, &value),
+        Err(fault) => push_query_refusal(out, name, fault),
+    }
+}
+
+/// Shows a file that a cell saved.
+pub fn show_save(
+    out: &mut Vec<u8>,
+    notebook: &Notebook,
+    at: usize,
+    name: &str,
+) -> Result<(), AllocError>
+    ensures { Carried (script.Asks (script.ShowsSave at name.now)) (book_of notebook.now)
+        out.old.items result out.new.items (book_of notebook.now) }
+{
+    match notebook.file(at, name) {
+        Ok(file) => push_save_answer(out, file),
         Err(fault) => push_query_refusal(out, name, fault),
     }
 }

@@ -7,9 +7,12 @@ ghost use Rattle.nd_rerun.specs.Syntax.{kind_of};
 ghost use Rattle.nd_shape.specs.Faults.{fault_of as shape_fault_of};
 ghost use Rattle.nd_rerun.specs.Faults.{view_fault_of, index_fault_of, ufunc_fault_of, stmt_error_of, fault_of};
 ghost use Rattle.nd_rerun.specs.Results.{cell_fault_of};
+ghost use Rattle.nd_pep.specs.Gives.{fault_of as format_fault_of};
+ghost use Rattle.nd_npy.specs.Gives.{fault_of as npy_fault_of};
 
 use nd_rerun::{
-    CellFault, IndexFault, ParseKind, ShapeFault, StmtError, StmtFault, UfuncFault, ViewFault,
+    CellFault, FormatFault, IndexFault, NpyFault, ParseKind, ShapeFault, StmtError, StmtFault,
+    UfuncFault, ViewFault,
 };
 use nd_script::{push_integer, push_number, push_text};
 use std::alloc::AllocError;
@@ -53,6 +56,14 @@ fn push_statement_fault(out: &mut Vec<u8>, fault: &StmtFault) -> Result<(), Allo
     ensures { OnOk result (out.new.items ≡ out.old.items ++ texts.fault_text (fault_of fault.now)) }
 {
     match fault {
+        StmtFault::Format(fault) => {
+            push_text(out, "Format.")?;
+            push_format_fault(out, *fault)
+        }
+        StmtFault::Npy(fault) => {
+            push_text(out, "Npy.")?;
+            push_npy_fault(out, *fault)
+        }
         StmtFault::View(fault) => {
             push_text(out, "View.")?;
             push_text(out, view_name(*fault))
@@ -74,6 +85,46 @@ fn push_statement_fault(out: &mut Vec<u8>, fault: &StmtFault) -> Result<(), Allo
             push_text(out, "Stmt.")?;
             push_statement_error(out, fault)
         }
+    }
+}
+
+// A name, and a place behind it.
+fn push_place(out: &mut Vec<u8>, name: &str, at: usize) -> Result<(), AllocError>
+    ensures { OnOk result (out.new.items ≡ out.old.items ++ (name.now ++ decimal at)) }
+{
+    push_text(out, name)?;
+    push_number(out, at as u64)
+}
+
+fn push_format_fault(out: &mut Vec<u8>, fault: FormatFault) -> Result<(), AllocError>
+    ensures { OnOk result (out.new.items ≡ out.old.items ++ texts.format_text
+        (format_fault_of fault)) }
+{
+    match fault {
+        FormatFault::UnknownCode(at) => push_place(out, "UnknownCode ", at),
+        FormatFault::Unclosed(at) => push_place(out, "Unclosed ", at),
+        FormatFault::NoName(at) => push_place(out, "NoName ", at),
+        FormatFault::DoubleName(at) => push_place(out, "DoubleName ", at),
+        FormatFault::CountNotHere(at) => push_place(out, "CountNotHere ", at),
+        FormatFault::LargerThanItem => push_text(out, "LargerThanItem"),
+        FormatFault::TooManyFields => push_text(out, "TooManyFields"),
+        FormatFault::BadItemSize => push_text(out, "BadItemSize"),
+    }
+}
+
+fn push_npy_fault(out: &mut Vec<u8>, fault: NpyFault) -> Result<(), AllocError>
+    ensures { OnOk result (out.new.items ≡ out.old.items ++ texts.npy_text
+        (npy_fault_of fault)) }
+{
+    match fault {
+        NpyFault::BadMagic => push_text(out, "BadMagic"),
+        NpyFault::BadVersion => push_text(out, "BadVersion"),
+        NpyFault::Truncated => push_text(out, "Truncated"),
+        NpyFault::NotText(at) => push_place(out, "NotText ", at),
+        NpyFault::BadHeader(at) => push_place(out, "BadHeader ", at),
+        NpyFault::BadKeys => push_text(out, "BadKeys"),
+        NpyFault::BadDescr => push_text(out, "BadDescr"),
+        NpyFault::TooLarge => push_text(out, "TooLarge"),
     }
 }
 
@@ -173,6 +224,10 @@ fn push_statement_error(out: &mut Vec<u8>, error: &StmtError) -> Result<(), Allo
     match error {
         StmtError::NoName(name) => {
             push_text(out, "NoName ")?;
+            push_text(out, name.as_str())
+        }
+        StmtError::NoInput(name) => {
+            push_text(out, "NoInput ")?;
             push_text(out, name.as_str())
         }
         StmtError::IntTooBig => push_text(out, "IntTooBig"),

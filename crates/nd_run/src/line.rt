@@ -13,7 +13,7 @@ ghost use Rattle.nd_run.specs.Source.{lines_so_far, opening_of, stage_of};
 
 use crate::carry::{
     drop_input, edit_cell, insert_cell, move_cell, remove_cell, set_input, show_names, show_result,
-    show_source, show_value,
+    show_save, show_source, show_value,
 };
 use crate::input::input_of_line;
 use crate::source::{Opening, Source};
@@ -137,6 +137,7 @@ fn answer_whole(
         LineCommand::Source(at) => show_source(answer, notebook, at),
         LineCommand::Names(at) => show_names(answer, notebook, at),
         LineCommand::Value { at, name } => show_value(answer, notebook, at, name),
+        LineCommand::Saved { at, name } => show_save(answer, notebook, at, name),
         LineCommand::SetInput { name, input } => {
             set_input(answer, meter, notebook, name, &input_of_line(input))
         }

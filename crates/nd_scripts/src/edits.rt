@@ -2,6 +2,7 @@
 
 use nd_rerun::{Edit, EditFault, Input, Meter, Notebook};
 use nd_rows::unescape;
+use nd_script::{LineCommand, LineInput, command_of};
 use std::alloc::Global;
 use std::io;
 
@@ -12,8 +13,8 @@ fn words_of(line: &str) -> Option<(&str, &str, &str)> {
     Some((word, which, behind))
 }
 
-/// The edit that a line says: `insert AT SOURCE`, `change AT SOURCE`, `move FROM TO`, `remove AT`, `input NAME TEXT`, which sets the
-/// input that it is given with, or `drop NAME`.
+/// The edit that a line says: `insert AT SOURCE`, `change AT SOURCE`, `move FROM TO`, `remove AT`, `input NAME ..` as in a script, with the
+/// input that it sets beside it, or `drop NAME`.
 fn edit_of<'a>(line: &'a str, input: &'a Input) -> Option<Edit<'a>> {
     let (word, which, behind) = words_of(line)?;
     match word {
@@ -43,12 +44,41 @@ pub(crate) fn unescape_lines(alloc: Global, lines: &str) -> io::Result<Vec<Strin
     Ok(texts)
 }
 
-/// For each line what stands behind its first two words, as an input of these bytes.
+/// The input of a line, as a notebook takes it.
+fn taken_of(input: LineInput) -> Input {
+    match input {
+        LineInput::Npy(bytes) => Input::Npy(bytes),
+        LineInput::Buffer {
+            format,
+            itemsize,
+            shape,
+            strides,
+            offset,
+            bytes,
+        } => Input::Buffer {
+            format,
+            itemsize,
+            shape,
+            strides,
+            offset,
+            bytes,
+        },
+    }
+}
+
+/// The input that a line sets; of a line that sets none, one without bytes.
+fn input_of(alloc: Global, line: &str) -> io::Result<Input> {
+    match command_of(alloc, line.as_bytes())? {
+        LineCommand::SetInput { input, .. } => Ok(taken_of(input)),
+        _ => Ok(Input::Npy(Vec::new(alloc))),
+    }
+}
+
+/// For each line the input that it sets.
 pub(crate) fn inputs_of(alloc: Global, lines: &[String]) -> io::Result<Vec<Input>> {
     let mut inputs = Vec::new(alloc);
     for line in lines {
-        let (_, _, behind) = words_of(line.as_str()).unwrap_or(("", "", ""));
-        inputs.push(Input::Npy(Vec::from_slice(alloc, behind.as_bytes())?))?;
+        inputs.push(input_of(alloc, line.as_str())?)?;
     }
     Ok(inputs)
 }

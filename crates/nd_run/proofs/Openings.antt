@@ -2,7 +2,7 @@
 use Rattle.std.proofs.Common.{◌≡◌, ℕ, refl}
 use Rattle.nd_model.specs.Script.{Opening, Opens}
 use Rattle.nd_script.specs.declared.command.LineCommand.{LineCommand}
-use Rattle.nd_script.specs.declared.command.LineCommand.TheVariants.{Insert, Edit, Remove, Move, Show, Source, Names, Value, SetInput, DropInput, Count, Silent, Bad}
+use Rattle.nd_script.specs.declared.command.LineCommand.TheVariants.{Insert, Edit, Remove, Move, Show, Source, Names, Value, Saved, SetInput, DropInput, Count, Silent, Bad}
 use Rattle.nd_script.specs.Command.{line_of}
 
 pub not_opening : (x : LineCommand) → ((at : ℕ) → x ≡ Insert at → ⊥) → ((at : ℕ) → x ≡ Edit at → ⊥) → (o : Opening) → line_of x ≡ Opens o → ⊥
@@ -14,6 +14,7 @@ not_opening (Show at) insert edit o e = cc
 not_opening (Source at) insert edit o e = cc
 not_opening (Names at) insert edit o e = cc
 not_opening (Value at name) insert edit o e = cc
+not_opening (Saved at name) insert edit o e = cc
 not_opening (SetInput name input) insert edit o e = cc
 not_opening (DropInput name) insert edit o e = cc
 not_opening Count insert edit o e = cc

@@ -1,8 +1,8 @@
 //! Refusals, as texts of which no two are the same.
 
 use nd_rerun::{
-    CellFault, EditFault, IndexFault, Refusal, ShapeFault, StmtError, StmtFault, UfuncFault,
-    ViewFault,
+    CellFault, EditFault, IndexFault, NpyFault, Refusal, ShapeFault, StmtError, StmtFault,
+    UfuncFault, ViewFault,
 };
 use nd_session::OutOfMemory;
 use std::alloc::{AllocError, Global};
@@ -45,6 +45,20 @@ fn add_ufunc_fault(text: &mut String, fault: UfuncFault) -> Result<(), AllocErro
     }
 }
 
+/// Adds a fault of an NPY file.
+fn add_npy_fault(text: &mut String, fault: NpyFault) -> Result<(), AllocError> {
+    match fault {
+        NpyFault::BadMagic => write!(text, "bad magic"),
+        NpyFault::BadVersion => write!(text, "bad version"),
+        NpyFault::Truncated => write!(text, "truncated"),
+        NpyFault::NotText(at) => write!(text, "no text at {at}"),
+        NpyFault::BadHeader(at) => write!(text, "no header at {at}"),
+        NpyFault::BadKeys => write!(text, "bad keys"),
+        NpyFault::BadDescr => write!(text, "bad descr"),
+        NpyFault::TooLarge => write!(text, "too large a file"),
+    }
+}
+
 /// Adds another fault of a statement.
 fn add_error(text: &mut String, error: &StmtError) -> Result<(), AllocError> {
     match error {
@@ -78,7 +92,7 @@ fn shape_fault_text(fault: ShapeFault) -> &'static str {
 fn add_statement_fault(text: &mut String, fault: &StmtFault) -> Result<(), AllocError> {
     match fault {
         StmtFault::Format(fault) => write!(text, "{fault:?}"),
-        StmtFault::Npy(fault) => write!(text, "{fault:?}"),
+        StmtFault::Npy(fault) => add_npy_fault(text, *fault),
         StmtFault::View(fault) => write!(text, "{}", view_fault_text(*fault)),
         StmtFault::Index(fault) => add_index_fault(text, fault),
         StmtFault::Shape(fault) => write!(text, "{}", shape_fault_text(*fault)),

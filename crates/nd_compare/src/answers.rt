@@ -10,6 +10,7 @@ fn add_query_fault(text: &mut String, fault: QueryFault) -> Result<(), OutOfMemo
     match fault {
         QueryFault::NoCell(at, count) => Ok(write!(text, "no cell {at} of {count}")?),
         QueryFault::NoName => Ok(write!(text, "no such name")?),
+        QueryFault::NoSave => Ok(write!(text, "no such file")?),
         QueryFault::OutOfMemory => Err(OutOfMemory),
     }
 }

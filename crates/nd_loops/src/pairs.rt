@@ -34,7 +34,7 @@ fn is_of(side: Side<'_>, kind: Kind) -> bool
 
 // A number of a kind, in as many bits as the kind has.
 #[inline(always)]
-fn narrowed(kind: Kind, number: i128) -> i128
+fn narrow(kind: Kind, number: i128) -> i128
     requires { IsValue (kind_of kind) number }
     ensures { result ≡ number }
 {
@@ -84,13 +84,13 @@ fn apply_known<O: Operation>(
         (Side::Each(xs, _), Side::Same(y)) if fits(known_left, y) => {
             let (xs, y) = (
                 Side::Each(xs, known_left),
-                Side::Same(narrowed(known_left, y)),
+                Side::Same(narrow(known_left, y)),
             );
             apply_fast::<O>(out, to, xs, y, count);
         }
         (Side::Same(x), Side::Each(ys, _)) if fits(known_right, x) => {
             let (x, ys) = (
-                Side::Same(narrowed(known_right, x)),
+                Side::Same(narrow(known_right, x)),
                 Side::Each(ys, known_right),
             );
             apply_fast::<O>(out, to, x, ys, count);

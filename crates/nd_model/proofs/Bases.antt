@@ -1,5 +1,5 @@
 -- A statement makes at most one base for each of its tokens.
-use Rattle.std.proofs.Common.{◌≡◌, ℕ, zero, suc, ◌+◌, ◌≤◌, Bool, true, false, cond, List, [], ◌∷◌, Option, Some, None, Result, Ok, Err, refl, arith}
+use Rattle.std.proofs.Common.{◌≡◌, ℕ, ℤ, pos, zero, suc, ◌+◌, ◌≤◌, Bool, true, false, cond, List, [], ◌∷◌, Option, Some, None, Result, Ok, Err, refl, arith}
 use Rattle.nd_model.specs.View.{ElementType, One, Structure, Geo, item_size}
 use Rattle.nd_model.specs.Content.{Content}
 use Rattle.nd_model.specs.Value.{Base, Value, Int, Truth, Scalar, Array, Row}
@@ -9,14 +9,15 @@ use Rattle.nd_model.specs.Fault.{Fault, ViewFault, BadArgument}
 use Rattle.nd_model.specs.Fault as fault
 use Rattle.nd_model.specs.InputName.{is_input_name}
 use Rattle.nd_model.specs.Syntax as syntax
-use Rattle.nd_model.specs.Syntax.{Expr, Call, Method, Elements, Element, Index, IndexItems, IndexItem, Stmt}
-use Rattle.nd_model.specs.Tokens.{tokens_of, tokens_of_call, tokens_of_shape, tokens_of_lengths, tokens_of_exprs, tokens_of_bound, tokens_of_step, tokens_of_index, tokens_of_items, tokens_of_item, tokens_of_method, tokens_of_elements, tokens_of_others, tokens_of_element, tokens_of_all, tokens_of_stmt}
+use Rattle.nd_model.specs.Syntax.{Expr, Call, Axis, Method, Elements, Element, Index, IndexItems, IndexItem, Stmt}
+use Rattle.nd_model.specs.Tokens.{tokens_of, tokens_of_call, tokens_of_axis, tokens_of_first, tokens_of_shape, tokens_of_lengths, tokens_of_exprs, tokens_of_bound, tokens_of_step, tokens_of_index, tokens_of_items, tokens_of_item, tokens_of_method, tokens_of_elements, tokens_of_others, tokens_of_element, tokens_of_all, tokens_of_stmt}
 use Rattle.nd_model.specs.Evaluation.{Eval, Gives, Refuses, Asks, run, ◌>>=◌, decide}
 use Rattle.nd_model.specs.Operand as operand
 use Rattle.nd_model.specs.Operand.{Operand, Usage, Made, ANumber, AnArray, Loaded, AFile, ABuffer, Chosen, AnElement, AView, ACopy, Stretched, Deed, NoDeed, PrintsText, SavesFile, BindsFirst, BindsMade, Unbinds, Writes, MakesAndWrites}
 use Rattle.nd_model.specs.Viewing.{choose}
 use Rattle.nd_model.specs.Operation
 use Rattle.nd_model.specs.Operation.{operands, Operation, Computes, Views, perform, Plan, Named, FromInput, Does, Plans, Done, And, evaluate, with_values, evaluate_all, Work, Acts, ActsOn, do_work}
+use Rattle.nd_model.specs.Reductions.{reduce_array, reduce_call}
 use Rattle.nd_model.specs.Meaning
 use Rattle.nd_model.specs.Cell.{had}
 use Rattle.nd_model.specs.Bases.{FewBases}
@@ -224,9 +225,22 @@ mutual
   at_call (syntax.Maximum a b) = omega (arith, at_expr a, at_expr b)
   at_call (syntax.Absolute e) = omega (arith, at_expr e)
   at_call (syntax.PythonAbs e) = omega (arith, at_expr e)
-  at_call (syntax.Folded u f) = omega arith
+  at_call (syntax.Folded u (syntax.Reduce e a k)) = omega (arith, at_expr e, at_reduction (reduce_call u k) (Some (pos 0)) a (Meaning.plan e))
+  at_call (syntax.Folded u (syntax.Accumulate e syntax.Omitted)) = omega (arith, at_expr e)
+  at_call (syntax.Folded u (syntax.Accumulate e (syntax.Given a))) = omega (arith, at_expr e, at_expr a)
   at_call (syntax.Load n) = omega arith
   at_call (syntax.Buffer n) = omega arith
+
+  pub at_reduction : (f : Operand → Option ℤ → Result Made Fault) (otherwise : Option ℤ) (a : Axis) (x : Plan) → bases (Meaning.reduction_plan f otherwise x a) ≤ 1 + bases x + tokens_of_axis a
+  at_reduction f otherwise syntax.DefaultAxis x = omega arith
+  at_reduction f otherwise syntax.AllAxes x = omega arith
+  at_reduction f otherwise (syntax.AtAxis e) x = omega (arith, at_expr e)
+
+  pub at_first : (f : Operand → Option ℤ → Result Made Fault) (otherwise : Option ℤ) (a : Axis) (k : Bool) (x : Plan) → bases (Meaning.reduction_plan f otherwise x a) ≤ 1 + bases x + tokens_of_first a k
+  at_first f otherwise syntax.DefaultAxis true x = omega arith
+  at_first f otherwise syntax.DefaultAxis false x = omega arith
+  at_first f otherwise syntax.AllAxes k x = omega arith
+  at_first f otherwise (syntax.AtAxis e) k x = omega (arith, at_expr e)
 
   pub at_method : (m : Method) (x : Plan) → bases (Meaning.method_plan m x) ≤ 2 + bases x + tokens_of_method m
   at_method (syntax.Transpose axes) x = at_axes axes x
@@ -234,8 +248,9 @@ mutual
   at_method syntax.Copy x = omega arith
   at_method (syntax.AsType t) x = omega arith
   at_method (syntax.ViewAs t) x = omega arith
-  at_method (syntax.Reduced r a k) x = omega arith
-  at_method (syntax.Accumulated r a) x = omega arith
+  at_method (syntax.Reduced r a k) x = omega (arith, at_first (reduce_array r k) None a k x)
+  at_method (syntax.Accumulated r syntax.Omitted) x = omega arith
+  at_method (syntax.Accumulated r (syntax.Given e)) x = omega (arith, at_expr e)
 
   pub at_elements : (es : Elements) (rest : Plans) → all_bases (Meaning.list_plans es rest) ≤ tokens_of_elements es + all_bases rest
   at_elements syntax.NoElement rest = omega arith

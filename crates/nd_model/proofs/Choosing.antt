@@ -23,6 +23,7 @@ use Rattle.nd_model.specs.Sound.{LiesIn}
 use Rattle.nd_model.proofs.Taking.{IsWithin}
 use Rattle.nd_model.proofs.Selected.{selected_lies}
 use Rattle.nd_model.proofs.Fielded.{found_lies}
+use Rattle.nd_model.proofs.Gathered.{bind_ok}
 use Rattle.nd_model.proofs.Transposed.{transposed_lies, reversed_lies}
 use Rattle.nd_model.proofs.Reshaped.{reshaped_within}
 use Rattle.nd_model.proofs.Stretched.{stretched_lies, unless_ok}
@@ -34,10 +35,6 @@ ChoosesWithin len (AnElement t p) = p + item_size t ≤ len
 ChoosesWithin len (AView h) = IsWithin len h
 ChoosesWithin len (ACopy h) = Unit {0}
 ChoosesWithin len (Stretched t c shape) = Unit {0}
-
-bind_ok : {A B : Type 0} (x : Result A Fault) (f : A → Result B Fault) (y : B) → refusing.◌>>=◌ x f ≡ Ok y → (z : A) × (x ≡ Ok z) × (f z ≡ Ok y)
-bind_ok (Ok z) f y e = (z, refl, e)
-bind_ok (Err g) f y e = absurd (cc)
 
 ok_same : {A : Type 0} (x y : A) → ◌≡◌ {A = Result A Fault} (Ok x) (Ok y) → x ≡ y
 ok_same x y e = cc

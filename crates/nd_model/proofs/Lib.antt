@@ -54,3 +54,5 @@ pub mod Recast
 pub mod Reshaped
 pub mod EvenPlaces
 pub mod Fielded
+pub mod Joined
+pub mod Gathered

@@ -187,3 +187,15 @@ other_sort = refl
 file_of_a_range : saves (codes "np.save('s', np.arange(3, dtype=np.int8))") ≡ (codes "s", 147 ∷ codes "NUMPY" ++ 1 ∷ 0 ∷ 118 ∷ 0 ∷ codes "{'descr': '|i1', 'fortran_order': False, 'shape': (3,), }                                                            \n" ++ 0 ∷ 1 ∷ 2 ∷ []) ∷ []
 unfolding digits reading tokens tokens_from piece_at word_at keywords symbols cell lines line stmt bind assign target groups group place imports module_name delete print printed save saved value expr comparison bor bxor band shift sum term unary signed power exponent under postfix suffix operand function call arange second third filled full new_array broadcast_to two fold reduce accumulate comma_options options first_axis named_axis numbered_axis comma_keepdims only_keepdims named_keepdims comma_typing only_typing typing dtype fields pair type_name kind_name shape tuple no_lengths quoted exprs method attribute axes lengths empty type_argument reduction reduction_options accumulation index contents nothing item part list elements newaxis slice step_in bound_in grouped name has keyword_kinds name_kinds format header read_format read_npy header_in header_of elements_in npy_front rule_reading
 file_of_a_range = refl
+
+sums_along_axes : gives (codes "a = np.arange(6).reshape(2,3)\nprint(a.cumsum())\nprint(np.add.accumulate(a))\nprint(a.argmax(axis=1))\nprint(a.sum(axis=0, keepdims=True))\nprint(a.sum(axis=2))") ≡ (codes "[ 0  1  3  6 10 15]\n[[0 1 2]\n [3 5 7]]\n[2 2]\n[[3 5 7]]\n", codes "Reduce.NoAxis")
+unfolding digits reading tokens tokens_from piece_at word_at keywords symbols cell lines line stmt bind assign target groups group place imports module_name delete print printed save saved value expr comparison bor bxor band shift sum term unary signed power exponent under postfix suffix operand function call arange second third filled full new_array broadcast_to two fold reduce accumulate comma_options options first_axis named_axis numbered_axis comma_keepdims only_keepdims named_keepdims comma_typing only_typing typing dtype fields pair type_name kind_name shape tuple no_lengths quoted exprs method attribute axes lengths empty type_argument reduction reduction_options accumulation index contents nothing item part list elements newaxis slice step_in bound_in grouped name has keyword_kinds name_kinds
+sums_along_axes = refl
+
+no_least_of_none : gives (codes "z = np.zeros((0,3), dtype=np.int8)\nprint(z.sum())\nprint(z.min(axis=1))\nprint(z.min())") ≡ (codes "0\n[]\n", codes "Reduce.EmptyReduce")
+unfolding digits reading tokens tokens_from piece_at word_at keywords symbols cell lines line stmt bind assign target groups group place imports module_name delete print printed save saved value expr comparison bor bxor band shift sum term unary signed power exponent under postfix suffix operand function call arange second third filled full new_array broadcast_to two fold reduce accumulate comma_options options first_axis named_axis numbered_axis comma_keepdims only_keepdims named_keepdims comma_typing only_typing typing dtype fields pair type_name kind_name shape tuple no_lengths quoted exprs method attribute axes lengths empty type_argument reduction reduction_options accumulation index contents nothing item part list elements newaxis slice step_in bound_in grouped name has keyword_kinds name_kinds
+no_least_of_none = refl
+
+sums_in_64_bits : gives (codes "x = np.array([100,100], dtype=np.int8)\nprint(x.sum(), x.prod(axis=-1), x.argmax(), x.any(), np.maximum.reduce(x), np.int8(5).sum())\nprint(np.int8(5).cumsum())") ≡ (codes "200 10000 0 True 100 5\n", codes "Stmt.NotAnArray")
+unfolding digits reading tokens tokens_from piece_at word_at keywords symbols cell lines line stmt bind assign target groups group place imports module_name delete print printed save saved value expr comparison bor bxor band shift sum term unary signed power exponent under postfix suffix operand function call arange second third filled full new_array broadcast_to two fold reduce accumulate comma_options options first_axis named_axis numbered_axis comma_keepdims only_keepdims named_keepdims comma_typing only_typing typing dtype fields pair type_name kind_name shape tuple no_lengths quoted exprs method attribute axes lengths empty type_argument reduction reduction_options accumulation index contents nothing item part list elements newaxis slice step_in bound_in grouped name has keyword_kinds name_kinds
+sums_in_64_bits = refl

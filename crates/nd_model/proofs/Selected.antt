@@ -44,7 +44,7 @@ source_tuple (AddedAxis ∷ qs) sizes (i ∷ t) f h = source_tuple qs sizes t f 
 
 -- ---- whole numbers and slices choose positions of their axis
 
-counted_below : (n : ℕ) (z : ℤ) → is_within n z ≡ true → counted_from n z < n
+pub counted_below : (n : ℕ) (z : ℤ) → is_within n z ≡ true → counted_from n z < n
 counted_below n (pos m) h = grind (arith, nat_tests, ints)
 counted_below n (negsuc m) h = grind (arith, nat_tests, ints)
 
@@ -105,7 +105,7 @@ picks_fit (Slice start stop step ∷ is) axis (n ∷ sizes) count e = (slice_bel
 picks_fit (Ellipsis ∷ is) axis sizes count e = picks_fit is (axis + 0) sizes (omega arith) e
 picks_fit (NewAxis ∷ is) axis sizes count e = picks_fit is (axis + 0) sizes (omega arith) e
 
-slices_axes : (m : ℕ) (is : List Item) → axes_in (replicate m whole_slice ++ is) ≡ m + axes_in is
+pub slices_axes : (m : ℕ) (is : List Item) → axes_in (replicate m whole_slice ++ is) ≡ m + axes_in is
 slices_axes zero is = omega arith
 slices_axes (suc m) is = omega (arith, slices_axes m is)
 
@@ -128,7 +128,7 @@ when_ok : {A : Type 0} (b : Bool) (f : Fault) (x : Result A Fault) (y : A) → w
 when_ok true f x y e = (refl, e)
 when_ok false f x y e = absurd (cc)
 
-outside_ok : {A : Type 0} (o : Option IndexFault) (x : Result A Fault) (y : A) → unless_outside o x ≡ Ok y → (o ≡ None) × (x ≡ Ok y)
+pub outside_ok : {A : Type 0} (o : Option IndexFault) (x : Result A Fault) (y : A) → unless_outside o x ≡ Ok y → (o ≡ None) × (x ≡ Ok y)
 outside_ok None x y e = (refl, e)
 outside_ok (Some f) x y e = absurd (cc)
 

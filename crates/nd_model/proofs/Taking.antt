@@ -43,7 +43,7 @@ stretched_tuple (n ∷ s) (m ∷ shape) (i ∷ t) e h =
       stretched_tuple s shape t parts.1 h.1,
     )
 
-narrowed_tuple : (s shape t : List ℕ) → broadcasts_to s shape ≡ true → IsTuple shape t → IsTuple s (own_tuple s t)
+pub narrowed_tuple : (s shape t : List ℕ) → broadcasts_to s shape ≡ true → IsTuple shape t → IsTuple s (own_tuple s t)
 narrowed_tuple s shape t e h =
     let parts : (leb (length s) (length shape) ≡ true) × (can_stretch s (drop (length shape - length s) shape) ≡ true) = both _ _ e in
     rw (length-tuple shape t h) (stretched_tuple s (drop (length shape - length s) shape) (drop (length shape - length s) t) parts.1 (tuple-drop (length shape - length s) shape t h))

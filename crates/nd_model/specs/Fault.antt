@@ -3,6 +3,7 @@ use Rattle.std.specs.Prelude.{ℕ, ℤ, List}
 use Rattle.nd_model.specs.ShapeFault.{ShapeFault}
 use Rattle.nd_model.specs.FormatFault.{FormatFault}
 use Rattle.nd_model.specs.NpyFault.{NpyFault}
+use Rattle.nd_model.specs.ReduceFault.{ReduceFault}
 
 pub data ViewFault : Type 0 where
   OutOfBlock : ViewFault
@@ -18,6 +19,8 @@ pub data IndexFault : Type 0 where
   NotAnIndex : IndexFault
   TwoEllipses : IndexFault
   NoField : (name : List ℕ) → IndexFault
+  MaskShape : (axis : ℕ) → IndexFault
+  IndexShapes : IndexFault
 
 pub data UfuncFault : Type 0 where
   FloatResult : UfuncFault
@@ -50,6 +53,7 @@ pub data Fault : Type 0 where
   Index : IndexFault → Fault
   Shape : ShapeFault → Fault
   Ufunc : UfuncFault → Fault
+  Reduce : ReduceFault → Fault
   Stmt : StmtFault → Fault
 
 pub data ParseKind : Type 0 where

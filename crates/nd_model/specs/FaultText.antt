@@ -1,13 +1,15 @@
 -- The texts of refusals, as a script is answered.
 use Rattle.std.specs.Prelude.{ℕ, List, ◌++◌, codes, decimal}
 use Rattle.std.specs.Fmt.{signed_decimal}
-use Rattle.nd_model.specs.Fault.{ViewFault, OutOfBlock, TooManyAxes, TooManyElements, AxesDiffer, ItemSizes, IndexFault, OutOfBounds, TooManyIndices, ZeroStep, NotAnIndex, TwoEllipses, NoField, UfuncFault, FloatResult, IntOutOfRange, BoolOp, KindCast, NegativePower, ShapeMismatch, ReadOnly, NotNumbers, StmtFault, NoName, NoInput, IntTooBig, ZeroDivide, NegativeShift, NeedsType, RaggedList, NotAnArray, TextTooLong, BadArgument, BadType, Fault, Format, Npy, View, Index, Shape, Ufunc, Stmt, ParseKind, BadToken, Unexpected, TooDeep, TooManyStatements, UnknownCall, LeftOut, Refusal, Parse, Statement}
+use Rattle.nd_model.specs.Fault.{ViewFault, OutOfBlock, TooManyAxes, TooManyElements, AxesDiffer, ItemSizes, IndexFault, OutOfBounds, TooManyIndices, ZeroStep, NotAnIndex, TwoEllipses, NoField, MaskShape, IndexShapes, UfuncFault, FloatResult, IntOutOfRange, BoolOp, KindCast, NegativePower, ShapeMismatch, ReadOnly, NotNumbers, StmtFault, NoName, NoInput, IntTooBig, ZeroDivide, NegativeShift, NeedsType, RaggedList, NotAnArray, TextTooLong, BadArgument, BadType, Fault, Format, Npy, View, Index, Shape, Ufunc, Reduce, Stmt, ParseKind, BadToken, Unexpected, TooDeep, TooManyStatements, UnknownCall, LeftOut, Refusal, Parse, Statement}
 use Rattle.nd_model.specs.ShapeFault as shape
 use Rattle.nd_model.specs.ShapeFault.{ShapeFault}
 use Rattle.nd_model.specs.FormatFault as format
 use Rattle.nd_model.specs.FormatFault.{FormatFault}
 use Rattle.nd_model.specs.NpyFault as npy
 use Rattle.nd_model.specs.NpyFault.{NpyFault}
+use Rattle.nd_model.specs.ReduceFault as reduce
+use Rattle.nd_model.specs.ReduceFault.{ReduceFault}
 use Rattle.nd_model.specs.Book as book
 use Rattle.nd_model.specs.Book.{EditFault, TooManyCells, CellTooLong, BadInputName, InputTooLarge, NoInputNamed, QueryFault}
 
@@ -45,6 +47,8 @@ index_text ZeroStep = codes "ZeroStep"
 index_text NotAnIndex = codes "NotAnIndex"
 index_text TwoEllipses = codes "TwoEllipses"
 index_text (NoField name) = codes "NoField " ++ name
+index_text (MaskShape axis) = codes "MaskShape " ++ decimal axis
+index_text IndexShapes = codes "IndexShapes"
 
 abbrev pub shape_text : ShapeFault → List ℕ
 shape_text shape.BadAxes = codes "BadAxes"
@@ -61,6 +65,11 @@ ufunc_text NegativePower = codes "NegativePower"
 ufunc_text ShapeMismatch = codes "ShapeMismatch"
 ufunc_text ReadOnly = codes "ReadOnly"
 ufunc_text NotNumbers = codes "NotNumbers"
+
+abbrev pub reduce_text : ReduceFault → List ℕ
+reduce_text reduce.EmptyReduce = codes "EmptyReduce"
+reduce_text reduce.NoAxis = codes "NoAxis"
+reduce_text reduce.NotNumbers = codes "NotNumbers"
 
 abbrev pub stmt_text : StmtFault → List ℕ
 stmt_text (NoName name) = codes "NoName " ++ name
@@ -82,6 +91,7 @@ fault_text (View f) = codes "View." ++ view_text f
 fault_text (Index f) = codes "Index." ++ index_text f
 fault_text (Shape f) = codes "Shape." ++ shape_text f
 fault_text (Ufunc f) = codes "Ufunc." ++ ufunc_text f
+fault_text (Reduce f) = codes "Reduce." ++ reduce_text f
 fault_text (Stmt f) = codes "Stmt." ++ stmt_text f
 
 abbrev pub parse_text : ParseKind → List ℕ

@@ -10,6 +10,7 @@ pub mod Content
 pub mod Running
 pub mod InputName
 pub mod ShapeFault
+pub mod ReduceFault
 pub mod Fault
 pub mod Strides
 pub mod Calls
@@ -33,9 +34,11 @@ pub mod Operand
 pub mod Broadcast
 pub mod Operators
 pub mod Elementwise
+pub mod Reductions
 pub mod Index
 pub mod Slicing
 pub mod Selecting
+pub mod Advanced
 pub mod Types
 pub mod Conversion
 pub mod Creation

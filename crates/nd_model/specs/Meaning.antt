@@ -1,17 +1,18 @@
 -- What expressions and statements mean: for each form its operands, how they are used, and what is made of them.
-use Rattle.std.specs.Prelude.{pos, Bool, true, false, List, [], ◌∷◌, Result, Ok, Err}
+use Rattle.std.specs.Prelude.{ℤ, pos, Bool, true, false, List, [], ◌∷◌, Option, Some, None, Result, Ok, Err}
 use Rattle.nd_model.specs.Value.{Value}
 use Rattle.nd_model.specs.Running.{Effect}
 use Rattle.nd_model.specs.Fault.{Fault, BadArgument}
 use Rattle.nd_model.specs.Fault as fault
-use Rattle.nd_model.specs.Syntax.{Expr, Exprs, NoExpr, AndExpr, Name, Integer, Unary, Binary, Called, Call, Arange, Filled, Full, NewArray, Convert, Minimum, Maximum, Absolute, PythonAbs, Load, Buffer, Bound, Omitted, Given, Elements, NoElement, AndElement, Element, Single, Nested, Item, Attribute, Method, Copy, AsType, Transpose, Reshape, ViewAs, Index, Field, Items, IndexItems, IndexItem, AndItem, NoItem, At, Slice, Ellipsis, NewAxis, Listed, Stmt, Import, Bind, Augment, Assign, AugmentItem, Delete, Print, Save}
+use Rattle.nd_model.specs.Syntax.{Expr, Exprs, NoExpr, AndExpr, Name, Integer, Unary, Binary, Called, Call, Arange, Filled, Full, NewArray, Convert, Minimum, Maximum, Absolute, PythonAbs, Folded, Load, Buffer, Fold, Reduce, Accumulate, Axis, DefaultAxis, AllAxes, AtAxis, Bound, Omitted, Given, Elements, NoElement, AndElement, Element, Single, Nested, Item, Attribute, Method, Copy, AsType, Transpose, Reshape, ViewAs, Reduced, Accumulated, Index, Field, Items, IndexItems, IndexItem, AndItem, NoItem, At, Slice, Ellipsis, NewAxis, Listed, Stmt, Import, Bind, Augment, Assign, AugmentItem, Delete, Print, Save}
 use Rattle.nd_model.specs.Syntax as syntax
 use Rattle.nd_model.specs.Refusing as refusing
 use Rattle.nd_model.specs.Evaluation.{Eval}
-use Rattle.nd_model.specs.Operand.{Int, Truth, Operand, Usage, Whole, ArraysOnly, RowsOnly, Unused, ANumber, Deed, NoDeed, BindsFirst, Unbinds, Writes}
+use Rattle.nd_model.specs.Operand.{Int, Truth, Operand, Usage, Whole, ArraysOnly, RowsOnly, Unused, Made, ANumber, Deed, NoDeed, BindsFirst, Unbinds, Writes}
 use Rattle.nd_model.specs.Operators as operators
 use Rattle.nd_model.specs.Operators.{Of}
 use Rattle.nd_model.specs.Elementwise.{binary, single, call_binary, call_single}
+use Rattle.nd_model.specs.Reductions.{axis_number, reduce_array, accumulate_array, reduce_call, accumulate_call}
 use Rattle.nd_model.specs.Creation.{arange, filled, full, new_array, array_of_list, convert, copy_array, astype}
 use Rattle.nd_model.specs.Writing.{assignment_writes}
 use Rattle.nd_model.specs.Augmenting.{augment_name, augment_item}
@@ -30,6 +31,10 @@ one f _ = Err (fault.Stmt BadArgument)
 abbrev pub two : {A : Type 0} → (Operand → Operand → Result A Fault) → List Operand → Result A Fault
 two f (x ∷ y ∷ []) = f x y
 two f _ = Err (fault.Stmt BadArgument)
+
+-- a fold along the axis that stands behind the operand
+abbrev pub along : (Operand → (axis : Option ℤ) → Result Made Fault) → Operand → Operand → Result Made Fault
+along f x a = refusing.◌>>=◌ (axis_number a) (λ z. f x (Some z))
 
 -- a form that is not built yet
 abbrev pub unbuilt_form : {A : Type 0} → List Operand → Result A Fault
@@ -79,9 +84,21 @@ abbrev mutual
   call_plan (Maximum a b) = Does (Computes (two (call_binary operators.Maximum))) (And Whole (plan a) (And Whole (plan b) Done))
   call_plan (Absolute e) = Does (Computes (one (call_single operators.Absolute))) (And Whole (plan e) Done)
   call_plan (PythonAbs e) = Does (Computes (one (single operators.Absolute))) (And Whole (plan e) Done)
+  call_plan (Folded f (Reduce e a keep)) = reduction_plan (reduce_call f keep) (Some (pos 0)) (plan e) a
+  call_plan (Folded f (Accumulate e a)) = accumulation_plan (accumulate_call f) (Some (pos 0)) (plan e) a
   call_plan (Load n) = FromInput n (load n)
   call_plan (Buffer n) = FromInput n (buffer n)
-  call_plan _ = Does (Computes unbuilt_form) Done
+
+  -- a fold along an axis, where none is written along this one; `None` is for all
+  pub reduction_plan : (Operand → (axis : Option ℤ) → Result Made Fault) → Option ℤ → Plan → Axis → Plan
+  reduction_plan f otherwise x DefaultAxis = Does (Computes (one (λ o. f o otherwise))) (And Whole x Done)
+  reduction_plan f otherwise x AllAxes = Does (Computes (one (λ o. f o None))) (And Whole x Done)
+  reduction_plan f otherwise x (AtAxis e) = Does (Computes (two (along f))) (And Whole x (And Whole (plan e) Done))
+
+  -- the same where `None` may not be written
+  pub accumulation_plan : (Operand → (axis : Option ℤ) → Result Made Fault) → Option ℤ → Plan → Bound → Plan
+  accumulation_plan f otherwise x Omitted = Does (Computes (one (λ o. f o otherwise))) (And Whole x Done)
+  accumulation_plan f otherwise x (Given e) = Does (Computes (two (along f))) (And Whole x (And Whole (plan e) Done))
 
   -- of an array's method, and of the plan of the array
   pub method_plan : Method → Plan → Plan
@@ -90,7 +107,8 @@ abbrev mutual
   method_plan (Transpose axes) x = Does (Views Transposed) (And Unused x (expr_plans Unused axes Done))
   method_plan (Reshape shape) x = Does (Views Reshaped) (And Unused x (expr_plans Unused shape Done))
   method_plan (ViewAs t) x = Does (Views (ViewedAs t)) (And Unused x Done)
-  method_plan _ x = Does (Computes unbuilt_form) (And Unused x Done)
+  method_plan (Reduced r a keep) x = reduction_plan (reduce_array r keep) None x a
+  method_plan (Accumulated f a) x = accumulation_plan (accumulate_array f) None x a
 
   -- the numbers of a list from left to right, and then the others
   pub list_plans : Elements → Plans → Plans

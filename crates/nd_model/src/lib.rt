@@ -25,7 +25,7 @@ ghost use Rattle.nd_model.specs.Records.{Kept};
 ghost use Rattle.nd_model.specs.Renaming.{Rename, AnyLabels};
 ghost use Rattle.nd_model.specs.Reshaping.{EvenPlaces};
 ghost use Rattle.nd_model.specs.Scheduler.{AnyPass};
-ghost use Rattle.nd_model.specs.Selected.{FieldLies, SelectedLies};
+ghost use Rattle.nd_model.specs.Selected.{AdvancedLies, FieldLies, SelectedLies};
 ghost use Rattle.nd_model.specs.Shaped.{
   RecastLies,
   ReshapedLies,
@@ -73,6 +73,11 @@ pub fn parts_are_held()
 /// What a basic index chooses of a view that lies in its base lies there.
 pub fn selected_lies()
     ensures { SelectedLies }
+{}
+
+/// What an index with arrays, each with all its contents, chooses of a view that lies in its base lies there.
+pub fn advanced_lies()
+    ensures { AdvancedLies }
 {}
 
 /// The view of a field of a view that lies in its base lies there.

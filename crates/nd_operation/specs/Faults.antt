@@ -1,6 +1,7 @@
 -- The refusals of the program as the definitions have them.
 use Rattle.std.specs.Prelude.{string_bytes}
 use Rattle.nd_model.specs.Fault as model
+use Rattle.nd_model.specs.ReduceFault as reduce
 use Rattle.nd_pep.specs.Gives.{fault_of as format_fault_of}
 use Rattle.nd_npy.specs.Gives.{fault_of as npy_fault_of}
 pub use Rattle.nd_view.specs.Faults.{view_fault_of}
@@ -9,11 +10,13 @@ pub use Rattle.nd_ufunc.specs.Faults.{ufunc_fault_of}
 use Rattle.nd_basic.specs.declared.fault.SelectFault.{SelectFault}
 use Rattle.nd_basic.specs.declared.fault.SelectFault.TheVariants as select_fault
 use Rattle.nd_operation.specs.declared.fault.IndexFault.{IndexFault}
-use Rattle.nd_operation.specs.declared.fault.IndexFault.TheVariants.{OutOfBounds, TooManyIndices, ZeroStep, NotAnIndex, TwoEllipses, NoField}
+use Rattle.nd_operation.specs.declared.fault.IndexFault.TheVariants.{OutOfBounds, TooManyIndices, ZeroStep, NotAnIndex, TwoEllipses, NoField, MaskShape, IndexShapes}
+use Rattle.nd_operation.specs.declared.fault.ReduceFault.{ReduceFault}
+use Rattle.nd_operation.specs.declared.fault.ReduceFault.TheVariants.{EmptyReduce, NoAxis, NotNumbers}
 use Rattle.nd_operation.specs.declared.fault.StmtError.{StmtError}
 use Rattle.nd_operation.specs.declared.fault.StmtError.TheVariants.{NoName, NoInput, IntTooBig, ZeroDivide, NegativeShift, NeedsType, RaggedList, NotAnArray, TextTooLong, BadArgument, BadType}
 use Rattle.nd_operation.specs.declared.fault.StmtFault.{StmtFault}
-use Rattle.nd_operation.specs.declared.fault.StmtFault.TheVariants.{Format, Npy, View, Index, Shape, Ufunc, Stmt}
+use Rattle.nd_operation.specs.declared.fault.StmtFault.TheVariants.{Format, Npy, View, Index, Shape, Ufunc, Reduce, Stmt}
 
 abbrev pub index_fault_of : IndexFault → model.IndexFault
 index_fault_of (OutOfBounds axis index size) = model.OutOfBounds axis index size
@@ -22,6 +25,13 @@ index_fault_of ZeroStep = model.ZeroStep
 index_fault_of NotAnIndex = model.NotAnIndex
 index_fault_of TwoEllipses = model.TwoEllipses
 index_fault_of (NoField n) = model.NoField (string_bytes n)
+index_fault_of (MaskShape axis) = model.MaskShape axis
+index_fault_of IndexShapes = model.IndexShapes
+
+abbrev pub reduce_fault_of : ReduceFault → reduce.ReduceFault
+reduce_fault_of EmptyReduce = reduce.EmptyReduce
+reduce_fault_of NoAxis = reduce.NoAxis
+reduce_fault_of NotNumbers = reduce.NotNumbers
 
 abbrev pub stmt_error_of : StmtError → model.StmtFault
 stmt_error_of (NoName n) = model.NoName (string_bytes n)
@@ -43,6 +53,7 @@ fault_of (View f) = model.View (view_fault_of f)
 fault_of (Index f) = model.Index (index_fault_of f)
 fault_of (Shape f) = shape_fault_of f
 fault_of (Ufunc f) = model.Ufunc (ufunc_fault_of f)
+fault_of (Reduce f) = model.Reduce (reduce_fault_of f)
 fault_of (Stmt f) = model.Stmt (stmt_error_of f)
 
 -- what a basic index refuses

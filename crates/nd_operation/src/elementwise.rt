@@ -42,8 +42,8 @@ fn argument_of<'v>(operand: &Operand<'v>) -> Argument<'v>
     }
 }
 
-/// What is made of a new array of numbers: the number, where there are no axes.
-fn new_numbers(view: View, block: RawBlock) -> New
+/// Returns what is made of a new array of numbers: the number, where there are no axes.
+pub fn new_numbers(view: View, block: RawBlock) -> New
     requires { (n : Numbers) × IsArrayOf n view block }
     ensures gives { (n : Numbers) → IsArrayOf n view block
         → give (made_of n.kind n.shape n.number) ≡ given result }

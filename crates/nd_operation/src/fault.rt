@@ -21,6 +21,21 @@ pub enum IndexFault {
     TwoEllipses,
     /// The elements have no field with this name.
     NoField(String),
+    /// A mask has another length than this axis. Axes are counted from 0.
+    MaskShape { axis: usize },
+    /// The arrays and masks have no common shape.
+    IndexShapes,
+}
+
+/// Why numbers are not reduced.
+#[derive(Clone, Copy)]
+pub enum ReduceFault {
+    /// There is no least or greatest number among none.
+    EmptyReduce,
+    /// There is no such axis.
+    NoAxis,
+    /// Structures are no numbers.
+    NotNumbers,
 }
 
 /// Other refusals of a statement.
@@ -59,5 +74,6 @@ pub enum StmtFault {
     Index(IndexFault),
     Shape(ShapeFault),
     Ufunc(UfuncFault),
+    Reduce(ReduceFault),
     Stmt(StmtError),
 }

@@ -23,9 +23,10 @@ pub use conversion::{
     whole_number,
 };
 pub use creation::{check_limits, make_filled, make_full};
-pub use elementwise::kind_in_place;
+pub use elementwise::{kind_in_place, new_numbers};
 pub use fault::{
-    FormatFault, IndexFault, NpyFault, ShapeFault, StmtError, StmtFault, UfuncFault, ViewFault,
+    FormatFault, IndexFault, NpyFault, ReduceFault, ShapeFault, StmtError, StmtFault, UfuncFault,
+    ViewFault,
 };
 pub use lists::make_list;
 pub use operand::{Elements, New, Operand};

@@ -1,0 +1,14 @@
+pub mod Accumulated
+pub mod Better
+pub mod Emptied
+pub mod Folded
+pub mod Moved
+pub mod Prefixed
+pub mod Reduced
+pub mod Results
+pub mod Rows
+pub mod Sliced
+pub mod Stepped
+pub mod Taken
+pub mod Unmoved
+pub mod Wrapped

@@ -1,0 +1,5 @@
+pub mod Axes
+pub mod Faults
+pub mod Lanes
+pub mod Made
+pub mod States

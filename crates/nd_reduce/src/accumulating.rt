@@ -1,0 +1,155 @@
+//! Accumulations of arrays.
+ghost use Rattle.std.specs.Prelude.{◌≡◌, ℕ, ◌*◌, ◌^◌, ◌<◌, ◌≤◌, length, IfOk};
+ghost use Rattle.std.specs.List.{flat_map};
+ghost use Rattle.nd_model.specs.Element.{size_of};
+ghost use Rattle.nd_model.specs.Elementwise.{little};
+ghost use Rattle.nd_model.specs.Reductions.{accumulated_numbers, fold_kind};
+ghost use Rattle.nd_model.specs.Sound.{LiesIn};
+ghost use Rattle.nd_model.specs.Strides.{IsInLimits};
+ghost use Rattle.nd_model.specs.View.{One, contiguous, rearranged_view};
+ghost use Rattle.nd_types.specs.Kinds.{kind_of};
+ghost use Rattle.nd_syntax.specs.Calls.{reduction_of};
+ghost use Rattle.nd_convert.specs.Converted.{converted_bytes};
+ghost use Rattle.nd_element.specs.Elements.{AreHeld, numbers_at};
+ghost use Rattle.nd_reduce.specs.Faults.{Makes};
+ghost use Rattle.nd_reduce.specs.Lanes.{lanes_in, prefix_bytes, to_end};
+ghost use Rattle.nd_reduce.specs.Made.{array_of, array_operand};
+
+use crate::axis::{axis_in, lane_length, lanes_of, put_axis};
+use crate::fault::ReduceFault;
+use crate::fold;
+use crate::fold::Fold;
+use crate::prefixes::accumulate_lanes;
+use crate::reducing::{number_elem, result_kind};
+use nd_block::{Filling, RawBlock};
+use nd_convert::convert_numbers;
+use nd_loops::Elements;
+use nd_syntax::Reduction;
+use nd_types::{Elem, ElemType, Kind};
+use nd_view::View;
+use std::alloc::{AllocError, Global};
+
+// The block with the folds of the first numbers of so many lanes of `count` elements each, which stand one after another in a view.
+fn prefixes<F: Fold>(
+    alloc: Global,
+    to: Kind,
+    view: &View,
+    elem: Elem,
+    bytes: &[u8],
+    lanes: usize,
+    count: usize,
+) -> Result<RawBlock, AllocError>
+    requires to { kind_of to ≡ fold_kind F.reduction elem.kind }
+    requires held { AreHeld elem bytes.now view.now.places }
+    requires enough { length view.now.places ≡ lanes * count }
+    ensures { IfOk result (λ b. b ≡ flat_map (prefix_bytes F.reduction (kind_of to))
+        (lanes_in count lanes (numbers_at elem bytes.now view.now.places))) }
+{
+    let kind = elem.kind();
+    let mut out = Filling::with_room(alloc, view.count() * to.size() as usize)?;
+    let mut numbers = Elements::new(view, bytes, elem, kind);
+    accumulate_lanes::<F>(&mut out, to, kind, &mut numbers, lanes, count);
+    Ok(out.finish())
+}
+
+// The same of a reduction, which is asked for once.
+fn reduction_prefixes(
+    alloc: Global,
+    reduction: Reduction,
+    to: Kind,
+    view: &View,
+    elem: Elem,
+    bytes: &[u8],
+    lanes: usize,
+    count: usize,
+) -> Result<RawBlock, AllocError>
+    requires to { kind_of to ≡ fold_kind (reduction_of reduction) elem.kind }
+    requires held { AreHeld elem bytes.now view.now.places }
+    requires enough { length view.now.places ≡ lanes * count }
+    ensures { IfOk result (λ b. b ≡ flat_map (prefix_bytes (reduction_of reduction) (kind_of to))
+        (lanes_in count lanes (numbers_at elem bytes.now view.now.places))) }
+{
+    match reduction {
+        Reduction::Sum => prefixes::<fold::Sum>(alloc, to, view, elem, bytes, lanes, count),
+        Reduction::Prod => prefixes::<fold::Prod>(alloc, to, view, elem, bytes, lanes, count),
+        Reduction::Min => prefixes::<fold::Min>(alloc, to, view, elem, bytes, lanes, count),
+        Reduction::Max => prefixes::<fold::Max>(alloc, to, view, elem, bytes, lanes, count),
+        Reduction::Any => prefixes::<fold::Any>(alloc, to, view, elem, bytes, lanes, count),
+        Reduction::All => prefixes::<fold::All>(alloc, to, view, elem, bytes, lanes, count),
+        Reduction::ArgMin => prefixes::<fold::ArgMin>(alloc, to, view, elem, bytes, lanes, count),
+        Reduction::ArgMax => prefixes::<fold::ArgMax>(alloc, to, view, elem, bytes, lanes, count),
+    }
+}
+
+// The number of lanes of `count` elements each, 0 where they have none.
+fn lane_count(elements: usize, count: usize) -> usize
+    requires { (m : ℕ) × (elements ≡ m * count) }
+    ensures { elements ≡ result * count }
+{
+    if count == 0 {
+        return 0;
+    }
+    elements / count
+}
+
+// The folds that stand lane by lane, in C order.
+fn order_folds(
+    alloc: Global,
+    kind: Kind,
+    lanes: &[u64],
+    shape: &[u64],
+    axis: usize,
+    folds: &[u8],
+) -> Result<RawBlock, AllocError>
+    requires axis { axis < length shape.now }
+    requires lanes { lanes.now ≡ to_end axis shape.now }
+    requires limits { IsInLimits (size_of (kind_of kind)) lanes.now }
+    ensures { IfOk result (λ b. b ≡ converted_bytes (little (kind_of kind)) (little (kind_of kind))
+        folds.now (rearranged_view (contiguous (One (little (kind_of kind))) lanes.now)
+        shape.now (to_end axis)).places) }
+{
+    let elem = Elem::little(kind);
+    let by_lanes = View::contiguous(alloc, ElemType::One(elem), lanes)?;
+    let view = put_axis(alloc, &by_lanes, shape, axis)?;
+    let _count = view.count();
+    let block = convert_numbers(alloc, &view, elem, folds, elem)?;
+    Ok(block)
+}
+
+/// Returns the new array of the folds of the first numbers along an axis, of one and more, or of all numbers in C order:
+/// little-endian, in C order, and alone in its block (NumPy reference, `ufunc.accumulate`, `numpy.cumsum`). Refused in the order:
+/// structures, an axis that is not there.
+pub fn accumulate(
+    alloc: Global,
+    reduction: Reduction,
+    axis: Option<i128>,
+    view: &View,
+    block: &[u8],
+) -> Result<(View, RawBlock), ReduceFault>
+    requires { LiesIn (length block.now) view.now }
+    ensures { Makes (λ made. made) result (array_of (accumulated_numbers (reduction_of reduction)
+        axis (array_operand view.now block.now))) }
+{
+    let elem = number_elem(view)?;
+    let along = axis_in(view.shape().len(), axis)?;
+    let kind = result_kind(reduction, elem.kind());
+    let count = lane_length(view, along);
+    let lanes = lanes_of(alloc, view, along)?;
+    let many = lane_count(lanes.count(), count);
+    let folds = reduction_prefixes(alloc, reduction, kind, &lanes, elem, block, many, count)?;
+    let to = ElemType::One(Elem::little(kind));
+    let Some(axis) = along else {
+        let made = View::contiguous(alloc, to, &[count as u64])?;
+        return Ok((made, folds));
+    };
+    let made = View::contiguous(alloc, to, view.shape())?;
+    let ordered = order_folds(
+        alloc,
+        kind,
+        lanes.shape(),
+        view.shape(),
+        axis,
+        folds.as_slice(),
+    )?;
+    Ok((made, ordered))
+}

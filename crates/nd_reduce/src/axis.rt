@@ -1,0 +1,187 @@
+//! Axes along which is folded, and the view that has one of them last.
+ghost use Rattle.std.specs.Prelude.{◌≡◌, ◌<◌, ◌≤◌, ◌==◌, false, length, IfOk, Some, None};
+ghost use Rattle.nd_model.specs.Reductions as reductions;
+ghost use Rattle.nd_model.specs.Tuple.{elements_of};
+ghost use Rattle.nd_model.specs.View.{rearranged_view};
+ghost use Rattle.nd_reduce.specs.Faults.{Makes};
+ghost use Rattle.nd_reduce.specs.Lanes.{lanes_of, put_last, to_end};
+ghost use Rattle.nd_reduce.specs.Axes.{HasAxis, lane_length};
+
+use crate::fault::ReduceFault;
+use nd_view::{Shape, View};
+use smallvec::SmallVec;
+use std::alloc::{AllocError, Global};
+
+// The axis that a number means. A negative one counts from the end.
+fn axis_at(axes: usize, number: i128) -> Result<Option<usize>, ReduceFault>
+    requires some { 0 < axes }
+    requires few { axes ≤ 32 }
+    ensures axis { Makes (λ a. a) result (reductions.axis_in axes (Some number)) }
+    ensures inside { IfOk result (λ a. HasAxis a axes) }
+{
+    let count = axes as i128;
+    if number < -count || number >= count {
+        return Err(ReduceFault::NoAxis);
+    }
+    let axis = if number < 0 { number + count } else { number };
+    Ok(Some(axis as usize))
+}
+
+/// Returns the axis along which is folded, or `None` for all elements. A value without axes takes 0 and -1 for all of it (NumPy
+/// reference, `numpy.sum`).
+pub(crate) fn axis_in(axes: usize, axis: Option<i128>) -> Result<Option<usize>, ReduceFault>
+    requires { axes ≤ 32 }
+    ensures axis { Makes (λ a. a) result (reductions.axis_in axes axis) }
+    ensures inside { IfOk result (λ a. HasAxis a axes) }
+{
+    let Some(number) = axis else {
+        return Ok(None);
+    };
+    if axes > 0 {
+        return axis_at(axes, number);
+    }
+    if number == 0 || number == -1 {
+        return Ok(None);
+    }
+    Err(ReduceFault::NoAxis)
+}
+
+/// Returns whether an axis other than this one has length 0.
+pub(crate) fn has_no_lanes(shape: &[u64], axis: Option<usize>) -> bool
+    requires { HasAxis axis (length shape.now) }
+    ensures { result ≡ (elements_of (reductions.reduced_shape axis false shape.now) == 0) }
+{
+    match axis {
+        None => false,
+        Some(axis) => shape[..axis].contains(&0) || shape[axis + 1..].contains(&0),
+    }
+}
+
+// The shape of the fold of all numbers: no axes, or each with length 1.
+fn single_shape(alloc: Global, shape: &[u64], keepdims: bool) -> Result<Shape, AllocError>
+    ensures { IfOk result (λ v. v.items ≡ reductions.reduced_shape None keepdims shape.now) }
+{
+    if keepdims {
+        let ones = SmallVec::from_elem(alloc, 1, shape.len())?;
+        return Ok(ones);
+    }
+    Ok(SmallVec::new(alloc))
+}
+
+/// Returns the shape of the folds: the axis is left out, or kept with length 1.
+pub(crate) fn reduced_shape(
+    alloc: Global,
+    shape: &[u64],
+    axis: Option<usize>,
+    keepdims: bool,
+) -> Result<Shape, AllocError>
+    requires { HasAxis axis (length shape.now) }
+    ensures { IfOk result
+        (λ v. v.items ≡ reductions.reduced_shape axis keepdims shape.now) }
+{
+    let Some(axis) = axis else {
+        return single_shape(alloc, shape, keepdims);
+    };
+    let mut lengths = SmallVec::from_slice(alloc, &shape[..axis])?;
+    if keepdims {
+        lengths.push(1)?;
+    }
+    lengths.extend_from_slice(&shape[axis + 1..])?;
+    Ok(lengths)
+}
+
+// The lengths with that of the axis behind the others.
+fn lengths_to_end(alloc: Global, lengths: &[u64], axis: usize) -> Result<Shape, AllocError>
+    requires { axis < length lengths.now }
+    ensures { IfOk result (λ v. v.items ≡ to_end axis lengths.now) }
+{
+    let mut moved = SmallVec::from_slice(alloc, &lengths[..axis])?;
+    moved.extend_from_slice(&lengths[axis + 1..])?;
+    moved.push(lengths[axis])?;
+    Ok(moved)
+}
+
+// The strides with that of the axis behind the others.
+fn strides_to_end(
+    alloc: Global,
+    strides: &[i128],
+    axis: usize,
+) -> Result<SmallVec<i128, 8>, AllocError>
+    requires { axis < length strides.now }
+    ensures { IfOk result (λ v. v.items ≡ to_end axis strides.now) }
+{
+    let mut moved = SmallVec::from_slice(alloc, &strides[..axis])?;
+    moved.extend_from_slice(&strides[axis + 1..])?;
+    moved.push(strides[axis])?;
+    Ok(moved)
+}
+
+/// Returns the view whose last axis is the one along which is folded. Its elements are the lanes, one after another.
+pub(crate) fn lanes_of(alloc: Global, view: &View, axis: Option<usize>) -> Result<View, AllocError>
+    requires { HasAxis axis (length view.now.shape) }
+    ensures { IfOk result (λ v. v ≡ lanes_of view.now axis) }
+{
+    let Some(axis) = axis else {
+        return view.try_clone();
+    };
+    let lengths = lengths_to_end(alloc, view.shape(), axis)?;
+    let strides = strides_to_end(alloc, view.held_strides(), axis)?;
+    let lanes = View::from_strides(
+        alloc,
+        view.elem().try_clone()?,
+        lengths.as_slice(),
+        strides.as_slice(),
+        view.offset(),
+        view.writable(),
+    )?;
+    Ok(lanes)
+}
+
+// The strides with the last one at the place of the axis.
+fn strides_from_end(
+    alloc: Global,
+    strides: &[i128],
+    axis: usize,
+) -> Result<SmallVec<i128, 8>, AllocError>
+    requires { axis < length strides.now }
+    ensures { IfOk result (λ v. v.items ≡ put_last axis strides.now) }
+{
+    let last = strides.len() - 1;
+    let mut moved = SmallVec::from_slice(alloc, &strides[..last])?;
+    moved.insert(axis, strides[last])?;
+    Ok(moved)
+}
+
+/// Returns the view of this shape whose axis is the last one of a view that has the same lengths with that of the axis last.
+pub(crate) fn put_axis(
+    alloc: Global,
+    view: &View,
+    shape: &[u64],
+    axis: usize,
+) -> Result<View, AllocError>
+    requires axis { axis < length shape.now }
+    requires lengths { view.now.shape ≡ to_end axis shape.now }
+    ensures { IfOk result (λ v. v ≡ rearranged_view view.now shape.now (to_end axis)) }
+{
+    let strides = strides_from_end(alloc, view.held_strides(), axis)?;
+    let put = View::from_strides(
+        alloc,
+        view.elem().try_clone()?,
+        shape,
+        strides.as_slice(),
+        view.offset(),
+        view.writable(),
+    )?;
+    Ok(put)
+}
+
+/// Returns how many numbers each fold takes.
+pub(crate) fn lane_length(view: &View, axis: Option<usize>) -> usize
+    requires { HasAxis axis (length view.now.shape) }
+    ensures { result ≡ lane_length axis view.now.shape }
+{
+    match axis {
+        None => view.count(),
+        Some(axis) => view.shape()[axis] as usize,
+    }
+}

@@ -1,0 +1,14 @@
+//! NumPy's reductions and accumulations of arrays: folds of the numbers along an axis, or of all of them.
+#![tactic(auto)]
+
+mod accumulating;
+mod axis;
+mod fault;
+mod fold;
+mod lanes;
+mod prefixes;
+mod reducing;
+
+pub use accumulating::accumulate;
+pub use fault::ReduceFault;
+pub use reducing::{reduce, reduce_number};

@@ -1,0 +1,116 @@
+//! The loops over lanes that write the fold of the first numbers of each, of one and more.
+ghost use Rattle.std.specs.Prelude.{◌≡◌, ℕ, ◌+◌, ◌*◌, ◌^◌, ◌<◌, ◌≤◌, List, ℤ, [], ◌++◌, length, take, drop};
+ghost use Rattle.std.specs.List.{flat_map};
+ghost use Rattle.nd_model.specs.Element.{size_of};
+ghost use Rattle.nd_model.specs.Reductions.{fold_kind};
+ghost use Rattle.nd_types.specs.Kinds.{kind_of};
+ghost use Rattle.nd_loops.specs.Sides.{HasNumbers, numbers_on};
+ghost use Rattle.nd_reduce.specs.Lanes.{lanes_in, number_bytes, prefix_bytes, prefix_folds};
+
+use crate::fold::Fold;
+use crate::lanes::number_of;
+use nd_block::{Filling, store_at};
+use nd_loops::{CHUNK, Elements, Side, chunk_of};
+use nd_types::{Elem, Kind};
+
+// Takes so many numbers of a side, and writes the fold behind each.
+#[inline(always)]
+fn accumulate_side<F: Fold>(
+    fold: F,
+    out: &mut [u8],
+    to: Kind,
+    kind: Kind,
+    side: Side<'_>,
+    count: usize,
+) -> F
+    requires to { kind_of to ≡ fold_kind F.reduction (kind_of kind) }
+    requires out { length out.old ≡ count * size_of (kind_of to) }
+    requires side { HasNumbers side count }
+    ensures taken { (zs : List ℤ) → F.has_taken fold zs
+        → F.has_taken result (zs ++ numbers_on side.entry count) }
+    ensures bytes { (zs : List ℤ) → length zs + count < 2 ^ 64 → F.has_taken fold zs
+        → out.new ≡ number_bytes (kind_of to) (prefix_folds F.reduction zs
+        (numbers_on side.entry count)) }
+{
+    let size = to.size() as usize;
+    let mut all = fold;
+    for index in 0..count {
+        all = all.step(number_of(side, index));
+        store_at(out, index * size, Elem::little(to), all.result(kind));
+    }
+    all
+}
+
+// The same of the next `count` numbers.
+fn accumulate_lane<F: Fold>(
+    out: &mut Filling,
+    to: Kind,
+    kind: Kind,
+    numbers: &mut Elements<'_>,
+    buffer: &mut [u8],
+    folds: &mut [u8],
+    chunk: usize,
+    count: usize,
+)
+    requires to { kind_of to ≡ fold_kind F.reduction (kind_of kind) }
+    requires enough { count ≤ length numbers.old.numbers }
+    requires few { count < 2 ^ 64 }
+    requires some { 0 < chunk }
+    requires buffer { chunk * size_of numbers.old.kind ≤ length buffer.old }
+    requires folds { chunk * size_of (kind_of to) ≤ length folds.old }
+    requires room { count * size_of (kind_of to) ≤ out.old.1 }
+    ensures left { numbers.new.numbers ≡ drop count numbers.old.numbers }
+    ensures size { numbers.new.kind ≡ numbers.old.kind }
+    ensures room { out.new.1 + count * size_of (kind_of to) ≡ out.old.1 }
+    ensures written { out.new.0 ≡ out.old.0 ++ prefix_bytes F.reduction (kind_of to)
+        (take count numbers.old.numbers) }
+{
+    let size = to.size() as usize;
+    let mut fold = F::begin();
+    let mut done = 0;
+    while done < count {
+        let some = chunk.min(count - done);
+        let end = some * size;
+        let side = numbers.take(buffer, some);
+        fold = accumulate_side::<F>(fold, &mut folds[..end], to, kind, side, some);
+        out.push(&folds[..end]);
+        done += some;
+    }
+}
+
+/// Appends the folds of the first numbers of so many lanes of `count` numbers each, which are of the kind, as numbers of the kind
+/// of the results.
+pub(crate) fn accumulate_lanes<F: Fold>(
+    out: &mut Filling,
+    to: Kind,
+    kind: Kind,
+    numbers: &mut Elements<'_>,
+    lanes: usize,
+    count: usize,
+)
+    requires to { kind_of to ≡ fold_kind F.reduction (kind_of kind) }
+    requires enough { length numbers.old.numbers ≡ lanes * count }
+    requires few { count < 2 ^ 64 }
+    requires room { lanes * count * size_of (kind_of to) ≡ out.old.1 }
+    ensures left { out.new.1 ≡ 0 }
+    ensures written { out.new.0 ≡ out.old.0 ++ flat_map (prefix_bytes F.reduction (kind_of to))
+        (lanes_in count lanes numbers.old.numbers) }
+{
+    let chunk = chunk_of(to.size() as usize, numbers.size(), 1);
+    let mut buffer = [0; CHUNK];
+    let mut folds = [0; CHUNK];
+    let mut rest = lanes;
+    while rest > 0 {
+        accumulate_lane::<F>(
+            out,
+            to,
+            kind,
+            numbers,
+            &mut buffer,
+            &mut folds,
+            chunk,
+            count,
+        );
+        rest -= 1;
+    }
+}

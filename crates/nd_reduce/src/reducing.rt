@@ -1,0 +1,212 @@
+//! Reductions of arrays and of NumPy scalars.
+ghost use Rattle.std.specs.Prelude.{◌≡◌, ◌*◌, ◌^◌, ◌<◌, ◌≤◌, Bool, false, Ok, [], ◌∷◌, length, IfOk};
+ghost use Rattle.nd_model.specs.Broadcast as broadcasting;
+ghost use Rattle.nd_model.specs.Element.{wrap};
+ghost use Rattle.nd_model.specs.Elementwise.{element_sort, little, numbers_made};
+ghost use Rattle.nd_model.specs.Operand.{Plain, Scalar};
+ghost use Rattle.nd_model.specs.Reductions as reductions;
+ghost use Rattle.nd_model.specs.Reductions.{fold_kind, folded, kind_of_sort, reduced_numbers};
+ghost use Rattle.nd_model.specs.Sound.{LiesIn};
+ghost use Rattle.nd_model.specs.Tuple.{elements_of};
+ghost use Rattle.nd_model.specs.View.{One, contiguous};
+ghost use Rattle.nd_types.specs.Kinds.{kind_of};
+ghost use Rattle.nd_syntax.specs.Calls.{reduction_of};
+ghost use Rattle.nd_element.specs.Elements.{AreHeld, numbers_at};
+ghost use Rattle.nd_ufunc.specs.Numbers.{number_made};
+ghost use Rattle.nd_reduce.specs.Axes.{HasAxis};
+ghost use Rattle.nd_reduce.specs.Faults.{Makes};
+ghost use Rattle.nd_reduce.specs.Lanes.{fold_bytes, lanes_in};
+ghost use Rattle.nd_reduce.specs.Made.{array_of, array_operand};
+
+use crate::axis::{axis_in, has_no_lanes, lane_length, lanes_of, reduced_shape};
+use crate::fault::ReduceFault;
+use crate::fold;
+use crate::fold::{Fold, sum_kind};
+use crate::lanes::{fold_lanes, fold_number};
+use nd_block::{Filling, RawBlock};
+use nd_loops::Elements;
+use nd_syntax::Reduction;
+use nd_types::{Elem, ElemType, Kind, Num};
+use nd_view::{View, limit_fault};
+use std::alloc::{AllocError, Global};
+
+/// Returns what a view's elements are. Structures are not reduced.
+pub(crate) fn number_elem(view: &View) -> Result<Elem, ReduceFault>
+    ensures kind { Makes (λ e. e.kind) result (kind_of_sort (element_sort view.now.element)) }
+    ensures one { IfOk result (λ e. view.now.element ≡ One e) }
+{
+    match view.elem() {
+        ElemType::One(elem) => Ok(*elem),
+        ElemType::Rec(_) => Err(ReduceFault::NotNumbers),
+    }
+}
+
+/// Returns the kind of the folds of numbers of a kind.
+pub(crate) fn result_kind(reduction: Reduction, kind: Kind) -> Kind
+    ensures { kind_of result ≡ fold_kind (reduction_of reduction) (kind_of kind) }
+{
+    match reduction {
+        Reduction::Sum | Reduction::Prod => sum_kind(kind),
+        Reduction::Min | Reduction::Max => kind,
+        Reduction::Any | Reduction::All => Kind::Bool,
+        Reduction::ArgMin | Reduction::ArgMax => Kind::I64,
+    }
+}
+
+// Whether there are results that no numbers have.
+fn lacks_numbers(reduction: Reduction, shape: &[u64], axis: Option<usize>, count: usize) -> bool
+    requires { HasAxis axis (length shape.now) }
+    ensures { result ≡ reductions.lacks_numbers (reduction_of reduction) count
+        (elements_of (reductions.reduced_shape axis false shape.now)) }
+{
+    match reduction {
+        Reduction::Min | Reduction::Max => count == 0 && !has_no_lanes(shape, axis),
+        Reduction::ArgMin | Reduction::ArgMax => count == 0,
+        Reduction::Sum | Reduction::Prod | Reduction::Any | Reduction::All => false,
+    }
+}
+
+// The view of a new array of numbers, within the limits of arrays.
+fn new_view(alloc: Global, kind: Kind, shape: &[u64]) -> Result<View, ReduceFault>
+    ensures { Makes (λ v. v) result (broadcasting.in_limits (One (little (kind_of kind))) shape.now
+        (Ok (contiguous (One (little (kind_of kind))) shape.now))) }
+{
+    if let Some(fault) = limit_fault(kind.size(), shape) {
+        return Err(ReduceFault::View(fault));
+    }
+    let view = View::contiguous(alloc, ElemType::One(Elem::little(kind)), shape)?;
+    Ok(view)
+}
+
+// The view of the new array of the folds of an array of this shape.
+fn folds_view(
+    alloc: Global,
+    kind: Kind,
+    shape: &[u64],
+    axis: Option<usize>,
+    keepdims: bool,
+) -> Result<View, ReduceFault>
+    requires { HasAxis axis (length shape.now) }
+    ensures { Makes (λ v. v) result (broadcasting.in_limits (One (little (kind_of kind)))
+        (reductions.reduced_shape axis keepdims shape.now) (Ok (contiguous
+        (One (little (kind_of kind))) (reductions.reduced_shape axis keepdims shape.now)))) }
+{
+    let lengths = reduced_shape(alloc, shape, axis, keepdims)?;
+    let view = new_view(alloc, kind, lengths.as_slice())?;
+    Ok(view)
+}
+
+// The block with the folds of so many lanes of `count` elements each, which stand one after another in a view.
+fn folds<F: Fold>(
+    alloc: Global,
+    to: Kind,
+    view: &View,
+    elem: Elem,
+    bytes: &[u8],
+    lanes: usize,
+    count: usize,
+) -> Result<RawBlock, AllocError>
+    requires to { kind_of to ≡ fold_kind F.reduction elem.kind }
+    requires held { AreHeld elem bytes.now view.now.places }
+    requires enough { length view.now.places ≡ lanes * count }
+    requires few { lanes ≤ 2 ^ 24 }
+    ensures { IfOk result (λ b. b ≡ fold_bytes F.reduction (kind_of to)
+        (lanes_in count lanes (numbers_at elem bytes.now view.now.places))) }
+{
+    let kind = elem.kind();
+    let mut out = Filling::with_room(alloc, lanes * to.size() as usize)?;
+    let mut numbers = Elements::new(view, bytes, elem, kind);
+    fold_lanes::<F>(&mut out, to, kind, &mut numbers, lanes, count);
+    Ok(out.finish())
+}
+
+// The same of a reduction, which is asked for once.
+fn reduction_folds(
+    alloc: Global,
+    reduction: Reduction,
+    to: Kind,
+    view: &View,
+    elem: Elem,
+    bytes: &[u8],
+    lanes: usize,
+    count: usize,
+) -> Result<RawBlock, AllocError>
+    requires to { kind_of to ≡ fold_kind (reduction_of reduction) elem.kind }
+    requires held { AreHeld elem bytes.now view.now.places }
+    requires enough { length view.now.places ≡ lanes * count }
+    requires few { lanes ≤ 2 ^ 24 }
+    ensures { IfOk result (λ b. b ≡ fold_bytes (reduction_of reduction) (kind_of to)
+        (lanes_in count lanes (numbers_at elem bytes.now view.now.places))) }
+{
+    match reduction {
+        Reduction::Sum => folds::<fold::Sum>(alloc, to, view, elem, bytes, lanes, count),
+        Reduction::Prod => folds::<fold::Prod>(alloc, to, view, elem, bytes, lanes, count),
+        Reduction::Min => folds::<fold::Min>(alloc, to, view, elem, bytes, lanes, count),
+        Reduction::Max => folds::<fold::Max>(alloc, to, view, elem, bytes, lanes, count),
+        Reduction::Any => folds::<fold::Any>(alloc, to, view, elem, bytes, lanes, count),
+        Reduction::All => folds::<fold::All>(alloc, to, view, elem, bytes, lanes, count),
+        Reduction::ArgMin => folds::<fold::ArgMin>(alloc, to, view, elem, bytes, lanes, count),
+        Reduction::ArgMax => folds::<fold::ArgMax>(alloc, to, view, elem, bytes, lanes, count),
+    }
+}
+
+/// Returns the new array of the folds of a view's numbers along an axis, or of all of them: little-endian, in C order, and alone
+/// in its block; of shape `()` where no axis is left (NumPy reference, `ufunc.reduce`, `numpy.argmax`). Refused in the order:
+/// structures, an axis that is not there, the least or greatest of no numbers, the limits of arrays.
+pub fn reduce(
+    alloc: Global,
+    reduction: Reduction,
+    axis: Option<i128>,
+    keepdims: bool,
+    view: &View,
+    block: &[u8],
+) -> Result<(View, RawBlock), ReduceFault>
+    requires { LiesIn (length block.now) view.now }
+    ensures { Makes (λ made. made) result (array_of (reduced_numbers (reduction_of reduction) axis
+        keepdims (array_operand view.now block.now))) }
+{
+    let elem = number_elem(view)?;
+    let along = axis_in(view.shape().len(), axis)?;
+    let count = lane_length(view, along);
+    if lacks_numbers(reduction, view.shape(), along, count) {
+        return Err(ReduceFault::EmptyReduce);
+    }
+    let kind = result_kind(reduction, elem.kind());
+    let made = folds_view(alloc, kind, view.shape(), along, keepdims)?;
+    let lanes = lanes_of(alloc, view, along)?;
+    let results = made.count();
+    let folded = reduction_folds(alloc, reduction, kind, &lanes, elem, block, results, count)?;
+    Ok((made, folded))
+}
+
+// The fold of one number.
+fn fold_of(reduction: Reduction, kind: Kind, number: i128) -> i128
+    ensures { result ≡ wrap (fold_kind (reduction_of reduction) (kind_of kind))
+        (folded (reduction_of reduction) (number ∷ [])) }
+{
+    match reduction {
+        Reduction::Sum => fold_number::<fold::Sum>(kind, number),
+        Reduction::Prod => fold_number::<fold::Prod>(kind, number),
+        Reduction::Min => fold_number::<fold::Min>(kind, number),
+        Reduction::Max => fold_number::<fold::Max>(kind, number),
+        Reduction::Any => fold_number::<fold::Any>(kind, number),
+        Reduction::All => fold_number::<fold::All>(kind, number),
+        Reduction::ArgMin => fold_number::<fold::ArgMin>(kind, number),
+        Reduction::ArgMax => fold_number::<fold::ArgMax>(kind, number),
+    }
+}
+
+/// Returns the fold of a NumPy scalar, which has no axes: 0 and -1 stand for all of it.
+pub fn reduce_number(
+    reduction: Reduction,
+    axis: Option<i128>,
+    kind: Kind,
+    number: i128,
+) -> Result<Num, ReduceFault>
+    ensures { Makes number_made result (numbers_made (reduced_numbers
+        (reduction_of reduction) axis false (Plain (Scalar (kind_of kind) number)))) }
+{
+    axis_in(0, axis)?;
+    let to = result_kind(reduction, kind);
+    Ok(Num::Scalar(to, fold_of(reduction, kind, number)))
+}

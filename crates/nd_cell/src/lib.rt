@@ -6,7 +6,8 @@ mod result;
 mod run;
 
 pub use nd_eval::{
-    FormatFault, IndexFault, NpyFault, ShapeFault, StmtError, StmtFault, UfuncFault, ViewFault,
+    FormatFault, IndexFault, NpyFault, ReduceFault, ShapeFault, StmtError, StmtFault, UfuncFault,
+    ViewFault,
 };
 pub use nd_meter::Meter;
 pub use nd_parse::ParseKind;

@@ -1,20 +1,22 @@
 -- How many bases an evaluation makes.
-use Rattle.std.proofs.Common.{◌≡◌, ℕ, ◌+◌, ◌≤◌, List, [], ◌∷◌, ◌++◌, Result, Ok, refl, subst, arith}
+use Rattle.std.proofs.Common.{◌≡◌, ℕ, ℤ, ◌+◌, ◌≤◌, Bool, List, [], ◌∷◌, ◌++◌, Option, None, Result, Ok, refl, subst, arith}
 use Rattle.nd_model.specs.Value.{Value}
 use Rattle.nd_model.specs.Fault.{Fault}
-use Rattle.nd_model.specs.Syntax.{Expr, Bound, Omitted, Given, Elements, NoElement, AndElement, Element, Single, Nested, Exprs, NoExpr, AndExpr, Method, Copy, AsType, Transpose, Reshape, ViewAs, Index, Field, Items, IndexItems, IndexItem, AndItem, NoItem, At, Slice, Ellipsis, NewAxis, Listed, Stmt}
+use Rattle.nd_model.specs.Syntax.{Expr, Bound, Omitted, Given, Elements, NoElement, AndElement, Element, Single, Nested, Exprs, NoExpr, AndExpr, Method, Copy, AsType, Transpose, Reshape, ViewAs, Reduced, Accumulated, Axis, DefaultAxis, AllAxes, AtAxis, Index, Field, Items, IndexItems, IndexItem, AndItem, NoItem, At, Slice, Ellipsis, NewAxis, Listed, Stmt}
 use Rattle.nd_model.specs.Cells.{Suffix, AtIndex, OfMethod}
+use Rattle.nd_model.specs.Calls.{Accumulation}
 use Rattle.nd_model.specs.Creation.{copy_array, astype}
-use Rattle.nd_model.specs.Tokens.{tokens_of, tokens_of_bound, tokens_of_step, tokens_of_index, tokens_of_items, tokens_of_item, tokens_of_elements, tokens_of_others, tokens_of_element, tokens_of_all, tokens_of_exprs, tokens_of_method, tokens_of_stmt}
+use Rattle.nd_model.specs.Reductions.{reduce_array, accumulate_array}
+use Rattle.nd_model.specs.Tokens.{tokens_of, tokens_of_bound, tokens_of_step, tokens_of_index, tokens_of_items, tokens_of_item, tokens_of_elements, tokens_of_others, tokens_of_element, tokens_of_all, tokens_of_exprs, tokens_of_axis, tokens_of_first, tokens_of_number, tokens_of_method, tokens_of_stmt}
 use Rattle.nd_model.specs.Running.{Inputs, Running, Effect, Nothing, Prints, Saves, Binding, Unbinding, Storing, done}
 use Rattle.nd_model.specs.Evaluation.{Eval, Gives, run, ◌>>=◌}
-use Rattle.nd_model.specs.Operand.{Whole, Unused}
+use Rattle.nd_model.specs.Operand.{Operand, Made, Whole, Unused}
 use Rattle.nd_model.specs.Viewing.{Viewing, Transposed, Reshaped, ViewedAs}
 use Rattle.nd_model.specs.Operation.{Computes, Views}
 use Rattle.nd_model.specs.Meaning as meaning
 use Rattle.nd_model.proofs.Bases.{Few, few_more, few_bind, few_run, few_plan, few_performed, few_work, at_expr, at_stmt}
-use Rattle.nd_eval.specs.Parts.{bound_exprs, choose_value, exprs_in, exprs_of_element, index_parts, item_parts, items_parts, items_then, ItemParts, listed, method_value, suffix_value, unused, view_value, viewed_value, values_behind, values_then, values}
-use Rattle.nd_eval.specs.Suffixes.{suffix_tokens}
+use Rattle.nd_eval.specs.Parts.{accumulation_value, reduction_value, bound_exprs, choose_value, exprs_in, exprs_of_element, index_parts, item_parts, items_parts, items_then, ItemParts, listed, method_value, suffix_value, unused, view_value, viewed_value, values_behind, values_then, values}
+use Rattle.nd_eval.specs.Suffixes.{axis_tokens, suffix_tokens}
 
 few_value : (e : Expr) → Few (meaning.value e) (tokens_of e)
 few_value e = few_more (meaning.value e) _ _ (at_expr e) (few_plan (meaning.plan e))
@@ -65,13 +67,47 @@ lengths_tokens (AndExpr e es) = omega (arith, listed_tokens es)
 few_viewed : (w : Viewing) (es : List Expr) (v : Value) → Few (viewed_value w es v) (tokens_of_all es + 0 + 1)
 few_viewed w es v = few_bind (values es) (view_value w v) (tokens_of_all es + 0) 1 (few_then es Gives 0 (λ vs. tt)) (λ ws. few_performed (Views w) ((Unused, v) ∷ unused ws))
 
+-- ---- folds
+
+few_reduction : (f : Operand → Option ℤ → Result Made Fault) (otherwise : Option ℤ) (a : Axis) (v : Value) → Few (reduction_value f otherwise a v) (1 + axis_tokens a)
+few_reduction f otherwise DefaultAxis v = few_performed (Computes (meaning.one (λ o. f o otherwise))) ((Whole, v) ∷ [])
+few_reduction f otherwise AllAxes v = few_performed (Computes (meaning.one (λ o. f o None))) ((Whole, v) ∷ [])
+few_reduction f otherwise (AtAxis e) v =
+    few_more (reduction_value f otherwise (AtAxis e) v) (tokens_of e + 1) _ (omega arith)
+    (few_bind (meaning.value e) _ (tokens_of e) 1 (few_value e) (λ w. few_performed (Computes (meaning.two (meaning.along f))) ((Whole, v) ∷ (Whole, w) ∷ [])))
+
+few_accumulation : (f : Operand → Option ℤ → Result Made Fault) (otherwise : Option ℤ) (a : Bound) (v : Value) → Few (accumulation_value f otherwise a v) (1 + tokens_of_bound a)
+few_accumulation f otherwise Omitted v = few_performed (Computes (meaning.one (λ o. f o otherwise))) ((Whole, v) ∷ [])
+few_accumulation f otherwise (Given e) v =
+    few_more (accumulation_value f otherwise (Given e) v) (tokens_of e + 1) _ (omega arith)
+    (few_bind (meaning.value e) _ (tokens_of e) 1 (few_value e) (λ w. few_performed (Computes (meaning.two (meaning.along f))) ((Whole, v) ∷ (Whole, w) ∷ [])))
+
+pub first_tokens : (a : Axis) (keep : Bool) → axis_tokens a ≤ tokens_of_first a keep
+first_tokens DefaultAxis keep = omega arith
+first_tokens AllAxes keep = omega arith
+first_tokens (AtAxis e) keep = omega arith
+
+pub axis_behind : (a : Axis) → axis_tokens a ≤ tokens_of_axis a
+axis_behind DefaultAxis = omega arith
+axis_behind AllAxes = omega arith
+axis_behind (AtAxis e) = omega arith
+
+pub accumulated_tokens : (f : Accumulation) (a : Bound) → tokens_of_bound a ≤ tokens_of_method (Accumulated f a)
+accumulated_tokens f Omitted = omega arith
+accumulated_tokens f (Given e) = omega arith
+
+pub bound_behind : (a : Bound) → tokens_of_bound a ≤ tokens_of_number a
+bound_behind Omitted = omega arith
+bound_behind (Given e) = omega arith
+
 few_method : (m : Method) (v : Value) → Few (method_value m v) (1 + tokens_of_method m)
 few_method Copy v = few_more (method_value Copy v) 1 _ (omega arith) (few_performed (Computes (meaning.one copy_array)) ((Whole, v) ∷ []))
 few_method (AsType t) v = few_more (method_value (AsType t) v) 1 _ (omega arith) (few_performed (Computes (meaning.one (astype t))) ((Whole, v) ∷ []))
 few_method (Transpose axes) v = few_more (method_value (Transpose axes) v) (tokens_of_all (listed axes) + 0 + 1) _ (omega (arith, axes_tokens axes)) (few_viewed Transposed (listed axes) v)
 few_method (Reshape shape) v = few_more (method_value (Reshape shape) v) (tokens_of_all (listed shape) + 0 + 1) _ (omega (arith, lengths_tokens shape)) (few_viewed Reshaped (listed shape) v)
 few_method (ViewAs t) v = few_more (method_value (ViewAs t) v) 1 _ (omega arith) (few_performed (Views (ViewedAs t)) ((Unused, v) ∷ []))
-few_method m v = tt
+few_method (Reduced f a keep) v = few_more (method_value (Reduced f a keep) v) (1 + axis_tokens a) _ (omega (arith, first_tokens a keep)) (few_reduction (reduce_array f keep) None a v)
+few_method (Accumulated f a) v = few_more (method_value (Accumulated f a) v) (1 + tokens_of_bound a) _ (omega (arith, accumulated_tokens f a)) (few_accumulation (accumulate_array f) None a v)
 
 pub step_more : (b : Bound) → tokens_of_bound b ≤ tokens_of_step b
 step_more Omitted = omega arith

@@ -1,5 +1,5 @@
 -- Arrays that an evaluation finds lie in their blocks.
-use Rattle.std.proofs.Common.{◌≡◌, ℕ, cond, true, false, List, [], ◌∷◌, ◌++◌, map, length, Result, Ok, Err, refl, sym, ap, subst, ◌∙◌, arith}
+use Rattle.std.proofs.Common.{◌≡◌, ℕ, ℤ, Option, None, cond, true, false, List, [], ◌∷◌, ◌++◌, map, length, Result, Ok, Err, refl, sym, ap, subst, ◌∙◌, arith}
 use Rattle.std.specs.Prelude.{bytes_eq}
 use Rattle.std.specs.List.{flat_map}
 use Rattle.std.proofs.lemmas.List.Elements.{All-nil, All-cons, All-head, All-tail}
@@ -10,9 +10,10 @@ use Rattle.nd_model.specs.Session as session
 use Rattle.nd_model.specs.Session.{Names}
 use Rattle.nd_model.specs.Fault.{Fault}
 use Rattle.nd_model.specs.Running.{Running, Inputs, Use, reply, after, Effect, Binding, done}
-use Rattle.nd_model.specs.Syntax.{Expr, Bound, Method, Copy, AsType, Transpose, Reshape, ViewAs, Index, Field, Items, IndexItems, IndexItem, AndItem, NoItem, At, Slice, Ellipsis, NewAxis, Listed, Bind}
+use Rattle.nd_model.specs.Reductions.{reduce_array, accumulate_array}
+use Rattle.nd_model.specs.Syntax.{Expr, Bound, Omitted, Given, Method, Copy, AsType, Transpose, Reshape, ViewAs, Reduced, Accumulated, Axis, DefaultAxis, AllAxes, AtAxis, Index, Field, Items, IndexItems, IndexItem, AndItem, NoItem, At, Slice, Ellipsis, NewAxis, Listed, Bind}
 use Rattle.nd_model.specs.Evaluation.{Eval, Gives, Refuses, Asks, run}
-use Rattle.nd_model.specs.Operand.{BindsFirst, Usage, Whole, Unused}
+use Rattle.nd_model.specs.Operand.{Operand, Made, BindsFirst, Usage, Whole, Unused}
 use Rattle.nd_model.specs.Cells.{Suffix, AtIndex, OfMethod}
 use Rattle.nd_model.specs.Creation.{copy_array, astype}
 use Rattle.nd_model.specs.Operation.{Computes, Views, act_on}
@@ -30,7 +31,7 @@ use Rattle.nd_choice.specs.declared.indexes.ItemValue.{ItemValue}
 use Rattle.nd_choice.specs.declared.indexes.ItemValue.TheVariants as item
 use Rattle.nd_choice.specs.declared.indexes.IndexValue.{IndexValue}
 use Rattle.nd_choice.specs.declared.indexes.IndexValue.TheVariants as index
-use Rattle.nd_eval.specs.Parts.{bound_exprs, choose_value, index_parts, item_parts, items_parts, items_then, listed, method_value, suffix_value, unused, values, values_then, view_value, viewed_value, IndexParts, ItemParts}
+use Rattle.nd_eval.specs.Parts.{accumulation_value, binary_value, reduction_value, bound_exprs, choose_value, index_parts, item_parts, items_parts, items_then, listed, method_value, suffix_value, unused, values, values_then, view_value, viewed_value, IndexParts, ItemParts}
 use Rattle.nd_eval.specs.Uses.{IsHeld, AreHeld, marked, item_marked, items_marked, index_marked, all_marked}
 use Rattle.nd_eval.proofs.Parts.{binding_parts}
 
@@ -234,13 +235,28 @@ safe_viewed i r w es v sound h =
     safe_bind AllV V i r (values es) (view_value w v) (safe_values AllV i r es Gives sound (λ q vs g hvs. hvs))
     (λ q vs g hvs. safe_performed i q (Views w) ((Unused, v) ∷ unused vs) (value_grows r q g v h, all_unused q vs hvs))
 
+safe_along : (i : Inputs) (r : Running) (f : Operand → Option ℤ → Result Made Fault) (e : Expr) (v : model.Value) → IsSound r → V r v → Safe V i r (binary_value (meaning.along f) v e)
+safe_along i r f e v sound h =
+    safe_bind V V i r (meaning.value e) _ (safe_value i r e sound)
+    (λ q w g hw. safe_performed i q (Computes (meaning.two (meaning.along f))) ((Whole, v) ∷ (Whole, w) ∷ []) (value_grows r q g v h, (hw, tt)))
+
+safe_reduction : (i : Inputs) (r : Running) (f : Operand → Option ℤ → Result Made Fault) (otherwise : Option ℤ) (a : Axis) (v : model.Value) → IsSound r → V r v → Safe V i r (reduction_value f otherwise a v)
+safe_reduction i r f otherwise DefaultAxis v sound h = safe_performed i r (Computes (meaning.one (λ o. f o otherwise))) ((Whole, v) ∷ []) (h, tt)
+safe_reduction i r f otherwise AllAxes v sound h = safe_performed i r (Computes (meaning.one (λ o. f o None))) ((Whole, v) ∷ []) (h, tt)
+safe_reduction i r f otherwise (AtAxis e) v sound h = safe_along i r f e v sound h
+
+safe_accumulation : (i : Inputs) (r : Running) (f : Operand → Option ℤ → Result Made Fault) (otherwise : Option ℤ) (a : Bound) (v : model.Value) → IsSound r → V r v → Safe V i r (accumulation_value f otherwise a v)
+safe_accumulation i r f otherwise Omitted v sound h = safe_performed i r (Computes (meaning.one (λ o. f o otherwise))) ((Whole, v) ∷ []) (h, tt)
+safe_accumulation i r f otherwise (Given e) v sound h = safe_along i r f e v sound h
+
 safe_method : (i : Inputs) (r : Running) (m : Method) (v : model.Value) → IsSound r → V r v → Safe V i r (method_value m v)
 safe_method i r Copy v sound h = safe_performed i r (Computes (meaning.one copy_array)) ((Whole, v) ∷ []) (h, tt)
 safe_method i r (AsType t) v sound h = safe_performed i r (Computes (meaning.one (astype t))) ((Whole, v) ∷ []) (h, tt)
 safe_method i r (Transpose axes) v sound h = safe_viewed i r Transposed (listed axes) v sound h
 safe_method i r (Reshape shape) v sound h = safe_viewed i r Reshaped (listed shape) v sound h
 safe_method i r (ViewAs t) v sound h = safe_performed i r (Views (ViewedAs t)) ((Unused, v) ∷ []) (h, tt)
-safe_method i r m v sound h = tt
+safe_method i r (Reduced f a keep) v sound h = safe_reduction i r (reduce_array f keep) None a v sound h
+safe_method i r (Accumulated f a) v sound h = safe_accumulation i r (accumulate_array f) None a v sound h
 
 safe_suffix : (i : Inputs) (r : Running) (x : Suffix) (v : model.Value) → IsSound r → V r v → Safe V i r (suffix_value x v)
 safe_suffix i r (AtIndex x) v sound h =

@@ -1,20 +1,21 @@
 -- An operand and what goes on it, one after the other.
 use Rattle.std.proofs.Common.{◌≡◌, ℕ, ◌+◌, ◌≤◌, List, [], ◌∷◌, map, Option, None, Some, Result, Ok, Err, refl, sym, ap, ◌∙◌, arith, Box, Vec, Global}
 use mathlib.Core.Former.{Count}
-use Rattle.nd_model.specs.Fault.{Fault, BadArgument}
-use Rattle.nd_model.specs.Fault as fault
-use Rattle.nd_model.specs.Syntax.{Expr, Exprs, NoExpr, AndExpr, Item, Attribute, Index, Method, Copy, AsType, Transpose, Reshape, ViewAs}
+use Rattle.nd_model.specs.Fault.{Fault}
+use Rattle.nd_model.specs.Calls.{Ufunc}
+use Rattle.nd_model.specs.Reductions.{reduce_array, accumulate_array}
+use Rattle.nd_model.specs.Syntax.{Expr, Exprs, NoExpr, AndExpr, Item, Attribute, Called, Folded, Fold, Reduce, Accumulate, Index, Method, Copy, AsType, Transpose, Reshape, ViewAs, Reduced, Accumulated, DefaultAxis, AllAxes, AtAxis, Omitted, Given}
 use Rattle.nd_model.specs.Syntax as model
 use Rattle.nd_model.specs.Cells.{chained, Suffix, AtIndex, OfMethod, suffixed, exprs_of, items_of, elements_of}
 use Rattle.nd_model.specs.Creation.{copy_array, astype}
 use Rattle.nd_model.specs.Tokens.{tokens_of, tokens_of_all, tokens_of_exprs, tokens_of_method, tokens_of_shape}
 use Rattle.nd_model.specs.Value.{Value}
 use Rattle.nd_model.specs.Running.{Running, Inputs}
-use Rattle.nd_model.specs.Evaluation.{Eval, Gives, Refuses, run, ◌>>=◌}
+use Rattle.nd_model.specs.Evaluation.{Eval, Gives, run, ◌>>=◌}
 use Rattle.nd_model.specs.Operand.{Unused}
-use Rattle.nd_model.specs.Operation.{Computes, Views, perform, Done, with_values}
+use Rattle.nd_model.specs.Operation.{Views, perform, Done, with_values}
 use Rattle.nd_model.specs.Viewing.{Viewing, Transposed, Reshaped, ViewedAs}
-use Rattle.nd_model.specs.Meaning.{value, expr_plans, index_plans, viewing_of, unbuilt_form}
+use Rattle.nd_model.specs.Meaning.{along, value, expr_plans, index_plans, viewing_of}
 use Rattle.nd_syntax.specs.declared.tree.Expr as tree
 use Rattle.nd_syntax.specs.declared.tree.BinaryOp.{BinaryOp}
 use Rattle.nd_syntax.specs.declared.calls.DType.{DType}
@@ -25,14 +26,18 @@ use Rattle.nd_syntax.specs.declared.tree.Suffix as suffix
 use Rattle.nd_syntax.specs.declared.tree.Method as method
 use Rattle.nd_syntax.specs.declared.tree.Index as indexes
 use Rattle.nd_syntax.specs.declared.tree.IndexItem as item
-use Rattle.nd_syntax.specs.Syntax.{expr_of, bound_of, element_of, suffix_of, index_of, item_of}
+use Rattle.nd_syntax.specs.declared.tree.Fold as folds
+use Rattle.nd_syntax.specs.declared.tree.Axis as axis
+use Rattle.nd_syntax.specs.declared.calls.Accumulation.{Accumulation}
+use Rattle.nd_syntax.specs.Calls.{accumulation_of}
+use Rattle.nd_syntax.specs.Syntax.{expr_of, bound_of, element_of, fold_of, method_of, suffix_of, index_of, item_of}
 use Rattle.nd_syntax.specs.Lists.{operation_of}
 use Rattle.nd_syntax.proofs.Nodes.{call_row}
 use Rattle.nd_syntax.proofs.Chains.{row_of, postfix_is, item_row, index_is, nested_is, chain_is}
 use Rattle.nd_model.proofs.Steps.{goes_on, run_bind}
-use Rattle.nd_eval.specs.Parts.{choose_value, index_parts, listed, make_value, method_value, suffix_value, viewed_value, view_value}
+use Rattle.nd_eval.specs.Parts.{binary_value, choose_value, fold_call, index_parts, listed, make_value, method_value, suffix_value, viewed_value, view_value}
 use Rattle.nd_eval.specs.Suffixes.{suffix_tokens}
-use Rattle.nd_eval.proofs.Parts.{goes_same, index_with, attribute_refused}
+use Rattle.nd_eval.proofs.Parts.{goes_same, index_with}
 use Rattle.nd_eval.proofs.Calls.{unused_first}
 
 -- what goes on a value, one after the other
@@ -82,9 +87,19 @@ run_attribute i e (AsType t) r = run_bind i (value e) (make_value (astype t)) r
 run_attribute i e (Transpose axes) r = run_viewed i e Transposed axes r
 run_attribute i e (Reshape shape) r = run_viewed i e Reshaped shape r
 run_attribute i e (ViewAs t) r = run_bind i (value e) (λ v. view_value (ViewedAs t) v []) r
-run_attribute i e a r =
-    run_bind i (value e) (λ t. perform (Computes unbuilt_form) ((Unused, t) ∷ [])) r
-    ∙ goes_same i (run i (value e) r) _ (λ t. Refuses (fault.Stmt BadArgument)) (λ t s. ap (λ a. run i a s) (attribute_refused t))
+run_attribute i e (Reduced f DefaultAxis keep) r = run_bind i (value e) (make_value (λ o. reduce_array f keep o None)) r
+run_attribute i e (Reduced f AllAxes keep) r = run_bind i (value e) (make_value (λ o. reduce_array f keep o None)) r
+run_attribute i e (Reduced f (AtAxis a) keep) r = run_bind i (value e) (λ v. binary_value (along (reduce_array f keep)) v a) r
+run_attribute i e (Accumulated f Omitted) r = run_bind i (value e) (make_value (λ o. accumulate_array f o None)) r
+run_attribute i e (Accumulated f (Given a)) r = run_bind i (value e) (λ v. binary_value (along (accumulate_array f)) v a) r
+
+-- `np.add.reduce` and the like
+pub fold_first : (i : Inputs) (f : Ufunc) (x : Fold) (r : Running) → run i (value (Called (Folded f x))) r ≡ run i (fold_call f x) r
+fold_first i f (Reduce e DefaultAxis keep) r = refl
+fold_first i f (Reduce e AllAxes keep) r = refl
+fold_first i f (Reduce e (AtAxis a) keep) r = refl
+fold_first i f (Accumulate e Omitted) r = refl
+fold_first i f (Accumulate e (Given a)) r = refl
 
 in_steps : (i : Inputs) (e : Expr) (xs : List Suffix) (r : Running) → run i (value (suffixed e xs)) r ≡ goes_on i (run i (value e) r) (λ v. chain v xs)
 in_steps i e [] r = none_left i (run i (value e) r)
@@ -136,6 +151,7 @@ abbrev mutual
   nodes_of_call (call.Convert k e) = 2 + nodes e
   nodes_of_call (call.PythonAbs e) = 2 + nodes e
   nodes_of_call (call.BroadcastTo' e shape es) = 3 + nodes e + nodes_in_exprs es
+  nodes_of_call (call.Fold f x) = 1 + nodes_of_fold x
   nodes_of_call c = 1
 
   pub nodes_in_bound : call.Held-Call-Arange-0 → ℕ
@@ -165,7 +181,17 @@ abbrev mutual
   pub nodes_of_method : method.Method → ℕ
   nodes_of_method (method.Transpose' shape es) = 3 + nodes_in_exprs es
   nodes_of_method (method.Reshape' shape es) = 3 + nodes_in_exprs es
+  nodes_of_method (method.Reduce f a keep) = 2 + nodes_of_axis a
+  nodes_of_method (method.Accumulate' f a) = 3 + nodes_in_bound a
   nodes_of_method m = 1
+
+  pub nodes_of_fold : folds.Fold → ℕ
+  nodes_of_fold (folds.Reduce e a keep) = 2 + nodes e + nodes_of_axis a
+  nodes_of_fold (folds.Accumulate' e a) = 3 + nodes e + nodes_in_bound a
+
+  pub nodes_of_axis : axis.Axis → ℕ
+  nodes_of_axis (axis.At e) = 1 + nodes e
+  nodes_of_axis a = 0
 
   pub nodes_of_index : indexes.Index → ℕ
   nodes_of_index (indexes.Items' shape is) = 2 + nodes_in_items is
@@ -197,6 +223,24 @@ nodes_of_postfix x e xs same =
 abbrev pub nodes_of_bound : Option tree.Expr → ℕ
 nodes_of_bound None = 0
 nodes_of_bound (Some e) = 1 + nodes e
+
+-- ---- accumulations, whose axis may be left out
+
+pub accumulate_is : (e : tree.Expr) (a : Option tree.Expr) → fold_of (folds.Accumulate e a) ≡ Accumulate (expr_of e) (bound_of a)
+accumulate_is e None = refl
+accumulate_is e (Some x) = refl
+
+pub accumulated_is : (f : Accumulation) (a : Option tree.Expr) → method_of (method.Accumulate f a) ≡ Accumulated (accumulation_of f) (bound_of a)
+accumulated_is f None = refl
+accumulated_is f (Some x) = refl
+
+pub nodes_of_accumulate : (x : folds.Fold) (e : tree.Expr) (a : Option tree.Expr) → x ≡ folds.Accumulate e a → nodes_of_fold x ≡ 3 + nodes e + nodes_of_bound a
+nodes_of_accumulate x e None same = ap nodes_of_fold same
+nodes_of_accumulate x e (Some y) same = ap nodes_of_fold same
+
+pub nodes_of_accumulated : (x : method.Method) (f : Accumulation) (a : Option tree.Expr) → x ≡ method.Accumulate f a → nodes_of_method x ≡ 3 + nodes_of_bound a
+nodes_of_accumulated x f None same = ap nodes_of_method same
+nodes_of_accumulated x f (Some y) same = ap nodes_of_method same
 
 -- ---- the expressions of a call
 

@@ -44,9 +44,6 @@ unused_only (model.Scalar k z) e = refl
 unused_only (model.Array b g) e = refl
 unused_only (model.Row b g) e = refl
 
-pub attribute_refused : (v : model.Value) → perform (Computes unbuilt_form) ((Unused, v) ∷ []) ≡ Refuses (fault.Stmt BadArgument)
-attribute_refused v = unused_only v (Refuses (fault.Stmt BadArgument))
-
 pub binding_parts : (n : List ℕ) (v : model.Value) → act_on (λ os. Ok (BindsFirst n)) ((Unused, v) ∷ []) ≡ Gives (Binding n v)
 binding_parts n v = unused_only v (Gives (Binding n v))
 

@@ -1,5 +1,5 @@
 -- Parts of the meaning, as the functions work them out.
-use Rattle.std.specs.Prelude.{ℕ, List, [], ◌∷◌, ◌++◌, map, Option, Result, Ok}
+use Rattle.std.specs.Prelude.{ℕ, ℤ, pos, List, [], ◌∷◌, ◌++◌, map, Option, Some, None, Result, Ok}
 use Rattle.std.specs.List.{flat_map}
 use Rattle.nd_model.specs.View.{Geo}
 use Rattle.nd_model.specs.Content.{Content}
@@ -7,20 +7,21 @@ use Rattle.nd_model.specs.Value.{Base, Value}
 use Rattle.nd_model.specs.Running.{Effect, Storing}
 use Rattle.nd_model.specs.Refusing as refusing
 use Rattle.nd_model.specs.Fault.{Fault, Stmt, BadArgument}
-use Rattle.nd_model.specs.Calls.{Fill, DType}
+use Rattle.nd_model.specs.Calls.{Fill, DType, Ufunc}
 use Rattle.nd_model.specs.Creation.{arange, array_of_list, astype, copy_array, filled, full}
 use Rattle.nd_model.specs.Elementwise.{binary}
 use Rattle.nd_model.specs.Files.{save}
+use Rattle.nd_model.specs.Reductions.{reduce_array, accumulate_array, reduce_call, accumulate_call}
 use Rattle.nd_model.specs.Writing.{assignment_writes}
 use Rattle.nd_model.specs.Augmenting.{augment_item, augment_name, in_place_writes, operand_of_made}
-use Rattle.nd_model.specs.Syntax.{BinaryOp, Expr, Bound, Omitted, Given, Elements, NoElement, AndElement, Element, Single, Nested, Method, Copy, AsType, Transpose, Reshape, ViewAs, Exprs, NoExpr, AndExpr, Index, Field, Items, IndexItems, IndexItem, AndItem, NoItem, At, Slice, Ellipsis, NewAxis, Listed}
+use Rattle.nd_model.specs.Syntax.{BinaryOp, Expr, Bound, Omitted, Given, Elements, NoElement, AndElement, Element, Single, Nested, Fold, Reduce, Accumulate, Method, Copy, AsType, Transpose, Reshape, ViewAs, Reduced, Accumulated, Axis, DefaultAxis, AllAxes, AtAxis, Exprs, NoExpr, AndExpr, Index, Field, Items, IndexItems, IndexItem, AndItem, NoItem, At, Slice, Ellipsis, NewAxis, Listed}
 use Rattle.nd_model.specs.Cells.{Suffix, AtIndex, OfMethod}
 use Rattle.nd_model.specs.Evaluation.{Eval, Gives, Refuses, ◌>>=◌}
 use Rattle.nd_model.specs.Operand.{Operand, Usage, Whole, ArraysOnly, RowsOnly, Unused, Made}
 use Rattle.nd_model.specs.Index.{Form, AtForm, SliceForm, EllipsisForm, NewAxisForm}
 use Rattle.nd_model.specs.Viewing.{Viewing, Indexed, Fielded, Transposed, Reshaped, BroadcastTo, ViewedAs}
 use Rattle.nd_model.specs.Operation.{Computes, Views, perform, act_on, give, store_in}
-use Rattle.nd_model.specs.Meaning.{is_given, one, two, value, assignment_deed}
+use Rattle.nd_model.specs.Meaning.{is_given, one, two, along, value, assignment_deed}
 
 -- what is computed of one value
 abbrev pub make_value : (Operand → Result Made Fault) → Value → Eval Value
@@ -79,14 +80,32 @@ stretch v ws = perform (Views BroadcastTo) ((RowsOnly, v) ∷ unused ws)
 abbrev pub stretched_value : Expr → List Expr → Eval Value
 stretched_value e es = value e >>= λ v. values es >>= stretch v
 
--- a method on a value; the other ones are not built yet
+-- ---- folds
+
+-- a fold of a value along an axis, where none is written along this one or of all numbers
+abbrev pub reduction_value : (Operand → (axis : Option ℤ) → Result Made Fault) → Option ℤ → Axis → Value → Eval Value
+reduction_value f otherwise DefaultAxis v = make_value (λ o. f o otherwise) v
+reduction_value f otherwise AllAxes v = make_value (λ o. f o None) v
+reduction_value f otherwise (AtAxis e) v = binary_value (along f) v e
+
+abbrev pub accumulation_value : (Operand → (axis : Option ℤ) → Result Made Fault) → Option ℤ → Bound → Value → Eval Value
+accumulation_value f otherwise Omitted v = make_value (λ o. f o otherwise) v
+accumulation_value f otherwise (Given e) v = binary_value (along f) v e
+
+-- `np.add.reduce` and the like
+abbrev pub fold_call : Ufunc → Fold → Eval Value
+fold_call f (Reduce e a keep) = value e >>= reduction_value (reduce_call f keep) (Some (pos 0)) a
+fold_call f (Accumulate e a) = value e >>= accumulation_value (accumulate_call f) (Some (pos 0)) a
+
+-- a method on a value
 abbrev pub method_value : Method → Value → Eval Value
 method_value Copy v = make_value copy_array v
 method_value (AsType t) v = make_value (astype t) v
 method_value (Transpose axes) v = viewed_value Transposed (listed axes) v
 method_value (Reshape shape) v = viewed_value Reshaped (listed shape) v
 method_value (ViewAs t) v = view_value (ViewedAs t) v []
-method_value _ v = Refuses (Stmt BadArgument)
+method_value (Reduced r a keep) v = reduction_value (reduce_array r keep) None a v
+method_value (Accumulated f a) v = accumulation_value (accumulate_array f) None a v
 
 -- an expression that may be left out
 abbrev pub bound_exprs : Bound → List Expr

@@ -4,22 +4,23 @@ ghost use Rattle.std.specs.Prelude.{◌≡◌, ◌+◌, ◌<◌, ◌^◌, IfOk, 
 ghost use Rattle.nd_model.specs.Cells.{chained, items_of};
 ghost use Rattle.nd_model.specs.Evaluation as evaluation;
 ghost use Rattle.nd_model.specs.Meaning as meaning;
-ghost use Rattle.nd_model.specs.Meaning.{is_given};
+ghost use Rattle.nd_model.specs.Meaning.{along, is_given};
 ghost use Rattle.nd_model.specs.Operation as operation;
 ghost use Rattle.nd_model.specs.Syntax.{Called, Items, NewArray};
-ghost use Rattle.nd_model.specs.Tokens.{tokens_of, tokens_of_call, tokens_of_index, tokens_of_item, tokens_of_all, tokens_of_bound, tokens_of_element, tokens_of_method};
+ghost use Rattle.nd_model.specs.Tokens.{tokens_of, tokens_of_call, tokens_of_fold, tokens_of_index, tokens_of_item, tokens_of_all, tokens_of_bound, tokens_of_element, tokens_of_method};
 ghost use Rattle.nd_syntax.specs.Lists.{operation_of};
-ghost use Rattle.nd_syntax.specs.Syntax.{bound_of, expr_of, call_of, element_of, index_of, item_of, method_of, suffix_of};
+ghost use Rattle.nd_syntax.specs.Syntax.{axis_of, bound_of, expr_of, call_of, element_of, fold_of, index_of, item_of, method_of, suffix_of};
 ghost use Rattle.nd_heap.specs.Values.{value_of};
 ghost use Rattle.nd_eval.specs.Contents as contents;
 ghost use Rattle.nd_eval.specs.Contents.{option_values, values_of};
 ghost use Rattle.nd_eval.specs.Ends.{Evaluates, session_of};
 ghost use Rattle.nd_eval.specs.Uses.{IsHeld};
 ghost use Rattle.nd_eval.specs.Parts as parts;
-ghost use Rattle.nd_eval.specs.Suffixes.{suffix_tokens};
+ghost use Rattle.nd_eval.specs.Suffixes.{axis_tokens, suffix_tokens};
 ghost use Rattle.nd_operation.specs.New.{made_of_one};
 ghost use Rattle.nd_operation.specs.OfTwo.{made_of_two};
-ghost use Rattle.nd_syntax.specs.Calls.{dtype_of, fill_of};
+ghost use Rattle.nd_syntax.specs.Calls.{dtype_of, fill_of, ufunc_of};
+ghost use Rattle.nd_fold.specs.Folds.{made_of_fold};
 ghost use Rattle.nd_operation.specs.declared.stop.Stop.TheVariants.{Refused};
 ghost use Rattle.nd_operation.specs.declared.fault.StmtFault.TheVariants.{Stmt};
 ghost use Rattle.nd_operation.specs.declared.fault.StmtError.TheVariants.{BadArgument};
@@ -29,12 +30,15 @@ use crate::operation::{mark_index, mark_operand, mark_operands, operand_in};
 use crate::views::ViewMethod;
 use nd_choice::{IndexValue, ItemValue, choose};
 use nd_files::InputSort;
+use nd_fold::Folding;
 use nd_operation::{
     OfOne, OfTwo, StmtError, StmtFault, Stop, make_filled, make_full, make_list, make_of_one,
     make_of_two, make_range,
 };
 use nd_session::Value;
-use nd_syntax::{BinaryOp, Call, DType, Element, Expr, Fill, Index, IndexItem, Method, Suffix};
+use nd_syntax::{
+    Axis, BinaryOp, Call, DType, Element, Expr, Fill, Fold, Index, IndexItem, Method, Suffix, Ufunc,
+};
 use nd_types::Num;
 use nd_ufunc::{BinaryUfunc, Single};
 
@@ -226,7 +230,90 @@ impl Evaluator<'_> {
             Method::Transpose(axes) => self.viewed_value(ViewMethod::Transpose, found, axes),
             Method::Reshape(shape) => self.viewed_value(ViewMethod::Reshape, found, shape),
             Method::View(dtype) => self.view_value(ViewMethod::ViewAs(dtype), found, &[]),
-            _ => Err(unbuilt_form()),
+            Method::Reduce(reduction, axis, keepdims) => {
+                self.reduction_value(Folding::Reduce(*reduction, *keepdims), None, axis, found)
+            }
+            Method::Accumulate(accumulation, axis) => {
+                self.accumulation_value(Folding::Accumulate(*accumulation), None, axis, found)
+            }
+        }
+    }
+
+    /// What a fold gives of a value along the axis that an expression says.
+    #[cycle(value)]
+    fn fold_at(&mut self, folding: Folding, found: &Value, axis: &Expr) -> Result<Value, Stop>
+        requires held { IsHeld (session_of self.old) found.now }
+        requires room { (session_of self.old).next + tokens_of (expr_of axis.now) + 1 < 2 ^ 64 }
+        ensures { Evaluates value_of result self.old
+            (parts.binary_value (along (made_of_fold folding)) (value_of found.now)
+            (expr_of axis.now)) self.new }
+    {
+        self.session.soundness();
+        let axis = self.value(axis)?;
+        self.fold_along(folding, found, &axis)
+    }
+
+    /// What a fold gives of a value along an axis, where none is written along the other one or of all numbers.
+    #[cycle(value)]
+    fn reduction_value(
+        &mut self,
+        folding: Folding,
+        otherwise: Option<i128>,
+        axis: &Axis,
+        found: &Value,
+    ) -> Result<Value, Stop>
+        requires held { IsHeld (session_of self.old) found.now }
+        requires room { (session_of self.old).next + axis_tokens (axis_of axis.now) + 1 < 2 ^ 64 }
+        ensures { Evaluates value_of result self.old (parts.reduction_value
+            (made_of_fold folding) otherwise (axis_of axis.now) (value_of found.now)) self.new }
+    {
+        match axis {
+            Axis::Default => self.fold_value(folding, otherwise, found),
+            Axis::All => self.fold_value(folding, None, found),
+            Axis::At(expr) => self.fold_at(folding, found, expr),
+        }
+    }
+
+    /// The same of a fold whose axis is a number.
+    #[cycle(value)]
+    fn accumulation_value(
+        &mut self,
+        folding: Folding,
+        otherwise: Option<i128>,
+        axis: &Option<Expr>,
+        found: &Value,
+    ) -> Result<Value, Stop>
+        requires held { IsHeld (session_of self.old) found.now }
+        requires room { (session_of self.old).next + tokens_of_bound (bound_of axis.now) + 1
+            < 2 ^ 64 }
+        ensures { Evaluates value_of result self.old (parts.accumulation_value
+            (made_of_fold folding) otherwise (bound_of axis.now) (value_of found.now)) self.new }
+    {
+        match axis {
+            Some(expr) => self.fold_at(folding, found, expr),
+            None => self.fold_value(folding, otherwise, found),
+        }
+    }
+
+    /// `np.add.reduce`, `np.add.accumulate` and the like.
+    #[cycle(value)]
+    fn fold_call(&mut self, ufunc: Ufunc, call: &Fold) -> Result<Value, Stop>
+        requires { (session_of self.old).next + tokens_of_fold (fold_of call.now) + 1 < 2 ^ 64 }
+        ensures { Evaluates value_of result self.old
+            (parts.fold_call (ufunc_of ufunc) (fold_of call.now)) self.new }
+    {
+        self.session.soundness();
+        match call {
+            Fold::Reduce(operand, axis, keepdims) => {
+                let found = self.value(operand)?;
+                let folding = Folding::ReduceCall(ufunc, *keepdims);
+                self.reduction_value(folding, Some(0), axis, &found)
+            }
+            Fold::Accumulate(operand, axis) => {
+                let found = self.value(operand)?;
+                let folding = Folding::AccumulateCall(ufunc);
+                self.accumulation_value(folding, Some(0), axis, &found)
+            }
         }
     }
 
@@ -392,7 +479,7 @@ impl Evaluator<'_> {
             }
             Call::Load(name) => self.input_value(InputSort::File, name.as_str()),
             Call::Buffer(name) => self.input_value(InputSort::Buffer, name.as_str()),
-            _ => Err(unbuilt_form()),
+            Call::Fold(ufunc, call) => self.fold_call(*ufunc, call),
         }
     }
 

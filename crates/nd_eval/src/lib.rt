@@ -7,10 +7,12 @@ mod eval;
 mod evaluator;
 mod exec;
 mod files;
+mod folds;
 mod operation;
 mod views;
 
 pub use exec::{Output, run_stmt};
 pub use nd_operation::{
-    FormatFault, IndexFault, NpyFault, ShapeFault, StmtError, StmtFault, UfuncFault, ViewFault,
+    FormatFault, IndexFault, NpyFault, ReduceFault, ShapeFault, StmtError, StmtFault, UfuncFault,
+    ViewFault,
 };

@@ -8,8 +8,8 @@ mod query;
 
 pub use edit::{Edit, EditFault};
 pub use nd_cell::{
-    CellFault, CellResult, FormatFault, IndexFault, Meter, NpyFault, ParseKind, Refusal,
-    ShapeFault, StmtError, StmtFault, UfuncFault, ViewFault,
+    CellFault, CellResult, FormatFault, IndexFault, Meter, NpyFault, ParseKind, ReduceFault,
+    Refusal, ShapeFault, StmtError, StmtFault, UfuncFault, ViewFault,
 };
 pub use nd_session::{Input, OutOfMemory};
 pub use nd_types::{Elem, ElemType, Field, Kind, RecType};

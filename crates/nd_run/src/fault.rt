@@ -5,14 +5,14 @@ ghost use Rattle.std.specs.Fmt.{signed_decimal};
 ghost use Rattle.nd_model.specs.FaultText as texts;
 ghost use Rattle.nd_rerun.specs.Syntax.{kind_of};
 ghost use Rattle.nd_shape.specs.Faults.{fault_of as shape_fault_of};
-ghost use Rattle.nd_rerun.specs.Faults.{view_fault_of, index_fault_of, ufunc_fault_of, stmt_error_of, fault_of};
+ghost use Rattle.nd_rerun.specs.Faults.{view_fault_of, index_fault_of, reduce_fault_of, ufunc_fault_of, stmt_error_of, fault_of};
 ghost use Rattle.nd_rerun.specs.Results.{cell_fault_of};
 ghost use Rattle.nd_pep.specs.Gives.{fault_of as format_fault_of};
 ghost use Rattle.nd_npy.specs.Gives.{fault_of as npy_fault_of};
 
 use nd_rerun::{
-    CellFault, FormatFault, IndexFault, NpyFault, ParseKind, ShapeFault, StmtError, StmtFault,
-    UfuncFault, ViewFault,
+    CellFault, FormatFault, IndexFault, NpyFault, ParseKind, ReduceFault, ShapeFault, StmtError,
+    StmtFault, UfuncFault, ViewFault,
 };
 use nd_script::{push_integer, push_number, push_text};
 use std::alloc::AllocError;
@@ -80,6 +80,10 @@ fn push_statement_fault(out: &mut Vec<u8>, fault: &StmtFault) -> Result<(), Allo
         StmtFault::Ufunc(fault) => {
             push_text(out, "Ufunc.")?;
             push_ufunc_fault(out, *fault)
+        }
+        StmtFault::Reduce(fault) => {
+            push_text(out, "Reduce.")?;
+            push_text(out, reduce_name(*fault))
         }
         StmtFault::Stmt(fault) => {
             push_text(out, "Stmt.")?;
@@ -169,6 +173,8 @@ fn push_index_fault(out: &mut Vec<u8>, fault: &IndexFault) -> Result<(), AllocEr
             push_text(out, "NoField ")?;
             push_text(out, name.as_str())
         }
+        IndexFault::MaskShape { axis } => push_place(out, "MaskShape ", *axis),
+        IndexFault::IndexShapes => push_text(out, "IndexShapes"),
     }
 }
 
@@ -214,6 +220,16 @@ fn push_ufunc_fault(out: &mut Vec<u8>, fault: UfuncFault) -> Result<(), AllocErr
         UfuncFault::BoolOp => push_text(out, "BoolOp"),
         UfuncFault::KindCast => push_text(out, "KindCast"),
         UfuncFault::NegativePower => push_text(out, "NegativePower"),
+    }
+}
+
+fn reduce_name(fault: ReduceFault) -> &'static str
+    ensures { result.now ≡ texts.reduce_text (reduce_fault_of fault) }
+{
+    match fault {
+        ReduceFault::EmptyReduce => "EmptyReduce",
+        ReduceFault::NoAxis => "NoAxis",
+        ReduceFault::NotNumbers => "NotNumbers",
     }
 }
 

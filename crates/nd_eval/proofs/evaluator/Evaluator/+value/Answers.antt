@@ -11,23 +11,23 @@ use Rattle.nd_model.specs.Creation.{arange}
 use Rattle.nd_model.specs.Meaning.{is_given}
 use Rattle.nd_eval.proofs.Ranging.{range_first, range_is, range_parts}
 use Rattle.nd_model.specs.Operation.{give}
-use Rattle.nd_model.specs.Tokens.{tokens_of, tokens_of_call, tokens_of_method}
+use Rattle.nd_model.specs.Tokens.{tokens_of, tokens_of_call, tokens_of_fold, tokens_of_method}
 use Rattle.nd_syntax.specs.Lists.{operation_of}
-use Rattle.nd_syntax.specs.Syntax.{bound_of, element_of, expr_of, call_of, suffix_of, index_of, item_of, method_of}
+use Rattle.nd_syntax.specs.Syntax.{axis_of, bound_of, element_of, expr_of, call_of, fold_of, suffix_of, index_of, item_of, method_of}
 use Rattle.nd_syntax.specs.declared.tree.Suffix.{Suffix}
 use Rattle.nd_syntax.specs.declared.tree.Element.{Element}
 use Rattle.nd_syntax.specs.declared.tree.IndexItem.{IndexItem}
 use Rattle.nd_heap.specs.Values.{value_of}
 use Rattle.nd_input.specs.Values.{inputs_of}
 use Rattle.nd_session.specs.Live.{live}
-use Rattle.nd_eval.proofs.Bounds.{few_of_items, step_more, list_others, next_behind, next_item_parts, next_bound, next_value, next_values, next_at_suffix}
+use Rattle.nd_eval.proofs.Bounds.{accumulated_tokens, axis_behind, bound_behind, few_of_items, step_more, list_others, next_behind, next_item_parts, next_bound, next_value, next_values, next_at_suffix}
 use Rattle.nd_eval.proofs.Calls.{filled_first, filled_parts, full_first, full_follows, list_first, list_parts, stretched_first}
-use Rattle.nd_syntax.specs.Calls.{dtype_of, fill_of}
+use Rattle.nd_syntax.specs.Calls.{accumulation_of, dtype_of, fill_of, ufunc_of}
 use Rattle.nd_model.specs.Creation.{array_of_list, filled, full_of}
 use Rattle.nd_operation.specs.Contents.{operand_of, unused_of}
 use Rattle.nd_eval.specs.Contents as contents
 use Rattle.nd_eval.specs.Contents.{option_values, values_of}
-use Rattle.nd_eval.specs.Parts.{bound_exprs, exprs_in, exprs_of_element, index_parts, item_parts, items_parts, items_then, parts_of_items, unused, ItemParts, suffix_value, list_value, binary_value, values_behind, values_then, values, method_value, viewed_value}
+use Rattle.nd_eval.specs.Parts.{bound_exprs, fold_call, exprs_in, exprs_of_element, index_parts, item_parts, items_parts, items_then, parts_of_items, unused, ItemParts, suffix_value, list_value, binary_value, values_behind, values_then, values, method_value, viewed_value}
 use Rattle.nd_model.specs.Value as model
 use Rattle.nd_syntax.specs.declared.tree.Expr.{Expr}
 use Rattle.nd_operation.specs.New.{bounds_of}
@@ -43,7 +43,7 @@ use Rattle.nd_eval.proofs.Uses.{slice_seen, kept_bytes, kept_next, all_marked_by
 use Rattle.nd_eval.proofs.Held.{held_after, held_marked, held_past, sound_after, suffix_held, value_held}
 use Rattle.nd_operation.proofs.InTurn.{next_item, pushed}
 use Rattle.nd_eval.proofs.InTurn.{as_many, behind_others, many_of_element, onto, onto_more}
-use Rattle.nd_eval.proofs.Indexing.{chain, elements_in_list, nodes_of_its_elements, run_postfix, tokens_of_postfix, nodes_of_postfix, nodes_of_filled, nodes_of_full, nodes_of_item, nodes_of_slice, slice_is, shape_tokens, items_in_index, nodes_of_its_items, is_chain, nodes_of_chain, listed_is, nodes_of_reshaped, nodes_of_stretched, nodes_of_transposed, reshaped_tokens, transposed_tokens}
+use Rattle.nd_eval.proofs.Indexing.{accumulate_is, accumulated_is, chain, fold_first, nodes_of_accumulate, nodes_of_accumulated, nodes_of_fold, elements_in_list, nodes_of_its_elements, run_postfix, tokens_of_postfix, nodes_of_postfix, nodes_of_filled, nodes_of_full, nodes_of_item, nodes_of_slice, slice_is, shape_tokens, items_in_index, nodes_of_its_items, is_chain, nodes_of_chain, listed_is, nodes_of_reshaped, nodes_of_stretched, nodes_of_transposed, reshaped_tokens, transposed_tokens}
 use Rattle.nd_eval.proofs.evaluator.Evaluator.+value.Goals as goal
 
 pub value-value_of_one-requires : goal.value-value_of_one-requires
@@ -1104,3 +1104,117 @@ viewed_value-returns t c = (
       (rw (c.in_ok-others.ensures.1.1, c.deref.ensures.value) at c.view_value.ensures.0),
   stays_on c.in_ok-others.ensures.1 c.view_value.ensures.1,
 )
+
+-- ---- folds
+
+pub fold_at-returns-in_err-axis : goal.fold_at-returns-in_err-axis
+fold_at-returns-in_err-axis t c = (
+  exits value_of value_of (inputs_of c.args.self.now.inputs.now.entries) (meaning.value (expr_of c.args.axis.now)) _ _ _ _ _
+      c.from_residual.ensures.1 c.in_err-axis.ensures.0,
+  c.in_err-axis.ensures.1,
+)
+
+pub fold_at-fold_along-requires-clause-found : goal.fold_at-fold_along-requires-clause-found
+fold_at-fold_along-requires-clause-found t c =
+    held_after (inputs_of c.args.self.now.inputs.now.entries) (meaning.value (expr_of c.args.axis.now)) _ _ _ c.args.found.now c.in_ok-axis.ensures.0 c.requires.held
+
+pub fold_at-fold_along-requires-clause-axis : goal.fold_at-fold_along-requires-clause-axis
+fold_at-fold_along-requires-clause-axis t c =
+    value_held (inputs_of c.args.self.now.inputs.now.entries) (expr_of c.args.axis.now) _ _ c.in_ok-axis.axis c.in_ok-axis.ensures.0 c.soundness.ensures
+
+pub fold_at-fold_along-requires-clause-room : goal.fold_at-fold_along-requires-clause-room
+fold_at-fold_along-requires-clause-room t c =
+    let made = next_value (inputs_of c.args.self.now.inputs.now.entries) (expr_of c.args.axis.now) _ _ _ c.in_ok-axis.ensures.0 in
+    omega arith
+
+pub fold_at-returns : goal.fold_at-returns
+fold_at-returns t c = (
+  follows value_of value_of (inputs_of c.args.self.now.inputs.now.entries) (meaning.value (expr_of c.args.axis.now)) _ _ _ _
+      c.in_ok-axis.axis _ c.in_ok-axis.ensures.0 (rw c.in_ok-axis.ensures.1.1 at c.fold_along.ensures.0),
+  stays_on c.in_ok-axis.ensures.1 c.fold_along.ensures.1,
+)
+
+pub call_value-returns-in-Fold : goal.call_value-returns-in-Fold
+call_value-returns-in-Fold t c =
+    let a = c.in-Fold in
+    let i = inputs_of c.args.self.now.inputs.now.entries in
+    let r = live c.args.self.now.session.now in
+    let same = ap (λ x. run i (meaning.value (Called (call_of x))) r) a.is in (
+      ends_alike value_of _ _ (same ∙ fold_first i (ufunc_of a.ufunc) (fold_of a.call) r) c.fold_call.ensures.0,
+      c.fold_call.ensures.1,
+    )
+
+pub fold_call-returns-in_err-found-in-Reduce : goal.fold_call-returns-in_err-found-in-Reduce
+fold_call-returns-in_err-found-in-Reduce t c =
+    let i = inputs_of c.args.self.now.inputs.now.entries in
+    let same = ap (λ x. run i (fold_call (ufunc_of c.args.ufunc) (fold_of x)) (live c.args.self.now.session.now)) c.in-Reduce.is in (
+      ends_alike value_of _ _ same (exits value_of value_of i (meaning.value (expr_of c.in-Reduce.operand)) _ _ _ _ _
+          c.from_residual.ensures.1 c.in_err-found-in-Reduce.ensures.0),
+      c.in_err-found-in-Reduce.ensures.1,
+    )
+
+pub fold_call-reduction_value-requires : goal.fold_call-reduction_value-requires
+fold_call-reduction_value-requires t c =
+    let a = c.in-Reduce in
+    let i = inputs_of c.args.self.now.inputs.now.entries in
+    let e = expr_of a.operand in
+    let room = rw a.is at c.requires in
+    let size = ap nodes_of_fold a.is in
+    let below = c.decreases in
+    let few = axis_behind (axis_of a.axis) in
+    let made = next_value i e _ _ _ c.in_ok-found-in-Reduce.ensures.0 in
+    (omega arith, (value_held i e _ _ c.in_ok-found-in-Reduce.found c.in_ok-found-in-Reduce.ensures.0 c.soundness.ensures, omega arith))
+
+pub fold_call-returns-in_ok-found-in-Reduce : goal.fold_call-returns-in_ok-found-in-Reduce
+fold_call-returns-in_ok-found-in-Reduce t c =
+    let i = inputs_of c.args.self.now.inputs.now.entries in
+    let found = c.in_ok-found-in-Reduce in
+    let same = ap (λ x. run i (fold_call (ufunc_of c.args.ufunc) (fold_of x)) (live c.args.self.now.session.now)) c.in-Reduce.is in (
+      ends_alike value_of _ _ same (follows value_of value_of i (meaning.value (expr_of c.in-Reduce.operand)) _ _ _ _
+          found.found _ found.ensures.0 (rw found.ensures.1.1 at c.reduction_value.ensures.0)),
+      stays_on found.ensures.1 c.reduction_value.ensures.1,
+    )
+
+pub fold_call-returns-in_err-found-in-Accumulate : goal.fold_call-returns-in_err-found-in-Accumulate
+fold_call-returns-in_err-found-in-Accumulate t c =
+    let a = c.in-Accumulate in
+    let i = inputs_of c.args.self.now.inputs.now.entries in
+    let same = ap (λ x. run i (fold_call (ufunc_of c.args.ufunc) x) (live c.args.self.now.session.now)) (ap fold_of a.is ∙ accumulate_is a.operand a.axis) in (
+      ends_alike value_of _ _ same (exits value_of value_of i (meaning.value (expr_of a.operand)) _ _ _ _ _
+          c.from_residual-in_err-found-in-Accumulate.ensures.1 c.in_err-found-in-Accumulate.ensures.0),
+      c.in_err-found-in-Accumulate.ensures.1,
+    )
+
+pub fold_call-accumulation_value-requires : goal.fold_call-accumulation_value-requires
+fold_call-accumulation_value-requires t c =
+    let a = c.in-Accumulate in
+    let i = inputs_of c.args.self.now.inputs.now.entries in
+    let e = expr_of a.operand in
+    let whole = ap tokens_of_fold (ap fold_of a.is ∙ accumulate_is a.operand a.axis) in
+    let room = c.requires in
+    let size = nodes_of_accumulate c.args.call.now a.operand a.axis a.is in
+    let below = c.decreases in
+    let few = bound_behind (bound_of a.axis) in
+    let made = next_value i e _ _ _ c.in_ok-found-in-Accumulate.ensures.0 in
+    (omega arith, (value_held i e _ _ c.in_ok-found-in-Accumulate.found c.in_ok-found-in-Accumulate.ensures.0 c.soundness.ensures, omega arith))
+
+pub fold_call-returns-in_ok-found-in-Accumulate : goal.fold_call-returns-in_ok-found-in-Accumulate
+fold_call-returns-in_ok-found-in-Accumulate t c =
+    let a = c.in-Accumulate in
+    let i = inputs_of c.args.self.now.inputs.now.entries in
+    let found = c.in_ok-found-in-Accumulate in
+    let same = ap (λ x. run i (fold_call (ufunc_of c.args.ufunc) x) (live c.args.self.now.session.now)) (ap fold_of a.is ∙ accumulate_is a.operand a.axis) in (
+      ends_alike value_of _ _ same (follows value_of value_of i (meaning.value (expr_of a.operand)) _ _ _ _
+          found.found _ found.ensures.0 (rw found.ensures.1.1 at c.accumulation_value.ensures.0)),
+      stays_on found.ensures.1 c.accumulation_value.ensures.1,
+    )
+
+pub method_value-accumulation_value-requires : goal.method_value-accumulation_value-requires
+method_value-accumulation_value-requires t c =
+    let a = c.in-Accumulate in
+    let room = c.requires.room in
+    let whole = ap tokens_of_method (ap method_of a.is ∙ accumulated_is a.accumulation a.axis) in
+    let few = accumulated_tokens (accumulation_of a.accumulation) (bound_of a.axis) in
+    let size = nodes_of_accumulated c.args.method.now a.accumulation a.axis a.is in
+    let below = c.decreases in
+    (omega arith, (c.requires.held, omega arith))

@@ -15,7 +15,7 @@ use Rattle.nd_eval.specs.Contents as contents
 use Rattle.nd_eval.specs.Contents.{values_of}
 use Rattle.nd_eval.specs.Uses.{IsHeld}
 use Rattle.nd_eval.proofs.InTurn.{onto}
-use Rattle.nd_eval.proofs.Indexing.{chain, chain_tokens, nodes, nodes_of_bound, nodes_of_call, nodes_of_element, nodes_of_elements, nodes_of_method, nodes_of_suffix, nodes_of_exprs, nodes_of_index, nodes_of_items, nodes_of_item, nodes_of_all, nodes_of_operations}
+use Rattle.nd_eval.proofs.Indexing.{chain, chain_tokens, nodes, nodes_of_axis, nodes_of_fold, nodes_of_bound, nodes_of_call, nodes_of_element, nodes_of_elements, nodes_of_method, nodes_of_suffix, nodes_of_exprs, nodes_of_index, nodes_of_items, nodes_of_item, nodes_of_all, nodes_of_operations}
 use Rattle.nd_eval.proofs.evaluator.Evaluator.+value.Given as goal
 
 abbrev pub decreases-value : goal.decreases-value
@@ -53,6 +53,18 @@ decreases-suffix_value l = nodes_of_suffix l.suffix.now
 
 abbrev pub decreases-method_value : goal.decreases-method_value
 decreases-method_value l = nodes_of_method l.method.now
+
+abbrev pub decreases-fold_at : goal.decreases-fold_at
+decreases-fold_at l = 1 + nodes l.axis.now
+
+abbrev pub decreases-reduction_value : goal.decreases-reduction_value
+decreases-reduction_value l = 1 + nodes_of_axis l.axis.now
+
+abbrev pub decreases-accumulation_value : goal.decreases-accumulation_value
+decreases-accumulation_value l = 2 + nodes_of_bound l.axis.now
+
+abbrev pub decreases-fold_call : goal.decreases-fold_call
+decreases-fold_call l = nodes_of_fold l.call.now
 
 abbrev pub decreases-viewed_value : goal.decreases-viewed_value
 decreases-viewed_value l = 2 + nodes_of_exprs l.exprs.now

@@ -1,0 +1,8 @@
+//! Folds of the numbers of an operand, as statements call them: reductions and accumulations (NumPy reference, `ndarray.sum` and the
+//! like, `ufunc.reduce`, `ufunc.accumulate`).
+#![tactic(auto)]
+
+mod folding;
+mod numbers;
+
+pub use folding::{Folding, make_fold, make_fold_along};

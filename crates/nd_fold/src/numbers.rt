@@ -1,0 +1,108 @@
+//! Folds of elements and of NumPy scalars.
+
+ghost use Rattle.std.specs.Prelude.{◌≡◌};
+ghost use Rattle.nd_model.specs.Elementwise.{numbers_made};
+ghost use Rattle.nd_model.specs.Operand.{Plain, Scalar};
+ghost use Rattle.nd_model.specs.Operators as operators;
+ghost use Rattle.nd_model.specs.Reductions.{accumulated_numbers, reduced_numbers};
+ghost use Rattle.nd_types.specs.Kinds.{kind_of};
+ghost use Rattle.nd_syntax.specs.Calls.{reduction_of};
+ghost use Rattle.nd_operation.specs.Contents.{elements_operand, num_of};
+ghost use Rattle.nd_operation.specs.Ends.{Says};
+ghost use Rattle.nd_operation.specs.New.{MakesNew};
+ghost use Rattle.nd_fold.specs.Stops.{fold_stop, scalar_number};
+
+use nd_operation::{Elements, New, ReduceFault as Refusal, StmtError, StmtFault, Stop, new_numbers};
+use nd_reduce::{ReduceFault, accumulate, reduce, reduce_number};
+use nd_syntax::Reduction;
+use nd_types::{Kind, Num, fits};
+use std::alloc::Global;
+
+/// Why an evaluation stops where there is no fold.
+fn stop_of(fault: ReduceFault) -> Stop
+    ensures { result ≡ fold_stop fault }
+{
+    match fault {
+        ReduceFault::Memory => Stop::Memory,
+        ReduceFault::NotNumbers => Stop::Refused(StmtFault::Reduce(Refusal::NotNumbers)),
+        ReduceFault::NoAxis => Stop::Refused(StmtFault::Reduce(Refusal::NoAxis)),
+        ReduceFault::EmptyReduce => Stop::Refused(StmtFault::Reduce(Refusal::EmptyReduce)),
+        ReduceFault::View(fault) => Stop::Refused(StmtFault::View(fault)),
+    }
+}
+
+/// The NumPy scalar that a number counts as: a Python integer is an int64, if it fits.
+pub(crate) fn scalar_of(number: Num) -> Result<(Kind, i128), StmtFault>
+    ensures { Says scalar_number result (operators.numpy_number (num_of number)) }
+{
+    match number {
+        Num::Int(int) => {
+            if !fits(Kind::I64, int) {
+                return Err(StmtFault::Stmt(StmtError::NeedsType));
+            }
+            Ok((Kind::I64, int))
+        }
+        Num::Bool(truth) => Ok((Kind::Bool, i128::from(truth))),
+        Num::Scalar(kind, int) => Ok((kind, int)),
+    }
+}
+
+/// The fold of a NumPy scalar.
+pub(crate) fn reduce_scalar(
+    reduction: Reduction,
+    _keepdims: bool,
+    kind: Kind,
+    number: i128,
+    axis: Option<i128>,
+) -> Result<New, Stop>
+    ensures { MakesNew result (numbers_made (reduced_numbers (reduction_of reduction) axis
+        _keepdims (Plain (Scalar (kind_of kind) number)))) }
+{
+    match reduce_number(reduction, axis, kind, number) {
+        Ok(number) => Ok(New::Number(number)),
+        Err(fault) => Err(stop_of(fault)),
+    }
+}
+
+/// The folds of elements along an axis, or of all of them.
+pub(crate) fn reduce_elements(
+    alloc: Global,
+    reduction: Reduction,
+    keepdims: bool,
+    elements: &Elements<'_>,
+    axis: Option<i128>,
+) -> Result<New, Stop>
+    ensures { MakesNew result (numbers_made (reduced_numbers (reduction_of reduction) axis
+        keepdims (elements_operand elements.now))) }
+{
+    elements.soundness();
+    match reduce(alloc, reduction, axis, keepdims, elements.view, elements.block) {
+        Ok((view, block)) => {
+            // Says that it is in the limits of arrays.
+            let _shape = view.shape();
+            Ok(new_numbers(view, block))
+        }
+        Err(fault) => Err(stop_of(fault)),
+    }
+}
+
+/// The accumulation of elements along an axis, or of all of them.
+pub(crate) fn accumulate_elements(
+    alloc: Global,
+    reduction: Reduction,
+    elements: &Elements<'_>,
+    axis: Option<i128>,
+) -> Result<New, Stop>
+    ensures { MakesNew result (numbers_made (accumulated_numbers (reduction_of reduction) axis
+        (elements_operand elements.now))) }
+{
+    elements.soundness();
+    match accumulate(alloc, reduction, axis, elements.view, elements.block) {
+        Ok((view, block)) => {
+            // Says that it is in the limits of arrays.
+            let _shape = view.shape();
+            Ok(new_numbers(view, block))
+        }
+        Err(fault) => Err(stop_of(fault)),
+    }
+}

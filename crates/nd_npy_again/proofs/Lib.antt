@@ -1,0 +1,17 @@
+mod At
+mod ByteKinds
+mod Again
+mod Arrays
+mod Letters
+mod Pads
+mod Pairs
+mod Fields
+mod Shapes
+mod Ascii
+mod Stored
+mod Walked
+mod Elements
+mod Files
+mod Headers
+mod Latin
+mod Lengths

@@ -10,8 +10,8 @@ use nd_types::{Elem, ElemType, Kind, wrap};
 use std::io;
 use std::time::Instant;
 
-// Returns the sum of the numbers that fill a block, wrapped to 64 bits.
-fn block_sum(block: &RawBlock, elem: Elem) -> i128 {
+/// Returns the sum of the numbers that fill a block, wrapped to 64 bits.
+pub(crate) fn block_sum(block: &RawBlock, elem: Elem) -> i128 {
     let size = elem.size();
     let mut sum: i128 = 0;
     for index in 0..block.len() as u64 / size {

@@ -5,7 +5,9 @@
 //! 10,000,000 numbers, with the sum of its block; `nd_bench views` prints the same for views that are made of a view, of which it makes
 //! 100,000: by a basic index and in another shape; `nd_bench operators` prints for operators on an array of 10,000,000 numbers the name, how
 //! many results there are, the sum of their bytes, and the nanoseconds; `nd_bench text [COUNT]` prints for each of three arrays its name, how many elements
-//! it has, how long its text is, and how many nanoseconds it takes to make it; `nd_bench cells [COUNT]` edits notebooks of many cells,
+//! it has, how long its text is, and how many nanoseconds it takes to make it; `nd_bench files [COUNT]` prints for the NPY file of so
+//! many numbers how long it is and how many nanoseconds it takes to write it, their sum and the nanoseconds in which it is read, and
+//! the same for a file of one number behind a header of 60,000 bytes; `nd_bench cells [COUNT]` edits notebooks of many cells,
 //! and prints how long that takes. Without a word it prints how it is called.
 #![tactic(auto)]
 
@@ -15,6 +17,7 @@ mod assign;
 mod cells;
 mod convert;
 mod copy;
+mod files;
 mod mixed;
 mod numbers;
 mod operators;
@@ -25,6 +28,7 @@ use crate::assign::measure_assign;
 use crate::cells::measure_cells;
 use crate::convert::measure_convert;
 use crate::copy::measure_copy;
+use crate::files::measure_files;
 use crate::numbers::measure_numbers;
 use crate::operators::measure_operators;
 use crate::text::measure_text;
@@ -72,9 +76,10 @@ fn main(rt: HostRuntime) -> io::Result<()> {
         (Some("views"), _) => measure_views(&rt),
         (Some("operators"), _) => measure_operators(&rt),
         (Some("text"), Some(count)) => measure_text(&rt, count.min(MOST_SHOWN)),
+        (Some("files"), Some(count)) => measure_files(&rt, count),
         (Some("cells"), Some(count)) => measure_cells(&rt, count.min(MOST_CELLS)),
         _ => println!(rt;
-            "usage: nd_bench copy | numbers [COUNT] | convert [COUNT] | assign | views | operators | text [COUNT] | cells [COUNT]"
+            "usage: nd_bench copy | numbers [COUNT] | convert [COUNT] | assign | views | operators | text [COUNT] | files [COUNT] | cells [COUNT]"
         ),
     }
 }

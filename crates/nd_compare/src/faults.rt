@@ -1,8 +1,8 @@
 //! Refusals, as texts of which no two are the same.
 
 use nd_rerun::{
-    CellFault, EditFault, IndexFault, NpyFault, Refusal, ShapeFault, StmtError, StmtFault,
-    UfuncFault, ViewFault,
+    CellFault, EditFault, IndexFault, NpyFault, ReduceFault, Refusal, ShapeFault, StmtError,
+    StmtFault, UfuncFault, ViewFault,
 };
 use nd_session::OutOfMemory;
 use std::alloc::{AllocError, Global};
@@ -18,6 +18,8 @@ fn add_index_fault(text: &mut String, fault: &IndexFault) -> Result<(), AllocErr
         IndexFault::ZeroStep => write!(text, "zero step"),
         IndexFault::TwoEllipses => write!(text, "two ellipses"),
         IndexFault::NoField(name) => write!(text, "no field {:?}", name.as_str()),
+        IndexFault::MaskShape { axis } => write!(text, "mask of another length on axis {axis}"),
+        IndexFault::IndexShapes => write!(text, "shapes of indexes"),
     }
 }
 
@@ -42,6 +44,15 @@ fn add_ufunc_fault(text: &mut String, fault: UfuncFault) -> Result<(), AllocErro
         UfuncFault::BoolOp => write!(text, "an operation on Booleans"),
         UfuncFault::KindCast => write!(text, "kind cast"),
         UfuncFault::NegativePower => write!(text, "negative power"),
+    }
+}
+
+/// The words for a fault of a reduction.
+fn reduce_fault_text(fault: ReduceFault) -> &'static str {
+    match fault {
+        ReduceFault::EmptyReduce => "nothing to reduce",
+        ReduceFault::NoAxis => "no axis to reduce",
+        ReduceFault::NotNumbers => "no numbers to reduce",
     }
 }
 
@@ -97,6 +108,7 @@ fn add_statement_fault(text: &mut String, fault: &StmtFault) -> Result<(), Alloc
         StmtFault::Index(fault) => add_index_fault(text, fault),
         StmtFault::Shape(fault) => write!(text, "{}", shape_fault_text(*fault)),
         StmtFault::Ufunc(fault) => add_ufunc_fault(text, *fault),
+        StmtFault::Reduce(fault) => write!(text, "{}", reduce_fault_text(*fault)),
         StmtFault::Stmt(error) => add_error(text, error),
     }
 }

@@ -2,11 +2,23 @@
 //! Run with one allocation refused at a time, this prints the same whichever that is.
 
 use crate::edits::{edits_of, inputs_of, print_texts, unescape_lines};
-use nd_rerun::{Edit, EditFault, Meter, Notebook};
+use nd_rerun::{CellResult, Edit, EditFault, Meter, Notebook};
 use std::alloc::Global;
 use std::io;
 
-/// What the cells of a notebook show: of each its source and the text that it printed.
+/// Adds what a cell gave: the text that it printed, the line on which it was refused, and the files that it saved.
+fn add_result(shown: &mut String, given: &CellResult) -> io::Result<()> {
+    shown.push_str(given.text.as_str())?;
+    if let Some(refusal) = &given.refusal {
+        write!(shown, "refused on line {}", refusal.line)?;
+    }
+    for (name, bytes) in &given.saves {
+        write!(shown, "{name:?} is {bytes:?}")?;
+    }
+    Ok(())
+}
+
+/// What the cells of a notebook show: of each its source and what it gave.
 fn shown(alloc: Global, notebook: &Notebook) -> io::Result<String> {
     let mut shown = String::new(alloc);
     for at in 0..notebook.count() {
@@ -14,7 +26,7 @@ fn shown(alloc: Global, notebook: &Notebook) -> io::Result<String> {
             shown.push_str(source)?;
         }
         if let Ok(result) = notebook.result(at) {
-            shown.push_str(result.text.as_str())?;
+            add_result(&mut shown, result)?;
         }
     }
     Ok(shown)

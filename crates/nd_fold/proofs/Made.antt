@@ -86,9 +86,11 @@ keeps_nothing r axis keep k z = at axis
     whole : (keep : Bool) → folds r (fold_kind r k) None keep (Plain (Scalar k z)) ≡ folds r (fold_kind r k) None false (Plain (Scalar k z))
     whole true = refl
     whole false = refl
+
     allow : (b : Bool) → refusing.◌>>=◌ (when b (Reduce NoAxis) (Ok None)) (λ a. folds r (fold_kind r k) a keep (Plain (Scalar k z))) ≡ refusing.◌>>=◌ (when b (Reduce NoAxis) (Ok None)) (λ a. folds r (fold_kind r k) a false (Plain (Scalar k z)))
     allow true = whole keep
     allow false = refl
+
     at : (axis : Option ℤ) → reduced_numbers r axis keep (Plain (Scalar k z)) ≡ reduced_numbers r axis false (Plain (Scalar k z))
     at None = whole keep
     at (Some i) = allow (is_zero i || is_zero (i +ℤ pos 1))
@@ -115,13 +117,16 @@ pub array_made : (r : Result Numbers Fault) → ((n : Numbers) → r ≡ Ok n �
 array_made r all view block h limits =
     let made = came r (λ n. Ok (new_array n)) (view, block) h in
     let same : new_array made.0 ≡ (view, block) = ap (taken (new_array made.0)) made.2 in
-    let is : view ≡ (new_array made.0).0 = sym (ap (λ m. m.0) same) in
-    (made.0, made.1, record {
-      view = is;
-      block = sym (ap (λ m. m.1) same);
-      valid = all made.0 made.1;
-      limits = subst (λ (g : Geo). IsInLimits (item_size g.element) g.shape) is limits;
-    })
+    let is : view ≡ (new_array made.0).0 = sym (ap (λ m. m.0) same) in (
+      made.0,
+      made.1,
+      record {
+        view = is;
+        block = sym (ap (λ m. m.1) same);
+        valid = all made.0 made.1;
+        limits = subst (λ (g : Geo). IsInLimits (item_size g.element) g.shape) is limits;
+      },
+    )
 
 not_made : (r : Result Numbers Fault) (f : Fault) → array_of r ≡ Err f → numbers_made r ≡ Err f
 not_made (Ok n) f h = absurd cc

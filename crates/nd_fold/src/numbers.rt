@@ -12,7 +12,9 @@ ghost use Rattle.nd_operation.specs.Ends.{Says};
 ghost use Rattle.nd_operation.specs.New.{MakesNew};
 ghost use Rattle.nd_fold.specs.Stops.{fold_stop, scalar_number};
 
-use nd_operation::{Elements, New, ReduceFault as Refusal, StmtError, StmtFault, Stop, new_numbers};
+use nd_operation::{
+    Elements, New, ReduceFault as Refusal, StmtError, StmtFault, Stop, new_numbers,
+};
 use nd_reduce::{ReduceFault, accumulate, reduce, reduce_number};
 use nd_syntax::Reduction;
 use nd_types::{Kind, Num, fits};
@@ -76,7 +78,14 @@ pub(crate) fn reduce_elements(
         keepdims (elements_operand elements.now))) }
 {
     elements.soundness();
-    match reduce(alloc, reduction, axis, keepdims, elements.view, elements.block) {
+    match reduce(
+        alloc,
+        reduction,
+        axis,
+        keepdims,
+        elements.view,
+        elements.block,
+    ) {
         Ok((view, block)) => {
             // Says that it is in the limits of arrays.
             let _shape = view.shape();

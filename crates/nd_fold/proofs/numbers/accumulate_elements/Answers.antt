@@ -21,7 +21,7 @@ returns-in-Ok c =
     let o = array_operand g block in
     let made = array_made (accumulated_numbers (reduction_of c.args.reduction) c.args.axis o) (accumulated_valid (reduction_of c.args.reduction) c.args.axis o) c.in-Ok.view c.in-Ok.block c.in-Ok.ensures c.shape-shape.ensures.limits in
     subst (λ n. MakesNew (Ok c.new_numbers.result) (numbers_made n)) (sym (row_accumulated (reduction_of c.args.reduction) c.args.axis c.args.elements.now.is_row g (contents_over g block)))
-        (gives_numbers (accumulated_numbers (reduction_of c.args.reduction) c.args.axis o) made.0 c.new_numbers.result made.1 (c.new_numbers.ensures.gives made.0 made.2))
+    (gives_numbers (accumulated_numbers (reduction_of c.args.reduction) c.args.axis o) made.0 c.new_numbers.result made.1 (c.new_numbers.ensures.gives made.0 made.2))
 
 pub returns-in-Err : goal.returns-in-Err
 returns-in-Err c =
@@ -29,4 +29,4 @@ returns-in-Err c =
     let block = c.args.elements.now.block.now in
     let o = array_operand g block in
     subst (λ n. MakesNew (Err c.stop_of.result) (numbers_made n)) (sym (row_accumulated (reduction_of c.args.reduction) c.args.axis c.args.elements.now.is_row g (contents_over g block)))
-        (not_folded (accumulated_numbers (reduction_of c.args.reduction) c.args.axis o) c.in-Err.fault c.stop_of.result c.stop_of.ensures c.in-Err.ensures)
+    (not_folded (accumulated_numbers (reduction_of c.args.reduction) c.args.axis o) c.in-Err.fault c.stop_of.result c.stop_of.ensures c.in-Err.ensures)

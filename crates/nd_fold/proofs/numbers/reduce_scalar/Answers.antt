@@ -17,11 +17,11 @@ pub returns-in-Ok : goal.returns-in-Ok
 returns-in-Ok c =
     let h : numbers_made (reduced_numbers (reduction_of c.args.reduction) c.args.axis false (Plain (Scalar (kind_of c.args.kind) c.args.number))) ≡ Ok (number_made c.in-Ok.number) = search rules in
     subst (λ n. MakesNew (Ok (Number c.in-Ok.number)) (numbers_made n)) (sym (keeps_nothing (reduction_of c.args.reduction) c.args.axis c.args._keepdims (kind_of c.args.kind) c.args.number))
-        (ap (λ m. decide m >>= give) h ∙ number_gives c.in-Ok.number)
+    (ap (λ m. decide m >>= give) h ∙ number_gives c.in-Ok.number)
 
 pub returns-in-Err : goal.returns-in-Err
 returns-in-Err c =
     let made = numbers_made (reduced_numbers (reduction_of c.args.reduction) c.args.axis false (Plain (Scalar (kind_of c.args.kind) c.args.number))) in
     let h : Makes number_made (Err c.in-Err.fault) made = search rules in
     subst (λ n. MakesNew (Err c.stop_of.result) (numbers_made n)) (sym (keeps_nothing (reduction_of c.args.reduction) c.args.axis c.args._keepdims (kind_of c.args.kind) c.args.number))
-        (not_reduced number_made made c.in-Err.fault c.stop_of.result c.stop_of.ensures h)
+    (not_reduced number_made made c.in-Err.fault c.stop_of.result c.stop_of.ensures h)

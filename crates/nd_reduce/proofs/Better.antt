@@ -1,4 +1,4 @@
--- Which numbers are better: a number is between, where one is worse than another.
+-- Which numbers are better: a number is between, where one is worse than another; and of two only one is better.
 use Rattle.std.proofs.Common.{◌≡◌, true, false, refl, arith}
 use Rattle.std.specs.Prelude.{ℤ, pos, negsuc, int_lt}
 use Rattle.std.proofs.lemmas.Bool.Decides.{nat_tests}
@@ -23,3 +23,12 @@ greater_between (negsuc a) (pos b) (pos c) is worse = absurd (cc)
 greater_between (negsuc a) (pos b) (negsuc c) is worse = absurd (cc)
 greater_between (negsuc a) (negsuc b) (pos c) is worse = absurd (cc)
 greater_between (negsuc a) (negsuc b) (negsuc c) is worse = grind (arith, nat_tests)
+
+pub less_apart : (a b : ℤ) → int_lt a b ≡ true → int_lt b a ≡ false
+less_apart (pos a) (pos b) is = grind (arith, nat_tests)
+less_apart (pos a) (negsuc b) is = absurd (cc)
+less_apart (negsuc a) (pos b) is = refl
+less_apart (negsuc a) (negsuc b) is = grind (arith, nat_tests)
+
+pub greater_apart : (a b : ℤ) → greater a b ≡ true → greater b a ≡ false
+greater_apart a b is = less_apart b a is

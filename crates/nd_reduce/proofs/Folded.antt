@@ -9,12 +9,17 @@ use Rattle.nd_model.specs.Reductions.{best, best_place}
 use Rattle.nd_reduce.specs.States.{has_any}
 
 module _ (better : ℤ → ℤ → Bool) where
-  abbrev pick : ℤ → ℤ → ℤ
+  abbrev pub pick : ℤ → ℤ → ℤ
   pick a b = if better b a then b else a
 
   pub best_kept : (zs : List ℤ) (z : ℤ) → has_any zs ≡ true → better z (best better zs) ≡ false → best better (zs ++ z ∷ []) ≡ best better zs
   best_kept [] z some worse = absurd (cc)
   best_kept (x ∷ xs) z some worse = fold_push pick x xs z ∙ rw worse refl
+
+  -- one number more
+  pub best_more : (zs : List ℤ) (z : ℤ) → has_any zs ≡ true → best better (zs ++ z ∷ []) ≡ pick (best better zs) z
+  best_more [] z some = absurd (cc)
+  best_more (x ∷ xs) z some = fold_push pick x xs z
 
   pub best_taken : (zs : List ℤ) (z : ℤ) → (has_any zs ≡ false) ⊎ (better z (best better zs) ≡ true) → best better (zs ++ z ∷ []) ≡ z
   best_taken [] z is = refl
@@ -22,14 +27,14 @@ module _ (better : ℤ → ℤ → Bool) where
   best_taken (x ∷ xs) z (inr is) = fold_push pick x xs z ∙ rw is refl
 
   -- none is better than this one
-  stays_first : (x : ℤ) (xs : List ℤ) → list_any (λ y. better y x) xs ≡ false → fold pick x xs ≡ x
+  pub stays_first : (x : ℤ) (xs : List ℤ) → list_any (λ y. better y x) xs ≡ false → fold pick x xs ≡ x
   stays_first x [] none = refl
   stays_first x (y ∷ ys) none = elim (cases_Bool (better y x)) [
     | inl is ↦ let f = rw is at none in absurd (cc)
     | inr other ↦ let rest : list_any (λ w. better w x) ys ≡ false = rw other at none in rw other (stays_first x ys rest)
   ]
 
-  none_best : (x y : ℤ) (ys : List ℤ) → better y x ≡ false → list_any (λ w. better w x) ys ≡ false → better (fold pick y ys) x ≡ false
+  pub none_best : (x y : ℤ) (ys : List ℤ) → better y x ≡ false → list_any (λ w. better w x) ys ≡ false → better (fold pick y ys) x ≡ false
   none_best x y [] first none = first
   none_best x y (w ∷ ws) first none = elim (cases_Bool (better w x)) [
     | inl is ↦ let f = rw is at none in absurd (cc)
@@ -50,7 +55,7 @@ module _ (better : ℤ → ℤ → Bool) where
     ]
 
     -- one is better than the first
-    best_behind : (x : ℤ) (xs : List ℤ) → list_any (λ y. better y x) xs ≡ true → fold pick x xs ≡ best better xs
+    pub best_behind : (x : ℤ) (xs : List ℤ) → list_any (λ y. better y x) xs ≡ true → fold pick x xs ≡ best better xs
     best_behind x [] some = absurd (cc)
     best_behind x (y ∷ ys) some = elim (cases_Bool (better y x)) [
       | inl is ↦ rw is refl

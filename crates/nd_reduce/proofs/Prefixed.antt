@@ -17,7 +17,7 @@ pub length-folds : (r : Reduction) (taken zs : List ℤ) → length (prefix_fold
 length-folds r taken [] = refl
 length-folds r taken (z ∷ zs) = ap suc (length-folds r (taken ++ z ∷ []) zs)
 
-bytes-append : (k : Kind) (xs ys : List ℤ) → number_bytes k (xs ++ ys) ≡ number_bytes k xs ++ number_bytes k ys
+pub bytes-append : (k : Kind) (xs ys : List ℤ) → number_bytes k (xs ++ ys) ≡ number_bytes k xs ++ number_bytes k ys
 bytes-append k xs ys = flat_map-append (λ z. bytes_of (little k) (wrap k z)) xs ys
 
 -- those of some numbers, and then of the numbers behind them

@@ -1,9 +1,11 @@
 -- The lanes of an array are those of the definition.
-use Rattle.std.proofs.Common.{◌≡◌, ℕ, zero, suc, ◌+◌, ◌*◌, ◌<◌, ◌≤◌, ℤ, pos, Bool, true, false, List, [], ◌∷◌, ◌++◌, map, length, take, drop, get_or, Option, Some, None, refl, sym, ap, ◌∙◌, subst, arith, append-nil}
+use Rattle.std.proofs.Common.{◌≡◌, ℕ, zero, suc, ◌+◌, ◌*◌, ◌/◌, ◌<◌, ◌≤◌, ℤ, pos, Bool, true, false, List, [], ◌∷◌, ◌++◌, map, length, take, drop, get_or, Option, Some, None, refl, sym, ap, ◌∙◌, subst, arith, append-nil}
 use Rattle.std.specs.List.{All, flat_map}
-use Rattle.std.proofs.lemmas.List.{get_or-map, length-map, length-take-le, take_all, take_at}
+use Rattle.std.proofs.Math.Seq.{drop-cons}
+use Rattle.std.proofs.lemmas.Nat.{div-mul-add}
+use Rattle.std.proofs.lemmas.List.{get_or-map, length-map, length-take-le, take_all, take_at, take-append-drop}
 use Rattle.std.proofs.lemmas.List.Folds.{flat_map-map}
-use Rattle.nd_model.specs.Calls.{Reduction}
+use Rattle.nd_model.specs.Calls.{Reduction, Sum}
 use Rattle.nd_model.specs.Content.{Num, number_at, number_in, content_at, content_or, array_bytes}
 use Rattle.nd_model.specs.Element.{Element, Kind, bytes_of, wrap}
 use Rattle.nd_model.specs.Elementwise.{little}
@@ -14,22 +16,25 @@ use Rattle.nd_model.specs.Sound.{LiesIn}
 use Rattle.nd_model.specs.Tuple.{count_up, elements_of, indices, number}
 use Rattle.nd_model.specs.View.{One, Geo, item_size, place_of}
 use Rattle.nd_model.proofs.Contents.{numbers_bytes}
+use Rattle.nd_model.proofs.Transposed.{by_place}
 use Rattle.nd_model.proofs.Tuples.{length-indices, number_below}
 use Rattle.nd_model.proofs.Uses.{used_numbers}
 use Rattle.nd_element.specs.Elements.{AreHeld, numbers_at}
 use Rattle.nd_view.specs.Indexes.{IsIndex}
 use Rattle.nd_view.proofs.Indexed.{same_indexes}
-use Rattle.nd_view.proofs.Tuples.{map-map, length-count_up}
+use Rattle.nd_view.proofs.Tuples.{map-map, length-count_up, numbers}
 use Rattle.nd_shape.proofs.Ordered.{length_index}
 use Rattle.nd_model.proofs.Taking.{taking_within}
 use Rattle.nd_shape.proofs.Rearranged.{index_of_tuple, tuple_of_index}
 use Rattle.nd_loops.proofs.SideBySide.{same_counted}
-use Rattle.nd_reduce.specs.Axes.{HasAxis, lane_length}
-use Rattle.nd_reduce.specs.Lanes.{fold_bytes, from_end, lanes_in, lanes_of, to_end}
+use Rattle.nd_reduce.specs.Axes.{HasAxis, IsRowWidth, lane_length}
+use Rattle.nd_reduce.specs.Lanes.{fold_bytes, from_end, lanes_in, lanes_of, number_bytes, to_end}
+use Rattle.nd_reduce.specs.Tables.{table_sums}
 use Rattle.nd_reduce.specs.Made.{array_operand, contents_over}
 use Rattle.nd_reduce.proofs.Sliced.{lanes_are}
 use Rattle.nd_reduce.proofs.Moved.{to_end_is, row_moved, inside_moved, inside_put, elements-append}
 use Rattle.nd_reduce.proofs.Rows.{rows, kept_axis}
+use Rattle.nd_reduce.proofs.RowSums.{sums_across, total}
 
 -- ---- shapes and tuples
 
@@ -69,6 +74,32 @@ kept_elements a true shape =
   where
     one_less : (x y : ℕ) → x * (1 * y) ≡ x * y
     one_less x y = omega arith
+
+-- the lengths before an axis, its own, and those behind it
+split_shape : (a : ℕ) (shape : List ℕ) → a < length shape → shape ≡ take a shape ++ get_or shape a 0 ∷ drop (a + 1) shape
+split_shape a shape lt =
+    let next : suc a ≡ a + 1 = omega arith in
+    sym (take-append-drop a shape) ∙ ap (λ l. take a shape ++ l) (drop-cons shape a 0 lt ∙ ap (λ m. get_or shape a 0 ∷ drop m shape) next)
+
+-- the elements of a shape, by the lanes
+pub elements_by_lanes : (axis : Option ℕ) (shape : List ℕ) → HasAxis axis (length shape) → elements_of shape ≡ elements_of (reduced_shape axis false shape) * lane_length axis shape
+elements_by_lanes None shape has = omega arith
+elements_by_lanes (Some a) shape has =
+    ap elements_of (split_shape a shape has) ∙ elements-append (take a shape) (get_or shape a 0 ∷ drop (a + 1) shape)
+    ∙ turned (elements_of (take a shape)) (get_or shape a 0) (elements_of (drop (a + 1) shape))
+    ∙ ap (λ m. m * get_or shape a 0) (sym (elements-append (take a shape) (drop (a + 1) shape)))
+  where
+    turned : (x y z : ℕ) → x * (y * z) ≡ x * z * y
+    turned x y z = omega arith
+
+-- how many tables of rows there are
+pub table_count : (axis : Option ℕ) (shape : List ℕ) (w : ℕ) → IsRowWidth axis shape w → (m : ℕ) × (elements_of (reduced_shape axis false shape) ≡ m * w)
+table_count None shape w is = absurd is
+table_count (Some a) shape w is = (elements_of (take a shape), elements-append (take a shape) (drop (a + 1) shape) ∙ ap (λ n. elements_of (take a shape) * n) (sym is))
+
+same_factor : (x y w : ℕ) → 0 < w → x * w ≡ y * w → x ≡ y
+same_factor x y w some same =
+    let more : x * w + 0 ≡ y * w + 0 = omega (arith, same) in sym (div-mul-add x w 0 some) ∙ ap (λ m. m / w) more ∙ div-mul-add y w 0 some
 
 module _ (g : Geo) (e : Element) (bytes : List ℕ) (one : g.element ≡ One e) (lies : LiesIn (length bytes) g) where
   abbrev o : operand.Operand
@@ -122,11 +153,39 @@ module _ (g : Geo) (e : Element) (bytes : List ℕ) (one : g.element ≡ One e) 
         (λ j le below. ap (λ u. number_at e bytes (place_of g u)) (row_moved a t j (long t is))
         ∙ at_content (take a t ++ j ∷ drop a t) (inside_put a g.shape t j lt is (omega arith)))
 
-    pub lanes_left : lanes_in n (elements_of left) (numbers_at e bytes (lanes_of g (Some a)).places) ≡ map (lane o (Some a) false) (indices left)
-    lanes_left =
+    rows_left : lanes_in n (elements_of left) (numbers_at e bytes (lanes_of g (Some a)).places) ≡ map row (indices left)
+    rows_left =
         (λ i. lanes_in n (sym (length-indices left) i) (moved_numbers i))
         ∙ lanes_are n row (λ t. length-map (count_up 0 n) (λ j. number_at e bytes (place_of g (from_end a (t ++ j ∷ [])))) ∙ length-count_up 0 n) (indices left)
-        ∙ same_indexes row (lane o (Some a) false) left row_is
+
+    pub lanes_left : lanes_in n (elements_of left) (numbers_at e bytes (lanes_of g (Some a)).places) ≡ map (lane o (Some a) false) (indices left)
+    lanes_left = rows_left ∙ same_indexes row (lane o (Some a) false) left row_is
+
+    -- the sums of the rows, in the order of the view
+    abbrev at_tuple : List ℕ → ℤ
+    at_tuple u = number_at e bytes (place_of g u)
+
+    own_numbers : numbers_at e bytes g.places ≡ map at_tuple (indices (take a g.shape ++ n ∷ drop (a + 1) g.shape))
+    own_numbers =
+        let at : ℕ → ℕ = λ k. get_or g.places k 0 in
+        let places : map (place_of g) (indices g.shape) ≡ g.places
+        = sym (map-map at (number g.shape) (indices g.shape)) ∙ ap (map at) (numbers g.shape ∙ ap (count_up 0) (sym lies.count))
+        ∙ by_place 0 g.places at 0 (λ k below. let same : 0 + k ≡ k = omega arith in ap at same) in
+        ap (map (number_at e bytes)) (sym places) ∙ map-map (number_at e bytes) (place_of g) (indices g.shape) ∙ ap (λ s. map at_tuple (indices s)) (split_shape a g.shape lt)
+
+    total_is : (t : List ℕ) → IsIndex left t → total (pos 0) (row t) ≡ total (pos 0) (map (λ j. at_tuple (take a t ++ j ∷ drop a t)) (count_up 0 n))
+    total_is t is = ap (total (pos 0)) (same_counted (λ j. at_tuple (from_end a (t ++ j ∷ []))) (λ j. at_tuple (take a t ++ j ∷ drop a t)) 0 n (λ j le below. ap at_tuple (row_moved a t j (long t is))))
+
+    pub sums_left : (k : Kind) → number_bytes k (table_sums (elements_of (drop (a + 1) g.shape)) n (elements_of (take a g.shape)) (numbers_at e bytes g.places))
+        ≡ fold_bytes Sum k (lanes_in n (elements_of left) (numbers_at e bytes (lanes_of g (Some a)).places))
+    sums_left k =
+        let front : length (take a g.shape) ≡ a = length-take-le a g.shape (omega arith) in
+        let sums : table_sums (elements_of (drop (a + 1) g.shape)) n (elements_of (take a g.shape)) (numbers_at e bytes g.places) ≡ map (λ t. total (pos 0) (row t)) (indices left)
+        = ap (table_sums (elements_of (drop (a + 1) g.shape)) n (elements_of (take a g.shape))) own_numbers ∙ sums_across at_tuple (take a g.shape) (drop (a + 1) g.shape) n
+        ∙ ap (λ m. map (λ t. total (pos 0) (map (λ j. at_tuple (take m t ++ j ∷ drop m t)) (count_up 0 n))) (indices left)) front
+        ∙ sym (same_indexes (λ t. total (pos 0) (row t)) (λ t. total (pos 0) (map (λ j. at_tuple (take a t ++ j ∷ drop a t)) (count_up 0 n))) left total_is) in
+        ap (number_bytes k) sums ∙ flat_map-map (λ z. bytes_of (little k) (wrap k z)) (λ t. total (pos 0) (row t)) (indices left)
+        ∙ sym (ap (fold_bytes Sum k) rows_left ∙ flat_map-map (λ zs. bytes_of (little k) (wrap k (folded Sum zs))) row (indices left))
 
     -- an axis that is kept
     kept_lane : (t : List ℕ) → IsIndex left t → lane o (Some a) false t ≡ lane o (Some a) true (take a t ++ 0 ∷ drop a t)
@@ -159,6 +218,19 @@ module _ (g : Geo) (e : Element) (bytes : List ℕ) (one : g.element ≡ One e) 
       → lanes_in (lane_length axis g.shape) (elements_of (reduced_shape axis keep g.shape)) (numbers_at e bytes (lanes_of g axis).places) ≡ map (lane o axis keep) (indices (reduced_shape axis keep g.shape))
   lanes_same None keep has = all_lane keep
   lanes_same (Some a) keep has = axis_lanes a has keep
+
+  -- THE SUMS OF ROWS are those of the lanes across them
+  pub sums_same : (axis : Option ℕ) → HasAxis axis (length g.shape) → (k : Kind) (w m tables lanes : ℕ) → IsRowWidth axis g.shape w → 0 < w
+      → m ≡ lane_length axis g.shape → lanes ≡ elements_of (reduced_shape axis false g.shape) → lanes ≡ tables * w
+      → number_bytes k (table_sums w m tables (numbers_at e bytes g.places)) ≡ fold_bytes Sum k (lanes_in m lanes (numbers_at e bytes (lanes_of g axis).places))
+  unfolding table_count
+  sums_same None has k w m tables lanes is some count all split = absurd is
+  sums_same (Some a) has k w m tables lanes is some count all split =
+      let count_is : tables ≡ elements_of (take a g.shape)
+      = same_factor tables (elements_of (take a g.shape)) w some (sym split ∙ all ∙ (table_count (Some a) g.shape w is).1) in
+      (λ i. number_bytes k (table_sums (is i) (count i) (count_is i) (numbers_at e bytes g.places)))
+      ∙ sums_left a has k
+      ∙ (λ i. fold_bytes Sum k (lanes_in (sym count i) (sym all i) (numbers_at e bytes (lanes_of g (Some a)).places)))
 
   -- their folds as the bytes of an array
   pub folds_are : (r : Reduction) (k : Kind) (axis : Option ℕ) (keep : Bool) → HasAxis axis (length g.shape)

@@ -1,5 +1,5 @@
--- The best numbers so far, with one number more.
-use Rattle.std.proofs.Common.{◌≡◌, ℕ, ◌+◌, ◌<◌, ◌^◌, ◌%◌, Bool, true, false, List, [], ◌∷◌, ◌++◌, length, refl, sym, ap, ◌∙◌, ◌⊎◌, inl, inr, arith}
+-- The best numbers so far, with one number more, and with some more.
+use Rattle.std.proofs.Common.{◌≡◌, ℕ, ◌+◌, ◌<◌, ◌^◌, ◌%◌, Bool, true, false, List, [], ◌∷◌, ◌++◌, length, refl, sym, ap, ◌∙◌, ◌⊎◌, inl, inr, arith, length-append}
 use Rattle.std.specs.Prelude.{ℤ, not, ◌&&◌, nat_lt}
 use Rattle.std.specs.Int.{w128}
 use Rattle.std.specs.Int.RustNames.{FitsSigned}
@@ -9,10 +9,10 @@ use native.Mathlib.Nat.{mod-eq_of_lt}
 use Rattle.nd_model.specs.Reductions.{best}
 use Rattle.nd_reduce.specs.States.{has_any, IsBest, IsPlaced}
 use Rattle.nd_reduce.proofs.Folded.{best_kept, best_taken, place_kept, place_taken}
+use Rattle.nd_reduce.proofs.Joined.{has_behind, best_joined, best_before, place_before}
 
 has_more : (zs : List ℤ) (z : ℤ) → has_any (zs ++ z ∷ []) ≡ true
-has_more [] z = refl
-has_more (y ∷ zs) z = refl
+has_more zs z = has_behind zs (z ∷ []) refl
 
 kept_both : (s t : Bool) → (s && not t) ≡ true → (s ≡ true) × (t ≡ false)
 kept_both true true e = absurd (cc)
@@ -78,3 +78,26 @@ module _ (better : ℤ → ℤ → Bool) (zs : List ℤ) (b z : ℤ) where
           is = sym (best_taken better zs z one);
           at = p.many ∙ sym (place_taken better between zs z one);
         }
+
+-- more numbers, of which the best one is known
+module _ (better : ℤ → ℤ → Bool) (between : (a b c : ℤ) → better a c ≡ true → better b c ≡ false → better a b ≡ true) (apart : (a b : ℤ) → better a b ≡ true → better b a ≡ false) (zs xs : List ℤ) (any : has_any xs ≡ true) where
+  pub best_joins : (some : Bool) (b : ℤ) → IsBest better some b (zs ++ best better xs ∷ []) → IsBest better some b (zs ++ xs)
+  best_joins some b h = record {
+    fits = h.fits;
+    has = h.has ∙ has_more zs (best better xs) ∙ sym (has_behind zs xs any);
+    is = h.is ∙ best_joined better between apart zs xs any;
+  }
+
+  pub place_joins : (b : ℤ) (count place n : ℕ) → n ≡ length xs → IsPlaced better count place b zs
+      → (length zs < 2 ^ 64 → (nat_lt 0 count && not (better (best better xs) b)) ≡ true) → IsPlaced better ((count + n) % 2 ^ 64) place b (zs ++ xs)
+  place_joins b count place n long h e = λ lt.
+      let short : length zs < 2 ^ 64 = omega (arith, length-append zs xs) in
+      let p = h short in let two = kept_both (nat_lt 0 count) (better (best better xs) b) (e short) in
+      let some : has_any zs ≡ true = sym (ap (nat_lt 0) p.many ∙ counted zs) ∙ two.0 in
+      let worse : better (best better xs) (best better zs) ≡ false = ap (better (best better xs)) (sym p.is) ∙ two.1 in
+      let all : count + n ≡ length (zs ++ xs) = omega (arith, length-append zs xs, p.many, long) in record {
+        fits = p.fits;
+        many = ap (λ m. m % 2 ^ 64) all ∙ mod-eq_of_lt lt;
+        is = p.is ∙ sym (best_before better between apart zs xs some worse);
+        at = p.at ∙ sym (place_before better between apart zs xs some worse);
+      }

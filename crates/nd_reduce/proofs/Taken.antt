@@ -1,20 +1,34 @@
 -- The numbers of a side, one more and part by part.
-use Rattle.std.proofs.Common.{◌≡◌, ℕ, ◌+◌, ℤ, List, [], ◌∷◌, ◌++◌, map, length, take, drop, sym, ap, ◌∙◌, arith, append_assoc}
+use Rattle.std.proofs.Common.{◌≡◌, ℕ, zero, suc, ◌+◌, ◌<◌, ℤ, true, List, [], ◌∷◌, ◌++◌, map, length, take, drop, sym, ap, ◌∙◌, arith, refl, append_assoc, append-nil}
 use Rattle.std.proofs.Math.Seq.{take-add, take-append_seam, drop-append_seam}
 use Rattle.std.proofs.lemmas.List.{drop-drop, length-map, map-append}
 use Rattle.nd_model.specs.Tuple.{count_up}
 use Rattle.nd_view.proofs.Tuples.{count_up_more, length-count_up}
 use Rattle.nd_loops.specs.Sides.{number_on, numbers_on}
 use Rattle.nd_loops.specs.declared.kernel.Side.{Side}
+use Rattle.nd_reduce.specs.States.{has_any}
 
 pub length-numbers : (s : Side) (n : ℕ) → length (numbers_on s n) ≡ n
 length-numbers s n = length-map (count_up 0 n) (number_on s) ∙ length-count_up 0 n
 
-pub next_on : (s : Side) (k : ℕ) (zs : List ℤ) → zs ++ numbers_on s (k + 1) ≡ (zs ++ numbers_on s k) ++ number_on s k ∷ []
-next_on s k zs =
+-- what is given for one place more
+pub next_of : (f : ℕ → ℤ) (k : ℕ) (zs : List ℤ) → zs ++ map f (count_up 0 (k + 1)) ≡ (zs ++ map f (count_up 0 k)) ++ f k ∷ []
+next_of f k zs =
     let here : 0 + k ≡ k = omega arith in
-    ap (λ l. zs ++ map (number_on s) l) (count_up_more 0 k) ∙ ap (λ l. zs ++ l) (map-append (number_on s) (count_up 0 k) ((0 + k) ∷ []))
-    ∙ ap (λ j. zs ++ (numbers_on s k ++ number_on s j ∷ [])) here ∙ sym (append_assoc zs (numbers_on s k) (number_on s k ∷ []))
+    ap (λ l. zs ++ map f l) (count_up_more 0 k) ∙ ap (λ l. zs ++ l) (map-append f (count_up 0 k) ((0 + k) ∷ []))
+    ∙ ap (λ j. zs ++ (map f (count_up 0 k) ++ f j ∷ [])) here ∙ sym (append_assoc zs (map f (count_up 0 k)) (f k ∷ []))
+
+pub next_on : (s : Side) (k : ℕ) (zs : List ℤ) → zs ++ numbers_on s (k + 1) ≡ (zs ++ numbers_on s k) ++ number_on s k ∷ []
+next_on s = next_of (number_on s)
+
+-- and for none
+pub none_of : (f : ℕ → ℤ) (k : ℕ) (zs : List ℤ) → k ≡ 0 → zs ≡ zs ++ map f (count_up 0 k)
+none_of f k zs none = sym (ap (λ n. zs ++ map f (count_up 0 n)) none ∙ append-nil zs)
+
+-- and for some
+pub has_numbers : (f : ℕ → ℤ) (k : ℕ) → 0 < k → has_any (map f (count_up 0 k)) ≡ true
+has_numbers f zero some = absurd (omega arith)
+has_numbers f (suc k) some = refl
 
 -- those that come next are taken
 module _ (zs now front rest : List ℤ) (done n : ℕ) (left : now ≡ drop done zs) (split : now ≡ front ++ rest) (long : length front ≡ n) where

@@ -1,11 +1,17 @@
 -- Lanes: as many numbers at a time as one fold takes.
-use Rattle.std.specs.Prelude.{ℕ, zero, suc, ℤ, List, [], ◌∷◌, ◌++◌, take, drop, Option, Some, None}
+use Rattle.std.specs.Prelude.{ℕ, zero, suc, ◌*◌, ℤ, List, [], ◌∷◌, ◌++◌, map, take, drop, Option, Some, None}
 use Rattle.std.specs.List.{flat_map}
 use Rattle.nd_model.specs.Calls.{Reduction}
-use Rattle.nd_model.specs.Element.{Kind, bytes_of, wrap}
+use Rattle.nd_model.specs.Content.{number_at}
+use Rattle.nd_model.specs.Element.{Kind, bytes_of, size_of, wrap}
 use Rattle.nd_model.specs.Elementwise.{little}
 use Rattle.nd_model.specs.Reductions.{folded}
+use Rattle.nd_model.specs.Tuple.{count_up}
 use Rattle.nd_model.specs.View.{Geo, rearranged_view}
+
+-- the first numbers of a kind that stand side by side in the bytes
+abbrev pub numbers_in : Kind → List ℕ → ℕ → List ℤ
+numbers_in k bytes n = map (λ j. number_at (little k) bytes (j * size_of k)) (count_up 0 n)
 
 -- so many lanes of n numbers each
 abbrev pub lanes_in : (n lanes : ℕ) → List ℤ → List (List ℤ)

@@ -3,3 +3,4 @@ pub mod Faults
 pub mod Lanes
 pub mod Made
 pub mod States
+pub mod Tables

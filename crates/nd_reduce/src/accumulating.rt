@@ -15,7 +15,7 @@ ghost use Rattle.nd_reduce.specs.Faults.{Makes};
 ghost use Rattle.nd_reduce.specs.Lanes.{lanes_in, prefix_bytes, to_end};
 ghost use Rattle.nd_reduce.specs.Made.{array_of, array_operand};
 
-use crate::axis::{axis_in, lane_length, lanes_of, put_axis};
+use crate::axis::{axis_in, lane_count, lane_length, lanes_of, put_axis};
 use crate::fault::ReduceFault;
 use crate::fold;
 use crate::fold::Fold;
@@ -79,17 +79,6 @@ fn reduction_prefixes(
         Reduction::ArgMin => prefixes::<fold::ArgMin>(alloc, to, view, elem, bytes, lanes, count),
         Reduction::ArgMax => prefixes::<fold::ArgMax>(alloc, to, view, elem, bytes, lanes, count),
     }
-}
-
-// The number of lanes of `count` elements each, 0 where they have none.
-fn lane_count(elements: usize, count: usize) -> usize
-    requires { (m : ℕ) × (elements ≡ m * count) }
-    ensures { elements ≡ result * count }
-{
-    if count == 0 {
-        return 0;
-    }
-    elements / count
 }
 
 // The folds that stand lane by lane, in C order.

@@ -1,16 +1,19 @@
 //! Axes along which is folded, and the view that has one of them last.
-ghost use Rattle.std.specs.Prelude.{◌≡◌, ◌<◌, ◌≤◌, ◌==◌, false, length, IfOk, Some, None};
+ghost use Rattle.std.specs.Prelude.{◌≡◌, ℕ, ◌+◌, ◌*◌, ◌<◌, ◌≤◌, ◌==◌, ⊤, false, length, drop, IfOk, MatchOption, Some, None};
 ghost use Rattle.nd_model.specs.Reductions as reductions;
 ghost use Rattle.nd_model.specs.Tuple.{elements_of};
 ghost use Rattle.nd_model.specs.View.{rearranged_view};
 ghost use Rattle.nd_reduce.specs.Faults.{Makes};
 ghost use Rattle.nd_reduce.specs.Lanes.{lanes_of, put_last, to_end};
-ghost use Rattle.nd_reduce.specs.Axes.{HasAxis, lane_length};
+ghost use Rattle.nd_reduce.specs.Axes.{HasAxis, IsRowWidth, lane_length};
 
 use crate::fault::ReduceFault;
 use nd_view::{Shape, View};
 use smallvec::SmallVec;
 use std::alloc::{AllocError, Global};
+
+// The fewest numbers side by side that are taken together.
+const LEAST_WIDTH: usize = 16;
 
 // The axis that a number means. A negative one counts from the end.
 fn axis_at(axes: usize, number: i128) -> Result<Option<usize>, ReduceFault>
@@ -184,4 +187,41 @@ pub(crate) fn lane_length(view: &View, axis: Option<usize>) -> usize
         None => view.count(),
         Some(axis) => view.shape()[axis] as usize,
     }
+}
+
+/// Returns the number of lanes of `count` elements each, 0 where they have none.
+pub(crate) fn lane_count(elements: usize, count: usize) -> usize
+    requires { (m : ℕ) × (elements ≡ m * count) }
+    ensures { elements ≡ result * count }
+{
+    if count == 0 {
+        return 0;
+    }
+    elements / count
+}
+
+// The number of elements along the axes behind this one, unless they are very many.
+fn elements_behind(shape: &[u64], axis: usize) -> Option<usize>
+    requires { axis < length shape.now }
+    ensures { MatchOption result ⊤ (λ n. n ≡ elements_of (drop (axis + 1) shape.now)) }
+{
+    let behind = &shape[axis + 1..];
+    let mut count: u64 = 1;
+    for length in behind {
+        count = count.checked_mul(*length)?;
+    }
+    Some(count as usize)
+}
+
+/// Returns how many numbers stand side by side in a row, of which each is of another lane, where they are enough to be taken
+/// together.
+pub(crate) fn row_width(shape: &[u64], axis: Option<usize>) -> Option<usize>
+    requires { HasAxis axis (length shape.now) }
+    ensures { MatchOption result ⊤ (λ n. (0 < n) × IsRowWidth axis shape.now n) }
+{
+    let width = elements_behind(shape, axis?)?;
+    if width < LEAST_WIDTH {
+        return None;
+    }
+    Some(width)
 }

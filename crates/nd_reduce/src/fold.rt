@@ -21,6 +21,10 @@ pub(crate) trait Fold: Drop {
     /// Whether it has taken these numbers.
     ghost has_taken: { Self → List ℤ → Type 0 };
 
+    /// Returns the kind of the folds of numbers of a kind.
+    fn folds_kind(kind: Kind) -> Kind
+        ensures { kind_of result ≡ fold_kind reduction (kind_of kind) };
+
     /// Returns the fold that has taken no numbers.
     fn begin() -> Self
         ensures { has_taken result [] };
@@ -77,6 +81,11 @@ impl Fold for Sum {
     ghost has_taken = { λ s zs. s.0 ≡ int_wrap w64 (fold (λ a b. a +ℤ b) (pos 0) zs) };
 
     #[inline(always)]
+    fn folds_kind(kind: Kind) -> Kind {
+        sum_kind(kind)
+    }
+
+    #[inline(always)]
     fn begin() -> Sum {
         Sum(0)
     }
@@ -102,6 +111,11 @@ impl Fold for Prod {
     ghost has_taken = { λ s zs. s.0 ≡ int_wrap w64 (fold (λ a b. a *ℤ b) (pos 1) zs) };
 
     #[inline(always)]
+    fn folds_kind(kind: Kind) -> Kind {
+        sum_kind(kind)
+    }
+
+    #[inline(always)]
     fn begin() -> Prod {
         Prod(1)
     }
@@ -117,17 +131,17 @@ impl Fold for Prod {
     }
 }
 
-// Whether the least number so far, if there is one, is no greater than the next one.
+/// Returns whether the least number so far, if there is one, is no greater than the next one.
 #[inline(always)]
-fn keeps_least(some: bool, best: i128, number: i128) -> bool
+pub(crate) fn keeps_least(some: bool, best: i128, number: i128) -> bool
     ensures { result ≡ (some && not (int_lt number best)) }
 {
     some && number >= best
 }
 
-// Whether the greatest number so far, if there is one, is no less than the next one.
+/// Returns whether the greatest number so far, if there is one, is no less than the next one.
 #[inline(always)]
-fn keeps_greatest(some: bool, best: i128, number: i128) -> bool
+pub(crate) fn keeps_greatest(some: bool, best: i128, number: i128) -> bool
     ensures { result ≡ (some && not (greater number best)) }
 {
     some && number <= best
@@ -136,14 +150,19 @@ fn keeps_greatest(some: bool, best: i128, number: i128) -> bool
 /// The least number, where there are some.
 #[derive(Drop)]
 pub(crate) struct Min {
-    some: bool,
-    best: i128,
+    pub(crate) some: bool,
+    pub(crate) best: i128,
 }
 
 impl Fold for Min {
     ghost reduction = { calls.Min };
 
     ghost has_taken = { λ s zs. IsBest int_lt s.some s.best zs };
+
+    #[inline(always)]
+    fn folds_kind(kind: Kind) -> Kind {
+        kind
+    }
 
     #[inline(always)]
     fn begin() -> Min {
@@ -173,14 +192,19 @@ impl Fold for Min {
 /// The greatest number, where there are some.
 #[derive(Drop)]
 pub(crate) struct Max {
-    some: bool,
-    best: i128,
+    pub(crate) some: bool,
+    pub(crate) best: i128,
 }
 
 impl Fold for Max {
     ghost reduction = { calls.Max };
 
     ghost has_taken = { λ s zs. IsBest greater s.some s.best zs };
+
+    #[inline(always)]
+    fn folds_kind(kind: Kind) -> Kind {
+        kind
+    }
 
     #[inline(always)]
     fn begin() -> Max {
@@ -209,12 +233,17 @@ impl Fold for Max {
 
 /// Whether a number is not zero.
 #[derive(Drop)]
-pub(crate) struct Any(bool);
+pub(crate) struct Any(pub(crate) bool);
 
 impl Fold for Any {
     ghost reduction = { calls.Any };
 
     ghost has_taken = { λ s zs. s.0 ≡ list_any (λ z. not (is_zero z)) zs };
+
+    #[inline(always)]
+    fn folds_kind(_kind: Kind) -> Kind {
+        Kind::Bool
+    }
 
     #[inline(always)]
     fn begin() -> Any {
@@ -223,7 +252,7 @@ impl Fold for Any {
 
     #[inline(always)]
     fn step(self, number: i128) -> Any {
-        Any(self.0 || !is_zero(number))
+        Any(self.0 | !is_zero(number))
     }
 
     #[inline(always)]
@@ -234,12 +263,17 @@ impl Fold for Any {
 
 /// Whether no number is zero.
 #[derive(Drop)]
-pub(crate) struct All(bool);
+pub(crate) struct All(pub(crate) bool);
 
 impl Fold for All {
     ghost reduction = { calls.All };
 
     ghost has_taken = { λ s zs. s.0 ≡ list_all (λ z. not (is_zero z)) zs };
+
+    #[inline(always)]
+    fn folds_kind(_kind: Kind) -> Kind {
+        Kind::Bool
+    }
 
     #[inline(always)]
     fn begin() -> All {
@@ -248,7 +282,7 @@ impl Fold for All {
 
     #[inline(always)]
     fn step(self, number: i128) -> All {
-        All(self.0 && !is_zero(number))
+        All(self.0 & !is_zero(number))
     }
 
     #[inline(always)]
@@ -260,15 +294,20 @@ impl Fold for All {
 /// The place of the first one of the least numbers.
 #[derive(Drop)]
 pub(crate) struct ArgMin {
-    count: u64,
-    place: u64,
-    best: i128,
+    pub(crate) count: u64,
+    pub(crate) place: u64,
+    pub(crate) best: i128,
 }
 
 impl Fold for ArgMin {
     ghost reduction = { calls.ArgMin };
 
     ghost has_taken = { λ s zs. IsPlaced int_lt s.count s.place s.best zs };
+
+    #[inline(always)]
+    fn folds_kind(_kind: Kind) -> Kind {
+        Kind::I64
+    }
 
     #[inline(always)]
     fn begin() -> ArgMin {
@@ -305,15 +344,20 @@ impl Fold for ArgMin {
 /// The place of the first one of the greatest numbers.
 #[derive(Drop)]
 pub(crate) struct ArgMax {
-    count: u64,
-    place: u64,
-    best: i128,
+    pub(crate) count: u64,
+    pub(crate) place: u64,
+    pub(crate) best: i128,
 }
 
 impl Fold for ArgMax {
     ghost reduction = { calls.ArgMax };
 
     ghost has_taken = { λ s zs. IsPlaced greater s.count s.place s.best zs };
+
+    #[inline(always)]
+    fn folds_kind(_kind: Kind) -> Kind {
+        Kind::I64
+    }
 
     #[inline(always)]
     fn begin() -> ArgMax {

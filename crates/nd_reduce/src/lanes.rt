@@ -4,48 +4,50 @@ ghost use Rattle.nd_model.specs.Element.{size_of, wrap, bytes_of};
 ghost use Rattle.nd_model.specs.Elementwise.{little};
 ghost use Rattle.nd_model.specs.Reductions.{fold_kind, folded};
 ghost use Rattle.nd_types.specs.Kinds.{kind_of};
-ghost use Rattle.nd_loops.specs.Sides.{HasNumbers, number_on, numbers_on};
+ghost use Rattle.nd_loops.specs.Sides.{HasNumbers, numbers_on};
+ghost use Rattle.nd_loops.specs.declared.kernel.Side.TheVariants.{Same};
 ghost use Rattle.nd_reduce.specs.Lanes.{fold_bytes, lanes_in};
 
 use crate::fold::Fold;
-use nd_block::{Filling, store_at, value_at};
+use crate::run_fold::RunFold;
+use nd_block::{Filling, store_at};
 use nd_loops::{CHUNK, Elements, Side, chunk_of};
 use nd_types::{Elem, Kind};
+
+// How many times as many numbers are taken at a time as lie in a chunk.
+const CHUNKS: usize = 4;
 
 // The most bytes of a result.
 const MOST_SIZE: usize = 8;
 
-/// Returns the number of a side in this place.
+// Takes one number so many times.
 #[inline(always)]
-pub(crate) fn number_of(side: Side<'_>, index: usize) -> i128
-    requires { HasNumbers side (index + 1) }
-    ensures { result ≡ number_on side.entry index }
-{
-    match side {
-        Side::Same(number) => number,
-        Side::Each(bytes, kind) => {
-            let _len = bytes.len();
-            value_at(bytes, index * kind.size() as usize, Elem::little(kind))
-        }
-    }
-}
-
-// Takes so many numbers of a side.
-#[inline(always)]
-fn fold_side<F: Fold>(fold: F, side: Side<'_>, count: usize) -> F
-    requires { HasNumbers side count }
+fn fold_same<F: Fold>(fold: F, number: i128, count: usize) -> F
     ensures { (zs : List ℤ) → F.has_taken fold zs
-        → F.has_taken result (zs ++ numbers_on side.entry count) }
+        → F.has_taken result (zs ++ numbers_on (Same number) count) }
 {
     let mut all = fold;
-    for index in 0..count {
-        all = all.step(number_of(side, index));
+    for _index in 0..count {
+        all = all.step(number);
     }
     all
 }
 
+// Takes so many numbers of a side.
+#[inline(always)]
+fn fold_side<F: RunFold>(fold: F, side: Side<'_>, count: usize) -> F
+    requires { HasNumbers side count }
+    ensures { (zs : List ℤ) → F.has_taken fold zs
+        → F.has_taken result (zs ++ numbers_on side.entry count) }
+{
+    match side {
+        Side::Same(number) => fold_same::<F>(fold, number, count),
+        Side::Each(bytes, kind) => fold.take(kind, bytes, count),
+    }
+}
+
 // The fold of the next `count` numbers, which are of the kind.
-fn fold_lane<F: Fold>(
+fn fold_lane<F: RunFold>(
     kind: Kind,
     numbers: &mut Elements<'_>,
     buffer: &mut [u8],
@@ -73,7 +75,7 @@ fn fold_lane<F: Fold>(
 }
 
 /// Appends the folds of so many lanes of `count` numbers each, which are of the kind, as numbers of the kind of the results.
-pub(crate) fn fold_lanes<F: Fold>(
+pub(crate) fn fold_lanes<F: RunFold>(
     out: &mut Filling,
     to: Kind,
     kind: Kind,
@@ -90,8 +92,8 @@ pub(crate) fn fold_lanes<F: Fold>(
         (lanes_in count lanes numbers.old.numbers) }
 {
     let size = to.size() as usize;
-    let chunk = chunk_of(numbers.size(), 1, 1);
-    let mut buffer = [0; CHUNK];
+    let chunk = CHUNKS * chunk_of(numbers.size(), 1, 1);
+    let mut buffer = [0; CHUNKS * CHUNK];
     let mut bytes = [0; MOST_SIZE];
     let mut rest = lanes;
     while rest > 0 {

@@ -6,8 +6,13 @@ mod axis;
 mod fault;
 mod fold;
 mod lanes;
+mod masks;
+mod native;
 mod prefixes;
 mod reducing;
+mod run_fold;
+mod tables;
+mod taking;
 
 pub use accumulating::accumulate;
 pub use fault::ReduceFault;

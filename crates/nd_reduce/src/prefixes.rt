@@ -4,18 +4,30 @@ ghost use Rattle.std.specs.List.{flat_map};
 ghost use Rattle.nd_model.specs.Element.{size_of};
 ghost use Rattle.nd_model.specs.Reductions.{fold_kind};
 ghost use Rattle.nd_types.specs.Kinds.{kind_of};
-ghost use Rattle.nd_loops.specs.Sides.{HasNumbers, numbers_on};
+ghost use Rattle.nd_loops.specs.Sides.{HasNumbers, number_on, numbers_on};
 ghost use Rattle.nd_reduce.specs.Lanes.{lanes_in, number_bytes, prefix_bytes, prefix_folds};
 
 use crate::fold::Fold;
-use crate::lanes::number_of;
+use crate::taking::{is_kind, number_in};
 use nd_block::{Filling, store_at};
 use nd_loops::{CHUNK, Elements, Side, chunk_of};
 use nd_types::{Elem, Kind};
 
+// The number of a side in this place.
+#[inline(always)]
+fn number_of(side: Side<'_>, index: usize) -> i128
+    requires { HasNumbers side (index + 1) }
+    ensures { result ≡ number_on side.entry index }
+{
+    match side {
+        Side::Same(number) => number,
+        Side::Each(bytes, kind) => number_in(bytes, kind, index),
+    }
+}
+
 // Takes so many numbers of a side, and writes the fold behind each.
 #[inline(always)]
-fn accumulate_side<F: Fold>(
+fn accumulate_each<F: Fold>(
     fold: F,
     out: &mut [u8],
     to: Kind,
@@ -39,6 +51,91 @@ fn accumulate_side<F: Fold>(
         store_at(out, index * size, Elem::little(to), all.result(kind));
     }
     all
+}
+
+// The same for any kinds, where no loop is made for them alone.
+#[inline(never)]
+fn accumulate_any<F: Fold>(
+    fold: F,
+    out: &mut [u8],
+    to: Kind,
+    kind: Kind,
+    side: Side<'_>,
+    count: usize,
+) -> F
+    requires to { kind_of to ≡ fold_kind F.reduction (kind_of kind) }
+    requires out { length out.old ≡ count * size_of (kind_of to) }
+    requires side { HasNumbers side count }
+    ensures taken { (zs : List ℤ) → F.has_taken fold zs
+        → F.has_taken result (zs ++ numbers_on side.entry count) }
+    ensures bytes { (zs : List ℤ) → length zs + count < 2 ^ 64 → F.has_taken fold zs
+        → out.new ≡ number_bytes (kind_of to) (prefix_folds F.reduction zs
+        (numbers_on side.entry count)) }
+{
+    accumulate_each::<F>(fold, out, to, kind, side, count)
+}
+
+// The same by a loop for this kind, if it is the kind of the numbers.
+#[inline(always)]
+fn accumulate_known<F: Fold>(
+    known: Kind,
+    fold: F,
+    out: &mut [u8],
+    to: Kind,
+    kind: Kind,
+    side: Side<'_>,
+    count: usize,
+) -> F
+    requires to { kind_of to ≡ fold_kind F.reduction (kind_of kind) }
+    requires out { length out.old ≡ count * size_of (kind_of to) }
+    requires side { HasNumbers side count }
+    ensures taken { (zs : List ℤ) → F.has_taken fold zs
+        → F.has_taken result (zs ++ numbers_on side.entry count) }
+    ensures bytes { (zs : List ℤ) → length zs + count < 2 ^ 64 → F.has_taken fold zs
+        → out.new ≡ number_bytes (kind_of to) (prefix_folds F.reduction zs
+        (numbers_on side.entry count)) }
+{
+    let known_to = F::folds_kind(known);
+    match side {
+        Side::Each(bytes, own)
+            if is_kind(own, known) && is_kind(kind, known) && is_kind(to, known_to) => {
+            let side = Side::Each(bytes, known);
+            accumulate_each::<F>(fold, out, known_to, known, side, count)
+        }
+        _ => accumulate_any::<F>(fold, out, to, kind, side, count),
+    }
+}
+
+// The same by a loop for the kind of the numbers.
+#[inline(never)]
+fn accumulate_side<F: Fold>(
+    fold: F,
+    out: &mut [u8],
+    to: Kind,
+    kind: Kind,
+    side: Side<'_>,
+    count: usize,
+) -> F
+    requires to { kind_of to ≡ fold_kind F.reduction (kind_of kind) }
+    requires out { length out.old ≡ count * size_of (kind_of to) }
+    requires side { HasNumbers side count }
+    ensures taken { (zs : List ℤ) → F.has_taken fold zs
+        → F.has_taken result (zs ++ numbers_on side.entry count) }
+    ensures bytes { (zs : List ℤ) → length zs + count < 2 ^ 64 → F.has_taken fold zs
+        → out.new ≡ number_bytes (kind_of to) (prefix_folds F.reduction zs
+        (numbers_on side.entry count)) }
+{
+    match kind {
+        Kind::Bool => accumulate_known::<F>(Kind::Bool, fold, out, to, kind, side, count),
+        Kind::I8 => accumulate_known::<F>(Kind::I8, fold, out, to, kind, side, count),
+        Kind::I16 => accumulate_known::<F>(Kind::I16, fold, out, to, kind, side, count),
+        Kind::I32 => accumulate_known::<F>(Kind::I32, fold, out, to, kind, side, count),
+        Kind::I64 => accumulate_known::<F>(Kind::I64, fold, out, to, kind, side, count),
+        Kind::U8 => accumulate_known::<F>(Kind::U8, fold, out, to, kind, side, count),
+        Kind::U16 => accumulate_known::<F>(Kind::U16, fold, out, to, kind, side, count),
+        Kind::U32 => accumulate_known::<F>(Kind::U32, fold, out, to, kind, side, count),
+        Kind::U64 => accumulate_known::<F>(Kind::U64, fold, out, to, kind, side, count),
+    }
 }
 
 // The same of the next `count` numbers.

@@ -13,16 +13,20 @@ ghost use Rattle.nd_types.specs.Kinds.{kind_of};
 ghost use Rattle.nd_syntax.specs.Calls.{reduction_of};
 ghost use Rattle.nd_element.specs.Elements.{AreHeld, numbers_at};
 ghost use Rattle.nd_ufunc.specs.Numbers.{number_made};
-ghost use Rattle.nd_reduce.specs.Axes.{HasAxis};
+ghost use Rattle.nd_reduce.specs.Axes.{HasAxis, lane_length};
 ghost use Rattle.nd_reduce.specs.Faults.{Makes};
-ghost use Rattle.nd_reduce.specs.Lanes.{fold_bytes, lanes_in};
+ghost use Rattle.nd_reduce.specs.Lanes.{fold_bytes, lanes_in, lanes_of};
 ghost use Rattle.nd_reduce.specs.Made.{array_of, array_operand};
 
-use crate::axis::{axis_in, has_no_lanes, lane_length, lanes_of, reduced_shape};
+use crate::axis::{
+    axis_in, has_no_lanes, lane_count, lane_length, lanes_of, reduced_shape, row_width,
+};
 use crate::fault::ReduceFault;
 use crate::fold;
-use crate::fold::{Fold, sum_kind};
+use crate::fold::sum_kind;
 use crate::lanes::{fold_lanes, fold_number};
+use crate::run_fold::RunFold;
+use crate::tables::sum_rows;
 use nd_block::{Filling, RawBlock};
 use nd_loops::Elements;
 use nd_syntax::Reduction;
@@ -97,7 +101,7 @@ fn folds_view(
 }
 
 // The block with the folds of so many lanes of `count` elements each, which stand one after another in a view.
-fn folds<F: Fold>(
+fn folds<F: RunFold>(
     alloc: Global,
     to: Kind,
     view: &View,
@@ -150,6 +154,40 @@ fn reduction_folds(
     }
 }
 
+// The block with the folds of a view's numbers along an axis, or of all of them. Sums of rows are found row by row.
+fn view_folds(
+    alloc: Global,
+    reduction: Reduction,
+    to: Kind,
+    view: &View,
+    axis: Option<usize>,
+    elem: Elem,
+    bytes: &[u8],
+    lanes: usize,
+    count: usize,
+) -> Result<RawBlock, AllocError>
+    requires to { kind_of to ≡ fold_kind (reduction_of reduction) elem.kind }
+    requires one { view.now.element ≡ One elem }
+    requires lies { LiesIn (length bytes.now) view.now }
+    requires axis { HasAxis axis (length view.now.shape) }
+    requires lanes { lanes ≡ elements_of (reductions.reduced_shape axis false view.now.shape) }
+    requires count { count ≡ lane_length axis view.now.shape }
+    requires few { lanes ≤ 2 ^ 24 }
+    ensures { IfOk result (λ b. b ≡ fold_bytes (reduction_of reduction) (kind_of to)
+        (lanes_in count lanes (numbers_at elem bytes.now (lanes_of view.now axis).places))) }
+{
+    match (reduction, row_width(view.shape(), axis)) {
+        (Reduction::Sum, Some(width)) if lanes > 0 => {
+            let tables = lane_count(lanes, width);
+            sum_rows(alloc, to, view, elem, bytes, tables, count, width)
+        }
+        _ => {
+            let by_lanes = lanes_of(alloc, view, axis)?;
+            reduction_folds(alloc, reduction, to, &by_lanes, elem, bytes, lanes, count)
+        }
+    }
+}
+
 /// Returns the new array of the folds of a view's numbers along an axis, or of all of them: little-endian, in C order, and alone
 /// in its block; of shape `()` where no axis is left (NumPy reference, `ufunc.reduce`, `numpy.argmax`). Refused in the order:
 /// structures, an axis that is not there, the least or greatest of no numbers, the limits of arrays.
@@ -173,9 +211,10 @@ pub fn reduce(
     }
     let kind = result_kind(reduction, elem.kind());
     let made = folds_view(alloc, kind, view.shape(), along, keepdims)?;
-    let lanes = lanes_of(alloc, view, along)?;
-    let results = made.count();
-    let folded = reduction_folds(alloc, reduction, kind, &lanes, elem, block, results, count)?;
+    let lanes = made.count();
+    let folded = view_folds(
+        alloc, reduction, kind, view, along, elem, block, lanes, count,
+    )?;
     Ok((made, folded))
 }
 

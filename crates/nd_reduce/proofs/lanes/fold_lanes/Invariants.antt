@@ -8,7 +8,7 @@ abbrev pub invariant-loop-rest : goal.invariant-loop-rest
 invariant-loop-rest g l = record {
   numbers : length l.numbers.numbers ≡ l.rest * l.count;
   size : l.numbers.kind ≡ l.fn.numbers.kind;
-  buffer : length l.buffer ≡ 4096;
+  buffer : length l.buffer ≡ 16384;
   bytes : length l.bytes ≡ 8;
   room : l.rest * size_of (kind_of l.to) ≡ l.out.1;
   written : l.out.0 ++ fold_bytes g.F.Fold.reduction (kind_of l.to) (lanes_in l.count l.rest l.numbers.numbers)

@@ -3,7 +3,7 @@ use Rattle.nd_model.specs.Element.{size_of}
 use Rattle.nd_types.specs.Kinds.{kind_of}
 use Rattle.nd_loops.specs.Sides.{numbers_on}
 use Rattle.nd_reduce.specs.Lanes.{number_bytes, prefix_folds}
-use Rattle.nd_reduce.proofs.prefixes.accumulate_side.Given as goal
+use Rattle.nd_reduce.proofs.prefixes.accumulate_each.Given as goal
 
 abbrev pub invariant-loop-index : goal.invariant-loop-index
 invariant-loop-index g l = record {

@@ -14,7 +14,7 @@ use Rattle.nd_loops.specs.Sides.{number_on, numbers_on}
 use Rattle.nd_reduce.specs.Lanes.{number_bytes, prefix_folds}
 use Rattle.nd_reduce.proofs.Prefixed.{one_fold}
 use Rattle.nd_reduce.proofs.Taken.{length-numbers, next_on}
-use Rattle.nd_reduce.proofs.prefixes.accumulate_side.Goals as goal
+use Rattle.nd_reduce.proofs.prefixes.accumulate_each.Goals as goal
 
 pub loop-index-preserved : goal.loop-index-preserved
 loop-index-preserved g c =

@@ -1,6 +1,6 @@
 use Rattle.std.proofs.Common.{◌≡◌, ◌+◌, ◌*◌, ◌/◌, ◌<◌, sym, ap, ◌∙◌, arith}
 use Rattle.std.proofs.lemmas.Nat.{div-mul-add}
-use Rattle.nd_reduce.proofs.accumulating.lane_count.Goals as goal
+use Rattle.nd_reduce.proofs.axis.lane_count.Goals as goal
 
 pub returns-then-count-eq0 : goal.returns-then-count-eq0
 returns-then-count-eq0 c = c.requires.1 ∙ ap (λ n. c.requires.0 * n) c.if-count-eq0.true ∙ omega arith

@@ -213,13 +213,25 @@ fn elements_behind(shape: &[u64], axis: usize) -> Option<usize>
     Some(count as usize)
 }
 
-/// Returns how many numbers stand side by side in a row, of which each is of another lane, where they are enough to be taken
+// Whether elements behind each other along the last axis are no further apart than those along this one.
+fn has_near_rows(strides: &[i128], axis: usize) -> bool {
+    match (strides.get(axis), strides.last()) {
+        (Some(own), Some(last)) => last.unsigned_abs() <= own.unsigned_abs(),
+        _ => false,
+    }
+}
+
+/// Returns how many numbers stand in a row, of which each is of another lane, where they are enough, and near enough, to be taken
 /// together.
-pub(crate) fn row_width(shape: &[u64], axis: Option<usize>) -> Option<usize>
-    requires { HasAxis axis (length shape.now) }
-    ensures { MatchOption result ⊤ (λ n. (0 < n) × IsRowWidth axis shape.now n) }
+pub(crate) fn row_width(view: &View, axis: Option<usize>) -> Option<usize>
+    requires { HasAxis axis (length view.now.shape) }
+    ensures { MatchOption result ⊤ (λ n. (0 < n) × IsRowWidth axis view.now.shape n) }
 {
-    let width = elements_behind(shape, axis?)?;
+    let axis = axis?;
+    if !has_near_rows(view.strides(), axis) {
+        return None;
+    }
+    let width = elements_behind(view.shape(), axis)?;
     if width < LEAST_WIDTH {
         return None;
     }

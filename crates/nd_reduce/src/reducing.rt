@@ -176,7 +176,7 @@ fn view_folds(
     ensures { IfOk result (λ b. b ≡ fold_bytes (reduction_of reduction) (kind_of to)
         (lanes_in count lanes (numbers_at elem bytes.now (lanes_of view.now axis).places))) }
 {
-    match (reduction, row_width(view.shape(), axis)) {
+    match (reduction, row_width(view, axis)) {
         (Reduction::Sum, Some(width)) if lanes > 0 => {
             let tables = lane_count(lanes, width);
             sum_rows(alloc, to, view, elem, bytes, tables, count, width)

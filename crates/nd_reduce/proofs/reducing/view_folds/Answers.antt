@@ -14,7 +14,7 @@ use Rattle.nd_reduce.proofs.reducing.view_folds.Goals as goal
 pub lane_count-tables-requires : goal.lane_count-tables-requires
 lane_count-tables-requires c =
     let shape = c.args.view.now.shape in let w = c.in-Sum-Some.width in
-    let is : IsRowWidth c.args.axis shape w = subst (λ (s : List ℕ). IsRowWidth c.args.axis s w) c.shape.ensures.value c.in-Sum-Some.ensures.1 in
+    let is : IsRowWidth c.args.axis shape w = c.in-Sum-Some.ensures.1 in
     let count = table_count c.args.axis shape w is in (count.0, c.requires.lanes ∙ count.1)
 
 pub sum_rows-requires-clause-enough : goal.sum_rows-requires-clause-enough
@@ -38,7 +38,7 @@ reduction_folds-requires-clause-enough c =
 pub returns-in-Sum-Some : goal.returns-in-Sum-Some
 returns-in-Sum-Some c =
     let g : Geo = c.args.view.now in let bytes = c.args.bytes.now in let e = c.args.elem in let k : Kind = kind_of c.args.to in let w = c.in-Sum-Some.width in
-    let is : IsRowWidth c.args.axis g.shape w = subst (λ (s : List ℕ). IsRowWidth c.args.axis s w) c.shape.ensures.value c.in-Sum-Some.ensures.1 in
+    let is : IsRowWidth c.args.axis g.shape w = c.in-Sum-Some.ensures.1 in
     let same = sums_same g e bytes c.requires.one c.requires.lies c.args.axis c.requires.axis k w c.args.count c.lane_count-tables.result c.args.lanes is c.in-Sum-Some.ensures.0 c.requires.count c.requires.lanes c.lane_count-tables.ensures in
     let bytes_are = same ∙ ap (λ (r : Reduction). fold_bytes r k (lanes_in c.args.count c.args.lanes (numbers_at e bytes (lanes_of g c.args.axis).places))) (ap reduction_of (sym c.in-Sum-Some.is-0)) in
     subst (λ (l : List ℕ). IfOk c.sum_rows.result (λ b. b ≡ l)) bytes_are c.sum_rows.ensures

@@ -4,7 +4,9 @@
 //! the sum of what the numbers become; `nd_bench assign` prints the same for each of five assignments to the elements of an array of
 //! 10,000,000 numbers, with the sum of its block; `nd_bench views` prints the same for views that are made of a view, of which it makes
 //! 100,000: by a basic index and in another shape; `nd_bench operators` prints for operators on an array of 10,000,000 numbers the name, how
-//! many results there are, the sum of their bytes, and the nanoseconds; `nd_bench text [COUNT]` prints for each of three arrays its name, how many elements
+//! many results there are, the sum of their bytes, and the nanoseconds; `nd_bench reductions` prints for reductions of arrays of 10,000,000
+//! elements and for an accumulation the name, how many elements there are, the sum of the bytes of what they come to, and the
+//! nanoseconds; `nd_bench text [COUNT]` prints for each of three arrays its name, how many elements
 //! it has, how long its text is, and how many nanoseconds it takes to make it; `nd_bench files [COUNT]` prints for the NPY file of so
 //! many numbers how long it is and how many nanoseconds it takes to write it, their sum and the nanoseconds in which it is read, and
 //! the same for a file of one number behind a header of 60,000 bytes; `nd_bench cells [COUNT]` edits notebooks of many cells,
@@ -21,6 +23,7 @@ mod files;
 mod mixed;
 mod numbers;
 mod operators;
+mod reductions;
 mod text;
 mod views;
 
@@ -31,6 +34,7 @@ use crate::copy::measure_copy;
 use crate::files::measure_files;
 use crate::numbers::measure_numbers;
 use crate::operators::measure_operators;
+use crate::reductions::measure_reductions;
 use crate::text::measure_text;
 use crate::views::measure_views;
 use std::{env, io};
@@ -75,11 +79,13 @@ fn main(rt: HostRuntime) -> io::Result<()> {
         (Some("assign"), _) => measure_assign(&rt),
         (Some("views"), _) => measure_views(&rt),
         (Some("operators"), _) => measure_operators(&rt),
+        (Some("reductions"), _) => measure_reductions(&rt),
         (Some("text"), Some(count)) => measure_text(&rt, count.min(MOST_SHOWN)),
         (Some("files"), Some(count)) => measure_files(&rt, count),
         (Some("cells"), Some(count)) => measure_cells(&rt, count.min(MOST_CELLS)),
         _ => println!(rt;
-            "usage: nd_bench copy | numbers [COUNT] | convert [COUNT] | assign | views | operators | text [COUNT] | files [COUNT] | cells [COUNT]"
+            "usage: nd_bench copy | numbers [COUNT] | convert [COUNT] | assign | views | operators | reductions \
+             | text [COUNT] | files [COUNT] | cells [COUNT]"
         ),
     }
 }

@@ -13,14 +13,14 @@ use std::alloc::{AllocError, Global};
 use std::io;
 use std::time::Instant;
 
-// How many numbers of eight bytes the block has.
-const COUNT: u64 = 10_000_000;
+/// How many numbers of eight bytes the block has.
+pub(crate) const COUNT: u64 = 10_000_000;
 
 // How many bytes they have.
 const LEN: u64 = 80_000_000;
 
-// The sum of the bytes of a block, wrapped to 64 bits.
-fn byte_sum(block: &RawBlock) -> u64 {
+/// Returns the sum of the bytes of a block, wrapped to 64 bits.
+pub(crate) fn byte_sum(block: &RawBlock) -> u64 {
     let mut sum: u64 = 0;
     for byte in block.as_slice() {
         sum = sum.wrapping_add(u64::from(*byte));
@@ -28,8 +28,8 @@ fn byte_sum(block: &RawBlock) -> u64 {
     sum
 }
 
-// The first elements of this kind in the block, each so many bytes behind the last one.
-fn view_of(
+/// Returns the view of the first elements of this kind in the block, each so many bytes behind the last one.
+pub(crate) fn view_of(
     alloc: Global,
     elem: Elem,
     shape: &[u64],

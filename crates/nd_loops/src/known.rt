@@ -1,9 +1,15 @@
 //! Kinds, each a type of its own, so that a loop over numbers of one is a loop of its own.
+ghost use Rattle.nd_types.specs.declared.kind.Kind.{Kind};
+ghost use Rattle.nd_types.specs.declared.kind.Kind.TheVariants.{Bool, I8, I16, I32, I64, U8, U16, U32, U64};
+
 use nd_types::Kind;
 
 /// Numbers of a kind that is known where the code is compiled.
 pub(crate) trait KnownKind {
     /// Which kind it is.
+    ghost KIND: { Kind };
+
+    /// The same where the code runs.
     const KIND: Kind;
 }
 
@@ -11,6 +17,8 @@ pub(crate) trait KnownKind {
 pub(crate) struct Booleans;
 
 impl KnownKind for Booleans {
+    ghost KIND = { Bool };
+
     const KIND: Kind = Kind::Bool;
 }
 
@@ -18,6 +26,8 @@ impl KnownKind for Booleans {
 pub(crate) struct Int8s;
 
 impl KnownKind for Int8s {
+    ghost KIND = { I8 };
+
     const KIND: Kind = Kind::I8;
 }
 
@@ -25,6 +35,8 @@ impl KnownKind for Int8s {
 pub(crate) struct Int16s;
 
 impl KnownKind for Int16s {
+    ghost KIND = { I16 };
+
     const KIND: Kind = Kind::I16;
 }
 
@@ -32,6 +44,8 @@ impl KnownKind for Int16s {
 pub(crate) struct Int32s;
 
 impl KnownKind for Int32s {
+    ghost KIND = { I32 };
+
     const KIND: Kind = Kind::I32;
 }
 
@@ -39,6 +53,8 @@ impl KnownKind for Int32s {
 pub(crate) struct Int64s;
 
 impl KnownKind for Int64s {
+    ghost KIND = { I64 };
+
     const KIND: Kind = Kind::I64;
 }
 
@@ -46,6 +62,8 @@ impl KnownKind for Int64s {
 pub(crate) struct UInt8s;
 
 impl KnownKind for UInt8s {
+    ghost KIND = { U8 };
+
     const KIND: Kind = Kind::U8;
 }
 
@@ -53,6 +71,8 @@ impl KnownKind for UInt8s {
 pub(crate) struct UInt16s;
 
 impl KnownKind for UInt16s {
+    ghost KIND = { U16 };
+
     const KIND: Kind = Kind::U16;
 }
 
@@ -60,6 +80,8 @@ impl KnownKind for UInt16s {
 pub(crate) struct UInt32s;
 
 impl KnownKind for UInt32s {
+    ghost KIND = { U32 };
+
     const KIND: Kind = Kind::U32;
 }
 
@@ -67,5 +89,7 @@ impl KnownKind for UInt32s {
 pub(crate) struct UInt64s;
 
 impl KnownKind for UInt64s {
+    ghost KIND = { U64 };
+
     const KIND: Kind = Kind::U64;
 }

@@ -57,54 +57,41 @@ fn apply_fast<O: Operation>(out: &mut [u8], to: Kind, left: Side<'_>, right: Sid
     }
 }
 
-// The same, by a loop for kinds that are known and what sides there are.
-#[inline(always)]
-fn apply_known<O: Operation>(
-    known_left: Kind,
-    known_right: Kind,
+// The same, by a loop for kinds that are known where it is compiled, and for what sides there are.
+fn apply_known<O: Operation, T: KnownKind, L: KnownKind, R: KnownKind>(
     out: &mut [u8],
-    to: Kind,
     left: Side<'_>,
     right: Side<'_>,
     count: usize,
 )
-    requires left_kind { IsOf left known_left }
-    requires right_kind { IsOf right known_right }
-    requires out { length out.old ≡ count * size_of (kind_of to) }
+    requires left_kind { IsOf left L.KIND }
+    requires right_kind { IsOf right R.KIND }
+    requires out { length out.old ≡ count * size_of (kind_of T.KIND) }
     requires left { HasNumbers left count }
     requires right { HasNumbers right count }
-    ensures { out.new ≡ result_bytes (little (kind_of to)) (O.gives (kind_of to))
+    ensures { out.new ≡ result_bytes (little (kind_of T.KIND)) (O.gives (kind_of T.KIND))
         (numbers_on left.entry count) (numbers_on right.entry count) }
 {
     match (left, right) {
         (Side::Each(xs, _), Side::Each(ys, _)) => {
-            let (xs, ys) = (Side::Each(xs, known_left), Side::Each(ys, known_right));
-            apply_fast::<O>(out, to, xs, ys, count);
+            let (xs, ys) = (Side::Each(xs, L::KIND), Side::Each(ys, R::KIND));
+            apply_fast::<O>(out, T::KIND, xs, ys, count);
         }
-        (Side::Each(xs, _), Side::Same(y)) if fits(known_left, y) => {
-            let (xs, y) = (
-                Side::Each(xs, known_left),
-                Side::Same(narrow(known_left, y)),
-            );
-            apply_fast::<O>(out, to, xs, y, count);
+        (Side::Each(xs, _), Side::Same(y)) if fits(L::KIND, y) => {
+            let (xs, y) = (Side::Each(xs, L::KIND), Side::Same(narrow(L::KIND, y)));
+            apply_fast::<O>(out, T::KIND, xs, y, count);
         }
-        (Side::Same(x), Side::Each(ys, _)) if fits(known_right, x) => {
-            let (x, ys) = (
-                Side::Same(narrow(known_right, x)),
-                Side::Each(ys, known_right),
-            );
-            apply_fast::<O>(out, to, x, ys, count);
+        (Side::Same(x), Side::Each(ys, _)) if fits(R::KIND, x) => {
+            let (x, ys) = (Side::Same(narrow(R::KIND, x)), Side::Each(ys, R::KIND));
+            apply_fast::<O>(out, T::KIND, x, ys, count);
         }
-        _ => apply_any::<O>(out, to, left, right, count),
+        _ => apply_any::<O>(out, T::KIND, left, right, count),
     }
 }
 
 // The same, if the kinds are these.
 #[inline(always)]
-fn apply_at<O: Operation>(
-    known_to: Kind,
-    known_left: Kind,
-    known_right: Kind,
+fn apply_at<O: Operation, T: KnownKind, L: KnownKind, R: KnownKind>(
     out: &mut [u8],
     to: Kind,
     left: Side<'_>,
@@ -117,8 +104,8 @@ fn apply_at<O: Operation>(
     ensures { out.new ≡ result_bytes (little (kind_of to)) (O.gives (kind_of to))
         (numbers_on left.entry count) (numbers_on right.entry count) }
 {
-    if is_kind(to, known_to) && is_of(left, known_left) && is_of(right, known_right) {
-        apply_known::<O>(known_left, known_right, out, known_to, left, right, count);
+    if is_kind(to, T::KIND) && is_of(left, L::KIND) && is_of(right, R::KIND) {
+        apply_known::<O, T, L, R>(out, left, right, count);
     } else {
         apply_any::<O>(out, to, left, right, count);
     }
@@ -139,12 +126,11 @@ fn apply_kind<O: Operation, K: KnownKind>(
     ensures { out.new ≡ result_bytes (little (kind_of to)) (O.gives (kind_of to))
         (numbers_on left.entry count) (numbers_on right.entry count) }
 {
-    let known_to = if O::IS_COMPARISON {
-        Kind::Bool
+    if O::IS_COMPARISON {
+        apply_at::<O, known::Booleans, K, K>(out, to, left, right, count);
     } else {
-        K::KIND
-    };
-    apply_at::<O>(known_to, K::KIND, K::KIND, out, to, left, right, count);
+        apply_at::<O, K, K, K>(out, to, left, right, count);
+    }
 }
 
 // Whether no kind has the numbers of both sides: they have 64 bits, and one a sign.
@@ -172,27 +158,9 @@ fn compare_mixed<O: Operation>(
         (numbers_on left.entry count) (numbers_on right.entry count) }
 {
     if is_of(left, Kind::U64) {
-        apply_at::<O>(
-            Kind::Bool,
-            Kind::U64,
-            Kind::I64,
-            out,
-            to,
-            left,
-            right,
-            count,
-        );
+        apply_at::<O, known::Booleans, known::UInt64s, known::Int64s>(out, to, left, right, count);
     } else {
-        apply_at::<O>(
-            Kind::Bool,
-            Kind::I64,
-            Kind::U64,
-            out,
-            to,
-            left,
-            right,
-            count,
-        );
+        apply_at::<O, known::Booleans, known::Int64s, known::UInt64s>(out, to, left, right, count);
     }
 }
 

@@ -83,7 +83,7 @@ few_before (Whole ∷ ts) sizes = omega (arith, few_before ts (drop 1 sizes))
 few_before (Added ∷ ts) sizes = omega (arith, few_before ts sizes)
 few_before (Spread axes shape ks ∷ ts) sizes = omega arith
 
-place_few : (is : List IndexItem) (ts : List Take) (sizes : List ℕ) → place_for is ts ≤ length (kept_shape ts sizes)
+pub place_few : (is : List IndexItem) (ts : List Take) (sizes : List ℕ) → place_for is ts ≤ length (kept_shape ts sizes)
 place_few is ts sizes = elim (are_together is) as (λ b. cond b (kept_before ts) 0 ≤ length (kept_shape ts sizes)) [ true ↦ few_before ts sizes | false ↦ omega arith ]
 
 -- each tuple of what is chosen leads to one of the axes
@@ -316,7 +316,7 @@ module _ (missing : ℕ) (many sizes : List ℕ) where
           (go (axis + axes_of missing i) (omega arith) (omega arith) shapes.1 bounds.1 (All-tail (IsJoined many) i is j) (All-tail HoldsAll i is h)))
 
 -- the slices stand for as many axes
-slices_axes_in : (is : List IndexItem) → selecting.axes_in (slices_in is) ≡ axes_in 0 is
+pub slices_axes_in : (is : List IndexItem) → selecting.axes_in (slices_in is) ≡ axes_in 0 is
 slices_axes_in [] = refl
 slices_axes_in (Basic (At z) ∷ is) = ap (λ n. 1 + n) (slices_axes_in is)
 slices_axes_in (Basic (Slice start stop step) ∷ is) = ap (λ n. 1 + n) (slices_axes_in is)
@@ -362,7 +362,7 @@ taken_lies is ts many g h len f lies e =
     subst (LiesIn len) (ok_same (rearranged_view g shape from) h limited.1) (record { count = within.0; limits = limited.0; inside = within.1 })
 
 -- what the items of an index take is there in the view that its slices choose
-sliced_taken : (is : List IndexItem) (many : List ℕ) (g h : Geo) → ellipses_in is < 2 → axes_in 0 is ≤ length g.shape → All HoldsAll is
+pub sliced_taken : (is : List IndexItem) (many : List ℕ) (g h : Geo) → ellipses_in is < 2 → axes_in 0 is ≤ length g.shape → All HoldsAll is
     → first_fault (shape_fault g.shape) (length g.shape - axes_in 0 is) 0 is ≡ None → first_fault (bounds_fault g.shape) (length g.shape - axes_in 0 is) 0 is ≡ None
     → common_shape (Some []) is ≡ Some many → select (slices_in is) g ≡ Ok h → AreTaken many (takes_in (length g.shape - axes_in 0 is) 0 g.shape is) h.shape
 sliced_taken is many g h few le holds shapes bounds common e =

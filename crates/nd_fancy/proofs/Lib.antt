@@ -1,0 +1,11 @@
+mod Alike
+mod Chosen
+mod Items
+mod Numbers
+mod Placed
+mod Pushed
+mod Rows
+mod Sliced
+mod Spreads
+mod Sums
+mod Walks

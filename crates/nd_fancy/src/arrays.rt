@@ -1,0 +1,161 @@
+//! How far the arrays of an index lead, at each tuple of their common shape.
+ghost use Rattle.std.specs.Prelude.{◌≡◌, ℕ, ℤ, ◌+◌, ◌^◌, ◌<◌, ◌≤◌, List, pos, ◌+ℤ◌, unsigned_abs, drop, length, map, slice_index_or, IfOk, IsTrue, ◌↔◌};
+ghost use Rattle.std.specs.List.{All};
+ghost use Rattle.nd_model.specs.Tuple.{elements_of, indices};
+ghost use Rattle.nd_fancy.specs.Takes.{axes_taken, axes_taken_by, spread_of, take_of, takes_of};
+ghost use Rattle.nd_fancy.specs.Ways.{AreNear, sums_at, sums_of, way_by, way_taken};
+
+use crate::spread::Spread;
+use crate::takes::Take;
+use crate::ways::{own_numbers, ways_of, ways_to};
+use smallvec::SmallVec;
+use std::alloc::{AllocError, Global};
+
+// The way of this number, 0 where there is none.
+fn way_at(ways: &[i128], number: i128) -> i128
+    ensures { result ≡ slice_index_or ways.now (unsigned_abs number) (pos 0) }
+{
+    let number = number.unsigned_abs();
+    if number < ways.len() as u128 {
+        ways[number as usize]
+    } else {
+        0
+    }
+}
+
+// Adds to each way that of an array, which has this number there.
+fn add_ways(
+    alloc: Global,
+    ways: &[i128],
+    own: &[i128],
+    numbers: &[i128],
+) -> Result<Vec<i128>, AllocError>
+    requires each { length numbers.now ≡ length ways.now }
+    requires near { AreNear ways.now × AreNear own.now }
+    ensures { IfOk result (λ v. v.items ≡ sums_at own.now ways.now numbers.now) }
+{
+    let mut sums = Vec::with_capacity(alloc, ways.len())?;
+    for (at, way) in ways.iter().enumerate() {
+        sums.push(*way + way_at(own, numbers[at]))?;
+    }
+    Ok(sums)
+}
+
+// Whether the elements of a shape stand at the tuples of another one by one.
+fn is_same_shape(shape: &[u64], many: &[u64]) -> bool
+    ensures { IsTrue result ↔ (shape.now ≡ many.now) }
+{
+    shape == many
+}
+
+// Adds to each way the one that stands there.
+fn add_each(alloc: Global, ways: &[i128], own: &[i128]) -> Result<Vec<i128>, AllocError>
+    requires each { length own.now ≡ length ways.now }
+    requires near { AreNear ways.now × AreNear own.now }
+    ensures { IfOk result (λ v. v.items ≡ sums_of ways.now own.now) }
+{
+    let mut sums = Vec::with_capacity(alloc, ways.len())?;
+    for (at, way) in ways.iter().enumerate() {
+        sums.push(*way + own[at])?;
+    }
+    Ok(sums)
+}
+
+// Adds how far an array leads on the axes from this one on.
+fn add_array(
+    alloc: Global,
+    ways: &[i128],
+    many: &[u64],
+    spread: &Spread,
+    sizes: &[u64],
+    strides: &[i128],
+    axis: usize,
+) -> Result<Vec<i128>, AllocError>
+    requires each { length ways.now ≡ elements_of many.now }
+    requires near { AreNear ways.now }
+    requires numbers { 0 < length spread.now.numbers.items }
+    requires within { axis + spread.now.axes ≤ length sizes.now }
+    requires axes { length strides.now ≡ length sizes.now }
+    requires most { length sizes.now ≤ 32 }
+    requires some { 0 < elements_of sizes.now }
+    requires few { elements_of sizes.now ≤ 2 ^ 24 }
+    requires range { All (λ s. unsigned_abs s < 2 ^ 64) strides.now }
+    requires many { length many.now ≤ 32 }
+    requires limits { All (λ n. n ≤ 2 ^ 32) many.now }
+    ensures { IfOk result (λ v. (f : List ℕ → ℤ) → ways.now ≡ map f (indices many.now)
+        → v.items ≡ map (λ m. f m +ℤ way_by (spread_of spread.now) (drop axis sizes.now)
+        (drop axis strides.now) m) (indices many.now)) }
+{
+    let end = axis + spread.axes;
+    let lengths = &sizes[axis..end];
+    let steps = &strides[axis..end];
+    let own = ways_to(alloc, spread.numbers.as_slice(), lengths, steps)?;
+    if is_same_shape(spread.shape.as_slice(), many) {
+        return add_each(alloc, ways, own.as_slice());
+    }
+    let count = spread.numbers.len() as u64;
+    let numbers = own_numbers(alloc, spread.shape.as_slice(), count, many)?;
+    add_ways(alloc, ways, own.as_slice(), numbers.as_slice())
+}
+
+// Adds how far it leads what is taken of the axes from this one on. A whole axis leads nowhere, and neither does an array without numbers.
+fn add_take(
+    alloc: Global,
+    ways: Vec<i128>,
+    many: &[u64],
+    take: &Take,
+    sizes: &[u64],
+    strides: &[i128],
+    axis: usize,
+) -> Result<Vec<i128>, AllocError>
+    requires each { length ways.items ≡ elements_of many.now }
+    requires near { AreNear ways.items }
+    requires within { axis + axes_taken_by (take_of take.now) ≤ length sizes.now }
+    requires axes { length strides.now ≡ length sizes.now }
+    requires most { length sizes.now ≤ 32 }
+    requires some { 0 < elements_of sizes.now }
+    requires few { elements_of sizes.now ≤ 2 ^ 24 }
+    requires range { All (λ s. unsigned_abs s < 2 ^ 64) strides.now }
+    requires many { length many.now ≤ 32 }
+    requires limits { All (λ n. n ≤ 2 ^ 32) many.now }
+    ensures { IfOk result (λ v. (f : List ℕ → ℤ) → ways.items ≡ map f (indices many.now)
+        → v.items ≡ map (λ m. f m +ℤ way_by (take_of take.now) (drop axis sizes.now)
+        (drop axis strides.now) m) (indices many.now)) }
+{
+    let Take::Spread(spread) = take else {
+        return Ok(ways);
+    };
+    if spread.numbers.is_empty() {
+        return Ok(ways);
+    }
+    add_array(alloc, ways.as_slice(), many, spread, sizes, strides, axis)
+}
+
+/// Returns how far the arrays lead together at each tuple of their common shape, on axes with these lengths and strides.
+pub(crate) fn array_ways(
+    alloc: Global,
+    takes: &[Take],
+    sizes: &[u64],
+    strides: &[i128],
+    many: &[u64],
+) -> Result<Vec<i128>, AllocError>
+    requires taken { axes_taken (takes_of takes.now) ≤ length sizes.now }
+    requires axes { length strides.now ≡ length sizes.now }
+    requires most { length sizes.now ≤ 32 }
+    requires some { 0 < elements_of sizes.now }
+    requires few { elements_of sizes.now ≤ 2 ^ 24 }
+    requires range { All (λ s. unsigned_abs s < 2 ^ 64) strides.now }
+    requires many { length many.now ≤ 32 }
+    requires limits { All (λ n. n ≤ 2 ^ 32) many.now }
+    ensures { IfOk result (λ v. v.items ≡ map (way_taken (takes_of takes.now) sizes.now strides.now)
+        (indices many.now)) }
+{
+    let none: SmallVec<i128, 8> = SmallVec::from_elem(alloc, 0, many.len())?;
+    let mut ways = ways_of(alloc, many, none.as_slice())?;
+    let mut axis = 0;
+    for take in takes {
+        ways = add_take(alloc, ways, many, take, sizes, strides, axis)?;
+        axis += take.axes();
+    }
+    Ok(ways)
+}

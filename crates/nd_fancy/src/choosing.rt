@@ -1,0 +1,177 @@
+//! Where the elements lie that an index chooses.
+ghost use Rattle.std.specs.Prelude.{◌≡◌, ℕ, ◌+◌, ◌^◌, ◌<◌, ◌≤◌, List, length, map, IfOk};
+ghost use Rattle.std.specs.List.{All};
+ghost use Rattle.nd_model.specs.Advanced as model;
+ghost use Rattle.nd_model.specs.Selected.{HoldsAll};
+ghost use Rattle.nd_model.specs.Selecting as selecting;
+ghost use Rattle.nd_model.specs.Strides.{IsInLimits};
+ghost use Rattle.nd_model.specs.Tuple.{elements_of, indices};
+ghost use Rattle.nd_model.specs.View.{item_size, place_of};
+ghost use Rattle.nd_view.specs.Indexes.{IsIndex};
+ghost use Rattle.nd_fancy.specs.Chosen.{view_at};
+ghost use Rattle.nd_fancy.specs.Faults.{Makes};
+ghost use Rattle.nd_fancy.specs.Items.{items_of};
+ghost use Rattle.nd_fancy.specs.Takes.{axes_taken, kept_in, takes_of};
+
+use crate::arrays::array_ways;
+use crate::common::common_shape;
+use crate::fault::{FancyFault, IndexFault};
+use crate::item::{Item, count_axes, count_ellipses};
+use crate::layout::{chosen_shape, kept_shape, kept_strides, place_for};
+use crate::limits::{bounds_fault, shape_fault};
+use crate::placing::places_on;
+use crate::slices::slices_of;
+use crate::takes::{Take, takes};
+use crate::ways::{count_of, ways_of};
+use nd_basic::select;
+use nd_view::{Shape, View, limit_fault};
+use std::alloc::{AllocError, Global};
+
+/// Where the elements lie that an index chooses.
+#[derive(Drop)]
+pub struct Places {
+    /// The lengths of the axes.
+    pub shape: Shape,
+    /// The places of the elements in C order.
+    pub places: Vec<u64>,
+}
+
+// The places for all tuples of a shape, which has so many axes of the arrays behind so many kept ones.
+fn all_places(
+    alloc: Global,
+    view: &View,
+    takes: &[Take],
+    at: usize,
+    axes: usize,
+    shape: &[u64],
+) -> Result<Vec<u64>, AllocError>
+    requires taken { axes_taken (takes_of takes.now) ≡ length view.now.shape }
+    requires kept { kept_in (takes_of takes.now) + axes ≡ length shape.now }
+    requires at { at ≤ kept_in (takes_of takes.now) }
+    requires tuples { (t : List ℕ) → IsIndex shape.now t → IsIndex view.now.shape
+        (model.chosen_source (takes_of takes.now) view.now.shape at axes t) }
+    requires limits { IsInLimits (item_size view.now.element) shape.now }
+    ensures value { IfOk result (λ v. v.items ≡ map (λ t. place_of view.now
+        (model.chosen_source (takes_of takes.now) view.now.shape at axes t))
+        (indices shape.now)) }
+    ensures limit { IfOk result (λ v. All (λ p. p + item_size view.now.element ≤ 2 ^ 64)
+        v.items) }
+{
+    if shape.contains(&0) {
+        return Ok(Vec::new(alloc));
+    }
+    // Says that there are few elements, and that each has bytes.
+    let _count = view.count();
+    let _size = view.elem().size();
+    let sizes = view.shape();
+    let strides = view.held_strides();
+    let kept = kept_strides(alloc, takes, strides)?;
+    let end = at + axes;
+    let before = ways_of(alloc, &shape[..at], &kept.as_slice()[..at])?;
+    let arrays = array_ways(alloc, takes, sizes, strides, &shape[at..end])?;
+    let behind = ways_of(alloc, &shape[end..], &kept.as_slice()[at..])?;
+    places_on(
+        alloc,
+        count_of(shape) as usize,
+        view.offset(),
+        before.as_slice(),
+        arrays.as_slice(),
+        behind.as_slice(),
+    )
+}
+
+// The view that the slices of items choose, where all other axes are kept whole.
+fn slice_view(alloc: Global, view: &View, items: &[Item<'_>]) -> Result<View, FancyFault>
+    ensures { Makes (λ g. g) result (selecting.select (model.slices_in (items_of items.now))
+        view.now) }
+{
+    let slices = slices_of(alloc, items)?;
+    let sliced = select(alloc, view, slices.as_slice())??;
+    Ok(sliced)
+}
+
+// What is chosen of a view that the slices leave, for arrays of this common shape.
+fn choose(
+    alloc: Global,
+    view: &View,
+    items: &[Item<'_>],
+    takes: &[Take],
+    many: &[u64],
+) -> Result<Places, FancyFault>
+    requires taken { axes_taken (takes_of takes.now) ≡ length view.now.shape }
+    requires tuples { (t : List ℕ) → (let at = model.place_for (items_of items.now)
+        (takes_of takes.now) in IsIndex (model.chosen_shape at many.now (model.kept_shape
+        (takes_of takes.now) view.now.shape)) t → IsIndex view.now.shape (model.chosen_source
+        (takes_of takes.now) view.now.shape at (length many.now) t)) }
+    ensures value { Makes (view_at view.now) result (model.chosen_view (items_of items.now)
+        (takes_of takes.now) many.now view.now) }
+    ensures limit { IfOk result (λ p. All (λ q. q + item_size view.now.element ≤ 2 ^ 64)
+        p.places.items) }
+    ensures limits { IfOk result (λ p. IsInLimits (item_size view.now.element) p.shape.items) }
+    ensures count { IfOk result (λ p. length p.places.items ≡ elements_of p.shape.items) }
+{
+    let kept = kept_shape(alloc, takes, view.shape())?;
+    let at = place_for(items, takes);
+    let shape = chosen_shape(alloc, at, many, kept.as_slice())?;
+    if let Some(fault) = limit_fault(view.elem().size(), shape.as_slice()) {
+        return Err(FancyFault::View(fault));
+    }
+    let places = all_places(alloc, view, takes, at, many.len(), shape.as_slice())?;
+    Ok(Places { shape, places })
+}
+
+// What items choose that stand for no more axes than the array has, with `...` for so many.
+fn choose_items(
+    alloc: Global,
+    view: &View,
+    missing: usize,
+    items: &[Item<'_>],
+) -> Result<Places, FancyFault>
+    requires axes { model.axes_in missing (items_of items.now) ≤ length view.now.shape }
+    requires missing { model.axes_in 0 (items_of items.now) + missing ≡ length view.now.shape }
+    requires ellipses { model.ellipses_in (items_of items.now) < 2 }
+    requires whole { All HoldsAll (items_of items.now) }
+    ensures value { Makes (view_at view.now) result (model.choose_filled missing
+        (items_of items.now) view.now) }
+    ensures limit { IfOk result (λ p. All (λ q. q + item_size view.now.element ≤ 2 ^ 64)
+        p.places.items) }
+    ensures limits { IfOk result (λ p. IsInLimits (item_size view.now.element) p.shape.items) }
+    ensures count { IfOk result (λ p. length p.places.items ≡ elements_of p.shape.items) }
+{
+    let sizes = view.shape();
+    if let Some(fault) = shape_fault(sizes, missing, items) {
+        return Err(FancyFault::Index(fault));
+    }
+    let Some(many) = common_shape(alloc, items)? else {
+        return Err(FancyFault::Index(IndexFault::IndexShapes));
+    };
+    if let Some(fault) = bounds_fault(sizes, missing, items) {
+        return Err(FancyFault::Index(fault));
+    }
+    let sliced = slice_view(alloc, view, items)?;
+    let takes = takes(alloc, sizes, missing, items)?;
+    choose(alloc, &sliced, items, takes.as_slice(), many.as_slice())
+}
+
+/// Returns the shape of what items choose of a view, and the places of the elements in C order, or the first refusal that holds:
+/// `TwoEllipses`; `TooManyIndices`; from left to right `ZeroStep` and `MaskShape`; `IndexShapes`; from left to right `OutOfBounds`, of
+/// each array the first in C order, also where there is no element; `TooManyAxes`; `TooManyElements` (NumPy user guide, "Advanced
+/// indexing").
+pub fn choose_places(alloc: Global, view: &View, items: &[Item<'_>]) -> Result<Places, FancyFault>
+    ensures value { Makes (view_at view.now) result (model.choose (items_of items.now)
+        view.now) }
+    ensures limit { IfOk result (λ p. All (λ q. q + item_size view.now.element ≤ 2 ^ 64)
+        p.places.items) }
+    ensures limits { IfOk result (λ p. IsInLimits (item_size view.now.element) p.shape.items) }
+    ensures count { IfOk result (λ p. length p.places.items ≡ elements_of p.shape.items) }
+{
+    if count_ellipses(items) > 1 {
+        return Err(FancyFault::Index(IndexFault::TwoEllipses));
+    }
+    let axes = count_axes(items);
+    let most = view.shape().len();
+    if axes > most as u128 {
+        return Err(FancyFault::Index(IndexFault::TooManyIndices));
+    }
+    choose_items(alloc, view, most - axes as usize, items)
+}

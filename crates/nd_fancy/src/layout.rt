@@ -1,0 +1,154 @@
+//! The shape of what is chosen: the axes that are kept, and among them those of the arrays.
+ghost use Rattle.std.specs.Prelude.{◌≡◌, ◌≤◌, pos, length, slice_index_or, IfOk};
+ghost use Rattle.std.specs.List.{list_any};
+ghost use Rattle.nd_model.specs.Advanced as model;
+ghost use Rattle.nd_fancy.specs.Items.{item_of, items_of};
+ghost use Rattle.nd_fancy.specs.Takes.{axes_taken, takes_of};
+ghost use Rattle.nd_fancy.specs.Ways as ways;
+
+use crate::item::Item;
+use crate::limits::length_of;
+use crate::takes::Take;
+use nd_basic::Item as BasicItem;
+use nd_view::Shape;
+use smallvec::SmallVec;
+use std::alloc::{AllocError, Global};
+
+// The stride of an axis, 0 where there is no such axis.
+fn stride_of(strides: &[i128], axis: usize) -> i128
+    ensures { result ≡ slice_index_or strides.now axis (pos 0) }
+{
+    match strides.get(axis) {
+        Some(stride) => *stride,
+        None => 0,
+    }
+}
+
+fn is_array(item: &Item<'_>) -> bool
+    ensures { result ≡ model.is_array (item_of item.now) }
+{
+    matches!(
+        item,
+        Item::Basic(BasicItem::At(_)) | Item::Numbers(_) | Item::Mask(_)
+    )
+}
+
+// The items from the first array on.
+fn from_array<'s, 'i>(items: &'s [Item<'i>]) -> &'s [Item<'i>]
+    ensures { items_of result.now ≡ model.from_array (items_of items.now) }
+{
+    for (number, item) in items.iter().enumerate() {
+        if is_array(item) {
+            return &items[number..];
+        }
+    }
+    &[]
+}
+
+// The items from the first on that is no array.
+fn behind_arrays<'s, 'i>(items: &'s [Item<'i>]) -> &'s [Item<'i>]
+    ensures { items_of result.now ≡ model.behind_arrays (items_of items.now) }
+{
+    for (number, item) in items.iter().enumerate() {
+        if !is_array(item) {
+            return &items[number..];
+        }
+    }
+    &[]
+}
+
+fn has_array(items: &[Item<'_>]) -> bool
+    ensures { result ≡ list_any model.is_array (items_of items.now) }
+{
+    for item in items {
+        if is_array(item) {
+            return true;
+        }
+    }
+    false
+}
+
+// How many axes are kept before those of the first array.
+fn count_before(takes: &[Take]) -> usize
+    ensures { result ≡ model.kept_before (takes_of takes.now) }
+{
+    let mut count = 0;
+    for take in takes {
+        match take {
+            Take::Whole | Take::Added => count += 1,
+            Take::Spread(_) => return count,
+        }
+    }
+    count
+}
+
+/// How many kept axes stand before those of the arrays.
+pub(crate) fn place_for(items: &[Item<'_>], takes: &[Take]) -> usize
+    ensures { result ≡ model.place_for (items_of items.now) (takes_of takes.now) }
+{
+    if has_array(behind_arrays(from_array(items))) {
+        0
+    } else {
+        count_before(takes)
+    }
+}
+
+/// The lengths of the axes that are kept.
+pub(crate) fn kept_shape(alloc: Global, takes: &[Take], sizes: &[u64]) -> Result<Shape, AllocError>
+    requires { axes_taken (takes_of takes.now) ≤ 64 }
+    ensures { IfOk result (λ v. v.items ≡ model.kept_shape (takes_of takes.now) sizes.now) }
+{
+    let mut kept = SmallVec::new(alloc);
+    let mut axis = 0;
+    for take in takes {
+        match take {
+            Take::Whole => {
+                kept.push(length_of(sizes, axis))?;
+                axis += 1;
+            }
+            Take::Added => kept.push(1)?,
+            Take::Spread(spread) => axis += spread.axes,
+        }
+    }
+    Ok(kept)
+}
+
+/// The strides of the axes that are kept. An axis that the array has not has a stride of 0.
+pub(crate) fn kept_strides(
+    alloc: Global,
+    takes: &[Take],
+    strides: &[i128],
+) -> Result<SmallVec<i128, 8>, AllocError>
+    requires { axes_taken (takes_of takes.now) ≤ 64 }
+    ensures { IfOk result (λ v. v.items ≡ ways.kept_strides (takes_of takes.now) strides.now) }
+{
+    let mut kept = SmallVec::new(alloc);
+    let mut axis = 0;
+    for take in takes {
+        match take {
+            Take::Whole => {
+                kept.push(stride_of(strides, axis))?;
+                axis += 1;
+            }
+            Take::Added => kept.push(0)?,
+            Take::Spread(spread) => axis += spread.axes,
+        }
+    }
+    Ok(kept)
+}
+
+/// The shape with the axes of the arrays behind so many kept ones.
+pub(crate) fn chosen_shape(
+    alloc: Global,
+    at: usize,
+    many: &[u64],
+    kept: &[u64],
+) -> Result<Shape, AllocError>
+    requires { at ≤ length kept.now }
+    ensures { IfOk result (λ v. v.items ≡ model.chosen_shape at many.now kept.now) }
+{
+    let mut shape = SmallVec::from_slice(alloc, &kept[..at])?;
+    shape.extend_from_slice(many)?;
+    shape.extend_from_slice(&kept[at..])?;
+    Ok(shape)
+}

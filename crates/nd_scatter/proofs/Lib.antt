@@ -1,0 +1,5 @@
+pub mod ByteWrites
+pub mod LastStays
+pub mod Copies
+pub mod Values
+pub mod Assigned

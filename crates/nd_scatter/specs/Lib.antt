@@ -1,0 +1,3 @@
+pub mod KeptLength
+pub mod Scattered
+pub mod Ready

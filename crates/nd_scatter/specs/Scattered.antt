@@ -1,0 +1,27 @@
+-- Elements that are written to chosen places, one after another.
+use Rattle.std.specs.Prelude.{ℕ, ◌+◌, ◌==◌, if◌then◌else◌, List, [], ◌∷◌, map, length, slice_index}
+use Rattle.std.specs.List.{zip}
+use Rattle.nd_model.specs.Session.{put}
+use Rattle.nd_model.specs.View.{ElementType, Geo, element_places}
+
+-- the bytes of the element of these values at the second place, each with its place in an element at the first one; pad bytes are none
+abbrev pub byte_copies : ElementType → (values : List ℕ) → (to from : ℕ) → List (ℕ × ℕ)
+byte_copies t values to from = zip (element_places t to) (map (slice_index values) (element_places t from))
+
+-- the bytes once the element at each of the places is as those of the values, of which the first one begins here, and each further one
+-- so many bytes behind
+abbrev pub scattered : ElementType → (values : List ℕ) → (step from : ℕ) → (places old : List ℕ) → List ℕ
+scattered t values step from [] old = old
+scattered t values step from (p ∷ ps) old = scattered t values step (from + step) ps (put (byte_copies t values p from) old)
+
+-- An assignment to chosen elements that is made ready: those of the target, in a block of so many bytes, get the values, which begin
+-- so many bytes apart.
+pub record Prepared : Type 0 where
+  pub target : Geo
+  pub values : List ℕ
+  pub step : ℕ
+  pub len : ℕ
+
+-- THE BYTES OF A BLOCK after the write: one of another length stays as it is
+abbrev pub written_by : Prepared → List ℕ → List ℕ
+written_by a block = if length block == a.len then scattered a.target.element a.values a.step 0 a.target.places block else block

@@ -1,0 +1,48 @@
+//! The loops over numbers: the bytes of each go to its place, by a loop of its own for each number of bytes.
+ghost use Rattle.std.specs.Prelude.{◌≡◌, ◌+◌, ◌≤◌, length};
+ghost use Rattle.nd_model.specs.Element.{bytes_at, size_of, with_bytes};
+ghost use Rattle.nd_model.specs.View.{One};
+ghost use Rattle.nd_element.specs.Elements.{AreHeld};
+ghost use Rattle.nd_scatter.specs.Ready.{AreValues};
+ghost use Rattle.nd_scatter.specs.Scattered.{scattered};
+
+use nd_types::{Elem, Kind};
+
+/// Copies so many bytes from a place of the values to another place.
+#[inline(always)]
+pub(crate) fn copy_bytes(out: &mut [u8], to: usize, values: &[u8], from: usize, size: usize)
+    requires out { to + size ≤ length out.old }
+    requires held { from + size ≤ length values.now }
+    ensures len { length out.new ≡ length out.old }
+    ensures bytes { out.new ≡ with_bytes out.old to (bytes_at values.now from size) }
+{
+    let (_len, _from_len) = (out.len(), values.len());
+    out[to..to + size].copy_from_slice(&values[from..from + size]);
+}
+
+// Writes the values, which begin so many bytes apart, to their places.
+#[inline(always)]
+fn write_each(out: &mut [u8], elem: Elem, size: usize, places: &[u64], values: &[u8], step: usize)
+    requires size { size ≡ size_of elem.kind }
+    requires out { AreHeld elem out.old places.now }
+    requires held { AreValues size step (length places.now) (length values.now) }
+    ensures { out.new ≡ scattered (One elem) values.now step 0 places.now out.old }
+{
+    for (index, place) in places.iter().enumerate() {
+        copy_bytes(out, *place as usize, values, index * step, size);
+    }
+}
+
+/// Writes the values, which begin so many bytes apart, to their places, one after another.
+pub(crate) fn write_numbers(out: &mut [u8], elem: Elem, places: &[u64], values: &[u8], step: usize)
+    requires out { AreHeld elem out.old places.now }
+    requires held { AreValues (size_of elem.kind) step (length places.now) (length values.now) }
+    ensures { out.new ≡ scattered (One elem) values.now step 0 places.now out.old }
+{
+    match elem.kind() {
+        Kind::Bool | Kind::I8 | Kind::U8 => write_each(out, elem, 1, places, values, step),
+        Kind::I16 | Kind::U16 => write_each(out, elem, 2, places, values, step),
+        Kind::I32 | Kind::U32 => write_each(out, elem, 4, places, values, step),
+        Kind::I64 | Kind::U64 => write_each(out, elem, 8, places, values, step),
+    }
+}

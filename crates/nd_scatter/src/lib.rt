@@ -1,0 +1,14 @@
+//! Elements that an index chooses by arrays: copies of them, and assignments to them.
+#![tactic(auto)]
+
+mod gathering;
+mod kernel;
+mod preparation;
+mod scatter;
+mod shape;
+mod structures;
+
+pub use gathering::gather;
+pub use preparation::prepare_scatter;
+pub use scatter::Scatter;
+pub use shape::fits_places;

@@ -1,0 +1,43 @@
+//! The loop over structures: the bytes of their fields go to their places, and pad bytes stay as they are.
+ghost use Rattle.std.specs.Prelude.{◌≡◌, ◌+◌, ◌≤◌, length};
+ghost use Rattle.std.specs.List.{All};
+ghost use Rattle.nd_model.specs.Session.{put};
+ghost use Rattle.nd_model.specs.View.{Structure};
+ghost use Rattle.nd_scatter.specs.Ready.{AreValues};
+ghost use Rattle.nd_scatter.specs.Scattered.{byte_copies, scattered};
+
+use crate::kernel::copy_bytes;
+use nd_types::RecType;
+
+// Copies the fields of one structure.
+fn write_structure(out: &mut [u8], structure: &RecType, to: usize, values: &[u8], from: usize)
+    requires out { to + structure.now.1 ≤ length out.old }
+    requires held { from + structure.now.1 ≤ length values.now }
+    ensures len { length out.new ≡ length out.old }
+    ensures bytes { out.new ≡ put (byte_copies (Structure structure.now.0 structure.now.1)
+        values.now to from) out.old }
+{
+    let (_len, _from_len) = (out.len(), values.len());
+    for field in structure.fields() {
+        let (at, size) = (field.at as usize, field.elem.size() as usize);
+        copy_bytes(out, to + at, values, from + at, size);
+    }
+}
+
+/// Writes the values, which begin so many bytes apart, to their places, one after another.
+pub(crate) fn write_structures(
+    out: &mut [u8],
+    structure: &RecType,
+    places: &[u64],
+    values: &[u8],
+    step: usize,
+)
+    requires out { All (λ p. p + structure.now.1 ≤ length out.old) places.now }
+    requires held { AreValues structure.now.1 step (length places.now) (length values.now) }
+    ensures { out.new ≡ scattered (Structure structure.now.0 structure.now.1) values.now step 0
+        places.now out.old }
+{
+    for (index, place) in places.iter().enumerate() {
+        write_structure(out, structure, *place as usize, values, index * step);
+    }
+}

@@ -26,7 +26,8 @@ use Rattle.nd_view.proofs.Steps.{number-below}
 use Rattle.nd_view.proofs.Tuples.{flat_map_same, get_or-count_up, length-count_up, map-map}
 use Rattle.nd_shape.proofs.Ordered.{length_index}
 use Rattle.nd_loops.proofs.SideBySide.{behind}
-use Rattle.nd_reduce.specs.Lanes.{front_indexes, lanes_in, lanes_of, last_index, number_bytes, prefix_bytes, prefix_folds, to_end}
+use Rattle.nd_runs.specs.Lanes.{lanes_in, number_bytes, prefix_bytes, prefix_folds}
+use Rattle.nd_reduce.specs.LastAxis.{front_indexes, lanes_of, last_index, to_end}
 use Rattle.nd_reduce.specs.Made.{array_of, array_operand}
 use Rattle.nd_reduce.proofs.Moved.{front_of_row, last_of_row, to_end_is}
 use Rattle.nd_reduce.proofs.Reduced.{all_numbers, lanes_left}

@@ -12,7 +12,7 @@ use Rattle.nd_view.specs.Indexes.{IsIndex}
 use Rattle.nd_view.proofs.Made.{facts, axes}
 use Rattle.nd_shape.proofs.Ordered.{length_index}
 use Rattle.nd_shape.proofs.Rearranged.{HasStrides, LeadsTo}
-use Rattle.nd_reduce.specs.Lanes.{to_end, last_index, front_indexes, from_end}
+use Rattle.nd_reduce.specs.LastAxis.{to_end, last_index, front_indexes, from_end}
 
 -- ---- lists
 
@@ -103,6 +103,15 @@ inside_put (suc a) (n ∷ s) [] j lt is below = absurd is
 inside_put (suc a) (n ∷ s) (i ∷ t) j lt is below =
     let e : suc a + 1 ≡ suc (a + 1) = omega arith in let rest : IsIndex (take a s ++ drop (a + 1) s) t = rw e at is.1 in
     (is.0, inside_put a s t j (omega arith) rest below)
+
+-- and one with another index there
+pub inside_at : (a : ℕ) (s t : List ℕ) (j : ℕ) → IsIndex s t → j < get_or s a 0 → IsIndex s (take a t ++ j ∷ drop (a + 1) t)
+inside_at zero [] t j is below = absurd (omega arith)
+inside_at (suc a) [] t j is below = absurd (omega arith)
+inside_at zero (n ∷ s) [] j is below = absurd is
+inside_at zero (n ∷ s) (i ∷ t) j is below = (below, is.1)
+inside_at (suc a) (n ∷ s) [] j is below = absurd is
+inside_at (suc a) (n ∷ s) (i ∷ t) j is below = let e : suc a + 1 ≡ suc (a + 1) = omega arith in rw e (is.0, inside_at a s t j is.1 below)
 
 -- ---- strides
 

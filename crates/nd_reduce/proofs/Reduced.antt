@@ -3,15 +3,15 @@ use Rattle.std.proofs.Common.{◌≡◌, ℕ, zero, suc, ◌+◌, ◌*◌, ◌/�
 use Rattle.std.specs.List.{All, flat_map}
 use Rattle.std.proofs.Math.Seq.{drop-cons}
 use Rattle.std.proofs.lemmas.Nat.{div-mul-add}
-use Rattle.std.proofs.lemmas.List.{get_or-map, length-map, length-take-le, take_all, take_at, take-append-drop}
+use Rattle.std.proofs.lemmas.List.{drop-drop, get_or-drop, get_or-map, length-map, length-take-le, take_all, take_at, take-append-drop}
 use Rattle.std.proofs.lemmas.List.Folds.{flat_map-map}
-use Rattle.nd_model.specs.Calls.{Reduction, Sum}
+use Rattle.nd_model.specs.Calls.{Reduction}
 use Rattle.nd_model.specs.Content.{Num, number_at, number_in, content_at, content_or, array_bytes}
 use Rattle.nd_model.specs.Element.{Element, Kind, bytes_of, wrap}
 use Rattle.nd_model.specs.Elementwise.{little}
 use Rattle.nd_model.specs.Operand as operand
 use Rattle.nd_model.specs.Operand.{content_of}
-use Rattle.nd_model.specs.Reductions.{folded, lane, lane_tuple, numbers_of, reduced_shape}
+use Rattle.nd_model.specs.Reductions.{folded, lane, lane_tuple, numbers_of, prefix_folds, reduced_shape}
 use Rattle.nd_model.specs.Sound.{LiesIn}
 use Rattle.nd_model.specs.Tuple.{count_up, elements_of, indices, number}
 use Rattle.nd_model.specs.View.{One, Geo, item_size, place_of}
@@ -28,13 +28,14 @@ use Rattle.nd_model.proofs.Taking.{taking_within}
 use Rattle.nd_shape.proofs.Rearranged.{index_of_tuple, tuple_of_index}
 use Rattle.nd_loops.proofs.SideBySide.{same_counted}
 use Rattle.nd_reduce.specs.Axes.{HasAxis, IsRowWidth, lane_length}
-use Rattle.nd_reduce.specs.Lanes.{fold_bytes, from_end, lanes_in, lanes_of, number_bytes, to_end}
-use Rattle.nd_reduce.specs.Tables.{table_sums}
-use Rattle.nd_reduce.specs.Made.{array_operand, contents_over}
-use Rattle.nd_reduce.proofs.Sliced.{lanes_are}
-use Rattle.nd_reduce.proofs.Moved.{to_end_is, row_moved, inside_moved, inside_put, elements-append}
+use Rattle.nd_runs.specs.Lanes.{fold_bytes, lanes_in}
+use Rattle.nd_reduce.specs.LastAxis.{from_end, lanes_of, to_end}
+use Rattle.nd_reduce.specs.Tables.{table_columns}
+use Rattle.nd_reduce.specs.Made.{array_operand, contents_over, new_array}
+use Rattle.nd_reduce.proofs.Across.{across, columns_across, prefixes_across}
+use Rattle.nd_runs.proofs.Sliced.{lanes_are}
+use Rattle.nd_reduce.proofs.Moved.{to_end_is, row_moved, inside_moved, inside_put, inside_at, elements-append}
 use Rattle.nd_reduce.proofs.Rows.{rows, kept_axis}
-use Rattle.nd_reduce.proofs.RowSums.{sums_across, total}
 
 -- ---- shapes and tuples
 
@@ -101,6 +102,26 @@ same_factor : (x y w : ℕ) → 0 < w → x * w ≡ y * w → x ≡ y
 same_factor x y w some same =
     let more : x * w + 0 ≡ y * w + 0 = omega (arith, same) in sym (div-mul-add x w 0 some) ∙ ap (λ m. m / w) more ∙ div-mul-add y w 0 some
 
+some_each : (all parts each : ℕ) → 0 < all → all ≡ parts * each → 0 < each
+some_each all parts zero some is = absurd (omega arith)
+some_each all parts (suc each) some is = omega arith
+
+-- how many lanes there are
+pub lanes_number : (axis : Option ℕ) (shape : List ℕ) (all lanes each : ℕ) → HasAxis axis (length shape) → 0 < all → all ≡ elements_of shape → each ≡ lane_length axis shape
+    → all ≡ lanes * each → lanes ≡ elements_of (reduced_shape axis false shape)
+lanes_number axis shape all lanes each has some whole long split =
+    let own : all ≡ elements_of (reduced_shape axis false shape) * each
+    = whole ∙ elements_by_lanes axis shape has ∙ ap (λ n. elements_of (reduced_shape axis false shape) * n) (sym long) in
+    same_factor lanes (elements_of (reduced_shape axis false shape)) each (some_each all lanes each some split) (sym split ∙ own)
+
+-- a part of some numbers has no more
+pub some_parts : (all parts each : ℕ) → 0 < all → all ≡ parts * each → (0 < parts) × (0 < each)
+some_parts all parts each some is = let turned : all ≡ each * parts = omega (arith, is) in (some_each all each parts some turned, some_each all parts each some is)
+
+pub part_fits : (all parts each : ℕ) → 0 < all → all ≡ parts * each → each ≤ all
+part_fits all zero each some is = absurd (omega arith)
+part_fits all (suc parts) each some is = let more : suc parts * each ≡ parts * each + each = omega arith in omega arith
+
 module _ (g : Geo) (e : Element) (bytes : List ℕ) (one : g.element ≡ One e) (lies : LiesIn (length bytes) g) where
   abbrev o : operand.Operand
   o = array_operand g bytes
@@ -161,7 +182,7 @@ module _ (g : Geo) (e : Element) (bytes : List ℕ) (one : g.element ≡ One e) 
     pub lanes_left : lanes_in n (elements_of left) (numbers_at e bytes (lanes_of g (Some a)).places) ≡ map (lane o (Some a) false) (indices left)
     lanes_left = rows_left ∙ same_indexes row (lane o (Some a) false) left row_is
 
-    -- the sums of the rows, in the order of the view
+    -- the columns of the rows, in the order of the view
     abbrev at_tuple : List ℕ → ℤ
     at_tuple u = number_at e bytes (place_of g u)
 
@@ -173,19 +194,43 @@ module _ (g : Geo) (e : Element) (bytes : List ℕ) (one : g.element ≡ One e) 
         ∙ by_place 0 g.places at 0 (λ k below. let same : 0 + k ≡ k = omega arith in ap at same) in
         ap (map (number_at e bytes)) (sym places) ∙ map-map (number_at e bytes) (place_of g) (indices g.shape) ∙ ap (λ s. map at_tuple (indices s)) (split_shape a g.shape lt)
 
-    total_is : (t : List ℕ) → IsIndex left t → total (pos 0) (row t) ≡ total (pos 0) (map (λ j. at_tuple (take a t ++ j ∷ drop a t)) (count_up 0 n))
-    total_is t is = ap (total (pos 0)) (same_counted (λ j. at_tuple (from_end a (t ++ j ∷ []))) (λ j. at_tuple (take a t ++ j ∷ drop a t)) 0 n (λ j le below. ap at_tuple (row_moved a t j (long t is))))
+    across_is : (t : List ℕ) → IsIndex left t → row t ≡ across at_tuple (take a g.shape) (drop (a + 1) g.shape) n (take a t) (drop a t)
+    across_is t is = same_counted (λ j. at_tuple (from_end a (t ++ j ∷ []))) (λ j. at_tuple (take a t ++ j ∷ drop a t)) 0 n (λ j le below. ap at_tuple (row_moved a t j (long t is)))
 
-    pub sums_left : (k : Kind) → number_bytes k (table_sums (elements_of (drop (a + 1) g.shape)) n (elements_of (take a g.shape)) (numbers_at e bytes g.places))
-        ≡ fold_bytes Sum k (lanes_in n (elements_of left) (numbers_at e bytes (lanes_of g (Some a)).places))
-    sums_left k =
-        let front : length (take a g.shape) ≡ a = length-take-le a g.shape (omega arith) in
-        let sums : table_sums (elements_of (drop (a + 1) g.shape)) n (elements_of (take a g.shape)) (numbers_at e bytes g.places) ≡ map (λ t. total (pos 0) (row t)) (indices left)
-        = ap (table_sums (elements_of (drop (a + 1) g.shape)) n (elements_of (take a g.shape))) own_numbers ∙ sums_across at_tuple (take a g.shape) (drop (a + 1) g.shape) n
-        ∙ ap (λ m. map (λ t. total (pos 0) (map (λ j. at_tuple (take m t ++ j ∷ drop m t)) (count_up 0 n))) (indices left)) front
-        ∙ sym (same_indexes (λ t. total (pos 0) (row t)) (λ t. total (pos 0) (map (λ j. at_tuple (take a t ++ j ∷ drop a t)) (count_up 0 n))) left total_is) in
-        ap (number_bytes k) sums ∙ flat_map-map (λ z. bytes_of (little k) (wrap k z)) (λ t. total (pos 0) (row t)) (indices left)
-        ∙ sym (ap (fold_bytes Sum k) rows_left ∙ flat_map-map (λ zs. bytes_of (little k) (wrap k (folded Sum zs))) row (indices left))
+    length-front : length (take a g.shape) ≡ a
+    length-front = length-take-le a g.shape (omega arith)
+
+    columns_left : table_columns false (elements_of (drop (a + 1) g.shape)) n (elements_of (take a g.shape)) (numbers_at e bytes g.places)
+        ≡ lanes_in n (elements_of left) (numbers_at e bytes (lanes_of g (Some a)).places)
+    columns_left =
+        let p : List ℕ = take a g.shape in let q : List ℕ = drop (a + 1) g.shape in
+        ap (table_columns false (elements_of q) n (elements_of p)) own_numbers ∙ columns_across at_tuple p q n
+        ∙ ap (λ m. map (λ t. across at_tuple p q n (take m t) (drop m t)) (indices left)) length-front
+        ∙ sym (same_indexes row (λ t. across at_tuple p q n (take a t) (drop a t)) left across_is)
+        ∙ sym rows_left
+
+    -- what they are under each row
+    prefix_is : (t : List ℕ) → IsIndex g.shape t → take (suc (get_or (drop a t) 0 0)) (across at_tuple (take a g.shape) (drop (a + 1) g.shape) n (take a t) (drop 1 (drop a t)))
+        ≡ take (suc (get_or t a 0)) (lane o (Some a) true t)
+    prefix_is t is =
+        let at : get_or (drop a t) 0 0 ≡ get_or t a 0 = get_or-drop a t 0 0 ∙ ap (λ m. get_or t m 0) (let e : a + 0 ≡ a = omega arith in e) in
+        let rest : drop 1 (drop a t) ≡ drop (a + 1) t = drop-drop 1 a t in
+        let lane_is : map (λ j. at_tuple (take a t ++ j ∷ drop (a + 1) t)) (count_up 0 n) ≡ lane o (Some a) true t
+        = same_counted (λ j. at_tuple (take a t ++ j ∷ drop (a + 1) t)) (λ j. number_in (content_of o (lane_tuple a true t j))) 0 n
+        (λ j le below. at_content (take a t ++ j ∷ drop (a + 1) t) (inside_at a g.shape t j is (omega arith))) in
+        (λ i. take (suc (at i)) (map (λ j. at_tuple (take a t ++ j ∷ rest i)) (count_up 0 n))) ∙ ap (take (suc (get_or t a 0))) lane_is
+
+    pub prefixes_left : (r : Reduction) (k : Kind) → fold_bytes r k (table_columns true (elements_of (drop (a + 1) g.shape)) n (elements_of (take a g.shape)) (numbers_at e bytes g.places))
+        ≡ array_bytes (One (little k)) g.shape (λ t. Num (wrap k (folded r (take (suc (get_or t a 0)) (lane o (Some a) true t)))))
+    prefixes_left r k =
+        let p : List ℕ = take a g.shape in let q : List ℕ = drop (a + 1) g.shape in
+        let prefix : List ℕ → List ℤ = λ t. take (suc (get_or t a 0)) (lane o (Some a) true t) in
+        let columns : table_columns true (elements_of q) n (elements_of p) (numbers_at e bytes g.places) ≡ map prefix (indices g.shape)
+        = ap (table_columns true (elements_of q) n (elements_of p)) own_numbers ∙ prefixes_across at_tuple p q n
+        ∙ (λ i. map (λ t. take (suc (get_or (drop (length-front i) t) 0 0)) (across at_tuple p q n (take (length-front i) t) (drop 1 (drop (length-front i) t)))) (indices (sym (split_shape a g.shape lt) i)))
+        ∙ same_indexes (λ t. take (suc (get_or (drop a t) 0 0)) (across at_tuple p q n (take a t) (drop 1 (drop a t)))) prefix g.shape prefix_is in
+        ap (fold_bytes r k) columns ∙ flat_map-map (λ zs. bytes_of (little k) (wrap k (folded r zs))) prefix (indices g.shape)
+        ∙ sym (numbers_bytes (little k) g.shape (λ t. wrap k (folded r (prefix t))))
 
     -- an axis that is kept
     kept_lane : (t : List ℕ) → IsIndex left t → lane o (Some a) false t ≡ lane o (Some a) true (take a t ++ 0 ∷ drop a t)
@@ -219,18 +264,28 @@ module _ (g : Geo) (e : Element) (bytes : List ℕ) (one : g.element ≡ One e) 
   lanes_same None keep has = all_lane keep
   lanes_same (Some a) keep has = axis_lanes a has keep
 
-  -- THE SUMS OF ROWS are those of the lanes across them
-  pub sums_same : (axis : Option ℕ) → HasAxis axis (length g.shape) → (k : Kind) (w m tables lanes : ℕ) → IsRowWidth axis g.shape w → 0 < w
+  -- THE COLUMNS OF ROWS are the lanes across them
+  pub columns_same : (axis : Option ℕ) → HasAxis axis (length g.shape) → (w m tables lanes : ℕ) → IsRowWidth axis g.shape w → 0 < w
       → m ≡ lane_length axis g.shape → lanes ≡ elements_of (reduced_shape axis false g.shape) → lanes ≡ tables * w
-      → number_bytes k (table_sums w m tables (numbers_at e bytes g.places)) ≡ fold_bytes Sum k (lanes_in m lanes (numbers_at e bytes (lanes_of g axis).places))
+      → table_columns false w m tables (numbers_at e bytes g.places) ≡ lanes_in m lanes (numbers_at e bytes (lanes_of g axis).places)
   unfolding table_count
-  sums_same None has k w m tables lanes is some count all split = absurd is
-  sums_same (Some a) has k w m tables lanes is some count all split =
+  columns_same None has w m tables lanes is some count all split = absurd is
+  columns_same (Some a) has w m tables lanes is some count all split =
       let count_is : tables ≡ elements_of (take a g.shape)
       = same_factor tables (elements_of (take a g.shape)) w some (sym split ∙ all ∙ (table_count (Some a) g.shape w is).1) in
-      (λ i. number_bytes k (table_sums (is i) (count i) (count_is i) (numbers_at e bytes g.places)))
-      ∙ sums_left a has k
-      ∙ (λ i. fold_bytes Sum k (lanes_in (sym count i) (sym all i) (numbers_at e bytes (lanes_of g (Some a)).places)))
+      (λ i. table_columns false (is i) (count i) (count_is i) (numbers_at e bytes g.places)) ∙ columns_left a has
+      ∙ (λ i. lanes_in (sym count i) (sym all i) (numbers_at e bytes (lanes_of g (Some a)).places))
+
+  -- what they are under each row, as the bytes of an array
+  pub prefixes_same : (axis : Option ℕ) → HasAxis axis (length g.shape) → (r : Reduction) (k : Kind) (w m tables : ℕ) → IsRowWidth axis g.shape w → 0 < w
+      → m ≡ lane_length axis g.shape → elements_of (reduced_shape axis false g.shape) ≡ tables * w
+      → fold_bytes r k (table_columns true w m tables (numbers_at e bytes g.places)) ≡ (new_array (prefix_folds r k axis o)).1
+  unfolding table_count
+  prefixes_same None has r k w m tables is some count split = absurd is
+  prefixes_same (Some a) has r k w m tables is some count split =
+      let count_is : tables ≡ elements_of (take a g.shape)
+      = same_factor tables (elements_of (take a g.shape)) w some (sym split ∙ (table_count (Some a) g.shape w is).1) in
+      (λ i. fold_bytes r k (table_columns true (is i) (count i) (count_is i) (numbers_at e bytes g.places))) ∙ prefixes_left a has r k
 
   -- their folds as the bytes of an array
   pub folds_are : (r : Reduction) (k : Kind) (axis : Option ℕ) (keep : Bool) → HasAxis axis (length g.shape)

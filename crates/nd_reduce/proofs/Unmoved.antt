@@ -8,7 +8,7 @@ use Rattle.nd_view.specs.Indexes.{IsIndex}
 use Rattle.nd_view.proofs.Made.{facts, axes}
 use Rattle.nd_shape.proofs.Ordered.{length_index}
 use Rattle.nd_shape.proofs.Rearranged.{HasStrides, LeadsTo}
-use Rattle.nd_reduce.specs.Lanes.{to_end, last_of, front_of, put_last}
+use Rattle.nd_reduce.specs.LastAxis.{to_end, last_of, front_of, put_last}
 use Rattle.nd_reduce.proofs.Moved.{length-to_end, limits_to_end}
 
 -- ---- lists

@@ -1,6 +1,5 @@
 pub mod Axes
 pub mod Faults
-pub mod Lanes
+pub mod LastAxis
 pub mod Made
-pub mod States
 pub mod Tables

@@ -4,7 +4,7 @@ ghost use Rattle.nd_model.specs.Reductions as reductions;
 ghost use Rattle.nd_model.specs.Tuple.{elements_of};
 ghost use Rattle.nd_model.specs.View.{rearranged_view};
 ghost use Rattle.nd_reduce.specs.Faults.{Makes};
-ghost use Rattle.nd_reduce.specs.Lanes.{lanes_of, put_last, to_end};
+ghost use Rattle.nd_reduce.specs.LastAxis.{lanes_of, put_last, to_end};
 ghost use Rattle.nd_reduce.specs.Axes.{HasAxis, IsRowWidth, lane_length};
 
 use crate::fault::ReduceFault;

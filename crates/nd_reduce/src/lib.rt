@@ -3,16 +3,10 @@
 
 mod accumulating;
 mod axis;
+mod columns;
 mod fault;
-mod fold;
-mod lanes;
-mod masks;
-mod native;
-mod prefixes;
 mod reducing;
-mod run_fold;
 mod tables;
-mod taking;
 
 pub use accumulating::accumulate;
 pub use fault::ReduceFault;

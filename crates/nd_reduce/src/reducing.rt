@@ -15,20 +15,19 @@ ghost use Rattle.nd_element.specs.Elements.{AreHeld, numbers_at};
 ghost use Rattle.nd_ufunc.specs.Numbers.{number_made};
 ghost use Rattle.nd_reduce.specs.Axes.{HasAxis, lane_length};
 ghost use Rattle.nd_reduce.specs.Faults.{Makes};
-ghost use Rattle.nd_reduce.specs.Lanes.{fold_bytes, lanes_in, lanes_of};
+ghost use Rattle.nd_runs.specs.Lanes.{fold_bytes, lanes_in};
+ghost use Rattle.nd_reduce.specs.LastAxis.{lanes_of};
 ghost use Rattle.nd_reduce.specs.Made.{array_of, array_operand};
 
 use crate::axis::{
     axis_in, has_no_lanes, lane_count, lane_length, lanes_of, reduced_shape, row_width,
 };
 use crate::fault::ReduceFault;
-use crate::fold;
-use crate::fold::sum_kind;
-use crate::lanes::{fold_lanes, fold_number};
-use crate::run_fold::RunFold;
-use crate::tables::sum_rows;
+use crate::tables::table_folds;
 use nd_block::{Filling, RawBlock};
 use nd_loops::Elements;
+use nd_runs::fold::sum_kind;
+use nd_runs::{RowFold, RunFold, fold, fold_lanes, fold_number};
 use nd_syntax::Reduction;
 use nd_types::{Elem, ElemType, Kind, Num};
 use nd_view::{View, limit_fault};
@@ -124,37 +123,64 @@ fn folds<F: RunFold>(
     Ok(out.finish())
 }
 
-// The same of a reduction, which is asked for once.
-fn reduction_folds(
+// The block with the folds of a view's numbers along an axis, or of all of them, which are found lane by lane.
+fn lane_folds<F: RunFold>(
     alloc: Global,
-    reduction: Reduction,
     to: Kind,
     view: &View,
+    axis: Option<usize>,
     elem: Elem,
     bytes: &[u8],
     lanes: usize,
     count: usize,
 ) -> Result<RawBlock, AllocError>
-    requires to { kind_of to ≡ fold_kind (reduction_of reduction) elem.kind }
-    requires held { AreHeld elem bytes.now view.now.places }
-    requires enough { length view.now.places ≡ lanes * count }
+    requires to { kind_of to ≡ fold_kind F.reduction elem.kind }
+    requires one { view.now.element ≡ One elem }
+    requires lies { LiesIn (length bytes.now) view.now }
+    requires axis { HasAxis axis (length view.now.shape) }
+    requires lanes { lanes ≡ elements_of (reductions.reduced_shape axis false view.now.shape) }
+    requires count { count ≡ lane_length axis view.now.shape }
     requires few { lanes ≤ 2 ^ 24 }
-    ensures { IfOk result (λ b. b ≡ fold_bytes (reduction_of reduction) (kind_of to)
-        (lanes_in count lanes (numbers_at elem bytes.now view.now.places))) }
+    ensures { IfOk result (λ b. b ≡ fold_bytes F.reduction (kind_of to)
+        (lanes_in count lanes (numbers_at elem bytes.now (lanes_of view.now axis).places))) }
 {
-    match reduction {
-        Reduction::Sum => folds::<fold::Sum>(alloc, to, view, elem, bytes, lanes, count),
-        Reduction::Prod => folds::<fold::Prod>(alloc, to, view, elem, bytes, lanes, count),
-        Reduction::Min => folds::<fold::Min>(alloc, to, view, elem, bytes, lanes, count),
-        Reduction::Max => folds::<fold::Max>(alloc, to, view, elem, bytes, lanes, count),
-        Reduction::Any => folds::<fold::Any>(alloc, to, view, elem, bytes, lanes, count),
-        Reduction::All => folds::<fold::All>(alloc, to, view, elem, bytes, lanes, count),
-        Reduction::ArgMin => folds::<fold::ArgMin>(alloc, to, view, elem, bytes, lanes, count),
-        Reduction::ArgMax => folds::<fold::ArgMax>(alloc, to, view, elem, bytes, lanes, count),
+    let by_lanes = lanes_of(alloc, view, axis)?;
+    folds::<F>(alloc, to, &by_lanes, elem, bytes, lanes, count)
+}
+
+// The same, found row by row where the numbers of many lanes stand side by side.
+fn axis_folds<F: RowFold>(
+    alloc: Global,
+    to: Kind,
+    view: &View,
+    axis: Option<usize>,
+    elem: Elem,
+    bytes: &[u8],
+    lanes: usize,
+    count: usize,
+) -> Result<RawBlock, AllocError>
+    requires to { kind_of to ≡ fold_kind F.reduction elem.kind }
+    requires one { view.now.element ≡ One elem }
+    requires lies { LiesIn (length bytes.now) view.now }
+    requires axis { HasAxis axis (length view.now.shape) }
+    requires lanes { lanes ≡ elements_of (reductions.reduced_shape axis false view.now.shape) }
+    requires count { count ≡ lane_length axis view.now.shape }
+    requires few { lanes ≤ 2 ^ 24 }
+    ensures { IfOk result (λ b. b ≡ fold_bytes F.reduction (kind_of to)
+        (lanes_in count lanes (numbers_at elem bytes.now (lanes_of view.now axis).places))) }
+{
+    match row_width(view, axis) {
+        Some(width) if lanes > 0 && count > 0 => {
+            let tables = lane_count(lanes, width);
+            table_folds::<F>(
+                alloc, false, to, view, elem, bytes, tables, count, width, lanes,
+            )
+        }
+        _ => lane_folds::<F>(alloc, to, view, axis, elem, bytes, lanes, count),
     }
 }
 
-// The block with the folds of a view's numbers along an axis, or of all of them. Sums of rows are found row by row.
+// The same of a reduction, which is asked for once.
 fn view_folds(
     alloc: Global,
     reduction: Reduction,
@@ -176,15 +202,21 @@ fn view_folds(
     ensures { IfOk result (λ b. b ≡ fold_bytes (reduction_of reduction) (kind_of to)
         (lanes_in count lanes (numbers_at elem bytes.now (lanes_of view.now axis).places))) }
 {
-    match (reduction, row_width(view, axis)) {
-        (Reduction::Sum, Some(width)) if lanes > 0 => {
-            let tables = lane_count(lanes, width);
-            sum_rows(alloc, to, view, elem, bytes, tables, count, width)
-        }
-        _ => {
-            let by_lanes = lanes_of(alloc, view, axis)?;
-            reduction_folds(alloc, reduction, to, &by_lanes, elem, bytes, lanes, count)
-        }
+    match reduction {
+        Reduction::Sum => axis_folds::<fold::Sum>(alloc, to, view, axis, elem, bytes, lanes, count),
+        Reduction::Prod => axis_folds::<fold::Prod>(
+            alloc, to, view, axis, elem, bytes, lanes, count,
+        ),
+        Reduction::Min => axis_folds::<fold::Min>(alloc, to, view, axis, elem, bytes, lanes, count),
+        Reduction::Max => axis_folds::<fold::Max>(alloc, to, view, axis, elem, bytes, lanes, count),
+        Reduction::Any => axis_folds::<fold::Any>(alloc, to, view, axis, elem, bytes, lanes, count),
+        Reduction::All => axis_folds::<fold::All>(alloc, to, view, axis, elem, bytes, lanes, count),
+        Reduction::ArgMin => lane_folds::<fold::ArgMin>(
+            alloc, to, view, axis, elem, bytes, lanes, count,
+        ),
+        Reduction::ArgMax => lane_folds::<fold::ArgMax>(
+            alloc, to, view, axis, elem, bytes, lanes, count,
+        ),
     }
 }
 

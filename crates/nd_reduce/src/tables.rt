@@ -1,208 +1,182 @@
-//! Sums along another axis than the last one: the numbers are taken in the order of the view, row by row, and each row is added to
-//! the sums of the rows before it.
-ghost use Rattle.std.specs.Prelude.{◌≡◌, ℕ, ◌+◌, ◌*◌, ◌^◌, ◌+ℤ◌, ◌<◌, ◌≤◌, List, ℤ, pos, ◌++◌, length, take, drop, replicate, IfOk};
-ghost use Rattle.nd_model.specs.Element.{size_of, wrap};
-ghost use Rattle.nd_model.specs.Elementwise.{little};
-ghost use Rattle.nd_model.specs.Reductions as reductions;
+//! Folds along another axis than the last one: the numbers are taken in the order of the view, row by row, and each is taken by the
+//! fold of its column.
+ghost use Rattle.std.specs.Prelude.{◌≡◌, ℕ, ◌+◌, ◌*◌, ◌^◌, ◌<◌, ◌≤◌, List, ℤ, [], ◌++◌, length, take, drop, replicate, if◌then◌else◌, IfOk};
+ghost use Rattle.std.specs.List.{All};
+ghost use Rattle.nd_model.specs.Element.{IsValue, size_of};
+ghost use Rattle.nd_model.specs.Reductions.{fold_kind};
 ghost use Rattle.nd_types.specs.Kinds.{kind_of};
 ghost use Rattle.nd_element.specs.Elements.{AreHeld, numbers_at};
-ghost use Rattle.nd_loops.specs.Results.{result_bytes};
-ghost use Rattle.nd_loops.specs.Sides.{HasNumbers, Keeps, numbers_on};
-ghost use Rattle.nd_reduce.specs.Lanes.{number_bytes, numbers_in};
-ghost use Rattle.nd_reduce.specs.Tables.{more_sums, row_sums, table_sums};
+ghost use Rattle.nd_loops.specs.Sides.{HasNumbers, numbers_on};
+ghost use Rattle.nd_runs.specs.Lanes.{fold_bytes};
+ghost use Rattle.nd_reduce.specs.Tables.{AreFolds, more_columns, row_columns, rows_kept, table_columns};
 
-use crate::taking::{is_kind, number_in};
-use nd_block::{Filling, RawBlock, store_at};
-use nd_loops::{CHUNK, Elements, Side, apply_sides, chunk_of, operation};
+use crate::columns::extend_columns;
+use nd_block::{Filling, RawBlock};
+use nd_loops::{CHUNK, Elements, Side, chunk_of};
+use nd_runs::RowFold;
 use nd_types::{Elem, Kind};
-use nd_ufunc::sum;
 use nd_view::View;
 use std::alloc::{AllocError, Global};
 
-// Writes sums with a number more each, one after another.
-#[inline(always)]
-fn sum_each(out: &mut [u8], to: Kind, sums: &[u8], row: &[u8], count: usize)
-    requires out { length out.old ≡ count * size_of (kind_of to) }
-    requires sums { count * size_of (kind_of to) ≤ length sums.now }
-    requires row { count * size_of (kind_of to) ≤ length row.now }
-    ensures { out.new ≡ result_bytes (little (kind_of to)) (λ x y. wrap (kind_of to) (x +ℤ y))
-        (numbers_in (kind_of to) sums.now count) (numbers_in (kind_of to) row.now count) }
-{
-    let size = to.size() as usize;
-    for index in 0..count {
-        let number = sum(to, number_in(sums, to, index), number_in(row, to, index));
-        store_at(out, index * size, Elem::little(to), number);
-    }
-}
-
-// The same for any kind, where no loop is made for it alone.
-#[inline(never)]
-fn sum_any(out: &mut [u8], to: Kind, sums: &[u8], row: &[u8], count: usize)
-    requires out { length out.old ≡ count * size_of (kind_of to) }
-    requires sums { count * size_of (kind_of to) ≤ length sums.now }
-    requires row { count * size_of (kind_of to) ≤ length row.now }
-    ensures { out.new ≡ result_bytes (little (kind_of to)) (λ x y. wrap (kind_of to) (x +ℤ y))
-        (numbers_in (kind_of to) sums.now count) (numbers_in (kind_of to) row.now count) }
-{
-    sum_each(out, to, sums, row, count);
-}
-
-// The same by a loop for this kind, if it is the kind of the sums.
-#[inline(always)]
-fn sum_known(known: Kind, out: &mut [u8], to: Kind, sums: &[u8], row: &[u8], count: usize)
-    requires out { length out.old ≡ count * size_of (kind_of to) }
-    requires sums { count * size_of (kind_of to) ≤ length sums.now }
-    requires row { count * size_of (kind_of to) ≤ length row.now }
-    ensures { out.new ≡ result_bytes (little (kind_of to)) (λ x y. wrap (kind_of to) (x +ℤ y))
-        (numbers_in (kind_of to) sums.now count) (numbers_in (kind_of to) row.now count) }
-{
-    if is_kind(to, known) {
-        sum_each(out, known, sums, row, count);
-    } else {
-        sum_any(out, to, sums, row, count);
-    }
-}
-
-// The same by a loop for the kind of the sums.
-#[inline(never)]
-fn sum_kinds(out: &mut [u8], to: Kind, sums: &[u8], row: &[u8], count: usize)
-    requires out { length out.old ≡ count * size_of (kind_of to) }
-    requires sums { count * size_of (kind_of to) ≤ length sums.now }
-    requires row { count * size_of (kind_of to) ≤ length row.now }
-    ensures { out.new ≡ result_bytes (little (kind_of to)) (λ x y. wrap (kind_of to) (x +ℤ y))
-        (numbers_in (kind_of to) sums.now count) (numbers_in (kind_of to) row.now count) }
-{
-    match to {
-        Kind::U64 => sum_known(Kind::U64, out, to, sums, row, count),
-        _ => sum_known(Kind::I64, out, to, sums, row, count),
-    }
-}
-
-// The same with the numbers of a side.
-fn sum_side(out: &mut [u8], to: Kind, sums: &[u8], side: Side<'_>, count: usize)
-    requires out { length out.old ≡ count * size_of (kind_of to) }
-    requires sums { count * size_of (kind_of to) ≤ length sums.now }
-    requires side { HasNumbers side count }
-    ensures { out.new ≡ result_bytes (little (kind_of to)) (λ x y. wrap (kind_of to) (x +ℤ y))
-        (numbers_in (kind_of to) sums.now count) (numbers_on side.entry count) }
-{
-    match side {
-        Side::Each(row, own) if is_kind(own, to) => sum_kinds(out, to, sums, row, count),
-        _ => {
-            let sums = Side::Each(sums, to);
-            apply_sides::<operation::Sum>(to, out, to, sums, side, count);
-        }
-    }
-}
-
-// Adds so many numbers of a side to sums. What is found before it is written lies in `found`.
-fn add_part(part: &mut [u8], found: &mut [u8], to: Kind, side: Side<'_>, count: usize)
-    requires to { reductions.sum_kind (kind_of to) ≡ kind_of to }
+// Takes a number of a side more in the fold of each column. What is found before it is written lies in `found`.
+fn extend_part<F: RowFold>(
+    part: &mut [u8],
+    found: &mut [u8],
+    to: Kind,
+    taken: usize,
+    kind: Kind,
+    side: Side<'_>,
+    count: usize,
+)
+    requires to { kind_of to ≡ fold_kind F.reduction (kind_of kind) }
+    requires few { taken + 1 < 2 ^ 64 }
     requires part { length part.old ≡ count * size_of (kind_of to) }
     requires found { count * size_of (kind_of to) ≤ length found.old }
     requires side { HasNumbers side count }
-    ensures { (sums : List ℤ) → length sums ≡ count → part.old ≡ number_bytes (kind_of to) sums
-        → part.new ≡ number_bytes (kind_of to) (more_sums sums (numbers_on side.entry count)) }
+    ensures { (columns : List (List ℤ)) → length columns ≡ count
+        → AreFolds F.reduction (kind_of kind) (kind_of to) taken part.old columns
+        → part.new ≡ fold_bytes F.reduction (kind_of to)
+        (more_columns columns (numbers_on side.entry count)) }
 {
     let end = count * to.size() as usize;
-    sum_side(&mut found[..end], to, part, side, count);
+    extend_columns::<F>(&mut found[..end], to, taken, part, kind, side, count);
     part.copy_from_slice(&found[..end]);
 }
 
-// Adds the next row of numbers to sums.
-fn add_row(
-    sums: &mut [u8],
+// Takes the next row of numbers.
+fn extend_row<F: RowFold>(
+    folds: &mut [u8],
     found: &mut [u8],
     to: Kind,
+    taken: usize,
+    kind: Kind,
     numbers: &mut Elements<'_>,
     buffer: &mut [u8],
     width: usize,
 )
-    requires to { reductions.sum_kind (kind_of to) ≡ kind_of to }
-    requires sums { length sums.old ≡ width * size_of (kind_of to) }
+    requires to { kind_of to ≡ fold_kind F.reduction (kind_of kind) }
+    requires few { taken + 1 < 2 ^ 64 }
+    requires folds { length folds.old ≡ width * size_of (kind_of to) }
     requires found { length found.old ≡ 4096 }
     requires buffer { length buffer.old ≡ 4096 }
-    requires kind { numbers.old.kind ≡ kind_of to }
+    requires kind { numbers.old.kind ≡ kind_of kind }
     requires enough { width ≤ length numbers.old.numbers }
     ensures left { numbers.new.numbers ≡ drop width numbers.old.numbers }
     ensures kind { numbers.new.kind ≡ numbers.old.kind }
-    ensures sums { (before : List ℤ) → length before ≡ width
-        → sums.old ≡ number_bytes (kind_of to) before → sums.new ≡ number_bytes (kind_of to)
-        (more_sums before (take width numbers.old.numbers)) }
+    ensures folds { (columns : List (List ℤ)) → length columns ≡ width
+        → AreFolds F.reduction (kind_of kind) (kind_of to) taken folds.old columns
+        → folds.new ≡ fold_bytes F.reduction (kind_of to)
+        (more_columns columns (take width numbers.old.numbers)) }
 {
     let size = to.size() as usize;
-    let chunk = chunk_of(size, size, size);
+    let chunk = chunk_of(size, numbers.size(), 1);
     let mut done = 0;
     while done < width {
         let some = chunk.min(width - done);
         let end = done + some;
         let side = numbers.take(buffer, some);
-        add_part(&mut sums[done * size..end * size], found, to, side, some);
+        let part = &mut folds[done * size..end * size];
+        extend_part::<F>(part, found, to, taken, kind, side, some);
         done = end;
     }
 }
 
-// Adds up so many rows of numbers.
-fn add_rows(
-    sums: &mut [u8],
+// Appends bytes, if they are wanted.
+fn append_if(out: &mut Filling, wanted: bool, bytes: &[u8])
+    requires { (if wanted then length bytes.now else 0) ≤ out.old.1 }
+    ensures written { out.new.0 ≡ out.old.0 ++ (if wanted then bytes.now else []) }
+    ensures left { out.new.1 + (if wanted then length bytes.now else 0) ≡ out.old.1 }
+{
+    if wanted {
+        out.push(bytes);
+    }
+}
+
+// Appends the folds of the columns of so many rows of numbers: behind each row, or behind the last one alone.
+fn fold_rows<F: RowFold>(
+    out: &mut Filling,
+    each: bool,
+    folds: &mut [u8],
     found: &mut [u8],
     to: Kind,
+    kind: Kind,
     numbers: &mut Elements<'_>,
     buffer: &mut [u8],
     rows: usize,
     width: usize,
 )
-    requires to { reductions.sum_kind (kind_of to) ≡ kind_of to }
-    requires sums { length sums.old ≡ width * size_of (kind_of to) }
+    requires to { kind_of to ≡ fold_kind F.reduction (kind_of kind) }
+    requires some { 0 < rows }
+    requires folds { length folds.old ≡ width * size_of (kind_of to) }
     requires found { length found.old ≡ 4096 }
     requires buffer { length buffer.old ≡ 4096 }
-    requires kind { numbers.old.kind ≡ kind_of to }
+    requires kind { numbers.old.kind ≡ kind_of kind }
+    requires values { All (λ z. IsValue (kind_of kind) z) numbers.old.numbers }
     requires enough { rows * width ≤ length numbers.old.numbers }
+    requires room { rows_kept each rows * (width * size_of (kind_of to)) ≤ out.old.1 }
     ensures left { numbers.new.numbers ≡ drop (rows * width) numbers.old.numbers }
     ensures kind { numbers.new.kind ≡ numbers.old.kind }
-    ensures sums { sums.new ≡ number_bytes (kind_of to)
-        (row_sums width rows (replicate width (pos 0)) numbers.old.numbers) }
+    ensures room { out.new.1 + rows_kept each rows * (width * size_of (kind_of to)) ≡ out.old.1 }
+    ensures written { out.new.0 ≡ out.old.0 ++ fold_bytes F.reduction (kind_of to)
+        (row_columns each width rows (replicate width []) numbers.old.numbers) }
 {
-    sums.fill(0);
-    let mut rest = rows;
-    while rest > 0 {
-        add_row(sums, found, to, numbers, buffer, width);
-        rest -= 1;
+    let mut taken = 0;
+    while taken < rows {
+        extend_row::<F>(folds, found, to, taken, kind, numbers, buffer, width);
+        append_if(out, each, folds);
+        taken += 1;
     }
+    append_if(out, !each, folds);
 }
 
-// Appends the sums of so many tables of numbers, each of so many rows.
-fn add_tables(
+// Appends the same of so many tables of numbers, each of so many rows.
+fn fold_tables<F: RowFold>(
     out: &mut Filling,
-    sums: &mut [u8],
+    each: bool,
+    folds: &mut [u8],
     to: Kind,
+    kind: Kind,
     numbers: &mut Elements<'_>,
     tables: usize,
     rows: usize,
     width: usize,
 )
-    requires to { reductions.sum_kind (kind_of to) ≡ kind_of to }
-    requires sums { length sums.old ≡ width * size_of (kind_of to) }
-    requires kind { numbers.old.kind ≡ kind_of to }
+    requires to { kind_of to ≡ fold_kind F.reduction (kind_of kind) }
+    requires some { 0 < rows }
+    requires folds { length folds.old ≡ width * size_of (kind_of to) }
+    requires kind { numbers.old.kind ≡ kind_of kind }
+    requires values { All (λ z. IsValue (kind_of kind) z) numbers.old.numbers }
     requires enough { length numbers.old.numbers ≡ tables * (rows * width) }
-    requires room { tables * (width * size_of (kind_of to)) ≡ out.old.1 }
+    requires room { tables * (rows_kept each rows * (width * size_of (kind_of to))) ≡ out.old.1 }
     ensures left { out.new.1 ≡ 0 }
-    ensures written { out.new.0 ≡ out.old.0 ++ number_bytes (kind_of to)
-        (table_sums width rows tables numbers.old.numbers) }
+    ensures written { out.new.0 ≡ out.old.0 ++ fold_bytes F.reduction (kind_of to)
+        (table_columns each width rows tables numbers.old.numbers) }
 {
     let mut found = [0; CHUNK];
     let mut buffer = [0; CHUNK];
     let mut rest = tables;
     while rest > 0 {
-        add_rows(sums, &mut found, to, numbers, &mut buffer, rows, width);
-        out.push(sums);
+        fold_rows::<F>(
+            out,
+            each,
+            folds,
+            &mut found,
+            to,
+            kind,
+            numbers,
+            &mut buffer,
+            rows,
+            width,
+        );
         rest -= 1;
     }
 }
 
-/// Returns the block of the sums of so many tables of numbers, which are the elements of a view. Each has so many rows.
-pub(crate) fn sum_rows(
+/// Returns the block of the `count` folds of the columns of so many tables of numbers, which are the elements of a view: behind each
+/// of so many rows, or behind the last one alone.
+pub(crate) fn table_folds<F: RowFold>(
     alloc: Global,
+    each: bool,
     to: Kind,
     view: &View,
     elem: Elem,
@@ -210,23 +184,29 @@ pub(crate) fn sum_rows(
     tables: usize,
     rows: usize,
     width: usize,
+    count: usize,
 ) -> Result<RawBlock, AllocError>
-    requires to { kind_of to ≡ reductions.sum_kind elem.kind }
+    requires to { kind_of to ≡ fold_kind F.reduction elem.kind }
     requires held { AreHeld elem bytes.now view.now.places }
+    requires some { 0 < rows }
     requires enough { length view.now.places ≡ tables * (rows * width) }
-    requires few { tables * width ≤ 2 ^ 24 }
-    requires some { 0 < tables }
-    ensures { IfOk result (λ b. b ≡ number_bytes (kind_of to)
-        (table_sums width rows tables (numbers_at elem bytes.now view.now.places))) }
+    requires count { count ≡ tables * (rows_kept each rows * width) }
+    requires few { (count ≤ 2 ^ 24) × (width ≤ 2 ^ 24) }
+    ensures { IfOk result (λ b. b ≡ fold_bytes F.reduction (kind_of to)
+        (table_columns each width rows tables (numbers_at elem bytes.now view.now.places))) }
 {
+    let _len = bytes.len();
     let size = to.size() as usize;
-    let mut out = Filling::with_room(alloc, tables * (width * size))?;
-    let mut sums = RawBlock::zeros(alloc, width * size)?;
-    let mut numbers = Elements::new(view, bytes, elem, to);
-    add_tables(
+    let kind = elem.kind();
+    let mut out = Filling::with_room(alloc, count * size)?;
+    let mut folds = RawBlock::zeros(alloc, width * size)?;
+    let mut numbers = Elements::new(view, bytes, elem, kind);
+    fold_tables::<F>(
         &mut out,
-        sums.as_mut_slice(),
+        each,
+        folds.as_mut_slice(),
         to,
+        kind,
         &mut numbers,
         tables,
         rows,

@@ -3,7 +3,7 @@ use Rattle.nd_model.specs.Tuple.{elements_of}
 use Rattle.nd_model.specs.View.{One, Geo, contiguous, rearranged_view}
 use Rattle.nd_convert.specs.Converted.{converted_bytes}
 use Rattle.nd_convert.proofs.InOrder.{converted_block}
-use Rattle.nd_reduce.specs.Lanes.{to_end}
+use Rattle.nd_reduce.specs.LastAxis.{to_end}
 use Rattle.nd_reduce.proofs.accumulating.order_folds.Goals as goal
 
 pub returns : goal.returns

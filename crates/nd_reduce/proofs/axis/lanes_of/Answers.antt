@@ -1,7 +1,7 @@
 use Rattle.std.proofs.Common.{◌<◌, ℕ, length, Option, sym, ap, ◌∙◌, subst}
 use Rattle.nd_shape.proofs.Rearranged.{HasStrides, built_fault, built_view}
 use Rattle.nd_reduce.specs.Axes.{HasAxis}
-use Rattle.nd_reduce.specs.Lanes.{from_end, lanes_of, to_end}
+use Rattle.nd_reduce.specs.LastAxis.{from_end, lanes_of, to_end}
 use Rattle.nd_reduce.proofs.Moved.{moved_leads}
 use Rattle.nd_reduce.proofs.axis.lanes_of.Goals as goal
 

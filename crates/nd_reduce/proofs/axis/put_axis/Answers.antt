@@ -3,7 +3,7 @@ use Rattle.nd_model.specs.View.{item_size}
 use Rattle.nd_view.proofs.Made.{axes}
 use Rattle.nd_reduce.proofs.Moved.{length-to_end}
 use Rattle.nd_shape.proofs.Rearranged.{HasStrides, built_fault, built_view}
-use Rattle.nd_reduce.specs.Lanes.{put_last, to_end}
+use Rattle.nd_reduce.specs.LastAxis.{put_last, to_end}
 use Rattle.nd_reduce.proofs.Unmoved.{unmoved_leads}
 use Rattle.nd_reduce.proofs.axis.put_axis.Goals as goal
 

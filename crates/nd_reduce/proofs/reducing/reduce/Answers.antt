@@ -15,7 +15,8 @@ use Rattle.nd_model.specs.Fault.{Fault}
 use Rattle.std.specs.Prelude.{Result}
 use Rattle.nd_reduce.specs.Faults.{Makes}
 use Rattle.nd_reduce.specs.Axes.{HasAxis}
-use Rattle.nd_reduce.specs.Lanes.{fold_bytes, lanes_in, lanes_of}
+use Rattle.nd_runs.specs.Lanes.{fold_bytes, lanes_in}
+use Rattle.nd_reduce.specs.LastAxis.{lanes_of}
 use Rattle.nd_reduce.specs.Made.{array_operand}
 use Rattle.nd_reduce.proofs.Reduced.{folds_are, results_alike}
 use Rattle.nd_reduce.proofs.Results.{same_length, is_empty, is_above, is_made, made_shape}

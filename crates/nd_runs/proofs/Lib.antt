@@ -1,0 +1,9 @@
+pub mod Better
+pub mod Folded
+pub mod Joined
+pub mod Prefixed
+pub mod Sliced
+pub mod Stepped
+pub mod Taken
+pub mod Truths
+pub mod Wrapped

@@ -1,6 +1,9 @@
 //! Sets of places as words of 64 bits.
 ghost use Rattle.std.specs.Prelude.{◌≡◌, ℕ, ◌+◌, ◌-◌, ◌*◌, ◌^◌, ◌<◌, ◌≤◌, ◌||◌, ◌&&◌, not, nat_le, nat_lt, nat_eq, length, slice_index, OnOk};
 ghost use Rattle.std.specs.Int.{bit_at};
+ghost use Rattle.std.specs.List.{All, flat_map};
+ghost use Rattle.nd_model.specs.Session.{is_in};
+ghost use Rattle.nd_model.specs.Tuple.{count_up};
 ghost use Rattle.nd_marks.specs.Marks.{has_bit, in_word};
 
 use std::alloc::AllocError;
@@ -93,6 +96,54 @@ pub(crate) fn set_bits(
             stop,
             word_of(except, at as usize),
         );
+    }
+    Ok(())
+}
+
+/// Sets the bits of `size` places from one on, which are those of words that are there, but for those of the exceptions.
+fn set_run(words: &mut Vec<u64>, first: u64, size: u64, except: &[u64])
+    requires size { (0 < size) × (size ≤ 64) }
+    requires room { first + size ≤ length words.old.items * 64 }
+    ensures len { length words.new.items ≡ length words.old.items }
+    ensures bits { (p : ℕ) → has_bit words.new.items p ≡ (has_bit words.old.items p
+        || ((nat_le first p && nat_lt p (first + size)) && not (has_bit except.now p))) }
+{
+    let at = (first / 64) as usize;
+    let start = first % 64;
+    let stop = start + size;
+    set_word(words, at, start, stop.min(64), word_of(except, at));
+    if stop > 64 {
+        set_word(words, at + 1, 0, stop - 64, word_of(except, at + 1));
+    }
+}
+
+/// The greatest of the places, 0 where there are none.
+fn greatest(places: &[u64]) -> u64
+    ensures { All (λ p. p ≤ result) places.now }
+{
+    let mut greatest = 0_u64;
+    for place in places {
+        greatest = greatest.max(*place);
+    }
+    greatest
+}
+
+/// Sets the bits of `size` places from each of these on, but for those of the exceptions.
+pub(crate) fn set_runs(
+    words: &mut Vec<u64>,
+    places: &[u64],
+    size: u64,
+    except: &[u64],
+) -> Result<(), AllocError>
+    requires { (0 < size) × (size ≤ 64) }
+    ensures { OnOk result ((p : ℕ) → has_bit words.new.items p ≡ (has_bit words.old.items p
+        || (is_in p (flat_map (λ q. count_up q size) places.now)
+        && not (has_bit except.now p)))) }
+{
+    let end = u128::from(greatest(places)) + u128::from(size);
+    grow(words, ((end + 63) / 64) as u64)?;
+    for place in places {
+        set_run(words, *place, size, except);
     }
     Ok(())
 }

@@ -1,6 +1,7 @@
 // Sessions.
 
 ghost use Rattle.std.specs.Prelude.{◌≡◌, ◌+◌, ◌<◌, ◌≤◌, ◌^◌, [], IfOk, IsFalse, IsTrue, OnOk, ◌↔◌, option_map, string_bytes};
+ghost use Rattle.std.specs.List.{All, flat_map};
 ghost use Rattle.nd_model.specs.Session as model;
 ghost use Rattle.nd_model.specs.Running as running;
 ghost use Rattle.nd_model.specs.Footprint.{HasNone, replayed};
@@ -93,7 +94,8 @@ impl Session {
         let _ = &self.next;
     }
 
-    /// The bytes of a block, none where there is no such block. It notes nothing: `mark_used` and `mark_element` do.
+    /// The bytes of a block, none where there is no such block. It notes nothing: `mark_used`, `mark_element` and
+    /// `mark_used_elements` do.
     #[tactic(auto, unfolding(crate::specs::Live::live))]
     pub fn bytes(&self, base: Base) -> &[u8]
         ensures { result.now ≡ (live self.now).bytes (base_of base) }
@@ -178,6 +180,21 @@ impl Session {
         Ok(())
     }
 
+    /// Notes that the elements are read that begin at these places.
+    pub fn mark_used_elements(
+        &mut self,
+        base: Base,
+        elem: &ElemType,
+        places: &[u64],
+    ) -> Result<(), OutOfMemory>
+        requires ends { All (λ p. p + item_size (type_of elem.now) ≤ 2 ^ 64) places.now }
+        ensures { OnOk result (live self.new ≡ running.after (running.Use (base_of base)
+            (flat_map (element_places (type_of elem.now)) places.now)) (live self.old)) }
+    {
+        self.trace.note_elements(self.alloc, base, elem, places)?;
+        Ok(())
+    }
+
     /// Notes that all elements of an array are written.
     pub fn mark_written(&mut self, array: &Array) -> Result<(), OutOfMemory>
         ensures { OnOk result (live self.new
@@ -204,9 +221,24 @@ impl Session {
         Ok(())
     }
 
-    /// Writes to a block, which is copied first where a version shares it. It notes nothing: `mark_written` and
-    /// `mark_written_element` do. That the two calls are one store, where the bytes written are those at the places noted, is
-    /// `stores_by_parts`.
+    /// Notes that the elements are written that begin at these places.
+    pub fn mark_written_elements(
+        &mut self,
+        base: Base,
+        elem: &ElemType,
+        places: &[u64],
+    ) -> Result<(), OutOfMemory>
+        requires ends { All (λ p. p + item_size (type_of elem.now) ≤ 2 ^ 64) places.now }
+        ensures { OnOk result (live self.new ≡ having_written (base_of base)
+            (flat_map (element_places (type_of elem.now)) places.now) (live self.old)) }
+    {
+        self.trace.write_elements(self.alloc, base, elem, places)?;
+        Ok(())
+    }
+
+    /// Writes to a block, which is copied first where a version shares it. It notes nothing: `mark_written`,
+    /// `mark_written_element` and `mark_written_elements` do. That the two calls are one store, where the bytes written are those
+    /// at the places noted, is `stores_by_parts`.
     #[tactic(auto, unfolding(crate::specs::Live::live))]
     pub fn write<W: BlockWriter + Drop>(&mut self, base: Base, writer: W) -> Result<(), OutOfMemory>
         ensures { OnOk result (live self.new ≡ having_block (base_of base)

@@ -1,6 +1,7 @@
 // The marked places of several blocks.
 
 ghost use Rattle.std.specs.Prelude.{◌≡◌, ℕ, ◌+◌, ◌≤◌, ◌^◌, ◌||◌, ◌&&◌, not, false, IfOk, OnOk};
+ghost use Rattle.std.specs.List.{All, flat_map};
 ghost use Rattle.nd_marks.specs.Marks.{holds};
 ghost use Rattle.nd_model.specs.Session.{is_in};
 ghost use Rattle.nd_model.specs.Value as values;
@@ -93,6 +94,27 @@ pub(crate) fn mark_element(
 {
     let mut marks = take_marks(alloc, marked, base)?;
     marks.mark_element(elem, place, except)?;
+    marked.insert(base, marks)?;
+    Ok(())
+}
+
+/// Marks the bytes of the elements that begin at these places, but for those of the other set.
+pub(crate) fn mark_elements(
+    alloc: Global,
+    marked: &mut Footprint,
+    base: Base,
+    elem: &ElemType,
+    places: &[u64],
+    except: &Marks,
+) -> Result<(), OutOfMemory>
+    requires { All (λ p. p + item_size (type_of elem.now) ≤ 2 ^ 64) places.now }
+    ensures { OnOk result ((c : values.Base) (p : ℕ) → is_marked (marks_of marked.new.entries) c p
+        ≡ (is_marked (marks_of marked.old.entries) c p || (same_base (base_of base) c
+        && (is_in p (flat_map (element_places (type_of elem.now)) places.now)
+        && not (holds except.now p))))) }
+{
+    let mut marks = take_marks(alloc, marked, base)?;
+    marks.mark_elements(elem, places, except)?;
     marked.insert(base, marks)?;
     Ok(())
 }

@@ -1,7 +1,7 @@
 // What the running cell has read and done.
 
 ghost use Rattle.std.specs.Prelude.{◌≡◌, ◌+◌, ◌≤◌, ◌^◌, IfOk, IsTrue, OnOk, Some, bytes_eq, map, option_map, slice_get, string_bytes};
-ghost use Rattle.std.specs.List.{IsDistinct};
+ghost use Rattle.std.specs.List.{All, IsDistinct, flat_map};
 ghost use Rattle.std.specs.Rc.{rc_str_bytes};
 ghost use Rattle.nd_model.specs.Running as running;
 ghost use Rattle.nd_model.specs.Session as model;
@@ -16,7 +16,7 @@ ghost use Rattle.nd_trace.specs.Seen.{names_read, inputs_read, bases_read, is_us
 ghost use Rattle.nd_model.specs.Storing.{having_written};
 ghost use Rattle.nd_trace.specs.Seen.{having_event};
 
-use crate::marking::{Footprint, has_mark, mark_element, mark_view, marks_in};
+use crate::marking::{Footprint, has_mark, mark_element, mark_elements, mark_view, marks_in};
 use indexmap::{IndexMap, IndexSet};
 use nd_heap::{Array, Base, OutOfMemory, Value};
 use nd_marks::Marks;
@@ -331,6 +331,29 @@ impl Trace {
         Ok(())
     }
 
+    /// Notes that the elements are read that begin at these places.
+    pub fn note_elements(
+        &mut self,
+        alloc: Global,
+        base: Base,
+        elem: &ElemType,
+        places: &[u64],
+    ) -> Result<(), OutOfMemory>
+        requires { All (λ p. p + item_size (type_of elem.now) ≤ 2 ^ 64) places.now }
+        ensures after { OnOk result (trace_of self.new ≡ running.having_read
+            (running.is_byte (base_of base)
+            (flat_map (element_places (type_of elem.now)) places.now)) (trace_of self.old)) }
+        ensures label { self.new.label ≡ self.old.label }
+    {
+        if base.label == self.label {
+            return Ok(());
+        }
+        let nothing = Marks::new(alloc);
+        let written = marks_in(&self.written, base, &nothing);
+        mark_elements(alloc, &mut self.used, base, elem, places, written)?;
+        Ok(())
+    }
+
     /// Notes that all elements of an array are written.
     pub fn write_view(&mut self, alloc: Global, array: &Array) -> Result<(), OutOfMemory>
         ensures after { OnOk result (trace_of self.new
@@ -361,6 +384,25 @@ impl Trace {
         self.note_length(base)?;
         let nothing = Marks::new(alloc);
         mark_element(alloc, &mut self.written, base, elem, place, &nothing)?;
+        Ok(())
+    }
+
+    /// Notes that the elements are written that begin at these places.
+    pub fn write_elements(
+        &mut self,
+        alloc: Global,
+        base: Base,
+        elem: &ElemType,
+        places: &[u64],
+    ) -> Result<(), OutOfMemory>
+        requires { All (λ p. p + item_size (type_of elem.now) ≤ 2 ^ 64) places.now }
+        ensures after { OnOk result (trace_of self.new ≡ having_written (base_of base)
+            (flat_map (element_places (type_of elem.now)) places.now) (trace_of self.old)) }
+        ensures label { self.new.label ≡ self.old.label }
+    {
+        self.note_length(base)?;
+        let nothing = Marks::new(alloc);
+        mark_elements(alloc, &mut self.written, base, elem, places, &nothing)?;
         Ok(())
     }
 }

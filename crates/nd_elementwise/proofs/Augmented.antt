@@ -1,11 +1,12 @@
 -- What an operator in place comes to, step by step, and what is copied to its target.
-use Rattle.std.proofs.Common.{◌≡◌, ◌≢◌, ℕ, Bool, true, false, List, map, Option, Some, None, Result, Ok, Err, refl, sym, ap, ◌∙◌, subst}
+use Rattle.std.proofs.Common.{◌≡◌, ◌≢◌, ℕ, ℤ, Bool, true, false, List, map, Option, Some, None, Result, Ok, Err, refl, sym, ap, ◌∙◌, subst}
 use Rattle.std.specs.Prelude.{not}
 use Rattle.nd_model.specs.Augmenting.{casts_in_place, in_place_kind, results_in_place}
 use Rattle.nd_model.specs.Broadcast.{broadcasts_to}
-use Rattle.nd_model.specs.Content.{Num, content_at, all_writes}
+use Rattle.std.specs.List.{flat_map}
+use Rattle.nd_model.specs.Content.{Content, Num, content_at, all_writes}
 use Rattle.nd_model.specs.Conversion.{converts, converted_content}
-use Rattle.nd_model.specs.Element.{Kind, size_of}
+use Rattle.nd_model.specs.Element.{Kind, bytes_of, size_of}
 use Rattle.nd_model.specs.Elementwise.{little, element_sort, operand_sort, binary_kind, binary_number, has_power_below, number_beside}
 use Rattle.nd_model.specs.Fault.{Fault, Ufunc, KindCast, ReadOnly, ShapeMismatch, NegativePower}
 use Rattle.nd_model.specs.Operand.{Operand, Elements, shape_of}
@@ -19,8 +20,9 @@ use Rattle.nd_model.specs.View.{ElementType, One, Structure, Geo, item_size, con
 use Rattle.nd_model.proofs.Transposed.{ok_same}
 use Rattle.nd_model.proofs.Values.{wrap_in_range}
 use Rattle.nd_view.proofs.Tuples.{map-map}
-use Rattle.nd_assign.specs.Copies.{copied_content, with_copies}
-use Rattle.nd_elementwise.specs.Arguments.{contents_over, numbers_beside}
+use Rattle.nd_assign.specs.Copies.{with_copies}
+use Rattle.nd_elementwise.specs.Arguments.{numbers_beside}
+use Rattle.nd_elementwise.specs.InPlaceResults.{AreResults}
 use Rattle.nd_loops.specs.Results.{binary_result, result_bytes}
 use Rattle.nd_elementwise.proofs.Alone.{contents_at}
 use Rattle.nd_elementwise.proofs.Common.{limits_alike}
@@ -109,22 +111,26 @@ pub cast_converts : (j : Kind) (t : ElementType) → casts_in_place j t ≡ true
 cast_converts j (One e) casts = refl
 cast_converts j (Structure fields size) casts = absurd (cc)
 
--- ---- what is written
+-- ---- the results, and what is written
 
-module _ (k : Kind) (op : BinaryOp) (g : Geo) (x y : Operand) (block results : List ℕ)
-    (x_is : x ≡ Elements false g (contents_over g block))
+module _ (k : Kind) (op : BinaryOp) (g : Geo) (x y : Operand) (results : List ℕ)
     (is : results ≡ result_bytes (little k) (binary_result (Operator op) k) (numbers_beside x g.shape) (numbers_beside y g.shape)) where
-  copied : map (copied_content g.element (One (little k)) results) (contiguous (One (little k)) g.shape).places
-      ≡ map (λ t. converted_content g.element (Num (binary_number k (Operator op) x y t))) (indices g.shape)
-  copied =
-      let f : List ℕ → _ = binary_number k (Operator op) x y in
-      let bytes = is ∙ sym (by_items (little k) (binary_result (Operator op) k) (number_beside x) (number_beside y) (indices g.shape)) in
-      sym (map-map (converted_content g.element) (content_at (One (little k)) results) (contiguous (One (little k)) g.shape).places)
-      ∙ ap (map (converted_content g.element)) (contents_at (little k) g.shape f (λ t. wrap_in_range k (exact k (Operator op) (number_beside x t) (number_beside y t))) results bytes)
-      ∙ map-map (converted_content g.element) (λ t. Num (f t)) (indices g.shape)
+  abbrev number : List ℕ → ℤ
+  number t = binary_number k (Operator op) x y t
 
-  pub written : with_copies g.element (One (little k)) results g.places (contiguous (One (little k)) g.shape).places block
-      ≡ put (results_in_place k op g (contents_over g block) y) block
-  written =
-      ap (λ cs. put (all_writes g.element g.places cs) block) copied
-      ∙ ap (λ (o : Operand). put (all_writes g.element g.places (map (λ t. converted_content g.element (Num (binary_number k (Operator op) o y t))) (indices g.shape))) block) x_is
+  pub bytes_are : results ≡ flat_map (λ t. bytes_of (little k) (number t)) (indices g.shape)
+  bytes_are = is ∙ sym (by_items (little k) (binary_result (Operator op) k) (number_beside x) (number_beside y) (indices g.shape))
+
+  pub numbers_are : map (content_at (One (little k)) results) (contiguous (One (little k)) g.shape).places ≡ map (λ t. Num (number t)) (indices g.shape)
+  numbers_are = contents_at (little k) g.shape number (λ t. wrap_in_range k (exact k (Operator op) (number_beside x t) (number_beside y t))) results bytes_are
+
+-- they are converted
+pub written : (k : Kind) (op : BinaryOp) (g v : Geo) (cs : List Content) (y : Operand) (block results : List ℕ) → AreResults k op g cs y v results
+    → with_copies g.element v.element results g.places v.places block ≡ put (results_in_place k op g cs y) block
+written k op g v cs y block results are =
+    let number : List ℕ → ℤ = binary_number k (Operator op) (Elements false g cs) y in
+    ap (λ t. with_copies g.element t results g.places v.places block) (ap (λ (w : Geo). w.element) are.view)
+    ∙ ap (λ cs. put (all_writes g.element g.places cs) block)
+    (sym (map-map (converted_content g.element) (content_at (One (little k)) results) v.places)
+    ∙ ap (map (converted_content g.element)) are.numbers
+    ∙ map-map (converted_content g.element) (λ t. Num (number t)) (indices g.shape))

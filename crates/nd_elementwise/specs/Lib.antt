@@ -9,3 +9,4 @@ pub mod Prepared
 pub mod KeptLength
 pub mod WaysDirect
 pub mod WaysInPlace
+pub mod InPlaceResults

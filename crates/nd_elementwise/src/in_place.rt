@@ -6,10 +6,11 @@ ghost use Rattle.nd_assign.specs.Prepared.{written_by};
 ghost use Rattle.nd_syntax.specs.Syntax.{binary_op};
 ghost use Rattle.nd_types.specs.Kinds.{kind_of};
 ghost use Rattle.nd_types.specs.Types.{type_of};
-ghost use Rattle.nd_elementwise.specs.Arguments.{LiesInBlock, argument_of};
+ghost use Rattle.nd_elementwise.specs.Arguments.{LiesInBlock, argument_of, contents_over};
 ghost use Rattle.nd_elementwise.specs.Faults.{Makes};
 ghost use Rattle.nd_elementwise.specs.Prepared.{IsRightSide, right_operand, with_results};
 ghost use Rattle.nd_elementwise.specs.Prepared.{written_in_place};
+ghost use Rattle.nd_elementwise.specs.InPlaceResults.{AreResults};
 
 use crate::argument::{Argument, argument_sort, binary_kind, element_sort, shape_of};
 use crate::direct::{Direct, prepare_directly};
@@ -129,6 +130,32 @@ pub fn in_place_kind(
     Ok(kind)
 }
 
+/// Returns the results of `target op= right`, whose target has this block, as a new array in the kind of the operation, and its block. They
+/// are what is written in place, once it is converted to the target's type.
+pub fn results_in_place(
+    alloc: Global,
+    op: BinaryOp,
+    kind: Kind,
+    target: &View,
+    block: &[u8],
+    right: RightSide<'_>,
+) -> Result<(View, RawBlock), AllocError>
+    requires target { LiesIn (length block.now) target.now }
+    requires right { IsRightSide (length block.now) right }
+    requires kind { augmenting.in_place_kind (binary_op op) target.now
+        (right_operand right block.now) ≡ Ok (kind_of kind) }
+    ensures { IfOk result (λ r. AreResults (kind_of kind) (binary_op op) target.now
+        (contents_over target.now block.now) (right_operand right.entry block.now) r.0 r.1) }
+{
+    let (shape, count) = (target.shape(), target.count());
+    let left = stretch(alloc, Argument::Elements(target, block), shape)?;
+    let right = stretch(alloc, argument_beside(right, block), shape)?;
+    let ufunc = BinaryUfunc::Operator(op);
+    let results = binary_results(alloc, ufunc, kind, &left, &right, count)?;
+    let view = View::contiguous(alloc, ElemType::One(Elem::little(kind)), shape)?;
+    Ok((view, results))
+}
+
 // Finds all results before any is written.
 fn find_all<'v>(
     alloc: Global,
@@ -145,13 +172,10 @@ fn find_all<'v>(
     ensures { IfOk result (λ a. written_by a block.now
         ≡ with_results (kind_of kind) (binary_op op) target.now right.entry block.now) }
 {
-    let (shape, count) = (target.shape(), target.count());
-    let left = stretch(alloc, Argument::Elements(target, block), shape)?;
-    let right = stretch(alloc, argument_beside(right, block), shape)?;
-    let ufunc = BinaryUfunc::Operator(op);
-    let results = binary_results(alloc, ufunc, kind, &left, &right, count)?;
-    let view = View::contiguous(alloc, ElemType::One(Elem::little(kind)), shape)?;
-    Ok(Assignment::of_block(target, view, results, block.len()))
+    // Says how many elements there are.
+    let _count = target.count();
+    let found = results_in_place(alloc, op, kind, target, block, right)?;
+    Ok(Assignment::of_block(target, found.0, found.1, block.len()))
 }
 
 /// Makes the results of `target op= right` ready for blocks with as many bytes as this one, which is the target's. All numbers are read

@@ -16,5 +16,7 @@ mod stretched;
 
 pub use argument::Argument;
 pub use fault::MapFault;
-pub use in_place::{InPlace, RightSide, argument_beside, in_place_kind, prepare_in_place};
+pub use in_place::{
+    InPlace, RightSide, argument_beside, in_place_kind, prepare_in_place, results_in_place,
+};
 pub use map::{map1, map2};

@@ -55,3 +55,11 @@ alike_led shape ks many sizes strides axis axes before own after f owns same lon
     is ∙ (λ i. sums_of (were i) (all i)) ∙ summed_all f (λ m. w (number_at shape ks m)) (indices many)
     ∙ map_same (λ m. f m +ℤ w (number_at shape ks m)) (λ m. f m +ℤ way_by (Spread axes shape ks) (drop axis sizes) (drop axis strides) m)
     (λ m. ap (λ z. f m +ℤ z) (sym (by_own axes shape ks (drop axis sizes) (drop axis strides) m))) (indices many)
+
+-- the ways of an array of the common shape are those of its numbers one by one
+pub alike_ways : (shape ks many sizes : List ℕ) (strides : List ℤ) (axes : ℕ) → shape ≡ many → length ks ≡ elements_of shape
+    → map (way_by (Spread axes shape ks) sizes strides) (indices many) ≡ map (λ k. way_to (unravelled (take axes sizes) k) (take axes strides)) ks
+alike_ways shape ks many sizes strides axes same long =
+    let w : ℕ → ℤ = λ k. way_to (unravelled (take axes sizes) k) (take axes strides) in
+    map_same (way_by (Spread axes shape ks) sizes strides) (λ m. w (number_at shape ks m)) (by_own axes shape ks sizes strides) (indices many)
+    ∙ ap (λ s. map (λ m. w (number_at shape ks m)) (indices s)) (sym same) ∙ sym (map-map w (number_at shape ks) (indices shape)) ∙ ap (map w) (numbers_read shape ks long)

@@ -1,5 +1,7 @@
 -- Items one by one.
-use Rattle.std.proofs.Common.{◌≡◌, ℕ, zero, suc, ◌+◌, ◌*◌, ◌<◌, ◌≤◌, Bool, true, false, cond, ℤ, List, [], ◌∷◌, map, length, get_or, Option, Some, None, refl, sym, ap, subst, ◌∙◌, arith}
+use Rattle.std.proofs.Common.{◌≡◌, ℕ, zero, suc, ◌+◌, ◌*◌, ◌^◌, ◌<◌, ◌≤◌, Bool, true, false, cond, ℤ, List, [], ◌∷◌, map, length, get_or, Option, Some, None, refl, sym, ap, subst, ◌∙◌, arith}
+use Rattle.std.specs.List.{All}
+use Rattle.std.proofs.lemmas.List.Elements.{All-nil, All-cons}
 use Rattle.nd_model.specs.Element.{Element}
 use Rattle.nd_model.specs.Content.{content_at, number_in}
 use Rattle.nd_model.specs.View.{ElementType, One}
@@ -7,7 +9,8 @@ use Rattle.nd_model.specs.Advanced.{IndexItem, Basic, Numbers, Mask, kind_item, 
 use Rattle.nd_model.specs.Fault.{IndexFault, OutOfBounds}
 use Rattle.nd_element.specs.Elements.{numbers_at}
 use Rattle.nd_view.proofs.Tuples.{map-map}
-use Rattle.nd_model.specs.Selecting.{At, Slice, Ellipsis, NewAxis, is_within}
+use Rattle.nd_model.specs.Selecting.{At, Slice, Ellipsis, NewAxis, counted_from, is_within}
+use Rattle.nd_model.proofs.Selected.{counted_below}
 use Rattle.nd_types.specs.Kinds.{kind_of}
 use Rattle.nd_types.specs.declared.kind.Kind as code
 use Rattle.nd_types.specs.declared.kind.Kind.TheVariants as kinds
@@ -35,7 +38,7 @@ next_none None b e = (refl, e)
 next_none (Some f) b e = absurd cc
 
 -- how many are true does not depend on where they are counted from
-count_any : (m n : ℕ) (bs : List Bool) → length (true_numbers m bs) ≡ length (true_numbers n bs)
+pub count_any : (m n : ℕ) (bs : List Bool) → length (true_numbers m bs) ≡ length (true_numbers n bs)
 count_any m n [] = refl
 count_any m n (true ∷ bs) = ap suc (count_any (m + 1) (n + 1) bs)
 count_any m n (false ∷ bs) = count_any (m + 1) (n + 1) bs
@@ -99,3 +102,24 @@ pub inside_first : (sizes : List ℕ) (missing axis size : ℕ) (i : IndexItem) 
 inside_first sizes missing axis size i is all first size_is e =
     let none = next_none (bounds_fault sizes axis i) _ (sym (ap (first_fault (bounds_fault sizes) missing axis) first) ∙ e) in
     subst (λ n. IsInside n i) (sym size_is) (inside_item sizes axis i none.0)
+
+-- ---- the numbers of arrays are few
+
+pub within : (b : Bool) (f : IndexFault) → cond b None (Some f) ≡ None → b ≡ true
+within true f e = refl
+within false f e = absurd cc
+
+pub near_position : (size : ℕ) (z : ℤ) → size ≤ 2 ^ 32 → is_within size z ≡ true → counted_from size z ≤ 2 ^ 32
+near_position size z few e = omega (arith, few, counted_below size z e)
+
+pub near_positions : (axis size : ℕ) (zs : List ℤ) → size ≤ 2 ^ 32 → outside_fault axis size zs ≡ None → All (λ k. k ≤ 2 ^ 32) (map (counted_from size) zs)
+near_positions axis size [] few e = All-nil (λ k. k ≤ 2 ^ 32)
+near_positions axis size (z ∷ zs) few e =
+    let parts = next_none (number_fault axis size z) (outside_fault axis size zs) e in
+    All-cons (λ k. k ≤ 2 ^ 32) (counted_from size z) (map (counted_from size) zs) (near_position size z few (within (is_within size z) (OutOfBounds axis z size) parts.0))
+    (near_positions axis size zs few parts.1)
+
+pub near_trues : (from : ℕ) (bs : List Bool) → from + length bs ≤ 2 ^ 32 → All (λ k. k ≤ 2 ^ 32) (true_numbers from bs)
+near_trues from [] few = All-nil (λ k. k ≤ 2 ^ 32)
+near_trues from (true ∷ bs) few = All-cons (λ k. k ≤ 2 ^ 32) from (true_numbers (from + 1) bs) (omega (arith, few)) (near_trues (from + 1) bs (omega (arith, few)))
+near_trues from (false ∷ bs) few = near_trues (from + 1) bs (omega (arith, few))

@@ -1,11 +1,13 @@
 mod Alike
 mod Chosen
+mod Counted
 mod Items
 mod Numbers
 mod Placed
 mod Pushed
 mod Rows
 mod Sliced
+mod SoleArrays
 mod Spreads
 mod Sums
 mod Walks

@@ -1,5 +1,5 @@
 -- Ways one more, and what is made of them.
-use Rattle.std.proofs.Common.{◌≡◌, ℕ, zero, suc, ◌+◌, ◌^◌, ◌<◌, ◌≤◌, List, [], ◌∷◌, ◌++◌, map, length, take, drop, get_or, sym, ap, ◌∙◌, arith, append_assoc}
+use Rattle.std.proofs.Common.{◌≡◌, ℕ, zero, suc, ◌+◌, ◌^◌, ◌<◌, ◌≤◌, List, [], ◌∷◌, ◌++◌, map, length, take, drop, get_or, refl, sym, ap, ◌∙◌, arith, append_assoc}
 use Rattle.std.specs.Prelude.{ℤ, pos, ◌+ℤ◌, unsigned_abs}
 use Rattle.std.specs.List.{flat_map}
 use Rattle.nd_fancy.specs.Ways.{AreNear, sums_at, place_on, sums_of}
@@ -49,3 +49,14 @@ summed_again ways own k old new all y lt lt' is here so_far =
     let rest : List ℤ = sums_of (drop (k + 1) ways) (drop (k + 1) own) in
     ap (λ l. l ++ rest) is ∙ append_assoc old (y ∷ []) rest ∙ ap (λ w. old ++ w ∷ rest) here
     ∙ ap (λ l. old ++ l) (sym (λ i. sums_of (drop_one ways k (pos 0) lt i) (drop_one own k (pos 0) lt' i))) ∙ so_far
+
+alone : (f : ℤ → ℕ) (ways : List ℤ) → length ways ≡ 1 → map f ways ≡ f (get_or ways 0 (pos 0)) ∷ []
+alone f [] one = absurd (omega (arith, one))
+alone f (w ∷ []) one = refl
+alone f (w ∷ v ∷ ways) one = absurd (omega (arith, one))
+
+-- the place of a row of one element
+pub single : (ways : List ℤ) (s x : ℤ) (old new : List ℕ) (y : ℕ) → length ways ≡ 1 → new ≡ old ++ y ∷ [] → y ≡ place_on x → x ≡ s +ℤ get_or ways 0 (pos 0)
+    → new ≡ old ++ map (λ z. place_on (s +ℤ z)) ways
+single ways s x old new y one is here at =
+    is ∙ ap (λ k. old ++ k ∷ []) (here ∙ ap place_on at) ∙ ap (λ l. old ++ l) (sym (alone (λ z. place_on (s +ℤ z)) ways one))

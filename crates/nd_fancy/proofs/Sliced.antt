@@ -1,7 +1,8 @@
 -- The view that slices leave.
-use Rattle.std.proofs.Common.{◌≡◌, ℕ, zero, suc, ◌+◌, ◌-◌, ◌≤◌, List, [], ◌∷◌, ◌++◌, length, replicate, refl, sym, ap, ◌∙◌, arith}
+use Rattle.std.proofs.Common.{◌≡◌, ℕ, zero, suc, ◌+◌, ◌-◌, ◌≤◌, List, [], ◌∷◌, ◌++◌, length, replicate, refl, sym, ap, ◌∙◌, arith, length-append}
 use Rattle.std.specs.Prelude.{nat_le, slice_index, Ok}
-use Rattle.nd_model.specs.Advanced.{IndexItem, Basic, Numbers, Mask, axes_of, axes_in, slices_of, slices_in, Take, Whole, takes_of, takes_in}
+use Rattle.std.proofs.lemmas.List.{length-replicate}
+use Rattle.nd_model.specs.Advanced.{IndexItem, Basic, Numbers, Mask, axes_of, axes_in, ellipses_of, ellipses_in, slices_of, slices_in, Take, Whole, takes_of, takes_in}
 use Rattle.nd_model.specs.Selecting as selecting
 use Rattle.nd_model.specs.Selecting.{Item, At, Slice, Ellipsis, NewAxis, whole_slice, items_for, picks_of, picked_shape, picked_view, first_outside, select}
 use Rattle.nd_model.specs.Strides.{limit_fault}
@@ -74,3 +75,17 @@ all_taken missing axis sizes [] = whole_taken (length sizes - axis) ∙ omega ar
 all_taken missing axis sizes (i ∷ is) =
     taken_more (takes_of missing (slice_index sizes axis) i) (takes_in missing (axis + axes_of missing i) sizes is)
     ∙ omega (arith, one_taken missing (slice_index sizes axis) i, all_taken missing (axis + axes_of missing i) sizes is)
+
+-- ---- how many slices there are
+
+one_slices : (i : IndexItem) → length (slices_of i) ≡ axes_of 0 i + ellipses_of i
+one_slices (Basic (At z)) = refl
+one_slices (Basic (Slice a b c)) = refl
+one_slices (Basic Ellipsis) = refl
+one_slices (Basic NewAxis) = refl
+one_slices (Numbers shape zs) = refl
+one_slices (Mask shape bs) = omega (arith, length-replicate (length shape) whole_slice)
+
+pub slices_few : (is : List IndexItem) → length (slices_in is) ≡ axes_in 0 is + ellipses_in is
+slices_few [] = refl
+slices_few (i ∷ is) = omega (arith, length-append (slices_of i) (slices_in is), one_slices i, slices_few is)

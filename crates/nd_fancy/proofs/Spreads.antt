@@ -113,7 +113,7 @@ none_added u sizes many strides before f none were =
     stays z = omega (arith, ints)
 
 -- one take more of the code's
-takes_again : (takes : List code.Take) (k : ℕ) (x : code.Take) → k < length takes → x ≡ get_or takes k x → takes_of (take (k + 1) takes) ≡ takes_of (take k takes) ++ take_of x ∷ []
+pub takes_again : (takes : List code.Take) (k : ℕ) (x : code.Take) → k < length takes → x ≡ get_or takes k x → takes_of (take (k + 1) takes) ≡ takes_of (take k takes) ++ take_of x ∷ []
 takes_again takes k x lt is = takes_more takes k x lt ∙ ap (λ y. takes_of (take k takes) ++ take_of y ∷ []) (sym is)
 
 pub take_again : (takes : List code.Take) (k : ℕ) (x : code.Take) (sizes many : List ℕ) (strides before after : List ℤ) (axis : ℕ) → k < length takes → x ≡ get_or takes k x

@@ -9,7 +9,7 @@ use Rattle.nd_fancy.specs.declared.item.Item.TheVariants.{Basic, Numbers, Mask}
 
 -- the numbers of an array in C order
 abbrev pub numbers_of : IndexArray → List ℤ
-numbers_of a = numbers_at a.elem a.bytes.now a.view.now.places
+numbers_of a = numbers_at a.elem.now a.bytes.now a.view.now.places
 
 abbrev pub item_of : Item → model.IndexItem
 item_of (Basic i) = model.Basic (basic.item_of i)

@@ -3,12 +3,13 @@ use Rattle.std.specs.Prelude.{◌≡◌, ℕ, ◌+◌, List, [], ◌∷◌, map,
 use Rattle.nd_model.specs.Advanced as model
 use Rattle.nd_model.specs.Selecting as selecting
 use Rattle.nd_model.specs.Selecting.{is_within}
+use Rattle.nd_fancy.specs.IndexNumbers.{numbers_in}
 use Rattle.nd_fancy.specs.declared.spread.Spread as spread
 use Rattle.nd_fancy.specs.declared.takes.Take.{Take}
 use Rattle.nd_fancy.specs.declared.takes.Take.TheVariants.{Whole, Added, Spread}
 
 abbrev pub spread_of : spread.Spread → model.Take
-spread_of s = model.Spread s.axes s.shape.items s.numbers.items
+spread_of s = model.Spread s.axes s.shape.items (numbers_in s.numbers)
 
 abbrev pub take_of : Take → model.Take
 take_of Whole = model.Whole

@@ -41,8 +41,8 @@ fn add_ways(
     Ok(sums)
 }
 
-// Whether the elements of a shape stand at the tuples of another one by one.
-fn is_same_shape(shape: &[u64], many: &[u64]) -> bool
+/// Whether the elements of a shape stand at the tuples of another one by one.
+pub(crate) fn is_same_shape(shape: &[u64], many: &[u64]) -> bool
     ensures { IsTrue result ↔ (shape.now ≡ many.now) }
 {
     shape == many
@@ -66,14 +66,14 @@ fn add_array(
     alloc: Global,
     ways: &[i128],
     many: &[u64],
-    spread: &Spread,
+    spread: &Spread<'_, '_>,
     sizes: &[u64],
     strides: &[i128],
     axis: usize,
 ) -> Result<Vec<i128>, AllocError>
     requires each { length ways.now ≡ elements_of many.now }
     requires near { AreNear ways.now }
-    requires numbers { 0 < length spread.now.numbers.items }
+    requires numbers { 0 < spread.now.count }
     requires within { axis + spread.now.axes ≤ length sizes.now }
     requires axes { length strides.now ≡ length sizes.now }
     requires most { length sizes.now ≤ 32 }
@@ -89,12 +89,12 @@ fn add_array(
     let end = axis + spread.axes;
     let lengths = &sizes[axis..end];
     let steps = &strides[axis..end];
-    let own = ways_to(alloc, spread.numbers.as_slice(), lengths, steps)?;
+    let chosen = spread.numbers.list(alloc)?;
+    let own = ways_to(alloc, chosen.as_slice(), lengths, steps)?;
     if is_same_shape(spread.shape.as_slice(), many) {
         return add_each(alloc, ways, own.as_slice());
     }
-    let count = spread.numbers.len() as u64;
-    let numbers = own_numbers(alloc, spread.shape.as_slice(), count, many)?;
+    let numbers = own_numbers(alloc, spread.shape.as_slice(), spread.count, many)?;
     add_ways(alloc, ways, own.as_slice(), numbers.as_slice())
 }
 
@@ -103,7 +103,7 @@ fn add_take(
     alloc: Global,
     ways: Vec<i128>,
     many: &[u64],
-    take: &Take,
+    take: &Take<'_, '_>,
     sizes: &[u64],
     strides: &[i128],
     axis: usize,
@@ -125,7 +125,7 @@ fn add_take(
     let Take::Spread(spread) = take else {
         return Ok(ways);
     };
-    if spread.numbers.is_empty() {
+    if spread.count == 0 {
         return Ok(ways);
     }
     add_array(alloc, ways.as_slice(), many, spread, sizes, strides, axis)
@@ -134,7 +134,7 @@ fn add_take(
 /// Returns how far the arrays lead together at each tuple of their common shape, on axes with these lengths and strides.
 pub(crate) fn array_ways(
     alloc: Global,
-    takes: &[Take],
+    takes: &[Take<'_, '_>],
     sizes: &[u64],
     strides: &[i128],
     many: &[u64],

@@ -1,6 +1,6 @@
 //! Where the elements lie that an index chooses.
-ghost use Rattle.std.specs.Prelude.{◌≡◌, ℕ, ◌+◌, ◌^◌, ◌<◌, ◌≤◌, List, length, map, IfOk};
-ghost use Rattle.std.specs.List.{All};
+ghost use Rattle.std.specs.Prelude.{◌≡◌, ℕ, ◌+◌, ◌^◌, ◌<◌, ◌≤◌, List, pos, ◌+ℤ◌, unsigned_abs, length, map, IfOk};
+ghost use Rattle.std.specs.List.{All, flat_map};
 ghost use Rattle.nd_model.specs.Advanced as model;
 ghost use Rattle.nd_model.specs.Selected.{HoldsAll};
 ghost use Rattle.nd_model.specs.Selecting as selecting;
@@ -12,15 +12,20 @@ ghost use Rattle.nd_fancy.specs.Chosen.{view_at};
 ghost use Rattle.nd_fancy.specs.Faults.{Makes};
 ghost use Rattle.nd_fancy.specs.Items.{items_of};
 ghost use Rattle.nd_fancy.specs.Takes.{axes_taken, kept_in, takes_of};
+ghost use Rattle.nd_fancy.specs.Ways.{place_on, way_taken};
 
 use crate::arrays::array_ways;
+use crate::axes::Axes;
 use crate::common::common_shape;
+use crate::direct::direct_places;
 use crate::fault::{FancyFault, IndexFault};
 use crate::item::{Item, count_axes, count_ellipses};
 use crate::layout::{chosen_shape, kept_shape, kept_strides, place_for};
 use crate::limits::{bounds_fault, shape_fault};
 use crate::placing::places_on;
+use crate::row::KeptWays;
 use crate::slices::slices_of;
+use crate::sole::sole_array;
 use crate::takes::{Take, takes};
 use crate::ways::{count_of, ways_of};
 use nd_basic::select;
@@ -36,11 +41,50 @@ pub struct Places {
     pub places: Vec<u64>,
 }
 
+// The places for all tuples of the arrays' common shape, beside the ways of the kept axes. They are so many.
+fn array_places(
+    alloc: Global,
+    takes: &[Take<'_, '_>],
+    sizes: &[u64],
+    strides: &[i128],
+    many: &[u64],
+    count: usize,
+    kept: &KeptWays<'_>,
+) -> Result<Vec<u64>, AllocError>
+    requires taken { axes_taken (takes_of takes.now) ≤ length sizes.now }
+    requires axes { length strides.now ≡ length sizes.now }
+    requires most { length sizes.now ≤ 32 }
+    requires some { 0 < elements_of sizes.now }
+    requires few { elements_of sizes.now ≤ 2 ^ 24 }
+    requires range { All (λ s. unsigned_abs s < 2 ^ 64) strides.now }
+    requires many { length many.now ≤ 32 }
+    requires limits { All (λ n. n ≤ 2 ^ 32) many.now }
+    ensures { IfOk result (λ v. v.items ≡ flat_map (λ b. flat_map (λ a. map (λ z. place_on
+        (((pos kept.now.offset +ℤ b) +ℤ a) +ℤ z)) kept.now.behind.now)
+        (map (way_taken (takes_of takes.now) sizes.now strides.now) (indices many.now)))
+        kept.now.before.now) }
+{
+    if let Some(sole) = sole_array(takes, many) {
+        let end = sole.axis + sole.spread.axes;
+        let axes = Axes::new(&sizes[sole.axis..end], &strides[sole.axis..end]);
+        return direct_places(alloc, count, kept, &sole.spread.numbers, &axes);
+    }
+    let arrays = array_ways(alloc, takes, sizes, strides, many)?;
+    places_on(
+        alloc,
+        count,
+        kept.offset,
+        kept.before,
+        arrays.as_slice(),
+        kept.behind,
+    )
+}
+
 // The places for all tuples of a shape, which has so many axes of the arrays behind so many kept ones.
 fn all_places(
     alloc: Global,
     view: &View,
-    takes: &[Take],
+    takes: &[Take<'_, '_>],
     at: usize,
     axes: usize,
     shape: &[u64],
@@ -68,24 +112,23 @@ fn all_places(
     let kept = kept_strides(alloc, takes, strides)?;
     let end = at + axes;
     let before = ways_of(alloc, &shape[..at], &kept.as_slice()[..at])?;
-    let arrays = array_ways(alloc, takes, sizes, strides, &shape[at..end])?;
     let behind = ways_of(alloc, &shape[end..], &kept.as_slice()[at..])?;
-    places_on(
-        alloc,
-        count_of(shape) as usize,
-        view.offset(),
-        before.as_slice(),
-        arrays.as_slice(),
-        behind.as_slice(),
-    )
+    let ways = KeptWays {
+        offset: view.offset(),
+        before: before.as_slice(),
+        behind: behind.as_slice(),
+    };
+    let count = count_of(shape) as usize;
+    array_places(alloc, takes, sizes, strides, &shape[at..end], count, &ways)
 }
 
 // The view that the slices of items choose, where all other axes are kept whole.
 fn slice_view(alloc: Global, view: &View, items: &[Item<'_>]) -> Result<View, FancyFault>
+    requires { length (model.slices_in (items_of items.now)) ≤ 33 }
     ensures { Makes (λ g. g) result (selecting.select (model.slices_in (items_of items.now))
         view.now) }
 {
-    let slices = slices_of(alloc, items)?;
+    let slices = slices_of(items);
     let sliced = select(alloc, view, slices.as_slice())??;
     Ok(sliced)
 }
@@ -95,7 +138,7 @@ fn choose(
     alloc: Global,
     view: &View,
     items: &[Item<'_>],
-    takes: &[Take],
+    takes: &[Take<'_, '_>],
     many: &[u64],
 ) -> Result<Places, FancyFault>
     requires taken { axes_taken (takes_of takes.now) ≡ length view.now.shape }

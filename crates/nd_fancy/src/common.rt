@@ -1,27 +1,61 @@
 //! The common shape of the arrays of an index.
-ghost use Rattle.std.specs.Prelude.{◌≡◌, [], length, map, Some, IfOk};
+ghost use Rattle.std.specs.Prelude.{◌≡◌, ◌^◌, ◌≤◌, [], length, map, Some, IfOk, IsTrue};
 ghost use Rattle.std.specs.Option.{option_map};
 ghost use Rattle.nd_model.specs.Advanced as model;
+ghost use Rattle.nd_model.specs.Element.{size_of};
+ghost use Rattle.nd_fancy.specs.Counts.{true_count};
 ghost use Rattle.nd_fancy.specs.Items.{item_of, items_of, numbers_of};
+ghost use Rattle.nd_fancy.specs.Packed.{IsPacked};
 
 use crate::item::{IndexArray, Item};
-use crate::walk::NumberWalk;
+use crate::reading::{is_packed, read_at};
 use nd_shape::broadcast;
-use nd_view::Shape;
+use nd_types::{Elem, Kind};
+use nd_view::{Run, Shape};
 use smallvec::SmallVec;
 use std::alloc::{AllocError, Global};
 
-// How many elements of a mask are true.
-fn count_true(mask: &IndexArray<'_>) -> u64
-    ensures { result ≡ length (model.true_numbers 0 (map model.is_nonzero (numbers_of mask.now))) }
+// How many numbers of a run are not 0.
+#[inline(always)]
+fn count_each(elem: Elem, bytes: &[u8], run: &Run, packed: bool) -> u64
+    requires few { length run.now ≤ 2 ^ 24 }
+    requires packed { IsTrue packed → IsPacked (size_of elem.kind) (length bytes.now) run.now }
+    ensures { result ≡ true_count elem bytes.now run.now }
 {
-    let _count = mask.view.count();
     let mut count = 0;
-    let mut walk = NumberWalk::new(mask);
-    while let Some(number) = walk.next() {
+    for at in 0..run.count() {
+        let number = read_at(bytes, run, at, elem, packed);
         if number != 0 {
             count += 1;
         }
+    }
+    count
+}
+
+// The same, by a loop for Booleans side by side alone.
+fn count_in(elem: Elem, bytes: &[u8], run: &Run) -> u64
+    requires { length run.now ≤ 2 ^ 24 }
+    ensures { result ≡ true_count elem bytes.now run.now }
+{
+    let known = Elem::little(Kind::Bool);
+    if elem == known && is_packed(run, 1, bytes.len()) {
+        count_each(known, bytes, run, true)
+    } else {
+        count_each(elem, bytes, run, false)
+    }
+}
+
+/// How many elements of a mask are true.
+pub(crate) fn count_true(mask: &IndexArray<'_>) -> u64
+    ensures value { result ≡ length (model.true_numbers 0
+        (map model.is_nonzero (numbers_of mask.now))) }
+    ensures few { result ≤ 2 ^ 24 }
+{
+    let _count = mask.view.count();
+    let mut count = 0;
+    let mut runs = mask.view.runs();
+    while let Some(run) = runs.next() {
+        count += count_in(*mask.elem, mask.bytes, &run);
     }
     count
 }

@@ -15,7 +15,7 @@ use nd_view::View;
 #[derive(Clone, Copy)]
 pub struct IndexArray<'i> {
     pub(crate) view: &'i View,
-    pub(crate) elem: Elem,
+    pub(crate) elem: &'i Elem,
     pub(crate) bytes: &'i [u8],
 }
 
@@ -43,7 +43,6 @@ impl<'i> Item<'i> {
         if view.shape().is_empty() {
             return None;
         }
-        let elem = *elem;
         match elem.kind() {
             Kind::Bool => Some(Item::Mask(IndexArray { view, elem, bytes })),
             _ => Some(Item::Numbers(IndexArray { view, elem, bytes })),

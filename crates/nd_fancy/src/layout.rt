@@ -69,7 +69,7 @@ fn has_array(items: &[Item<'_>]) -> bool
 }
 
 // How many axes are kept before those of the first array.
-fn count_before(takes: &[Take]) -> usize
+fn count_before(takes: &[Take<'_, '_>]) -> usize
     ensures { result ≡ model.kept_before (takes_of takes.now) }
 {
     let mut count = 0;
@@ -83,7 +83,7 @@ fn count_before(takes: &[Take]) -> usize
 }
 
 /// How many kept axes stand before those of the arrays.
-pub(crate) fn place_for(items: &[Item<'_>], takes: &[Take]) -> usize
+pub(crate) fn place_for(items: &[Item<'_>], takes: &[Take<'_, '_>]) -> usize
     ensures { result ≡ model.place_for (items_of items.now) (takes_of takes.now) }
 {
     if has_array(behind_arrays(from_array(items))) {
@@ -94,7 +94,11 @@ pub(crate) fn place_for(items: &[Item<'_>], takes: &[Take]) -> usize
 }
 
 /// The lengths of the axes that are kept.
-pub(crate) fn kept_shape(alloc: Global, takes: &[Take], sizes: &[u64]) -> Result<Shape, AllocError>
+pub(crate) fn kept_shape(
+    alloc: Global,
+    takes: &[Take<'_, '_>],
+    sizes: &[u64],
+) -> Result<Shape, AllocError>
     requires { axes_taken (takes_of takes.now) ≤ 64 }
     ensures { IfOk result (λ v. v.items ≡ model.kept_shape (takes_of takes.now) sizes.now) }
 {
@@ -116,7 +120,7 @@ pub(crate) fn kept_shape(alloc: Global, takes: &[Take], sizes: &[u64]) -> Result
 /// The strides of the axes that are kept. An axis that the array has not has a stride of 0.
 pub(crate) fn kept_strides(
     alloc: Global,
-    takes: &[Take],
+    takes: &[Take<'_, '_>],
     strides: &[i128],
 ) -> Result<SmallVec<i128, 8>, AllocError>
     requires { axes_taken (takes_of takes.now) ≤ 64 }

@@ -2,14 +2,20 @@
 #![tactic(auto)]
 
 mod arrays;
+mod axes;
 mod choosing;
 mod common;
+mod direct;
 mod fault;
+mod index_numbers;
 mod item;
 mod layout;
 mod limits;
 mod placing;
+mod reading;
+mod row;
 mod slices;
+mod sole;
 mod spread;
 mod takes;
 mod walk;

@@ -1,18 +1,23 @@
 //! Which items are refused by the lengths of the axes that they stand for.
-ghost use Rattle.std.specs.Prelude.{◌≡◌, ◌+◌, ◌≤◌, ◌^◌, false, length, slice_index, true, MatchOption};
+ghost use Rattle.std.specs.Prelude.{◌≡◌, ◌+◌, ◌≤◌, ◌^◌, false, length, slice_index, true, IsTrue, MatchOption};
 ghost use Rattle.std.specs.List.{All};
 ghost use Rattle.std.specs.Option.{option_map};
 ghost use Rattle.nd_model.specs.Advanced as model;
 ghost use Rattle.nd_model.specs.Advanced.{axes_in, first_fault};
 ghost use Rattle.nd_basic.specs.Items as basic;
+ghost use Rattle.nd_model.specs.Element.{size_of};
 ghost use Rattle.nd_model.specs.Selecting.{counted_from, has_zero_step, is_within};
+ghost use Rattle.nd_element.specs.Elements.{numbers_at};
 ghost use Rattle.nd_fancy.specs.Faults.{fault_of};
 ghost use Rattle.nd_fancy.specs.Items.{item_of, items_of, numbers_of};
+ghost use Rattle.nd_fancy.specs.Packed.{IsPacked};
 
 use crate::fault::IndexFault;
 use crate::item::{IndexArray, Item, axes_of};
-use crate::walk::NumberWalk;
+use crate::reading::{is_packed, read_at};
 use nd_basic::Item as BasicItem;
+use nd_types::{Elem, Kind};
+use nd_view::Run;
 
 /// The length of an axis, 0 where there is no such axis.
 pub(crate) fn length_of(shape: &[u64], axis: usize) -> u64
@@ -37,14 +42,18 @@ fn position(length: u64, index: i128) -> Option<u64>
     Some(if index < 0 { index + end } else { index } as u64)
 }
 
-/// The position that a whole number inside the axis means.
+/// The position that a whole number means, where it is one of the first.
+#[inline(always)]
 pub(crate) fn inside_position(length: u64, index: i128) -> u64
-    requires length { length ≤ 2 ^ 32 }
-    requires inside { is_within length index ≡ true }
-    ensures value { result ≡ counted_from length index }
-    ensures limit { result ≤ 2 ^ 32 }
+    requires { counted_from length index ≤ 2 ^ 32 }
+    ensures { result ≡ counted_from length index }
 {
-    position(length, index).unwrap_or(0)
+    let place = if index < 0 {
+        index + i128::from(length)
+    } else {
+        index
+    };
+    place.unsigned_abs() as u64
 }
 
 // The first axis that a mask covers, from this one on, and where it has another length.
@@ -112,14 +121,52 @@ fn number_fault(axis: usize, size: u64, index: i128) -> Option<IndexFault>
     }
 }
 
+// The first number of a run that is outside its axis.
+#[inline(always)]
+fn outside_each(
+    axis: usize,
+    size: u64,
+    elem: Elem,
+    bytes: &[u8],
+    run: &Run,
+    packed: bool,
+) -> Option<IndexFault>
+    requires size { size ≤ 2 ^ 32 }
+    requires packed { IsTrue packed → IsPacked (size_of elem.kind) (length bytes.now) run.now }
+    ensures { option_map fault_of result ≡ model.outside_fault axis size
+        (numbers_at elem bytes.now run.now) }
+{
+    for at in 0..run.count() {
+        let number = read_at(bytes, run, at, elem, packed);
+        if let Some(fault) = number_fault(axis, size, number) {
+            return Some(fault);
+        }
+    }
+    None
+}
+
+// The same, by a loop for numbers of eight bytes side by side alone.
+fn outside_in(axis: usize, size: u64, elem: Elem, bytes: &[u8], run: &Run) -> Option<IndexFault>
+    requires { size ≤ 2 ^ 32 }
+    ensures { option_map fault_of result ≡ model.outside_fault axis size
+        (numbers_at elem bytes.now run.now) }
+{
+    let known = Elem::little(Kind::I64);
+    if elem == known && is_packed(run, 8, bytes.len()) {
+        outside_each(axis, size, known, bytes, run, true)
+    } else {
+        outside_each(axis, size, elem, bytes, run, false)
+    }
+}
+
 // The first number of an array that is outside its axis.
 fn outside_fault(axis: usize, size: u64, array: &IndexArray<'_>) -> Option<IndexFault>
     requires { size ≤ 2 ^ 32 }
     ensures { option_map fault_of result ≡ model.outside_fault axis size (numbers_of array.now) }
 {
-    let mut walk = NumberWalk::new(array);
-    while let Some(number) = walk.next() {
-        if let Some(fault) = number_fault(axis, size, number) {
+    let mut runs = array.view.runs();
+    while let Some(run) = runs.next() {
+        if let Some(fault) = outside_in(axis, size, *array.elem, array.bytes, &run) {
             return Some(fault);
         }
     }

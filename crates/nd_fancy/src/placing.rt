@@ -6,8 +6,9 @@ ghost use Rattle.nd_fancy.specs.Ways.{AreNear};
 
 use std::alloc::{AllocError, Global};
 
-// The place at the end of a way, 0 where there is none.
-fn place_on(way: i128) -> u64
+/// The place at the end of a way, 0 where there is none.
+#[inline(always)]
+pub(crate) fn place_on(way: i128) -> u64
     ensures { result ≡ model.place_on way }
 {
     if way < 0 || way > i128::from(u64::MAX) {
@@ -16,8 +17,13 @@ fn place_on(way: i128) -> u64
     way as u64
 }
 
-// Appends the places at the ends of ways that begin so far from the first byte.
-fn push_places(places: &mut Vec<u64>, start: i128, ways: &[i128]) -> Result<(), AllocError>
+/// Appends the places at the ends of ways that begin so far from the first byte.
+#[inline(never)]
+pub(crate) fn push_places(
+    places: &mut Vec<u64>,
+    start: i128,
+    ways: &[i128],
+) -> Result<(), AllocError>
     requires start { unsigned_abs start ≤ 2 ^ 116 }
     requires near { AreNear ways.now }
     ensures { OnOk result (places.new.items ≡ places.old.items

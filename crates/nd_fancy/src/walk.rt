@@ -54,7 +54,7 @@ impl<'i> NumberWalk<'i> {
         ensures { result ≡ numbers_of array.now }
     {
         NumberWalk {
-            elem: array.elem,
+            elem: *array.elem,
             bytes: array.bytes,
             run: None,
             done: 0,

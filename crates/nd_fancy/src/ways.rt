@@ -12,6 +12,7 @@ use smallvec::SmallVec;
 use std::alloc::{AllocError, Global};
 
 // So many strides.
+#[inline(always)]
 fn scale(by: u64, stride: i128) -> i128
     requires by { by ≤ 2 ^ 32 }
     requires stride { unsigned_abs stride < 2 ^ 64 }
@@ -84,7 +85,8 @@ pub(crate) fn count_of(shape: &[u64]) -> u64
 }
 
 // The way of the element of this number in C order.
-fn way_of(number: u64, count: u64, lengths: &[u64], strides: &[i128]) -> i128
+#[inline(never)]
+fn way_over(number: u64, count: u64, lengths: &[u64], strides: &[i128]) -> i128
     requires number { number ≤ 2 ^ 32 }
     requires count { count ≡ elements_of lengths.now }
     requires some { 0 < count }
@@ -93,9 +95,6 @@ fn way_of(number: u64, count: u64, lengths: &[u64], strides: &[i128]) -> i128
     requires range { All (λ s. unsigned_abs s < 2 ^ 64) strides.now }
     ensures { result ≡ way_to (unravelled lengths.now number) strides.now }
 {
-    if strides.len() == 1 {
-        return scale(number, strides[0]);
-    }
     let mut each = count;
     let mut left = number;
     let mut way = 0;
@@ -105,6 +104,24 @@ fn way_of(number: u64, count: u64, lengths: &[u64], strides: &[i128]) -> i128
         left %= each;
     }
     way
+}
+
+/// Returns the way of the element of this number in C order.
+#[inline(always)]
+pub(crate) fn way_of(number: u64, count: u64, lengths: &[u64], strides: &[i128]) -> i128
+    requires number { number ≤ 2 ^ 32 }
+    requires count { count ≡ elements_of lengths.now }
+    requires some { 0 < count }
+    requires axes { length strides.now ≡ length lengths.now }
+    requires most { length lengths.now ≤ 64 }
+    requires range { All (λ s. unsigned_abs s < 2 ^ 64) strides.now }
+    ensures { result ≡ way_to (unravelled lengths.now number) strides.now }
+{
+    if strides.len() == 1 {
+        scale(number, strides[0])
+    } else {
+        way_over(number, count, lengths, strides)
+    }
 }
 
 /// Returns the ways of the elements of these numbers in C order.

@@ -6,6 +6,7 @@ use Rattle.nd_model.specs.Broadcast.{own_tuple}
 use Rattle.nd_model.specs.Strides.{way_to}
 use Rattle.nd_model.specs.Tuple.{indices, number}
 use Rattle.nd_view.proofs.Indexed.{length-indices}
+use Rattle.nd_fancy.specs.IndexNumbers.{numbers_in}
 use Rattle.nd_fancy.specs.Takes.{spread_of}
 use Rattle.nd_fancy.specs.Ways.{sums_at, sums_of, way_by}
 use Rattle.nd_fancy.proofs.Alike.{alike_led}
@@ -24,18 +25,18 @@ pub add_each-requires-clause-near : goal.add_each-requires-clause-near
 add_each-requires-clause-near c =
     let axis = c.args.axis in let axes = c.args.spread.now.axes in let sizes = c.args.sizes.now in let strides = c.args.strides.now in
     let own = c.as_slice-then-is_same_shape.ensures.value ∙ c.in_ok-own.ensures
-    ∙ ap (map (λ k. way_to (unravelled (take (axis + axes - axis) (drop axis sizes)) k) (take (axis + axes - axis) (drop axis strides)))) c.as_slice.ensures.value in
-    (c.requires.near, led_near c.args.spread.now.numbers.items sizes strides c.as_slice-then-is_same_shape.result.now axis axes own c.args.spread.now.near c.requires.most c.requires.range)
+    ∙ ap (map (λ k. way_to (unravelled (take (axis + axes - axis) (drop axis sizes)) k) (take (axis + axes - axis) (drop axis strides)))) (c.as_slice.ensures.value ∙ c.in_ok-chosen.ensures) in
+    (c.requires.near, led_near (numbers_in c.args.spread.now.numbers) sizes strides c.as_slice-then-is_same_shape.result.now axis axes own c.args.spread.now.near c.requires.most c.requires.range)
 
 pub returns-then-is_same_shape : goal.returns-then-is_same_shape
 returns-then-is_same_shape c =
     let axis = c.args.axis in let axes = c.args.spread.now.axes in let many = c.args.many.now in let sizes = c.args.sizes.now in let strides = c.args.strides.now in
     let own = c.as_slice-then-is_same_shape.ensures.value ∙ c.in_ok-own.ensures
-    ∙ ap (map (λ k. way_to (unravelled (take (axis + axes - axis) (drop axis sizes)) k) (take (axis + axes - axis) (drop axis strides)))) c.as_slice.ensures.value in
+    ∙ ap (map (λ k. way_to (unravelled (take (axis + axes - axis) (drop axis sizes)) k) (take (axis + axes - axis) (drop axis strides)))) (c.as_slice.ensures.value ∙ c.in_ok-chosen.ensures) in
     let same = sym c.as_slice-2.ensures ∙ c.is_same_shape.ensures.0 c.if-is_same_shape.true in
     ok_then {X = Vec ℤ Global} (λ v. v.items ≡ sums_of c.args.ways.now c.as_slice-then-is_same_shape.result.now)
     (λ v. (f : List ℕ → ℤ) → c.args.ways.now ≡ map f (indices many) → v.items ≡ map (λ m. f m +ℤ way_by (spread_of c.args.spread.now) (drop axis sizes) (drop axis strides) m) (indices many)) c.add_each.result
-    (λ v is f were. alike_led c.args.spread.now.shape.items c.args.spread.now.numbers.items many sizes strides axis axes c.args.ways.now c.as_slice-then-is_same_shape.result.now v.items f own same c.args.spread.now.whole is were) c.add_each.ensures
+    (λ v is f were. alike_led c.args.spread.now.shape.items (numbers_in c.args.spread.now.numbers) many sizes strides axis axes c.args.ways.now c.as_slice-then-is_same_shape.result.now v.items f own same (sym c.args.spread.now.all ∙ c.args.spread.now.whole) is were) c.add_each.ensures
 
 pub add_ways-requires-clause-each : goal.add_ways-requires-clause-each
 add_ways-requires-clause-each c =
@@ -45,15 +46,15 @@ pub add_ways-requires-clause-near : goal.add_ways-requires-clause-near
 add_ways-requires-clause-near c =
     let axis = c.args.axis in let axes = c.args.spread.now.axes in let sizes = c.args.sizes.now in let strides = c.args.strides.now in
     let own = c.as_slice-4.ensures.value ∙ c.in_ok-own.ensures
-    ∙ ap (map (λ k. way_to (unravelled (take (axis + axes - axis) (drop axis sizes)) k) (take (axis + axes - axis) (drop axis strides)))) c.as_slice.ensures.value in
-    (c.requires.near, led_near c.args.spread.now.numbers.items sizes strides c.as_slice-4.result.now axis axes own c.args.spread.now.near c.requires.most c.requires.range)
+    ∙ ap (map (λ k. way_to (unravelled (take (axis + axes - axis) (drop axis sizes)) k) (take (axis + axes - axis) (drop axis strides)))) (c.as_slice.ensures.value ∙ c.in_ok-chosen.ensures) in
+    (c.requires.near, led_near (numbers_in c.args.spread.now.numbers) sizes strides c.as_slice-4.result.now axis axes own c.args.spread.now.near c.requires.most c.requires.range)
 
 pub returns : goal.returns
 returns c =
     let axis = c.args.axis in let axes = c.args.spread.now.axes in let many = c.args.many.now in let sizes = c.args.sizes.now in let strides = c.args.strides.now in
     let own = c.as_slice-4.ensures.value ∙ c.in_ok-own.ensures
-    ∙ ap (map (λ k. way_to (unravelled (take (axis + axes - axis) (drop axis sizes)) k) (take (axis + axes - axis) (drop axis strides)))) c.as_slice.ensures.value in
+    ∙ ap (map (λ k. way_to (unravelled (take (axis + axes - axis) (drop axis sizes)) k) (take (axis + axes - axis) (drop axis strides)))) (c.as_slice.ensures.value ∙ c.in_ok-chosen.ensures) in
     let numbers = c.as_slice-5.ensures.value ∙ c.in_ok-numbers.ensures ∙ ap (λ s. map (λ m. pos (number s (own_tuple s m))) (indices many)) c.as_slice-3.ensures in
     ok_then {X = Vec ℤ Global} (λ v. v.items ≡ sums_at c.as_slice-4.result.now c.args.ways.now c.as_slice-5.result.now)
     (λ v. (f : List ℕ → ℤ) → c.args.ways.now ≡ map f (indices many) → v.items ≡ map (λ m. f m +ℤ way_by (spread_of c.args.spread.now) (drop axis sizes) (drop axis strides) m) (indices many)) c.add_ways.result
-    (λ v is f were. array_led c.args.spread.now.shape.items c.args.spread.now.numbers.items many sizes strides axis axes c.args.ways.now c.as_slice-4.result.now c.as_slice-5.result.now v.items f own numbers is were) c.add_ways.ensures
+    (λ v is f were. array_led c.args.spread.now.shape.items (numbers_in c.args.spread.now.numbers) many sizes strides axis axes c.args.ways.now c.as_slice-4.result.now c.as_slice-5.result.now v.items f own numbers is were) c.add_ways.ensures

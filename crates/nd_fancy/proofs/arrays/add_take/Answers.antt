@@ -1,15 +1,15 @@
 use Rattle.std.proofs.Common.{◌≡◌, length, drop, ap, ◌∙◌, arith}
-use Rattle.std.proofs.lemmas.Bool.Decides.{nat_tests}
 use Rattle.nd_model.specs.Advanced.{Spread}
+use Rattle.nd_fancy.specs.IndexNumbers.{numbers_in}
 use Rattle.nd_fancy.specs.Takes.{take_of}
 use Rattle.nd_fancy.specs.Ways.{way_by}
 use Rattle.nd_fancy.proofs.Spreads.{no_items, none_added, none_by}
 use Rattle.nd_fancy.proofs.arrays.add_take.Goals as goal
 
-pub returns-then-is_empty : goal.returns-then-is_empty
-returns-then-is_empty c =
+pub returns-then-spread-eq0 : goal.returns-then-spread-eq0
+returns-then-spread-eq0 c =
     let sizes = drop c.args.axis c.args.sizes.now in let strides = drop c.args.axis c.args.strides.now in let s = c.in-Spread.spread in
-    let none : length s.numbers.items ≡ 0 = grind (arith, nat_tests, c.is_empty.ensures, c.if-is_empty.true) in
-    let empty = no_items s.numbers.items none in
+    let none : length (numbers_in s.numbers) ≡ 0 = omega (arith, s.all, c.if-spread-eq0.true) in
+    let empty = no_items (numbers_in s.numbers) none in
     λ f were. none_added (take_of c.args.take.now) sizes c.args.many.now strides c.args.ways.items f
     (λ m. ap (λ t. way_by (take_of t) sizes strides m) c.in-Spread.is ∙ ap (λ ks. way_by (Spread s.axes s.shape.items ks) sizes strides m) empty ∙ none_by s.axes s.shape.items sizes strides m) were

@@ -1,4 +1,4 @@
-use Rattle.std.proofs.Common.{◌≡◌, ◌+◌, ◌-◌, ◌<◌, ◌≤◌, ◌^◌, ℕ, Vec, Global, map, length, take, drop, get_or, pos, replicate, sym, ap, subst, ◌∙◌, arith, rules}
+use Rattle.std.proofs.Common.{◌≡◌, ◌+◌, ◌<◌, ◌≤◌, ◌^◌, ℕ, Vec, Global, map, length, take, drop, get_or, pos, replicate, sym, ap, subst, ◌∙◌, arith, rules}
 use Rattle.std.specs.List.{All, flat_map}
 use Rattle.std.specs.Prelude.{◌+ℤ◌}
 use Rattle.std.specs.Result.{IfOk}
@@ -12,11 +12,11 @@ use Rattle.nd_view.proofs.Limits.{limits_of}
 use Rattle.nd_view.proofs.Steps.{number-below, zeros}
 use Rattle.nd_view.proofs.Tuples.{no_tuples}
 use Rattle.nd_types.specs.Types.{type_of}
-use Rattle.nd_fancy.specs.Takes.{axes_taken, kept_in, takes_of}
+use Rattle.nd_fancy.specs.Takes.{kept_in, takes_of}
 use Rattle.nd_fancy.specs.Ways.{AreNear, kept_strides, place_on, ways, way_taken}
 use Rattle.nd_fancy.proofs.Placed.{limit, placed}
 use Rattle.nd_fancy.proofs.Pushed.{ok_then, rest_of}
-use Rattle.nd_fancy.proofs.Spreads.{arrays_near, code_few, cut, in_range, kept_range, length-kept_strides}
+use Rattle.nd_fancy.proofs.Spreads.{cut, in_range, kept_range, length-kept_strides}
 use Rattle.nd_fancy.proofs.Sums.{few_lengths, ways_near}
 use Rattle.nd_fancy.proofs.choosing.all_places.Goals as goal
 
@@ -44,8 +44,8 @@ ways_of-requires-clause-range c =
     All-take in_range c.args.at c.as_slice.result.now
     (subst (All in_range) (sym (kept_is c)) (kept_range (takes_of c.args.takes.now) c.held_strides-strides.result.now c.held_strides-strides.ensures.range))
 
-pub array_ways-requires-clause-some : goal.array_ways-requires-clause-some
-array_ways-requires-clause-some c =
+pub array_places-requires-clause-some : goal.array_places-requires-clause-some
+array_places-requires-clause-some c =
     let shape = c.args.shape.now in let sizes = c.args.view.now.shape in
     let first = zeros shape (some shape (sym c.contains.ensures.value ∙ c.if-contains.false)) in
     let below = number-below sizes _ (c.requires.tuples (replicate (length shape) 0) first.0) in
@@ -75,16 +75,11 @@ ways_of-requires-2-clause-range c =
     subst (All in_range) (sym (rest_of c.args.at c.as_slice-2.result.now)) (All-drop in_range c.args.at c.as_slice-2.result.now
     (subst (All in_range) (sym (c.as_slice-2.ensures ∙ c.in_ok-kept.ensures)) (kept_range (takes_of c.args.takes.now) c.held_strides-strides.result.now c.held_strides-strides.ensures.range)))
 
-pub count_of-requires-clause-some : goal.count_of-requires-clause-some
-count_of-requires-clause-some c = some c.args.shape.now (sym c.contains.ensures.value ∙ c.if-contains.false)
+pub count_of-count-requires-clause-some : goal.count_of-count-requires-clause-some
+count_of-count-requires-clause-some c = some c.args.shape.now (sym c.contains.ensures.value ∙ c.if-contains.false)
 
-taken_few : (c : goal.After-as_slice-5) → axes_taken (takes_of c.args.takes.now) ≤ 64
-taken_few c =
-    let limits = limits_of (item_size c.args.view.now.element) c.args.view.now.shape c.shape-sizes.ensures.limits in
-    omega (arith, c.requires.taken, limits.axes)
-
-pub places_on-requires : goal.places_on-requires
-places_on-requires c =
+pub invariant_of-ways : goal.invariant_of-ways
+invariant_of-ways c =
     let at = c.args.at in let end = c.args.at + c.args.axes in let shape = c.args.shape.now in let strides = c.held_strides-strides.result.now in let ts = takes_of c.args.takes.now in
     let limits = limits_of (item_size c.args.view.now.element) shape c.requires.limits in
     let few = few_lengths shape limits.lengths in
@@ -94,36 +89,31 @@ places_on-requires c =
     let before : length (take at shape) ≤ 64 = omega (arith, length-take at shape, limits.axes) in
     let behind : length (drop end shape) ≤ 64 = omega (arith, length-drop end shape, limits.axes) in
     record {
-      near = (
-        subst AreNear (sym (c.as_slice-3.ensures.value ∙ c.in_ok-before.ensures))
-            (ways_near (take at shape) (take at c.as_slice.result.now) before (All-take (λ n. n ≤ 2 ^ 32) at shape few) (All-take in_range at c.as_slice.result.now kept)),
-        subst AreNear (sym (c.as_slice-4.ensures.value ∙ c.in_ok-arrays.ensures))
-            (arrays_near ts c.shape-sizes.result.now strides (take (end - at) (drop at shape)) (code_few c.args.takes.now) (taken_few c) c.held_strides-strides.ensures.range),
-        subst AreNear (sym (c.as_slice-5.ensures.value ∙ c.in_ok-behind.ensures ∙ (λ i. ways (rest_of end shape i) (rest_of at c.as_slice-2.result.now i))))
-            (ways_near (drop end shape) (drop at c.as_slice-2.result.now) behind (All-drop (λ n. n ≤ 2 ^ 32) end shape few) (All-drop in_range at c.as_slice-2.result.now kept-2)),
-      );
+      first = subst AreNear (sym (c.as_slice-3.ensures.value ∙ c.in_ok-before.ensures))
+          (ways_near (take at shape) (take at c.as_slice.result.now) before (All-take (λ n. n ≤ 2 ^ 32) at shape few) (All-take in_range at c.as_slice.result.now kept));
+      last = subst AreNear (sym (c.as_slice-4.ensures.value ∙ c.in_ok-behind.ensures ∙ (λ i. ways (rest_of end shape i) (rest_of at c.as_slice-2.result.now i))))
+          (ways_near (drop end shape) (drop at c.as_slice-2.result.now) behind (All-drop (λ n. n ≤ 2 ^ 32) end shape few) (All-drop in_range at c.as_slice-2.result.now kept-2));
     }
 
-has_bytes : (c : goal.Joined-kept-4) → 0 < item_size c.args.view.now.element
+has_bytes : (c : goal.Joined-kept-3) → 0 < item_size c.args.view.now.element
 has_bytes c =
     let type : type_of c.elem.result.now ≡ c.args.view.now.element = c.elem.ensures in
     let some : 0 < item_size (type_of c.elem.result.now) = omega (arith, c.size-size.ensures.value, c.size-size.ensures.range.0) in
     subst (λ t. 0 < item_size t) type some
 
-value : (c : goal.Joined-kept-4)
-    → IfOk c.places_on.result (λ v. v.items ≡ map (λ t. place_of c.args.view.now (chosen_source (takes_of c.args.takes.now) c.args.view.now.shape c.args.at c.args.axes t)) (indices c.args.shape.now))
+value : (c : goal.Joined-kept-3)
+    → IfOk c.array_places.result (λ v. v.items ≡ map (λ t. place_of c.args.view.now (chosen_source (takes_of c.args.takes.now) c.args.view.now.shape c.args.at c.args.axes t)) (indices c.args.shape.now))
 value c =
     let h = c.args.view.now in let at = c.args.at in let axes = c.args.axes in let shape = c.args.shape.now in let strides = c.held_strides-strides.result.now in
     let ts = takes_of c.args.takes.now in
     let sizes : c.shape-sizes.result.now ≡ h.shape = c.shape-sizes.ensures.value in
     let before = c.as_slice-3.ensures.value ∙ c.in_ok-before.ensures ∙ ap (λ ks. ways (take at shape) (take at ks)) (c.as_slice.ensures ∙ c.in_ok-kept.ensures) in
-    let arrays = c.as_slice-4.ensures.value ∙ c.in_ok-arrays.ensures ∙ (λ i. map (way_taken ts (sizes i) strides) (indices (cut at axes shape i))) in
-    let behind = c.as_slice-5.ensures.value ∙ c.in_ok-behind.ensures ∙ (λ i. ways (rest_of (at + axes) shape i) (rest_of at c.as_slice-2.result.now i))
+    let behind = c.as_slice-4.ensures.value ∙ c.in_ok-behind.ensures ∙ (λ i. ways (rest_of (at + axes) shape i) (rest_of at c.as_slice-2.result.now i))
     ∙ ap (λ ks. ways (drop (at + axes) shape) (drop at ks)) (c.as_slice-2.ensures ∙ c.in_ok-kept.ensures) in
     let offset : c.offset.result ≡ get_or h.places 0 0 = c.offset.ensures in
-    let all = (λ i. flat_map (λ b. flat_map (λ a. map (λ z. place_on (((pos (offset i) +ℤ b) +ℤ a) +ℤ z)) (behind i)) (arrays i)) (before i))
+    let all = (λ i. flat_map (λ b. flat_map (λ a. map (λ z. place_on (((pos (offset i) +ℤ b) +ℤ a) +ℤ z)) (behind i)) (map (way_taken ts (sizes i) strides) (indices (cut at axes shape i)))) (before i))
     ∙ placed h strides (has_bytes c) c.held_strides-strides.ensures.held c.held_strides-strides.ensures.places ts c.requires.taken at axes shape c.requires.kept c.requires.at c.requires.tuples in
-    subst (λ l. IfOk c.places_on.result (λ v. v.items ≡ l)) all c.places_on.ensures
+    subst (λ l. IfOk c.array_places.result (λ v. v.items ≡ l)) all c.array_places.ensures
 
 pub returns-clause-value : goal.returns-clause-value
 returns-clause-value c = value c
@@ -134,4 +124,4 @@ returns-clause-limit c =
     let all = limit h c.held_strides-strides.result.now (has_bytes c) c.held_strides-strides.ensures.held c.held_strides-strides.ensures.places ts c.requires.taken
     c.args.at c.args.axes c.args.shape.now c.requires.kept c.requires.at c.requires.tuples in
     ok_then {X = Vec ℕ Global} (λ v. v.items ≡ map (λ t. place_of h (chosen_source ts h.shape c.args.at c.args.axes t)) (indices c.args.shape.now))
-    (λ v. All (λ p. p + item_size h.element ≤ 2 ^ 64) v.items) c.places_on.result (λ v is. subst (All (λ p. p + item_size h.element ≤ 2 ^ 64)) (sym is) all) (value c)
+    (λ v. All (λ p. p + item_size h.element ≤ 2 ^ 64) v.items) c.array_places.result (λ v is. subst (All (λ p. p + item_size h.element ≤ 2 ^ 64)) (sym is) all) (value c)

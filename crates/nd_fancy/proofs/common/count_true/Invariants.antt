@@ -1,13 +1,13 @@
-use Rattle.std.proofs.Common.{◌≡◌, ◌+◌, ◌≤◌, ◌^◌, map, length}
-use Rattle.nd_model.specs.Advanced as model
-use Rattle.nd_fancy.specs.Items.{numbers_of}
+use Rattle.std.proofs.Common.{◌≡◌, ◌+◌, ◌≤◌, ◌^◌, length}
+use Rattle.std.specs.List.{concat}
+use Rattle.nd_fancy.specs.Counts.{true_count}
 use Rattle.nd_fancy.proofs.common.count_true.Given as goal
 
-abbrev pub invariant-loop-number : goal.invariant-loop-number
-invariant-loop-number l = record {
-  total : l.count + length (model.true_numbers 0 (map model.is_nonzero l.walk)) ≡ length (model.true_numbers 0 (map model.is_nonzero (numbers_of l.mask)));
-  few : l.count + length l.walk ≤ 2 ^ 24;
+abbrev pub invariant-loop-run : goal.invariant-loop-run
+invariant-loop-run l = record {
+  total : l.count + true_count l.mask.elem.now l.mask.bytes.now (concat l.runs) ≡ true_count l.mask.elem.now l.mask.bytes.now l.mask.view.now.places;
+  few : l.count + length (concat l.runs) ≤ 2 ^ 24;
 }
 
-abbrev pub decreases-loop-number : goal.decreases-loop-number
-decreases-loop-number l = length l.walk
+abbrev pub decreases-loop-run : goal.decreases-loop-run
+decreases-loop-run l = length l.runs

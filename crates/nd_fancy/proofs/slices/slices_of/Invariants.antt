@@ -1,8 +1,7 @@
 use Rattle.std.proofs.Common.{◌≡◌, take}
 use Rattle.nd_model.specs.Advanced as model
-use Rattle.nd_basic.specs.Items as basic
 use Rattle.nd_fancy.specs.Items.{items_of}
 use Rattle.nd_fancy.proofs.slices.slices_of.Given as goal
 
 abbrev pub invariant-loop-item : goal.invariant-loop-item
-invariant-loop-item l = basic.items_of l.slices.items ≡ model.slices_in (items_of (take l.item-index l.items))
+invariant-loop-item l = l.slices ≡ model.slices_in (items_of (take l.item-index l.items))

@@ -10,7 +10,7 @@ loop-init c = sym (append-nil (takes_of c.args.takes.now.items))
 pub loop-preserved : goal.loop-preserved
 loop-preserved c =
     pushed_again take_of c.loop.takes.items c.push.new.self.items _ model.Whole (takes_of c.args.takes.now.items) c.loop.counter
-    c.in_ok-push.ensures.items refl c.loop.invariant
+    c.in_ok-push.ensures.ok refl c.loop.invariant
 
 pub returns : goal.returns
 returns c =

@@ -3,7 +3,7 @@ use Rattle.std.specs.Prelude.{◌+ℤ◌, unsigned_abs}
 use Rattle.nd_model.specs.Advanced.{unravelled}
 use Rattle.nd_model.specs.Strides.{way_to}
 use Rattle.nd_model.specs.Tuple.{elements_of}
-use Rattle.nd_fancy.proofs.ways.way_of.Given as goal
+use Rattle.nd_fancy.proofs.ways.way_over.Given as goal
 
 abbrev pub invariant-loop-axis : goal.invariant-loop-axis
 invariant-loop-axis l = record {

@@ -1,15 +1,12 @@
 use Rattle.std.proofs.Common.{◌≡◌, ◌+◌, ◌≤◌, ◌^◌, ◌++◌, map, length}
-use Rattle.std.specs.List.{All}
 use Rattle.nd_model.specs.Advanced as model
 use Rattle.nd_fancy.specs.Items.{numbers_of}
-use Rattle.nd_fancy.proofs.takes.true_numbers.Given as goal
+use Rattle.nd_fancy.proofs.index_numbers.true_numbers.Given as goal
 
 abbrev pub invariant-loop-number : goal.invariant-loop-number
 invariant-loop-number l = record {
   done : l.numbers.items ++ model.true_numbers l.at (map model.is_nonzero l.walk) ≡ model.true_numbers 0 (map model.is_nonzero (numbers_of l.mask));
   few : l.at + length l.walk ≤ 2 ^ 24;
-  fewer : length l.numbers.items ≤ l.at;
-  near : All (λ k. k ≤ 2 ^ 32) l.numbers.items;
 }
 
 abbrev pub decreases-loop-number : goal.decreases-loop-number

@@ -1,16 +1,13 @@
 use Rattle.std.proofs.Common.{◌≡◌, ◌≤◌, ◌^◌, ◌++◌, map, length}
-use Rattle.std.specs.Prelude.{None}
 use Rattle.std.specs.List.{All}
-use Rattle.nd_model.specs.Advanced as model
 use Rattle.nd_model.specs.Selecting.{counted_from}
 use Rattle.nd_fancy.specs.Items.{numbers_of}
-use Rattle.nd_fancy.proofs.takes.positions_of.Given as goal
+use Rattle.nd_fancy.proofs.index_numbers.positions_of.Given as goal
 
 abbrev pub invariant-loop-number : goal.invariant-loop-number
 invariant-loop-number l = record {
   done : l.positions.items ++ map (counted_from l.size) l.walk ≡ map (counted_from l.size) (numbers_of l.array);
-  inside : model.outside_fault 0 l.size l.walk ≡ None;
-  near : All (λ k. k ≤ 2 ^ 32) l.positions.items;
+  near : All (λ k. k ≤ 2 ^ 32) (map (counted_from l.size) l.walk);
 }
 
 abbrev pub decreases-loop-number : goal.decreases-loop-number

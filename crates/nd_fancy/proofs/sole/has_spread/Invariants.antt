@@ -1,0 +1,8 @@
+use Rattle.std.proofs.Common.{◌≡◌, drop}
+use Rattle.std.specs.List.{list_any}
+use Rattle.nd_fancy.specs.Direct.{is_spread}
+use Rattle.nd_fancy.specs.Takes.{takes_of}
+use Rattle.nd_fancy.proofs.sole.has_spread.Given as goal
+
+abbrev pub invariant-loop-take : goal.invariant-loop-take
+invariant-loop-take l = list_any is_spread (takes_of l.takes) ≡ list_any is_spread (takes_of (drop l.take-index l.takes))

@@ -1,0 +1,11 @@
+use Rattle.std.proofs.Common.{◌≡◌, false, take}
+use Rattle.std.specs.List.{list_any}
+use Rattle.nd_fancy.specs.Direct.{is_spread}
+use Rattle.nd_fancy.specs.Takes.{axes_taken, takes_of}
+use Rattle.nd_fancy.proofs.sole.sole_array.Given as goal
+
+abbrev pub invariant-loop-number : goal.invariant-loop-number
+invariant-loop-number l = record {
+  none : list_any is_spread (takes_of (take l.number l.takes)) ≡ false;
+  axes : l.axis ≡ axes_taken (takes_of (take l.number l.takes));
+}

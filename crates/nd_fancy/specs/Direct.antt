@@ -1,0 +1,25 @@
+-- The places that one array chooses alone.
+use Rattle.std.specs.Prelude.{ℕ, Bool, true, false, ℤ, ◌+ℤ◌, List, map}
+use Rattle.std.specs.List.{flat_map}
+use Rattle.nd_model.specs.Advanced as model
+use Rattle.nd_model.specs.Strides.{way_to}
+use Rattle.nd_fancy.specs.Ways.{place_on}
+use Rattle.nd_fancy.specs.declared.axes.Axes.{Axes}
+use Rattle.nd_fancy.specs.declared.row.Row.{Row}
+
+-- how far the element of a number leads
+abbrev pub way_on : Axes → ℕ → ℤ
+way_on axes k = way_to (model.unravelled axes.lengths.now k) axes.strides.now
+
+-- the places of a row that begins so much further
+abbrev pub row_places : Row → ℤ → List ℕ
+row_places row way = map (λ z. place_on ((row.start +ℤ way) +ℤ z)) row.ways.now
+
+-- those of the rows of these numbers
+abbrev pub chosen_places : Row → Axes → List ℕ → List ℕ
+chosen_places row axes ks = flat_map (λ k. row_places row (way_on axes k)) ks
+
+abbrev pub is_spread : model.Take → Bool
+is_spread model.Whole = false
+is_spread model.Added = false
+is_spread (model.Spread axes shape ks) = true

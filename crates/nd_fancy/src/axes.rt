@@ -1,0 +1,50 @@
+//! Axes of which tuples are chosen together.
+ghost use Rattle.std.specs.Prelude.{◌≡◌, ◌^◌, ◌<◌, ◌≤◌, length, unsigned_abs};
+ghost use Rattle.std.specs.List.{All};
+ghost use Rattle.nd_model.specs.Tuple.{elements_of};
+
+use crate::ways::{count_of, way_of};
+
+/// The lengths and strides of axes that have elements, and how many those are.
+#[derive(Clone, Copy)]
+pub(crate) struct Axes<'a> {
+    count: u64,
+    lengths: &'a [u64],
+    strides: &'a [i128],
+    ghost all: { count ≡ elements_of lengths.now },
+    ghost some: { 0 < count },
+    ghost each: { length strides.now ≡ length lengths.now },
+    ghost most: { length lengths.now ≤ 64 },
+    ghost range: { All (λ s. unsigned_abs s < 2 ^ 64) strides.now },
+}
+
+impl<'a> Axes<'a> {
+    ghost use Rattle.nd_fancy.specs.Direct.{way_on};
+
+    /// Takes axes with these lengths and strides together.
+    pub(crate) fn new(lengths: &'a [u64], strides: &'a [i128]) -> Axes<'a>
+        requires some { 0 < elements_of lengths.now }
+        requires few { elements_of lengths.now ≤ 2 ^ 24 }
+        requires axes { length strides.now ≡ length lengths.now }
+        requires most { length lengths.now ≤ 64 }
+        requires range { All (λ s. unsigned_abs s < 2 ^ 64) strides.now }
+        ensures lengths { result.lengths.now ≡ lengths.now }
+        ensures strides { result.strides.now ≡ strides.now }
+    {
+        Axes {
+            count: count_of(lengths),
+            lengths,
+            strides,
+        }
+    }
+
+    /// Returns the way of the element of this number in C order.
+    #[inline(always)]
+    pub(crate) fn way(&self, number: u64) -> i128
+        requires { number ≤ 2 ^ 32 }
+        ensures value { result ≡ way_on self.now number }
+        ensures near { unsigned_abs result ≤ 2 ^ 112 }
+    {
+        way_of(number, self.count, self.lengths, self.strides)
+    }
+}

@@ -1,0 +1,72 @@
+//! The numbers by which the arrays of an index choose tuples of axes.
+ghost use Rattle.std.specs.Prelude.{◌≡◌, ◌≤◌, ◌^◌, map, IfOk};
+ghost use Rattle.std.specs.List.{All};
+ghost use Rattle.nd_model.specs.Advanced as model;
+ghost use Rattle.nd_model.specs.Selecting.{counted_from};
+ghost use Rattle.nd_fancy.specs.Items.{numbers_of};
+ghost use Rattle.nd_fancy.specs.IndexNumbers.{numbers_in};
+
+use crate::item::IndexArray;
+use crate::limits::inside_position;
+use crate::walk::NumberWalk;
+use std::alloc::{AllocError, Global};
+
+/// The numbers in C order of tuples of axes. They are read only where they are used.
+#[derive(Clone, Copy)]
+pub(crate) enum IndexNumbers<'t, 'i> {
+    /// One position.
+    One(u64),
+    /// The positions that the numbers of an array mean on an axis of this length.
+    Positions(u64, &'t IndexArray<'i>),
+    /// The numbers of the true elements of a mask.
+    Trues(&'t IndexArray<'i>),
+}
+
+// The positions that the numbers of an array mean on an axis of this length.
+fn positions_of(alloc: Global, size: u64, array: &IndexArray<'_>) -> Result<Vec<u64>, AllocError>
+    requires near { All (λ k. k ≤ 2 ^ 32) (map (counted_from size) (numbers_of array.now)) }
+    ensures { IfOk result (λ v. v.items ≡ map (counted_from size) (numbers_of array.now)) }
+{
+    let mut positions = Vec::with_capacity(alloc, array.view.count())?;
+    let mut walk = NumberWalk::new(array);
+    while let Some(number) = walk.next() {
+        positions.push(inside_position(size, number))?;
+    }
+    Ok(positions)
+}
+
+// The numbers of the true elements of a mask.
+fn true_numbers(alloc: Global, mask: &IndexArray<'_>) -> Result<Vec<u64>, AllocError>
+    ensures { IfOk result (λ v. v.items ≡ model.true_numbers 0
+        (map model.is_nonzero (numbers_of mask.now))) }
+{
+    let _count = mask.view.count();
+    let mut numbers = Vec::new(alloc);
+    let mut at = 0;
+    let mut walk = NumberWalk::new(mask);
+    while let Some(number) = walk.next() {
+        if number != 0 {
+            numbers.push(at)?;
+        }
+        at += 1;
+    }
+    Ok(numbers)
+}
+
+impl IndexNumbers<'_, '_> {
+    /// Returns the numbers one after another.
+    pub(crate) fn list(&self, alloc: Global) -> Result<Vec<u64>, AllocError>
+        requires { All (λ k. k ≤ 2 ^ 32) (numbers_in self.now) }
+        ensures { IfOk result (λ v. v.items ≡ numbers_in self.now) }
+    {
+        match self {
+            IndexNumbers::One(number) => {
+                let mut numbers = Vec::with_capacity(alloc, 1)?;
+                numbers.push(*number)?;
+                Ok(numbers)
+            }
+            IndexNumbers::Positions(size, array) => positions_of(alloc, *size, array),
+            IndexNumbers::Trues(mask) => true_numbers(alloc, mask),
+        }
+    }
+}

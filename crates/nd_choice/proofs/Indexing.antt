@@ -1,28 +1,55 @@
--- Items of an index, one after the other.
-use Rattle.std.proofs.Common.{◌≡◌, ℤ, List, [], ◌∷◌, ◌++◌, map, Option, None, Some, Result, Ok, Err, refl, sym, ap, ◌∙◌, append_assoc}
-use Rattle.std.specs.Prelude.{is_some}
+-- Items of an index, one after the other, and what they choose.
+use Rattle.std.proofs.Common.{◌≡◌, ℕ, ℤ, Bool, true, false, List, [], ◌∷◌, ◌++◌, map, Option, None, Some, Result, Ok, Err, IsErrAnd, refl, sym, ap, subst, ◌∙◌, append_assoc}
+use Rattle.std.proofs.lemmas.Result.{err_from_is_err_and}
+use Rattle.std.specs.Prelude.{is_ok, is_some, ◌||◌}
+use Rattle.std.specs.List.{list_any}
+use Rattle.std.proofs.lemmas.List.Folds.{list_any-append}
+use Rattle.nd_model.specs.Advanced.{IndexItem, Basic, choose}
 use Rattle.nd_model.specs.Fault.{Fault}
 use Rattle.nd_model.specs.Refusing.{◌>>=◌}
-use Rattle.nd_model.specs.Selecting.{Item, Slice as SliceItem}
-use Rattle.nd_model.specs.Operand.{Operand}
-use Rattle.nd_model.specs.Index.{integer_of, bound_of, items_of}
+use Rattle.nd_model.specs.Selecting.{Item, At as AtItem, Slice as SliceItem}
+use Rattle.nd_model.specs.Operand.{Operand, Chosen, ACopy}
+use Rattle.nd_model.specs.Index.{array_of, integer_of, bound_of, items_of, basic_items, has_array, choose_basic, choose_items}
+use Rattle.nd_model.specs.Value.{Base}
+use Rattle.nd_model.specs.View.{Geo}
 use Rattle.nd_heap.specs.declared.value.Value.{Value}
+use Rattle.nd_heap.specs.declared.value.Value.TheVariants.{Number, Array, Row}
 use Rattle.nd_choice.specs.declared.indexes.ItemValue.{ItemValue}
-use Rattle.nd_choice.specs.declared.indexes.ItemValue.TheVariants.{At, Slice, Ellipsis, NewAxis}
+use Rattle.nd_choice.specs.declared.indexes.ItemValue.TheVariants.{At, Slice, Ellipsis, NewAxis, Empty}
+use Rattle.nd_choice.specs.declared.indexes.IndexValue.{IndexValue}
+use Rattle.nd_choice.specs.declared.indexes.IndexValue.TheVariants.{Field, Items}
+use Rattle.nd_choice.specs.declared.indexes.Chosen as chosen_value
+use Rattle.nd_choice.specs.Selections.{selected}
+use Rattle.nd_operation.specs.declared.stop.Stop.{Stop}
+use Rattle.nd_operation.specs.declared.stop.Stop.TheVariants.{Memory, Refused}
+use Rattle.nd_operation.specs.Ends.{Makes}
 use Rattle.nd_operation.specs.Contents.{unused_of}
 use Rattle.nd_operation.specs.New.{option_list}
-use Rattle.nd_choice.specs.Indexing.{forms_of, operands_in, bound_item, item_from}
+use Rattle.nd_choice.specs.Indexing.{forms_of, operands_in, operands_in_item, item_operands, items_operands, bound_operands, bound_item, item_from, items_from, as_basic, item_over, items_over, basic_choice, elements_by, choice_by, chosen_of, index_operands, operands_of}
+
+-- ---- items in turn
 
 -- items behind others
-abbrev pub behind : List Item → Result (List Item) Fault → Result (List Item) Fault
+abbrev pub behind : {A : Type 0} → List A → Result (List A) Fault → Result (List A) Fault
 behind front rest = do
   is ← rest
   Ok (front ++ is)
 
-abbrev bounds : Option Value → List Operand
-bounds o = map unused_of (option_list o)
+-- one more item
+pub one_more : {A : Type 0} (front : List A) (m : Result A Fault) (n : Result (List A) Fault) (i : A) → m ≡ Ok i → behind front (m >>= λ j. n >>= λ js. Ok (j ∷ js)) ≡ behind (front ++ i ∷ []) n
+one_more {A} front m n i is = ap (λ m. behind front (m >>= λ j. n >>= λ js. Ok (j ∷ js))) is ∙ go n
+  where
+    go : (n : Result (List A) Fault) → behind front (n >>= λ js. Ok (i ∷ js)) ≡ behind (front ++ i ∷ []) n
+    go (Ok js) = ap Ok (sym (append_assoc front (i ∷ []) js))
+    go (Err f) = refl
 
-bound_is : {B : Type 0} (o : Option Value) (os : List Operand) (k : Option ℤ × List Operand → Result B Fault) → (bound_of (is_some o) (bounds o ++ os) >>= k) ≡ (bound_item o >>= λ z. k (z, os))
+-- or it is refused
+pub one_refused : {A : Type 0} (front : List A) (m : Result A Fault) (n : Result (List A) Fault) (f : Fault) → m ≡ Err f → behind front (m >>= λ j. n >>= λ js. Ok (j ∷ js)) ≡ Err f
+one_refused front m n f is = ap (λ m. behind front (m >>= λ j. n >>= λ js. Ok (j ∷ js))) is
+
+-- ---- the operands of a slice
+
+bound_is : {B : Type 0} (o : Option Value) (os : List Operand) (k : Option ℤ × List Operand → Result B Fault) → (bound_of (is_some o) (bound_operands o ++ os) >>= k) ≡ (bound_item o >>= λ z. k (z, os))
 bound_is None os k = refl
 bound_is {B} (Some v) os k = go (integer_of (unused_of v))
   where
@@ -30,7 +57,7 @@ bound_is {B} (Some v) os k = go (integer_of (unused_of v))
     go (Ok z) = refl
     go (Err f) = refl
 
-spread : (a b c : Option Value) (rest : List Operand) → map unused_of (option_list a ++ option_list b ++ option_list c) ++ rest ≡ bounds a ++ (bounds b ++ (bounds c ++ rest))
+spread : (a b c : Option Value) (rest : List Operand) → map unused_of (option_list a ++ option_list b ++ option_list c) ++ rest ≡ bound_operands a ++ (bound_operands b ++ (bound_operands c ++ rest))
 spread None None None rest = refl
 spread None None (Some c) rest = refl
 spread None (Some b) None rest = refl
@@ -40,36 +67,120 @@ spread (Some a) None (Some c) rest = refl
 spread (Some a) (Some b) None rest = refl
 spread (Some a) (Some b) (Some c) rest = refl
 
-then_others : (p q r : Result (Option ℤ) Fault) (n : Result (List Item) Fault)
-    → (p >>= λ a. q >>= λ b. r >>= λ c. n >>= λ is. Ok (SliceItem a b c ∷ is)) ≡ ((p >>= λ a. q >>= λ b. r >>= λ c. Ok (SliceItem a b c)) >>= λ i. n >>= λ is. Ok (i ∷ is))
+then_others : (p q r : Result (Option ℤ) Fault) (n : Result (List IndexItem) Fault)
+    → (p >>= λ a. q >>= λ b. r >>= λ c. n >>= λ is. Ok (Basic (SliceItem a b c) ∷ is)) ≡ (as_basic (p >>= λ a. q >>= λ b. r >>= λ c. Ok (SliceItem a b c)) >>= λ i. n >>= λ is. Ok (i ∷ is))
 then_others (Ok a) (Ok b) (Ok c) n = refl
 then_others (Ok a) (Ok b) (Err f) n = refl
 then_others (Ok a) (Err f) r n = refl
 then_others (Err f) q r n = refl
 
-first_item : (x : ItemValue) (xs : List ItemValue) → items_of (forms_of (x ∷ xs)) (operands_in (x ∷ xs)) ≡ (item_from x >>= λ i. items_of (forms_of xs) (operands_in xs) >>= λ is. Ok (i ∷ is))
-first_item (At v) xs = refl
-first_item (Slice a b c) xs =
-    let rest : List Operand = operands_in xs in
-    let others : Result (List Item) Fault = items_of (forms_of xs) rest in
-    ap (items_of (forms_of (Slice a b c ∷ xs))) (spread a b c rest)
-    ∙ bound_is a (bounds b ++ (bounds c ++ rest)) (λ x. bound_of (is_some b) x.1 >>= λ y. bound_of (is_some c) y.1 >>= λ z. items_of (forms_of xs) z.1 >>= λ is. Ok (SliceItem x.0 y.0 z.0 ∷ is))
-    ∙ ap (λ k. bound_item a >>= k) (λ i x. bound_is b (bounds c ++ rest) (λ y. bound_of (is_some c) y.1 >>= λ z. items_of (forms_of xs) z.1 >>= λ is. Ok (SliceItem x y.0 z.0 ∷ is)) i)
-    ∙ ap (λ k. bound_item a >>= k) (λ i x. bound_item b >>= λ y. bound_is c rest (λ z. items_of (forms_of xs) z.1 >>= λ is. Ok (SliceItem x y z.0 ∷ is)) i)
-    ∙ then_others (bound_item a) (bound_item b) (bound_item c) others
-first_item Ellipsis xs = refl
-first_item NewAxis xs = refl
+-- ---- all items
 
--- one more item
-pub one_more : (front : List Item) (x : ItemValue) (xs : List ItemValue) (i : Item) → item_from x ≡ Ok i
-    → behind front (items_of (forms_of (x ∷ xs)) (operands_in (x ∷ xs))) ≡ behind (front ++ i ∷ []) (items_of (forms_of xs) (operands_in xs))
-one_more front x xs i is =
-    ap (behind front) (first_item x xs ∙ ap (λ m. m >>= λ j. items_of (forms_of xs) (operands_in xs) >>= λ js. Ok (j ∷ js)) is) ∙ go (items_of (forms_of xs) (operands_in xs))
+module _ (bytes : Base → List ℕ) where
+  first_item : (x : ItemValue) (xs : List ItemValue)
+      → items_of (forms_of (x ∷ xs)) (items_operands bytes (x ∷ xs)) ≡ (item_over bytes x >>= λ i. items_of (forms_of xs) (items_operands bytes xs) >>= λ is. Ok (i ∷ is))
+  first_item (At v) xs = refl
+  first_item (Slice a b c) xs =
+      let rest : List Operand = items_operands bytes xs in
+      let others : Result (List IndexItem) Fault = items_of (forms_of xs) rest in
+      ap (items_of (forms_of (Slice a b c ∷ xs))) (spread a b c rest)
+      ∙ bound_is a (bound_operands b ++ (bound_operands c ++ rest)) (λ x. bound_of (is_some b) x.1 >>= λ y. bound_of (is_some c) y.1 >>= λ z. items_of (forms_of xs) z.1 >>= λ is. Ok (Basic (SliceItem x.0 y.0 z.0) ∷ is))
+      ∙ ap (λ k. bound_item a >>= k) (λ i x. bound_is b (bound_operands c ++ rest) (λ y. bound_of (is_some c) y.1 >>= λ z. items_of (forms_of xs) z.1 >>= λ is. Ok (Basic (SliceItem x y.0 z.0) ∷ is)) i)
+      ∙ ap (λ k. bound_item a >>= k) (λ i x. bound_item b >>= λ y. bound_is c rest (λ z. items_of (forms_of xs) z.1 >>= λ is. Ok (Basic (SliceItem x y z.0) ∷ is)) i)
+      ∙ then_others (bound_item a) (bound_item b) (bound_item c) others
+  first_item Ellipsis xs = refl
+  first_item NewAxis xs = refl
+  first_item Empty xs = refl
+
+  pub items_are : (xs : List ItemValue) → items_of (forms_of xs) (items_operands bytes xs) ≡ items_over bytes xs
+  items_are [] = refl
+  items_are (x ∷ xs) = first_item x xs ∙ ap (λ n. item_over bytes x >>= λ i. n >>= λ is. Ok (i ∷ is)) (items_are xs)
+
+  -- ---- arrays among them
+
+  same_any : (front a b : List Operand) → has_array a ≡ has_array b → has_array (front ++ a) ≡ has_array (front ++ b)
+  same_any [] a b h = h
+  same_any (o ∷ front) a b h = ap (λ t. is_ok (array_of o) || t) (same_any front a b h)
+
+  pub same_arrays : (xs : List ItemValue) → has_array (items_operands bytes xs) ≡ has_array (operands_in xs)
+  same_arrays [] = refl
+  same_arrays (At (Number n) ∷ xs) = same_arrays xs
+  same_arrays (At (Array a) ∷ xs) = refl
+  same_arrays (At (Row a) ∷ xs) = same_arrays xs
+  same_arrays (Slice a b c ∷ xs) = same_any (operands_in_item (Slice a b c)) (items_operands bytes xs) (operands_in xs) (same_arrays xs)
+  same_arrays (Ellipsis ∷ xs) = same_arrays xs
+  same_arrays (NewAxis ∷ xs) = same_arrays xs
+  same_arrays (Empty ∷ xs) = same_arrays xs
+
+  -- ---- an index without arrays
+
+  as_number : (m : Result ℤ Fault) → (m >>= λ z. Ok (Basic (AtItem z))) ≡ as_basic (m >>= λ z. Ok (AtItem z))
+  as_number (Ok z) = refl
+  as_number (Err f) = refl
+
+  item_is_basic : (x : ItemValue) → has_array (operands_in_item x) ≡ false → item_over bytes x ≡ as_basic (item_from x)
+  item_is_basic (At (Number n)) h = as_number (integer_of (unused_of (Number n)))
+  item_is_basic (At (Array a)) h = absurd (cc)
+  item_is_basic (At (Row a)) h = refl
+  item_is_basic (Slice a b c) h = refl
+  item_is_basic Ellipsis h = refl
+  item_is_basic NewAxis h = refl
+  item_is_basic Empty h = refl
+
+  in_turn : (m : Result Item Fault) (n : Result (List Item) Fault) → (as_basic m >>= λ i. (n >>= λ is. Ok (map Basic is)) >>= λ is. Ok (i ∷ is)) ≡ ((m >>= λ i. n >>= λ is. Ok (i ∷ is)) >>= λ is. Ok (map Basic is))
+  in_turn (Ok i) (Ok is) = refl
+  in_turn (Ok i) (Err f) = refl
+  in_turn (Err f) n = refl
+
+  neither : (a b : Bool) → (a || b) ≡ false → (a ≡ false) × (b ≡ false)
+  neither true b h = absurd (cc)
+  neither false b h = (refl, h)
+
+  items_are_basic : (xs : List ItemValue) → has_array (operands_in xs) ≡ false → items_over bytes xs ≡ (items_from xs >>= λ is. Ok (map Basic is))
+  items_are_basic [] h = refl
+  items_are_basic (x ∷ xs) h =
+      let parts = neither (has_array (operands_in_item x)) (has_array (operands_in xs)) (sym (list_any-append (λ o. is_ok (array_of o)) (operands_in_item x) (operands_in xs)) ∙ h) in
+      ap (λ m. m >>= λ i. items_over bytes xs >>= λ is. Ok (i ∷ is)) (item_is_basic x parts.0)
+      ∙ ap (λ n. as_basic (item_from x) >>= λ i. n >>= λ is. Ok (i ∷ is)) (items_are_basic xs parts.1)
+      ∙ in_turn (item_from x) (items_from xs)
+
+  basic_again : (is : List Item) → basic_items (map Basic is) ≡ is
+  basic_again [] = refl
+  basic_again (i ∷ is) = ap (λ l. i ∷ l) (basic_again is)
+
+  pub chooses_basic : (xs : List ItemValue) (g : Geo) → has_array (operands_in xs) ≡ false → choice_by bytes xs g ≡ basic_choice xs g
+  chooses_basic xs g h =
+      ap (λ t. items_of (forms_of xs) (items_operands bytes xs) >>= λ is. choose_items t is g) (same_arrays xs ∙ h)
+      ∙ ap (λ m. m >>= λ is. choose_items false is g) (items_are xs ∙ items_are_basic xs h)
+      ∙ go (items_from xs)
+    where
+      go : (m : Result (List Item) Fault) → ((m >>= λ is. Ok (map Basic is)) >>= λ is. choose_items false is g) ≡ (m >>= λ is. choose_basic is g)
+      go (Ok is) = ap (λ is. choose_basic is g) (basic_again is)
+      go (Err f) = refl
+
+  -- ---- an index with arrays
+
+  pub chooses_elements : (xs : List ItemValue) (g : Geo) → has_array (operands_in xs) ≡ true → choice_by bytes xs g ≡ (elements_by bytes xs g >>= λ h. Ok (ACopy h))
+  chooses_elements xs g h =
+      ap (λ t. items_of (forms_of xs) (items_operands bytes xs) >>= λ is. choose_items t is g) (same_arrays xs ∙ h)
+      ∙ ap (λ m. m >>= λ is. choose_items true is g) (items_are xs)
+      ∙ go (items_over bytes xs)
+    where
+      go : (m : Result (List IndexItem) Fault) → (m >>= λ is. choose_items true is g) ≡ ((m >>= λ is. choose is g) >>= λ h. Ok (ACopy h))
+      go (Ok is) = refl
+      go (Err f) = refl
+
+-- nothing is copied of what is refused
+pub copy_stops : (bytes : Base → List ℕ) (xs : List ItemValue) (g : Geo) → has_array (operands_in xs) ≡ true → (e : Stop) (o : Result chosen_value.Chosen Stop) → IsErrAnd o (λ x. x ≡ e)
+    → Makes selected (Err e) (elements_by bytes xs g) → Makes chosen_of o (choice_by bytes xs g)
+copy_stops bytes xs g h e o is made =
+    let p : (x : Stop) × (o ≡ Err x) × (x ≡ e) = err_from_is_err_and o is in
+    subst (λ o. Makes chosen_of o (choice_by bytes xs g)) (sym (p.1 ∙ ap Err p.2)) (at e made)
   where
-    go : (n : Result (List Item) Fault) → behind front (n >>= λ js. Ok (i ∷ js)) ≡ behind (front ++ i ∷ []) n
-    go (Ok js) = ap Ok (sym (append_assoc front (i ∷ []) js))
-    go (Err f) = refl
+    at : (e : Stop) → Makes selected (Err e) (elements_by bytes xs g) → Makes chosen_of (Err e) (choice_by bytes xs g)
+    at Memory made = tt
+    at (Refused f) made = chooses_elements bytes xs g h ∙ ap (λ m. m >>= λ h. Ok (ACopy h)) made
 
--- or it is refused
-pub one_refused : (front : List Item) (x : ItemValue) (xs : List ItemValue) (f : Fault) → item_from x ≡ Err f → behind front (items_of (forms_of (x ∷ xs)) (operands_in (x ∷ xs))) ≡ Err f
-one_refused front x xs f is = ap (behind front) (first_item x xs ∙ ap (λ m. m >>= λ j. items_of (forms_of xs) (operands_in xs) >>= λ js. Ok (j ∷ js)) is)
+pub same_index_arrays : (bytes : Base → List ℕ) (x : IndexValue) → has_array (index_operands bytes x) ≡ has_array (operands_of x)
+same_index_arrays bytes (Field name) = refl
+same_index_arrays bytes (Items xs) = same_arrays bytes xs.items

@@ -1,3 +1,5 @@
+pub mod ChosenPlaces
 pub mod Indexing
+pub mod Selections
 pub mod Shapes
 pub mod Targets

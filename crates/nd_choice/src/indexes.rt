@@ -1,21 +1,29 @@
 //! Indexes into arrays and rows.
 
-ghost use Rattle.std.specs.Prelude.{◌≡◌, IfOk};
-ghost use Rattle.std.specs.List.{list_all};
+ghost use Rattle.std.specs.Prelude.{◌≡◌, ℕ, [], false, IfOk, is_ok};
+ghost use Rattle.std.specs.List.{list_all, list_any};
 ghost use Rattle.nd_model.specs.Index as model;
 ghost use Rattle.nd_model.specs.Selecting.{field_of};
+ghost use Rattle.nd_model.specs.Operand as operand;
 ghost use Rattle.nd_model.specs.Viewing as viewing;
 ghost use Rattle.nd_model.specs.Writing.{may_be_written};
 ghost use Rattle.nd_basic.specs.Items as basic;
+ghost use Rattle.nd_session.specs.Live.{live};
 ghost use Rattle.nd_operation.specs.Contents.{unused_of};
 ghost use Rattle.nd_operation.specs.Ends.{Makes, Says};
-ghost use Rattle.nd_choice.specs.Indexing.{IsOne, bound_item, chosen_of, forms_of};
-ghost use Rattle.nd_choice.specs.Indexing.{item_from, operands_in, operands_of, viewing_of};
+ghost use Rattle.nd_choice.specs.Indexing.{CopyLies, IsCopyOf, IsOne, basic_choice, bound_item, bound_operands, forms_of};
+ghost use Rattle.nd_choice.specs.Indexing.{choice_by, chosen_of, index_operands, item_from, operands_of};
+ghost use Rattle.nd_choice.specs.Indexing.{items_from, items_operands, operands_in, operands_in_item, viewing_of};
+ghost use Rattle.nd_choice.specs.Targets.{Lies};
+ghost use Rattle.nd_model.specs.Sound.{LiesIn};
 
+use crate::selection::Selection;
+use crate::selections::select_elements;
 use nd_basic::{Item, field, select};
 use nd_heap::Value;
-use nd_operation::{IndexFault, StmtError, StmtFault, Stop, not_an_array};
-use nd_types::{ElemType, Kind, Num};
+use nd_operation::{IndexFault, StmtFault, Stop, not_an_array};
+use nd_session::Session;
+use nd_types::{Kind, Num};
 use nd_view::View;
 use std::alloc::Global;
 
@@ -34,6 +42,8 @@ pub enum ItemValue {
     Ellipsis,
     /// An axis of length 1 that the array has not.
     NewAxis,
+    /// A list without a number, which is no index.
+    Empty,
 }
 
 /// What stands in the brackets of an index, its expressions evaluated: the name of a field, or items.
@@ -43,16 +53,19 @@ pub enum IndexValue<'n> {
     Items(Vec<ItemValue>),
 }
 
-/// What an index chooses of an array or a row. It sees the bytes of the array.
+/// What an index chooses of an array or a row.
 #[derive(Drop)]
 pub enum Chosen {
-    /// One element, as a view without axes: a number, or a row of an array of structures.
+    /// One element, as a view without axes: a number, or a row of an array of structures. It sees the bytes of the array.
     Element(View),
+    /// A view, which sees the bytes of the array.
     View(View),
+    /// Elements that are copied.
+    Copy(Selection),
 }
 
 /// The whole number that an item or a bound is.
-fn integer_of(value: &Value) -> Result<i128, StmtFault>
+pub(crate) fn integer_of(value: &Value) -> Result<i128, StmtFault>
     ensures { Says (λ z. z) result (model.integer_of (unused_of value.now)) }
 {
     match value {
@@ -77,24 +90,11 @@ fn bound_of(bound: &Option<Value>) -> Result<Option<i128>, StmtFault>
     }
 }
 
-/// Why an array makes no item of a basic index: one of numbers with axes would choose elements one by one, which is not built
-/// yet.
-fn array_fault(view: &View) -> StmtFault
-    ensures { Says basic.item_of (Err result)
-        (model.array_item view.now.element view.now.shape) }
-{
-    match view.elem() {
-        ElemType::One(_) if !view.shape().is_empty() => StmtFault::Stmt(StmtError::BadArgument),
-        _ => StmtFault::Index(IndexFault::NotAnIndex),
-    }
-}
-
-/// The item that an evaluated one is.
-fn item_of(item: &ItemValue) -> Result<Item, StmtFault>
+/// The item of a basic index that an evaluated one is. An array is none.
+pub(crate) fn item_of(item: &ItemValue) -> Result<Item, StmtFault>
     ensures { Says basic.item_of result (item_from item.now) }
 {
     match item {
-        ItemValue::At(Value::Array(array)) => Err(array_fault(&array.view)),
         ItemValue::At(value) => Ok(Item::At(integer_of(value)?)),
         ItemValue::Slice { start, stop, step } => {
             let start = bound_of(start)?;
@@ -104,13 +104,13 @@ fn item_of(item: &ItemValue) -> Result<Item, StmtFault>
         }
         ItemValue::Ellipsis => Ok(Item::Ellipsis),
         ItemValue::NewAxis => Ok(Item::NewAxis),
+        ItemValue::Empty => Err(StmtFault::Index(IndexFault::NotAnIndex)),
     }
 }
 
-/// The items that evaluated ones are, or the first refusal from the left.
+/// The items of a basic index that evaluated ones are, or the first refusal from the left.
 fn items_of(alloc: Global, items: &[ItemValue]) -> Result<Vec<Item>, Stop>
-    ensures { Makes (λ is. basic.items_of is.items) result
-        (model.items_of (forms_of items.now) (operands_in items.now)) }
+    ensures { Makes (λ is. basic.items_of is.items) result (items_from items.now) }
 {
     let mut found = Vec::with_capacity(alloc, items.len())?;
     for item in items {
@@ -142,6 +142,7 @@ fn are_numbers(items: &[Item]) -> bool
 fn choice_of(is_one: bool, view: View) -> Chosen
     ensures choice { chosen_of result ≡ model.choice_of is_one view.shape view }
     ensures one { IsOne view.writable result }
+    ensures lies { (len : ℕ) → CopyLies len result }
 {
     if is_one && view.shape().is_empty() {
         return Chosen::Element(view);
@@ -149,29 +150,89 @@ fn choice_of(is_one: bool, view: View) -> Chosen
     Chosen::View(view)
 }
 
-/// What items choose of an array.
-fn choose_items(alloc: Global, view: &View, items: &[Item]) -> Result<Chosen, Stop>
-    ensures choice { Makes chosen_of result
-        (model.choose_items (basic.items_of items.now) view.now) }
+/// What items of a basic index choose of an array.
+fn choose_basic(alloc: Global, view: &View, items: &[ItemValue]) -> Result<Chosen, Stop>
+    ensures choice { Makes chosen_of result (basic_choice items.now view.now) }
     ensures one { IfOk result (IsOne view.now.writable) }
+    ensures lies { IfOk result (λ c. (len : ℕ) → CopyLies len c) }
 {
-    match select(alloc, view, items)? {
-        Ok(found) => Ok(choice_of(are_numbers(items), found)),
+    let items = items_of(alloc, items)?;
+    match select(alloc, view, &items)? {
+        Ok(found) => Ok(choice_of(are_numbers(&items), found)),
         Err(fault) => Err(Stop::from(fault)),
     }
 }
 
+fn is_array(value: &Value) -> bool
+    ensures { result ≡ is_ok (model.array_of (unused_of value.now)) }
+{
+    matches!(value, Value::Array(_))
+}
+
+/// Whether the bound of a slice is an array, if it is written.
+fn is_array_bound(bound: &Option<Value>) -> bool
+    ensures { result ≡ model.has_array (bound_operands bound.now) }
+{
+    match bound {
+        Some(value) => is_array(value),
+        None => false,
+    }
+}
+
+/// Whether an item is an array, or a slice with an array as a bound.
+fn is_array_item(item: &ItemValue) -> bool
+    ensures { result ≡ model.has_array (operands_in_item item.now) }
+{
+    match item {
+        ItemValue::At(value) => is_array(value),
+        ItemValue::Slice { start, stop, step } => {
+            is_array_bound(start) || is_array_bound(stop) || is_array_bound(step)
+        }
+        ItemValue::Ellipsis | ItemValue::NewAxis | ItemValue::Empty => false,
+    }
+}
+
+/// Whether there is an array among the items.
+fn has_array(items: &[ItemValue]) -> bool
+    ensures { result ≡ model.has_array (operands_in items.now) }
+{
+    for item in items {
+        if is_array_item(item) {
+            return true;
+        }
+    }
+    false
+}
+
+/// What items choose of an array.
+fn choose_items(session: &Session, view: &View, items: &[ItemValue]) -> Result<Chosen, Stop>
+    ensures choice { Makes chosen_of result
+        (choice_by (live session.now).bytes items.now view.now) }
+    ensures one { IfOk result (IsOne view.now.writable) }
+    ensures copies { IfOk result (IsCopyOf (model.has_array (operands_in items.now))
+        (operand.Elements false view.now [])) }
+    ensures lies { IfOk result (λ c. (len : ℕ) → LiesIn len view.now → CopyLies len c) }
+{
+    if has_array(items) {
+        let selection = select_elements(session, view, items)?;
+        return Ok(Chosen::Copy(selection));
+    }
+    choose_basic(session.allocator(), view, items)
+}
+
 /// What evaluated items choose of a value.
-fn index_array(alloc: Global, target: &Value, items: &[ItemValue]) -> Result<Chosen, Stop>
+fn index_array(session: &Session, target: &Value, items: &[ItemValue]) -> Result<Chosen, Stop>
     ensures choice { Makes chosen_of result (model.index_array (forms_of items.now)
-        (unused_of target.now) (operands_in items.now)) }
+        (unused_of target.now) (items_operands (live session.now).bytes items.now)) }
     ensures one { IfOk result (IsOne (may_be_written (unused_of target.now))) }
+    ensures copies { IfOk result (IsCopyOf (model.has_array (operands_in items.now))
+        (unused_of target.now)) }
+    ensures lies { IfOk result (λ c. (len : ℕ) → Lies len (unused_of target.now) → CopyLies len c) }
 {
     let Value::Array(array) = target else {
         return Err(Stop::Refused(not_an_array()));
     };
-    let items = items_of(alloc, items)?;
-    choose_items(alloc, &array.view, &items)
+    choose_items(session, &array.view, items)
 }
 
 /// The field with this name: of an array a view, of a row a number.
@@ -179,6 +240,7 @@ fn choose_field(alloc: Global, view: &View, is_row: bool, name: &str) -> Result<
     ensures choice { Makes chosen_of result (model.choose_field is_row view.now name.now
         (field_of name.now view.now.element)) }
     ensures one { IfOk result (IsOne view.now.writable) }
+    ensures lies { IfOk result (λ c. (len : ℕ) → CopyLies len c) }
 {
     match field(alloc, view, name)? {
         Some(found) => Ok(choice_of(is_row, found)),
@@ -193,6 +255,7 @@ fn choose_field(alloc: Global, view: &View, is_row: bool, name: &str) -> Result<
 fn index_field(alloc: Global, target: &Value, name: &str) -> Result<Chosen, Stop>
     ensures choice { Makes chosen_of result (model.index_field name.now (unused_of target.now)) }
     ensures one { IfOk result (IsOne (may_be_written (unused_of target.now))) }
+    ensures lies { IfOk result (λ c. (len : ℕ) → CopyLies len c) }
 {
     match target {
         Value::Number(_) => Err(Stop::Refused(not_an_array())),
@@ -201,15 +264,29 @@ fn index_field(alloc: Global, target: &Value, name: &str) -> Result<Chosen, Stop
     }
 }
 
-/// Returns what an index chooses of a value, which uses no byte of it. It refuses in this order: `NotAnArray`; for a name
-/// `NoField`; for items `NotAnIndex` from left to right, and then what basic indexes refuse.
-pub fn choose(alloc: Global, target: &Value, index: &IndexValue<'_>) -> Result<Chosen, Stop>
-    ensures choice { Makes chosen_of result (viewing.choose_of_first (viewing_of index.now)
-        (unused_of target.now) (operands_of index.now)) }
-    ensures one { IfOk result (IsOne (may_be_written (unused_of target.now))) }
+/// Returns whether there is an array among the items of an index.
+pub fn is_advanced(index: &IndexValue<'_>) -> bool
+    ensures { result ≡ model.has_array (operands_of index.now) }
 {
     match index {
-        IndexValue::Field(name) => index_field(alloc, target, name),
-        IndexValue::Items(items) => index_array(alloc, target, items),
+        IndexValue::Field(_) => false,
+        IndexValue::Items(items) => has_array(items),
+    }
+}
+
+/// Returns what an index chooses of a value. Of the value it uses no byte, of the arrays among the items all elements, in the blocks of
+/// the session. It refuses in this order: `NotAnArray`; for a name `NoField`; for items `NotAnIndex` from left to right, and then what
+/// basic indexes refuse, or where there is an array those of advanced ones.
+pub fn choose(session: &Session, target: &Value, index: &IndexValue<'_>) -> Result<Chosen, Stop>
+    ensures choice { Makes chosen_of result (viewing.choose_of_first (viewing_of index.now)
+        (unused_of target.now) (index_operands (live session.now).bytes index.now)) }
+    ensures one { IfOk result (IsOne (may_be_written (unused_of target.now))) }
+    ensures copies { IfOk result (IsCopyOf (model.has_array (operands_of index.now))
+        (unused_of target.now)) }
+    ensures lies { IfOk result (λ c. (len : ℕ) → Lies len (unused_of target.now) → CopyLies len c) }
+{
+    match index {
+        IndexValue::Field(name) => index_field(session.allocator(), target, name),
+        IndexValue::Items(items) => index_array(session, target, items),
     }
 }

@@ -1,24 +1,90 @@
 //! Targets of plain assignments (NumPy user guide, "Assigning values to indexed arrays").
 
-ghost use Rattle.std.specs.Prelude.{◌≡◌, ℕ, true, IfOk};
+ghost use Rattle.std.specs.Prelude.{◌≡◌, ℕ, Bool, List, length, true, IfOk};
 ghost use Rattle.nd_model.specs.Assigning.{fits_into};
 ghost use Rattle.nd_model.specs.Creation.{operand_converts};
+ghost use Rattle.nd_model.specs.Index.{has_array};
+ghost use Rattle.nd_model.specs.Operand as operand;
 ghost use Rattle.nd_model.specs.Operand.{shape_of};
 ghost use Rattle.nd_model.specs.Sound.{LiesIn};
+ghost use Rattle.nd_model.specs.Strides.{IsInLimits};
+ghost use Rattle.nd_model.specs.Tuple.{elements_of};
+ghost use Rattle.nd_model.specs.Value.{Base};
+ghost use Rattle.nd_model.specs.View.{item_size};
 ghost use Rattle.nd_model.specs.Writing as writing;
+ghost use Rattle.nd_session.specs.Live.{live};
 ghost use Rattle.nd_operation.specs.Contents.{operand_of, unused_of};
 ghost use Rattle.nd_operation.specs.Ends.{Makes, Says};
-ghost use Rattle.nd_choice.specs.Indexing.{operands_of, view_in, viewing_of};
-ghost use Rattle.nd_choice.specs.Targets.{Lies, writes_to};
+ghost use Rattle.nd_choice.specs.Indexing.{IsCopyOf, index_operands, operands_of, view_in, viewing_of};
+ghost use Rattle.nd_choice.specs.Targets.{IsChosenOf, Lies, geo_in, is_lone_mask, is_mask, may_take, target_by};
 
-use crate::indexes::{Chosen, IndexValue, choose};
+use crate::indexes::{Chosen, IndexValue, ItemValue, choose};
+use crate::selection::Selection;
 use nd_assign::fits;
 use nd_heap::Value;
 use nd_operation::{
     Operand, StmtFault, Stop, UfuncFault, not_numbers, operand_converts, operand_misfit,
 };
+use nd_scatter::fits_places;
+use nd_session::Session;
+use nd_types::{ElemType, Kind};
 use nd_view::View;
-use std::alloc::Global;
+
+/// What an assignment writes to.
+#[derive(Drop)]
+pub enum Target {
+    /// The elements of a view.
+    View(View),
+    /// Elements that an index with arrays chose.
+    Elements(Selection),
+}
+
+impl Target {
+    /// What was chosen, to be written to.
+    fn new(chosen: Chosen) -> Target
+        ensures elements { geo_in result ≡ view_in chosen }
+        ensures copies { (is_advanced : Bool) → (o : operand.Operand)
+            → IsCopyOf is_advanced o chosen → IsChosenOf is_advanced o result }
+    {
+        match chosen {
+            Chosen::Element(view) => Target::View(view),
+            Chosen::View(view) => Target::View(view),
+            Chosen::Copy(selection) => Target::Elements(selection),
+        }
+    }
+
+    /// A fact, and no work: it has a place for each element, in the limits of arrays.
+    fn soundness(&self)
+        ensures count { length (geo_in self.now).places ≡ elements_of (geo_in self.now).shape }
+        ensures limits { IsInLimits (item_size (geo_in self.now).element) (geo_in self.now).shape }
+    {
+        if let Target::View(view) = self {
+            let _count = view.count();
+            let _shape = view.shape();
+        }
+    }
+
+    /// The view that it was chosen of, or is.
+    fn view(&self) -> &View
+        ensures element { result.now.element ≡ (geo_in self.now).element }
+        ensures writable { result.now.writable ≡ (geo_in self.now).writable }
+    {
+        match self {
+            Target::View(view) => view,
+            Target::Elements(selection) => &selection.view,
+        }
+    }
+
+    /// Whether a value of a shape may be assigned to it.
+    fn fits(&self, shape: &[u64]) -> bool
+        ensures { result ≡ fits_into shape.now (geo_in self.now).shape }
+    {
+        match self {
+            Target::View(view) => fits(view, shape),
+            Target::Elements(selection) => fits_places(&selection.places, shape),
+        }
+    }
+}
 
 /// The shape of an operand. A number has no axes.
 fn shape_of<'v>(operand: &Operand<'v>) -> &'v [u64]
@@ -30,60 +96,103 @@ fn shape_of<'v>(operand: &Operand<'v>) -> &'v [u64]
     }
 }
 
-/// What was chosen, as a view.
-fn view_of(chosen: Chosen) -> View
-    ensures { result ≡ view_in chosen }
-{
-    match chosen {
-        Chosen::Element(view) => view,
-        Chosen::View(view) => view,
-    }
-}
-
-/// Refuses a value that is not assigned to these elements.
-fn check_value(target: &View, value: &Operand<'_>) -> Result<(), StmtFault>
-    ensures refusal { Says (λ _. writes_to target.now (operand_of value.now)) result
-        (writing.assign_to target.now (operand_of value.now)) }
-    ensures types { IfOk result (λ _. operand_converts (operand_of value.now) target.now.element
-        ≡ true) }
+/// Refuses a value that is not assigned to these elements, which one mask of all axes may have chosen.
+fn check_value(target: &Target, value: &Operand<'_>, is_masked: bool) -> Result<(), StmtFault>
+    ensures refusal { Says (λ _. geo_in target.now) result
+        (may_take is_masked (geo_in target.now) (operand_of value.now)) }
+    ensures types { IfOk result (λ _. operand_converts (operand_of value.now)
+        (geo_in target.now).element ≡ true) }
     ensures shapes { IfOk result (λ _. fits_into (shape_of (operand_of value.now))
-        target.now.shape ≡ true) }
+        (geo_in target.now).shape ≡ true) }
 {
-    if !target.writable() {
+    let view = target.view();
+    if !view.writable() {
         return Err(StmtFault::Ufunc(UfuncFault::ReadOnly));
     }
-    if !operand_converts(value, target.elem()) {
+    if !operand_converts(value, view.elem()) {
         return Err(not_numbers());
     }
-    if let Some(number) = operand_misfit(value, target.elem()) {
+    if let Some(number) = operand_misfit(value, view.elem()) {
         return Err(StmtFault::Ufunc(UfuncFault::IntOutOfRange(number)));
     }
-    if !fits(target, shape_of(value)) {
+    let shape = shape_of(value);
+    if !target.fits(shape) || (is_masked && shape.len() > 1) {
         return Err(StmtFault::Ufunc(UfuncFault::ShapeMismatch));
     }
     Ok(())
 }
 
+/// Whether a view is a mask of so many axes.
+fn is_mask(view: &View, axes: usize) -> bool
+    ensures { result ≡ is_mask axes view.now }
+{
+    let ElemType::One(elem) = view.elem() else {
+        return false;
+    };
+    let Kind::Bool = elem.kind() else {
+        return false;
+    };
+    !view.shape().is_empty() && view.shape().len() == axes
+}
+
+/// Whether there is one item, a mask of so many axes.
+fn is_lone_mask(items: &[ItemValue], axes: usize) -> bool
+    ensures { result ≡ is_lone_mask axes items.now }
+{
+    if items.len() != 1 {
+        return false;
+    }
+    match items.first() {
+        Some(ItemValue::At(Value::Array(array))) => is_mask(&array.view, axes),
+        _ => false,
+    }
+}
+
+/// How many axes a value has.
+fn axes_of(value: &Value) -> usize
+    ensures { result ≡ length (shape_of (unused_of value.now)) }
+{
+    match value {
+        Value::Number(_) => 0,
+        Value::Array(array) | Value::Row(array) => array.view.shape().len(),
+    }
+}
+
+/// Whether an index is one mask of all axes of a value.
+fn is_full_mask(target: &Value, index: &IndexValue<'_>) -> bool
+    ensures { (bytes : Base → List ℕ) → result ≡ writing.is_full_mask
+        (length (shape_of (unused_of target.now)))
+        (writing.items_in (viewing_of index.now) (index_operands bytes index.now)) }
+{
+    match index {
+        IndexValue::Field(_) => false,
+        IndexValue::Items(items) => is_lone_mask(items, axes_of(target)),
+    }
+}
+
 /// Returns what `target[index] = value` writes to: the elements that the index chooses, which take the value. It refuses in this order:
-/// what the index refuses, `ReadOnly`, `NotNumbers`, `IntOutOfRange`, `ShapeMismatch`.
+/// what the index refuses, `ReadOnly`, `NotNumbers`, `IntOutOfRange`, `ShapeMismatch`. Through one mask of all axes no value with more
+/// than one axis is assigned.
 pub fn assignment_target(
-    alloc: Global,
+    session: &Session,
     value: &Operand<'_>,
     target: &Value,
     index: &IndexValue<'_>,
-) -> Result<View, Stop>
-    ensures writes { Makes (λ v. writes_to v (operand_of value.now)) result
-        (writing.assignment_writes (viewing_of index.now) (operand_of value.now)
-        (unused_of target.now) (operands_of index.now)) }
-    ensures lies { IfOk result (λ v. (len : ℕ) → Lies len (unused_of target.now) → LiesIn len v) }
-    ensures types { IfOk result (λ v. operand_converts (operand_of value.now) v.element ≡ true) }
-    ensures shapes { IfOk result (λ v. fits_into (shape_of (operand_of value.now)) v.shape
+) -> Result<Target, Stop>
+    ensures target { Makes geo_in result (target_by (viewing_of index.now)
+        (operand_of value.now) (unused_of target.now)
+        (index_operands (live session.now).bytes index.now)) }
+    ensures copies { IfOk result (IsChosenOf (has_array (operands_of index.now))
+        (unused_of target.now)) }
+    ensures lies { IfOk result (λ t. (len : ℕ) → Lies len (unused_of target.now)
+        → LiesIn len (geo_in t)) }
+    ensures types { IfOk result (λ t. operand_converts (operand_of value.now) (geo_in t).element
         ≡ true) }
+    ensures shapes { IfOk result (λ t. fits_into (shape_of (operand_of value.now))
+        (geo_in t).shape ≡ true) }
 {
-    let found = view_of(choose(alloc, target, index)?);
-    // Says how many elements there are, in the limits of arrays.
-    let _count = found.count();
-    let _shape = found.shape();
-    check_value(&found, value)?;
+    let found = Target::new(choose(session, target, index)?);
+    found.soundness();
+    check_value(&found, value, is_full_mask(target, index))?;
     Ok(found)
 }

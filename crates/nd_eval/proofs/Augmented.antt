@@ -1,9 +1,9 @@
 -- Assignments with an operator: what is used, and then what is done.
-use Rattle.std.proofs.Common.{◌≡◌, ℕ, true, false, List, [], ◌∷◌, length, Result, Ok, Err, IsErrAnd, refl, sym, ap, ◌∙◌, subst, arith}
+use Rattle.std.proofs.Common.{◌≡◌, ℕ, true, false, List, [], ◌∷◌, map, length, Result, Ok, Err, IsErrAnd, refl, sym, ap, ◌∙◌, subst, arith}
 use Rattle.std.specs.Prelude.{nat_eq, ◌&&◌, if◌then◌else◌}
 use Rattle.std.proofs.lemmas.Bool.Decides.{nat_tests}
 use Rattle.std.proofs.lemmas.Result.{err_from_is_err_and}
-use Rattle.nd_model.specs.Augmenting.{augment_item, augment_name, deed_of_made, in_place_kind, in_place_writes, operand_of_made, results_in_place}
+use Rattle.nd_model.specs.Augmenting.{array_in_place, content_in_place, augment_array, augment_item, augment_name, deed_of_made, in_place_kind, in_place_writes, operand_of_made, results_in_place}
 use Rattle.nd_model.specs.Content.{Content}
 use Rattle.nd_model.specs.Element.{Kind}
 use Rattle.nd_model.specs.Elementwise.{binary}
@@ -17,13 +17,15 @@ use Rattle.nd_model.specs.Refusing as refusing
 use Rattle.nd_model.specs.Running.{Running, Inputs, Effect, Binding, Storing}
 use Rattle.nd_model.specs.Sound.{IsHeldView, IsViewOf, LiesIn}
 use Rattle.nd_model.specs.Syntax.{BinaryOp}
+use Rattle.nd_model.specs.Tuple.{indices}
 use Rattle.nd_model.specs.Value as value
 use Rattle.nd_model.specs.Value.{Base, same_base}
 use Rattle.nd_model.specs.View.{Geo}
 use Rattle.nd_model.specs.Viewing.{Viewing}
-use Rattle.nd_model.specs.Writing.{assign_to, assignment_writes, may_be_written, target_of}
+use Rattle.nd_model.specs.Writing.{assignment_writes}
 use Rattle.nd_model.proofs.Soundness.{given_run, safe_performed, IfGiven}
 use Rattle.nd_types.specs.Kinds.{kind_of}
+use Rattle.nd_types.specs.declared.num.Num.{Num}
 use Rattle.nd_types.specs.declared.num.Num.TheVariants as num
 use Rattle.nd_heap.specs.declared.value.Array.{Array as ArrayValue}
 use Rattle.nd_heap.specs.declared.value.Value.{Value}
@@ -36,16 +38,21 @@ use Rattle.nd_operation.specs.declared.operand.New.TheVariants as new
 use Rattle.nd_operation.specs.declared.stop.Stop.{Stop}
 use Rattle.nd_operation.specs.declared.stop.Stop.TheVariants.{Memory, Refused}
 use Rattle.nd_operation.specs.Ends.{Makes}
-use Rattle.nd_choice.specs.Indexing.{operands_of, viewing_of}
-use Rattle.nd_choice.specs.Targets.{writes_to}
+use Rattle.nd_choice.specs.Indexing.{index_operands, operands_of, viewing_of}
+use Rattle.nd_choice.proofs.Indexing.{same_index_arrays}
+use Rattle.nd_model.specs.Index.{has_array}
+use Rattle.nd_choice.specs.Targets.{geo_in, target_by, writes_to}
+use Rattle.nd_choice.specs.declared.targets.Target.{Target}
 use Rattle.nd_choice.specs.declared.indexes.IndexValue.{IndexValue}
+use Rattle.nd_choice.specs.declared.indexes.IndexValue.TheVariants as index
+use Rattle.nd_choice.proofs.Lying.{writes_made}
 use Rattle.nd_eval.specs.Contents as contents
 use Rattle.nd_eval.specs.Ends.{Ends}
-use Rattle.nd_eval.specs.Parts.{augmentation, item_augmentation, made_assignment, operate, store_made, update}
+use Rattle.nd_eval.specs.Parts.{augmentation, copy_update, item_augmentation, made_assignment, operate, store_made, stored_in, update}
 use Rattle.nd_eval.specs.Uses.{IsHeld, IsNoArray, index_marked, marked, operand_over}
 use Rattle.nd_eval.proofs.Chains.{decided_later, ends_alike, exits_making, made_ends}
 use Rattle.nd_eval.proofs.Parts.{regrouped, then_same}
-use Rattle.nd_eval.proofs.Uses.{index_chosen, index_kept, kept_bytes, used}
+use Rattle.nd_eval.proofs.Uses.{index_kept, index_used, kept_bytes, used}
 
 -- what is made without a question
 pub makes_ends : {A X : Type 0} (v : X → A) (i : Inputs) (r : Running) (o : Result X Stop) (m : Result A Fault) → Makes v o m → Ends v o r (run i (decide m) r)
@@ -67,6 +74,24 @@ second_written : (i : Inputs) (m : Result Bytes Fault) (b : Base) (g : Geo) (y :
     → run i (decide (refusing.◌>>=◌ m (λ ws. Ok (Writes 1 ws))) >>= do_deed (y ∷ (Whole, value.Array b g) ∷ vs)) r ≡ run i (decide (refusing.◌>>=◌ m (λ ws. Ok (Storing b ws)))) r
 second_written i (Ok ws) b g y vs r = refl
 second_written i (Err f) b g y vs r = refl
+
+stored_there : (i : Inputs) (ws : Bytes) (v : value.Value) (r : Running) → run i (store_in ws v) r ≡ run i (decide (stored_in ws v)) r
+stored_there i ws (value.Int z) r = refl
+stored_there i ws (value.Truth t) r = refl
+stored_there i ws (value.Scalar k z) r = refl
+stored_there i ws (value.Array b g) r = refl
+stored_there i ws (value.Row b g) r = refl
+
+-- or the third one, once something is made
+third_written : (i : Inputs) (m : Result model.Operand Fault) (k : model.Operand → Result Bytes Fault) (y x t : Usage × value.Value) (vs : List (Usage × value.Value)) (r : Running)
+    → run i (decide (refusing.◌>>=◌ m (λ z. refusing.◌>>=◌ (k z) (λ ws. Ok (Writes 2 ws)))) >>= do_deed (y ∷ x ∷ t ∷ vs)) r
+    ≡ run i (decide (refusing.◌>>=◌ m (λ z. refusing.◌>>=◌ (k z) (λ ws. stored_in ws t.1)))) r
+third_written i (Err f) k y x t vs r = refl
+third_written i (Ok z) k y x t vs r = at (k z)
+  where
+    at : (q : Result Bytes Fault) → run i (decide (refusing.◌>>=◌ q (λ ws. Ok (Writes 2 ws))) >>= do_deed (y ∷ x ∷ t ∷ vs)) r ≡ run i (decide (refusing.◌>>=◌ q (λ ws. stored_in ws t.1))) r
+    at (Ok ws) = stored_there i ws t.1 r
+    at (Err f) = refl
 
 module _ (i : Inputs) (op : BinaryOp) (a : ArrayValue) (v : Value) where
   abbrev b : Base
@@ -91,23 +116,61 @@ module _ (i : Inputs) (op : BinaryOp) (a : ArrayValue) (v : Value) where
       ∙ first_written i (in_place_writes op g (contents_over g (r.bytes b)) (operand_over r.bytes v)) b g (Whole, value_of v) (marked v m)
       ∙ (λ j. stored (sym (again ∙ ap (marked v) mark) j) (sym (kept_bytes v s t again ∙ kept_bytes (Array a) r s mark) j))
 
-  -- `t[x] op= v`
-  pub array_item_augmented : (t : Value) (x : IndexValue) (r s q u : Running) → s ≡ marked v r → q ≡ marked (Array a) s → u ≡ index_marked x q
-      → run i (item_augmentation op (value_of v) (value_of (Array a)) (value_of t) (contents.index_of x)) r ≡ stored u u.bytes
-  array_item_augmented t x r s q u mark again last =
-      let vs = (Whole, value_of v) ∷ (Whole, value_of (Array a)) ∷ (Unused, value_of t) ∷ (contents.index_of x).1 in
-      let w = (contents.index_of x).0 in
-      let rest = λ (y : model.Operand) (o : model.Operand). use_operand Unused (value_of t) >>= λ p. operands (contents.index_of x).1 (λ os. decide (augment_item op w (y ∷ o ∷ p ∷ os)) >>= do_deed vs) in
-      let y = operand_over r.bytes v in
-      let m : Running = marked v r in
-      let n : Running = marked (Array a) m in
-      let writes : Result Bytes Fault = in_place_writes op g (contents_over g (m.bytes b)) y in
-      used i v (λ y. use_operand Whole (value_of (Array a)) >>= rest y) r
-      ∙ used i (Array a) (rest y) m
-      ∙ index_chosen i t x (λ o c. decide (refusing.◌>>=◌ writes (λ ws. Ok (Writes 1 ws))) >>= do_deed vs) n
-      ∙ second_written i writes b g (Whole, value_of v) ((Unused, value_of t) ∷ (contents.index_of x).1) (index_marked x n)
-      ∙ (λ j. run i (decide (update op b g (contents_over g (kept_bytes v r m refl j b)) y)) (index_marked x n))
-      ∙ (λ j. stored (sym (last ∙ ap (index_marked x) (again ∙ ap (marked (Array a)) mark)) j) (sym (index_kept x q u last ∙ kept_bytes (Array a) s q again ∙ kept_bytes v r s mark) j))
+  module _ (t : Value) (x : IndexValue) (r s q u : Running) (mark : s ≡ marked v r) (again : q ≡ marked (Array a) s) (last : u ≡ index_marked x q) where
+    abbrev vs : List (Usage × value.Value)
+    vs = (Whole, value_of v) ∷ (Whole, value_of (Array a)) ∷ (Unused, value_of t) ∷ (contents.index_of x).1
+
+    abbrev once : Running
+    once = marked v r
+
+    abbrev twice : Running
+    twice = marked (Array a) once
+
+    -- the elements of the array and the value
+    abbrev deed : (Base → List ℕ) → Viewing → model.Operand → List model.Operand → Result model.Deed Fault
+    deed bytes w p os = augment_array (has_array os) op w g (contents_over g (bytes b)) (operand_over bytes v) p os
+
+    all_kept : u.bytes ≡ r.bytes
+    all_kept = index_kept x q u last ∙ kept_bytes (Array a) s q again ∙ kept_bytes v r s mark
+
+    all_noted : index_marked x twice ≡ u
+    all_noted = sym (last ∙ ap (index_marked x) (again ∙ ap (marked (Array a)) mark))
+
+    kept_twice : twice.bytes ≡ r.bytes
+    kept_twice = kept_bytes (Array a) once twice refl ∙ kept_bytes v r once refl
+
+    -- `t[x] op= v`, once all is used
+    all_used_there : run i (item_augmentation op (value_of v) (value_of (Array a)) (value_of t) (contents.index_of x)) r
+        ≡ run i (decide (deed u.bytes (viewing_of x) (unused_of t) (index_operands u.bytes x)) >>= do_deed vs) u
+    all_used_there =
+        let rest = λ (y : model.Operand) (o : model.Operand). use_operand Unused (value_of t) >>= λ p. operands (contents.index_of x).1 (λ os. decide (augment_item op (contents.index_of x).0 (y ∷ o ∷ p ∷ os)) >>= do_deed vs) in
+        let y = operand_over r.bytes v in
+        used i v (λ y. use_operand Whole (value_of (Array a)) >>= rest y) r
+        ∙ used i (Array a) (rest y) once
+        ∙ index_used i t x (λ w p os. decide (augment_array (has_array os) op w g (contents_over g (once.bytes b)) y p os) >>= do_deed vs) twice
+        ∙ (λ j. run i (decide (augment_array (has_array (index_operands (kept_twice j) x)) op (viewing_of x) g (contents_over g (kept_bytes v r once refl j b)) y (unused_of t) (index_operands (kept_twice j) x)) >>= do_deed vs) (all_noted j))
+        ∙ (λ j. run i (decide (deed (sym all_kept j) (viewing_of x) (unused_of t) (index_operands (sym all_kept j) x)) >>= do_deed vs) u)
+
+    -- on a view
+    pub array_item_augmented : has_array (operands_of x) ≡ false → run i (item_augmentation op (value_of v) (value_of (Array a)) (value_of t) (contents.index_of x)) r ≡ stored u u.bytes
+    array_item_augmented basic =
+        let os : List model.Operand = index_operands u.bytes x in
+        let y = operand_over u.bytes v in
+        let cs = contents_over g (u.bytes b) in
+        all_used_there
+        ∙ ap (λ t'. run i (decide (augment_array t' op (viewing_of x) g cs y (unused_of t) os) >>= do_deed vs) u) (same_index_arrays u.bytes x ∙ basic)
+        ∙ second_written i (in_place_writes op g cs y) b g (Whole, value_of v) ((Unused, value_of t) ∷ (contents.index_of x).1) u
+
+    -- on a copy
+    pub copy_item_augmented : has_array (operands_of x) ≡ true → run i (item_augmentation op (value_of v) (value_of (Array a)) (value_of t) (contents.index_of x)) r
+        ≡ run i (decide (copy_update op g (contents_over g (u.bytes b)) (operand_over u.bytes v) (viewing_of x) (value_of t) (unused_of t) (index_operands u.bytes x))) u
+    copy_item_augmented advanced =
+        let os : List model.Operand = index_operands u.bytes x in
+        let y = operand_over u.bytes v in
+        let cs = contents_over g (u.bytes b) in
+        all_used_there
+        ∙ ap (λ t'. run i (decide (augment_array t' op (viewing_of x) g cs y (unused_of t) os) >>= do_deed vs) u) (same_index_arrays u.bytes x ∙ advanced)
+        ∙ third_written i (array_in_place op g cs y) (λ z. assignment_writes (viewing_of x) z (unused_of t) os) (Whole, value_of v) (Whole, value_of (Array a)) (Unused, value_of t) (contents.index_of x).1 u
 
 -- ---- a name gets another value
 
@@ -153,7 +216,7 @@ made_stored i (Ok made) k y x t vs r = at made (k made)
 
 module _ (i : Inputs) (op : BinaryOp) (v found t : Value) (x : IndexValue) where
   abbrev made : (Base → List ℕ) → Result (Made × Bytes) Fault
-  made bytes = made_assignment op (operand_over bytes found) (operand_over bytes v) (viewing_of x) (unused_of t) (operands_of x)
+  made bytes = made_assignment op (operand_over bytes found) (operand_over bytes v) (viewing_of x) (unused_of t) (index_operands bytes x)
 
   module _ (bytes : Base → List ℕ) (y : model.Operand) where
     not_array : (w : Viewing) (o : model.Operand) (os : List model.Operand) → IsNoArray found → augment_item op w (y ∷ operand_over bytes found ∷ o ∷ os)
@@ -177,14 +240,14 @@ module _ (i : Inputs) (op : BinaryOp) (v found t : Value) (x : IndexValue) where
       let m : Running = marked v r in
       let n : Running = marked found m in
       let z = operand_over m.bytes found in
-      let made_of : (made : Made) → model.Operand → Result model.Chosen Fault → Result Bytes Fault = λ made p c. refusing.◌>>=◌ c (λ c. refusing.◌>>=◌ (target_of (may_be_written p) c) (λ g. assign_to g (operand_of_made made))) in
-      let done = λ (p : model.Operand) (c : Result model.Chosen Fault). decide (refusing.◌>>=◌ (binary op z y) (λ made. refusing.◌>>=◌ (made_of made p c) (λ ws. Ok (deed_of_made made ws)))) >>= do_deed vs in
+      let kept : n.bytes ≡ r.bytes = kept_bytes found m n refl ∙ kept_bytes v r m refl in
+      let done = λ (w : Viewing) (p : model.Operand) (os : List model.Operand). decide (refusing.◌>>=◌ (binary op z y) (λ made. refusing.◌>>=◌ (assignment_writes w (operand_of_made made) p os) (λ ws. Ok (deed_of_made made ws)))) >>= do_deed vs in
       used i v (λ y. use_operand Whole (value_of found) >>= rest y) r
       ∙ used i found (rest y) m
       ∙ ap (λ (k : model.Operand → List model.Operand → Eval Effect). run i (use_operand Unused (value_of t) >>= λ p. operands (contents.index_of x).1 (k p)) n) (λ j p os. decide (not_array m.bytes y w p os none j) >>= do_deed vs)
-      ∙ index_chosen i t x done n
-      ∙ made_stored i (binary op z y) (λ made. assignment_writes (viewing_of x) (operand_of_made made) (unused_of t) (operands_of x)) (Whole, value_of v) (Whole, value_of found) (Unused, value_of t) (contents.index_of x).1 (index_marked x n)
-      ∙ (λ j. run i (decide (made_assignment op (operand_over (kept_bytes v r m refl j) found) y (viewing_of x) (unused_of t) (operands_of x)) >>= store_made (value_of t)) (index_marked x n))
+      ∙ index_used i t x done n
+      ∙ made_stored i (binary op z y) (λ made. assignment_writes (viewing_of x) (operand_of_made made) (unused_of t) (index_operands n.bytes x)) (Whole, value_of v) (Whole, value_of found) (Unused, value_of t) (contents.index_of x).1 (index_marked x n)
+      ∙ (λ j. run i (decide (made_assignment op (operand_over (kept_bytes v r m refl j) found) y (viewing_of x) (unused_of t) (index_operands (kept j) x)) >>= store_made (value_of t)) (index_marked x n))
       ∙ (λ j. run i (decide (made (sym (index_kept x q u last ∙ kept_bytes found s q again ∙ kept_bytes v r s mark) j)) >>= store_made (value_of t)) (sym (last ∙ ap (index_marked x) (again ∙ ap (marked found) mark)) j))
 
 -- ---- values that are given
@@ -292,8 +355,8 @@ module _ {Y : Type 0} (w : Y → Effect) (i : Inputs) (t : value.Value) (r : Run
         ap (λ m. run i (decide m >>= store_made t) r) parts
         ∙ decided_later i (assignment_writes v o a os) (λ ws. (made.0, ws)) (store_made t) r
 
-    pub exits_assigned : (e : Stop) (q : Result Y Stop) → IsErrAnd q (λ x. x ≡ e) → Makes (λ g. writes_to g o) (Err e) (assignment_writes v o a os) → Ends w q r (run i (decide all >>= store_made t) r)
-    exits_assigned e q is h = ends_alike w q r in_parts (exits_making (λ g. writes_to g o) w i (assignment_writes v o a os) (λ ws. store_made t (made.0, ws)) r e q is h)
+    pub exits_assigned : (e : Stop) (q : Result Y Stop) → IsErrAnd q (λ x. x ≡ e) → Makes (λ (x : Target). writes_to (geo_in x) o) (Err e) (assignment_writes v o a os) → Ends w q r (run i (decide all >>= store_made t) r)
+    exits_assigned e q is h = ends_alike w q r in_parts (exits_making (λ (x : Target). writes_to (geo_in x) o) w i (assignment_writes v o a os) (λ ws. store_made t (made.0, ws)) r e q is h)
 
     gives_made : give made.0 ≡ given n
     gives_made = sym (ap (λ m. decide m >>= give) made.1) ∙ new_gives
@@ -303,3 +366,51 @@ module _ {Y : Type 0} (w : Y → Effect) (i : Inputs) (t : value.Value) (r : Run
     goes_made g h =
         in_parts ∙ ap (λ m. run i (decide m >>= λ ws. store_made t (made.0, ws)) r) h
         ∙ ap (λ e. run i (e >>= λ v. store_in (writes_to g o) t) r) gives_made
+
+-- ---- an operator on a copy
+
+module _ (op : BinaryOp) (g : Geo) (cs : List Content) (y : model.Operand) (w : Viewing) (v : value.Value) (t : model.Operand) (os : List model.Operand) where
+  -- it is refused by the operator
+  pub exits_copy : {Y : Type 0} (f : Y → Effect) (e : Stop) (o : Result Y Stop) → IsErrAnd o (λ x. x ≡ e) → Makes kind_of (Err e) (in_place_kind op g y) → Makes f o (copy_update op g cs y w v t os)
+  exits_copy {Y} f e o is h =
+      let p : (x : Stop) × (o ≡ Err x) × (x ≡ e) = err_from_is_err_and o is in
+      subst (λ (o : Result Y Stop). Makes f o (copy_update op g cs y w v t os)) (sym (p.1 ∙ ap Err p.2)) (at e h)
+    where
+      at : (e : Stop) → Makes kind_of (Err e) (in_place_kind op g y) → Makes f (Err e) (copy_update op g cs y w v t os)
+      at Memory h = tt
+      at (Refused d) h = ap (λ k. refusing.◌>>=◌ (refusing.◌>>=◌ k (λ k. Ok (model.Elements false g (map (content_in_place k op g cs y) (indices g.shape))))) (λ x. refusing.◌>>=◌ (assignment_writes w x t os) (λ ws. stored_in ws v))) h
+
+  module _ (k : Kind) (kind : in_place_kind op g y ≡ Ok k) where
+    abbrev left : model.Operand
+    left = model.Elements false g (map (content_in_place k op g cs y) (indices g.shape))
+
+    assigned_left : copy_update op g cs y w v t os ≡ refusing.◌>>=◌ (assignment_writes w left t os) (λ ws. stored_in ws v)
+    assigned_left = ap (λ k. refusing.◌>>=◌ (refusing.◌>>=◌ k (λ k. Ok (model.Elements false g (map (content_in_place k op g cs y) (indices g.shape))))) (λ x. refusing.◌>>=◌ (assignment_writes w x t os) (λ ws. stored_in ws v))) kind
+
+    -- or by the elements
+    pub exits_left : {Y : Type 0} (f : Y → Effect) (e : Stop) (o : Result Y Stop) → IsErrAnd o (λ x. x ≡ e) → Makes geo_in (Err e) (target_by w (model.Elements false g cs) t os) → Makes f o (copy_update op g cs y w v t os)
+    exits_left {Y} f e o is h =
+        let p : (x : Stop) × (o ≡ Err x) × (x ≡ e) = err_from_is_err_and o is in
+        subst (λ (o : Result Y Stop). Makes f o (copy_update op g cs y w v t os)) (sym (p.1 ∙ ap Err p.2)) (at e h)
+      where
+        at : (e : Stop) → Makes geo_in (Err e) (target_by w left t os) → Makes f (Err e) (copy_update op g cs y w v t os)
+        at Memory h = tt
+        at (Refused d) h = assigned_left ∙ ap (λ m. refusing.◌>>=◌ m (λ ws. stored_in ws v)) (writes_made w left t os (Err (Refused d)) h)
+
+    pub goes_left : (x : Target) → target_by w (model.Elements false g cs) t os ≡ Ok (geo_in x) → copy_update op g cs y w v t os ≡ stored_in (writes_to (geo_in x) left) v
+    goes_left x h = assigned_left ∙ ap (λ m. refusing.◌>>=◌ m (λ ws. stored_in ws v)) (writes_made w left t os (Ok x) h)
+
+-- only of an array elements are chosen by arrays
+none_of_a_number : (x : IndexValue) (n : Num) (y : model.Operand) (os : List model.Operand) (h : Geo) → has_array (operands_of x) ≡ true → target_by (viewing_of x) y (unused_of (Number n)) os ≡ Ok h → ⊥
+none_of_a_number (index.Field f) n y os h advanced found = absurd (cc)
+none_of_a_number (index.Items xs) n y os h advanced found = absurd (cc)
+
+none_of_a_row : (x : IndexValue) (a : ArrayValue) (y : model.Operand) (os : List model.Operand) (h : Geo) → has_array (operands_of x) ≡ true → target_by (viewing_of x) y (unused_of (Row a)) os ≡ Ok h → ⊥
+none_of_a_row (index.Field f) a y os h advanced found = absurd (cc)
+none_of_a_row (index.Items xs) a y os h advanced found = absurd (cc)
+
+pub only_of_an_array : (x : IndexValue) (t : Value) (y : model.Operand) (os : List model.Operand) (h : Geo) → has_array (operands_of x) ≡ true → target_by (viewing_of x) y (unused_of t) os ≡ Ok h
+    → ((a : ArrayValue) → t ≡ Array a → ⊥) → ⊥
+only_of_an_array x (Number n) y os h advanced found other = none_of_a_number x n y os h advanced found
+only_of_an_array x (Array a) y os h advanced found other = other a refl
+only_of_an_array x (Row a) y os h advanced found other = none_of_a_row x a y os h advanced found

@@ -1,21 +1,23 @@
 -- How many bases an evaluation makes.
-use Rattle.std.proofs.Common.{◌≡◌, ℕ, ℤ, ◌+◌, ◌≤◌, Bool, List, [], ◌∷◌, ◌++◌, Option, None, Result, Ok, refl, subst, arith}
+use Rattle.std.proofs.Common.{◌≡◌, ℕ, ℤ, ◌+◌, ◌≤◌, Bool, true, false, List, [], ◌∷◌, ◌++◌, Option, None, Result, Ok, refl, subst, arith}
 use Rattle.nd_model.specs.Value.{Value}
 use Rattle.nd_model.specs.Fault.{Fault}
 use Rattle.nd_model.specs.Syntax.{Expr, Bound, Omitted, Given, Elements, NoElement, AndElement, Element, Single, Nested, Exprs, NoExpr, AndExpr, Method, Copy, AsType, Transpose, Reshape, ViewAs, Reduced, Accumulated, Axis, DefaultAxis, AllAxes, AtAxis, Index, Field, Items, IndexItems, IndexItem, AndItem, NoItem, At, Slice, Ellipsis, NewAxis, Listed, Stmt}
 use Rattle.nd_model.specs.Cells.{Suffix, AtIndex, OfMethod}
 use Rattle.nd_model.specs.Calls.{Accumulation}
-use Rattle.nd_model.specs.Creation.{copy_array, astype}
+use Rattle.nd_model.specs.Creation.{array_of_list, copy_array, astype}
 use Rattle.nd_model.specs.Reductions.{reduce_array, accumulate_array}
 use Rattle.nd_model.specs.Tokens.{tokens_of, tokens_of_bound, tokens_of_step, tokens_of_index, tokens_of_items, tokens_of_item, tokens_of_elements, tokens_of_others, tokens_of_element, tokens_of_all, tokens_of_exprs, tokens_of_axis, tokens_of_first, tokens_of_number, tokens_of_method, tokens_of_stmt}
 use Rattle.nd_model.specs.Running.{Inputs, Running, Effect, Nothing, Prints, Saves, Binding, Unbinding, Storing, done}
 use Rattle.nd_model.specs.Evaluation.{Eval, Gives, run, ◌>>=◌}
-use Rattle.nd_model.specs.Operand.{Operand, Made, Whole, Unused}
+use Rattle.nd_model.specs.Operand.{Operand, Made, Whole, ArraysOnly, Unused}
 use Rattle.nd_model.specs.Viewing.{Viewing, Transposed, Reshaped, ViewedAs}
-use Rattle.nd_model.specs.Operation.{Computes, Views}
+use Rattle.nd_model.specs.Operation.{Computes, Views, perform}
+use Rattle.nd_model.specs.Index.{AtForm}
 use Rattle.nd_model.specs.Meaning as meaning
+use Rattle.nd_model.specs.Meaning.{is_empty_list}
 use Rattle.nd_model.proofs.Bases.{Few, few_more, few_bind, few_run, few_plan, few_performed, few_work, at_expr, at_stmt}
-use Rattle.nd_eval.specs.Parts.{accumulation_value, reduction_value, bound_exprs, choose_value, exprs_in, exprs_of_element, index_parts, item_parts, items_parts, items_then, ItemParts, listed, method_value, suffix_value, unused, view_value, viewed_value, values_behind, values_then, values}
+use Rattle.nd_eval.specs.Parts.{accumulation_value, reduction_value, bound_exprs, choose_value, exprs_in, exprs_of_element, index_parts, item_parts, items_parts, items_then, IndexParts, ItemParts, list_parts, list_value, listed, wholes, method_value, suffix_value, unused, view_value, viewed_value, values_behind, values_then, values}
 use Rattle.nd_eval.specs.Suffixes.{axis_tokens, suffix_tokens}
 
 few_value : (e : Expr) → Few (meaning.value e) (tokens_of e)
@@ -113,6 +115,53 @@ pub step_more : (b : Bound) → tokens_of_bound b ≤ tokens_of_step b
 step_more Omitted = omega arith
 step_more (Given e) = omega arith
 
+-- ---- the expressions in a list
+
+abbrev tokens_in : List Expr → ℕ
+tokens_in [] = 0
+tokens_in (e ∷ es) = tokens_of e + tokens_in es
+
+tokens_in-append : (es fs : List Expr) → tokens_in (es ++ fs) ≡ tokens_in es + tokens_in fs
+tokens_in-append [] fs = omega arith
+tokens_in-append (e ∷ es) fs = omega (arith, tokens_in-append es fs)
+
+mutual
+  tokens_in_list : (es : Elements) → tokens_in (exprs_in es) ≤ tokens_of_elements es
+  tokens_in_list NoElement = omega arith
+  tokens_in_list (AndElement x xs) = omega (arith, tokens_in-append (exprs_of_element x) (exprs_in xs), tokens_in_element x, tokens_in_others xs)
+
+  tokens_in_others : (es : Elements) → tokens_in (exprs_in es) ≤ tokens_of_others es
+  tokens_in_others NoElement = omega arith
+  tokens_in_others (AndElement x xs) = omega (arith, tokens_in-append (exprs_of_element x) (exprs_in xs), tokens_in_element x, tokens_in_others xs)
+
+  tokens_in_element : (x : Element) → tokens_in (exprs_of_element x) ≤ tokens_of_element x
+  tokens_in_element (Single e) = omega arith
+  tokens_in_element (Nested es) = omega (arith, tokens_in_list es)
+
+-- a list's tokens with a comma before each element
+pub list_others : (es : Elements) → tokens_of_others es ≤ tokens_of_elements es + 1
+list_others NoElement = omega arith
+list_others (AndElement x xs) = omega arith
+
+few_exprs : {A : Type 0} (es : List Expr) (k : List Value → Eval A) → ((ws : List Value) → Few (k ws) 0) → Few (values_then es k) (tokens_in es)
+few_exprs [] k h = h []
+few_exprs (e ∷ es) k h = few_bind (meaning.value e) (λ v. values_then es (λ ws. k (v ∷ ws))) (tokens_of e) (tokens_in es) (few_value e) (λ v. few_exprs es (λ ws. k (v ∷ ws)) (λ ws. h (v ∷ ws)))
+
+few_behind : (vs : List Value) (es : List Expr) → Few (values_behind vs es) (tokens_in es)
+few_behind vs es = few_exprs es (λ ws. Gives (vs ++ ws)) (λ ws. tt)
+
+few_list : (es : Elements) → Few (list_value (Nested es) None) (tokens_in (exprs_in es) + 1)
+few_list es =
+    few_bind (values (exprs_in es)) (λ vs. perform (Computes (array_of_list (Nested es) None)) (wholes vs)) (tokens_in (exprs_in es)) 1 (few_exprs (exprs_in es) Gives (λ ws. tt))
+    (λ vs. few_performed (Computes (array_of_list (Nested es) None)) (wholes vs))
+
+-- a list as an item of an index
+few_listed : (is_empty : Bool) (es : Elements) → Few (list_parts is_empty es) (2 + tokens_of_elements es)
+few_listed true es = tt
+few_listed false es =
+    few_more (list_parts false es) (tokens_in (exprs_in es) + 1 + 0) _ (omega (arith, tokens_in_list es))
+    (few_bind (list_value (Nested es) None) (λ v. Gives (AtForm, (ArraysOnly, v) ∷ [])) (tokens_in (exprs_in es) + 1) 0 (few_list es) (λ v. tt))
+
 few_item : (x : IndexItem) → Few (item_parts x) (tokens_of_item x)
 few_item (At e) = few_more (item_parts (At e)) (tokens_of e + 0) _ (omega arith) (few_bind (meaning.value e) _ (tokens_of e) 0 (few_value e) (λ v. tt))
 few_item (Slice a b c) =
@@ -122,7 +171,7 @@ few_item (Slice a b c) =
     (λ ys. few_bind (values (bound_exprs c)) _ (tokens_of_bound c) 0 (few_bound c) (λ zs. tt))))
 few_item Ellipsis = tt
 few_item NewAxis = tt
-few_item (Listed es) = tt
+few_item (Listed es) = few_listed (is_empty_list es) es
 
 pub next_item_parts : (i : Inputs) (x : IndexItem) (r s : Running) (o : Result ItemParts Fault) → run i (item_parts x) r ≡ (o, s) → s.next ≤ r.next + tokens_of_item x
 next_item_parts i x r s o h = ended_next i (item_parts x) (tokens_of_item x) r s o (few_item x) h
@@ -156,40 +205,12 @@ few_suffix (OfMethod m) v = few_more (method_value m v) (1 + tokens_of_method m)
 pub next_at_suffix : (i : Inputs) (x : Suffix) (v : Value) (r s : Running) (o : Result Value Fault) → run i (suffix_value x v) r ≡ (o, s) → s.next ≤ r.next + suffix_tokens x
 next_at_suffix i x v r s o h = ended_next i (suffix_value x v) (suffix_tokens x) r s o (few_suffix x v) h
 
--- ---- the expressions in a list
+pub next_index : (i : Inputs) (x : Index) (r s : Running) (o : Result IndexParts Fault) → run i (index_parts x) r ≡ (o, s) → s.next ≤ r.next + tokens_of_index x
+next_index i x r s o h = ended_next i (index_parts x) (tokens_of_index x) r s o (few_index x) h
 
-abbrev tokens_in : List Expr → ℕ
-tokens_in [] = 0
-tokens_in (e ∷ es) = tokens_of e + tokens_in es
-
-tokens_in-append : (es fs : List Expr) → tokens_in (es ++ fs) ≡ tokens_in es + tokens_in fs
-tokens_in-append [] fs = omega arith
-tokens_in-append (e ∷ es) fs = omega (arith, tokens_in-append es fs)
-
-mutual
-  tokens_in_list : (es : Elements) → tokens_in (exprs_in es) ≤ tokens_of_elements es
-  tokens_in_list NoElement = omega arith
-  tokens_in_list (AndElement x xs) = omega (arith, tokens_in-append (exprs_of_element x) (exprs_in xs), tokens_in_element x, tokens_in_others xs)
-
-  tokens_in_others : (es : Elements) → tokens_in (exprs_in es) ≤ tokens_of_others es
-  tokens_in_others NoElement = omega arith
-  tokens_in_others (AndElement x xs) = omega (arith, tokens_in-append (exprs_of_element x) (exprs_in xs), tokens_in_element x, tokens_in_others xs)
-
-  tokens_in_element : (x : Element) → tokens_in (exprs_of_element x) ≤ tokens_of_element x
-  tokens_in_element (Single e) = omega arith
-  tokens_in_element (Nested es) = omega (arith, tokens_in_list es)
-
--- a list's tokens with a comma before each element
-pub list_others : (es : Elements) → tokens_of_others es ≤ tokens_of_elements es + 1
-list_others NoElement = omega arith
-list_others (AndElement x xs) = omega arith
-
-few_behind : (vs : List Value) (es : List Expr) → Few (values_behind vs es) (tokens_in es)
-few_behind vs es = go es (λ ws. Gives (vs ++ ws)) (λ ws. tt)
-  where
-    go : {A : Type 0} (es : List Expr) (k : List Value → Eval A) → ((ws : List Value) → Few (k ws) 0) → Few (values_then es k) (tokens_in es)
-    go [] k h = h []
-    go (e ∷ es) k h = few_bind (meaning.value e) (λ v. values_then es (λ ws. k (v ∷ ws))) (tokens_of e) (tokens_in es) (few_value e) (λ v. go es (λ ws. k (v ∷ ws)) (λ ws. h (v ∷ ws)))
+-- the values of a list behind others
+pub next_list : (i : Inputs) (vs : List Value) (es : Elements) (r s : Running) (o : Result (List Value) Fault) → run i (values_behind vs (exprs_in es)) r ≡ (o, s) → s.next ≤ r.next + tokens_of_elements es
+next_list i vs es r s o h = omega (arith, tokens_in_list es, ended_next i (values_behind vs (exprs_in es)) (tokens_in (exprs_in es)) r s o (few_behind vs (exprs_in es)) h)
 
 pub next_behind : (i : Inputs) (vs : List Value) (x : Element) (r s : Running) (o : Result (List Value) Fault) → run i (values_behind vs (exprs_of_element x)) r ≡ (o, s) → s.next ≤ r.next + tokens_of_element x
 next_behind i vs x r s o h = omega (arith, tokens_in_element x, ended_next i (values_behind vs (exprs_of_element x)) (tokens_in (exprs_of_element x)) r s o (few_behind vs (exprs_of_element x)) h)

@@ -1,5 +1,5 @@
 -- Arrays that an evaluation finds lie in their blocks.
-use Rattle.std.proofs.Common.{◌≡◌, ℕ, ℤ, Option, None, cond, true, false, List, [], ◌∷◌, ◌++◌, map, length, Result, Ok, Err, refl, sym, ap, subst, ◌∙◌, arith}
+use Rattle.std.proofs.Common.{◌≡◌, ℕ, ℤ, Option, None, Bool, cond, true, false, List, [], ◌∷◌, ◌++◌, map, length, Result, Ok, Err, refl, sym, ap, subst, ◌∙◌, arith}
 use Rattle.std.specs.Prelude.{bytes_eq}
 use Rattle.std.specs.List.{flat_map}
 use Rattle.std.proofs.lemmas.List.Elements.{All-nil, All-cons, All-head, All-tail}
@@ -11,14 +11,15 @@ use Rattle.nd_model.specs.Session.{Names}
 use Rattle.nd_model.specs.Fault.{Fault}
 use Rattle.nd_model.specs.Running.{Running, Inputs, Use, reply, after, Effect, Binding, done}
 use Rattle.nd_model.specs.Reductions.{reduce_array, accumulate_array}
-use Rattle.nd_model.specs.Syntax.{Expr, Bound, Omitted, Given, Method, Copy, AsType, Transpose, Reshape, ViewAs, Reduced, Accumulated, Axis, DefaultAxis, AllAxes, AtAxis, Index, Field, Items, IndexItems, IndexItem, AndItem, NoItem, At, Slice, Ellipsis, NewAxis, Listed, Bind}
+use Rattle.nd_model.specs.Syntax.{Expr, Bound, Omitted, Given, Elements, Nested, Method, Copy, AsType, Transpose, Reshape, ViewAs, Reduced, Accumulated, Axis, DefaultAxis, AllAxes, AtAxis, Index, Field, Items, IndexItems, IndexItem, AndItem, NoItem, At, Slice, Ellipsis, NewAxis, Listed, Bind}
 use Rattle.nd_model.specs.Evaluation.{Eval, Gives, Refuses, Asks, run}
 use Rattle.nd_model.specs.Operand.{Operand, Made, BindsFirst, Usage, Whole, Unused}
 use Rattle.nd_model.specs.Cells.{Suffix, AtIndex, OfMethod}
-use Rattle.nd_model.specs.Creation.{copy_array, astype}
+use Rattle.nd_model.specs.Creation.{array_of_list, copy_array, astype}
 use Rattle.nd_model.specs.Operation.{Computes, Views, act_on}
 use Rattle.nd_model.specs.Viewing.{Viewing, Transposed, Reshaped, ViewedAs}
 use Rattle.nd_model.specs.Meaning as meaning
+use Rattle.nd_model.specs.Meaning.{is_empty_list}
 use Rattle.nd_model.specs.Cell.{had}
 use Rattle.nd_model.specs.Sound.{LiesIn, IsViewOf, AreViewsOf, IsHeldView, IsSound}
 use Rattle.nd_model.proofs.Growing.{Grows, stays, grows_on, grows_after, grows_run}
@@ -31,7 +32,7 @@ use Rattle.nd_choice.specs.declared.indexes.ItemValue.{ItemValue}
 use Rattle.nd_choice.specs.declared.indexes.ItemValue.TheVariants as item
 use Rattle.nd_choice.specs.declared.indexes.IndexValue.{IndexValue}
 use Rattle.nd_choice.specs.declared.indexes.IndexValue.TheVariants as index
-use Rattle.nd_eval.specs.Parts.{accumulation_value, binary_value, reduction_value, bound_exprs, choose_value, index_parts, item_parts, items_parts, items_then, listed, method_value, suffix_value, unused, values, values_then, view_value, viewed_value, IndexParts, ItemParts}
+use Rattle.nd_eval.specs.Parts.{accumulation_value, binary_value, reduction_value, bound_exprs, choose_value, exprs_in, index_parts, item_parts, items_parts, items_then, list_parts, list_value, listed, method_value, suffix_value, unused, values, values_then, view_value, viewed_value, wholes, IndexParts, ItemParts}
 use Rattle.nd_eval.specs.Uses.{IsHeld, AreHeld, marked, item_marked, items_marked, index_marked, all_marked}
 use Rattle.nd_eval.proofs.Parts.{binding_parts}
 
@@ -90,6 +91,7 @@ grows_items (item.At v ∷ xs) r = grows_on r (item_marked v r) (items_marked xs
 grows_items (item.Slice a b c ∷ xs) r = grows_items xs r
 grows_items (item.Ellipsis ∷ xs) r = grows_items xs r
 grows_items (item.NewAxis ∷ xs) r = grows_items xs r
+grows_items (item.Empty ∷ xs) r = grows_items xs r
 
 grows_index : (x : IndexValue) (r : Running) → Grows r (index_marked x r)
 grows_index (index.Field n) r = stays r
@@ -204,6 +206,19 @@ held_grow x y grows (v ∷ vs) h = (value_grows x y grows v.1 h.0, held_grow x y
 safe_bound : (i : Inputs) (r : Running) (b : Bound) → IsSound r → Safe AllV i r (values (bound_exprs b))
 safe_bound i r b sound = safe_values AllV i r (bound_exprs b) Gives sound (λ q vs g h. h)
 
+all_wholes : (r : Running) (vs : List model.Value) → AllV r vs → AreHeldValues r (wholes vs)
+all_wholes r [] h = tt
+all_wholes r (v ∷ vs) h = (h.0, all_wholes r vs h.1)
+
+-- a list as an item
+safe_listed : (i : Inputs) (r : Running) (is_empty : Bool) (es : Elements) → IsSound r → Safe (λ q (p : ItemParts). AreHeldValues q p.1) i r (list_parts is_empty es)
+safe_listed i r true es sound = tt
+safe_listed i r false es sound =
+    safe_bind V (λ q (p : ItemParts). AreHeldValues q p.1) i r (list_value (Nested es) None) _
+    (safe_bind AllV V i r (values (exprs_in es)) _ (safe_values AllV i r (exprs_in es) Gives sound (λ q vs g h. h))
+    (λ q vs g h. safe_performed i q (Computes (array_of_list (Nested es) None)) (wholes vs) (all_wholes q vs h)))
+    (λ q v g h. (h, tt))
+
 safe_item : (i : Inputs) (r : Running) (x : IndexItem) → IsSound r → Safe (λ q p. AreHeldValues q p.1) i r (item_parts x)
 safe_item i r (At e) sound = safe_bind V (λ q (p : ItemParts). AreHeldValues q p.1) i r (meaning.value e) _ (safe_value i r e sound) (λ q v g h. (h, tt))
 safe_item i r (Slice a b c) sound =
@@ -213,7 +228,7 @@ safe_item i r (Slice a b c) sound =
     (λ n zs g'' hz. all_unused n (xs ++ ys ++ zs) (all_together n (xs ++ ys) zs (all_together n xs ys (all_grow m n g'' xs (all_grow q m g' xs hx)) (all_grow m n g'' ys hy)) hz))))
 safe_item i r Ellipsis sound = tt
 safe_item i r NewAxis sound = tt
-safe_item i r (Listed es) sound = tt
+safe_item i r (Listed es) sound = safe_listed i r (is_empty_list es) es sound
 
 abbrev AllItems : Running → List ItemParts → Type 0
 AllItems r xs = AreHeldValues r (flat_map (λ (x : ItemParts). x.1) xs)

@@ -70,7 +70,7 @@ as_many i before (e ∷ es) r s found h =
 
 -- as many as a list has numbers
 mutual
-  many_in : (es : syntax.Elements) → length (exprs_in es) ≡ number_counts es
+  pub many_in : (es : syntax.Elements) → length (exprs_in es) ≡ number_counts es
   many_in syntax.NoElement = refl
   many_in (syntax.AndElement x xs) = omega (arith, length-append (exprs_of_element x) (exprs_in xs), many_of_element x, many_in xs)
 

@@ -33,11 +33,12 @@ use Rattle.nd_syntax.specs.Calls.{accumulation_of}
 use Rattle.nd_syntax.specs.Syntax.{expr_of, bound_of, element_of, fold_of, method_of, suffix_of, index_of, item_of}
 use Rattle.nd_syntax.specs.Lists.{operation_of}
 use Rattle.nd_syntax.proofs.Nodes.{call_row}
-use Rattle.nd_syntax.proofs.Chains.{row_of, postfix_is, item_row, index_is, nested_is, chain_is}
+use Rattle.nd_syntax.proofs.Chains.{row_of, postfix_is, item_row, index_is, list_is, nested_is, chain_is}
 use Rattle.nd_model.proofs.Steps.{goes_on, run_bind}
 use Rattle.nd_eval.specs.Parts.{binary_value, choose_value, fold_call, index_parts, listed, make_value, method_value, suffix_value, viewed_value, view_value}
 use Rattle.nd_eval.specs.Suffixes.{suffix_tokens}
-use Rattle.nd_eval.proofs.Parts.{goes_same, index_with}
+use Rattle.nd_eval.proofs.Parts.{goes_same}
+use Rattle.nd_eval.proofs.IndexPlans.{index_with}
 use Rattle.nd_eval.proofs.Calls.{unused_first}
 
 -- what goes on a value, one after the other
@@ -204,6 +205,7 @@ abbrev mutual
   pub nodes_of_item : item.IndexItem → ℕ
   nodes_of_item (item.At e) = 1 + nodes e
   nodes_of_item (item.Slice' a b c) = 1 + nodes_in_bound a + nodes_in_bound b + nodes_in_bound c
+  nodes_of_item (item.List' shape es) = 3 + nodes_in_elements es
   nodes_of_item i = 1
 
 abbrev pub nodes_of_all : List suffix.Suffix → ℕ
@@ -348,6 +350,21 @@ module _ (x : element.Element) (es : Vec element.Element Global) (same : x ≡ e
   nodes_of_its_elements =
       let row = list_row (element.Nested es) in
       ap nodes_of_element same ∙ ap (λ k. 1 + k) (nodes_in_element_row row.0 row.1 ∙ ap nodes_of_elements (item.items_hidden-the_row-Element-1 es))
+
+-- ---- a list as an item
+
+abbrev list_item_row : item.IndexItem → (n : Count) × item.Row_of-Element n
+list_item_row (item.List' shape es) = (_, es)
+list_item_row _ = (_, item.end_of-Element)
+
+module _ (x : item.IndexItem) (es : Vec element.Element Global) (same : x ≡ item.List es) where
+  pub list_in_items : item_of x ≡ model.Listed (elements_of (map element_of es.items))
+  list_in_items = ap item_of same ∙ list_is es
+
+  pub nodes_of_list : nodes_of_item x ≡ 3 + nodes_of_elements es.items
+  nodes_of_list =
+      let row = list_item_row (item.List es) in
+      ap nodes_of_item same ∙ ap (λ k. 3 + k) (nodes_in_element_row row.0 row.1 ∙ ap nodes_of_elements (item.items_hidden-the_row-Element-1 es))
 
 -- a slice with its bounds
 pub slice_is : (a b c : Option tree.Expr) → item_of (item.Slice a b c) ≡ model.Slice (bound_of a) (bound_of b) (bound_of c)

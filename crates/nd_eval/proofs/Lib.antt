@@ -3,6 +3,7 @@ pub mod Chains
 pub mod InTurn
 pub mod Indexing
 pub mod Parts
+pub mod IndexPlans
 pub mod Uses
 pub mod Held
 pub mod Lines
@@ -14,4 +15,5 @@ pub mod Creating
 pub mod Calls
 pub mod Ranging
 pub mod Seeing
+pub mod Copying
 pub mod Augmented

@@ -1,5 +1,5 @@
 -- Statements that print nothing, so that no limit meets them.
-use Rattle.std.proofs.Common.{◌≡◌, ℕ, zero, suc, true, false, List, [], ◌∷◌, Result, Ok, Err, refl}
+use Rattle.std.proofs.Common.{◌≡◌, ℕ, zero, suc, Bool, true, false, List, [], ◌∷◌, Result, Ok, Err, refl}
 use Rattle.nd_model.specs.Fault.{Fault, Stmt, BadArgument}
 use Rattle.nd_model.specs.Files.{operand_file, save}
 use Rattle.nd_model.specs.InputName.{is_input_name}
@@ -11,10 +11,13 @@ use Rattle.nd_model.specs.Syntax.{Expr, Index, BinaryOp, Augment, AugmentItem, B
 use Rattle.nd_model.specs.Evaluation.{Eval, Gives, Refuses, Asks, run, ◌>>=◌, decide}
 use Rattle.nd_model.specs.Operand.{Operand, Plain, Elements, Usage, Whole, Unused, Made, ANumber, AnArray, Deed, BindsFirst, BindsMade, SavesFile, Unbinds, Writes}
 use Rattle.nd_model.specs.Operation.{Views, Named, Plans, Done, And, perform, evaluate, evaluate_all, act_on, do_deed, give, with_value, store_in}
+use Rattle.nd_model.specs.Content.{Content}
+use Rattle.nd_model.specs.Index.{has_array}
+use Rattle.nd_model.specs.View.{Geo}
 use Rattle.nd_model.specs.Viewing.{Viewing}
 use Rattle.nd_model.specs.Writing.{assignment_writes}
 use Rattle.nd_model.specs.Elementwise.{binary}
-use Rattle.nd_model.specs.Augmenting.{augment_item, augment_name, deed_of_made, in_place_writes, operand_of_made}
+use Rattle.nd_model.specs.Augmenting.{array_in_place, augment_array, augment_item, augment_name, deed_of_made, in_place_writes, operand_of_made}
 use Rattle.nd_model.specs.Meaning.{plan, one, two, viewing_of, index_plans, assignment_deed, meaning}
 use Rattle.nd_model.proofs.Soundness.{Safe, safe_bind, safe_operands, IfGiven, given_run}
 use Rattle.nd_operation.specs.declared.stop.Stop.{Stop}
@@ -97,6 +100,17 @@ quiet_name n op i r vs (Elements false g cs ∷ y ∷ []) = writes_only i r vs 0
 quiet_name n op i r vs (Elements true g cs ∷ y ∷ []) = binds_only i r vs n (binary op (Elements true g cs) y)
 quiet_name n op i r vs (x ∷ y ∷ z ∷ os) = tt
 
+-- what is stored of a copy
+copies_only : (i : Inputs) (r : Running) (vs : List (Usage × model.Value)) (m : Result Operand Fault) (k : Operand → Result (List (ℕ × ℕ)) Fault)
+    → Safe IsQuiet i r (decide (refusing.◌>>=◌ m (λ x. refusing.◌>>=◌ (k x) (λ ws. Ok (Writes 2 ws)))) >>= do_deed vs)
+copies_only i r vs (Ok x) k = writes_only i r vs 2 (k x)
+copies_only i r vs (Err f) k = tt
+
+quiet_array : (i : Inputs) (r : Running) (vs : List (Usage × model.Value)) (is_copy : Bool) (op : BinaryOp) (w : Viewing) (g : Geo) (cs : List Content) (y t : Operand) (os : List Operand)
+    → Safe IsQuiet i r (decide (augment_array is_copy op w g cs y t os) >>= do_deed vs)
+quiet_array i r vs false op w g cs y t os = writes_only i r vs 1 (in_place_writes op g cs y)
+quiet_array i r vs true op w g cs y t os = copies_only i r vs (array_in_place op g cs y) (λ x. assignment_writes w x t os)
+
 quiet_item : (op : BinaryOp) (w : Viewing) (i : Inputs) (r : Running) (vs : List (Usage × model.Value)) (os : List Operand) → Safe IsQuiet i r (decide (augment_item op w os) >>= do_deed vs)
 quiet_item op w i r vs [] = tt
 quiet_item op w i r vs (y ∷ []) = tt
@@ -104,7 +118,7 @@ quiet_item op w i r vs (y ∷ Plain k ∷ []) = tt
 quiet_item op w i r vs (y ∷ Elements false g cs ∷ []) = tt
 quiet_item op w i r vs (y ∷ Elements true g cs ∷ []) = tt
 quiet_item op w i r vs (y ∷ Plain k ∷ t ∷ os) = assigns_only i r vs (binary op (Plain k) y) (λ m. assignment_writes w (operand_of_made m) t os)
-quiet_item op w i r vs (y ∷ Elements false g cs ∷ t ∷ os) = writes_only i r vs 1 (in_place_writes op g cs y)
+quiet_item op w i r vs (y ∷ Elements false g cs ∷ t ∷ os) = quiet_array i r vs (has_array os) op w g cs y t os
 quiet_item op w i r vs (y ∷ Elements true g cs ∷ t ∷ os) = assigns_only i r vs (binary op (Elements true g cs) y) (λ m. assignment_writes w (operand_of_made m) t os)
 
 -- a file that is saved

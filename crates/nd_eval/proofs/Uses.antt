@@ -1,21 +1,18 @@
 -- Uses of values, and the blocks that they leave as they were.
-use Rattle.std.proofs.Common.{◌≡◌, ℕ, ℤ, Bool, true, false, cond, List, [], ◌∷◌, ◌++◌, map, length, Option, None, Some, Result, Ok, Err, refl, sym, ap, ap₂, ◌∙◌}
+use Rattle.std.proofs.Common.{◌≡◌, ℕ, Bool, true, false, cond, List, [], ◌∷◌, ◌++◌, map, Option, None, Some, Result, Ok, refl, sym, ap, ap₂, ◌∙◌}
 use Rattle.std.specs.Prelude.{is_some}
 use Rattle.std.specs.List.{flat_map}
 use Rattle.std.proofs.lemmas.List.{map-append}
 use Rattle.nd_model.specs.Fault.{Fault}
-use Rattle.nd_model.specs.Refusing as refusing
 use Rattle.nd_model.specs.View.{Geo, byte_places}
-use Rattle.nd_model.specs.Content.{contents_in}
 use Rattle.nd_model.specs.Value.{Base}
 use Rattle.nd_model.specs.Value as model_value
 use Rattle.nd_model.specs.Operand as model
 use Rattle.nd_model.specs.Operand.{Usage, Whole, ArraysOnly, Unused, is_used}
-use Rattle.nd_model.specs.Selecting.{Item, Slice, Ellipsis, NewAxis}
-use Rattle.nd_model.specs.Index.{Form, AtForm, SliceForm, EllipsisForm, NewAxisForm, array_of, integer_of, item_of, bound_of, items_of, choose_items}
+use Rattle.nd_model.specs.Index.{SliceForm}
 use Rattle.nd_model.specs.Viewing.{Viewing, Indexed, choose_of_first}
 use Rattle.nd_model.specs.Writing.{assignment_writes}
-use Rattle.nd_model.specs.Running.{Running, Inputs, Use, reply, after}
+use Rattle.nd_model.specs.Running.{Running, Inputs, Use, after}
 use Rattle.nd_model.specs.Evaluation.{Eval, run, ◌>>=◌}
 use Rattle.nd_model.specs.Operation.{use_operand, operands, elements}
 use Rattle.nd_types.specs.declared.num.Num.{Num}
@@ -29,9 +26,9 @@ use Rattle.nd_choice.specs.declared.indexes.IndexValue.{IndexValue}
 use Rattle.nd_choice.specs.declared.indexes.IndexValue.TheVariants as index
 use Rattle.nd_operation.specs.declared.operand.Operand.{Operand}
 use Rattle.nd_operation.specs.declared.stop.Stop.{Stop}
-use Rattle.nd_operation.specs.Contents.{operand_of, unused_of}
+use Rattle.nd_operation.specs.Contents.{elements_over, operand_of, unused_of}
 use Rattle.nd_operation.specs.New.{option_list}
-use Rattle.nd_choice.specs.Indexing.{form_of, forms_of, operands_in_item, operands_in, operands_of, viewing_of}
+use Rattle.nd_choice.specs.Indexing.{form_of, forms_of, index_operand, item_operands, items_operands, index_operands, viewing_of}
 use Rattle.nd_eval.specs.Ends.{Ends}
 use Rattle.nd_eval.specs.Contents as contents
 use Rattle.nd_eval.specs.Contents.{option_values}
@@ -106,6 +103,7 @@ items_marked_bytes (item.At v ∷ xs) r = items_marked_bytes xs (item_marked v r
 items_marked_bytes (item.Slice a b c ∷ xs) r = items_marked_bytes xs r
 items_marked_bytes (item.Ellipsis ∷ xs) r = items_marked_bytes xs r
 items_marked_bytes (item.NewAxis ∷ xs) r = items_marked_bytes xs r
+items_marked_bytes (item.Empty ∷ xs) r = items_marked_bytes xs r
 
 index_marked_bytes : (x : IndexValue) (r : Running) → (index_marked x r).bytes ≡ r.bytes
 index_marked_bytes (index.Field n) r = refl
@@ -125,6 +123,7 @@ items_marked_next (item.At v ∷ xs) r = items_marked_next xs (item_marked v r) 
 items_marked_next (item.Slice a b c ∷ xs) r = items_marked_next xs r
 items_marked_next (item.Ellipsis ∷ xs) r = items_marked_next xs r
 items_marked_next (item.NewAxis ∷ xs) r = items_marked_next xs r
+items_marked_next (item.Empty ∷ xs) r = items_marked_next xs r
 
 index_marked_next : (x : IndexValue) (r : Running) → (index_marked x r).next ≡ r.next
 index_marked_next (index.Field n) r = refl
@@ -133,102 +132,76 @@ index_marked_next (index.Items xs) r = items_marked_next xs.items r
 pub index_next : (x : IndexValue) (r s : Running) → s ≡ index_marked x r → s.next ≡ r.next
 index_next x r s mark = ap (λ (q : Running). q.next) mark ∙ index_marked_next x r
 
--- no contents of operands say what an index chooses
-abbrev bare : model.Operand → model.Operand
-bare (model.Plain n) = model.Plain n
-bare (model.Elements row g cs) = model.Elements row g []
+-- ---- the operands of an index, as they are seen
 
-integer_bare : (o : model.Operand) → integer_of o ≡ integer_of (bare o)
-integer_bare (model.Plain n) = refl
-integer_bare (model.Elements row g cs) = refl
-
-item_bare : (o : model.Operand) → item_of o ≡ item_of (bare o)
-item_bare (model.Plain n) = refl
-item_bare (model.Elements true g cs) = refl
-item_bare (model.Elements false g cs) = refl
-
-bound_bare : {B : Type 0} (t : Bool) (os : List model.Operand) (k : Option ℤ × List model.Operand → Result B Fault) (h : Option ℤ × List model.Operand → Result B Fault)
-    → ((z : Option ℤ) (ps : List model.Operand) → k (z, ps) ≡ h (z, map bare ps)) → refusing.◌>>=◌ (bound_of t os) k ≡ refusing.◌>>=◌ (bound_of t (map bare os)) h
-bound_bare true [] k h same = same None []
-bound_bare {B} true (o ∷ os) k h same = ap (λ m. refusing.◌>>=◌ (refusing.◌>>=◌ m (λ z. Ok (Some z, os))) k) (integer_bare o) ∙ go (integer_of (bare o))
-  where
-    go : (m : Result ℤ Fault) → refusing.◌>>=◌ (refusing.◌>>=◌ m (λ z. Ok (Some z, os))) k ≡ refusing.◌>>=◌ (refusing.◌>>=◌ m (λ z. Ok (Some z, map bare os))) h
-    go (Ok z) = same (Some z) os
-    go (Err f) = refl
-bound_bare false os k h same = same None os
-
-items_bare : (fs : List Form) (os : List model.Operand) → items_of fs os ≡ items_of fs (map bare os)
-items_bare [] os = refl
-items_bare (AtForm ∷ fs) [] = refl
-items_bare (AtForm ∷ fs) (o ∷ os) =
-    ap₂ (λ (m : Result Item Fault) (n : Result (List Item) Fault). refusing.◌>>=◌ m (λ i. refusing.◌>>=◌ n (λ is. Ok (i ∷ is)))) (item_bare o) (items_bare fs os)
-items_bare (SliceForm a b c ∷ fs) os =
-    bound_bare a os _ _ (λ x ps. bound_bare b ps _ _ (λ y qs. bound_bare c qs _ _ (λ z ns. ap (λ (n : Result (List Item) Fault). refusing.◌>>=◌ n (λ is. Ok (Slice x y z ∷ is))) (items_bare fs ns))))
-items_bare (EllipsisForm ∷ fs) os = ap (λ (n : Result (List Item) Fault). refusing.◌>>=◌ n (λ is. Ok (Ellipsis ∷ is))) (items_bare fs os)
-items_bare (NewAxisForm ∷ fs) os = ap (λ (n : Result (List Item) Fault). refusing.◌>>=◌ n (λ is. Ok (NewAxis ∷ is))) (items_bare fs os)
-
-choose_bare : (x : IndexValue) (t : model.Operand) (os : List model.Operand) → choose_of_first (contents.index_of x).0 t os ≡ choose_of_first (contents.index_of x).0 t (map bare os)
-choose_bare (index.Items xs) t os =
-    ap (λ (n : Result (List Item) Fault). refusing.◌>>=◌ (array_of t) (λ g. refusing.◌>>=◌ n (λ is. choose_items is g))) (items_bare (map (λ (x : ItemParts). x.0) (map contents.item_of xs.items)) os)
-choose_bare (index.Field n) t os = refl
-
--- what the values of an index stand for, and the session once they are used
-abbrev bare_value : model_value.Value → model.Operand
-bare_value (model_value.Int z) = model.Plain (model.Int z)
-bare_value (model_value.Truth t) = model.Plain (model.Truth t)
-bare_value (model_value.Scalar k z) = model.Plain (model.Scalar k z)
-bare_value (model_value.Array b g) = model.Elements false g []
-bare_value (model_value.Row b g) = model.Elements true g []
+abbrev seen : (Base → List ℕ) → Usage → model_value.Value → model.Operand
+seen bytes u (model_value.Int z) = model.Plain (model.Int z)
+seen bytes u (model_value.Truth t) = model.Plain (model.Truth t)
+seen bytes u (model_value.Scalar k z) = model.Plain (model.Scalar k z)
+seen bytes u (model_value.Array b g) = cond (is_used u false) (elements_over false g (bytes b)) (model.Elements false g [])
+seen bytes u (model_value.Row b g) = cond (is_used u true) (elements_over true g (bytes b)) (model.Elements true g [])
 
 abbrev mark : Usage → model_value.Value → Running → Running
 mark u (model_value.Array b g) r = cond (is_used u false) (after (Use b (byte_places g)) r) r
 mark u (model_value.Row b g) r = cond (is_used u true) (after (Use b (byte_places g)) r) r
 mark u v r = r
 
+abbrev all_seen : (Base → List ℕ) → List (Usage × model_value.Value) → List model.Operand
+all_seen bytes vs = map (λ (v : Usage × model_value.Value). seen bytes v.0 v.1) vs
+
 abbrev all_marks : List (Usage × model_value.Value) → Running → Running
 all_marks [] r = r
 all_marks (v ∷ vs) r = all_marks vs (mark v.0 v.1 r)
 
-elements_used : {A : Type 0} (i : Inputs) (t is_row : Bool) (b : Base) (g : Geo) (go : model.Operand → Eval A) (r : Running)
-    → ((o : model.Operand) → go o ≡ go (bare o)) → run i (elements t is_row b g >>= go) r ≡ run i (go (model.Elements is_row g [])) (cond t (after (Use b (byte_places g)) r) r)
-elements_used i true is_row b g go r h = ap (λ e. run i e (after (Use b (byte_places g)) r)) (h (model.Elements is_row g (contents_in g.element (length g.places) (reply i (Use b (byte_places g)) r))))
-elements_used i false is_row b g go r h = refl
+elements_seen : {A : Type 0} (i : Inputs) (t is_row : Bool) (b : Base) (g : Geo) (go : model.Operand → Eval A) (r : Running)
+    → run i (elements t is_row b g >>= go) r ≡ run i (go (cond t (elements_over is_row g (r.bytes b)) (model.Elements is_row g []))) (cond t (after (Use b (byte_places g)) r) r)
+elements_seen i true is_row b g go r = refl
+elements_seen i false is_row b g go r = refl
 
-one_used : {A : Type 0} (i : Inputs) (u : Usage) (v : model_value.Value) (go : model.Operand → Eval A) (r : Running)
-    → ((o : model.Operand) → go o ≡ go (bare o)) → run i (use_operand u v >>= go) r ≡ run i (go (bare_value v)) (mark u v r)
-one_used i u (model_value.Int z) go r h = refl
-one_used i u (model_value.Truth t) go r h = refl
-one_used i u (model_value.Scalar k z) go r h = refl
-one_used i u (model_value.Array b g) go r h = elements_used i (is_used u false) false b g go r h
-one_used i u (model_value.Row b g) go r h = elements_used i (is_used u true) true b g go r h
+one_seen : {A : Type 0} (i : Inputs) (u : Usage) (v : model_value.Value) (go : model.Operand → Eval A) (r : Running)
+    → run i (use_operand u v >>= go) r ≡ run i (go (seen r.bytes u v)) (mark u v r)
+one_seen i u (model_value.Int z) go r = refl
+one_seen i u (model_value.Truth t) go r = refl
+one_seen i u (model_value.Scalar k z) go r = refl
+one_seen i u (model_value.Array b g) go r = elements_seen i (is_used u false) false b g go r
+one_seen i u (model_value.Row b g) go r = elements_seen i (is_used u true) true b g go r
 
--- where the contents of operands say nothing of what goes on
-pub each_used : {A : Type 0} (i : Inputs) (vs : List (Usage × model_value.Value)) (go : List model.Operand → Eval A) (r : Running)
-    → ((os : List model.Operand) → go os ≡ go (map bare os)) → run i (operands vs go) r ≡ run i (go (map (λ (v : Usage × model_value.Value). bare_value v.1) vs)) (all_marks vs r)
-each_used i [] go r h = refl
-each_used i (v ∷ vs) go r h =
-    one_used i v.0 v.1 (λ o. operands vs (λ os. go (o ∷ os))) r (λ o. ap (operands vs) (λ k os. (h (o ∷ os) ∙ sym (h (bare o ∷ os) ∙ ap (λ p. go (p ∷ map bare os)) (sym (twice_bare o)))) k))
-    ∙ each_used i vs (λ os. go (bare_value v.1 ∷ os)) (mark v.0 v.1 r) (λ os. h (bare_value v.1 ∷ os) ∙ ap (λ p. go (p ∷ map bare os)) (bare_is v.1))
-  where
-    twice_bare : (o : model.Operand) → bare o ≡ bare (bare o)
-    twice_bare (model.Plain n) = refl
-    twice_bare (model.Elements row g cs) = refl
+marked_alike : (t : Bool) (b : Base) (ps : List ℕ) (r : Running) → (cond t (after (Use b ps) r) r).bytes ≡ r.bytes
+marked_alike true b ps r = refl
+marked_alike false b ps r = refl
 
-    bare_is : (v : model_value.Value) → bare (bare_value v) ≡ bare_value v
-    bare_is (model_value.Int z) = refl
-    bare_is (model_value.Truth t) = refl
-    bare_is (model_value.Scalar k z) = refl
-    bare_is (model_value.Array b g) = refl
-    bare_is (model_value.Row b g) = refl
+mark_bytes : (u : Usage) (v : model_value.Value) (r : Running) → (mark u v r).bytes ≡ r.bytes
+mark_bytes u (model_value.Int z) r = refl
+mark_bytes u (model_value.Truth t) r = refl
+mark_bytes u (model_value.Scalar k z) r = refl
+mark_bytes u (model_value.Array b g) r = marked_alike (is_used u false) b (byte_places g) r
+mark_bytes u (model_value.Row b g) r = marked_alike (is_used u true) b (byte_places g) r
+
+each_seen : {A : Type 0} (i : Inputs) (vs : List (Usage × model_value.Value)) (go : List model.Operand → Eval A) (r : Running)
+    → run i (operands vs go) r ≡ run i (go (all_seen r.bytes vs)) (all_marks vs r)
+each_seen i [] go r = refl
+each_seen i (v ∷ vs) go r =
+    let o : model.Operand = seen r.bytes v.0 v.1 in
+    let m : Running = mark v.0 v.1 r in
+    one_seen i v.0 v.1 (λ o. operands vs (λ os. go (o ∷ os))) r
+    ∙ each_seen i vs (λ os. go (o ∷ os)) m
+    ∙ ap (λ bytes. run i (go (o ∷ all_seen bytes vs)) (all_marks vs m)) (mark_bytes v.0 v.1 r)
 
 -- ---- the same of the code's values
 
-bare_of : (v : Value) → bare_value (value_of v) ≡ unused_of v
-bare_of (Number (num.Int z)) = refl
-bare_of (Number (num.Bool t)) = refl
-bare_of (Number (num.Scalar k z)) = refl
-bare_of (Array a) = refl
-bare_of (Row a) = refl
+seen_unused : (bytes : Base → List ℕ) (v : Value) → seen bytes Unused (value_of v) ≡ unused_of v
+seen_unused bytes (Number (num.Int z)) = refl
+seen_unused bytes (Number (num.Bool t)) = refl
+seen_unused bytes (Number (num.Scalar k z)) = refl
+seen_unused bytes (Array a) = refl
+seen_unused bytes (Row a) = refl
+
+seen_item : (bytes : Base → List ℕ) (v : Value) → seen bytes ArraysOnly (value_of v) ≡ index_operand bytes v
+seen_item bytes (Number (num.Int z)) = refl
+seen_item bytes (Number (num.Bool t)) = refl
+seen_item bytes (Number (num.Scalar k z)) = refl
+seen_item bytes (Array a) = refl
+seen_item bytes (Row a) = refl
 
 mark_unused : (v : Value) (r : Running) → mark Unused (value_of v) r ≡ r
 mark_unused (Number (num.Int z)) r = refl
@@ -244,28 +217,29 @@ mark_array (Number (num.Scalar k z)) r = refl
 mark_array (Array a) r = refl
 mark_array (Row a) r = refl
 
-abbrev bares : List (Usage × model_value.Value) → List model.Operand
-bares vs = map (λ (v : Usage × model_value.Value). bare_value v.1) vs
+module _ (bytes : Base → List ℕ) where
+  bounds_seen : (a b c : Option Value) → all_seen bytes (unused (option_values a ++ option_values b ++ option_values c)) ≡ map unused_of (option_list a ++ option_list b ++ option_list c)
+  bounds_seen None None None = refl
+  bounds_seen None None (Some c) = λ i. seen_unused bytes c i ∷ []
+  bounds_seen None (Some b) None = λ i. seen_unused bytes b i ∷ []
+  bounds_seen None (Some b) (Some c) = λ i. seen_unused bytes b i ∷ seen_unused bytes c i ∷ []
+  bounds_seen (Some a) None None = λ i. seen_unused bytes a i ∷ []
+  bounds_seen (Some a) None (Some c) = λ i. seen_unused bytes a i ∷ seen_unused bytes c i ∷ []
+  bounds_seen (Some a) (Some b) None = λ i. seen_unused bytes a i ∷ seen_unused bytes b i ∷ []
+  bounds_seen (Some a) (Some b) (Some c) = λ i. seen_unused bytes a i ∷ seen_unused bytes b i ∷ seen_unused bytes c i ∷ []
 
-bounds_bare : (a b c : Option Value) → bares (unused (option_values a ++ option_values b ++ option_values c)) ≡ map unused_of (option_list a ++ option_list b ++ option_list c)
-bounds_bare None None None = refl
-bounds_bare None None (Some c) = λ i. bare_of c i ∷ []
-bounds_bare None (Some b) None = λ i. bare_of b i ∷ []
-bounds_bare None (Some b) (Some c) = λ i. bare_of b i ∷ bare_of c i ∷ []
-bounds_bare (Some a) None None = λ i. bare_of a i ∷ []
-bounds_bare (Some a) None (Some c) = λ i. bare_of a i ∷ bare_of c i ∷ []
-bounds_bare (Some a) (Some b) None = λ i. bare_of a i ∷ bare_of b i ∷ []
-bounds_bare (Some a) (Some b) (Some c) = λ i. bare_of a i ∷ bare_of b i ∷ bare_of c i ∷ []
+  item_seen : (x : ItemValue) → all_seen bytes (contents.used_of x) ≡ item_operands bytes x
+  item_seen (item.At v) = λ i. seen_item bytes v i ∷ []
+  item_seen (item.Slice a b c) = bounds_seen a b c
+  item_seen item.Ellipsis = refl
+  item_seen item.NewAxis = refl
+  item_seen item.Empty = refl
 
-item_bares : (x : ItemValue) → bares (contents.used_of x) ≡ operands_in_item x
-item_bares (item.At v) = λ i. bare_of v i ∷ []
-item_bares (item.Slice a b c) = bounds_bare a b c
-item_bares item.Ellipsis = refl
-item_bares item.NewAxis = refl
-
-items_bares : (xs : List ItemValue) → bares (flat_map (λ (x : ItemParts). x.1) (map contents.item_of xs)) ≡ operands_in xs
-items_bares [] = refl
-items_bares (x ∷ xs) = map-append (λ (v : Usage × model_value.Value). bare_value v.1) (contents.used_of x) (flat_map (λ (x : ItemParts). x.1) (map contents.item_of xs)) ∙ ap₂ (λ (a b : List model.Operand). a ++ b) (item_bares x) (items_bares xs)
+  items_seen : (xs : List ItemValue) → all_seen bytes (flat_map (λ (x : ItemParts). x.1) (map contents.item_of xs)) ≡ items_operands bytes xs
+  items_seen [] = refl
+  items_seen (x ∷ xs) =
+      map-append (λ (v : Usage × model_value.Value). seen bytes v.0 v.1) (contents.used_of x) (flat_map (λ (x : ItemParts). x.1) (map contents.item_of xs))
+      ∙ ap₂ (λ (a b : List model.Operand). a ++ b) (item_seen x) (items_seen xs)
 
 items_forms : (xs : List ItemValue) → map (λ (x : ItemParts). x.0) (map contents.item_of xs) ≡ forms_of xs
 items_forms [] = refl
@@ -293,29 +267,36 @@ items_marks (item.Slice a b c ∷ xs) r =
     ∙ marks_unused (option_list a ++ option_list b ++ option_list c) (flat_map (λ (x : ItemParts). x.1) (map contents.item_of xs)) r ∙ items_marks xs r
 items_marks (item.Ellipsis ∷ xs) r = items_marks xs r
 items_marks (item.NewAxis ∷ xs) r = items_marks xs r
+items_marks (item.Empty ∷ xs) r = items_marks xs r
 
-viewing_is : (x : IndexValue) → (contents.index_of x).0 ≡ viewing_of x
+pub viewing_is : (x : IndexValue) → (contents.index_of x).0 ≡ viewing_of x
 viewing_is (index.Field n) = refl
 viewing_is (index.Items xs) = ap Indexed (items_forms xs.items)
 
-operands_are : (x : IndexValue) → bares (contents.index_of x).1 ≡ operands_of x
-operands_are (index.Field n) = refl
-operands_are (index.Items xs) = items_bares xs.items
+operands_are : (bytes : Base → List ℕ) (x : IndexValue) → all_seen bytes (contents.index_of x).1 ≡ index_operands bytes x
+operands_are bytes (index.Field n) = refl
+operands_are bytes (index.Items xs) = items_seen bytes xs.items
 
 marks_are : (x : IndexValue) (r : Running) → all_marks (contents.index_of x).1 r ≡ index_marked x r
 marks_are (index.Field n) r = refl
 marks_are (index.Items xs) r = items_marks xs.items r
 
--- what goes on with what an index chooses of a value
-pub index_chosen : {A : Type 0} (i : Inputs) (t : Value) (x : IndexValue) (go : model.Operand → Result model.Chosen Fault → Eval A) (r : Running)
-    → run i (use_operand Unused (value_of t) >>= λ o. operands (contents.index_of x).1 (λ os. go o (choose_of_first (contents.index_of x).0 o os))) r
-    ≡ run i (go (unused_of t) (choose_of_first (viewing_of x) (unused_of t) (operands_of x))) (index_marked x r)
-index_chosen i t x go r =
+-- what goes on with a value and the operands of an index
+pub index_used : {A : Type 0} (i : Inputs) (t : Value) (x : IndexValue) (go : Viewing → model.Operand → List model.Operand → Eval A) (r : Running)
+    → run i (use_operand Unused (value_of t) >>= λ o. operands (contents.index_of x).1 (go (contents.index_of x).0 o)) r
+    ≡ run i (go (viewing_of x) (unused_of t) (index_operands r.bytes x)) (index_marked x r)
+index_used i t x go r =
     let w : Viewing = (contents.index_of x).0 in
     let vs : List (Usage × model_value.Value) = (contents.index_of x).1 in
-    ap (λ s. run i (s >>= λ o. operands vs (λ os. go o (choose_of_first w o os))) r) (not_used t)
-    ∙ each_used i vs (λ os. go (unused_of t) (choose_of_first w (unused_of t) os)) r (λ os. ap (go (unused_of t)) (choose_bare x (unused_of t) os))
-    ∙ (λ j. run i (go (unused_of t) (choose_of_first (viewing_is x j) (unused_of t) (operands_are x j))) (marks_are x r j))
+    ap (λ s. run i (s >>= λ o. operands vs (go w o)) r) (not_used t)
+    ∙ each_seen i vs (go w (unused_of t)) r
+    ∙ (λ j. run i (go (viewing_is x j) (unused_of t) (operands_are r.bytes x j)) (marks_are x r j))
+
+-- over the blocks of the session once it is noted
+pub index_used_in : {A : Type 0} (i : Inputs) (t : Value) (x : IndexValue) (go : Viewing → model.Operand → List model.Operand → Eval A) (r s : Running) → s ≡ index_marked x r
+    → run i (use_operand Unused (value_of t) >>= λ o. operands (contents.index_of x).1 (go (contents.index_of x).0 o)) r
+    ≡ run i (go (viewing_of x) (unused_of t) (index_operands s.bytes x)) s
+index_used_in i t x go r s mark = index_used i t x go r ∙ (λ j. run i (go (viewing_of x) (unused_of t) (index_operands (sym (index_kept x r s mark) j) x)) (sym mark j))
 
 -- of a number nothing is chosen, and nothing is written to it
 pub nothing_chosen : (n : Num) (x : IndexValue) (os : List model.Operand) (y : model.Chosen) → choose_of_first (viewing_of x) (unused_of (Number n)) os ≡ Ok y → ⊥

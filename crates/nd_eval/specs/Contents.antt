@@ -43,6 +43,7 @@ used_of (item.At v) = (operand.ArraysOnly, value_of v) ∷ []
 used_of (item.Slice start stop step) = unused (option_values start ++ option_values stop ++ option_values step)
 used_of item.Ellipsis = []
 used_of item.NewAxis = []
+used_of item.Empty = []
 
 abbrev pub item_of : ItemValue → ItemParts
 item_of x = (form_of x, used_of x)

@@ -5,14 +5,15 @@ use Rattle.nd_model.specs.Running as running
 use Rattle.nd_model.specs.Running.{Running}
 use Rattle.nd_model.specs.Evaluation.{Eval}
 use Rattle.nd_heap.specs.Values.{base_of, geo_of, value_of}
+use Rattle.nd_choice.specs.Selections.{selected}
 use Rattle.nd_choice.specs.Targets.{writes_to}
 use Rattle.nd_operation.specs.declared.stop.Stop.{Stop}
 use Rattle.nd_eval.specs.declared.evaluator.Evaluator.{Evaluator}
 use Rattle.nd_eval.specs.declared.effect.Effect.{Effect}
-use Rattle.nd_eval.specs.declared.effect.Effect.TheVariants.{Nothing, Print, Save, Bind, Unbind, Store, Update}
+use Rattle.nd_eval.specs.declared.effect.Effect.TheVariants.{Nothing, Print, Save, Bind, Unbind, Store, Scatter, Update, UpdateChosen}
 use Rattle.nd_eval.specs.Ends.{Evaluates, EvaluatesInLimit, session_of}
 use Rattle.nd_eval.specs.Uses.{IsHeld, operand_over}
-use Rattle.nd_store.specs.Storable.{IsStorable}
+use Rattle.nd_store.specs.Storable.{IsCopyUpdatable, IsStorable, IsStorableIn, copy_updates}
 use Rattle.nd_store.specs.Updatable.{IsUpdatable, updates}
 use Rattle.nd_syntax.specs.Syntax.{binary_op}
 use Rattle.nd_types.specs.Kinds.{kind_of}
@@ -25,7 +26,9 @@ effect_of bytes (Save n file) = running.Saves (string_bytes n) file.items
 effect_of bytes (Bind n v) = running.Binding (string_bytes n) (value_of v)
 effect_of bytes (Unbind n) = running.Unbinding (string_bytes n)
 effect_of bytes (Store target v) = running.Storing (base_of target.base) (writes_to (geo_of target) (operand_over bytes v))
+effect_of bytes (Scatter b s v) = running.Storing (base_of b) (writes_to (selected s) (operand_over bytes v))
 effect_of bytes (Update kind op target v) = running.Storing (base_of target.base) (updates (kind_of kind) (binary_op op) bytes target v)
+effect_of bytes (UpdateChosen kind op b s copy v) = running.Storing (base_of b) (copy_updates (kind_of kind) (binary_op op) bytes (selected s) copy v)
 
 -- what is bound lies in its block, what is stored may be stored, and an operator may be applied in place
 abbrev pub IsReady : Running → Effect → Type 0
@@ -35,7 +38,9 @@ IsReady r (Save n file) = Unit {0}
 IsReady r (Bind n v) = IsHeld r v
 IsReady r (Unbind n) = Unit {0}
 IsReady r (Store target v) = IsStorable r target v
+IsReady r (Scatter b s v) = IsStorableIn r (base_of b) (selected s) v
 IsReady r (Update kind op target v) = IsUpdatable (kind_of kind) (binary_op op) r target v
+IsReady r (UpdateChosen kind op b s copy v) = IsCopyUpdatable (kind_of kind) (binary_op op) r (base_of b) (selected s) copy v
 
 -- an effect of an evaluation, over the blocks as they are after it
 abbrev pub EvaluatesEffect : Result Effect Stop → Evaluator → Eval running.Effect → Evaluator → Type 0

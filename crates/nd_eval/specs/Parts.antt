@@ -1,27 +1,28 @@
 -- Parts of the meaning, as the functions work them out.
-use Rattle.std.specs.Prelude.{ℕ, ℤ, pos, List, [], ◌∷◌, ◌++◌, map, Option, Some, None, Result, Ok}
+use Rattle.std.specs.Prelude.{ℕ, ℤ, pos, Bool, true, false, List, [], ◌∷◌, ◌++◌, map, Option, Some, None, Result, Ok, Err}
 use Rattle.std.specs.List.{flat_map}
 use Rattle.nd_model.specs.View.{Geo}
 use Rattle.nd_model.specs.Content.{Content}
+use Rattle.nd_model.specs.Value as given
 use Rattle.nd_model.specs.Value.{Base, Value}
 use Rattle.nd_model.specs.Running.{Effect, Storing}
 use Rattle.nd_model.specs.Refusing as refusing
-use Rattle.nd_model.specs.Fault.{Fault, Stmt, BadArgument}
+use Rattle.nd_model.specs.Fault.{Fault, Stmt, NotAnArray}
 use Rattle.nd_model.specs.Calls.{Fill, DType, Ufunc}
 use Rattle.nd_model.specs.Creation.{arange, array_of_list, astype, copy_array, filled, full}
 use Rattle.nd_model.specs.Elementwise.{binary}
 use Rattle.nd_model.specs.Files.{save}
 use Rattle.nd_model.specs.Reductions.{reduce_array, accumulate_array, reduce_call, accumulate_call}
 use Rattle.nd_model.specs.Writing.{assignment_writes}
-use Rattle.nd_model.specs.Augmenting.{augment_item, augment_name, in_place_writes, operand_of_made}
+use Rattle.nd_model.specs.Augmenting.{array_in_place, augment_item, augment_name, in_place_writes, operand_of_made}
 use Rattle.nd_model.specs.Syntax.{BinaryOp, Expr, Bound, Omitted, Given, Elements, NoElement, AndElement, Element, Single, Nested, Fold, Reduce, Accumulate, Method, Copy, AsType, Transpose, Reshape, ViewAs, Reduced, Accumulated, Axis, DefaultAxis, AllAxes, AtAxis, Exprs, NoExpr, AndExpr, Index, Field, Items, IndexItems, IndexItem, AndItem, NoItem, At, Slice, Ellipsis, NewAxis, Listed}
 use Rattle.nd_model.specs.Cells.{Suffix, AtIndex, OfMethod}
-use Rattle.nd_model.specs.Evaluation.{Eval, Gives, Refuses, ◌>>=◌}
+use Rattle.nd_model.specs.Evaluation.{Eval, Gives, ◌>>=◌}
 use Rattle.nd_model.specs.Operand.{Operand, Usage, Whole, ArraysOnly, RowsOnly, Unused, Made}
-use Rattle.nd_model.specs.Index.{Form, AtForm, SliceForm, EllipsisForm, NewAxisForm}
+use Rattle.nd_model.specs.Index.{Form, AtForm, SliceForm, EllipsisForm, NewAxisForm, EmptyForm}
 use Rattle.nd_model.specs.Viewing.{Viewing, Indexed, Fielded, Transposed, Reshaped, BroadcastTo, ViewedAs}
 use Rattle.nd_model.specs.Operation.{Computes, Views, perform, act_on, give, store_in}
-use Rattle.nd_model.specs.Meaning.{is_given, one, two, along, value, assignment_deed}
+use Rattle.nd_model.specs.Meaning.{is_given, is_empty_list, one, two, along, value, assignment_deed}
 
 -- what is computed of one value
 abbrev pub make_value : (Operand → Result Made Fault) → Value → Eval Value
@@ -112,18 +113,39 @@ abbrev pub bound_exprs : Bound → List Expr
 bound_exprs Omitted = []
 bound_exprs (Given e) = e ∷ []
 
+-- ---- lists
+
+-- the expressions in a list from left to right
+abbrev mutual
+  pub exprs_in : Elements → List Expr
+  exprs_in NoElement = []
+  exprs_in (AndElement x xs) = exprs_of_element x ++ exprs_in xs
+
+  pub exprs_of_element : Element → List Expr
+  exprs_of_element (Single e) = e ∷ []
+  exprs_of_element (Nested es) = exprs_in es
+
+-- `np.array` of a list
+abbrev pub list_value : Element → Option DType → Eval Value
+list_value x t = values (exprs_of_element x) >>= λ vs. perform (Computes (array_of_list x t)) (wholes vs)
+
 -- ---- indexes
 
 -- how an item is written, and the values of its expressions with how they are used
 abbrev pub ItemParts : Type 0
 ItemParts = Form × List (Usage × Value)
 
+-- a list, which is the array of it unless it has no number
+abbrev pub list_parts : (is_empty : Bool) → Elements → Eval ItemParts
+list_parts true es = Gives (EmptyForm, [])
+list_parts false es = list_value (Nested es) None >>= λ v. Gives (AtForm, (ArraysOnly, v) ∷ [])
+
 abbrev pub item_parts : IndexItem → Eval ItemParts
 item_parts (At e) = value e >>= λ v. Gives (AtForm, (ArraysOnly, v) ∷ [])
 item_parts (Slice a b c) = values (bound_exprs a) >>= λ xs. values (bound_exprs b) >>= λ ys. values (bound_exprs c) >>= λ zs. Gives (SliceForm (is_given a) (is_given b) (is_given c), unused (xs ++ ys ++ zs))
 item_parts Ellipsis = Gives (EllipsisForm, [])
 item_parts NewAxis = Gives (NewAxisForm, [])
-item_parts (Listed es) = Refuses (Stmt BadArgument)
+item_parts (Listed es) = list_parts (is_empty_list es) es
 
 -- from left to right, and then it goes on
 abbrev pub items_then : {A : Type 0} → IndexItems → (List ItemParts → Eval A) → Eval A
@@ -157,9 +179,19 @@ suffix_value (OfMethod m) v = method_value m v
 abbrev pub assignment : Value → Value → IndexParts → Eval Effect
 assignment v t x = act_on (assignment_deed x.0) ((Whole, v) ∷ (Unused, t) ∷ x.1)
 
+-- bytes that are stored where a value lies
+abbrev pub stored_in : List (ℕ × ℕ) → Value → Result Effect Fault
+stored_in ws (given.Array b g) = Ok (Storing b ws)
+stored_in ws (given.Row b g) = Ok (Storing b ws)
+stored_in ws v = Err (Stmt NotAnArray)
+
 -- `x op= y` of an array: what is stored in its base, whose elements have these contents
 abbrev pub update : BinaryOp → Base → Geo → List Content → Operand → Result Effect Fault
 update op b g cs y = refusing.◌>>=◌ (in_place_writes op g cs y) (λ ws. Ok (Storing b ws))
+
+-- `t[..] op= y` of a copy with these contents, once all is used: what the operator leaves of it is assigned to t
+abbrev pub copy_update : BinaryOp → Geo → List Content → (y : Operand) → Viewing → Value → (t : Operand) → List Operand → Result Effect Fault
+copy_update op g cs y w v t os = refusing.◌>>=◌ (array_in_place op g cs y) (λ x. refusing.◌>>=◌ (assignment_writes w x t os) (λ ws. stored_in ws v))
 
 -- `n op= y`
 abbrev pub augmentation : List ℕ → BinaryOp → Value → Value → Eval Effect
@@ -187,20 +219,6 @@ filled_value f es t = values es >>= λ vs. perform (Computes (filled f t)) (unus
 -- `np.full`
 abbrev pub full_value : List Expr → Expr → Option DType → Eval Value
 full_value es e t = values es >>= λ vs. value e >>= λ v. perform (Computes (full t)) (wholes vs ++ (Whole, v) ∷ [])
-
--- the expressions in a list from left to right
-abbrev mutual
-  pub exprs_in : Elements → List Expr
-  exprs_in NoElement = []
-  exprs_in (AndElement x xs) = exprs_of_element x ++ exprs_in xs
-
-  pub exprs_of_element : Element → List Expr
-  exprs_of_element (Single e) = e ∷ []
-  exprs_of_element (Nested es) = exprs_in es
-
--- `np.array` of a list
-abbrev pub list_value : Element → Option DType → Eval Value
-list_value x t = values (exprs_of_element x) >>= λ vs. perform (Computes (array_of_list x t)) (wholes vs)
 
 -- `np.arange`
 abbrev pub range_value : Bound → Expr → Bound → Option DType → Eval Value

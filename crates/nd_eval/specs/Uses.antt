@@ -1,6 +1,7 @@
 -- The uses of values: what is noted of them, and the operands that they are in their blocks.
-use Rattle.std.specs.Prelude.{List, [], ◌∷◌}
-use Rattle.nd_model.specs.View.{byte_places}
+use Rattle.std.specs.Prelude.{◌≡◌, Bool, true, false, List, [], ◌∷◌}
+use Rattle.nd_model.specs.Operand as operand
+use Rattle.nd_model.specs.View.{ElementType, byte_places}
 use Rattle.nd_model.specs.Running.{Running, Use, after}
 use Rattle.nd_heap.specs.declared.value.Value.{Value}
 use Rattle.nd_heap.specs.declared.value.Value.TheVariants.{Number, Array, Row}
@@ -37,6 +38,18 @@ index_marked (index.Items xs) r = items_marked xs.items r
 abbrev pub all_marked : List Value → Running → Running
 all_marked [] r = r
 all_marked (v ∷ vs) r = all_marked vs (marked v r)
+
+-- an array of elements of this type, if it is one
+abbrev pub IsOfType : ElementType → Value → Type 0
+IsOfType t (Number n) = Unit {0}
+IsOfType t (Array a) = (geo_of a).element ≡ t
+IsOfType t (Row a) = Unit {0}
+
+-- what an index with arrays gives of an operand has elements of its type
+abbrev pub HasTypeOf : (is_advanced : Bool) → operand.Operand → Value → Type 0
+HasTypeOf false o v = Unit {0}
+HasTypeOf true (operand.Plain n) v = Unit {0}
+HasTypeOf true (operand.Elements row g cs) v = IsOfType g.element v
 
 -- a number or a row
 abbrev pub IsNoArray : Value → Type 0

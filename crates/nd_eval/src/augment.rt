@@ -1,7 +1,8 @@
 //! Assignments with an operator.
 
-ghost use Rattle.std.specs.Prelude.{◌≡◌, ◌+◌, ◌<◌, ◌^◌, IfOk, MatchResult};
+ghost use Rattle.std.specs.Prelude.{◌≡◌, true, ◌+◌, ◌<◌, ◌^◌, IfOk, MatchResult};
 ghost use Rattle.nd_model.specs.Evaluation as evaluation;
+ghost use Rattle.nd_model.specs.Index.{has_array};
 ghost use Rattle.nd_model.specs.Meaning as meaning;
 ghost use Rattle.nd_model.specs.Sound.{IsHeldView};
 ghost use Rattle.nd_model.specs.Syntax.{Augment, AugmentItem};
@@ -12,18 +13,19 @@ ghost use Rattle.nd_heap.specs.declared.value.Value.TheVariants as values;
 ghost use Rattle.nd_session.specs.Live.{live};
 ghost use Rattle.nd_operation.specs.Contents.{contents_over, unused_of};
 ghost use Rattle.nd_operation.specs.Ends.{Makes};
-ghost use Rattle.nd_choice.specs.Indexing.{operands_of, viewing_of};
+ghost use Rattle.nd_choice.specs.Indexing.{index_operands, operands_of, viewing_of};
 ghost use Rattle.nd_eval.specs.Contents as contents;
 ghost use Rattle.nd_eval.specs.Effects.{EvaluatesEffect, IsReady, effect_of};
 ghost use Rattle.nd_eval.specs.Ends.{session_of};
 ghost use Rattle.nd_eval.specs.Parts as parts;
-ghost use Rattle.nd_eval.specs.Uses.{IsHeld, IsNoArray, operand_over};
+ghost use Rattle.nd_eval.specs.Uses.{HasTypeOf, IsHeld, IsNoArray, operand_over};
 
 use crate::effect::Effect;
 use crate::evaluator::Evaluator;
+use crate::exec::store_effect;
 use crate::operation::{mark_index, mark_operand, operand_in};
-use nd_choice::{IndexValue, assignment_target};
-use nd_operation::{OfTwo, Stop, kind_in_place, make_of_two, not_an_array};
+use nd_choice::{IndexValue, Target, assignment_target, is_advanced};
+use nd_operation::{Elements, OfTwo, Operand, Stop, kind_in_place, make_of_two, not_an_array};
 use nd_session::{Array, Session, Value};
 use nd_syntax::{BinaryOp, Expr, Index};
 
@@ -55,6 +57,45 @@ fn update_effect(
     let operand = operand_in(session, &value);
     let kind = kind_in_place(session.allocator(), op, &array.view, &operand)?;
     Ok(Effect::Update(kind, op, array, value))
+}
+
+/// What an operator in place on a copy of the elements that an index with arrays chose comes to, once the elements of all are noted as
+/// used: the copy is then assigned to the elements.
+fn copy_update_effect(
+    session: &Session,
+    op: BinaryOp,
+    copy: Array,
+    value: Value,
+    target: &Value,
+    index: &IndexValue<'_>,
+) -> Result<Effect, Stop>
+    requires advanced { has_array (operands_of index.now) ≡ true }
+    requires copy { IsHeldView (live session.now) (base_of copy.base) (geo_of copy) }
+    requires value { IsHeld (live session.now) value }
+    requires target { IsHeld (live session.now) target.now }
+    requires types { HasTypeOf true (unused_of target.now) (values.Array copy) }
+    ensures effect { Makes (effect_of (live session.now).bytes) result (parts.copy_update
+        (binary_op op) (geo_of copy)
+        (contents_over (geo_of copy) ((live session.now).bytes (base_of copy.base)))
+        (operand_over (live session.now).bytes value) (viewing_of index.now) (value_of target.now)
+        (unused_of target.now) (index_operands (live session.now).bytes index.now)) }
+    ensures ready { IfOk result (IsReady (live session.now)) }
+{
+    let operand = operand_in(session, &value);
+    let kind = kind_in_place(session.allocator(), op, &copy.view, &operand)?;
+    let copied = Operand::Elements(Elements {
+        view: &copy.view,
+        block: session.bytes(copy.base),
+        is_row: false,
+    });
+    let found = assignment_target(session, &copied, target, index)?;
+    let Value::Array(array) = target else {
+        return Err(Stop::Refused(not_an_array()));
+    };
+    let Target::Elements(selection) = found else {
+        return Err(Stop::Refused(not_an_array()));
+    };
+    Ok(Effect::UpdateChosen(kind, op, array.base, selection, copy, value))
 }
 
 impl Evaluator<'_> {
@@ -141,7 +182,7 @@ impl Evaluator<'_> {
             (evaluation.decide (parts.made_assignment (binary_op op)
             (operand_over (session_of self.old).bytes found.now)
             (operand_over (session_of self.old).bytes value.now) (viewing_of index.now)
-            (unused_of target.now) (operands_of index.now)))
+            (unused_of target.now) (index_operands (session_of self.old).bytes index.now)))
             (parts.store_made (value_of target.now))) self.new }
         ensures ready { IfOk result (IsReady (session_of self.new)) }
     {
@@ -149,18 +190,12 @@ impl Evaluator<'_> {
         let left = operand_in(self.session, found);
         let right = operand_in(self.session, value);
         let new = make_of_two(alloc, OfTwo::Operator(op), &left, &right)?;
-        let view = assignment_target(alloc, &new.operand(), target, index)?;
+        let elements = assignment_target(self.session, &new.operand(), target, index)?;
         let made = self.give(new)?;
         match target {
             Value::Number(_) => Err(Stop::Refused(not_an_array())),
-            Value::Array(array) => {
-                let base = array.base;
-                Ok(Effect::Store(Array { base, view }, made))
-            }
-            Value::Row(row) => {
-                let base = row.base;
-                Ok(Effect::Store(Array { base, view }, made))
-            }
+            Value::Array(array) => Ok(store_effect(array.base, elements, made)),
+            Value::Row(row) => Ok(store_effect(row.base, elements, made)),
         }
     }
 
@@ -176,6 +211,8 @@ impl Evaluator<'_> {
         requires value { IsHeld (session_of self.old) value }
         requires found { IsHeld (session_of self.old) found }
         requires target { IsHeld (session_of self.old) target.now }
+        requires types { HasTypeOf (has_array (operands_of index.now)) (unused_of target.now)
+            found }
         requires room { (session_of self.old).next + 1 < 2 ^ 64 }
         ensures effect { EvaluatesEffect result self.old (parts.item_augmentation (binary_op op)
             (value_of value) (value_of found) (value_of target.now)
@@ -186,7 +223,12 @@ impl Evaluator<'_> {
         mark_operand(self.session, &found)?;
         mark_index(self.session, index)?;
         match array_of(found) {
-            Ok(array) => update_effect(self.session, op, array, value),
+            Ok(array) => {
+                if is_advanced(index) {
+                    return copy_update_effect(self.session, op, array, value, target, index);
+                }
+                update_effect(self.session, op, array, value)
+            }
             Err(found) => self.assign_made(op, &value, &found, target, index),
         }
     }

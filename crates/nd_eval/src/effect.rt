@@ -1,6 +1,7 @@
 //! Effects.
 
-use nd_session::{Array, Value};
+use nd_choice::Selection;
+use nd_session::{Array, Base, Value};
 use nd_syntax::BinaryOp;
 use nd_types::Kind;
 
@@ -15,6 +16,10 @@ pub(crate) enum Effect {
     Unbind(String),
     /// The elements of an array get those of a value.
     Store(Array, Value),
+    /// Elements that an index with arrays chose in a base get those of a value.
+    Scatter(Base, Selection, Value),
     /// The elements of an array get what an operator of this kind gives of them and a value.
     Update(Kind, BinaryOp, Array, Value),
+    /// Elements that an index with arrays chose in a base get what an operator of this kind gives of a copy of them and a value.
+    UpdateChosen(Kind, BinaryOp, Base, Selection, Array, Value),
 }

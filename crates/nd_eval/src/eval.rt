@@ -1,29 +1,29 @@
 //! Expressions.
 
 ghost use Rattle.std.specs.Prelude.{◌≡◌, ◌+◌, ◌<◌, ◌^◌, IfOk, is_some, map, option_map};
-ghost use Rattle.nd_model.specs.Cells.{chained, items_of};
+ghost use Rattle.nd_model.specs.Cells.{chained, elements_of, items_of};
 ghost use Rattle.nd_model.specs.Evaluation as evaluation;
 ghost use Rattle.nd_model.specs.Meaning as meaning;
 ghost use Rattle.nd_model.specs.Meaning.{along, is_given};
 ghost use Rattle.nd_model.specs.Operation as operation;
-ghost use Rattle.nd_model.specs.Syntax.{Called, Items, NewArray};
-ghost use Rattle.nd_model.specs.Tokens.{tokens_of, tokens_of_call, tokens_of_fold, tokens_of_index, tokens_of_item, tokens_of_all, tokens_of_bound, tokens_of_element, tokens_of_method};
+ghost use Rattle.nd_model.specs.Syntax.{Called, Items, Listed, Nested, NewArray};
+ghost use Rattle.nd_model.specs.Tokens.{tokens_of, tokens_of_elements, tokens_of_call, tokens_of_fold, tokens_of_index, tokens_of_item, tokens_of_all, tokens_of_bound, tokens_of_element, tokens_of_method};
 ghost use Rattle.nd_syntax.specs.Lists.{operation_of};
 ghost use Rattle.nd_syntax.specs.Syntax.{axis_of, bound_of, expr_of, call_of, element_of, fold_of, index_of, item_of, method_of, suffix_of};
 ghost use Rattle.nd_heap.specs.Values.{value_of};
 ghost use Rattle.nd_eval.specs.Contents as contents;
 ghost use Rattle.nd_eval.specs.Contents.{option_values, values_of};
 ghost use Rattle.nd_eval.specs.Ends.{Evaluates, session_of};
-ghost use Rattle.nd_eval.specs.Uses.{IsHeld};
+ghost use Rattle.nd_eval.specs.Uses.{HasTypeOf, IsHeld};
+ghost use Rattle.nd_model.specs.Index.{has_array};
+ghost use Rattle.nd_choice.specs.Indexing.{operands_of};
+ghost use Rattle.nd_operation.specs.Contents.{unused_of};
 ghost use Rattle.nd_eval.specs.Parts as parts;
 ghost use Rattle.nd_eval.specs.Suffixes.{axis_tokens, suffix_tokens};
 ghost use Rattle.nd_operation.specs.New.{made_of_one};
 ghost use Rattle.nd_operation.specs.OfTwo.{made_of_two};
 ghost use Rattle.nd_syntax.specs.Calls.{dtype_of, fill_of, ufunc_of};
 ghost use Rattle.nd_fold.specs.Folds.{made_of_fold};
-ghost use Rattle.nd_operation.specs.declared.stop.Stop.TheVariants.{Refused};
-ghost use Rattle.nd_operation.specs.declared.fault.StmtFault.TheVariants.{Stmt};
-ghost use Rattle.nd_operation.specs.declared.fault.StmtError.TheVariants.{BadArgument};
 
 use crate::evaluator::Evaluator;
 use crate::operation::{mark_index, mark_operand, mark_operands, operand_in};
@@ -32,8 +32,8 @@ use nd_choice::{IndexValue, ItemValue, choose};
 use nd_files::InputSort;
 use nd_fold::Folding;
 use nd_operation::{
-    OfOne, OfTwo, StmtError, StmtFault, Stop, make_filled, make_full, make_list, make_of_one,
-    make_of_two, make_range,
+    OfOne, OfTwo, StmtError, StmtFault, Stop, is_empty_list, make_filled, make_full, make_list,
+    make_of_one, make_of_two, make_range,
 };
 use nd_session::Value;
 use nd_syntax::{
@@ -41,13 +41,6 @@ use nd_syntax::{
 };
 use nd_types::Num;
 use nd_ufunc::{BinaryUfunc, Single};
-
-/// The refusal of a form that is not built yet.
-pub(crate) fn unbuilt_form() -> Stop
-    ensures { result ≡ Refused (Stmt BadArgument) }
-{
-    Stop::Refused(StmtFault::Stmt(StmtError::BadArgument))
-}
 
 impl Evaluator<'_> {
     /// The value of a bound name.
@@ -398,7 +391,7 @@ impl Evaluator<'_> {
         self.give(new)
     }
 
-    /// Puts the values of the numbers of a list behind others, from left to right.
+    /// Puts the values of the numbers of an element of a list behind others, from left to right.
     #[cycle(value)]
     fn push_values(&mut self, values: &mut Vec<Value>, element: &Element) -> Result<(), Stop>
         requires { (session_of self.old).next + tokens_of_element (element_of element.now)
@@ -413,28 +406,39 @@ impl Evaluator<'_> {
                 values.push(found)?;
                 Ok(())
             }
-            Element::Nested(elements) => {
-                for nested in elements {
-                    self.push_values(values, nested)?;
-                }
-                Ok(())
-            }
+            Element::Nested(elements) => self.push_all(values, elements),
         }
     }
 
-    /// `np.array` of a list.
+    /// Puts the values of the numbers of a list behind others, from left to right.
     #[cycle(value)]
-    fn list_value(&mut self, element: &Element, dtype: &Option<DType>) -> Result<Value, Stop>
-        requires { (session_of self.old).next + tokens_of_element (element_of element.now) + 1
-            < 2 ^ 64 }
-        ensures { Evaluates value_of result self.old
-            (parts.list_value (element_of element.now) (option_map dtype_of dtype.now)) self.new }
+    fn push_all(&mut self, values: &mut Vec<Value>, elements: &[Element]) -> Result<(), Stop>
+        requires { (session_of self.old).next
+            + tokens_of_elements (elements_of (map element_of elements.now)) < 2 ^ 64 }
+        ensures { Evaluates (λ u. values_of values.new) result self.old
+            (parts.values_behind (values_of values.old)
+            (parts.exprs_in (elements_of (map element_of elements.now)))) self.new }
+    {
+        for element in elements {
+            self.push_values(values, element)?;
+        }
+        Ok(())
+    }
+
+    /// The array of a list, of the type that is written or else of its own.
+    #[cycle(value)]
+    fn list_value(&mut self, elements: &[Element], dtype: &Option<DType>) -> Result<Value, Stop>
+        requires { (session_of self.old).next
+            + tokens_of_elements (elements_of (map element_of elements.now)) + 1 < 2 ^ 64 }
+        ensures { Evaluates value_of result self.old (parts.list_value
+            (Nested (elements_of (map element_of elements.now))) (option_map dtype_of dtype.now))
+            self.new }
     {
         let alloc = self.session.allocator();
         let mut values = Vec::new(alloc);
-        self.push_values(&mut values, element)?;
+        self.push_all(&mut values, elements)?;
         mark_operands(self.session, &values)?;
-        let new = make_list(alloc, element, dtype, &values)?;
+        let new = make_list(alloc, elements, dtype, &values)?;
         self.give(new)
     }
 
@@ -449,7 +453,7 @@ impl Evaluator<'_> {
     {
         match element {
             Element::Single(value) => self.value_of_one(OfOne::ArrayOf(dtype), value),
-            Element::Nested(_) => self.list_value(element, dtype),
+            Element::Nested(elements) => self.list_value(elements, dtype),
         }
     }
 
@@ -501,7 +505,9 @@ impl Evaluator<'_> {
     /// What an index gives of a value that was found before.
     #[cycle(value)]
     fn index_into(&mut self, found: &Value, index: &Index) -> Result<Value, Stop>
-        requires { (session_of self.old).next + tokens_of_index (index_of index.now) < 2 ^ 64 }
+        requires held { IsHeld (session_of self.old) found.now }
+        requires room { (session_of self.old).next + tokens_of_index (index_of index.now) + 1
+            < 2 ^ 64 }
         ensures { Evaluates value_of result self.old
             (evaluation.◌>>=◌ (parts.index_parts (index_of index.now))
             (parts.choose_value (value_of found.now))) self.new }
@@ -542,7 +548,22 @@ impl Evaluator<'_> {
         Ok(values)
     }
 
-    /// An item of an index with the values of its expressions. A list is not built yet.
+    /// A list as an item of an index: the array of it, unless it has no number.
+    #[cycle(value)]
+    fn list_item(&mut self, elements: &[Element]) -> Result<ItemValue, Stop>
+        requires { (session_of self.old).next
+            + tokens_of_elements (elements_of (map element_of elements.now)) + 1 < 2 ^ 64 }
+        ensures { Evaluates contents.item_of result self.old
+            (parts.item_parts (Listed (elements_of (map element_of elements.now)))) self.new }
+    {
+        if is_empty_list(elements) {
+            return Ok(ItemValue::Empty);
+        }
+        let value = self.list_value(elements, &None)?;
+        Ok(ItemValue::At(value))
+    }
+
+    /// An item of an index with the values of its expressions.
     #[cycle(value)]
     fn item_value(&mut self, item: &IndexItem) -> Result<ItemValue, Stop>
         requires { (session_of self.old).next + tokens_of_item (item_of item.now) < 2 ^ 64 }
@@ -562,7 +583,7 @@ impl Evaluator<'_> {
             }
             IndexItem::Ellipsis => Ok(ItemValue::Ellipsis),
             IndexItem::NewAxis => Ok(ItemValue::NewAxis),
-            IndexItem::List(_) => Err(unbuilt_form()),
+            IndexItem::List(elements) => self.list_item(elements),
         }
     }
 
@@ -572,11 +593,15 @@ impl Evaluator<'_> {
         target: &Value,
         index: &IndexValue<'_>,
     ) -> Result<Value, Stop>
-        ensures { Evaluates value_of result self.old
+        requires held { IsHeld (session_of self.old) target.now }
+        requires room { (session_of self.old).next + 1 < 2 ^ 64 }
+        ensures value { Evaluates value_of result self.old
             (parts.choose_value (value_of target.now) (contents.index_of index.now)) self.new }
+        ensures types { IfOk result (HasTypeOf (has_array (operands_of index.now))
+            (unused_of target.now)) }
     {
         mark_index(self.session, index)?;
-        let chosen = choose(self.session.allocator(), target, index)?;
+        let chosen = choose(self.session, target, index)?;
         match target {
             Value::Number(_) => Err(Stop::Refused(StmtFault::Stmt(StmtError::NotAnArray))),
             Value::Array(array) => self.chosen_value(array, chosen),

@@ -1,13 +1,15 @@
 //! Statements.
 
-ghost use Rattle.std.specs.Prelude.{◌≡◌, ◌+◌, ◌<◌, ◌≤◌, ◌^◌, IfOk, OnOk, map};
+ghost use Rattle.std.specs.Prelude.{◌≡◌, ℕ, List, ◌+◌, ◌<◌, ◌≤◌, ◌^◌, IfOk, OnOk, map};
 ghost use Rattle.nd_model.specs.Running as running;
+ghost use Rattle.nd_model.specs.Running.{Running};
+ghost use Rattle.nd_model.specs.Value as model;
 ghost use Rattle.nd_model.specs.Meaning as meaning;
 ghost use Rattle.nd_model.specs.Cell.{statement};
 ghost use Rattle.nd_model.specs.Syntax.{Assign, Bind, Delete, Print};
 ghost use Rattle.nd_model.specs.Tokens.{tokens_of, tokens_of_all, tokens_of_stmt};
 ghost use Rattle.nd_syntax.specs.Syntax.{expr_of, index_of, stmt_of};
-ghost use Rattle.nd_heap.specs.Values.{value_of};
+ghost use Rattle.nd_heap.specs.Values.{base_of, value_of};
 ghost use Rattle.nd_input.specs.Values.{inputs_of};
 ghost use Rattle.nd_session.specs.Live.{live};
 ghost use Rattle.nd_eval.specs.Ends.{Ends, session_of};
@@ -15,7 +17,9 @@ ghost use Rattle.nd_eval.specs.Contents as contents;
 ghost use Rattle.nd_eval.specs.Effects.{EvaluatesEffect, EvaluatesEffectInLimit, IsReady, effect_of};
 ghost use Rattle.nd_eval.specs.Done.{output_of, outcome_of};
 ghost use Rattle.nd_model.specs.Cell.{limit_text};
-ghost use Rattle.nd_eval.specs.Uses.{IsHeld};
+ghost use Rattle.nd_eval.specs.Uses.{IsHeld, operand_over};
+ghost use Rattle.nd_choice.specs.Targets.{geo_in, writes_to};
+ghost use Rattle.nd_store.specs.Storable.{IsStorableIn};
 ghost use Rattle.nd_eval.specs.Parts as parts;
 ghost use Rattle.nd_eval.specs.Lines.{limit_effect};
 ghost use Rattle.nd_model.specs.Evaluation.{run};
@@ -23,10 +27,10 @@ ghost use Rattle.nd_model.specs.Evaluation.{run};
 use crate::effect::Effect;
 use crate::evaluator::Evaluator;
 use crate::operation::{mark_index, mark_operand, mark_operands, operand_in, operands_in};
-use nd_choice::{IndexValue, assignment_target};
+use nd_choice::{IndexValue, Target, assignment_target};
 use nd_operation::{StmtFault, Stop, not_an_array, print_line};
-use nd_session::{Array, Inputs, OutOfMemory, Session, Value};
-use nd_store::{store, update};
+use nd_session::{Array, Base, Inputs, OutOfMemory, Session, Value};
+use nd_store::{scatter, store, update, update_chosen};
 use nd_syntax::{Expr, Index, Stmt};
 
 /// What a statement gives to its cell: the text that it prints, and perhaps a file that it saves, by its name.
@@ -34,6 +38,19 @@ use nd_syntax::{Expr, Index, Stmt};
 pub struct Output {
     pub text: String,
     pub save: Option<(String, Vec<u8>)>,
+}
+
+/// What an assignment of a value to elements in a base comes to.
+pub(crate) fn store_effect(base: Base, target: Target, value: Value) -> Effect
+    ensures effect { (bytes : model.Base → List ℕ) → effect_of bytes result
+        ≡ running.Storing (base_of base) (writes_to (geo_in target) (operand_over bytes value)) }
+    ensures ready { (r : Running) → IsStorableIn r (base_of base) (geo_in target) value
+        → IsReady r result }
+{
+    match target {
+        Target::View(view) => Effect::Store(Array { base, view }, value),
+        Target::Elements(selection) => Effect::Scatter(base, selection, value),
+    }
 }
 
 impl Evaluator<'_> {
@@ -65,19 +82,12 @@ impl Evaluator<'_> {
     {
         mark_operand(self.session, &value)?;
         mark_index(self.session, index)?;
-        let alloc = self.session.allocator();
         let operand = operand_in(self.session, &value);
-        let view = assignment_target(alloc, &operand, target, index)?;
+        let found = assignment_target(self.session, &operand, target, index)?;
         match target {
             Value::Number(_) => Err(Stop::Refused(not_an_array())),
-            Value::Array(array) => {
-                let base = array.base;
-                Ok(Effect::Store(Array { base, view }, value))
-            }
-            Value::Row(row) => {
-                let base = row.base;
-                Ok(Effect::Store(Array { base, view }, value))
-            }
+            Value::Array(array) => Ok(store_effect(array.base, found, value)),
+            Value::Row(row) => Ok(store_effect(row.base, found, value)),
         }
     }
 
@@ -167,7 +177,11 @@ fn do_effect(session: &mut Session, effect: Effect) -> Result<Output, OutOfMemor
         Effect::Bind(name, bound) => session.bind(name, bound)?,
         Effect::Unbind(name) => session.unbind(name.as_str())?,
         Effect::Store(target, value) => store(session, &target, &value)?,
+        Effect::Scatter(base, selection, value) => scatter(session, base, &selection, &value)?,
         Effect::Update(kind, op, target, value) => update(session, op, kind, &target, &value)?,
+        Effect::UpdateChosen(kind, op, base, selection, copy, value) => {
+            update_chosen(session, op, kind, base, &selection, &copy, &value)?;
+        }
     }
     Ok(Output { text, save })
 }

@@ -1,20 +1,25 @@
 //! Operations: how values become operands, and results become values.
 
-ghost use Rattle.std.specs.Prelude.{◌≡◌, ◌+◌, ◌<◌, ◌^◌, [], IfOk, OnOk, slice_index};
+ghost use Rattle.std.specs.Prelude.{◌≡◌, Bool, ◌+◌, ◌<◌, ◌^◌, [], length, IfOk, OnOk, slice_index};
+ghost use Rattle.nd_model.specs.Operand as model;
+ghost use Rattle.nd_model.specs.Operand.{ACopy};
 ghost use Rattle.nd_model.specs.Operation as operation;
+ghost use Rattle.nd_model.specs.Sound.{LiesIn};
+ghost use Rattle.nd_model.specs.View.{Geo};
 ghost use Rattle.nd_heap.specs.Values.{base_of, geo_of, value_of};
 ghost use Rattle.nd_session.specs.Live.{live};
 ghost use Rattle.nd_operation.specs.Contents.{operand_of};
 ghost use Rattle.nd_eval.specs.Contents.{operands_of};
 ghost use Rattle.nd_eval.specs.Ends.{Evaluates, session_of};
-ghost use Rattle.nd_choice.specs.Indexing.{IsOne, chosen_of};
+ghost use Rattle.nd_choice.specs.Indexing.{CopyLies, IsCopyOf, IsOne, chosen_of};
+ghost use Rattle.nd_choice.specs.Selections.{selected};
 ghost use Rattle.nd_operation.specs.New.{given};
 ghost use Rattle.nd_eval.specs.Uses.{IsHeld, AreHeld, item_marked, items_marked, index_marked};
-ghost use Rattle.nd_eval.specs.Uses.{marked, all_marked};
+ghost use Rattle.nd_eval.specs.Uses.{HasTypeOf, IsOfType, marked, all_marked};
 ghost use Rattle.nd_eval.specs.Uses.{operand_over, operands_over};
 
 use crate::evaluator::Evaluator;
-use nd_choice::{Chosen, IndexValue, ItemValue};
+use nd_choice::{Chosen, IndexValue, ItemValue, Selection, copy_selection};
 use nd_element::number_in;
 use nd_operation::{Elements, New, Operand, Stop};
 use nd_session::{Array, Base, OutOfMemory, Session, Value};
@@ -150,11 +155,32 @@ impl Evaluator<'_> {
         }
     }
 
+    /// Gives a copy of the elements that an index with arrays chose in a base.
+    fn copy_chosen(&mut self, base: Base, selection: &Selection) -> Result<Value, Stop>
+        requires lies { LiesIn (length ((session_of self.old).bytes (base_of base)))
+            (selected selection.now) }
+        requires room { (session_of self.old).next + 1 < 2 ^ 64 }
+        ensures value { (g : Geo) → Evaluates value_of result self.old (operation.choose_in
+            (base_of base) g (ACopy (selected selection.now))) self.new }
+        ensures types { IfOk result (IsOfType selection.now.view.element) }
+    {
+        self.session
+            .mark_used_elements(base, selection.view.elem(), &selection.places.places)?;
+        let alloc = self.session.allocator();
+        let copy = copy_selection(alloc, selection, self.session.bytes(base))?;
+        self.give(copy)
+    }
+
     /// Gives what was chosen of an array.
     pub(crate) fn chosen_value(&mut self, array: &Array, chosen: Chosen) -> Result<Value, Stop>
-        requires { IsOne array.now.view.writable chosen }
-        ensures { Evaluates value_of result self.old (operation.choose_in
+        requires one { IsOne array.now.view.writable chosen }
+        requires lies { CopyLies (length ((session_of self.old).bytes (base_of array.now.base)))
+            chosen }
+        requires room { (session_of self.old).next + 1 < 2 ^ 64 }
+        ensures value { Evaluates value_of result self.old (operation.choose_in
             (base_of array.now.base) (geo_of array.now) (chosen_of chosen)) self.new }
+        ensures types { (is_advanced : Bool) → (o : model.Operand) → IsCopyOf is_advanced o chosen
+            → IfOk result (HasTypeOf is_advanced o) }
     {
         let base = array.base;
         match chosen {
@@ -164,6 +190,7 @@ impl Evaluator<'_> {
                 let _shape = view.shape();
                 Ok(Value::Array(Array { base, view }))
             }
+            Chosen::Copy(selection) => self.copy_chosen(base, &selection),
         }
     }
 }

@@ -17,6 +17,7 @@ use Rattle.nd_model.specs.Operand.{Operand, Usage, Made, ANumber, AnArray, Loade
 use Rattle.nd_model.specs.Viewing.{choose}
 use Rattle.nd_model.specs.Operation
 use Rattle.nd_model.specs.Operation.{operands, Operation, Computes, Views, perform, Plan, Named, FromInput, Does, Plans, Done, And, evaluate, with_values, evaluate_all, Work, Acts, ActsOn, do_work}
+use Rattle.nd_model.specs.Creation.{array_of_list}
 use Rattle.nd_model.specs.Reductions.{reduce_array, reduce_call}
 use Rattle.nd_model.specs.Meaning
 use Rattle.nd_model.specs.Cell.{had}
@@ -198,6 +199,11 @@ few_work (ActsOn f w ps p) = few_all ps _ (1 + (bases p + 1)) (λ vs. few_bind (
 
 -- ---- at most as many as tokens
 
+-- the array of a list, or nothing
+at_list : (is_empty : Bool) (p : Plan) (rest : Plans) → all_bases (Meaning.unless_empty is_empty p rest) ≤ bases p + all_bases rest
+at_list true p rest = omega arith
+at_list false p rest = omega arith
+
 step_more : (b : syntax.Bound) → tokens_of_bound b ≤ tokens_of_step b
 step_more syntax.Omitted = omega arith
 step_more (syntax.Given e) = omega arith
@@ -303,7 +309,7 @@ mutual
       omega (arith, at_bound a (Meaning.bound_plans b (Meaning.bound_plans c rest)), at_bound b (Meaning.bound_plans c rest), at_bound c rest, step_more c)
   at_item syntax.Ellipsis rest = omega arith
   at_item syntax.NewAxis rest = omega arith
-  at_item (syntax.Listed es) rest = omega arith
+  at_item (syntax.Listed es) rest = omega (arith, at_elements es Done, at_list (Meaning.is_empty_list es) (Does (Computes (array_of_list (syntax.Nested es) None)) (Meaning.list_plans es Done)) rest)
 
 pub at_all : (es : List Expr) → all_bases (Meaning.whole_plans es) ≤ tokens_of_all es
 at_all [] = omega arith

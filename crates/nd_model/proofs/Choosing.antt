@@ -1,14 +1,15 @@
 -- What is chosen of an array or a row lies where it lies: one lemma for each way to choose.
-use Rattle.std.proofs.Common.{◌≡◌, ℕ, ◌+◌, ◌≤◌, Bool, true, false, ℤ, List, [], ◌∷◌, length, Option, Some, None, Result, Ok, Err, refl, subst, arith}
+use Rattle.std.proofs.Common.{◌≡◌, ℕ, ◌+◌, ◌≤◌, Bool, true, false, ℤ, List, [], ◌∷◌, length, Option, Some, None, Result, Ok, refl, subst, arith}
 use Rattle.std.specs.List.{list_all}
 use Rattle.nd_model.specs.Tuple.{elements_of}
 use Rattle.nd_model.specs.View.{Field, Geo, item_size}
 use Rattle.nd_model.specs.Content.{Content, content_or}
 use Rattle.nd_model.specs.Fault.{Fault}
-use Rattle.nd_model.specs.Refusing as refusing
 use Rattle.nd_model.specs.Operand.{Operand, Elements, Chosen, AnElement, AView, ACopy, Stretched}
 use Rattle.nd_model.specs.Selecting.{Item, select, field_of, view_of_field}
-use Rattle.nd_model.specs.Index.{array_of, items_of, is_number, choice_of, choose_items, choose_field}
+use Rattle.nd_model.specs.Advanced as advanced
+use Rattle.nd_model.specs.Advanced.{IndexItem}
+use Rattle.nd_model.specs.Index.{array_of, items_of, has_array, basic_items, is_number, choice_of, choose_basic, choose_items, choose_field}
 use Rattle.nd_model.specs.Viewing.{Viewing, Indexed, Fielded, Transposed, Reshaped, BroadcastTo, ViewedAs, choose}
 use Rattle.nd_model.specs.Types.{element_type}
 use Rattle.nd_model.specs.Transposing.{transpose, reversed_view}
@@ -45,11 +46,18 @@ choice_within len true [] h count lies = lies.inside 0 0 (omega (arith, count))
 choice_within len true (n ∷ shape) h count lies = (lies.count, lies.inside)
 choice_within len false shape h count lies = (lies.count, lies.inside)
 
-index_within : (len : ℕ) (g : Geo) (is : List Item) (x : Chosen) → LiesIn len g → choose_items is g ≡ Ok x → ChoosesWithin len x
-index_within len g is x lies e =
+basic_within : (len : ℕ) (g : Geo) (is : List Item) (x : Chosen) → LiesIn len g → choose_basic is g ≡ Ok x → ChoosesWithin len x
+basic_within len g is x lies e =
     let found = bind_ok (select is g) (λ h. Ok (choice_of (list_all is_number is) h.shape h)) x e in
     let inside : LiesIn len found.0 = selected_lies is g found.0 len lies found.1 in
     subst (ChoosesWithin len) (ok_same _ x found.2) (choice_within len (list_all is_number is) found.0.shape found.0 inside.count inside)
+
+-- a copy is made of what it holds
+index_within : (len : ℕ) (g : Geo) (is_advanced : Bool) (is : List IndexItem) (x : Chosen) → LiesIn len g → choose_items is_advanced is g ≡ Ok x → ChoosesWithin len x
+index_within len g false is x lies e = basic_within len g (basic_items is) x lies e
+index_within len g true is x lies e =
+    let found = bind_ok (advanced.choose is g) (λ h. Ok (ACopy h)) x e in
+    subst (ChoosesWithin len) (ok_same _ x found.2) tt
 
 field_within : (len : ℕ) (is_row : Bool) (g : Geo) (name : List ℕ) (o : Option Field) (x : Chosen) → LiesIn len g → ((f : Field) → o ≡ Some f → LiesIn len (view_of_field g f))
     → choose_field is_row g name o ≡ Ok x → ChoosesWithin len x
@@ -92,8 +100,8 @@ stretched_within len false g cs shape x lies e = seen_within len (broadcast_to s
 pub chooses_within : (w : Viewing) (is_row : Bool) (g : Geo) (cs : List Content) (os : List Operand) (x : Chosen) (len : ℕ) → LiesIn len g → choose w (Elements is_row g cs ∷ os) ≡ Ok x → ChoosesWithin len x
 chooses_within (Indexed forms) true g cs os x len lies e = absurd (cc)
 chooses_within (Indexed forms) false g cs os x len lies e =
-    let found = bind_ok (items_of forms os) (λ is. choose_items is g) x e in
-    index_within len g found.0 x lies found.2
+    let found = bind_ok (items_of forms os) (λ is. choose_items (has_array os) is g) x e in
+    index_within len g (has_array os) found.0 x lies found.2
 chooses_within (Fielded name) is_row g cs os x len lies e = field_within len is_row g name (field_of name g.element) x lies (λ f found. found_lies name g f len lies found) e
 chooses_within Transposed is_row g cs os x len lies e =
     let integers = bind_ok (integers_of os) _ x e in

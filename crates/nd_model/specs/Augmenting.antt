@@ -1,7 +1,7 @@
 -- Augmented assignments (NumPy user guide, "Assigning values to indexed arrays"; NumPy's `out` with `casting='same_kind'`): an operator
 -- in place has the kind of its operands; its result is converted to the target's kind, within Booleans, unsigned and signed numbers in
 -- this order. All numbers are read first.
-use Rattle.std.specs.Prelude.{ℕ, Bool, false, not, List, ◌∷◌, map, Result, Ok, Err}
+use Rattle.std.specs.Prelude.{ℕ, Bool, true, false, not, List, ◌∷◌, map, Result, Ok, Err}
 use Rattle.nd_model.specs.Element.{Kind}
 use Rattle.nd_model.specs.Promotion.{same_kind}
 use Rattle.nd_model.specs.Tuple.{indices}
@@ -16,6 +16,7 @@ use Rattle.nd_model.specs.Operators.{Operator}
 use Rattle.nd_model.specs.Elementwise.{element_sort, operand_sort, binary_kind, binary_number, has_power_below, binary}
 use Rattle.nd_model.specs.Broadcast.{broadcasts_to}
 use Rattle.nd_model.specs.Assigning.{view_writes}
+use Rattle.nd_model.specs.Index.{has_array}
 use Rattle.nd_model.specs.Writing.{assignment_writes}
 use Rattle.nd_model.specs.Viewing.{Viewing}
 
@@ -34,15 +35,24 @@ in_place_kind op g y = do
       (when (not (has_power_below (Operator op) y g.shape)) (Ufunc NegativePower)
       (Ok k))))
 
--- what an operation of this kind writes to the elements, which have these contents
+-- what an operation of this kind makes of the elements, which have these contents
+abbrev pub content_in_place : Kind → BinaryOp → Geo → List Content → Operand → List ℕ → Content
+content_in_place k op g cs y t = converted_content g.element (Num (binary_number k (Operator op) (Elements false g cs) y t))
+
+-- and writes to them
 abbrev pub results_in_place : Kind → BinaryOp → Geo → List Content → Operand → List (ℕ × ℕ)
-results_in_place k op g cs y =
-    view_writes g (λ t. converted_content g.element (Num (binary_number k (Operator op) (Elements false g cs) y t)))
+results_in_place k op g cs y = view_writes g (content_in_place k op g cs y)
 
 abbrev pub in_place_writes : BinaryOp → Geo → List Content → Operand → Result (List (ℕ × ℕ)) Fault
 in_place_writes op g cs y = do
   k ← in_place_kind op g y
   Ok (results_in_place k op g cs y)
+
+-- an array, which has these contents, after `op=` in place
+abbrev pub array_in_place : BinaryOp → Geo → List Content → Operand → Result Operand Fault
+array_in_place op g cs y = do
+  k ← in_place_kind op g y
+  Ok (Elements false g (map (content_in_place k op g cs y) (indices g.shape)))
 
 -- `n op= y`: in place on an array; else n is bound to what the operator makes
 abbrev pub augment_name : List ℕ → BinaryOp → Operand → Operand → Result Deed Fault
@@ -63,11 +73,19 @@ abbrev pub deed_of_made : Made → List (ℕ × ℕ) → Deed
 deed_of_made (ANumber n) ws = Writes 2 ws
 deed_of_made (AnArray t shape f) ws = MakesAndWrites (AnArray t shape f) 2 ws
 
--- `t[..] op= y`, where x is `t[..]`: in place where it is an array; else what the operator makes is assigned to it
-abbrev pub augment_item : BinaryOp → Viewing → List Operand → Result Deed Fault
-augment_item op w (y ∷ Elements false g cs ∷ t ∷ os) = do
+-- `t[..] op= y` where `t[..]` is an array with these contents: in place on a view; in place on a copy, which is then assigned
+abbrev pub augment_array : (is_copy : Bool) → BinaryOp → Viewing → Geo → List Content → (y t : Operand) → List Operand → Result Deed Fault
+augment_array false op w g cs y t os = do
   ws ← in_place_writes op g cs y
   Ok (Writes 1 ws)
+augment_array true op w g cs y t os = do
+  x ← array_in_place op g cs y
+  ws ← assignment_writes w x t os
+  Ok (Writes 2 ws)
+
+-- `t[..] op= y`, where x is `t[..]`: of an array as above; else what the operator makes is assigned to it
+abbrev pub augment_item : BinaryOp → Viewing → List Operand → Result Deed Fault
+augment_item op w (y ∷ Elements false g cs ∷ t ∷ os) = augment_array (has_array os) op w g cs y t os
 augment_item op w (y ∷ x ∷ t ∷ os) = do
   m ← binary op x y
   ws ← assignment_writes w (operand_of_made m) t os

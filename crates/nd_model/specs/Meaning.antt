@@ -1,5 +1,6 @@
 -- What expressions and statements mean: for each form its operands, how they are used, and what is made of them.
-use Rattle.std.specs.Prelude.{ℤ, pos, Bool, true, false, List, [], ◌∷◌, Option, Some, None, Result, Ok, Err}
+use Rattle.std.specs.Prelude.{◌==◌, ℤ, pos, Bool, true, false, ◌&&◌, List, [], ◌∷◌, Option, Some, None, Result, Ok, Err}
+use Rattle.nd_model.specs.Tuple.{elements_of}
 use Rattle.nd_model.specs.Value.{Value}
 use Rattle.nd_model.specs.Running.{Effect}
 use Rattle.nd_model.specs.Fault.{Fault, BadArgument}
@@ -13,11 +14,11 @@ use Rattle.nd_model.specs.Operators as operators
 use Rattle.nd_model.specs.Operators.{Of}
 use Rattle.nd_model.specs.Elementwise.{binary, single, call_binary, call_single}
 use Rattle.nd_model.specs.Reductions.{axis_number, reduce_array, accumulate_array, reduce_call, accumulate_call}
-use Rattle.nd_model.specs.Creation.{arange, filled, full, new_array, array_of_list, convert, copy_array, astype}
+use Rattle.nd_model.specs.Creation.{arange, filled, full, new_array, shape_of_element, has_shape, array_of_list, convert, copy_array, astype}
 use Rattle.nd_model.specs.Writing.{assignment_writes}
 use Rattle.nd_model.specs.Augmenting.{augment_name, augment_item}
 use Rattle.nd_model.specs.Files.{load, buffer, save}
-use Rattle.nd_model.specs.Index.{Form, AtForm, SliceForm, EllipsisForm, NewAxisForm}
+use Rattle.nd_model.specs.Index.{Form, AtForm, SliceForm, EllipsisForm, NewAxisForm, EmptyForm}
 use Rattle.nd_model.specs.Viewing.{Viewing, Indexed, Fielded, Transposed, Reshaped, BroadcastTo, ViewedAs}
 use Rattle.nd_model.specs.Printing.{print_deed}
 use Rattle.nd_model.specs.Operation.{Computes, Views, Plan, Named, FromInput, Does, Plans, Done, And, evaluate, Work, Acts, ActsOn, do_work}
@@ -36,24 +37,35 @@ two f _ = Err (fault.Stmt BadArgument)
 abbrev pub along : (Operand → (axis : Option ℤ) → Result Made Fault) → Operand → Operand → Result Made Fault
 along f x a = refusing.◌>>=◌ (axis_number a) (λ z. f x (Some z))
 
--- a form that is not built yet
-abbrev pub unbuilt_form : {A : Type 0} → List Operand → Result A Fault
-unbuilt_form os = Err (fault.Stmt BadArgument)
-
 abbrev pub is_given : Bound → Bool
 is_given Omitted = false
 is_given (Given e) = true
 
 -- ---- indexes
 
--- how an item is written; a list has no form yet, and is refused before it is asked for
+-- a list without a number: it is nested evenly, and one of its lengths is 0
+abbrev pub is_empty_list : Elements → Bool
+is_empty_list es =
+    let shape = shape_of_element (Nested es) in
+    has_shape shape (Nested es) && (elements_of shape == 0)
+
+-- a list is written as the array of it, unless it is empty
+abbrev pub list_form : (is_empty : Bool) → Form
+list_form true = EmptyForm
+list_form false = AtForm
+
+abbrev pub unless_empty : (is_empty : Bool) → (array : Plan) → Plans → Plans
+unless_empty true array rest = rest
+unless_empty false array rest = And ArraysOnly array rest
+
+-- how an item is written
 abbrev pub forms_of : IndexItems → List Form
 forms_of NoItem = []
 forms_of (AndItem (At e) is) = AtForm ∷ forms_of is
 forms_of (AndItem (Slice start stop step) is) = SliceForm (is_given start) (is_given stop) (is_given step) ∷ forms_of is
 forms_of (AndItem Ellipsis is) = EllipsisForm ∷ forms_of is
 forms_of (AndItem NewAxis is) = NewAxisForm ∷ forms_of is
-forms_of (AndItem (Listed es) is) = forms_of is
+forms_of (AndItem (Listed es) is) = list_form (is_empty_list es) ∷ forms_of is
 
 abbrev pub viewing_of : Index → Viewing
 viewing_of (Field n) = Fielded n
@@ -137,13 +149,13 @@ abbrev mutual
   items_plans NoItem = Done
   items_plans (AndItem i is) = item_plans i (items_plans is)
 
-  -- an array among the items is used whole; a list is not built yet
+  -- an array among the items is used whole
   pub item_plans : IndexItem → Plans → Plans
   item_plans (At e) rest = And ArraysOnly (plan e) rest
   item_plans (Slice start stop step) rest = bound_plans start (bound_plans stop (bound_plans step rest))
   item_plans Ellipsis rest = rest
   item_plans NewAxis rest = rest
-  item_plans (Listed es) rest = And Unused (Does (Computes unbuilt_form) Done) rest
+  item_plans (Listed es) rest = unless_empty (is_empty_list es) (Does (Computes (array_of_list (Nested es) None)) (list_plans es Done)) rest
 
 -- from left to right
 abbrev pub whole_plans : List Expr → Plans

@@ -2,7 +2,7 @@
 use Rattle.std.proofs.Common.{◌≡◌, ℕ, ◌+◌, ◌*◌, ◌<◌, ℤ, get_or, take, add-one, Bool, true, false, ◌&&◌, List, [], ◌∷◌, ◌++◌, length, map, None, Some, Result, Ok, Err, Vec, Global, refl, sym, ap, ap₂, ◌∙◌, arith}
 use Rattle.std.specs.Prelude.{◌==◌}
 use Rattle.std.specs.List.{list_all}
-use Rattle.std.proofs.lemmas.Bool.{eqb-true, eq-eqb}
+use Rattle.std.proofs.lemmas.Bool.{eqb-true, eq-eqb, false≢true}
 use Rattle.std.proofs.Math.Seq.{take-suc}
 use Rattle.std.proofs.lemmas.List.{length-map, map-append}
 use Rattle.nd_model.specs.Element.{Kind, wrap}
@@ -26,7 +26,7 @@ use Rattle.nd_syntax.specs.declared.tree.Element as element
 use Rattle.nd_syntax.specs.Syntax.{element_of}
 use Rattle.nd_syntax.proofs.Chains.{nested_is}
 use Rattle.nd_operation.specs.Contents.{num_of, unused_of}
-use Rattle.nd_operation.specs.Listing.{is_python, number_count, number_counts, number_in, numbers_in}
+use Rattle.nd_operation.specs.Listing.{is_python, list_of, number_count, number_counts, number_in, numbers_in}
 
 -- ---- Python numbers
 
@@ -104,7 +104,7 @@ module _ (k : Kind) (all : List Value) (v : Value) (vs rest : List Value) (same 
 
 -- ---- shapes
 
-pub as_many : (xs : List syntax.Element) → element_count (cells.elements_of xs) ≡ length xs
+as_many : (xs : List syntax.Element) → element_count (cells.elements_of xs) ≡ length xs
 as_many [] = refl
 as_many (x ∷ xs) = omega (arith, as_many xs)
 
@@ -144,39 +144,87 @@ even_has x shape h = at (has_shape (shape_of_element x) x) refl h
     at true is h = (let same : shape_of_element x ≡ shape = cc in ap (λ s. has_shape s x) (sym same)) ∙ is
     at false is h = absurd cc
 
-first_none : (xs : List Element) → length xs ≡ 0 → shape_of_first (cells.elements_of (map element_of xs)) ≡ []
+-- ---- lists of the code's tree
+
+abbrev elements_in : List Element → syntax.Elements
+elements_in xs = cells.elements_of (map element_of xs)
+
+list_count : (xs : List Element) → element_count (elements_in xs) ≡ length xs
+list_count xs = as_many (map element_of xs) ∙ length-map xs element_of
+
+lengths_are : (xs : List Element) → shape_of_element (list_of xs) ≡ length xs ∷ shape_of_first (elements_in xs)
+lengths_are xs = ap (λ n. n ∷ shape_of_first (elements_in xs)) (list_count xs)
+
+first_none : (xs : List Element) → length xs ≡ 0 → shape_of_first (elements_in xs) ≡ []
 first_none [] h = refl
 first_none (x ∷ xs) h = absurd (omega (arith, h))
 
--- ---- one node of the code's tree
+no_lengths : (xs : List Element) → length xs ≡ 0 → shape_of_element (list_of xs) ≡ length xs ∷ []
+no_lengths xs none = lengths_are xs ∙ ap (λ l. length xs ∷ l) (first_none xs none)
 
-module _ (x : Element) (es : Vec Element Global) (is : x ≡ element.Nested es) where
-  pub nested_elements : element_of x ≡ Nested (cells.elements_of (map element_of es.items))
-  nested_elements = ap element_of is ∙ nested_is es
+module _ (xs : List Element) (first : Element) (rest : List Element) (some : xs ≡ first ∷ rest) where
+  some_lengths : shape_of_element (list_of xs) ≡ length xs ∷ shape_of_element (element_of first)
+  some_lengths = lengths_are xs ∙ ap (λ l. length xs ∷ shape_of_first (elements_in l)) some
 
-  pub nested_count : element_count (cells.elements_of (map element_of es.items)) ≡ length es.items
-  nested_count = as_many (map element_of es.items) ∙ length-map es.items element_of
+  pub one_length : (e : _) → first ≡ element.Single e → shape_of_element (list_of xs) ≡ length xs ∷ []
+  one_length e is = some_lengths ∙ ap (λ x. length xs ∷ shape_of_element (element_of x)) is
 
-module _ (shape : List ℕ) (x : Element) (n : ℕ) (lengths : List ℕ) (es : Vec Element Global) (split : shape ≡ n ∷ lengths) (is : x ≡ element.Nested es) where
-  shaped : has_shape shape (element_of x) ≡ ((element_count (cells.elements_of (map element_of es.items)) == n) && have_shape lengths (cells.elements_of (map element_of es.items)))
-  shaped = ap₂ has_shape split (nested_elements x es is)
+  pub nested_lengths : (es : Vec Element Global) → first ≡ element.Nested es → shape_of_element (list_of xs) ≡ length xs ∷ shape_of_element (list_of es.items)
+  nested_lengths es is = some_lengths ∙ ap (λ x. length xs ∷ shape_of_element (element_of x)) is ∙ ap (λ x. length xs ∷ shape_of_element x) (nested_is es)
 
-  pub other_count : (length es.items ≡ n → ⊥) → has_shape shape (element_of x) ≡ false
-  other_count differ = shaped ∙ ap (λ b. b && have_shape lengths (cells.elements_of (map element_of es.items))) (ap (λ m. m == n) (nested_count x es is) ∙ not_equal (length es.items) n differ)
+-- a list within another one
+module _ (x : Element) (es : Vec Element Global) (is : x ≡ element.Nested es) (xs : List Element) (same : xs ≡ es.items) where
+  pub nested_elements : list_of xs ≡ element_of x
+  nested_elements = ap list_of same ∙ sym (ap element_of is ∙ nested_is es)
 
-  pub same_count : length es.items ≡ n → has_shape shape (element_of x) ≡ have_shape lengths (cells.elements_of (map element_of es.items))
-  same_count same = shaped ∙ ap (λ b. b && have_shape lengths (cells.elements_of (map element_of es.items))) (eq-eqb (element_count (cells.elements_of (map element_of es.items))) n (nested_count x es is ∙ same))
+-- a list has the shape of an empty one where it is empty too
+pub empty_shape : (others xs : List Element) → length others ≡ 0 → has_shape (shape_of_element (list_of others)) (list_of xs) ≡ (length xs == 0)
+empty_shape others xs none = ap (λ l. has_shape l (list_of xs)) (no_lengths others none ∙ ap (λ n. n ∷ []) none) ∙ at xs
+  where
+    at : (xs : List Element) → ((element_count (elements_in xs) == 0) && have_shape [] (elements_in xs)) ≡ (length xs == 0)
+    at [] = refl
+    at (x ∷ xs) =
+        ap (λ b. b && have_shape [] (elements_in (x ∷ xs))) (not_equal (element_count (elements_in (x ∷ xs))) 0 (λ e. omega arith))
+        ∙ sym (not_equal (length (x ∷ xs)) 0 (λ e. omega arith))
+
+module _ (others xs : List Element) where
+  pub other_count : (length xs ≡ length others → ⊥) → has_shape (shape_of_element (list_of others)) (list_of xs) ≡ false
+  other_count differ =
+      ap (λ l. has_shape l (list_of xs)) (lengths_are others)
+      ∙ ap (λ b. b && have_shape (shape_of_first (elements_in others)) (elements_in xs)) (not_equal (element_count (elements_in xs)) (length others) (λ same. differ (sym (list_count xs) ∙ same)))
+
+  pub same_count : (first : Element) (rest : List Element) → others ≡ first ∷ rest → length xs ≡ length others
+      → has_shape (shape_of_element (list_of others)) (list_of xs) ≡ have_shape (shape_of_element (element_of first)) (elements_in xs)
+  same_count first rest some same =
+      ap (λ l. has_shape l (list_of xs)) (some_lengths others first rest some)
+      ∙ ap (λ b. b && have_shape (shape_of_element (element_of first)) (elements_in xs)) (eq-eqb (element_count (elements_in xs)) (length others) (list_count xs ∙ same))
 
 module _ (lengths : List ℕ) (all : List Element) (x : Element) (xs rest : List Element)
-    (same : have_shape lengths (cells.elements_of (map element_of all)) ≡ have_shape lengths (cells.elements_of (map element_of xs))) (is : xs ≡ x ∷ rest) where
-  one_shaped : have_shape lengths (cells.elements_of (map element_of all)) ≡ (has_shape lengths (element_of x) && have_shape lengths (cells.elements_of (map element_of rest)))
-  one_shaped = same ∙ ap (λ l. have_shape lengths (cells.elements_of (map element_of l))) is
+    (same : have_shape lengths (elements_in all) ≡ have_shape lengths (elements_in xs)) (is : xs ≡ x ∷ rest) where
+  one_shaped : have_shape lengths (elements_in all) ≡ (has_shape lengths (element_of x) && have_shape lengths (elements_in rest))
+  one_shaped = same ∙ ap (λ l. have_shape lengths (elements_in l)) is
 
-  pub next_shaped : has_shape lengths (element_of x) ≡ true → have_shape lengths (cells.elements_of (map element_of all)) ≡ have_shape lengths (cells.elements_of (map element_of rest))
-  next_shaped h = one_shaped ∙ ap (λ b. b && have_shape lengths (cells.elements_of (map element_of rest))) h
+  pub next_shaped : has_shape lengths (element_of x) ≡ true → have_shape lengths (elements_in all) ≡ have_shape lengths (elements_in rest)
+  next_shaped h = one_shaped ∙ ap (λ b. b && have_shape lengths (elements_in rest)) h
 
-  pub not_shaped : has_shape lengths (element_of x) ≡ false → have_shape lengths (cells.elements_of (map element_of all)) ≡ false
-  not_shaped h = one_shaped ∙ ap (λ b. b && have_shape lengths (cells.elements_of (map element_of rest))) h
+  pub not_shaped : has_shape lengths (element_of x) ≡ false → have_shape lengths (elements_in all) ≡ false
+  not_shaped h = one_shaped ∙ ap (λ b. b && have_shape lengths (elements_in rest)) h
+
+-- a product is 0 where its other factor is
+some_product : (k m : ℕ) → ((k + 1) * m == 0) ≡ (m == 0)
+some_product k m = at (m == 0) refl
+  where
+    at : (t : Bool) → (m == 0) ≡ t → ((k + 1) * m == 0) ≡ t
+    at true h = eq-eqb ((k + 1) * m) 0 (ap (λ x. (k + 1) * x) (eqb-true m 0 h) ∙ omega arith)
+    at false h = not_equal ((k + 1) * m) 0 (λ e. false≢true (sym h ∙ eq-eqb m 0 (omega arith)))
+
+-- a list whose first element is a list has no element where that has none
+pub first_is_empty : (xs : List Element) (first : Element) (rest : List Element) → xs ≡ first ∷ rest → length rest + 1 ≡ length xs
+    → (es : Vec Element Global) → first ≡ element.Nested es
+    → (elements_of (shape_of_element (list_of xs)) == 0) ≡ (elements_of (shape_of_element (list_of es.items)) == 0)
+first_is_empty xs first rest some count es is =
+    let deeper = shape_of_element (list_of es.items) in
+    ap (λ l. elements_of l == 0) (nested_lengths xs first rest some es is ∙ ap (λ n. n ∷ deeper) (sym count)) ∙ some_product (length rest) (elements_of deeper)
 
 -- a number more
 pub number_more : (k : Kind) (vs : List Value) (i : ℕ) (v : Value) → i < length vs → v ≡ get_or vs i v → (before after : List ℤ) (z : ℤ)
@@ -195,16 +243,3 @@ contiguous_count t shape = length-map (count_up 0 (elements_of shape)) (λ k. k 
 pub numbers_count : (k : Kind) (vs : List Value) (zs : List ℤ) → map content.Num zs ≡ converted_numbers k (numbers_in vs) → length zs ≡ length vs
 numbers_count k vs zs same =
     sym (length-map zs content.Num) ∙ ap length same ∙ length-map (numbers_in vs) (λ n. content.Num (wrap k (number_of n))) ∙ length-map vs number_in
-
--- the lengths of a list
-module _ (x : Element) (es : Vec Element Global) (is : x ≡ element.Nested es) (xs : List Element) (same : es.items ≡ xs) where
-  lengths_are : shape_of_element (element_of x) ≡ length xs ∷ shape_of_first (cells.elements_of (map element_of xs))
-  lengths_are =
-      ap shape_of_element (nested_elements x es is)
-      ∙ ap₂ (λ n l. n ∷ shape_of_first (cells.elements_of (map element_of l))) (nested_count x es is ∙ ap length same) same
-
-  pub some_lengths : (first : Element) (rest : List Element) → xs ≡ first ∷ rest → shape_of_element (element_of x) ≡ length xs ∷ shape_of_element (element_of first)
-  some_lengths first rest some = lengths_are ∙ ap (λ l. length xs ∷ shape_of_first (cells.elements_of (map element_of l))) some
-
-  pub no_lengths : length xs ≡ 0 → shape_of_element (element_of x) ≡ length xs ∷ []
-  no_lengths none = lengths_are ∙ ap (λ l. length xs ∷ l) (first_none xs none)

@@ -1,11 +1,18 @@
--- The numbers that stand in a list, and those that values are.
+-- Lists, the numbers that stand in them, and those that values are.
 use Rattle.std.specs.Prelude.{ℕ, ◌+◌, Bool, true, false, List, map}
 use Rattle.nd_model.specs.Syntax.{Elements, NoElement, AndElement, Element, Single, Nested}
+use Rattle.nd_model.specs.Cells.{elements_of}
 use Rattle.nd_model.specs.Operand.{Number, Truth}
 use Rattle.nd_types.specs.declared.num.Num.TheVariants as num
 use Rattle.nd_heap.specs.declared.value.Value.{Value}
 use Rattle.nd_heap.specs.declared.value.Value.TheVariants as value
+use Rattle.nd_syntax.specs.declared.tree.Element as tree
+use Rattle.nd_syntax.specs.Syntax.{element_of}
 use Rattle.nd_operation.specs.Contents.{num_of}
+
+-- the list of elements of the program
+abbrev pub list_of : List tree.Element → Element
+list_of es = Nested (elements_of (map element_of es))
 
 abbrev mutual
   pub number_count : Element → ℕ

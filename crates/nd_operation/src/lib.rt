@@ -28,7 +28,7 @@ pub use fault::{
     FormatFault, IndexFault, NpyFault, ReduceFault, ShapeFault, StmtError, StmtFault, UfuncFault,
     ViewFault,
 };
-pub use lists::make_list;
+pub use lists::{is_empty_list, make_list};
 pub use operand::{Elements, New, Operand};
 pub use operators::{OfTwo, make_of_two};
 pub use printing::print_line;

@@ -1,13 +1,16 @@
 //! Arrays of nested lists.
 
-ghost use Rattle.std.specs.Prelude.{◌≡◌, ◌++◌, length, map, option_map, IfOk, OnOk, Ok};
+ghost use Rattle.std.specs.Prelude.{◌≡◌, ◌==◌, ◌++◌, length, map, option_map, IfOk, OnOk, Ok};
 ghost use Rattle.std.specs.List.{list_all};
+ghost use Rattle.nd_model.specs.Cells as cells;
 ghost use Rattle.nd_model.specs.Content as content;
 ghost use Rattle.nd_model.specs.Content.{array_bytes, content_in_order};
 ghost use Rattle.nd_model.specs.Creation as creation;
 ghost use Rattle.nd_model.specs.Element.{size_of};
+ghost use Rattle.nd_model.specs.Meaning as meaning;
 ghost use Rattle.nd_model.specs.Operand.{AnArray};
 ghost use Rattle.nd_model.specs.Strides.{IsInLimits};
+ghost use Rattle.nd_model.specs.Syntax.{Nested};
 ghost use Rattle.nd_model.specs.Tuple.{elements_of};
 ghost use Rattle.nd_model.specs.View.{One};
 ghost use Rattle.nd_types.specs.Kinds.{kind_of};
@@ -15,7 +18,7 @@ ghost use Rattle.nd_syntax.specs.Calls.{dtype_of};
 ghost use Rattle.nd_syntax.specs.Syntax.{element_of};
 ghost use Rattle.nd_operation.specs.Contents.{num_of, unused_of};
 ghost use Rattle.nd_operation.specs.Ends.{Makes, Says};
-ghost use Rattle.nd_operation.specs.Listing.{is_python, number_count, number_in, numbers_in};
+ghost use Rattle.nd_operation.specs.Listing.{is_python, list_of, number_counts, number_in, numbers_in};
 ghost use Rattle.nd_operation.specs.New.{MakesNew};
 
 use crate::arguments::bad_argument;
@@ -36,54 +39,92 @@ use std::alloc::{AllocError, Global};
 
 // ---- the shape of a list
 
-/// Puts the lengths down the first elements behind others.
-fn push_lengths(lengths: &mut SmallVec<u64, 32>, element: &Element) -> Result<(), AllocError>
+/// Puts the lengths down the first elements of a list behind others.
+fn push_lengths(lengths: &mut SmallVec<u64, 32>, elements: &[Element]) -> Result<(), AllocError>
     ensures { OnOk result (lengths.new.items
-        ≡ lengths.old.items ++ creation.shape_of_element (element_of element.now)) }
+        ≡ lengths.old.items ++ creation.shape_of_element (list_of elements.now)) }
 {
-    if let Element::Nested(elements) = element {
-        let elements = elements.as_slice();
-        lengths.push(elements.len() as u64)?;
-        if let Some((first, _)) = elements.split_first() {
-            push_lengths(lengths, first)?;
-        }
+    lengths.push(elements.len() as u64)?;
+    match elements.split_first() {
+        None => Ok(()),
+        Some((Element::Single(_), _)) => Ok(()),
+        Some((Element::Nested(first), _)) => push_lengths(lengths, first.as_slice()),
     }
-    Ok(())
 }
 
-/// Whether an element is a number, where there are no lengths, or else a list of as many elements as the first length says, and
-/// each of them has the other lengths.
-fn has_shape(shape: &[u64], element: &Element) -> bool
-    ensures { result ≡ creation.has_shape shape.now (element_of element.now) }
+/// The lengths of a list, down its first elements.
+fn list_shape(alloc: Global, elements: &[Element]) -> Result<SmallVec<u64, 32>, AllocError>
+    ensures { IfOk result (λ s. s.items ≡ creation.shape_of_element (list_of elements.now)) }
 {
-    match (shape.split_first(), element) {
-        (None, Element::Single(_)) => true,
-        (Some((length, lengths)), Element::Nested(elements)) => {
-            let elements = elements.as_slice();
-            if elements.len() as u64 != *length {
-                return false;
-            }
-            for element in elements {
-                if !has_shape(lengths, element) {
-                    return false;
-                }
-            }
-            true
+    let mut shape = SmallVec::new(alloc);
+    push_lengths(&mut shape, elements)?;
+    Ok(shape)
+}
+
+/// Whether an element has the shape that another one has down its first elements.
+#[cycle(shape)]
+fn has_shape_of(other: &Element, element: &Element) -> bool
+    ensures { result ≡ creation.has_shape (creation.shape_of_element (element_of other.now))
+        (element_of element.now) }
+{
+    match (other, element) {
+        (Element::Single(_), Element::Single(_)) => true,
+        (Element::Nested(others), Element::Nested(elements)) => {
+            list_has_shape_of(others.as_slice(), elements.as_slice())
         }
         _ => false,
     }
 }
 
-/// The shape of a list that is nested evenly.
-fn even_shape(alloc: Global, element: &Element) -> Result<SmallVec<u64, 32>, Stop>
-    ensures { Makes (λ s. s.items) result (creation.even_shape (element_of element.now)) }
+/// Whether a list has the shape that another one has down its first elements.
+#[cycle(shape)]
+fn list_has_shape_of(others: &[Element], elements: &[Element]) -> bool
+    ensures { result ≡ creation.has_shape (creation.shape_of_element (list_of others.now))
+        (list_of elements.now) }
 {
-    let mut shape = SmallVec::new(alloc);
-    push_lengths(&mut shape, element)?;
-    if !has_shape(&shape, element) {
-        return Err(Stop::Refused(StmtFault::Stmt(StmtError::RaggedList)));
+    let Some((first, _)) = others.split_first() else {
+        return elements.is_empty();
+    };
+    if elements.len() != others.len() {
+        return false;
     }
-    Ok(shape)
+    for element in elements {
+        if !has_shape_of(first, element) {
+            return false;
+        }
+    }
+    true
+}
+
+/// Refuses a list that is not nested evenly.
+fn check_even(elements: &[Element]) -> Result<(), StmtFault>
+    ensures { Says (λ u. creation.shape_of_element (list_of elements.now)) result
+        (creation.even_shape (list_of elements.now)) }
+{
+    if !list_has_shape_of(elements, elements) {
+        return Err(StmtFault::Stmt(StmtError::RaggedList));
+    }
+    Ok(())
+}
+
+/// Whether one of the lengths down the first elements of a list is 0.
+fn has_no_element(elements: &[Element]) -> bool
+    ensures { result ≡ (elements_of (creation.shape_of_element (list_of elements.now)) == 0) }
+{
+    let Some((first, _)) = elements.split_first() else {
+        return true;
+    };
+    match first {
+        Element::Single(_) => false,
+        Element::Nested(elements) => has_no_element(elements.as_slice()),
+    }
+}
+
+/// Whether a list is nested evenly, and one of its lengths is 0.
+pub fn is_empty_list(elements: &[Element]) -> bool
+    ensures { result ≡ meaning.is_empty_list (cells.elements_of (map element_of elements.now)) }
+{
+    list_has_shape_of(elements, elements) && has_no_element(elements)
 }
 
 // ---- its numbers
@@ -231,20 +272,23 @@ fn list_array(alloc: Global, elem: Elem, shape: &[u64], values: &[Value]) -> Res
     Ok(New::Array(view, block))
 }
 
-/// `np.array` of a list: the list, and the values of its numbers from left to right.
+/// The array of a list: its elements, and the values of its numbers from left to right.
 pub fn make_list(
     alloc: Global,
-    element: &Element,
+    elements: &[Element],
     dtype: &Option<DType>,
     values: &[Value],
 ) -> Result<New, Stop>
-    requires { length values.now ≡ number_count (element_of element.now) }
-    ensures { MakesNew result (creation.array_of_list (element_of element.now)
+    requires { length values.now
+        ≡ number_counts (cells.elements_of (map element_of elements.now)) }
+    ensures { MakesNew result (creation.array_of_list
+        (Nested (cells.elements_of (map element_of elements.now)))
         (option_map dtype_of dtype.now) (map unused_of values.now)) }
 {
     check_numbers(values)?;
-    let shape = even_shape(alloc, element)?;
+    check_even(elements)?;
     let elem = element_for(alloc, dtype, values)?;
+    let shape = list_shape(alloc, elements)?;
     check_limits(elem.size(), &shape)?;
     if let Some(int) = first_misfit(elem.kind(), values) {
         return Err(Stop::Refused(StmtFault::Ufunc(UfuncFault::IntOutOfRange(int))));

@@ -9,6 +9,6 @@ mod shape;
 mod structures;
 
 pub use gathering::gather;
-pub use preparation::prepare_scatter;
+pub use preparation::{hold_fields, prepare_scatter};
 pub use scatter::Scatter;
 pub use shape::fits_places;

@@ -17,8 +17,8 @@ use nd_types::ElemType;
 use nd_view::View;
 use std::alloc::{AllocError, Global};
 
-// The fields of a structure lie in it.
-fn hold_fields(elem: &ElemType)
+/// Says that the fields of a structure lie in it, and does nothing.
+pub fn hold_fields(elem: &ElemType)
     ensures { HoldsFields (type_of elem.now) }
 {
     if let ElemType::Rec(structure) = elem {

@@ -8,12 +8,15 @@ ghost use Rattle.nd_assign.specs.Prepared.{written_by};
 ghost use Rattle.nd_elementwise.specs.KeptLength.{length-written_in_place};
 ghost use Rattle.nd_elementwise.specs.Prepared.{written_in_place};
 ghost use Rattle.nd_heap.specs.Values.{base_of, geo_of};
+ghost use Rattle.nd_scatter.specs.KeptLength.{length-written_by as length-scattered_by};
+ghost use Rattle.nd_scatter.specs.Scattered.{written_by as scattered_by};
 ghost use Rattle.nd_session.specs.Live.{live};
 
 use nd_assign::Assignment;
 use nd_block::RawBlock;
 use nd_elementwise::InPlace;
 use nd_heap::BlockWriter;
+use nd_scatter::Scatter;
 use nd_session::{Array, OutOfMemory, Session};
 
 /// The bytes of an assignment that was made ready.
@@ -46,6 +49,22 @@ impl<'v> BlockWriter for ResultBytes<'v> {
     }
 
     ghost keeps_length = { λ w bytes. length-written_in_place w.results bytes };
+}
+
+/// The bytes of an assignment to chosen elements that was made ready.
+#[derive(Drop)]
+pub(crate) struct ScatteredBytes<'v> {
+    pub(crate) scatter: Scatter<'v>,
+}
+
+impl<'v> BlockWriter for ScatteredBytes<'v> {
+    ghost written = { λ w bytes. scattered_by w.scatter bytes };
+
+    fn write(self, block: &mut RawBlock) {
+        self.scatter.write(block);
+    }
+
+    ghost keeps_length = { λ w bytes. length-scattered_by w.scatter bytes };
 }
 
 /// Notes the elements of an array as written, and then writes to their block.

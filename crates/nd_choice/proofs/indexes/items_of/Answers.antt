@@ -1,8 +1,7 @@
 use Rattle.std.proofs.Common.{◌+◌, drop, sym, ap, ◌∙◌}
-use Rattle.nd_model.specs.Index as model
 use Rattle.nd_basic.specs.Items as basic
 use Rattle.nd_operation.specs.Faults.{fault_of}
-use Rattle.nd_choice.specs.Indexing.{forms_of, operands_in}
+use Rattle.nd_choice.specs.Indexing.{item_from, items_from}
 use Rattle.nd_choice.proofs.Indexing.{behind, one_more, one_refused}
 use Rattle.nd_operation.proofs.InTurn.{next_item, pushed}
 use Rattle.nd_operation.proofs.Refusals.{makes_refused}
@@ -15,9 +14,9 @@ returns-in_err-item c =
     let found = basic.items_of c.loop-item.found.items in
     let f = c.in_err-item.field-0.0 in
     let next = next_item xs k c.item-item.result c.loop-item-test.true c.item-item.is in
-    makes_refused (λ is. basic.items_of is.items) (model.items_of (forms_of xs) (operands_in xs)) f _ c.from_residual-in_err-item.ensures.1
-    (c.loop-item.invariant ∙ (λ i. behind found (model.items_of (forms_of (next i)) (operands_in (next i))))
-    ∙ one_refused found c.item-item.result (drop (k + 1) xs) (fault_of f) c.in_err-item.ensures)
+    makes_refused (λ is. basic.items_of is.items) (items_from xs) f _ c.from_residual-in_err-item.ensures.1
+    (c.loop-item.invariant ∙ (λ i. behind found (items_from (next i)))
+    ∙ one_refused found (item_from c.item-item.result) (items_from (drop (k + 1) xs)) (fault_of f) c.in_err-item.ensures)
 
 pub loop-item-preserved : goal.loop-item-preserved
 loop-item-preserved c =
@@ -26,6 +25,6 @@ loop-item-preserved c =
     let found = basic.items_of c.loop-item.found.items in
     let next = next_item xs k c.item-item.result c.loop-item-test.true c.item-item.is in
     let rest = drop (k + 1) xs in
-    c.loop-item.invariant ∙ (λ i. behind found (model.items_of (forms_of (next i)) (operands_in (next i))))
-    ∙ one_more found c.item-item.result rest (basic.item_of c.in_ok-item.item) c.in_ok-item.ensures
-    ∙ ap (λ l. behind l (model.items_of (forms_of rest) (operands_in rest))) (sym (pushed basic.item_of c.push.new.self.items c.loop-item.found.items c.in_ok-item.item c.in_ok-push.ensures.items))
+    c.loop-item.invariant ∙ (λ i. behind found (items_from (next i)))
+    ∙ one_more found (item_from c.item-item.result) (items_from rest) (basic.item_of c.in_ok-item.item) c.in_ok-item.ensures
+    ∙ ap (λ l. behind l (items_from rest)) (sym (pushed basic.item_of c.push.new.self.items c.loop-item.found.items c.in_ok-item.item c.in_ok-push.ensures.items))

@@ -1,37 +1,46 @@
-use Rattle.std.proofs.Common.{sym, ap, ◌∙◌}
-use Rattle.nd_model.specs.Writing.{assignment_writes, assign_to, may_be_written}
+use Rattle.std.proofs.Common.{length, sym, ap, ◌∙◌}
+use Rattle.nd_model.specs.Operand.{shape_of}
+use Rattle.nd_model.specs.Writing.{is_full_mask, items_in, may_be_written}
+use Rattle.nd_session.specs.Live.{live}
 use Rattle.nd_operation.specs.Contents.{operand_of, unused_of}
 use Rattle.nd_operation.proofs.Refusals.{makes_refused}
-use Rattle.nd_choice.specs.Indexing.{operands_of, viewing_of}
-use Rattle.nd_choice.specs.Targets.{writes_to}
-use Rattle.nd_choice.proofs.Lying.{target_lies, writes_are}
+use Rattle.nd_choice.specs.Indexing.{index_operands, viewing_of}
+use Rattle.nd_choice.specs.Targets.{geo_in, may_take, target_by}
+use Rattle.nd_choice.proofs.Lying.{target_found, target_lies}
 use Rattle.nd_choice.proofs.targets.assignment_target.Goals as goal
 
-pub returns-in_err-check_value-clause-writes : goal.returns-in_err-check_value-clause-writes
-returns-in_err-check_value-clause-writes c =
-    let x = c.args.index.now in
+pub returns-in_err-check_value-clause-target : goal.returns-in_err-check_value-clause-target
+returns-in_err-check_value-clause-target c =
+    let w = viewing_of c.args.index.now in
     let t = unused_of c.args.target.now in
     let v = operand_of c.args.value.now in
-    let count = rw c.view_of-found.ensures at (sym c.count-count.ensures.value ∙ c.count-count.ensures.elements) in
-    makes_refused (λ g. writes_to g v) (assignment_writes (viewing_of x) v t (operands_of x)) c.in_err-check_value.field-0.0 _ c.from_residual-in_err-check_value.ensures.1
-    (writes_are (viewing_of x) v t (operands_of x) c.in_ok-choose.field-0 c.in_ok-choose.ensures.choice c.in_ok-choose.ensures.one count
-    ∙ rw c.view_of-found.ensures at c.in_err-check_value.ensures.refusal)
+    let bytes = (live c.args.session.now).bytes in
+    let os = index_operands bytes c.args.index.now in
+    let elements = c.new-found.ensures.elements in
+    let count = rw elements at c.soundness.ensures.count in
+    makes_refused geo_in (target_by w v t os) c.in_err-check_value.field-0.0 _ c.from_residual-in_err-check_value.ensures.1
+    (target_found w v t os c.in_ok-choose.field-0 c.in_ok-choose.ensures.choice c.in_ok-choose.ensures.one count
+    ∙ (λ i. may_take (sym (c.is_full_mask.ensures bytes) i) (sym elements i) v) ∙ c.in_err-check_value.ensures.refusal)
 
-pub returns-clause-writes : goal.returns-clause-writes
-returns-clause-writes c =
-    let x = c.args.index.now in
+pub returns-clause-target : goal.returns-clause-target
+returns-clause-target c =
+    let w = viewing_of c.args.index.now in
     let t = unused_of c.args.target.now in
     let v = operand_of c.args.value.now in
-    let count = rw c.view_of-found.ensures at (sym c.count-count.ensures.value ∙ c.count-count.ensures.elements) in
-    writes_are (viewing_of x) v t (operands_of x) c.in_ok-choose.field-0 c.in_ok-choose.ensures.choice c.in_ok-choose.ensures.one count
-    ∙ ap (λ g. assign_to g v) (sym c.view_of-found.ensures) ∙ c.in_ok-check_value.ensures.refusal
+    let bytes = (live c.args.session.now).bytes in
+    let os = index_operands bytes c.args.index.now in
+    let elements = c.new-found.ensures.elements in
+    let count = rw elements at c.soundness.ensures.count in
+    target_found w v t os c.in_ok-choose.field-0 c.in_ok-choose.ensures.choice c.in_ok-choose.ensures.one count
+    ∙ (λ i. may_take (sym (c.is_full_mask.ensures bytes) i) (sym elements i) v) ∙ c.in_ok-check_value.ensures.refusal
 
 pub returns-clause-lies : goal.returns-clause-lies
 returns-clause-lies c =
-    let x = c.args.index.now in
+    let w = viewing_of c.args.index.now in
     let t = unused_of c.args.target.now in
+    let os = index_operands (live c.args.session.now).bytes c.args.index.now in
+    let elements = c.new-found.ensures.elements in
     λ len lies.
-    let count = rw c.view_of-found.ensures at (sym c.count-count.ensures.value ∙ c.count-count.ensures.elements) in
-    let limits = rw c.view_of-found.ensures at c.shape-shape.ensures.limits in
-    rw c.view_of-found.ensures
-    (target_lies len (viewing_of x) t (operands_of x) (may_be_written t) c.in_ok-choose.field-0 c.in_ok-choose.ensures.choice c.in_ok-choose.ensures.one count limits lies)
+    let count = rw elements at c.soundness.ensures.count in
+    let limits = rw elements at c.soundness.ensures.limits in
+    rw elements (target_lies len w t os (may_be_written t) c.in_ok-choose.field-0 c.in_ok-choose.ensures.choice c.in_ok-choose.ensures.one count limits lies (c.in_ok-choose.ensures.lies len))

@@ -1,19 +1,25 @@
-use Rattle.std.proofs.Common.{[], ◌∷◌, ◌++◌, length, sym, ap, ◌∙◌, append_assoc}
+use Rattle.std.proofs.Common.{◌≡◌, List, ℕ, [], ◌∷◌, ◌++◌, OnOk, length, Vec, Global, sym, ap, ◌∙◌, subst, append_assoc}
 use Rattle.nd_model.specs.Creation.{shape_of_element}
-use Rattle.nd_syntax.specs.Syntax.{element_of}
-use Rattle.nd_operation.proofs.Listing.{some_lengths, no_lengths}
+use Rattle.nd_syntax.specs.declared.tree.Element.{Element}
+use Rattle.nd_operation.specs.Listing.{list_of}
+use Rattle.nd_operation.proofs.Listing.{one_length, nested_lengths}
 use Rattle.nd_operation.proofs.lists.+push_lengths.Goals as goal
 
-pub returns-in_ok-push_lengths : goal.returns-in_ok-push_lengths
-returns-in_ok-push_lengths t c =
-    let before = c.args.lengths.now.items in
-    let deeper = shape_of_element (element_of c.in-Some.first.now) in
-    c.in_ok-push_lengths.ensures ∙ ap (λ l. l ++ deeper) c.in_ok-push.ensures.ok ∙ append_assoc before (length c.as_slice-elements.result.now ∷ []) deeper
-    ∙ ap (λ l. before ++ l)
-    (sym (some_lengths c.args.element.now c.in-Nested.elements c.in-Nested.is c.as_slice-elements.result.now (sym c.as_slice-elements.ensures.value) c.in-Some.first.now c.in-Some.field-0-1.now c.in-Some.ensures.cases.0))
-
-pub returns-in_default-split_first : goal.returns-in_default-split_first
-returns-in_default-split_first t c =
+pub returns-in-Some-Single-default : goal.returns-in-Some-Single-default
+returns-in-Some-Single-default t c =
+    let a = c.in-Some-Single-default in
     c.in_ok-push.ensures.ok
-    ∙ ap (λ l. c.args.lengths.now.items ++ l)
-    (sym (no_lengths c.args.element.now c.in-Nested.elements c.in-Nested.is c.as_slice-elements.result.now (sym c.as_slice-elements.ensures.value) c.in_default-split_first.ensures.cases))
+    ∙ ap (λ l. c.args.lengths.now.items ++ l) (sym (one_length c.args.elements.now a.field-0-0.now a.field-0-1.now a.ensures.cases.0 a.field-0-0-0 a.field-0-0-is))
+
+pub returns-in-Some-Nested-default : goal.returns-in-Some-Nested-default
+returns-in-Some-Nested-default t c =
+    let a = c.in-Some-Nested-default in
+    let before = c.args.lengths.now.items in
+    let n = length c.args.elements.now in
+    let deeper = shape_of_element (list_of c.as_slice.result.now) in
+    subst (λ (l : List ℕ). OnOk c.push_lengths.result (c.push_lengths.new.lengths.items ≡ l))
+    (ap (λ l. l ++ deeper) c.in_ok-push.ensures.ok ∙ append_assoc before (n ∷ []) deeper
+    ∙ ap (λ l. before ++ l)
+    (ap (λ es. n ∷ shape_of_element (list_of es)) (c.as_slice.ensures.value ∙ ap (λ (v : Vec Element Global). v.items) a.first-is)
+    ∙ sym (nested_lengths c.args.elements.now a.field-0-0.now a.field-0-1.now a.ensures.cases.0 a.first a.field-0-0-is)))
+    c.push_lengths.ensures

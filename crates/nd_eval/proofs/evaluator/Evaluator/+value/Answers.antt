@@ -1,4 +1,4 @@
-use Rattle.std.proofs.Common.{Ok, append-nil, ◌+◌, List, [], ◌∷◌, ◌++◌, refl, map, option_map, take, drop, ap, sym, ◌∙◌, arith}
+use Rattle.std.proofs.Common.{Ok, None, append-nil, ◌+◌, List, [], ◌∷◌, ◌++◌, refl, map, option_map, take, drop, ap, sym, ◌∙◌, arith}
 use Rattle.std.proofs.lemmas.List.{drop_all, length-map}
 use Rattle.nd_model.specs.Index.{Form, AtForm, SliceForm}
 use Rattle.nd_model.specs.Operand.{ArraysOnly}
@@ -20,20 +20,21 @@ use Rattle.nd_syntax.specs.declared.tree.IndexItem.{IndexItem}
 use Rattle.nd_heap.specs.Values.{value_of}
 use Rattle.nd_input.specs.Values.{inputs_of}
 use Rattle.nd_session.specs.Live.{live}
-use Rattle.nd_eval.proofs.Bounds.{accumulated_tokens, axis_behind, bound_behind, few_of_items, step_more, list_others, next_behind, next_item_parts, next_bound, next_value, next_values, next_at_suffix}
+use Rattle.nd_eval.proofs.Bounds.{accumulated_tokens, axis_behind, bound_behind, few_of_items, step_more, list_others, next_behind, next_index, next_item_parts, next_list, next_bound, next_value, next_values, next_at_suffix}
 use Rattle.nd_eval.proofs.Calls.{filled_first, filled_parts, full_first, full_follows, list_first, list_parts, stretched_first}
 use Rattle.nd_syntax.specs.Calls.{accumulation_of, dtype_of, fill_of, ufunc_of}
 use Rattle.nd_model.specs.Creation.{array_of_list, filled, full_of}
 use Rattle.nd_operation.specs.Contents.{operand_of, unused_of}
 use Rattle.nd_eval.specs.Contents as contents
 use Rattle.nd_eval.specs.Contents.{option_values, values_of}
+use Rattle.nd_eval.specs.Parts.{list_parts as as_item}
 use Rattle.nd_eval.specs.Parts.{bound_exprs, fold_call, exprs_in, exprs_of_element, index_parts, item_parts, items_parts, items_then, parts_of_items, unused, ItemParts, suffix_value, list_value, binary_value, values_behind, values_then, values, method_value, viewed_value}
 use Rattle.nd_model.specs.Value as model
 use Rattle.nd_syntax.specs.declared.tree.Expr.{Expr}
 use Rattle.nd_operation.specs.New.{bounds_of}
 use Rattle.nd_eval.proofs.Creating.{exits_new, follows_new}
 use Rattle.nd_eval.proofs.Chains.{exits, follows, goes, ends_as, ends_alike}
-use Rattle.nd_model.specs.Syntax.{Called, NewArray}
+use Rattle.nd_model.specs.Syntax.{Called, Nested, NewArray}
 use Rattle.nd_syntax.proofs.Nodes.{filled_is, full_is, broadcast_is, reshape_is, transpose_is}
 use Rattle.nd_eval.proofs.Operating.{chain_step, chain_rest, exits_chain, exits_later, fewer_tokens}
 use Rattle.nd_eval.proofs.Turns.{stays_on}
@@ -42,8 +43,8 @@ use Rattle.nd_eval.specs.Uses.{marked, all_marked}
 use Rattle.nd_eval.proofs.Uses.{slice_seen, kept_bytes, kept_next, all_marked_bytes, all_marked_next}
 use Rattle.nd_eval.proofs.Held.{held_after, held_marked, held_past, sound_after, suffix_held, value_held}
 use Rattle.nd_operation.proofs.InTurn.{next_item, pushed}
-use Rattle.nd_eval.proofs.InTurn.{as_many, behind_others, many_of_element, onto, onto_more}
-use Rattle.nd_eval.proofs.Indexing.{accumulate_is, accumulated_is, chain, fold_first, nodes_of_accumulate, nodes_of_accumulated, nodes_of_fold, elements_in_list, nodes_of_its_elements, run_postfix, tokens_of_postfix, nodes_of_postfix, nodes_of_filled, nodes_of_full, nodes_of_item, nodes_of_slice, slice_is, shape_tokens, items_in_index, nodes_of_its_items, is_chain, nodes_of_chain, listed_is, nodes_of_reshaped, nodes_of_stretched, nodes_of_transposed, reshaped_tokens, transposed_tokens}
+use Rattle.nd_eval.proofs.InTurn.{as_many, behind_others, many_in, onto, onto_more}
+use Rattle.nd_eval.proofs.Indexing.{accumulate_is, accumulated_is, chain, fold_first, nodes_of_accumulate, nodes_of_accumulated, nodes_of_fold, elements_in_list, nodes_of_its_elements, run_postfix, tokens_of_postfix, nodes_of_postfix, nodes_of_filled, nodes_of_full, list_in_items, nodes_of_list, nodes_of_item, nodes_of_slice, slice_is, shape_tokens, items_in_index, nodes_of_its_items, is_chain, nodes_of_chain, listed_is, nodes_of_reshaped, nodes_of_stretched, nodes_of_transposed, reshaped_tokens, transposed_tokens}
 use Rattle.nd_eval.proofs.evaluator.Evaluator.+value.Goals as goal
 
 pub value-value_of_one-requires : goal.value-value_of_one-requires
@@ -164,71 +165,23 @@ push_values-returns-in_err-found-in-Single t c =
       c.in_err-found-in-Single.ensures.1,
     )
 
-pub push_values-loop-nested-init : goal.push_values-loop-nested-init
-push_values-loop-nested-init t c =
-    let i = inputs_of c.args.self.now.inputs.now.entries in
+pub push_values-push_all-requires : goal.push_values-push_all-requires
+push_values-push_all-requires t c =
     let same = elements_in_list c.args.element.now c.in-Nested.elements c.in-Nested.is in
     let size = nodes_of_its_elements c.args.element.now c.in-Nested.elements c.in-Nested.is in
     let room = rw same at c.requires in
-    let few = list_others (elements_of (map element_of c.in-Nested.elements.items)) in
-    record {
-      stays = (refl, refl);
-      same = ap (λ x. run i (values_behind (values_of c.args.values.now) (exprs_of_element x)) (live c.args.self.now.session.now)) same
-          ∙ ap (λ (es : List Element). run i (values_behind (values_of c.args.values.now) (exprs_in (elements_of (map element_of es)))) (live c.args.self.now.session.now)) (sym c.deref-nested-items.ensures.value);
-      room = rw c.deref-nested-items.ensures.value (omega arith);
-      below = rw c.deref-nested-items.ensures.value (omega arith);
-    }
-
-pub push_values-push_values-requires : goal.push_values-push_values-requires
-push_values-push_values-requires t c =
-    let next = next_item c.deref-nested-items.result.now c.loop-nested.nested-index c.nested-item.result c.loop-nested-test.true c.nested-item.is in
-    let room = rw next at c.loop-nested.invariant.room in
     let below = c.decreases in
-    let few = rw next at c.loop-nested.invariant.below in
-    (omega arith, omega arith)
+    rw c.deref.ensures.value (omega arith, omega arith)
 
-pub push_values-loop-nested-preserved : goal.push_values-loop-nested-preserved
-push_values-loop-nested-preserved t c =
+pub push_values-returns-in-Nested : goal.push_values-returns-in-Nested
+push_values-returns-in-Nested t c =
     let i = inputs_of c.args.self.now.inputs.now.entries in
-    let x = element_of c.nested-item.result in
-    let bs = values_of c.loop-nested.values in
-    let rest = elements_of (map element_of (drop (c.loop-nested.nested-index + 1) c.deref-nested-items.result.now)) in
-    let next = next_item c.deref-nested-items.result.now c.loop-nested.nested-index c.nested-item.result c.loop-nested-test.true c.nested-item.is in
-    let room = rw next at c.loop-nested.invariant.room in
-    let few = rw next at c.loop-nested.invariant.below in
-    let found = rw c.loop-nested.invariant.stays.1 at c.in_ok-push_values-in-Nested.ensures.0 in
-    let made = next_behind i bs x _ _ _ found in
-    record {
-      stays = stays_on c.loop-nested.invariant.stays c.in_ok-push_values-in-Nested.ensures.1;
-      same = c.loop-nested.invariant.same
-          ∙ ap (λ (es : List Element). run i (values_behind bs (exprs_in (elements_of (map element_of es)))) (live c.loop-nested.self.session.now)) next
-          ∙ behind_others i bs (exprs_of_element x) (exprs_in rest) (live c.loop-nested.self.session.now)
-          ∙ goes (λ (u : Unit {0}). values_of c.push_values.new.values) i (values_behind bs (exprs_of_element x)) (λ found. values_behind found (exprs_in rest)) _ _ _ found;
-      room = omega arith;
-      below = omega arith;
-    }
-
-pub push_values-returns-in_err-push_values-in-Nested : goal.push_values-returns-in_err-push_values-in-Nested
-push_values-returns-in_err-push_values-in-Nested t c =
-    let i = inputs_of c.args.self.now.inputs.now.entries in
-    let x = element_of c.nested-item.result in
-    let bs = values_of c.loop-nested.values in
-    let rest = elements_of (map element_of (drop (c.loop-nested.nested-index + 1) c.deref-nested-items.result.now)) in
-    let next = next_item c.deref-nested-items.result.now c.loop-nested.nested-index c.nested-item.result c.loop-nested-test.true c.nested-item.is in (
-      ends_alike (λ (u : Unit {0}). values_of c.push_values.new.values) _ _
-          (c.loop-nested.invariant.same
-          ∙ ap (λ (es : List Element). run i (values_behind bs (exprs_in (elements_of (map element_of es)))) (live c.loop-nested.self.session.now)) next
-          ∙ behind_others i bs (exprs_of_element x) (exprs_in rest) (live c.loop-nested.self.session.now))
-          (exits (λ (u : Unit {0}). values_of c.push_values.new.values) (λ (u : Unit {0}). values_of c.push_values.new.values) i (values_behind bs (exprs_of_element x)) (λ found. values_behind found (exprs_in rest)) _ _ _ _
-          c.from_residual-in_err-push_values-in-Nested.ensures.1 (rw c.loop-nested.invariant.stays.1 at c.in_err-push_values-in-Nested.ensures.0)),
-      stays_on c.loop-nested.invariant.stays c.in_err-push_values-in-Nested.ensures.1,
+    let r = live c.args.self.now.session.now in
+    let same = elements_in_list c.args.element.now c.in-Nested.elements c.in-Nested.is in (
+      ends_alike (λ (u : Unit {0}). values_of c.push_all.new.values) _ _
+          (ap (λ x. run i (values_behind (values_of c.args.values.now) (exprs_of_element x)) r) same) (rw c.deref.ensures.value at c.push_all.ensures.0),
+      c.push_all.ensures.1,
     )
-
-pub push_values-returns-after-loop-nested : goal.push_values-returns-after-loop-nested
-push_values-returns-after-loop-nested t c =
-    let none = drop_all _ _ c.loop-nested-test.false in
-    let all = rw none at c.loop-nested.invariant.same in
-    (all ∙ ap (λ (l : List model.Value). (Ok l, live c.loop-nested.self.session.now)) (append-nil (values_of c.loop-nested.values)), c.loop-nested.invariant.stays)
 
 pub push_values-returns-in_ok-push-in-Single : goal.push_values-returns-in_ok-push-in-Single
 push_values-returns-in_ok-push-in-Single t c =
@@ -238,73 +191,135 @@ push_values-returns-in_ok-push-in-Single t c =
       c.in_ok-found-in-Single.ensures.1,
     )
 
-pub list_value-returns-in_err-push_values : goal.list_value-returns-in_err-push_values
-list_value-returns-in_err-push_values t c =
-    let x = element_of c.args.element.now in (
-      exits (λ (u : Unit {0}). values_of c.push_values.new.values) value_of (inputs_of c.args.self.now.inputs.now.entries) (values (exprs_of_element x)) _ _ _ _ _
-          c.from_residual.ensures.1 (rw c.new-values.ensures.items at c.in_err-push_values.ensures.0),
-      c.in_err-push_values.ensures.1,
+pub push_all-loop-element-init : goal.push_all-loop-element-init
+push_all-loop-element-init t c =
+    let few = list_others (elements_of (map element_of c.args.elements.now)) in
+    record { same = refl; stays = (refl, refl); room = omega (arith, few, c.requires); below = omega arith }
+
+pub push_all-push_values-requires : goal.push_all-push_values-requires
+push_all-push_values-requires t c =
+    let next = next_item c.args.elements.now c.loop-element.element-index c.element-item.result c.loop-element-test.true c.element-item.is in
+    let room = rw next at c.loop-element.invariant.room in
+    let below = c.decreases in
+    let few = rw next at c.loop-element.invariant.below in
+    (omega arith, omega arith)
+
+pub push_all-loop-element-preserved : goal.push_all-loop-element-preserved
+push_all-loop-element-preserved t c =
+    let i = inputs_of c.args.self.now.inputs.now.entries in
+    let x = element_of c.element-item.result in
+    let bs = values_of c.loop-element.values in
+    let rest = elements_of (map element_of (drop (c.loop-element.element-index + 1) c.args.elements.now)) in
+    let next = next_item c.args.elements.now c.loop-element.element-index c.element-item.result c.loop-element-test.true c.element-item.is in
+    let room = rw next at c.loop-element.invariant.room in
+    let few = rw next at c.loop-element.invariant.below in
+    let found = rw c.loop-element.invariant.stays.1 at c.in_ok-push_values.ensures.0 in
+    let made = next_behind i bs x _ _ _ found in
+    record {
+      stays = stays_on c.loop-element.invariant.stays c.in_ok-push_values.ensures.1;
+      same = c.loop-element.invariant.same
+          ∙ ap (λ (es : List Element). run i (values_behind bs (exprs_in (elements_of (map element_of es)))) (live c.loop-element.self.session.now)) next
+          ∙ behind_others i bs (exprs_of_element x) (exprs_in rest) (live c.loop-element.self.session.now)
+          ∙ goes (λ (u : Unit {0}). values_of c.push_values.new.values) i (values_behind bs (exprs_of_element x)) (λ found. values_behind found (exprs_in rest)) _ _ _ found;
+      room = omega arith;
+      below = omega arith;
+    }
+
+pub push_all-returns-in_err-push_values : goal.push_all-returns-in_err-push_values
+push_all-returns-in_err-push_values t c =
+    let i = inputs_of c.args.self.now.inputs.now.entries in
+    let x = element_of c.element-item.result in
+    let bs = values_of c.loop-element.values in
+    let rest = elements_of (map element_of (drop (c.loop-element.element-index + 1) c.args.elements.now)) in
+    let next = next_item c.args.elements.now c.loop-element.element-index c.element-item.result c.loop-element-test.true c.element-item.is in (
+      ends_alike (λ (u : Unit {0}). values_of c.push_values.new.values) _ _
+          (c.loop-element.invariant.same
+          ∙ ap (λ (es : List Element). run i (values_behind bs (exprs_in (elements_of (map element_of es)))) (live c.loop-element.self.session.now)) next
+          ∙ behind_others i bs (exprs_of_element x) (exprs_in rest) (live c.loop-element.self.session.now))
+          (exits (λ (u : Unit {0}). values_of c.push_values.new.values) (λ (u : Unit {0}). values_of c.push_values.new.values) i (values_behind bs (exprs_of_element x)) (λ found. values_behind found (exprs_in rest)) _ _ _ _
+          c.from_residual.ensures.1 (rw c.loop-element.invariant.stays.1 at c.in_err-push_values.ensures.0)),
+      stays_on c.loop-element.invariant.stays c.in_err-push_values.ensures.1,
+    )
+
+pub push_all-returns : goal.push_all-returns
+push_all-returns t c =
+    let none = drop_all _ _ c.loop-element-test.false in
+    let all = rw none at c.loop-element.invariant.same in
+    (all ∙ ap (λ (l : List model.Value). (Ok l, live c.loop-element.self.session.now)) (append-nil (values_of c.loop-element.values)), c.loop-element.invariant.stays)
+
+pub list_value-returns-in_err-push_all : goal.list_value-returns-in_err-push_all
+list_value-returns-in_err-push_all t c =
+    let es = elements_of (map element_of c.args.elements.now) in (
+      exits (λ (u : Unit {0}). values_of c.push_all.new.values) value_of (inputs_of c.args.self.now.inputs.now.entries) (values (exprs_in es)) _ _ _ _ _
+          c.from_residual.ensures.1 (rw c.new-values.ensures.items at c.in_err-push_all.ensures.0),
+      c.in_err-push_all.ensures.1,
     )
 
 pub list_value-make_list-requires : goal.list_value-make_list-requires
 list_value-make_list-requires t c =
     let i = inputs_of c.args.self.now.inputs.now.entries in
-    let x = element_of c.args.element.now in
-    let vs = c.push_values.new.values.items in
-    let many = as_many i [] (exprs_of_element x) _ _ _ (rw c.new-values.ensures.items at c.in_ok-push_values.ensures.0) in
-    rw c.deref-2.ensures.value (omega (arith, many, many_of_element x, length-map vs value_of))
+    let es = elements_of (map element_of c.args.elements.now) in
+    let vs = c.push_all.new.values.items in
+    let many = as_many i [] (exprs_in es) _ _ _ (rw c.new-values.ensures.items at c.in_ok-push_all.ensures.0) in
+    rw c.deref-2.ensures.value (omega (arith, many, many_in es, length-map vs value_of))
 
 pub list_value-returns-in_err-new : goal.list_value-returns-in_err-new
 list_value-returns-in_err-new t c =
     let i = inputs_of c.args.self.now.inputs.now.entries in
-    let x = element_of c.args.element.now in
+    let x = Nested (elements_of (map element_of c.args.elements.now)) in
     let d = option_map dtype_of c.args.dtype.now in
-    let vs = c.push_values.new.values.items in
-    let s = live c.push_values.new.self.session.now in
-    let found = rw c.new-values.ensures.items at c.in_ok-push_values.ensures.0 in
+    let vs = c.push_all.new.values.items in
+    let s = live c.push_all.new.self.session.now in
+    let found = rw c.new-values.ensures.items at c.in_ok-push_all.ensures.0 in
     let marks = c.in_ok-mark_operands.ensures ∙ ap (λ vs. all_marked vs s) c.deref.ensures.value in (
-      follows (λ (u : Unit {0}). values_of c.push_values.new.values) value_of i (values (exprs_of_element x)) _ _ _ _ c.in_ok-push_values.field-0 _ found
+      follows (λ (u : Unit {0}). values_of c.push_all.new.values) value_of i (values (exprs_of_element x)) _ _ _ _ c.in_ok-push_all.field-0 _ found
           (ends_alike value_of _ _ (list_parts i x d vs s ∙ ap (run i (decide (array_of_list x d (map unused_of vs)) >>= give)) (sym marks))
           (exits_new i (array_of_list x d (map unused_of vs)) _ _ _ c.from_residual-in_err-new.ensures.1 (rw c.deref-2.ensures.value at c.in_err-new.ensures))),
-      c.in_ok-push_values.ensures.1,
+      c.in_ok-push_all.ensures.1,
     )
 
 pub list_value-give-requires : goal.list_value-give-requires
 list_value-give-requires t c =
     let i = inputs_of c.args.self.now.inputs.now.entries in
-    let x = element_of c.args.element.now in
-    let vs = c.push_values.new.values.items in
-    let s = live c.push_values.new.self.session.now in
+    let es = elements_of (map element_of c.args.elements.now) in
+    let vs = c.push_all.new.values.items in
+    let s = live c.push_all.new.self.session.now in
     let room = c.requires in
-    let made = next_behind i [] x _ _ _ (rw c.new-values.ensures.items at c.in_ok-push_values.ensures.0) in
+    let made = next_list i [] es _ _ _ (rw c.new-values.ensures.items at c.in_ok-push_all.ensures.0) in
     let marks = ap (λ (q : Running). q.next) (c.in_ok-mark_operands.ensures ∙ ap (λ vs. all_marked vs s) c.deref.ensures.value) ∙ all_marked_next vs s in
     omega arith
 
 pub list_value-returns : goal.list_value-returns
 list_value-returns t c =
     let i = inputs_of c.args.self.now.inputs.now.entries in
-    let x = element_of c.args.element.now in
+    let x = Nested (elements_of (map element_of c.args.elements.now)) in
     let d = option_map dtype_of c.args.dtype.now in
-    let vs = c.push_values.new.values.items in
-    let s = live c.push_values.new.self.session.now in
-    let found = rw c.new-values.ensures.items at c.in_ok-push_values.ensures.0 in
+    let vs = c.push_all.new.values.items in
+    let s = live c.push_all.new.self.session.now in
+    let found = rw c.new-values.ensures.items at c.in_ok-push_all.ensures.0 in
     let marks = c.in_ok-mark_operands.ensures ∙ ap (λ vs. all_marked vs s) c.deref.ensures.value in (
-      follows (λ (u : Unit {0}). values_of c.push_values.new.values) value_of i (values (exprs_of_element x)) _ _ _ _ c.in_ok-push_values.field-0 _ found
+      follows (λ (u : Unit {0}). values_of c.push_all.new.values) value_of i (values (exprs_of_element x)) _ _ _ _ c.in_ok-push_all.field-0 _ found
           (ends_alike value_of _ _ (list_parts i x d vs s ∙ ap (run i (decide (array_of_list x d (map unused_of vs)) >>= give)) (sym marks))
-          (follows_new i (array_of_list x d (map unused_of vs)) _ _ c.in_ok-new.new _ (rw c.deref-2.ensures.value at c.in_ok-new.ensures) (rw c.in_ok-push_values.ensures.1.1 at c.give.ensures.0))),
-      stays_on c.in_ok-push_values.ensures.1 c.give.ensures.1,
+          (follows_new i (array_of_list x d (map unused_of vs)) _ _ c.in_ok-new.new _ (rw c.deref-2.ensures.value at c.in_ok-new.ensures) (rw c.in_ok-push_all.ensures.1.1 at c.give.ensures.0))),
+      stays_on c.in_ok-push_all.ensures.1 c.give.ensures.1,
     )
+
+pub array_value-list_value-requires : goal.array_value-list_value-requires
+array_value-list_value-requires t c =
+    let same = elements_in_list c.args.element.now c.in-Nested.elements c.in-Nested.is in
+    let size = nodes_of_its_elements c.args.element.now c.in-Nested.elements c.in-Nested.is in
+    let room = rw same at c.requires in
+    let below = c.decreases in
+    rw c.deref.ensures.value (omega arith, omega arith)
 
 pub array_value-returns-in-Nested : goal.array_value-returns-in-Nested
 array_value-returns-in-Nested t c =
     let i = inputs_of c.args.self.now.inputs.now.entries in
     let r = live c.args.self.now.session.now in
     let d = option_map dtype_of c.args.dtype.now in
-    let same = elements_in_list c.args.element.now c.in-Nested.field-0 c.in-Nested.is in
-    let es = elements_of (map element_of c.in-Nested.field-0.items) in (
-      ends_alike value_of _ _
-          (ap (λ x. run i (meaning.value (Called (NewArray x d))) r) same ∙ list_first i es d r ∙ ap (λ x. run i (list_value x d) r) (sym same))
-          c.list_value.ensures.0,
+    let same = elements_in_list c.args.element.now c.in-Nested.elements c.in-Nested.is in
+    let es = elements_of (map element_of c.in-Nested.elements.items) in (
+      ends_alike value_of _ _ (ap (λ x. run i (meaning.value (Called (NewArray x d))) r) same ∙ list_first i es d r) (rw c.deref.ensures.value at c.list_value.ensures.0),
       c.list_value.ensures.1,
     )
 
@@ -783,11 +798,21 @@ index_into-returns-in_err-index t c = (
   c.in_err-index.ensures.1,
 )
 
+pub index_into-choose_value-requires-clause-held : goal.index_into-choose_value-requires-clause-held
+index_into-choose_value-requires-clause-held t c =
+    held_after (inputs_of c.args.self.now.inputs.now.entries) (index_parts (index_of c.args.index.now)) _ _ _ c.args.found.now c.in_ok-index.ensures.0 c.requires.held
+
+pub index_into-choose_value-requires-clause-room : goal.index_into-choose_value-requires-clause-room
+index_into-choose_value-requires-clause-room t c =
+    let room = c.requires.room in
+    let made = next_index (inputs_of c.args.self.now.inputs.now.entries) (index_of c.args.index.now) _ _ _ c.in_ok-index.ensures.0 in
+    omega arith
+
 pub index_into-returns : goal.index_into-returns
 index_into-returns t c = (
   follows contents.index_of value_of (inputs_of c.args.self.now.inputs.now.entries) (index_parts (index_of c.args.index.now)) _ _ _ _
-      c.in_ok-index.index _ c.in_ok-index.ensures.0 (rw c.in_ok-index.ensures.1.1 at c.choose_value.ensures.0),
-  stays_on c.in_ok-index.ensures.1 c.choose_value.ensures.1,
+      c.in_ok-index.index _ c.in_ok-index.ensures.0 (rw c.in_ok-index.ensures.1.1 at c.choose_value.ensures.value.0),
+  stays_on c.in_ok-index.ensures.1 c.choose_value.ensures.value.1,
 )
 
 -- ---- the items of an index
@@ -856,6 +881,43 @@ index_value-returns-in_ok-items-in-Items t c =
           c.in_ok-items-in-Items.items (rw c.deref.ensures.value at c.in_ok-items-in-Items.ensures.0)),
       c.in_ok-items-in-Items.ensures.1,
     )
+
+pub list_item-returns-then-is_empty_list : goal.list_item-returns-then-is_empty_list
+list_item-returns-then-is_empty_list t c =
+    let i = inputs_of c.args.self.now.inputs.now.entries in
+    let es = elements_of (map element_of c.args.elements.now) in
+    (ap (λ t. run i (as_item t es) (live c.args.self.now.session.now)) (sym c.is_empty_list.ensures ∙ c.if-is_empty_list.true), (refl, refl))
+
+pub list_item-returns-in_err-value : goal.list_item-returns-in_err-value
+list_item-returns-in_err-value t c =
+    let i = inputs_of c.args.self.now.inputs.now.entries in
+    let es = elements_of (map element_of c.args.elements.now) in (
+      ends_alike contents.item_of _ _ (ap (λ t. run i (as_item t es) (live c.args.self.now.session.now)) (sym c.is_empty_list.ensures ∙ c.if-is_empty_list.false))
+          (exits value_of contents.item_of i (list_value (Nested es) None) (λ v. Gives (AtForm, (ArraysOnly, v) ∷ [])) _ _ _ _ c.from_residual.ensures.1 c.in_err-value.ensures.0),
+      c.in_err-value.ensures.1,
+    )
+
+pub list_item-returns : goal.list_item-returns
+list_item-returns t c =
+    let i = inputs_of c.args.self.now.inputs.now.entries in
+    let es = elements_of (map element_of c.args.elements.now) in (
+      ap (λ t. run i (as_item t es) (live c.args.self.now.session.now)) (sym c.is_empty_list.ensures ∙ c.if-is_empty_list.false)
+          ∙ goes value_of i (list_value (Nested es) None) (λ v. Gives (AtForm, (ArraysOnly, v) ∷ [])) _ _ c.in_ok-value.value c.in_ok-value.ensures.0,
+      c.in_ok-value.ensures.1,
+    )
+
+pub item_value-list_item-requires : goal.item_value-list_item-requires
+item_value-list_item-requires t c =
+    let same = list_in_items c.args.item.now c.in-List.elements c.in-List.is in
+    let size = nodes_of_list c.args.item.now c.in-List.elements c.in-List.is in
+    let room = rw same at c.requires in
+    let below = c.decreases in
+    rw c.deref.ensures.value (omega arith, omega arith)
+
+pub item_value-returns-in-List : goal.item_value-returns-in-List
+item_value-returns-in-List t c =
+    let same = list_in_items c.args.item.now c.in-List.elements c.in-List.is in
+    (rw same (rw c.deref.ensures.value at c.list_item.ensures.0), c.list_item.ensures.1)
 
 pub item_value-returns-in_err-value-in-At : goal.item_value-returns-in_err-value-in-At
 item_value-returns-in_err-value-in-At t c = (

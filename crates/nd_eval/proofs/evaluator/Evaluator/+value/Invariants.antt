@@ -10,7 +10,7 @@ use Rattle.nd_heap.specs.Values.{value_of}
 use Rattle.nd_input.specs.Values.{inputs_of}
 use Rattle.nd_session.specs.Live.{live}
 use Rattle.nd_eval.specs.Ends.{Stays}
-use Rattle.nd_eval.specs.Parts.{exprs_in, exprs_of_element, items_parts, items_then, values, values_behind, values_then}
+use Rattle.nd_eval.specs.Parts.{exprs_in, items_parts, items_then, values, values_behind, values_then}
 use Rattle.nd_eval.specs.Contents as contents
 use Rattle.nd_eval.specs.Contents.{values_of}
 use Rattle.nd_eval.specs.Uses.{IsHeld}
@@ -43,7 +43,13 @@ abbrev pub decreases-array_value : goal.decreases-array_value
 decreases-array_value l = 2 + nodes_of_element l.element.now
 
 abbrev pub decreases-list_value : goal.decreases-list_value
-decreases-list_value l = 1 + nodes_of_element l.element.now
+decreases-list_value l = 1 + nodes_of_elements l.elements.now
+
+abbrev pub decreases-push_all : goal.decreases-push_all
+decreases-push_all l = nodes_of_elements l.elements.now
+
+abbrev pub decreases-list_item : goal.decreases-list_item
+decreases-list_item l = 2 + nodes_of_elements l.elements.now
 
 abbrev pub decreases-push_values : goal.decreases-push_values
 decreases-push_values l = nodes_of_element l.element.now
@@ -110,15 +116,15 @@ invariant-value-loop-suffix l =
     }
 
 -- the values so far, and those of the elements that are left
-abbrev pub invariant-push_values-loop-nested : goal.invariant-push_values-loop-nested
-invariant-push_values-loop-nested l =
-    let left = elements_of (map element_of (drop l.nested-index l.nested-items)) in
+abbrev pub invariant-push_all-loop-element : goal.invariant-push_all-loop-element
+invariant-push_all-loop-element l =
+    let left = elements_of (map element_of (drop l.element-index l.elements)) in
     record {
-      same : run (inputs_of l.fn.self.inputs.now.entries) (values_behind (values_of l.fn.values) (exprs_of_element (element_of l.element))) (live l.fn.self.session.now)
+      same : run (inputs_of l.fn.self.inputs.now.entries) (values_behind (values_of l.fn.values) (exprs_in (elements_of (map element_of l.elements)))) (live l.fn.self.session.now)
           ≡ run (inputs_of l.fn.self.inputs.now.entries) (values_behind (values_of l.values) (exprs_in left)) (live l.self.session.now);
       stays : Stays l.fn.self l.self;
-      room : (live l.self.session.now).next + tokens_of_others left < 2 ^ 64;
-      below : nodes_of_elements (drop l.nested-index l.nested-items) < nodes_of_element l.element;
+      room : (live l.self.session.now).next + tokens_of_others left ≤ 2 ^ 64;
+      below : nodes_of_elements (drop l.element-index l.elements) ≤ nodes_of_elements l.elements;
     }
 
 -- the value of the operand with the operators so far

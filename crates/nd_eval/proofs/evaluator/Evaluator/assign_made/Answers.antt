@@ -6,14 +6,16 @@ use Rattle.nd_model.specs.Evaluation.{run}
 use Rattle.nd_model.specs.Operand.{shape_of}
 use Rattle.nd_model.specs.Operation.{store_in}
 use Rattle.nd_model.specs.Running.{Storing}
+use Rattle.nd_heap.specs.declared.value.Value.TheVariants.{Number}
 use Rattle.nd_heap.specs.Values.{base_of, value_of}
 use Rattle.nd_input.specs.Values.{inputs_of}
 use Rattle.nd_session.specs.Live.{live}
 use Rattle.nd_syntax.specs.Syntax.{binary_op}
 use Rattle.nd_operation.specs.Contents.{operand_of, unused_of}
 use Rattle.nd_operation.specs.New.{given, MakesNew, StandsFor}
-use Rattle.nd_choice.specs.Indexing.{operands_of, viewing_of}
-use Rattle.nd_choice.specs.Targets.{Lies, writes_to}
+use Rattle.nd_choice.specs.Indexing.{index_operands, viewing_of}
+use Rattle.nd_choice.specs.Targets.{Lies, geo_in, writes_to}
+use Rattle.nd_choice.proofs.Lying.{writes_made}
 use Rattle.nd_eval.specs.Uses.{IsHeld, operand_over}
 use Rattle.nd_eval.proofs.Augmented.{exits_assigned, exits_made, given_held, given_operand, goes_made}
 use Rattle.nd_eval.proofs.Chains.{ends_alike, exits, goes}
@@ -28,21 +30,22 @@ returns-in_err-new-clause-effect c =
     let r = live c.args.self.now.session.now in
     let same : binary op (operand_of c.operand_in-left.result) (operand_of c.operand_in-right.result) ≡ binary op (operand_over r.bytes c.args.found.now) (operand_over r.bytes c.args.value.now)
     = λ j. binary op (c.operand_in-left.ensures j) (c.operand_in-right.ensures j) in (
-      exits_made _ i (value_of c.args.target.now) _ op _ _ (viewing_of c.args.index.now) (unused_of c.args.target.now) (operands_of c.args.index.now) _ _ c.from_residual.ensures.1
+      exits_made _ i (value_of c.args.target.now) _ op _ _ (viewing_of c.args.index.now) (unused_of c.args.target.now) (index_operands (live c.args.self.now.session.now).bytes c.args.index.now) _ _ c.from_residual.ensures.1
           (subst (StandsFor (Err c.in_err-new.field-0.0)) same c.in_err-new.ensures.operand),
       (refl, refl),
     )
 
-pub returns-in_err-view-clause-effect : goal.returns-in_err-view-clause-effect
-returns-in_err-view-clause-effect c =
+pub returns-in_err-elements-clause-effect : goal.returns-in_err-elements-clause-effect
+returns-in_err-elements-clause-effect c =
     let i = inputs_of c.args.self.now.inputs.now.entries in
     let op = binary_op c.args.op in
     let n = c.in_ok-new.new in
     let r = live c.args.self.now.session.now in
     let same : binary op (operand_of c.operand_in-left.result) (operand_of c.operand_in-right.result) ≡ binary op (operand_over r.bytes c.args.found.now) (operand_over r.bytes c.args.value.now)
     = λ j. binary op (c.operand_in-left.ensures j) (c.operand_in-right.ensures j) in (
-      exits_assigned _ i (value_of c.args.target.now) _ op _ _ (viewing_of c.args.index.now) (unused_of c.args.target.now) (operands_of c.args.index.now) n (operand_of c.operand.result)
-          (subst (StandsFor (Ok n)) same c.in_ok-new.ensures.operand) (subst (MakesNew (Ok n)) same c.in_ok-new.ensures.new) c.operand.ensures _ _ c.from_residual-in_err-view.ensures.1 c.in_err-view.ensures.writes,
+      exits_assigned _ i (value_of c.args.target.now) _ op _ _ (viewing_of c.args.index.now) (unused_of c.args.target.now) (index_operands (live c.args.self.now.session.now).bytes c.args.index.now) n (operand_of c.operand.result)
+          (subst (StandsFor (Ok n)) same c.in_ok-new.ensures.operand) (subst (MakesNew (Ok n)) same c.in_ok-new.ensures.new) c.operand.ensures _ _ c.from_residual-in_err-elements.ensures.1
+          (writes_made (viewing_of c.args.index.now) (operand_of c.operand.result) (unused_of c.args.target.now) (index_operands (live c.args.self.now.session.now).bytes c.args.index.now) (Err c.in_err-elements.field-0.0) c.in_err-elements.ensures.target),
       (refl, refl),
     )
 
@@ -52,14 +55,15 @@ returns-in_err-made-clause-effect c =
     let op = binary_op c.args.op in
     let n = c.in_ok-new.new in
     let o = operand_of c.operand.result in
-    let view = c.in_ok-view.view in
+    let found = c.in_ok-elements.elements in
+    let g = geo_in found in
     let t = value_of c.args.target.now in
     let r = live c.args.self.now.session.now in
     let same : binary op (operand_of c.operand_in-left.result) (operand_of c.operand_in-right.result) ≡ binary op (operand_over r.bytes c.args.found.now) (operand_over r.bytes c.args.value.now)
     = λ j. binary op (c.operand_in-left.ensures j) (c.operand_in-right.ensures j) in (
-      ends_alike _ _ _ (goes_made (λ e. e) i t _ op _ _ (viewing_of c.args.index.now) (unused_of c.args.target.now) (operands_of c.args.index.now) n o
-          (subst (StandsFor (Ok n)) same c.in_ok-new.ensures.operand) (subst (MakesNew (Ok n)) same c.in_ok-new.ensures.new) c.operand.ensures view c.in_ok-view.ensures.writes)
-          (exits value_of _ i (given n) (λ v. store_in (writes_to view o) t) _ _ _ _ c.from_residual-in_err-made.ensures.1 c.in_err-made.ensures.0),
+      ends_alike _ _ _ (goes_made (λ e. e) i t _ op _ _ (viewing_of c.args.index.now) (unused_of c.args.target.now) (index_operands (live c.args.self.now.session.now).bytes c.args.index.now) n o
+          (subst (StandsFor (Ok n)) same c.in_ok-new.ensures.operand) (subst (MakesNew (Ok n)) same c.in_ok-new.ensures.new) c.operand.ensures g (writes_made (viewing_of c.args.index.now) o (unused_of c.args.target.now) (index_operands (live c.args.self.now.session.now).bytes c.args.index.now) (Ok found) c.in_ok-elements.ensures.target))
+          (exits value_of _ i (given n) (λ v. store_in (writes_to g o) t) _ _ _ _ c.from_residual-in_err-made.ensures.1 c.in_err-made.ensures.0),
       c.in_err-made.ensures.1,
     )
 
@@ -69,17 +73,19 @@ returns-in-Array-clause-effect c =
     let op = binary_op c.args.op in
     let n = c.in_ok-new.new in
     let o = operand_of c.operand.result in
-    let view = c.in_ok-view.view in
+    let found = c.in_ok-elements.elements in
+    let g = geo_in found in
     let t = value_of c.args.target.now in
     let s = live c.give.new.self.session.now in
     let r = live c.args.self.now.session.now in
     let same : binary op (operand_of c.operand_in-left.result) (operand_of c.operand_in-right.result) ≡ binary op (operand_over r.bytes c.args.found.now) (operand_over r.bytes c.args.value.now)
     = λ j. binary op (c.operand_in-left.ensures j) (c.operand_in-right.ensures j) in (
-      goes_made (λ e. e) i t _ op _ _ (viewing_of c.args.index.now) (unused_of c.args.target.now) (operands_of c.args.index.now) n o
-          (subst (StandsFor (Ok n)) same c.in_ok-new.ensures.operand) (subst (MakesNew (Ok n)) same c.in_ok-new.ensures.new) c.operand.ensures view c.in_ok-view.ensures.writes
-          ∙ goes value_of i (given n) (λ v. store_in (writes_to view o) t) _ s c.in_ok-made.made c.in_ok-made.ensures.0
-          ∙ ap (λ t. run i (store_in (writes_to view o) (value_of t)) s) c.in-Array.is
-          ∙ ap (λ o. (Ok (Storing (base_of c.in-Array.array.base) (writes_to view o)), s)) (c.operand.ensures ∙ sym (given_operand i _ s c.in_ok-made.made n c.in_ok-made.ensures.0)),
+      goes_made (λ e. e) i t _ op _ _ (viewing_of c.args.index.now) (unused_of c.args.target.now) (index_operands (live c.args.self.now.session.now).bytes c.args.index.now) n o
+          (subst (StandsFor (Ok n)) same c.in_ok-new.ensures.operand) (subst (MakesNew (Ok n)) same c.in_ok-new.ensures.new) c.operand.ensures g (writes_made (viewing_of c.args.index.now) o (unused_of c.args.target.now) (index_operands (live c.args.self.now.session.now).bytes c.args.index.now) (Ok found) c.in_ok-elements.ensures.target)
+          ∙ goes value_of i (given n) (λ v. store_in (writes_to g o) t) _ s c.in_ok-made.made c.in_ok-made.ensures.0
+          ∙ ap (λ t. run i (store_in (writes_to g o) (value_of t)) s) c.in-Array.is
+          ∙ ap (λ o. (Ok (Storing (base_of c.in-Array.array.base) (writes_to g o)), s)) (c.operand.ensures ∙ sym (given_operand i _ s c.in_ok-made.made n c.in_ok-made.ensures.0))
+          ∙ ap (λ e. (Ok e, s)) (sym (c.store_effect.ensures.effect s.bytes)),
       c.in_ok-made.ensures.1,
     )
 
@@ -89,24 +95,28 @@ returns-in-Row-clause-effect c =
     let op = binary_op c.args.op in
     let n = c.in_ok-new.new in
     let o = operand_of c.operand.result in
-    let view = c.in_ok-view.view in
+    let found = c.in_ok-elements.elements in
+    let g = geo_in found in
     let t = value_of c.args.target.now in
     let s = live c.give.new.self.session.now in
     let r = live c.args.self.now.session.now in
     let same : binary op (operand_of c.operand_in-left.result) (operand_of c.operand_in-right.result) ≡ binary op (operand_over r.bytes c.args.found.now) (operand_over r.bytes c.args.value.now)
     = λ j. binary op (c.operand_in-left.ensures j) (c.operand_in-right.ensures j) in (
-      goes_made (λ e. e) i t _ op _ _ (viewing_of c.args.index.now) (unused_of c.args.target.now) (operands_of c.args.index.now) n o
-          (subst (StandsFor (Ok n)) same c.in_ok-new.ensures.operand) (subst (MakesNew (Ok n)) same c.in_ok-new.ensures.new) c.operand.ensures view c.in_ok-view.ensures.writes
-          ∙ goes value_of i (given n) (λ v. store_in (writes_to view o) t) _ s c.in_ok-made.made c.in_ok-made.ensures.0
-          ∙ ap (λ t. run i (store_in (writes_to view o) (value_of t)) s) c.in-Row.is
-          ∙ ap (λ o. (Ok (Storing (base_of c.in-Row.row.base) (writes_to view o)), s)) (c.operand.ensures ∙ sym (given_operand i _ s c.in_ok-made.made n c.in_ok-made.ensures.0)),
+      goes_made (λ e. e) i t _ op _ _ (viewing_of c.args.index.now) (unused_of c.args.target.now) (index_operands (live c.args.self.now.session.now).bytes c.args.index.now) n o
+          (subst (StandsFor (Ok n)) same c.in_ok-new.ensures.operand) (subst (MakesNew (Ok n)) same c.in_ok-new.ensures.new) c.operand.ensures g (writes_made (viewing_of c.args.index.now) o (unused_of c.args.target.now) (index_operands (live c.args.self.now.session.now).bytes c.args.index.now) (Ok found) c.in_ok-elements.ensures.target)
+          ∙ goes value_of i (given n) (λ v. store_in (writes_to g o) t) _ s c.in_ok-made.made c.in_ok-made.ensures.0
+          ∙ ap (λ t. run i (store_in (writes_to g o) (value_of t)) s) c.in-Row.is
+          ∙ ap (λ o. (Ok (Storing (base_of c.in-Row.row.base) (writes_to g o)), s)) (c.operand.ensures ∙ sym (given_operand i _ s c.in_ok-made.made n c.in_ok-made.ensures.0))
+          ∙ ap (λ e. (Ok e, s)) (sym (c.store_effect-in-Row.ensures.effect s.bytes)),
       c.in_ok-made.ensures.1,
     )
 
 pub returns-in-Number-clause-effect : goal.returns-in-Number-clause-effect
 returns-in-Number-clause-effect c =
     let x = c.args.index.now in
-    absurd (nothing_written c.in-Number.field-0 x (operand_of c.operand.result) (operands_of x) _ (rw c.in-Number.is at c.in_ok-view.ensures.writes))
+    let os = index_operands (live c.args.self.now.session.now).bytes x in
+    absurd (nothing_written c.in-Number.field-0 x (operand_of c.operand.result) os _
+    (writes_made (viewing_of x) (operand_of c.operand.result) (unused_of (Number c.in-Number.field-0)) os (Ok c.in_ok-elements.elements) (rw c.in-Number.is at c.in_ok-elements.ensures.target)))
 
 pub returns-in-Array-clause-ready : goal.returns-in-Array-clause-ready
 returns-in-Array-clause-ready c =
@@ -118,12 +128,12 @@ returns-in-Array-clause-ready c =
     let own = subst (IsHeld s) c.in-Array.is (held_after i (given n) _ s _ t c.in_ok-made.ensures.0 c.requires.target) in
     let len = length (s.bytes (base_of c.in-Array.array.base)) in
     let is = given_operand i _ s v n c.in_ok-made.ensures.0 ∙ sym c.operand.ensures in
-    record {
-      target = c.in_ok-view.ensures.lies len (subst (λ t. Lies len (unused_of t)) (sym c.in-Array.is) own.lies);
+    c.store_effect.ensures.ready s (record {
+      target = c.in_ok-elements.ensures.lies len (subst (λ t. Lies len (unused_of t)) (sym c.in-Array.is) own.lies);
       value = given_held i _ s v n c.in_ok-made.ensures.0 c.in_ok-new.ensures.lies;
-      types = ap (λ o. operand_converts o c.in_ok-view.view.element) is ∙ c.in_ok-view.ensures.types;
-      shapes = ap (λ o. fits_into (shape_of o) c.in_ok-view.view.shape) is ∙ c.in_ok-view.ensures.shapes;
-    }
+      types = ap (λ o. operand_converts o (geo_in c.in_ok-elements.elements).element) is ∙ c.in_ok-elements.ensures.types;
+      shapes = ap (λ o. fits_into (shape_of o) (geo_in c.in_ok-elements.elements).shape) is ∙ c.in_ok-elements.ensures.shapes;
+    })
 
 pub returns-in-Row-clause-ready : goal.returns-in-Row-clause-ready
 returns-in-Row-clause-ready c =
@@ -135,9 +145,9 @@ returns-in-Row-clause-ready c =
     let own = subst (IsHeld s) c.in-Row.is (held_after i (given n) _ s _ t c.in_ok-made.ensures.0 c.requires.target) in
     let len = length (s.bytes (base_of c.in-Row.row.base)) in
     let is = given_operand i _ s v n c.in_ok-made.ensures.0 ∙ sym c.operand.ensures in
-    record {
-      target = c.in_ok-view.ensures.lies len (subst (λ t. Lies len (unused_of t)) (sym c.in-Row.is) own.lies);
+    c.store_effect-in-Row.ensures.ready s (record {
+      target = c.in_ok-elements.ensures.lies len (subst (λ t. Lies len (unused_of t)) (sym c.in-Row.is) own.lies);
       value = given_held i _ s v n c.in_ok-made.ensures.0 c.in_ok-new.ensures.lies;
-      types = ap (λ o. operand_converts o c.in_ok-view.view.element) is ∙ c.in_ok-view.ensures.types;
-      shapes = ap (λ o. fits_into (shape_of o) c.in_ok-view.view.shape) is ∙ c.in_ok-view.ensures.shapes;
-    }
+      types = ap (λ o. operand_converts o (geo_in c.in_ok-elements.elements).element) is ∙ c.in_ok-elements.ensures.types;
+      shapes = ap (λ o. fits_into (shape_of o) (geo_in c.in_ok-elements.elements).shape) is ∙ c.in_ok-elements.ensures.shapes;
+    })

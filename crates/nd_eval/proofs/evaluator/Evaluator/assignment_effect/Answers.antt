@@ -10,7 +10,7 @@ use Rattle.nd_eval.specs.Parts.{index_parts}
 use Rattle.nd_eval.proofs.Bounds.{next_value}
 use Rattle.nd_eval.proofs.Chains.{exits, follows, ends_alike}
 use Rattle.nd_eval.proofs.Turns.{stays_on}
-use Rattle.nd_eval.proofs.Parts.{index_all}
+use Rattle.nd_eval.proofs.IndexPlans.{index_all}
 use Rattle.nd_eval.proofs.Held.{held_after, sound_after, value_held}
 use Rattle.nd_eval.proofs.evaluator.Evaluator.assignment_effect.Goals as goal
 

@@ -1,14 +1,18 @@
-use Rattle.std.proofs.Common.{refl, sym, ap, subst, ◌∙◌}
+use Rattle.std.proofs.Common.{◌≡◌, true, refl, sym, ap, subst, ◌∙◌}
 use Rattle.nd_model.specs.Evaluation.{run}
+use Rattle.nd_model.specs.Index.{has_array}
 use Rattle.nd_syntax.specs.Syntax.{binary_op}
+use Rattle.nd_heap.specs.declared.value.Value.TheVariants.{Array}
 use Rattle.nd_heap.specs.Values.{value_of}
 use Rattle.nd_input.specs.Values.{inputs_of}
 use Rattle.nd_session.specs.Live.{live}
+use Rattle.nd_operation.specs.Contents.{unused_of}
+use Rattle.nd_choice.specs.Indexing.{operands_of}
 use Rattle.nd_eval.specs.Contents as contents
 use Rattle.nd_eval.specs.Effects.{effect_of}
 use Rattle.nd_eval.specs.Parts.{item_augmentation}
-use Rattle.nd_eval.specs.Uses.{IsHeld, marked}
-use Rattle.nd_eval.proofs.Augmented.{array_item_augmented, made_assigned, makes_ends}
+use Rattle.nd_eval.specs.Uses.{HasTypeOf, IsHeld, marked}
+use Rattle.nd_eval.proofs.Augmented.{array_item_augmented, copy_item_augmented, made_assigned, makes_ends}
 use Rattle.nd_eval.proofs.Chains.{ends_alike}
 use Rattle.nd_eval.proofs.Held.{held_index_marked, held_marked}
 use Rattle.nd_eval.proofs.Uses.{index_next, kept_next}
@@ -33,23 +37,6 @@ update_effect-requires-clause-value c =
     let v = c.args.value in
     held_index_marked c.args.index.now v q u c.in_ok-mark_index.ensures
     (held_marked c.args.found v s q c.in_ok-mark_operand-2.ensures (held_marked v v r s c.in_ok-mark_operand.ensures c.requires.value))
-
-pub returns-in-Ok-clause-effect : goal.returns-in-Ok-clause-effect
-returns-in-Ok-clause-effect c =
-    let i = inputs_of c.args.self.now.inputs.now.entries in
-    let op = binary_op c.args.op in
-    let v = c.args.value in
-    let t = c.args.target.now in
-    let x = c.args.index.now in
-    let r = live c.args.self.now.session.now in
-    let s = live c.mark_operand.new.session in
-    let q = live c.mark_operand-2.new.session in
-    let u = live c.mark_index.new.session in (
-      ends_alike _ _ _ (ap (λ f. run i (item_augmentation op (value_of v) (value_of f) (value_of t) (contents.index_of x)) r) c.in-Ok.ensures
-          ∙ array_item_augmented i op c.in-Ok.array v t x r s q u c.in_ok-mark_operand.ensures (c.in_ok-mark_operand-2.ensures ∙ ap (λ f. marked f s) c.in-Ok.ensures) c.in_ok-mark_index.ensures)
-          (makes_ends (effect_of u.bytes) i u _ _ c.update_effect.ensures.effect),
-      (refl, refl),
-    )
 
 pub assign_made-requires-clause-value : goal.assign_made-requires-clause-value
 assign_made-requires-clause-value c =
@@ -104,4 +91,80 @@ returns-in-Err-clause-effect c =
           ∙ made_assigned i op v f t x r s q u c.in-Err.ensures.1 c.in_ok-mark_operand.ensures (c.in_ok-mark_operand-2.ensures ∙ ap (λ f. marked f s) (sym c.in-Err.ensures.0)) c.in_ok-mark_index.ensures)
           c.assign_made.ensures.effect.0,
       c.assign_made.ensures.effect.1,
+    )
+
+pub copy_update_effect-requires-clause-copy : goal.copy_update_effect-requires-clause-copy
+copy_update_effect-requires-clause-copy c =
+    let r = live c.args.self.now.session.now in
+    let s = live c.mark_operand.new.session in
+    let q = live c.mark_operand-2.new.session in
+    let u = live c.mark_index.new.session in
+    let f = c.args.found in
+    subst (IsHeld u) c.in-Ok.ensures (held_index_marked c.args.index.now f q u c.in_ok-mark_index.ensures
+    (held_marked f f s q c.in_ok-mark_operand-2.ensures (held_marked c.args.value f r s c.in_ok-mark_operand.ensures c.requires.found)))
+
+pub copy_update_effect-requires-clause-value : goal.copy_update_effect-requires-clause-value
+copy_update_effect-requires-clause-value c =
+    let r = live c.args.self.now.session.now in
+    let s = live c.mark_operand.new.session in
+    let q = live c.mark_operand-2.new.session in
+    let u = live c.mark_index.new.session in
+    let v = c.args.value in
+    held_index_marked c.args.index.now v q u c.in_ok-mark_index.ensures
+    (held_marked c.args.found v s q c.in_ok-mark_operand-2.ensures (held_marked v v r s c.in_ok-mark_operand.ensures c.requires.value))
+
+pub copy_update_effect-requires-clause-target : goal.copy_update_effect-requires-clause-target
+copy_update_effect-requires-clause-target c =
+    let r = live c.args.self.now.session.now in
+    let s = live c.mark_operand.new.session in
+    let q = live c.mark_operand-2.new.session in
+    let u = live c.mark_index.new.session in
+    let t = c.args.target.now in
+    held_index_marked c.args.index.now t q u c.in_ok-mark_index.ensures
+    (held_marked c.args.found t s q c.in_ok-mark_operand-2.ensures (held_marked c.args.value t r s c.in_ok-mark_operand.ensures c.requires.target))
+
+pub copy_update_effect-requires-clause-advanced : goal.copy_update_effect-requires-clause-advanced
+copy_update_effect-requires-clause-advanced c = sym c.is_advanced.ensures ∙ c.if-is_advanced.true
+
+pub copy_update_effect-requires-clause-types : goal.copy_update_effect-requires-clause-types
+copy_update_effect-requires-clause-types c =
+    let x = c.args.index.now in
+    let t = c.args.target.now in
+    let advanced : has_array (operands_of x) ≡ true = sym c.is_advanced.ensures ∙ c.if-is_advanced.true in
+    subst (λ b. HasTypeOf b (unused_of t) (Array c.in-Ok.array)) advanced (subst (HasTypeOf (has_array (operands_of x)) (unused_of t)) c.in-Ok.ensures c.requires.types)
+
+pub returns-then-is_advanced-clause-effect : goal.returns-then-is_advanced-clause-effect
+returns-then-is_advanced-clause-effect c =
+    let i = inputs_of c.args.self.now.inputs.now.entries in
+    let op = binary_op c.args.op in
+    let v = c.args.value in
+    let t = c.args.target.now in
+    let x = c.args.index.now in
+    let r = live c.args.self.now.session.now in
+    let s = live c.mark_operand.new.session in
+    let q = live c.mark_operand-2.new.session in
+    let u = live c.mark_index.new.session in (
+      ends_alike _ _ _ (ap (λ f. run i (item_augmentation op (value_of v) (value_of f) (value_of t) (contents.index_of x)) r) c.in-Ok.ensures
+          ∙ copy_item_augmented i op c.in-Ok.array v t x r s q u c.in_ok-mark_operand.ensures (c.in_ok-mark_operand-2.ensures ∙ ap (λ f. marked f s) c.in-Ok.ensures) c.in_ok-mark_index.ensures
+          (sym c.is_advanced.ensures ∙ c.if-is_advanced.true))
+          (makes_ends (effect_of u.bytes) i u _ _ c.copy_update_effect.ensures.effect),
+      (refl, refl),
+    )
+
+pub returns-else-is_advanced-clause-effect : goal.returns-else-is_advanced-clause-effect
+returns-else-is_advanced-clause-effect c =
+    let i = inputs_of c.args.self.now.inputs.now.entries in
+    let op = binary_op c.args.op in
+    let v = c.args.value in
+    let t = c.args.target.now in
+    let x = c.args.index.now in
+    let r = live c.args.self.now.session.now in
+    let s = live c.mark_operand.new.session in
+    let q = live c.mark_operand-2.new.session in
+    let u = live c.mark_index.new.session in (
+      ends_alike _ _ _ (ap (λ f. run i (item_augmentation op (value_of v) (value_of f) (value_of t) (contents.index_of x)) r) c.in-Ok.ensures
+          ∙ array_item_augmented i op c.in-Ok.array v t x r s q u c.in_ok-mark_operand.ensures (c.in_ok-mark_operand-2.ensures ∙ ap (λ f. marked f s) c.in-Ok.ensures) c.in_ok-mark_index.ensures
+          (sym c.is_advanced.ensures ∙ c.if-is_advanced.false))
+          (makes_ends (effect_of u.bytes) i u _ _ c.update_effect.ensures.effect),
+      (refl, refl),
     )

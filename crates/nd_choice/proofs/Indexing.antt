@@ -2,13 +2,12 @@
 use Rattle.std.proofs.Common.{◌≡◌, ℕ, ℤ, Bool, true, false, List, [], ◌∷◌, ◌++◌, map, Option, None, Some, Result, Ok, Err, IsErrAnd, refl, sym, ap, subst, ◌∙◌, append_assoc}
 use Rattle.std.proofs.lemmas.Result.{err_from_is_err_and}
 use Rattle.std.specs.Prelude.{is_ok, is_some, ◌||◌}
-use Rattle.std.specs.List.{list_any}
 use Rattle.std.proofs.lemmas.List.Folds.{list_any-append}
 use Rattle.nd_model.specs.Advanced.{IndexItem, Basic, choose}
 use Rattle.nd_model.specs.Fault.{Fault}
 use Rattle.nd_model.specs.Refusing.{◌>>=◌}
 use Rattle.nd_model.specs.Selecting.{Item, At as AtItem, Slice as SliceItem}
-use Rattle.nd_model.specs.Operand.{Operand, Chosen, ACopy}
+use Rattle.nd_model.specs.Operand.{Operand, ACopy}
 use Rattle.nd_model.specs.Index.{array_of, integer_of, bound_of, items_of, basic_items, has_array, choose_basic, choose_items}
 use Rattle.nd_model.specs.Value.{Base}
 use Rattle.nd_model.specs.View.{Geo}
@@ -25,7 +24,7 @@ use Rattle.nd_operation.specs.declared.stop.Stop.TheVariants.{Memory, Refused}
 use Rattle.nd_operation.specs.Ends.{Makes}
 use Rattle.nd_operation.specs.Contents.{unused_of}
 use Rattle.nd_operation.specs.New.{option_list}
-use Rattle.nd_choice.specs.Indexing.{forms_of, operands_in, operands_in_item, item_operands, items_operands, bound_operands, bound_item, item_from, items_from, as_basic, item_over, items_over, basic_choice, elements_by, choice_by, chosen_of, index_operands, operands_of}
+use Rattle.nd_choice.specs.Indexing.{forms_of, operands_in, operands_in_item, items_operands, bound_operands, bound_item, item_from, items_from, as_basic, item_over, items_over, refusal_in, basic_choice, elements_by, choice_by, chosen_of, index_operands, operands_of}
 
 -- ---- items in turn
 
@@ -95,6 +94,25 @@ module _ (bytes : Base → List ℕ) where
   pub items_are : (xs : List ItemValue) → items_of (forms_of xs) (items_operands bytes xs) ≡ items_over bytes xs
   items_are [] = refl
   items_are (x ∷ xs) = first_item x xs ∙ ap (λ n. item_over bytes x >>= λ i. n >>= λ is. Ok (i ∷ is)) (items_are xs)
+
+  -- ---- the first one that is none
+
+  refusal_is : {A : Type 0} (m : Result A Fault) (f : Fault) → refusal_in m ≡ Some f → m ≡ Err f
+  refusal_is (Ok x) f h = absurd (cc)
+  refusal_is (Err e) f h = cc
+
+  pub refused_items : (xs : List ItemValue) (g : Geo) (f : Fault) → refusal_in (items_over bytes xs) ≡ Some f → choice_by bytes xs g ≡ Err f
+  refused_items xs g f h = ap (λ m. m >>= λ is. choose_items (has_array (items_operands bytes xs)) is g) (items_are xs ∙ refusal_is (items_over bytes xs) f h)
+
+  pub next_taken : (x : ItemValue) (xs : List ItemValue) (i : IndexItem) → item_over bytes x ≡ Ok i → refusal_in (items_over bytes (x ∷ xs)) ≡ refusal_in (items_over bytes xs)
+  next_taken x xs i h = ap (λ m. refusal_in (m >>= λ i. items_over bytes xs >>= λ is. Ok (i ∷ is))) h ∙ same (items_over bytes xs)
+    where
+      same : (m : Result (List IndexItem) Fault) → refusal_in (m >>= λ is. Ok (i ∷ is)) ≡ refusal_in m
+      same (Ok is) = refl
+      same (Err f) = refl
+
+  pub next_refused : (x : ItemValue) (xs : List ItemValue) (f : Fault) → item_over bytes x ≡ Err f → refusal_in (items_over bytes (x ∷ xs)) ≡ Some f
+  next_refused x xs f h = ap (λ m. refusal_in (m >>= λ i. items_over bytes xs >>= λ is. Ok (i ∷ is))) h
 
   -- ---- arrays among them
 

@@ -1,16 +1,16 @@
 -- One mask alone that stands for all axes.
-use Rattle.std.proofs.Common.{◌≡◌, ℕ, ℤ, Bool, false, List, [], ◌∷◌, length, Option, Some, None, Result, Ok, Err, refl, ap, sym, ◌∙◌}
+use Rattle.std.proofs.Common.{◌≡◌, ℕ, ℤ, Bool, false, List, [], ◌∷◌, length, Result, Ok, Err, refl, ap, sym, ◌∙◌}
 use Rattle.std.specs.Prelude.{◌==◌, ◌&&◌}
 use Rattle.std.specs.Result.{result_unwrap_or}
 use Rattle.nd_model.specs.Advanced.{IndexItem, Basic, Numbers, Mask, array_item, kind_item}
-use Rattle.nd_model.specs.Content.{Content, number_in}
-use Rattle.nd_model.specs.Element.{Element, Kind, Boolean}
+use Rattle.nd_model.specs.Content.{Content}
+use Rattle.nd_model.specs.Element.{Kind, Boolean}
 use Rattle.nd_model.specs.Fault.{Fault, Index, NotAnIndex}
 use Rattle.nd_model.specs.Index.{integer_of, item_or, items_of}
 use Rattle.nd_model.specs.Refusing.{◌>>=◌}
 use Rattle.nd_model.specs.Selecting as selecting
 use Rattle.nd_model.specs.Value.{Base}
-use Rattle.nd_model.specs.View.{ElementType, One, Structure, Geo}
+use Rattle.nd_model.specs.View.{ElementType, One, Structure}
 use Rattle.nd_model.specs.Writing.{is_full_mask}
 use Rattle.nd_heap.specs.declared.value.Value.TheVariants.{Number, Array, Row}
 use Rattle.nd_heap.specs.Values.{base_of, geo_of}

@@ -1,10 +1,10 @@
 -- The contents of an array among the items of an index, in any bytes.
-use Rattle.std.proofs.Common.{◌≡◌, ℕ, ℤ, ◌+◌, ◌*◌, List, [], ◌∷◌, ◌++◌, map, length, take, drop, get_or, Some, None, Option, refl, sym, ap, ap₂, subst, ◌∙◌, arith, length-append, append_assoc, append-nil}
+use Rattle.std.proofs.Common.{◌≡◌, ℕ, ℤ, ◌+◌, ◌*◌, List, [], ◌∷◌, ◌++◌, map, length, take, drop, Some, refl, sym, ap, ap₂, subst, ◌∙◌, arith, length-append, append_assoc, append-nil}
 use Rattle.std.specs.Prelude.{slice_index}
 use Rattle.std.specs.List.{flat_map}
 use Rattle.std.proofs.Math.Seq.{drop-append_seam, take-append_seam}
 use Rattle.std.proofs.lemmas.List.{length-map, map-append}
-use Rattle.nd_model.specs.Advanced.{IndexItem, Basic, Numbers, Mask, array_item, is_nonzero, kind_item}
+use Rattle.nd_model.specs.Advanced.{IndexItem, array_item, is_nonzero, kind_item}
 use Rattle.nd_model.specs.Content.{Content, Num, content_at, number_at, number_in}
 use Rattle.nd_model.specs.Element.{Element, Kind, Boolean, size_of, value_of, bytes_at}
 use Rattle.nd_model.specs.Selected.{HoldsAll}

@@ -1,5 +1,5 @@
 -- Places that an index with arrays chose.
-use Rattle.std.specs.Prelude.{◌≡◌, ℕ, ◌+◌, ◌^◌, ◌≤◌, length}
+use Rattle.std.specs.Prelude.{◌≡◌, ◌+◌, ◌^◌, ◌≤◌, length}
 use Rattle.std.specs.List.{All}
 use Rattle.nd_model.specs.Strides.{IsInLimits}
 use Rattle.nd_model.specs.Tuple.{elements_of}

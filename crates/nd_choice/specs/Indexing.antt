@@ -136,6 +136,11 @@ items_over bytes (x ∷ xs) = do
   is ← items_over bytes xs
   Ok (i ∷ is)
 
+-- the refusal in what was worked out, if it is one
+abbrev pub refusal_in : {A : Type 0} → Result A Fault → Option Fault
+refusal_in (Ok x) = None
+refusal_in (Err f) = Some f
+
 -- the elements that they choose of an array
 abbrev pub elements_by : (Base → List ℕ) → List ItemValue → Geo → Result Geo Fault
 elements_by bytes xs g = do

@@ -18,7 +18,7 @@ ghost use Rattle.nd_choice.specs.Targets.{Lies};
 ghost use Rattle.nd_model.specs.Sound.{LiesIn};
 
 use crate::selection::Selection;
-use crate::selections::select_elements;
+use crate::selections::{first_refusal, select_elements};
 use nd_basic::{Item, field, select};
 use nd_heap::Value;
 use nd_operation::{IndexFault, StmtFault, Stop, not_an_array};
@@ -213,6 +213,9 @@ fn choose_items(session: &Session, view: &View, items: &[ItemValue]) -> Result<C
         (operand.Elements false view.now [])) }
     ensures lies { IfOk result (λ c. (len : ℕ) → LiesIn len view.now → CopyLies len c) }
 {
+    if let Some(fault) = first_refusal(session, items) {
+        return Err(Stop::Refused(fault));
+    }
     if has_array(items) {
         let selection = select_elements(session, view, items)?;
         return Ok(Chosen::Copy(selection));

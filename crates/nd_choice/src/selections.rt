@@ -1,6 +1,6 @@
 //! Elements that indexes with arrays choose.
 
-ghost use Rattle.std.specs.Prelude.{◌≡◌, ℕ, length, IfOk};
+ghost use Rattle.std.specs.Prelude.{◌≡◌, ℕ, length, IfOk, option_map};
 ghost use Rattle.std.specs.List.{All};
 ghost use Rattle.nd_model.specs.Index as model;
 ghost use Rattle.nd_model.specs.Operation.{give};
@@ -9,8 +9,9 @@ ghost use Rattle.nd_model.specs.Sound.{LiesIn};
 ghost use Rattle.nd_fancy.specs.Items as fancy;
 ghost use Rattle.nd_session.specs.Live.{live};
 ghost use Rattle.nd_operation.specs.Ends.{Makes, Says};
+ghost use Rattle.nd_operation.specs.Faults.{fault_of};
 ghost use Rattle.nd_operation.specs.New.{given};
-ghost use Rattle.nd_choice.specs.Indexing.{elements_by, index_operand, item_over, items_over};
+ghost use Rattle.nd_choice.specs.Indexing.{elements_by, index_operand, item_over, items_over, refusal_in};
 ghost use Rattle.nd_choice.specs.Selections.{copy_of, fancy_stop, selected};
 
 use crate::indexes::{ItemValue, integer_of, item_of};
@@ -71,6 +72,19 @@ fn item_in<'v>(session: &'v Session, item: &'v ItemValue) -> Result<Item<'v>, St
         ItemValue::At(value) => item_at(session, value),
         _ => Ok(Item::Basic(item_of(item)?)),
     }
+}
+
+/// Why the first of the items from the left that is none is refused. To find it takes no memory.
+pub(crate) fn first_refusal(session: &Session, items: &[ItemValue]) -> Option<StmtFault>
+    ensures { option_map fault_of result
+        ≡ refusal_in (items_over (live session.now).bytes items.now) }
+{
+    for item in items {
+        if let Err(fault) = item_in(session, item) {
+            return Some(fault);
+        }
+    }
+    None
 }
 
 /// The items that evaluated ones are, or the first refusal from the left.

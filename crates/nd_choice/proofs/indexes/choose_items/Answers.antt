@@ -1,11 +1,15 @@
-use Rattle.std.proofs.Common.{Ok, Err, sym, ap, subst, ◌∙◌}
+use Rattle.std.proofs.Common.{Ok, sym, ap, subst, ◌∙◌}
 use Rattle.nd_model.specs.Operand.{ACopy}
 use Rattle.nd_model.specs.Refusing.{◌>>=◌}
 use Rattle.nd_session.specs.Live.{live}
 use Rattle.nd_operation.specs.Ends.{Makes}
+use Rattle.nd_operation.specs.Faults.{fault_of}
 use Rattle.nd_choice.specs.Indexing.{chosen_of}
-use Rattle.nd_choice.proofs.Indexing.{chooses_basic, chooses_elements, copy_stops}
+use Rattle.nd_choice.proofs.Indexing.{chooses_basic, chooses_elements, copy_stops, refused_items}
 use Rattle.nd_choice.proofs.indexes.choose_items.Goals as goal
+
+pub returns-in-Some-clause-choice : goal.returns-in-Some-clause-choice
+returns-in-Some-clause-choice c = refused_items (live c.args.session.now).bytes c.args.items.now c.args.view.now (fault_of c.in-Some.fault) (sym c.in-Some.ensures)
 
 pub returns-in_err-selection-clause-choice : goal.returns-in_err-selection-clause-choice
 returns-in_err-selection-clause-choice c =

@@ -1,4 +1,4 @@
-use Rattle.std.proofs.Common.{◌≡◌, map, sym, ap, ◌∙◌}
+use Rattle.std.proofs.Common.{map, sym, ap, ◌∙◌}
 use Rattle.std.specs.Option.{option_map}
 use Rattle.nd_model.specs.Advanced.{array_item}
 use Rattle.nd_model.specs.Content.{content_at}

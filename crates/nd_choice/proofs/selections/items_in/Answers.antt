@@ -1,4 +1,4 @@
-use Rattle.std.proofs.Common.{◌+◌, ◌++◌, [], ◌∷◌, drop, sym, ap, subst, ◌∙◌}
+use Rattle.std.proofs.Common.{◌+◌, [], ◌∷◌, drop, sym, ap, subst, ◌∙◌}
 use Rattle.std.specs.List.{All}
 use Rattle.nd_model.specs.Selected.{HoldsAll}
 use Rattle.nd_fancy.specs.Items as fancy

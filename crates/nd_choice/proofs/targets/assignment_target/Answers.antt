@@ -1,6 +1,5 @@
-use Rattle.std.proofs.Common.{length, sym, ap, ◌∙◌}
-use Rattle.nd_model.specs.Operand.{shape_of}
-use Rattle.nd_model.specs.Writing.{is_full_mask, items_in, may_be_written}
+use Rattle.std.proofs.Common.{sym, ◌∙◌}
+use Rattle.nd_model.specs.Writing.{may_be_written}
 use Rattle.nd_session.specs.Live.{live}
 use Rattle.nd_operation.specs.Contents.{operand_of, unused_of}
 use Rattle.nd_operation.proofs.Refusals.{makes_refused}

@@ -101,16 +101,16 @@ fn measure_within(
     println!(rt; "{name} {} {} {best}", target.count(), block_sum(block))
 }
 
-// Where the numbers of an array lie: its lengths, its strides in bytes, and the place of the first one.
+/// Where the numbers of an array lie: its lengths, its strides in bytes, and the place of the first one.
 #[derive(Clone, Copy)]
-struct Layout<'l> {
-    shape: &'l [u64],
-    strides: &'l [i64],
-    offset: u64,
+pub(crate) struct Layout<'l> {
+    pub(crate) shape: &'l [u64],
+    pub(crate) strides: &'l [i64],
+    pub(crate) offset: u64,
 }
 
-// The view of an array with this layout, if all its numbers lie in the array's bytes.
-fn view_of(alloc: Global, layout: Layout<'_>) -> Result<Option<View>, AllocError> {
+/// Returns the view of an array with this layout, if all its numbers lie in the array's bytes.
+pub(crate) fn view_of(alloc: Global, layout: Layout<'_>) -> Result<Option<View>, AllocError> {
     let elem = ElemType::One(Elem::little(Kind::I64));
     match View::from_parts(
         alloc,

@@ -6,8 +6,12 @@
 //! 100,000: by a basic index and in another shape; `nd_bench operators` prints for operators on an array of 10,000,000 numbers the name, how
 //! many results there are, the sum of their bytes, and the nanoseconds; `nd_bench reductions` prints for reductions of arrays of 10,000,000
 //! elements and for an accumulation the name, how many elements there are, the sum of the bytes of what they come to, and the
-//! nanoseconds; `nd_bench text [COUNT]` prints for each of three arrays its name, how many elements
-//! it has, how long its text is, and how many nanoseconds it takes to make it; `nd_bench files [COUNT]` prints for the NPY file of so
+//! nanoseconds; `nd_bench indexes` prints for new arrays of what positions and masks choose in such arrays the name, how many elements
+//! there are, the sum of their bytes, and the nanoseconds, and for assignments to chosen elements the same, with the sum of the bytes
+//! of the array; `nd_bench in_place` prints for each of three sums in place the name, how many elements there are, the sum of the bytes
+//! of the array after one turn, and the nanoseconds; `nd_bench text [COUNT]` prints for each of three arrays its name, how many
+//! elements it has, how long its text is, and how many nanoseconds it takes to make it; `nd_bench files [COUNT]` prints for the NPY
+//! file of so
 //! many numbers how long it is and how many nanoseconds it takes to write it, their sum and the nanoseconds in which it is read, and
 //! the same for a file of one number behind a header of 60,000 bytes; `nd_bench cells [COUNT]` edits notebooks of many cells,
 //! and prints how long that takes. Without a word it prints how it is called.
@@ -20,6 +24,8 @@ mod cells;
 mod convert;
 mod copy;
 mod files;
+mod in_place;
+mod indexes;
 mod mixed;
 mod numbers;
 mod operators;
@@ -32,6 +38,8 @@ use crate::cells::measure_cells;
 use crate::convert::measure_convert;
 use crate::copy::measure_copy;
 use crate::files::measure_files;
+use crate::in_place::measure_in_place;
+use crate::indexes::measure_indexes;
 use crate::numbers::measure_numbers;
 use crate::operators::measure_operators;
 use crate::reductions::measure_reductions;
@@ -80,12 +88,14 @@ fn main(rt: HostRuntime) -> io::Result<()> {
         (Some("views"), _) => measure_views(&rt),
         (Some("operators"), _) => measure_operators(&rt),
         (Some("reductions"), _) => measure_reductions(&rt),
+        (Some("indexes"), _) => measure_indexes(&rt),
+        (Some("in_place"), _) => measure_in_place(&rt),
         (Some("text"), Some(count)) => measure_text(&rt, count.min(MOST_SHOWN)),
         (Some("files"), Some(count)) => measure_files(&rt, count),
         (Some("cells"), Some(count)) => measure_cells(&rt, count.min(MOST_CELLS)),
         _ => println!(rt;
             "usage: nd_bench copy | numbers [COUNT] | convert [COUNT] | assign | views | operators | reductions \
-             | text [COUNT] | files [COUNT] | cells [COUNT]"
+             | indexes | in_place | text [COUNT] | files [COUNT] | cells [COUNT]"
         ),
     }
 }

@@ -3,13 +3,15 @@ ghost use Rattle.std.specs.Prelude.{IsTrue};
 ghost use Rattle.nd_model.specs.Sound.{LiesIn};
 ghost use Rattle.nd_assign.specs.Sources.{IsValue};
 
-use crate::TURNS;
+use crate::arrays::{Layout, view_of, zeros};
+use crate::convert::block_sum;
+use crate::held::lies_in;
 use crate::mixed::mixed_block;
+use crate::turns::{Turn, invalid_input, measure};
 use nd_assign::{Source, assign, fits};
 use nd_block::RawBlock;
-use nd_types::{Elem, ElemType, Kind, wrap};
+use nd_types::{Elem, ElemType, Kind};
 use nd_view::View;
-use std::alloc::{AllocError, Global};
 use std::io;
 use std::time::Instant;
 
@@ -17,21 +19,16 @@ use std::time::Instant;
 const COUNT: u64 = 10_000_000;
 
 // How many bytes they have.
-const LEN: u64 = 80_000_000;
+const LEN: usize = 80_000_000;
 
-/// Whether each element of a view lies in so many bytes.
-pub(crate) fn lies_in(view: &View, len: usize) -> bool
-    ensures { IsTrue result → LiesIn len view.now }
-{
-    let _shape = view.shape();
-    let size = view.elem().size();
-    for number in 0..view.count() {
-        let place = view.place_of(number as u64);
-        if size > len as u64 || place > len as u64 - size {
-            return false;
-        }
-    }
-    true
+// A target, and a source whose elements may be assigned to it, where the block of each has so many bytes.
+#[derive(Clone, Copy)]
+struct Pair<'v> {
+    target: &'v View,
+    source: &'v View,
+    len: usize,
+    ghost lies: { LiesIn len target.now },
+    ghost value: { IsValue target.now len source.now },
 }
 
 // Whether the numbers of a view of so many bytes may be assigned to a target.
@@ -44,103 +41,90 @@ fn may_be_assigned(target: &View, source: &View, len: usize) -> bool
     fits(target, source.shape()) && lies_in(source, len)
 }
 
-// The sum of the numbers that fill a block, wrapped to 64 bits.
-fn block_sum(block: &RawBlock) -> i128 {
-    let mut sum: i128 = 0;
-    for index in 0..block.len() as u64 / 8 {
-        sum = sum.wrapping_add(block.load(index * 8, Elem::little(Kind::I64)));
+// Returns two views as such a pair, where they are one.
+fn pair_of<'v>(target: &'v View, source: &'v View, len: usize) -> io::Result<Pair<'v>> {
+    if !lies_in(target, len) {
+        return Err(invalid_input());
     }
-    wrap(Kind::I64, sum)
+    if !may_be_assigned(target, source, len) {
+        return Err(invalid_input());
+    }
+    Ok(Pair {
+        target,
+        source,
+        len,
+    })
 }
 
-// Assigns the numbers of a view of these bytes to those of another in a block, and prints the name, how many there are, the sum of the
-// block, and the fewest nanoseconds that it took.
-fn measure_from(
+// Assigns the source, which lies in these bytes, to the target in a block. The sum is the block's.
+fn assign_between(
     rt: &HostRuntime,
-    name: &str,
-    target: &View,
+    pair: &Pair<'_>,
     block: &mut RawBlock,
-    source: &View,
     bytes: &[u8],
-) -> io::Result<()> {
-    let len = block.len();
-    if !lies_in(target, len) || !may_be_assigned(target, source, bytes.len()) {
-        return println!(rt; "{name}: no such assignment");
+) -> io::Result<Turn> {
+    if block.len() != pair.len || bytes.len() != pair.len {
+        return Err(invalid_input());
     }
-    let mut best = u128::MAX;
-    for _ in 0..TURNS {
-        if block.len() == len {
-            let start = Instant::now(rt)?;
-            assign(rt.alloc(), target, block, Source::Other(source, bytes))?;
-            best = best.min(start.elapsed(rt)?.as_nanos());
-        }
-    }
-    println!(rt; "{name} {} {} {best}", target.count(), block_sum(block))
+    let start = Instant::now(rt)?;
+    assign(
+        rt.alloc(),
+        pair.target,
+        block,
+        Source::Other(pair.source, bytes),
+    )?;
+    let nanos = start.elapsed(rt)?.as_nanos();
+    Ok(Turn {
+        count: pair.target.count(),
+        sum: block_sum(block, Elem::little(Kind::I64)),
+        nanos,
+    })
 }
 
-// The same of two views of one block.
-fn measure_within(
-    rt: &HostRuntime,
-    name: &str,
-    target: &View,
-    block: &mut RawBlock,
-    source: &View,
-) -> io::Result<()> {
-    let len = block.len();
-    if !lies_in(target, len) || !may_be_assigned(target, source, len) {
-        return println!(rt; "{name}: no such assignment");
+// The same of a source in the target's own block.
+fn assign_within(rt: &HostRuntime, pair: &Pair<'_>, block: &mut RawBlock) -> io::Result<Turn> {
+    if block.len() != pair.len {
+        return Err(invalid_input());
     }
-    let mut best = u128::MAX;
-    for _ in 0..TURNS {
-        if block.len() == len {
-            let start = Instant::now(rt)?;
-            assign(rt.alloc(), target, block, Source::Same(source))?;
-            best = best.min(start.elapsed(rt)?.as_nanos());
-        }
-    }
-    println!(rt; "{name} {} {} {best}", target.count(), block_sum(block))
+    let start = Instant::now(rt)?;
+    assign(rt.alloc(), pair.target, block, Source::Same(pair.source))?;
+    let nanos = start.elapsed(rt)?.as_nanos();
+    Ok(Turn {
+        count: pair.target.count(),
+        sum: block_sum(block, Elem::little(Kind::I64)),
+        nanos,
+    })
 }
 
-/// Where the numbers of an array lie: its lengths, its strides in bytes, and the place of the first one.
-#[derive(Clone, Copy)]
-pub(crate) struct Layout<'l> {
-    pub(crate) shape: &'l [u64],
-    pub(crate) strides: &'l [i64],
-    pub(crate) offset: u64,
+// Makes two arrays, and prints the name of assignments from one to the other, how many numbers are assigned, the sum of the block, and
+// the fewest nanoseconds that it took.
+fn measure_between(rt: &HostRuntime, name: &str, pair: &Pair<'_>) -> io::Result<()> {
+    let read = mixed_block(rt.alloc(), Elem::little(Kind::I64), COUNT)?;
+    let mut block = zeros(rt.alloc(), LEN)?;
+    measure(
+        rt,
+        name,
+        || assign_between(rt, pair, &mut block, read.as_slice()),
+    )
 }
 
-/// Returns the view of an array with this layout, if all its numbers lie in the array's bytes.
-pub(crate) fn view_of(alloc: Global, layout: Layout<'_>) -> Result<Option<View>, AllocError> {
-    let elem = ElemType::One(Elem::little(Kind::I64));
-    match View::from_parts(
-        alloc,
-        elem,
-        layout.shape,
-        layout.strides,
-        layout.offset,
-        LEN,
-    )? {
-        Ok(view) => Ok(Some(view)),
-        Err(_) => Ok(None),
-    }
+// The same of assignments within one array.
+fn measure_within(rt: &HostRuntime, name: &str, pair: &Pair<'_>) -> io::Result<()> {
+    let mut block = mixed_block(rt.alloc(), Elem::little(Kind::I64), COUNT)?;
+    measure(rt, name, || assign_within(rt, pair, &mut block))
 }
 
-// The same of an array with one layout to another array with the other.
+// The same of two arrays with these layouts.
 fn measure_arrays(
     rt: &HostRuntime,
     name: &str,
     target: Layout<'_>,
     source: Layout<'_>,
 ) -> io::Result<()> {
-    let Some(target) = view_of(rt.alloc(), target)? else {
-        return println!(rt; "{name}: no view of so many numbers");
-    };
-    let Some(source) = view_of(rt.alloc(), source)? else {
-        return println!(rt; "{name}: no view of so many numbers");
-    };
-    let read = mixed_block(rt.alloc(), Elem::little(Kind::I64), COUNT)?;
-    let mut block = RawBlock::zeros(rt.alloc(), LEN as usize)?;
-    measure_from(rt, name, &target, &mut block, &source, read.as_slice())
+    let int = Elem::little(Kind::I64);
+    let target = view_of(rt.alloc(), int, target, LEN)?;
+    let source = view_of(rt.alloc(), int, source, LEN)?;
+    measure_between(rt, name, &pair_of(&target, &source, LEN)?)
 }
 
 // The same of two layouts of one array.
@@ -150,14 +134,10 @@ fn measure_array(
     target: Layout<'_>,
     source: Layout<'_>,
 ) -> io::Result<()> {
-    let Some(target) = view_of(rt.alloc(), target)? else {
-        return println!(rt; "{name}: no view of so many numbers");
-    };
-    let Some(source) = view_of(rt.alloc(), source)? else {
-        return println!(rt; "{name}: no view of so many numbers");
-    };
-    let mut block = mixed_block(rt.alloc(), Elem::little(Kind::I64), COUNT)?;
-    measure_within(rt, name, &target, &mut block, &source)
+    let int = Elem::little(Kind::I64);
+    let target = view_of(rt.alloc(), int, target, LEN)?;
+    let source = view_of(rt.alloc(), int, source, LEN)?;
+    measure_within(rt, name, &pair_of(&target, &source, LEN)?)
 }
 
 // All numbers, without gaps.

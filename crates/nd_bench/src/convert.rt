@@ -2,11 +2,13 @@
 ghost use Rattle.std.specs.Prelude.{◌≡◌, ◌≤◌, ◌^◌};
 ghost use Rattle.nd_model.specs.Element.{Int64};
 
-use crate::TURNS;
-use crate::mixed::{array_of, mixed_block};
+use crate::arrays::number_array;
+use crate::mixed::mixed_block;
+use crate::turns::{Turn, invalid_input, measure};
 use nd_block::RawBlock;
 use nd_convert::convert_numbers;
 use nd_types::{Elem, ElemType, Kind, wrap};
+use nd_view::View;
 use std::io;
 use std::time::Instant;
 
@@ -18,6 +20,21 @@ pub(crate) fn block_sum(block: &RawBlock, elem: Elem) -> i128 {
         sum = sum.wrapping_add(block.load(index * size, elem));
     }
     wrap(Kind::I64, sum)
+}
+
+// Makes a block of what the numbers of a view become.
+fn convert_once(rt: &HostRuntime, view: &View, bytes: &[u8], to: Elem) -> io::Result<Turn> {
+    let ElemType::One(from) = view.elem() else {
+        return Err(invalid_input());
+    };
+    let start = Instant::now(rt)?;
+    let converted = convert_numbers(rt.alloc(), view, *from, bytes, to)?;
+    let nanos = start.elapsed(rt)?.as_nanos();
+    Ok(Turn {
+        count: view.count(),
+        sum: block_sum(&converted, to),
+        nanos,
+    })
 }
 
 // Makes an array of numbers, and prints the name of their conversion, how many there are, the sum of what they become, and the
@@ -33,18 +50,8 @@ fn measure_conversion(
     requires limit { count ≤ 2 ^ 24 }
 {
     let block = mixed_block(rt.alloc(), from, count)?;
-    let Some(view) = array_of(rt.alloc(), ElemType::One(from), &[count])? else {
-        return println!(rt; "{name}: no array of so many numbers");
-    };
-    let mut sum = 0;
-    let mut best = u128::MAX;
-    for _ in 0..TURNS {
-        let start = Instant::now(rt)?;
-        let converted = convert_numbers(rt.alloc(), &view, from, block.as_slice(), to)?;
-        best = best.min(start.elapsed(rt)?.as_nanos());
-        sum = block_sum(&converted, to);
-    }
-    println!(rt; "{name} {count} {sum} {best}")
+    let view = number_array(rt.alloc(), from, &[count])?;
+    measure(rt, name, || convert_once(rt, &view, block.as_slice(), to))
 }
 
 /// Prints a line for each of three conversions of so many numbers of eight bytes: to numbers of four, from the highest byte first

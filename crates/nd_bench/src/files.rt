@@ -1,13 +1,14 @@
 //! NPY files, read and written in memory.
-ghost use Rattle.std.specs.Prelude.{◌≡◌, ◌≤◌, ◌^◌};
-ghost use Rattle.nd_model.specs.Element.{Int64};
+ghost use Rattle.std.specs.Prelude.{◌≤◌, ◌^◌};
 
-use crate::TURNS;
+use crate::arrays::number_array;
 use crate::convert::block_sum;
-use crate::mixed::{array_of, mixed_block};
+use crate::mixed::mixed_block;
+use crate::turns::{Turn, invalid_input, measure};
 use nd_npy::read_npy;
 use nd_save::write_npy;
-use nd_types::{Elem, ElemType, Kind};
+use nd_types::{Elem, Kind};
+use nd_view::View;
 use std::alloc::{AllocError, Global};
 use std::io;
 use std::time::Instant;
@@ -32,21 +33,52 @@ fn long_header_file(alloc: Global) -> Result<Vec<u8>, AllocError> {
     Ok(file)
 }
 
+// Reads a file of numbers.
+fn read_once(rt: &HostRuntime, file: &[u8]) -> io::Result<Turn> {
+    let start = Instant::now(rt)?;
+    let Ok(array) = read_npy(rt.alloc(), file) else {
+        return Err(invalid_input());
+    };
+    let nanos = start.elapsed(rt)?.as_nanos();
+    Ok(Turn {
+        count: array.view.count(),
+        sum: block_sum(&array.block, Elem::little(Kind::I64)),
+        nanos,
+    })
+}
+
+// Makes the file of a view.
+fn write_once(rt: &HostRuntime, view: &View, bytes: &[u8]) -> io::Result<Turn> {
+    let start = Instant::now(rt)?;
+    let file = write_npy(rt.alloc(), view, bytes)?;
+    let nanos = start.elapsed(rt)?.as_nanos();
+    Ok(Turn {
+        count: view.count(),
+        sum: file.len() as i128,
+        nanos,
+    })
+}
+
+// Prints for the file of a view how many elements it has, how long it is, and the fewest nanoseconds in which it was made, and returns
+// the file.
+fn measure_write(rt: &HostRuntime, view: &View, bytes: &[u8]) -> io::Result<Vec<u8>> {
+    measure(rt, "write", || write_once(rt, view, bytes))?;
+    Ok(write_npy(rt.alloc(), view, bytes)?)
+}
+
+// The same of so many numbers of eight bytes.
+fn write_numbers(rt: &HostRuntime, count: u64) -> io::Result<Vec<u8>>
+    requires { count ≤ 2 ^ 24 }
+{
+    let elem = Elem::little(Kind::I64);
+    let block = mixed_block(rt.alloc(), elem, count)?;
+    let view = number_array(rt.alloc(), elem, &[count])?;
+    measure_write(rt, &view, block.as_slice())
+}
+
 // Prints the name of a file of numbers, how many they are, their sum, and the fewest nanoseconds in which it was read.
 fn measure_read(rt: &HostRuntime, name: &str, file: &[u8]) -> io::Result<()> {
-    let mut count = 0;
-    let mut sum = 0;
-    let mut best = u128::MAX;
-    for _ in 0..TURNS {
-        let start = Instant::now(rt)?;
-        let Ok(array) = read_npy(rt.alloc(), file) else {
-            return println!(rt; "{name}: no array was read");
-        };
-        best = best.min(start.elapsed(rt)?.as_nanos());
-        count = array.view.count();
-        sum = block_sum(&array.block, Elem::little(Kind::I64));
-    }
-    println!(rt; "{name} {count} {sum} {best}")
+    measure(rt, name, || read_once(rt, file))
 }
 
 /// Prints three lines: for the file of so many numbers of eight bytes, how long it is and how long it takes to write it; the same
@@ -54,21 +86,7 @@ fn measure_read(rt: &HostRuntime, name: &str, file: &[u8]) -> io::Result<()> {
 pub(crate) fn measure_files(rt: &HostRuntime, count: u64) -> io::Result<()>
     requires { count ≤ 2 ^ 24 }
 {
-    let elem = Elem::little(Kind::I64);
-    let block = mixed_block(rt.alloc(), elem, count)?;
-    let Some(view) = array_of(rt.alloc(), ElemType::One(elem), &[count])? else {
-        return println!(rt; "write: no array of so many numbers");
-    };
-    let mut size = 0;
-    let mut best = u128::MAX;
-    for _ in 0..TURNS {
-        let start = Instant::now(rt)?;
-        let file = write_npy(rt.alloc(), &view, block.as_slice())?;
-        best = best.min(start.elapsed(rt)?.as_nanos());
-        size = file.len();
-    }
-    println!(rt; "write {count} {size} {best}")?;
-    let file = write_npy(rt.alloc(), &view, block.as_slice())?;
+    let file = write_numbers(rt, count)?;
     measure_read(rt, "read", &file)?;
     let file = long_header_file(rt.alloc())?;
     measure_read(rt, "header", &file)

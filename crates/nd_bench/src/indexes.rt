@@ -1,5 +1,6 @@
 //! Advanced indexes: elements that positions and masks choose, and assignments to them.
-ghost use Rattle.std.specs.Prelude.{◌<◌, ◌≤◌, ◌^◌, ◌≡◌, length, IsTrue};
+ghost use Rattle.std.specs.Prelude.{◌<◌, ◌≤◌, ◌+◌, ◌^◌, ◌≡◌, length, IsTrue};
+ghost use Rattle.std.specs.List.{All};
 ghost use Rattle.nd_model.specs.Sound.{LiesIn};
 ghost use Rattle.nd_model.specs.Strides.{IsInLimits};
 ghost use Rattle.nd_model.specs.Tuple.{elements_of};
@@ -7,14 +8,18 @@ ghost use Rattle.nd_model.specs.View.{item_size};
 ghost use Rattle.nd_assign.specs.Sources.{IsSource};
 ghost use Rattle.nd_fancy.specs.Chosen.{view_at};
 
-use crate::TURNS;
-use crate::assign::lies_in;
-use crate::operators::{COUNT, byte_sum, view_of};
+use crate::arrays::number_array;
+use crate::held::{Held, hold, lies_in};
+use crate::operators::COUNT;
+use crate::turns::{Turn, invalid_input, measure};
 use nd_assign::Source;
 use nd_block::RawBlock;
-use nd_fancy::{Item, Places, choose_places};
+use nd_elementwise::{Argument, RightSide, in_place_kind, results_in_place};
+use nd_fancy::{Places, choose_places};
+use nd_index::Item;
 use nd_scatter::{fits_places, gather, prepare_scatter};
-use nd_types::{Elem, ElemType, Kind};
+use nd_syntax::BinaryOp;
+use nd_types::{Elem, ElemType, Kind, Num};
 use nd_view::View;
 use std::alloc::{AllocError, Global};
 use std::io;
@@ -22,6 +27,28 @@ use std::time::Instant;
 
 // How many rows a table has, and how many numbers a row.
 const ROWS: u64 = 100_000;
+
+// Below which number the positions of the block are.
+const MOST: u64 = 1 << 24;
+
+// Elements of a view that items choose, and how many nanoseconds that took.
+#[derive(Drop)]
+struct Chosen<'v> {
+    view: &'v View,
+    places: Places,
+    nanos: u128,
+    ghost limits: { IsInLimits (item_size view.now.element) places.shape.items },
+    ghost count: { length places.places.items ≡ elements_of places.shape.items },
+    ghost ends: { All (λ p. p + item_size view.now.element ≤ 2 ^ 64) places.places.items },
+}
+
+// A new array, and how many nanoseconds it took to make it.
+#[derive(Drop)]
+struct Made {
+    view: View,
+    block: RawBlock,
+    nanos: u128,
+}
 
 // A number that is spread over all of 44 bits.
 fn spread_number(index: u64) -> u64 {
@@ -60,14 +87,26 @@ fn mask(alloc: Global, count: u64) -> Result<RawBlock, AllocError>
     Ok(block)
 }
 
+// Chooses elements.
+fn choose<'v>(rt: &HostRuntime, view: &'v View, items: &[Item<'_>]) -> io::Result<Chosen<'v>> {
+    let start = Instant::now(rt)?;
+    let Ok(places) = choose_places(rt.alloc(), view, items) else {
+        return Err(invalid_input());
+    };
+    let nanos = start.elapsed(rt)?.as_nanos();
+    Ok(Chosen {
+        view,
+        places,
+        nanos,
+    })
+}
+
 // Whether each chosen element lies in so many bytes.
-fn lie_in(view: &View, places: &Places, len: usize) -> bool
-    requires limits { IsInLimits (item_size view.now.element) places.now.shape.items }
-    requires count { length places.now.places.items ≡ elements_of places.now.shape.items }
-    ensures { IsTrue result → LiesIn len (view_at view.now places.now) }
+fn lie_in(chosen: &Chosen<'_>, len: usize) -> bool
+    ensures { IsTrue result → LiesIn len (view_at chosen.now.view.now chosen.now.places) }
 {
-    let size = view.elem().size();
-    for place in places.places.as_slice() {
+    let size = chosen.view.elem().size();
+    for place in chosen.places.places.as_slice() {
         if size > len as u64 || *place > len as u64 - size {
             return false;
         }
@@ -76,10 +115,11 @@ fn lie_in(view: &View, places: &Places, len: usize) -> bool
 }
 
 // Whether a value may be assigned to chosen elements.
-fn may_be_assigned(view: &View, places: &Places, source: &Source<'_>, len: usize) -> bool
-    ensures { IsTrue result → IsSource (view_at view.now places.now) len source.now }
+fn may_be_assigned(chosen: &Chosen<'_>, source: &Source<'_>, len: usize) -> bool
+    ensures { IsTrue result → IsSource (view_at chosen.now.view.now chosen.now.places) len
+        source.now }
 {
-    let ElemType::One(_) = view.elem() else {
+    let ElemType::One(_) = chosen.view.elem() else {
         return false;
     };
     match source {
@@ -89,13 +129,120 @@ fn may_be_assigned(view: &View, places: &Places, source: &Source<'_>, len: usize
             let ElemType::One(_) = value.elem() else {
                 return false;
             };
-            fits_places(places, value.shape()) && lies_in(value, bytes.len())
+            fits_places(&chosen.places, value.shape()) && lies_in(value, bytes.len())
         }
     }
 }
 
-// Chooses elements of a view and makes a new array of them, and prints the name, how many there are, the sum of their bytes, and the
-// fewest nanoseconds that it took.
+// Makes a new array of the chosen elements.
+fn gather_chosen(rt: &HostRuntime, chosen: &Chosen<'_>, bytes: &[u8]) -> io::Result<Made> {
+    let start = Instant::now(rt)?;
+    let (view, block) = gather(rt.alloc(), chosen.view, bytes, &chosen.places)?;
+    let nanos = start.elapsed(rt)?.as_nanos();
+    Ok(Made { view, block, nanos })
+}
+
+// Assigns a value to the chosen elements.
+fn write_chosen(
+    alloc: Global,
+    chosen: &Chosen<'_>,
+    block: &mut RawBlock,
+    source: Source<'_>,
+) -> Result<(), AllocError>
+    requires target { LiesIn (length block.old) (view_at chosen.now.view.now chosen.now.places) }
+    requires source { IsSource (view_at chosen.now.view.now chosen.now.places) (length block.old)
+        source }
+{
+    let (view, places) = (chosen.view, &chosen.places);
+    let scatter = prepare_scatter(alloc, view, places, block.as_slice(), source)?;
+    scatter.write(block);
+    Ok(())
+}
+
+// How many nanoseconds that takes.
+fn time_of_write(
+    rt: &HostRuntime,
+    chosen: &Chosen<'_>,
+    block: &mut RawBlock,
+    source: Source<'_>,
+) -> io::Result<u128> {
+    let len = block.len();
+    if !lie_in(chosen, len) || !may_be_assigned(chosen, &source, len) {
+        return Err(invalid_input());
+    }
+    let start = Instant::now(rt)?;
+    write_chosen(rt.alloc(), chosen, block, source)?;
+    Ok(start.elapsed(rt)?.as_nanos())
+}
+
+// Adds one to each element of a copy, and makes a new array of the sums, as an operator in place does.
+fn add_one(rt: &HostRuntime, copy: &Held<'_>) -> io::Result<Made> {
+    let (alloc, op, one) = (rt.alloc(), BinaryOp::Add, Num::Int(1));
+    let start = Instant::now(rt)?;
+    let Ok(kind) = in_place_kind(alloc, op, copy.view, Argument::Number(one)) else {
+        return Err(invalid_input());
+    };
+    let right = RightSide::Number(one);
+    let (view, block) = results_in_place(alloc, op, kind, copy.view, copy.bytes, right)?;
+    let nanos = start.elapsed(rt)?.as_nanos();
+    Ok(Made { view, block, nanos })
+}
+
+// Gathers the chosen elements, and adds one to each.
+fn gather_and_add(rt: &HostRuntime, chosen: &Chosen<'_>, bytes: &[u8]) -> io::Result<Made> {
+    let copy = gather_chosen(rt, chosen, bytes)?;
+    let held = hold(&copy.view, copy.block.as_slice())?;
+    let mut sums = add_one(rt, &held)?;
+    sums.nanos = sums.nanos.saturating_add(copy.nanos);
+    Ok(sums)
+}
+
+// Chooses elements of a view and makes a new array of them.
+fn gather_once(
+    rt: &HostRuntime,
+    view: &View,
+    block: &RawBlock,
+    items: &[Item<'_>],
+) -> io::Result<Turn> {
+    let chosen = choose(rt, view, items)?;
+    let made = gather_chosen(rt, &chosen, block.as_slice())?;
+    let nanos = chosen.nanos.saturating_add(made.nanos);
+    Ok(Turn::of_bytes(chosen.places.places.len(), &made.block, nanos))
+}
+
+// Chooses elements of a view and assigns to them. The sum is that of the bytes of the block.
+fn scatter_once(
+    rt: &HostRuntime,
+    view: &View,
+    block: &mut RawBlock,
+    items: &[Item<'_>],
+    source: Source<'_>,
+) -> io::Result<Turn> {
+    let chosen = choose(rt, view, items)?;
+    let nanos = time_of_write(rt, &chosen, block, source)?;
+    let nanos = chosen.nanos.saturating_add(nanos);
+    Ok(Turn::of_bytes(chosen.places.places.len(), block, nanos))
+}
+
+// Adds one to the chosen elements of a block.
+fn add_to_chosen(rt: &HostRuntime, chosen: &Chosen<'_>, block: &mut RawBlock) -> io::Result<u128> {
+    let sums = gather_and_add(rt, chosen, block.as_slice())?;
+    let source = Source::Other(&sums.view, sums.block.as_slice());
+    let nanos = time_of_write(rt, chosen, block, source)?;
+    Ok(nanos.saturating_add(sums.nanos))
+}
+
+// Chooses elements of a new block of positions and adds one to each. The sum is that of the bytes of the block.
+fn add_once(rt: &HostRuntime, view: &View, items: &[Item<'_>]) -> io::Result<Turn> {
+    let mut block = positions(rt.alloc(), COUNT, MOST)?;
+    let chosen = choose(rt, view, items)?;
+    let nanos = add_to_chosen(rt, &chosen, &mut block)?;
+    let nanos = chosen.nanos.saturating_add(nanos);
+    Ok(Turn::of_bytes(chosen.places.places.len(), &block, nanos))
+}
+
+// Prints the name of a new array of what is chosen, how many elements there are, the sum of their bytes, and the fewest nanoseconds that
+// it took to choose and copy them.
 fn measure_gather(
     rt: &HostRuntime,
     name: &str,
@@ -103,128 +250,94 @@ fn measure_gather(
     block: &RawBlock,
     items: &[Item<'_>],
 ) -> io::Result<()> {
-    let mut best = u128::MAX;
-    let mut count = 0;
-    let mut sum = 0;
-    for _ in 0..TURNS {
-        let start = Instant::now(rt)?;
-        let Ok(places) = choose_places(rt.alloc(), view, items) else {
-            return println!(rt; "{name}: refused");
-        };
-        let (_, made) = gather(rt.alloc(), view, block.as_slice(), &places)?;
-        best = best.min(start.elapsed(rt)?.as_nanos());
-        count = places.places.len();
-        sum = byte_sum(&made);
-    }
-    println!(rt; "{name} {count} {sum} {best}")
+    measure(rt, name, || gather_once(rt, view, block, items))
 }
 
-// Chooses elements of a view and assigns to them, and prints the same, with the sum of the bytes of the block.
+// The same of an assignment to what is chosen, with the sum of the bytes of the block.
 fn measure_scatter(
     rt: &HostRuntime,
     name: &str,
     view: &View,
     block: &mut RawBlock,
     items: &[Item<'_>],
-    value: Option<(&View, &RawBlock)>,
+    source: Source<'_>,
 ) -> io::Result<()> {
-    let mut best = u128::MAX;
-    let mut count = 0;
-    for _ in 0..TURNS {
-        let start = Instant::now(rt)?;
-        let Ok(places) = choose_places(rt.alloc(), view, items) else {
-            return println!(rt; "{name}: refused");
-        };
-        let chosen = start.elapsed(rt)?.as_nanos();
-        let source = match value {
-            Some((value, bytes)) => Source::Other(value, bytes.as_slice()),
-            None => Source::Number(5),
-        };
-        if !lie_in(view, &places, block.len())
-            || !may_be_assigned(view, &places, &source, block.len())
-        {
-            return println!(rt; "{name}: no such assignment");
-        }
-        let start = Instant::now(rt)?;
-        let scatter = prepare_scatter(rt.alloc(), view, &places, block.as_slice(), source)?;
-        scatter.write(block);
-        let written = start.elapsed(rt)?.as_nanos();
-        best = best.min(chosen.saturating_add(written));
-        count = places.places.len();
-    }
-    println!(rt; "{name} {count} {} {best}", byte_sum(block))
+    measure(rt, name, || scatter_once(rt, view, block, items, source))
 }
 
-// Makes new arrays of the rows of a table that positions choose.
+// The same of a new array of the rows of a table that an item chooses.
+fn measure_table(rt: &HostRuntime, block: &RawBlock, by_row: &[Item<'_>]) -> io::Result<()> {
+    let table = number_array(rt.alloc(), Elem::little(Kind::I64), &[ROWS, 64])?;
+    measure_gather(rt, "rows", &table, block, by_row)
+}
+
+// The same of rows that positions choose.
 fn measure_rows(rt: &HostRuntime, block: &RawBlock) -> io::Result<()> {
-    let alloc = rt.alloc();
-    let int = Elem::little(Kind::I64);
-    let (Some(table), Some(column)) = (
-        view_of(alloc, int, &[ROWS, 64], &[512, 8])?,
-        view_of(alloc, int, &[ROWS], &[8])?,
-    ) else {
-        return println!(rt; "rows: no such views");
-    };
-    let places = positions(alloc, ROWS, ROWS)?;
+    let column = number_array(rt.alloc(), Elem::little(Kind::I64), &[ROWS])?;
+    let places = positions(rt.alloc(), ROWS, ROWS)?;
     let Some(by_row) = Item::of_array(&column, places.as_slice()) else {
-        return println!(rt; "rows: no such index");
+        return Err(invalid_input());
     };
-    measure_gather(rt, "rows", &table, block, &[by_row])
+    measure_table(rt, block, &[by_row])
 }
 
-// Makes a new array of the elements that positions choose, and assigns to them one number and an array.
-fn measure_places(rt: &HostRuntime, block: &mut RawBlock) -> io::Result<()> {
-    let Some(words) = view_of(rt.alloc(), Elem::little(Kind::I64), &[COUNT], &[8])? else {
-        return println!(rt; "places: no such view");
-    };
+// The same of an array that is assigned to the words that an item chooses.
+fn measure_values(
+    rt: &HostRuntime,
+    words: &View,
+    block: &mut RawBlock,
+    by_place: &[Item<'_>],
+) -> io::Result<()> {
+    let other = positions(rt.alloc(), COUNT, 1 << 20)?;
+    let source = Source::Other(words, other.as_slice());
+    measure_scatter(rt, "write-array", words, block, by_place, source)
+}
+
+// The same of a new array of the words that positions choose, and of one number and an array that are assigned to them.
+fn measure_places(rt: &HostRuntime, words: &View, block: &mut RawBlock) -> io::Result<()> {
     let places = positions(rt.alloc(), COUNT, COUNT)?;
-    let Some(by_place) = Item::of_array(&words, places.as_slice()) else {
-        return println!(rt; "places: no such index");
+    let Some(by_place) = Item::of_array(words, places.as_slice()) else {
+        return Err(invalid_input());
     };
     let by_place = [by_place];
-    measure_gather(rt, "places", &words, block, &by_place)?;
-    measure_scatter(rt, "write-number", &words, block, &by_place, None)?;
-    let other = positions(rt.alloc(), COUNT, 1 << 20)?;
-    let value = Some((&words, &other));
-    measure_scatter(rt, "write-array", &words, block, &by_place, value)
+    let five = Source::Number(5);
+    measure_gather(rt, "places", words, block, &by_place)?;
+    measure_scatter(rt, "write-number", words, block, &by_place, five)?;
+    measure_values(rt, words, block, &by_place)
 }
 
-// Makes a new array of the bytes that a mask chooses.
+// The same of a new array of the bytes that an item chooses.
 fn measure_bytes(rt: &HostRuntime, block: &RawBlock, by_mask: &[Item<'_>]) -> io::Result<()> {
-    let Some(bytes) = view_of(rt.alloc(), Elem::little(Kind::U8), &[COUNT], &[1])? else {
-        return println!(rt; "mask: no such view");
-    };
+    let bytes = number_array(rt.alloc(), Elem::little(Kind::U8), &[COUNT])?;
     measure_gather(rt, "mask", &bytes, block, by_mask)
 }
 
-// Assigns one number to the words that a mask chooses.
-fn measure_words(rt: &HostRuntime, block: &mut RawBlock, by_mask: &[Item<'_>]) -> io::Result<()> {
-    let Some(words) = view_of(rt.alloc(), Elem::little(Kind::I64), &[COUNT], &[8])? else {
-        return println!(rt; "write-mask: no such view");
-    };
-    measure_scatter(rt, "write-mask", &words, block, by_mask, None)
-}
-
-// The same two of one mask.
-fn measure_mask(rt: &HostRuntime, block: &mut RawBlock) -> io::Result<()> {
-    let Some(bits) = view_of(rt.alloc(), Elem::little(Kind::Bool), &[COUNT], &[1])? else {
-        return println!(rt; "mask: no such view");
-    };
+// The same of the bytes that a mask chooses, and of one number that is assigned to such words, and added to them.
+fn measure_mask(
+    rt: &HostRuntime,
+    words: &View,
+    block: &mut RawBlock,
+    bits: &View,
+) -> io::Result<()> {
     let half = mask(rt.alloc(), COUNT)?;
-    let Some(by_mask) = Item::of_array(&bits, half.as_slice()) else {
-        return println!(rt; "mask: no such index");
+    let Some(by_mask) = Item::of_array(bits, half.as_slice()) else {
+        return Err(invalid_input());
     };
     let by_mask = [by_mask];
+    let five = Source::Number(5);
     measure_bytes(rt, block, &by_mask)?;
-    measure_words(rt, block, &by_mask)
+    measure_scatter(rt, "write-mask", words, block, &by_mask, five)?;
+    measure(rt, "add-mask", || add_once(rt, words, &by_mask))
 }
 
 /// Prints a line for each of some indexes: for new arrays of rows, of the elements that positions choose, and of those that a mask
-/// chooses, for assignments of one number and of an array to elements that positions choose, and of one number to those that a mask
-/// chooses.
+/// chooses, for assignments of one number and of an array to elements that positions choose, of one number to those that a mask
+/// chooses, and for one number that is added to these.
 pub(crate) fn measure_indexes(rt: &HostRuntime) -> io::Result<()> {
-    let mut block = positions(rt.alloc(), COUNT, 1 << 24)?;
+    let words = number_array(rt.alloc(), Elem::little(Kind::I64), &[COUNT])?;
+    let bits = number_array(rt.alloc(), Elem::little(Kind::Bool), &[COUNT])?;
+    let mut block = positions(rt.alloc(), COUNT, MOST)?;
     measure_rows(rt, &block)?;
-    measure_places(rt, &mut block)?;
-    measure_mask(rt, &mut block)
+    measure_places(rt, &words, &mut block)?;
+    measure_mask(rt, &words, &mut block, &bits)
 }

@@ -1,12 +1,9 @@
 //! Arrays to be converted or shown: their numbers have all widths and both signs.
-ghost use Rattle.std.specs.Prelude.{◌≡◌, ◌*◌, ◌^◌, ◌≤◌, ⊤, length, IfOk, MatchOption};
+ghost use Rattle.std.specs.Prelude.{◌≡◌, ◌*◌, ◌^◌, ◌≤◌, length, IfOk};
 ghost use Rattle.nd_model.specs.Element.{Int64};
-ghost use Rattle.nd_model.specs.View.{contiguous};
-ghost use Rattle.nd_types.specs.Types.{type_of};
 
 use nd_block::RawBlock;
-use nd_types::{Elem, ElemType};
-use nd_view::{View, limit_fault};
+use nd_types::Elem;
 use std::alloc::{AllocError, Global};
 
 // An odd number of 63 bits, whose multiples are scattered over all numbers of 64 bits.
@@ -30,18 +27,4 @@ pub(crate) fn mixed_block(alloc: Global, elem: Elem, count: u64) -> Result<RawBl
         block.store(index * 8, elem, i128::from(mixed_number(index)));
     }
     Ok(block)
-}
-
-/// Returns the view of an array of this shape that is alone in its block, if there may be one.
-pub(crate) fn array_of(
-    alloc: Global,
-    elem: ElemType,
-    shape: &[u64],
-) -> Result<Option<View>, AllocError>
-    ensures { IfOk result (λ r. MatchOption r ⊤ (λ v. v ≡ contiguous (type_of elem) shape.now)) }
-{
-    if limit_fault(elem.size(), shape).is_some() {
-        return Ok(None);
-    }
-    Ok(Some(View::contiguous(alloc, elem, shape)?))
 }

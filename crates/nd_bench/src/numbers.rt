@@ -1,9 +1,11 @@
 //! Reading the numbers of arrays.
-ghost use Rattle.std.specs.Prelude.{◌≡◌, ◌*◌, ◌≤◌, ◌^◌, ⊤, length, IfOk, MatchOption};
+ghost use Rattle.std.specs.Prelude.{◌≡◌, ◌*◌, ◌≤◌, ◌^◌, length, IfOk};
 ghost use Rattle.nd_model.specs.Element.{Int64};
 ghost use Rattle.nd_element.specs.Elements.{AreHeld};
 
-use crate::TURNS;
+use crate::arrays::{Layout, view_of};
+use crate::held::{Held, hold};
+use crate::turns::{Turn, invalid_input, measure};
 use nd_block::RawBlock;
 use nd_element::push_numbers;
 use nd_types::{Elem, ElemType, Kind};
@@ -23,26 +25,9 @@ fn counting_block(alloc: Global, elem: Elem, count: u64) -> Result<RawBlock, All
 {
     let mut block = RawBlock::zeros(alloc, count as usize * 8)?;
     for number in 0..count {
-        block.store(number * 8, elem, i128::from(number));
+        block.store(number * 8, elem, i128::from(number as i64));
     }
     Ok(block)
-}
-
-// Returns the view of numbers with these lengths and strides, if there is one whose numbers all lie in these bytes.
-fn view_of(
-    alloc: Global,
-    elem: Elem,
-    shape: &[u64],
-    strides: &[i64],
-    bytes: &[u8],
-) -> Result<Option<View>, AllocError>
-    ensures { IfOk result (λ r. MatchOption r ⊤ (λ v. AreHeld elem bytes.now v.places)) }
-{
-    let elem = ElemType::One(elem);
-    match View::from_parts(alloc, elem, shape, strides, 0, bytes.len() as u64)? {
-        Ok(view) => Ok(Some(view)),
-        Err(_) => Ok(None),
-    }
 }
 
 // Returns the sum of these numbers.
@@ -71,6 +56,22 @@ fn sum_of(
     Ok(sum)
 }
 
+// Adds the numbers of a view up.
+fn add_up(rt: &HostRuntime, held: &Held<'_>) -> io::Result<Turn> {
+    let ElemType::One(elem) = held.view.elem() else {
+        return Err(invalid_input());
+    };
+    let mut numbers = Vec::with_capacity(rt.alloc(), ROW as usize)?;
+    let start = Instant::now(rt)?;
+    let sum = sum_of(held.view, *elem, held.bytes, &mut numbers)?;
+    let nanos = start.elapsed(rt)?.as_nanos();
+    Ok(Turn {
+        count: held.view.count(),
+        sum,
+        nanos,
+    })
+}
+
 // Makes an array of numbers that lie `apart` numbers from one to the next, and prints its name, how many there are, their sum, and
 // the fewest nanoseconds in which they were added up.
 fn measure_sum(rt: &HostRuntime, name: &str, elem: Elem, apart: u64, count: u64) -> io::Result<()>
@@ -79,22 +80,16 @@ fn measure_sum(rt: &HostRuntime, name: &str, elem: Elem, apart: u64, count: u64)
     requires limit { count ≤ 2 ^ 24 }
 {
     let block = counting_block(rt.alloc(), elem, count * apart)?;
-    let bytes = block.as_slice();
     let step = apart as i64 * 8;
-    let strides = [ROW as i64 * step, step];
-    let Some(view) = view_of(rt.alloc(), elem, &[count / ROW, ROW], &strides, bytes)? else {
-        return println!(rt; "{name}: no view of so many numbers");
+    let (shape, strides) = ([count / ROW, ROW], [ROW as i64 * step, step]);
+    let layout = Layout {
+        shape: &shape,
+        strides: &strides,
+        offset: 0,
     };
-    let count = view.count();
-    let mut numbers = Vec::with_capacity(rt.alloc(), ROW as usize)?;
-    let mut sum = 0;
-    let mut best = u128::MAX;
-    for _ in 0..TURNS {
-        let start = Instant::now(rt)?;
-        sum = sum_of(&view, elem, bytes, &mut numbers)?;
-        best = best.min(start.elapsed(rt)?.as_nanos());
-    }
-    println!(rt; "{name} {count} {sum} {best}")
+    let view = view_of(rt.alloc(), elem, layout, block.len())?;
+    let held = hold(&view, block.as_slice())?;
+    measure(rt, name, || add_up(rt, &held))
 }
 
 /// Prints a line for each of three arrays of so many numbers: one without gaps, one of every second number of a block, and

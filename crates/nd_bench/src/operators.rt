@@ -1,44 +1,60 @@
 //! Operators on arrays.
+ghost use Rattle.nd_elementwise.specs.Arguments.{LiesInBlock};
 
-use crate::TURNS;
-use crate::assign::lies_in;
+use crate::arrays::{Layout, number_array, view_of};
+use crate::held::{Held, hold};
 use crate::mixed::mixed_block;
+use crate::turns::{Turn, invalid_input, measure};
 use nd_block::RawBlock;
 use nd_elementwise::{Argument, map2};
 use nd_syntax::BinaryOp;
-use nd_types::{Elem, ElemType, Kind, Num};
+use nd_types::{Elem, Kind, Num};
 use nd_ufunc::BinaryUfunc;
 use nd_view::View;
-use std::alloc::{AllocError, Global};
 use std::io;
 use std::time::Instant;
 
 /// How many numbers of eight bytes the block has.
 pub(crate) const COUNT: u64 = 10_000_000;
 
-// How many bytes they have.
-const LEN: u64 = 80_000_000;
-
-/// Returns the sum of the bytes of a block, wrapped to 64 bits.
-pub(crate) fn byte_sum(block: &RawBlock) -> u64 {
-    let mut sum: u64 = 0;
-    for byte in block.as_slice() {
-        sum = sum.wrapping_add(u64::from(*byte));
-    }
-    sum
+// What stands on the right of an operator.
+#[derive(Clone, Copy)]
+enum Right<'b> {
+    Number(i128),
+    Elements(&'b Held<'b>),
 }
 
-/// Returns the view of the first elements of this kind in the block, each so many bytes behind the last one.
-pub(crate) fn view_of(
-    alloc: Global,
-    elem: Elem,
-    shape: &[u64],
-    strides: &[i64],
-) -> Result<Option<View>, AllocError> {
-    match View::from_parts(alloc, ElemType::One(elem), shape, strides, 0, LEN)? {
-        Ok(view) => Ok(Some(view)),
-        Err(_) => Ok(None),
+// Returns a right side as an argument.
+fn argument_of(right: Right<'_>) -> Argument<'_>
+    ensures { LiesInBlock result }
+{
+    match right {
+        Right::Number(number) => Argument::Number(Num::Int(number)),
+        Right::Elements(held) => Argument::Elements(held.view, held.bytes),
     }
+}
+
+// Applies an operator.
+fn apply_once(
+    rt: &HostRuntime,
+    op: BinaryOp,
+    left: &Held<'_>,
+    right: Right<'_>,
+) -> io::Result<Turn> {
+    let ufunc = BinaryUfunc::Operator(op);
+    let right = argument_of(right);
+    let start = Instant::now(rt)?;
+    let made = map2(
+        rt.alloc(),
+        ufunc,
+        Argument::Elements(left.view, left.bytes),
+        right,
+    );
+    let nanos = start.elapsed(rt)?.as_nanos();
+    let Ok((_, made)) = made else {
+        return Err(invalid_input());
+    };
+    Ok(Turn::of_bytes(left.view.count(), &made, nanos))
 }
 
 // Applies an operator to two views of the block, and prints the name, how many results there are, the sum of their bytes, and the
@@ -51,27 +67,13 @@ fn measure_views(
     right: &View,
     block: &RawBlock,
 ) -> io::Result<()> {
-    let bytes = block.as_slice();
-    if !lies_in(left, bytes.len()) || !lies_in(right, bytes.len()) {
-        return println!(rt; "{name}: no such views");
-    }
-    let mut best = u128::MAX;
-    let mut sum = 0;
-    for _ in 0..TURNS {
-        let start = Instant::now(rt)?;
-        let made = map2(
-            rt.alloc(),
-            BinaryUfunc::Operator(op),
-            Argument::Elements(left, bytes),
-            Argument::Elements(right, bytes),
-        );
-        best = best.min(start.elapsed(rt)?.as_nanos());
-        match made {
-            Ok((_, made)) => sum = byte_sum(&made),
-            Err(_) => return println!(rt; "{name}: refused"),
-        }
-    }
-    println!(rt; "{name} {} {sum} {best}", left.count())
+    let left = hold(left, block.as_slice())?;
+    let right = hold(right, block.as_slice())?;
+    measure(
+        rt,
+        name,
+        || apply_once(rt, op, &left, Right::Elements(&right)),
+    )
 }
 
 // The same of a view and a Python integer.
@@ -82,30 +84,13 @@ fn measure_number(
     number: i128,
     block: &RawBlock,
 ) -> io::Result<()> {
-    let bytes = block.as_slice();
-    let Some(left) = view_of(rt.alloc(), Elem::little(Kind::I64), &[COUNT], &[8])? else {
-        return println!(rt; "{name}: no view of so many numbers");
-    };
-    if !lies_in(&left, bytes.len()) {
-        return println!(rt; "{name}: no such view");
-    }
-    let mut best = u128::MAX;
-    let mut sum = 0;
-    for _ in 0..TURNS {
-        let start = Instant::now(rt)?;
-        let made = map2(
-            rt.alloc(),
-            BinaryUfunc::Operator(op),
-            Argument::Elements(&left, bytes),
-            Argument::Number(Num::Int(number)),
-        );
-        best = best.min(start.elapsed(rt)?.as_nanos());
-        match made {
-            Ok((_, made)) => sum = byte_sum(&made),
-            Err(_) => return println!(rt; "{name}: refused"),
-        }
-    }
-    println!(rt; "{name} {} {sum} {best}", left.count())
+    let left = number_array(rt.alloc(), Elem::little(Kind::I64), &[COUNT])?;
+    let left = hold(&left, block.as_slice())?;
+    measure(
+        rt,
+        name,
+        || apply_once(rt, op, &left, Right::Number(number)),
+    )
 }
 
 // The same of the first numbers of two kinds, side by side.
@@ -117,70 +102,65 @@ fn measure_kinds(
     right: Elem,
     block: &RawBlock,
 ) -> io::Result<()> {
-    let left = view_of(rt.alloc(), left, &[COUNT], &[left.size() as i64])?;
-    let right = view_of(rt.alloc(), right, &[COUNT], &[right.size() as i64])?;
-    match (left, right) {
-        (Some(left), Some(right)) => measure_views(rt, name, op, &left, &right, block),
-        _ => println!(rt; "{name}: no view of so many numbers"),
-    }
+    let left = number_array(rt.alloc(), left, &[COUNT])?;
+    let right = number_array(rt.alloc(), right, &[COUNT])?;
+    measure_views(rt, name, op, &left, &right, block)
 }
 
-// The same of a sum of two views of numbers of the block, each with a shape and strides.
-fn measure_sum(
+// The same of the sum of a table and a row, each of the first numbers of the block.
+fn measure_row(
     rt: &HostRuntime,
     name: &str,
-    left: (&[u64], &[i64]),
-    right: (&[u64], &[i64]),
+    table: &[u64],
+    row: &[u64],
     block: &RawBlock,
 ) -> io::Result<()> {
     let int = Elem::little(Kind::I64);
-    let left = view_of(rt.alloc(), int, left.0, left.1)?;
-    let right = view_of(rt.alloc(), int, right.0, right.1)?;
-    match (left, right) {
-        (Some(left), Some(right)) => measure_views(rt, name, BinaryOp::Add, &left, &right, block),
-        _ => println!(rt; "{name}: no such views"),
-    }
+    let table = number_array(rt.alloc(), int, table)?;
+    let row = number_array(rt.alloc(), int, row)?;
+    measure_views(rt, name, BinaryOp::Add, &table, &row, block)
 }
 
-// The same of tables and rows, and of every second number of the block.
-fn measure_shapes(rt: &HostRuntime, block: &RawBlock) -> io::Result<()> {
-    let (row, short): ((&[u64], &[i64]), (&[u64], &[i64])) = ((&[4096], &[8]), (&[3], &[8]));
-    measure_sum(rt, "row", (&[2441, 4096], &[32768, 8]), row, block)?;
-    measure_sum(rt, "short-row", (&[1_000_000, 3], &[24, 8]), short, block)?;
-    let every_second: (&[u64], &[i64]) = (&[COUNT / 2], &[16]);
-    measure_sum(rt, "strided", every_second, every_second, block)
+// The same of the sum of every second number and itself.
+fn measure_strided(rt: &HostRuntime, block: &RawBlock) -> io::Result<()> {
+    let every_second = Layout {
+        shape: &[COUNT / 2],
+        strides: &[16],
+        offset: 0,
+    };
+    let view = view_of(
+        rt.alloc(),
+        Elem::little(Kind::I64),
+        every_second,
+        block.len(),
+    )?;
+    measure_views(rt, "strided", BinaryOp::Add, &view, &view, block)
+}
+
+// The same of numbers of several kinds.
+fn measure_all_kinds(rt: &HostRuntime, block: &RawBlock) -> io::Result<()> {
+    let int = Elem::little(Kind::I64);
+    let big = Elem::new(Kind::I64, true);
+    let byte = Elem::little(Kind::U8);
+    let (short, natural) = (Elem::little(Kind::I32), Elem::little(Kind::U64));
+    measure_kinds(rt, "add", BinaryOp::Add, int, int, block)?;
+    measure_kinds(rt, "subtract", BinaryOp::Subtract, int, int, block)?;
+    measure_kinds(rt, "multiply", BinaryOp::Multiply, int, int, block)?;
+    measure_kinds(rt, "and", BinaryOp::BitAnd, int, int, block)?;
+    measure_kinds(rt, "less", BinaryOp::Less, int, int, block)?;
+    measure_kinds(rt, "mixed-less", BinaryOp::Less, natural, int, block)?;
+    measure_kinds(rt, "bytes", BinaryOp::Add, byte, byte, block)?;
+    measure_kinds(rt, "widened", BinaryOp::Add, short, int, block)?;
+    measure_kinds(rt, "big-endian", BinaryOp::Add, big, big, block)
 }
 
 /// Prints a line for each of some operators on the numbers of an array of eight bytes each.
 pub(crate) fn measure_operators(rt: &HostRuntime) -> io::Result<()> {
-    let int = Elem::little(Kind::I64);
-    let big = Elem::new(Kind::I64, true);
-    let byte = Elem::little(Kind::U8);
-    let block = mixed_block(rt.alloc(), int, COUNT)?;
-    measure_kinds(rt, "add", BinaryOp::Add, int, int, &block)?;
-    measure_kinds(rt, "subtract", BinaryOp::Subtract, int, int, &block)?;
-    measure_kinds(rt, "multiply", BinaryOp::Multiply, int, int, &block)?;
-    measure_kinds(rt, "and", BinaryOp::BitAnd, int, int, &block)?;
-    measure_kinds(rt, "less", BinaryOp::Less, int, int, &block)?;
-    measure_kinds(
-        rt,
-        "mixed-less",
-        BinaryOp::Less,
-        Elem::little(Kind::U64),
-        int,
-        &block,
-    )?;
-    measure_kinds(rt, "bytes", BinaryOp::Add, byte, byte, &block)?;
-    measure_kinds(
-        rt,
-        "widened",
-        BinaryOp::Add,
-        Elem::little(Kind::I32),
-        int,
-        &block,
-    )?;
-    measure_kinds(rt, "big-endian", BinaryOp::Add, big, big, &block)?;
-    measure_shapes(rt, &block)?;
+    let block = mixed_block(rt.alloc(), Elem::little(Kind::I64), COUNT)?;
+    measure_all_kinds(rt, &block)?;
+    measure_row(rt, "row", &[2441, 4096], &[4096], &block)?;
+    measure_row(rt, "short-row", &[1_000_000, 3], &[3], &block)?;
+    measure_strided(rt, &block)?;
     measure_number(rt, "number", BinaryOp::Add, 1, &block)?;
     measure_number(rt, "quotient", BinaryOp::FloorDivide, 7, &block)?;
     measure_number(rt, "remainder", BinaryOp::Remainder, 7, &block)?;

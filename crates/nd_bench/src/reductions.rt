@@ -1,9 +1,10 @@
 //! Reductions and accumulations of arrays.
 
-use crate::TURNS;
-use crate::assign::lies_in;
+use crate::arrays::{number_array, zeros};
+use crate::held::{Held, hold};
 use crate::mixed::mixed_block;
-use crate::operators::{COUNT, byte_sum, view_of};
+use crate::operators::COUNT;
+use crate::turns::{Turn, invalid_input, measure};
 use nd_block::RawBlock;
 use nd_reduce::{accumulate, reduce};
 use nd_syntax::Reduction;
@@ -12,8 +13,35 @@ use nd_view::View;
 use std::io;
 use std::time::Instant;
 
-// Folds a view of the block along an axis or as a whole, and prints the name, how many elements there are, the sum of the bytes of
-// what they come to, and the fewest nanoseconds that it took.
+// Folds a view along an axis or as a whole.
+fn fold_once(
+    rt: &HostRuntime,
+    reduction: Reduction,
+    axis: Option<i128>,
+    held: &Held<'_>,
+) -> io::Result<Turn> {
+    let start = Instant::now(rt)?;
+    let made = reduce(rt.alloc(), reduction, axis, false, held.view, held.bytes);
+    let nanos = start.elapsed(rt)?.as_nanos();
+    let Ok((_, made)) = made else {
+        return Err(invalid_input());
+    };
+    Ok(Turn::of_bytes(held.view.count(), &made, nanos))
+}
+
+// Finds the sums of the first numbers of a view, of one and more.
+fn accumulate_once(rt: &HostRuntime, held: &Held<'_>) -> io::Result<Turn> {
+    let start = Instant::now(rt)?;
+    let made = accumulate(rt.alloc(), Reduction::Sum, None, held.view, held.bytes);
+    let nanos = start.elapsed(rt)?.as_nanos();
+    let Ok((_, made)) = made else {
+        return Err(invalid_input());
+    };
+    Ok(Turn::of_bytes(held.view.count(), &made, nanos))
+}
+
+// Folds a view of the block, and prints the name, how many elements there are, the sum of the bytes of what they come to, and the
+// fewest nanoseconds that it took.
 fn measure_fold(
     rt: &HostRuntime,
     name: &str,
@@ -22,42 +50,8 @@ fn measure_fold(
     view: &View,
     block: &RawBlock,
 ) -> io::Result<()> {
-    let bytes = block.as_slice();
-    if !lies_in(view, bytes.len()) {
-        return println!(rt; "{name}: no such view");
-    }
-    let mut best = u128::MAX;
-    let mut sum = 0;
-    for _ in 0..TURNS {
-        let start = Instant::now(rt)?;
-        let made = reduce(rt.alloc(), reduction, axis, false, view, bytes);
-        best = best.min(start.elapsed(rt)?.as_nanos());
-        match made {
-            Ok((_, made)) => sum = byte_sum(&made),
-            Err(_) => return println!(rt; "{name}: refused"),
-        }
-    }
-    println!(rt; "{name} {} {sum} {best}", view.count())
-}
-
-// The same of the sums of the first numbers of a view, of one and more.
-fn measure_sums(rt: &HostRuntime, name: &str, view: &View, block: &RawBlock) -> io::Result<()> {
-    let bytes = block.as_slice();
-    if !lies_in(view, bytes.len()) {
-        return println!(rt; "{name}: no such view");
-    }
-    let mut best = u128::MAX;
-    let mut sum = 0;
-    for _ in 0..TURNS {
-        let start = Instant::now(rt)?;
-        let made = accumulate(rt.alloc(), Reduction::Sum, None, view, bytes);
-        best = best.min(start.elapsed(rt)?.as_nanos());
-        match made {
-            Ok((_, made)) => sum = byte_sum(&made),
-            Err(_) => return println!(rt; "{name}: refused"),
-        }
-    }
-    println!(rt; "{name} {} {sum} {best}", view.count())
+    let held = hold(view, block.as_slice())?;
+    measure(rt, name, || fold_once(rt, reduction, axis, &held))
 }
 
 // The same of a reduction of elements that stand side by side in the block.
@@ -68,20 +62,28 @@ fn measure_row(
     elem: Elem,
     block: &RawBlock,
 ) -> io::Result<()> {
-    let Some(view) = view_of(rt.alloc(), elem, &[COUNT], &[elem.size() as i64])? else {
-        return println!(rt; "{name}: no view of so many elements");
-    };
+    let view = number_array(rt.alloc(), elem, &[COUNT])?;
     measure_fold(rt, name, reduction, None, &view, block)
 }
 
 // The same of the sums of a table along each of its axes.
 fn measure_table(rt: &HostRuntime, block: &RawBlock) -> io::Result<()> {
-    let int = Elem::little(Kind::I64);
-    let Some(table) = view_of(rt.alloc(), int, &[4_000, 2_500], &[20_000, 8])? else {
-        return println!(rt; "table: no view of so many numbers");
-    };
+    let table = number_array(rt.alloc(), Elem::little(Kind::I64), &[4_000, 2_500])?;
     measure_fold(rt, "sum-axis0", Reduction::Sum, Some(0), &table, block)?;
     measure_fold(rt, "sum-axis1", Reduction::Sum, Some(1), &table, block)
+}
+
+// The same of whether one of many Booleans is true, where none is.
+fn measure_any(rt: &HostRuntime) -> io::Result<()> {
+    let mask = zeros(rt.alloc(), COUNT as usize)?;
+    measure_row(rt, "any", Reduction::Any, Elem::little(Kind::Bool), &mask)
+}
+
+// The same of the sums of the first numbers.
+fn measure_sums(rt: &HostRuntime, block: &RawBlock) -> io::Result<()> {
+    let numbers = number_array(rt.alloc(), Elem::little(Kind::I64), &[COUNT])?;
+    let held = hold(&numbers, block.as_slice())?;
+    measure(rt, "cumsum", || accumulate_once(rt, &held))
 }
 
 /// Prints a line for each of some reductions of arrays of 10,000,000 elements, and for an accumulation.
@@ -98,10 +100,6 @@ pub(crate) fn measure_reductions(rt: &HostRuntime) -> io::Result<()> {
     measure_row(rt, "max-big-int32", Reduction::Max, big, &block)?;
     measure_row(rt, "argmax", Reduction::ArgMax, int, &block)?;
     measure_table(rt, &block)?;
-    let mask = RawBlock::zeros(rt.alloc(), COUNT as usize)?;
-    measure_row(rt, "any", Reduction::Any, Elem::little(Kind::Bool), &mask)?;
-    let Some(numbers) = view_of(rt.alloc(), int, &[COUNT], &[8])? else {
-        return println!(rt; "cumsum: no view of so many numbers");
-    };
-    measure_sums(rt, "cumsum", &numbers, &block)
+    measure_any(rt)?;
+    measure_sums(rt, &block)
 }

@@ -4,11 +4,13 @@ ghost use Rattle.std.specs.List.{All};
 ghost use Rattle.nd_model.specs.Element.{size_of};
 ghost use Rattle.nd_types.specs.Fields.{fields_of};
 
-use crate::TURNS;
-use crate::mixed::{array_of, mixed_block, mixed_number};
+use crate::arrays::array_of;
+use crate::mixed::{mixed_block, mixed_number};
+use crate::turns::{Turn, invalid_input, measure};
 use nd_block::{RawBlock, store_at};
 use nd_print::{Fit, push_elements};
 use nd_types::{Elem, ElemType, Field, Kind, RecType, wrap};
+use nd_view::View;
 use std::alloc::{AllocError, Global};
 use std::io;
 use std::time::Instant;
@@ -72,6 +74,21 @@ fn structures_block(alloc: Global, structure: &RecType, count: u64) -> Result<Ra
     Ok(block)
 }
 
+// Makes the text of a view.
+fn print_once(rt: &HostRuntime, view: &View, bytes: &[u8]) -> io::Result<Turn> {
+    let mut text = String::new(rt.alloc());
+    let start = Instant::now(rt)?;
+    if let Fit::TooLong = push_elements(rt.alloc(), &mut text, LIMIT, view, bytes)? {
+        return Err(invalid_input());
+    }
+    let nanos = start.elapsed(rt)?.as_nanos();
+    Ok(Turn {
+        count: view.count(),
+        sum: text.len() as i128,
+        nanos,
+    })
+}
+
 // Prints the name of an array of this shape, how many elements it has, how long its text is, and the fewest nanoseconds in which
 // the text was made.
 fn measure_array(
@@ -81,22 +98,8 @@ fn measure_array(
     shape: &[u64],
     bytes: &[u8],
 ) -> io::Result<()> {
-    let Some(view) = array_of(rt.alloc(), elem, shape)? else {
-        return println!(rt; "{name}: no array of so many elements");
-    };
-    let count = view.count();
-    let mut len = 0;
-    let mut best = u128::MAX;
-    for _ in 0..TURNS {
-        let mut text = String::new(rt.alloc());
-        let start = Instant::now(rt)?;
-        if let Fit::TooLong = push_elements(rt.alloc(), &mut text, LIMIT, &view, bytes)? {
-            return println!(rt; "{name}: the text is too long");
-        }
-        best = best.min(start.elapsed(rt)?.as_nanos());
-        len = text.len();
-    }
-    println!(rt; "{name} {count} {len} {best}")
+    let view = array_of(rt.alloc(), elem, shape)?;
+    measure(rt, name, || print_once(rt, &view, bytes))
 }
 
 // The same of an array of structures.
@@ -104,7 +107,7 @@ fn measure_structures(rt: &HostRuntime, count: u64) -> io::Result<()>
     requires { count ≤ 2 ^ 24 }
 {
     let Some(structure) = structure(rt.alloc())? else {
-        return println!(rt; "structures: no such structure");
+        return Err(invalid_input());
     };
     let block = structures_block(rt.alloc(), &structure, count)?;
     let elem = ElemType::of_structure(rt.alloc(), structure)?;

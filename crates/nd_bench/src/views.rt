@@ -1,10 +1,10 @@
 //! Views that are made of another view.
 
-use crate::TURNS;
-use crate::mixed::array_of;
+use crate::arrays::number_array;
+use crate::turns::{Turn, measure};
 use nd_basic::{Item, select};
 use nd_shape::{Reshaped, reshape};
-use nd_types::{Elem, ElemType, Kind};
+use nd_types::{Elem, Kind};
 use nd_view::View;
 use std::alloc::{AllocError, Global};
 use std::io;
@@ -43,43 +43,40 @@ fn reshape_once(alloc: Global, view: &View) -> Result<i128, AllocError> {
     }
 }
 
-// Prints the name, how many views are made, what they add up to, and the fewest nanoseconds that it took.
-fn measure_select(rt: &HostRuntime, view: &View) -> io::Result<()> {
+// Makes so many views by the index.
+fn select_often(rt: &HostRuntime, view: &View) -> io::Result<Turn> {
     let mut sum: i128 = 0;
-    let mut best = u128::MAX;
-    for _ in 0..TURNS {
-        sum = 0;
-        let start = Instant::now(rt)?;
-        for _ in 0..CALLS {
-            sum = sum.wrapping_add(select_once(rt.alloc(), view)?);
-        }
-        best = best.min(start.elapsed(rt)?.as_nanos());
+    let start = Instant::now(rt)?;
+    for _ in 0..CALLS {
+        sum = sum.wrapping_add(select_once(rt.alloc(), view)?);
     }
-    println!(rt; "select {CALLS} {sum} {best}")
+    let nanos = start.elapsed(rt)?.as_nanos();
+    Ok(Turn {
+        count: CALLS as usize,
+        sum,
+        nanos,
+    })
 }
 
-// The same of views in another shape.
-fn measure_reshape(rt: &HostRuntime, view: &View) -> io::Result<()> {
+// Makes so many views in another shape.
+fn reshape_often(rt: &HostRuntime, view: &View) -> io::Result<Turn> {
     let mut sum: i128 = 0;
-    let mut best = u128::MAX;
-    for _ in 0..TURNS {
-        sum = 0;
-        let start = Instant::now(rt)?;
-        for _ in 0..CALLS {
-            sum = sum.wrapping_add(reshape_once(rt.alloc(), view)?);
-        }
-        best = best.min(start.elapsed(rt)?.as_nanos());
+    let start = Instant::now(rt)?;
+    for _ in 0..CALLS {
+        sum = sum.wrapping_add(reshape_once(rt.alloc(), view)?);
     }
-    println!(rt; "reshape {CALLS} {sum} {best}")
+    let nanos = start.elapsed(rt)?.as_nanos();
+    Ok(Turn {
+        count: CALLS as usize,
+        sum,
+        nanos,
+    })
 }
 
 /// Prints a line for each of two kinds of views, each made many times of an array of 1,000 rows of 1,000 numbers: a basic index of
 /// it, and its numbers in three axes.
 pub(crate) fn measure_views(rt: &HostRuntime) -> io::Result<()> {
-    let elem = ElemType::One(Elem::little(Kind::I64));
-    let Some(table) = array_of(rt.alloc(), elem, &[1_000, 1_000])? else {
-        return println!(rt; "no array of so many numbers");
-    };
-    measure_select(rt, &table)?;
-    measure_reshape(rt, &table)
+    let table = number_array(rt.alloc(), Elem::little(Kind::I64), &[1_000, 1_000])?;
+    measure(rt, "select", || select_often(rt, &table))?;
+    measure(rt, "reshape", || reshape_often(rt, &table))
 }

@@ -19,9 +19,9 @@ use Rattle.nd_choice.specs.declared.indexes.IndexValue.{IndexValue}
 use Rattle.nd_choice.specs.declared.indexes.IndexValue.TheVariants.{Field, Items}
 use Rattle.nd_choice.specs.declared.indexes.Chosen as chosen_value
 use Rattle.nd_choice.specs.Selections.{selected}
-use Rattle.nd_operation.specs.declared.stop.Stop.{Stop}
-use Rattle.nd_operation.specs.declared.stop.Stop.TheVariants.{Memory, Refused}
-use Rattle.nd_operation.specs.Ends.{Makes}
+use Rattle.nd_refusal.specs.declared.stop.Stop.{Stop}
+use Rattle.nd_refusal.specs.declared.stop.Stop.TheVariants.{Memory, Refused}
+use Rattle.nd_refusal.specs.Ends.{Makes}
 use Rattle.nd_operation.specs.Contents.{unused_of}
 use Rattle.nd_operation.specs.New.{option_list}
 use Rattle.nd_choice.specs.Indexing.{forms_of, operands_in, operands_in_item, items_operands, bound_operands, bound_item, item_from, items_from, as_basic, item_over, items_over, refusal_in, basic_choice, elements_by, choice_by, chosen_of, index_operands, operands_of}

@@ -22,9 +22,9 @@ use Rattle.nd_choice.specs.Targets.{Lies, geo_in, may_take, target_by, writes_to
 use Rattle.nd_choice.specs.declared.targets.Target.{Target}
 use Rattle.nd_model.specs.Assigning.{fits_into}
 use Rattle.nd_model.specs.Creation.{operand_converts, operand_misfit, unless_misfit}
-use Rattle.nd_operation.specs.declared.stop.Stop.{Stop}
-use Rattle.nd_operation.specs.declared.stop.Stop.TheVariants.{Memory, Refused}
-use Rattle.nd_operation.specs.Ends.{Makes}
+use Rattle.nd_refusal.specs.declared.stop.Stop.{Stop}
+use Rattle.nd_refusal.specs.declared.stop.Stop.TheVariants.{Memory, Refused}
+use Rattle.nd_refusal.specs.Ends.{Makes}
 
 -- a list of one place
 one_place : (ps : List ℕ) (size len : ℕ) → length ps ≡ 1 → get_or ps 0 0 + size ≤ len → All (λ p. p + size ≤ len) ps

@@ -22,11 +22,11 @@ use Rattle.nd_model.proofs.Transposed.{when_ok, ok_same}
 use Rattle.nd_model.proofs.Stretched.{unless_ok}
 use Rattle.nd_operation.specs.declared.operand.New.{New}
 use Rattle.nd_operation.specs.declared.operand.New.TheVariants.{Array}
-use Rattle.nd_operation.specs.declared.fault.StmtFault.{StmtFault}
-use Rattle.nd_operation.specs.declared.stop.Stop.{Stop}
-use Rattle.nd_operation.specs.declared.stop.Stop.TheVariants.{Memory, Refused}
-use Rattle.nd_operation.specs.Ends.{Makes}
-use Rattle.nd_operation.specs.Faults.{fault_of}
+use Rattle.nd_refusal.specs.declared.fault.StmtFault.{StmtFault}
+use Rattle.nd_refusal.specs.declared.stop.Stop.{Stop}
+use Rattle.nd_refusal.specs.declared.stop.Stop.TheVariants.{Memory, Refused}
+use Rattle.nd_refusal.specs.Ends.{Makes}
+use Rattle.nd_refusal.specs.Faults.{fault_of}
 use Rattle.nd_operation.specs.New.{given, clip, clip_lengths}
 use Rattle.nd_operation.proofs.Creating.{clip_limits, over}
 use Rattle.nd_choice.specs.Shapes.{MakesStretched}

@@ -5,15 +5,15 @@ use Rattle.nd_model.specs.Operand.{Made, AnArray}
 use Rattle.nd_model.specs.View.{Geo}
 use Rattle.nd_operation.specs.Contents.{contents_over}
 use Rattle.nd_fancy.specs.Chosen.{view_at}
-use Rattle.nd_fancy.specs.declared.fault.IndexFault as items_fault
-use Rattle.nd_fancy.specs.declared.fault.IndexFault.TheVariants as items_faults
-use Rattle.nd_fancy.specs.declared.fault.FancyFault.{FancyFault}
-use Rattle.nd_fancy.specs.declared.fault.FancyFault.TheVariants as fancy_fault
-use Rattle.nd_operation.specs.declared.fault.IndexFault.{IndexFault}
-use Rattle.nd_operation.specs.declared.fault.IndexFault.TheVariants.{TwoEllipses, TooManyIndices, ZeroStep, OutOfBounds, MaskShape, IndexShapes}
-use Rattle.nd_operation.specs.declared.fault.StmtFault.TheVariants.{Index, View}
-use Rattle.nd_operation.specs.declared.stop.Stop.{Stop}
-use Rattle.nd_operation.specs.declared.stop.Stop.TheVariants.{Memory, Refused}
+use Rattle.nd_index.specs.declared.fault.IndexFault as items_fault
+use Rattle.nd_index.specs.declared.fault.IndexFault.TheVariants as items_faults
+use Rattle.nd_index.specs.declared.fault.FancyFault.{FancyFault}
+use Rattle.nd_index.specs.declared.fault.FancyFault.TheVariants as fancy_fault
+use Rattle.nd_refusal.specs.declared.fault.IndexFault.{IndexFault}
+use Rattle.nd_refusal.specs.declared.fault.IndexFault.TheVariants.{TwoEllipses, TooManyIndices, ZeroStep, OutOfBounds, MaskShape, IndexShapes}
+use Rattle.nd_refusal.specs.declared.fault.StmtFault.TheVariants.{Index, View}
+use Rattle.nd_refusal.specs.declared.stop.Stop.{Stop}
+use Rattle.nd_refusal.specs.declared.stop.Stop.TheVariants.{Memory, Refused}
 use Rattle.nd_choice.specs.declared.selection.Selection.{Selection}
 
 -- the elements as a view

@@ -13,9 +13,9 @@ use Rattle.nd_shape.specs.NewShapes.{reshaped_of}
 use Rattle.nd_operation.specs.declared.operand.New.{New}
 use Rattle.nd_operation.specs.declared.operand.Operand.{Operand}
 use Rattle.nd_operation.specs.declared.operand.Operand.TheVariants.{Number, Elements as ElementsOperand}
-use Rattle.nd_operation.specs.declared.stop.Stop.{Stop}
-use Rattle.nd_operation.specs.declared.stop.Stop.TheVariants.{Memory, Refused}
-use Rattle.nd_operation.specs.Faults.{fault_of}
+use Rattle.nd_refusal.specs.declared.stop.Stop.{Stop}
+use Rattle.nd_refusal.specs.declared.stop.Stop.TheVariants.{Memory, Refused}
+use Rattle.nd_refusal.specs.Faults.{fault_of}
 use Rattle.nd_operation.specs.New.{given}
 
 -- what is chosen of an array that gets another shape

@@ -12,13 +12,14 @@ ghost use Rattle.nd_shape.specs.NewShapes.{reshaped_of};
 ghost use Rattle.nd_heap.specs.Values.{geo_of};
 ghost use Rattle.nd_heap.specs.declared.value.Value.TheVariants as value;
 ghost use Rattle.nd_operation.specs.Contents.{unused_of};
-ghost use Rattle.nd_operation.specs.Ends.{Makes, Says};
+ghost use Rattle.nd_refusal.specs.Ends.{Makes, Says};
 ghost use Rattle.nd_choice.specs.Shapes.{HasAsMany, choice_of};
 
 use crate::arrays::array_of;
 use nd_dtype::element_type;
 use nd_heap::{Array, Value};
-use nd_operation::{StmtFault, Stop, ViewFault, integers_of, not_numbers};
+use nd_operation::{integers_of, not_numbers};
+use nd_refusal::{StmtFault, Stop, ViewFault};
 use nd_shape::{Reshaped, reverse_axes};
 use nd_syntax::DType;
 use nd_types::{Elem, ElemType};

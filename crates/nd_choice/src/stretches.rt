@@ -6,15 +6,16 @@ ghost use Rattle.nd_model.specs.ShapeChoices as model;
 ghost use Rattle.nd_model.specs.Stretching as stretching;
 ghost use Rattle.nd_heap.specs.declared.value.Value.TheVariants as value;
 ghost use Rattle.nd_operation.specs.Contents.{elements_operand, num_of, operand_of, unused_of};
-ghost use Rattle.nd_operation.specs.Ends.{Makes};
+ghost use Rattle.nd_refusal.specs.Ends.{Makes};
 ghost use Rattle.nd_choice.specs.Shapes.{IsAlone, MakesStretched};
 
 use nd_convert::copy_elements;
 use nd_create::full;
 use nd_heap::{Array, Value};
 use nd_operation::{
-    Elements, New, Operand, Stop, array_kind, bad_argument, check_limits, lengths_of, whole_number,
+    Elements, New, Operand, array_kind, bad_argument, check_limits, lengths_of, whole_number,
 };
+use nd_refusal::Stop;
 use nd_shape::broadcast_to;
 use nd_types::{Elem, ElemType, Num};
 use nd_view::View;

@@ -14,7 +14,7 @@ ghost use Rattle.nd_model.specs.View.{item_size};
 ghost use Rattle.nd_model.specs.Writing as writing;
 ghost use Rattle.nd_session.specs.Live.{live};
 ghost use Rattle.nd_operation.specs.Contents.{operand_of, unused_of};
-ghost use Rattle.nd_operation.specs.Ends.{Makes, Says};
+ghost use Rattle.nd_refusal.specs.Ends.{Makes, Says};
 ghost use Rattle.nd_choice.specs.Indexing.{IsCopyOf, index_operands, operands_of, view_in, viewing_of};
 ghost use Rattle.nd_choice.specs.Targets.{IsChosenOf, Lies, geo_in, is_lone_mask, is_mask, may_take, target_by};
 
@@ -22,9 +22,8 @@ use crate::indexes::{Chosen, IndexValue, ItemValue, choose};
 use crate::selection::Selection;
 use nd_assign::fits;
 use nd_heap::Value;
-use nd_operation::{
-    Operand, StmtFault, Stop, UfuncFault, not_numbers, operand_converts, operand_misfit,
-};
+use nd_operation::{Operand, not_numbers, operand_converts, operand_misfit};
+use nd_refusal::{StmtFault, Stop, UfuncFault};
 use nd_scatter::fits_places;
 use nd_session::Session;
 use nd_types::{ElemType, Kind};

@@ -35,9 +35,9 @@ use Rattle.nd_operation.specs.Contents.{contents_over, elements_over, unused_of}
 use Rattle.nd_operation.specs.New.{given, MakesNew, NewLies, StandsFor, operand_of_new}
 use Rattle.nd_operation.specs.declared.operand.New.{New}
 use Rattle.nd_operation.specs.declared.operand.New.TheVariants as new
-use Rattle.nd_operation.specs.declared.stop.Stop.{Stop}
-use Rattle.nd_operation.specs.declared.stop.Stop.TheVariants.{Memory, Refused}
-use Rattle.nd_operation.specs.Ends.{Makes}
+use Rattle.nd_refusal.specs.declared.stop.Stop.{Stop}
+use Rattle.nd_refusal.specs.declared.stop.Stop.TheVariants.{Memory, Refused}
+use Rattle.nd_refusal.specs.Ends.{Makes}
 use Rattle.nd_choice.specs.Indexing.{index_operands, operands_of, viewing_of}
 use Rattle.nd_choice.proofs.Indexing.{same_index_arrays}
 use Rattle.nd_model.specs.Index.{has_array}

@@ -19,7 +19,7 @@ use Rattle.nd_heap.specs.declared.value.Value.{Value}
 use Rattle.nd_heap.specs.declared.value.Value.TheVariants.{Number, Array, Row}
 use Rattle.nd_heap.specs.Values.{value_of}
 use Rattle.nd_operation.specs.declared.operand.Operand as lent
-use Rattle.nd_operation.specs.declared.stop.Stop.{Stop}
+use Rattle.nd_refusal.specs.declared.stop.Stop.{Stop}
 use Rattle.nd_operation.specs.Contents.{operand_of, unused_of}
 use Rattle.nd_eval.specs.Ends.{Ends}
 use Rattle.nd_eval.proofs.Chains.{ends_alike}

@@ -6,10 +6,10 @@ use Rattle.nd_model.specs.Refusing as refusing
 use Rattle.nd_model.specs.Running.{Running, Inputs}
 use Rattle.nd_model.specs.Evaluation.{Eval, run, ◌>>=◌, decide}
 use Rattle.nd_model.proofs.Steps.{goes_on, run_bind}
-use Rattle.nd_operation.specs.declared.fault.StmtFault.{StmtFault}
-use Rattle.nd_operation.specs.declared.stop.Stop.{Stop}
-use Rattle.nd_operation.specs.declared.stop.Stop.TheVariants.{Memory, Refused}
-use Rattle.nd_operation.specs.Ends.{Says, Makes}
+use Rattle.nd_refusal.specs.declared.fault.StmtFault.{StmtFault}
+use Rattle.nd_refusal.specs.declared.stop.Stop.{Stop}
+use Rattle.nd_refusal.specs.declared.stop.Stop.TheVariants.{Memory, Refused}
+use Rattle.nd_refusal.specs.Ends.{Says, Makes}
 use Rattle.nd_eval.specs.Ends.{Ends}
 
 stops : {A B X Y : Type 0} (v : X → A) (w : Y → B) (i : Inputs) (t : Eval A) (f : A → Eval B) (r s : Running) (e : Stop)

@@ -11,7 +11,7 @@ use Rattle.nd_model.specs.View.{ElementType, Geo, contiguous, item_size}
 use Rattle.nd_heap.specs.declared.value.Value.{Value}
 use Rattle.nd_heap.specs.declared.value.Value.TheVariants.{Number, Array, Row}
 use Rattle.nd_heap.specs.Values.{geo_of, value_of}
-use Rattle.nd_operation.specs.declared.stop.Stop.{Stop}
+use Rattle.nd_refusal.specs.declared.stop.Stop.{Stop}
 use Rattle.nd_choice.specs.Selections.{copy_of}
 use Rattle.nd_eval.specs.Ends.{Ends}
 use Rattle.nd_eval.specs.Uses.{IsOfType}

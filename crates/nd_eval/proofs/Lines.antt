@@ -9,8 +9,8 @@ use Rattle.nd_model.specs.Operand.{Operand, Usage}
 use Rattle.nd_model.specs.Operation.{do_deed}
 use Rattle.nd_model.specs.Printing.{printed_line, print_deed}
 use Rattle.nd_model.specs.Cell.{most_text, had}
-use Rattle.nd_operation.specs.declared.stop.Stop.{Stop}
-use Rattle.nd_operation.specs.declared.stop.Stop.TheVariants.{Memory, Refused}
+use Rattle.nd_refusal.specs.declared.stop.Stop.{Stop}
+use Rattle.nd_refusal.specs.declared.stop.Stop.TheVariants.{Memory, Refused}
 use Rattle.nd_eval.specs.Ends.{Ends}
 use Rattle.nd_model.specs.Cell.{limit_text}
 use Rattle.nd_operation.specs.Lines.{limit_line}

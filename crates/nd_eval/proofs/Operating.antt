@@ -17,10 +17,10 @@ use Rattle.nd_syntax.specs.declared.tree.BinaryOp as operators
 use Rattle.nd_syntax.specs.Lists.{operation_of}
 use Rattle.nd_heap.specs.declared.value.Value.{Value}
 use Rattle.nd_heap.specs.Values.{value_of}
-use Rattle.nd_operation.specs.declared.stop.Stop.{Stop}
-use Rattle.nd_operation.specs.declared.stop.Stop.TheVariants.{Memory, Refused}
+use Rattle.nd_refusal.specs.declared.stop.Stop.{Stop}
+use Rattle.nd_refusal.specs.declared.stop.Stop.TheVariants.{Memory, Refused}
 use Rattle.nd_eval.specs.Ends.{Ends}
-use Rattle.nd_operation.specs.Faults.{fault_of}
+use Rattle.nd_refusal.specs.Faults.{fault_of}
 use Rattle.nd_eval.specs.Parts.{binary_value}
 use Rattle.nd_eval.proofs.Chains.{ends_as, follows}
 use Rattle.nd_operation.proofs.InTurn.{next_item}

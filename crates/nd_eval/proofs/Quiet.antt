@@ -20,7 +20,7 @@ use Rattle.nd_model.specs.Elementwise.{binary}
 use Rattle.nd_model.specs.Augmenting.{array_in_place, augment_array, augment_item, augment_name, deed_of_made, in_place_writes, operand_of_made}
 use Rattle.nd_model.specs.Meaning.{plan, one, two, viewing_of, index_plans, assignment_deed, meaning}
 use Rattle.nd_model.proofs.Soundness.{Safe, safe_bind, safe_operands, IfGiven, given_run}
-use Rattle.nd_operation.specs.declared.stop.Stop.{Stop}
+use Rattle.nd_refusal.specs.declared.stop.Stop.{Stop}
 use Rattle.nd_eval.specs.Ends.{Ends}
 use Rattle.nd_eval.specs.Lines.{limit_effect}
 

@@ -25,8 +25,8 @@ use Rattle.nd_heap.specs.Values.{base_of, geo_of, value_of}
 use Rattle.nd_operation.specs.declared.operand.New.{New}
 use Rattle.nd_operation.specs.declared.operand.Operand as lent
 use Rattle.nd_operation.specs.declared.operand.Operand.TheVariants as lent_operand
-use Rattle.nd_operation.specs.declared.stop.Stop.{Stop}
-use Rattle.nd_operation.specs.declared.stop.Stop.TheVariants.{Memory, Refused}
+use Rattle.nd_refusal.specs.declared.stop.Stop.{Stop}
+use Rattle.nd_refusal.specs.declared.stop.Stop.TheVariants.{Memory, Refused}
 use Rattle.nd_operation.specs.Contents.{num_of, operand_of, unused_of}
 use Rattle.nd_operation.specs.New.{given}
 use Rattle.nd_choice.specs.Shapes.{IsAlone, MakesStretched}

@@ -25,7 +25,7 @@ use Rattle.nd_choice.specs.declared.indexes.ItemValue.TheVariants as item
 use Rattle.nd_choice.specs.declared.indexes.IndexValue.{IndexValue}
 use Rattle.nd_choice.specs.declared.indexes.IndexValue.TheVariants as index
 use Rattle.nd_operation.specs.declared.operand.Operand.{Operand}
-use Rattle.nd_operation.specs.declared.stop.Stop.{Stop}
+use Rattle.nd_refusal.specs.declared.stop.Stop.{Stop}
 use Rattle.nd_operation.specs.Contents.{elements_over, operand_of, unused_of}
 use Rattle.nd_operation.specs.New.{option_list}
 use Rattle.nd_choice.specs.Indexing.{form_of, forms_of, index_operand, item_operands, items_operands, index_operands, viewing_of}

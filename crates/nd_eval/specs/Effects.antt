@@ -7,7 +7,7 @@ use Rattle.nd_model.specs.Evaluation.{Eval}
 use Rattle.nd_heap.specs.Values.{base_of, geo_of, value_of}
 use Rattle.nd_choice.specs.Selections.{selected}
 use Rattle.nd_choice.specs.Targets.{writes_to}
-use Rattle.nd_operation.specs.declared.stop.Stop.{Stop}
+use Rattle.nd_refusal.specs.declared.stop.Stop.{Stop}
 use Rattle.nd_eval.specs.declared.evaluator.Evaluator.{Evaluator}
 use Rattle.nd_eval.specs.declared.effect.Effect.{Effect}
 use Rattle.nd_eval.specs.declared.effect.Effect.TheVariants.{Nothing, Print, Save, Bind, Unbind, Store, Scatter, Update, UpdateChosen}

@@ -5,10 +5,10 @@ use Rattle.nd_model.specs.Running.{Running, Effect}
 use Rattle.nd_model.specs.Evaluation.{Eval, run}
 use Rattle.nd_session.specs.Live.{live}
 use Rattle.nd_input.specs.Values.{inputs_of}
-use Rattle.nd_operation.specs.declared.stop.Stop.{Stop}
-use Rattle.nd_operation.specs.declared.stop.Stop.TheVariants.{Memory, Refused}
+use Rattle.nd_refusal.specs.declared.stop.Stop.{Stop}
+use Rattle.nd_refusal.specs.declared.stop.Stop.TheVariants.{Memory, Refused}
 use Rattle.nd_eval.specs.declared.evaluator.Evaluator.{Evaluator}
-use Rattle.nd_operation.specs.Faults.{fault_of}
+use Rattle.nd_refusal.specs.Faults.{fault_of}
 use Rattle.nd_eval.specs.Lines.{limit_effect}
 
 -- as the definitions have it, unless memory ran out

@@ -12,7 +12,7 @@ ghost use Rattle.nd_heap.specs.Values.{base_of, geo_of, value_of};
 ghost use Rattle.nd_heap.specs.declared.value.Value.TheVariants as values;
 ghost use Rattle.nd_session.specs.Live.{live};
 ghost use Rattle.nd_operation.specs.Contents.{contents_over, unused_of};
-ghost use Rattle.nd_operation.specs.Ends.{Makes};
+ghost use Rattle.nd_refusal.specs.Ends.{Makes};
 ghost use Rattle.nd_choice.specs.Indexing.{index_operands, operands_of, viewing_of};
 ghost use Rattle.nd_eval.specs.Contents as contents;
 ghost use Rattle.nd_eval.specs.Effects.{EvaluatesEffect, IsReady, effect_of};
@@ -25,7 +25,8 @@ use crate::evaluator::Evaluator;
 use crate::exec::store_effect;
 use crate::operation::{mark_index, mark_operand, operand_in};
 use nd_choice::{IndexValue, Target, assignment_target, is_advanced};
-use nd_operation::{Elements, OfTwo, Operand, Stop, kind_in_place, make_of_two, not_an_array};
+use nd_operation::{Elements, OfTwo, Operand, kind_in_place, make_of_two, not_an_array};
+use nd_refusal::Stop;
 use nd_session::{Array, Session, Value};
 use nd_syntax::{BinaryOp, Expr, Index};
 

@@ -32,9 +32,10 @@ use nd_choice::{IndexValue, ItemValue, choose};
 use nd_files::InputSort;
 use nd_fold::Folding;
 use nd_operation::{
-    OfOne, OfTwo, StmtError, StmtFault, Stop, is_empty_list, make_filled, make_full, make_list,
-    make_of_one, make_of_two, make_range,
+    OfOne, OfTwo, is_empty_list, make_filled, make_full, make_list, make_of_one, make_of_two,
+    make_range,
 };
+use nd_refusal::{StmtError, StmtFault, Stop};
 use nd_session::Value;
 use nd_syntax::{
     Axis, BinaryOp, Call, DType, Element, Expr, Fill, Fold, Index, IndexItem, Method, Suffix, Ufunc,

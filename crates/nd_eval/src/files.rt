@@ -18,7 +18,8 @@ use crate::evaluator::Evaluator;
 use crate::operation::{mark_operand, operand_in};
 use nd_files::{InputSort, load, save_file};
 use nd_input::find_input;
-use nd_operation::{Stop, bad_argument};
+use nd_operation::bad_argument;
+use nd_refusal::Stop;
 use nd_session::{Value, is_input_name};
 use nd_syntax::Expr;
 

@@ -11,7 +11,7 @@ ghost use Rattle.nd_eval.specs.Uses.{IsHeld};
 use crate::evaluator::Evaluator;
 use crate::operation::{mark_operand, operand_in};
 use nd_fold::{Folding, make_fold, make_fold_along};
-use nd_operation::Stop;
+use nd_refusal::Stop;
 use nd_session::Value;
 
 impl Evaluator<'_> {

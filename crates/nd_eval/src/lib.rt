@@ -12,7 +12,7 @@ mod operation;
 mod views;
 
 pub use exec::{Output, run_stmt};
-pub use nd_operation::{
+pub use nd_refusal::{
     FormatFault, IndexFault, NpyFault, ReduceFault, ShapeFault, StmtError, StmtFault, UfuncFault,
     ViewFault,
 };

@@ -10,9 +10,9 @@ use Rattle.nd_model.specs.View.{Geo}
 use Rattle.nd_model.proofs.Gathered.{AreTaken, chosen_tuple, place_few, sliced_taken}
 use Rattle.nd_view.specs.Indexes.{IsIndex}
 use Rattle.nd_fancy.specs.Chosen.{view_at}
-use Rattle.nd_fancy.specs.Faults.{Makes}
+use Rattle.nd_index.specs.Faults.{Makes}
 use Rattle.nd_fancy.specs.declared.choosing.Places.{Places}
-use Rattle.nd_fancy.specs.declared.fault.FancyFault.{FancyFault}
+use Rattle.nd_index.specs.declared.fault.FancyFault.{FancyFault}
 use Rattle.nd_fancy.proofs.Sliced.{selected_is}
 use Rattle.nd_fancy.proofs.Sums.{index_of, tuple_of}
 

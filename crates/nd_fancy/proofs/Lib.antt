@@ -1,7 +1,6 @@
 mod Alike
 mod Chosen
-mod Counted
-mod Items
+mod NearWays
 mod Numbers
 mod Placed
 mod Pushed
@@ -10,4 +9,5 @@ mod Sliced
 mod SoleArrays
 mod Spreads
 mod Sums
+mod Trues
 mod Walks

@@ -1,11 +1,12 @@
 -- Products of lengths, and the tuple of a number, axis by axis.
-use Rattle.std.proofs.Common.{◌≡◌, ℕ, zero, suc, ◌+◌, ◌*◌, ◌/◌, ◌%◌, ◌<◌, ◌≤◌, List, [], ◌∷◌, length, take, drop, get_or, sym, ap, ◌∙◌, arith, add-one, drop-cons}
+use Rattle.std.proofs.Common.{◌≡◌, ℕ, zero, suc, ◌+◌, ◌*◌, ◌/◌, ◌%◌, ◌<◌, ◌≤◌, List, [], ◌∷◌, length, take, drop, get_or, sym, ap, ◌∙◌, arith}
 use Rattle.std.specs.Prelude.{ℤ, pos, ◌+ℤ◌, ◌*ℤ◌}
 use Rattle.std.proofs.Math.Nat.{mul_assoc, mul-div_cancel_left}
 use Rattle.std.proofs.lemmas.Int.{ints}
 use Rattle.nd_model.specs.Advanced.{unravelled}
 use Rattle.nd_model.specs.Strides.{way_to}
 use Rattle.nd_model.specs.Tuple.{elements_of}
+use Rattle.nd_index.proofs.Fronts.{drop_one}
 
 elements_split : (a : ℕ) (shape : List ℕ) → elements_of shape ≡ elements_of (take a shape) * elements_of (drop a shape)
 elements_split zero shape = omega arith
@@ -24,9 +25,6 @@ some_of k a shape some =
     let behind = (parts_few (elements_of (take k shape)) (elements_of (drop k shape)) (elements_of shape) (elements_split k shape) some).1 in
     let front = (parts_few (elements_of (take a (drop k shape))) (elements_of (drop a (drop k shape))) (elements_of (drop k shape)) (elements_split a (drop k shape)) behind.0).0 in
     (front.0, omega (arith, front.1, behind.1))
-
-pub drop_one : {A : Type 0} (xs : List A) (axis : ℕ) (d : A) → axis < length xs → drop axis xs ≡ get_or xs axis d ∷ drop (axis + 1) xs
-drop_one xs axis d lt = rw add-one (drop-cons xs axis d lt)
 
 -- the elements behind an axis
 pub each_next : (shape : List ℕ) (axis each : ℕ) → axis < length shape → each ≡ elements_of (drop axis shape) → 0 < each

@@ -3,7 +3,7 @@ use Rattle.std.proofs.Common.{◌≡◌, ℕ, zero, suc, ◌+◌, ◌^◌, ◌<�
 use Rattle.std.specs.Prelude.{ℤ, pos, ◌+ℤ◌, unsigned_abs}
 use Rattle.std.specs.List.{flat_map}
 use Rattle.nd_fancy.specs.Ways.{AreNear, sums_at, place_on, sums_of}
-use Rattle.nd_fancy.proofs.Numbers.{drop_one}
+use Rattle.nd_index.proofs.Fronts.{drop_one}
 use Rattle.nd_fancy.proofs.Pushed.{mapped_again, joined_again}
 use Rattle.nd_fancy.proofs.Spreads.{added_next}
 
@@ -50,7 +50,7 @@ summed_again ways own k old new all y lt lt' is here so_far =
     ap (λ l. l ++ rest) is ∙ append_assoc old (y ∷ []) rest ∙ ap (λ w. old ++ w ∷ rest) here
     ∙ ap (λ l. old ++ l) (sym (λ i. sums_of (drop_one ways k (pos 0) lt i) (drop_one own k (pos 0) lt' i))) ∙ so_far
 
-alone : (f : ℤ → ℕ) (ways : List ℤ) → length ways ≡ 1 → map f ways ≡ f (get_or ways 0 (pos 0)) ∷ []
+pub alone : (f : ℤ → ℕ) (ways : List ℤ) → length ways ≡ 1 → map f ways ≡ f (get_or ways 0 (pos 0)) ∷ []
 alone f [] one = absurd (omega (arith, one))
 alone f (w ∷ []) one = refl
 alone f (w ∷ v ∷ ways) one = absurd (omega (arith, one))

@@ -23,9 +23,8 @@ use Rattle.nd_fancy.specs.declared.spread.Spread as spread
 use Rattle.nd_fancy.specs.declared.takes.Take as code
 use Rattle.nd_fancy.specs.declared.takes.Take.TheVariants as variants
 use Rattle.nd_fancy.proofs.Alike.{alike_ways}
-use Rattle.nd_fancy.proofs.Counted.{true_append}
+use Rattle.nd_index.proofs.Counted.{true_append}
 use Rattle.nd_fancy.proofs.Spreads.{takes_again}
-use Rattle.nd_fancy.proofs.Numbers.{drop_one}
 use Rattle.nd_fancy.proofs.Pushed.{joined_again}
 
 module _ (row : Row) (axes : Axes) (e : Element) (bytes : List ℕ) where
@@ -57,27 +56,6 @@ module _ (row : Row) (axes : Axes) (e : Element) (bytes : List ℕ) where
 
   abbrev pub true_run : ℕ → List ℕ → List ℕ
   true_run first run = chosen_places row axes (true_numbers first (map is_nonzero (numbers_at e bytes run)))
-
-  next_run : (first : ℕ) (run : List ℕ) (k : ℕ) (b : Bool) → k < length run → is_nonzero (number_at e bytes (get_or run k 0)) ≡ b
-      → true_run (first + k) (drop k run) ≡ chosen_places row axes (true_numbers (first + k) (b ∷ map is_nonzero (numbers_at e bytes (drop (k + 1) run))))
-  next_run first run k b lt is =
-      ap (true_run (first + k)) (drop_one run k 0 lt) ∙ ap (λ c. chosen_places row axes (true_numbers (first + k) (c ∷ map is_nonzero (numbers_at e bytes (drop (k + 1) run))))) is
-
-  further : (first k : ℕ) → first + k + 1 ≡ first + (k + 1)
-  further first k = omega arith
-
-  pub true_more : (first : ℕ) (run : List ℕ) (k : ℕ) (old new whole : List ℕ) (way : ℤ) → k < length run → is_nonzero (number_at e bytes (get_or run k 0)) ≡ true
-      → new ≡ old ++ row_places row way → way ≡ way_on axes (first + k) → old ++ true_run (first + k) (drop k run) ≡ whole → new ++ true_run (first + (k + 1)) (drop (k + 1) run) ≡ whole
-  true_more first run k old new whole way lt here_true is here so_far =
-      let rest : List ℕ = true_run (first + (k + 1)) (drop (k + 1) run) in
-      ap (λ l. l ++ rest) (is ∙ ap (λ w. old ++ row_places row w) here) ∙ append_assoc old (row_places row (way_on axes (first + k))) rest
-      ∙ ap (λ n. old ++ (row_places row (way_on axes (first + k)) ++ true_run n (drop (k + 1) run))) (sym (further first k))
-      ∙ ap (λ l. old ++ l) (sym (next_run first run k true lt here_true)) ∙ so_far
-
-  pub false_more : (first : ℕ) (run : List ℕ) (k : ℕ) (old whole : List ℕ) → k < length run → is_nonzero (number_at e bytes (get_or run k 0)) ≡ false
-      → old ++ true_run (first + k) (drop k run) ≡ whole → old ++ true_run (first + (k + 1)) (drop (k + 1) run) ≡ whole
-  false_more first run k old whole lt here_false so_far =
-      ap (λ n. old ++ true_run n (drop (k + 1) run)) (sym (further first k)) ∙ ap (λ l. old ++ l) (sym (next_run first run k false lt here_false)) ∙ so_far
 
   pub trues_split : (n : ℕ) (xs ys : List ℕ) → true_run n (xs ++ ys) ≡ true_run n xs ++ true_run (n + length xs) ys
   trues_split n xs ys =

@@ -2,7 +2,7 @@
 use Rattle.std.specs.Prelude.{ℕ, List, [], ◌∷◌, map}
 use Rattle.nd_model.specs.Advanced as model
 use Rattle.nd_model.specs.Selecting.{counted_from}
-use Rattle.nd_fancy.specs.Items.{numbers_of}
+use Rattle.nd_index.specs.Items.{numbers_of}
 use Rattle.nd_fancy.specs.declared.index_numbers.IndexNumbers.{IndexNumbers}
 use Rattle.nd_fancy.specs.declared.index_numbers.IndexNumbers.TheVariants.{One, Positions, Trues}
 

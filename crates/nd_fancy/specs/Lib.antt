@@ -1,12 +1,8 @@
-pub mod Items
-pub mod IndexNumbers
-pub mod Faults
-pub mod Walks
-pub mod Slices
-pub mod Takes
-pub mod Ways
 pub mod Chosen
 pub mod Direct
+pub mod IndexNumbers
+pub mod Near
 pub mod Sole
-pub mod Counts
-pub mod Packed
+pub mod Takes
+pub mod Walks
+pub mod Ways

@@ -1,8 +1,6 @@
 -- What is taken of axes, as the definitions have it.
-use Rattle.std.specs.Prelude.{◌≡◌, ℕ, ◌+◌, List, [], ◌∷◌, map, true, None, ⊤}
+use Rattle.std.specs.Prelude.{ℕ, ◌+◌, List, [], ◌∷◌, map}
 use Rattle.nd_model.specs.Advanced as model
-use Rattle.nd_model.specs.Selecting as selecting
-use Rattle.nd_model.specs.Selecting.{is_within}
 use Rattle.nd_fancy.specs.IndexNumbers.{numbers_in}
 use Rattle.nd_fancy.specs.declared.spread.Spread as spread
 use Rattle.nd_fancy.specs.declared.takes.Take.{Take}
@@ -18,13 +16,6 @@ take_of (Spread s) = spread_of s
 
 abbrev pub takes_of : List Take → List model.Take
 takes_of ts = map take_of ts
-
--- the numbers of an item are inside the axis, which has this length
-abbrev pub IsInside : ℕ → model.IndexItem → Type 0
-IsInside size (model.Basic (selecting.At z)) = is_within size z ≡ true
-IsInside size (model.Basic i) = ⊤
-IsInside size (model.Numbers shape zs) = (axis : ℕ) → model.outside_fault axis size zs ≡ None
-IsInside size (model.Mask shape bs) = ⊤
 
 -- how many axes are taken
 abbrev pub axes_taken_by : model.Take → ℕ

@@ -1,9 +1,12 @@
 //! Axes of which tuples are chosen together.
-ghost use Rattle.std.specs.Prelude.{◌≡◌, ◌^◌, ◌<◌, ◌≤◌, length, unsigned_abs};
+ghost use Rattle.std.specs.Prelude.{◌≡◌, ℕ, ◌^◌, ◌<◌, ◌≤◌, pos, ◌*ℤ◌, length, unsigned_abs, IfSome};
 ghost use Rattle.std.specs.List.{All};
 ghost use Rattle.nd_model.specs.Tuple.{elements_of};
 
 use crate::ways::{count_of, way_of};
+
+// The greatest step of elements that are not far from one another.
+const MOST_STEP: u128 = 1 << 29;
 
 /// The lengths and strides of axes that have elements, and how many those are.
 #[derive(Clone, Copy)]
@@ -46,5 +49,20 @@ impl<'a> Axes<'a> {
         ensures near { unsigned_abs result ≤ 2 ^ 112 }
     {
         way_of(number, self.count, self.lengths, self.strides)
+    }
+
+    /// Returns how far each element is from the one before, if there is one axis, and that is not far.
+    pub(crate) fn step(&self) -> Option<i64>
+        ensures { IfSome result (λ s. (unsigned_abs s ≤ 2 ^ 29) × ((k : ℕ) → way_on self.now k
+            ≡ pos k *ℤ s)) }
+    {
+        if self.strides.len() != 1 {
+            return None;
+        }
+        let stride = self.strides[0];
+        if stride.unsigned_abs() > MOST_STEP {
+            return None;
+        }
+        Some(stride as i64)
     }
 }

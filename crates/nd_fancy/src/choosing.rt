@@ -9,26 +9,25 @@ ghost use Rattle.nd_model.specs.Tuple.{elements_of, indices};
 ghost use Rattle.nd_model.specs.View.{item_size, place_of};
 ghost use Rattle.nd_view.specs.Indexes.{IsIndex};
 ghost use Rattle.nd_fancy.specs.Chosen.{view_at};
-ghost use Rattle.nd_fancy.specs.Faults.{Makes};
-ghost use Rattle.nd_fancy.specs.Items.{items_of};
+ghost use Rattle.nd_index.specs.Faults.{Makes};
+ghost use Rattle.nd_index.specs.Items.{items_of};
 ghost use Rattle.nd_fancy.specs.Takes.{axes_taken, kept_in, takes_of};
 ghost use Rattle.nd_fancy.specs.Ways.{place_on, way_taken};
 
 use crate::arrays::array_ways;
 use crate::axes::Axes;
-use crate::common::common_shape;
 use crate::direct::direct_places;
-use crate::fault::{FancyFault, IndexFault};
-use crate::item::{Item, count_axes, count_ellipses};
 use crate::layout::{chosen_shape, kept_shape, kept_strides, place_for};
-use crate::limits::{bounds_fault, shape_fault};
 use crate::placing::places_on;
 use crate::row::KeptWays;
-use crate::slices::slices_of;
 use crate::sole::sole_array;
 use crate::takes::{Take, takes};
 use crate::ways::{count_of, ways_of};
 use nd_basic::select;
+use nd_index::{
+    FancyFault, IndexFault, Item, bounds_fault, common_shape, count_axes, count_ellipses,
+    shape_fault, slices_of,
+};
 use nd_view::{Shape, View, limit_fault};
 use std::alloc::{AllocError, Global};
 

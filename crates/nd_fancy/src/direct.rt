@@ -1,30 +1,29 @@
 //! The places that one array chooses alone, found while its numbers are read.
 ghost use Rattle.std.specs.Prelude.{◌≡◌, ◌+◌, ◌++◌, ◌^◌, ◌<◌, ◌≤◌, pos, ◌+ℤ◌, unsigned_abs, length, map, IfOk, IsTrue, OnOk};
 ghost use Rattle.std.specs.List.{All, flat_map};
-ghost use Rattle.nd_model.specs.Advanced.{is_nonzero, true_numbers};
 ghost use Rattle.nd_model.specs.Element.{size_of};
 ghost use Rattle.nd_model.specs.Selecting.{counted_from};
 ghost use Rattle.nd_element.specs.Elements.{numbers_at};
 ghost use Rattle.nd_fancy.specs.Direct.{chosen_places, row_places, way_on};
 ghost use Rattle.nd_fancy.specs.IndexNumbers.{numbers_in};
-ghost use Rattle.nd_fancy.specs.Items.{numbers_of};
-ghost use Rattle.nd_fancy.specs.Packed.{IsPacked};
+ghost use Rattle.nd_index.specs.Items.{numbers_of};
+ghost use Rattle.nd_index.specs.Packed.{IsPacked};
 ghost use Rattle.nd_fancy.specs.Ways as model;
 
 use crate::axes::Axes;
 use crate::index_numbers::IndexNumbers;
-use crate::item::IndexArray;
-use crate::limits::inside_position;
+use crate::masks::push_mask;
+use crate::near::{are_near, is_near, push_near_places};
 use crate::placing::{place_on, push_places};
-use crate::reading::{is_packed, read_at};
 use crate::row::{KeptWays, Row};
+use nd_index::{IndexArray, inside_position, is_packed, read_at};
 use nd_types::{Elem, Kind};
 use nd_view::Run;
 use std::alloc::{AllocError, Global};
 
-// Appends the places of a row that begins so much further.
+/// Appends the places of a row that begins so much further.
 #[inline(always)]
-fn push_row(places: &mut Vec<u64>, row: &Row<'_>, way: i128) -> Result<(), AllocError>
+pub(crate) fn push_row(places: &mut Vec<u64>, row: &Row<'_>, way: i128) -> Result<(), AllocError>
     requires { unsigned_abs way ≤ 2 ^ 112 }
     ensures { OnOk result (places.new.items ≡ places.old.items ++ row_places row.now way) }
 {
@@ -32,6 +31,9 @@ fn push_row(places: &mut Vec<u64>, row: &Row<'_>, way: i128) -> Result<(), Alloc
     if row.ways.len() == 1 {
         places.push(place_on(start + row.ways[0]))?;
         return Ok(());
+    }
+    if row.is_near && is_near(start) {
+        return push_near_places(places, start as i64, row.ways);
     }
     push_places(places, start, row.ways)
 }
@@ -84,54 +86,6 @@ fn push_positions(
     }
 }
 
-// Appends the places that the true elements of a run choose, the first of which has this number.
-#[inline(always)]
-fn push_each_true(
-    places: &mut Vec<u64>,
-    row: &Row<'_>,
-    axes: &Axes<'_>,
-    first: u64,
-    elem: Elem,
-    bytes: &[u8],
-    run: &Run,
-    packed: bool,
-) -> Result<(), AllocError>
-    requires packed { IsTrue packed → IsPacked (size_of elem.kind) (length bytes.now) run.now }
-    requires numbers { first + length run.now ≤ 2 ^ 32 }
-    ensures { OnOk result (places.new.items ≡ places.old.items ++ chosen_places row.now axes.now
-        (true_numbers first (map is_nonzero (numbers_at elem bytes.now run.now)))) }
-{
-    for at in 0..run.count() {
-        let number = read_at(bytes, run, at, elem, packed);
-        if number != 0 {
-            push_row(places, row, axes.way(first + at))?;
-        }
-    }
-    Ok(())
-}
-
-// The same, by a loop for Booleans side by side alone.
-fn push_trues(
-    places: &mut Vec<u64>,
-    row: &Row<'_>,
-    axes: &Axes<'_>,
-    first: u64,
-    elem: Elem,
-    bytes: &[u8],
-    run: &Run,
-) -> Result<(), AllocError>
-    requires { first + length run.now ≤ 2 ^ 32 }
-    ensures { OnOk result (places.new.items ≡ places.old.items ++ chosen_places row.now axes.now
-        (true_numbers first (map is_nonzero (numbers_at elem bytes.now run.now)))) }
-{
-    let known = Elem::little(Kind::Bool);
-    if elem == known && is_packed(run, 1, bytes.len()) {
-        push_each_true(places, row, axes, first, known, bytes, run, true)
-    } else {
-        push_each_true(places, row, axes, first, elem, bytes, run, false)
-    }
-}
-
 // Appends the places that the positions of an array choose.
 fn push_array(
     places: &mut Vec<u64>,
@@ -147,27 +101,6 @@ fn push_array(
     let mut runs = array.view.runs();
     while let Some(run) = runs.next() {
         push_positions(places, row, axes, size, *array.elem, array.bytes, &run)?;
-    }
-    Ok(())
-}
-
-// Appends the places that the true elements of a mask choose.
-fn push_mask(
-    places: &mut Vec<u64>,
-    row: &Row<'_>,
-    axes: &Axes<'_>,
-    mask: &IndexArray<'_>,
-) -> Result<(), AllocError>
-    ensures { OnOk result (places.new.items ≡ places.old.items ++ chosen_places row.now axes.now
-        (true_numbers 0 (map is_nonzero (numbers_of mask.now)))) }
-{
-    // Says that there are few.
-    let _count = mask.view.count();
-    let mut first = 0;
-    let mut runs = mask.view.runs();
-    while let Some(run) = runs.next() {
-        push_trues(places, row, axes, first, *mask.elem, mask.bytes, &run)?;
-        first += run.count();
     }
     Ok(())
 }
@@ -204,10 +137,12 @@ pub(crate) fn direct_places(
         (numbers_in numbers.now)) kept.now.before.now) }
 {
     let mut places = Vec::with_capacity(alloc, count)?;
+    let is_near = are_near(kept.behind);
     for way in kept.before {
         let row = Row {
             start: i128::from(kept.offset) + *way,
             ways: kept.behind,
+            is_near,
         };
         push_chosen(&mut places, &row, axes, numbers)?;
     }

@@ -3,12 +3,11 @@ ghost use Rattle.std.specs.Prelude.{◌≡◌, ◌≤◌, ◌^◌, map, IfOk};
 ghost use Rattle.std.specs.List.{All};
 ghost use Rattle.nd_model.specs.Advanced as model;
 ghost use Rattle.nd_model.specs.Selecting.{counted_from};
-ghost use Rattle.nd_fancy.specs.Items.{numbers_of};
+ghost use Rattle.nd_index.specs.Items.{numbers_of};
 ghost use Rattle.nd_fancy.specs.IndexNumbers.{numbers_in};
 
-use crate::item::IndexArray;
-use crate::limits::inside_position;
 use crate::walk::NumberWalk;
+use nd_index::{IndexArray, inside_position};
 use std::alloc::{AllocError, Global};
 
 /// The numbers in C order of tuples of axes. They are read only where they are used.

@@ -2,14 +2,13 @@
 ghost use Rattle.std.specs.Prelude.{◌≡◌, ◌≤◌, pos, length, slice_index_or, IfOk};
 ghost use Rattle.std.specs.List.{list_any};
 ghost use Rattle.nd_model.specs.Advanced as model;
-ghost use Rattle.nd_fancy.specs.Items.{item_of, items_of};
+ghost use Rattle.nd_index.specs.Items.{item_of, items_of};
 ghost use Rattle.nd_fancy.specs.Takes.{axes_taken, takes_of};
 ghost use Rattle.nd_fancy.specs.Ways as ways;
 
-use crate::item::Item;
-use crate::limits::length_of;
 use crate::takes::Take;
 use nd_basic::Item as BasicItem;
+use nd_index::{Item, length_of};
 use nd_view::Shape;
 use smallvec::SmallVec;
 use std::alloc::{AllocError, Global};

@@ -4,17 +4,13 @@
 mod arrays;
 mod axes;
 mod choosing;
-mod common;
 mod direct;
-mod fault;
 mod index_numbers;
-mod item;
 mod layout;
-mod limits;
+mod masks;
+mod near;
 mod placing;
-mod reading;
 mod row;
-mod slices;
 mod sole;
 mod spread;
 mod takes;
@@ -22,5 +18,3 @@ mod walk;
 mod ways;
 
 pub use choosing::{Places, choose_places};
-pub use fault::{FancyFault, IndexFault};
-pub use item::{IndexArray, Item};

@@ -4,15 +4,14 @@ ghost use Rattle.std.specs.List.{All};
 ghost use Rattle.nd_model.specs.Advanced as model;
 ghost use Rattle.nd_model.specs.Advanced.{axes_in, first_fault};
 ghost use Rattle.nd_model.specs.Selecting.{counted_from, is_within};
-ghost use Rattle.nd_fancy.specs.Items.{item_of, items_of, numbers_of};
-ghost use Rattle.nd_fancy.specs.Takes.{axes_taken_by, spread_of, take_of, takes_of, IsInside};
+ghost use Rattle.nd_index.specs.Items.{item_of, items_of, numbers_of};
+ghost use Rattle.nd_fancy.specs.Takes.{axes_taken_by, spread_of, take_of, takes_of};
+ghost use Rattle.nd_index.specs.Inside.{IsInside};
 
-use crate::common::count_true;
 use crate::index_numbers::IndexNumbers;
-use crate::item::{IndexArray, Item, axes_of};
-use crate::limits::{inside_position, length_of};
 use crate::spread::Spread;
 use nd_basic::Item as BasicItem;
+use nd_index::{IndexArray, Item, axes_of, count_true, inside_position, length_of};
 use smallvec::SmallVec;
 use std::alloc::{AllocError, Global};
 

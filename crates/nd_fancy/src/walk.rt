@@ -1,10 +1,10 @@
 //! A walk over the numbers of an array.
 ghost use Rattle.std.specs.Prelude.{◌≡◌, ◌+◌, ◌^◌, ◌<◌, ◌≤◌, [], ◌∷◌, length, slice_index, MatchOption};
-ghost use Rattle.nd_fancy.specs.Items.{numbers_of};
+ghost use Rattle.nd_index.specs.Items.{numbers_of};
 ghost use Rattle.nd_fancy.specs.Walks.{places_in};
 
-use crate::item::IndexArray;
 use nd_element::number_in;
+use nd_index::IndexArray;
 use nd_types::Elem;
 use nd_view::{Run, Runs};
 use std::marker::Model;

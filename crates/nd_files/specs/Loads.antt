@@ -7,9 +7,9 @@ use Rattle.nd_model.specs.Operand.{Loaded}
 use Rattle.nd_model.specs.Operation.{give_loaded}
 use Rattle.nd_model.specs.Running.{Source}
 use Rattle.nd_operation.specs.declared.operand.New.{New}
-use Rattle.nd_operation.specs.declared.stop.Stop.{Stop}
-use Rattle.nd_operation.specs.declared.stop.Stop.TheVariants.{Memory, Refused}
-use Rattle.nd_operation.specs.Faults.{fault_of}
+use Rattle.nd_refusal.specs.declared.stop.Stop.{Stop}
+use Rattle.nd_refusal.specs.declared.stop.Stop.TheVariants.{Memory, Refused}
+use Rattle.nd_refusal.specs.Faults.{fault_of}
 use Rattle.nd_operation.specs.New.{given}
 use Rattle.nd_files.specs.declared.inputs.InputSort.{InputSort}
 use Rattle.nd_files.specs.declared.inputs.InputSort.TheVariants.{File, Buffer}

@@ -4,11 +4,12 @@ ghost use Rattle.std.specs.Prelude.{◌≡◌, IfOk, Ok};
 ghost use Rattle.nd_model.specs.Files as files;
 ghost use Rattle.nd_model.specs.Operand.{Plain, SavesFile};
 ghost use Rattle.nd_operation.specs.Contents.{elements_operand, num_of, operand_of};
-ghost use Rattle.nd_operation.specs.Ends.{Makes};
+ghost use Rattle.nd_refusal.specs.Ends.{Makes};
 
 use nd_block::push_bytes;
 use nd_input::is_input_name;
-use nd_operation::{Elements, Operand, Stop, array_kind, bad_argument, whole_number};
+use nd_operation::{Elements, Operand, array_kind, bad_argument, whole_number};
+use nd_refusal::Stop;
 use nd_save::{write_elements, write_npy};
 use nd_types::{Elem, ElemType, Num};
 use std::alloc::{AllocError, Global};

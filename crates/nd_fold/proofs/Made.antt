@@ -27,7 +27,7 @@ use Rattle.nd_types.specs.declared.num.Num.{Num}
 use Rattle.nd_types.specs.declared.num.Num.TheVariants as num
 use Rattle.nd_operation.specs.declared.operand.New.TheVariants.{Number}
 use Rattle.nd_operation.specs.Contents.{number_made}
-use Rattle.nd_operation.specs.declared.stop.Stop.{Stop}
+use Rattle.nd_refusal.specs.declared.stop.Stop.{Stop}
 use Rattle.nd_operation.specs.Elementwise.{IsArrayOf}
 use Rattle.nd_operation.specs.New.{MakesNew, given}
 use Rattle.nd_fold.specs.Stops.{fold_stop}

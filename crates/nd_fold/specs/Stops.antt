@@ -5,10 +5,10 @@ use Rattle.nd_types.specs.declared.kind.Kind.{Kind}
 use Rattle.nd_types.specs.Kinds.{kind_of}
 use Rattle.nd_reduce.specs.declared.fault.ReduceFault.{ReduceFault}
 use Rattle.nd_reduce.specs.declared.fault.ReduceFault.TheVariants as fault
-use Rattle.nd_operation.specs.declared.fault.StmtFault.TheVariants as stmt
-use Rattle.nd_operation.specs.declared.fault.ReduceFault.TheVariants as reduce
-use Rattle.nd_operation.specs.declared.stop.Stop.{Stop}
-use Rattle.nd_operation.specs.declared.stop.Stop.TheVariants.{Memory, Refused}
+use Rattle.nd_refusal.specs.declared.fault.StmtFault.TheVariants as stmt
+use Rattle.nd_refusal.specs.declared.fault.ReduceFault.TheVariants as reduce
+use Rattle.nd_refusal.specs.declared.stop.Stop.{Stop}
+use Rattle.nd_refusal.specs.declared.stop.Stop.TheVariants.{Memory, Refused}
 
 abbrev pub scalar_number : Kind × ℤ → Number
 scalar_number n = Scalar (kind_of n.0) n.1

@@ -5,12 +5,13 @@ ghost use Rattle.nd_model.specs.Meaning.{along};
 ghost use Rattle.nd_model.specs.Reductions as reductions;
 ghost use Rattle.nd_syntax.specs.Calls.{accumulation_of, reduction_of, ufunc_of};
 ghost use Rattle.nd_operation.specs.Contents.{operand_of};
-ghost use Rattle.nd_operation.specs.Ends.{Says};
+ghost use Rattle.nd_refusal.specs.Ends.{Says};
 ghost use Rattle.nd_operation.specs.New.{MakesNew};
 ghost use Rattle.nd_fold.specs.Folds.{made_of_fold};
 
 use crate::numbers::{accumulate_elements, reduce_elements, reduce_scalar, scalar_of};
-use nd_operation::{New, Operand, ReduceFault, StmtFault, Stop, bad_argument, not_an_array};
+use nd_operation::{New, Operand, bad_argument, not_an_array};
+use nd_refusal::{ReduceFault, StmtFault, Stop};
 use nd_syntax::{Accumulation, Reduction, Ufunc};
 use nd_types::{ElemType, Num};
 use std::alloc::Global;

@@ -8,14 +8,13 @@ ghost use Rattle.nd_model.specs.Reductions.{accumulated_numbers, reduced_numbers
 ghost use Rattle.nd_types.specs.Kinds.{kind_of};
 ghost use Rattle.nd_syntax.specs.Calls.{reduction_of};
 ghost use Rattle.nd_operation.specs.Contents.{elements_operand, num_of};
-ghost use Rattle.nd_operation.specs.Ends.{Says};
+ghost use Rattle.nd_refusal.specs.Ends.{Says};
 ghost use Rattle.nd_operation.specs.New.{MakesNew};
 ghost use Rattle.nd_fold.specs.Stops.{fold_stop, scalar_number};
 
-use nd_operation::{
-    Elements, New, ReduceFault as Refusal, StmtError, StmtFault, Stop, new_numbers,
-};
+use nd_operation::{Elements, New, new_numbers};
 use nd_reduce::{ReduceFault, accumulate, reduce, reduce_number};
+use nd_refusal::{ReduceFault as Refusal, StmtError, StmtFault, Stop};
 use nd_syntax::Reduction;
 use nd_types::{Kind, Num, fits};
 use std::alloc::Global;

@@ -1,6 +1,7 @@
 //! The loop over the numbers of both sides.
-ghost use Rattle.std.specs.Prelude.{◌≡◌, ◌+◌, ◌*◌, length};
-ghost use Rattle.nd_model.specs.Element.{size_of};
+ghost use Rattle.std.specs.Prelude.{◌≡◌, ◌+◌, ◌*◌, ◌≤◌, length, false};
+ghost use Rattle.nd_model.specs.Content.{number_at};
+ghost use Rattle.nd_model.specs.Element.{Int32, Int64, bytes_at, number_in, size_of, width_of};
 ghost use Rattle.nd_model.specs.Elementwise.{little};
 ghost use Rattle.nd_types.specs.Kinds.{kind_of};
 ghost use Rattle.nd_loops.specs.Results.{result_bytes};
@@ -18,9 +19,48 @@ pub enum Side<'b> {
     Each(&'b [u8], Kind),
 }
 
-// The number of a side in this place.
+// The 32 bits in this place, whose lowest byte comes first. They are copied together, so that they are one read, also where a loop
+// looks at the sign of a number.
 #[inline(always)]
-fn number_of(side: Side<'_>, index: usize) -> i128
+fn bits32(bytes: &[u8], place: usize) -> u32
+    requires { place + 4 ≤ length bytes.now }
+    ensures { result ≡ number_in (width_of Int32) false (bytes_at bytes.now place 4) }
+{
+    let mut run = [0; 4];
+    run.copy_from_slice(&bytes[place..place + 4]);
+    u32::from_le_bytes(run)
+}
+
+// The same of 64 bits.
+#[inline(always)]
+fn bits64(bytes: &[u8], place: usize) -> u64
+    requires { place + 8 ≤ length bytes.now }
+    ensures { result ≡ number_in (width_of Int64) false (bytes_at bytes.now place 8) }
+{
+    let mut run = [0; 8];
+    run.copy_from_slice(&bytes[place..place + 8]);
+    u64::from_le_bytes(run)
+}
+
+// The number of a kind in this place.
+#[inline(always)]
+fn number_in_place(bytes: &[u8], place: usize, kind: Kind) -> i128
+    requires { place + size_of (kind_of kind) ≤ length bytes.now }
+    ensures { result ≡ number_at (little (kind_of kind)) bytes.now place }
+{
+    match kind {
+        Kind::I32 => i128::from(bits32(bytes, place).cast_signed()),
+        Kind::U32 => i128::from(bits32(bytes, place)),
+        Kind::I64 => i128::from(bits64(bytes, place).cast_signed()),
+        Kind::U64 => i128::from(bits64(bytes, place)),
+        _ => value_at(bytes, place, Elem::little(kind)),
+    }
+}
+
+// The number of a side in this place. Those that are compared are read byte by byte, since a processor finds the results of some
+// together so.
+#[inline(always)]
+fn number_of<O: Operation>(side: Side<'_>, index: usize) -> i128
     requires { HasNumbers side (index + 1) }
     ensures { result ≡ number_on side.entry index }
 {
@@ -28,7 +68,12 @@ fn number_of(side: Side<'_>, index: usize) -> i128
         Side::Same(number) => number,
         Side::Each(bytes, kind) => {
             let _len = bytes.len();
-            value_at(bytes, index * kind.size() as usize, Elem::little(kind))
+            let place = index * kind.size() as usize;
+            if O::IS_COMPARISON {
+                value_at(bytes, place, Elem::little(kind))
+            } else {
+                number_in_place(bytes, place, kind)
+            }
         }
     }
 }
@@ -60,7 +105,12 @@ pub(crate) fn apply_each<O: Operation>(
     let size = to.size() as usize;
     let hint = hint_of::<O>(right);
     for index in 0..count {
-        let number = O::apply(to, number_of(left, index), number_of(right, index), hint);
+        let number = O::apply(
+            to,
+            number_of::<O>(left, index),
+            number_of::<O>(right, index),
+            hint,
+        );
         store_at(out, index * size, Elem::little(to), number);
     }
 }

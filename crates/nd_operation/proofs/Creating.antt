@@ -17,13 +17,13 @@ use Rattle.nd_model.specs.Operand.{Operand, Made}
 use Rattle.nd_model.specs.Operation.{give, fresh_array}
 use Rattle.nd_model.specs.Broadcast.{unless_fault, in_limits}
 use Rattle.nd_model.specs.Creation.{type_or, type_for, length_of, lengths_of, integer_of, integers_of, fill_content, uniform, filled_array, full_array, full_of, without_axes, operand_misfit, converted_at, unless_misfit}
-use Rattle.nd_operation.specs.declared.fault.StmtFault.{StmtFault}
-use Rattle.nd_operation.specs.declared.stop.Stop.{Stop}
-use Rattle.nd_operation.specs.declared.stop.Stop.TheVariants.{Memory, Refused}
+use Rattle.nd_refusal.specs.declared.fault.StmtFault.{StmtFault}
+use Rattle.nd_refusal.specs.declared.stop.Stop.{Stop}
+use Rattle.nd_refusal.specs.declared.stop.Stop.TheVariants.{Memory, Refused}
 use Rattle.nd_operation.specs.declared.operand.New.{New}
 use Rattle.nd_operation.specs.declared.operand.New.TheVariants.{Array}
-use Rattle.nd_operation.specs.Ends.{Says, Makes}
-use Rattle.nd_operation.specs.Faults.{fault_of}
+use Rattle.nd_refusal.specs.Ends.{Says, Makes}
+use Rattle.nd_refusal.specs.Faults.{fault_of}
 use Rattle.nd_operation.specs.New.{given, MakesNew, clip, clip_length, clip_lengths}
 
 -- ---- what is given

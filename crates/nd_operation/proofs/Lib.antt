@@ -1,6 +1,5 @@
 pub mod Decoding
 pub mod InTurn
-pub mod Refusals
 pub mod Lines
 pub mod WholeNumbers
 pub mod Creating

@@ -7,10 +7,10 @@ use Rattle.nd_model.specs.Fault.{Fault, Stmt, TextTooLong}
 use Rattle.nd_model.specs.Operand.{Operand}
 use Rattle.nd_model.specs.Printing.{text_of, printed_line}
 use Rattle.nd_model.specs.Cell.{most_text}
-use Rattle.nd_operation.specs.declared.stop.Stop.{Stop}
-use Rattle.nd_operation.specs.declared.stop.Stop.TheVariants.{Memory, Refused}
-use Rattle.nd_operation.specs.Ends.{Makes}
-use Rattle.nd_operation.specs.Faults.{fault_of}
+use Rattle.nd_refusal.specs.declared.stop.Stop.{Stop}
+use Rattle.nd_refusal.specs.declared.stop.Stop.TheVariants.{Memory, Refused}
+use Rattle.nd_refusal.specs.Ends.{Makes}
+use Rattle.nd_refusal.specs.Faults.{fault_of}
 use Rattle.nd_operation.specs.Lines.{limit_line, line_with}
 
 -- ---- one text

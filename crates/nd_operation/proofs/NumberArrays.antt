@@ -31,14 +31,14 @@ use Rattle.nd_elementwise.specs.Faults.{Makes}
 use Rattle.nd_elementwise.specs.declared.fault.MapFault.{MapFault}
 use Rattle.nd_elementwise.specs.declared.fault.MapFault.TheVariants.{Memory}
 use Rattle.nd_elementwise.specs.declared.fault.MapFault.TheVariants as map_fault
-use Rattle.nd_operation.specs.declared.fault.StmtFault.TheVariants as stmt_fault
+use Rattle.nd_refusal.specs.declared.fault.StmtFault.TheVariants as stmt_fault
 use Rattle.nd_operation.specs.declared.operand.New.{New}
 use Rattle.nd_operation.specs.declared.operand.New.TheVariants.{Array}
-use Rattle.nd_operation.specs.declared.stop.Stop.{Stop}
+use Rattle.nd_refusal.specs.declared.stop.Stop.{Stop}
 use Rattle.nd_operation.specs.Elementwise.{IsArrayOf, as_array}
 use Rattle.nd_operation.specs.Contents.{elements_over}
 use Rattle.nd_operation.specs.New.{MakesNew, StandsFor, given, operand_of_new}
-use Rattle.nd_operation.specs.Stops.{map_stop}
+use Rattle.nd_refusal.specs.Stops.{map_stop}
 use Rattle.nd_operation.proofs.Creating.{gives_array, new_memory, new_refused}
 
 -- ---- one number alone

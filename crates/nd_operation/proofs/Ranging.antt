@@ -8,7 +8,7 @@ use Rattle.nd_model.specs.Refusing as refusing
 use Rattle.nd_model.specs.Operand.{Made}
 use Rattle.nd_model.specs.Creation.{arange, integer_of, range_of, range_by, range_in, range_array, element_of_range}
 use Rattle.nd_heap.specs.declared.value.Value.{Value}
-use Rattle.nd_operation.specs.declared.stop.Stop.{Stop}
+use Rattle.nd_refusal.specs.declared.stop.Stop.{Stop}
 use Rattle.nd_operation.specs.declared.operand.New.{New}
 use Rattle.nd_operation.specs.Contents.{unused_of}
 use Rattle.nd_operation.specs.New.{MakesNew, bound_or, bounds_of}

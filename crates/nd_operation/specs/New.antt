@@ -18,14 +18,14 @@ use Rattle.nd_types.specs.Kinds.{kind_of}
 use Rattle.nd_syntax.specs.Calls.{dtype_of}
 use Rattle.nd_heap.specs.declared.value.Value.{Value}
 use Rattle.nd_heap.specs.Values.{number_of}
-use Rattle.nd_operation.specs.declared.stop.Stop.{Stop}
-use Rattle.nd_operation.specs.declared.stop.Stop.TheVariants.{Memory, Refused}
+use Rattle.nd_refusal.specs.declared.stop.Stop.{Stop}
+use Rattle.nd_refusal.specs.declared.stop.Stop.TheVariants.{Memory, Refused}
 use Rattle.nd_operation.specs.declared.operand.New.{New}
 use Rattle.nd_operation.specs.declared.operand.New.TheVariants.{Number, Array}
 use Rattle.nd_operation.specs.declared.calls.OfOne.{OfOne}
 use Rattle.nd_operation.specs.declared.calls.OfOne.TheVariants.{Operator, Ufunc, ArrayOf, Convert, Copy, AsType}
 use Rattle.nd_operation.specs.Contents.{elements_over, num_of, unused_of}
-use Rattle.nd_operation.specs.Faults.{fault_of}
+use Rattle.nd_refusal.specs.Faults.{fault_of}
 use Rattle.nd_ufunc.specs.Ufuncs.{single_of}
 
 -- what is given of what was made: an array gets a new base

@@ -3,14 +3,13 @@
 ghost use Rattle.std.specs.Prelude.{◌≡◌, map};
 ghost use Rattle.nd_model.specs.Creation as creation;
 ghost use Rattle.nd_operation.specs.Contents.{unused_of};
-ghost use Rattle.nd_operation.specs.Ends.{Makes, Says};
+ghost use Rattle.nd_refusal.specs.Ends.{Makes, Says};
 ghost use Rattle.nd_operation.specs.New.{clip_length, clip_lengths};
-ghost use Rattle.nd_operation.specs.declared.fault.StmtFault.TheVariants.{Stmt};
-ghost use Rattle.nd_operation.specs.declared.fault.StmtError.TheVariants.{BadArgument};
+ghost use Rattle.nd_refusal.specs.declared.fault.StmtFault.TheVariants.{Stmt};
+ghost use Rattle.nd_refusal.specs.declared.fault.StmtError.TheVariants.{BadArgument};
 
-use crate::fault::{StmtError, StmtFault};
-use crate::stop::Stop;
 use nd_heap::Value;
+use nd_refusal::{StmtError, StmtFault, Stop};
 use nd_types::Num;
 use smallvec::SmallVec;
 use std::alloc::Global;

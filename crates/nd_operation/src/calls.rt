@@ -6,7 +6,7 @@ ghost use Rattle.nd_operation.specs.New.{MakesNew, made_of_one};
 use crate::conversion::{astype, convert, copy_array, new_array};
 use crate::operand::{New, Operand};
 use crate::operators::{call_single, make_single};
-use crate::stop::Stop;
+use nd_refusal::Stop;
 use nd_syntax::DType;
 use nd_types::Kind;
 use nd_ufunc::Single;

@@ -7,14 +7,12 @@ mod conversion;
 mod creation;
 mod elements;
 mod elementwise;
-mod fault;
 mod lists;
 mod operand;
 mod operators;
 mod printing;
 mod python;
 mod ranges;
-mod stop;
 
 pub use arguments::{bad_argument, integers_of, lengths_of};
 pub use calls::{OfOne, make_of_one};
@@ -24,13 +22,8 @@ pub use conversion::{
 };
 pub use creation::{check_limits, make_filled, make_full};
 pub use elementwise::{kind_in_place, new_numbers};
-pub use fault::{
-    FormatFault, IndexFault, NpyFault, ReduceFault, ShapeFault, StmtError, StmtFault, UfuncFault,
-    ViewFault,
-};
 pub use lists::{is_empty_list, make_list};
 pub use operand::{Elements, New, Operand};
 pub use operators::{OfTwo, make_of_two};
 pub use printing::print_line;
 pub use ranges::make_range;
-pub use stop::Stop;

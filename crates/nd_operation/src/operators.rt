@@ -7,15 +7,14 @@ ghost use Rattle.nd_model.specs.Operators as operators;
 ghost use Rattle.nd_syntax.specs.Syntax.{binary_op};
 ghost use Rattle.nd_ufunc.specs.Ufuncs.{single_of, ufunc_of};
 ghost use Rattle.nd_operation.specs.Contents.{number_made, num_of, operand_of};
-ghost use Rattle.nd_operation.specs.Ends.{Says};
+ghost use Rattle.nd_refusal.specs.Ends.{Says};
 ghost use Rattle.nd_operation.specs.New.{MakesNew, NewLies, StandsFor};
 ghost use Rattle.nd_operation.specs.OfTwo.{made_of_two, ufunc_of_two};
 
 use crate::elementwise::{map_one, map_two};
-use crate::fault::{StmtError, StmtFault};
 use crate::operand::{New, Operand};
 use crate::python::{arithmetic, python_int};
-use crate::stop::Stop;
+use nd_refusal::{StmtError, StmtFault, Stop};
 use nd_syntax::{BinaryOp, UnaryOp};
 use nd_types::{Kind, Num, fits};
 use nd_ufunc::{BinaryUfunc, Single, is_negative, scalar1, scalar2};

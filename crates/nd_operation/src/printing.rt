@@ -4,12 +4,11 @@ ghost use Rattle.std.specs.Prelude.{◌≡◌, map, string_bytes};
 ghost use Rattle.nd_model.specs.Printing.{printed_line};
 ghost use Rattle.nd_operation.specs.Contents.{elements_operand, operand_of};
 ghost use Rattle.nd_operation.specs.Lines.{limit_line, line_with};
-ghost use Rattle.nd_operation.specs.Ends.{Makes, Says};
+ghost use Rattle.nd_refusal.specs.Ends.{Makes, Says};
 
-use crate::fault::{StmtError, StmtFault};
 use crate::operand::{Elements, Operand};
-use crate::stop::Stop;
 use nd_print::{Fit, push_elements, scalar_text};
+use nd_refusal::{StmtError, StmtFault, Stop};
 use std::alloc::Global;
 
 /// The most bytes of a cell's text.

@@ -8,9 +8,9 @@ ghost use Rattle.nd_model.specs.Operators as operators;
 ghost use Rattle.nd_model.specs.Syntax as syntax;
 ghost use Rattle.nd_syntax.specs.Syntax.{binary_op};
 ghost use Rattle.nd_operation.specs.Contents.{number_made};
-ghost use Rattle.nd_operation.specs.Ends.{Says};
+ghost use Rattle.nd_refusal.specs.Ends.{Says};
 
-use crate::fault::{StmtError, StmtFault, UfuncFault};
+use nd_refusal::{StmtError, StmtFault, UfuncFault};
 use nd_syntax::BinaryOp;
 use nd_types::Num;
 use nd_ufunc::{exact_power, is_below, is_negative, is_zero};

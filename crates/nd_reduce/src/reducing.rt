@@ -23,11 +23,12 @@ use crate::axis::{
     axis_in, has_no_lanes, lane_count, lane_length, lanes_of, reduced_shape, row_width,
 };
 use crate::fault::ReduceFault;
+use crate::place_tables::table_places;
 use crate::tables::table_folds;
 use nd_block::{Filling, RawBlock};
 use nd_loops::Elements;
 use nd_runs::fold::sum_kind;
-use nd_runs::{RowFold, RunFold, fold, fold_lanes, fold_number};
+use nd_runs::{PlaceFold, RowFold, RunFold, fold, fold_lanes, fold_number};
 use nd_syntax::Reduction;
 use nd_types::{Elem, ElemType, Kind, Num};
 use nd_view::{View, limit_fault};
@@ -180,6 +181,36 @@ fn axis_folds<F: RowFold>(
     }
 }
 
+// The same of folds to places.
+fn axis_places<F: PlaceFold>(
+    alloc: Global,
+    to: Kind,
+    view: &View,
+    axis: Option<usize>,
+    elem: Elem,
+    bytes: &[u8],
+    lanes: usize,
+    count: usize,
+) -> Result<RawBlock, AllocError>
+    requires to { kind_of to ≡ fold_kind F.reduction elem.kind }
+    requires one { view.now.element ≡ One elem }
+    requires lies { LiesIn (length bytes.now) view.now }
+    requires axis { HasAxis axis (length view.now.shape) }
+    requires lanes { lanes ≡ elements_of (reductions.reduced_shape axis false view.now.shape) }
+    requires count { count ≡ lane_length axis view.now.shape }
+    requires few { lanes ≤ 2 ^ 24 }
+    ensures { IfOk result (λ b. b ≡ fold_bytes F.reduction (kind_of to)
+        (lanes_in count lanes (numbers_at elem bytes.now (lanes_of view.now axis).places))) }
+{
+    match row_width(view, axis) {
+        Some(width) if lanes > 0 && count > 0 => {
+            let tables = lane_count(lanes, width);
+            table_places::<F>(alloc, to, view, elem, bytes, tables, count, width, lanes)
+        }
+        _ => lane_folds::<F>(alloc, to, view, axis, elem, bytes, lanes, count),
+    }
+}
+
 // The same of a reduction, which is asked for once.
 fn view_folds(
     alloc: Global,
@@ -211,10 +242,10 @@ fn view_folds(
         Reduction::Max => axis_folds::<fold::Max>(alloc, to, view, axis, elem, bytes, lanes, count),
         Reduction::Any => axis_folds::<fold::Any>(alloc, to, view, axis, elem, bytes, lanes, count),
         Reduction::All => axis_folds::<fold::All>(alloc, to, view, axis, elem, bytes, lanes, count),
-        Reduction::ArgMin => lane_folds::<fold::ArgMin>(
+        Reduction::ArgMin => axis_places::<fold::ArgMin>(
             alloc, to, view, axis, elem, bytes, lanes, count,
         ),
-        Reduction::ArgMax => lane_folds::<fold::ArgMax>(
+        Reduction::ArgMax => axis_places::<fold::ArgMax>(
             alloc, to, view, axis, elem, bytes, lanes, count,
         ),
     }

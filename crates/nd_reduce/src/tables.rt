@@ -18,8 +18,8 @@ use nd_types::{Elem, Kind};
 use nd_view::View;
 use std::alloc::{AllocError, Global};
 
-// Takes a number of a side more in the fold of each column. What is found before it is written lies in `found`.
-fn extend_part<F: RowFold>(
+/// Takes a number of a side more in the fold of each column. What is found before it is written lies in `found`.
+pub(crate) fn extend_part<F: RowFold>(
     part: &mut [u8],
     found: &mut [u8],
     to: Kind,

@@ -1,5 +1,5 @@
 -- Folds of one number more.
-use Rattle.std.proofs.Common.{◌≡◌, suc, Bool, true, false, List, [], ◌∷◌, ◌++◌, length, refl, sym, ap, ◌∙◌, ◌⊎◌, inl, inr}
+use Rattle.std.proofs.Common.{◌≡◌, ◌≤◌, suc, Bool, true, false, List, [], ◌∷◌, ◌++◌, length, refl, sym, ap, ◌∙◌, ◌⊎◌, inl, inr, arith}
 use Rattle.std.specs.Prelude.{ℤ, if◌then◌else◌, ◌||◌}
 use Rattle.std.specs.List.{All, fold, list_any}
 use Rattle.std.proofs.lemmas.Bool.{cases_Bool}
@@ -56,6 +56,11 @@ module _ (better : ℤ → ℤ → Bool) where
         let rest : list_any (λ v. better v x) ws ≡ false = rw other at none in
         elim (cases_Bool (better w y)) [ inl is ↦ rw is (none_best x w ws other rest) | inr not_it ↦ rw not_it (none_best x y ws first rest) ]
   ]
+
+  pub place_within : (zs : List ℤ) → best_place better zs ≤ length zs
+  place_within [] = omega arith
+  place_within (x ∷ xs) =
+      elim (list_any (λ y. better y x) xs) as (λ b. (if b then suc (best_place better xs) else 0) ≤ length (x ∷ xs)) [ true ↦ omega (arith, place_within xs) | false ↦ omega arith ]
 
   module _ (between : (a b c : ℤ) → better a c ≡ true → better b c ≡ false → better a b ≡ true) where
     any_than_worse : (x y : ℤ) (ys : List ℤ) → better y x ≡ false → list_any (λ w. better w x) ys ≡ true → list_any (λ w. better w y) ys ≡ true

@@ -10,7 +10,7 @@ ghost use Rattle.nd_element.specs.Elements.{canonical_at, canonical_bytes, canon
 ghost use Rattle.nd_fancy.specs.Chosen.{view_at};
 
 use crate::kernel::copy_bytes;
-use nd_block::{RawBlock, store_at};
+use nd_block::{Filling, RawBlock, store_at};
 use nd_element::{number_in, write_structure};
 use nd_fancy::Places;
 use nd_types::{Elem, ElemType, Kind, RecType};
@@ -84,6 +84,40 @@ fn read_numbers(out: &mut [u8], elem: Elem, bytes: &[u8], places: &[u64])
     }
 }
 
+// How many numbers are found at a time. They lie in a near cache until they are written, and each byte of the new block is written once.
+const MANY: usize = 512;
+
+const MANY_BYTES: usize = 4096;
+
+// The block of the numbers at these places.
+fn read_many(
+    alloc: Global,
+    elem: Elem,
+    bytes: &[u8],
+    places: &[u64],
+) -> Result<RawBlock, AllocError>
+    requires { length places.now ≤ 2 ^ 24 }
+    ensures { IfOk result (λ b. b ≡ flat_map (canonical_at (One elem) bytes.now) places.now) }
+{
+    let size = elem.size() as usize;
+    let mut out = Filling::with_room(alloc, places.len() * size)?;
+    let mut buffer = [0; MANY_BYTES];
+    let mut index = 0;
+    while index < places.len() {
+        let some = MANY.min(places.len() - index);
+        let end = some * size;
+        read_numbers(
+            &mut buffer[..end],
+            elem,
+            bytes,
+            &places[index..index + some],
+        );
+        out.push(&buffer[..end]);
+        index += some;
+    }
+    Ok(out.finish())
+}
+
 // Writes the structures at these places over as many zeros, one after another.
 fn read_structures(out: &mut [u8], structure: &RecType, bytes: &[u8], places: &[u64])
     requires zeros { out.old ≡ replicate (length places.now * structure.now.1) 0 }
@@ -109,14 +143,14 @@ fn read_elements(
     ensures { IfOk result (λ b. b ≡ flat_map (canonical_at (type_of elem.now) bytes.now)
         places.now) }
 {
-    let mut block = RawBlock::zeros(alloc, places.len() * elem.size() as usize)?;
     match elem {
-        ElemType::One(elem) => read_numbers(block.as_mut_slice(), *elem, bytes, places),
+        ElemType::One(elem) => read_many(alloc, *elem, bytes, places),
         ElemType::Rec(structure) => {
+            let mut block = RawBlock::zeros(alloc, places.len() * structure.size() as usize)?;
             read_structures(block.as_mut_slice(), structure, bytes, places);
+            Ok(block)
         }
     }
-    Ok(block)
 }
 
 /// Returns a new array of the elements of a view of these bytes at chosen places, and its block. A Boolean is 0 or 1 in it, and pad

@@ -23,7 +23,7 @@ use Rattle.nd_schedule.specs.Runs.{AreMissed, AreRecords, AreVersions, CountsFro
 use Rattle.nd_schedule.proofs.Kept.{holds_before}
 use Rattle.nd_schedule.proofs.Over.{labels_apart}
 use Rattle.nd_schedule.proofs.Passes.{counts_same}
-use Rattle.nd_schedule.proofs.Spliced.{length-splice}
+use Rattle.nd_source.proofs.Spliced.{length-splice}
 
 -- behind the new cell the sessions stand beside one another
 pub beside_first : (old new : Book) (at : ℕ) (d : AreDistinct (labels_of old.cells)) (e : AreDistinct (labels_of new.cells)) (over : Record) → SharesFront at old new → at ≤ length old.cells → at < length new.cells

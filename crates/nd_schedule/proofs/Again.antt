@@ -15,8 +15,8 @@ use Rattle.nd_model.specs.Records.{Record}
 use Rattle.nd_model.specs.Book.{Book}
 use Rattle.nd_model.specs.Entries.{session_before}
 use Rattle.nd_model.proofs.EditKept.{map-slice_set}
-use Rattle.nd_schedule.specs.declared.source.Source.{Source}
-use Rattle.nd_schedule.specs.Source.{cells_of, sheet}
+use Rattle.nd_source.specs.declared.source.Source.{Source}
+use Rattle.nd_source.specs.Source.{cells_of, sheet}
 use Rattle.nd_schedule.specs.Runs.{AreVersions, IsKept, IsRun}
 use Rattle.nd_schedule.proofs.Passes.{versions_more}
 

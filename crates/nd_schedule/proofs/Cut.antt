@@ -16,8 +16,8 @@ use Rattle.std.specs.Prelude.{MatchOption, if◌then◌else◌}
 use Rattle.std.specs.Option.{option_or}
 use Rattle.nd_model.specs.Running as running
 use Rattle.nd_model.specs.Notebook.{book_of}
-use Rattle.nd_schedule.specs.Source.{sheet}
-use Rattle.nd_schedule.proofs.Spliced.{length-splice, map-splice, splice_end}
+use Rattle.nd_source.specs.Source.{sheet}
+use Rattle.nd_source.proofs.Spliced.{length-splice, map-splice, splice_end}
 use Rattle.nd_schedule.proofs.Passes.{records_all, versions_front, versions_more}
 use Rattle.nd_model.proofs.Lazy.{length-entries}
 

@@ -5,7 +5,7 @@ use Rattle.std.specs.declared.rc.Rc.{Rc}
 use Rattle.std.specs.List.{splice}
 use Rattle.std.proofs.lemmas.List.{length-drop, length-map, length-take-le}
 use Rattle.std.proofs.lemmas.List.Edits.{length-remove}
-use Rattle.nd_schedule.proofs.Spliced.{at_middle, splice_same, splice_insert, splice_remove, splice_set}
+use Rattle.nd_source.proofs.Spliced.{at_middle, splice_same, splice_insert, splice_remove, splice_set}
 use Rattle.nd_model.specs.Running as running
 use Rattle.nd_model.specs.Records.{Record}
 use Rattle.nd_model.specs.Renaming.{AreDistinct}
@@ -14,8 +14,8 @@ use Rattle.nd_model.specs.Stale.{kept_of, CountsStale}
 use Rattle.nd_model.proofs.EditKept.{map-insert, map-remove, map-slice_set, map-at, kept_new, kept_changed, same_change}
 use Rattle.nd_model.proofs.EditLabels.{fresh}
 use Rattle.nd_model.proofs.Lists.{same_bytes}
-use Rattle.nd_schedule.specs.declared.source.Source.{Source}
-use Rattle.nd_schedule.specs.Source.{cell_of, cells_of, sheet}
+use Rattle.nd_source.specs.declared.source.Source.{Source}
+use Rattle.nd_source.specs.Source.{cell_of, cells_of, sheet}
 use Rattle.nd_model.specs.Notebook.{Sheet, book_of, edited_sheet}
 
 -- ---- with the same cells

@@ -16,10 +16,10 @@ use Rattle.nd_model.proofs.Entries.{fresh_at, take-entries_of, take-records_of, 
 use Rattle.nd_model.proofs.EditKept.{kept_all}
 use Rattle.nd_schedule.proofs.Kept.{as_many}
 use Rattle.std.specs.List.{splice}
-use Rattle.nd_schedule.proofs.Spliced.{at_behind, length-splice, splice_back}
+use Rattle.nd_source.proofs.Spliced.{at_behind, length-splice, splice_back}
 use Rattle.std.specs.declared.rc.Rc.{Rc}
-use Rattle.nd_schedule.specs.declared.source.Source.{Source}
-use Rattle.nd_schedule.specs.Source.{cell_of, cells_of}
+use Rattle.nd_source.specs.declared.source.Source.{Source}
+use Rattle.nd_source.specs.Source.{cell_of, cells_of}
 use Rattle.nd_schedule.specs.Runs.{AreVersions, CountsFront}
 
 -- ---- the meter

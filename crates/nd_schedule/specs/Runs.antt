@@ -13,7 +13,7 @@ use Rattle.nd_model.specs.Overlay.{IsOnce, IsOverlay, IsUnder, Misses, did}
 use Rattle.nd_model.specs.Running.{Source}
 use Rattle.nd_model.specs.Sound.{IsSoundSession}
 use Rattle.nd_model.specs.Stale.{AtLeast, IsStale, counted, kept_of}
-use Rattle.nd_schedule.specs.Source.{sheet}
+use Rattle.nd_source.specs.Source.{sheet}
 
 -- each that is kept is the session before the cell that it stands beside
 abbrev pub AreVersions : Book → List (Option Session) → Type 0

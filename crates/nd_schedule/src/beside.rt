@@ -9,8 +9,8 @@ ghost use Rattle.nd_model.specs.Entries.{entry_at, session_before};
 ghost use Rattle.nd_model.specs.Stale.{CountsStale};
 ghost use Rattle.nd_model.specs.Overlay.{IsOverlay};
 ghost use Rattle.nd_model.specs.Notebook.{book_of};
-ghost use Rattle.nd_schedule.specs.Source.{cells_of};
-ghost use Rattle.nd_schedule.specs.Shared.{each_of, each_some, some_of};
+ghost use Rattle.nd_source.specs.Source.{cells_of};
+ghost use Rattle.nd_source.specs.Shared.{each_of, each_some, some_of};
 ghost use Rattle.nd_schedule.specs.Runs.{
   AreKnown,
   AreMissed,

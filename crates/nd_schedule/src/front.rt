@@ -4,7 +4,7 @@ ghost use Rattle.std.specs.Prelude.{◌≡◌, ◌++◌, ◌∷◌, [], IsFalse,
 ghost use Rattle.nd_model.specs.Beside.{IsNoted};
 ghost use Rattle.nd_model.specs.Book.{Book};
 ghost use Rattle.nd_model.specs.Records as records;
-ghost use Rattle.nd_schedule.specs.Shared.{each_of};
+ghost use Rattle.nd_source.specs.Shared.{each_of};
 ghost use Rattle.nd_schedule.specs.Runs.{AreKnown, AreNoted, IsOld};
 
 use crate::cells::Cells;

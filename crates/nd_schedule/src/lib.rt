@@ -4,14 +4,10 @@
 mod beside;
 mod cells;
 mod front;
-mod labels;
 mod notebook;
 mod pass;
-mod shared;
-mod source;
 mod step;
 mod versions;
 
 pub use cells::Cells;
 pub use notebook::Notebook;
-pub use source::Source;

@@ -13,8 +13,8 @@ ghost use Rattle.nd_model.specs.Stale.{kept_of, CountsStale};
 ghost use Rattle.nd_model.specs.CutOff.{SameOnSession};
 ghost use Rattle.nd_model.specs.Overlay.{did, IsApart, Misses, Replaces};
 ghost use Rattle.nd_model.specs.Notebook.{Sheet, inputs_in, book_of, edited_sheet};
-ghost use Rattle.nd_schedule.specs.Source.{sheet, cell_of, cells_of};
-ghost use Rattle.nd_schedule.specs.Shared.{each_of, each_some, some_of};
+ghost use Rattle.nd_source.specs.Source.{sheet, cell_of, cells_of};
+ghost use Rattle.nd_source.specs.Shared.{each_of, each_some, some_of};
 ghost use Rattle.nd_schedule.specs.Runs.{
   AreRecords,
   CountsFront,
@@ -33,12 +33,10 @@ ghost use Rattle.nd_schedule.specs.Runs.{
 
 use crate::cells::Cells;
 use crate::front::{Front, note_all};
-use crate::labels::fresh_label;
 use crate::pass::{Part, Runs};
-use crate::shared::{make_room, part_of, put_between, records_between};
-use crate::source::Source;
 use crate::versions::{make_versions, put_versions, session_from};
 use nd_meter::Meter;
+use nd_source::{Source, fresh_label, make_room, part_of, put_between, records_between};
 use std::alloc::{AllocError, Global};
 use std::marker::Model;
 use std::rc::Rc;

@@ -14,8 +14,8 @@ ghost use Rattle.nd_model.specs.Stale.{kept_of, CountsStale};
 ghost use Rattle.nd_model.specs.CutOff.{SameOnSession};
 ghost use Rattle.nd_model.specs.Overlay.{did, IsApart, Misses, Replaces};
 ghost use Rattle.nd_model.specs.Notebook.{Sheet, inputs_in, book_of, edited_sheet};
-ghost use Rattle.nd_schedule.specs.Source.{sheet, cell_of, cells_of};
-ghost use Rattle.nd_schedule.specs.Shared.{each_of, each_some, some_of};
+ghost use Rattle.nd_source.specs.Source.{sheet, cell_of, cells_of};
+ghost use Rattle.nd_source.specs.Shared.{each_of, each_some, some_of};
 ghost use Rattle.nd_schedule.specs.Runs.{
   AreKnown,
   AreRecords,
@@ -37,10 +37,9 @@ use crate::beside::is_added;
 use crate::cells::Cells;
 use crate::front::Front;
 use crate::notebook::Notebook;
-use crate::shared::shared_again;
-use crate::source::Source;
 use crate::step::{Made, keep, keep_due, since_last, step};
 use nd_meter::Meter;
+use nd_source::{Source, shared_again};
 use std::alloc::AllocError;
 use std::rc::Rc;
 

@@ -7,11 +7,11 @@ ghost use Rattle.nd_model.specs.Footprint.{HasNone};
 ghost use Rattle.nd_model.specs.Records.{record_of, StillHolds};
 ghost use Rattle.nd_model.specs.Scheduler.{IsOfRun};
 ghost use Rattle.nd_model.specs.Notebook.{inputs_in};
-ghost use Rattle.nd_schedule.specs.Shared.{some_of};
+ghost use Rattle.nd_source.specs.Shared.{some_of};
 
 use crate::cells::Cells;
-use crate::source::Source;
 use nd_meter::Meter;
+use nd_source::Source;
 use std::alloc::{AllocError, Global};
 use std::rc::Rc;
 

@@ -6,12 +6,12 @@ ghost use Rattle.std.specs.Option.{option_or};
 ghost use Rattle.std.specs.Vec.{vec_capacity};
 ghost use Rattle.nd_model.specs.Book.{Book};
 ghost use Rattle.nd_model.specs.Entries.{session_before};
-ghost use Rattle.nd_schedule.specs.Shared.{each_of, each_some};
+ghost use Rattle.nd_source.specs.Shared.{each_of, each_some};
 ghost use Rattle.nd_schedule.specs.Runs.{AreVersions, IsRun};
 
 use crate::cells::Cells;
-use crate::shared::put_between;
 use crate::step::{APART, keep, since_last};
+use nd_source::put_between;
 use std::alloc::{AllocError, Global};
 use std::rc::Rc;
 

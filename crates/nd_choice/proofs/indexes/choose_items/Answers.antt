@@ -2,8 +2,8 @@ use Rattle.std.proofs.Common.{Ok, sym, ap, subst, ◌∙◌}
 use Rattle.nd_model.specs.Operand.{ACopy}
 use Rattle.nd_model.specs.Refusing.{◌>>=◌}
 use Rattle.nd_session.specs.Live.{live}
-use Rattle.nd_operation.specs.Ends.{Makes}
-use Rattle.nd_operation.specs.Faults.{fault_of}
+use Rattle.nd_refusal.specs.Ends.{Makes}
+use Rattle.nd_refusal.specs.Faults.{fault_of}
 use Rattle.nd_choice.specs.Indexing.{chosen_of}
 use Rattle.nd_choice.proofs.Indexing.{chooses_basic, chooses_elements, copy_stops, refused_items}
 use Rattle.nd_choice.proofs.indexes.choose_items.Goals as goal

@@ -1,10 +1,10 @@
 use Rattle.std.proofs.Common.{◌+◌, drop, sym, ap, ◌∙◌}
 use Rattle.nd_basic.specs.Items as basic
-use Rattle.nd_operation.specs.Faults.{fault_of}
+use Rattle.nd_refusal.specs.Faults.{fault_of}
 use Rattle.nd_choice.specs.Indexing.{item_from, items_from}
 use Rattle.nd_choice.proofs.Indexing.{behind, one_more, one_refused}
 use Rattle.nd_operation.proofs.InTurn.{next_item, pushed}
-use Rattle.nd_operation.proofs.Refusals.{makes_refused}
+use Rattle.nd_refusal.proofs.Refusals.{makes_refused}
 use Rattle.nd_choice.proofs.indexes.items_of.Goals as goal
 
 pub returns-in_err-item : goal.returns-in_err-item

@@ -4,7 +4,7 @@ use Rattle.nd_model.specs.Advanced.{array_item}
 use Rattle.nd_model.specs.Content.{content_at}
 use Rattle.nd_model.specs.Fault.{Index, NotAnIndex}
 use Rattle.nd_model.specs.Index.{item_of, item_or}
-use Rattle.nd_fancy.specs.Items as fancy
+use Rattle.nd_index.specs.Items as fancy
 use Rattle.nd_heap.specs.Values.{base_of, geo_of}
 use Rattle.nd_session.specs.Live.{live}
 use Rattle.nd_choice.specs.Indexing.{index_operand}

@@ -1,14 +1,14 @@
 use Rattle.std.proofs.Common.{◌+◌, [], ◌∷◌, drop, sym, ap, subst, ◌∙◌}
 use Rattle.std.specs.List.{All}
 use Rattle.nd_model.specs.Selected.{HoldsAll}
-use Rattle.nd_fancy.specs.Items as fancy
+use Rattle.nd_index.specs.Items as fancy
 use Rattle.nd_session.specs.Live.{live}
-use Rattle.nd_operation.specs.Faults.{fault_of}
+use Rattle.nd_refusal.specs.Faults.{fault_of}
 use Rattle.nd_choice.specs.Indexing.{item_over, items_over}
 use Rattle.nd_choice.proofs.Indexing.{behind, one_more, one_refused}
 use Rattle.std.proofs.lemmas.List.Elements.{All-append, All-cons, All-nil}
 use Rattle.nd_operation.proofs.InTurn.{next_item, pushed}
-use Rattle.nd_operation.proofs.Refusals.{makes_refused}
+use Rattle.nd_refusal.proofs.Refusals.{makes_refused}
 use Rattle.nd_choice.proofs.selections.items_in.Goals as goal
 
 pub returns-in_err-item-clause-items : goal.returns-in_err-item-clause-items

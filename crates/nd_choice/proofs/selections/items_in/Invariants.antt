@@ -1,7 +1,7 @@
 use Rattle.std.proofs.Common.{◌≡◌, drop}
 use Rattle.std.specs.List.{All}
 use Rattle.nd_model.specs.Selected.{HoldsAll}
-use Rattle.nd_fancy.specs.Items as fancy
+use Rattle.nd_index.specs.Items as fancy
 use Rattle.nd_session.specs.Live.{live}
 use Rattle.nd_choice.specs.Indexing.{items_over}
 use Rattle.nd_choice.proofs.Indexing.{behind}

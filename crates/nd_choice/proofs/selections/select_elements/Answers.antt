@@ -4,7 +4,7 @@ use Rattle.nd_model.specs.Sound.{LiesIn}
 use Rattle.nd_model.specs.View.{Geo}
 use Rattle.nd_model.proofs.Gathered.{advanced_lies}
 use Rattle.nd_fancy.specs.Chosen.{view_at}
-use Rattle.nd_fancy.specs.Items as fancy
+use Rattle.nd_index.specs.Items as fancy
 use Rattle.nd_choice.proofs.selections.select_elements.Goals as goal
 
 pub returns-clause-lies : goal.returns-clause-lies

@@ -10,7 +10,7 @@ use Rattle.nd_model.specs.Fault.{Fault}
 use Rattle.nd_model.specs.Operand.{Plain, Stretched, number_of}
 use Rattle.nd_model.specs.Refusing as refusing
 use Rattle.nd_model.specs.ShapeChoices.{stretch_operand}
-use Rattle.nd_operation.specs.Faults.{fault_of}
+use Rattle.nd_refusal.specs.Faults.{fault_of}
 use Rattle.nd_model.specs.View.{One}
 use Rattle.nd_model.specs.Strides.{limit_fault}
 use Rattle.nd_types.specs.Kinds.{kind_of}

@@ -5,7 +5,7 @@ use Rattle.nd_model.specs.Strides.{limit_fault}
 use Rattle.nd_model.specs.View.{contiguous, item_size}
 use Rattle.nd_model.specs.ShapeChoices.{stretch_operand}
 use Rattle.nd_operation.specs.Contents.{contents_over, elements_operand}
-use Rattle.nd_operation.specs.Faults.{fault_of}
+use Rattle.nd_refusal.specs.Faults.{fault_of}
 use Rattle.nd_operation.proofs.Creating.{within}
 use Rattle.nd_choice.proofs.Stretching.{row_stretched, row_over, stretched_refused, alone_in_limits, no_axes}
 use Rattle.nd_choice.proofs.stretches.stretch_row.Goals as goal

@@ -3,7 +3,7 @@ use Rattle.nd_model.specs.Operand.{AView, Elements}
 use Rattle.nd_model.specs.Stretching.{broadcast_to}
 use Rattle.nd_heap.specs.Values.{geo_of}
 use Rattle.nd_operation.specs.Contents.{unused_of}
-use Rattle.nd_operation.specs.Ends.{Makes}
+use Rattle.nd_refusal.specs.Ends.{Makes}
 use Rattle.nd_choice.proofs.Stretching.{of_lengths, seen_makes}
 use Rattle.nd_choice.proofs.stretches.stretch_view.Goals as goal
 

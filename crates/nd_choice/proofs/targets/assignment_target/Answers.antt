@@ -2,7 +2,7 @@ use Rattle.std.proofs.Common.{sym, ◌∙◌}
 use Rattle.nd_model.specs.Writing.{may_be_written}
 use Rattle.nd_session.specs.Live.{live}
 use Rattle.nd_operation.specs.Contents.{operand_of, unused_of}
-use Rattle.nd_operation.proofs.Refusals.{makes_refused}
+use Rattle.nd_refusal.proofs.Refusals.{makes_refused}
 use Rattle.nd_choice.specs.Indexing.{index_operands, viewing_of}
 use Rattle.nd_choice.specs.Targets.{geo_in, may_take, target_by}
 use Rattle.nd_choice.proofs.Lying.{target_found, target_lies}

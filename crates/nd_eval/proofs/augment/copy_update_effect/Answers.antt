@@ -11,7 +11,7 @@ use Rattle.nd_heap.specs.declared.value.Value.TheVariants.{Array}
 use Rattle.nd_heap.specs.Values.{base_of, geo_of, value_of}
 use Rattle.nd_session.specs.Live.{live}
 use Rattle.nd_operation.specs.Contents.{contents_over, unused_of}
-use Rattle.nd_operation.specs.Ends.{Makes}
+use Rattle.nd_refusal.specs.Ends.{Makes}
 use Rattle.nd_choice.specs.Indexing.{index_operands, operands_of, viewing_of}
 use Rattle.nd_model.specs.Index.{has_array}
 use Rattle.nd_choice.specs.declared.targets.Target.TheVariants.{Elements}

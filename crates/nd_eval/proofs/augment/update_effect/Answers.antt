@@ -3,7 +3,7 @@ use Rattle.nd_model.specs.Augmenting.{in_place_kind}
 use Rattle.nd_syntax.specs.Syntax.{binary_op}
 use Rattle.nd_types.specs.Kinds.{kind_of}
 use Rattle.nd_heap.specs.Values.{geo_of}
-use Rattle.nd_operation.specs.Ends.{Makes}
+use Rattle.nd_refusal.specs.Ends.{Makes}
 use Rattle.nd_eval.proofs.Augmented.{exits_update, goes_update}
 use Rattle.nd_eval.proofs.augment.update_effect.Goals as goal
 

@@ -3,7 +3,7 @@ use Rattle.std.proofs.lemmas.List.{length-map}
 use Rattle.nd_model.specs.Tuple.{elements_of, indices}
 use Rattle.nd_model.proofs.Gathered.{place_few}
 use Rattle.nd_view.proofs.Indexed.{length-indices}
-use Rattle.nd_fancy.specs.Items.{items_of}
+use Rattle.nd_index.specs.Items.{items_of}
 use Rattle.nd_fancy.specs.Takes.{takes_of}
 use Rattle.nd_fancy.proofs.Chosen.{length-chosen}
 use Rattle.nd_fancy.proofs.Spreads.{length-kept_shape}

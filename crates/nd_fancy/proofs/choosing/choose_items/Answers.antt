@@ -6,8 +6,8 @@ use Rattle.nd_model.specs.Strides.{IsInLimits}
 use Rattle.nd_model.specs.View.{Geo, item_size}
 use Rattle.nd_view.proofs.Limits.{limits_of}
 use Rattle.nd_fancy.specs.Chosen.{view_at}
-use Rattle.nd_fancy.specs.Faults.{Makes}
-use Rattle.nd_fancy.specs.Items.{items_of}
+use Rattle.nd_index.specs.Faults.{Makes}
+use Rattle.nd_index.specs.Items.{items_of}
 use Rattle.nd_fancy.specs.Takes.{axes_taken, takes_of}
 use Rattle.nd_fancy.proofs.Chosen.{chosen_tuples, filled_is, same_view}
 use Rattle.nd_fancy.proofs.Sliced.{all_taken, selected_is, sliced_axes, slices_few}

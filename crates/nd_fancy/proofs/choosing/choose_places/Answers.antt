@@ -1,7 +1,7 @@
 use Rattle.std.proofs.Common.{◌≡◌, ◌≤◌, length, ap, arith}
 use Rattle.nd_model.specs.Advanced.{ellipses_in}
-use Rattle.nd_fancy.specs.Items.{items_of}
-use Rattle.nd_fancy.proofs.Items.{filled_few}
+use Rattle.nd_index.specs.Items.{items_of}
+use Rattle.nd_index.proofs.Items.{filled_few}
 use Rattle.nd_fancy.proofs.choosing.choose_places.Goals as goal
 
 pub choose_items-requires-clause-axes : goal.choose_items-requires-clause-axes

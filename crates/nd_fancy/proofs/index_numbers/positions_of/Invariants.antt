@@ -1,7 +1,7 @@
 use Rattle.std.proofs.Common.{◌≡◌, ◌≤◌, ◌^◌, ◌++◌, map, length}
 use Rattle.std.specs.List.{All}
 use Rattle.nd_model.specs.Selecting.{counted_from}
-use Rattle.nd_fancy.specs.Items.{numbers_of}
+use Rattle.nd_index.specs.Items.{numbers_of}
 use Rattle.nd_fancy.proofs.index_numbers.positions_of.Given as goal
 
 abbrev pub invariant-loop-number : goal.invariant-loop-number

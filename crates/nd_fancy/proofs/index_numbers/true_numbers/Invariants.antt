@@ -1,6 +1,6 @@
 use Rattle.std.proofs.Common.{◌≡◌, ◌+◌, ◌≤◌, ◌^◌, ◌++◌, map, length}
 use Rattle.nd_model.specs.Advanced as model
-use Rattle.nd_fancy.specs.Items.{numbers_of}
+use Rattle.nd_index.specs.Items.{numbers_of}
 use Rattle.nd_fancy.proofs.index_numbers.true_numbers.Given as goal
 
 abbrev pub invariant-loop-number : goal.invariant-loop-number

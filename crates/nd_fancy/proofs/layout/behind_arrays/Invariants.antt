@@ -1,6 +1,6 @@
 use Rattle.std.proofs.Common.{◌≡◌, drop}
 use Rattle.nd_model.specs.Advanced as model
-use Rattle.nd_fancy.specs.Items.{items_of}
+use Rattle.nd_index.specs.Items.{items_of}
 use Rattle.nd_fancy.proofs.layout.behind_arrays.Given as goal
 
 abbrev pub invariant-loop-number : goal.invariant-loop-number

@@ -1,7 +1,7 @@
 use Rattle.std.proofs.Common.{◌≡◌, drop}
 use Rattle.std.specs.List.{list_any}
 use Rattle.nd_model.specs.Advanced as model
-use Rattle.nd_fancy.specs.Items.{items_of}
+use Rattle.nd_index.specs.Items.{items_of}
 use Rattle.nd_fancy.proofs.layout.has_array.Given as goal
 
 abbrev pub invariant-loop-item : goal.invariant-loop-item

@@ -2,8 +2,8 @@ use Rattle.std.proofs.Common.{◌+◌, ◌^◌, ◌≤◌, map, length, arith}
 use Rattle.std.proofs.lemmas.List.{length-map}
 use Rattle.nd_model.specs.Advanced.{is_nonzero}
 use Rattle.nd_model.specs.Content.{number_at}
-use Rattle.nd_fancy.specs.Items.{numbers_of}
-use Rattle.nd_fancy.proofs.Items.{near_trues}
+use Rattle.nd_index.specs.Items.{numbers_of}
+use Rattle.nd_index.proofs.Items.{near_trues}
 use Rattle.nd_fancy.proofs.takes.spread_mask.Goals as goal
 
 pub invariant_of-result-clause-near : goal.invariant_of-result-clause-near

@@ -1,5 +1,5 @@
-use Rattle.nd_fancy.specs.Items.{numbers_of}
-use Rattle.nd_fancy.proofs.Items.{near_positions}
+use Rattle.nd_index.specs.Items.{numbers_of}
+use Rattle.nd_index.proofs.Items.{near_positions}
 use Rattle.nd_fancy.proofs.takes.spread_numbers.Goals as goal
 
 pub invariant_of-result-clause-near : goal.invariant_of-result-clause-near

@@ -1,7 +1,7 @@
 use Rattle.std.proofs.Common.{◌≡◌, ◌+◌, ◌≤◌, ◌++◌, drop}
 use Rattle.std.specs.Prelude.{None}
 use Rattle.nd_model.specs.Advanced as model
-use Rattle.nd_fancy.specs.Items.{items_of}
+use Rattle.nd_index.specs.Items.{items_of}
 use Rattle.nd_fancy.specs.Takes.{takes_of}
 use Rattle.nd_fancy.proofs.takes.takes.Given as goal
 

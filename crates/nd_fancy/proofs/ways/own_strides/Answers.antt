@@ -6,7 +6,8 @@ use Rattle.std.specs.Prelude.{pos, unsigned_abs}
 use Rattle.std.proofs.lemmas.Int.{to_z-of_z}
 use Rattle.std.proofs.lemmas.List.{drop_all}
 use Rattle.nd_fancy.specs.Ways.{narrowed_strides}
-use Rattle.nd_fancy.proofs.Numbers.{drop_one, each_next}
+use Rattle.nd_fancy.proofs.Numbers.{each_next}
+use Rattle.nd_index.proofs.Fronts.{drop_one}
 use Rattle.nd_fancy.proofs.Sums.{own_range}
 use Rattle.nd_fancy.proofs.ways.own_strides.Goals as goal
 

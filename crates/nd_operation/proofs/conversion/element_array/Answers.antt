@@ -8,7 +8,7 @@ use Rattle.nd_model.specs.Creation.{operand_misfit, unless_misfit, uniform, conv
 use Rattle.nd_types.specs.Types.{type_of}
 use Rattle.nd_syntax.specs.Calls.{dtype_of}
 use Rattle.nd_operation.specs.Contents.{elements_operand}
-use Rattle.nd_operation.specs.Faults.{fault_of}
+use Rattle.nd_refusal.specs.Faults.{fault_of}
 use Rattle.nd_operation.proofs.Creating.{new_refused, over}
 use Rattle.nd_operation.proofs.Converting.{structure_from, type_converts}
 use Rattle.nd_operation.proofs.conversion.element_array.Goals as goal

@@ -10,7 +10,7 @@ use Rattle.nd_model.specs.Creation.{misfit, uniform}
 use Rattle.nd_model.specs.View.{One}
 use Rattle.nd_syntax.specs.Calls.{dtype_of}
 use Rattle.nd_operation.specs.Contents.{num_of}
-use Rattle.nd_operation.specs.Faults.{fault_of}
+use Rattle.nd_refusal.specs.Faults.{fault_of}
 use Rattle.nd_operation.specs.New.{MakesNew}
 use Rattle.nd_operation.proofs.Creating.{new_refused, within}
 use Rattle.nd_operation.proofs.Converting.{full_number, misfit_over, misfit_within}

@@ -5,7 +5,7 @@ use Rattle.nd_syntax.specs.Syntax.{binary_op}
 use Rattle.nd_types.specs.Kinds.{kind_of}
 use Rattle.nd_operation.specs.Contents.{operand_of}
 use Rattle.nd_operation.proofs.NumberArrays.{in_place_alike}
-use Rattle.nd_operation.proofs.Refusals.{makes_mapped}
+use Rattle.nd_refusal.proofs.Refusals.{makes_mapped}
 use Rattle.nd_operation.proofs.elementwise.kind_in_place.Goals as goal
 
 pub returns-in_err-kind : goal.returns-in_err-kind

@@ -1,6 +1,6 @@
 use Rattle.std.proofs.Common.{◌+◌, drop, refl, sym, ap, ◌∙◌, Err}
 use Rattle.std.proofs.lemmas.List.{drop_all}
-use Rattle.nd_operation.specs.Faults.{fault_of}
+use Rattle.nd_refusal.specs.Faults.{fault_of}
 use Rattle.nd_operation.proofs.InTurn.{next_item}
 use Rattle.nd_operation.proofs.Listing.{are_python, all_python, some_not_python, next_python, no_python}
 use Rattle.nd_operation.proofs.lists.check_numbers.Goals as goal

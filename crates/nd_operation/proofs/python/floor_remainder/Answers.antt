@@ -4,7 +4,7 @@ use mir.Facts.{to_z-of_z}
 use Rattle.nd_model.specs.Operand.{python_int}
 use Rattle.nd_model.specs.Operators.{is_below}
 use Rattle.nd_operation.specs.Contents.{number_made}
-use Rattle.nd_operation.specs.Ends.{Says}
+use Rattle.nd_refusal.specs.Ends.{Says}
 use Rattle.nd_ufunc.proofs.WholeNumbers.{remainder_below, remainder_whole}
 use Rattle.nd_operation.proofs.python.floor_remainder.Goals as goal
 

@@ -2,7 +2,7 @@ use Rattle.std.proofs.Common.{◌≡◌, pos, negsuc, true, false, refl, sym, su
 use mir.Facts.{to_z-of_z}
 use Rattle.nd_model.specs.Operand.{python_int}
 use Rattle.nd_operation.specs.Contents.{number_made}
-use Rattle.nd_operation.specs.Ends.{Says}
+use Rattle.nd_refusal.specs.Ends.{Says}
 use Rattle.std.proofs.lemmas.Nat.{pow_below}
 use Rattle.nd_model.specs.Operators.{is_negative}
 use Rattle.nd_ufunc.proofs.WholeNumbers.{out_above, out_below}

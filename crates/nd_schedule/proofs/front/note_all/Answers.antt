@@ -1,7 +1,7 @@
 use Rattle.std.proofs.Common.{subst}
 use Rattle.std.proofs.lemmas.List.{take_all}
 use Rattle.nd_model.specs.Beside.{IsNoted}
-use Rattle.nd_schedule.specs.Shared.{each_of}
+use Rattle.nd_source.specs.Shared.{each_of}
 use Rattle.nd_schedule.specs.Runs.{AreNoted}
 use Rattle.nd_schedule.proofs.Known.{noted_more}
 use Rattle.nd_schedule.proofs.front.note_all.Goals as goal

@@ -1,7 +1,7 @@
 use Rattle.std.specs.Prelude.{take}
 use Rattle.nd_model.specs.Beside.{IsNoted}
 use Rattle.nd_model.specs.Records.{Record}
-use Rattle.nd_schedule.specs.Shared.{each_of}
+use Rattle.nd_source.specs.Shared.{each_of}
 use Rattle.nd_schedule.specs.Runs.{AreNoted}
 use Rattle.nd_schedule.proofs.front.note_all.Given as goal
 

@@ -3,7 +3,7 @@ use Rattle.nd_model.specs.Reading.{reading}
 use Rattle.nd_model.specs.Records.{StillHolds}
 use Rattle.nd_model.proofs.Passing.{stands}
 use Rattle.nd_model.specs.Notebook.{inputs_in}
-use Rattle.nd_schedule.specs.Shared.{some_of}
+use Rattle.nd_source.specs.Shared.{some_of}
 use Rattle.nd_schedule.proofs.Steps.{of_some, replayed}
 use Rattle.nd_schedule.proofs.step.step.Goals as goal
 

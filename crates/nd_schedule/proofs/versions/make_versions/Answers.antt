@@ -1,7 +1,7 @@
 use Rattle.std.proofs.Common.{◌≡◌, ◌<◌, length, None, sym, ap, subst, ◌∙◌, arith}
 use Rattle.std.proofs.lemmas.List.{length-take-le}
 use Rattle.nd_model.specs.Book.{Book}
-use Rattle.nd_schedule.specs.Shared.{each_of, each_some}
+use Rattle.nd_source.specs.Shared.{each_of, each_some}
 use Rattle.nd_schedule.specs.Runs.{AreVersions, IsRun}
 use Rattle.nd_schedule.proofs.Again.{none_more, run_with}
 use Rattle.nd_schedule.proofs.Kept.{as_many, record_there, holds_before, after_replay}

@@ -2,7 +2,7 @@ use Rattle.std.proofs.Common.{◌≡◌, length, is_some, unwrap_or, ap, sym, su
 use Rattle.nd_model.specs.Session.{Session, lookup}
 use Rattle.nd_model.specs.Entries.{session_before}
 use Rattle.nd_model.specs.Notebook.{Sheet, book_of}
-use Rattle.nd_schedule.specs.Shared.{each_of, each_some}
+use Rattle.nd_source.specs.Shared.{each_of, each_some}
 use Rattle.nd_schedule.specs.Runs.{IsRun}
 use Rattle.nd_schedule.proofs.Kept.{as_many, bound_next, record_there, version_there}
 use Rattle.nd_schedule.proofs.notebook.Notebook.bound_by.Goals as goal

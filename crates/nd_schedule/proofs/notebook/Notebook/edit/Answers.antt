@@ -2,8 +2,8 @@ use Rattle.std.proofs.Common.{◌≡◌, ◌+◌, ◌-◌, length, refl, sym, ap
 use Rattle.nd_model.proofs.EditLabels.{change_distinct}
 use Rattle.nd_model.specs.Book.{Cell}
 use Rattle.nd_model.specs.Notebook.{Sheet, book_of}
-use Rattle.nd_schedule.specs.declared.source.Source.{Source}
-use Rattle.nd_schedule.specs.Source.{cell_of}
+use Rattle.nd_source.specs.declared.source.Source.{Source}
+use Rattle.nd_source.specs.Source.{cell_of}
 use Rattle.nd_schedule.proofs.Edits.{same_distinct, same_counts, same_sheet, label_at, another, unchanged, is_changed, kept_changed_to, kept_long}
 use Rattle.nd_schedule.proofs.notebook.Notebook.edit.Goals as goal
 

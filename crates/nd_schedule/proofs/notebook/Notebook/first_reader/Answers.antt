@@ -3,7 +3,7 @@ use Rattle.std.specs.Prelude.{IsTrue}
 use Rattle.nd_model.specs.Running.{Input}
 use Rattle.nd_model.proofs.Entries.{same_front_reads}
 use Rattle.nd_model.specs.Notebook.{book_of}
-use Rattle.nd_schedule.specs.Source.{sheet}
+use Rattle.nd_source.specs.Source.{sheet}
 use Rattle.nd_schedule.proofs.Kept.{as_many, untouched_more}
 use Rattle.nd_schedule.proofs.notebook.Notebook.first_reader.Goals as goal
 

@@ -1,7 +1,7 @@
 use Rattle.std.proofs.Common.{◌≡◌, ℕ, ◌<◌, length}
 use Rattle.nd_model.specs.Entries.{ReadsNoOther}
 use Rattle.nd_model.specs.Notebook.{book_of, inputs_in}
-use Rattle.nd_schedule.specs.Shared.{each_of, each_some}
+use Rattle.nd_source.specs.Shared.{each_of, each_some}
 use Rattle.nd_schedule.specs.Runs.{IsRun}
 use Rattle.nd_schedule.proofs.notebook.Notebook.first_reader.Given as goal
 

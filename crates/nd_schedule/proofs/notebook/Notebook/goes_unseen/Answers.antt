@@ -3,7 +3,7 @@ use Rattle.nd_model.specs.CutOff.{IsQuiet}
 use Rattle.nd_model.specs.Entries.{record_at, entry_at, session_before}
 use Rattle.nd_model.specs.Notebook.{Sheet, book_of}
 use Rattle.nd_model.proofs.CutOff.{quiet_leaves}
-use Rattle.nd_schedule.specs.Shared.{each_of, each_some}
+use Rattle.nd_source.specs.Shared.{each_of, each_some}
 use Rattle.nd_schedule.specs.Runs.{IsRun}
 use Rattle.nd_schedule.proofs.Kept.{as_many, record_there}
 use Rattle.nd_schedule.proofs.notebook.Notebook.goes_unseen.Goals as goal

@@ -2,7 +2,7 @@ use Rattle.std.proofs.Common.{refl, ap, ◌∙◌, arith}
 use Rattle.nd_model.proofs.EditLabels.{insert_distinct}
 use Rattle.nd_model.specs.Book.{fresh_label}
 use Rattle.nd_model.specs.Notebook.{Sheet, book_of}
-use Rattle.nd_schedule.specs.Source.{cells_of}
+use Rattle.nd_source.specs.Source.{cells_of}
 use Rattle.nd_schedule.proofs.Edits.{same_distinct, same_counts, same_sheet, is_inserted, kept_inserted}
 use Rattle.nd_schedule.proofs.notebook.Notebook.insert.Goals as goal
 

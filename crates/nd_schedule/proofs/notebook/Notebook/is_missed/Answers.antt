@@ -3,7 +3,7 @@ use Rattle.nd_model.specs.Book.{Book}
 use Rattle.nd_model.specs.Entries.{record_at, entry_at}
 use Rattle.nd_model.specs.Notebook.{Sheet, book_of}
 use Rattle.nd_model.specs.Overlay.{IsApart, Misses}
-use Rattle.nd_schedule.specs.Shared.{each_of, each_some}
+use Rattle.nd_source.specs.Shared.{each_of, each_some}
 use Rattle.nd_schedule.specs.Runs.{IsRun}
 use Rattle.nd_schedule.proofs.Kept.{as_many, record_there}
 use Rattle.nd_schedule.proofs.notebook.Notebook.is_missed.Goals as goal

@@ -3,9 +3,9 @@ use Rattle.std.proofs.lemmas.List.{length-map}
 use Rattle.std.specs.declared.rc.Rc.{Rc}
 use Rattle.nd_model.specs.Entries.{session_before}
 use Rattle.nd_model.specs.Notebook.{Sheet, book_of}
-use Rattle.nd_schedule.specs.declared.source.Source.{Source}
-use Rattle.nd_schedule.specs.Source.{cell_of}
-use Rattle.nd_schedule.specs.Shared.{each_of, each_some, some_of}
+use Rattle.nd_source.specs.declared.source.Source.{Source}
+use Rattle.nd_source.specs.Source.{cell_of}
+use Rattle.nd_source.specs.Shared.{each_of, each_some, some_of}
 use Rattle.nd_schedule.specs.Runs.{AreVersions, IsLast, IsRun}
 use Rattle.nd_schedule.proofs.Kept.{last_there}
 use Rattle.nd_schedule.proofs.Steps.{both_ok}

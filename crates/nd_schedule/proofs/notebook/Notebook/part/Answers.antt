@@ -1,7 +1,7 @@
 use Rattle.std.proofs.Common.{◌≡◌, ◌-◌, length, take, drop, ap, subst, ◌∙◌, arith}
 use Rattle.nd_model.specs.Notebook.{Sheet, book_of}
-use Rattle.nd_schedule.specs.Source.{cell_of, cells_of}
-use Rattle.nd_schedule.specs.Shared.{each_of, each_some}
+use Rattle.nd_source.specs.Source.{cell_of, cells_of}
+use Rattle.nd_source.specs.Shared.{each_of, each_some}
 use Rattle.nd_schedule.specs.Runs.{IsRun}
 use Rattle.nd_schedule.proofs.Kept.{as_many}
 use Rattle.nd_schedule.proofs.Passes.{part_shared, kept_part_of}

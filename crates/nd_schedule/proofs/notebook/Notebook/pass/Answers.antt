@@ -4,8 +4,8 @@ use Rattle.nd_model.specs.Book.{Book}
 use Rattle.nd_model.specs.CutOff.{SharesBack, UnreadRest}
 use Rattle.nd_model.specs.Notebook.{Sheet, book_of}
 use Rattle.nd_model.proofs.CutOff.{cut_off_reads}
-use Rattle.nd_schedule.specs.Source.{cell_of, cells_of}
-use Rattle.nd_schedule.specs.Shared.{each_of, each_some}
+use Rattle.nd_source.specs.Source.{cell_of, cells_of}
+use Rattle.nd_source.specs.Shared.{each_of, each_some}
 use Rattle.nd_schedule.specs.Runs.{IsRun, with_part}
 use Rattle.nd_schedule.proofs.Passes.{counts_stale, none_yet, length_with}
 use Rattle.nd_schedule.proofs.Cut.{front_none, records_none, unseen_middle, end_same}

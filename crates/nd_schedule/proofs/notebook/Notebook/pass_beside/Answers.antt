@@ -5,16 +5,16 @@ use Rattle.nd_model.specs.Book.{Book}
 use Rattle.nd_model.specs.CutOff.{UnreadRest}
 use Rattle.nd_model.specs.Entries.{record_at, entry_at, session_before}
 use Rattle.nd_model.specs.Notebook.{Sheet, book_of}
-use Rattle.nd_schedule.specs.declared.source.Source.{Source}
-use Rattle.nd_schedule.specs.Source.{cell_of, cells_of}
-use Rattle.nd_schedule.specs.Shared.{each_of, each_some, some_of}
+use Rattle.nd_source.specs.declared.source.Source.{Source}
+use Rattle.nd_source.specs.Source.{cell_of, cells_of}
+use Rattle.nd_source.specs.Shared.{each_of, each_some, some_of}
 use Rattle.nd_schedule.specs.Runs.{AreMissed, CountsFront, IsRun, with_part}
 use Rattle.nd_schedule.proofs.Added.{counts_upto, lost_middle, record_missed}
 use Rattle.nd_schedule.proofs.Cut.{version_more}
 use Rattle.nd_schedule.proofs.Kept.{after_replay, as_many, holds_before, record_there}
 use Rattle.nd_schedule.proofs.Known.{old_there}
 use Rattle.nd_schedule.proofs.Passes.{counts_stale, length_more, records_push, version_made}
-use Rattle.nd_schedule.proofs.Spliced.{length-splice}
+use Rattle.nd_source.proofs.Spliced.{length-splice}
 use Rattle.nd_schedule.proofs.notebook.Notebook.pass_beside.Goals as goal
 
 pub returns-in_default-clause-ok : goal.returns-in_default-clause-ok

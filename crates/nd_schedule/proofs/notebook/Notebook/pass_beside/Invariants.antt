@@ -1,8 +1,8 @@
 use Rattle.std.proofs.Common.{◌≡◌, ◌+◌, ◌≤◌, length}
 use Rattle.nd_model.specs.Entries.{session_before}
 use Rattle.nd_model.specs.Notebook.{book_of}
-use Rattle.nd_schedule.specs.Source.{cells_of}
-use Rattle.nd_schedule.specs.Shared.{each_of, each_some}
+use Rattle.nd_source.specs.Source.{cells_of}
+use Rattle.nd_source.specs.Shared.{each_of, each_some}
 use Rattle.nd_schedule.specs.Runs.{AreKnown, AreRecords, IsFront, IsRun, with_part}
 use Rattle.nd_schedule.proofs.notebook.Notebook.pass_beside.Given as goal
 

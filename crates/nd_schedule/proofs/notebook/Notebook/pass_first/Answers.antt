@@ -8,9 +8,9 @@ use Rattle.nd_model.specs.Entries.{record_at, entry_at, session_before}
 use Rattle.nd_model.specs.Notebook.{Sheet, book_of}
 use Rattle.nd_model.specs.Overlay.{IsOverlay, Replaces}
 use Rattle.nd_model.specs.Records.{Record}
-use Rattle.nd_schedule.specs.declared.source.Source.{Source}
-use Rattle.nd_schedule.specs.Source.{cell_of, cells_of}
-use Rattle.nd_schedule.specs.Shared.{each_of, each_some, some_of}
+use Rattle.nd_source.specs.declared.source.Source.{Source}
+use Rattle.nd_source.specs.Source.{cell_of, cells_of}
+use Rattle.nd_source.specs.Shared.{each_of, each_some, some_of}
 use Rattle.nd_schedule.specs.Runs.{IsMeeting, IsRun, with_part}
 use Rattle.nd_schedule.proofs.Passes.{counts_stale, none_yet}
 use Rattle.nd_schedule.proofs.Added.{beside_first}
@@ -18,7 +18,7 @@ use Rattle.nd_schedule.proofs.Cut.{cut_middle, end_same}
 use Rattle.nd_schedule.proofs.First.{first_many, first_records, first_versions}
 use Rattle.nd_schedule.proofs.Known.{known_none}
 use Rattle.nd_schedule.proofs.Over.{laid_first}
-use Rattle.nd_schedule.proofs.Spliced.{length-splice}
+use Rattle.nd_source.proofs.Spliced.{length-splice}
 use Rattle.nd_schedule.proofs.Steps.{of_some}
 use Rattle.nd_schedule.proofs.notebook.Notebook.pass_first.Goals as goal
 

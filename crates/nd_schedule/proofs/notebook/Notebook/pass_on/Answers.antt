@@ -2,8 +2,8 @@ use Rattle.std.proofs.Common.{◌≡◌, ◌<◌, ◌≤◌, ◌+◌, ◌-◌, l
 use Rattle.std.proofs.lemmas.List.{length-map, map-append}
 use Rattle.nd_model.specs.Book.{Book}
 use Rattle.nd_model.specs.Notebook.{Sheet, book_of}
-use Rattle.nd_schedule.specs.Source.{cell_of, cells_of}
-use Rattle.nd_schedule.specs.Shared.{each_of, each_some, some_of}
+use Rattle.nd_source.specs.Source.{cell_of, cells_of}
+use Rattle.nd_source.specs.Shared.{each_of, each_some, some_of}
 use Rattle.nd_schedule.specs.Runs.{IsMeeting, with_part}
 use Rattle.nd_schedule.proofs.Passes.{counts_stale, version_made, length_more, length_with, records_push}
 use Rattle.nd_schedule.proofs.Cut.{version_more, cut_middle, whole_middle, end_same}

@@ -5,15 +5,15 @@ use Rattle.nd_model.specs.CutOff.{UnreadRest}
 use Rattle.nd_model.specs.Entries.{session_before}
 use Rattle.nd_model.specs.Notebook.{Sheet, book_of}
 use Rattle.nd_model.specs.Overlay.{did}
-use Rattle.nd_schedule.specs.Source.{cell_of, cells_of}
-use Rattle.nd_schedule.specs.Shared.{each_of, each_some, some_of}
+use Rattle.nd_source.specs.Source.{cell_of, cells_of}
+use Rattle.nd_source.specs.Shared.{each_of, each_some, some_of}
 use Rattle.nd_schedule.specs.Runs.{IsLaid, IsRun, LiesOver, with_part}
 use Rattle.nd_schedule.proofs.Passes.{counts_stale, version_made, length_more, records_push}
 use Rattle.nd_schedule.proofs.Cut.{version_more, whole_middle}
 use Rattle.nd_schedule.proofs.Over.{lies_over}
 use Rattle.std.specs.declared.rc.Rc.{Rc}
-use Rattle.nd_schedule.specs.declared.source.Source.{Source}
-use Rattle.nd_schedule.proofs.Spliced.{length-splice}
+use Rattle.nd_source.specs.declared.source.Source.{Source}
+use Rattle.nd_source.proofs.Spliced.{length-splice}
 use Rattle.nd_schedule.proofs.Cut.{of_match, of_no_match}
 use Rattle.nd_schedule.proofs.notebook.Notebook.pass_over.Goals as goal
 

@@ -1,7 +1,7 @@
 use Rattle.std.proofs.Common.{◌≡◌, ◌+◌, ◌<◌, ◌≤◌, ℕ, length}
 use Rattle.nd_model.specs.Notebook.{book_of}
-use Rattle.nd_schedule.specs.Source.{cells_of}
-use Rattle.nd_schedule.specs.Shared.{each_of, each_some}
+use Rattle.nd_source.specs.Source.{cells_of}
+use Rattle.nd_source.specs.Shared.{each_of, each_some}
 use Rattle.nd_schedule.specs.Runs.{AreKnown, AreRecords, CountsFront, IsFront, IsLaid, IsRun, with_part}
 use Rattle.nd_schedule.proofs.notebook.Notebook.pass_over.Given as goal
 

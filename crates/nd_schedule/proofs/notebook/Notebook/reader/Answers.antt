@@ -4,8 +4,8 @@ use Rattle.nd_model.specs.Book.{Book}
 use Rattle.nd_model.specs.Entries.{entry_at, record_at}
 use Rattle.nd_model.specs.Notebook.{Sheet, book_of}
 use Rattle.nd_model.specs.Overlay.{Misses}
-use Rattle.nd_schedule.specs.Source.{cell_of}
-use Rattle.nd_schedule.specs.Shared.{each_of, each_some}
+use Rattle.nd_source.specs.Source.{cell_of}
+use Rattle.nd_source.specs.Shared.{each_of, each_some}
 use Rattle.nd_schedule.specs.Runs.{IsRun}
 use Rattle.nd_schedule.proofs.Kept.{as_many, record_there}
 use Rattle.nd_schedule.proofs.Known.{unread_all}

@@ -1,5 +1,5 @@
 use Rattle.nd_model.specs.Notebook.{book_of}
-use Rattle.nd_schedule.specs.Shared.{each_of, each_some}
+use Rattle.nd_source.specs.Shared.{each_of, each_some}
 use Rattle.nd_schedule.specs.Runs.{AreMissed, IsRun}
 use Rattle.nd_schedule.proofs.notebook.Notebook.reader.Given as goal
 

@@ -6,15 +6,15 @@ use Rattle.nd_model.specs.Entries.{records_of}
 use Rattle.nd_model.specs.Notebook.{Sheet, book_of, inputs_in}
 use Rattle.nd_model.proofs.CutOff.{unread_same}
 use Rattle.nd_model.proofs.Lazy.{same_front}
-use Rattle.nd_schedule.specs.Source.{cell_of, cells_of, sheet}
-use Rattle.nd_schedule.specs.Shared.{each_of, each_some, some_of}
+use Rattle.nd_source.specs.Source.{cell_of, cells_of, sheet}
+use Rattle.nd_source.specs.Shared.{each_of, each_some, some_of}
 use Rattle.nd_schedule.specs.Runs.{AreNoted, IsEdit, IsRun, with_part}
 use Rattle.nd_schedule.proofs.Again.{kept_still}
 use Rattle.nd_schedule.proofs.Cut.{kept_now, left_of, middle_left, put_now}
 use Rattle.nd_schedule.proofs.Kept.{as_many}
 use Rattle.nd_schedule.proofs.Known.{noted_now}
 use Rattle.nd_schedule.proofs.Passes.{back_with}
-use Rattle.nd_schedule.proofs.Spliced.{splice_front}
+use Rattle.nd_source.proofs.Spliced.{splice_front}
 use Rattle.nd_schedule.proofs.notebook.Notebook.replace.Goals as goal
 
 pub make_versions-requires-clause-within : goal.make_versions-requires-clause-within

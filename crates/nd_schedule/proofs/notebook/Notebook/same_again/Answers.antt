@@ -2,7 +2,7 @@ use Rattle.std.proofs.Common.{◌≡◌, ◌<◌, length, ap, subst, ◌∙◌, 
 use Rattle.nd_model.specs.Entries.{record_at, entry_at}
 use Rattle.nd_model.specs.CutOff.{SameOnSession}
 use Rattle.nd_model.specs.Notebook.{Sheet, book_of}
-use Rattle.nd_schedule.specs.Shared.{each_of, each_some}
+use Rattle.nd_source.specs.Shared.{each_of, each_some}
 use Rattle.nd_schedule.specs.Runs.{IsRun}
 use Rattle.nd_schedule.proofs.Kept.{as_many, record_there}
 use Rattle.nd_schedule.proofs.notebook.Notebook.same_again.Goals as goal

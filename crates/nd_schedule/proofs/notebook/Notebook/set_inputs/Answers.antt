@@ -4,8 +4,8 @@ use Rattle.std.specs.List.{splice}
 use Rattle.nd_model.specs.Entries.{records_of, SharesFront}
 use Rattle.nd_model.specs.Notebook.{Sheet, book_of}
 use Rattle.nd_model.specs.Stale.{CountsStale, kept_of}
-use Rattle.nd_schedule.specs.Source.{cell_of, cells_of, sheet}
-use Rattle.nd_schedule.specs.Shared.{each_of, each_some, some_of}
+use Rattle.nd_source.specs.Source.{cell_of, cells_of, sheet}
+use Rattle.nd_source.specs.Shared.{each_of, each_some, some_of}
 use Rattle.nd_schedule.specs.Runs.{AreNoted, IsEdit, IsRun, with_part}
 use Rattle.nd_schedule.proofs.Again.{kept_still}
 use Rattle.nd_schedule.proofs.Cut.{kept_now, left_of, middle_left, put_now}

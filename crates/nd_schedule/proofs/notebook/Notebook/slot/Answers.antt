@@ -5,11 +5,11 @@ use Rattle.std.specs.declared.rc.Rc.{Rc}
 use Rattle.nd_model.specs.Book.{Book}
 use Rattle.nd_model.specs.Stale.{kept_of}
 use Rattle.nd_model.specs.Notebook.{Sheet, book_of}
-use Rattle.nd_schedule.specs.declared.source.Source.{Source}
-use Rattle.nd_schedule.specs.Source.{cell_of, cells_of}
-use Rattle.nd_schedule.specs.Shared.{each_of, each_some}
+use Rattle.nd_source.specs.declared.source.Source.{Source}
+use Rattle.nd_source.specs.Source.{cell_of, cells_of}
+use Rattle.nd_source.specs.Shared.{each_of, each_some}
 use Rattle.nd_schedule.specs.Runs.{IsRun}
-use Rattle.nd_schedule.proofs.Spliced.{length-splice}
+use Rattle.nd_source.proofs.Spliced.{length-splice}
 use Rattle.nd_schedule.proofs.Kept.{as_many}
 use Rattle.nd_schedule.proofs.Passes.{cell_there, old_there, behind_there, kept_at, kept_again, kept_here, below}
 use Rattle.nd_schedule.proofs.notebook.Notebook.slot.Goals as goal

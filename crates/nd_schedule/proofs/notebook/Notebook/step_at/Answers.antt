@@ -5,8 +5,8 @@ use Rattle.nd_model.specs.Entries.{record_at, entry_at, session_before}
 use Rattle.nd_model.specs.Notebook.{Sheet, book_of}
 use Rattle.nd_model.specs.Stale.{kept_of}
 use Rattle.nd_model.proofs.CutOff.{cut_off_reads}
-use Rattle.nd_schedule.specs.Source.{cell_of, cells_of}
-use Rattle.nd_schedule.specs.Shared.{each_of, each_some, some_of}
+use Rattle.nd_source.specs.Source.{cell_of, cells_of}
+use Rattle.nd_source.specs.Shared.{each_of, each_some, some_of}
 use Rattle.nd_schedule.specs.Runs.{IsMeeting, IsMet, IsRun, with_part}
 use Rattle.nd_schedule.proofs.Passes.{none_there, kept_there, counts_more, counts_same, session_more, entry_is}
 use Rattle.nd_schedule.proofs.Cut.{both_some, rest_met, met_there}

@@ -5,15 +5,15 @@ use Rattle.nd_model.specs.CutOff.{UnreadRest}
 use Rattle.nd_model.specs.Entries.{record_at, entry_at}
 use Rattle.nd_model.specs.Notebook.{Sheet, book_of}
 use Rattle.nd_model.specs.Overlay.{Misses}
-use Rattle.nd_schedule.specs.Source.{cell_of, cells_of}
-use Rattle.nd_schedule.specs.Shared.{each_of, each_some}
+use Rattle.nd_source.specs.Source.{cell_of, cells_of}
+use Rattle.nd_source.specs.Shared.{each_of, each_some}
 use Rattle.nd_schedule.specs.Runs.{IsRun, with_part}
 use Rattle.nd_schedule.proofs.Kept.{as_many, record_there}
 use Rattle.nd_schedule.proofs.Passes.{counts_same}
 use Rattle.nd_schedule.proofs.Over.{laid_met, laid_missed, lies_over, record_missed}
 use Rattle.std.specs.declared.rc.Rc.{Rc}
-use Rattle.nd_schedule.specs.declared.source.Source.{Source}
-use Rattle.nd_schedule.proofs.Spliced.{length-splice}
+use Rattle.nd_source.specs.declared.source.Source.{Source}
+use Rattle.nd_source.proofs.Spliced.{length-splice}
 use Rattle.nd_schedule.proofs.Known.{old_there}
 use Rattle.nd_schedule.proofs.notebook.Notebook.step_over.Goals as goal
 

@@ -1,7 +1,7 @@
 use Rattle.std.proofs.Common.{ap, ◌∙◌}
 use Rattle.nd_model.specs.Book.{Cell}
 use Rattle.nd_model.specs.Notebook.{Sheet}
-use Rattle.nd_schedule.specs.Source.{cell_of}
+use Rattle.nd_source.specs.Source.{cell_of}
 use Rattle.nd_schedule.proofs.Edits.{label_at}
 use Rattle.nd_schedule.proofs.notebook.Notebook.text.Goals as goal
 

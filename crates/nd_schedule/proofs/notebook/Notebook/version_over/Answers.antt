@@ -4,7 +4,7 @@ use Rattle.nd_model.specs.Book.{Book}
 use Rattle.nd_model.specs.Entries.{session_before}
 use Rattle.nd_model.specs.Notebook.{Sheet, book_of}
 use Rattle.nd_model.specs.Overlay.{did}
-use Rattle.nd_schedule.specs.Shared.{each_of, each_some}
+use Rattle.nd_source.specs.Shared.{each_of, each_some}
 use Rattle.nd_schedule.specs.Runs.{IsRun}
 use Rattle.nd_schedule.proofs.Kept.{version_there}
 use Rattle.nd_model.specs.Overlay.{IsOnce, IsUnder}

@@ -1,0 +1,88 @@
+//! The common shape of the arrays of an index.
+ghost use Rattle.std.specs.Prelude.{◌≡◌, ◌^◌, ◌≤◌, [], length, map, Some, IfOk, IsTrue};
+ghost use Rattle.std.specs.Option.{option_map};
+ghost use Rattle.nd_model.specs.Advanced as model;
+ghost use Rattle.nd_model.specs.Element.{size_of};
+ghost use Rattle.nd_index.specs.Counts.{true_count};
+ghost use Rattle.nd_index.specs.Items.{item_of, items_of, numbers_of};
+ghost use Rattle.nd_index.specs.Packed.{IsPacked};
+
+use crate::item::{IndexArray, Item};
+use crate::reading::{is_packed, read_at};
+use nd_shape::broadcast;
+use nd_types::{Elem, Kind};
+use nd_view::{Run, Shape};
+use smallvec::SmallVec;
+use std::alloc::{AllocError, Global};
+
+// How many numbers of a run are not 0.
+#[inline(always)]
+fn count_each(elem: Elem, bytes: &[u8], run: &Run, packed: bool) -> u64
+    requires few { length run.now ≤ 2 ^ 24 }
+    requires packed { IsTrue packed → IsPacked (size_of elem.kind) (length bytes.now) run.now }
+    ensures { result ≡ true_count elem bytes.now run.now }
+{
+    let mut count = 0;
+    for at in 0..run.count() {
+        let number = read_at(bytes, run, at, elem, packed);
+        if number != 0 {
+            count += 1;
+        }
+    }
+    count
+}
+
+// The same, by a loop for Booleans side by side alone.
+fn count_in(elem: Elem, bytes: &[u8], run: &Run) -> u64
+    requires { length run.now ≤ 2 ^ 24 }
+    ensures { result ≡ true_count elem bytes.now run.now }
+{
+    let known = Elem::little(Kind::Bool);
+    if elem == known && is_packed(run, 1, bytes.len()) {
+        count_each(known, bytes, run, true)
+    } else {
+        count_each(elem, bytes, run, false)
+    }
+}
+
+/// How many elements of a mask are true.
+pub fn count_true(mask: &IndexArray<'_>) -> u64
+    ensures value { result ≡ length (model.true_numbers 0
+        (map model.is_nonzero (numbers_of mask.now))) }
+    ensures few { result ≤ 2 ^ 24 }
+{
+    let _count = mask.view.count();
+    let mut count = 0;
+    let mut runs = mask.view.runs();
+    while let Some(run) = runs.next() {
+        count += count_in(*mask.elem, mask.bytes, &run);
+    }
+    count
+}
+
+// The common shape of those before and an item, `None` where there is none.
+fn join(alloc: Global, shape: &[u64], item: &Item<'_>) -> Result<Option<Shape>, AllocError>
+    ensures { IfOk result (λ found. option_map (λ v. v.items) found
+        ≡ model.joined_shape shape.now (item_of item.now)) }
+{
+    match item {
+        Item::Basic(_) => Ok(Some(SmallVec::from_slice(alloc, shape)?)),
+        Item::Numbers(array) => broadcast(alloc, shape, array.view.shape()),
+        Item::Mask(mask) => broadcast(alloc, shape, &[count_true(mask)]),
+    }
+}
+
+/// The shape to which all arrays broadcast, `None` where there is none. Of whole numbers alone it has no axes.
+pub fn common_shape(alloc: Global, items: &[Item<'_>]) -> Result<Option<Shape>, AllocError>
+    ensures { IfOk result (λ found. option_map (λ v. v.items) found
+        ≡ model.common_shape (Some []) (items_of items.now)) }
+{
+    let mut shape = SmallVec::new(alloc);
+    for item in items {
+        match join(alloc, shape.as_slice(), item)? {
+            Some(joined) => shape = joined,
+            None => return Ok(None),
+        }
+    }
+    Ok(Some(shape))
+}

@@ -1,5 +1,5 @@
 //! Advanced indexes: elements that positions and masks choose, and assignments to them.
-ghost use Rattle.std.specs.Prelude.{◌<◌, ◌≤◌, ◌+◌, ◌^◌, ◌≡◌, length, IsTrue};
+ghost use Rattle.std.specs.Prelude.{◌<◌, ◌≤◌, ◌+◌, ◌^◌, ◌≡◌, length, IfOk, IfSome, IsTrue};
 ghost use Rattle.std.specs.List.{All};
 ghost use Rattle.nd_model.specs.Sound.{LiesIn};
 ghost use Rattle.nd_model.specs.Strides.{IsInLimits};
@@ -38,8 +38,8 @@ struct Chosen<'v> {
     places: Places,
     nanos: u128,
     ghost limits: { IsInLimits (item_size view.now.element) places.shape.items },
-    ghost count: { length places.places.items ≡ elements_of places.shape.items },
-    ghost ends: { All (λ p. p + item_size view.now.element ≤ 2 ^ 64) places.places.items },
+    ghost count: { length places.places ≡ elements_of places.shape.items },
+    ghost ends: { All (λ p. p + item_size view.now.element ≤ 2 ^ 64) places.places },
 }
 
 // A new array, and how many nanoseconds it took to make it.
@@ -101,17 +101,20 @@ fn choose<'v>(rt: &HostRuntime, view: &'v View, items: &[Item<'_>]) -> io::Resul
     })
 }
 
-// Whether each chosen element lies in so many bytes.
-fn lie_in(chosen: &Chosen<'_>, len: usize) -> bool
-    ensures { IsTrue result → LiesIn len (view_at chosen.now.view.now chosen.now.places) }
+// How many elements are chosen, if each lies in so many bytes.
+fn count_within(alloc: Global, chosen: &Chosen<'_>, len: usize) -> Result<Option<usize>, AllocError>
+    ensures { IfOk result (λ found. IfSome found (λ n.
+        LiesIn len (view_at chosen.now.view.now chosen.now.places))) }
 {
+    let mut room = Vec::new(alloc);
+    let places = chosen.places.places.lend(&mut room)?;
     let size = chosen.view.elem().size();
-    for place in chosen.places.places.as_slice() {
+    for place in places {
         if size > len as u64 || *place > len as u64 - size {
-            return false;
+            return Ok(None);
         }
     }
-    true
+    Ok(Some(places.len()))
 }
 
 // Whether a value may be assigned to chosen elements.
@@ -159,20 +162,23 @@ fn write_chosen(
     Ok(())
 }
 
-// How many nanoseconds that takes.
-fn time_of_write(
+// Does that, and tells how many elements there are and how many nanoseconds it took.
+fn time_write(
     rt: &HostRuntime,
     chosen: &Chosen<'_>,
     block: &mut RawBlock,
     source: Source<'_>,
-) -> io::Result<u128> {
+) -> io::Result<(usize, u128)> {
     let len = block.len();
-    if !lie_in(chosen, len) || !may_be_assigned(chosen, &source, len) {
+    let Some(count) = count_within(rt.alloc(), chosen, len)? else {
+        return Err(invalid_input());
+    };
+    if !may_be_assigned(chosen, &source, len) {
         return Err(invalid_input());
     }
     let start = Instant::now(rt)?;
     write_chosen(rt.alloc(), chosen, block, source)?;
-    Ok(start.elapsed(rt)?.as_nanos())
+    Ok((count, start.elapsed(rt)?.as_nanos()))
 }
 
 // Adds one to each element of a copy, and makes a new array of the sums, as an operator in place does.
@@ -207,7 +213,7 @@ fn gather_once(
     let chosen = choose(rt, view, items)?;
     let made = gather_chosen(rt, &chosen, block.as_slice())?;
     let nanos = chosen.nanos.saturating_add(made.nanos);
-    Ok(Turn::of_bytes(chosen.places.places.len(), &made.block, nanos))
+    Ok(Turn::of_bytes(made.view.count(), &made.block, nanos))
 }
 
 // Chooses elements of a view and assigns to them. The sum is that of the bytes of the block.
@@ -219,26 +225,30 @@ fn scatter_once(
     source: Source<'_>,
 ) -> io::Result<Turn> {
     let chosen = choose(rt, view, items)?;
-    let nanos = time_of_write(rt, &chosen, block, source)?;
+    let (count, nanos) = time_write(rt, &chosen, block, source)?;
     let nanos = chosen.nanos.saturating_add(nanos);
-    Ok(Turn::of_bytes(chosen.places.places.len(), block, nanos))
+    Ok(Turn::of_bytes(count, block, nanos))
 }
 
-// Adds one to the chosen elements of a block.
-fn add_to_chosen(rt: &HostRuntime, chosen: &Chosen<'_>, block: &mut RawBlock) -> io::Result<u128> {
+// Adds one to the chosen elements of a block, and tells how many there are and how many nanoseconds it took.
+fn add_to_chosen(
+    rt: &HostRuntime,
+    chosen: &Chosen<'_>,
+    block: &mut RawBlock,
+) -> io::Result<(usize, u128)> {
     let sums = gather_and_add(rt, chosen, block.as_slice())?;
     let source = Source::Other(&sums.view, sums.block.as_slice());
-    let nanos = time_of_write(rt, chosen, block, source)?;
-    Ok(nanos.saturating_add(sums.nanos))
+    let (count, nanos) = time_write(rt, chosen, block, source)?;
+    Ok((count, nanos.saturating_add(sums.nanos)))
 }
 
 // Chooses elements of a new block of positions and adds one to each. The sum is that of the bytes of the block.
 fn add_once(rt: &HostRuntime, view: &View, items: &[Item<'_>]) -> io::Result<Turn> {
     let mut block = positions(rt.alloc(), COUNT, MOST)?;
     let chosen = choose(rt, view, items)?;
-    let nanos = add_to_chosen(rt, &chosen, &mut block)?;
+    let (count, nanos) = add_to_chosen(rt, &chosen, &mut block)?;
     let nanos = chosen.nanos.saturating_add(nanos);
-    Ok(Turn::of_bytes(chosen.places.places.len(), &block, nanos))
+    Ok(Turn::of_bytes(count, &block, nanos))
 }
 
 // Prints the name of a new array of what is chosen, how many elements there are, the sum of their bytes, and the fewest nanoseconds that

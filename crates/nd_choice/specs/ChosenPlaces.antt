@@ -9,5 +9,5 @@ use Rattle.nd_fancy.specs.declared.choosing.Places.{Places}
 -- in the limits of arrays, one place for each element
 pub record AreChosen (g : Geo) (p : Places) : Type 0 where
   pub limits : IsInLimits (item_size g.element) p.shape.items
-  pub count : length p.places.items ≡ elements_of p.shape.items
-  pub ends : All (λ q. q + item_size g.element ≤ 2 ^ 64) p.places.items
+  pub count : length p.places ≡ elements_of p.shape.items
+  pub ends : All (λ q. q + item_size g.element ≤ 2 ^ 64) p.places

@@ -17,7 +17,7 @@ use crate::argument::Argument;
 use crate::in_place::RightSide;
 use crate::own::OwnElements;
 use crate::stretched::{Stretched, side_kind, stretch, stretch_view};
-use nd_loops::{Feed, Side};
+use nd_loops::{CHUNK, Feed, ROOM, Side};
 use nd_types::{Elem, ElemType, Kind};
 use nd_view::View;
 use std::alloc::{AllocError, Global};
@@ -41,7 +41,7 @@ impl<'v> LeftBeside<'v> {
     /// Takes so many numbers, as they stand in the block now. Those that are converted lie in the buffer.
     pub(crate) fn take<'b>(
         &mut self,
-        buffer: &'b mut [u8],
+        buffer: &'b mut [u8; CHUNK],
         block: &'b [u8],
         count: usize,
     ) -> Side<'b>
@@ -50,7 +50,7 @@ impl<'v> LeftBeside<'v> {
         requires some { 0 < count }
         requires enough { count ≤ length (left_beside self.old block.now) }
         requires held { HeldBeside self.old (length block.now) }
-        requires buffer { count * size_beside self.old ≤ length buffer.old }
+        requires buffer { count * size_beside self.old ≤ 4096 }
         ensures enough { HasNumbers result count }
         ensures numbers { left_beside self.old block.now
             ≡ numbers_on result count ++ left_beside self.new block.now }
@@ -79,8 +79,13 @@ impl<'v> LeftBeside<'v> {
 }
 
 impl<'v> Beside<'v> {
-    /// Begins with all numbers of a shape that has so many elements. They are wanted in a kind.
-    pub(crate) fn begin(&self, kind: Kind, count: usize) -> LeftBeside<'_>
+    /// Begins with all numbers of a shape that has so many elements. They are wanted in a kind. Those of a cycle lie in the room.
+    pub(crate) fn begin<'b>(
+        &'b self,
+        kind: Kind,
+        count: usize,
+        room: &'b mut [u8; ROOM],
+    ) -> LeftBeside<'b>
         requires fixed { IsFixedHeld self.now }
         ensures numbers { (bytes : List ℕ) → left_beside result bytes
             ≡ beside_numbers self.now count bytes }
@@ -89,7 +94,7 @@ impl<'v> Beside<'v> {
             → StaysBeside result first step 0 }
     {
         match self {
-            Beside::Fixed(numbers) => LeftBeside::Fixed(numbers.begin(kind, count)),
+            Beside::Fixed(numbers) => LeftBeside::Fixed(numbers.begin(kind, count, room)),
             Beside::Own(view, elem) => {
                 let kind = side_kind(kind, elem.kind());
                 LeftBeside::Own(OwnElements::new(view, *elem, kind))

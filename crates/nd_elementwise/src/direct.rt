@@ -17,7 +17,7 @@ use crate::replacing::replace_numbers;
 use crate::results::operand_kind;
 use nd_block::RawBlock;
 use nd_loops::operation::Operation;
-use nd_loops::{CHUNK, operation as functions};
+use nd_loops::{CHUNK, ROOM, operation as functions};
 use nd_syntax::BinaryOp;
 use nd_types::{Elem, ElemType, Kind};
 use nd_view::{Run, View};
@@ -66,7 +66,8 @@ impl<'v> Direct<'v> {
     {
         let kind = operand_kind::<O>(self.kind, Some(self.elem.kind()), self.beside.kind());
         let count = self.run.count() as usize;
-        let mut beside = self.beside.begin(kind, count);
+        let mut room = [0; ROOM];
+        let mut beside = self.beside.begin(kind, count, &mut room);
         replace_numbers::<O>(
             bytes,
             self.elem,

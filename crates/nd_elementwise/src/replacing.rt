@@ -55,7 +55,7 @@ fn find_results<'v, 'b, O: Operation>(
     part: &Run,
     beside: &mut LeftBeside<'v>,
     left_buffer: &'b mut [u8],
-    right_buffer: &'b mut [u8],
+    right_buffer: &'b mut [u8; CHUNK],
 )
 where
     'v: 'b,
@@ -66,7 +66,7 @@ where
     requires keeps { Keeps kinds.now.elem.kind (kind_of kinds.now.own) }
     requires left_buffer { length part.now * size_of (kind_of kinds.now.own)
         ≤ length left_buffer.old }
-    requires right_buffer { length part.now * size_beside beside.old ≤ length right_buffer.old }
+    requires right_buffer { length part.now * size_beside beside.old ≤ 4096 }
     ensures out { out.new ≡ result_bytes (little (kind_of kinds.now.results))
         (O.gives (kind_of kinds.now.results)) (numbers_at kinds.now.elem block.now part.now)
         (take (length part.now) (left_beside beside.old block.now)) }

@@ -13,7 +13,7 @@ ghost use Rattle.nd_elementwise.specs.Stretched.{HasCount, IsHeld, stretched_num
 use crate::stretched::Stretched;
 use nd_block::{Filling, RawBlock};
 use nd_loops::operation::Operation;
-use nd_loops::{fill, operation as functions};
+use nd_loops::{ROOM, fill, operation as functions};
 use nd_syntax::{BinaryOp, UnaryOp};
 use nd_types::{Kind, promote};
 use nd_ufunc::{BinaryUfunc, Single};
@@ -55,8 +55,10 @@ fn results<O: Operation>(
 {
     let kind = operand_kind::<O>(to, left.kind(), right.kind());
     let mut out = Filling::with_room(alloc, count * to.size() as usize)?;
-    let mut left = left.begin(kind, count);
-    let mut right = right.begin(kind, count);
+    let mut left_room = [0; ROOM];
+    let mut right_room = [0; ROOM];
+    let mut left = left.begin(kind, count, &mut left_room);
+    let mut right = right.begin(kind, count, &mut right_room);
     fill::<O>(&mut out, to, kind, &mut left, &mut right, count);
     Ok(out.finish())
 }

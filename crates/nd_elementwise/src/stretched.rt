@@ -14,7 +14,7 @@ ghost use Rattle.nd_loops.specs.Sides.{Keeps};
 ghost use Rattle.nd_elementwise.specs.Stretched.{IsHeld, stretched_numbers};
 
 use crate::argument::Argument;
-use nd_loops::{Elements, Feed, Repeated};
+use nd_loops::{Feed, ROOM, Repeated};
 use nd_shape::broadcast_to;
 use nd_types::{Elem, ElemType, Kind, highest, lowest};
 use nd_ufunc::whole_number;
@@ -88,8 +88,13 @@ pub(crate) fn side_kind(kind: Kind, own: Kind) -> Kind
 }
 
 impl<'v> Stretched<'v> {
-    /// Begins with all numbers of a shape that has so many elements. They are wanted in a kind.
-    pub(crate) fn begin(&self, kind: Kind, count: usize) -> Feed<'_>
+    /// Begins with all numbers of a shape that has so many elements. They are wanted in a kind. Those of a cycle lie in the room.
+    pub(crate) fn begin<'b>(
+        &'b self,
+        kind: Kind,
+        count: usize,
+        room: &'b mut [u8; ROOM],
+    ) -> Feed<'b>
         requires { IsHeld self.now }
         ensures { numbers_left result ≡ stretched_numbers self.now count }
     {
@@ -97,7 +102,7 @@ impl<'v> Stretched<'v> {
             Stretched::Number(number) => Feed::Number(Repeated::new(*number, count)),
             Stretched::Elements(view, elem, bytes) => {
                 let kind = side_kind(kind, elem.kind());
-                Feed::All(Elements::new(view, bytes, *elem, kind))
+                Feed::of_view(view, bytes, *elem, kind, room)
             }
         }
     }

@@ -165,9 +165,11 @@ impl Evaluator<'_> {
             (base_of base) g (ACopy (selected selection.now))) self.new }
         ensures types { IfOk result (IsOfType selection.now.view.element) }
     {
-        self.session
-            .mark_used_elements(base, selection.view.elem(), &selection.places.places)?;
         let alloc = self.session.allocator();
+        let mut room = Vec::new(alloc);
+        let places = selection.places.places.lend(&mut room)?;
+        self.session
+            .mark_used_elements(base, selection.view.elem(), places)?;
         let copy = copy_selection(alloc, selection, self.session.bytes(base))?;
         self.give(copy)
     }

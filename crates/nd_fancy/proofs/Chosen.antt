@@ -41,5 +41,5 @@ filled_is missing is many g h shapes common bounds e = rw (shapes, common, bound
 -- it is a view of the same elements
 pub same_view : (is : List IndexItem) (g h : Geo) → select (slices_in is) g ≡ Ok h → (r : Result Places FancyFault) (y : Result Geo Fault) → Makes (view_at h) r y → Makes (view_at g) r y
 same_view is g h e r y =
-    let same : (p : Places) → view_at h p ≡ view_at g p = λ p. ap (λ (v : Geo). record v { shape = p.shape.items; places = p.places.items }) (sym (selected_is (slices_in is) g h e)) in
+    let same : (p : Places) → view_at h p ≡ view_at g p = λ p. ap (λ (v : Geo). record v { shape = p.shape.items; places = p.places }) (sym (selected_is (slices_in is) g h e)) in
     subst (λ (v : Places → Geo). Makes v r y) (λ i p. same p i)

@@ -1,5 +1,6 @@
 mod Alike
 mod Chosen
+mod Forms
 mod NearWays
 mod Numbers
 mod Placed

@@ -1,16 +1,15 @@
 -- Ways that are near, one after another.
-use Rattle.std.proofs.Common.{◌≡◌, ℕ, zero, suc, ◌+◌, ◌*◌, ◌^◌, ◌<◌, ◌≤◌, List, [], ◌∷◌, ◌++◌, map, length, take, get_or, refl, sym, subst, arith}
-use Rattle.std.specs.Prelude.{ℤ, pos, ◌+ℤ◌, ◌*ℤ◌, unsigned_abs}
+use Rattle.std.proofs.Common.{◌≡◌, ℕ, zero, suc, ◌+◌, ◌<◌, List, [], ◌∷◌, ◌++◌, map, length, take, get_or, refl, sym, subst, arith}
+use Rattle.std.specs.Prelude.{ℤ, pos, ◌+ℤ◌, ◌*ℤ◌}
 use Rattle.std.specs.List.{All}
-use Rattle.std.proofs.Math.Nat.{mul-le-mul}
-use Rattle.std.proofs.lemmas.Int.{ints, unsigned_abs-mul}
+use Rattle.std.proofs.lemmas.Int.{ints}
 use Rattle.std.proofs.lemmas.List.{take_more}
 use Rattle.std.proofs.lemmas.List.Elements.{All-append}
 use Rattle.nd_fancy.specs.Direct.{chosen_places, row_places, way_on}
-use Rattle.nd_fancy.specs.Near.{IsNear}
-use Rattle.nd_fancy.specs.Ways.{place_on}
+use Rattle.nd_places.specs.Near.{IsNear}
+use Rattle.nd_places.specs.Near.{place_on}
 use Rattle.nd_fancy.specs.declared.axes.Axes.{Axes}
-use Rattle.nd_fancy.specs.declared.near.Line.{Line}
+use Rattle.nd_places.specs.declared.line.Line.{Line}
 use Rattle.nd_fancy.specs.declared.row.Row.{Row}
 
 alone : (way : ℤ) → IsNear way → All IsNear (way ∷ [])
@@ -29,9 +28,3 @@ on_line row axes line is (k ∷ ks) = (λ i. is k i ++ on_line row axes line is 
 
 pub joined : (start way first sum step : ℤ) → sum ≡ start +ℤ first → step ≡ way → (start +ℤ way) +ℤ first ≡ sum +ℤ step
 joined start way first sum step is same = omega (arith, ints, is, same)
-
--- how far an element of a line is
-pub near_product : (k : ℕ) (step : ℤ) → k ≤ 2 ^ 32 → unsigned_abs step ≤ 2 ^ 29 → unsigned_abs (pos k *ℤ step) ≤ 2 ^ 61
-near_product k step few near =
-    let product : k * unsigned_abs step ≤ 2 ^ 32 * 2 ^ 29 = mul-le-mul few near in
-    rw (unsigned_abs-mul (pos k) step) product

@@ -6,7 +6,7 @@ use Rattle.std.proofs.lemmas.Int.{ints}
 use Rattle.nd_model.specs.Advanced.{unravelled}
 use Rattle.nd_model.specs.Strides.{way_to}
 use Rattle.nd_model.specs.Tuple.{elements_of}
-use Rattle.nd_index.proofs.Fronts.{drop_one}
+use Rattle.nd_places.proofs.Fronts.{drop_one}
 
 elements_split : (a : ℕ) (shape : List ℕ) → elements_of shape ≡ elements_of (take a shape) * elements_of (drop a shape)
 elements_split zero shape = omega arith

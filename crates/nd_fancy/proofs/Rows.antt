@@ -2,8 +2,9 @@
 use Rattle.std.proofs.Common.{◌≡◌, ℕ, zero, suc, ◌+◌, ◌^◌, ◌<◌, ◌≤◌, List, [], ◌∷◌, ◌++◌, map, length, take, drop, get_or, refl, sym, ap, ◌∙◌, arith, append_assoc}
 use Rattle.std.specs.Prelude.{ℤ, pos, ◌+ℤ◌, unsigned_abs}
 use Rattle.std.specs.List.{flat_map}
-use Rattle.nd_fancy.specs.Ways.{AreNear, sums_at, place_on, sums_of}
-use Rattle.nd_index.proofs.Fronts.{drop_one}
+use Rattle.nd_fancy.specs.Ways.{AreNear, sums_at, sums_of}
+use Rattle.nd_places.specs.Near.{place_on}
+use Rattle.nd_places.proofs.Fronts.{drop_one}
 use Rattle.nd_fancy.proofs.Pushed.{mapped_again, joined_again}
 use Rattle.nd_fancy.proofs.Spreads.{added_next}
 

@@ -16,14 +16,15 @@ use Rattle.nd_view.proofs.Tuples.{flat_map_same, map_same}
 use Rattle.nd_element.specs.Elements.{numbers_at}
 use Rattle.nd_fancy.specs.Direct.{chosen_places, is_spread, row_places, way_on}
 use Rattle.nd_fancy.specs.Takes.{axes_taken, take_of, takes_of}
-use Rattle.nd_fancy.specs.Ways.{place_on, way_by, way_taken}
+use Rattle.nd_fancy.specs.Ways.{way_by, way_taken}
+use Rattle.nd_places.specs.Near.{place_on}
 use Rattle.nd_fancy.specs.declared.axes.Axes.{Axes}
 use Rattle.nd_fancy.specs.declared.row.Row.{Row}
 use Rattle.nd_fancy.specs.declared.spread.Spread as spread
 use Rattle.nd_fancy.specs.declared.takes.Take as code
 use Rattle.nd_fancy.specs.declared.takes.Take.TheVariants as variants
 use Rattle.nd_fancy.proofs.Alike.{alike_ways}
-use Rattle.nd_index.proofs.Counted.{true_append}
+use Rattle.nd_places.proofs.Found.{true_append}
 use Rattle.nd_fancy.proofs.Spreads.{takes_again}
 use Rattle.nd_fancy.proofs.Pushed.{joined_again}
 

@@ -14,7 +14,7 @@ use Rattle.nd_fancy.specs.Takes.{axes_taken_by, axes_taken, kept_in, take_of, ta
 use Rattle.nd_fancy.specs.Ways.{AreNear, sums_at, kept_strides, way_by, way_taken}
 use Rattle.nd_fancy.specs.declared.takes.Take as code
 use Rattle.nd_fancy.specs.declared.takes.Take.TheVariants as variants
-use Rattle.nd_index.proofs.Fronts.{drop_one}
+use Rattle.nd_places.proofs.Fronts.{drop_one}
 use Rattle.nd_fancy.proofs.Sums.{no_way, way_append, way_take, way_near, zero_way, few_digits, length-unravelled, each_index}
 
 -- ---- one take more

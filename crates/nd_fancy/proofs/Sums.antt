@@ -18,7 +18,7 @@ use Rattle.nd_view.proofs.Indexed.{same_indexes}
 use Rattle.nd_view.proofs.Steps.{length-index}
 use Rattle.nd_view.proofs.Tuples.{map-map, map-flat_map, flat_map_same}
 use Rattle.nd_fancy.specs.Ways.{AreNear, ways, narrowed_strides, own_strides}
-use Rattle.nd_index.proofs.Fronts.{drop_one}
+use Rattle.nd_places.proofs.Fronts.{drop_one}
 
 -- ---- index tuples
 

@@ -6,7 +6,7 @@ use Rattle.nd_model.specs.Advanced.{is_nonzero, true_numbers}
 use Rattle.nd_model.specs.Content.{number_at}
 use Rattle.nd_model.specs.Element.{Element}
 use Rattle.nd_element.specs.Elements.{numbers_at}
-use Rattle.nd_index.proofs.Fronts.{drop_one}
+use Rattle.nd_places.proofs.Fronts.{drop_one}
 
 pub one_at_most : (b : Bool) (n : ℕ) → n ≡ (if b then 1 else 0) → n ≤ 1
 one_at_most true n e = omega (arith, e)

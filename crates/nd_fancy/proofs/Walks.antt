@@ -1,6 +1,6 @@
 -- The numbers that a walk has before it.
 use Rattle.std.proofs.Common.{◌≡◌, ℕ, zero, suc, ◌+◌, ◌<◌, ◌≤◌, List, [], ◌∷◌, ◌++◌, map, length, drop, get_or, refl, ap, arith}
-use Rattle.nd_index.proofs.Fronts.{drop_one}
+use Rattle.nd_places.proofs.Fronts.{drop_one}
 
 -- in a run: the next number, and those behind it
 pub in_run : {A : Type 0} (f : ℕ → A) (run rest : List ℕ) (k : ℕ) → k < length run → map f (drop k run ++ rest) ≡ f (get_or run k 0) ∷ map f (drop (k + 1) run ++ rest)

@@ -4,4 +4,4 @@ use Rattle.nd_fancy.specs.declared.choosing.Places.{Places}
 
 -- the elements of a view at these places
 abbrev pub view_at : Geo → Places → Geo
-view_at g p = record g { shape = p.shape.items; places = p.places.items }
+view_at g p = record g { shape = p.shape.items; places = p.places }

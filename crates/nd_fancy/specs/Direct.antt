@@ -1,10 +1,11 @@
 -- The places that one array chooses alone.
-use Rattle.std.specs.Prelude.{ℕ, Bool, true, false, ℤ, ◌+ℤ◌, List, map}
+use Rattle.std.specs.Prelude.{ℕ, Bool, true, false, ℤ, pos, ◌+ℤ◌, List, map}
 use Rattle.std.specs.List.{flat_map}
 use Rattle.nd_model.specs.Advanced as model
 use Rattle.nd_model.specs.Strides.{way_to}
-use Rattle.nd_fancy.specs.Ways.{place_on}
+use Rattle.nd_places.specs.Near.{place_on}
 use Rattle.nd_fancy.specs.declared.axes.Axes.{Axes}
+use Rattle.nd_fancy.specs.declared.row.KeptWays.{KeptWays}
 use Rattle.nd_fancy.specs.declared.row.Row.{Row}
 
 -- how far the element of a number leads
@@ -18,6 +19,10 @@ row_places row way = map (λ z. place_on ((row.start +ℤ way) +ℤ z)) row.ways
 -- those of the rows of these numbers
 abbrev pub chosen_places : Row → Axes → List ℕ → List ℕ
 chosen_places row axes ks = flat_map (λ k. row_places row (way_on axes k)) ks
+
+-- those of the elements of these numbers, for all ways of the kept axes before the array's and behind them
+abbrev pub places_beside : KeptWays → Axes → List ℕ → List ℕ
+places_beside kept axes ks = flat_map (λ b. flat_map (λ k. map (λ z. place_on (((pos kept.offset +ℤ b) +ℤ way_on axes k) +ℤ z)) kept.behind.now) ks) kept.before.now
 
 abbrev pub is_spread : model.Take → Bool
 is_spread model.Whole = false

@@ -1,7 +1,6 @@
 pub mod Chosen
 pub mod Direct
 pub mod IndexNumbers
-pub mod Near
 pub mod Sole
 pub mod Takes
 pub mod Walks

@@ -1,5 +1,5 @@
 -- How far elements are from the first one.
-use Rattle.std.specs.Prelude.{ℕ, ◌-◌, ◌==◌, ◌&&◌, ◌^◌, ◌≤◌, ℤ, pos, ◌+ℤ◌, int_le, int_lt, unsigned_abs, if◌then◌else◌, List, [], ◌∷◌, ◌++◌, length, map, drop, take, replicate, slice_index_or}
+use Rattle.std.specs.Prelude.{ℕ, ◌-◌, ◌==◌, ◌^◌, ◌≤◌, ℤ, pos, ◌+ℤ◌, unsigned_abs, if◌then◌else◌, List, [], ◌∷◌, ◌++◌, length, map, drop, take, replicate, slice_index_or}
 use Rattle.std.specs.List.{All}
 use Rattle.nd_model.specs.Advanced as model
 use Rattle.nd_model.specs.Strides.{way_to}
@@ -13,10 +13,6 @@ ways shape strides = map (λ t. way_to t strides) (indices shape)
 -- a few of them may be added up
 abbrev pub AreNear : List ℤ → Type 0
 AreNear zs = All (λ z. unsigned_abs z ≤ 2 ^ 112) zs
-
--- a way that is a place
-abbrev pub place_on : ℤ → ℕ
-place_on z = if int_le (pos 0) z && int_lt z (pos (2 ^ 64)) then unsigned_abs z else 0
 
 -- the strides by which a tuple of so many axes leads to the number of the element of a shape that stands there
 abbrev pub narrowed_strides : List ℕ → List ℤ

@@ -12,7 +12,8 @@ ghost use Rattle.nd_fancy.specs.Chosen.{view_at};
 ghost use Rattle.nd_index.specs.Faults.{Makes};
 ghost use Rattle.nd_index.specs.Items.{items_of};
 ghost use Rattle.nd_fancy.specs.Takes.{axes_taken, kept_in, takes_of};
-ghost use Rattle.nd_fancy.specs.Ways.{place_on, way_taken};
+ghost use Rattle.nd_fancy.specs.Ways.{way_taken};
+ghost use Rattle.nd_places.specs.Near.{place_on};
 
 use crate::arrays::array_ways;
 use crate::axes::Axes;
@@ -28,6 +29,7 @@ use nd_index::{
     FancyFault, IndexFault, Item, bounds_fault, common_shape, count_axes, count_ellipses,
     shape_fault, slices_of,
 };
+use nd_places::PlaceList;
 use nd_view::{Shape, View, limit_fault};
 use std::alloc::{AllocError, Global};
 
@@ -37,7 +39,7 @@ pub struct Places {
     /// The lengths of the axes.
     pub shape: Shape,
     /// The places of the elements in C order.
-    pub places: Vec<u64>,
+    pub places: PlaceList,
 }
 
 // The places for all tuples of the arrays' common shape, beside the ways of the kept axes. They are so many.
@@ -49,7 +51,7 @@ fn array_places(
     many: &[u64],
     count: usize,
     kept: &KeptWays<'_>,
-) -> Result<Vec<u64>, AllocError>
+) -> Result<PlaceList, AllocError>
     requires taken { axes_taken (takes_of takes.now) ≤ length sizes.now }
     requires axes { length strides.now ≡ length sizes.now }
     requires most { length sizes.now ≤ 32 }
@@ -58,7 +60,7 @@ fn array_places(
     requires range { All (λ s. unsigned_abs s < 2 ^ 64) strides.now }
     requires many { length many.now ≤ 32 }
     requires limits { All (λ n. n ≤ 2 ^ 32) many.now }
-    ensures { IfOk result (λ v. v.items ≡ flat_map (λ b. flat_map (λ a. map (λ z. place_on
+    ensures { IfOk result (λ v. v ≡ flat_map (λ b. flat_map (λ a. map (λ z. place_on
         (((pos kept.now.offset +ℤ b) +ℤ a) +ℤ z)) kept.now.behind.now)
         (map (way_taken (takes_of takes.now) sizes.now strides.now) (indices many.now)))
         kept.now.before.now) }
@@ -69,14 +71,9 @@ fn array_places(
         return direct_places(alloc, count, kept, &sole.spread.numbers, &axes);
     }
     let arrays = array_ways(alloc, takes, sizes, strides, many)?;
-    places_on(
-        alloc,
-        count,
-        kept.offset,
-        kept.before,
-        arrays.as_slice(),
-        kept.behind,
-    )
+    let (offset, arrays) = (kept.offset, arrays.as_slice());
+    let places = places_on(alloc, count, offset, kept.before, arrays, kept.behind)?;
+    Ok(PlaceList::of_each(places))
 }
 
 // The places for all tuples of a shape, which has so many axes of the arrays behind so many kept ones.
@@ -87,21 +84,20 @@ fn all_places(
     at: usize,
     axes: usize,
     shape: &[u64],
-) -> Result<Vec<u64>, AllocError>
+) -> Result<PlaceList, AllocError>
     requires taken { axes_taken (takes_of takes.now) ≡ length view.now.shape }
     requires kept { kept_in (takes_of takes.now) + axes ≡ length shape.now }
     requires at { at ≤ kept_in (takes_of takes.now) }
     requires tuples { (t : List ℕ) → IsIndex shape.now t → IsIndex view.now.shape
         (model.chosen_source (takes_of takes.now) view.now.shape at axes t) }
     requires limits { IsInLimits (item_size view.now.element) shape.now }
-    ensures value { IfOk result (λ v. v.items ≡ map (λ t. place_of view.now
+    ensures value { IfOk result (λ v. v ≡ map (λ t. place_of view.now
         (model.chosen_source (takes_of takes.now) view.now.shape at axes t))
         (indices shape.now)) }
-    ensures limit { IfOk result (λ v. All (λ p. p + item_size view.now.element ≤ 2 ^ 64)
-        v.items) }
+    ensures limit { IfOk result (λ v. All (λ p. p + item_size view.now.element ≤ 2 ^ 64) v) }
 {
     if shape.contains(&0) {
-        return Ok(Vec::new(alloc));
+        return Ok(PlaceList::of_each(Vec::new(alloc)));
     }
     // Says that there are few elements, and that each has bytes.
     let _count = view.count();
@@ -148,9 +144,9 @@ fn choose(
     ensures value { Makes (view_at view.now) result (model.chosen_view (items_of items.now)
         (takes_of takes.now) many.now view.now) }
     ensures limit { IfOk result (λ p. All (λ q. q + item_size view.now.element ≤ 2 ^ 64)
-        p.places.items) }
+        p.places) }
     ensures limits { IfOk result (λ p. IsInLimits (item_size view.now.element) p.shape.items) }
-    ensures count { IfOk result (λ p. length p.places.items ≡ elements_of p.shape.items) }
+    ensures count { IfOk result (λ p. length p.places ≡ elements_of p.shape.items) }
 {
     let kept = kept_shape(alloc, takes, view.shape())?;
     let at = place_for(items, takes);
@@ -176,9 +172,9 @@ fn choose_items(
     ensures value { Makes (view_at view.now) result (model.choose_filled missing
         (items_of items.now) view.now) }
     ensures limit { IfOk result (λ p. All (λ q. q + item_size view.now.element ≤ 2 ^ 64)
-        p.places.items) }
+        p.places) }
     ensures limits { IfOk result (λ p. IsInLimits (item_size view.now.element) p.shape.items) }
-    ensures count { IfOk result (λ p. length p.places.items ≡ elements_of p.shape.items) }
+    ensures count { IfOk result (λ p. length p.places ≡ elements_of p.shape.items) }
 {
     let sizes = view.shape();
     if let Some(fault) = shape_fault(sizes, missing, items) {
@@ -203,9 +199,9 @@ pub fn choose_places(alloc: Global, view: &View, items: &[Item<'_>]) -> Result<P
     ensures value { Makes (view_at view.now) result (model.choose (items_of items.now)
         view.now) }
     ensures limit { IfOk result (λ p. All (λ q. q + item_size view.now.element ≤ 2 ^ 64)
-        p.places.items) }
+        p.places) }
     ensures limits { IfOk result (λ p. IsInLimits (item_size view.now.element) p.shape.items) }
-    ensures count { IfOk result (λ p. length p.places.items ≡ elements_of p.shape.items) }
+    ensures count { IfOk result (λ p. length p.places ≡ elements_of p.shape.items) }
 {
     if count_ellipses(items) > 1 {
         return Err(FancyFault::Index(IndexFault::TwoEllipses));

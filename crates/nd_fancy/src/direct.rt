@@ -4,19 +4,22 @@ ghost use Rattle.std.specs.List.{All, flat_map};
 ghost use Rattle.nd_model.specs.Element.{size_of};
 ghost use Rattle.nd_model.specs.Selecting.{counted_from};
 ghost use Rattle.nd_element.specs.Elements.{numbers_at};
-ghost use Rattle.nd_fancy.specs.Direct.{chosen_places, row_places, way_on};
+ghost use Rattle.nd_fancy.specs.Direct.{chosen_places, places_beside, row_places};
 ghost use Rattle.nd_fancy.specs.IndexNumbers.{numbers_in};
 ghost use Rattle.nd_index.specs.Items.{numbers_of};
 ghost use Rattle.nd_index.specs.Packed.{IsPacked};
-ghost use Rattle.nd_fancy.specs.Ways as model;
+ghost use Rattle.nd_places.specs.Near.{place_on};
 
 use crate::axes::Axes;
+use crate::by_mask::places_by_mask;
+use crate::by_rows::places_by_rows;
 use crate::index_numbers::IndexNumbers;
 use crate::masks::push_mask;
 use crate::near::{are_near, is_near, push_near_places};
 use crate::placing::{place_on, push_places};
 use crate::row::{KeptWays, Row};
 use nd_index::{IndexArray, inside_position, is_packed, read_at};
+use nd_places::PlaceList;
 use nd_types::{Elem, Kind};
 use nd_view::Run;
 use std::alloc::{AllocError, Global};
@@ -123,8 +126,9 @@ fn push_chosen(
     }
 }
 
-/// Returns the places that these numbers choose, for all ways of the kept axes before those of the array and behind them.
-pub(crate) fn direct_places(
+// Returns the places that these numbers choose, one after another, for all ways of the kept axes before those of the array and behind
+// them.
+fn each_place(
     alloc: Global,
     count: usize,
     kept: &KeptWays<'_>,
@@ -132,9 +136,8 @@ pub(crate) fn direct_places(
     axes: &Axes<'_>,
 ) -> Result<Vec<u64>, AllocError>
     requires { All (λ k. k ≤ 2 ^ 32) (numbers_in numbers.now) }
-    ensures { IfOk result (λ v. v.items ≡ flat_map (λ b. flat_map (λ k. map (λ z. model.place_on
-        (((pos kept.now.offset +ℤ b) +ℤ way_on axes.now k) +ℤ z)) kept.now.behind.now)
-        (numbers_in numbers.now)) kept.now.before.now) }
+    ensures { IfOk result (λ v. v.items
+        ≡ places_beside kept.now axes.now (numbers_in numbers.now)) }
 {
     let mut places = Vec::with_capacity(alloc, count)?;
     let is_near = are_near(kept.behind);
@@ -147,4 +150,25 @@ pub(crate) fn direct_places(
         push_chosen(&mut places, &row, axes, numbers)?;
     }
     Ok(places)
+}
+
+/// Returns the places that these numbers choose, for all ways of the kept axes before those of the array and behind them.
+pub(crate) fn direct_places(
+    alloc: Global,
+    count: usize,
+    kept: &KeptWays<'_>,
+    numbers: &IndexNumbers<'_, '_>,
+    axes: &Axes<'_>,
+) -> Result<PlaceList, AllocError>
+    requires { All (λ k. k ≤ 2 ^ 32) (numbers_in numbers.now) }
+    ensures { IfOk result (λ v. v ≡ places_beside kept.now axes.now (numbers_in numbers.now)) }
+{
+    if let Some(places) = places_by_mask(alloc, kept, numbers, axes)? {
+        return Ok(places);
+    }
+    if let Some(places) = places_by_rows(alloc, kept, numbers, axes)? {
+        return Ok(places);
+    }
+    let places = each_place(alloc, count, kept, numbers, axes)?;
+    Ok(PlaceList::of_each(places))
 }

@@ -3,6 +3,8 @@
 
 mod arrays;
 mod axes;
+mod by_mask;
+mod by_rows;
 mod choosing;
 mod direct;
 mod index_numbers;

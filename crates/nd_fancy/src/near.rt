@@ -2,11 +2,11 @@
 ghost use Rattle.std.specs.Prelude.{◌≡◌, ℕ, ◌++◌, ◌^◌, ◌≤◌, [], ◌∷◌, pos, ◌+ℤ◌, ◌*ℤ◌, unsigned_abs, map, OnOk, IsTrue, IfSome};
 ghost use Rattle.std.specs.List.{All};
 ghost use Rattle.nd_fancy.specs.Direct.{row_places, way_on};
-ghost use Rattle.nd_fancy.specs.Near.{IsNear};
-ghost use Rattle.nd_fancy.specs.Ways as model;
+ghost use Rattle.nd_places.specs.Near.{IsNear, place_on};
 
 use crate::axes::Axes;
 use crate::row::Row;
+use nd_places::{Line, near_place};
 use std::alloc::AllocError;
 
 // How far a way leads at most that is near.
@@ -31,14 +31,6 @@ pub(crate) fn are_near(ways: &[i128]) -> bool
     true
 }
 
-// The place at the end of a way, 0 where there is none.
-#[inline(always)]
-fn near_place(way: i64) -> u64
-    ensures { result ≡ model.place_on way }
-{
-    way.max(0) as u64
-}
-
 /// Appends the places at the ends of near ways that begin so far from the first byte.
 #[inline(never)]
 pub(crate) fn push_near_places(
@@ -49,7 +41,7 @@ pub(crate) fn push_near_places(
     requires start { IsNear start }
     requires near { All IsNear ways.now }
     ensures { OnOk result (places.new.items ≡ places.old.items
-        ++ map (λ z. model.place_on (start +ℤ z)) ways.now) }
+        ++ map (λ z. place_on (start +ℤ z)) ways.now) }
 {
     for way in ways {
         places.push(near_place(start + *way as i64))?;
@@ -57,19 +49,10 @@ pub(crate) fn push_near_places(
     Ok(())
 }
 
-/// The elements of one axis, from which no other axis leads on: where the first one lies, and how far each is from the one before.
-#[derive(Clone, Copy)]
-pub(crate) struct Line {
-    start: i64,
-    step: i64,
-    ghost start_near: { IsNear start },
-    ghost step_near: { unsigned_abs step ≤ 2 ^ 29 },
-}
-
 /// Returns the line of the elements that a row has at the numbers of one axis, if they are on one that is near.
 pub(crate) fn line_of(row: &Row<'_>, axes: &Axes<'_>) -> Option<Line>
     ensures { IfSome result (λ l. (k : ℕ) → row_places row.now (way_on axes.now k)
-        ≡ model.place_on (l.start +ℤ (pos k *ℤ l.step)) ∷ []) }
+        ≡ place_on (l.start +ℤ (pos k *ℤ l.step)) ∷ []) }
 {
     let step = axes.step()?;
     if row.ways.len() != 1 {
@@ -94,7 +77,7 @@ pub(crate) fn push_on_line(
 ) -> Result<(), AllocError>
     requires { All (λ k. k ≤ 2 ^ 32) numbers.now }
     ensures { OnOk result (places.new.items ≡ places.old.items
-        ++ map (λ k. model.place_on (line.start +ℤ (pos k *ℤ line.step))) numbers.now) }
+        ++ map (λ k. place_on (line.start +ℤ (pos k *ℤ line.step))) numbers.now) }
 {
     for number in numbers {
         places.push(near_place(line.start + *number as i64 * line.step))?;

@@ -1,7 +1,7 @@
 //! Places at the ends of ways.
 ghost use Rattle.std.specs.Prelude.{◌≡◌, ◌++◌, ◌^◌, ◌≤◌, pos, ◌+ℤ◌, unsigned_abs, map, IfOk, OnOk};
 ghost use Rattle.std.specs.List.{flat_map};
-ghost use Rattle.nd_fancy.specs.Ways as model;
+ghost use Rattle.nd_places.specs.Near.{place_on};
 ghost use Rattle.nd_fancy.specs.Ways.{AreNear};
 
 use std::alloc::{AllocError, Global};
@@ -9,7 +9,7 @@ use std::alloc::{AllocError, Global};
 /// The place at the end of a way, 0 where there is none.
 #[inline(always)]
 pub(crate) fn place_on(way: i128) -> u64
-    ensures { result ≡ model.place_on way }
+    ensures { result ≡ place_on way }
 {
     if way < 0 || way > i128::from(u64::MAX) {
         return 0;
@@ -27,7 +27,7 @@ pub(crate) fn push_places(
     requires start { unsigned_abs start ≤ 2 ^ 116 }
     requires near { AreNear ways.now }
     ensures { OnOk result (places.new.items ≡ places.old.items
-        ++ map (λ z. model.place_on (start +ℤ z)) ways.now) }
+        ++ map (λ z. place_on (start +ℤ z)) ways.now) }
 {
     for way in ways {
         places.push(place_on(start + *way))?;
@@ -45,7 +45,7 @@ fn push_rows(
     requires start { unsigned_abs start ≤ 2 ^ 114 }
     requires near { AreNear arrays.now × AreNear ways.now }
     ensures { OnOk result (places.new.items ≡ places.old.items ++ flat_map (λ a.
-        map (λ z. model.place_on ((start +ℤ a) +ℤ z)) ways.now) arrays.now) }
+        map (λ z. place_on ((start +ℤ a) +ℤ z)) ways.now) arrays.now) }
 {
     for array in arrays {
         push_places(places, start + *array, ways)?;
@@ -63,7 +63,7 @@ pub(crate) fn places_on(
     behind: &[i128],
 ) -> Result<Vec<u64>, AllocError>
     requires near { AreNear before.now × AreNear arrays.now × AreNear behind.now }
-    ensures { IfOk result (λ v. v.items ≡ flat_map (λ b. flat_map (λ a. map (λ z. model.place_on
+    ensures { IfOk result (λ v. v.items ≡ flat_map (λ b. flat_map (λ a. map (λ z. place_on
         (((pos offset +ℤ b) +ℤ a) +ℤ z)) behind.now) arrays.now) before.now) }
 {
     let mut places = Vec::with_capacity(alloc, count)?;

@@ -1,7 +1,7 @@
 //! Where the elements of the kept axes lie.
 ghost use Rattle.std.specs.Prelude.{◌^◌, ◌≤◌, unsigned_abs, IsTrue};
 ghost use Rattle.std.specs.List.{All};
-ghost use Rattle.nd_fancy.specs.Near.{IsNear};
+ghost use Rattle.nd_places.specs.Near.{IsNear};
 ghost use Rattle.nd_fancy.specs.Ways.{AreNear};
 
 /// Elements at the ends of these ways, which begin so far from the first byte where the arrays lead nowhere.

@@ -13,8 +13,9 @@ use Rattle.nd_model.specs.Runs.{place_at}
 use Rattle.nd_element.specs.Elements.{numbers_at}
 use Rattle.nd_index.specs.Counts.{true_count}
 use Rattle.nd_index.specs.Packed.{IsPacked}
-use Rattle.nd_index.proofs.Items.{count_any, count_from}
-use Rattle.nd_index.proofs.Fronts.{drop_one}
+use Rattle.nd_index.proofs.Items.{count_from}
+use Rattle.nd_places.proofs.Found.{count_any, true_append, trues_few}
+use Rattle.nd_places.proofs.Fronts.{drop_one}
 
 pub nonzero : (z : ℤ) → (z ≡ pos 0 → ⊥) → is_nonzero z ≡ true
 nonzero z h = elim (cases_Bool (nat_eq (unsigned_abs z) 0)) [
@@ -45,11 +46,6 @@ outside_run axis size e bytes runs run rest is =
 
 -- ---- true elements
 
-pub true_append : (n : ℕ) (bs cs : List Bool) → true_numbers n (bs ++ cs) ≡ true_numbers n bs ++ true_numbers (n + length bs) cs
-true_append n [] cs = ap (λ m. true_numbers m cs) (omega arith)
-true_append n (true ∷ bs) cs = ap (λ l. n ∷ l) (true_append (n + 1) bs cs ∙ ap (λ m. true_numbers (n + 1) bs ++ true_numbers m cs) (omega arith))
-true_append n (false ∷ bs) cs = true_append (n + 1) bs cs ∙ ap (λ m. true_numbers (n + 1) bs ++ true_numbers m cs) (omega arith)
-
 counted_as : (b : Bool) (bs : List Bool) (n : ℕ) → length (true_numbers 0 (b ∷ bs)) ≡ n → (b ≡ true → n ≡ 1 + length (true_numbers 0 bs)) × (b ≡ false → n ≡ length (true_numbers 0 bs))
 counted_as true bs n e = (λ t. omega (arith, e, count_from bs), λ f. absurd cc)
 counted_as false bs n e = (λ t. absurd cc, λ f. sym e ∙ count_from bs)
@@ -61,11 +57,6 @@ pub count_next : (e : Element) (bytes run : List ℕ) (k : ℕ) → k < length r
 count_next e bytes run k lt =
     counted_as (is_nonzero (number_at e bytes (get_or run k 0))) (map is_nonzero (numbers_at e bytes (drop (k + 1) run))) (true_count e bytes (drop k run))
     (sym (ap (true_count e bytes) (drop_one run k 0 lt)))
-
-trues_few : (n : ℕ) (bs : List Bool) → length (true_numbers n bs) ≤ length bs
-trues_few n [] = omega arith
-trues_few n (true ∷ bs) = omega (arith, trues_few (n + 1) bs)
-trues_few n (false ∷ bs) = omega (arith, trues_few (n + 1) bs)
 
 pub count_few : (e : Element) (bytes run : List ℕ) → true_count e bytes run ≤ length run
 count_few e bytes run =
@@ -98,3 +89,17 @@ packed_is size len run places total = record {
   where
     within : (k : ℕ) → (k + 1) * size ≤ length run * size → slice_index run 0 + k * size + size ≤ len
     within k le = let next : (k + 1) * size ≡ k * size + size = omega arith in omega (arith, le, next, total)
+
+-- the step of elements side by side is their size
+pub packed_step : (size len : ℕ) (step : ℤ) (run : List ℕ) → 1 < length run → ((k : ℕ) → k < length run → place_at (slice_index run 0) step k ≡ pos (slice_index run k)) → IsPacked size len run → step ≡ pos size
+packed_step size len step run two each packed =
+    let next : slice_index run 1 ≡ slice_index run 0 + 1 * size = packed.places 1 two in
+    let there : place_at (slice_index run 0) step 1 ≡ pos (slice_index run 1) = each 1 two in
+    omega (arith, ints, next, there)
+
+-- and they end with the last one
+pub packed_end : (size len : ℕ) (run : List ℕ) → 0 < length run → IsPacked size len run → slice_index run 0 + length run * size ≤ len
+packed_end size len [] some packed = absurd (omega (arith, some))
+packed_end size len (p ∷ run) some packed =
+    let last = packed.inside (length run) (omega arith) in let more : (length run + 1) * size ≡ length run * size + size = omega arith in
+    omega (arith, last, more)

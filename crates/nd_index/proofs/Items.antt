@@ -15,6 +15,7 @@ use Rattle.nd_types.specs.Kinds.{kind_of}
 use Rattle.nd_types.specs.declared.kind.Kind as code
 use Rattle.nd_types.specs.declared.kind.Kind.TheVariants as kinds
 use Rattle.nd_index.specs.Inside.{IsInside}
+use Rattle.nd_places.proofs.Found.{count_any}
 
 axes_more : (m : ℕ) (i : IndexItem) → axes_of m i ≡ axes_of 0 i + m * ellipses_of i
 axes_more m (Basic (At z)) = omega arith
@@ -37,12 +38,7 @@ pub next_none : (a b : Option IndexFault) → or_next a b ≡ None → (a ≡ No
 next_none None b e = (refl, e)
 next_none (Some f) b e = absurd cc
 
--- how many are true does not depend on where they are counted from
-pub count_any : (m n : ℕ) (bs : List Bool) → length (true_numbers m bs) ≡ length (true_numbers n bs)
-count_any m n [] = refl
-count_any m n (true ∷ bs) = ap suc (count_any (m + 1) (n + 1) bs)
-count_any m n (false ∷ bs) = count_any (m + 1) (n + 1) bs
-
+-- from where the numbers of true elements are counted
 pub count_from : (bs : List Bool) → length (true_numbers 1 bs) ≡ length (true_numbers 0 bs)
 count_from bs = count_any 1 0 bs
 

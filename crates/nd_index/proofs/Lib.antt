@@ -1,3 +1,3 @@
 pub mod Counted
-pub mod Fronts
 pub mod Items
+pub mod MaskBytes

@@ -1,14 +1,13 @@
 //! The common shape of the arrays of an index.
-ghost use Rattle.std.specs.Prelude.{◌≡◌, ◌^◌, ◌≤◌, [], length, map, Some, IfOk, IsTrue};
+ghost use Rattle.std.specs.Prelude.{◌≡◌, ◌^◌, ◌≤◌, [], length, map, Some, IfOk};
 ghost use Rattle.std.specs.Option.{option_map};
 ghost use Rattle.nd_model.specs.Advanced as model;
-ghost use Rattle.nd_model.specs.Element.{size_of};
 ghost use Rattle.nd_index.specs.Counts.{true_count};
 ghost use Rattle.nd_index.specs.Items.{item_of, items_of, numbers_of};
-ghost use Rattle.nd_index.specs.Packed.{IsPacked};
 
 use crate::item::{IndexArray, Item};
-use crate::reading::{is_packed, read_at};
+use crate::reading::{is_elem, is_packed, read_at};
+use nd_places::count_trues;
 use nd_shape::broadcast;
 use nd_types::{Elem, Kind};
 use nd_view::{Run, Shape};
@@ -16,32 +15,29 @@ use smallvec::SmallVec;
 use std::alloc::{AllocError, Global};
 
 // How many numbers of a run are not 0.
-#[inline(always)]
-fn count_each(elem: Elem, bytes: &[u8], run: &Run, packed: bool) -> u64
-    requires few { length run.now ≤ 2 ^ 24 }
-    requires packed { IsTrue packed → IsPacked (size_of elem.kind) (length bytes.now) run.now }
+fn count_each(elem: Elem, bytes: &[u8], run: &Run) -> u64
+    requires { length run.now ≤ 2 ^ 24 }
     ensures { result ≡ true_count elem bytes.now run.now }
 {
     let mut count = 0;
     for at in 0..run.count() {
-        let number = read_at(bytes, run, at, elem, packed);
-        if number != 0 {
+        if read_at(bytes, run, at, elem, false) != 0 {
             count += 1;
         }
     }
     count
 }
 
-// The same, by a loop for Booleans side by side alone.
+// The same, by a loop of its own for Booleans side by side.
 fn count_in(elem: Elem, bytes: &[u8], run: &Run) -> u64
     requires { length run.now ≤ 2 ^ 24 }
     ensures { result ≡ true_count elem bytes.now run.now }
 {
-    let known = Elem::little(Kind::Bool);
-    if elem == known && is_packed(run, 1, bytes.len()) {
-        count_each(known, bytes, run, true)
+    if is_elem(elem, Elem::little(Kind::Bool)) && is_packed(run, 1, bytes.len()) {
+        let start = run.start() as usize;
+        count_trues(&bytes[start..start + run.count() as usize])
     } else {
-        count_each(elem, bytes, run, false)
+        count_each(elem, bytes, run)
     }
 }
 

@@ -14,7 +14,7 @@ ghost use Rattle.nd_index.specs.Packed.{IsPacked};
 
 use crate::fault::IndexFault;
 use crate::item::{IndexArray, Item, axes_of};
-use crate::reading::{is_packed, read_at};
+use crate::reading::{is_elem, is_packed, read_at};
 use nd_basic::Item as BasicItem;
 use nd_types::{Elem, Kind};
 use nd_view::Run;
@@ -152,7 +152,7 @@ fn outside_in(axis: usize, size: u64, elem: Elem, bytes: &[u8], run: &Run) -> Op
         (numbers_at elem bytes.now run.now) }
 {
     let known = Elem::little(Kind::I64);
-    if elem == known && is_packed(run, 8, bytes.len()) {
+    if is_elem(elem, known) && is_packed(run, 8, bytes.len()) {
         outside_each(axis, size, known, bytes, run, true)
     } else {
         outside_each(axis, size, elem, bytes, run, false)

@@ -1,5 +1,5 @@
 //! Numbers of arrays, read where they lie.
-ghost use Rattle.std.specs.Prelude.{◌≡◌, ◌<◌, ◌≤◌, length, slice_index, IsTrue};
+ghost use Rattle.std.specs.Prelude.{◌≡◌, ◌<◌, ◌≤◌, length, slice_index, IsTrue, ◌↔◌};
 ghost use Rattle.nd_model.specs.Content.{number_at};
 ghost use Rattle.nd_model.specs.Element.{size_of};
 ghost use Rattle.nd_index.specs.Packed.{IsPacked};
@@ -9,10 +9,18 @@ use nd_element::number_in;
 use nd_types::Elem;
 use nd_view::Run;
 
-/// Whether the elements of a run, which have this size, stand side by side among so many bytes.
+/// Returns whether both are the same.
+#[inline(always)]
+pub fn is_elem(elem: Elem, other: Elem) -> bool
+    ensures { IsTrue result ↔ (elem ≡ other) }
+{
+    elem == other
+}
+
+/// Returns whether the elements of a run, which have this size, stand side by side among so many bytes.
 pub fn is_packed(run: &Run, size: u64, len: usize) -> bool
     requires { size ≤ 8 }
-    ensures { IsTrue result → IsPacked size len run.now }
+    ensures { IsTrue result ↔ IsPacked size len run.now }
 {
     let count = run.count();
     if count > 1 && run.step() != i128::from(size) {

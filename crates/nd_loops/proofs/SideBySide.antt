@@ -32,7 +32,7 @@ module _ (ps : List ℕ) (start : ℕ) (step : ℤ) (places : (k : ℕ) → k < 
       stays start j = ap unsigned_abs (let e : place_at start (pos 0) j ≡ pos start = omega (arith, ints) in e)
 
 -- bytes in the middle of some bytes
-bytes_within : (bytes : List ℕ) (start n size j : ℕ) → j < n → bytes_at (take (n * size) (drop start bytes)) (j * size) size ≡ bytes_at bytes (start + j * size) size
+pub bytes_within : (bytes : List ℕ) (start n size j : ℕ) → j < n → bytes_at (take (n * size) (drop start bytes)) (j * size) size ≡ bytes_at bytes (start + j * size) size
 bytes_within bytes start n size j lt =
     let le : (j + 1) * size ≤ n * size = mul-le-mul_right size (omega arith) in
     let m : ℕ = n * size - j * size in

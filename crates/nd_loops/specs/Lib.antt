@@ -2,3 +2,5 @@ pub mod Results
 pub mod Sides
 pub mod ElementsLeft
 pub mod Feeds
+pub mod Turns
+pub mod Cycles

@@ -35,8 +35,8 @@ impl<'v> Model for Elements<'v> {
     ghost invariant = { AreElements };
 }
 
-// Converts the elements of a run, and as many more of a walk as make `count`.
-fn gather(
+/// Converts the elements of a run, and as many more of a walk as make `count`.
+pub(crate) fn gather(
     out: &mut [u8],
     kind: Kind,
     bytes: &[u8],

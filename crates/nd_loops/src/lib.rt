@@ -3,6 +3,7 @@
 #![tactic(auto)]
 
 mod chunks;
+mod cycle;
 mod elements;
 mod feed;
 mod kernel;
@@ -14,6 +15,7 @@ mod reading;
 mod repeated;
 
 pub use chunks::{CHUNK, chunk_of, fill};
+pub use cycle::{Cycle, ROOM};
 pub use elements::{Elements, take_numbers};
 pub use feed::Feed;
 pub use kernel::Side;

@@ -1,5 +1,5 @@
 -- The loops that copy: one run of bytes, one field and one element more.
-use Rattle.std.proofs.Common.{◌≡◌, ℕ, ◌+◌, ◌*◌, ◌<◌, ◌≤◌, List, ◌∷◌, ◌++◌, map, length, drop, get_or, sym, ap, ◌∙◌, subst, arith, add-one, drop-cons}
+use Rattle.std.proofs.Common.{◌≡◌, ℕ, ◌+◌, ◌*◌, ◌<◌, ◌≤◌, List, [], ◌∷◌, ◌++◌, map, length, drop, get_or, sym, ap, ◌∙◌, subst, arith, add-one, drop-cons}
 use Rattle.std.specs.Prelude.{slice_index}
 use Rattle.std.specs.List.{All, zip}
 use Rattle.std.proofs.lemmas.List.{map-append, length-map, get_or-map}
@@ -61,9 +61,21 @@ field_more values out new whole to from f fs gs e room held is all =
 
 -- ---- elements
 
-pub element_more : (t : ElementType) (values out new whole ps : List ℕ) (step k : ℕ) → k < length ps → new ≡ put (byte_copies t values (get_or ps k 0) (k * step)) out
-    → scattered t values step (k * step) (drop k ps) out ≡ whole → scattered t values step ((k + 1) * step) (drop (k + 1) ps) new ≡ whole
-element_more t values out new whole ps step k lt is all =
+pub element_more : (t : ElementType) (values out new whole ps : List ℕ) (step from k : ℕ) → k < length ps → new ≡ put (byte_copies t values (get_or ps k 0) (from + k * step)) out
+    → scattered t values step (from + k * step) (drop k ps) out ≡ whole → scattered t values step (from + (k + 1) * step) (drop (k + 1) ps) new ≡ whole
+element_more t values out new whole ps step from k lt is all =
     let here : drop k ps ≡ get_or ps k 0 ∷ drop (k + 1) ps = rw add-one (drop-cons ps k 0 lt) in
-    let next : (k + 1) * step ≡ k * step + step = omega arith in
-    (λ i. scattered t values step (next i) (drop (k + 1) ps) (is i)) ∙ ap (λ l. scattered t values step (k * step) l out) (sym here) ∙ all
+    let more : (k + 1) * step ≡ k * step + step = omega arith in
+    let next : from + (k + 1) * step ≡ from + k * step + step = omega (arith, more) in
+    (λ i. scattered t values step (next i) (drop (k + 1) ps) (is i)) ∙ ap (λ l. scattered t values step (from + k * step) l out) (sym here) ∙ all
+
+-- ---- parts of the elements
+
+pub scattered_parts : (t : ElementType) (values : List ℕ) (step from : ℕ) (ps qs old : List ℕ)
+    → scattered t values step from (ps ++ qs) old ≡ scattered t values step (from + length ps * step) qs (scattered t values step from ps old)
+scattered_parts t values step from [] qs old = ap (λ n. scattered t values step n qs old) (omega arith)
+scattered_parts t values step from (p ∷ ps) qs old =
+    let new : List ℕ = put (byte_copies t values p from) old in
+    let more : (length ps + 1) * step ≡ length ps * step + step = omega arith in
+    let next : from + step + length ps * step ≡ from + length (p ∷ ps) * step = omega (arith, more) in
+    scattered_parts t values step (from + step) ps qs new ∙ ap (λ n. scattered t values step n qs (scattered t values step (from + step) ps new)) next

@@ -13,6 +13,7 @@ use crate::kernel::copy_bytes;
 use nd_block::{Filling, RawBlock, store_at};
 use nd_element::{number_in, write_structure};
 use nd_fancy::Places;
+use nd_places::PlaceList;
 use nd_types::{Elem, ElemType, Kind, RecType};
 use nd_view::View;
 use std::alloc::{AllocError, Global};
@@ -89,31 +90,27 @@ const MANY: usize = 512;
 
 const MANY_BYTES: usize = 4096;
 
-// The block of the numbers at these places.
+// The block of the numbers at these places, which are so many.
 fn read_many(
     alloc: Global,
     elem: Elem,
     bytes: &[u8],
-    places: &[u64],
+    places: &PlaceList,
+    count: usize,
 ) -> Result<RawBlock, AllocError>
-    requires { length places.now ≤ 2 ^ 24 }
+    requires count { length places.now ≡ count }
+    requires few { count ≤ 2 ^ 24 }
     ensures { IfOk result (λ b. b ≡ flat_map (canonical_at (One elem) bytes.now) places.now) }
 {
     let size = elem.size() as usize;
-    let mut out = Filling::with_room(alloc, places.len() * size)?;
+    let mut out = Filling::with_room(alloc, count * size)?;
     let mut buffer = [0; MANY_BYTES];
-    let mut index = 0;
-    while index < places.len() {
-        let some = MANY.min(places.len() - index);
-        let end = some * size;
-        read_numbers(
-            &mut buffer[..end],
-            elem,
-            bytes,
-            &places[index..index + some],
-        );
+    let mut some = [0; MANY];
+    let mut walk = places.walk();
+    while let Some(part) = walk.next(&mut some) {
+        let end = part.len() * size;
+        read_numbers(&mut buffer[..end], elem, bytes, part);
         out.push(&buffer[..end]);
-        index += some;
     }
     Ok(out.finish())
 }
@@ -131,25 +128,42 @@ fn read_structures(out: &mut [u8], structure: &RecType, bytes: &[u8], places: &[
     }
 }
 
-// The block of the elements at these places.
+// The block of the structures at these places.
+fn read_records(
+    alloc: Global,
+    structure: &RecType,
+    bytes: &[u8],
+    places: &PlaceList,
+) -> Result<RawBlock, AllocError>
+    requires few { length places.now ≤ 2 ^ 24 }
+    requires ends { All (λ p. p + structure.now.1 ≤ 2 ^ 64) places.now }
+    ensures { IfOk result (λ b. b ≡ flat_map (canonical_structure structure.now bytes.now)
+        places.now) }
+{
+    let mut room = Vec::new(alloc);
+    let places = places.lend(&mut room)?;
+    let mut block = RawBlock::zeros(alloc, places.len() * structure.size() as usize)?;
+    read_structures(block.as_mut_slice(), structure, bytes, places);
+    Ok(block)
+}
+
+// The block of the elements at these places, which are so many.
 fn read_elements(
     alloc: Global,
     elem: &ElemType,
     bytes: &[u8],
-    places: &[u64],
+    places: &PlaceList,
+    count: usize,
 ) -> Result<RawBlock, AllocError>
-    requires few { length places.now ≤ 2 ^ 24 }
+    requires count { length places.now ≡ count }
+    requires few { count ≤ 2 ^ 24 }
     requires ends { All (λ p. p + item_size (type_of elem.now) ≤ 2 ^ 64) places.now }
     ensures { IfOk result (λ b. b ≡ flat_map (canonical_at (type_of elem.now) bytes.now)
         places.now) }
 {
     match elem {
-        ElemType::One(elem) => read_many(alloc, *elem, bytes, places),
-        ElemType::Rec(structure) => {
-            let mut block = RawBlock::zeros(alloc, places.len() * structure.size() as usize)?;
-            read_structures(block.as_mut_slice(), structure, bytes, places);
-            Ok(block)
-        }
+        ElemType::One(elem) => read_many(alloc, *elem, bytes, places, count),
+        ElemType::Rec(structure) => read_records(alloc, structure, bytes, places),
     }
 }
 
@@ -162,13 +176,13 @@ pub fn gather(
     places: &Places,
 ) -> Result<(View, RawBlock), AllocError>
     requires limits { IsInLimits (item_size view.now.element) places.now.shape.items }
-    requires count { length places.now.places.items ≡ elements_of places.now.shape.items }
-    requires ends { All (λ p. p + item_size view.now.element ≤ 2 ^ 64) places.now.places.items }
+    requires count { length places.now.places ≡ elements_of places.now.shape.items }
+    requires ends { All (λ p. p + item_size view.now.element ≤ 2 ^ 64) places.now.places }
     ensures array { IfOk result (λ r. r.0 ≡ contiguous view.now.element places.now.shape.items) }
     ensures bytes { IfOk result (λ r. r.1 ≡ canonical_bytes (view_at view.now places.now)
         bytes.now) }
 {
     let array = View::contiguous(alloc, view.elem().try_clone()?, places.shape.as_slice())?;
-    let block = read_elements(alloc, view.elem(), bytes, places.places.as_slice())?;
+    let block = read_elements(alloc, view.elem(), bytes, &places.places, array.count())?;
     Ok((array, block))
 }

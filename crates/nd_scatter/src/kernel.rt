@@ -20,29 +20,44 @@ pub(crate) fn copy_bytes(out: &mut [u8], to: usize, values: &[u8], from: usize, 
     out[to..to + size].copy_from_slice(&values[from..from + size]);
 }
 
-// Writes the values, which begin so many bytes apart, to their places.
+// Writes the values, which begin so many bytes apart from one byte on, to their places.
 #[inline(always)]
-fn write_each(out: &mut [u8], elem: Elem, size: usize, places: &[u64], values: &[u8], step: usize)
+fn write_each(
+    out: &mut [u8],
+    elem: Elem,
+    size: usize,
+    places: &[u64],
+    values: &[u8],
+    from: usize,
+    step: usize,
+)
     requires size { size ≡ size_of elem.kind }
     requires out { AreHeld elem out.old places.now }
-    requires held { AreValues size step (length places.now) (length values.now) }
-    ensures { out.new ≡ scattered (One elem) values.now step 0 places.now out.old }
+    requires held { AreValues size from step (length places.now) (length values.now) }
+    ensures { out.new ≡ scattered (One elem) values.now step from places.now out.old }
 {
     for (index, place) in places.iter().enumerate() {
-        copy_bytes(out, *place as usize, values, index * step, size);
+        copy_bytes(out, *place as usize, values, from + index * step, size);
     }
 }
 
-/// Writes the values, which begin so many bytes apart, to their places, one after another.
-pub(crate) fn write_numbers(out: &mut [u8], elem: Elem, places: &[u64], values: &[u8], step: usize)
+/// Writes the values, which begin so many bytes apart from one byte on, to their places, one after another.
+pub(crate) fn write_numbers(
+    out: &mut [u8],
+    elem: Elem,
+    places: &[u64],
+    values: &[u8],
+    from: usize,
+    step: usize,
+)
     requires out { AreHeld elem out.old places.now }
-    requires held { AreValues (size_of elem.kind) step (length places.now) (length values.now) }
-    ensures { out.new ≡ scattered (One elem) values.now step 0 places.now out.old }
+    requires held { AreValues (size_of elem.kind) from step (length places.now) (length values.now) }
+    ensures { out.new ≡ scattered (One elem) values.now step from places.now out.old }
 {
     match elem.kind() {
-        Kind::Bool | Kind::I8 | Kind::U8 => write_each(out, elem, 1, places, values, step),
-        Kind::I16 | Kind::U16 => write_each(out, elem, 2, places, values, step),
-        Kind::I32 | Kind::U32 => write_each(out, elem, 4, places, values, step),
-        Kind::I64 | Kind::U64 => write_each(out, elem, 8, places, values, step),
+        Kind::Bool | Kind::I8 | Kind::U8 => write_each(out, elem, 1, places, values, from, step),
+        Kind::I16 | Kind::U16 => write_each(out, elem, 2, places, values, from, step),
+        Kind::I32 | Kind::U32 => write_each(out, elem, 4, places, values, from, step),
+        Kind::I64 | Kind::U64 => write_each(out, elem, 8, places, values, from, step),
     }
 }

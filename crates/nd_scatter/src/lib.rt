@@ -7,6 +7,7 @@ mod preparation;
 mod scatter;
 mod shape;
 mod structures;
+mod writing;
 
 pub use gathering::gather;
 pub use preparation::{hold_fields, prepare_scatter};

@@ -4,11 +4,9 @@ ghost use Rattle.nd_fancy.specs.Chosen.{view_at};
 ghost use Rattle.nd_scatter.specs.Ready.{IsPrepared};
 ghost use Rattle.nd_scatter.specs.Scattered.{written_by};
 
-use crate::kernel::write_numbers;
-use crate::structures::write_structures;
+use crate::writing::write_values;
 use nd_block::RawBlock;
 use nd_fancy::Places;
-use nd_types::ElemType;
 use nd_view::View;
 use std::marker::Model;
 
@@ -70,13 +68,8 @@ impl<'p> Scatter<'p> {
         if block.len() != self.len {
             return;
         }
-        let (places, values) = (self.places.places.as_slice(), self.values.as_slice());
+        let (elem, places) = (self.view.elem(), &self.places.places);
         let bytes = block.as_mut_slice();
-        match self.view.elem() {
-            ElemType::One(elem) => write_numbers(bytes, *elem, places, values, self.step),
-            ElemType::Rec(structure) => {
-                write_structures(bytes, structure, places, values, self.step);
-            }
-        }
+        write_values(bytes, elem, places, self.values.as_slice(), self.step);
     }
 }

@@ -24,20 +24,22 @@ fn write_structure(out: &mut [u8], structure: &RecType, to: usize, values: &[u8]
     }
 }
 
-/// Writes the values, which begin so many bytes apart, to their places, one after another.
+/// Writes the values, which begin so many bytes apart from one byte on, to their places, one after another.
 pub(crate) fn write_structures(
     out: &mut [u8],
     structure: &RecType,
     places: &[u64],
     values: &[u8],
+    from: usize,
     step: usize,
 )
     requires out { All (λ p. p + structure.now.1 ≤ length out.old) places.now }
-    requires held { AreValues structure.now.1 step (length places.now) (length values.now) }
-    ensures { out.new ≡ scattered (Structure structure.now.0 structure.now.1) values.now step 0
+    requires held { AreValues structure.now.1 from step (length places.now) (length values.now) }
+    ensures { out.new ≡ scattered (Structure structure.now.0 structure.now.1) values.now step from
         places.now out.old }
 {
     for (index, place) in places.iter().enumerate() {
-        write_structure(out, structure, *place as usize, values, index * step);
+        let at = from + index * step;
+        write_structure(out, structure, *place as usize, values, at);
     }
 }

@@ -43,7 +43,9 @@ fn write_scattered(
         (having_written (base_of base) (byte_places (selected selection.now))
         (live session.old))) }
 {
-    session.mark_written_elements(base, selection.view.elem(), &selection.places.places)?;
+    let mut room = Vec::new(session.allocator());
+    let places = selection.places.places.lend(&mut room)?;
+    session.mark_written_elements(base, selection.view.elem(), places)?;
     session.write(base, ScatteredBytes { scatter })
 }
 

@@ -1,4 +1,4 @@
-use Rattle.std.proofs.Common.{◌≡◌, ◌+◌, ◌<◌, ◌≤◌, ◌^◌, ℕ, Vec, Global, map, length, take, drop, get_or, pos, replicate, sym, ap, subst, ◌∙◌, arith, rules}
+use Rattle.std.proofs.Common.{◌≡◌, ◌+◌, ◌<◌, ◌≤◌, ◌^◌, ℕ, List, map, length, take, drop, get_or, pos, replicate, sym, ap, subst, ◌∙◌, arith, rules}
 use Rattle.std.specs.List.{All, flat_map}
 use Rattle.std.specs.Prelude.{◌+ℤ◌}
 use Rattle.std.specs.Result.{IfOk}
@@ -13,7 +13,8 @@ use Rattle.nd_view.proofs.Steps.{number-below, zeros}
 use Rattle.nd_view.proofs.Tuples.{no_tuples}
 use Rattle.nd_types.specs.Types.{type_of}
 use Rattle.nd_fancy.specs.Takes.{kept_in, takes_of}
-use Rattle.nd_fancy.specs.Ways.{AreNear, kept_strides, place_on, ways, way_taken}
+use Rattle.nd_fancy.specs.Ways.{AreNear, kept_strides, ways, way_taken}
+use Rattle.nd_places.specs.Near.{place_on}
 use Rattle.nd_fancy.proofs.Placed.{limit, placed}
 use Rattle.nd_fancy.proofs.Pushed.{ok_then, rest_of}
 use Rattle.nd_fancy.proofs.Spreads.{cut, in_range, kept_range, length-kept_strides}
@@ -22,7 +23,7 @@ use Rattle.nd_fancy.proofs.choosing.all_places.Goals as goal
 
 pub returns-then-contains-clause-value : goal.returns-then-contains-clause-value
 returns-then-contains-clause-value c =
-    c.new.ensures.items
+    c.of_each.ensures ∙ c.new.ensures.items
     ∙ sym (ap (map (λ t. place_of c.args.view.now (chosen_source (takes_of c.args.takes.now) c.args.view.now.shape c.args.at c.args.axes t)))
     (no_tuples c.args.shape.now (none c.args.shape.now (sym c.contains.ensures.value ∙ c.if-contains.true))))
 
@@ -102,7 +103,7 @@ has_bytes c =
     subst (λ t. 0 < item_size t) type some
 
 value : (c : goal.Joined-kept-3)
-    → IfOk c.array_places.result (λ v. v.items ≡ map (λ t. place_of c.args.view.now (chosen_source (takes_of c.args.takes.now) c.args.view.now.shape c.args.at c.args.axes t)) (indices c.args.shape.now))
+    → IfOk c.array_places.result (λ v. v ≡ map (λ t. place_of c.args.view.now (chosen_source (takes_of c.args.takes.now) c.args.view.now.shape c.args.at c.args.axes t)) (indices c.args.shape.now))
 value c =
     let h = c.args.view.now in let at = c.args.at in let axes = c.args.axes in let shape = c.args.shape.now in let strides = c.held_strides-strides.result.now in
     let ts = takes_of c.args.takes.now in
@@ -113,7 +114,7 @@ value c =
     let offset : c.offset.result ≡ get_or h.places 0 0 = c.offset.ensures in
     let all = (λ i. flat_map (λ b. flat_map (λ a. map (λ z. place_on (((pos (offset i) +ℤ b) +ℤ a) +ℤ z)) (behind i)) (map (way_taken ts (sizes i) strides) (indices (cut at axes shape i)))) (before i))
     ∙ placed h strides (has_bytes c) c.held_strides-strides.ensures.held c.held_strides-strides.ensures.places ts c.requires.taken at axes shape c.requires.kept c.requires.at c.requires.tuples in
-    subst (λ l. IfOk c.array_places.result (λ v. v.items ≡ l)) all c.array_places.ensures
+    subst (λ l. IfOk c.array_places.result (λ v. v ≡ l)) all c.array_places.ensures
 
 pub returns-clause-value : goal.returns-clause-value
 returns-clause-value c = value c
@@ -123,5 +124,5 @@ returns-clause-limit c =
     let h = c.args.view.now in let ts = takes_of c.args.takes.now in
     let all = limit h c.held_strides-strides.result.now (has_bytes c) c.held_strides-strides.ensures.held c.held_strides-strides.ensures.places ts c.requires.taken
     c.args.at c.args.axes c.args.shape.now c.requires.kept c.requires.at c.requires.tuples in
-    ok_then {X = Vec ℕ Global} (λ v. v.items ≡ map (λ t. place_of h (chosen_source ts h.shape c.args.at c.args.axes t)) (indices c.args.shape.now))
-    (λ v. All (λ p. p + item_size h.element ≤ 2 ^ 64) v.items) c.array_places.result (λ v is. subst (All (λ p. p + item_size h.element ≤ 2 ^ 64)) (sym is) all) (value c)
+    ok_then {X = List ℕ} (λ v. v ≡ map (λ t. place_of h (chosen_source ts h.shape c.args.at c.args.axes t)) (indices c.args.shape.now))
+    (λ v. All (λ p. p + item_size h.element ≤ 2 ^ 64) v) c.array_places.result (λ v is. subst (All (λ p. p + item_size h.element ≤ 2 ^ 64)) (sym is) all) (value c)

@@ -8,7 +8,8 @@ use Rattle.nd_model.specs.Tuple.{indices}
 use Rattle.nd_fancy.specs.Direct.{way_on}
 use Rattle.nd_fancy.specs.IndexNumbers.{numbers_in}
 use Rattle.nd_fancy.specs.Takes.{takes_of}
-use Rattle.nd_fancy.specs.Ways.{AreNear, place_on, way_taken}
+use Rattle.nd_fancy.specs.Ways.{AreNear, way_taken}
+use Rattle.nd_places.specs.Near.{place_on}
 use Rattle.nd_fancy.proofs.Numbers.{some_of}
 use Rattle.nd_fancy.proofs.SoleArrays.{direct_same}
 use Rattle.nd_fancy.proofs.Spreads.{arrays_near, code_few, cut}
@@ -27,7 +28,7 @@ returns-in-Some c =
     let own : arrays ≡ map (way_on axes) ks
     = c.in-Some.ensures.ways c.args.sizes.now c.args.strides.now
     ∙ (λ i. map (λ k. way_to (unravelled (sym (c.new-axes.ensures.lengths ∙ cut s.axis s.spread.now.axes c.args.sizes.now) i) k) (sym (c.new-axes.ensures.strides ∙ cut s.axis s.spread.now.axes c.args.strides.now) i)) ks) in
-    subst (λ l. IfOk c.direct_places.result (λ v. v.items ≡ l)) (direct_same (pos kept.offset) kept.before.now kept.behind.now arrays ks (way_on axes) own) c.direct_places.ensures
+    subst (λ l. IfOk c.direct_places.result (λ v. v ≡ l)) (direct_same (pos kept.offset) kept.before.now kept.behind.now arrays ks (way_on axes) own) c.direct_places.ensures
 
 pub places_on-requires : goal.places_on-requires
 places_on-requires c =
@@ -35,7 +36,7 @@ places_on-requires c =
     record {
       near = (
         kept.first,
-        subst AreNear (sym (c.as_slice.ensures.value ∙ c.in_ok-arrays.ensures))
+        subst AreNear (sym (c.as_slice-arrays.ensures.value ∙ c.in_ok-arrays.ensures))
             (arrays_near ts c.args.sizes.now c.args.strides.now c.args.many.now (code_few c.args.takes.now) (omega (arith, c.requires.taken, c.requires.most)) c.requires.range),
         kept.last,
       );
@@ -44,5 +45,5 @@ places_on-requires c =
 pub returns : goal.returns
 returns c =
     let kept = c.args.kept.now in
-    subst (λ l. IfOk c.places_on.result (λ v. v.items ≡ l))
-    (ap (λ l. flat_map (λ b. flat_map (λ a. map (λ z. place_on (((pos kept.offset +ℤ b) +ℤ a) +ℤ z)) kept.behind.now) l) kept.before.now) (c.as_slice.ensures.value ∙ c.in_ok-arrays.ensures)) c.places_on.ensures
+    c.of_each.ensures ∙ c.in_ok-places.ensures
+    ∙ ap (λ l. flat_map (λ b. flat_map (λ a. map (λ z. place_on (((pos kept.offset +ℤ b) +ℤ a) +ℤ z)) kept.behind.now) l) kept.before.now) (c.as_slice-arrays.ensures.value ∙ c.in_ok-arrays.ensures)

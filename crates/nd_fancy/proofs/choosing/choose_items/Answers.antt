@@ -62,7 +62,7 @@ returns-clause-value c =
 pub returns-clause-limit : goal.returns-clause-limit
 returns-clause-limit c =
     let same = sym (ap (λ (v : Geo). v.element) (selected_is (slices_in (items_of c.args.items.now)) c.args.view.now c.in_ok-sliced.sliced c.in_ok-sliced.ensures)) in
-    subst (λ t. IfOk c.choose.result (λ p. All (λ q. q + item_size t ≤ 2 ^ 64) p.places.items)) same c.choose.ensures.limit
+    subst (λ t. IfOk c.choose.result (λ p. All (λ q. q + item_size t ≤ 2 ^ 64) p.places)) same c.choose.ensures.limit
 
 pub returns-clause-limits : goal.returns-clause-limits
 returns-clause-limits c =

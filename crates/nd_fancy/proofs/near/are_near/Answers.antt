@@ -3,7 +3,7 @@ use Rattle.std.specs.List.{All}
 use Rattle.std.specs.Int.{w128}
 use Rattle.std.specs.Int.RustNames.{FitsSigned}
 use Rattle.std.proofs.lemmas.Int.{to_z-of_z}
-use Rattle.nd_fancy.specs.Near.{IsNear}
+use Rattle.nd_places.specs.Near.{IsNear}
 use Rattle.nd_fancy.proofs.NearWays.{near_more}
 use Rattle.nd_fancy.proofs.near.are_near.Goals as goal
 

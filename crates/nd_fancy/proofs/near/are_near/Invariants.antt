@@ -1,6 +1,6 @@
 use Rattle.std.proofs.Common.{take}
 use Rattle.std.specs.List.{All}
-use Rattle.nd_fancy.specs.Near.{IsNear}
+use Rattle.nd_places.specs.Near.{IsNear}
 use Rattle.nd_fancy.proofs.near.are_near.Given as goal
 
 abbrev pub invariant-loop-way : goal.invariant-loop-way

@@ -3,8 +3,8 @@ use Rattle.std.specs.Prelude.{◌+ℤ◌, ◌*ℤ◌}
 use Rattle.std.specs.Int.{w64, w128}
 use Rattle.std.proofs.lemmas.Int.{ints}
 use Rattle.nd_fancy.specs.Direct.{way_on}
-use Rattle.nd_fancy.specs.Near.{IsNear}
-use Rattle.nd_fancy.specs.Ways.{place_on}
+use Rattle.nd_places.specs.Near.{IsNear}
+use Rattle.nd_places.specs.Near.{place_on}
 use Rattle.nd_fancy.proofs.NearWays.{joined}
 use Rattle.nd_fancy.proofs.Rows.{near_at, alone}
 use Rattle.nd_fancy.proofs.near.line_of.Goals as goal

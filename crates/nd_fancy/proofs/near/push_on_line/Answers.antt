@@ -2,8 +2,8 @@ use Rattle.std.proofs.Common.{◌≡◌, ℕ, ◌<◌, ◌≤◌, ◌^◌, ◌++
 use Rattle.std.specs.Prelude.{◌+ℤ◌, ◌*ℤ◌}
 use Rattle.std.specs.Int.{w64}
 use Rattle.std.proofs.lemmas.Int.{ints}
-use Rattle.nd_fancy.specs.Ways.{place_on}
-use Rattle.nd_fancy.proofs.NearWays.{near_product}
+use Rattle.nd_places.specs.Near.{place_on}
+use Rattle.nd_places.proofs.Found.{near_product}
 use Rattle.nd_fancy.proofs.Pushed.{mapped_again}
 use Rattle.nd_fancy.proofs.near.push_on_line.Goals as goal
 

@@ -3,7 +3,7 @@ use Rattle.std.specs.List.{flat_map}
 use Rattle.std.specs.Prelude.{◌+ℤ◌}
 use Rattle.std.proofs.lemmas.Int.{ints}
 use Rattle.std.proofs.lemmas.List.{take_all}
-use Rattle.nd_fancy.specs.Ways.{place_on}
+use Rattle.nd_places.specs.Near.{place_on}
 use Rattle.nd_fancy.proofs.Rows.{block_again, near_at}
 use Rattle.nd_fancy.proofs.placing.places_on.Goals as goal
 

@@ -3,7 +3,7 @@ use Rattle.std.specs.Int.{w128}
 use Rattle.std.specs.Prelude.{◌+ℤ◌}
 use Rattle.std.proofs.lemmas.Int.{ints, to_z-of_z}
 use Rattle.std.proofs.lemmas.List.{take_all}
-use Rattle.nd_fancy.specs.Ways.{place_on}
+use Rattle.nd_places.specs.Near.{place_on}
 use Rattle.nd_fancy.proofs.Rows.{place_again, near_at}
 use Rattle.nd_fancy.proofs.placing.push_places.Goals as goal
 

@@ -1,6 +1,6 @@
 use Rattle.std.proofs.Common.{◌≡◌, ◌++◌, map, take}
 use Rattle.std.specs.Prelude.{◌+ℤ◌}
-use Rattle.nd_fancy.specs.Ways.{place_on}
+use Rattle.nd_places.specs.Near.{place_on}
 use Rattle.nd_fancy.proofs.placing.push_places.Given as goal
 
 abbrev pub invariant-loop-way : goal.invariant-loop-way

@@ -4,7 +4,7 @@ use Rattle.std.specs.List.{flat_map}
 use Rattle.std.specs.Prelude.{◌+ℤ◌}
 use Rattle.std.proofs.lemmas.Int.{ints, to_z-of_z}
 use Rattle.std.proofs.lemmas.List.{take_all}
-use Rattle.nd_fancy.specs.Ways.{place_on}
+use Rattle.nd_places.specs.Near.{place_on}
 use Rattle.nd_fancy.proofs.Rows.{row_again, near_at}
 use Rattle.nd_fancy.proofs.placing.push_rows.Goals as goal
 

@@ -1,7 +1,7 @@
 use Rattle.std.proofs.Common.{◌+◌, ◌<◌, ◌∷◌, length, drop, sym, ap, ◌∙◌, arith}
 use Rattle.nd_index.specs.Items.{item_of, items_of}
 use Rattle.nd_index.proofs.Items.{inside_first}
-use Rattle.nd_index.proofs.Fronts.{drop_one}
+use Rattle.nd_places.proofs.Fronts.{drop_one}
 use Rattle.nd_fancy.proofs.takes.takes.Goals as goal
 
 pub push_takes-requires-clause-inside : goal.push_takes-requires-clause-inside

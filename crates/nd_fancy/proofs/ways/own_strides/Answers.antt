@@ -7,7 +7,7 @@ use Rattle.std.proofs.lemmas.Int.{to_z-of_z}
 use Rattle.std.proofs.lemmas.List.{drop_all}
 use Rattle.nd_fancy.specs.Ways.{narrowed_strides}
 use Rattle.nd_fancy.proofs.Numbers.{each_next}
-use Rattle.nd_index.proofs.Fronts.{drop_one}
+use Rattle.nd_places.proofs.Fronts.{drop_one}
 use Rattle.nd_fancy.proofs.Sums.{own_range}
 use Rattle.nd_fancy.proofs.ways.own_strides.Goals as goal
 

@@ -40,6 +40,7 @@ new-requires c =
       held = λ k lt.
           let room : (k + 1) * c.size-size.result ≤ length g.places * c.size-size.result = mul-le-mul_right c.size-size.result (omega (arith, lt)) in
           omega (arith, room, long, size);
+      few = omega (arith, sym count, c.requires.target.count, c.count.ensures.limit);
     }
 
 pub returns-clause-written : goal.returns-clause-written

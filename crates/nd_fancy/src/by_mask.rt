@@ -1,0 +1,79 @@
+//! The places of the true elements of a mask, kept as a copy of the mask.
+ghost use Rattle.std.specs.Prelude.{◌≡◌, ◌^◌, ◌≤◌, length, map, IfOk, IfSome};
+ghost use Rattle.nd_model.specs.Advanced.{is_nonzero, true_numbers};
+ghost use Rattle.nd_fancy.specs.Direct.{chosen_places, places_beside};
+ghost use Rattle.nd_fancy.specs.IndexNumbers.{numbers_in};
+ghost use Rattle.nd_index.specs.Items.{numbers_of};
+ghost use Rattle.nd_places.specs.Near.{is_true};
+
+use crate::axes::Axes;
+use crate::index_numbers::IndexNumbers;
+use crate::near::line_of;
+use crate::row::{KeptWays, Row};
+use nd_block::RawBlock;
+use nd_index::{IndexArray, is_elem, is_packed};
+use nd_places::{PlaceList, Trues};
+use nd_types::{Elem, Kind};
+use std::alloc::{AllocError, Global};
+
+// The bytes of a mask, if they are Booleans that lie side by side.
+fn mask_bytes<'i>(mask: &IndexArray<'i>) -> Option<&'i [u8]>
+    ensures { IfSome result (λ bytes. (map is_nonzero (numbers_of mask.now)
+        ≡ map is_true bytes.now) × (length bytes.now ≤ 2 ^ 24)) }
+{
+    if !is_elem(*mask.elem, Elem::little(Kind::Bool)) {
+        return None;
+    }
+    let count = mask.view.count() as u64;
+    let mut runs = mask.view.runs();
+    let run = runs.next()?;
+    if run.count() != count || !is_packed(&run, 1, mask.bytes.len()) {
+        return None;
+    }
+    let start = run.start() as usize;
+    Some(&mask.bytes[start..start + run.count() as usize])
+}
+
+// Returns the places of a row's elements that a mask chooses, if they are on a line.
+fn places_on_line(
+    alloc: Global,
+    row: &Row<'_>,
+    axes: &Axes<'_>,
+    mask: &IndexArray<'_>,
+) -> Result<Option<PlaceList>, AllocError>
+    ensures { IfOk result (λ found. IfSome found (λ v. v ≡ chosen_places row.now axes.now
+        (true_numbers 0 (map is_nonzero (numbers_of mask.now))))) }
+{
+    let Some(line) = line_of(row, axes) else {
+        return Ok(None);
+    };
+    let Some(bytes) = mask_bytes(mask) else {
+        return Ok(None);
+    };
+    let mask = RawBlock::from_slice(alloc, bytes)?;
+    Ok(Some(PlaceList::of_trues(Trues { line, mask })))
+}
+
+/// Returns the places that these numbers choose beside kept axes, if they are those of a mask over the elements of one line.
+pub(crate) fn places_by_mask(
+    alloc: Global,
+    kept: &KeptWays<'_>,
+    numbers: &IndexNumbers<'_, '_>,
+    axes: &Axes<'_>,
+) -> Result<Option<PlaceList>, AllocError>
+    ensures { IfOk result (λ found. IfSome found (λ v. v
+        ≡ places_beside kept.now axes.now (numbers_in numbers.now))) }
+{
+    let IndexNumbers::Trues(mask) = numbers else {
+        return Ok(None);
+    };
+    if kept.before.len() != 1 {
+        return Ok(None);
+    }
+    let row = Row {
+        start: i128::from(kept.offset) + kept.before[0],
+        ways: kept.behind,
+        is_near: false,
+    };
+    places_on_line(alloc, &row, axes, mask)
+}

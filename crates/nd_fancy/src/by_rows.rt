@@ -1,0 +1,99 @@
+//! The places of rows, kept by where each row begins.
+ghost use Rattle.std.specs.Prelude.{◌≡◌, ◌^◌, ◌≤◌, ◌++◌, pos, ◌+ℤ◌, unsigned_abs, length, map, IfOk, IfSome, IsTrue};
+ghost use Rattle.std.specs.List.{All, flat_map};
+ghost use Rattle.nd_fancy.specs.Direct.{places_beside, way_on};
+ghost use Rattle.nd_fancy.specs.IndexNumbers.{numbers_in};
+ghost use Rattle.nd_places.specs.Near.{IsNear};
+
+use crate::axes::Axes;
+use crate::index_numbers::IndexNumbers;
+use crate::near::is_near;
+use crate::row::KeptWays;
+use nd_places::{PlaceList, Rows};
+use std::alloc::{AllocError, Global};
+
+// How many elements a row has at least that is kept as one.
+const LONG: usize = 16;
+
+// Returns the ways, if all are near.
+fn near_ways(alloc: Global, ways: &[i128]) -> Result<Option<Vec<i64>>, AllocError>
+    ensures { IfOk result (λ found. IfSome found (λ v. (v.items ≡ ways.now)
+        × All IsNear v.items)) }
+{
+    let mut near = Vec::with_capacity(alloc, ways.len())?;
+    for way in ways {
+        if !is_near(*way) {
+            return Ok(None);
+        }
+        near.push(*way as i64)?;
+    }
+    Ok(Some(near))
+}
+
+// Appends where the rows of these numbers begin, and returns whether all that is near.
+fn push_starts(
+    starts: &mut Vec<i64>,
+    start: i128,
+    axes: &Axes<'_>,
+    numbers: &[u64],
+) -> Result<bool, AllocError>
+    requires start { unsigned_abs start ≤ 2 ^ 114 }
+    requires numbers { All (λ k. k ≤ 2 ^ 32) numbers.now }
+    requires near { All IsNear starts.old.items }
+    ensures { IfOk result (λ all. IsTrue all → (All IsNear starts.new.items) × (starts.new.items
+        ≡ starts.old.items ++ map (λ k. start +ℤ way_on axes.now k) numbers.now)) }
+{
+    for number in numbers {
+        let way = start + axes.way(*number);
+        if !is_near(way) {
+            return Ok(false);
+        }
+        starts.push(way as i64)?;
+    }
+    Ok(true)
+}
+
+// Returns where the rows of these numbers begin, for all ways of the kept axes before those of the array, if all that is near.
+fn row_starts(
+    alloc: Global,
+    kept: &KeptWays<'_>,
+    numbers: &[u64],
+    axes: &Axes<'_>,
+) -> Result<Option<Vec<i64>>, AllocError>
+    requires { All (λ k. k ≤ 2 ^ 32) numbers.now }
+    ensures { IfOk result (λ found. IfSome found (λ v. (All IsNear v.items) × (v.items
+        ≡ flat_map (λ b. map (λ k. (pos kept.now.offset +ℤ b) +ℤ way_on axes.now k) numbers.now)
+        kept.now.before.now))) }
+{
+    let mut starts = Vec::with_capacity(alloc, numbers.len())?;
+    for way in kept.before {
+        if !push_starts(&mut starts, i128::from(kept.offset) + *way, axes, numbers)? {
+            return Ok(None);
+        }
+    }
+    Ok(Some(starts))
+}
+
+/// Returns the places that these numbers choose beside kept axes, if they are those of long rows.
+pub(crate) fn places_by_rows(
+    alloc: Global,
+    kept: &KeptWays<'_>,
+    numbers: &IndexNumbers<'_, '_>,
+    axes: &Axes<'_>,
+) -> Result<Option<PlaceList>, AllocError>
+    requires { All (λ k. k ≤ 2 ^ 32) (numbers_in numbers.now) }
+    ensures { IfOk result (λ found. IfSome found (λ v. v
+        ≡ places_beside kept.now axes.now (numbers_in numbers.now))) }
+{
+    if kept.behind.len() < LONG {
+        return Ok(None);
+    }
+    let Some(ways) = near_ways(alloc, kept.behind)? else {
+        return Ok(None);
+    };
+    let numbers = numbers.list(alloc)?;
+    let Some(starts) = row_starts(alloc, kept, numbers.as_slice(), axes)? else {
+        return Ok(None);
+    };
+    Ok(Some(PlaceList::of_rows(Rows { starts, ways })))
+}

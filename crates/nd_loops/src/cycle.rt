@@ -1,0 +1,128 @@
+//! A few numbers that come again and again.
+ghost use Rattle.std.specs.Prelude.{◌≡◌, ◌*◌, ◌<◌, ◌≤◌, ◌++◌, length};
+ghost use Rattle.nd_model.specs.Element.{size_of};
+ghost use Rattle.nd_types.specs.Kinds.{kind_of};
+ghost use Rattle.nd_element.specs.Elements.{AreHeld, numbers_at};
+ghost use Rattle.nd_loops.specs.Sides.{HasNumbers, Keeps, numbers_on};
+ghost use Rattle.nd_loops.specs.Turns.{IsInTurns};
+
+use crate::elements::gather;
+use crate::kernel::Side;
+use crate::reading::numbers_are_valid;
+use nd_assign::Walk;
+use nd_types::{Elem, Kind};
+use nd_view::View;
+use std::marker::Model;
+
+/// How many bytes the first numbers of a cycle take: as many as are taken at a time, and those before the numbers begin again.
+pub const ROOM: usize = 4608;
+
+/// The numbers of elements that begin again after a few. What is taken is lent: it lies side by side among the first ones, wherever
+/// it begins. A clause sees the list of those that are left, and their kind.
+#[derive(Drop)]
+pub struct Cycle<'v> {
+    // the first numbers, as many as there is room for
+    first: &'v [u8],
+    kind: Kind,
+    // after how many numbers they begin again
+    period: usize,
+    // how many are taken, and how many there are
+    at: usize,
+    count: usize,
+}
+
+impl<'v> Model for Cycle<'v> {
+    ghost use Rattle.nd_loops.specs.ElementsLeft.{ElementsLeft};
+    ghost use Rattle.nd_loops.specs.Cycles.{cycle_left, IsCycle};
+
+    ghost Value = { ElementsLeft };
+
+    ghost view = { cycle_left };
+
+    ghost invariant = { IsCycle };
+}
+
+/// Returns after how many elements the places of a view begin again: those of its last axes, before which no axis leads to other places.
+pub(crate) fn period_of(view: &View) -> usize
+    ensures { IsInTurns result view.now.places }
+{
+    let (shape, strides) = (view.shape(), view.strides());
+    let mut period = view.count();
+    if period == 0 {
+        return 0;
+    }
+    let mut axis = 0;
+    while axis < shape.len() && strides[axis] == 0 {
+        period /= shape[axis] as usize;
+        axis += 1;
+    }
+    period
+}
+
+impl<'v> Cycle<'v> {
+    /// Begins with the numbers of all elements of a view, whose places begin again after so many. The first ones lie in the room.
+    pub fn new(
+        view: &View,
+        bytes: &[u8],
+        elem: Elem,
+        kind: Kind,
+        period: usize,
+        room: &'v mut [u8; ROOM],
+    ) -> Cycle<'v>
+        requires held { AreHeld elem bytes.now view.now.places }
+        requires keeps { Keeps elem.kind (kind_of kind) }
+        requires some { 0 < period }
+        requires few { period ≤ 64 }
+        requires many { 4608 ≤ size_of (kind_of kind) * length view.now.places }
+        requires turns { IsInTurns period view.now.places }
+        ensures numbers { result.numbers ≡ numbers_at elem bytes.now view.now.places }
+        ensures kind { result.kind ≡ kind_of kind }
+    {
+        let size = kind.size() as usize;
+        let some = ROOM / size;
+        let mut walk = Walk::new(view);
+        let run = walk.next(some as u64);
+        numbers_are_valid(bytes, elem);
+        gather(
+            &mut room[..some * size],
+            kind,
+            bytes,
+            elem,
+            &run,
+            &mut walk,
+            some,
+        );
+        Cycle {
+            first: &room[..],
+            kind,
+            period,
+            at: 0,
+            count: view.count(),
+        }
+    }
+
+    /// Takes so many numbers.
+    pub fn take<'b>(&mut self, count: usize) -> Side<'b>
+    where
+        'v: 'b,
+        requires enough { count ≤ length self.old.numbers }
+        requires room { count * size_of self.old.kind ≤ 4096 }
+        ensures enough { HasNumbers result count }
+        ensures split { self.old.numbers ≡ numbers_on result count ++ self.new.numbers }
+        ensures kind { self.new.kind ≡ self.old.kind }
+    {
+        let size = self.kind.size() as usize;
+        let start = self.at % self.period * size;
+        self.at += count;
+        let first = self.first;
+        Side::Each(&first[start..start + count * size], self.kind)
+    }
+
+    /// Returns the size of the numbers.
+    pub fn size(&self) -> usize
+        ensures value { result ≡ size_of self.now.kind }
+        ensures range { (0 < result) × (result ≤ 8) }
+    {
+        self.kind.size() as usize
+    }
+}

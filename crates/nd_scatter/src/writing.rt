@@ -1,0 +1,58 @@
+//! The writes of values to chosen elements.
+ghost use Rattle.std.specs.Prelude.{◌≡◌, ◌+◌, ◌^◌, ◌≤◌, length};
+ghost use Rattle.std.specs.List.{All};
+ghost use Rattle.nd_model.specs.View.{item_size};
+ghost use Rattle.nd_types.specs.Types.{type_of};
+ghost use Rattle.nd_scatter.specs.Ready.{AreValues};
+ghost use Rattle.nd_scatter.specs.Scattered.{scattered};
+
+use crate::kernel::write_numbers;
+use crate::structures::write_structures;
+use nd_places::PlaceList;
+use nd_types::ElemType;
+
+// How many places are found at a time.
+const MANY: usize = 512;
+
+// Writes the values, which begin so many bytes apart from one byte on, to these places.
+fn write_part(
+    out: &mut [u8],
+    elem: &ElemType,
+    places: &[u64],
+    values: &[u8],
+    from: usize,
+    step: usize,
+)
+    requires out { All (λ p. p + item_size (type_of elem.now) ≤ length out.old) places.now }
+    requires held { AreValues (item_size (type_of elem.now)) from step (length places.now)
+        (length values.now) }
+    ensures { out.new ≡ scattered (type_of elem.now) values.now step from places.now out.old }
+{
+    match elem {
+        ElemType::One(elem) => write_numbers(out, *elem, places, values, from, step),
+        ElemType::Rec(structure) => write_structures(out, structure, places, values, from, step),
+    }
+}
+
+/// Writes the values, which begin so many bytes apart, to their places, one after another.
+pub(crate) fn write_values(
+    out: &mut [u8],
+    elem: &ElemType,
+    places: &PlaceList,
+    values: &[u8],
+    step: usize,
+)
+    requires out { All (λ p. p + item_size (type_of elem.now) ≤ length out.old) places.now }
+    requires held { AreValues (item_size (type_of elem.now)) 0 step (length places.now)
+        (length values.now) }
+    requires few { length places.now ≤ 2 ^ 24 }
+    ensures { out.new ≡ scattered (type_of elem.now) values.now step 0 places.now out.old }
+{
+    let mut some = [0; MANY];
+    let mut walk = places.walk();
+    let mut done = 0;
+    while let Some(part) = walk.next(&mut some) {
+        write_part(out, elem, part, values, done * step, step);
+        done += part.len();
+    }
+}

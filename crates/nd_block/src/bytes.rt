@@ -58,7 +58,8 @@ fn get64(bytes: &[u8], place: usize, big: bool) -> u64
     }
 }
 
-fn bytes16(word: u16, big: bool) -> [u8; 2]
+#[inline(always)]
+pub(crate) fn bytes16(word: u16, big: bool) -> [u8; 2]
     ensures { result ≡ bytes_in (width_of Int16) big word }
 {
     if big {
@@ -68,7 +69,8 @@ fn bytes16(word: u16, big: bool) -> [u8; 2]
     }
 }
 
-fn bytes32(word: u32, big: bool) -> [u8; 4]
+#[inline(always)]
+pub(crate) fn bytes32(word: u32, big: bool) -> [u8; 4]
     ensures { result ≡ bytes_in (width_of Int32) big word }
 {
     if big {
@@ -78,7 +80,8 @@ fn bytes32(word: u32, big: bool) -> [u8; 4]
     }
 }
 
-fn bytes64(word: u64, big: bool) -> [u8; 8]
+#[inline(always)]
+pub(crate) fn bytes64(word: u64, big: bool) -> [u8; 8]
     ensures { result ≡ bytes_in (width_of Int64) big word }
 {
     if big {
@@ -89,25 +92,29 @@ fn bytes64(word: u64, big: bool) -> [u8; 8]
 }
 
 // The lowest bits of a number, in two's complement.
-fn low8(value: i128) -> u8
+#[inline(always)]
+pub(crate) fn low8(value: i128) -> u8
     ensures { result ≡ residue (width_of Int8) value }
 {
     value.rem_euclid(1 << 8) as u8
 }
 
-fn low16(value: i128) -> u16
+#[inline(always)]
+pub(crate) fn low16(value: i128) -> u16
     ensures { result ≡ residue (width_of Int16) value }
 {
     value.rem_euclid(1 << 16) as u16
 }
 
-fn low32(value: i128) -> u32
+#[inline(always)]
+pub(crate) fn low32(value: i128) -> u32
     ensures { result ≡ residue (width_of Int32) value }
 {
     value.rem_euclid(1 << 32) as u32
 }
 
-fn low64(value: i128) -> u64
+#[inline(always)]
+pub(crate) fn low64(value: i128) -> u64
     ensures { result ≡ residue (width_of Int64) value }
 {
     value.rem_euclid(1 << 64) as u64

@@ -54,12 +54,12 @@ fn results<O: Operation>(
         (stretched_numbers left.now count) (stretched_numbers right.now count)) }
 {
     let kind = operand_kind::<O>(to, left.kind(), right.kind());
-    let mut out = Filling::with_room(alloc, count * to.size() as usize)?;
+    let room = Filling::with_room(alloc, count * to.size() as usize)?;
     let mut left_room = [0; ROOM];
     let mut right_room = [0; ROOM];
     let mut left = left.begin(kind, count, &mut left_room);
     let mut right = right.begin(kind, count, &mut right_room);
-    fill::<O>(&mut out, to, kind, &mut left, &mut right, count);
+    let out = fill::<O>(room, to, kind, &mut left, &mut right, count);
     Ok(out.finish())
 }
 

@@ -1,5 +1,5 @@
 -- The numbers of a side part by part, and what a function gives of them.
-use Rattle.std.proofs.Common.{◌≡◌, ℕ, ◌+◌, ℤ, List, ◌++◌, map, length, sym, ap, ◌∙◌, arith}
+use Rattle.std.proofs.Common.{◌≡◌, ℕ, ◌+◌, ℤ, ◌++◌, map, length, sym, ap, ◌∙◌, arith}
 use Rattle.std.proofs.lemmas.List.{length-map, map-append}
 use Rattle.nd_model.specs.Element.{Element}
 use Rattle.nd_model.specs.Tuple.{count_up}

@@ -1,5 +1,5 @@
-//! The loop over the numbers of both sides.
-ghost use Rattle.std.specs.Prelude.{◌≡◌, ◌+◌, ◌*◌, ◌≤◌, length, false};
+//! The loops over the numbers of both sides: over bytes that are there, and into a block that fills.
+ghost use Rattle.std.specs.Prelude.{◌≡◌, ◌+◌, ◌*◌, ◌≤◌, ◌++◌, length, false};
 ghost use Rattle.nd_model.specs.Content.{number_at};
 ghost use Rattle.nd_model.specs.Element.{Int32, Int64, bytes_at, number_in, size_of, width_of};
 ghost use Rattle.nd_model.specs.Elementwise.{little};
@@ -8,7 +8,7 @@ ghost use Rattle.nd_loops.specs.Results.{result_bytes};
 ghost use Rattle.nd_loops.specs.Sides.{HasNumbers, number_on, numbers_on};
 
 use crate::operation::Operation;
-use nd_block::{store_at, value_at};
+use nd_block::{Filling, store_at, value_at};
 use nd_types::{Elem, Kind};
 
 /// The numbers of one side: one that stands for all, or each side by side with the next one, in one kind whose lowest byte comes
@@ -87,6 +87,24 @@ fn hint_of<O: Operation>(right: Side<'_>) -> u64 {
     }
 }
 
+// What a function gives for the numbers of both sides in this place.
+#[inline(always)]
+fn result_at<O: Operation>(
+    to: Kind,
+    left: Side<'_>,
+    right: Side<'_>,
+    index: usize,
+    hint: u64,
+) -> i128
+    requires left { HasNumbers left (index + 1) }
+    requires right { HasNumbers right (index + 1) }
+    ensures { result ≡ O.gives (kind_of to) (number_on left.entry index)
+        (number_on right.entry index) }
+{
+    let (x, y) = (number_of::<O>(left, index), number_of::<O>(right, index));
+    O::apply(to, x, y, hint)
+}
+
 /// Writes what a function gives for so many numbers of both sides, one result after another.
 #[inline(always)]
 pub(crate) fn apply_each<O: Operation>(
@@ -105,12 +123,7 @@ pub(crate) fn apply_each<O: Operation>(
     let size = to.size() as usize;
     let hint = hint_of::<O>(right);
     for index in 0..count {
-        let number = O::apply(
-            to,
-            number_of::<O>(left, index),
-            number_of::<O>(right, index),
-            hint,
-        );
+        let number = result_at::<O>(to, left, right, index, hint);
         store_at(out, index * size, Elem::little(to), number);
     }
 }
@@ -131,4 +144,48 @@ pub(crate) fn apply_any<O: Operation>(
         (numbers_on left.entry count) (numbers_on right.entry count) }
 {
     apply_each::<O>(out, to, left, right, count);
+}
+
+/// Appends what a function gives for so many numbers of both sides: each result is written where it stays.
+#[inline(always)]
+pub(crate) fn append_each<O: Operation>(
+    filling: Filling,
+    to: Kind,
+    left: Side<'_>,
+    right: Side<'_>,
+    count: usize,
+) -> Filling
+    requires room { count * size_of (kind_of to) ≤ filling.1 }
+    requires left { HasNumbers left count }
+    requires right { HasNumbers right count }
+    ensures written { result.0 ≡ filling.0 ++ result_bytes (little (kind_of to))
+        (O.gives (kind_of to)) (numbers_on left.entry count) (numbers_on right.entry count) }
+    ensures room { result.1 + count * size_of (kind_of to) ≡ filling.1 }
+{
+    let mut out = filling;
+    let hint = hint_of::<O>(right);
+    for index in 0..count {
+        let number = result_at::<O>(to, left, right, index, hint);
+        out.push_number(Elem::little(to), number);
+    }
+    out
+}
+
+/// Does the same for any kinds, where no loop is made for them alone.
+#[inline(never)]
+pub(crate) fn append_any<O: Operation>(
+    filling: Filling,
+    to: Kind,
+    left: Side<'_>,
+    right: Side<'_>,
+    count: usize,
+) -> Filling
+    requires room { count * size_of (kind_of to) ≤ filling.1 }
+    requires left { HasNumbers left count }
+    requires right { HasNumbers right count }
+    ensures written { result.0 ≡ filling.0 ++ result_bytes (little (kind_of to))
+        (O.gives (kind_of to)) (numbers_on left.entry count) (numbers_on right.entry count) }
+    ensures room { result.1 + count * size_of (kind_of to) ≡ filling.1 }
+{
+    append_each::<O>(filling, to, left, right, count)
 }

@@ -2,6 +2,7 @@
 //! elements of views, as many at a time as lie in a near cache.
 #![tactic(auto)]
 
+mod appending;
 mod chunks;
 mod cycle;
 mod elements;

@@ -17,13 +17,10 @@ pub loop-index-preserved : goal.loop-index-preserved
 loop-index-preserved g c =
     let a = c.args in let k = c.loop-index.index in let out = c.loop-index.out in let to : Kind = kind_of a.to in
     let f : ℕ → List ℕ = λ j. bytes_of (little to) (g.O.Operation.gives to (number_on a.left j) (number_on a.right j)) in
-    let fx : FitsSigned w128 c.number_of.result = search rules in let fy : FitsSigned w128 c.number_of-in-loop-index.result = search rules in
-    let fz : FitsSigned w128 c.apply-number.result = search rules in
-    let x : cast_signed w128 (cast_unsigned w128 c.number_of.result) ≡ number_on a.left k = to_z-of_z fx ∙ c.number_of.ensures in
-    let y : cast_signed w128 (cast_unsigned w128 c.number_of-in-loop-index.result) ≡ number_on a.right k = to_z-of_z fy ∙ c.number_of-in-loop-index.ensures in
-    let z : cast_signed w128 (cast_unsigned w128 c.apply-number.result) ≡ g.O.Operation.gives to (number_on a.left k) (number_on a.right k)
-    = to_z-of_z fz ∙ c.apply-number.ensures ∙ (λ i. g.O.Operation.gives to (x i) (y i)) in
-    let ys : List ℕ = bytes_of c.little.result (cast_signed w128 (cast_unsigned w128 c.apply-number.result)) in
+    let fits : FitsSigned w128 c.result_at-number.result = search rules in
+    let z : cast_signed w128 (cast_unsigned w128 c.result_at-number.result) ≡ g.O.Operation.gives to (number_on a.left k) (number_on a.right k)
+    = to_z-of_z fits ∙ c.result_at-number.ensures in
+    let ys : List ℕ = bytes_of c.little.result (cast_signed w128 (cast_unsigned w128 c.result_at-number.result)) in
     let is : ys ≡ f k = λ i. bytes_of (c.little.ensures i) (z i) in
     let long : length ys ≡ size_of to = ap length is ∙ length-bytes_of (little to) (g.O.Operation.gives to (number_on a.left k) (number_on a.right k)) in
     let at : k * c.size-size.result ≡ k * size_of to = ap (λ m. k * m) c.size-size.ensures.value in

@@ -1,0 +1,188 @@
+//! Which loop appends what a function gives to a block that fills. Each has the kernel's contract, so which kinds have a loop of their own
+//! is a question of speed alone.
+ghost use Rattle.std.specs.Prelude.{◌≡◌, ◌+◌, ◌*◌, ◌≤◌, ◌++◌};
+ghost use Rattle.nd_model.specs.Element.{size_of};
+ghost use Rattle.nd_model.specs.Elementwise.{little};
+ghost use Rattle.nd_types.specs.Kinds.{kind_of};
+ghost use Rattle.nd_loops.specs.Results.{result_bytes};
+ghost use Rattle.nd_loops.specs.Sides.{HasNumbers, IsOf, numbers_on};
+
+use crate::kernel::{Side, append_any, append_each};
+use crate::known;
+use crate::known::KnownKind;
+use crate::operation::Operation;
+use crate::pairs::{is_kind, is_of, narrow};
+use crate::parts::append_parts;
+use nd_block::Filling;
+use nd_types::{Kind, fits};
+
+// Appends the results by the loop that is the fastest for them: those of a comparison are narrower than the numbers.
+#[inline(always)]
+fn append_fast<O: Operation>(
+    filling: Filling,
+    to: Kind,
+    left: Side<'_>,
+    right: Side<'_>,
+    count: usize,
+) -> Filling
+    requires room { count * size_of (kind_of to) ≤ filling.1 }
+    requires left { HasNumbers left count }
+    requires right { HasNumbers right count }
+    ensures written { result.0 ≡ filling.0 ++ result_bytes (little (kind_of to))
+        (O.gives (kind_of to)) (numbers_on left.entry count) (numbers_on right.entry count) }
+    ensures room { result.1 + count * size_of (kind_of to) ≡ filling.1 }
+{
+    if O::IS_COMPARISON {
+        append_parts::<O>(filling, to, left, right, count)
+    } else {
+        append_each::<O>(filling, to, left, right, count)
+    }
+}
+
+// The same, by a loop for kinds that are known where it is compiled, and for what sides there are.
+fn append_known<O: Operation, T: KnownKind, L: KnownKind, R: KnownKind>(
+    filling: Filling,
+    left: Side<'_>,
+    right: Side<'_>,
+    count: usize,
+) -> Filling
+    requires left_kind { IsOf left L.KIND }
+    requires right_kind { IsOf right R.KIND }
+    requires room { count * size_of (kind_of T.KIND) ≤ filling.1 }
+    requires left { HasNumbers left count }
+    requires right { HasNumbers right count }
+    ensures written { result.0 ≡ filling.0 ++ result_bytes (little (kind_of T.KIND))
+        (O.gives (kind_of T.KIND)) (numbers_on left.entry count) (numbers_on right.entry count) }
+    ensures room { result.1 + count * size_of (kind_of T.KIND) ≡ filling.1 }
+{
+    match (left, right) {
+        (Side::Each(xs, _), Side::Each(ys, _)) => {
+            let (xs, ys) = (Side::Each(xs, L::KIND), Side::Each(ys, R::KIND));
+            append_fast::<O>(filling, T::KIND, xs, ys, count)
+        }
+        (Side::Each(xs, _), Side::Same(y)) if fits(L::KIND, y) => {
+            let (xs, y) = (Side::Each(xs, L::KIND), Side::Same(narrow(L::KIND, y)));
+            append_fast::<O>(filling, T::KIND, xs, y, count)
+        }
+        (Side::Same(x), Side::Each(ys, _)) if fits(R::KIND, x) => {
+            let (x, ys) = (Side::Same(narrow(R::KIND, x)), Side::Each(ys, R::KIND));
+            append_fast::<O>(filling, T::KIND, x, ys, count)
+        }
+        _ => append_any::<O>(filling, T::KIND, left, right, count),
+    }
+}
+
+// The same, if the kinds are these.
+#[inline(always)]
+fn append_at<O: Operation, T: KnownKind, L: KnownKind, R: KnownKind>(
+    filling: Filling,
+    to: Kind,
+    left: Side<'_>,
+    right: Side<'_>,
+    count: usize,
+) -> Filling
+    requires room { count * size_of (kind_of to) ≤ filling.1 }
+    requires left { HasNumbers left count }
+    requires right { HasNumbers right count }
+    ensures written { result.0 ≡ filling.0 ++ result_bytes (little (kind_of to))
+        (O.gives (kind_of to)) (numbers_on left.entry count) (numbers_on right.entry count) }
+    ensures room { result.1 + count * size_of (kind_of to) ≡ filling.1 }
+{
+    if is_kind(to, T::KIND) && is_of(left, L::KIND) && is_of(right, R::KIND) {
+        append_known::<O, T, L, R>(filling, left, right, count)
+    } else {
+        append_any::<O>(filling, to, left, right, count)
+    }
+}
+
+// The same, by a loop for this kind of operands.
+#[inline(never)]
+fn append_kind<O: Operation, K: KnownKind>(
+    filling: Filling,
+    to: Kind,
+    left: Side<'_>,
+    right: Side<'_>,
+    count: usize,
+) -> Filling
+    requires room { count * size_of (kind_of to) ≤ filling.1 }
+    requires left { HasNumbers left count }
+    requires right { HasNumbers right count }
+    ensures written { result.0 ≡ filling.0 ++ result_bytes (little (kind_of to))
+        (O.gives (kind_of to)) (numbers_on left.entry count) (numbers_on right.entry count) }
+    ensures room { result.1 + count * size_of (kind_of to) ≡ filling.1 }
+{
+    if O::IS_COMPARISON {
+        append_at::<O, known::Booleans, K, K>(filling, to, left, right, count)
+    } else {
+        append_at::<O, K, K, K>(filling, to, left, right, count)
+    }
+}
+
+// Whether no kind has the numbers of both sides: they have 64 bits, and one a sign.
+fn are_mixed(left: Side<'_>, right: Side<'_>) -> bool {
+    match (left, right) {
+        (Side::Each(_, Kind::U64), Side::Each(_, Kind::I64)) => true,
+        (Side::Each(_, Kind::I64), Side::Each(_, Kind::U64)) => true,
+        _ => false,
+    }
+}
+
+// The same for such sides, by a loop for the kind of the left one.
+#[inline(never)]
+fn append_mixed<O: Operation>(
+    filling: Filling,
+    to: Kind,
+    left: Side<'_>,
+    right: Side<'_>,
+    count: usize,
+) -> Filling
+    requires room { count * size_of (kind_of to) ≤ filling.1 }
+    requires left { HasNumbers left count }
+    requires right { HasNumbers right count }
+    ensures written { result.0 ≡ filling.0 ++ result_bytes (little (kind_of to))
+        (O.gives (kind_of to)) (numbers_on left.entry count) (numbers_on right.entry count) }
+    ensures room { result.1 + count * size_of (kind_of to) ≡ filling.1 }
+{
+    if is_of(left, Kind::U64) {
+        append_at::<O, known::Booleans, known::UInt64s, known::Int64s>(
+            filling, to, left, right, count,
+        )
+    } else {
+        append_at::<O, known::Booleans, known::Int64s, known::UInt64s>(
+            filling, to, left, right, count,
+        )
+    }
+}
+
+/// Appends what a function gives for so many numbers of both sides: by a loop of its own where the operands are of the kind that is
+/// named.
+pub(crate) fn append_sides<O: Operation>(
+    filling: Filling,
+    kind: Kind,
+    to: Kind,
+    left: Side<'_>,
+    right: Side<'_>,
+    count: usize,
+) -> Filling
+    requires room { count * size_of (kind_of to) ≤ filling.1 }
+    requires left { HasNumbers left count }
+    requires right { HasNumbers right count }
+    ensures written { result.0 ≡ filling.0 ++ result_bytes (little (kind_of to))
+        (O.gives (kind_of to)) (numbers_on left.entry count) (numbers_on right.entry count) }
+    ensures room { result.1 + count * size_of (kind_of to) ≡ filling.1 }
+{
+    if O::IS_COMPARISON && are_mixed(left, right) {
+        return append_mixed::<O>(filling, to, left, right, count);
+    }
+    match kind {
+        Kind::Bool => append_kind::<O, known::Booleans>(filling, to, left, right, count),
+        Kind::I8 => append_kind::<O, known::Int8s>(filling, to, left, right, count),
+        Kind::I16 => append_kind::<O, known::Int16s>(filling, to, left, right, count),
+        Kind::I32 => append_kind::<O, known::Int32s>(filling, to, left, right, count),
+        Kind::I64 => append_kind::<O, known::Int64s>(filling, to, left, right, count),
+        Kind::U8 => append_kind::<O, known::UInt8s>(filling, to, left, right, count),
+        Kind::U16 => append_kind::<O, known::UInt16s>(filling, to, left, right, count),
+        Kind::U32 => append_kind::<O, known::UInt32s>(filling, to, left, right, count),
+        Kind::U64 => append_kind::<O, known::UInt64s>(filling, to, left, right, count),
+    }
+}

@@ -10,7 +10,8 @@ use Rattle.nd_view.specs.Indexes.{IsIndex}
 use Rattle.nd_view.proofs.Indexed.{same_indexes}
 use Rattle.nd_view.proofs.Steps.{length-index}
 use Rattle.nd_view.proofs.Tuples.{map-map, map_same, numbers, shifted}
-use Rattle.nd_fancy.specs.Ways.{sums_of, way_by}
+use Rattle.nd_fancy.specs.TakenWays.{way_by}
+use Rattle.nd_ways.specs.Ways.{sums_of}
 use Rattle.nd_fancy.proofs.Spreads.{by_own, cut}
 
 narrowed_same : (shape t : List ℕ) → IsIndex shape t → narrowed_axes shape t ≡ t

@@ -14,7 +14,7 @@ use Rattle.nd_index.specs.Faults.{Makes}
 use Rattle.nd_fancy.specs.declared.choosing.Places.{Places}
 use Rattle.nd_index.specs.declared.fault.FancyFault.{FancyFault}
 use Rattle.nd_fancy.proofs.Sliced.{selected_is}
-use Rattle.nd_fancy.proofs.Sums.{index_of, tuple_of}
+use Rattle.nd_ways.proofs.Sums.{index_of, tuple_of}
 
 pub length-chosen : (at : ℕ) (many kept : List ℕ) → at ≤ length kept → length (chosen_shape at many kept) ≡ length kept + length many
 length-chosen at many kept le =

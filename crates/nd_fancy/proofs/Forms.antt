@@ -4,9 +4,9 @@ use Rattle.std.specs.Prelude.{◌+ℤ◌}
 use Rattle.std.specs.List.{All, flat_map}
 use Rattle.std.proofs.lemmas.Grind.{flat_map-append}
 use Rattle.std.proofs.lemmas.List.Elements.{All-append}
-use Rattle.nd_fancy.specs.Direct.{places_beside, way_on}
-use Rattle.nd_fancy.specs.declared.axes.Axes.{Axes}
-use Rattle.nd_fancy.specs.declared.row.KeptWays.{KeptWays}
+use Rattle.nd_ways.specs.RowPlaces.{places_beside, way_on}
+use Rattle.nd_ways.specs.declared.axes.Axes.{Axes}
+use Rattle.nd_ways.specs.declared.row.KeptWays.{KeptWays}
 use Rattle.nd_places.specs.Near.{IsNear, place_on, rows_places}
 
 -- a run that is as long as all that it is the first of is all of it

@@ -1,14 +1,9 @@
 mod Alike
 mod Chosen
 mod Forms
-mod NearWays
-mod Numbers
 mod Placed
-mod Pushed
-mod Rows
 mod Sliced
 mod SoleArrays
 mod Spreads
-mod Sums
 mod Trues
 mod Walks

@@ -19,9 +19,10 @@ use Rattle.nd_view.proofs.Numbered.{at_tuple}
 use Rattle.nd_view.proofs.Steps.{length-index}
 use Rattle.nd_view.proofs.Tuples.{map-map, map-flat_map, flat_map_same}
 use Rattle.nd_fancy.specs.Takes.{axes_taken, kept_in}
-use Rattle.nd_fancy.specs.Ways.{ways, kept_strides, way_taken}
+use Rattle.nd_fancy.specs.TakenWays.{kept_strides, way_taken}
+use Rattle.nd_ways.specs.Ways.{ways}
 use Rattle.nd_places.specs.Near.{place_on}
-use Rattle.nd_fancy.proofs.Sums.{way_append, way_take, each_index}
+use Rattle.nd_ways.proofs.Sums.{way_append, way_take, each_index}
 use Rattle.nd_fancy.proofs.Spreads.{way_source}
 
 -- ---- the tuples of axes one behind the other

@@ -14,19 +14,19 @@ use Rattle.nd_model.specs.Strides.{way_to}
 use Rattle.nd_model.specs.Tuple.{elements_of, indices}
 use Rattle.nd_view.proofs.Tuples.{flat_map_same, map_same}
 use Rattle.nd_element.specs.Elements.{numbers_at}
-use Rattle.nd_fancy.specs.Direct.{chosen_places, is_spread, row_places, way_on}
-use Rattle.nd_fancy.specs.Takes.{axes_taken, take_of, takes_of}
-use Rattle.nd_fancy.specs.Ways.{way_by, way_taken}
+use Rattle.nd_fancy.specs.Takes.{axes_taken, is_spread, take_of, takes_of}
+use Rattle.nd_ways.specs.RowPlaces.{chosen_places, row_places, way_on}
+use Rattle.nd_fancy.specs.TakenWays.{way_by, way_taken}
 use Rattle.nd_places.specs.Near.{place_on}
-use Rattle.nd_fancy.specs.declared.axes.Axes.{Axes}
-use Rattle.nd_fancy.specs.declared.row.Row.{Row}
+use Rattle.nd_ways.specs.declared.axes.Axes.{Axes}
+use Rattle.nd_ways.specs.declared.row.Row.{Row}
 use Rattle.nd_fancy.specs.declared.spread.Spread as spread
 use Rattle.nd_fancy.specs.declared.takes.Take as code
 use Rattle.nd_fancy.specs.declared.takes.Take.TheVariants as variants
 use Rattle.nd_fancy.proofs.Alike.{alike_ways}
 use Rattle.nd_places.proofs.Found.{true_append}
 use Rattle.nd_fancy.proofs.Spreads.{takes_again}
-use Rattle.nd_fancy.proofs.Pushed.{joined_again}
+use Rattle.nd_ways.proofs.Pushed.{joined_again}
 
 module _ (row : Row) (axes : Axes) (e : Element) (bytes : List ℕ) where
   -- ---- positions

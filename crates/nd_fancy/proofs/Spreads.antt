@@ -11,11 +11,11 @@ use Rattle.nd_model.specs.Strides.{way_to}
 use Rattle.nd_model.specs.Tuple.{indices, number}
 use Rattle.nd_view.proofs.Tuples.{map_same}
 use Rattle.nd_fancy.specs.Takes.{axes_taken_by, axes_taken, kept_in, take_of, takes_of}
-use Rattle.nd_fancy.specs.Ways.{AreNear, sums_at, kept_strides, way_by, way_taken}
+use Rattle.nd_fancy.specs.TakenWays.{kept_strides, way_by, way_taken}
+use Rattle.nd_ways.specs.Ways.{AreNear, sums_at}
 use Rattle.nd_fancy.specs.declared.takes.Take as code
 use Rattle.nd_fancy.specs.declared.takes.Take.TheVariants as variants
-use Rattle.nd_places.proofs.Fronts.{drop_one}
-use Rattle.nd_fancy.proofs.Sums.{no_way, way_append, way_take, way_near, zero_way, few_digits, length-unravelled, each_index}
+use Rattle.nd_ways.proofs.Sums.{no_way, way_append, way_take, way_near, zero_way, few_digits, length-unravelled, each_index}
 
 -- ---- one take more
 
@@ -139,10 +139,6 @@ axes_again takes k x axis more lt is axes by =
 pub no_items : {A : Type 0} (xs : List A) → length xs ≡ 0 → xs ≡ []
 no_items [] e = refl
 no_items (x ∷ xs) e = absurd (omega (arith, e))
-
-pub added_next : (own ways numbers : List ℤ) (k : ℕ) → k < length ways → k < length numbers
-    → sums_at own (drop k ways) (drop k numbers) ≡ (get_or ways k (pos 0) +ℤ get_or own (unsigned_abs (get_or numbers k (pos 0))) (pos 0)) ∷ sums_at own (drop (k + 1) ways) (drop (k + 1) numbers)
-added_next own ways numbers k lt lt' = λ i. sums_at own (drop_one ways k (pos 0) lt i) (drop_one numbers k (pos 0) lt' i)
 
 -- ---- how far arrays lead
 

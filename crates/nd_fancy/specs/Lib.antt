@@ -1,7 +1,6 @@
 pub mod Chosen
-pub mod Direct
 pub mod IndexNumbers
 pub mod Sole
+pub mod TakenWays
 pub mod Takes
 pub mod Walks
-pub mod Ways

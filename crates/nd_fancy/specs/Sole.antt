@@ -5,7 +5,7 @@ use Rattle.nd_model.specs.Strides.{way_to}
 use Rattle.nd_model.specs.Tuple.{indices}
 use Rattle.nd_fancy.specs.IndexNumbers.{numbers_in}
 use Rattle.nd_fancy.specs.Takes.{axes_taken}
-use Rattle.nd_fancy.specs.Ways.{way_taken}
+use Rattle.nd_fancy.specs.TakenWays.{way_taken}
 use Rattle.nd_fancy.specs.declared.sole.SoleArray.{SoleArray}
 
 -- Each of its numbers is asked for once and in their order, and nothing else leads anywhere.

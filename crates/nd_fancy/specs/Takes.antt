@@ -1,5 +1,5 @@
 -- What is taken of axes, as the definitions have it.
-use Rattle.std.specs.Prelude.{ℕ, ◌+◌, List, [], ◌∷◌, map}
+use Rattle.std.specs.Prelude.{ℕ, ◌+◌, Bool, true, false, List, [], ◌∷◌, map}
 use Rattle.nd_model.specs.Advanced as model
 use Rattle.nd_fancy.specs.IndexNumbers.{numbers_in}
 use Rattle.nd_fancy.specs.declared.spread.Spread as spread
@@ -36,3 +36,8 @@ kept_by (model.Spread axes shape ks) = 0
 abbrev pub kept_in : List model.Take → ℕ
 kept_in [] = 0
 kept_in (t ∷ ts) = kept_by t + kept_in ts
+
+abbrev pub is_spread : model.Take → Bool
+is_spread model.Whole = false
+is_spread model.Added = false
+is_spread (model.Spread axes shape ks) = true

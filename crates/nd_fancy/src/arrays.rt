@@ -3,11 +3,12 @@ ghost use Rattle.std.specs.Prelude.{◌≡◌, ℕ, ℤ, ◌+◌, ◌^◌, ◌<�
 ghost use Rattle.std.specs.List.{All};
 ghost use Rattle.nd_model.specs.Tuple.{elements_of, indices};
 ghost use Rattle.nd_fancy.specs.Takes.{axes_taken, axes_taken_by, spread_of, take_of, takes_of};
-ghost use Rattle.nd_fancy.specs.Ways.{AreNear, sums_at, sums_of, way_by, way_taken};
+ghost use Rattle.nd_fancy.specs.TakenWays.{way_by, way_taken};
+ghost use Rattle.nd_ways.specs.Ways.{AreNear, sums_at, sums_of};
 
 use crate::spread::Spread;
 use crate::takes::Take;
-use crate::ways::{own_numbers, ways_of, ways_to};
+use nd_ways::{own_numbers, ways_of, ways_to};
 use smallvec::SmallVec;
 use std::alloc::{AllocError, Global};
 

@@ -1,19 +1,17 @@
 //! The places of the true elements of a mask, kept as a copy of the mask.
 ghost use Rattle.std.specs.Prelude.{◌≡◌, ◌^◌, ◌≤◌, length, map, IfOk, IfSome};
 ghost use Rattle.nd_model.specs.Advanced.{is_nonzero, true_numbers};
-ghost use Rattle.nd_fancy.specs.Direct.{chosen_places, places_beside};
+ghost use Rattle.nd_ways.specs.RowPlaces.{chosen_places, places_beside};
 ghost use Rattle.nd_fancy.specs.IndexNumbers.{numbers_in};
 ghost use Rattle.nd_index.specs.Items.{numbers_of};
 ghost use Rattle.nd_places.specs.Near.{is_true};
 
-use crate::axes::Axes;
 use crate::index_numbers::IndexNumbers;
-use crate::near::line_of;
-use crate::row::{KeptWays, Row};
 use nd_block::RawBlock;
 use nd_index::{IndexArray, is_elem, is_packed};
 use nd_places::{PlaceList, Trues};
 use nd_types::{Elem, Kind};
+use nd_ways::{Axes, KeptWays, Row, line_of};
 use std::alloc::{AllocError, Global};
 
 // The bytes of a mask, if they are Booleans that lie side by side.

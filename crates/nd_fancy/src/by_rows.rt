@@ -1,15 +1,13 @@
 //! The places of rows, kept by where each row begins.
 ghost use Rattle.std.specs.Prelude.{◌≡◌, ◌^◌, ◌≤◌, ◌++◌, pos, ◌+ℤ◌, unsigned_abs, length, map, IfOk, IfSome, IsTrue};
 ghost use Rattle.std.specs.List.{All, flat_map};
-ghost use Rattle.nd_fancy.specs.Direct.{places_beside, way_on};
+ghost use Rattle.nd_ways.specs.RowPlaces.{places_beside, way_on};
 ghost use Rattle.nd_fancy.specs.IndexNumbers.{numbers_in};
 ghost use Rattle.nd_places.specs.Near.{IsNear};
 
-use crate::axes::Axes;
 use crate::index_numbers::IndexNumbers;
-use crate::near::is_near;
-use crate::row::KeptWays;
 use nd_places::{PlaceList, Rows};
+use nd_ways::{Axes, KeptWays, is_near};
 use std::alloc::{AllocError, Global};
 
 // How many elements a row has at least that is kept as one.

@@ -12,18 +12,14 @@ ghost use Rattle.nd_fancy.specs.Chosen.{view_at};
 ghost use Rattle.nd_index.specs.Faults.{Makes};
 ghost use Rattle.nd_index.specs.Items.{items_of};
 ghost use Rattle.nd_fancy.specs.Takes.{axes_taken, kept_in, takes_of};
-ghost use Rattle.nd_fancy.specs.Ways.{way_taken};
+ghost use Rattle.nd_fancy.specs.TakenWays.{way_taken};
 ghost use Rattle.nd_places.specs.Near.{place_on};
 
 use crate::arrays::array_ways;
-use crate::axes::Axes;
 use crate::direct::direct_places;
 use crate::layout::{chosen_shape, kept_shape, kept_strides, place_for};
-use crate::placing::places_on;
-use crate::row::KeptWays;
 use crate::sole::sole_array;
 use crate::takes::{Take, takes};
-use crate::ways::{count_of, ways_of};
 use nd_basic::select;
 use nd_index::{
     FancyFault, IndexFault, Item, bounds_fault, common_shape, count_axes, count_ellipses,
@@ -31,6 +27,7 @@ use nd_index::{
 };
 use nd_places::PlaceList;
 use nd_view::{Shape, View, limit_fault};
+use nd_ways::{Axes, KeptWays, count_of, places_on, ways_of};
 use std::alloc::{AllocError, Global};
 
 /// Where the elements lie that an index chooses.

@@ -4,24 +4,21 @@ ghost use Rattle.std.specs.List.{All, flat_map};
 ghost use Rattle.nd_model.specs.Element.{size_of};
 ghost use Rattle.nd_model.specs.Selecting.{counted_from};
 ghost use Rattle.nd_element.specs.Elements.{numbers_at};
-ghost use Rattle.nd_fancy.specs.Direct.{chosen_places, places_beside, row_places};
+ghost use Rattle.nd_ways.specs.RowPlaces.{chosen_places, places_beside, row_places};
 ghost use Rattle.nd_fancy.specs.IndexNumbers.{numbers_in};
 ghost use Rattle.nd_index.specs.Items.{numbers_of};
 ghost use Rattle.nd_index.specs.Packed.{IsPacked};
 ghost use Rattle.nd_places.specs.Near.{place_on};
 
-use crate::axes::Axes;
 use crate::by_mask::places_by_mask;
 use crate::by_rows::places_by_rows;
 use crate::index_numbers::IndexNumbers;
 use crate::masks::push_mask;
-use crate::near::{are_near, is_near, push_near_places};
-use crate::placing::{place_on, push_places};
-use crate::row::{KeptWays, Row};
 use nd_index::{IndexArray, inside_position, is_packed, read_at};
 use nd_places::PlaceList;
 use nd_types::{Elem, Kind};
 use nd_view::Run;
+use nd_ways::{Axes, KeptWays, Row, are_near, is_near, place_on, push_near_places, push_places};
 use std::alloc::{AllocError, Global};
 
 /// Appends the places of a row that begins so much further.

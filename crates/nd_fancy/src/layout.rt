@@ -4,7 +4,7 @@ ghost use Rattle.std.specs.List.{list_any};
 ghost use Rattle.nd_model.specs.Advanced as model;
 ghost use Rattle.nd_index.specs.Items.{item_of, items_of};
 ghost use Rattle.nd_fancy.specs.Takes.{axes_taken, takes_of};
-ghost use Rattle.nd_fancy.specs.Ways as ways;
+ghost use Rattle.nd_fancy.specs.TakenWays as ways;
 
 use crate::takes::Take;
 use nd_basic::Item as BasicItem;

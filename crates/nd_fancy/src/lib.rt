@@ -2,7 +2,6 @@
 #![tactic(auto)]
 
 mod arrays;
-mod axes;
 mod by_mask;
 mod by_rows;
 mod choosing;
@@ -10,13 +9,9 @@ mod direct;
 mod index_numbers;
 mod layout;
 mod masks;
-mod near;
-mod placing;
-mod row;
 mod sole;
 mod spread;
 mod takes;
 mod walk;
-mod ways;
 
 pub use choosing::{Places, choose_places};

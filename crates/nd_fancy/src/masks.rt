@@ -4,17 +4,15 @@ ghost use Rattle.std.specs.List.{All};
 ghost use Rattle.nd_model.specs.Advanced.{is_nonzero, true_numbers};
 ghost use Rattle.nd_model.specs.Element.{size_of};
 ghost use Rattle.nd_element.specs.Elements.{numbers_at};
-ghost use Rattle.nd_fancy.specs.Direct.{chosen_places};
+ghost use Rattle.nd_ways.specs.RowPlaces.{chosen_places};
 ghost use Rattle.nd_index.specs.Items.{numbers_of};
 ghost use Rattle.nd_index.specs.Packed.{IsPacked};
 
-use crate::axes::Axes;
 use crate::direct::push_row;
-use crate::near::{line_of, push_on_line};
-use crate::row::Row;
 use nd_index::{IndexArray, is_packed, read_at};
 use nd_types::{Elem, Kind};
 use nd_view::Run;
+use nd_ways::{Axes, Row, line_of, push_on_line};
 use std::alloc::AllocError;
 
 // How many elements of a mask are looked at at a time.

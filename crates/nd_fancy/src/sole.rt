@@ -1,9 +1,8 @@
 //! An array that is alone in an index.
 ghost use Rattle.std.specs.Prelude.{◌≡◌, ◌≤◌, ⊤, MatchOption};
 ghost use Rattle.std.specs.List.{list_any};
-ghost use Rattle.nd_fancy.specs.Direct.{is_spread};
+ghost use Rattle.nd_fancy.specs.Takes.{axes_taken, is_spread, takes_of};
 ghost use Rattle.nd_fancy.specs.Sole.{IsSole};
-ghost use Rattle.nd_fancy.specs.Takes.{axes_taken, takes_of};
 
 use crate::arrays::is_same_shape;
 use crate::spread::Spread;

@@ -21,12 +21,12 @@ near_product k step few near =
     rw (unsigned_abs-mul (pos k) step) product
 
 -- what is left from a byte on
-next_of : (first : ℕ) (mask : List ℕ) (k : ℕ) (b : Bool) → k < length mask → is_true (get_or mask k 0) ≡ b
+pub next_of : (first : ℕ) (mask : List ℕ) (k : ℕ) (b : Bool) → k < length mask → is_true (get_or mask k 0) ≡ b
     → trues_in (first + k) (drop k mask) ≡ true_numbers (first + k) (b ∷ map is_true (drop (k + 1) mask))
 next_of first mask k b lt is =
     ap (trues_in (first + k)) (drop_one mask k 0 lt) ∙ ap (λ c. true_numbers (first + k) (c ∷ map is_true (drop (k + 1) mask))) is
 
-further : (first k : ℕ) → first + k + 1 ≡ first + (k + 1)
+pub further : (first k : ℕ) → first + k + 1 ≡ first + (k + 1)
 further first k = omega arith
 
 -- ---- how many there are

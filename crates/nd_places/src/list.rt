@@ -1,5 +1,5 @@
 //! `PlaceList`: the places of elements.
-ghost use Rattle.std.specs.Prelude.{◌≡◌, [], IfOk};
+ghost use Rattle.std.specs.Prelude.{◌≡◌, [], IfOk, IfSome};
 ghost use Rattle.nd_places.specs.Forms.{trues_on};
 ghost use Rattle.nd_places.specs.Near.{rows_places};
 
@@ -52,6 +52,16 @@ impl PlaceList {
     {
         PlaceList {
             form: Form::Trues(trues),
+        }
+    }
+
+    /// Returns the line and the mask, where the list is kept so.
+    pub fn trues(&self) -> Option<&Trues>
+        ensures { IfSome result (λ t. self.now ≡ trues_on t.now.line 0 t.now.mask) }
+    {
+        match &self.form {
+            Form::Trues(trues) => Some(trues),
+            Form::Each(_) | Form::Rows(_) => None,
         }
     }
 

@@ -8,10 +8,11 @@ use Rattle.nd_model.specs.Tuple.{indices, number}
 use Rattle.nd_view.proofs.Indexed.{length-indices}
 use Rattle.nd_fancy.specs.IndexNumbers.{numbers_in}
 use Rattle.nd_fancy.specs.Takes.{spread_of}
-use Rattle.nd_fancy.specs.Ways.{sums_at, sums_of, way_by}
+use Rattle.nd_fancy.specs.TakenWays.{way_by}
+use Rattle.nd_ways.specs.Ways.{sums_at, sums_of}
 use Rattle.nd_fancy.proofs.Alike.{alike_led}
-use Rattle.nd_fancy.proofs.Numbers.{some_of}
-use Rattle.nd_fancy.proofs.Pushed.{ok_then}
+use Rattle.nd_ways.proofs.Numbers.{some_of}
+use Rattle.nd_ways.proofs.Pushed.{ok_then}
 use Rattle.nd_fancy.proofs.Spreads.{array_led, led_near}
 use Rattle.nd_fancy.proofs.arrays.add_array.Goals as goal
 

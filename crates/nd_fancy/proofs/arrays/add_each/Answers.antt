@@ -1,7 +1,7 @@
 use Rattle.std.proofs.Common.{◌<◌, length, arith}
 use Rattle.std.proofs.lemmas.Int.{ints}
-use Rattle.nd_fancy.specs.Ways.{sums_of}
-use Rattle.nd_fancy.proofs.Rows.{summed_again, near_at}
+use Rattle.nd_ways.specs.Ways.{sums_of}
+use Rattle.nd_ways.proofs.Rows.{summed_again, near_at}
 use Rattle.nd_fancy.proofs.arrays.add_each.Goals as goal
 
 pub loop-at-preserved : goal.loop-at-preserved

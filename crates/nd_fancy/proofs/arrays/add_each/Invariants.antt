@@ -1,5 +1,5 @@
 use Rattle.std.proofs.Common.{◌≡◌, ◌++◌, drop}
-use Rattle.nd_fancy.specs.Ways.{sums_of}
+use Rattle.nd_ways.specs.Ways.{sums_of}
 use Rattle.nd_fancy.proofs.arrays.add_each.Given as goal
 
 abbrev pub invariant-loop-at : goal.invariant-loop-at

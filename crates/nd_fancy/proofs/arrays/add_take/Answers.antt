@@ -2,7 +2,7 @@ use Rattle.std.proofs.Common.{◌≡◌, length, drop, ap, ◌∙◌, arith}
 use Rattle.nd_model.specs.Advanced.{Spread}
 use Rattle.nd_fancy.specs.IndexNumbers.{numbers_in}
 use Rattle.nd_fancy.specs.Takes.{take_of}
-use Rattle.nd_fancy.specs.Ways.{way_by}
+use Rattle.nd_fancy.specs.TakenWays.{way_by}
 use Rattle.nd_fancy.proofs.Spreads.{no_items, none_added, none_by}
 use Rattle.nd_fancy.proofs.arrays.add_take.Goals as goal
 

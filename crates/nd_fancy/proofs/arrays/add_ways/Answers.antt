@@ -3,8 +3,8 @@ use Rattle.std.specs.Int.{w128}
 use Rattle.std.specs.Int.RustNames.{FitsSigned}
 use Rattle.std.specs.Prelude.{unsigned_abs}
 use Rattle.std.proofs.lemmas.Int.{ints, to_z-of_z}
-use Rattle.nd_fancy.specs.Ways.{sums_at}
-use Rattle.nd_fancy.proofs.Rows.{added_again, near_at}
+use Rattle.nd_ways.specs.Ways.{sums_at}
+use Rattle.nd_ways.proofs.Rows.{added_again, near_at}
 use Rattle.nd_fancy.proofs.arrays.add_ways.Goals as goal
 
 pub loop-at-preserved : goal.loop-at-preserved

@@ -5,9 +5,9 @@ use Rattle.nd_model.specs.Tuple.{indices}
 use Rattle.nd_view.proofs.Indexed.{length-indices}
 use Rattle.nd_view.proofs.Tuples.{map_same}
 use Rattle.nd_fancy.specs.Takes.{axes_taken, axes_taken_by, take_of, takes_of}
-use Rattle.nd_fancy.specs.Ways.{AreNear, ways}
+use Rattle.nd_ways.specs.Ways.{AreNear, ways}
 use Rattle.nd_fancy.proofs.Spreads.{arrays_near, axes_again, code_few, take_again}
-use Rattle.nd_fancy.proofs.Sums.{still}
+use Rattle.nd_ways.proofs.Sums.{still}
 use Rattle.nd_fancy.proofs.arrays.array_ways.Goals as goal
 
 pub loop-take-init : goal.loop-take-init

@@ -1,7 +1,7 @@
 use Rattle.std.proofs.Common.{◌≡◌, map, take}
 use Rattle.nd_model.specs.Tuple.{indices}
 use Rattle.nd_fancy.specs.Takes.{axes_taken, takes_of}
-use Rattle.nd_fancy.specs.Ways.{way_taken}
+use Rattle.nd_fancy.specs.TakenWays.{way_taken}
 use Rattle.nd_fancy.proofs.arrays.array_ways.Given as goal
 
 abbrev pub invariant-loop-take : goal.invariant-loop-take

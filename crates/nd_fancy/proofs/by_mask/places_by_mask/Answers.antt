@@ -2,10 +2,10 @@ use Rattle.std.proofs.Common.{◌≡◌, sym, ap, subst, ◌∙◌, arith}
 use Rattle.std.specs.Option.{IfSome}
 use Rattle.std.specs.Result.{IfOk}
 use Rattle.std.proofs.lemmas.Int.{ints}
-use Rattle.nd_fancy.specs.Direct.{places_beside}
+use Rattle.nd_ways.specs.RowPlaces.{places_beside}
 use Rattle.nd_fancy.specs.IndexNumbers.{numbers_in}
 use Rattle.nd_fancy.proofs.Forms.{one_before}
-use Rattle.nd_fancy.proofs.Rows.{near_at}
+use Rattle.nd_ways.proofs.Rows.{near_at}
 use Rattle.nd_fancy.proofs.by_mask.places_by_mask.Goals as goal
 
 pub returns : goal.returns

@@ -3,7 +3,7 @@ use Rattle.nd_model.specs.Advanced.{is_nonzero, true_numbers}
 use Rattle.nd_index.specs.Items.{numbers_of}
 use Rattle.nd_places.specs.Forms.{trues_on}
 use Rattle.nd_places.specs.Near.{place_on_line}
-use Rattle.nd_fancy.proofs.NearWays.{on_line}
+use Rattle.nd_ways.proofs.NearWays.{on_line}
 use Rattle.nd_fancy.proofs.by_mask.places_on_line.Goals as goal
 
 pub returns : goal.returns

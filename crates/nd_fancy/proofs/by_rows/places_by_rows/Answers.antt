@@ -1,5 +1,5 @@
 use Rattle.std.proofs.Common.{pos, ap, ◌∙◌}
-use Rattle.nd_fancy.specs.Direct.{places_beside, way_on}
+use Rattle.nd_ways.specs.RowPlaces.{places_beside, way_on}
 use Rattle.nd_places.specs.Near.{rows_places}
 use Rattle.nd_fancy.proofs.Forms.{all_rows}
 use Rattle.nd_fancy.proofs.by_rows.places_by_rows.Goals as goal

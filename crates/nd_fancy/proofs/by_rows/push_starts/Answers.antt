@@ -2,10 +2,10 @@ use Rattle.std.proofs.Common.{◌≡◌, ◌<◌, ◌++◌, [], ◌∷◌, map, 
 use Rattle.std.specs.Prelude.{◌+ℤ◌}
 use Rattle.std.specs.Int.{w64, w128}
 use Rattle.std.proofs.lemmas.Int.{ints, to_z-of_z}
-use Rattle.nd_fancy.specs.Direct.{way_on}
+use Rattle.nd_ways.specs.RowPlaces.{way_on}
 use Rattle.nd_places.specs.Near.{IsNear}
 use Rattle.nd_fancy.proofs.Forms.{near_pushed}
-use Rattle.nd_fancy.proofs.Pushed.{mapped_again}
+use Rattle.nd_ways.proofs.Pushed.{mapped_again}
 use Rattle.nd_fancy.proofs.by_rows.push_starts.Goals as goal
 
 pub loop-number-preserved : goal.loop-number-preserved

@@ -1,9 +1,9 @@
 use Rattle.std.proofs.Common.{◌<◌, [], map, length, pos, ap, arith}
 use Rattle.std.specs.Prelude.{◌+ℤ◌}
 use Rattle.std.proofs.lemmas.Int.{ints}
-use Rattle.nd_fancy.specs.Direct.{way_on}
-use Rattle.nd_fancy.proofs.Pushed.{joined_again}
-use Rattle.nd_fancy.proofs.Rows.{near_at}
+use Rattle.nd_ways.specs.RowPlaces.{way_on}
+use Rattle.nd_ways.proofs.Pushed.{joined_again}
+use Rattle.nd_ways.proofs.Rows.{near_at}
 use Rattle.nd_fancy.proofs.by_rows.row_starts.Goals as goal
 
 pub loop-way-preserved : goal.loop-way-preserved

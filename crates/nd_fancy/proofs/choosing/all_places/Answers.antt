@@ -13,12 +13,13 @@ use Rattle.nd_view.proofs.Steps.{number-below, zeros}
 use Rattle.nd_view.proofs.Tuples.{no_tuples}
 use Rattle.nd_types.specs.Types.{type_of}
 use Rattle.nd_fancy.specs.Takes.{kept_in, takes_of}
-use Rattle.nd_fancy.specs.Ways.{AreNear, kept_strides, ways, way_taken}
+use Rattle.nd_fancy.specs.TakenWays.{kept_strides, way_taken}
+use Rattle.nd_ways.specs.Ways.{AreNear, ways}
 use Rattle.nd_places.specs.Near.{place_on}
 use Rattle.nd_fancy.proofs.Placed.{limit, placed}
-use Rattle.nd_fancy.proofs.Pushed.{ok_then, rest_of}
+use Rattle.nd_ways.proofs.Pushed.{ok_then, rest_of}
 use Rattle.nd_fancy.proofs.Spreads.{cut, in_range, kept_range, length-kept_strides}
-use Rattle.nd_fancy.proofs.Sums.{few_lengths, ways_near}
+use Rattle.nd_ways.proofs.Sums.{few_lengths, ways_near}
 use Rattle.nd_fancy.proofs.choosing.all_places.Goals as goal
 
 pub returns-then-contains-clause-value : goal.returns-then-contains-clause-value

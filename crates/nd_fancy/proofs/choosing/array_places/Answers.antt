@@ -5,12 +5,13 @@ use Rattle.std.specs.Result.{IfOk}
 use Rattle.nd_model.specs.Advanced.{unravelled}
 use Rattle.nd_model.specs.Strides.{way_to}
 use Rattle.nd_model.specs.Tuple.{indices}
-use Rattle.nd_fancy.specs.Direct.{way_on}
+use Rattle.nd_ways.specs.RowPlaces.{way_on}
 use Rattle.nd_fancy.specs.IndexNumbers.{numbers_in}
 use Rattle.nd_fancy.specs.Takes.{takes_of}
-use Rattle.nd_fancy.specs.Ways.{AreNear, way_taken}
+use Rattle.nd_fancy.specs.TakenWays.{way_taken}
+use Rattle.nd_ways.specs.Ways.{AreNear}
 use Rattle.nd_places.specs.Near.{place_on}
-use Rattle.nd_fancy.proofs.Numbers.{some_of}
+use Rattle.nd_ways.proofs.Numbers.{some_of}
 use Rattle.nd_fancy.proofs.SoleArrays.{direct_same}
 use Rattle.nd_fancy.proofs.Spreads.{arrays_near, code_few, cut}
 use Rattle.nd_fancy.proofs.choosing.array_places.Goals as goal

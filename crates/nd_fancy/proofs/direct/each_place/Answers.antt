@@ -1,8 +1,8 @@
 use Rattle.std.proofs.Common.{◌<◌, length, pos, arith}
 use Rattle.std.proofs.lemmas.Int.{ints}
-use Rattle.nd_fancy.specs.Direct.{way_on}
+use Rattle.nd_ways.specs.RowPlaces.{way_on}
 use Rattle.nd_fancy.specs.IndexNumbers.{numbers_in}
-use Rattle.nd_fancy.proofs.Rows.{near_at}
+use Rattle.nd_ways.proofs.Rows.{near_at}
 use Rattle.nd_fancy.proofs.SoleArrays.{direct_more}
 use Rattle.nd_fancy.proofs.direct.each_place.Goals as goal
 

@@ -1,7 +1,7 @@
 use Rattle.std.proofs.Common.{◌≡◌, map, take}
 use Rattle.std.specs.Prelude.{pos, ◌+ℤ◌}
 use Rattle.std.specs.List.{flat_map}
-use Rattle.nd_fancy.specs.Direct.{way_on}
+use Rattle.nd_ways.specs.RowPlaces.{way_on}
 use Rattle.nd_fancy.specs.IndexNumbers.{numbers_in}
 use Rattle.nd_places.specs.Near.{place_on}
 use Rattle.nd_fancy.proofs.direct.each_place.Given as goal

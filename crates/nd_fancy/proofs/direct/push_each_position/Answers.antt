@@ -6,7 +6,7 @@ use Rattle.std.proofs.lemmas.Int.{to_z-of_z}
 use Rattle.std.proofs.lemmas.List.{take_all}
 use Rattle.nd_model.specs.Content.{number_at}
 use Rattle.nd_model.specs.Selecting.{counted_from}
-use Rattle.nd_fancy.specs.Direct.{way_on}
+use Rattle.nd_ways.specs.RowPlaces.{way_on}
 use Rattle.nd_fancy.proofs.SoleArrays.{placed_at, position_more, position_near, positions_placed}
 use Rattle.nd_fancy.proofs.direct.push_each_position.Goals as goal
 

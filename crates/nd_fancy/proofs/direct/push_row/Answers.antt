@@ -5,7 +5,7 @@ use Rattle.std.specs.Result.{OnOk}
 use Rattle.std.proofs.lemmas.Int.{ints}
 use Rattle.nd_places.specs.Near.{IsNear}
 use Rattle.nd_places.specs.Near.{place_on}
-use Rattle.nd_fancy.proofs.Rows.{near_at, single}
+use Rattle.nd_ways.proofs.Rows.{near_at, single}
 use Rattle.nd_fancy.proofs.direct.push_row.Goals as goal
 
 pub returns-then-row-eq1 : goal.returns-then-row-eq1

@@ -1,6 +1,6 @@
 use Rattle.std.proofs.Common.{◌≡◌, ◌+◌, ◌≤◌, ◌++◌, drop}
 use Rattle.nd_fancy.specs.Takes.{axes_taken, takes_of}
-use Rattle.nd_fancy.specs.Ways as ways
+use Rattle.nd_fancy.specs.TakenWays as ways
 use Rattle.nd_fancy.proofs.layout.kept_strides.Given as goal
 
 abbrev pub invariant-loop-take : goal.invariant-loop-take

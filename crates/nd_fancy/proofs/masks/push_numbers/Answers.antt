@@ -1,6 +1,6 @@
 use Rattle.std.proofs.Common.{◌≡◌, ◌++◌, sym, subst}
 use Rattle.std.specs.Result.{OnOk}
-use Rattle.nd_fancy.proofs.NearWays.{on_line}
+use Rattle.nd_ways.proofs.NearWays.{on_line}
 use Rattle.nd_fancy.proofs.masks.push_numbers.Goals as goal
 
 pub returns-in-Some : goal.returns-in-Some

@@ -1,5 +1,5 @@
 use Rattle.std.proofs.Common.{◌≡◌, ◌++◌, take}
-use Rattle.nd_fancy.specs.Direct.{chosen_places}
+use Rattle.nd_ways.specs.RowPlaces.{chosen_places}
 use Rattle.nd_fancy.proofs.masks.push_numbers.Given as goal
 
 abbrev pub invariant-loop-number : goal.invariant-loop-number

@@ -4,7 +4,7 @@ use Rattle.std.proofs.lemmas.List.{take-append-drop, drop-drop, length-drop, len
 use Rattle.nd_model.specs.Advanced.{is_nonzero}
 use Rattle.nd_model.specs.Content.{number_at}
 use Rattle.nd_element.specs.Elements.{numbers_at}
-use Rattle.nd_fancy.specs.Direct.{chosen_places}
+use Rattle.nd_ways.specs.RowPlaces.{chosen_places}
 use Rattle.nd_index.proofs.Items.{near_trues}
 use Rattle.nd_fancy.proofs.SoleArrays.{piece_more, true_run, trues_split}
 use Rattle.nd_fancy.proofs.masks.push_trues.Goals as goal

@@ -1,7 +1,6 @@
 use Rattle.std.proofs.Common.{◌≡◌, drop}
 use Rattle.std.specs.List.{list_any}
-use Rattle.nd_fancy.specs.Direct.{is_spread}
-use Rattle.nd_fancy.specs.Takes.{takes_of}
+use Rattle.nd_fancy.specs.Takes.{is_spread, takes_of}
 use Rattle.nd_fancy.proofs.sole.has_spread.Given as goal
 
 abbrev pub invariant-loop-take : goal.invariant-loop-take

@@ -1,9 +1,8 @@
 use Rattle.std.proofs.Common.{◌+◌, ◌++◌, ◌∷◌, ◌<◌, ◌≤◌, length, take, drop, sym, ap, ◌∙◌, arith, rules}
 use Rattle.std.specs.List.{list_any}
-use Rattle.nd_fancy.specs.Direct.{is_spread}
+use Rattle.nd_fancy.specs.Takes.{is_spread, take_of, takes_of}
 use Rattle.nd_fancy.specs.IndexNumbers.{numbers_in}
-use Rattle.nd_fancy.specs.Takes.{take_of, takes_of}
-use Rattle.nd_fancy.proofs.Pushed.{rest_of}
+use Rattle.nd_ways.proofs.Pushed.{rest_of}
 use Rattle.nd_fancy.proofs.SoleArrays.{none_again, not_spread, sole_ways, sole_within, takes_around}
 use Rattle.nd_fancy.proofs.Spreads.{axes_again}
 use Rattle.nd_fancy.proofs.sole.sole_array.Goals as goal

@@ -1,7 +1,6 @@
 use Rattle.std.proofs.Common.{◌≡◌, false, take}
 use Rattle.std.specs.List.{list_any}
-use Rattle.nd_fancy.specs.Direct.{is_spread}
-use Rattle.nd_fancy.specs.Takes.{axes_taken, takes_of}
+use Rattle.nd_fancy.specs.Takes.{axes_taken, is_spread, takes_of}
 use Rattle.nd_fancy.proofs.sole.sole_array.Given as goal
 
 abbrev pub invariant-loop-number : goal.invariant-loop-number

@@ -1,7 +1,7 @@
 use Rattle.std.proofs.Common.{◌≡◌, ◌++◌, replicate, refl, sym, ap, ◌∙◌, arith, append-nil}
 use Rattle.nd_model.specs.Advanced as model
 use Rattle.nd_fancy.specs.Takes.{take_of, takes_of}
-use Rattle.nd_fancy.proofs.Pushed.{pushed_again}
+use Rattle.nd_ways.proofs.Pushed.{pushed_again}
 use Rattle.nd_fancy.proofs.takes.push_whole.Goals as goal
 
 pub loop-init : goal.loop-init

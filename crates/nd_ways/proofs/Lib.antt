@@ -1,0 +1,5 @@
+pub mod NearWays
+pub mod Numbers
+pub mod Pushed
+pub mod Rows
+pub mod Sums

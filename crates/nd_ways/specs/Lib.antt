@@ -1,0 +1,2 @@
+pub mod RowPlaces
+pub mod Ways

@@ -1,0 +1,25 @@
+-- The places of rows, which begin at the ends of ways.
+use Rattle.std.specs.Prelude.{ℕ, ℤ, pos, ◌+ℤ◌, List, map}
+use Rattle.std.specs.List.{flat_map}
+use Rattle.nd_model.specs.Advanced as model
+use Rattle.nd_model.specs.Strides.{way_to}
+use Rattle.nd_places.specs.Near.{place_on}
+use Rattle.nd_ways.specs.declared.axes.Axes.{Axes}
+use Rattle.nd_ways.specs.declared.row.KeptWays.{KeptWays}
+use Rattle.nd_ways.specs.declared.row.Row.{Row}
+
+-- how far the element of a number leads
+abbrev pub way_on : Axes → ℕ → ℤ
+way_on axes k = way_to (model.unravelled axes.lengths.now k) axes.strides.now
+
+-- the places of a row that begins so much further
+abbrev pub row_places : Row → ℤ → List ℕ
+row_places row way = map (λ z. place_on ((row.start +ℤ way) +ℤ z)) row.ways.now
+
+-- those of the rows of these numbers
+abbrev pub chosen_places : Row → Axes → List ℕ → List ℕ
+chosen_places row axes ks = flat_map (λ k. row_places row (way_on axes k)) ks
+
+-- those of the elements of these numbers, for all ways of the kept axes before the array's and behind them
+abbrev pub places_beside : KeptWays → Axes → List ℕ → List ℕ
+places_beside kept axes ks = flat_map (λ b. flat_map (λ k. map (λ z. place_on (((pos kept.offset +ℤ b) +ℤ way_on axes k) +ℤ z)) kept.behind.now) ks) kept.before.now

@@ -68,7 +68,7 @@ are_whole t content (x ∷ xs) each = (each x, are_whole t content xs each)
 -- what was assigned to an array of the same shape is what is assigned to the chosen elements
 pub elements : (g v : Geo) (bytes first values old : List ℕ) → HoldsFields g.element → converts v.element g.element ≡ true → fits_into v.shape g.shape ≡ true
     → length v.places ≡ elements_of v.shape → length g.places ≡ elements_of g.shape → All (λ p. p + item_size g.element ≤ length old) g.places
-    → length first ≡ elements_of g.shape * item_size g.element → values ≡ with_elements (contiguous g.element g.shape) v bytes first
+    → elements_of g.shape * item_size g.element ≤ length first → values ≡ with_elements (contiguous g.element g.shape) v bytes first
     → scattered g.element values (item_size g.element) 0 g.places old ≡ with_elements g v bytes old
 elements g v bytes first values old fields types fits count all out long is =
     let t = g.element in let ts : List (List ℕ) = indices g.shape in
@@ -77,7 +77,7 @@ elements g v bytes first values old fields types fits count all out long is =
     let cs : List Content = map found.own ts in
     let many : length cs ≡ elements_of g.shape = length-map ts found.own ∙ length-indices g.shape in
     let none : 0 * item_size t ≡ 0 = omega arith in
-    let room : (0 + length cs) * item_size t ≤ length first = subst (λ n. n * item_size t ≤ length first) (let e : elements_of g.shape ≡ 0 + length cs = omega (arith, many) in e) (omega (arith, long)) in
+    let room : (0 + length cs) * item_size t ≤ length first = subst (λ n. n * item_size t ≤ length first) (let e : elements_of g.shape ≡ 0 + length cs = omega (arith, many) in e) long in
     let made : values ≡ put (all_writes t (side t 0 (length cs)) cs) first
     = is ∙ (λ i. put (all_writes t (side t 0 (sym many i)) (found.same i)) first) in
     let hold : HoldAll t values (item_size t) 0 cs

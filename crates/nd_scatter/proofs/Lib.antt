@@ -3,3 +3,7 @@ pub mod LastStays
 pub mod Copies
 pub mod Values
 pub mod Assigned
+pub mod OwnBytes
+pub mod OwnValues
+pub mod Between
+pub mod Chosen

@@ -51,7 +51,8 @@ pub(crate) fn write_numbers(
     step: usize,
 )
     requires out { AreHeld elem out.old places.now }
-    requires held { AreValues (size_of elem.kind) from step (length places.now) (length values.now) }
+    requires held { AreValues (size_of elem.kind) from step (length places.now)
+        (length values.now) }
     ensures { out.new ≡ scattered (One elem) values.now step from places.now out.old }
 {
     match elem.kind() {

@@ -3,7 +3,10 @@
 
 mod gathering;
 mod kernel;
+mod masked;
+mod numbers;
 mod preparation;
+mod results;
 mod scatter;
 mod shape;
 mod structures;
@@ -11,5 +14,6 @@ mod writing;
 
 pub use gathering::gather;
 pub use preparation::{hold_fields, prepare_scatter};
+pub use results::prepare_results;
 pub use scatter::Scatter;
 pub use shape::fits_places;

@@ -46,8 +46,8 @@ fn prepare_number<'p>(
     Ok(Scatter::new(view, places, values, 0, len))
 }
 
-// From the elements of a view of these bytes: they are converted, and stand among the values as often as they are written.
-fn prepare_elements<'p>(
+/// From the elements of a view of these bytes: they are converted, and stand among the values as often as they are written.
+pub(crate) fn prepare_elements<'p>(
     alloc: Global,
     view: &'p View,
     places: &'p Places,

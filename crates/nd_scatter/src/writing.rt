@@ -1,5 +1,5 @@
 //! The writes of values to chosen elements.
-ghost use Rattle.std.specs.Prelude.{◌≡◌, ◌+◌, ◌^◌, ◌≤◌, length};
+ghost use Rattle.std.specs.Prelude.{◌≡◌, ◌+◌, ◌^◌, ◌≤◌, false, length, IsTrue};
 ghost use Rattle.std.specs.List.{All};
 ghost use Rattle.nd_model.specs.View.{item_size};
 ghost use Rattle.nd_types.specs.Types.{type_of};
@@ -7,6 +7,7 @@ ghost use Rattle.nd_scatter.specs.Ready.{AreValues};
 ghost use Rattle.nd_scatter.specs.Scattered.{scattered};
 
 use crate::kernel::write_numbers;
+use crate::masked::{inner_trues, write_trues};
 use crate::structures::write_structures;
 use nd_places::PlaceList;
 use nd_types::ElemType;
@@ -34,6 +35,51 @@ fn write_part(
     }
 }
 
+// Writes the values, which begin so many bytes apart, to their places, one after another, as these are found.
+fn write_found(out: &mut [u8], elem: &ElemType, places: &PlaceList, values: &[u8], step: usize)
+    requires out { All (λ p. p + item_size (type_of elem.now) ≤ length out.old) places.now }
+    requires held { AreValues (item_size (type_of elem.now)) 0 step (length places.now)
+        (length values.now) }
+    requires few { length places.now ≤ 2 ^ 24 }
+    ensures { out.new ≡ scattered (type_of elem.now) values.now step 0 places.now out.old }
+{
+    let mut some = [0; MANY];
+    let mut walk = places.walk();
+    let mut done = 0;
+    while let Some(part) = walk.next(&mut some) {
+        write_part(out, elem, part, values, done * step, step);
+        done += part.len();
+    }
+}
+
+// Writes the values, which begin so many bytes apart, to the numbers that a mask chooses, where all of their line lie in these bytes.
+// Returns whether it wrote them; else it leaves the bytes as they are.
+fn write_masked(
+    out: &mut [u8],
+    elem: &ElemType,
+    places: &PlaceList,
+    values: &[u8],
+    step: usize,
+) -> bool
+    requires { AreValues (item_size (type_of elem.now)) 0 step (length places.now)
+        (length values.now) }
+    ensures written { IsTrue result
+        → out.new ≡ scattered (type_of elem.now) values.now step 0 places.now out.old }
+    ensures unwritten { result ≡ false → out.new ≡ out.old }
+{
+    let ElemType::One(elem) = elem else {
+        return false;
+    };
+    let Some(trues) = inner_trues(*elem, places, out.len()) else {
+        return false;
+    };
+    if step > elem.size() as usize {
+        return false;
+    }
+    write_trues(out, *elem, trues, values, step);
+    true
+}
+
 /// Writes the values, which begin so many bytes apart, to their places, one after another.
 pub(crate) fn write_values(
     out: &mut [u8],
@@ -48,11 +94,7 @@ pub(crate) fn write_values(
     requires few { length places.now ≤ 2 ^ 24 }
     ensures { out.new ≡ scattered (type_of elem.now) values.now step 0 places.now out.old }
 {
-    let mut some = [0; MANY];
-    let mut walk = places.walk();
-    let mut done = 0;
-    while let Some(part) = walk.next(&mut some) {
-        write_part(out, elem, part, values, done * step, step);
-        done += part.len();
+    if !write_masked(out, elem, places, values, step) {
+        write_found(out, elem, places, values, step);
     }
 }

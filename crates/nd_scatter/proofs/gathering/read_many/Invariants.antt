@@ -8,7 +8,6 @@ use Rattle.nd_scatter.proofs.gathering.read_many.Given as goal
 abbrev pub invariant-loop-part : goal.invariant-loop-part
 invariant-loop-part l = record {
   many : length l.some ≡ 512;
-  buffer : length l.buffer ≡ 4096;
   room : l.out.1 ≡ length l.walk * size_of l.elem.kind;
   written : l.out.0 ++ flat_map (canonical_at (One l.elem) l.bytes) l.walk ≡ flat_map (canonical_at (One l.elem) l.bytes) l.places;
 }

@@ -59,4 +59,4 @@ returns-clause-written c = λ old long.
     let out : All (λ p. p + item_size g.element ≤ length old) g.places = subst (λ n. All (λ p. p + item_size g.element ≤ n) g.places) (sym long) c.requires.target.inside in
     ap (λ (a : Prepared). written_by a old) c.new.ensures ∙ written_to ready old long
     ∙ ap (λ n. scattered g.element values n 0 g.places old) size
-    ∙ elements g v bytes first values old fields c.requires.source.types c.requires.source.shapes c.requires.source.lies.count c.requires.target.count out room made
+    ∙ elements g v bytes first values old fields c.requires.source.types c.requires.source.shapes c.requires.source.lies.count c.requires.target.count out (omega (arith, room)) made

@@ -3,7 +3,7 @@ use Rattle.std.specs.List.{All}
 use Rattle.nd_model.specs.View.{item_size}
 use Rattle.nd_types.specs.Types.{type_of}
 use Rattle.nd_scatter.specs.Scattered.{scattered}
-use Rattle.nd_scatter.proofs.writing.write_values.Given as goal
+use Rattle.nd_scatter.proofs.writing.write_found.Given as goal
 
 abbrev pub invariant-loop-part : goal.invariant-loop-part
 invariant-loop-part l = record {

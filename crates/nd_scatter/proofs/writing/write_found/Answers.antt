@@ -5,7 +5,7 @@ use Rattle.nd_types.specs.Types.{type_of}
 use Rattle.nd_scatter.specs.KeptLength.{length-scattered}
 use Rattle.nd_scatter.specs.Scattered.{scattered}
 use Rattle.nd_scatter.proofs.Copies.{scattered_parts}
-use Rattle.nd_scatter.proofs.writing.write_values.Goals as goal
+use Rattle.nd_scatter.proofs.writing.write_found.Goals as goal
 
 pub write_part-requires-clause-held : goal.write_part-requires-clause-held
 write_part-requires-clause-held c = λ k lt.

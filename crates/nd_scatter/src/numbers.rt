@@ -1,0 +1,150 @@
+//! The numbers at chosen places, which are appended to a block that fills: each byte is written once, where it stays.
+ghost use Rattle.std.specs.Prelude.{◌≡◌, ◌≢◌, ◌+◌, ◌*◌, ◌^◌, ◌≤◌, ◌++◌, length, slice_index, IsTrue};
+ghost use Rattle.std.specs.List.{flat_map};
+ghost use Rattle.nd_model.specs.Element.{Boolean, size_of};
+ghost use Rattle.nd_model.specs.View.{One};
+ghost use Rattle.nd_assign.specs.SideBySide.{side_by_side};
+ghost use Rattle.nd_element.specs.Elements.{canonical_at};
+
+use nd_block::Filling;
+use nd_element::number_in;
+use nd_types::{Elem, Kind};
+
+// Appends the number at a place, some bytes of which lie past the end, where each byte is taken for 0.
+#[inline(never)]
+fn append_past(filling: Filling, elem: Elem, bytes: &[u8], place: u64) -> Filling
+    requires { size_of elem.kind ≤ filling.1 }
+    ensures written { result.0 ≡ filling.0 ++ canonical_at (One elem) bytes.now place }
+    ensures room { result.1 + size_of elem.kind ≡ filling.1 }
+{
+    let mut out = filling;
+    out.push_number(elem, number_in(bytes, place, elem));
+    out
+}
+
+// Appends the number at a place, the bytes of which are those of its value. A byte past the end is taken for 0.
+#[inline(always)]
+fn append_number(filling: Filling, elem: Elem, size: usize, bytes: &[u8], place: u64) -> Filling
+    requires kind { elem.kind ≢ Boolean }
+    requires size { size ≡ size_of elem.kind }
+    requires room { size_of elem.kind ≤ filling.1 }
+    ensures written { result.0 ≡ filling.0 ++ canonical_at (One elem) bytes.now place }
+    ensures room { result.1 + size_of elem.kind ≡ filling.1 }
+{
+    let len = bytes.len() as u64;
+    if size as u64 <= len && place <= len - size as u64 {
+        let (mut out, start) = (filling, place as usize);
+        out.push(&bytes[start..start + size]);
+        return out;
+    }
+    append_past(filling, elem, bytes, place)
+}
+
+// Appends such numbers of so many bytes.
+#[inline(always)]
+fn append_each(filling: Filling, elem: Elem, size: usize, bytes: &[u8], places: &[u64]) -> Filling
+    requires kind { elem.kind ≢ Boolean }
+    requires size { size ≡ size_of elem.kind }
+    requires room { length places.now * size_of elem.kind ≤ filling.1 }
+    ensures written { result.0 ≡ filling.0
+        ++ flat_map (canonical_at (One elem) bytes.now) places.now }
+    ensures room { result.1 + length places.now * size_of elem.kind ≡ filling.1 }
+{
+    let mut out = filling;
+    for place in places {
+        out = append_number(out, elem, size, bytes, *place);
+    }
+    out
+}
+
+// Appends the values of the numbers at these places. A byte past the end is taken for 0.
+fn append_values(filling: Filling, elem: Elem, bytes: &[u8], places: &[u64]) -> Filling
+    requires { length places.now * size_of elem.kind ≤ filling.1 }
+    ensures written { result.0 ≡ filling.0
+        ++ flat_map (canonical_at (One elem) bytes.now) places.now }
+    ensures room { result.1 + length places.now * size_of elem.kind ≡ filling.1 }
+{
+    let mut out = filling;
+    for place in places {
+        out.push_number(elem, number_in(bytes, *place, elem));
+    }
+    out
+}
+
+// Whether elements of so many bytes at these places lie side by side among so many bytes.
+fn are_side_by_side(places: &[u64], size: u64, len: usize) -> bool
+    requires few { length places.now ≤ 2 ^ 24 }
+    requires size { size ≤ 8 }
+    ensures some { IsTrue result → 1 ≤ length places.now }
+    ensures places { IsTrue result → places.now
+        ≡ side_by_side size (slice_index places.now 0) (length places.now) }
+    ensures inside { IsTrue result → slice_index places.now 0 + length places.now * size ≤ len }
+{
+    let (all, len) = (places.len() as u64 * size, len as u64);
+    if places.is_empty() || all > len || places[0] > len - all {
+        return false;
+    }
+    for (index, place) in places.iter().enumerate() {
+        if *place != places[0] + index as u64 * size {
+            return false;
+        }
+    }
+    true
+}
+
+// Appends the bytes of numbers that lie side by side, which are those of their values.
+fn append_row(filling: Filling, elem: Elem, bytes: &[u8], places: &[u64]) -> Filling
+    requires kind { elem.kind ≢ Boolean }
+    requires places { places.now
+        ≡ side_by_side (size_of elem.kind) (slice_index places.now 0) (length places.now) }
+    requires some { 1 ≤ length places.now }
+    requires inside { slice_index places.now 0 + length places.now * size_of elem.kind
+        ≤ length bytes.now }
+    requires room { length places.now * size_of elem.kind ≤ filling.1 }
+    ensures written { result.0 ≡ filling.0
+        ++ flat_map (canonical_at (One elem) bytes.now) places.now }
+    ensures room { result.1 + length places.now * size_of elem.kind ≡ filling.1 }
+{
+    let _len = bytes.len();
+    let start = places[0] as usize;
+    let end = start + places.len() * elem.size() as usize;
+    let mut out = filling;
+    out.push(&bytes[start..end]);
+    out
+}
+
+// Appends numbers of so many bytes, which are those of their values, and at once where they lie side by side.
+#[inline(always)]
+fn append_bytes(filling: Filling, elem: Elem, size: usize, bytes: &[u8], places: &[u64]) -> Filling
+    requires kind { elem.kind ≢ Boolean }
+    requires size { size ≡ size_of elem.kind }
+    requires few { length places.now ≤ 2 ^ 24 }
+    requires room { length places.now * size_of elem.kind ≤ filling.1 }
+    ensures written { result.0 ≡ filling.0
+        ++ flat_map (canonical_at (One elem) bytes.now) places.now }
+    ensures room { result.1 + length places.now * size_of elem.kind ≡ filling.1 }
+{
+    if are_side_by_side(places, elem.size(), bytes.len()) {
+        append_row(filling, elem, bytes, places)
+    } else {
+        append_each(filling, elem, size, bytes, places)
+    }
+}
+
+/// Appends the numbers at these places, by a loop of its own for each number of bytes. The bytes of a Boolean may be others than those
+/// of its value.
+pub(crate) fn append_numbers(filling: Filling, elem: Elem, bytes: &[u8], places: &[u64]) -> Filling
+    requires few { length places.now ≤ 2 ^ 24 }
+    requires room { length places.now * size_of elem.kind ≤ filling.1 }
+    ensures written { result.0 ≡ filling.0
+        ++ flat_map (canonical_at (One elem) bytes.now) places.now }
+    ensures room { result.1 + length places.now * size_of elem.kind ≡ filling.1 }
+{
+    match elem.kind() {
+        Kind::Bool => append_values(filling, elem, bytes, places),
+        Kind::I8 | Kind::U8 => append_bytes(filling, elem, 1, bytes, places),
+        Kind::I16 | Kind::U16 => append_bytes(filling, elem, 2, bytes, places),
+        Kind::I32 | Kind::U32 => append_bytes(filling, elem, 4, bytes, places),
+        Kind::I64 | Kind::U64 => append_bytes(filling, elem, 8, bytes, places),
+    }
+}

@@ -1,8 +1,9 @@
 -- The numbers on a line that a mask chooses, one after another.
-use Rattle.std.proofs.Common.{◌≡◌, ◌≢◌, ℕ, ◌+◌, ◌-◌, ◌*◌, ◌<◌, ◌≤◌, suc, Bool, true, false, List, [], ◌∷◌, ◌++◌, map, length, take, drop, get_or, refl, sym, ap, ◌∙◌, subst, arith, append_assoc, length-append, length-take, take-take}
+use Rattle.std.proofs.Common.{◌≡◌, ◌≢◌, ℕ, ◌+◌, ◌-◌, ◌*◌, ◌<◌, ◌≤◌, suc, Bool, true, false, List, [], ◌∷◌, ◌++◌, inr, map, length, take, drop, get_or, refl, sym, ap, ◌∙◌, subst, arith, append_assoc, length-append, length-take, take-take}
 use Rattle.std.specs.Prelude.{if◌then◌else◌}
 use Rattle.std.specs.List.{flat_map}
-use Rattle.std.proofs.lemmas.List.{take-append-le, take-append-drop, drop-drop, length-map}
+use Rattle.std.proofs.Math.Seq.{drop-append_seam}
+use Rattle.std.proofs.lemmas.List.{drop-take, take-append-le, take-append-drop, drop-drop, length-map}
 use Rattle.nd_model.specs.Element.{Element, size_of, bytes_at, with_bytes}
 use Rattle.nd_model.specs.Session.{put}
 use Rattle.nd_model.specs.View.{One}
@@ -11,7 +12,7 @@ use Rattle.nd_model.specs.Content.{number_at}
 use Rattle.nd_model.proofs.Contents.{number_bytes}
 use Rattle.nd_places.specs.Near.{is_true, trues_in}
 use Rattle.nd_places.proofs.Found.{next_of, further}
-use Rattle.nd_block.proofs.Copied.{length-bytes_at}
+use Rattle.nd_block.proofs.Copied.{beside, length-bytes_at, length-with_bytes}
 use Rattle.nd_convert.proofs.Written.{place_more}
 use Rattle.nd_element.specs.Elements.{canonical_at}
 use Rattle.nd_scatter.specs.Ready.{AreValues}
@@ -29,6 +30,11 @@ next_false first k mask lt is = next_of first mask k false lt is ∙ ap (λ n. t
 pub step_few : (b : Bool) (n size : ℕ) → n ≡ (if b then size else 0) → n ≤ size
 step_few true n size e = omega (arith, e)
 step_few false n size e = omega (arith, e)
+
+-- one or none, each so many bytes further
+pub times : (b : Bool) (n step : ℕ) → n ≡ (if b then 1 else 0) → n * step ≡ (if b then step else 0)
+times true n step e = let one : 1 * step ≡ step = omega arith in ap (λ m. m * step) e ∙ one
+times false n step e = let none : 0 * step ≡ 0 = omega arith in ap (λ m. m * step) e ∙ none
 
 -- ---- bytes that are written
 
@@ -48,19 +54,29 @@ own_again xs p n le =
     ∙ ap (λ l. take p xs ++ (take n rest ++ l)) (sym (drop-drop n p xs))
     ∙ ap (λ l. take p xs ++ l) (take-append-drop n rest) ∙ take-append-drop p xs
 
--- some bytes, or the own ones, of which a copy was made
-pub chosen_written : (b : Bool) (values out own kept chosen new : List ℕ) (to from n : ℕ) → to + n ≤ length out → from + n ≤ length values → n ≤ length own
-    → kept ≡ with_bytes own 0 (bytes_at out to n) → chosen ≡ (if b then take (from + n - from) (drop from values) else take n kept)
-    → new ≡ with_bytes out to (bytes_at chosen 0 n) → new ≡ (if b then with_bytes out to (bytes_at values from n) else out)
-chosen_written true values out own kept chosen new to from n room held few copy is written =
-    let width : from + n - from ≡ n = omega arith in
-    let same : chosen ≡ bytes_at values from n = is ∙ ap (λ m. take m (drop from values)) width in
-    written ∙ ap (with_bytes out to) (ap (take n) same ∙ take-take n n (drop from values) (omega arith))
-chosen_written false values out own kept chosen new to from n room held few copy is written =
-    let ys : List ℕ = bytes_at out to n in
-    let long : length ys ≡ n = length-bytes_at out to n room in
-    let front : take n kept ≡ ys = ap (take n) copy ∙ place_more own ys [] n 0 (omega arith) (omega (arith, long)) refl in
-    written ∙ ap (with_bytes out to) (ap (take n) is ∙ take-take n n kept (omega arith) ∙ front) ∙ own_again out to n room
+-- what is written stands there
+put_there : (xs : List ℕ) (p : ℕ) (ys : List ℕ) (n : ℕ) → p ≤ length xs → length ys ≡ n → bytes_at (with_bytes xs p ys) p n ≡ ys
+put_there xs p ys n le long =
+    let front : length (take p xs) ≡ p = omega (arith, length-take p xs, le) in
+    sym (drop-take p n (with_bytes xs p ys)) ∙ ap (drop p) (place_more xs ys (take p xs) (p + n) p le (omega (arith, long)) refl)
+    ∙ ap (λ k. drop k (take p xs ++ ys)) (sym front) ∙ drop-append_seam (take p xs) ys
+
+-- the own bytes, or others, of copies of both, which lie apart
+pub chosen_written : (b : Bool) (values out none own both new : List ℕ) (to from at apart n : ℕ) → to + n ≤ length out → from + n ≤ length values → n ≤ apart → apart + n ≤ length none
+    → own ≡ with_bytes none 0 (bytes_at out to n) → both ≡ with_bytes own apart (bytes_at values from n) → at ≡ (if b then apart else 0)
+    → new ≡ with_bytes out to (bytes_at both at n) → new ≡ (if b then with_bytes out to (bytes_at values from n) else out)
+chosen_written true values out none own both new to from at apart n room held few fits first second is written =
+    let ys : List ℕ = bytes_at out to n in let long : length ys ≡ n = length-bytes_at out to n room in
+    let whole : length own ≡ length none = ap length first ∙ length-with_bytes none 0 ys (omega (arith, long, few, fits)) in
+    written ∙ ap (with_bytes out to) ((λ i. bytes_at (second i) (is i) n)
+    ∙ put_there own apart (bytes_at values from n) n (omega (arith, whole, fits)) (length-bytes_at values from n held))
+chosen_written false values out none own both new to from at apart n room held few fits first second is written =
+    let ys : List ℕ = bytes_at out to n in let long : length ys ≡ n = length-bytes_at out to n room in
+    let zs : List ℕ = bytes_at values from n in let wide : length zs ≡ n = length-bytes_at values from n held in
+    let whole : length own ≡ length none = ap length first ∙ length-with_bytes none 0 ys (omega (arith, long, few, fits)) in
+    written ∙ ap (with_bytes out to) ((λ i. bytes_at (second i) (is i) n) ∙ beside own apart zs 0 n (omega (arith, whole, wide, fits)) (inr (omega (arith, few)))
+    ∙ ap (λ l. bytes_at l 0 n) first ∙ put_there none 0 ys n (omega arith) long)
+    ∙ own_again out to n room
 
 -- ---- those that are read
 

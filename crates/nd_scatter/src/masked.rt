@@ -186,14 +186,6 @@ pub(crate) fn append_trues(filling: Filling, elem: Elem, bytes: &[u8], trues: &T
     append_by_size(filling, elem, bytes, trues.line, trues.mask.as_slice())
 }
 
-// The bytes of a value where the byte of a mask is true, and else an element's own ones.
-#[inline(always)]
-fn choose<'b>(byte: u8, value: &'b [u8], own: &'b [u8]) -> &'b [u8]
-    ensures { result.now ≡ (if is_true byte then value.now else own.now) }
-{
-    if byte == 0 { own } else { value }
-}
-
 // Writes so many bytes of a value to a place where the byte of a mask is true, and else those that stand there once more.
 #[inline(always)]
 fn write_chosen(out: &mut [u8], to: usize, values: &[u8], from: usize, size: usize, byte: u8)
@@ -205,10 +197,10 @@ fn write_chosen(out: &mut [u8], to: usize, values: &[u8], from: usize, size: usi
         then with_bytes out.old to (bytes_at values.now from size) else out.old) }
 {
     let (_len, _from_len) = (out.len(), values.len());
-    let mut own = [0; 8];
-    copy_bytes(&mut own, 0, out, to, size);
-    let chosen = choose(byte, &values[from..from + size], &own[..size]);
-    copy_bytes(out, to, chosen, 0, size);
+    let mut both = [0; 16];
+    copy_bytes(&mut both, 0, out, to, size);
+    copy_bytes(&mut both, 8, values, from, size);
+    copy_bytes(out, to, &both, step_of(byte, 8), size);
 }
 
 // Writes the values, which begin so many bytes apart, to the elements on a line whose bytes of a mask are true. Behind the last value
@@ -236,11 +228,11 @@ fn write_each(
         return;
     }
     let last = values.len() - size;
-    let mut at = 0;
+    let mut used = 0;
     for (index, byte) in mask.iter().enumerate() {
         let place = place_at(line, index as u64) as usize;
-        write_chosen(out, place, values, last.min(at), size, *byte);
-        at += step_of(*byte, step);
+        write_chosen(out, place, values, last.min(used * step), size, *byte);
+        used += step_of(*byte, 1);
     }
 }
 

@@ -6,5 +6,6 @@ use Rattle.nd_scatter.proofs.masked.write_chosen.Goals as goal
 pub returns-clause-bytes : goal.returns-clause-bytes
 returns-clause-bytes c =
     let a = c.args in let out : List ℕ = a.out.now in
-    chosen_written (is_true a.byte) a.values.now out (0 ∷ 0 ∷ 0 ∷ 0 ∷ 0 ∷ 0 ∷ 0 ∷ 0 ∷ []) c.copy_bytes.new.out c.choose-chosen.result.now c.copy_bytes-2.new.out a.to a.from a.size c.requires.out c.requires.held (omega (arith, c.requires.size))
-    c.copy_bytes.ensures.bytes c.choose-chosen.ensures c.copy_bytes-2.ensures.bytes
+    let none : List ℕ = 0 ∷ 0 ∷ 0 ∷ 0 ∷ 0 ∷ 0 ∷ 0 ∷ 0 ∷ 0 ∷ 0 ∷ 0 ∷ 0 ∷ 0 ∷ 0 ∷ 0 ∷ 0 ∷ [] in
+    chosen_written (is_true a.byte) a.values.now out none c.copy_bytes.new.out c.copy_bytes-2.new.out c.copy_bytes-3.new.out a.to a.from c.step_of.result 8 a.size c.requires.out c.requires.held c.requires.size (omega (arith, c.requires.size))
+    c.copy_bytes.ensures.bytes c.copy_bytes-2.ensures.bytes c.step_of.ensures c.copy_bytes-3.ensures.bytes

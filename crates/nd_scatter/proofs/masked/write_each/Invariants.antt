@@ -1,4 +1,4 @@
-use Rattle.std.proofs.Common.{◌≡◌, ◌+◌, length, map, drop}
+use Rattle.std.proofs.Common.{◌≡◌, ◌+◌, ◌*◌, ◌≤◌, length, map, drop}
 use Rattle.nd_model.specs.View.{One}
 use Rattle.nd_places.specs.Forms.{trues_on}
 use Rattle.nd_places.specs.Near.{place_on_line, trues_in}
@@ -9,6 +9,7 @@ use Rattle.nd_scatter.proofs.masked.write_each.Given as goal
 abbrev pub invariant-loop-index : goal.invariant-loop-index
 invariant-loop-index l = record {
   len : length l.out ≡ length l.fn.out;
-  wrote : Wrote l.fn.elem l.values l.step l.at (map (place_on_line l.line.start l.line.step) (trues_in (0 + l.index) (drop l.index l.mask))) l.out
+  few : l.used ≤ l.index;
+  wrote : Wrote l.fn.elem l.values l.step (l.used * l.step) (map (place_on_line l.line.start l.line.step) (trues_in (0 + l.index) (drop l.index l.mask))) l.out
       (scattered (One l.fn.elem) l.values l.step 0 (trues_on l.line 0 l.mask) l.fn.out);
 }

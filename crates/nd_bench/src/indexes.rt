@@ -5,7 +5,7 @@ ghost use Rattle.nd_model.specs.Sound.{LiesIn};
 ghost use Rattle.nd_model.specs.Strides.{IsInLimits};
 ghost use Rattle.nd_model.specs.Tuple.{elements_of};
 ghost use Rattle.nd_model.specs.View.{item_size};
-ghost use Rattle.nd_assign.specs.Sources.{IsSource};
+ghost use Rattle.nd_assign.specs.Sources.{IsSource, IsValue};
 ghost use Rattle.nd_fancy.specs.Chosen.{view_at};
 
 use crate::arrays::number_array;
@@ -17,7 +17,7 @@ use nd_block::RawBlock;
 use nd_elementwise::{Argument, RightSide, in_place_kind, results_in_place};
 use nd_fancy::{Places, choose_places};
 use nd_index::Item;
-use nd_scatter::{fits_places, gather, prepare_scatter};
+use nd_scatter::{fits_places, gather, prepare_results, prepare_scatter};
 use nd_syntax::BinaryOp;
 use nd_types::{Elem, ElemType, Kind, Num};
 use nd_view::View;
@@ -230,6 +230,38 @@ fn scatter_once(
     Ok(Turn::of_bytes(count, block, nanos))
 }
 
+// Whether an array in so many bytes may be assigned to chosen elements.
+fn results_fit(chosen: &Chosen<'_>, array: &View, values: &RawBlock) -> bool
+    ensures { IsTrue result → IsValue (view_at chosen.now.view.now chosen.now.places)
+        (length values.now) array.now }
+{
+    let ElemType::One(_) = chosen.view.elem() else {
+        return false;
+    };
+    let ElemType::One(_) = array.elem() else {
+        return false;
+    };
+    fits_places(&chosen.places, array.shape()) && lies_in(array, values.len())
+}
+
+// Assigns an array to the chosen elements, whose block may be taken over.
+fn write_results(
+    alloc: Global,
+    chosen: &Chosen<'_>,
+    block: &mut RawBlock,
+    array: &View,
+    values: RawBlock,
+) -> Result<(), AllocError>
+    requires target { LiesIn (length block.old) (view_at chosen.now.view.now chosen.now.places) }
+    requires source { IsValue (view_at chosen.now.view.now chosen.now.places) (length values)
+        array.now }
+{
+    let (view, places) = (chosen.view, &chosen.places);
+    let scatter = prepare_results(alloc, view, places, block.as_slice(), array, values)?;
+    scatter.write(block);
+    Ok(())
+}
+
 // Adds one to the chosen elements of a block, and tells how many there are and how many nanoseconds it took.
 fn add_to_chosen(
     rt: &HostRuntime,
@@ -237,9 +269,22 @@ fn add_to_chosen(
     block: &mut RawBlock,
 ) -> io::Result<(usize, u128)> {
     let sums = gather_and_add(rt, chosen, block.as_slice())?;
-    let source = Source::Other(&sums.view, sums.block.as_slice());
-    let (count, nanos) = time_write(rt, chosen, block, source)?;
-    Ok((count, nanos.saturating_add(sums.nanos)))
+    let Made {
+        view,
+        block: values,
+        nanos,
+    } = sums;
+    let len = block.len();
+    let Some(count) = count_within(rt.alloc(), chosen, len)? else {
+        return Err(invalid_input());
+    };
+    if !results_fit(chosen, &view, &values) {
+        return Err(invalid_input());
+    }
+    let start = Instant::now(rt)?;
+    write_results(rt.alloc(), chosen, block, &view, values)?;
+    let written = start.elapsed(rt)?.as_nanos();
+    Ok((count, written.saturating_add(nanos)))
 }
 
 // Chooses elements of a new block of positions and adds one to each. The sum is that of the bytes of the block.

@@ -26,7 +26,7 @@ use nd_assign::Source;
 use nd_choice::Selection;
 use nd_elementwise::{RightSide, results_in_place};
 use nd_operation::{Elements, whole_number};
-use nd_scatter::{Scatter, prepare_scatter};
+use nd_scatter::{Scatter, prepare_results, prepare_scatter};
 use nd_session::{Array, Base, OutOfMemory, Session, Value};
 use nd_syntax::BinaryOp;
 use nd_types::{Kind, Num};
@@ -154,10 +154,9 @@ pub fn update_chosen(
     let alloc = session.allocator();
     let right = right_side(session, value);
     let read = session.bytes(copy.base);
-    let results = results_in_place(alloc, op, kind, &copy.view, read, right)?;
+    let (array, values) = results_in_place(alloc, op, kind, &copy.view, read, right)?;
     let block = session.bytes(base);
-    let source = Source::Other(&results.0, results.1.as_slice());
     let (view, places) = (&selection.view, &selection.places);
-    let scatter = prepare_scatter(alloc, view, places, block, source)?;
+    let scatter = prepare_results(alloc, view, places, block, &array, values)?;
     write_scattered(session, base, selection, scatter)
 }

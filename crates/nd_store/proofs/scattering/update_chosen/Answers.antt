@@ -1,10 +1,9 @@
-use Rattle.std.proofs.Common.{◌≡◌, ◌∙◌, List, ℕ, length, sym, ap, subst}
+use Rattle.std.proofs.Common.{◌≡◌, ◌∙◌, List, ℕ, length, ap, subst}
 use Rattle.std.specs.Prelude.{OnOk}
 use Rattle.nd_model.specs.Assigning.{fits_into}
 use Rattle.nd_model.specs.Augmenting.{in_place_kind}
 use Rattle.nd_model.specs.Conversion.{converts}
 use Rattle.nd_model.specs.Running.{Running}
-use Rattle.nd_model.specs.Sound.{LiesIn}
 use Rattle.nd_model.specs.View.{Geo}
 use Rattle.nd_assign.specs.Assigned.{with_elements}
 use Rattle.nd_elementwise.specs.InPlaceResults.{AreResults}
@@ -30,15 +29,14 @@ results_in_place-requires-clause-kind c =
     let g = geo_of c.args.copy.now in
     ap (in_place_kind op g) (c.right_side-right.ensures.operand c.bytes-read.result.now) ∙ row_alike op g (operand_over r.bytes c.args.value.now) ∙ c.requires.kind
 
-pub prepare_scatter-requires-clause-source : goal.prepare_scatter-requires-clause-source
-prepare_scatter-requires-clause-source c =
+pub prepare_results-requires-clause-source : goal.prepare_results-requires-clause-source
+prepare_results-requires-clause-source c =
     let r = live c.args.session.now in
     let op = binary_op c.args.op in
     let h = selected c.args.selection.now in
-    let are = c.in_ok-results.ensures in
-    let view = c.in_ok-results.results.0 in
+    let are = c.in_ok-array.ensures in
     record {
-      lies = subst (λ (bytes : List ℕ). LiesIn (length bytes) view) (sym c.as_slice.ensures) are.lies;
+      lies = are.lies;
       types = ap (λ (g : Geo). converts g.element h.element) are.view ∙ results_convert op (geo_of c.args.copy.now) (operand_over r.bytes c.args.value.now) (kind_of c.args.kind) h.element c.requires.kind c.requires.types;
       shapes = ap (λ (g : Geo). fits_into g.shape h.shape) are.view ∙ c.requires.shapes;
     }
@@ -52,17 +50,16 @@ returns c =
     let h = selected c.args.selection.now in
     let g = geo_of c.args.copy.now in
     let y = as_array (operand_over r.bytes c.args.value.now) in
-    let view = c.in_ok-results.results.0 in
-    let bytes : List ℕ = c.in_ok-results.results.1 in
+    let view = c.in_ok-array.array in
+    let bytes : List ℕ = c.in_ok-array.values in
     let a = c.in_ok-scatter.scatter in
     let beside : AreResults k op g (contents_over g c.bytes-read.result.now) y view bytes =
-    subst (λ o. AreResults k op g (contents_over g c.bytes-read.result.now) o view bytes) (c.right_side-right.ensures.operand c.bytes-read.result.now) c.in_ok-results.ensures in
+    subst (λ o. AreResults k op g (contents_over g c.bytes-read.result.now) o view bytes) (c.right_side-right.ensures.operand c.bytes-read.result.now) c.in_ok-array.ensures in
     let are : AreResults k op g (contents_over g (r.bytes (base_of c.args.copy.now.base))) y view bytes =
     subst (λ (read : List ℕ). AreResults k op g (contents_over g read) y view bytes) c.bytes-read.ensures beside in
     let types = ap (λ (g : Geo). converts g.element h.element) are.view ∙ results_convert op g (operand_over r.bytes c.args.value.now) k h.element c.requires.kind c.requires.types in
     let shapes = ap (λ (g : Geo). fits_into g.shape h.shape) are.view ∙ c.requires.shapes in
     let written : written_by a (r.bytes b) ≡ with_elements h view bytes (r.bytes b) =
-    subst (λ (block : List ℕ). written_by a block ≡ with_elements h view c.as_slice.result.now block) c.bytes-block.ensures c.in_ok-scatter.ensures.written
-    ∙ ap (λ bytes. with_elements h view bytes (r.bytes b)) c.as_slice.ensures in
+    subst (λ (block : List ℕ). written_by a block ≡ with_elements h view bytes block) c.bytes-block.ensures c.in_ok-scatter.ensures.written in
     subst (λ (s : Running). OnOk c.write_scattered.result (live c.write_scattered.new.session ≡ s))
     (copy_stored k op r b h c.args.copy.now c.args.value.now c.requires view bytes (written_by a (r.bytes b)) are types shapes written) c.write_scattered.ensures

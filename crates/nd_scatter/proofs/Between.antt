@@ -1,9 +1,9 @@
 -- Elements between the ends of a line.
-use Rattle.std.proofs.Common.{◌≡◌, ℕ, ℤ, pos, negsuc, ◌+◌, ◌-◌, ◌*◌, ◌<◌, ◌≤◌, suc, Bool, true, false, arith}
-use Rattle.std.specs.Prelude.{◌+ℤ◌, ◌*ℤ◌, ◌≤ℤ◌, ◌&&◌, ◌^◌, int_le, int_lt, unsigned_abs, if◌then◌else◌}
+use Rattle.std.proofs.Common.{ℕ, ℤ, pos, negsuc, ◌+◌, ◌≤◌, suc, Bool, true, false, arith}
+use Rattle.std.specs.Prelude.{◌+ℤ◌, ◌*ℤ◌, ◌≤ℤ◌, ◌&&◌, ◌^◌, int_le, int_lt, if◌then◌else◌}
 use Rattle.std.proofs.Math.Nat.{mul-le-mul_right}
 use Rattle.std.proofs.lemmas.Int.{ints}
-use Rattle.nd_places.specs.Near.{place_on, place_on_line}
+use Rattle.nd_places.specs.Near.{place_on}
 
 -- an element is not before the first one and the last one
 pub not_before : (start step : ℤ) (k last : ℕ) → k ≤ last → pos 0 ≤ℤ start → pos 0 ≤ℤ (start +ℤ (pos last *ℤ step)) → pos 0 ≤ℤ (start +ℤ (pos k *ℤ step))

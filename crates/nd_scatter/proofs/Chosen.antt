@@ -1,9 +1,9 @@
 -- The numbers on a line that a mask chooses, one after another.
-use Rattle.std.proofs.Common.{◌≡◌, ◌≢◌, ℕ, ◌+◌, ◌-◌, ◌*◌, ◌<◌, ◌≤◌, suc, Bool, true, false, List, [], ◌∷◌, ◌++◌, inr, map, length, take, drop, get_or, refl, sym, ap, ◌∙◌, subst, arith, append_assoc, length-append, length-take, take-take}
+use Rattle.std.proofs.Common.{◌≡◌, ℕ, ◌+◌, ◌*◌, ◌<◌, ◌≤◌, suc, Bool, true, false, List, [], ◌∷◌, ◌++◌, inr, map, length, take, drop, get_or, refl, sym, ap, ◌∙◌, subst, arith, append_assoc, length-append, length-take, take-take}
 use Rattle.std.specs.Prelude.{if◌then◌else◌}
 use Rattle.std.specs.List.{flat_map}
 use Rattle.std.proofs.Math.Seq.{drop-append_seam}
-use Rattle.std.proofs.lemmas.List.{drop-take, take-append-le, take-append-drop, drop-drop, length-map}
+use Rattle.std.proofs.lemmas.List.{drop-take, take-append-le, take-append-drop, drop-drop}
 use Rattle.nd_model.specs.Element.{Element, size_of, bytes_at, with_bytes}
 use Rattle.nd_model.specs.Session.{put}
 use Rattle.nd_model.specs.View.{One}

@@ -10,7 +10,7 @@ ghost use Rattle.nd_scatter.specs.OnLine.{AreOnLine};
 ghost use Rattle.nd_scatter.specs.Ready.{AreValues};
 ghost use Rattle.nd_scatter.specs.Scattered.{scattered};
 
-use crate::kernel::copy_bytes;
+use crate::kernel::{copy_bytes, keeps_bytes};
 use nd_block::Filling;
 use nd_places::{Line, PlaceList, Trues, near_place};
 use nd_types::{Elem, Kind};
@@ -43,16 +43,6 @@ fn lie_inside(line: Line, count: usize, size: u64, len: usize) -> bool
     }
     let last = line.start + (count as i64 - 1) * line.step;
     ends_inside(line.start, size, len) && ends_inside(last, size, len)
-}
-
-// Whether the bytes of a number are those of its value. Those of a Boolean may be others than 0 and 1.
-fn keeps_bytes(elem: Elem) -> bool
-    ensures { IsTrue result → elem.kind ≢ Boolean }
-{
-    match elem.kind() {
-        Kind::Bool => false,
-        _ => true,
-    }
 }
 
 /// Returns the line and the mask of a list that is kept so, where the numbers are no Booleans and all of those on the line lie among so

@@ -3,10 +3,11 @@ ghost use Rattle.std.specs.Prelude.{◌≡◌, ◌≢◌, ◌+◌, ◌*◌, ◌^
 ghost use Rattle.std.specs.List.{flat_map};
 ghost use Rattle.nd_model.specs.Element.{Boolean, size_of};
 ghost use Rattle.nd_model.specs.View.{One};
+ghost use Rattle.nd_types.specs.Kinds.{kind_of};
 ghost use Rattle.nd_assign.specs.SideBySide.{side_by_side};
 ghost use Rattle.nd_element.specs.Elements.{canonical_at};
 
-use nd_block::Filling;
+use nd_block::{Filling, value_at};
 use nd_element::number_in;
 use nd_types::{Elem, Kind};
 
@@ -22,29 +23,30 @@ fn append_past(filling: Filling, elem: Elem, bytes: &[u8], place: u64) -> Fillin
     out
 }
 
-// Appends the number at a place, the bytes of which are those of its value. A byte past the end is taken for 0.
+// Appends the number at a place, the bytes of which are those of its value. They are read and written as one word, which is a number of
+// this kind. A byte past the end is taken for 0.
 #[inline(always)]
-fn append_number(filling: Filling, elem: Elem, size: usize, bytes: &[u8], place: u64) -> Filling
-    requires kind { elem.kind ≢ Boolean }
-    requires size { size ≡ size_of elem.kind }
+fn append_number(filling: Filling, elem: Elem, word: Kind, bytes: &[u8], place: u64) -> Filling
+    requires kinds { (elem.kind ≢ Boolean) × (kind_of word ≢ Boolean) }
+    requires size { size_of (kind_of word) ≡ size_of elem.kind }
     requires room { size_of elem.kind ≤ filling.1 }
     ensures written { result.0 ≡ filling.0 ++ canonical_at (One elem) bytes.now place }
     ensures room { result.1 + size_of elem.kind ≡ filling.1 }
 {
-    let len = bytes.len() as u64;
-    if size as u64 <= len && place <= len - size as u64 {
-        let (mut out, start) = (filling, place as usize);
-        out.push(&bytes[start..start + size]);
+    let (size, len) = (word.size(), bytes.len() as u64);
+    if size <= len && place <= len - size {
+        let (mut out, same) = (filling, Elem::little(word));
+        out.push_number(same, value_at(bytes, place as usize, same));
         return out;
     }
     append_past(filling, elem, bytes, place)
 }
 
-// Appends such numbers of so many bytes.
+// Appends such numbers.
 #[inline(always)]
-fn append_each(filling: Filling, elem: Elem, size: usize, bytes: &[u8], places: &[u64]) -> Filling
-    requires kind { elem.kind ≢ Boolean }
-    requires size { size ≡ size_of elem.kind }
+fn append_each(filling: Filling, elem: Elem, word: Kind, bytes: &[u8], places: &[u64]) -> Filling
+    requires kinds { (elem.kind ≢ Boolean) × (kind_of word ≢ Boolean) }
+    requires size { size_of (kind_of word) ≡ size_of elem.kind }
     requires room { length places.now * size_of elem.kind ≤ filling.1 }
     ensures written { result.0 ≡ filling.0
         ++ flat_map (canonical_at (One elem) bytes.now) places.now }
@@ -52,7 +54,7 @@ fn append_each(filling: Filling, elem: Elem, size: usize, bytes: &[u8], places: 
 {
     let mut out = filling;
     for place in places {
-        out = append_number(out, elem, size, bytes, *place);
+        out = append_number(out, elem, word, bytes, *place);
     }
     out
 }
@@ -113,11 +115,11 @@ fn append_row(filling: Filling, elem: Elem, bytes: &[u8], places: &[u64]) -> Fil
     out
 }
 
-// Appends numbers of so many bytes, which are those of their values, and at once where they lie side by side.
+// Appends numbers whose bytes are those of their values, each as a word of this kind, or all at once where they lie side by side.
 #[inline(always)]
-fn append_bytes(filling: Filling, elem: Elem, size: usize, bytes: &[u8], places: &[u64]) -> Filling
-    requires kind { elem.kind ≢ Boolean }
-    requires size { size ≡ size_of elem.kind }
+fn append_words(filling: Filling, elem: Elem, word: Kind, bytes: &[u8], places: &[u64]) -> Filling
+    requires kinds { (elem.kind ≢ Boolean) × (kind_of word ≢ Boolean) }
+    requires size { size_of (kind_of word) ≡ size_of elem.kind }
     requires few { length places.now ≤ 2 ^ 24 }
     requires room { length places.now * size_of elem.kind ≤ filling.1 }
     ensures written { result.0 ≡ filling.0
@@ -127,7 +129,7 @@ fn append_bytes(filling: Filling, elem: Elem, size: usize, bytes: &[u8], places:
     if are_side_by_side(places, elem.size(), bytes.len()) {
         append_row(filling, elem, bytes, places)
     } else {
-        append_each(filling, elem, size, bytes, places)
+        append_each(filling, elem, word, bytes, places)
     }
 }
 
@@ -142,9 +144,9 @@ pub(crate) fn append_numbers(filling: Filling, elem: Elem, bytes: &[u8], places:
 {
     match elem.kind() {
         Kind::Bool => append_values(filling, elem, bytes, places),
-        Kind::I8 | Kind::U8 => append_bytes(filling, elem, 1, bytes, places),
-        Kind::I16 | Kind::U16 => append_bytes(filling, elem, 2, bytes, places),
-        Kind::I32 | Kind::U32 => append_bytes(filling, elem, 4, bytes, places),
-        Kind::I64 | Kind::U64 => append_bytes(filling, elem, 8, bytes, places),
+        Kind::I8 | Kind::U8 => append_words(filling, elem, Kind::U8, bytes, places),
+        Kind::I16 | Kind::U16 => append_words(filling, elem, Kind::U16, bytes, places),
+        Kind::I32 | Kind::U32 => append_words(filling, elem, Kind::U32, bytes, places),
+        Kind::I64 | Kind::U64 => append_words(filling, elem, Kind::U64, bytes, places),
     }
 }

@@ -11,11 +11,12 @@ ghost use Rattle.nd_fancy.specs.Chosen.{view_at};
 ghost use Rattle.nd_scatter.specs.OwnValues.{AreOwnValues};
 ghost use Rattle.nd_scatter.specs.Scattered.{written_by};
 
+use crate::kernel::keeps_bytes;
 use crate::preparation::prepare_elements;
 use crate::scatter::Scatter;
 use nd_block::RawBlock;
 use nd_fancy::Places;
-use nd_types::{Elem, ElemType, Kind};
+use nd_types::{Elem, ElemType};
 use nd_view::{Run, View};
 use std::alloc::{AllocError, Global};
 
@@ -24,16 +25,6 @@ fn hold_bytes(bytes: &[u8])
     ensures { All (λ byte. byte < 256) bytes.now }
 {
     let _len = bytes.len();
-}
-
-// Whether the bytes of a number are those of its value. Those of a Boolean may be others than 0 and 1.
-fn keeps_bytes(elem: Elem) -> bool
-    ensures { IsTrue result → elem.kind ≢ Boolean }
-{
-    match elem.kind() {
-        Kind::Bool => false,
-        _ => true,
-    }
 }
 
 // The type of the numbers of both views, if it is one and the bytes of its numbers are those of their values.

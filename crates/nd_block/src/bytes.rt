@@ -58,7 +58,7 @@ fn get64(bytes: &[u8], place: usize, big: bool) -> u64
     }
 }
 
-#[inline(always)]
+#[inline]
 pub(crate) fn bytes16(word: u16, big: bool) -> [u8; 2]
     ensures { result ≡ bytes_in (width_of Int16) big word }
 {
@@ -69,7 +69,7 @@ pub(crate) fn bytes16(word: u16, big: bool) -> [u8; 2]
     }
 }
 
-#[inline(always)]
+#[inline]
 pub(crate) fn bytes32(word: u32, big: bool) -> [u8; 4]
     ensures { result ≡ bytes_in (width_of Int32) big word }
 {
@@ -80,7 +80,7 @@ pub(crate) fn bytes32(word: u32, big: bool) -> [u8; 4]
     }
 }
 
-#[inline(always)]
+#[inline]
 pub(crate) fn bytes64(word: u64, big: bool) -> [u8; 8]
     ensures { result ≡ bytes_in (width_of Int64) big word }
 {
@@ -92,28 +92,28 @@ pub(crate) fn bytes64(word: u64, big: bool) -> [u8; 8]
 }
 
 // The lowest bits of a number, in two's complement.
-#[inline(always)]
+#[inline]
 pub(crate) fn low8(value: i128) -> u8
     ensures { result ≡ residue (width_of Int8) value }
 {
     value.rem_euclid(1 << 8) as u8
 }
 
-#[inline(always)]
+#[inline]
 pub(crate) fn low16(value: i128) -> u16
     ensures { result ≡ residue (width_of Int16) value }
 {
     value.rem_euclid(1 << 16) as u16
 }
 
-#[inline(always)]
+#[inline]
 pub(crate) fn low32(value: i128) -> u32
     ensures { result ≡ residue (width_of Int32) value }
 {
     value.rem_euclid(1 << 32) as u32
 }
 
-#[inline(always)]
+#[inline]
 pub(crate) fn low64(value: i128) -> u64
     ensures { result ≡ residue (width_of Int64) value }
 {

@@ -3,6 +3,7 @@
 
 mod blocks;
 mod kernel;
+pub mod known;
 mod numbers;
 mod pairs;
 mod run;

@@ -5,6 +5,9 @@ ghost use Rattle.nd_element.specs.Elements.{AreHeld};
 ghost use Rattle.nd_convert.specs.Converted.{converted_bytes};
 
 use crate::kernel::convert_run;
+use crate::known::{
+    Booleans, Int8s, Int16s, Int32s, Int64s, KnownKind, UInt8s, UInt16s, UInt32s, UInt64s,
+};
 use nd_types::{Elem, Kind};
 use nd_view::Run;
 
@@ -48,28 +51,9 @@ fn convert_known(
     }
 }
 
-// The same, from numbers of one kind, by a loop for each kind of results. The lowest byte comes first.
-#[inline(always)]
-fn convert_little(kind: Kind, out: &mut [u8], to: Elem, bytes: &[u8], from: Elem, run: &Run)
-    requires out { length out.old ≡ length run.now * size_of to.kind }
-    requires held { AreHeld from bytes.now run.now }
-    ensures { out.new ≡ converted_bytes to from bytes.now run.now }
-{
-    let known = Elem::little(kind);
-    match to.kind() {
-        Kind::Bool => convert_known(Elem::little(Kind::Bool), known, out, to, bytes, from, run),
-        Kind::I8 => convert_known(Elem::little(Kind::I8), known, out, to, bytes, from, run),
-        Kind::I16 => convert_known(Elem::little(Kind::I16), known, out, to, bytes, from, run),
-        Kind::I32 => convert_known(Elem::little(Kind::I32), known, out, to, bytes, from, run),
-        _ => convert_known(Elem::little(Kind::I64), known, out, to, bytes, from, run),
-    }
-}
-
-// The same, from numbers of one kind to those of another one, by a loop for each order of bytes.
-#[inline(always)]
-fn convert_orders(
-    kind: Kind,
-    to_kind: Kind,
+// The same, by a loop for these two kinds. The lowest byte comes first.
+#[inline(never)]
+fn convert_kinds<T: KnownKind, F: KnownKind>(
     out: &mut [u8],
     to: Elem,
     bytes: &[u8],
@@ -80,8 +64,40 @@ fn convert_orders(
     requires held { AreHeld from bytes.now run.now }
     ensures { out.new ≡ converted_bytes to from bytes.now run.now }
 {
-    let (known, big) = (Elem::little(kind), Elem::new(kind, true));
-    let (to_known, to_big) = (Elem::little(to_kind), Elem::new(to_kind, true));
+    let (known_to, known_from) = (Elem::little(T::KIND), Elem::little(F::KIND));
+    convert_known(known_to, known_from, out, to, bytes, from, run);
+}
+
+// The same, from numbers of one kind, by a loop for each kind of results.
+fn convert_from<F: KnownKind>(out: &mut [u8], to: Elem, bytes: &[u8], from: Elem, run: &Run)
+    requires out { length out.old ≡ length run.now * size_of to.kind }
+    requires held { AreHeld from bytes.now run.now }
+    ensures { out.new ≡ converted_bytes to from bytes.now run.now }
+{
+    match to.kind() {
+        Kind::Bool => convert_kinds::<Booleans, F>(out, to, bytes, from, run),
+        Kind::I8 => convert_kinds::<Int8s, F>(out, to, bytes, from, run),
+        Kind::I16 => convert_kinds::<Int16s, F>(out, to, bytes, from, run),
+        Kind::I32 => convert_kinds::<Int32s, F>(out, to, bytes, from, run),
+        _ => convert_kinds::<Int64s, F>(out, to, bytes, from, run),
+    }
+}
+
+// The same, where the highest byte comes first in one of them or in both, by a loop for these two kinds and each order of bytes.
+#[inline(never)]
+fn reorder_kinds<T: KnownKind, F: KnownKind>(
+    out: &mut [u8],
+    to: Elem,
+    bytes: &[u8],
+    from: Elem,
+    run: &Run,
+)
+    requires out { length out.old ≡ length run.now * size_of to.kind }
+    requires held { AreHeld from bytes.now run.now }
+    ensures { out.new ≡ converted_bytes to from bytes.now run.now }
+{
+    let (known, big) = (Elem::little(F::KIND), Elem::new(F::KIND, true));
+    let (to_known, to_big) = (Elem::little(T::KIND), Elem::new(T::KIND, true));
     match (to.big(), from.big()) {
         (false, _) => convert_known(to_known, big, out, to, bytes, from, run),
         (true, false) => convert_known(to_big, known, out, to, bytes, from, run),
@@ -89,173 +105,38 @@ fn convert_orders(
     }
 }
 
-#[inline(never)]
-fn convert_bool(out: &mut [u8], to: Elem, bytes: &[u8], from: Elem, run: &Run)
-    requires out { length out.old ≡ length run.now * size_of to.kind }
-    requires held { AreHeld from bytes.now run.now }
-    ensures { out.new ≡ converted_bytes to from bytes.now run.now }
-{
-    convert_little(Kind::Bool, out, to, bytes, from, run);
-}
-
-#[inline(never)]
-fn convert_i8(out: &mut [u8], to: Elem, bytes: &[u8], from: Elem, run: &Run)
-    requires out { length out.old ≡ length run.now * size_of to.kind }
-    requires held { AreHeld from bytes.now run.now }
-    ensures { out.new ≡ converted_bytes to from bytes.now run.now }
-{
-    convert_little(Kind::I8, out, to, bytes, from, run);
-}
-
-#[inline(never)]
-fn convert_i16(out: &mut [u8], to: Elem, bytes: &[u8], from: Elem, run: &Run)
-    requires out { length out.old ≡ length run.now * size_of to.kind }
-    requires held { AreHeld from bytes.now run.now }
-    ensures { out.new ≡ converted_bytes to from bytes.now run.now }
-{
-    convert_little(Kind::I16, out, to, bytes, from, run);
-}
-
-#[inline(never)]
-fn convert_i32(out: &mut [u8], to: Elem, bytes: &[u8], from: Elem, run: &Run)
-    requires out { length out.old ≡ length run.now * size_of to.kind }
-    requires held { AreHeld from bytes.now run.now }
-    ensures { out.new ≡ converted_bytes to from bytes.now run.now }
-{
-    convert_little(Kind::I32, out, to, bytes, from, run);
-}
-
-#[inline(never)]
-fn convert_i64(out: &mut [u8], to: Elem, bytes: &[u8], from: Elem, run: &Run)
-    requires out { length out.old ≡ length run.now * size_of to.kind }
-    requires held { AreHeld from bytes.now run.now }
-    ensures { out.new ≡ converted_bytes to from bytes.now run.now }
-{
-    convert_little(Kind::I64, out, to, bytes, from, run);
-}
-
-#[inline(never)]
-fn convert_u8(out: &mut [u8], to: Elem, bytes: &[u8], from: Elem, run: &Run)
-    requires out { length out.old ≡ length run.now * size_of to.kind }
-    requires held { AreHeld from bytes.now run.now }
-    ensures { out.new ≡ converted_bytes to from bytes.now run.now }
-{
-    convert_little(Kind::U8, out, to, bytes, from, run);
-}
-
-#[inline(never)]
-fn convert_u16(out: &mut [u8], to: Elem, bytes: &[u8], from: Elem, run: &Run)
-    requires out { length out.old ≡ length run.now * size_of to.kind }
-    requires held { AreHeld from bytes.now run.now }
-    ensures { out.new ≡ converted_bytes to from bytes.now run.now }
-{
-    convert_little(Kind::U16, out, to, bytes, from, run);
-}
-
-#[inline(never)]
-fn convert_u32(out: &mut [u8], to: Elem, bytes: &[u8], from: Elem, run: &Run)
-    requires out { length out.old ≡ length run.now * size_of to.kind }
-    requires held { AreHeld from bytes.now run.now }
-    ensures { out.new ≡ converted_bytes to from bytes.now run.now }
-{
-    convert_little(Kind::U32, out, to, bytes, from, run);
-}
-
-#[inline(never)]
-fn convert_u64(out: &mut [u8], to: Elem, bytes: &[u8], from: Elem, run: &Run)
-    requires out { length out.old ≡ length run.now * size_of to.kind }
-    requires held { AreHeld from bytes.now run.now }
-    ensures { out.new ≡ converted_bytes to from bytes.now run.now }
-{
-    convert_little(Kind::U64, out, to, bytes, from, run);
-}
-
-#[inline(never)]
-fn reorder_i16(out: &mut [u8], to: Elem, bytes: &[u8], from: Elem, run: &Run)
-    requires out { length out.old ≡ length run.now * size_of to.kind }
-    requires held { AreHeld from bytes.now run.now }
-    ensures { out.new ≡ converted_bytes to from bytes.now run.now }
-{
-    convert_orders(Kind::I16, Kind::I16, out, to, bytes, from, run);
-}
-
-#[inline(never)]
-fn reorder_u16(out: &mut [u8], to: Elem, bytes: &[u8], from: Elem, run: &Run)
-    requires out { length out.old ≡ length run.now * size_of to.kind }
-    requires held { AreHeld from bytes.now run.now }
-    ensures { out.new ≡ converted_bytes to from bytes.now run.now }
-{
-    convert_orders(Kind::U16, Kind::I16, out, to, bytes, from, run);
-}
-
-#[inline(never)]
-fn reorder_i32(out: &mut [u8], to: Elem, bytes: &[u8], from: Elem, run: &Run)
-    requires out { length out.old ≡ length run.now * size_of to.kind }
-    requires held { AreHeld from bytes.now run.now }
-    ensures { out.new ≡ converted_bytes to from bytes.now run.now }
-{
-    convert_orders(Kind::I32, Kind::I32, out, to, bytes, from, run);
-}
-
-#[inline(never)]
-fn reorder_u32(out: &mut [u8], to: Elem, bytes: &[u8], from: Elem, run: &Run)
-    requires out { length out.old ≡ length run.now * size_of to.kind }
-    requires held { AreHeld from bytes.now run.now }
-    ensures { out.new ≡ converted_bytes to from bytes.now run.now }
-{
-    convert_orders(Kind::U32, Kind::I32, out, to, bytes, from, run);
-}
-
-#[inline(never)]
-fn reorder_i64(out: &mut [u8], to: Elem, bytes: &[u8], from: Elem, run: &Run)
-    requires out { length out.old ≡ length run.now * size_of to.kind }
-    requires held { AreHeld from bytes.now run.now }
-    ensures { out.new ≡ converted_bytes to from bytes.now run.now }
-{
-    convert_orders(Kind::I64, Kind::I64, out, to, bytes, from, run);
-}
-
-#[inline(never)]
-fn reorder_u64(out: &mut [u8], to: Elem, bytes: &[u8], from: Elem, run: &Run)
-    requires out { length out.old ≡ length run.now * size_of to.kind }
-    requires held { AreHeld from bytes.now run.now }
-    ensures { out.new ≡ converted_bytes to from bytes.now run.now }
-{
-    convert_orders(Kind::U64, Kind::I64, out, to, bytes, from, run);
-}
-
-// The same, where the lowest byte comes first in both.
+// The same, by a loop for each kind. The lowest byte comes first.
 fn convert_kind(out: &mut [u8], to: Elem, bytes: &[u8], from: Elem, run: &Run)
     requires out { length out.old ≡ length run.now * size_of to.kind }
     requires held { AreHeld from bytes.now run.now }
     ensures { out.new ≡ converted_bytes to from bytes.now run.now }
 {
     match from.kind() {
-        Kind::Bool => convert_bool(out, to, bytes, from, run),
-        Kind::I8 => convert_i8(out, to, bytes, from, run),
-        Kind::I16 => convert_i16(out, to, bytes, from, run),
-        Kind::I32 => convert_i32(out, to, bytes, from, run),
-        Kind::I64 => convert_i64(out, to, bytes, from, run),
-        Kind::U8 => convert_u8(out, to, bytes, from, run),
-        Kind::U16 => convert_u16(out, to, bytes, from, run),
-        Kind::U32 => convert_u32(out, to, bytes, from, run),
-        Kind::U64 => convert_u64(out, to, bytes, from, run),
+        Kind::Bool => convert_from::<Booleans>(out, to, bytes, from, run),
+        Kind::I8 => convert_from::<Int8s>(out, to, bytes, from, run),
+        Kind::I16 => convert_from::<Int16s>(out, to, bytes, from, run),
+        Kind::I32 => convert_from::<Int32s>(out, to, bytes, from, run),
+        Kind::I64 => convert_from::<Int64s>(out, to, bytes, from, run),
+        Kind::U8 => convert_from::<UInt8s>(out, to, bytes, from, run),
+        Kind::U16 => convert_from::<UInt16s>(out, to, bytes, from, run),
+        Kind::U32 => convert_from::<UInt32s>(out, to, bytes, from, run),
+        Kind::U64 => convert_from::<UInt64s>(out, to, bytes, from, run),
     }
 }
 
-// The same, where the highest byte comes first in one of them.
+// The same, where the highest byte comes first in one of them or in both, by a loop for each kind.
 fn reorder_kind(out: &mut [u8], to: Elem, bytes: &[u8], from: Elem, run: &Run)
     requires out { length out.old ≡ length run.now * size_of to.kind }
     requires held { AreHeld from bytes.now run.now }
     ensures { out.new ≡ converted_bytes to from bytes.now run.now }
 {
     match from.kind() {
-        Kind::I16 => reorder_i16(out, to, bytes, from, run),
-        Kind::I32 => reorder_i32(out, to, bytes, from, run),
-        Kind::I64 => reorder_i64(out, to, bytes, from, run),
-        Kind::U16 => reorder_u16(out, to, bytes, from, run),
-        Kind::U32 => reorder_u32(out, to, bytes, from, run),
-        Kind::U64 => reorder_u64(out, to, bytes, from, run),
+        Kind::I16 => reorder_kinds::<Int16s, Int16s>(out, to, bytes, from, run),
+        Kind::I32 => reorder_kinds::<Int32s, Int32s>(out, to, bytes, from, run),
+        Kind::I64 => reorder_kinds::<Int64s, Int64s>(out, to, bytes, from, run),
+        Kind::U16 => reorder_kinds::<Int16s, UInt16s>(out, to, bytes, from, run),
+        Kind::U32 => reorder_kinds::<Int32s, UInt32s>(out, to, bytes, from, run),
+        Kind::U64 => reorder_kinds::<Int64s, UInt64s>(out, to, bytes, from, run),
         _ => convert_any(out, to, bytes, from, run),
     }
 }

@@ -22,7 +22,7 @@ pub record IsDirect (d : Inside) : Type 0 where
   pub lies : LiesIn d.len d.target.now
   pub run : d.run ≡ d.target.now.places
   pub gapless : d.run ≡ side_by_side (size_of d.elem.kind) (slice_index d.run 0) (length d.run)
-  pub places : d.places ≡ side_by_side (size_of (kind_of d.kind)) 0 4096
+  pub places : d.places ≡ side_by_side (size_of (kind_of d.kind)) 0 8192
   pub fixed : IsFixedHeld d.beside
   pub held : IsBeside d.beside d.len
   pub stays : KeepsOffTarget d.beside (slice_index d.run 0) (size_of d.elem.kind)

@@ -50,7 +50,7 @@ impl<'v> LeftBeside<'v> {
         requires some { 0 < count }
         requires enough { count ≤ length (left_beside self.old block.now) }
         requires held { HeldBeside self.old (length block.now) }
-        requires buffer { count * size_beside self.old ≤ 4096 }
+        requires buffer { count * size_beside self.old ≤ 8192 }
         ensures enough { HasNumbers result count }
         ensures numbers { left_beside self.old block.now
             ≡ numbers_on result count ++ left_beside self.new block.now }

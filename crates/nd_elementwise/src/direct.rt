@@ -120,7 +120,7 @@ impl<'v> Direct<'v> {
 // The places of results in a buffer.
 fn buffer_places(alloc: Global, kind: Kind) -> Result<Option<Run>, AllocError>
     ensures { IfOk result (λ found. IfSome found (λ run. run
-        ≡ side_by_side (size_of (kind_of kind)) 0 4096)) }
+        ≡ side_by_side (size_of (kind_of kind)) 0 8192)) }
 {
     let elem = Elem::little(kind);
     let view = View::contiguous(alloc, ElemType::One(elem), &[CHUNK as u64])?;

@@ -66,7 +66,7 @@ where
     requires keeps { Keeps kinds.now.elem.kind (kind_of kinds.now.own) }
     requires left_buffer { length part.now * size_of (kind_of kinds.now.own)
         ≤ length left_buffer.old }
-    requires right_buffer { length part.now * size_beside beside.old ≤ 4096 }
+    requires right_buffer { length part.now * size_beside beside.old ≤ 8192 }
     ensures out { out.new ≡ result_bytes (little (kind_of kinds.now.results))
         (O.gives (kind_of kinds.now.results)) (numbers_at kinds.now.elem block.now part.now)
         (take (length part.now) (left_beside beside.old block.now)) }
@@ -107,7 +107,7 @@ pub(crate) fn replace_numbers<O: Operation>(
     requires beside_held { HeldBeside beside.old (length bytes.old) }
     requires stays { StaysBeside beside.old (slice_index run.now 0) (size_of elem.kind) 0 }
     requires wraps { Wraps (kind_of to) (O.gives (kind_of to)) }
-    requires places { places.now ≡ side_by_side (size_of (kind_of to)) 0 4096 }
+    requires places { places.now ≡ side_by_side (size_of (kind_of to)) 0 8192 }
     ensures { bytes.new ≡ with_bytes bytes.old (slice_index run.now 0)
         (replaced elem (O.gives (kind_of to)) (numbers_at elem bytes.old run.now)
         (left_beside beside.old bytes.old)) }

@@ -21,5 +21,5 @@ pub record IsCycle (c : Inside) : Type 0 where
   pub some : 0 < c.period
   pub few : c.period ≤ 64
   pub within : c.at ≤ c.count
-  pub room : length c.first.now ≡ 4608
-  pub again : (k : ℕ) → (k + 1) * size_of (kind_of c.kind) ≤ 4608 → first_number c k ≡ first_number c (k % c.period)
+  pub room : length c.first.now ≡ 8704
+  pub again : (k : ℕ) → (k + 1) * size_of (kind_of c.kind) ≤ 8704 → first_number c k ≡ first_number c (k % c.period)

@@ -8,39 +8,66 @@ ghost use Rattle.nd_loops.specs.Results.{result_bytes};
 ghost use Rattle.nd_loops.specs.Sides.{HasNumbers, IsOf, numbers_on};
 
 use crate::kernel::{Side, append_any, append_each};
-use crate::known;
-use crate::known::KnownKind;
 use crate::operation::Operation;
 use crate::pairs::{is_kind, is_of, narrow};
 use crate::parts::append_parts;
 use nd_block::Filling;
+use nd_convert::known;
+use nd_convert::known::KnownKind;
 use nd_types::{Kind, fits};
 
-// Appends the results by the loop that is the fastest for them: those of a comparison are narrower than the numbers.
-#[inline(always)]
-fn append_fast<O: Operation>(
-    filling: Filling,
-    to: Kind,
-    left: Side<'_>,
-    right: Side<'_>,
-    count: usize,
-) -> Filling
-    requires room { count * size_of (kind_of to) ≤ filling.1 }
-    requires left { HasNumbers left count }
-    requires right { HasNumbers right count }
-    ensures written { result.0 ≡ filling.0 ++ result_bytes (little (kind_of to))
-        (O.gives (kind_of to)) (numbers_on left.entry count) (numbers_on right.entry count) }
-    ensures room { result.1 + count * size_of (kind_of to) ≡ filling.1 }
-{
-    if O::IS_COMPARISON {
-        append_parts::<O>(filling, to, left, right, count)
-    } else {
+// A loop that appends the results of a function.
+trait Loop<O: Operation> {
+    // Appends what the function gives for so many numbers of both sides.
+    fn append(
+        filling: Filling,
+        to: Kind,
+        left: Side<'_>,
+        right: Side<'_>,
+        count: usize,
+    ) -> Filling
+        requires room { count * size_of (kind_of to) ≤ filling.1 }
+        requires left { HasNumbers left count }
+        requires right { HasNumbers right count }
+        ensures written { result.0 ≡ filling.0 ++ result_bytes (little (kind_of to))
+            (O.gives (kind_of to)) (numbers_on left.entry count) (numbers_on right.entry count) }
+        ensures room { result.1 + count * size_of (kind_of to) ≡ filling.1 };
+}
+
+// One result after another.
+struct OneByOne;
+
+impl<O: Operation> Loop<O> for OneByOne {
+    #[inline(always)]
+    fn append(
+        filling: Filling,
+        to: Kind,
+        left: Side<'_>,
+        right: Side<'_>,
+        count: usize,
+    ) -> Filling {
         append_each::<O>(filling, to, left, right, count)
     }
 }
 
-// The same, by a loop for kinds that are known where it is compiled, and for what sides there are.
-fn append_known<O: Operation, T: KnownKind, L: KnownKind, R: KnownKind>(
+// Some results that stand side by side, which a processor finds together where they are narrower than the numbers.
+struct ByParts;
+
+impl<O: Operation> Loop<O> for ByParts {
+    #[inline(always)]
+    fn append(
+        filling: Filling,
+        to: Kind,
+        left: Side<'_>,
+        right: Side<'_>,
+        count: usize,
+    ) -> Filling {
+        append_parts::<O>(filling, to, left, right, count)
+    }
+}
+
+// Appends the results by a loop for kinds that are known where it is compiled, and for what sides there are.
+fn append_known<O: Operation, W: Loop<O>, T: KnownKind, L: KnownKind, R: KnownKind>(
     filling: Filling,
     left: Side<'_>,
     right: Side<'_>,
@@ -58,15 +85,15 @@ fn append_known<O: Operation, T: KnownKind, L: KnownKind, R: KnownKind>(
     match (left, right) {
         (Side::Each(xs, _), Side::Each(ys, _)) => {
             let (xs, ys) = (Side::Each(xs, L::KIND), Side::Each(ys, R::KIND));
-            append_fast::<O>(filling, T::KIND, xs, ys, count)
+            W::append(filling, T::KIND, xs, ys, count)
         }
         (Side::Each(xs, _), Side::Same(y)) if fits(L::KIND, y) => {
             let (xs, y) = (Side::Each(xs, L::KIND), Side::Same(narrow(L::KIND, y)));
-            append_fast::<O>(filling, T::KIND, xs, y, count)
+            W::append(filling, T::KIND, xs, y, count)
         }
         (Side::Same(x), Side::Each(ys, _)) if fits(R::KIND, x) => {
             let (x, ys) = (Side::Same(narrow(R::KIND, x)), Side::Each(ys, R::KIND));
-            append_fast::<O>(filling, T::KIND, x, ys, count)
+            W::append(filling, T::KIND, x, ys, count)
         }
         _ => append_any::<O>(filling, T::KIND, left, right, count),
     }
@@ -74,7 +101,7 @@ fn append_known<O: Operation, T: KnownKind, L: KnownKind, R: KnownKind>(
 
 // The same, if the kinds are these.
 #[inline(always)]
-fn append_at<O: Operation, T: KnownKind, L: KnownKind, R: KnownKind>(
+fn append_at<O: Operation, W: Loop<O>, T: KnownKind, L: KnownKind, R: KnownKind>(
     filling: Filling,
     to: Kind,
     left: Side<'_>,
@@ -89,7 +116,7 @@ fn append_at<O: Operation, T: KnownKind, L: KnownKind, R: KnownKind>(
     ensures room { result.1 + count * size_of (kind_of to) ≡ filling.1 }
 {
     if is_kind(to, T::KIND) && is_of(left, L::KIND) && is_of(right, R::KIND) {
-        append_known::<O, T, L, R>(filling, left, right, count)
+        append_known::<O, W, T, L, R>(filling, left, right, count)
     } else {
         append_any::<O>(filling, to, left, right, count)
     }
@@ -112,9 +139,9 @@ fn append_kind<O: Operation, K: KnownKind>(
     ensures room { result.1 + count * size_of (kind_of to) ≡ filling.1 }
 {
     if O::IS_COMPARISON {
-        append_at::<O, known::Booleans, K, K>(filling, to, left, right, count)
+        append_at::<O, ByParts, known::Booleans, K, K>(filling, to, left, right, count)
     } else {
-        append_at::<O, K, K, K>(filling, to, left, right, count)
+        append_at::<O, OneByOne, K, K, K>(filling, to, left, right, count)
     }
 }
 
@@ -144,11 +171,11 @@ fn append_mixed<O: Operation>(
     ensures room { result.1 + count * size_of (kind_of to) ≡ filling.1 }
 {
     if is_of(left, Kind::U64) {
-        append_at::<O, known::Booleans, known::UInt64s, known::Int64s>(
+        append_at::<O, ByParts, known::Booleans, known::UInt64s, known::Int64s>(
             filling, to, left, right, count,
         )
     } else {
-        append_at::<O, known::Booleans, known::Int64s, known::UInt64s>(
+        append_at::<O, ByParts, known::Booleans, known::Int64s, known::UInt64s>(
             filling, to, left, right, count,
         )
     }

@@ -14,7 +14,7 @@ use nd_block::Filling;
 use nd_types::Kind;
 
 /// How many bytes the numbers have that are taken at a time.
-pub const CHUNK: usize = 4096;
+pub const CHUNK: usize = 8192;
 
 /// Returns how many numbers are taken at a time, where they have these sizes.
 pub fn chunk_of(size: usize, left: usize, right: usize) -> usize
@@ -22,9 +22,9 @@ pub fn chunk_of(size: usize, left: usize, right: usize) -> usize
     requires left { (0 < left) × (left ≤ 8) }
     requires right { (0 < right) × (right ≤ 8) }
     ensures some { 0 < result }
-    ensures size { result * size ≤ 4096 }
-    ensures left { result * left ≤ 4096 }
-    ensures right { result * right ≤ 4096 }
+    ensures size { result * size ≤ 8192 }
+    ensures left { result * left ≤ 8192 }
+    ensures right { result * right ≤ 8192 }
 {
     CHUNK / size.max(left).max(right)
 }

@@ -15,7 +15,7 @@ use nd_view::View;
 use std::marker::Model;
 
 /// How many bytes the first numbers of a cycle take: as many as are taken at a time, and those before the numbers begin again.
-pub const ROOM: usize = 4608;
+pub const ROOM: usize = 8704;
 
 /// The numbers of elements that begin again after a few. What is taken is lent: it lies side by side among the first ones, wherever
 /// it begins. A clause sees the list of those that are left, and their kind.
@@ -73,7 +73,7 @@ impl<'v> Cycle<'v> {
         requires keeps { Keeps elem.kind (kind_of kind) }
         requires some { 0 < period }
         requires few { period ≤ 64 }
-        requires many { 4608 ≤ size_of (kind_of kind) * length view.now.places }
+        requires many { 8704 ≤ size_of (kind_of kind) * length view.now.places }
         requires turns { IsInTurns period view.now.places }
         ensures numbers { result.numbers ≡ numbers_at elem bytes.now view.now.places }
         ensures kind { result.kind ≡ kind_of kind }
@@ -106,7 +106,7 @@ impl<'v> Cycle<'v> {
     where
         'v: 'b,
         requires enough { count ≤ length self.old.numbers }
-        requires room { count * size_of self.old.kind ≤ 4096 }
+        requires room { count * size_of self.old.kind ≤ 8192 }
         ensures enough { HasNumbers result count }
         ensures split { self.old.numbers ≡ numbers_on result count ++ self.new.numbers }
         ensures kind { self.new.kind ≡ self.old.kind }

@@ -26,7 +26,7 @@ fn is_cycle(period: usize, size: usize, count: usize) -> bool
     requires { size * count ≤ 2 ^ 27 }
     ensures some { IsTrue result → 0 < period }
     ensures few { IsTrue result → period ≤ 64 }
-    ensures many { IsTrue result → 4608 ≤ size * count }
+    ensures many { IsTrue result → 8704 ≤ size * count }
 {
     1 < period && period <= 64 && ROOM <= size * count
 }
@@ -57,7 +57,7 @@ impl<'v> Feed<'v> {
         'v: 'b,
         requires some { 0 < count }
         requires enough { count ≤ length (numbers_left self.old) }
-        requires buffer { count * size_left self.old ≤ 4096 }
+        requires buffer { count * size_left self.old ≤ 8192 }
         ensures enough { HasNumbers result count }
         ensures split { numbers_left self.old ≡ numbers_on result count ++ numbers_left self.new }
         ensures size { size_left self.new ≡ size_left self.old }

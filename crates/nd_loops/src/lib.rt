@@ -8,7 +8,6 @@ mod cycle;
 mod elements;
 mod feed;
 mod kernel;
-mod known;
 pub mod operation;
 mod pairs;
 mod parts;

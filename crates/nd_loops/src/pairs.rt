@@ -8,9 +8,9 @@ ghost use Rattle.nd_loops.specs.Results.{result_bytes};
 ghost use Rattle.nd_loops.specs.Sides.{HasNumbers, IsOf, numbers_on};
 
 use crate::kernel::{Side, apply_any, apply_each};
-use crate::known;
-use crate::known::KnownKind;
 use crate::operation::Operation;
+use nd_convert::known;
+use nd_convert::known::KnownKind;
 use nd_types::{Kind, fits, wrap};
 
 /// Returns whether both kinds are the same.

@@ -78,8 +78,8 @@ fn place_row<F: PlaceFold>(
     requires few { taken + 1 < 2 ^ 64 }
     requires places { length places.old ≡ width * size_of (kind_of to) }
     requires bests { length bests.old ≡ width * size_of (kind_of kind) }
-    requires found { length found.old ≡ 4096 }
-    requires buffer { length buffer.old ≡ 4096 }
+    requires found { length found.old ≡ 8192 }
+    requires buffer { length buffer.old ≡ 8192 }
     requires kind { numbers.old.kind ≡ kind_of kind }
     requires enough { width ≤ length numbers.old.numbers }
     ensures left { numbers.new.numbers ≡ drop width numbers.old.numbers }
@@ -126,8 +126,8 @@ fn place_rows<F: PlaceFold>(
     requires some { 0 < rows }
     requires places { length places.old ≡ width * size_of (kind_of to) }
     requires bests { length bests.old ≡ width * size_of (kind_of kind) }
-    requires found { length found.old ≡ 4096 }
-    requires buffer { length buffer.old ≡ 4096 }
+    requires found { length found.old ≡ 8192 }
+    requires buffer { length buffer.old ≡ 8192 }
     requires kind { numbers.old.kind ≡ kind_of kind }
     requires values { All (λ z. IsValue (kind_of kind) z) numbers.old.numbers }
     requires enough { rows * width ≤ length numbers.old.numbers }

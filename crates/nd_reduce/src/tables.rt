@@ -57,8 +57,8 @@ fn extend_row<F: RowFold>(
     requires to { kind_of to ≡ fold_kind F.reduction (kind_of kind) }
     requires few { taken + 1 < 2 ^ 64 }
     requires folds { length folds.old ≡ width * size_of (kind_of to) }
-    requires found { length found.old ≡ 4096 }
-    requires buffer { length buffer.old ≡ 4096 }
+    requires found { length found.old ≡ 8192 }
+    requires buffer { length buffer.old ≡ 8192 }
     requires kind { numbers.old.kind ≡ kind_of kind }
     requires enough { width ≤ length numbers.old.numbers }
     ensures left { numbers.new.numbers ≡ drop width numbers.old.numbers }
@@ -108,8 +108,8 @@ fn fold_rows<F: RowFold>(
     requires to { kind_of to ≡ fold_kind F.reduction (kind_of kind) }
     requires some { 0 < rows }
     requires folds { length folds.old ≡ width * size_of (kind_of to) }
-    requires found { length found.old ≡ 4096 }
-    requires buffer { length buffer.old ≡ 4096 }
+    requires found { length found.old ≡ 8192 }
+    requires buffer { length buffer.old ≡ 8192 }
     requires kind { numbers.old.kind ≡ kind_of kind }
     requires values { All (λ z. IsValue (kind_of kind) z) numbers.old.numbers }
     requires enough { rows * width ≤ length numbers.old.numbers }

@@ -15,7 +15,7 @@ use nd_loops::{CHUNK, Elements, Side, chunk_of};
 use nd_types::{Elem, Kind};
 
 // How many times as many numbers are taken at a time as lie in a chunk.
-const CHUNKS: usize = 4;
+const CHUNKS: usize = 2;
 
 // The most bytes of a result.
 const MOST_SIZE: usize = 8;

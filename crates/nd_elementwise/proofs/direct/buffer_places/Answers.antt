@@ -23,6 +23,6 @@ laid e n =
 pub returns : goal.returns
 returns c =
     let e : Element = little (kind_of c.args.kind) in
-    let view_is : c.in_ok-view.view ≡ contiguous (One e) (4096 ∷ []) = c.in_ok-view.ensures ∙ (λ i. contiguous (One (c.little-elem.ensures i)) (4096 ∷ [])) in
-    of_some c.gapless_run.result _ (λ run. run ≡ side_by_side (size_of e.kind) 0 4096)
-    (λ run is. is.0 ∙ ap (λ (v : Geo). v.places) view_is ∙ laid e 4096) c.gapless_run.ensures
+    let view_is : c.in_ok-view.view ≡ contiguous (One e) (8192 ∷ []) = c.in_ok-view.ensures ∙ (λ i. contiguous (One (c.little-elem.ensures i)) (8192 ∷ [])) in
+    of_some c.gapless_run.result _ (λ run. run ≡ side_by_side (size_of e.kind) 0 8192)
+    (λ run is. is.0 ∙ ap (λ (v : Geo). v.places) view_is ∙ laid e 8192) c.gapless_run.ensures

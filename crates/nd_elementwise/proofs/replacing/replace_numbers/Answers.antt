@@ -31,7 +31,7 @@ part_held at n all s first len le end =
     (most, omega (arith, more, far, end), more)
 
 -- as many as a buffer has bytes
-in_buffer : (n chunk size : ℕ) → n ≤ chunk → chunk * size ≤ 4096 → 0 < size → n ≤ 4096
+in_buffer : (n chunk size : ℕ) → n ≤ chunk → chunk * size ≤ 8192 → 0 < size → n ≤ 8192
 in_buffer n chunk size le few some =
     let most : chunk * 1 ≤ chunk * size = mul-le-mul_left chunk (omega (arith, some)) in
     omega (arith, most, le, few)
@@ -87,9 +87,9 @@ pub write_numbers-requires-clause-places : goal.write_numbers-requires-clause-pl
 write_numbers-requires-clause-places g c =
     let s = size_of (kind_of c.args.to) in let n = c.min-some.result in
     let chunk = c.chunk_of-chunk.result in
-    let few : n ≤ 4096 = in_buffer n chunk c.size.result (omega (arith, c.min-some.ensures)) c.chunk_of-chunk.ensures.size (omega (arith, c.size.ensures.range)) in
+    let few : n ≤ 8192 = in_buffer n chunk c.size.result (omega (arith, c.min-some.ensures)) c.chunk_of-chunk.ensures.size (omega (arith, c.size.ensures.range)) in
     let is : c.part-in-loop-at.result ≡ side_by_side s 0 n
-    = c.part-in-loop-at.ensures ∙ ap (take n) c.requires.places ∙ take-count_up (λ k. 0 + k * s) 0 4096 n few in
+    = c.part-in-loop-at.ensures ∙ ap (take n) c.requires.places ∙ take-count_up (λ k. 0 + k * s) 0 8192 n few in
     let long : length c.part-in-loop-at.result ≡ n = ap length is ∙ length-map (count_up 0 n) (λ k. 0 + k * s) ∙ length-count_up 0 n in
     is ∙ ap (side_by_side s 0) (sym long)
 
@@ -97,11 +97,11 @@ pub write_numbers-requires-clause-results : goal.write_numbers-requires-clause-r
 write_numbers-requires-clause-results g c =
     let a = c.args in let k : Kind = kind_of a.to in let n = c.min-some.result in let size = c.size.result in let chunk = c.chunk_of-chunk.result in
     let buffer = c.loop-at.buffer in let results : List ℕ = c.find_results.new.out in
-    let fits : n ≤ 4096 = in_buffer n chunk size (omega (arith, c.min-some.ensures)) c.chunk_of-chunk.ensures.size (omega (arith, c.size.ensures.range)) in
+    let fits : n ≤ 8192 = in_buffer n chunk size (omega (arith, c.min-some.ensures)) c.chunk_of-chunk.ensures.size (omega (arith, c.size.ensures.range)) in
     let most : n * size ≤ chunk * size = mul-le-mul_right size (omega (arith, c.min-some.ensures)) in
     let buffered : n * size ≤ length buffer = omega (arith, most, c.chunk_of-chunk.ensures.size, c.loop-at.invariant.buffer) in
     let long : length results ≡ n * size = c.find_results.auto.out ∙ length-take-le (n * size) buffer buffered in
-    let all : length a.places.now ≡ 4096 = ap length c.requires.places ∙ length-map (count_up 0 4096) (λ j. 0 + j * size_of k) ∙ length-count_up 0 4096 in
+    let all : length a.places.now ≡ 8192 = ap length c.requires.places ∙ length-map (count_up 0 8192) (λ j. 0 + j * size_of k) ∙ length-count_up 0 8192 in
     let counted : length c.part-in-loop-at.result ≡ n = ap length c.part-in-loop-at.ensures ∙ length-take-le n (drop 0 a.places.now) (omega (arith, length-drop 0 a.places.now, all, fits)) in
     length-take-le (n * size) (results ++ drop (n * size) buffer) (omega (arith, length-append results (drop (n * size) buffer), long))
     ∙ (λ i. sym counted i * c.size.ensures.value i)
@@ -114,7 +114,7 @@ loop-at-preserved g c =
     let X : List ℤ = numbers_at e old run in let Y : List ℤ = left_beside a.beside.now old in
     let few : at + n ≤ length run = omega (arith, c.min-some.ensures, c.loop-at-test.true, c.count-in-loop-at.ensures.value) in
     let chunk = c.chunk_of-chunk.result in
-    let fits : n ≤ 4096 = in_buffer n chunk size (omega (arith, c.min-some.ensures)) c.chunk_of-chunk.ensures.size (omega (arith, c.size.ensures.range)) in
+    let fits : n ≤ 8192 = in_buffer n chunk size (omega (arith, c.min-some.ensures)) c.chunk_of-chunk.ensures.size (omega (arith, c.size.ensures.range)) in
     let some : 0 < length run = omega (arith, c.count-in-loop-at.ensures.value, c.count-in-loop-at.ensures.some) in
     let end = end_held run s first (length old) some c.requires.gapless c.requires.held in
     let room = part_held at n (length run) s first (length old) few end in
@@ -149,7 +149,7 @@ loop-at-preserved g c =
     let pushed : take (n * size) (results ++ drop (n * size) buffer) ≡ results = ap (λ j. take j (results ++ drop (n * size) buffer)) (sym long) ∙ take-append_seam results (drop (n * size) buffer) in
     let places : length zs ≡ length c.part-in-loop-at.result
     = length-given f (take n (drop at X)) (take n (drop at Y)) (some_X ∙ sym some_Y) ∙ some_X
-    ∙ sym (ap length c.part-in-loop-at.ensures ∙ length-take-le n (drop 0 a.places.now) (omega (arith, length-drop 0 a.places.now, ap length c.requires.places ∙ length-map (count_up 0 4096) (λ j. 0 + j * size_of k) ∙ length-count_up 0 4096, fits))) in
+    ∙ sym (ap length c.part-in-loop-at.ensures ∙ length-take-le n (drop 0 a.places.now) (omega (arith, length-drop 0 a.places.now, ap length c.requires.places ∙ length-map (count_up 0 8192) (λ j. 0 + j * size_of k) ∙ length-count_up 0 8192, fits))) in
     let W : List ℕ = c.write_numbers.new.out in
     let W_is : W ≡ replaced e f (take n (drop at X)) (take n (drop at Y))
     = c.write_numbers.ensures zs (given_values f k (take n (drop at X)) (take n (drop at Y)) c.requires.wraps) places (pushed ∙ found ∙ given_bytes f (little k) (take n (drop at X)) (take n (drop at Y)))

@@ -9,7 +9,7 @@ use Rattle.nd_elementwise.proofs.replacing.replace_numbers.Given as goal
 abbrev pub invariant-loop-at : goal.invariant-loop-at
 invariant-loop-at g l = record {
   within : l.at ≤ length l.run;
-  buffer : length l.buffer ≡ 4096;
+  buffer : length l.buffer ≡ 8192;
   size : size_beside l.beside ≡ size_beside l.fn.beside;
   len : length l.bytes ≡ length l.fn.bytes;
   front : take (slice_index l.run 0 + l.at * size_of l.elem.kind) l.bytes

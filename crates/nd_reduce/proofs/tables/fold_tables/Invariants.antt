@@ -11,8 +11,8 @@ invariant-loop-rest g l = record {
   numbers : length l.numbers.numbers ≡ l.rest * (l.rows * l.width);
   kind : l.numbers.kind ≡ l.fn.numbers.kind;
   values : All (λ z. IsValue (kind_of l.kind) z) l.numbers.numbers;
-  found : length l.found ≡ 4096;
-  buffer : length l.buffer ≡ 4096;
+  found : length l.found ≡ 8192;
+  buffer : length l.buffer ≡ 8192;
   room : l.rest * (rows_kept l.each l.rows * (l.width * size_of (kind_of l.to))) ≡ l.out.1;
   written : l.out.0 ++ fold_bytes g.F.Fold.reduction (kind_of l.to) (table_columns l.each l.width l.rows l.rest l.numbers.numbers)
       ≡ l.fn.out.0 ++ fold_bytes g.F.Fold.reduction (kind_of l.to) (table_columns l.each l.width l.rows l.tables l.fn.numbers.numbers);

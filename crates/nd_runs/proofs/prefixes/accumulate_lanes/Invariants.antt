@@ -9,8 +9,8 @@ abbrev pub invariant-loop-rest : goal.invariant-loop-rest
 invariant-loop-rest g l = record {
   numbers : length l.numbers.numbers ≡ l.rest * l.count;
   size : l.numbers.kind ≡ l.fn.numbers.kind;
-  buffer : length l.buffer ≡ 4096;
-  folds : length l.folds ≡ 4096;
+  buffer : length l.buffer ≡ 8192;
+  folds : length l.folds ≡ 8192;
   room : l.rest * l.count * size_of (kind_of l.to) ≡ l.out.1;
   written : l.out.0 ++ flat_map (prefix_bytes g.F.Fold.reduction (kind_of l.to)) (lanes_in l.count l.rest l.numbers.numbers)
       ≡ l.fn.out.0 ++ flat_map (prefix_bytes g.F.Fold.reduction (kind_of l.to)) (lanes_in l.count l.fn.lanes l.fn.numbers.numbers);

@@ -35,7 +35,7 @@ invariant_of-self c =
     }
 
 -- what is taken from a place before the numbers begin again is within the room
-in_room : (at period n k s : ℕ) → 0 < period → period ≤ 64 → s ≤ 8 → n * s ≤ 4096 → k < at % period + n → (k + 1) * s ≤ 4608
+in_room : (at period n k s : ℕ) → 0 < period → period ≤ 64 → s ≤ 8 → n * s ≤ 8192 → k < at % period + n → (k + 1) * s ≤ 8704
 in_room at period n k s some few small most lt =
     let far : at % period ≤ 63 = omega (arith, mod-lt at some) in
     let most_far : at % period * s ≤ 63 * s = mul-le-mul_right s far in
@@ -51,7 +51,7 @@ returns-clause-split c =
     = ap length (sym (ap (λ (l : ElementsLeft). l.numbers) c.self.view_is)) ∙ length-map (count_up r.at (r.count - r.at)) (λ k. first_number r (k % r.period)) ∙ length-count_up r.at (r.count - r.at) in
     let inside : r.at + n ≤ r.count = omega (arith, counted, c.requires.enough, is.within) in
     let own : size_of c.args.self.now.kind ≡ s = ap (λ (l : ElementsLeft). size_of l.kind) (sym c.self.view_is) in
-    let most : n * s ≤ 4096 = omega (arith, ap (λ w. n * w) own, c.requires.room) in
+    let most : n * s ≤ 8192 = omega (arith, ap (λ w. n * w) own, c.requires.room) in
     let width : size ≡ s = c.size-size.ensures.value in
     let start : p * size ≡ p * s = ap (λ w. p * w) width in
     let many : p * size + n * size - p * size ≡ n * s = omega (arith, ap (λ w. n * w) width) in

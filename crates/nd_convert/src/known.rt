@@ -5,7 +5,7 @@ ghost use Rattle.nd_types.specs.declared.kind.Kind.TheVariants.{Bool, I8, I16, I
 use nd_types::Kind;
 
 /// Numbers of a kind that is known where the code is compiled.
-pub(crate) trait KnownKind {
+pub trait KnownKind {
     /// Which kind it is.
     ghost KIND: { Kind };
 
@@ -14,7 +14,7 @@ pub(crate) trait KnownKind {
 }
 
 /// Booleans.
-pub(crate) struct Booleans;
+pub struct Booleans;
 
 impl KnownKind for Booleans {
     ghost KIND = { Bool };
@@ -23,7 +23,7 @@ impl KnownKind for Booleans {
 }
 
 /// Signed numbers of 8 bits.
-pub(crate) struct Int8s;
+pub struct Int8s;
 
 impl KnownKind for Int8s {
     ghost KIND = { I8 };
@@ -32,7 +32,7 @@ impl KnownKind for Int8s {
 }
 
 /// Signed numbers of 16 bits.
-pub(crate) struct Int16s;
+pub struct Int16s;
 
 impl KnownKind for Int16s {
     ghost KIND = { I16 };
@@ -41,7 +41,7 @@ impl KnownKind for Int16s {
 }
 
 /// Signed numbers of 32 bits.
-pub(crate) struct Int32s;
+pub struct Int32s;
 
 impl KnownKind for Int32s {
     ghost KIND = { I32 };
@@ -50,7 +50,7 @@ impl KnownKind for Int32s {
 }
 
 /// Signed numbers of 64 bits.
-pub(crate) struct Int64s;
+pub struct Int64s;
 
 impl KnownKind for Int64s {
     ghost KIND = { I64 };
@@ -59,7 +59,7 @@ impl KnownKind for Int64s {
 }
 
 /// Unsigned numbers of 8 bits.
-pub(crate) struct UInt8s;
+pub struct UInt8s;
 
 impl KnownKind for UInt8s {
     ghost KIND = { U8 };
@@ -68,7 +68,7 @@ impl KnownKind for UInt8s {
 }
 
 /// Unsigned numbers of 16 bits.
-pub(crate) struct UInt16s;
+pub struct UInt16s;
 
 impl KnownKind for UInt16s {
     ghost KIND = { U16 };
@@ -77,7 +77,7 @@ impl KnownKind for UInt16s {
 }
 
 /// Unsigned numbers of 32 bits.
-pub(crate) struct UInt32s;
+pub struct UInt32s;
 
 impl KnownKind for UInt32s {
     ghost KIND = { U32 };
@@ -86,7 +86,7 @@ impl KnownKind for UInt32s {
 }
 
 /// Unsigned numbers of 64 bits.
-pub(crate) struct UInt64s;
+pub struct UInt64s;
 
 impl KnownKind for UInt64s {
     ghost KIND = { U64 };

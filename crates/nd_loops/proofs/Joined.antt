@@ -9,10 +9,10 @@ use Rattle.nd_loops.specs.Sides.{number_on, numbers_on}
 use Rattle.nd_loops.specs.declared.kernel.Side.{Side}
 use Rattle.nd_loops.proofs.Zipped.{result-append}
 
-length-numbers : (s : Side) (n : ℕ) → length (numbers_on s n) ≡ n
+pub length-numbers : (s : Side) (n : ℕ) → length (numbers_on s n) ≡ n
 length-numbers s n = length-map (count_up 0 n) (number_on s) ∙ length-count_up 0 n
 
-on_behind : (s t : Side) (m n : ℕ) → ((j : ℕ) → number_on t j ≡ number_on s (m + j)) → numbers_on s (m + n) ≡ numbers_on s m ++ numbers_on t n
+pub on_behind : (s t : Side) (m n : ℕ) → ((j : ℕ) → number_on t j ≡ number_on s (m + j)) → numbers_on s (m + n) ≡ numbers_on s m ++ numbers_on t n
 on_behind s t m n same =
     let from : 0 + m ≡ m + 0 = omega arith in
     ap (map (number_on s)) (count_up-append 0 m n) ∙ map-append (number_on s) (count_up 0 m) (count_up (0 + m) n)

@@ -19,13 +19,7 @@ use nd_types::{Kind, fits};
 // A loop that appends the results of a function.
 trait Loop<O: Operation> {
     // Appends what the function gives for so many numbers of both sides.
-    fn append(
-        filling: Filling,
-        to: Kind,
-        left: Side<'_>,
-        right: Side<'_>,
-        count: usize,
-    ) -> Filling
+    fn append(filling: Filling, to: Kind, left: Side<'_>, right: Side<'_>, count: usize) -> Filling
         requires room { count * size_of (kind_of to) ≤ filling.1 }
         requires left { HasNumbers left count }
         requires right { HasNumbers right count }

@@ -45,8 +45,7 @@ pub fn fill<O: Operation>(
     ensures written { result.0 ≡ filling.0 ++ result_bytes (little (kind_of to))
         (O.gives (kind_of to)) (numbers_left left.old) (numbers_left right.old) }
 {
-    let size = to.size() as usize;
-    let chunk = chunk_of(size, left.size(), right.size());
+    let chunk = chunk_of(1, left.size(), right.size());
     let mut left_buffer = [0; CHUNK];
     let mut right_buffer = [0; CHUNK];
     let mut out = filling;

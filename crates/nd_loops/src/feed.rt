@@ -9,15 +9,18 @@ use crate::chunks::CHUNK;
 use crate::cycle::{Cycle, ROOM, period_of};
 use crate::elements::Elements;
 use crate::kernel::Side;
+use crate::lent::Lent;
 use crate::repeated::Repeated;
 use nd_types::{Elem, Kind};
 use nd_view::View;
 
-/// What is left of the numbers of an argument: one number so many times, a few that come again and again, or elements.
+/// What is left of the numbers of an argument: one number so many times, a few that come again and again, those
+/// that are lent where they lie, or elements.
 #[derive(Drop)]
 pub enum Feed<'v> {
     Number(Repeated),
     Cycle(Cycle<'v>),
+    Lent(Lent<'v>),
     All(Elements<'v>),
 }
 
@@ -48,6 +51,9 @@ impl<'v> Feed<'v> {
         if is_cycle(period, kind.size() as usize, view.count()) {
             return Feed::Cycle(Cycle::new(view, bytes, elem, kind, period, room));
         }
+        if let Some(lent) = Lent::new(view, bytes, elem, kind) {
+            return Feed::Lent(lent);
+        }
         Feed::All(Elements::new(view, bytes, elem, kind))
     }
 
@@ -65,16 +71,18 @@ impl<'v> Feed<'v> {
         match self {
             Feed::Number(number) => Side::Same(number.take(count)),
             Feed::Cycle(cycle) => cycle.take(count),
+            Feed::Lent(lent) => lent.take(count),
             Feed::All(elements) => elements.take(buffer, count),
         }
     }
-    /// Returns the size of the numbers that are converted. One that stands for all takes no room.
+
+    /// Returns the size of the numbers that are converted. One that stands for all and those that are lent take no room.
     pub fn size(&self) -> usize
         ensures value { result ≡ size_left self.now }
         ensures range { (0 < result) × (result ≤ 8) }
     {
         match self {
-            Feed::Number(_) => 1,
+            Feed::Number(_) | Feed::Lent(_) => 1,
             Feed::Cycle(cycle) => cycle.size(),
             Feed::All(elements) => elements.size(),
         }

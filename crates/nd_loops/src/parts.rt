@@ -24,9 +24,9 @@ fn bytes_behind(bytes: &[u8], index: usize) -> &[u8]
     &bytes[index..]
 }
 
-// The numbers of a side from this one on.
+/// Returns the numbers of a side from this one on.
 #[inline(always)]
-fn side_behind<'b>(side: Side<'b>, index: usize) -> Side<'b>
+pub(crate) fn side_behind<'b>(side: Side<'b>, index: usize) -> Side<'b>
     requires { HasNumbers side index }
     ensures numbers { (j : ℕ) → number_on result j ≡ number_on side.entry (index + j) }
     ensures enough { (n : ℕ) → HasNumbers side.entry (index + n) → HasNumbers result n }

@@ -1,11 +1,12 @@
 //! The numbers of a run as one side of a function.
-ghost use Rattle.std.specs.Prelude.{◌≡◌, ℕ, ◌*◌, ◌<◌, ◌≤◌, pos, length, take, drop, slice_index, IsTrue};
+ghost use Rattle.std.specs.Prelude.{◌≡◌, ℕ, ◌*◌, ◌<◌, ◌≤◌, pos, length, take, drop, slice_index, IsTrue, IfSome};
 ghost use Rattle.nd_model.specs.Content.{number_at};
 ghost use Rattle.nd_model.specs.Element.{IsValue, size_of};
 ghost use Rattle.nd_model.specs.Runs.{place_at};
 ghost use Rattle.nd_types.specs.Kinds.{kind_of};
 ghost use Rattle.nd_element.specs.Elements.{AreHeld, numbers_at};
 ghost use Rattle.nd_loops.specs.Sides.{HasNumbers, Keeps, numbers_on};
+ghost use Rattle.nd_loops.specs.declared.kernel.Side.TheVariants.{Each};
 
 use crate::kernel::Side;
 use nd_block::value_at;
@@ -55,6 +56,19 @@ pub(crate) fn numbers_are_valid(bytes: &[u8], elem: Elem)
     let _size = elem.size();
 }
 
+/// Returns the bytes of the numbers of a run where they lie side by side in this kind, with the lowest byte first.
+pub(crate) fn lend<'b>(kind: Kind, bytes: &'b [u8], elem: Elem, run: &Run) -> Option<&'b [u8]>
+    requires held { AreHeld elem bytes.now run.now }
+    ensures { IfSome result (λ lent. HasNumbers (Each lent kind) (length run.now)
+        × (numbers_on (Each lent kind) (length run.now) ≡ numbers_at elem bytes.now run.now)) }
+{
+    if run.step() == i128::from(elem.size()) && is_elem(elem, Elem::little(kind)) {
+        Some(bytes_of_run(bytes, elem, run))
+    } else {
+        None
+    }
+}
+
 /// Returns the numbers of a run: lent where they lie side by side in the kind that is asked for, one where they are at one place,
 /// and else converted into the buffer.
 pub fn side_of<'b>(
@@ -70,12 +84,11 @@ pub fn side_of<'b>(
     ensures enough { HasNumbers result (length run.now) }
     ensures numbers { numbers_on result (length run.now) ≡ numbers_at elem bytes.now run.now }
 {
-    let step = run.step();
-    if step == 0 {
+    if run.step() == 0 {
         return Side::Same(lone_number(bytes, elem, run));
     }
-    if step == i128::from(elem.size()) && is_elem(elem, Elem::little(kind)) {
-        return Side::Each(bytes_of_run(bytes, elem, run), kind);
+    if let Some(lent) = lend(kind, bytes, elem, run) {
+        return Side::Each(lent, kind);
     }
     numbers_are_valid(bytes, elem);
     let end = run.count() as usize * kind.size() as usize;

@@ -14,32 +14,17 @@ use Rattle.nd_loops.proofs.reading.side_of.Goals as goal
 
 pub returns-then-step-eq0-clause-numbers : goal.returns-then-step-eq0-clause-numbers
 returns-then-step-eq0-clause-numbers c =
-    let a = c.args in let ps = a.run.now in let step = c.step-step.result in
+    let a = c.args in let ps = a.run.now in let step = c.step.result in
     let fits : FitsSigned w128 step = search rules in let held : FitsSigned w128 c.lone_number.result = search rules in
     let still : step ≡ pos 0 = sym (to_z-of_z fits) ∙ ap (cast_signed w128) c.if-step-eq0.true in
     (λ i. map (λ j. (to_z-of_z held ∙ c.lone_number.ensures) i) (count_up 0 (length ps)))
-    ∙ at_one_place ps (get_or ps 0 0) step c.step-step.ensures.places (number_at a.elem a.bytes.now) still
-
-pub returns-then-is_elem-clause-enough : goal.returns-then-is_elem-clause-enough
-returns-then-is_elem-clause-enough c =
-    let own : c.args.elem ≡ little (kind_of c.args.kind) = c.is_elem.ensures c.if-is_elem.true ∙ c.little.ensures in
-    let size : length c.args.run.now * size_of (kind_of c.args.kind) ≡ length c.args.run.now * size_of c.args.elem.kind = ap (λ (e : Element). length c.args.run.now * size_of e.kind) (sym own) in
-    omega (arith, size, c.bytes_of_run.ensures.len)
-
-pub returns-then-is_elem-clause-numbers : goal.returns-then-is_elem-clause-numbers
-returns-then-is_elem-clause-numbers c =
-    let a = c.args in let ps = a.run.now in let step = c.step-step.result in
-    let own : a.elem ≡ little (kind_of a.kind) = c.is_elem.ensures c.if-is_elem.true ∙ c.little.ensures in
-    let fits : FitsSigned w128 step = search rules in
-    let one : step ≡ pos (size_of a.elem.kind) = sym (to_z-of_z fits) ∙ ap (cast_signed w128) c.if-step-from.true ∙ to_z-of_z {w = w128} (let f : FitsSigned w128 c.from.result = search rules in f) ∙ c.from.ensures ∙ ap pos c.size.ensures.value in
-    (λ i. map (λ j. number_at (sym own i) (c.bytes_of_run.ensures.value i) (j * size_of (sym own i).kind)) (count_up 0 (length ps)))
-    ∙ side_by_side a.elem a.bytes.now ps (get_or ps 0 0) step c.step-step.ensures.places one
+    ∙ at_one_place ps (get_or ps 0 0) step c.step.ensures.places (number_at a.elem a.bytes.now) still
 
 pub returns-clause-numbers : goal.returns-clause-numbers
 returns-clause-numbers c =
-    let a = c.args in let ps = a.run.now in let part = c.convert.new.out in let end = c.count.result * c.size-2.result in let buffer = a.buffer.now in
-    let bytes : end ≡ length ps * size_of (kind_of a.kind) = λ i. c.count.ensures.value i * c.size-2.ensures.value i in
+    let a = c.args in let ps = a.run.now in let part = c.convert.new.out in let end = c.count.result * c.size.result in let buffer = a.buffer.now in
+    let bytes : end ≡ length ps * size_of (kind_of a.kind) = λ i. c.count.ensures.value i * c.size.ensures.value i in
     let long : length part ≡ end = c.convert.auto.out ∙ omega (arith, length-take end buffer, c.requires.buffer, bytes) in
     let is : take end (part ++ drop end buffer) ≡ part = ap (λ n. take n (part ++ drop end buffer)) (sym long) ∙ take-append_seam part (drop end buffer) in
     converted_back (little (kind_of a.kind)) a.elem a.bytes.now ps (take end (part ++ drop end buffer)) c.numbers_are_valid.ensures c.requires.keeps
-    (is ∙ c.convert.ensures ∙ (λ i. converted_bytes (c.little-2.ensures i) a.elem a.bytes.now ps))
+    (is ∙ c.convert.ensures ∙ (λ i. converted_bytes (c.little.ensures i) a.elem a.bytes.now ps))

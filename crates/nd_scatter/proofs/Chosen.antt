@@ -1,10 +1,10 @@
 -- The numbers on a line that a mask chooses, one after another.
-use Rattle.std.proofs.Common.{◌≡◌, ℕ, ◌+◌, ◌*◌, ◌<◌, ◌≤◌, suc, Bool, true, false, List, [], ◌∷◌, ◌++◌, inr, map, length, take, drop, get_or, refl, sym, ap, ◌∙◌, subst, arith, append_assoc, length-append, length-take, take-take}
+use Rattle.std.proofs.Common.{◌≡◌, ◌≢◌, ℕ, ℤ, ◌+◌, ◌*◌, ◌<◌, ◌≤◌, suc, Bool, true, false, List, [], ◌∷◌, ◌++◌, inr, map, length, take, drop, get_or, refl, sym, ap, ◌∙◌, subst, arith, append_assoc, length-append, length-take, take-take}
 use Rattle.std.specs.Prelude.{if◌then◌else◌}
-use Rattle.std.specs.List.{flat_map}
+use Rattle.std.specs.List.{All, flat_map}
 use Rattle.std.proofs.Math.Seq.{drop-append_seam}
 use Rattle.std.proofs.lemmas.List.{drop-take, take-append-le, take-append-drop, drop-drop}
-use Rattle.nd_model.specs.Element.{Element, size_of, bytes_at, with_bytes}
+use Rattle.nd_model.specs.Element.{Boolean, Element, size_of, bytes_at, bytes_of, with_bytes}
 use Rattle.nd_model.specs.Session.{put}
 use Rattle.nd_model.specs.View.{One}
 use Rattle.nd_model.proofs.Values.{length-bytes_of}
@@ -18,6 +18,7 @@ use Rattle.nd_element.specs.Elements.{canonical_at}
 use Rattle.nd_scatter.specs.Ready.{AreValues}
 use Rattle.nd_scatter.specs.Scattered.{byte_copies, scattered}
 use Rattle.nd_scatter.proofs.Copies.{run_put}
+use Rattle.nd_scatter.proofs.OwnBytes.{own_bytes}
 
 -- ---- one byte of the mask more
 
@@ -54,29 +55,15 @@ own_again xs p n le =
     ∙ ap (λ l. take p xs ++ (take n rest ++ l)) (sym (drop-drop n p xs))
     ∙ ap (λ l. take p xs ++ l) (take-append-drop n rest) ∙ take-append-drop p xs
 
--- what is written stands there
-put_there : (xs : List ℕ) (p : ℕ) (ys : List ℕ) (n : ℕ) → p ≤ length xs → length ys ≡ n → bytes_at (with_bytes xs p ys) p n ≡ ys
-put_there xs p ys n le long =
-    let front : length (take p xs) ≡ p = omega (arith, length-take p xs, le) in
-    sym (drop-take p n (with_bytes xs p ys)) ∙ ap (drop p) (place_more xs ys (take p xs) (p + n) p le (omega (arith, long)) refl)
-    ∙ ap (λ k. drop k (take p xs ++ ys)) (sym front) ∙ drop-append_seam (take p xs) ys
-
--- the own bytes, or others, of copies of both, which lie apart
-pub chosen_written : (b : Bool) (values out none own both new : List ℕ) (to from at apart n : ℕ) → to + n ≤ length out → from + n ≤ length values → n ≤ apart → apart + n ≤ length none
-    → own ≡ with_bytes none 0 (bytes_at out to n) → both ≡ with_bytes own apart (bytes_at values from n) → at ≡ (if b then apart else 0)
-    → new ≡ with_bytes out to (bytes_at both at n) → new ≡ (if b then with_bytes out to (bytes_at values from n) else out)
-chosen_written true values out none own both new to from at apart n room held few fits first second is written =
-    let ys : List ℕ = bytes_at out to n in let long : length ys ≡ n = length-bytes_at out to n room in
-    let whole : length own ≡ length none = ap length first ∙ length-with_bytes none 0 ys (omega (arith, long, few, fits)) in
-    written ∙ ap (with_bytes out to) ((λ i. bytes_at (second i) (is i) n)
-    ∙ put_there own apart (bytes_at values from n) n (omega (arith, whole, fits)) (length-bytes_at values from n held))
-chosen_written false values out none own both new to from at apart n room held few fits first second is written =
-    let ys : List ℕ = bytes_at out to n in let long : length ys ≡ n = length-bytes_at out to n room in
-    let zs : List ℕ = bytes_at values from n in let wide : length zs ≡ n = length-bytes_at values from n held in
-    let whole : length own ≡ length none = ap length first ∙ length-with_bytes none 0 ys (omega (arith, long, few, fits)) in
-    written ∙ ap (with_bytes out to) ((λ i. bytes_at (second i) (is i) n) ∙ beside own apart zs 0 n (omega (arith, whole, wide, fits)) (inr (omega (arith, few)))
-    ∙ ap (λ l. bytes_at l 0 n) first ∙ put_there none 0 ys n (omega arith) long)
-    ∙ own_again out to n room
+-- a number of the own bytes, or of others
+pub number_written : (b : Bool) (e : Element) (values out : List ℕ) (to from : ℕ) (z : ℤ) → e.kind ≢ Boolean → All (λ x. x < 256) values → All (λ x. x < 256) out
+    → to + size_of e.kind ≤ length out → from + size_of e.kind ≤ length values → z ≡ (if b then number_at e values from else number_at e out to)
+    → with_bytes out to (bytes_of e z) ≡ (if b then with_bytes out to (bytes_at values from (size_of e.kind)) else out)
+number_written true e values out to from z number small own room held is =
+    ap (with_bytes out to) (ap (bytes_of e) is ∙ sym (number_bytes e (number_at e values from)) ∙ sym (own_bytes e values number small from held))
+number_written false e values out to from z number small own room held is =
+    ap (with_bytes out to) (ap (bytes_of e) is ∙ sym (number_bytes e (number_at e out to)) ∙ sym (own_bytes e out number own to room))
+    ∙ own_again out to (size_of e.kind) room
 
 -- ---- those that are read
 

@@ -1,5 +1,6 @@
 //! The loops over numbers: the bytes of each go to its place, by a loop of its own for each number of bytes.
-ghost use Rattle.std.specs.Prelude.{◌≡◌, ◌≢◌, ◌+◌, ◌≤◌, length, IsTrue};
+ghost use Rattle.std.specs.Prelude.{◌≡◌, ◌≢◌, ◌+◌, ◌<◌, ◌≤◌, length, IsTrue};
+ghost use Rattle.std.specs.List.{All};
 ghost use Rattle.nd_model.specs.Element.{Boolean, bytes_at, size_of, with_bytes};
 ghost use Rattle.nd_model.specs.View.{One};
 ghost use Rattle.nd_element.specs.Elements.{AreHeld};
@@ -16,6 +17,14 @@ pub(crate) fn keeps_bytes(elem: Elem) -> bool
         Kind::Bool => false,
         _ => true,
     }
+}
+
+/// Says that bytes are below 256, and does nothing.
+#[inline(always)]
+pub(crate) fn hold_bytes(bytes: &[u8])
+    ensures { All (λ byte. byte < 256) bytes.now }
+{
+    let _len = bytes.len();
 }
 
 /// Copies so many bytes from a place of the values to another place.

@@ -3,15 +3,16 @@ ghost use Rattle.std.specs.Prelude.{◌≡◌, ◌≢◌, ℕ, ◌+◌, ◌*◌,
 ghost use Rattle.std.specs.List.{flat_map};
 ghost use Rattle.nd_model.specs.Element.{Boolean, bytes_at, size_of, with_bytes};
 ghost use Rattle.nd_model.specs.View.{One};
+ghost use Rattle.nd_types.specs.Kinds.{kind_of};
 ghost use Rattle.nd_element.specs.Elements.{canonical_at};
 ghost use Rattle.nd_places.specs.Forms.{trues_on};
 ghost use Rattle.nd_places.specs.Near.{is_true, place_on_line};
-ghost use Rattle.nd_scatter.specs.OnLine.{AreOnLine};
+ghost use Rattle.nd_scatter.specs.OnLine.{AreOnLine, IsRow};
 ghost use Rattle.nd_scatter.specs.Ready.{AreValues};
 ghost use Rattle.nd_scatter.specs.Scattered.{scattered};
 
-use crate::kernel::{copy_bytes, keeps_bytes};
-use nd_block::Filling;
+use crate::kernel::{copy_bytes, hold_bytes, keeps_bytes};
+use nd_block::{Filling, store_at, value_at};
 use nd_places::{Line, PlaceList, Trues, near_place};
 use nd_types::{Elem, Kind};
 
@@ -62,13 +63,27 @@ pub(crate) fn inner_trues(elem: Elem, places: &PlaceList, len: usize) -> Option<
     }
 }
 
-// The place of the element of this number on a line.
+// Whether the elements of so many bytes on a line lie side by side in a block.
+fn is_row(line: Line, size: usize) -> bool
+    requires { size ≤ 8 }
+    ensures { IsTrue result → IsRow line size }
+{
+    line.step == size as i64 && line.start >= 0
+}
+
+// The place of the element of this number on a line, whose elements may lie side by side.
 #[inline(always)]
-fn place_at(line: Line, number: u64) -> u64
-    requires { number ≤ 2 ^ 32 }
+fn place_at(line: Line, size: usize, is_row: bool, number: u64) -> u64
+    requires number { number ≤ 2 ^ 32 }
+    requires size { size ≤ 8 }
+    requires row { IsTrue is_row → IsRow line size }
     ensures { result ≡ place_on_line line.start line.step number }
 {
-    near_place(line.start + number as i64 * line.step)
+    if is_row {
+        line.start as u64 + number * size as u64
+    } else {
+        near_place(line.start + number as i64 * line.step)
+    }
 }
 
 // So many bytes where the byte of a mask is true, and else none.
@@ -88,6 +103,39 @@ fn keep_trues(
     size: usize,
     bytes: &[u8],
     line: Line,
+    is_row: bool,
+    first: u64,
+    mask: &[u8],
+) -> usize
+    requires kind { elem.kind ≢ Boolean }
+    requires size { size ≡ size_of elem.kind }
+    requires row { IsTrue is_row → IsRow line size }
+    requires inside { AreOnLine line size (first + length mask.now) (length bytes.now) }
+    requires range { first + length mask.now ≤ 2 ^ 24 }
+    requires room { length mask.now * size ≤ length out.old }
+    ensures len { length out.new ≡ length out.old }
+    ensures few { result ≤ length out.new }
+    ensures bytes { take result out.new
+        ≡ flat_map (canonical_at (One elem) bytes.now) (trues_on line first mask.now) }
+{
+    let (_len, _bytes_len) = (out.len(), bytes.len());
+    let mut kept = 0;
+    for (index, byte) in mask.iter().enumerate() {
+        let place = place_at(line, size, is_row, first + index as u64) as usize;
+        copy_bytes(out, kept, bytes, place, size);
+        kept += step_of(*byte, size);
+    }
+    kept
+}
+
+// Does the same by a loop of its own for elements that lie side by side.
+#[inline(always)]
+fn keep_on_line(
+    out: &mut [u8],
+    elem: Elem,
+    size: usize,
+    bytes: &[u8],
+    line: Line,
     first: u64,
     mask: &[u8],
 ) -> usize
@@ -101,14 +149,11 @@ fn keep_trues(
     ensures bytes { take result out.new
         ≡ flat_map (canonical_at (One elem) bytes.now) (trues_on line first mask.now) }
 {
-    let (_len, _bytes_len) = (out.len(), bytes.len());
-    let mut kept = 0;
-    for (index, byte) in mask.iter().enumerate() {
-        let place = place_at(line, first + index as u64) as usize;
-        copy_bytes(out, kept, bytes, place, size);
-        kept += step_of(*byte, size);
+    if is_row(line, size) {
+        keep_trues(out, elem, size, bytes, line, true, first, mask)
+    } else {
+        keep_trues(out, elem, size, bytes, line, false, first, mask)
     }
-    kept
 }
 
 // Appends such numbers of so many bytes.
@@ -136,7 +181,7 @@ fn append_each(
     while done < mask.len() {
         let end = done + MANY.min(mask.len() - done);
         let part = &mask[done..end];
-        let kept = keep_trues(&mut some, elem, size, bytes, line, done as u64, part);
+        let kept = keep_on_line(&mut some, elem, size, bytes, line, done as u64, part);
         out.push(&some[..kept]);
         done = end;
     }
@@ -176,36 +221,50 @@ pub(crate) fn append_trues(filling: Filling, elem: Elem, bytes: &[u8], trues: &T
     append_by_size(filling, elem, bytes, trues.line, trues.mask.as_slice())
 }
 
-// Writes so many bytes of a value to a place where the byte of a mask is true, and else those that stand there once more.
+// The new number where the byte of a mask is true, and else the old one.
 #[inline(always)]
-fn write_chosen(out: &mut [u8], to: usize, values: &[u8], from: usize, size: usize, byte: u8)
-    requires size { size ≤ 8 }
-    requires out { to + size ≤ length out.old }
-    requires held { from + size ≤ length values.now }
-    ensures len { length out.new ≡ length out.old }
-    ensures bytes { out.new ≡ (if is_true byte
-        then with_bytes out.old to (bytes_at values.now from size) else out.old) }
+fn choose_number(byte: u8, old: i128, new: i128) -> i128
+    ensures { result ≡ (if is_true byte then new else old) }
 {
-    let (_len, _from_len) = (out.len(), values.len());
-    let mut both = [0; 16];
-    copy_bytes(&mut both, 0, out, to, size);
-    copy_bytes(&mut both, 8, values, from, size);
-    copy_bytes(out, to, &both, step_of(byte, 8), size);
+    if byte == 0 { old } else { new }
 }
 
-// Writes the values, which begin so many bytes apart, to the elements on a line whose bytes of a mask are true. Behind the last value
-// there is none to read, so the last one is read again.
+// Writes the bytes of a value, which are read as one word of this kind, to a place where the byte of a mask is true, and else those that
+// stand there once more.
+#[inline(always)]
+fn write_chosen(out: &mut [u8], to: usize, values: &[u8], from: usize, word: Kind, byte: u8)
+    requires word { kind_of word ≢ Boolean }
+    requires out { to + size_of (kind_of word) ≤ length out.old }
+    requires held { from + size_of (kind_of word) ≤ length values.now }
+    ensures len { length out.new ≡ length out.old }
+    ensures bytes { out.new ≡ (if is_true byte
+        then with_bytes out.old to (bytes_at values.now from (size_of (kind_of word)))
+        else out.old) }
+{
+    let (_len, _from_len) = (out.len(), values.len());
+    hold_bytes(out);
+    let same = Elem::little(word);
+    let (old, new) = (value_at(out, to, same), value_at(values, from, same));
+    store_at(out, to, same, choose_number(byte, old, new));
+}
+
+// Writes the values, which begin so many bytes apart, to the elements on a line whose bytes of a mask are true, each as a word of this
+// kind. Behind the last value there is none to read, so the last one is read again.
 #[inline(always)]
 fn write_each(
     out: &mut [u8],
     elem: Elem,
     size: usize,
+    word: Kind,
     line: Line,
+    is_row: bool,
     mask: &[u8],
     values: &[u8],
     step: usize,
 )
     requires size { size ≡ size_of elem.kind }
+    requires word { (kind_of word ≢ Boolean) × (size_of (kind_of word) ≡ size) }
+    requires row { IsTrue is_row → IsRow line size }
     requires step { step ≤ size }
     requires inside { AreOnLine line size (length mask.now) (length out.old) }
     requires range { length mask.now ≤ 2 ^ 24 }
@@ -220,9 +279,39 @@ fn write_each(
     let last = values.len() - size;
     let mut used = 0;
     for (index, byte) in mask.iter().enumerate() {
-        let place = place_at(line, index as u64) as usize;
-        write_chosen(out, place, values, last.min(used * step), size, *byte);
+        let place = place_at(line, size, is_row, index as u64) as usize;
+        write_chosen(out, place, values, last.min(used * step), word, *byte);
         used += step_of(*byte, 1);
+    }
+}
+
+// Does the same by a loop of its own for elements that lie side by side, and for one value.
+#[inline(always)]
+fn write_line(
+    out: &mut [u8],
+    elem: Elem,
+    size: usize,
+    word: Kind,
+    line: Line,
+    mask: &[u8],
+    values: &[u8],
+    step: usize,
+)
+    requires size { size ≡ size_of elem.kind }
+    requires word { (kind_of word ≢ Boolean) × (size_of (kind_of word) ≡ size) }
+    requires step { step ≤ size }
+    requires inside { AreOnLine line size (length mask.now) (length out.old) }
+    requires range { length mask.now ≤ 2 ^ 24 }
+    requires held { AreValues size 0 step (length (trues_on line 0 mask.now))
+        (length values.now) }
+    ensures { out.new ≡ scattered (One elem) values.now step 0 (trues_on line 0 mask.now) out.old }
+{
+    if !is_row(line, size) {
+        write_each(out, elem, size, word, line, false, mask, values, step);
+    } else if step == 0 {
+        write_each(out, elem, size, word, line, true, mask, values, 0);
+    } else {
+        write_each(out, elem, size, word, line, true, mask, values, step);
     }
 }
 
@@ -237,10 +326,12 @@ fn write_by_size(out: &mut [u8], elem: Elem, line: Line, mask: &[u8], values: &[
     ensures { out.new ≡ scattered (One elem) values.now step 0 (trues_on line 0 mask.now) out.old }
 {
     match elem.kind() {
-        Kind::Bool | Kind::I8 | Kind::U8 => write_each(out, elem, 1, line, mask, values, step),
-        Kind::I16 | Kind::U16 => write_each(out, elem, 2, line, mask, values, step),
-        Kind::I32 | Kind::U32 => write_each(out, elem, 4, line, mask, values, step),
-        Kind::I64 | Kind::U64 => write_each(out, elem, 8, line, mask, values, step),
+        Kind::Bool | Kind::I8 | Kind::U8 => {
+            write_line(out, elem, 1, Kind::U8, line, mask, values, step);
+        }
+        Kind::I16 | Kind::U16 => write_line(out, elem, 2, Kind::U16, line, mask, values, step),
+        Kind::I32 | Kind::U32 => write_line(out, elem, 4, Kind::U32, line, mask, values, step),
+        Kind::I64 | Kind::U64 => write_line(out, elem, 8, Kind::U64, line, mask, values, step),
     }
 }
 

@@ -1,6 +1,5 @@
 //! Assignments of arrays whose blocks are given away: the block itself becomes the values where its bytes are theirs.
 ghost use Rattle.std.specs.Prelude.{◌≡◌, ◌≢◌, ◌<◌, ◌^◌, ◌≤◌, ◌↔◌, length, slice_index, IfOk, IfSome, IsTrue};
-ghost use Rattle.std.specs.List.{All};
 ghost use Rattle.nd_model.specs.Element.{Boolean, size_of};
 ghost use Rattle.nd_model.specs.Sound.{LiesIn};
 ghost use Rattle.nd_model.specs.View.{One};
@@ -11,7 +10,7 @@ ghost use Rattle.nd_fancy.specs.Chosen.{view_at};
 ghost use Rattle.nd_scatter.specs.OwnValues.{AreOwnValues};
 ghost use Rattle.nd_scatter.specs.Scattered.{written_by};
 
-use crate::kernel::keeps_bytes;
+use crate::kernel::{hold_bytes, keeps_bytes};
 use crate::preparation::prepare_elements;
 use crate::scatter::Scatter;
 use nd_block::RawBlock;
@@ -19,13 +18,6 @@ use nd_fancy::Places;
 use nd_types::{Elem, ElemType};
 use nd_view::{Run, View};
 use std::alloc::{AllocError, Global};
-
-// Says that bytes are below 256, and does nothing.
-fn hold_bytes(bytes: &[u8])
-    ensures { All (λ byte. byte < 256) bytes.now }
-{
-    let _len = bytes.len();
-}
 
 // The type of the numbers of both views, if it is one and the bytes of its numbers are those of their values.
 fn shared_elem(view: &View, array: &View) -> Option<Elem>

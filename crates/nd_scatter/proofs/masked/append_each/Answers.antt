@@ -11,16 +11,16 @@ use Rattle.nd_places.proofs.Found.{parts_of, trues_split}
 use Rattle.nd_scatter.proofs.Chosen.{length-numbers}
 use Rattle.nd_scatter.proofs.masked.append_each.Goals as goal
 
-pub keep_trues-kept-requires-clause-inside : goal.keep_trues-kept-requires-clause-inside
-keep_trues-kept-requires-clause-inside c = λ k lt.
+pub keep_on_line-kept-requires-clause-inside : goal.keep_on_line-kept-requires-clause-inside
+keep_on_line-kept-requires-clause-inside c = λ k lt.
     let mask : List ℕ = c.args.mask.now in let at = c.loop-done.done in
     let n = c.min.result in let width : at + n - at ≡ n = omega arith in
     let fits : n ≤ length (drop at mask) = omega (arith, c.min.ensures, length-drop at mask) in
     let long : length (take (at + n - at) (drop at mask)) ≡ n = ap (λ m. length (take m (drop at mask))) width ∙ length-take-le n (drop at mask) fits in
     c.requires.inside k (omega (arith, lt, long, fits, length-drop at mask, c.loop-done.invariant.within))
 
-pub keep_trues-kept-requires-clause-room : goal.keep_trues-kept-requires-clause-room
-keep_trues-kept-requires-clause-room c =
+pub keep_on_line-kept-requires-clause-room : goal.keep_on_line-kept-requires-clause-room
+keep_on_line-kept-requires-clause-room c =
     let mask : List ℕ = c.args.mask.now in let at = c.loop-done.done in
     let n = c.min.result in let width : at + n - at ≡ n = omega arith in
     let fits : n ≤ length (drop at mask) = omega (arith, c.min.ensures, length-drop at mask) in
@@ -38,13 +38,13 @@ loop-done-preserved c =
     let part : List ℕ = take n (drop at mask) in let rest : List ℕ = drop (at + n) mask in
     let long : length part ≡ n = length-take-le n (drop at mask) fits in
     let mine : List ℕ = trues_on line at part in let others : List ℕ = trues_on line (at + n) rest in
-    let kept : take c.keep_trues-kept.result c.keep_trues-kept.new.out ≡ flat_map F mine
-    = c.keep_trues-kept.ensures.bytes ∙ ap (λ m. flat_map F (trues_on line at (take m (drop at mask)))) width in
+    let kept : take c.keep_on_line-kept.result c.keep_on_line-kept.new.out ≡ flat_map F mine
+    = c.keep_on_line-kept.ensures.bytes ∙ ap (λ m. flat_map F (trues_on line at (take m (drop at mask)))) width in
     let split : trues_on line at (drop at mask) ≡ mine ++ others
     = ap (trues_on line at) (parts_of at n mask) ∙ trues_split line at part rest ∙ ap (λ k. mine ++ trues_on line (at + k) rest) long in
-    let more = ap length c.push.ensures.written ∙ length-append out (take c.keep_trues-kept.result c.keep_trues-kept.new.out) in
+    let more = ap length c.push.ensures.written ∙ length-append out (take c.keep_on_line-kept.result c.keep_on_line-kept.new.out) in
     record {
-      many = c.keep_trues-kept.ensures.len ∙ c.loop-done.invariant.many;
+      many = c.keep_on_line-kept.ensures.len ∙ c.loop-done.invariant.many;
       within = omega (arith, fits, length-drop at mask, c.loop-done.invariant.within);
       room = omega (arith, c.push.ensures.left, more, c.loop-done.invariant.room);
       written = ap (λ l. l ++ flat_map F others) (c.push.ensures.written ∙ ap (λ l. out ++ l) kept) ∙ append_assoc out (flat_map F mine) (flat_map F others)
@@ -60,8 +60,8 @@ push-requires c =
     let part : List ℕ = take n (drop at mask) in let rest : List ℕ = drop (at + n) mask in
     let long : length part ≡ n = length-take-le n (drop at mask) fits in
     let mine : List ℕ = trues_on line at part in let others : List ℕ = trues_on line (at + n) rest in
-    let kept : take c.keep_trues-kept.result c.keep_trues-kept.new.out ≡ flat_map F mine
-    = c.keep_trues-kept.ensures.bytes ∙ ap (λ m. flat_map F (trues_on line at (take m (drop at mask)))) width in
+    let kept : take c.keep_on_line-kept.result c.keep_on_line-kept.new.out ≡ flat_map F mine
+    = c.keep_on_line-kept.ensures.bytes ∙ ap (λ m. flat_map F (trues_on line at (take m (drop at mask)))) width in
     let split : trues_on line at (drop at mask) ≡ mine ++ others
     = ap (trues_on line at) (parts_of at n mask) ∙ trues_split line at part rest ∙ ap (λ k. mine ++ trues_on line (at + k) rest) long in
     let all : length out + (length (flat_map F mine) + length (flat_map F others)) ≡ length a.filling.0 + length (flat_map F (trues_on line 0 mask))

@@ -14,7 +14,7 @@ pub write_chosen-requires-clause-out : goal.write_chosen-requires-clause-out
 write_chosen-requires-clause-out c =
     let k = c.loop-index.index in
     let lt : k < length c.args.mask.now = omega (arith, c.loop-index-test.true, c.loop-index.auto.index-end) in
-    omega (arith, c.place_at-place.ensures, c.requires.inside k lt, c.loop-index.invariant.len)
+    omega (arith, c.place_at-place.ensures, c.requires.inside k lt, c.requires.word.1, c.loop-index.invariant.len)
 
 pub loop-index-preserved : goal.loop-index-preserved
 loop-index-preserved c =
@@ -25,7 +25,7 @@ loop-index-preserved c =
     let none : k ≡ 0 + k = omega arith in
     let here : c.place_at-place.result ≡ place (0 + k) = c.place_at-place.ensures ∙ ap place none in
     let room : place (0 + k) + size_of e.kind ≤ length out = (let inside = c.requires.inside k lt in omega (arith, inside, ap place none, c.requires.size, c.loop-index.invariant.len)) in
-    let written = c.write_chosen.ensures.bytes ∙ (λ i. if is_true (get_or mask k 0) then with_bytes out (here i) (bytes_at values from (c.requires.size i)) else out) in
+    let written = c.write_chosen.ensures.bytes ∙ (λ i. if is_true (get_or mask k 0) then with_bytes out (here i) (bytes_at values from ((c.requires.word.1 ∙ c.requires.size) i)) else out) in
     let one = times (is_true (get_or mask k 0)) n a.step c.step_of-used.ensures in
     let next : used * a.step + n * a.step ≡ (used + n) * a.step = omega arith in
     let more = step_few (is_true (get_or mask k 0)) n 1 c.step_of-used.ensures in

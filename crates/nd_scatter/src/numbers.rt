@@ -86,12 +86,11 @@ fn are_side_by_side(places: &[u64], size: u64, len: usize) -> bool
     if places.is_empty() || all > len || places[0] > len - all {
         return false;
     }
+    let mut all = true;
     for (index, place) in places.iter().enumerate() {
-        if *place != places[0] + index as u64 * size {
-            return false;
-        }
+        all &= *place == places[0] + index as u64 * size;
     }
-    true
+    all
 }
 
 // Appends the bytes of numbers that lie side by side, which are those of their values.

@@ -137,6 +137,24 @@ fn measure_strided(rt: &HostRuntime, block: &RawBlock) -> io::Result<()> {
     measure_views(rt, "strided", BinaryOp::Add, &view, &view, block)
 }
 
+// The same of each number but the last one and the one behind it, by an operator.
+fn measure_neighbours(
+    rt: &HostRuntime,
+    name: &str,
+    op: BinaryOp,
+    block: &RawBlock,
+) -> io::Result<()> {
+    let int = Elem::little(Kind::I64);
+    let behind = Layout {
+        shape: &[COUNT - 1],
+        strides: &[8],
+        offset: 8,
+    };
+    let left = number_array(rt.alloc(), int, &[COUNT - 1])?;
+    let right = view_of(rt.alloc(), int, behind, block.len())?;
+    measure_views(rt, name, op, &left, &right, block)
+}
+
 // The same of numbers of several kinds.
 fn measure_all_kinds(rt: &HostRuntime, block: &RawBlock) -> io::Result<()> {
     let int = Elem::little(Kind::I64);
@@ -164,5 +182,7 @@ pub(crate) fn measure_operators(rt: &HostRuntime) -> io::Result<()> {
     measure_number(rt, "number", BinaryOp::Add, 1, &block)?;
     measure_number(rt, "quotient", BinaryOp::FloorDivide, 7, &block)?;
     measure_number(rt, "remainder", BinaryOp::Remainder, 7, &block)?;
+    measure_neighbours(rt, "quotients", BinaryOp::FloorDivide, &block)?;
+    measure_neighbours(rt, "remainders", BinaryOp::Remainder, &block)?;
     measure_number(rt, "shift", BinaryOp::RightShift, 3, &block)
 }

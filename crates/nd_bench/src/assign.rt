@@ -96,8 +96,7 @@ fn assign_within(rt: &HostRuntime, pair: &Pair<'_>, block: &mut RawBlock) -> io:
     })
 }
 
-// Makes two arrays, and prints the name of assignments from one to the other, how many numbers are assigned, the sum of the block, and
-// the fewest nanoseconds that it took.
+// Prints a line for assignments from one of two new arrays to the other, with the sum of the block.
 fn measure_between(rt: &HostRuntime, name: &str, pair: &Pair<'_>) -> io::Result<()> {
     let read = mixed_block(rt.alloc(), Elem::little(Kind::I64), COUNT)?;
     let mut block = zeros(rt.alloc(), LEN)?;

@@ -37,8 +37,7 @@ fn convert_once(rt: &HostRuntime, view: &View, bytes: &[u8], to: Elem) -> io::Re
     })
 }
 
-// Makes an array of numbers, and prints the name of their conversion, how many there are, the sum of what they become, and the
-// fewest nanoseconds in which a block was made of that.
+// Prints a line for a conversion of a new array of numbers, with the sum of what they become.
 fn measure_conversion(
     rt: &HostRuntime,
     name: &str,

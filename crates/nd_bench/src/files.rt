@@ -59,8 +59,7 @@ fn write_once(rt: &HostRuntime, view: &View, bytes: &[u8]) -> io::Result<Turn> {
     })
 }
 
-// Prints for the file of a view how many elements it has, how long it is, and the fewest nanoseconds in which it was made, and returns
-// the file.
+// Prints a line for the file of a view, with how long it is, and returns the file.
 fn measure_write(rt: &HostRuntime, view: &View, bytes: &[u8]) -> io::Result<Vec<u8>> {
     measure(rt, "write", || write_once(rt, view, bytes))?;
     Ok(write_npy(rt.alloc(), view, bytes)?)

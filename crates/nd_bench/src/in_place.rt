@@ -112,8 +112,7 @@ fn measure_neighbours(rt: &HostRuntime) -> io::Result<()> {
     measure_addition(rt, "neighbours", &behind, RightSide::Own(&before))
 }
 
-/// Prints a line for each of some sums in place: of an array and another one, of an array and one number, and of each number of an array
-/// and the one before it.
+/// Prints a line for each of some sums in place: of an array and another one, of it and one number, of each number and the one before.
 pub(crate) fn measure_in_place(rt: &HostRuntime) -> io::Result<()> {
     measure_sums(rt)?;
     measure_increments(rt)?;

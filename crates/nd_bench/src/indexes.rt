@@ -296,8 +296,7 @@ fn add_once(rt: &HostRuntime, view: &View, items: &[Item<'_>]) -> io::Result<Tur
     Ok(Turn::of_bytes(count, &block, nanos))
 }
 
-// Prints the name of a new array of what is chosen, how many elements there are, the sum of their bytes, and the fewest nanoseconds that
-// it took to choose and copy them.
+// Prints a line for a new array of what is chosen, with the nanoseconds that it took to choose and copy it.
 fn measure_gather(
     rt: &HostRuntime,
     name: &str,

@@ -1,19 +1,7 @@
-//! How long bulk work takes. `nd_bench copy` prints the times of a copy within a block and of the standard library's, and their ratio;
-//! `nd_bench numbers [COUNT]` prints for each of three arrays its name, how many numbers it has, their sum, and how many nanoseconds
-//! it takes to add them up; `nd_bench convert [COUNT]` prints the same for each of three conversions to a new array, with the sum of
-//! what the numbers become; `nd_bench assign` prints the same for each of five assignments to the elements of an array of 10,000,000
-//! numbers, with the sum of its block; `nd_bench views` prints the same for views that are made of a view, of which it makes 100,000:
-//! by a basic index and in another shape; `nd_bench operators` prints for operators on an array of 10,000,000 numbers the name, how
-//! many results there are, the sum of their bytes, and the nanoseconds; `nd_bench reductions` prints for reductions of arrays of
-//! 10,000,000 elements and for an accumulation the name, how many elements there are, the sum of the bytes of what they come to, and
-//! the nanoseconds; `nd_bench indexes` prints for new arrays of what positions and masks choose in such arrays the name, how many
-//! elements there are, the sum of their bytes, and the nanoseconds, and for assignments to chosen elements, and for one number that is
-//! added to such, the same, with the sum of the bytes of the array; `nd_bench in_place` prints for each of three sums in place the
-//! name, how many elements there are, the sum of the bytes of the array after one turn, and the nanoseconds; `nd_bench text [COUNT]`
-//! prints for each of three arrays its name, how many elements it has, how long its text is, and how many nanoseconds it takes to make
-//! it; `nd_bench files [COUNT]` prints for the NPY file of so many numbers how long it is and how many nanoseconds it takes to write
-//! it, their sum and the nanoseconds in which it is read, and the same for a file of one number behind a header of 60,000 bytes.
-//! Without a word it prints how it is called.
+//! How long bulk work takes. `nd_bench WORD [COUNT]` prints a line for each work of a kind: its name, how many elements there are, the
+//! sum of the bytes of what it makes (of numbers their sum, of a text its length), and the fewest nanoseconds that it took. `copy` prints
+//! the times of a copy within a block and of the standard library's, and their ratio. COUNT is how many numbers are read, converted,
+//! shown, or written to a file; the arrays of the other works have 10,000,000 elements. Without a word it prints how it is called.
 #![tactic(auto)]
 
 ghost use Rattle.std.specs.Prelude.{◌≤◌, ◌^◌, ⊤, MatchOption};

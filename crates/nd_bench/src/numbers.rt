@@ -72,8 +72,7 @@ fn add_up(rt: &HostRuntime, held: &Held<'_>) -> io::Result<Turn> {
     })
 }
 
-// Makes an array of numbers that lie `apart` numbers from one to the next, and prints its name, how many there are, their sum, and
-// the fewest nanoseconds in which they were added up.
+// Prints a line for the sum of an array whose numbers lie `apart` numbers from one to the next.
 fn measure_sum(rt: &HostRuntime, name: &str, elem: Elem, apart: u64, count: u64) -> io::Result<()>
     requires kind { elem.kind ≡ Int64 }
     requires apart { apart ≤ 2 }

@@ -57,8 +57,7 @@ fn apply_once(
     Ok(Turn::of_bytes(left.view.count(), &made, nanos))
 }
 
-// Applies an operator to two views of the block, and prints the name, how many results there are, the sum of their bytes, and the
-// fewest nanoseconds that it took.
+// Prints a line for an operator on two views of the block.
 fn measure_views(
     rt: &HostRuntime,
     name: &str,

@@ -40,8 +40,7 @@ fn accumulate_once(rt: &HostRuntime, held: &Held<'_>) -> io::Result<Turn> {
     Ok(Turn::of_bytes(held.view.count(), &made, nanos))
 }
 
-// Folds a view of the block, and prints the name, how many elements there are, the sum of the bytes of what they come to, and the
-// fewest nanoseconds that it took.
+// Prints a line for a fold of a view of the block.
 fn measure_fold(
     rt: &HostRuntime,
     name: &str,

@@ -89,8 +89,7 @@ fn print_once(rt: &HostRuntime, view: &View, bytes: &[u8]) -> io::Result<Turn> {
     })
 }
 
-// Prints the name of an array of this shape, how many elements it has, how long its text is, and the fewest nanoseconds in which
-// the text was made.
+// Prints a line for the text of an array of this shape, with how long it is.
 fn measure_array(
     rt: &HostRuntime,
     name: &str,

@@ -1,9 +1,9 @@
 -- The places of rows, which begin at the ends of ways.
-use Rattle.std.specs.Prelude.{ℕ, ℤ, pos, ◌+ℤ◌, List, map}
+use Rattle.std.specs.Prelude.{◌≡◌, ℕ, ◌^◌, ◌≤◌, ℤ, pos, ◌+ℤ◌, unsigned_abs, List, length, map, slice_index_or}
 use Rattle.std.specs.List.{flat_map}
 use Rattle.nd_model.specs.Advanced as model
 use Rattle.nd_model.specs.Strides.{way_to}
-use Rattle.nd_places.specs.Near.{place_on}
+use Rattle.nd_places.specs.Near.{IsNear, place_on}
 use Rattle.nd_ways.specs.declared.axes.Axes.{Axes}
 use Rattle.nd_ways.specs.declared.row.KeptWays.{KeptWays}
 use Rattle.nd_ways.specs.declared.row.Row.{Row}
@@ -11,6 +11,14 @@ use Rattle.nd_ways.specs.declared.row.Row.{Row}
 -- how far the element of a number leads
 abbrev pub way_on : Axes → ℕ → ℤ
 way_on axes k = way_to (model.unravelled axes.lengths.now k) axes.strides.now
+
+-- there is one axis, and each element of it is near the one before
+abbrev pub HasStep : Axes → Type 0
+HasStep axes = (length axes.strides.now ≡ 1) × (unsigned_abs (slice_index_or axes.strides.now 0 (pos 0)) ≤ 2 ^ 29)
+
+-- rows of one element, and the first of them is near the block
+abbrev pub IsOnLine : Row → Axes → Type 0
+IsOnLine row axes = HasStep axes × (length row.ways.now ≡ 1) × IsNear (row.start +ℤ slice_index_or row.ways.now 0 (pos 0))
 
 -- the places of a row that begins so much further
 abbrev pub row_places : Row → ℤ → List ℕ

@@ -1,5 +1,5 @@
 //! Axes of which tuples are chosen together.
-ghost use Rattle.std.specs.Prelude.{◌≡◌, ℕ, ◌^◌, ◌<◌, ◌≤◌, pos, ◌*ℤ◌, length, unsigned_abs, IfSome};
+ghost use Rattle.std.specs.Prelude.{◌≡◌, ℕ, ◌^◌, ◌<◌, ◌≤◌, pos, ◌*ℤ◌, length, unsigned_abs, MatchOption};
 ghost use Rattle.std.specs.List.{All};
 ghost use Rattle.nd_model.specs.Tuple.{elements_of};
 
@@ -25,7 +25,7 @@ pub struct Axes<'a> {
 }
 
 impl<'a> Axes<'a> {
-    ghost use Rattle.nd_ways.specs.RowPlaces.{way_on};
+    ghost use Rattle.nd_ways.specs.RowPlaces.{HasStep, way_on};
 
     /// Takes axes with these lengths and strides together, the strides in bytes.
     pub fn new(lengths: &'a [u64], strides: &'a [i128]) -> Axes<'a>
@@ -56,8 +56,8 @@ impl<'a> Axes<'a> {
 
     /// Returns how far each element is from the one before, if there is one axis, and that is not far.
     pub(crate) fn step(&self) -> Option<i64>
-        ensures { IfSome result (λ s. (unsigned_abs s ≤ 2 ^ 29) × ((k : ℕ) → way_on self.now k
-            ≡ pos k *ℤ s)) }
+        ensures { MatchOption result (HasStep self.now → ⊥)
+            (λ s. (unsigned_abs s ≤ 2 ^ 29) × ((k : ℕ) → way_on self.now k ≡ pos k *ℤ s)) }
     {
         if self.strides.len() != 1 {
             return None;

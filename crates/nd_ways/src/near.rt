@@ -1,7 +1,7 @@
 //! Places at the ends of ways that are near enough for sums of 64 bits, which are faster.
-ghost use Rattle.std.specs.Prelude.{◌≡◌, ℕ, ◌++◌, ◌^◌, ◌≤◌, [], ◌∷◌, pos, ◌+ℤ◌, ◌*ℤ◌, unsigned_abs, map, OnOk, IsTrue, IfSome};
+ghost use Rattle.std.specs.Prelude.{◌≡◌, ℕ, ◌++◌, ◌^◌, ◌≤◌, [], ◌∷◌, pos, ◌+ℤ◌, ◌*ℤ◌, unsigned_abs, map, OnOk, IsTrue, ◌↔◌, MatchOption};
 ghost use Rattle.std.specs.List.{All};
-ghost use Rattle.nd_ways.specs.RowPlaces.{row_places, way_on};
+ghost use Rattle.nd_ways.specs.RowPlaces.{IsOnLine, row_places, way_on};
 ghost use Rattle.nd_places.specs.Near.{IsNear, place_on};
 
 use crate::axes::Axes;
@@ -14,14 +14,14 @@ const NEAR: u128 = 1 << 61;
 
 /// Returns whether a way is near enough for sums of 64 bits.
 pub fn is_near(way: i128) -> bool
-    ensures { IsTrue result → IsNear way }
+    ensures { IsTrue result ↔ IsNear way }
 {
     way.unsigned_abs() <= NEAR
 }
 
 /// Returns whether all ways are.
 pub fn are_near(ways: &[i128]) -> bool
-    ensures { IsTrue result → All IsNear ways.now }
+    ensures { IsTrue result ↔ All IsNear ways.now }
 {
     for way in ways {
         if !is_near(*way) {
@@ -47,7 +47,8 @@ pub fn push_near_places(places: &mut Vec<u64>, start: i64, ways: &[i128]) -> Res
 
 /// Returns the line of the elements that a row has at the numbers of one axis, if they are on one that is near.
 pub fn line_of(row: &Row<'_>, axes: &Axes<'_>) -> Option<Line>
-    ensures { IfSome result (λ l. (k : ℕ) → row_places row.now (way_on axes.now k)
+    ensures { MatchOption result (IsOnLine row.now axes.now → ⊥)
+        (λ l. (k : ℕ) → row_places row.now (way_on axes.now k)
         ≡ place_on (l.start +ℤ (pos k *ℤ l.step)) ∷ []) }
 {
     let step = axes.step()?;

@@ -12,7 +12,7 @@ loop-way-preserved c =
     let ways = c.args.ways.now in let k = c.loop-way.way-index in
     let lt : k < length ways = omega (arith, c.loop-way-test.true) in
     let fits : FitsSigned w128 (get_or ways k (pos 0)) = search rules in
-    let here : IsNear (get_or ways k (pos 0)) = subst IsNear (to_z-of_z w128 (get_or ways k (pos 0)) fits) (c.if-not-is_near.ensures refl) in
+    let here : IsNear (get_or ways k (pos 0)) = subst IsNear (to_z-of_z w128 (get_or ways k (pos 0)) fits) (c.if-not-is_near.ensures.0 refl) in
     let same : to_z w64 (of_z w64 (to_z w128 (of_z w128 (get_or ways k (pos 0))))) ≡ get_or ways k (pos 0) = omega (arith, ints, here) in
     let pushed = c.in_ok-push.ensures.items ∙ ap (λ x. c.loop-way.near.items ++ x ∷ []) same in
     record {

@@ -13,7 +13,7 @@ loop-number-preserved c =
     let numbers = c.args.numbers.now in let k = c.loop-number.number-index in let axes = c.args.axes.now in let start = to_z w128 (of_z w128 c.args.start) in
     let lt : k < length numbers = omega (arith, c.loop-number-test.true) in
     let way = to_z w128 (of_z w128 (start +ℤ to_z w128 (of_z w128 c.way.result))) in
-    let near : IsNear way = c.if-not-is_near.ensures refl in
+    let near : IsNear way = c.if-not-is_near.ensures.0 refl in
     let whole : to_z w64 (of_z w64 way) ≡ way = omega (arith, ints, near) in
     let sum : way ≡ start +ℤ c.way.result = omega (arith, ints, c.requires.start, c.way.ensures.near) in
     let is = whole ∙ sum ∙ ap (λ w. start +ℤ w) c.way.ensures.value in

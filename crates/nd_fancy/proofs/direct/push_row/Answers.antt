@@ -19,7 +19,7 @@ returns-then-row-eq1 c =
 pub returns-then-is_near : goal.returns-then-is_near
 returns-then-is_near c =
     let row = c.args.row.now in
-    let near : IsNear (to_z w128 (of_z w128 (to_z w128 (of_z w128 row.start) +ℤ to_z w128 (of_z w128 c.args.way)))) = c.if-is_near.ensures refl in
+    let near : IsNear (to_z w128 (of_z w128 (to_z w128 (of_z w128 row.start) +ℤ to_z w128 (of_z w128 c.args.way)))) = c.if-is_near.ensures.0 refl in
     let start : to_z w64 (of_z w64 (to_z w128 (of_z w128 (to_z w128 (of_z w128 row.start) +ℤ to_z w128 (of_z w128 c.args.way))))) ≡ row.start +ℤ c.args.way
     = omega (arith, ints, row.start_near, c.requires, near) in
     subst (λ x. OnOk c.push_near_places.result (c.push_near_places.new.places.items ≡ c.args.places.now.items ++ map (λ z. place_on (x +ℤ z)) row.ways.now)) start c.push_near_places.ensures

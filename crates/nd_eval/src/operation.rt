@@ -165,11 +165,10 @@ impl Evaluator<'_> {
             (base_of base) g (ACopy (selected selection.now))) self.new }
         ensures types { IfOk result (IsOfType selection.now.view.element) }
     {
-        let alloc = self.session.allocator();
-        let mut room = Vec::new(alloc);
-        let places = selection.places.places.lend(&mut room)?;
+        let places = &selection.places.places;
         self.session
             .mark_used_elements(base, selection.view.elem(), places)?;
+        let alloc = self.session.allocator();
         let copy = copy_selection(alloc, selection, self.session.bytes(base))?;
         self.give(copy)
     }

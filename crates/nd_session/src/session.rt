@@ -23,6 +23,7 @@ use crate::redo::redo;
 use crate::version::Version;
 use nd_block::RawBlock;
 use nd_heap::{Array, Base, BlockWriter, Heap, OutOfMemory, Value};
+use nd_places::PlaceList;
 use nd_trace::{Event, Trace};
 use nd_types::ElemType;
 use std::alloc::Global;
@@ -185,7 +186,7 @@ impl Session {
         &mut self,
         base: Base,
         elem: &ElemType,
-        places: &[u64],
+        places: &PlaceList,
     ) -> Result<(), OutOfMemory>
         requires ends { All (λ p. p + item_size (type_of elem.now) ≤ 2 ^ 64) places.now }
         ensures { OnOk result (live self.new ≡ running.after (running.Use (base_of base)
@@ -226,7 +227,7 @@ impl Session {
         &mut self,
         base: Base,
         elem: &ElemType,
-        places: &[u64],
+        places: &PlaceList,
     ) -> Result<(), OutOfMemory>
         requires ends { All (λ p. p + item_size (type_of elem.now) ≤ 2 ^ 64) places.now }
         ensures { OnOk result (live self.new ≡ having_written (base_of base)

@@ -43,8 +43,7 @@ fn write_scattered(
         (having_written (base_of base) (byte_places (selected selection.now))
         (live session.old))) }
 {
-    let mut room = Vec::new(session.allocator());
-    let places = selection.places.places.lend(&mut room)?;
+    let places = &selection.places.places;
     session.mark_written_elements(base, selection.view.elem(), places)?;
     session.write(base, ScatteredBytes { scatter })
 }

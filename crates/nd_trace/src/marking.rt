@@ -15,9 +15,13 @@ ghost use Rattle.nd_trace.specs.Marked.{is_marked};
 use indexmap::IndexMap;
 use nd_heap::{Base, OutOfMemory};
 use nd_marks::Marks;
+use nd_places::PlaceList;
 use nd_types::ElemType;
 use nd_view::View;
-use std::alloc::Global;
+use std::alloc::{AllocError, Global};
+
+// How many places are found at a time.
+const MANY: usize = 512;
 
 /// A set of places for each base. A base without one has no place in it.
 pub type Footprint = IndexMap<Base, Marks>;
@@ -98,13 +102,34 @@ pub(crate) fn mark_element(
     Ok(())
 }
 
+// Adds the bytes of the elements that begin at these places to a set, but for those of the other one, some at a time as the places
+// are found.
+fn mark_places(
+    marks: &mut Marks,
+    elem: &ElemType,
+    places: &PlaceList,
+    except: &Marks,
+) -> Result<(), AllocError>
+    requires { All (λ p. p + item_size (type_of elem.now) ≤ 2 ^ 64) places.now }
+    ensures { OnOk result ((p : ℕ) → holds marks.new p ≡ (holds marks.old p
+        || (is_in p (flat_map (element_places (type_of elem.now)) places.now)
+        && not (holds except.now p)))) }
+{
+    let mut some = [0; MANY];
+    let mut walk = places.walk();
+    while let Some(part) = walk.next(&mut some) {
+        marks.mark_elements(elem, part, except)?;
+    }
+    Ok(())
+}
+
 /// Marks the bytes of the elements that begin at these places, but for those of the other set.
 pub(crate) fn mark_elements(
     alloc: Global,
     marked: &mut Footprint,
     base: Base,
     elem: &ElemType,
-    places: &[u64],
+    places: &PlaceList,
     except: &Marks,
 ) -> Result<(), OutOfMemory>
     requires { All (λ p. p + item_size (type_of elem.now) ≤ 2 ^ 64) places.now }
@@ -114,7 +139,7 @@ pub(crate) fn mark_elements(
         && not (holds except.now p))))) }
 {
     let mut marks = take_marks(alloc, marked, base)?;
-    marks.mark_elements(elem, places, except)?;
+    mark_places(&mut marks, elem, places, except)?;
     marked.insert(base, marks)?;
     Ok(())
 }

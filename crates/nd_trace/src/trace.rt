@@ -20,6 +20,7 @@ use crate::marking::{Footprint, has_mark, mark_element, mark_elements, mark_view
 use indexmap::{IndexMap, IndexSet};
 use nd_heap::{Array, Base, OutOfMemory, Value};
 use nd_marks::Marks;
+use nd_places::PlaceList;
 use nd_types::ElemType;
 use std::alloc::Global;
 use std::marker::Model;
@@ -337,7 +338,7 @@ impl Trace {
         alloc: Global,
         base: Base,
         elem: &ElemType,
-        places: &[u64],
+        places: &PlaceList,
     ) -> Result<(), OutOfMemory>
         requires { All (λ p. p + item_size (type_of elem.now) ≤ 2 ^ 64) places.now }
         ensures after { OnOk result (trace_of self.new ≡ running.having_read
@@ -393,7 +394,7 @@ impl Trace {
         alloc: Global,
         base: Base,
         elem: &ElemType,
-        places: &[u64],
+        places: &PlaceList,
     ) -> Result<(), OutOfMemory>
         requires { All (λ p. p + item_size (type_of elem.now) ≤ 2 ^ 64) places.now }
         ensures after { OnOk result (trace_of self.new ≡ having_written (base_of base)

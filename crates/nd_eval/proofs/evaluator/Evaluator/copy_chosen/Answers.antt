@@ -20,7 +20,7 @@ returns-clause-value c = λ g.
     let s = live c.mark_used_elements.new.self in
     let b = base_of c.args.base in
     let h = selected c.args.selection.now in
-    let marks = c.in_ok-mark_used_elements.ensures ∙ (λ j. after (Use b (flat_map (element_places (c.elem.ensures j)) (c.in_ok-places.ensures j))) r) in
+    let marks = c.in_ok-mark_used_elements.ensures ∙ ap (λ t. after (Use b (flat_map (element_places t) h.places)) r) c.elem.ensures in
     let same = c.bytes.ensures ∙ ap (λ (q : Running). q.bytes b) marks in (
       ends_alike value_of _ _
           ((λ j. run i (give (copy_of h (sym same j))) (sym marks j))

@@ -1,5 +1,5 @@
 //! Numbers that lie side by side and stay in their type: all bytes of a run are copied at once.
-ghost use Rattle.std.specs.Prelude.{◌≡◌, ◌≢◌, ◌+◌, ◌*◌, ◌<◌, ◌≤◌, length, slice_index, IsTrue};
+ghost use Rattle.std.specs.Prelude.{◌≡◌, ◌≢◌, ◌+◌, ◌*◌, ◌<◌, ◌≤◌, length, slice_index, IfSome, IsTrue, ◌↔◌};
 ghost use Rattle.std.specs.List.{All};
 ghost use Rattle.nd_model.specs.Element.{Boolean, size_of};
 ghost use Rattle.nd_model.specs.View.{One};
@@ -7,26 +7,32 @@ ghost use Rattle.nd_element.specs.Elements.{AreHeld};
 ghost use Rattle.nd_assign.specs.Copies.{with_copies};
 ghost use Rattle.nd_assign.specs.SideBySide.{side_by_side};
 
-use nd_types::{Elem, Kind};
-use nd_view::Run;
+use nd_types::Elem;
+use nd_view::{Run, View};
 
-/// Returns whether the elements of a run lie side by side.
+/// Returns whether the elements of a run lie side by side, as one alone does.
 pub(crate) fn is_gapless(run: &Run, elem: Elem) -> bool
-    ensures { IsTrue result → run.now ≡ side_by_side (size_of elem.kind) (slice_index run.now 0)
-        (length run.now) }
+    ensures { IsTrue result ↔ (run.now ≡ side_by_side (size_of elem.kind) (slice_index run.now 0)
+        (length run.now)) }
 {
-    let _count = run.count();
-    run.step() == i128::from(elem.size())
+    run.count() == 1 || run.step() == i128::from(elem.size())
 }
 
-/// Returns whether the bytes of a number are those of its value. Those of a Boolean may be others than 0 and 1.
-pub(crate) fn keeps_bytes(elem: Elem) -> bool
-    ensures { IsTrue result → elem.kind ≢ Boolean }
+/// Returns the places of a view whose elements lie side by side, `None` of a view where that is not so and where there are none. A view
+/// of several runs is not looked at further.
+pub fn gapless_run(view: &View, elem: Elem) -> Option<Run>
+    ensures { IfSome result (λ run. (run ≡ view.now.places)
+        × (run ≡ side_by_side (size_of elem.kind) (slice_index run 0) (length run))) }
 {
-    match elem.kind() {
-        Kind::Bool => false,
-        _ => true,
+    let mut runs = view.runs();
+    let run = runs.next()?;
+    if run.count() as usize != view.count() {
+        return None;
     }
+    if !is_gapless(&run, elem) {
+        return None;
+    }
+    Some(run)
 }
 
 // Where the last element of a run ends, the elements of which lie side by side in these bytes.

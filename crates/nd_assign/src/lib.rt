@@ -18,6 +18,7 @@ mod walk;
 mod within;
 
 pub use assignment::Assignment;
+pub use gapless::gapless_run;
 pub use preparation::prepare;
 pub use shape::fits;
 pub use source::{Source, assign};

@@ -1,12 +1,13 @@
 //! Which loop copies a run of numbers. Each has the kernel's contract, so which elements have a loop of their own is a question of
 //! speed alone.
-ghost use Rattle.std.specs.Prelude.{◌≡◌, length, IsTrue, ◌↔◌};
+ghost use Rattle.std.specs.Prelude.{◌≡◌, length};
 ghost use Rattle.nd_model.specs.View.{One};
 ghost use Rattle.nd_element.specs.Elements.{AreHeld};
 ghost use Rattle.nd_assign.specs.Copies.{with_copies};
 
-use crate::gapless::{copy_gapless, is_gapless, keeps_bytes};
+use crate::gapless::{copy_gapless, is_gapless};
 use crate::kernel::copy_run;
+use nd_element::{is_elem, keeps_bytes};
 use nd_types::{Elem, Kind};
 use nd_view::Run;
 
@@ -21,14 +22,6 @@ fn copy_any(out: &mut [u8], to: Elem, run: &Run, bytes: &[u8], from: Elem, from_
         out.old }
 {
     copy_run(out, to, run, bytes, from, from_run);
-}
-
-/// Returns whether both are one element.
-#[inline(always)]
-pub(crate) fn is_elem(elem: Elem, other: Elem) -> bool
-    ensures { IsTrue result ↔ (elem ≡ other) }
-{
-    elem == other
 }
 
 // The same, by a loop for the two elements that are known, if they are these.

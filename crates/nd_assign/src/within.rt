@@ -1,24 +1,22 @@
 //! Copies within one block, where what is read may be what is written: all contents are as they were before.
-ghost use Rattle.std.specs.Prelude.{◌≡◌, ◌≢◌, ℕ, ◌+◌, ◌≤◌, ◌++◌, ⊤, length, take, drop, slice_index, true, None, IfOk, MatchOption};
+ghost use Rattle.std.specs.Prelude.{◌≡◌, ℕ, ◌+◌, ◌≤◌, ◌++◌, ⊤, length, take, drop, true, None, IfOk, MatchOption};
 ghost use Rattle.std.specs.List.{All};
 ghost use Rattle.nd_model.specs.Conversion.{converts};
-ghost use Rattle.nd_model.specs.Element.{Boolean, size_of};
 ghost use Rattle.nd_assign.specs.HeldFields.{HoldsFields};
 ghost use Rattle.nd_model.specs.View.{item_size};
 ghost use Rattle.nd_types.specs.Types.{type_of};
 ghost use Rattle.nd_assign.specs.Copies.{with_copies};
 ghost use Rattle.nd_assign.specs.Prepared.{written_by};
-ghost use Rattle.nd_assign.specs.SideBySide.{side_by_side};
 ghost use Rattle.nd_assign.specs.Ways.{AreIn, IsWay, bytes_read, own_copy};
 
 use crate::assignment::{Assignment, Way};
-use crate::gapless::{is_gapless, keeps_bytes};
+use crate::gapless::gapless_run;
 use crate::moved::{extent_of, moved_view};
-use crate::pairs::is_elem;
 use crate::views::copy_views;
 use nd_block::RawBlock;
-use nd_types::{Elem, ElemType};
-use nd_view::{Run, View};
+use nd_element::{is_elem, keeps_bytes};
+use nd_types::ElemType;
+use nd_view::View;
 use std::alloc::{AllocError, Global};
 
 // The fields of a structure lie in it.
@@ -135,22 +133,6 @@ fn prepare_copied<'v>(
     Ok(Assignment::new(target, moved, way, block.len()))
 }
 
-// The run of all elements of a view of numbers that lie side by side and keep their bytes, if it is one.
-fn gapless_run(view: &View, elem: Elem) -> Option<Run>
-    ensures { MatchOption result ⊤ (λ run. (run ≡ view.now.places)
-        × (elem.kind ≢ Boolean)
-        × (run ≡ side_by_side (size_of elem.kind) (slice_index run 0) (length run))) }
-{
-    let mut runs = view.runs();
-    let run = runs.next()?;
-    let is_whole = run.count() == view.count() as u64;
-    if is_whole && keeps_bytes(elem) && is_gapless(&run, elem) {
-        Some(run)
-    } else {
-        None
-    }
-}
-
 // The way that moves the numbers of a view at once to a target of the same type, if both lie side by side.
 fn moved_way<'v>(target: &View, source: &View) -> Option<Way<'v>>
     ensures { MatchOption result ⊤ (λ way. (bytes_read way ≡ None)
@@ -160,6 +142,9 @@ fn moved_way<'v>(target: &View, source: &View) -> Option<Way<'v>>
         return None;
     };
     if !is_elem(*to, *from) {
+        return None;
+    }
+    if !keeps_bytes(*to) {
         return None;
     }
     let run = gapless_run(target, *to)?;

@@ -1,5 +1,5 @@
 //! Which loop converts a run. Each has the kernel's contract, so which elements have a loop of their own is a question of speed alone.
-ghost use Rattle.std.specs.Prelude.{◌≡◌, ℤ, ◌*◌, length, IsTrue, ◌↔◌};
+ghost use Rattle.std.specs.Prelude.{◌≡◌, ℤ, ◌*◌, length};
 ghost use Rattle.nd_model.specs.Element.{size_of, bytes_of, wrap};
 ghost use Rattle.nd_element.specs.Elements.{AreHeld};
 ghost use Rattle.nd_convert.specs.Converted.{converted_bytes};
@@ -8,6 +8,7 @@ use crate::kernel::convert_run;
 use crate::known::{
     Booleans, Int8s, Int16s, Int32s, Int64s, KnownKind, UInt8s, UInt16s, UInt32s, UInt64s,
 };
+use nd_element::is_elem;
 use nd_types::{Elem, Kind};
 use nd_view::Run;
 
@@ -19,14 +20,6 @@ fn convert_any(out: &mut [u8], to: Elem, bytes: &[u8], from: Elem, run: &Run)
     ensures { out.new ≡ converted_bytes to from bytes.now run.now }
 {
     convert_run(out, to, bytes, from, run);
-}
-
-// Whether both are one element.
-#[inline(always)]
-fn is_elem(elem: Elem, other: Elem) -> bool
-    ensures { IsTrue result ↔ (elem ≡ other) }
-{
-    elem == other
 }
 
 // The same, by a loop for the two elements that are known, if they are these.

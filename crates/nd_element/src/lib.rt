@@ -2,7 +2,9 @@
 #![tactic(auto)]
 
 mod canonical;
+mod elem;
 mod numbers;
 
 pub use canonical::{canonical_bytes, number_in, write_structure};
+pub use elem::{is_elem, keeps_bytes};
 pub use numbers::{numbers_of, push_bytes_of, push_numbers};

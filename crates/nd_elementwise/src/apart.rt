@@ -1,36 +1,8 @@
 //! Whether what is read of a block keeps off what is written to it.
-ghost use Rattle.std.specs.Prelude.{◌≡◌, ◌+◌, ◌*◌, ◌^◌, ◌<◌, ◌≤◌, length, slice_index, IsTrue, IfSome};
-ghost use Rattle.nd_model.specs.Element.{size_of};
-ghost use Rattle.nd_assign.specs.SideBySide.{side_by_side};
+ghost use Rattle.std.specs.Prelude.{◌≡◌, ◌+◌, ◌*◌, ◌^◌, ◌<◌, ◌≤◌, length, IsTrue};
 ghost use Rattle.nd_elementwise.specs.KeptOff.{KeepsOff};
 
-use nd_types::Elem;
 use nd_view::{Run, View};
-
-// Whether the elements of a run lie side by side.
-fn is_gapless(run: &Run, elem: Elem) -> bool
-    ensures { IsTrue result → run.now ≡ side_by_side (size_of elem.kind) (slice_index run.now 0)
-        (length run.now) }
-{
-    let step = run.step();
-    run.count() == 1 || step == i128::from(elem.size())
-}
-
-/// Returns the places of a view whose elements lie side by side, `None` of others and where there are none.
-pub(crate) fn gapless_run(view: &View, elem: Elem) -> Option<Run>
-    ensures { IfSome result (λ run. (run ≡ view.now.places)
-        × (run ≡ side_by_side (size_of elem.kind) (slice_index run 0) (length run))) }
-{
-    let mut runs = view.runs();
-    let run = runs.next()?;
-    if run.count() as usize != view.count() {
-        return None;
-    }
-    if !is_gapless(&run, elem) {
-        return None;
-    }
-    Some(run)
-}
 
 // The place of the target's element of this number.
 fn place_at(first: u64, step: u64, number: u64) -> u128

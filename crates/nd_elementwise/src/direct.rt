@@ -10,11 +10,11 @@ ghost use Rattle.nd_assign.specs.SideBySide.{side_by_side};
 ghost use Rattle.nd_elementwise.specs.Prepared.{IsRightSide, right_operand, with_results, written_directly};
 ghost use Rattle.nd_loops.specs.Results.{binary_result};
 
-use crate::apart::gapless_run;
 use crate::beside::{Beside, stretch_beside};
 use crate::in_place::RightSide;
 use crate::replacing::replace_numbers;
 use crate::results::operand_kind;
+use nd_assign::gapless_run;
 use nd_block::RawBlock;
 use nd_loops::operation::Operation;
 use nd_loops::{CHUNK, ROOM, operation as functions};

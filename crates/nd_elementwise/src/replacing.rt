@@ -14,8 +14,9 @@ ghost use Rattle.nd_loops.specs.Sides.{Keeps};
 use crate::beside::LeftBeside;
 use crate::stretched::side_kind;
 use nd_convert::convert;
+use nd_element::is_elem;
 use nd_loops::operation::Operation;
-use nd_loops::{CHUNK, apply_sides, chunk_of, is_elem, side_of};
+use nd_loops::{CHUNK, apply_sides, chunk_of, side_of};
 use nd_types::{Elem, Kind};
 use nd_view::Run;
 

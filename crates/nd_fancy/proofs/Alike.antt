@@ -23,8 +23,9 @@ narrowed_same (n ∷ shape) (i ∷ t) is = elim (cases_Bool (nat_eq n 1)) [
   | inr other ↦ rw other (ap (λ l. i ∷ l) (narrowed_same shape t is.1))
 ]
 
-own_same : (shape t : List ℕ) → IsIndex shape t → length t ≡ length shape → own_tuple shape t ≡ t
-own_same shape t is long = let none : length t - length shape ≡ 0 = omega (arith, long) in rw none (narrowed_same shape t is)
+-- a tuple of the common shape is that of an array of this shape
+pub own_same : (shape t : List ℕ) → IsIndex shape t → own_tuple shape t ≡ t
+own_same shape t is = let none : length t - length shape ≡ 0 = omega (arith, length-index shape t is) in rw none (narrowed_same shape t is)
 
 read_all : (ks : List ℕ) → map (λ k. get_or ks k 0) (count_up 0 (length ks)) ≡ ks
 read_all [] = refl
@@ -36,7 +37,7 @@ read_all (x ∷ ks) = ap (λ l. x ∷ l) (ap (map (λ k. get_or (x ∷ ks) k 0))
 
 numbers_read : (shape ks : List ℕ) → length ks ≡ elements_of shape → map (number_at shape ks) (indices shape) ≡ ks
 numbers_read shape ks long =
-    same_indexes (number_at shape ks) (λ t. get_or ks (number shape t) 0) shape (λ t is. ap (λ u. get_or ks (number shape u) 0) (own_same shape t is (length-index shape t is)))
+    same_indexes (number_at shape ks) (λ t. get_or ks (number shape t) 0) shape (λ t is. ap (λ u. get_or ks (number shape u) 0) (own_same shape t is))
     ∙ sym (map-map (λ k. get_or ks k 0) (number shape) (indices shape)) ∙ ap (map (λ k. get_or ks k 0)) (numbers shape ∙ ap (count_up 0) (sym long)) ∙ read_all ks
 
 summed_all : {X : Type 0} (f g : X → ℤ) (ts : List X) → sums_of (map f ts) (map g ts) ≡ map (λ t. f t +ℤ g t) ts

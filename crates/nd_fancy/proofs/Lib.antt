@@ -1,4 +1,4 @@
-mod Alike
+pub mod Alike
 mod Chosen
 mod Forms
 mod Placed

@@ -8,7 +8,8 @@ ghost use Rattle.nd_places.specs.Near.{is_true};
 
 use crate::index_numbers::IndexNumbers;
 use nd_block::RawBlock;
-use nd_index::{IndexArray, is_elem, is_packed};
+use nd_element::is_elem;
+use nd_index::{IndexArray, is_packed};
 use nd_places::{PlaceList, Trues};
 use nd_types::{Elem, Kind};
 use nd_ways::{Axes, KeptWays, Row, line_of};

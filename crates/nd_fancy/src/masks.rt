@@ -53,7 +53,7 @@ fn write_each_true(
 }
 
 // The same, by a loop for Booleans side by side alone.
-fn write_trues(numbers: &mut [u64], first: u64, mask: &IndexArray<'_>, run: &Run) -> usize
+fn write_true_numbers(numbers: &mut [u64], first: u64, mask: &IndexArray<'_>, run: &Run) -> usize
     requires room { length run.now ≤ length numbers.old }
     requires range { first + length run.now ≤ 2 ^ 32 }
     ensures len { length numbers.new ≡ length numbers.old }
@@ -107,7 +107,7 @@ fn push_trues(
     let mut at = 0;
     while at < run.count() {
         let part = run.part(at, (run.count() - at).min(PART as u64));
-        let count = write_trues(&mut numbers, first + at, mask, &part);
+        let count = write_true_numbers(&mut numbers, first + at, mask, &part);
         push_numbers(places, row, axes, &numbers[..count])?;
         at += part.count();
     }

@@ -6,7 +6,8 @@ ghost use Rattle.nd_index.specs.Counts.{true_count};
 ghost use Rattle.nd_index.specs.Items.{item_of, items_of, numbers_of};
 
 use crate::item::{IndexArray, Item};
-use crate::reading::{is_elem, is_packed, read_at};
+use crate::reading::{is_packed, read_at};
+use nd_element::is_elem;
 use nd_places::count_trues;
 use nd_shape::broadcast;
 use nd_types::{Elem, Kind};

@@ -12,5 +12,5 @@ pub use common::{common_shape, count_true};
 pub use fault::{FancyFault, IndexFault};
 pub use item::{IndexArray, Item, axes_of, count_axes, count_ellipses};
 pub use limits::{bounds_fault, inside_position, length_of, shape_fault};
-pub use reading::{is_elem, is_packed, read_at};
+pub use reading::{is_packed, read_at};
 pub use slices::{Slices, slices_of};

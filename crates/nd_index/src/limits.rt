@@ -14,8 +14,9 @@ ghost use Rattle.nd_index.specs.Packed.{IsPacked};
 
 use crate::fault::IndexFault;
 use crate::item::{IndexArray, Item, axes_of};
-use crate::reading::{is_elem, is_packed, read_at};
+use crate::reading::{is_packed, read_at};
 use nd_basic::Item as BasicItem;
+use nd_element::is_elem;
 use nd_types::{Elem, Kind};
 use nd_view::Run;
 

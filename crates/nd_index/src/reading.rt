@@ -9,14 +9,6 @@ use nd_element::number_in;
 use nd_types::Elem;
 use nd_view::Run;
 
-/// Returns whether both are the same.
-#[inline(always)]
-pub fn is_elem(elem: Elem, other: Elem) -> bool
-    ensures { IsTrue result ↔ (elem ≡ other) }
-{
-    elem == other
-}
-
 /// Returns whether the elements of a run, which have this size, stand side by side among so many bytes.
 pub fn is_packed(run: &Run, size: u64, len: usize) -> bool
     requires { size ≤ 8 }

@@ -22,5 +22,5 @@ pub use feed::Feed;
 pub use kernel::Side;
 pub use lent::Lent;
 pub use pairs::apply_sides;
-pub use reading::{is_elem, side_of};
+pub use reading::side_of;
 pub use repeated::Repeated;

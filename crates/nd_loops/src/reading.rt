@@ -1,5 +1,5 @@
 //! The numbers of a run as one side of a function.
-ghost use Rattle.std.specs.Prelude.{◌≡◌, ℕ, ◌*◌, ◌<◌, ◌≤◌, pos, length, take, drop, slice_index, IsTrue, IfSome};
+ghost use Rattle.std.specs.Prelude.{◌≡◌, ℕ, ◌*◌, ◌<◌, ◌≤◌, pos, length, take, drop, slice_index, IfSome};
 ghost use Rattle.nd_model.specs.Content.{number_at};
 ghost use Rattle.nd_model.specs.Element.{IsValue, size_of};
 ghost use Rattle.nd_model.specs.Runs.{place_at};
@@ -11,16 +11,9 @@ ghost use Rattle.nd_loops.specs.declared.kernel.Side.TheVariants.{Each};
 use crate::kernel::Side;
 use nd_block::value_at;
 use nd_convert::convert;
+use nd_element::is_elem;
 use nd_types::{Elem, Kind};
 use nd_view::Run;
-
-/// Returns whether both are the same.
-#[inline(always)]
-pub fn is_elem(elem: Elem, other: Elem) -> bool
-    ensures { IsTrue result → elem ≡ other }
-{
-    elem == other
-}
 
 // The number of the elements of a run that all lie at one place.
 fn lone_number(bytes: &[u8], elem: Elem, run: &Run) -> i128

@@ -16,7 +16,7 @@ fn count_of_byte(byte: u8) -> u8
 /// Writes the places of the elements of a line whose bytes of a mask are true, the first of which has this number, and returns how many
 /// there are.
 #[inline(always)]
-pub(crate) fn write_trues(out: &mut [u64], line: Line, first: u64, mask: &[u8]) -> usize
+pub(crate) fn write_true_places(out: &mut [u64], line: Line, first: u64, mask: &[u8]) -> usize
     requires room { length mask.now ≤ length out.old }
     requires range { first + length mask.now ≤ 2 ^ 32 }
     ensures len { length out.new ≡ length out.old }

@@ -7,7 +7,7 @@ ghost use Rattle.nd_places.specs.Near.{IsNear, place_on};
 
 use crate::form::{Form, Rows, Trues};
 use crate::line::near_place;
-use crate::masks::write_trues;
+use crate::masks::write_true_places;
 use std::marker::Model;
 
 /// A walk over the places of a list in order. A clause sees the list of those that are left.
@@ -101,7 +101,7 @@ fn next_trues<'b>(trues: &Trues, done: &mut usize, room: &'b mut [u64]) -> Optio
     let mut count = 0;
     while count == 0 && *done < mask.len() {
         let end = *done + room.len().min(mask.len() - *done);
-        count = write_trues(room, trues.line, *done as u64, &mask[*done..end]);
+        count = write_true_places(room, trues.line, *done as u64, &mask[*done..end]);
         *done = end;
     }
     if count == 0 {

@@ -1,31 +1,14 @@
 //! Numbers that lie in a block as they stand in a file.
-ghost use Rattle.std.specs.Prelude.{◌≡◌, ◌≢◌, ◌+◌, ◌*◌, ◌<◌, ◌≤◌, length, slice_index, IsTrue, IfSome};
+ghost use Rattle.std.specs.Prelude.{◌≡◌, ◌≢◌, ◌+◌, ◌*◌, ◌<◌, ◌≤◌, length, slice_index, IfSome};
 ghost use Rattle.std.specs.List.{All};
 ghost use Rattle.nd_model.specs.Element.{Boolean, size_of, bytes_at};
 ghost use Rattle.nd_assign.specs.SideBySide.{side_by_side};
 ghost use Rattle.nd_element.specs.Elements.{canonical_bytes};
 
-use nd_types::{Elem, ElemType, Kind};
+use nd_assign::gapless_run;
+use nd_element::keeps_bytes;
+use nd_types::{Elem, ElemType};
 use nd_view::{Run, View};
-
-// Whether the elements of a run lie side by side.
-fn is_gapless(run: &Run, elem: Elem) -> bool
-    ensures { IsTrue result → run.now ≡ side_by_side (size_of elem.kind) (slice_index run.now 0)
-        (length run.now) }
-{
-    let step = run.step();
-    run.count() == 1 || step == i128::from(elem.size())
-}
-
-// Whether the bytes of a number are those of its value. Those of a Boolean may be others than 0 and 1.
-fn keeps_bytes(elem: Elem) -> bool
-    ensures { IsTrue result → elem.kind ≢ Boolean }
-{
-    match elem.kind() {
-        Kind::Bool => false,
-        _ => true,
-    }
-}
 
 // The run of all elements of a view, if they lie side by side and keep their bytes.
 fn plain_run(view: &View, elem: Elem) -> Option<Run>
@@ -33,14 +16,10 @@ fn plain_run(view: &View, elem: Elem) -> Option<Run>
         × (elem.kind ≢ Boolean)
         × (run ≡ side_by_side (size_of elem.kind) (slice_index run 0) (length run))) }
 {
-    let mut runs = view.runs();
-    let run = runs.next()?;
-    let is_whole = run.count() == view.count() as u64;
-    if is_whole && keeps_bytes(elem) && is_gapless(&run, elem) {
-        Some(run)
-    } else {
-        None
+    if !keeps_bytes(elem) {
+        return None;
     }
+    gapless_run(view, elem)
 }
 
 // So many bytes as the elements of a run have, from its first place on.

@@ -1,19 +1,15 @@
 -- An array of numbers that is assigned to itself stays as it is.
-use Rattle.std.proofs.Common.{◌≡◌, ℕ, ◌+◌, ◌-◌, ◌*◌, ◌<◌, ◌≤◌, true, List, [], ◌∷◌, ◌++◌, map, length, take, drop, get_or, refl, sym, ap, ◌∙◌, subst, inl, inr, arith, eqb-true}
-use Rattle.std.specs.Prelude.{nat_eq}
+use Rattle.std.proofs.Common.{◌≡◌, ℕ, ◌+◌, ◌-◌, ◌*◌, ◌<◌, ◌≤◌, true, List, ◌++◌, map, length, take, drop, get_or, refl, sym, ap, ◌∙◌, subst, arith}
 use Rattle.std.specs.List.{All}
-use Rattle.std.proofs.lemmas.Bool.{cases_Bool}
 use Rattle.std.proofs.lemmas.List.{take-append-drop}
 use Rattle.nd_model.specs.Assigning.{fits_into, value_shape, without_ones}
-use Rattle.nd_model.specs.Broadcast.{narrowed_axes, own_tuple}
+use Rattle.nd_model.specs.Broadcast.{own_tuple}
 use Rattle.nd_model.specs.Element.{Element, bytes_at, size_of, with_bytes}
 use Rattle.nd_model.specs.Sound.{LiesIn}
 use Rattle.nd_model.specs.Tuple.{count_up, elements_of, indices, number}
 use Rattle.nd_model.specs.View.{ElementType, Geo, One, contiguous, item_size}
 use Rattle.nd_block.proofs.Copied.{length-bytes_at}
-use Rattle.nd_view.specs.Indexes.{IsIndex}
 use Rattle.nd_view.proofs.Indexed.{at_index, same_indexes}
-use Rattle.nd_view.proofs.Steps.{length-index}
 use Rattle.nd_view.proofs.Tuples.{map-map, map_same, numbers}
 use Rattle.nd_assign.specs.Assigned.{with_elements}
 use Rattle.nd_assign.specs.Copies.{with_copies}
@@ -22,21 +18,10 @@ use Rattle.nd_assign.specs.SideBySide.{side_by_side}
 use Rattle.nd_assign.specs.Stretched.{value_places}
 use Rattle.nd_assign.proofs.Assigned.{assigned}
 use Rattle.nd_assign.proofs.Bytewise.{bytewise, end_held}
+use Rattle.nd_fancy.proofs.Alike.{own_same}
 use Rattle.nd_scatter.specs.OwnValues.{AreOwnValues}
 
 -- ---- a value of the target's own shape
-
-narrowed_same : (shape t : List ℕ) → IsIndex shape t → narrowed_axes shape t ≡ t
-narrowed_same [] [] is = refl
-narrowed_same [] (i ∷ t) is = absurd is
-narrowed_same (n ∷ shape) [] is = absurd is
-narrowed_same (n ∷ shape) (i ∷ t) is = elim (cases_Bool (nat_eq n 1)) [
-  | inl one ↦ let single : n ≡ 1 = eqb-true n 1 one in let first : 0 ≡ i = omega (arith, single, is.0) in rw one (λ k. first k ∷ narrowed_same shape t is.1 k)
-  | inr other ↦ rw other (ap (λ l. i ∷ l) (narrowed_same shape t is.1))
-]
-
-own_same : (shape t : List ℕ) → IsIndex shape t → own_tuple shape t ≡ t
-own_same shape t is = let none : length t - length shape ≡ 0 = omega (arith, length-index shape t is) in rw none (narrowed_same shape t is)
 
 -- its elements stand one beside the other
 places_same : (v : Geo) (size : ℕ) → length v.places ≡ elements_of v.shape → v.places ≡ side_by_side size 0 (length v.places) → value_places v v.shape ≡ v.places

@@ -1,23 +1,13 @@
 //! The loops over numbers: the bytes of each go to its place, by a loop of its own for each number of bytes.
-ghost use Rattle.std.specs.Prelude.{◌≡◌, ◌≢◌, ◌+◌, ◌<◌, ◌≤◌, length, IsTrue};
+ghost use Rattle.std.specs.Prelude.{◌≡◌, ◌+◌, ◌<◌, ◌≤◌, length};
 ghost use Rattle.std.specs.List.{All};
-ghost use Rattle.nd_model.specs.Element.{Boolean, bytes_at, size_of, with_bytes};
+ghost use Rattle.nd_model.specs.Element.{bytes_at, size_of, with_bytes};
 ghost use Rattle.nd_model.specs.View.{One};
 ghost use Rattle.nd_element.specs.Elements.{AreHeld};
 ghost use Rattle.nd_scatter.specs.Ready.{AreValues};
 ghost use Rattle.nd_scatter.specs.Scattered.{scattered};
 
 use nd_types::{Elem, Kind};
-
-/// Returns whether the bytes of a number are those of its value. Those of a Boolean may be others than 0 and 1.
-pub(crate) fn keeps_bytes(elem: Elem) -> bool
-    ensures { IsTrue result → elem.kind ≢ Boolean }
-{
-    match elem.kind() {
-        Kind::Bool => false,
-        _ => true,
-    }
-}
 
 /// Says that bytes are below 256, and does nothing.
 #[inline(always)]

@@ -11,8 +11,9 @@ ghost use Rattle.nd_scatter.specs.OnLine.{AreOnLine, IsRow};
 ghost use Rattle.nd_scatter.specs.Ready.{AreValues};
 ghost use Rattle.nd_scatter.specs.Scattered.{scattered};
 
-use crate::kernel::{copy_bytes, hold_bytes, keeps_bytes};
+use crate::kernel::{copy_bytes, hold_bytes};
 use nd_block::{Filling, store_at, value_at};
+use nd_element::keeps_bytes;
 use nd_places::{Line, PlaceList, Trues, near_place};
 use nd_types::{Elem, Kind};
 
@@ -336,7 +337,7 @@ fn write_by_size(out: &mut [u8], elem: Elem, line: Line, mask: &[u8], values: &[
 }
 
 /// Writes the values, which begin no more bytes apart than a number has, to the numbers on a line that a mask chooses.
-pub(crate) fn write_trues(out: &mut [u8], elem: Elem, trues: &Trues, values: &[u8], step: usize)
+pub(crate) fn assign_trues(out: &mut [u8], elem: Elem, trues: &Trues, values: &[u8], step: usize)
     requires step { step ≤ size_of elem.kind }
     requires inside { AreOnLine trues.now.line (size_of elem.kind) (length trues.now.mask)
         (length out.old) }

@@ -1,5 +1,5 @@
 //! Assignments of arrays whose blocks are given away: the block itself becomes the values where its bytes are theirs.
-ghost use Rattle.std.specs.Prelude.{◌≡◌, ◌≢◌, ◌<◌, ◌^◌, ◌≤◌, ◌↔◌, length, slice_index, IfOk, IfSome, IsTrue};
+ghost use Rattle.std.specs.Prelude.{◌≡◌, ◌≢◌, ◌<◌, ◌^◌, ◌≤◌, ◌↔◌, length, IfOk, IfSome, IsTrue};
 ghost use Rattle.nd_model.specs.Element.{Boolean, size_of};
 ghost use Rattle.nd_model.specs.Sound.{LiesIn};
 ghost use Rattle.nd_model.specs.View.{One};
@@ -10,13 +10,15 @@ ghost use Rattle.nd_fancy.specs.Chosen.{view_at};
 ghost use Rattle.nd_scatter.specs.OwnValues.{AreOwnValues};
 ghost use Rattle.nd_scatter.specs.Scattered.{written_by};
 
-use crate::kernel::{hold_bytes, keeps_bytes};
+use crate::kernel::hold_bytes;
 use crate::preparation::prepare_elements;
 use crate::scatter::Scatter;
+use nd_assign::gapless_run;
 use nd_block::RawBlock;
+use nd_element::keeps_bytes;
 use nd_fancy::Places;
 use nd_types::{Elem, ElemType};
-use nd_view::{Run, View};
+use nd_view::View;
 use std::alloc::{AllocError, Global};
 
 // The type of the numbers of both views, if it is one and the bytes of its numbers are those of their values.
@@ -36,32 +38,18 @@ fn shared_elem(view: &View, array: &View) -> Option<Elem>
     Some(*elem)
 }
 
-// Whether the elements of a run lie side by side.
-fn is_gapless(run: &Run, elem: Elem) -> bool
-    ensures { IsTrue result → run.now ≡ side_by_side (size_of elem.kind) (slice_index run.now 0)
-        (length run.now) }
-{
-    let step = run.step();
-    run.count() == 1 || step == i128::from(elem.size())
-}
-
 // Whether all elements of a view lie side by side from the first byte of a block on.
 fn begins_gapless(view: &View, elem: Elem) -> bool
     ensures { IsTrue result → (view.now.places ≡ side_by_side (size_of elem.kind) 0
         (length view.now.places)) × (0 < length view.now.places)
         × (length view.now.places ≤ 2 ^ 24) }
 {
-    let mut runs = view.runs();
-    let Some(run) = runs.next() else {
+    let _len = view.count();
+    let Some(run) = gapless_run(view, elem) else {
         return false;
     };
-    if run.count() as usize != view.count() {
-        return false;
-    }
-    if run.start() != 0 {
-        return false;
-    }
-    is_gapless(&run, elem)
+    let _count = run.count();
+    run.start() == 0
 }
 
 // Whether both shapes are the same.

@@ -7,7 +7,7 @@ ghost use Rattle.nd_scatter.specs.Ready.{AreValues};
 ghost use Rattle.nd_scatter.specs.Scattered.{scattered};
 
 use crate::kernel::write_numbers;
-use crate::masked::{inner_trues, write_trues};
+use crate::masked::{assign_trues, inner_trues};
 use crate::structures::write_structures;
 use nd_places::PlaceList;
 use nd_types::ElemType;
@@ -76,7 +76,7 @@ fn write_masked(
     if step > elem.size() as usize {
         return false;
     }
-    write_trues(out, *elem, trues, values, step);
+    assign_trues(out, *elem, trues, values, step);
     true
 }
 

@@ -10,7 +10,7 @@ use Rattle.nd_elementwise.proofs.replacing.write_numbers.Goals as goal
 
 pub returns-then-is_elem : goal.returns-then-is_elem
 returns-then-is_elem c = λ zs are many is.
-    let own : c.args.elem ≡ little (kind_of c.args.to) = c.is_elem.ensures c.if-is_elem.true ∙ c.little-own.ensures in
+    let own : c.args.elem ≡ little (kind_of c.args.to) = c.is_elem.ensures.0 c.if-is_elem.true ∙ c.little-own.ensures in
     c.copy_from_slice.ensures.after ∙ is ∙ kept_values (little (kind_of c.args.to)) zs are ∙ (λ i. written_numbers (sym own i) zs)
 
 pub returns-else-is_elem : goal.returns-else-is_elem

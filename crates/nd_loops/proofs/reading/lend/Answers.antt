@@ -13,7 +13,7 @@ use Rattle.nd_loops.proofs.reading.lend.Goals as goal
 pub returns-then-is_elem : goal.returns-then-is_elem
 returns-then-is_elem c =
     let a = c.args in let ps = a.run.now in let step = c.step.result in
-    let own : a.elem ≡ little (kind_of a.kind) = c.is_elem.ensures c.if-is_elem.true ∙ c.little.ensures in
+    let own : a.elem ≡ little (kind_of a.kind) = c.is_elem.ensures.0 c.if-is_elem.true ∙ c.little.ensures in
     let size : length ps * size_of (kind_of a.kind) ≡ length ps * size_of a.elem.kind = ap (λ (e : Element). length ps * size_of e.kind) (sym own) in
     let fits : FitsSigned w128 step = search rules in
     let one : step ≡ pos (size_of a.elem.kind) = sym (to_z-of_z fits) ∙ ap (cast_signed w128) c.if-step-from.true ∙ to_z-of_z {w = w128} (let f : FitsSigned w128 c.from.result = search rules in f) ∙ c.from.ensures ∙ ap pos c.size.ensures.value in (

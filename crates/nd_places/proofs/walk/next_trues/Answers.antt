@@ -14,11 +14,11 @@ loop-count-preserved c =
     let long : length part ≡ n = length-take-le n (drop at mask) fits in
     let same : mask ≡ trues.mask = c.as_slice-mask.ensures in
     let none : c.loop-count.count ≡ 0 = omega (arith, c.loop-count-test.true) in
-    let written : take c.write_trues-count.result c.write_trues-count.new.out ≡ trues_on line at part
-    = c.write_trues-count.ensures.places ∙ ap (λ m. trues_on line at (take m (drop at mask))) width in
+    let written : take c.write_true_places-count.result c.write_true_places-count.new.out ≡ trues_on line at part
+    = c.write_true_places-count.ensures.places ∙ ap (λ m. trues_on line at (take m (drop at mask))) width in
     record {
-      room = c.write_trues-count.ensures.len ∙ c.loop-count.invariant.room;
-      few = c.write_trues-count.ensures.few;
+      room = c.write_true_places-count.ensures.len ∙ c.loop-count.invariant.room;
+      few = c.write_true_places-count.ensures.few;
       split = c.loop-count.invariant.split
           ∙ ap (λ k. take k c.loop-count.room ++ trues_left trues at) none
           ∙ ap (λ ms. trues_on line at (drop at ms)) (sym same) ∙ ap (trues_on line at) (parts_of at n mask) ∙ trues_split line at part (drop (at + n) mask)

@@ -5,7 +5,7 @@ use Rattle.std.proofs.lemmas.Int.{ints}
 use Rattle.std.proofs.lemmas.List.{length-set}
 use Rattle.nd_places.specs.Near.{is_true, place_on, place_on_line}
 use Rattle.nd_places.proofs.Found.{near_product, one_at_most, written_next}
-use Rattle.nd_places.proofs.masks.write_trues.Goals as goal
+use Rattle.nd_places.proofs.masks.write_true_places.Goals as goal
 
 pub loop-index-preserved : goal.loop-index-preserved
 loop-index-preserved c =

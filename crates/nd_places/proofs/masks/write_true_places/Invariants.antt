@@ -1,6 +1,6 @@
 use Rattle.std.proofs.Common.{◌≡◌, ◌+◌, ◌≤◌, ◌++◌, length, map, take, drop}
 use Rattle.nd_places.specs.Near.{place_on_line, trues_in}
-use Rattle.nd_places.proofs.masks.write_trues.Given as goal
+use Rattle.nd_places.proofs.masks.write_true_places.Given as goal
 
 abbrev pub invariant-loop-index : goal.invariant-loop-index
 invariant-loop-index l = record {

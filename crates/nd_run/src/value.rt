@@ -6,11 +6,11 @@ ghost use Rattle.nd_model.specs.Script as script;
 ghost use Rattle.nd_model.specs.Text.{truth_text};
 ghost use Rattle.nd_model.specs.View.{item_size};
 ghost use Rattle.nd_rerun.specs.Kinds.{kind_of};
-ghost use Rattle.nd_rerun.specs.Fields.{field_of, fields_of};
 ghost use Rattle.nd_rerun.specs.Types.{type_of};
 ghost use Rattle.nd_rerun.specs.Queries.{shown_of};
 
-use nd_rerun::{Elem, ElemType, Field, Kind, Shown};
+use nd_pep::write_format;
+use nd_rerun::{ElemType, Kind, Shown};
 use nd_script::{push_hex, push_integer, push_number, push_shape, push_text};
 use std::alloc::AllocError;
 
@@ -57,12 +57,13 @@ fn push_shown(out: &mut Vec<u8>, value: &Shown) -> Result<(), AllocError>
     }
 }
 
-// The format of a type, its size, and a space.
+// The format string (PEP 3118) of a type, its size, and a space.
 fn push_type(out: &mut Vec<u8>, elem: &ElemType) -> Result<(), AllocError>
     ensures { OnOk result (out.new.items ≡ out.old.items ++ (formats.format_text (type_of elem.now)
         ++ codes " " ++ decimal (item_size (type_of elem.now)) ++ codes " ")) }
 {
-    push_format(out, elem)?;
+    let format = write_format(*out.allocator(), elem)?;
+    push_text(out, format.as_str())?;
     push_text(out, " ")?;
     push_number(out, elem.size())?;
     push_text(out, " ")
@@ -87,90 +88,5 @@ fn kind_name(kind: Kind) -> &'static str
         Kind::U16 => "uint16",
         Kind::U32 => "uint32",
         Kind::U64 => "uint64",
-    }
-}
-
-// The code of a kind in a format string (PEP 3118).
-fn kind_code(kind: Kind) -> &'static str
-    ensures { result.now ≡ formats.kind_code (kind_of kind) }
-{
-    match kind {
-        Kind::Bool => "?",
-        Kind::I8 => "b",
-        Kind::I16 => "h",
-        Kind::I32 => "i",
-        Kind::I64 => "q",
-        Kind::U8 => "B",
-        Kind::U16 => "H",
-        Kind::U32 => "I",
-        Kind::U64 => "Q",
-    }
-}
-
-fn order_mark(big: bool) -> &'static str
-    ensures { result.now ≡ formats.order_text big }
-{
-    if big { ">" } else { "<" }
-}
-
-fn push_element_format(out: &mut Vec<u8>, elem: Elem) -> Result<(), AllocError>
-    ensures { OnOk result (out.new.items ≡ out.old.items ++ formats.element_format elem) }
-{
-    if elem.size() > 1 {
-        push_text(out, order_mark(elem.big()))?;
-    }
-    push_text(out, kind_code(elem.kind()))
-}
-
-// So many bytes without meaning.
-fn push_pads(out: &mut Vec<u8>, count: u64) -> Result<(), AllocError>
-    ensures { OnOk result (out.new.items ≡ out.old.items ++ formats.pad_format count) }
-{
-    match count {
-        0 => Ok(()),
-        1 => push_text(out, "x"),
-        _ => {
-            push_number(out, count)?;
-            push_text(out, "x")
-        }
-    }
-}
-
-fn push_field(out: &mut Vec<u8>, field: &Field) -> Result<(), AllocError>
-    ensures { OnOk result (out.new.items ≡ out.old.items ++ formats.field_format
-        (field_of field.now)) }
-{
-    push_element_format(out, field.elem)?;
-    push_text(out, ":")?;
-    push_text(out, field.name.as_str())?;
-    push_text(out, ":")
-}
-
-// The fields of a structure of this size, with the pad bytes before and behind them.
-fn push_fields(out: &mut Vec<u8>, fields: &[Field], size: u64) -> Result<(), AllocError>
-    ensures { OnOk result (out.new.items ≡ out.old.items ++ formats.fields_format 0 size
-        (fields_of fields.now)) }
-{
-    let mut place = 0;
-    for field in fields {
-        push_pads(out, u64::from(field.at).saturating_sub(place))?;
-        push_field(out, field)?;
-        place = u64::from(field.at) + field.elem.size();
-    }
-    push_pads(out, size.saturating_sub(place))
-}
-
-// A format string (PEP 3118).
-fn push_format(out: &mut Vec<u8>, elem: &ElemType) -> Result<(), AllocError>
-    ensures { OnOk result (out.new.items ≡ out.old.items ++ formats.format_text
-        (type_of elem.now)) }
-{
-    match elem {
-        ElemType::One(elem) => push_element_format(out, *elem),
-        ElemType::Rec(structure) => {
-            push_text(out, "T{")?;
-            push_fields(out, structure.fields(), u64::from(structure.size()))?;
-            push_text(out, "}")
-        }
     }
 }

@@ -2,14 +2,14 @@
 use Rattle.std.proofs.Common.{◌≡◌, ℕ, ℤ, ◌+◌, ◌-◌, ◌*◌, true, List, [], ◌∷◌, map, length, drop, get_or, sym, ap, ◌∙◌, arith}
 use Rattle.std.specs.Prelude.{pos, Result, Ok, Err, IfOk}
 use Rattle.std.proofs.lemmas.List.{get_or-map, take_at}
-use Rattle.nd_model.specs.Assigning.{value_shape, fits_into, assigned_writes}
-use Rattle.nd_model.specs.Broadcast.{own_tuple}
-use Rattle.nd_model.specs.Content.{Content, Num, number_at, content_at, all_writes, content_or}
-use Rattle.nd_model.specs.Conversion.{converted_content}
-use Rattle.nd_model.specs.Session.{put}
-use Rattle.nd_model.specs.Tuple.{elements_of, indices, number}
-use Rattle.nd_model.specs.View.{Geo, One, contiguous}
-use Rattle.nd_model.specs.Element.{Element, size_of, IsValue, value_of, bytes_of, with_bytes, wrap}
+use Rattle.nd_model.specs.Making.Assigning.{value_shape, fits_into, assigned_writes}
+use Rattle.nd_model.specs.Arrays.Broadcast.{own_tuple}
+use Rattle.nd_model.specs.Arrays.Content.{Content, Num, number_at, content_at, all_writes, content_or}
+use Rattle.nd_model.specs.Making.Conversion.{converted_content}
+use Rattle.nd_model.specs.Cells.Session.{put}
+use Rattle.nd_model.specs.Arrays.Tuple.{elements_of, indices, number}
+use Rattle.nd_model.specs.Arrays.View.{Geo, One, contiguous}
+use Rattle.nd_model.specs.Arrays.Element.{Element, size_of, IsValue, value_of, bytes_of, with_bytes, wrap}
 use Rattle.nd_model.proofs.Values.{length-bytes_of, round_trip, wrap_value, wrap_in_range}
 use Rattle.nd_view.proofs.Indexed.{same_indexes}
 use Rattle.nd_view.proofs.Tuples.{map-map, map_same}

@@ -5,17 +5,17 @@ use Rattle.std.proofs.lemmas.Int.{ints}
 use Rattle.std.proofs.lemmas.List.{take-append-drop, drop-drop, get_or-map}
 use Rattle.std.proofs.lemmas.List.Elements.{All-take, All-drop}
 use borrow.Rule.Slice.PartMut.{put_mid}
-use Rattle.nd_model.specs.Content.{number_at, writes, all_writes}
-use Rattle.nd_model.specs.Element.{Kind, Boolean, Element, width_of, size_of, residue, bytes_in, bytes_of, bytes_at, with_bytes, wrap}
-use Rattle.nd_model.specs.Runs.{place_at, run_places}
-use Rattle.nd_model.specs.Session.{put}
-use Rattle.nd_model.specs.Tuple.{count_up}
-use Rattle.nd_model.specs.View.{One}
+use Rattle.nd_model.specs.Arrays.Content.{number_at, writes, all_writes}
+use Rattle.nd_model.specs.Arrays.Element.{Kind, Boolean, Element, width_of, size_of, residue, bytes_in, bytes_of, bytes_at, with_bytes, wrap}
+use Rattle.nd_model.specs.Arrays.Runs.{place_at, run_places}
+use Rattle.nd_model.specs.Cells.Session.{put}
+use Rattle.nd_model.specs.Arrays.Tuple.{count_up}
+use Rattle.nd_model.specs.Arrays.View.{One}
 use Rattle.nd_model.proofs.Puts.{put-append}
 use Rattle.nd_model.proofs.Residues.{one_wrap, bytes_round_trip}
 use Rattle.nd_block.proofs.Copied.{length-bytes_at, length-with_bytes}
 use Rattle.nd_block.proofs.Together.{bytes_at-split, with_bytes-twice}
-use Rattle.nd_convert.proofs.Pieces.{run_is}
+use Rattle.nd_convert.proofs.conversion.Pieces.{run_is}
 use Rattle.nd_view.proofs.Tuples.{length-count_up, get_or-count_up}
 use Rattle.nd_assign.specs.Copies.{copied_content, with_copies}
 use Rattle.nd_assign.specs.SideBySide.{side_by_side}

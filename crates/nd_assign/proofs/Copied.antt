@@ -2,12 +2,12 @@
 use Rattle.std.proofs.Common.{◌≡◌, ℕ, ℤ, ◌+◌, ◌<◌, ◌≤◌, List, [], ◌∷◌, ◌++◌, map, length, drop, get_or, refl, sym, ap, ◌∙◌, arith, add-one, drop-cons, append_assoc}
 use Rattle.std.specs.List.{zip}
 use Rattle.std.proofs.lemmas.List.{length-map, get_or-map, map-append, drop_all}
-use Rattle.nd_model.specs.Element.{Element, size_of, bytes_of, with_bytes}
-use Rattle.nd_model.specs.Runs.{spot_at, run_places}
-use Rattle.nd_model.specs.Session.{put}
-use Rattle.nd_model.specs.Tuple.{count_up}
-use Rattle.nd_model.specs.View.{ElementType, One}
-use Rattle.nd_model.specs.Content.{Content, Num, writes, all_writes}
+use Rattle.nd_model.specs.Arrays.Element.{Element, size_of, bytes_of, with_bytes}
+use Rattle.nd_model.specs.Arrays.Runs.{spot_at, run_places}
+use Rattle.nd_model.specs.Cells.Session.{put}
+use Rattle.nd_model.specs.Arrays.Tuple.{count_up}
+use Rattle.nd_model.specs.Arrays.View.{ElementType, One}
+use Rattle.nd_model.specs.Arrays.Content.{Content, Num, writes, all_writes}
 use Rattle.nd_model.proofs.Puts.{put-append, with_bytes-put}
 use Rattle.nd_model.proofs.Values.{length-bytes_of}
 use Rattle.nd_view.proofs.Tuples.{length-count_up, get_or-count_up}

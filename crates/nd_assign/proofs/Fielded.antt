@@ -1,9 +1,9 @@
 -- The fields of one structure, written one after another.
 use Rattle.std.proofs.Common.{◌≡◌, ℕ, ℤ, ◌+◌, ◌≤◌, List, [], ◌∷◌, map, length, sym, ap, ◌∙◌}
-use Rattle.nd_model.specs.Element.{size_of, bytes_of, with_bytes}
-use Rattle.nd_model.specs.Session.{put}
-use Rattle.nd_model.specs.View.{Field}
-use Rattle.nd_model.specs.Content.{number_at, number_writes, field_writes}
+use Rattle.nd_model.specs.Arrays.Element.{size_of, bytes_of, with_bytes}
+use Rattle.nd_model.specs.Cells.Session.{put}
+use Rattle.nd_model.specs.Arrays.View.{Field}
+use Rattle.nd_model.specs.Arrays.Content.{number_at, number_writes, field_writes}
 use Rattle.nd_model.proofs.Puts.{put-append}
 use Rattle.nd_assign.proofs.Copied.{number_put}
 

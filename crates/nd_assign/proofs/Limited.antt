@@ -3,11 +3,11 @@ use Rattle.std.proofs.Common.{◌≡◌, ℕ, ◌*◌, ◌^◌, ◌≤◌, true,
 use Rattle.std.specs.Prelude.{nat_lt}
 use Rattle.std.proofs.Math.Nat.{mul-le-mul_left}
 use Rattle.std.proofs.lemmas.Bool.Decides.{nat_tests}
-use Rattle.nd_model.specs.Conversion.{converts}
-use Rattle.nd_model.specs.Element.{size_of}
-use Rattle.nd_model.specs.Strides.{IsInLimits}
-use Rattle.nd_model.specs.Tuple.{elements_of}
-use Rattle.nd_model.specs.View.{ElementType, One, Structure, item_size}
+use Rattle.nd_model.specs.Making.Conversion.{converts}
+use Rattle.nd_model.specs.Arrays.Element.{size_of}
+use Rattle.nd_model.specs.Arrays.Strides.{IsInLimits}
+use Rattle.nd_model.specs.Arrays.Tuple.{elements_of}
+use Rattle.nd_model.specs.Arrays.View.{ElementType, One, Structure, item_size}
 use Rattle.nd_model.proofs.Values.{few_bytes}
 use Rattle.nd_view.proofs.Limits.{limits_of}
 use Rattle.nd_assign.proofs.SameTypes.{same_structure}

@@ -5,9 +5,9 @@ use Rattle.std.specs.List.{All}
 use Rattle.std.proofs.lemmas.Int.{ints}
 use Rattle.std.proofs.lemmas.List.Elements.{All-nil, All-append, All-weaker}
 use Rattle.std.proofs.Math.Nat.{mul-le-mul_right}
-use Rattle.nd_model.specs.Runs as runs
-use Rattle.nd_model.specs.Strides.{way_to, begins_at, place_at, places_by, is_held, are_held, parts_fault}
-use Rattle.nd_model.specs.Tuple.{elements_of, indices, number}
+use Rattle.nd_model.specs.Arrays.Runs as runs
+use Rattle.nd_model.specs.Arrays.Strides.{way_to, begins_at, place_at, places_by, is_held, are_held, parts_fault}
+use Rattle.nd_model.specs.Arrays.Tuple.{elements_of, indices, number}
 use Rattle.nd_view.specs.Indexes.{IsIndex}
 use Rattle.nd_view.proofs.Extents.{bounds, held_by}
 use Rattle.nd_view.proofs.Indexed.{all_indexes, of_all, same_indexes}

@@ -4,13 +4,13 @@ use Rattle.std.specs.Prelude.{slice_set}
 use Rattle.std.specs.List.{All, zip}
 use Rattle.std.proofs.lemmas.List.{take-append-drop, drop-drop, drop-take, map-append}
 use Rattle.std.proofs.lemmas.List.Elements.{All-map}
-use Rattle.nd_model.specs.Content.{Content, Num, Rec, number_at, content_at, number_writes, field_writes, writes, all_writes}
-use Rattle.nd_model.specs.Conversion.{converted_content}
-use Rattle.nd_model.specs.Element.{size_of, value_of, bytes_of, bytes_at}
+use Rattle.nd_model.specs.Arrays.Content.{Content, Num, Rec, number_at, content_at, number_writes, field_writes, writes, all_writes}
+use Rattle.nd_model.specs.Making.Conversion.{converted_content}
+use Rattle.nd_model.specs.Arrays.Element.{size_of, value_of, bytes_of, bytes_at}
 use Rattle.nd_assign.specs.HeldFields.{HoldsFields}
-use Rattle.nd_model.specs.Session.{put}
-use Rattle.nd_model.specs.Tuple.{count_up}
-use Rattle.nd_model.specs.View.{Field, ElementType, One, Structure, item_size}
+use Rattle.nd_model.specs.Cells.Session.{put}
+use Rattle.nd_model.specs.Arrays.Tuple.{count_up}
+use Rattle.nd_model.specs.Arrays.View.{Field, ElementType, One, Structure, item_size}
 use Rattle.nd_assign.specs.Copies.{copied_content, with_copies}
 
 -- ---- what is read of a part

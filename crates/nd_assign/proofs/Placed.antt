@@ -3,15 +3,15 @@ use Rattle.std.proofs.Common.{◌≡◌, ℕ, ℤ, pos, ◌+◌, ◌<◌, Bool, 
 use Rattle.std.specs.Prelude.{nat_eq, ◌||◌}
 use Rattle.std.specs.List.{flat_map, zip}
 use Rattle.std.proofs.lemmas.List.{length-map, get_or-map}
-use Rattle.nd_model.specs.Assigning.{value_shape}
-use Rattle.nd_model.specs.Broadcast.{own_tuple}
-use Rattle.nd_model.specs.Content.{Content, Num, Rec, number_in, number_at, content_at, number_writes, field_writes, writes, all_writes, content_or}
-use Rattle.nd_model.specs.Conversion.{converts, converted_content}
-use Rattle.nd_model.specs.Creation.{is_number_type}
-use Rattle.nd_model.specs.Element.{Element, size_of, bytes_of, wrap}
-use Rattle.nd_model.specs.Session.{is_in, is_place}
-use Rattle.nd_model.specs.Tuple.{count_up, elements_of, indices, number}
-use Rattle.nd_model.specs.View.{Field, ElementType, One, Structure, element_places, field_places}
+use Rattle.nd_model.specs.Making.Assigning.{value_shape}
+use Rattle.nd_model.specs.Arrays.Broadcast.{own_tuple}
+use Rattle.nd_model.specs.Arrays.Content.{Content, Num, Rec, number_in, number_at, content_at, number_writes, field_writes, writes, all_writes, content_or}
+use Rattle.nd_model.specs.Making.Conversion.{converts, converted_content}
+use Rattle.nd_model.specs.Making.Creation.{is_number_type}
+use Rattle.nd_model.specs.Arrays.Element.{Element, size_of, bytes_of, wrap}
+use Rattle.nd_model.specs.Cells.Session.{is_in, is_place}
+use Rattle.nd_model.specs.Arrays.Tuple.{count_up, elements_of, indices, number}
+use Rattle.nd_model.specs.Arrays.View.{Field, ElementType, One, Structure, element_places, field_places}
 use Rattle.nd_model.proofs.Values.{length-bytes_of}
 use Rattle.nd_view.specs.Indexes.{IsIndex}
 use Rattle.nd_view.proofs.Indexed.{length-indices, same_indexes}

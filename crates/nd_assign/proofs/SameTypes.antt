@@ -2,10 +2,10 @@
 use Rattle.std.proofs.Common.{◌≡◌, ℕ, Bool, true, false, cond, ◌&&◌, List, [], ◌∷◌, refl, sym, ap₂, ◌∙◌}
 use Rattle.std.specs.Prelude.{bytes_eq, ◌==◌}
 use Rattle.std.proofs.lemmas.Bool.{eqb-true}
-use Rattle.nd_model.specs.Element.{Kind, Boolean, Int8, Int16, Int32, Int64, UInt8, UInt16, UInt32, UInt64, Element, size_of}
-use Rattle.nd_model.specs.Promotion.{sort_of}
-use Rattle.nd_model.specs.View.{Field, Structure}
-use Rattle.nd_model.specs.Conversion.{same_order, same_element, same_field, same_fields, converts}
+use Rattle.nd_model.specs.Arrays.Element.{Kind, Boolean, Int8, Int16, Int32, Int64, UInt8, UInt16, UInt32, UInt64, Element, size_of}
+use Rattle.nd_model.specs.Arrays.Promotion.{sort_of}
+use Rattle.nd_model.specs.Arrays.View.{Field, Structure}
+use Rattle.nd_model.specs.Making.Conversion.{same_order, same_element, same_field, same_fields, converts}
 use Rattle.nd_model.proofs.Lists.{same_bytes}
 
 both : (a b : Bool) → (a && b) ≡ true → (a ≡ true) × (b ≡ true)

@@ -7,11 +7,11 @@ use Rattle.std.proofs.lemmas.Bool.{cases_eq}
 use Rattle.std.proofs.lemmas.Bool.Decides.{nat_tests}
 use Rattle.std.proofs.lemmas.Int.{ints}
 use Rattle.std.proofs.lemmas.List.{length-replicate, length-map, drop_all}
-use Rattle.nd_model.specs.Assigning.{without_ones, value_shape, fits_into}
-use Rattle.nd_model.specs.Broadcast.{can_stretch, narrowed_axes, own_tuple}
-use Rattle.nd_model.specs.Strides.{way_to, begins_at, place_at, places_by, is_held, are_held, IsInLimits, parts_fault}
-use Rattle.nd_model.specs.Tuple.{elements_of, indices, number}
-use Rattle.nd_model.specs.View.{Geo}
+use Rattle.nd_model.specs.Making.Assigning.{without_ones, value_shape, fits_into}
+use Rattle.nd_model.specs.Arrays.Broadcast.{can_stretch, narrowed_axes, own_tuple}
+use Rattle.nd_model.specs.Arrays.Strides.{way_to, begins_at, place_at, places_by, is_held, are_held, IsInLimits, parts_fault}
+use Rattle.nd_model.specs.Arrays.Tuple.{elements_of, indices, number}
+use Rattle.nd_model.specs.Arrays.View.{Geo}
 use Rattle.nd_view.specs.Indexes.{IsIndex}
 use Rattle.nd_view.proofs.Indexed.{all_indexes, at_index, length-indices, of_all, same_indexes}
 use Rattle.nd_view.proofs.Made.{facts, axes, no_fault}

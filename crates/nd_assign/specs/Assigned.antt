@@ -1,9 +1,9 @@
 -- The bytes of a block after an assignment.
 use Rattle.std.specs.Prelude.{ℕ, ℤ, List, [], ◌∷◌, map}
-use Rattle.nd_model.specs.Assigning.{value_shape, assigned_writes}
-use Rattle.nd_model.specs.Content.{Num, content_at}
-use Rattle.nd_model.specs.Session.{put}
-use Rattle.nd_model.specs.View.{Geo}
+use Rattle.nd_model.specs.Making.Assigning.{value_shape, assigned_writes}
+use Rattle.nd_model.specs.Arrays.Content.{Num, content_at}
+use Rattle.nd_model.specs.Cells.Session.{put}
+use Rattle.nd_model.specs.Arrays.View.{Geo}
 
 -- the elements of a view of these bytes are assigned to the target
 abbrev pub with_elements : (target source : Geo) → (bytes : List ℕ) → List ℕ → List ℕ

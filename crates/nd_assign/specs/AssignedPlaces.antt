@@ -1,12 +1,12 @@
 -- The law of the places that an assignment writes.
 use Rattle.std.specs.Prelude.{◌≡◌, ℕ, ℤ, true, List, [], ◌∷◌, length, map}
-use Rattle.nd_model.specs.Assigning.{value_shape, fits_into, view_writes, assigned_writes}
-use Rattle.nd_model.specs.Content.{Content, Num, content_at}
-use Rattle.nd_model.specs.Conversion.{converts, converted_content}
-use Rattle.nd_model.specs.Creation.{is_number_type}
-use Rattle.nd_model.specs.Session.{is_in, is_place}
-use Rattle.nd_model.specs.Tuple.{elements_of}
-use Rattle.nd_model.specs.View.{Geo, byte_places}
+use Rattle.nd_model.specs.Making.Assigning.{value_shape, fits_into, view_writes, assigned_writes}
+use Rattle.nd_model.specs.Arrays.Content.{Content, Num, content_at}
+use Rattle.nd_model.specs.Making.Conversion.{converts, converted_content}
+use Rattle.nd_model.specs.Making.Creation.{is_number_type}
+use Rattle.nd_model.specs.Cells.Session.{is_in, is_place}
+use Rattle.nd_model.specs.Arrays.Tuple.{elements_of}
+use Rattle.nd_model.specs.Arrays.View.{Geo, byte_places}
 
 -- THE LAW: they are those of the bytes of the target's elements, whether the elements of a view are assigned, one number, or a number
 -- for each index tuple

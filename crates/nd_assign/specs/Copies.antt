@@ -1,9 +1,9 @@
 -- What copies of elements write: contents that are read at places of some bytes, converted, and written one after the other.
 use Rattle.std.specs.Prelude.{ℕ, List, map}
-use Rattle.nd_model.specs.View.{ElementType}
-use Rattle.nd_model.specs.Content.{Content, content_at, all_writes}
-use Rattle.nd_model.specs.Conversion.{converted_content}
-use Rattle.nd_model.specs.Session.{put}
+use Rattle.nd_model.specs.Arrays.View.{ElementType}
+use Rattle.nd_model.specs.Arrays.Content.{Content, content_at, all_writes}
+use Rattle.nd_model.specs.Making.Conversion.{converted_content}
+use Rattle.nd_model.specs.Cells.Session.{put}
 
 -- the content at a place, as an element of the target has it
 abbrev pub copied_content : (to from : ElementType) → List ℕ → ℕ → Content

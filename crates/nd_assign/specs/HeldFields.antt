@@ -1,8 +1,8 @@
 -- Structures that hold their fields.
 use Rattle.std.specs.Prelude.{◌+◌, ◌≤◌}
 use Rattle.std.specs.List.{All}
-use Rattle.nd_model.specs.Element.{size_of}
-use Rattle.nd_model.specs.View.{Field, ElementType, One, Structure}
+use Rattle.nd_model.specs.Arrays.Element.{size_of}
+use Rattle.nd_model.specs.Arrays.View.{Field, ElementType, One, Structure}
 
 -- the fields of a structure lie inside its size
 abbrev pub HoldsFields : ElementType → Type 0

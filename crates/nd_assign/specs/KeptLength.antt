@@ -1,7 +1,7 @@
 -- A write leaves as many bytes as there were.
 use Rattle.std.specs.Prelude.{◌≡◌, ℕ, ◌==◌, refl, true, false, if◌then◌else◌, List, length, map}
 use Rattle.nd_model.proofs.Lists as lists
-use Rattle.nd_model.specs.Content.{all_writes}
+use Rattle.nd_model.specs.Arrays.Content.{all_writes}
 use Rattle.nd_assign.specs.Copies.{copied_content, with_copies}
 use Rattle.nd_assign.specs.Prepared.{Prepared, bytes_or, written_by}
 

@@ -1,6 +1,6 @@
 -- An assignment that is made ready, and what its write leaves of a block.
 use Rattle.std.specs.Prelude.{ℕ, ◌==◌, if◌then◌else◌, List, length, Option, Some, None}
-use Rattle.nd_model.specs.View.{Geo}
+use Rattle.nd_model.specs.Arrays.View.{Geo}
 use Rattle.nd_assign.specs.Copies.{with_copies}
 
 -- The elements of the source are copied to those of the target, in a block of so many bytes. They are read from other bytes where

@@ -1,6 +1,6 @@
 -- Elements that lie side by side.
 use Rattle.std.specs.Prelude.{ℕ, ◌+◌, ◌*◌, List, map}
-use Rattle.nd_model.specs.Tuple.{count_up}
+use Rattle.nd_model.specs.Arrays.Tuple.{count_up}
 
 -- the places of so many elements of `size` bytes
 abbrev pub side_by_side : (size first count : ℕ) → List ℕ

@@ -1,9 +1,9 @@
 -- A value as it stands beside a target: the places of its elements at the target's index tuples, and the strides that lead there.
 use Rattle.std.specs.Prelude.{ℕ, ◌==◌, ℤ, pos, if◌then◌else◌, List, [], ◌∷◌, map, slice_index}
-use Rattle.nd_model.specs.Assigning.{value_shape}
-use Rattle.nd_model.specs.Broadcast.{own_tuple}
-use Rattle.nd_model.specs.Tuple.{indices, number}
-use Rattle.nd_model.specs.View.{Geo}
+use Rattle.nd_model.specs.Making.Assigning.{value_shape}
+use Rattle.nd_model.specs.Arrays.Broadcast.{own_tuple}
+use Rattle.nd_model.specs.Arrays.Tuple.{indices, number}
+use Rattle.nd_model.specs.Arrays.View.{Geo}
 
 -- the stride of an axis, 0 where its length is 1
 abbrev pub narrowed : ℕ → ℤ → ℤ

@@ -1,9 +1,9 @@
 -- The ways in which an assignment that is made ready writes.
 use Rattle.std.specs.Prelude.{◌≡◌, ◌≢◌, ℕ, ◌+◌, ◌-◌, ◌≤◌, true, List, map, length, slice_index, Option, Some, None}
 use Rattle.std.specs.List.{All}
-use Rattle.nd_model.specs.Conversion.{converts}
-use Rattle.nd_model.specs.Element.{Boolean, Element, size_of}
-use Rattle.nd_model.specs.View.{Geo, One, item_size}
+use Rattle.nd_model.specs.Making.Conversion.{converts}
+use Rattle.nd_model.specs.Arrays.Element.{Boolean, Element, size_of}
+use Rattle.nd_model.specs.Arrays.View.{Geo, One, item_size}
 use Rattle.nd_assign.specs.HeldFields.{HoldsFields}
 use Rattle.nd_assign.specs.Prepared.{Prepared}
 use Rattle.nd_assign.specs.SideBySide.{side_by_side}

@@ -1,6 +1,6 @@
-//! `Assignment`: an assignment that is made ready.
+//! `Assignment`: a prepared assignment, whose write takes no memory.
 ghost use Rattle.std.specs.Prelude.{◌≡◌, Some, length, true};
-ghost use Rattle.nd_model.specs.Conversion.{converts};
+ghost use Rattle.nd_model.specs.Making.Conversion.{converts};
 ghost use Rattle.nd_assign.specs.Prepared.{written_by};
 ghost use Rattle.nd_assign.specs.Ways.{AreIn, IsPrepared, bytes_read};
 
@@ -12,29 +12,30 @@ use nd_types::Elem;
 use nd_view::{Run, View};
 use std::marker::Model;
 
-/// Where the elements are read, and how they come to the target.
+/// Where the elements are read, and how they get to the target.
 #[derive(Drop)]
 pub(crate) enum Way<'v> {
-    /// From bytes that are lent.
+    /// From bytes that are borrowed.
     Lent(&'v [u8]),
     /// From the bytes of one number.
     Number([u8; 8]),
     /// From a copy of what is read.
     Copied(RawBlock),
-    /// In the block: numbers of one type that lie side by side are moved at once, from the second run to the first one.
+    /// In the block: contiguous numbers of one dtype are moved at once, from the second run to the
+    /// first one.
     Moved(Elem, Run, Run),
-    /// In the block, from before a place to behind it: the target as seen from there.
+    /// In the block, from below a byte offset to above it: the target is counted from there.
     Up(usize, View),
-    /// In the block, to before a place from behind it: the source as seen from there.
+    /// In the block, from above a byte offset to below it: the source is counted from there.
     Down(usize, View),
 }
 
-/// An assignment that `prepare` made ready: its write takes no memory. A clause sees the views of the elements that are copied and of
-/// those that they are copied to, the bytes that they are read from where these are not the block's, and the length of the block.
+/// A prepared assignment: writing it takes no memory. A clause sees the views of target and source,
+/// the bytes read where these are not the block's, and the length of the block.
 #[derive(Drop)]
 pub struct Assignment<'v> {
     target: &'v View,
-    // the view of the value as it stands beside the target
+    // the view of the value, broadcast to the target's shape
     source: View,
     way: Way<'v>,
     // how many bytes the block has
@@ -71,8 +72,8 @@ impl<'v> Assignment<'v> {
         }
     }
 
-    /// Makes ready what has been found in a block of its own: the elements of its view, for as many of the target, in C order. It takes
-    /// no memory.
+    /// Returns the assignment of values in a block of their own: the elements of `source`, for as
+    /// many of the target, in C order. It takes no memory.
     pub fn of_block(target: &'v View, source: View, block: RawBlock, len: usize) -> Assignment<'v>
         requires types { converts source.element target.now.element ≡ true }
         requires counts { length source.places ≡ length target.now.places }
@@ -88,7 +89,8 @@ impl<'v> Assignment<'v> {
         Assignment::new(target, source, Way::Copied(block), len)
     }
 
-    /// Writes it to a block of as many bytes as it was made ready for, and leaves any other one as it is.
+    /// Writes the values to a block of the length that they were prepared for; any other block
+    /// stays as it is.
     pub fn write(&self, block: &mut RawBlock)
         ensures { block.new ≡ written_by self.now block.old }
     {

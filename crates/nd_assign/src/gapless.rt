@@ -1,8 +1,8 @@
-//! Numbers that lie side by side and stay in their type: all bytes of a run are copied at once.
+//! `copy_gapless` and `move_gapless`: contiguous numbers that keep their dtype, copied at once.
 ghost use Rattle.std.specs.Prelude.{◌≡◌, ◌≢◌, ◌+◌, ◌*◌, ◌<◌, ◌≤◌, length, slice_index, IfSome, IsTrue, ◌↔◌};
 ghost use Rattle.std.specs.List.{All};
-ghost use Rattle.nd_model.specs.Element.{Boolean, size_of};
-ghost use Rattle.nd_model.specs.View.{One};
+ghost use Rattle.nd_model.specs.Arrays.Element.{Boolean, size_of};
+ghost use Rattle.nd_model.specs.Arrays.View.{One};
 ghost use Rattle.nd_element.specs.Elements.{AreHeld};
 ghost use Rattle.nd_assign.specs.Copies.{with_copies};
 ghost use Rattle.nd_assign.specs.SideBySide.{side_by_side};
@@ -10,7 +10,7 @@ ghost use Rattle.nd_assign.specs.SideBySide.{side_by_side};
 use nd_types::Elem;
 use nd_view::{Run, View};
 
-/// Returns whether the elements of a run lie side by side, as one alone does.
+/// Returns whether the elements of a run are contiguous, as a single one is.
 pub(crate) fn is_gapless(run: &Run, elem: Elem) -> bool
     ensures { IsTrue result ↔ (run.now ≡ side_by_side (size_of elem.kind) (slice_index run.now 0)
         (length run.now)) }
@@ -18,8 +18,8 @@ pub(crate) fn is_gapless(run: &Run, elem: Elem) -> bool
     run.count() == 1 || run.step() == i128::from(elem.size())
 }
 
-/// Returns the places of a view whose elements lie side by side, `None` of a view where that is not so and where there are none. A view
-/// of several runs is not looked at further.
+/// Returns the byte offsets of a contiguous view as a run, and `None` where the view is not
+/// contiguous, or empty. A view of several runs counts as not contiguous.
 pub fn gapless_run(view: &View, elem: Elem) -> Option<Run>
     ensures { IfSome result (λ run. (run ≡ view.now.places)
         × (run ≡ side_by_side (size_of elem.kind) (slice_index run 0) (length run))) }
@@ -35,7 +35,7 @@ pub fn gapless_run(view: &View, elem: Elem) -> Option<Run>
     Some(run)
 }
 
-// Where the last element of a run ends, the elements of which lie side by side in these bytes.
+// The byte offset at which a contiguous run ends.
 fn end_of(run: &Run, elem: Elem, bytes: &[u8]) -> usize
     requires held { AreHeld elem bytes.now run.now }
     requires gapless { run.now ≡ side_by_side (size_of elem.kind) (slice_index run.now 0)
@@ -44,11 +44,12 @@ fn end_of(run: &Run, elem: Elem, bytes: &[u8]) -> usize
     ensures inside { result ≤ length bytes.now }
     ensures small { All (λ byte. byte < 256) bytes.now }
 {
+    // proof: the number of bytes is bounded, by the clause of len().
     let _len = bytes.len();
     run.start() as usize + run.count() as usize * elem.size() as usize
 }
 
-/// Copies the numbers of a run to another one of the same type, where both lie side by side.
+/// Copies the numbers of a run to another one of the same dtype, where both are contiguous.
 pub(crate) fn copy_gapless(out: &mut [u8], elem: Elem, run: &Run, bytes: &[u8], from_run: &Run)
     requires kind { elem.kind ≢ Boolean }
     requires counts { length from_run.now ≡ length run.now }
@@ -67,8 +68,8 @@ pub(crate) fn copy_gapless(out: &mut [u8], elem: Elem, run: &Run, bytes: &[u8], 
     out[to..end].copy_from_slice(&bytes[from..from_end]);
 }
 
-/// Copies the numbers of a run to another one of the same type in the same bytes, where both lie side by side. Each number is read
-/// before it is overwritten.
+/// Copies the numbers of a run to another one of the same dtype in the same bytes, where both are
+/// contiguous. They may overlap: each number is read before it is overwritten.
 pub(crate) fn move_gapless(bytes: &mut [u8], elem: Elem, run: &Run, from_run: &Run)
     requires kind { elem.kind ≢ Boolean }
     requires counts { length from_run.now ≡ length run.now }

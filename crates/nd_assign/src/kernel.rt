@@ -1,39 +1,18 @@
-//! The loop over two runs of numbers: each is read from one, converted, and written to the other.
-ghost use Rattle.std.specs.Prelude.{◌≡◌, pos, ◌+◌, ◌^◌, ◌<◌, ◌≤◌, ◌≤ℤ◌, length};
-ghost use Rattle.nd_model.specs.Content.{number_at};
-ghost use Rattle.nd_model.specs.Element.{size_of, IsValue};
-ghost use Rattle.nd_model.specs.Runs.{place_at, spot_at, run_places, AreWithin};
-ghost use Rattle.nd_model.specs.View.{One};
+//! `copy_run`: the inner loop that reads numbers of one run, converts them, and writes them to
+//! another.
+ghost use Rattle.std.specs.Prelude.{◌≡◌, length};
+ghost use Rattle.nd_model.specs.Arrays.Element.{size_of};
+ghost use Rattle.nd_model.specs.Arrays.Runs.{run_places, AreWithin};
+ghost use Rattle.nd_model.specs.Arrays.View.{One};
 ghost use Rattle.nd_element.specs.Elements.{AreHeld};
 ghost use Rattle.nd_assign.specs.Copies.{with_copies};
 
-use nd_block::{store_at, value_at};
+use nd_block::store_at;
+use nd_element::{number_of, spot};
 use nd_types::{Elem, wrap};
 use nd_view::Run;
 
-// Where an element of a run begins.
-#[inline(always)]
-fn spot(start: u64, step: i128, index: usize) -> usize
-    requires { (pos 0 ≤ℤ place_at start step index) × (spot_at start step index < 2 ^ 64) }
-    ensures { result ≡ spot_at start step index }
-{
-    (start as i128 + index as i128 * step) as usize
-}
-
-// The number of an element of a run.
-#[inline(always)]
-fn number_of(bytes: &[u8], elem: Elem, start: u64, step: i128, index: usize) -> i128
-    requires low { pos 0 ≤ℤ place_at start step index }
-    requires high { spot_at start step index + size_of elem.kind ≤ length bytes.now }
-    ensures value { result ≡ number_at elem bytes.now (spot_at start step index) }
-    ensures in_range { IsValue elem.kind result }
-{
-    let _len = bytes.len();
-    let _size = elem.size();
-    value_at(bytes, spot(start, step, index), elem)
-}
-
-// Copies the numbers that lie one step apart, converted.
+// Copies `count` numbers, converted, between two strided runs.
 #[inline(always)]
 fn copy_each(
     out: &mut [u8],
@@ -52,16 +31,18 @@ fn copy_each(
     ensures bytes { out.new ≡ with_copies (One to) (One from) bytes.now
         (run_places start step count) (run_places from_start from_step count) out.old }
 {
+    // proof: the itemsize is bounded, by the clause of size().
     let _size = to.size();
     for index in 0..count {
         let number = number_of(bytes, from, from_start, from_step, index);
+        // proof: the number of bytes is bounded, by the clause of len().
         let _len = out.len();
         let place = spot(start, step, index);
         store_at(out, place, to, wrap(to.kind(), number));
     }
 }
 
-/// Copies the numbers of a run to another one, converted, by a loop of its own for each way in which they often lie.
+/// Copies the numbers of a run to another one, converted, by loops specialised for frequent steps.
 #[inline(always)]
 pub(crate) fn copy_run(
     out: &mut [u8],

@@ -1,4 +1,5 @@
-//! Assignments to the elements of a view, as NumPy makes them.
+//! Assignments to the elements of a view, as NumPy makes them: [`assign`] converts, broadcasts and
+//! writes a value, [`prepare`] does all but the write.
 #![tactic(auto)]
 
 ghost use Rattle.nd_assign.specs.AssignedPlaces.{AssignedPlaces};
@@ -21,10 +22,10 @@ pub use assignment::Assignment;
 pub use gapless::gapless_run;
 pub use preparation::prepare;
 pub use shape::fits;
-pub use source::{Source, assign};
+pub use source::{AssignedValue, assign};
 pub use walk::Walk;
 
-/// Says which places an assignment writes, and does nothing.
+/// A law: which byte offsets an assignment writes.
 pub fn assigned_places()
     ensures { AssignedPlaces }
 {}

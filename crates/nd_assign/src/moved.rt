@@ -1,12 +1,13 @@
-//! Views in a part of a block, and how far a view reaches.
+//! `moved_view` and `Extent`: views in a part of a block, and the range of bytes that a view lies
+//! in.
 ghost use Rattle.std.specs.Prelude.{◌≡◌, ◌+◌, ◌-◌, ◌≤◌, map, IsTrue, IfOk};
 ghost use Rattle.std.specs.List.{All};
-ghost use Rattle.nd_model.specs.View.{item_size};
+ghost use Rattle.nd_model.specs.Arrays.View.{item_size};
 
 use nd_view::View;
 use std::alloc::{AllocError, Global};
 
-/// Returns the view with the same elements of a block that begins at this place.
+/// Returns the view with the same elements in the block from byte offset `by` on.
 pub(crate) fn moved_view(alloc: Global, view: &View, by: u64) -> Result<View, AllocError>
     requires { All (λ p. by ≤ p) view.now.places }
     ensures element { IfOk result (λ v. v.element ≡ view.now.element) }
@@ -23,14 +24,14 @@ pub(crate) fn moved_view(alloc: Global, view: &View, by: u64) -> Result<View, Al
     )
 }
 
-/// The places of the lowest and the highest element of a view.
+/// The byte offsets of the lowest and the highest element of a view.
 #[derive(Clone, Copy)]
 pub(crate) struct Extent {
     pub(crate) first: u64,
     pub(crate) last: u64,
 }
 
-/// Returns how far the elements of a view reach.
+/// Returns the extent of a view's elements.
 pub(crate) fn extent_of(view: &View) -> Extent
     ensures first { All (λ p. result.first ≤ p) view.now.places }
     ensures last { All (λ p. p ≤ result.last) view.now.places }
@@ -41,6 +42,7 @@ pub(crate) fn extent_of(view: &View) -> Extent
     };
     let mut runs = view.runs();
     while let Some(run) = runs.next() {
+        // proof: the elements lie one step apart, by the clause of step().
         let _step = run.step();
         let count = run.count();
         let (begin, end) = (run.place(0), run.place(count - 1));
@@ -51,7 +53,7 @@ pub(crate) fn extent_of(view: &View) -> Extent
 }
 
 impl Extent {
-    /// Returns whether each element, which has so many bytes, ends at or before a place.
+    /// Returns whether each element, of `size` bytes, ends at or before byte offset `place`.
     pub(crate) fn ends_before(self, size: u64, place: u64) -> bool
         ensures { IsTrue result → self.last + size ≤ place }
     {

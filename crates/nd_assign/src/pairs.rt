@@ -1,7 +1,7 @@
-//! Which loop copies a run of numbers. Each has the kernel's contract, so which elements have a loop of their own is a question of
-//! speed alone.
+//! `copy_numbers`: chooses the loop that copies a run of numbers. All loops have one contract, so
+//! the choice is a matter of speed alone.
 ghost use Rattle.std.specs.Prelude.{◌≡◌, length};
-ghost use Rattle.nd_model.specs.View.{One};
+ghost use Rattle.nd_model.specs.Arrays.View.{One};
 ghost use Rattle.nd_element.specs.Elements.{AreHeld};
 ghost use Rattle.nd_assign.specs.Copies.{with_copies};
 
@@ -11,7 +11,7 @@ use nd_element::{is_elem, keeps_bytes};
 use nd_types::{Elem, Kind};
 use nd_view::Run;
 
-// The numbers of a run for any elements, where no loop is made for them alone.
+// Copies between any dtypes: the loop is compiled once and not specialised.
 #[inline(never)]
 fn copy_any(out: &mut [u8], to: Elem, run: &Run, bytes: &[u8], from: Elem, from_run: &Run)
     requires counts { length from_run.now ≡ length run.now }
@@ -24,7 +24,8 @@ fn copy_any(out: &mut [u8], to: Elem, run: &Run, bytes: &[u8], from: Elem, from_
     copy_run(out, to, run, bytes, from, from_run);
 }
 
-// The same, by a loop for the two elements that are known, if they are these.
+// Copies by a loop specialised for two known dtypes where they are these, and by the general one
+// otherwise.
 #[inline(always)]
 fn copy_known(
     known_to: Elem,
@@ -50,7 +51,7 @@ fn copy_known(
     }
 }
 
-// The same, by a loop for each kind of numbers that stay in their kind. The lowest byte comes first.
+// Copies little-endian numbers of one kind, by a loop specialised for each.
 #[inline(never)]
 fn copy_alike(out: &mut [u8], to: Elem, run: &Run, bytes: &[u8], from: Elem, from_run: &Run)
     requires counts { length from_run.now ≡ length run.now }

@@ -1,9 +1,9 @@
-//! What of an assignment takes memory: it is done before anything is written.
+//! `prepare`: the part of an assignment that takes memory, done before anything is written.
 ghost use Rattle.std.specs.Prelude.{◌≡◌, ℕ, List, length, true, IfOk};
-ghost use Rattle.nd_model.specs.Assigning.{fits_into};
-ghost use Rattle.nd_model.specs.Conversion.{converts};
-ghost use Rattle.nd_model.specs.Creation.{is_number_type};
-ghost use Rattle.nd_model.specs.Sound.{LiesIn};
+ghost use Rattle.nd_model.specs.Making.Assigning.{fits_into};
+ghost use Rattle.nd_model.specs.Making.Conversion.{converts};
+ghost use Rattle.nd_model.specs.Making.Creation.{is_number_type};
+ghost use Rattle.nd_model.specs.Cells.Sound.{LiesIn};
 ghost use Rattle.nd_assign.specs.Assigned.{with_elements, with_number};
 ghost use Rattle.nd_assign.specs.Copies.{with_copies};
 ghost use Rattle.nd_assign.specs.Prepared.{written_by};
@@ -11,7 +11,7 @@ ghost use Rattle.nd_assign.specs.Sources.{IsSource, IsValue, with_source};
 ghost use Rattle.nd_assign.specs.Ways.{AreIn};
 
 use crate::assignment::{Assignment, Way};
-use crate::source::Source;
+use crate::source::AssignedValue;
 use crate::stretch::stretch;
 use crate::within::prepare_own;
 use nd_block::store_at;
@@ -19,7 +19,7 @@ use nd_types::{ElemType, wrap};
 use nd_view::View;
 use std::alloc::{AllocError, Global};
 
-// The view that has at each index tuple of the target the element of the value that is assigned there.
+// The value, broadcast to the target's shape.
 fn stretch_to(alloc: Global, target: &View, value: &View) -> Result<View, AllocError>
     requires types { converts value.now.element target.now.element ≡ true }
     requires shapes { fits_into value.now.shape target.now.shape ≡ true }
@@ -34,7 +34,7 @@ fn stretch_to(alloc: Global, target: &View, value: &View) -> Result<View, AllocE
     stretch(alloc, value, target.shape())
 }
 
-// From a view of other bytes.
+// Prepares the assignment of a view of other bytes.
 fn prepare_other<'v>(
     alloc: Global,
     target: &'v View,
@@ -52,7 +52,7 @@ fn prepare_other<'v>(
     Ok(Assignment::new(target, value, Way::Lent(bytes), len))
 }
 
-// From a view of the same block.
+// Prepares the assignment of a view of the same block.
 fn prepare_within<'v>(
     alloc: Global,
     target: &'v View,
@@ -69,7 +69,7 @@ fn prepare_within<'v>(
     prepare_own(alloc, target, block, value)
 }
 
-// From one number.
+// Prepares the assignment of a number.
 fn prepare_number<'v>(
     alloc: Global,
     target: &'v View,
@@ -92,14 +92,15 @@ fn prepare_number<'v>(
     Ok(Assignment::new(target, value, Way::Number(bytes), len))
 }
 
-/// Makes an assignment ready for blocks with as many bytes as this one. Where two views of one block cross, what is read is copied from
-/// it now, for which there may be no memory; nor may there be for the strides of a target with more than eight axes, or for the type of
-/// a structure.
+/// Prepares an assignment for blocks as long as `block`.
+///
+/// Where source and target overlap in one block, what is read may be copied now. An error means
+/// want of memory, for this copy, for more than eight axes, or for the dtype of a structure.
 pub fn prepare<'v>(
     alloc: Global,
     target: &'v View,
     block: &[u8],
-    source: Source<'v>,
+    source: AssignedValue<'v>,
 ) -> Result<Assignment<'v>, AllocError>
     requires target { LiesIn (length block.now) target.now }
     requires source { IsSource target.now (length block.now) source }
@@ -108,8 +109,8 @@ pub fn prepare<'v>(
         ≡ with_source target.now source.entry block.now) }
 {
     match source {
-        Source::Number(number) => prepare_number(alloc, target, block.len(), number),
-        Source::Same(view) => prepare_within(alloc, target, block, view),
-        Source::Other(view, bytes) => prepare_other(alloc, target, block.len(), view, bytes),
+        AssignedValue::Number(number) => prepare_number(alloc, target, block.len(), number),
+        AssignedValue::Same(view) => prepare_within(alloc, target, block, view),
+        AssignedValue::Other(view, bytes) => prepare_other(alloc, target, block.len(), view, bytes),
     }
 }

@@ -1,11 +1,11 @@
-//! Whether a value's shape fits into that of a target (NumPy user guide, "Broadcasting").
+//! `fits`: whether a value's shape may be assigned to a target (NumPy user guide, "Broadcasting").
 ghost use Rattle.std.specs.Prelude.{◌≡◌, ◌-◌, ◌≤◌, length, drop};
-ghost use Rattle.nd_model.specs.Assigning.{without_ones, value_shape, fits_into};
-ghost use Rattle.nd_model.specs.Broadcast as model;
+ghost use Rattle.nd_model.specs.Making.Assigning.{without_ones, value_shape, fits_into};
+ghost use Rattle.nd_model.specs.Arrays.Broadcast as model;
 
 use nd_view::View;
 
-// How many leading axes of length 1 are dropped, which are no more than so many.
+// The number of leading axes of length 1 to drop, at most `most`.
 fn count_ones(shape: &[u64], most: usize) -> usize
     ensures inside { result ≤ length shape.now }
     ensures rest { drop result shape.now ≡ without_ones most shape.now }
@@ -17,7 +17,8 @@ fn count_ones(shape: &[u64], most: usize) -> usize
     axis
 }
 
-/// Returns how many leading axes of a value's shape are dropped, as it has more than the target.
+/// Returns how many leading axes of a value's shape are dropped because it has more than the
+/// target.
 pub(crate) fn leading_axes(shape: &[u64], target: &[u64]) -> usize
     ensures inside { result ≤ length shape.now }
     ensures rest { drop result shape.now ≡ value_shape shape.now target.now }
@@ -25,7 +26,7 @@ pub(crate) fn leading_axes(shape: &[u64], target: &[u64]) -> usize
     count_ones(shape, shape.len().saturating_sub(target.len()))
 }
 
-// Whether each length is that of the other shape, or 1. Both have as many axes.
+// Whether each length equals that of the other shape, or is 1. Both have as many axes.
 fn can_stretch(shape: &[u64], target: &[u64]) -> bool
     requires { length shape.now ≡ length target.now }
     ensures { result ≡ model.can_stretch shape.now target.now }
@@ -48,8 +49,8 @@ fn broadcasts_to(shape: &[u64], target: &[u64]) -> bool
     can_stretch(shape, &target[target.len() - shape.len()..])
 }
 
-/// Returns whether a value of this shape may be assigned to the elements of a view: its leading axes of length 1 are dropped where it
-/// has more axes, and then it broadcasts to the view's shape.
+/// Returns whether a value of this shape may be assigned to the elements of a view: leading axes of
+/// length 1 are dropped while it has more axes, and the rest must broadcast to the view's shape.
 pub fn fits(target: &View, shape: &[u64]) -> bool
     ensures { result ≡ fits_into shape.now target.now.shape }
 {

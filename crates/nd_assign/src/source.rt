@@ -1,8 +1,8 @@
-//! What is assigned to the elements of a view.
+//! `AssignedValue` and `assign`: the value of an assignment, and the assignment of it.
 ghost use Rattle.std.specs.Prelude.{◌≡◌, length, true, OnOk, OnErr};
-ghost use Rattle.nd_model.specs.Assigning.{fits_into};
-ghost use Rattle.nd_model.specs.Conversion.{converts};
-ghost use Rattle.nd_model.specs.Sound.{LiesIn};
+ghost use Rattle.nd_model.specs.Making.Assigning.{fits_into};
+ghost use Rattle.nd_model.specs.Making.Conversion.{converts};
+ghost use Rattle.nd_model.specs.Cells.Sound.{LiesIn};
 ghost use Rattle.nd_assign.specs.Assigned.{with_elements};
 ghost use Rattle.nd_assign.specs.Sources.{IsSource, with_source};
 
@@ -11,24 +11,26 @@ use nd_block::RawBlock;
 use nd_view::View;
 use std::alloc::{AllocError, Global};
 
-/// What is assigned to each element of a target. Numbers are wrapped to the target's kind, or `not zero` for a Boolean; of a structure
-/// its fields are written, and pad bytes stay (NumPy user guide, "Assigning values to indexed arrays").
+/// The value of an assignment. Numbers are wrapped to the target's kind, or tested for not being
+/// zero for a Boolean; pad bytes of structures stay (NumPy user guide, "Assigning values to indexed
+/// arrays").
 #[derive(Clone, Copy)]
-pub enum Source<'v> {
+pub enum AssignedValue<'v> {
     /// One number.
     Number(i128),
-    /// The elements of a view of the target's own block, as they were before any is written.
+    /// The elements of a view of the target's own block, as they are before the write.
     Same(&'v View),
     /// The elements of a view of another block, which has these bytes.
     Other(&'v View, &'v [u8]),
 }
 
-/// Assigns to the elements of a target: what `prepare` makes ready is written. Where that fails, the block is as it was.
+/// Assigns to the elements of a target, as `prepare` and `Assignment::write` do. Where memory is
+/// wanting, the block stays as it is.
 pub fn assign(
     alloc: Global,
     target: &View,
     block: &mut RawBlock,
-    source: Source<'_>,
+    source: AssignedValue<'_>,
 ) -> Result<(), AllocError>
     requires target { LiesIn (length block.old) target.now }
     requires source { IsSource target.now (length block.old) source }

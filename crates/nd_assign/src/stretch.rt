@@ -1,8 +1,8 @@
-//! The view of a value as it stands beside a target: a stride of 0 leads to the same element again.
+//! `stretch`: the view of a value, broadcast to a target's shape, with stride 0 where it repeats.
 ghost use Rattle.std.specs.Prelude.{◌≡◌, ◌++◌, length, replicate, pos, true, IfOk};
-ghost use Rattle.nd_model.specs.Assigning.{fits_into};
-ghost use Rattle.nd_model.specs.Strides.{IsInLimits};
-ghost use Rattle.nd_model.specs.View.{item_size};
+ghost use Rattle.nd_model.specs.Making.Assigning.{fits_into};
+ghost use Rattle.nd_model.specs.Arrays.Strides.{IsInLimits};
+ghost use Rattle.nd_model.specs.Arrays.View.{item_size};
 ghost use Rattle.nd_assign.specs.Stretched.{narrowed, narrowed_strides, value_places};
 
 use crate::shape::leading_axes;
@@ -10,14 +10,15 @@ use nd_view::View;
 use smallvec::SmallVec;
 use std::alloc::{AllocError, Global};
 
-// The stride of an axis as it stands beside a target.
+// The stride of an axis in a broadcast: 0 where the length is 1.
 fn narrowed_stride(length: u64, stride: i128) -> i128
     ensures { result ≡ narrowed length stride }
 {
     if length == 1 { 0 } else { stride }
 }
 
-// So many strides of 0 in front of those of a shape, which are 0 where the length is 1.
+// The strides of a broadcast: `more` zeros for new axes, then those of the shape, which are 0 where
+// its length is 1.
 fn stretched_strides(
     alloc: Global,
     shape: &[u64],
@@ -35,7 +36,7 @@ fn stretched_strides(
     Ok(all)
 }
 
-/// Returns the view that has at each index tuple of the shape the element of the value that is assigned there.
+/// Returns the value, broadcast to a shape, which is known to be possible.
 pub(crate) fn stretch(alloc: Global, value: &View, shape: &[u64]) -> Result<View, AllocError>
     requires fits { fits_into value.now.shape shape.now ≡ true }
     requires limits { IsInLimits (item_size value.now.element) shape.now }

@@ -1,9 +1,9 @@
-//! Copies of structures, field by field: their pad bytes stay as they are.
+//! `copy_structures`: copies structures field by field, and leaves pad bytes as they are.
 ghost use Rattle.std.specs.Prelude.{◌≡◌, ◌+◌, ◌≤◌, length};
 ghost use Rattle.std.specs.List.{All};
-ghost use Rattle.nd_model.specs.Content.{content_at, writes};
-ghost use Rattle.nd_model.specs.Session.{put};
-ghost use Rattle.nd_model.specs.View.{Structure};
+ghost use Rattle.nd_model.specs.Arrays.Content.{content_at, writes};
+ghost use Rattle.nd_model.specs.Cells.Session.{put};
+ghost use Rattle.nd_model.specs.Arrays.View.{Structure};
 ghost use Rattle.nd_assign.specs.Copies.{with_copies};
 
 use nd_block::{store_at, value_at};

@@ -1,8 +1,8 @@
-//! Copies of the elements of one view to those of another, in C order.
+//! `copy_views`: copies the elements of one view to those of another, in C order.
 ghost use Rattle.std.specs.Prelude.{◌≡◌, ◌+◌, ◌≤◌, ◌++◌, length, take, true};
 ghost use Rattle.std.specs.List.{All};
-ghost use Rattle.nd_model.specs.Conversion.{converts};
-ghost use Rattle.nd_model.specs.View.{item_size};
+ghost use Rattle.nd_model.specs.Making.Conversion.{converts};
+ghost use Rattle.nd_model.specs.Arrays.View.{item_size};
 ghost use Rattle.nd_types.specs.Types.{type_of};
 ghost use Rattle.nd_assign.specs.Copies.{with_copies};
 
@@ -40,7 +40,7 @@ fn copy_part(
     }
 }
 
-// Copies to a run as many of the elements that are left of a walk.
+// Copies the next elements of a walk to a run.
 fn copy_next(
     out: &mut [u8],
     to: &ElemType,

@@ -1,4 +1,4 @@
-//! A walk over the places of a view, by runs as long as is asked for.
+//! `Walk`: a walk over the byte offsets of a view, in runs no longer than asked for.
 ghost use Rattle.std.specs.Prelude.{◌≡◌, ◌<◌, ◌≤◌, ◌++◌, length, None};
 ghost use Rattle.std.specs.List.{concat};
 ghost use Rattle.nd_assign.specs.Walks.{places_in};
@@ -6,7 +6,8 @@ ghost use Rattle.nd_assign.specs.Walks.{places_in};
 use nd_view::{Run, Runs, View};
 use std::marker::Model;
 
-/// A walk over the places of a view in C order. A clause sees the list of those that are left.
+/// A walk over the byte offsets of a view in C order. A clause sees the list of those that are
+/// left.
 #[derive(Drop)]
 pub struct Walk<'v> {
     // what is left of the run that the walk is in, and the runs behind it
@@ -24,7 +25,7 @@ impl<'v> Model for Walk<'v> {
     ghost view = { left_of };
 }
 
-// The run that a walk is in.
+// Takes out the run that a walk is in.
 fn take_run(ahead: &mut Option<Run>, runs: &mut Runs<'_>) -> Run
     requires { 0 < length (places_in ahead.old ++ concat runs.old) }
     ensures split { places_in ahead.old ++ concat runs.old ≡ result ++ concat runs.new }
@@ -50,7 +51,7 @@ impl<'v> Walk<'v> {
         }
     }
 
-    /// Returns the next places, as many as lie one step apart and no more than are asked for.
+    /// Returns the next byte offsets: those that lie one step apart, and at most `most` of them.
     pub fn next(&mut self, most: u64) -> Run
         requires left { 0 < length self.old }
         requires most { 0 < most }

@@ -1,9 +1,10 @@
-//! Copies within one block, where what is read may be what is written: all contents are as they were before.
+//! `prepare_own`: copies within one block, where source and target may overlap. All values are
+//! those before the write.
 ghost use Rattle.std.specs.Prelude.{◌≡◌, ℕ, ◌+◌, ◌≤◌, ◌++◌, ⊤, length, take, drop, true, None, IfOk, MatchOption};
 ghost use Rattle.std.specs.List.{All};
-ghost use Rattle.nd_model.specs.Conversion.{converts};
+ghost use Rattle.nd_model.specs.Making.Conversion.{converts};
 ghost use Rattle.nd_assign.specs.HeldFields.{HoldsFields};
-ghost use Rattle.nd_model.specs.View.{item_size};
+ghost use Rattle.nd_model.specs.Arrays.View.{item_size};
 ghost use Rattle.nd_types.specs.Types.{type_of};
 ghost use Rattle.nd_assign.specs.Copies.{with_copies};
 ghost use Rattle.nd_assign.specs.Prepared.{written_by};
@@ -19,7 +20,7 @@ use nd_types::ElemType;
 use nd_view::View;
 use std::alloc::{AllocError, Global};
 
-// The fields of a structure lie in it.
+// proof: the fields of a structure lie within its itemsize, by the clause of fields().
 fn hold_fields(elem: &ElemType)
     ensures { HoldsFields (type_of elem.now) }
 {
@@ -28,7 +29,7 @@ fn hold_fields(elem: &ElemType)
     }
 }
 
-/// Copies from the bytes before a place to those behind it, where the target's places are counted from there.
+/// Copies from below byte offset `middle` to above it, where the target is counted from there.
 pub(crate) fn copy_up(bytes: &mut [u8], middle: usize, target: &View, source: &View)
     requires types { converts source.now.element target.now.element ≡ true }
     requires counts { length source.now.places ≡ length target.now.places }
@@ -45,7 +46,7 @@ pub(crate) fn copy_up(bytes: &mut [u8], middle: usize, target: &View, source: &V
     copy_views(tail, target, head, source);
 }
 
-/// Copies from the bytes behind a place, from where the source's places are counted, to those before it.
+/// Copies from above byte offset `middle`, where the source is counted from there, to below it.
 pub(crate) fn copy_down(bytes: &mut [u8], middle: usize, target: &View, source: &View)
     requires types { converts source.now.element target.now.element ≡ true }
     requires counts { length source.now.places ≡ length target.now.places }
@@ -62,7 +63,7 @@ pub(crate) fn copy_down(bytes: &mut [u8], middle: usize, target: &View, source: 
     copy_views(head, target, tail, source);
 }
 
-// The way to elements behind a place from elements before it.
+// The way to elements above a byte offset from elements below it.
 fn prepare_up<'v>(
     alloc: Global,
     target: &'v View,
@@ -84,7 +85,7 @@ fn prepare_up<'v>(
     Ok(Assignment::new(target, source, way, len))
 }
 
-// The way to elements before a place from elements behind it.
+// The way to elements below a byte offset from elements above it.
 fn prepare_down<'v>(
     alloc: Global,
     target: &'v View,
@@ -106,7 +107,7 @@ fn prepare_down<'v>(
     Ok(Assignment::new(target, source, way, len))
 }
 
-// The way from a copy of the bytes that the source reaches over.
+// The way by a copy of the bytes that the source lies in.
 fn prepare_copied<'v>(
     alloc: Global,
     target: &'v View,
@@ -133,7 +134,8 @@ fn prepare_copied<'v>(
     Ok(Assignment::new(target, moved, way, block.len()))
 }
 
-// The way that moves the numbers of a view at once to a target of the same type, if both lie side by side.
+// The way that moves contiguous numbers at once to a contiguous target of the same dtype, if both
+// are.
 fn moved_way<'v>(target: &View, source: &View) -> Option<Way<'v>>
     ensures { MatchOption result ⊤ (λ way. (bytes_read way ≡ None)
         × ((len : ℕ) → AreIn len source.now → IsWay target.now source.now len way)) }
@@ -152,9 +154,10 @@ fn moved_way<'v>(target: &View, source: &View) -> Option<Way<'v>>
     Some(Way::Moved(*to, run, from_run))
 }
 
-/// Makes ready to copy the elements of a view to those of a target in the same block, converted, in C order. Numbers that lie side by
-/// side and keep their type are moved at once; where the two views do not cross it is done in one pass, and else from a copy of what is
-/// read, for which there may be no memory.
+/// Prepares to copy the elements of a view to a target in the same block, converted, in C order.
+///
+/// Contiguous numbers of one dtype are moved at once. Views whose extents do not overlap are copied
+/// in one pass, and others by way of a copy, for which memory may be wanting.
 pub(crate) fn prepare_own<'v>(
     alloc: Global,
     target: &'v View,

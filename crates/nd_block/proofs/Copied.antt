@@ -2,8 +2,8 @@
 use Rattle.std.proofs.Common.{◌≡◌, ℕ, zero, suc, ◌+◌, ◌-◌, ◌<◌, ◌≤◌, ◌⊎◌, inl, inr, List, ◌++◌, ℤ, length, take, drop, refl, sym, ap, ◌∙◌, arith, length-append, length-take, length-drop, take-take}
 use Rattle.std.proofs.lemmas.List.{append_assoc, take-append-le, drop-append-le, drop-drop, drop-take}
 use Rattle.std.proofs.Math.Seq.{drop-append-add}
-use Rattle.nd_model.specs.Element.{bytes_at, with_bytes}
-use Rattle.nd_model.specs.Runs.{spot_at, AreWithin, AreApart, copied}
+use Rattle.nd_model.specs.Arrays.Element.{bytes_at, with_bytes}
+use Rattle.nd_model.specs.Arrays.Runs.{spot_at, AreWithin, AreApart, copied}
 
 pub length-bytes_at : (xs : List ℕ) (p n : ℕ) → p + n ≤ length xs → length (bytes_at xs p n) ≡ n
 length-bytes_at xs p n le = omega (arith, length-take n (drop p xs), length-drop p xs)

@@ -2,8 +2,8 @@
 use Rattle.std.proofs.Common.{◌≡◌, ℕ, zero, suc, ◌+◌, ◌-◌, ◌*◌, ◌<◌, ◌≤◌, List, [], ◌++◌, ℤ, pos, negsuc, ◌^◌, length, take, drop, sym, ap, ◌∙◌, arith, length-append, length-take, length-drop, append-nil}
 use Rattle.std.proofs.lemmas.List.{append_assoc, take_at, drop-drop, take-append-drop}
 use Rattle.std.proofs.Math.Seq.{drop-append-add, take-append-add}
-use Rattle.nd_model.specs.Element.{bytes_at, with_bytes}
-use Rattle.nd_model.specs.Runs.{AreWithin, copied}
+use Rattle.nd_model.specs.Arrays.Element.{bytes_at, with_bytes}
+use Rattle.nd_model.specs.Arrays.Runs.{AreWithin, copied}
 use Rattle.std.specs.Int.{w128, cast_unsigned}
 use Rattle.std.specs.Int.RustNames.{FitsSigned}
 use Rattle.nd_block.proofs.Copied.{length-bytes_at}

@@ -1,8 +1,8 @@
 //! `RawBlock`: raw memory, which a clause sees as the list of its bytes.
 ghost use Rattle.std.specs.Prelude.{◌≡◌, ℕ, ◌+◌, ◌^◌, ◌<◌, ◌≤◌, List, [], length, replicate, IfOk, IsTrue, ◌↔◌};
 ghost use Rattle.std.specs.Borrow.{sem};
-ghost use Rattle.nd_model.specs.Element.{size_of, value_of, bytes_at, with_bytes, bytes_of, IsValue};
-ghost use Rattle.nd_model.specs.Runs.{AreWithin, AreApart, copied};
+ghost use Rattle.nd_model.specs.Arrays.Element.{size_of, value_of, bytes_at, with_bytes, bytes_of, IsValue};
+ghost use Rattle.nd_model.specs.Arrays.Runs.{AreWithin, AreApart, copied};
 
 use crate::bytes::{store_at, value_at};
 use crate::memory::{Places, Right, Start, allocate, deallocate};
@@ -11,8 +11,8 @@ use nd_types::Elem;
 use std::alloc::{AllocError, Global};
 use std::marker::Model;
 
-/// A block of bytes: one allocation, which is given back when the block is dropped. Places are in bytes from its start,
-/// and need not be aligned.
+/// A block of bytes: one allocation, freed when the block is dropped. Byte offsets count from its
+/// start, and need not be aligned.
 pub struct RawBlock {
     start: Start,
     count: usize,
@@ -33,13 +33,13 @@ impl Model for RawBlock {
     ghost invariant = { IsBlock };
 }
 
-// The most bytes of an allocation, which is `isize::MAX`. Every allocator of Rust refuses more, so none is asked for more.
+// The most bytes of an allocation, `isize::MAX`. Allocators refuse more, so none is asked for more.
 pub(crate) const MOST_BYTES: usize = 0x7fff_ffff_ffff_ffff;
 
 impl RawBlock {
     ghost use Rattle.nd_block.specs.BlockLends.{lends_bytes};
 
-    /// Returns a block of `n` zero bytes. It fails where there is no memory for them.
+    /// Returns a block of `n` zero bytes. An error means want of memory.
     pub fn zeros(alloc: Global, n: usize) -> Result<RawBlock, AllocError>
         ensures { IfOk result (λ b. b ≡ replicate n 0) }
     {
@@ -57,7 +57,7 @@ impl RawBlock {
         })
     }
 
-    /// Returns a block with a copy of the bytes. It fails where there is no memory for them.
+    /// Returns a block with a copy of the bytes. An error means want of memory.
     pub fn from_slice(alloc: Global, bytes: &[u8]) -> Result<RawBlock, AllocError>
         ensures { IfOk result (λ b. b ≡ bytes.now) }
     {
@@ -73,7 +73,7 @@ impl RawBlock {
         })
     }
 
-    // The block of these places, all of which are written.
+    // The block of memory that is all written.
     pub(crate) fn of_places(
         start: Start,
         count: usize,
@@ -96,7 +96,7 @@ impl RawBlock {
         }
     }
 
-    /// Returns a block of its own with the same bytes. It fails where there is no memory for them.
+    /// Returns a block of its own with equal bytes. An error means want of memory.
     pub fn try_clone(&self) -> Result<RawBlock, AllocError>
         ensures { IfOk result (λ b. b ≡ self.now) }
     {
@@ -124,7 +124,7 @@ impl RawBlock {
         self.places.as_slice(self.start, self.len())
     }
 
-    /// Returns the bytes, to write others in their places.
+    /// Returns the bytes, to be overwritten.
     pub fn as_mut_slice(&mut self) -> &mut [u8]
         ensures* writes_back { sem 𝓛 (lends_bytes self.entry result) }
         ensures value { result.now ≡ self.old }
@@ -133,7 +133,7 @@ impl RawBlock {
         self.places.as_mut_slice(self.start, len)
     }
 
-    /// Returns whether the `size` bytes from the place on lie in the block.
+    /// Returns whether `size` bytes from a byte offset on lie in the block.
     pub fn holds_place(&self, place: u64, size: u64) -> bool
         ensures { IsTrue result ↔ (place + size ≤ length self.now) }
     {
@@ -143,7 +143,7 @@ impl RawBlock {
 }
 
 impl RawBlock {
-    /// Returns the number of the element at the place.
+    /// Returns the number of the element at a byte offset.
     pub fn load(&self, place: u64, elem: Elem) -> i128
         requires { place + size_of elem.kind ≤ length self.now }
         ensures value { result ≡ value_of elem (bytes_at self.now place (size_of elem.kind)) }
@@ -152,7 +152,7 @@ impl RawBlock {
         value_at(self.as_slice(), place as usize, elem)
     }
 
-    /// Writes the number to the element at the place.
+    /// Writes a number to the element at a byte offset.
     pub fn store(&mut self, place: u64, elem: Elem, value: i128)
         requires inside { place + size_of elem.kind ≤ length self.old }
         requires in_range { IsValue elem.kind value }
@@ -162,9 +162,9 @@ impl RawBlock {
         store_at(self.as_mut_slice(), place as usize, elem, value);
     }
 
-    /// Copies `n` elements of `size` bytes. The first one is read at the place `src` and written at the place `dst`, and
-    /// each further one is `src_step` and `dst_step` bytes on, which may be negative. No byte that is written for an
-    /// element may belong to one that is read later.
+    /// Copies `n` elements of `size` bytes, the first one from byte offset `src` to `dst`, further
+    /// ones by steps that may be negative. No byte written for an element may be read for a later
+    /// one.
     pub fn copy_run(
         &mut self,
         dst: u64,
@@ -206,7 +206,7 @@ impl Drop for RawBlock {
     }
 }
 
-// Writes a zero to each place.
+// Writes `count` zeros.
 fn fill_zero(places: &mut Places, start: Start, count: usize)
     requires { (start.first ≡ places.old.first) × (places.old.written ≡ [])
         × (places.old.unwritten ≡ count) }
@@ -218,7 +218,7 @@ fn fill_zero(places: &mut Places, start: Start, count: usize)
     }
 }
 
-// Writes the bytes to the places.
+// Writes the bytes.
 fn fill_from(places: &mut Places, start: Start, bytes: &[u8])
     requires { (start.first ≡ places.old.first) × (places.old.written ≡ [])
         × (places.old.unwritten ≡ length bytes.now) }

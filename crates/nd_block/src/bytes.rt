@@ -1,6 +1,6 @@
-//! Numbers in a run of bytes.
+//! Numbers as bytes in either byte order: reading, writing and narrowing them.
 ghost use Rattle.std.specs.Prelude.{◌≡◌, ◌+◌, ◌<◌, ◌≤◌, ◌++◌, length, OnOk};
-ghost use Rattle.nd_model.specs.Element.{Int8, Int16, Int32, Int64, width_of, residue, bytes_at, number_in, with_bytes, bytes_in, size_of, value_of, bytes_of, IsValue};
+ghost use Rattle.nd_model.specs.Arrays.Element.{Int8, Int16, Int32, Int64, width_of, residue, bytes_at, number_in, with_bytes, bytes_in, size_of, value_of, bytes_of, IsValue};
 
 use nd_types::{Elem, Kind};
 use std::alloc::AllocError;
@@ -120,11 +120,12 @@ pub(crate) fn low64(value: i128) -> u64
     value.rem_euclid(1 << 64) as u64
 }
 
-// A single byte is the same in both orders.
+// Writes a single byte, which is the same in both byte orders.
 fn put8(bytes: &mut [u8], place: usize, word: u8, big: bool)
     requires { place < length bytes.old }
     ensures { bytes.new ≡ with_bytes bytes.old place (bytes_in (width_of Int8) big word) }
 {
+    // proof: `big` stands in the clause alone.
     let _big = big;
     bytes[place] = word;
 }
@@ -150,7 +151,7 @@ fn put64(bytes: &mut [u8], place: usize, word: u64, big: bool)
     bytes[place..place + 8].copy_from_slice(&bytes64(word, big));
 }
 
-/// Returns the number of the element at the place, which is in bytes and need not be aligned.
+/// Returns the number of the element at a byte offset, which need not be aligned.
 #[inline(always)]
 pub fn value_at(bytes: &[u8], place: usize, elem: Elem) -> i128
     requires { place + size_of elem.kind ≤ length bytes.now }
@@ -170,8 +171,8 @@ pub fn value_at(bytes: &[u8], place: usize, elem: Elem) -> i128
     }
 }
 
-/// Writes the number to the element at the place, which is in bytes and need not be aligned. Of a number that the kind does not
-/// hold the lowest bits are kept.
+/// Writes a number to the element at a byte offset, which need not be aligned. A number outside the
+/// kind is wrapped: 300 as `uint8` is written as 44.
 #[inline(always)]
 pub fn store_at(bytes: &mut [u8], place: usize, elem: Elem, value: i128)
     requires { place + size_of elem.kind ≤ length bytes.old }
@@ -186,7 +187,7 @@ pub fn store_at(bytes: &mut [u8], place: usize, elem: Elem, value: i128)
     }
 }
 
-/// Appends the bytes of the number, of which an element keeps the lowest bits.
+/// Appends the bytes of an element that has this number. A number outside the kind is wrapped.
 pub fn push_bytes(bytes: &mut Vec<u8>, elem: Elem, value: i128) -> Result<(), AllocError>
     ensures { OnOk result (bytes.new.items ≡ bytes.old.items ++ bytes_of elem value) }
 {

@@ -1,4 +1,5 @@
-//! Raw memory: blocks of bytes, and the numbers that stand in them.
+//! Blocks of bytes ([`RawBlock`], and [`Filling`] while one is made), and numbers in bytes
+//! ([`value_at`], [`store_at`]).
 #![tactic(auto)]
 
 mod block;

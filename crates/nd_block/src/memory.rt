@@ -1,6 +1,8 @@
-//! Memory of bytes: asked from an allocator, written place by place, lent as a slice, and given back. This is the only
-//! module with a raw pointer. The owner of the places and the right to free them take no space, and neither can be let
-//! go: so memory that is not given back, or given back twice, does not compile.
+//! `Places`: memory from an allocator, written byte by byte, lent as a slice, and freed. No other
+//! module has a raw pointer.
+//!
+//! The owner of the bytes and the right to free them take no space, and neither can be dropped: so
+//! memory that is not freed, or freed twice, does not compile.
 ghost use Rattle.std.specs.Prelude.{◌≡◌, ℕ, ◌+◌, ◌^◌, ◌<◌, List, [], ◌∷◌, ◌++◌, length, IfOk};
 ghost use Rattle.std.specs.Borrow.{sem};
 ghost use base.Fml.{ftrue};
@@ -11,13 +13,14 @@ use std::alloc::{AllocError, Allocator};
 use std::marker::{Model, PhantomData};
 use std::slice;
 
-/// Where the first place is. It owns nothing.
+/// The address of the first byte. It owns nothing.
 #[derive(Clone, Copy)]
 pub struct Start {
     first: *mut u8,
 }
 
-/// The owner of the places: the bytes that are written, from the first place on, and how many places follow them.
+/// The owner of the memory: the bytes that are written, from the first one on, and how many are
+/// still to be.
 pub struct Places {
     ghost first: { Ptr },
     ghost written: { List ℕ },
@@ -30,7 +33,7 @@ impl Model for Places {
     ghost also_shares = { λ p _ κ. places_lent p.first p.written p.unwritten κ };
 }
 
-/// The right to give `count` places back to the allocator that they are from.
+/// The right to free `count` bytes, by the allocator that they are from.
 pub struct Right<A: Allocator> {
     mark: PhantomData<A>,
     ghost first: { Ptr },
@@ -44,7 +47,7 @@ impl<A: Allocator> Model for Right<A> {
     ghost also_shares = { λ _ _ _. ftrue };
 }
 
-/// Returns `count` places, none of them written. It fails where the allocator has no memory.
+/// Returns memory of `count` bytes, none of them written. An error means want of memory.
 pub(crate) fn allocate<A: Allocator>(
     alloc: &A,
     count: usize,
@@ -60,7 +63,7 @@ pub(crate) fn allocate<A: Allocator>(
     }
 }
 
-/// Gives the places back, whatever is written there.
+/// Frees the memory, whatever is written there.
 pub(crate) fn deallocate<A: Allocator>(
     alloc: &A,
     start: Start,
@@ -79,7 +82,7 @@ pub(crate) fn deallocate<A: Allocator>(
 impl Places {
     ghost use Rattle.nd_block.specs.Lends.{lends_written};
 
-    /// Writes a byte to the first place that is not written.
+    /// Writes the first byte that is not written yet.
     pub(crate) fn write(&mut self, start: Start, index: usize, byte: u8)
         requires { (start.first ≡ self.old.first) × (index ≡ length self.old.written)
             × (0 < self.old.unwritten) }
@@ -98,7 +101,7 @@ impl Places {
         unsafe { slice::from_raw_parts(start.first, len) }
     }
 
-    /// Returns the bytes that are written, to write others in their places.
+    /// Returns the bytes that are written, to be overwritten.
     pub(crate) fn as_mut_slice(&mut self, start: Start, len: usize) -> &mut [u8]
         requires { (start.first ≡ self.old.first) × (len ≡ length self.old.written) }
         ensures* writes_back { sem 𝓛 (lends_written self.entry result) }

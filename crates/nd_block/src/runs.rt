@@ -1,8 +1,8 @@
-//! Copies of one run of elements over another.
+//! `copy_elements`: copies one strided run of elements over another.
 ghost use Rattle.std.specs.Prelude.{◌≡◌, ◌^◌, ◌<◌, ◌≤ℤ◌, pos, length};
-ghost use Rattle.nd_model.specs.Runs.{place_at, spot_at, AreWithin, AreApart, copied};
+ghost use Rattle.nd_model.specs.Arrays.Runs.{place_at, spot_at, AreWithin, AreApart, copied};
 
-// Where the k-th element starts.
+// The byte offset of an element of a run.
 fn spot(start: u64, step: i128, k: u64) -> usize
     requires { (pos 0 ≤ℤ place_at start step k) × (spot_at start step k < 2 ^ 63) }
     ensures { result ≡ spot_at start step k }
@@ -10,7 +10,7 @@ fn spot(start: u64, step: i128, k: u64) -> usize
     (start as i128 + k as i128 * step) as usize
 }
 
-// Copies elements side by side, all at once.
+// Copies contiguous elements, all at once.
 fn copy_block(bytes: &mut [u8], dst: u64, src: u64, size: usize, n: u64)
     requires dst { AreWithin dst (pos size) size n (length bytes.old) }
     requires src { AreWithin src (pos size) size n (length bytes.old) }

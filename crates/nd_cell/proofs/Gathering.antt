@@ -1,13 +1,13 @@
 -- What is noted of what runs read, by their records.
 use Rattle.std.proofs.Common.{◌≡◌, ℕ, List, subst}
 use Rattle.std.specs.Prelude.{Contains, IsTrue}
-use Rattle.nd_model.specs.Value.{Base}
-use Rattle.nd_model.specs.Running.{Name, Length, Byte}
-use Rattle.nd_model.specs.Beside.{IsNoted, Readings}
-use Rattle.nd_model.specs.Overlay.{IsOverlay, Misses}
-use Rattle.nd_model.specs.Records.{Record}
-use Rattle.nd_session.specs.Noted.{AreUnread, StaysNoted}
-use Rattle.nd_session.specs.Reads.{keys_of}
+use Rattle.nd_model.specs.Arrays.Value.{Base}
+use Rattle.nd_model.specs.Cells.Running.{Name, Length, Byte}
+use Rattle.nd_model.specs.Book.Beside.{IsNoted, Readings}
+use Rattle.nd_model.specs.Book.Overlay.{IsOverlay, Misses}
+use Rattle.nd_model.specs.Book.Records.{Record}
+use Rattle.nd_session.specs.Session.Noted.{AreUnread, StaysNoted}
+use Rattle.nd_session.specs.Session.Reads.{keys_of}
 use Rattle.nd_cell.specs.Records.{RecordData, recorded}
 use Rattle.nd_cell.proofs.Overlaying.{OnlyBinds, overlay_of}
 

@@ -4,15 +4,15 @@ use Rattle.std.specs.Prelude.{string_eq, bytes_eq}
 use Rattle.std.proofs.lemmas.Bool.{cases_Bool}
 use Rattle.indexmap.specs.IndexMap.{insert_entry}
 use Rattle.std.specs.Map.{lookup as find}
-use Rattle.nd_model.specs.Session.{bind, lookup}
-use Rattle.nd_model.specs.Running.{Running, Inputs, Output}
-use Rattle.nd_model.specs.Fault.{Fault, Statement, TextTooLong}
-use Rattle.nd_model.specs.Fault as fault
-use Rattle.nd_model.specs.Cell.{Ended, Saved, statement, statements, and_then, with_save, most_text}
-use Rattle.nd_model.specs.Tokens.{tokens_of_stmt, tokens_of_lines}
-use Rattle.nd_syntax.specs.declared.tree.Line.{Line}
-use Rattle.nd_syntax.specs.Syntax.{stmt_of, lines_of}
-use Rattle.nd_model.specs.Cell.{limit_text}
+use Rattle.nd_model.specs.Cells.Session.{bind, lookup}
+use Rattle.nd_model.specs.Cells.Running.{Running, Inputs, Output}
+use Rattle.nd_model.specs.Cells.Fault.{Fault, Statement, TextTooLong}
+use Rattle.nd_model.specs.Cells.Fault as fault
+use Rattle.nd_model.specs.Cells.Cell.{Ended, Saved, statement, statements, and_then, with_save, most_text}
+use Rattle.nd_model.specs.Grammar.Tokens.{tokens_of_stmt, tokens_of_lines}
+use Rattle.nd_syntax.specs.declared.trees.tree.Line.{Line}
+use Rattle.nd_syntax.specs.Trees.Syntax.{stmt_of, lines_of}
+use Rattle.nd_model.specs.Cells.Cell.{limit_text}
 use Rattle.nd_cell.specs.declared.result.Refusal.{Refusal}
 use Rattle.nd_cell.specs.declared.result.CellResult.{CellResult}
 use Rattle.nd_cell.specs.Results.{after_line, ended_of, refusal_of, saved_of, saves_of}

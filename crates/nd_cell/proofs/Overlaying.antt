@@ -1,16 +1,16 @@
 -- One run of a cell in the place of another, by their records.
 use Rattle.std.proofs.Common.{◌≡◌, ℕ, None, sym, ap, subst, ◌∙◌}
-use Rattle.nd_model.specs.Value.{Base}
-use Rattle.nd_model.specs.Session.{Session}
-use Rattle.nd_model.specs.Running.{start}
-use Rattle.nd_model.specs.Cell.{Ended, cell}
-use Rattle.nd_model.specs.Footprint.{Effects, HasNone, effects_of, with_effects}
-use Rattle.nd_model.specs.Overlay.{BindSame, BindsOwn, IsOnce, IsOverlay, IsUnder, Replaces, blanked, did}
-use Rattle.nd_model.specs.Records.{Record}
-use Rattle.nd_model.specs.Sound.{IsSound, IsSoundSession}
+use Rattle.nd_model.specs.Arrays.Value.{Base}
+use Rattle.nd_model.specs.Cells.Session.{Session}
+use Rattle.nd_model.specs.Cells.Running.{start}
+use Rattle.nd_model.specs.Cells.Cell.{Ended, cell}
+use Rattle.nd_model.specs.Cells.Footprint.{Effects, HasNone, effects_of, with_effects}
+use Rattle.nd_model.specs.Book.Overlay.{BindSame, BindsOwn, IsOnce, IsOverlay, IsUnder, Replaces, blanked, did}
+use Rattle.nd_model.specs.Book.Records.{Record}
+use Rattle.nd_model.specs.Cells.Sound.{IsSound, IsSoundSession}
 use Rattle.nd_model.proofs.Overlaying.{blanks_under}
 use Rattle.nd_model.proofs.Replaying.{overlay_sound}
-use Rattle.nd_session.specs.Changes.{ChangesData, events_in, going_on, writes_in}
+use Rattle.nd_session.specs.Session.Changes.{ChangesData, events_in, going_on, writes_in}
 use Rattle.nd_cell.specs.Records.{IsOfRun, RecordData, recorded}
 
 -- the cell did nothing but bind names to values of its own

@@ -2,27 +2,27 @@
 use Rattle.std.proofs.Common.{◌≡◌, ℕ, Bool, true, List, Option, Some, None, length, refl, sym, ap, subst, ◌∙◌}
 use mathlib.Core.Path.{fun_ext}
 use Rattle.std.specs.Prelude.{IsTrue, is_some, if◌then◌else◌}
-use Rattle.nd_model.specs.Value.{Base}
-use Rattle.nd_model.specs.Session.{Session, collected, held_bytes, is_held}
-use Rattle.nd_model.specs.Running.{Key, Name, Input, Length, Byte, Inputs, Running, session_of, start}
-use Rattle.nd_model.specs.Syntax.{Parsed}
-use Rattle.nd_model.specs.Cell.{Ended, cell}
-use Rattle.nd_model.specs.CutOff.{SameOnSession}
-use Rattle.nd_model.specs.Footprint.{Agree, Effects, Found, HasNone, effects_of, found, reads_of, with_effects}
-use Rattle.nd_model.specs.Records.{Record, StillHolds, record_of}
-use Rattle.nd_model.specs.Sound.{IsHeldView, IsSound, IsSoundSession, LiesIn}
+use Rattle.nd_model.specs.Arrays.Value.{Base}
+use Rattle.nd_model.specs.Cells.Session.{Session, collected, held_bytes, is_held}
+use Rattle.nd_model.specs.Cells.Running.{Key, Name, Input, Length, Byte, Inputs, Running, session_of, start}
+use Rattle.nd_model.specs.Grammar.Syntax.{Parsed}
+use Rattle.nd_model.specs.Cells.Cell.{Ended, cell}
+use Rattle.nd_model.specs.Book.CutOff.{SameOnSession}
+use Rattle.nd_model.specs.Cells.Footprint.{Agree, Effects, Found, HasNone, effects_of, found, reads_of, with_effects}
+use Rattle.nd_model.specs.Book.Records.{Record, StillHolds, record_of}
+use Rattle.nd_model.specs.Cells.Sound.{IsHeldView, IsSound, IsSoundSession, LiesIn}
 use Rattle.nd_model.proofs.Collected.{held_twice}
 use Rattle.nd_model.proofs.Keeping.{found_at}
 use Rattle.nd_model.proofs.Replaying.{replays_sound}
 use Rattle.nd_model.proofs.Soundness.{held_map}
 use Rattle.nd_model.proofs.Tracks.{tracks_cell}
-use Rattle.nd_session.specs.State.{State}
-use Rattle.nd_session.specs.Live.{live}
+use Rattle.nd_session.specs.Session.State.{State}
+use Rattle.nd_session.specs.Session.Live.{live}
 use Rattle.nd_trace.specs.Seen.{Seen, is_read_in}
-use Rattle.nd_session.specs.Listed.{seen_of}
-use Rattle.nd_session.specs.Reads.{found_in, found_of, found_when_collected, keys_of}
-use Rattle.nd_session.specs.Changes.{bases_in, going_on, writes_in}
-use Rattle.nd_session.proofs.Listed.{listed}
+use Rattle.nd_session.specs.Session.Listed.{seen_of}
+use Rattle.nd_session.specs.Session.Reads.{found_in, found_of, found_when_collected, keys_of}
+use Rattle.nd_session.specs.Session.Changes.{bases_in, going_on, writes_in}
+use Rattle.nd_session.proofs.session.Listed.{listed}
 use Rattle.nd_cell.specs.Records.{EndsRun, IsOfRun, RecordData, recorded, record_at_end}
 
 -- the trace tells what was read

@@ -1,15 +1,15 @@
 -- Records of runs as the definitions have them.
 use Rattle.std.specs.Prelude.{◌≡◌, ℕ, List, Option, Some, None, if◌then◌else◌}
-use Rattle.nd_model.specs.Fault.{Refusal}
-use Rattle.nd_model.specs.Session.{Session, collected}
-use Rattle.nd_model.specs.Running.{Inputs, Running}
-use Rattle.nd_model.specs.Syntax.{Parsed}
-use Rattle.nd_model.specs.Cell.{Saved, Ended, cell}
-use Rattle.nd_model.specs.Footprint.{HasNone, reads_of, effects_of}
-use Rattle.nd_model.specs.Sound.{IsSoundSession}
-use Rattle.nd_model.specs.Records as records
-use Rattle.nd_session.specs.Reads.{ReadsData, found_in, found_of, keys_of}
-use Rattle.nd_session.specs.Changes.{ChangesData, effects_in}
+use Rattle.nd_model.specs.Cells.Fault.{Refusal}
+use Rattle.nd_model.specs.Cells.Session.{Session, collected}
+use Rattle.nd_model.specs.Cells.Running.{Inputs, Running}
+use Rattle.nd_model.specs.Grammar.Syntax.{Parsed}
+use Rattle.nd_model.specs.Cells.Cell.{Saved, Ended, cell}
+use Rattle.nd_model.specs.Cells.Footprint.{HasNone, reads_of, effects_of}
+use Rattle.nd_model.specs.Cells.Sound.{IsSoundSession}
+use Rattle.nd_model.specs.Book.Records as records
+use Rattle.nd_session.specs.Session.Reads.{ReadsData, found_in, found_of, keys_of}
+use Rattle.nd_session.specs.Session.Changes.{ChangesData, effects_in}
 
 -- what a run read, did and gave: plain data
 pub record RecordData : Type 0 where

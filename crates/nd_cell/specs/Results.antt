@@ -1,10 +1,10 @@
 -- The results of cells as the definitions have them.
 use Rattle.std.specs.Prelude.{ℕ, List, [], ◌∷◌, Option, None, Some, option_map, String, string_bytes, Vec}
 use Rattle.std.proofs.Common.{Global}
-use Rattle.nd_model.specs.Running.{Running}
-use Rattle.nd_model.specs.Fault as model
-use Rattle.nd_model.specs.Cell.{Saved, Ended}
-use Rattle.nd_syntax.specs.Syntax.{kind_of}
+use Rattle.nd_model.specs.Cells.Running.{Running}
+use Rattle.nd_model.specs.Cells.Fault as model
+use Rattle.nd_model.specs.Cells.Cell.{Saved, Ended}
+use Rattle.nd_syntax.specs.Trees.Syntax.{kind_of}
 use Rattle.nd_eval.specs.Faults.{fault_of}
 use Rattle.nd_cell.specs.declared.result.CellFault.{CellFault}
 use Rattle.nd_cell.specs.declared.result.CellFault.TheVariants.{Parse, Statement}

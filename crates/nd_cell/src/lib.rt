@@ -1,4 +1,4 @@
-//! Cells: running one over a session.
+//! Cells: running one over a session, with a record by which it is replayed.
 #![tactic(auto)]
 
 mod record;
@@ -10,7 +10,7 @@ pub use nd_eval::{
     ViewFault,
 };
 pub use nd_meter::Meter;
-pub use nd_parse::ParseKind;
+pub use nd_parse::cells::ParseKind;
 pub use record::Record;
 pub use result::{CellFault, CellResult, Refusal};
 pub use run::run_cell;

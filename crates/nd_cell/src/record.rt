@@ -1,28 +1,29 @@
-//! Records of runs.
+//! `Record`: what a run of a cell read, did and gave.
 
 ghost use Rattle.std.specs.Prelude.{◌≡◌, ◌↔◌, ℕ, IfOk, IsFalse, IsTrue, List, OnOk, option_map, string_bytes, unwrap_or};
-ghost use Rattle.nd_model.specs.Beside.{HasNoName, IsNoted};
-ghost use Rattle.nd_model.specs.CutOff.{IsQuiet, SameOnSession};
-ghost use Rattle.nd_model.specs.Footprint.{HasNone, replayed, with_effects};
-ghost use Rattle.nd_model.specs.Overlay.{IsApart, IsOnce, IsOverlay, IsUnder, Misses, Replaces, did};
-ghost use Rattle.nd_model.specs.Records as records;
-ghost use Rattle.nd_model.specs.Records.{StillHolds};
-ghost use Rattle.nd_model.specs.Running as running;
-ghost use Rattle.nd_model.specs.Session.{Names, collected};
-ghost use Rattle.nd_model.specs.Sound.{IsSoundSession};
-ghost use Rattle.nd_session.specs.Changes.{is_bound};
-ghost use Rattle.nd_session.specs.Kept.{version_of};
-ghost use Rattle.nd_session.specs.Live.{live};
-ghost use Rattle.nd_input.specs.Values.{inputs_of};
+ghost use Rattle.nd_model.specs.Book.Beside.{HasNoName, IsNoted};
+ghost use Rattle.nd_model.specs.Book.CutOff.{IsQuiet, SameOnSession};
+ghost use Rattle.nd_model.specs.Cells.Footprint.{HasNone, replayed, with_effects};
+ghost use Rattle.nd_model.specs.Book.Overlay.{IsApart, IsOnce, IsOverlay, IsUnder, Misses, Replaces, did};
+ghost use Rattle.nd_model.specs.Book.Records as records;
+ghost use Rattle.nd_model.specs.Book.Records.{StillHolds};
+ghost use Rattle.nd_model.specs.Cells.Running as running;
+ghost use Rattle.nd_model.specs.Cells.Session.{Names, collected};
+ghost use Rattle.nd_model.specs.Cells.Sound.{IsSoundSession};
+ghost use Rattle.nd_session.specs.Session.Changes.{is_bound};
+ghost use Rattle.nd_session.specs.Session.Kept.{version_of};
+ghost use Rattle.nd_session.specs.Session.Live.{live};
+ghost use Rattle.nd_session.specs.Inputs.Values.{inputs_of};
 ghost use Rattle.nd_cell.specs.Records.{EndsRun, ended_in, record_at_end, recorded};
 ghost use Rattle.nd_cell.specs.Results.{ended_of, refusal_of, saves_of};
 
 use crate::result::CellResult;
-use nd_session::{Changes, Inputs, OutOfMemory, Readings, Reads, Session, Version};
+use nd_session::session::{Changes, Inputs, OutOfMemory, Readings, Reads, Session, Version};
 use std::marker::Model;
 use std::rc::Rc;
 
-/// What is kept of a run of a cell: what it read, with what it found there, what it did to the session, and what it gave.
+/// The record of a cell's run: what it read, with what it found there, what it did to the session,
+/// and what it gave.
 #[derive(Drop)]
 pub struct Record {
     reads: Reads,
@@ -58,7 +59,8 @@ impl Model for Record {
 }
 
 impl Record {
-    /// The record of a run that began with the session of a version, ended with this one, and gave this.
+    /// Returns the record of a run that began with a snapshot, ended with a session, and gave
+    /// this result.
     pub(crate) fn of_run(
         session: &Session,
         before: &Version,
@@ -84,7 +86,7 @@ impl Record {
         })
     }
 
-    /// What the run gave.
+    /// Returns what the run gave.
     pub fn result(&self) -> &CellResult
         ensures text { string_bytes result.now.text ≡ self.now.text }
         ensures refusal { option_map refusal_of result.now.refusal ≡ self.now.refusal }
@@ -93,7 +95,8 @@ impl Record {
         self.result.as_ref()
     }
 
-    /// Whether the record may stand for a run of its cell over the session and these inputs. It takes no memory.
+    /// Returns whether the record may stand for a run of its cell over a session and these
+    /// inputs: all that it read is unchanged. It takes no memory.
     pub fn still_holds(&self, session: &Session, inputs: &Inputs) -> bool
         ensures { IsTrue result ↔ StillHolds (recorded self.now)
             (running.session_of (live session.now)) (inputs_of inputs.now.entries) }
@@ -101,7 +104,8 @@ impl Record {
         !session.has_label(self.changes.label()) && self.reads.agree(session, inputs)
     }
 
-    /// The same, where no bound value lies in a block of the cell's label.
+    /// Returns whether the record still holds, where no bound value lies in a block of the cell's
+    /// label.
     pub fn agrees(&self, session: &Session, inputs: &Inputs) -> bool
         requires { HasNone (recorded self.now).label (running.session_of (live session.now)) }
         ensures { IsTrue result ↔ StillHolds (recorded self.now)
@@ -110,7 +114,7 @@ impl Record {
         self.reads.agree(session, inputs)
     }
 
-    /// Whether an input that the run read is another one in the new inputs. It takes no memory.
+    /// Returns whether an input that the run read differs in the new inputs. It takes no memory.
     pub fn have_inputs_changed(&self, old: &Inputs, new: &Inputs) -> bool
         ensures { IsFalse result ↔ ((n : List ℕ)
             → IsTrue ((recorded self.now).read (running.Input n))
@@ -119,7 +123,8 @@ impl Record {
         self.reads.have_inputs_changed(old, new)
     }
 
-    /// What the run did to a name at last: it bound it, or unbound it; none where it did neither. It takes no memory.
+    /// Returns what the run last did to a name: true where it bound it, false where it unbound it,
+    /// `None` where it did neither. It takes no memory.
     pub fn last_of(&self, name: &str) -> Option<bool>
         ensures { (names : Names)
             → is_bound name.now (replayed (recorded self.now).effects.events names)
@@ -128,14 +133,16 @@ impl Record {
         self.changes.last_of(name)
     }
 
-    /// If so, the run bound and unbound no name and wrote to no block of another cell.
+    /// Returns true only where the run bound and unbound no name and wrote to no block of another
+    /// cell.
     pub fn is_quiet(&self) -> bool
         ensures { IsTrue result → IsQuiet (recorded self.now) }
     {
         self.changes.is_quiet()
     }
 
-    /// If so, two runs of a cell did the same to their sessions, whatever they told and read.
+    /// Returns true only where two runs of a cell had the same effects on their sessions, whatever
+    /// they read and printed.
     pub fn have_same_effects(&self, other: &Record) -> bool
         ensures { IsTrue result → SameOnSession (recorded self.now) (recorded other.now) }
     {
@@ -145,9 +152,11 @@ impl Record {
         self.changes.is_same(&other.changes)
     }
 
-    /// Does to a session over which the record still holds what the run did to its own: the session then is that after a run of
-    /// the cell, and `result` is what that run gives. No byte of a block is copied but where it was written. After want of memory
-    /// the session is only fit to be dropped.
+    /// Does to a session what the run did to its own, where the record still holds: the session
+    /// then is that after a run of the cell, which gives `result`.
+    ///
+    /// No byte of a block is copied, except those that were written. After want of memory the
+    /// session may only be dropped.
     pub fn replay(&self, session: &mut Session) -> Result<(), OutOfMemory>
         requires { (i : running.Inputs)
             × StillHolds (recorded self.now) (running.session_of (live session.old)) i }
@@ -160,8 +169,9 @@ impl Record {
         Ok(())
     }
 
-    /// If so, this run replaces another of the same cell: both bind the same names in turn, each once and to a value that lies in
-    /// no base but the cell's own, and do nothing else. It takes no memory, and may say no where the run does.
+    /// Returns true only where this run replaces another of the same cell: both do nothing but bind
+    /// the same names in the same order, each once, to values in the cell's own blocks, or in none.
+    /// It takes no memory, and may be false where this holds.
     pub fn replaces(&self, old: &Record) -> bool
         ensures { IsTrue result → Replaces (recorded old.now) (recorded self.now) }
     {
@@ -177,24 +187,24 @@ impl Record {
         old.changes.binds_same(&self.changes)
     }
 
-    /// If so, the run read none of the names that another bound and of the bases that it made. It takes no memory, and may say no
-    /// where the run did not.
+    /// Returns true only where the run read none of the names that another bound and of the blocks
+    /// that it made. It takes no memory, and may be false where this holds.
     pub fn misses(&self, over: &Record) -> bool
         ensures { IsTrue result → Misses (recorded over.now) (recorded self.now) }
     {
         self.reads.miss(&over.changes)
     }
 
-    /// If so, the run left the names and bases of another as they are, and bound no name to a value in these. It takes no memory,
-    /// and may say no where the run did.
+    /// Returns true only where the run left the names and blocks of another as they are, and bound
+    /// no name to a value in these. It takes no memory, and may be false where this holds.
     pub fn is_apart(&self, over: &Record) -> bool
         ensures { IsTrue result → IsApart (recorded over.now) (recorded self.now) }
     {
         self.changes.is_apart(&over.changes)
     }
 
-    /// Notes the names that the run read, and the labels of the bases. What was noted before stays noted, also where memory is
-    /// wanted.
+    /// Notes the names that the run read, and the labels of the blocks. Earlier notes stay, also
+    /// for want of memory.
     pub fn note(&self, readings: &mut Readings) -> Result<(), OutOfMemory>
         ensures noted { OnOk result (IsNoted (recorded self.now) readings.new) }
         ensures stays { (r : records.Record) → IsNoted r readings.old → IsNoted r readings.new }
@@ -203,7 +213,8 @@ impl Record {
         Ok(())
     }
 
-    /// If so, no run that is noted read a name or a base of this one. It takes no memory, and may say no where none did.
+    /// Returns true only where no noted run read a name or a block of this one. It takes no memory,
+    /// and may be false where this holds.
     pub fn are_unread(&self, readings: &Readings) -> bool
         ensures { IsTrue result → (r : records.Record) → IsNoted r readings.now
             → Misses (recorded self.now) r }
@@ -211,23 +222,26 @@ impl Record {
         self.changes.are_unread(readings)
     }
 
-    /// If so, the run did nothing but bind names to values that lie in no base but the cell's own. It takes no memory, and may say
-    /// no where it did.
+    /// Returns true only where the run did nothing but bind names to values in the cell's own
+    /// blocks, or in none. It takes no memory, and may be false where this holds.
     pub fn is_overlay(&self) -> bool
         ensures { IsTrue result → IsOverlay (recorded self.now) }
     {
         self.changes.is_overlay()
     }
 
-    /// Whether the version binds none of the names that the run bound and unbound. It takes no memory.
+    /// Returns whether a snapshot binds none of the names that the run bound and unbound. It takes
+    /// no memory.
     pub fn has_no_name(&self, before: &Version) -> bool
         ensures { IsTrue result ↔ HasNoName (recorded self.now) (version_of before.now) }
     {
         self.changes.has_no_name(before)
     }
 
-    /// Does what the run did over a session in which another run of the cell stands: its names get the values of this one, and the
-    /// bases of the other go. No byte of a block is copied. After want of memory the session is only fit to be dropped.
+    /// Puts this run in place of another run of the cell in a session: its names get the values of
+    /// this one, and the blocks of the other go.
+    ///
+    /// No byte of a block is copied. After want of memory the session may only be dropped.
     pub fn overlay(&self, session: &mut Session) -> Result<(), OutOfMemory>
         requires own { IsOverlay (recorded self.now) }
         requires under { IsUnder (recorded self.now) (running.session_of (live session.old)) }

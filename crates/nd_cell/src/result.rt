@@ -1,12 +1,12 @@
-//! What cells give.
+//! `CellResult`: the text, the files and the refusal of a cell.
 
 ghost use Rattle.std.specs.Prelude.{◌≡◌, option_map};
-ghost use Rattle.nd_model.specs.Session.{lookup};
+ghost use Rattle.nd_model.specs.Cells.Session.{lookup};
 ghost use Rattle.nd_cell.specs.Results.{saves_of};
 
 use indexmap::IndexMap;
 use nd_eval::StmtFault;
-use nd_parse::ParseKind;
+use nd_parse::cells::ParseKind;
 
 /// Why a cell is refused.
 #[derive(Drop)]
@@ -17,14 +17,16 @@ pub enum CellFault {
     Statement(StmtFault),
 }
 
-/// A cell's refusal: the line, from 1, on which the refused statement begins, or on which the text goes wrong.
+/// The refusal of a cell: the line, from 1, on which the refused statement begins, or at which the
+/// text is no cell.
 #[derive(Drop)]
 pub struct Refusal {
     pub line: usize,
     pub fault: CellFault,
 }
 
-/// What a cell gives: the text that it printed, why it was refused if it was, and the files that it saved by name.
+/// What a cell gives: the text that it printed, its refusal if there is one, and the files that it
+/// saved, by name.
 #[derive(Drop)]
 pub struct CellResult {
     pub text: String,
@@ -33,7 +35,7 @@ pub struct CellResult {
 }
 
 impl CellResult {
-    /// The file that the cell saved by this name.
+    /// Returns the file that the cell saved under this name.
     pub fn file(&self, name: &str) -> Option<&[u8]>
         ensures { option_map (λ f. f.now) result
             ≡ lookup name.now (saves_of self.now.saves.entries) }

@@ -1,17 +1,17 @@
-//! Running a cell.
+//! `run_cell`: runs a cell's text over a session.
 
 ghost use Rattle.std.specs.Prelude.{◌≡◌, ◌+◌, ◌-◌, ◌<◌, ◌≤◌, ◌^◌, ℕ, List, min, [], Ok, Some, IfOk, OnOk, option_map, string_bytes};
-ghost use Rattle.nd_model.specs.Fault as refusals;
-ghost use Rattle.nd_model.specs.Running as running;
-ghost use Rattle.nd_model.specs.Running.{Running};
-ghost use Rattle.nd_model.specs.Cell.{Ended, Saved, and_then, cell, ran, statement, statements, with_save};
-ghost use Rattle.nd_model.specs.Footprint.{HasNone};
-ghost use Rattle.nd_model.specs.Tokens.{tokens_of_lines, tokens_of_stmt};
-ghost use Rattle.nd_model.specs.Reading.{reading};
-ghost use Rattle.nd_model.specs.Records.{record_of};
-ghost use Rattle.nd_syntax.specs.Syntax.{kind_of, lines_of, stmt_of};
-ghost use Rattle.nd_input.specs.Values.{inputs_of};
-ghost use Rattle.nd_session.specs.Live.{live};
+ghost use Rattle.nd_model.specs.Cells.Fault as refusals;
+ghost use Rattle.nd_model.specs.Cells.Running as running;
+ghost use Rattle.nd_model.specs.Cells.Running.{Running};
+ghost use Rattle.nd_model.specs.Cells.Cell.{Ended, Saved, and_then, cell, ran, statement, statements, with_save};
+ghost use Rattle.nd_model.specs.Cells.Footprint.{HasNone};
+ghost use Rattle.nd_model.specs.Grammar.Tokens.{tokens_of_lines, tokens_of_stmt};
+ghost use Rattle.nd_model.specs.Grammar.Reading.{reading};
+ghost use Rattle.nd_model.specs.Book.Records.{record_of};
+ghost use Rattle.nd_syntax.specs.Trees.Syntax.{kind_of, lines_of, stmt_of};
+ghost use Rattle.nd_session.specs.Inputs.Values.{inputs_of};
+ghost use Rattle.nd_session.specs.Session.Live.{live};
 ghost use Rattle.nd_eval.specs.Done.{output_of};
 ghost use Rattle.nd_cell.specs.Records.{ended_in, recorded};
 ghost use Rattle.nd_cell.specs.Results.{after_line, ended_of, refusal_of, saved_of, saves_of};
@@ -21,8 +21,8 @@ use crate::result::{CellFault, CellResult, Refusal};
 use indexmap::IndexMap;
 use nd_eval::{Output, StmtError, StmtFault, run_stmt};
 use nd_meter::Meter;
-use nd_parse::{Line, ParseFault, parse_cell};
-use nd_session::{Inputs, OutOfMemory, Session};
+use nd_parse::cells::{Line, ParseFault, parse_cell};
+use nd_session::session::{Inputs, OutOfMemory, Session};
 use std::alloc::Global;
 
 /// The most bytes of a cell's text.
@@ -42,7 +42,7 @@ fn keep(
     Ok(())
 }
 
-/// Adds what the statement of a line gave to what its cell gave before. A text that gets too long refuses the line.
+/// Adds the output of a statement to that of its cell. A text that gets too long refuses the line.
 fn add_output(
     text: &mut String,
     saves: &mut IndexMap<String, Vec<u8>>,
@@ -65,7 +65,7 @@ fn add_output(
     Ok(None)
 }
 
-/// Runs a line of a cell: what it gives is added to what the lines before it gave, or it is refused.
+/// Runs a line of a cell: its output is added to that of the lines before it, or it is refused.
 fn run_line(
     session: &mut Session,
     inputs: &Inputs,
@@ -122,7 +122,7 @@ fn run_lines(
     })
 }
 
-/// Of a text that is no cell.
+/// The result of a cell whose text does not parse: no text, no files, the fault.
 fn unread(alloc: Global, fault: ParseFault) -> CellResult
     ensures text { string_bytes result.text ≡ [] }
     ensures refusal { option_map refusal_of result.refusal
@@ -139,13 +139,15 @@ fn unread(alloc: Global, fault: ParseFault) -> CellResult
     }
 }
 
-/// What a cell of this text gives, over a session in which it has begun. A text that is no cell runs nothing.
+/// The result of a text, over a session in which its cell has begun. A text that does not parse
+/// runs nothing.
 fn run_text(session: &mut Session, inputs: &Inputs, text: &str) -> Result<CellResult, OutOfMemory>
     requires { (live session.old).next ≡ 0 }
     ensures { IfOk result (λ r.
         ran (inputs_of inputs.now.entries) (reading text.now) (live session.old)
         ≡ ended_of r (live session.new)) }
 {
+    // proof: the number of bytes is bounded, by the clause of as_bytes().
     let _bytes = text.as_bytes();
     match parse_cell(session.allocator(), text)? {
         Ok(lines) => run_lines(session, inputs, &lines),
@@ -153,8 +155,8 @@ fn run_text(session: &mut Session, inputs: &Inputs, text: &str) -> Result<CellRe
     }
 }
 
-/// Runs a cell of this label over a session, and counts the run. What it gave is in the record of the run. After want of memory
-/// the session is only fit to be dropped.
+/// Runs a cell of this label over a session, counts the run, and returns its record, with the
+/// result. After want of memory the session may only be dropped.
 pub fn run_cell(
     meter: &mut Meter,
     session: &mut Session,

@@ -1,1 +1,2 @@
-pub mod Converted
+pub mod Conversion
+pub mod Creation

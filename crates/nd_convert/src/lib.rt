@@ -1,13 +1,5 @@
-//! The elements of a view as a new array: converted to numbers of another kind or order of bytes, or copied in their own type.
+//! New blocks: `conversion` makes one of other elements' numbers, `creation` one of a number, a range or a list.
 #![tactic(auto)]
 
-mod blocks;
-mod kernel;
-pub mod known;
-mod numbers;
-mod pairs;
-mod run;
-mod structures;
-
-pub use blocks::{convert_numbers, copy_elements};
-pub use run::convert;
+pub mod conversion;
+pub mod creation;

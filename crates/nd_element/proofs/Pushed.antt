@@ -3,8 +3,8 @@ use Rattle.std.proofs.Common.{◌≡◌, ℕ, ◌+◌, ◌<◌, List, [], ◌∷
 use Rattle.std.specs.List.{flat_map}
 use Rattle.std.proofs.lemmas.Grind.{flat_map-append}
 use Rattle.std.proofs.lemmas.List.{map-append, take_more}
-use Rattle.nd_model.specs.Element.{Element}
-use Rattle.nd_model.specs.Content.{number_at}
+use Rattle.nd_model.specs.Arrays.Element.{Element}
+use Rattle.nd_model.specs.Arrays.Content.{number_at}
 use Rattle.nd_element.specs.Elements.{numbers_at}
 
 -- one number more

@@ -6,11 +6,11 @@ use Rattle.std.specs.Int.{byte_len, byte_worth, sum_through}
 use Rattle.std.proofs.lemmas.List.{take_more}
 use Rattle.nd_types.proofs.Sized.{some_bytes}
 use Rattle.std.proofs.lemmas.Grind.{flat_map-append}
-use Rattle.nd_model.specs.Element.{Element, width_of, size_of, value_in, number_in, value_of, bytes_at, bytes_of, with_bytes}
-use Rattle.nd_model.specs.Tuple.{count_up}
-use Rattle.nd_model.specs.View.{Field}
-use Rattle.nd_model.specs.Session.{put}
-use Rattle.nd_model.specs.Content.{number_at, field_writes}
+use Rattle.nd_model.specs.Arrays.Element.{Element, width_of, size_of, value_in, number_in, value_of, bytes_at, bytes_of, with_bytes}
+use Rattle.nd_model.specs.Arrays.Tuple.{count_up}
+use Rattle.nd_model.specs.Arrays.View.{Field}
+use Rattle.nd_model.specs.Cells.Session.{put}
+use Rattle.nd_model.specs.Arrays.Content.{number_at, field_writes}
 use Rattle.nd_model.proofs.Values.{few_bytes, length-bytes_of}
 use Rattle.nd_model.proofs.Puts.{put-append, with_bytes-put}
 

@@ -2,9 +2,9 @@
 use Rattle.std.specs.Prelude.{◌≡◌, ℕ, ◌+◌, ◌≤◌, ℤ, List, ◌++◌, length, map, Vec}
 use Rattle.std.specs.Global.{Global}
 use Rattle.std.specs.List.{All, flat_map}
-use Rattle.nd_model.specs.Element.{Element, size_of}
-use Rattle.nd_model.specs.Content.{number_at, content_at, element_bytes}
-use Rattle.nd_model.specs.View.{ElementType, Field, Geo, Structure}
+use Rattle.nd_model.specs.Arrays.Element.{Element, size_of}
+use Rattle.nd_model.specs.Arrays.Content.{number_at, content_at, element_bytes}
+use Rattle.nd_model.specs.Arrays.View.{ElementType, Field, Geo, Structure}
 
 -- every byte of the elements is one of these bytes
 abbrev pub AreHeld : Element → List ℕ → List ℕ → Type 0

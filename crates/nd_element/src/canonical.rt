@@ -1,9 +1,10 @@
-//! The bytes of elements as they are shown: each number in its type's own form, and pad bytes 0.
+//! `canonical_bytes`: the bytes of elements as they are shown, with Booleans 0 or 1 and pad bytes
+//! 0.
 
 ghost use Rattle.std.specs.Prelude.{◌≡◌, ◌+◌, ◌≤◌, ◌^◌, drop, replicate, slice_index, IfOk, OnOk};
-ghost use Rattle.nd_model.specs.Content.{number_at};
-ghost use Rattle.nd_model.specs.Element.{IsValue};
-ghost use Rattle.nd_model.specs.View.{item_size};
+ghost use Rattle.nd_model.specs.Arrays.Content.{number_at};
+ghost use Rattle.nd_model.specs.Arrays.Element.{IsValue};
+ghost use Rattle.nd_model.specs.Arrays.View.{item_size};
 ghost use Rattle.nd_types.specs.Types.{type_of};
 ghost use Rattle.nd_element.specs.Elements as elements;
 ghost use Rattle.nd_element.specs.Elements.{Appends, canonical_at, canonical_structure};
@@ -13,21 +14,21 @@ use nd_types::{Elem, ElemType, RecType};
 use nd_view::View;
 use std::alloc::{AllocError, Global};
 
-// The byte at a place, 0 past the end.
+// The byte at a byte offset, 0 past the end.
 fn byte_at(bytes: &[u8], place: usize) -> u8
     ensures { result ≡ slice_index bytes.now place }
 {
     bytes.get(place).copied().unwrap_or(0)
 }
 
-// The bytes from a place on, none past the end.
+// The bytes from a byte offset on, none past the end.
 fn bytes_from(bytes: &[u8], place: usize) -> &[u8]
     ensures { result.now ≡ drop place bytes.now }
 {
     bytes.get(place..).unwrap_or(&[])
 }
 
-// The number at a place of which the bytes may end before it does. They are 0 past their end.
+// The number at a byte offset, where some of its bytes lie past the end and read as 0.
 #[inline(never)]
 fn number_past(bytes: &[u8], place: usize, elem: Elem) -> i128
     ensures value { result ≡ number_at elem bytes.now place }
@@ -47,7 +48,7 @@ fn number_past(bytes: &[u8], place: usize, elem: Elem) -> i128
     value_at(&run, 0, elem)
 }
 
-// The number at a place of these bytes, which are 0 past their end.
+// The number at a byte offset. A byte past the end reads as 0.
 fn number(bytes: &[u8], place: usize, elem: Elem) -> i128
     ensures value { result ≡ number_at elem bytes.now place }
     ensures in_range { IsValue elem.kind result }
@@ -60,19 +61,21 @@ fn number(bytes: &[u8], place: usize, elem: Elem) -> i128
     }
 }
 
-/// Returns the number of the element that begins at a place of these bytes. A byte past the end is taken for 0.
+/// Returns the number of the element at a byte offset. A byte past the end reads as 0.
 pub fn number_in(bytes: &[u8], place: u64, elem: Elem) -> i128
     ensures { result ≡ number_at elem bytes.now place }
 {
     number(bytes, place as usize, elem)
 }
 
-/// Writes the structure at a place of these bytes over as many zeros, so that its pad bytes are 0. A byte past the end is taken for 0.
+/// Writes the structure at a byte offset over zeros, so that its pad bytes are 0. A byte past the
+/// end reads as 0.
 pub fn write_structure(out: &mut [u8], bytes: &[u8], place: u64, structure: &RecType)
     requires zeros { out.old ≡ replicate structure.now.1 0 }
     requires end { place + structure.now.1 ≤ 2 ^ 64 }
     ensures { out.new ≡ canonical_structure structure.now bytes.now place }
 {
+    // proof: the itemsize is bounded, by the clause of size().
     let _size = structure.size();
     for field in structure.fields() {
         let value = number(bytes, place as usize + field.at as usize, field.elem);
@@ -80,7 +83,7 @@ pub fn write_structure(out: &mut [u8], bytes: &[u8], place: u64, structure: &Rec
     }
 }
 
-// The structure at a place of these bytes, its pad bytes 0.
+// The structure at a byte offset, with pad bytes 0.
 fn structure_at(
     alloc: Global,
     bytes: &[u8],
@@ -95,7 +98,7 @@ fn structure_at(
     Ok(block)
 }
 
-// Appends the bytes of the element that begins at a place of these bytes.
+// Appends the bytes of the element at a byte offset.
 fn push_canonical(
     alloc: Global,
     all: &mut Vec<u8>,
@@ -115,8 +118,8 @@ fn push_canonical(
     }
 }
 
-/// Returns the bytes of a view's elements in C order, as the block with these bytes holds them, in the view's own type: a Boolean
-/// is 0 or 1, and pad bytes are 0. A byte past the end of the block is taken for 0.
+/// Returns the bytes of a view's elements in C order, in the view's own dtype: a Boolean is 0 or 1,
+/// and pad bytes are 0. A byte past the end of the block reads as 0.
 pub fn canonical_bytes(alloc: Global, view: &View, bytes: &[u8]) -> Result<Vec<u8>, AllocError>
     ensures { IfOk result (λ v. v.items ≡ elements.canonical_bytes view.now bytes.now) }
 {

@@ -1,8 +1,8 @@
-//! The numbers of elements. Which kind they have, and in which order their bytes stand, is asked once for each run.
+//! `numbers_of`: reads the numbers of elements, by loops specialised for kind and byte order.
 ghost use Rattle.std.specs.Prelude.{◌≡◌, length, IfOk, OnOk};
 ghost use Rattle.std.specs.List.{flat_map};
-ghost use Rattle.nd_model.specs.Element.{bytes_of};
-ghost use Rattle.nd_model.specs.Tuple.{elements_of};
+ghost use Rattle.nd_model.specs.Arrays.Element.{bytes_of};
+ghost use Rattle.nd_model.specs.Arrays.Tuple.{elements_of};
 ghost use Rattle.nd_element.specs.Elements.{AreHeld, Appends, numbers_at};
 
 use nd_block::{push_bytes, value_at};
@@ -10,7 +10,7 @@ use nd_types::{Elem, Kind};
 use nd_view::{Run, View};
 use std::alloc::{AllocError, Global};
 
-// Appends the number at each place of a run.
+// Appends the numbers of a run.
 #[inline(always)]
 fn push_each(numbers: &mut Vec<i128>, elem: Elem, bytes: &[u8], run: &Run) -> Result<(), AllocError>
     requires { AreHeld elem bytes.now run.now }
@@ -22,7 +22,7 @@ fn push_each(numbers: &mut Vec<i128>, elem: Elem, bytes: &[u8], run: &Run) -> Re
     Ok(())
 }
 
-// The same for any element, where no loop is made for it alone.
+// Appends the numbers of any dtype: the loop is compiled once and not specialised.
 #[inline(never)]
 fn push_any(numbers: &mut Vec<i128>, elem: Elem, bytes: &[u8], run: &Run) -> Result<(), AllocError>
     requires { AreHeld elem bytes.now run.now }
@@ -31,7 +31,8 @@ fn push_any(numbers: &mut Vec<i128>, elem: Elem, bytes: &[u8], run: &Run) -> Res
     push_each(numbers, elem, bytes, run)
 }
 
-// The same, by a loop for the one element that is known, if it is that one.
+// Appends by a loop specialised for `known` where it is the dtype, and by the general one
+// otherwise.
 #[inline(always)]
 fn push_known(
     numbers: &mut Vec<i128>,
@@ -50,7 +51,7 @@ fn push_known(
     }
 }
 
-// The same, by a loop for the kind alone.
+// Appends by a loop specialised for the kind and its byte order.
 #[inline(always)]
 fn push_kind(
     numbers: &mut Vec<i128>,
@@ -69,7 +70,7 @@ fn push_kind(
     }
 }
 
-/// Appends the numbers of the elements of a run, which are read from these bytes.
+/// Appends the numbers of a run, whose bytes must all be there.
 pub fn push_numbers(
     numbers: &mut Vec<i128>,
     elem: Elem,
@@ -92,7 +93,7 @@ pub fn push_numbers(
     }
 }
 
-/// Returns the numbers of a view's elements in C order, which are read from the bytes of its block.
+/// Returns the numbers of a view's elements in C order.
 pub fn numbers_of(
     alloc: Global,
     view: &View,
@@ -111,7 +112,7 @@ pub fn numbers_of(
     Ok(numbers)
 }
 
-/// Appends the bytes of elements that have these numbers. Of a number that the kind does not hold the lowest bits are kept.
+/// Appends the bytes of elements that have these numbers. A number outside the kind is wrapped.
 pub fn push_bytes_of(bytes: &mut Vec<u8>, elem: Elem, numbers: &[i128]) -> Result<(), AllocError>
     ensures { OnOk result (Appends (flat_map (bytes_of elem) numbers.now) bytes.old bytes.new) }
 {

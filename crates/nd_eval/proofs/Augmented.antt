@@ -3,26 +3,26 @@ use Rattle.std.proofs.Common.{◌≡◌, ℕ, true, false, List, [], ◌∷◌, 
 use Rattle.std.specs.Prelude.{nat_eq, ◌&&◌, if◌then◌else◌}
 use Rattle.std.proofs.lemmas.Bool.Decides.{nat_tests}
 use Rattle.std.proofs.lemmas.Result.{err_from_is_err_and}
-use Rattle.nd_model.specs.Augmenting.{array_in_place, content_in_place, augment_array, augment_item, augment_name, deed_of_made, in_place_kind, in_place_writes, operand_of_made, results_in_place}
-use Rattle.nd_model.specs.Content.{Content}
-use Rattle.nd_model.specs.Element.{Kind}
-use Rattle.nd_model.specs.Elementwise.{binary}
-use Rattle.nd_model.specs.Evaluation.{Eval, Gives, run, ◌>>=◌, decide}
-use Rattle.nd_model.specs.Fault.{Fault}
-use Rattle.nd_model.specs.Meaning.{two}
-use Rattle.nd_model.specs.Operand as model
-use Rattle.nd_model.specs.Operand.{Usage, Whole, Unused, Made, ANumber, AnArray, BindsMade, Writes}
-use Rattle.nd_model.specs.Operation.{Computes, do_deed, give, operands, store_in, use_operand}
-use Rattle.nd_model.specs.Refusing as refusing
-use Rattle.nd_model.specs.Running.{Running, Inputs, Effect, Binding, Storing}
-use Rattle.nd_model.specs.Sound.{IsHeldView, IsViewOf, LiesIn}
-use Rattle.nd_model.specs.Syntax.{BinaryOp}
-use Rattle.nd_model.specs.Tuple.{indices}
-use Rattle.nd_model.specs.Value as value
-use Rattle.nd_model.specs.Value.{Base, same_base}
-use Rattle.nd_model.specs.View.{Geo}
-use Rattle.nd_model.specs.Viewing.{Viewing}
-use Rattle.nd_model.specs.Writing.{assignment_writes}
+use Rattle.nd_model.specs.Making.Augmenting.{array_in_place, content_in_place, augment_array, augment_item, augment_name, deed_of_made, in_place_kind, in_place_writes, operand_of_made, results_in_place}
+use Rattle.nd_model.specs.Arrays.Content.{Content}
+use Rattle.nd_model.specs.Arrays.Element.{Kind}
+use Rattle.nd_model.specs.Making.Elementwise.{binary}
+use Rattle.nd_model.specs.Cells.Evaluation.{Eval, Gives, run, ◌>>=◌, decide}
+use Rattle.nd_model.specs.Cells.Fault.{Fault}
+use Rattle.nd_model.specs.Cells.Meaning.{two}
+use Rattle.nd_model.specs.Making.Operand as model
+use Rattle.nd_model.specs.Making.Operand.{Usage, Whole, Unused, Made, ANumber, AnArray, BindsMade, Writes}
+use Rattle.nd_model.specs.Cells.Operation.{Computes, do_deed, give, operands, store_in, use_operand}
+use Rattle.nd_model.specs.Cells.Refusing as refusing
+use Rattle.nd_model.specs.Cells.Running.{Running, Inputs, Effect, Binding, Storing}
+use Rattle.nd_model.specs.Cells.Sound.{IsHeldView, IsViewOf, LiesIn}
+use Rattle.nd_model.specs.Grammar.Syntax.{BinaryOp}
+use Rattle.nd_model.specs.Arrays.Tuple.{indices}
+use Rattle.nd_model.specs.Arrays.Value as value
+use Rattle.nd_model.specs.Arrays.Value.{Base, same_base}
+use Rattle.nd_model.specs.Arrays.View.{Geo}
+use Rattle.nd_model.specs.Indexing.Viewing.{Viewing}
+use Rattle.nd_model.specs.Making.Writing.{assignment_writes}
 use Rattle.nd_model.proofs.Soundness.{given_run, safe_performed, IfGiven}
 use Rattle.nd_types.specs.Kinds.{kind_of}
 use Rattle.nd_types.specs.declared.num.Num.{Num}
@@ -31,21 +31,21 @@ use Rattle.nd_heap.specs.declared.value.Array.{Array as ArrayValue}
 use Rattle.nd_heap.specs.declared.value.Value.{Value}
 use Rattle.nd_heap.specs.declared.value.Value.TheVariants.{Number, Array, Row}
 use Rattle.nd_heap.specs.Values.{base_of, geo_of, value_of}
-use Rattle.nd_operation.specs.Contents.{contents_over, elements_over, unused_of}
-use Rattle.nd_operation.specs.New.{given, MakesNew, NewLies, StandsFor, operand_of_new}
-use Rattle.nd_operation.specs.declared.operand.New.{New}
-use Rattle.nd_operation.specs.declared.operand.New.TheVariants as new
-use Rattle.nd_refusal.specs.declared.stop.Stop.{Stop}
-use Rattle.nd_refusal.specs.declared.stop.Stop.TheVariants.{Memory, Refused}
-use Rattle.nd_refusal.specs.Ends.{Makes}
-use Rattle.nd_choice.specs.Indexing.{index_operands, operands_of, viewing_of}
-use Rattle.nd_choice.proofs.Indexing.{same_index_arrays}
-use Rattle.nd_model.specs.Index.{has_array}
-use Rattle.nd_choice.specs.Targets.{geo_in, target_by, writes_to}
-use Rattle.nd_choice.specs.declared.targets.Target.{Target}
-use Rattle.nd_choice.specs.declared.indexes.IndexValue.{IndexValue}
-use Rattle.nd_choice.specs.declared.indexes.IndexValue.TheVariants as index
-use Rattle.nd_choice.proofs.Lying.{writes_made}
+use Rattle.nd_operation.specs.Operators.Contents.{contents_over, elements_over, unused_of}
+use Rattle.nd_operation.specs.Operators.New.{given, MakesNew, NewLies, StandsFor, operand_of_new}
+use Rattle.nd_operation.specs.declared.operators.operand.New.{New}
+use Rattle.nd_operation.specs.declared.operators.operand.New.TheVariants as new
+use Rattle.nd_operation.specs.declared.refusals.stop.Stop.{Stop}
+use Rattle.nd_operation.specs.declared.refusals.stop.Stop.TheVariants.{Memory, Refused}
+use Rattle.nd_operation.specs.Refusals.Ends.{Makes}
+use Rattle.nd_select.specs.Choosing.Indexing.{index_operands, operands_of, viewing_of}
+use Rattle.nd_select.proofs.choosing.Indexing.{same_index_arrays}
+use Rattle.nd_model.specs.Indexing.Index.{has_array}
+use Rattle.nd_select.specs.Choosing.Targets.{geo_in, target_by, writes_to}
+use Rattle.nd_select.specs.declared.choosing.targets.Target.{Target}
+use Rattle.nd_select.specs.declared.choosing.indexes.IndexValue.{IndexValue}
+use Rattle.nd_select.specs.declared.choosing.indexes.IndexValue.TheVariants as index
+use Rattle.nd_select.proofs.choosing.Lying.{writes_made}
 use Rattle.nd_eval.specs.Contents as contents
 use Rattle.nd_eval.specs.Ends.{Ends}
 use Rattle.nd_eval.specs.Parts.{augmentation, copy_update, item_augmentation, made_assignment, operate, store_made, stored_in, update}

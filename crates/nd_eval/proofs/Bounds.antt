@@ -1,21 +1,21 @@
 -- How many bases an evaluation makes.
 use Rattle.std.proofs.Common.{◌≡◌, ℕ, ℤ, ◌+◌, ◌≤◌, Bool, true, false, List, [], ◌∷◌, ◌++◌, Option, None, Result, Ok, refl, subst, arith}
-use Rattle.nd_model.specs.Value.{Value}
-use Rattle.nd_model.specs.Fault.{Fault}
-use Rattle.nd_model.specs.Syntax.{Expr, Bound, Omitted, Given, Elements, NoElement, AndElement, Element, Single, Nested, Exprs, NoExpr, AndExpr, Method, Copy, AsType, Transpose, Reshape, ViewAs, Reduced, Accumulated, Axis, DefaultAxis, AllAxes, AtAxis, Index, Field, Items, IndexItems, IndexItem, AndItem, NoItem, At, Slice, Ellipsis, NewAxis, Listed, Stmt}
-use Rattle.nd_model.specs.Cells.{Suffix, AtIndex, OfMethod}
-use Rattle.nd_model.specs.Calls.{Accumulation}
-use Rattle.nd_model.specs.Creation.{array_of_list, copy_array, astype}
-use Rattle.nd_model.specs.Reductions.{reduce_array, accumulate_array}
-use Rattle.nd_model.specs.Tokens.{tokens_of, tokens_of_bound, tokens_of_step, tokens_of_index, tokens_of_items, tokens_of_item, tokens_of_elements, tokens_of_others, tokens_of_element, tokens_of_all, tokens_of_exprs, tokens_of_axis, tokens_of_first, tokens_of_number, tokens_of_method, tokens_of_stmt}
-use Rattle.nd_model.specs.Running.{Inputs, Running, Effect, Nothing, Prints, Saves, Binding, Unbinding, Storing, done}
-use Rattle.nd_model.specs.Evaluation.{Eval, Gives, run, ◌>>=◌}
-use Rattle.nd_model.specs.Operand.{Operand, Made, Whole, ArraysOnly, Unused}
-use Rattle.nd_model.specs.Viewing.{Viewing, Transposed, Reshaped, ViewedAs}
-use Rattle.nd_model.specs.Operation.{Computes, Views, perform}
-use Rattle.nd_model.specs.Index.{AtForm}
-use Rattle.nd_model.specs.Meaning as meaning
-use Rattle.nd_model.specs.Meaning.{is_empty_list}
+use Rattle.nd_model.specs.Arrays.Value.{Value}
+use Rattle.nd_model.specs.Cells.Fault.{Fault}
+use Rattle.nd_model.specs.Grammar.Syntax.{Expr, Bound, Omitted, Given, Elements, NoElement, AndElement, Element, Single, Nested, Exprs, NoExpr, AndExpr, Method, Copy, AsType, Transpose, Reshape, ViewAs, Reduced, Accumulated, Axis, DefaultAxis, AllAxes, AtAxis, Index, Field, Items, IndexItems, IndexItem, AndItem, NoItem, At, Slice, Ellipsis, NewAxis, Listed, Stmt}
+use Rattle.nd_model.specs.Grammar.Cells.{Suffix, AtIndex, OfMethod}
+use Rattle.nd_model.specs.Grammar.Calls.{Accumulation}
+use Rattle.nd_model.specs.Making.Creation.{array_of_list, copy_array, astype}
+use Rattle.nd_model.specs.Making.Reductions.{reduce_array, accumulate_array}
+use Rattle.nd_model.specs.Grammar.Tokens.{tokens_of, tokens_of_bound, tokens_of_step, tokens_of_index, tokens_of_items, tokens_of_item, tokens_of_elements, tokens_of_others, tokens_of_element, tokens_of_all, tokens_of_exprs, tokens_of_axis, tokens_of_first, tokens_of_number, tokens_of_method, tokens_of_stmt}
+use Rattle.nd_model.specs.Cells.Running.{Inputs, Running, Effect, Nothing, Prints, Saves, Binding, Unbinding, Storing, done}
+use Rattle.nd_model.specs.Cells.Evaluation.{Eval, Gives, run, ◌>>=◌}
+use Rattle.nd_model.specs.Making.Operand.{Operand, Made, Whole, ArraysOnly, Unused}
+use Rattle.nd_model.specs.Indexing.Viewing.{Viewing, Transposed, Reshaped, ViewedAs}
+use Rattle.nd_model.specs.Cells.Operation.{Computes, Views, perform}
+use Rattle.nd_model.specs.Indexing.Index.{AtForm}
+use Rattle.nd_model.specs.Cells.Meaning as meaning
+use Rattle.nd_model.specs.Cells.Meaning.{is_empty_list}
 use Rattle.nd_model.proofs.Bases.{Few, few_more, few_bind, few_run, few_plan, few_performed, few_work, at_expr, at_stmt}
 use Rattle.nd_eval.specs.Parts.{accumulation_value, reduction_value, bound_exprs, choose_value, exprs_in, exprs_of_element, index_parts, item_parts, items_parts, items_then, IndexParts, ItemParts, list_parts, list_value, listed, wholes, method_value, suffix_value, unused, view_value, viewed_value, values_behind, values_then, values}
 use Rattle.nd_eval.specs.Suffixes.{axis_tokens, suffix_tokens}

@@ -1,26 +1,26 @@
 -- The operands of calls with several, one after the other.
 use Rattle.std.proofs.Common.{◌≡◌, ℕ, List, [], ◌∷◌, ◌++◌, map, Option, Result, Ok, refl, sym, ap, ◌∙◌, append-nil}
 use Rattle.std.proofs.lemmas.List.{map-append}
-use Rattle.nd_model.specs.Calls.{Fill, DType}
-use Rattle.nd_model.specs.Syntax.{Expr, Called, Filled, Full, BroadcastTo, NewArray, Elements, NoElement, AndElement, Element, Single, Nested}
-use Rattle.nd_model.specs.Cells.{exprs_of}
-use Rattle.nd_model.specs.Value as model
-use Rattle.nd_model.specs.Running.{Running, Inputs}
-use Rattle.nd_model.specs.Refusing as refusing
-use Rattle.nd_model.specs.Evaluation.{Eval, Gives, run, ◌>>=◌, decide}
-use Rattle.nd_model.specs.Operand.{Operand, Usage, Whole, RowsOnly, Unused}
-use Rattle.nd_model.specs.Operation.{Operation, Computes, Views, perform, operands, give, choose_of, Plans, Done, And, with_values}
-use Rattle.nd_model.specs.Creation.{length_of, lengths_of, last_of, filled, full, full_of, full_array, without_axes, python_number, python_numbers, even_shape, element_for_list, array_of_numbers, array_of_list}
-use Rattle.nd_model.specs.Viewing as viewing
-use Rattle.nd_model.specs.Viewing.{Viewing, choose_of_first}
-use Rattle.nd_model.specs.Meaning.{value, plan, expr_plans, list_plans, element_plans}
-use Rattle.nd_model.specs.Value.{Base}
+use Rattle.nd_model.specs.Grammar.Calls.{Fill, DType}
+use Rattle.nd_model.specs.Grammar.Syntax.{Expr, Called, Filled, Full, BroadcastTo, NewArray, Elements, NoElement, AndElement, Element, Single, Nested}
+use Rattle.nd_model.specs.Grammar.Cells.{exprs_of}
+use Rattle.nd_model.specs.Arrays.Value as model
+use Rattle.nd_model.specs.Cells.Running.{Running, Inputs}
+use Rattle.nd_model.specs.Cells.Refusing as refusing
+use Rattle.nd_model.specs.Cells.Evaluation.{Eval, Gives, run, ◌>>=◌, decide}
+use Rattle.nd_model.specs.Making.Operand.{Operand, Usage, Whole, RowsOnly, Unused}
+use Rattle.nd_model.specs.Cells.Operation.{Operation, Computes, Views, perform, operands, give, choose_of, Plans, Done, And, with_values}
+use Rattle.nd_model.specs.Making.Creation.{length_of, lengths_of, last_of, filled, full, full_of, full_array, without_axes, python_number, python_numbers, even_shape, element_for_list, array_of_numbers, array_of_list}
+use Rattle.nd_model.specs.Indexing.Viewing as viewing
+use Rattle.nd_model.specs.Indexing.Viewing.{Viewing, choose_of_first}
+use Rattle.nd_model.specs.Cells.Meaning.{value, plan, expr_plans, list_plans, element_plans}
+use Rattle.nd_model.specs.Arrays.Value.{Base}
 use Rattle.nd_heap.specs.declared.value.Value.{Value}
 use Rattle.nd_heap.specs.declared.value.Value.TheVariants.{Number, Array, Row}
 use Rattle.nd_heap.specs.Values.{value_of}
-use Rattle.nd_operation.specs.declared.operand.Operand as lent
-use Rattle.nd_refusal.specs.declared.stop.Stop.{Stop}
-use Rattle.nd_operation.specs.Contents.{operand_of, unused_of}
+use Rattle.nd_operation.specs.declared.operators.operand.Operand as lent
+use Rattle.nd_operation.specs.declared.refusals.stop.Stop.{Stop}
+use Rattle.nd_operation.specs.Operators.Contents.{operand_of, unused_of}
 use Rattle.nd_eval.specs.Ends.{Ends}
 use Rattle.nd_eval.proofs.Chains.{ends_alike}
 use Rattle.nd_eval.specs.Parts.{values_then, values, wholes, unused, filled_value, full_value, stretch, stretched_value, view_value, exprs_in, exprs_of_element, list_value}

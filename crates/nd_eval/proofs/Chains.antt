@@ -1,15 +1,15 @@
 -- An evaluation after another, and what is worked out after another.
 use Rattle.std.proofs.Common.{◌≡◌, Result, Ok, Err, IsErrAnd, refl, sym, ap, ◌∙◌, subst}
 use Rattle.std.proofs.lemmas.Result.{err_from_is_err_and}
-use Rattle.nd_model.specs.Fault.{Fault}
-use Rattle.nd_model.specs.Refusing as refusing
-use Rattle.nd_model.specs.Running.{Running, Inputs}
-use Rattle.nd_model.specs.Evaluation.{Eval, run, ◌>>=◌, decide}
+use Rattle.nd_model.specs.Cells.Fault.{Fault}
+use Rattle.nd_model.specs.Cells.Refusing as refusing
+use Rattle.nd_model.specs.Cells.Running.{Running, Inputs}
+use Rattle.nd_model.specs.Cells.Evaluation.{Eval, run, ◌>>=◌, decide}
 use Rattle.nd_model.proofs.Steps.{goes_on, run_bind}
-use Rattle.nd_refusal.specs.declared.fault.StmtFault.{StmtFault}
-use Rattle.nd_refusal.specs.declared.stop.Stop.{Stop}
-use Rattle.nd_refusal.specs.declared.stop.Stop.TheVariants.{Memory, Refused}
-use Rattle.nd_refusal.specs.Ends.{Says, Makes}
+use Rattle.nd_operation.specs.declared.refusals.fault.StmtFault.{StmtFault}
+use Rattle.nd_operation.specs.declared.refusals.stop.Stop.{Stop}
+use Rattle.nd_operation.specs.declared.refusals.stop.Stop.TheVariants.{Memory, Refused}
+use Rattle.nd_operation.specs.Refusals.Ends.{Says, Makes}
 use Rattle.nd_eval.specs.Ends.{Ends}
 
 stops : {A B X Y : Type 0} (v : X → A) (w : Y → B) (i : Inputs) (t : Eval A) (f : A → Eval B) (r s : Running) (e : Stop)

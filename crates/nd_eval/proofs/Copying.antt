@@ -1,18 +1,18 @@
 -- Copies of elements that an index with arrays chose.
 use Rattle.std.proofs.Common.{◌≡◌, ℕ, List, None, Result, Ok, Err, IfOk, sym, ap, ◌∙◌}
-use Rattle.nd_model.specs.Evaluation.{run}
-use Rattle.nd_model.specs.Fault.{Fault}
-use Rattle.nd_model.specs.Operation.{give}
-use Rattle.nd_model.specs.Running.{Running, Inputs}
-use Rattle.nd_model.specs.Strides.{limit_fault}
-use Rattle.nd_model.specs.Value as model
-use Rattle.nd_model.specs.Value.{Base}
-use Rattle.nd_model.specs.View.{ElementType, Geo, contiguous, item_size}
+use Rattle.nd_model.specs.Cells.Evaluation.{run}
+use Rattle.nd_model.specs.Cells.Fault.{Fault}
+use Rattle.nd_model.specs.Cells.Operation.{give}
+use Rattle.nd_model.specs.Cells.Running.{Running, Inputs}
+use Rattle.nd_model.specs.Arrays.Strides.{limit_fault}
+use Rattle.nd_model.specs.Arrays.Value as model
+use Rattle.nd_model.specs.Arrays.Value.{Base}
+use Rattle.nd_model.specs.Arrays.View.{ElementType, Geo, contiguous, item_size}
 use Rattle.nd_heap.specs.declared.value.Value.{Value}
 use Rattle.nd_heap.specs.declared.value.Value.TheVariants.{Number, Array, Row}
 use Rattle.nd_heap.specs.Values.{geo_of, value_of}
-use Rattle.nd_refusal.specs.declared.stop.Stop.{Stop}
-use Rattle.nd_choice.specs.Selections.{copy_of}
+use Rattle.nd_operation.specs.declared.refusals.stop.Stop.{Stop}
+use Rattle.nd_select.specs.Choosing.Selections.{copy_of}
 use Rattle.nd_eval.specs.Ends.{Ends}
 use Rattle.nd_eval.specs.Uses.{IsOfType}
 

@@ -1,22 +1,22 @@
 -- Evaluations of what is made.
 use Rattle.std.proofs.Common.{◌≡◌, Result, Ok, Err, IsErrAnd, refl, sym, ap, subst, ◌∙◌}
 use Rattle.std.proofs.lemmas.Result.{err_from_is_err_and}
-use Rattle.nd_model.specs.Fault.{Fault}
-use Rattle.nd_model.specs.Running.{Running, Inputs}
-use Rattle.nd_model.specs.Evaluation.{Gives, run, ◌>>=◌, decide}
-use Rattle.nd_model.specs.Operand.{Made}
-use Rattle.nd_model.specs.Operation.{give}
+use Rattle.nd_model.specs.Cells.Fault.{Fault}
+use Rattle.nd_model.specs.Cells.Running.{Running, Inputs}
+use Rattle.nd_model.specs.Cells.Evaluation.{Gives, run, ◌>>=◌, decide}
+use Rattle.nd_model.specs.Making.Operand.{Made}
+use Rattle.nd_model.specs.Cells.Operation.{give}
 use Rattle.nd_types.specs.declared.num.Num.{Num}
 use Rattle.nd_types.specs.declared.num.Num.TheVariants as num
 use Rattle.nd_heap.specs.declared.value.Value.{Value}
 use Rattle.nd_heap.specs.declared.value.Value.TheVariants as found
 use Rattle.nd_heap.specs.Values.{number_of, value_of}
-use Rattle.nd_refusal.specs.declared.stop.Stop.{Stop}
-use Rattle.nd_refusal.specs.declared.stop.Stop.TheVariants.{Memory, Refused}
-use Rattle.nd_operation.specs.declared.operand.New.{New}
-use Rattle.nd_operation.specs.Contents.{number_made}
+use Rattle.nd_operation.specs.declared.refusals.stop.Stop.{Stop}
+use Rattle.nd_operation.specs.declared.refusals.stop.Stop.TheVariants.{Memory, Refused}
+use Rattle.nd_operation.specs.declared.operators.operand.New.{New}
+use Rattle.nd_operation.specs.Operators.Contents.{number_made}
 use Rattle.nd_eval.specs.Ends.{Ends}
-use Rattle.nd_operation.specs.New.{given, MakesNew}
+use Rattle.nd_operation.specs.Operators.New.{given, MakesNew}
 
 pub gives_number : (n : Num) → give (number_made n) ≡ Gives (number_of n)
 gives_number (num.Int z) = refl

@@ -3,35 +3,35 @@ use Rattle.std.proofs.Common.{◌≡◌, ℕ, ℤ, Option, None, Bool, cond, tru
 use Rattle.std.specs.Prelude.{bytes_eq}
 use Rattle.std.specs.List.{flat_map}
 use Rattle.std.proofs.lemmas.List.Elements.{All-nil, All-cons, All-head, All-tail}
-use Rattle.nd_model.specs.View.{Geo, byte_places}
-use Rattle.nd_model.specs.Value as model
-use Rattle.nd_model.specs.Value.{Base}
-use Rattle.nd_model.specs.Session as session
-use Rattle.nd_model.specs.Session.{Names}
-use Rattle.nd_model.specs.Fault.{Fault}
-use Rattle.nd_model.specs.Running.{Running, Inputs, Use, reply, after, Effect, Binding, done}
-use Rattle.nd_model.specs.Reductions.{reduce_array, accumulate_array}
-use Rattle.nd_model.specs.Syntax.{Expr, Bound, Omitted, Given, Elements, Nested, Method, Copy, AsType, Transpose, Reshape, ViewAs, Reduced, Accumulated, Axis, DefaultAxis, AllAxes, AtAxis, Index, Field, Items, IndexItems, IndexItem, AndItem, NoItem, At, Slice, Ellipsis, NewAxis, Listed, Bind}
-use Rattle.nd_model.specs.Evaluation.{Eval, Gives, Refuses, Asks, run}
-use Rattle.nd_model.specs.Operand.{Operand, Made, BindsFirst, Usage, Whole, Unused}
-use Rattle.nd_model.specs.Cells.{Suffix, AtIndex, OfMethod}
-use Rattle.nd_model.specs.Creation.{array_of_list, copy_array, astype}
-use Rattle.nd_model.specs.Operation.{Computes, Views, act_on}
-use Rattle.nd_model.specs.Viewing.{Viewing, Transposed, Reshaped, ViewedAs}
-use Rattle.nd_model.specs.Meaning as meaning
-use Rattle.nd_model.specs.Meaning.{is_empty_list}
-use Rattle.nd_model.specs.Cell.{had}
-use Rattle.nd_model.specs.Sound.{LiesIn, IsViewOf, AreViewsOf, IsHeldView, IsSound}
+use Rattle.nd_model.specs.Arrays.View.{Geo, byte_places}
+use Rattle.nd_model.specs.Arrays.Value as model
+use Rattle.nd_model.specs.Arrays.Value.{Base}
+use Rattle.nd_model.specs.Cells.Session as session
+use Rattle.nd_model.specs.Cells.Session.{Names}
+use Rattle.nd_model.specs.Cells.Fault.{Fault}
+use Rattle.nd_model.specs.Cells.Running.{Running, Inputs, Use, reply, after, Effect, Binding, done}
+use Rattle.nd_model.specs.Making.Reductions.{reduce_array, accumulate_array}
+use Rattle.nd_model.specs.Grammar.Syntax.{Expr, Bound, Omitted, Given, Elements, Nested, Method, Copy, AsType, Transpose, Reshape, ViewAs, Reduced, Accumulated, Axis, DefaultAxis, AllAxes, AtAxis, Index, Field, Items, IndexItems, IndexItem, AndItem, NoItem, At, Slice, Ellipsis, NewAxis, Listed, Bind}
+use Rattle.nd_model.specs.Cells.Evaluation.{Eval, Gives, Refuses, Asks, run}
+use Rattle.nd_model.specs.Making.Operand.{Operand, Made, BindsFirst, Usage, Whole, Unused}
+use Rattle.nd_model.specs.Grammar.Cells.{Suffix, AtIndex, OfMethod}
+use Rattle.nd_model.specs.Making.Creation.{array_of_list, copy_array, astype}
+use Rattle.nd_model.specs.Cells.Operation.{Computes, Views, act_on}
+use Rattle.nd_model.specs.Indexing.Viewing.{Viewing, Transposed, Reshaped, ViewedAs}
+use Rattle.nd_model.specs.Cells.Meaning as meaning
+use Rattle.nd_model.specs.Cells.Meaning.{is_empty_list}
+use Rattle.nd_model.specs.Cells.Cell.{had}
+use Rattle.nd_model.specs.Cells.Sound.{LiesIn, IsViewOf, AreViewsOf, IsHeldView, IsSound}
 use Rattle.nd_model.proofs.Growing.{Grows, stays, grows_on, grows_after, grows_run}
 use Rattle.nd_model.proofs.Steps.{goes_on, run_bind}
 use Rattle.nd_model.proofs.Soundness.{AllV as AreHeldValues, Safe, safe_bind, safe_performed, IfGiven, given_run, stays_sound}
 use Rattle.nd_heap.specs.declared.value.Value.{Value}
 use Rattle.nd_heap.specs.declared.value.Value.TheVariants.{Number, Array, Row}
 use Rattle.nd_heap.specs.Values.{base_of, geo_of, value_of}
-use Rattle.nd_choice.specs.declared.indexes.ItemValue.{ItemValue}
-use Rattle.nd_choice.specs.declared.indexes.ItemValue.TheVariants as item
-use Rattle.nd_choice.specs.declared.indexes.IndexValue.{IndexValue}
-use Rattle.nd_choice.specs.declared.indexes.IndexValue.TheVariants as index
+use Rattle.nd_select.specs.declared.choosing.indexes.ItemValue.{ItemValue}
+use Rattle.nd_select.specs.declared.choosing.indexes.ItemValue.TheVariants as item
+use Rattle.nd_select.specs.declared.choosing.indexes.IndexValue.{IndexValue}
+use Rattle.nd_select.specs.declared.choosing.indexes.IndexValue.TheVariants as index
 use Rattle.nd_eval.specs.Parts.{accumulation_value, binary_value, reduction_value, bound_exprs, choose_value, exprs_in, index_parts, item_parts, items_parts, items_then, list_parts, list_value, listed, method_value, suffix_value, unused, values, values_then, view_value, viewed_value, wholes, IndexParts, ItemParts}
 use Rattle.nd_eval.specs.Uses.{IsHeld, AreHeld, marked, item_marked, items_marked, index_marked, all_marked}
 use Rattle.nd_eval.proofs.Parts.{binding_parts}

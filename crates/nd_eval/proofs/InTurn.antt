@@ -1,15 +1,15 @@
 -- Parts in turn, whose answers make a list.
 use Rattle.std.proofs.Common.{◌≡◌, ◌+◌, List, [], ◌∷◌, ◌++◌, length, Result, Ok, Err, refl, sym, ap, ◌∙◌, arith, append_assoc, append-nil, length-append}
 use mathlib.Core.Path.{fun_ext}
-use Rattle.nd_model.specs.Fault.{Fault}
-use Rattle.nd_model.specs.Value as model
-use Rattle.nd_model.specs.Syntax as syntax
-use Rattle.nd_model.specs.Syntax.{Expr}
-use Rattle.nd_model.specs.Running.{Running, Inputs}
-use Rattle.nd_model.specs.Evaluation.{Eval, Gives, run, ◌>>=◌}
-use Rattle.nd_model.specs.Meaning.{value}
+use Rattle.nd_model.specs.Cells.Fault.{Fault}
+use Rattle.nd_model.specs.Arrays.Value as model
+use Rattle.nd_model.specs.Grammar.Syntax as syntax
+use Rattle.nd_model.specs.Grammar.Syntax.{Expr}
+use Rattle.nd_model.specs.Cells.Running.{Running, Inputs}
+use Rattle.nd_model.specs.Cells.Evaluation.{Eval, Gives, run, ◌>>=◌}
+use Rattle.nd_model.specs.Cells.Meaning.{value}
 use Rattle.nd_model.proofs.Steps.{goes_on, run_bind}
-use Rattle.nd_operation.specs.Listing.{number_count, number_counts}
+use Rattle.nd_operation.specs.Operators.Listing.{number_count, number_counts}
 use Rattle.nd_eval.specs.Parts.{exprs_in, exprs_of_element, values_behind, values_then}
 use Rattle.nd_eval.specs.Ends.{Ends}
 use Rattle.nd_eval.proofs.Chains.{goes}

@@ -2,17 +2,17 @@
 use Rattle.std.proofs.Common.{◌≡◌, true, false, List, [], ◌∷◌, ◌++◌, map, sym, refl, ap, ◌∙◌, append_assoc}
 use Rattle.std.specs.List.{flat_map}
 use Rattle.std.proofs.lemmas.List.{map-append}
-use Rattle.nd_model.specs.Creation.{array_of_list}
+use Rattle.nd_model.specs.Making.Creation.{array_of_list}
 use Rattle.std.specs.Prelude.{None}
-use Rattle.nd_model.specs.Syntax.{Bound, Omitted, Given, Elements, Nested, Index, Field, Items, IndexItems, AndItem, NoItem, At, Slice, Ellipsis, NewAxis, Listed}
-use Rattle.nd_model.specs.Value as model
-use Rattle.nd_model.specs.Running.{Running, Inputs, Effect}
-use Rattle.nd_model.specs.Evaluation.{Eval, Gives, run, ◌>>=◌}
-use Rattle.nd_model.specs.Operand.{Usage, ArraysOnly, Unused}
-use Rattle.nd_model.specs.Index.{Form, AtForm, SliceForm, EllipsisForm, NewAxisForm, EmptyForm}
-use Rattle.nd_model.specs.Viewing.{Viewing, Indexed, Fielded}
-use Rattle.nd_model.specs.Operation.{Computes, Plan, Does, Plans, Done, And, evaluate, with_values, evaluate_all}
-use Rattle.nd_model.specs.Meaning.{is_given, is_empty_list, list_form, unless_empty, list_plans, value, plan, bound_plans, forms_of, viewing_of, index_plans, items_plans}
+use Rattle.nd_model.specs.Grammar.Syntax.{Bound, Omitted, Given, Elements, Nested, Index, Field, Items, IndexItems, AndItem, NoItem, At, Slice, Ellipsis, NewAxis, Listed}
+use Rattle.nd_model.specs.Arrays.Value as model
+use Rattle.nd_model.specs.Cells.Running.{Running, Inputs, Effect}
+use Rattle.nd_model.specs.Cells.Evaluation.{Eval, Gives, run, ◌>>=◌}
+use Rattle.nd_model.specs.Making.Operand.{Usage, ArraysOnly, Unused}
+use Rattle.nd_model.specs.Indexing.Index.{Form, AtForm, SliceForm, EllipsisForm, NewAxisForm, EmptyForm}
+use Rattle.nd_model.specs.Indexing.Viewing.{Viewing, Indexed, Fielded}
+use Rattle.nd_model.specs.Cells.Operation.{Computes, Plan, Does, Plans, Done, And, evaluate, with_values, evaluate_all}
+use Rattle.nd_model.specs.Cells.Meaning.{is_given, is_empty_list, list_form, unless_empty, list_plans, value, plan, bound_plans, forms_of, viewing_of, index_plans, items_plans}
 use Rattle.nd_model.proofs.Steps.{goes_on, run_bind}
 use Rattle.nd_eval.specs.Parts.{bound_exprs, index_parts, item_parts, items_parts, items_then, list_parts, list_value, parts_of_items, ItemParts, unused, values}
 use Rattle.nd_eval.proofs.Parts.{regrouped, then_same}

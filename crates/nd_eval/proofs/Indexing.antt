@@ -1,39 +1,39 @@
 -- An operand and what goes on it, one after the other.
 use Rattle.std.proofs.Common.{◌≡◌, ℕ, ◌+◌, ◌≤◌, List, [], ◌∷◌, map, Option, None, Some, Result, Ok, Err, refl, sym, ap, ◌∙◌, arith, Box, Vec, Global}
 use mathlib.Core.Former.{Count}
-use Rattle.nd_model.specs.Fault.{Fault}
-use Rattle.nd_model.specs.Calls.{Ufunc}
-use Rattle.nd_model.specs.Reductions.{reduce_array, accumulate_array}
-use Rattle.nd_model.specs.Syntax.{Expr, Exprs, NoExpr, AndExpr, Item, Attribute, Called, Folded, Fold, Reduce, Accumulate, Index, Method, Copy, AsType, Transpose, Reshape, ViewAs, Reduced, Accumulated, DefaultAxis, AllAxes, AtAxis, Omitted, Given}
-use Rattle.nd_model.specs.Syntax as model
-use Rattle.nd_model.specs.Cells.{chained, Suffix, AtIndex, OfMethod, suffixed, exprs_of, items_of, elements_of}
-use Rattle.nd_model.specs.Creation.{copy_array, astype}
-use Rattle.nd_model.specs.Tokens.{tokens_of, tokens_of_all, tokens_of_exprs, tokens_of_method, tokens_of_shape}
-use Rattle.nd_model.specs.Value.{Value}
-use Rattle.nd_model.specs.Running.{Running, Inputs}
-use Rattle.nd_model.specs.Evaluation.{Eval, Gives, run, ◌>>=◌}
-use Rattle.nd_model.specs.Operand.{Unused}
-use Rattle.nd_model.specs.Operation.{Views, perform, Done, with_values}
-use Rattle.nd_model.specs.Viewing.{Viewing, Transposed, Reshaped, ViewedAs}
-use Rattle.nd_model.specs.Meaning.{along, value, expr_plans, index_plans, viewing_of}
-use Rattle.nd_syntax.specs.declared.tree.Expr as tree
-use Rattle.nd_syntax.specs.declared.tree.BinaryOp.{BinaryOp}
-use Rattle.nd_syntax.specs.declared.calls.DType.{DType}
-use Rattle.nd_syntax.specs.declared.tree.Call as call
-use Rattle.nd_syntax.specs.declared.tree.Element as element
-use Rattle.nd_syntax.specs.declared.calls.Fill.{Fill}
-use Rattle.nd_syntax.specs.declared.tree.Suffix as suffix
-use Rattle.nd_syntax.specs.declared.tree.Method as method
-use Rattle.nd_syntax.specs.declared.tree.Index as indexes
-use Rattle.nd_syntax.specs.declared.tree.IndexItem as item
-use Rattle.nd_syntax.specs.declared.tree.Fold as folds
-use Rattle.nd_syntax.specs.declared.tree.Axis as axis
-use Rattle.nd_syntax.specs.declared.calls.Accumulation.{Accumulation}
-use Rattle.nd_syntax.specs.Calls.{accumulation_of}
-use Rattle.nd_syntax.specs.Syntax.{expr_of, bound_of, element_of, fold_of, method_of, suffix_of, index_of, item_of}
-use Rattle.nd_syntax.specs.Lists.{operation_of}
-use Rattle.nd_syntax.proofs.Nodes.{call_row}
-use Rattle.nd_syntax.proofs.Chains.{row_of, postfix_is, item_row, index_is, list_is, nested_is, chain_is}
+use Rattle.nd_model.specs.Cells.Fault.{Fault}
+use Rattle.nd_model.specs.Grammar.Calls.{Ufunc}
+use Rattle.nd_model.specs.Making.Reductions.{reduce_array, accumulate_array}
+use Rattle.nd_model.specs.Grammar.Syntax.{Expr, Exprs, NoExpr, AndExpr, Item, Attribute, Called, Folded, Fold, Reduce, Accumulate, Index, Method, Copy, AsType, Transpose, Reshape, ViewAs, Reduced, Accumulated, DefaultAxis, AllAxes, AtAxis, Omitted, Given}
+use Rattle.nd_model.specs.Grammar.Syntax as model
+use Rattle.nd_model.specs.Grammar.Cells.{chained, Suffix, AtIndex, OfMethod, suffixed, exprs_of, items_of, elements_of}
+use Rattle.nd_model.specs.Making.Creation.{copy_array, astype}
+use Rattle.nd_model.specs.Grammar.Tokens.{tokens_of, tokens_of_all, tokens_of_exprs, tokens_of_method, tokens_of_shape}
+use Rattle.nd_model.specs.Arrays.Value.{Value}
+use Rattle.nd_model.specs.Cells.Running.{Running, Inputs}
+use Rattle.nd_model.specs.Cells.Evaluation.{Eval, Gives, run, ◌>>=◌}
+use Rattle.nd_model.specs.Making.Operand.{Unused}
+use Rattle.nd_model.specs.Cells.Operation.{Views, perform, Done, with_values}
+use Rattle.nd_model.specs.Indexing.Viewing.{Viewing, Transposed, Reshaped, ViewedAs}
+use Rattle.nd_model.specs.Cells.Meaning.{along, value, expr_plans, index_plans, viewing_of}
+use Rattle.nd_syntax.specs.declared.trees.tree.Expr as tree
+use Rattle.nd_syntax.specs.declared.trees.tree.BinaryOp.{BinaryOp}
+use Rattle.nd_syntax.specs.declared.trees.calls.DType.{DType}
+use Rattle.nd_syntax.specs.declared.trees.tree.Call as call
+use Rattle.nd_syntax.specs.declared.trees.tree.Element as element
+use Rattle.nd_syntax.specs.declared.trees.calls.Fill.{Fill}
+use Rattle.nd_syntax.specs.declared.trees.tree.Suffix as suffix
+use Rattle.nd_syntax.specs.declared.trees.tree.Method as method
+use Rattle.nd_syntax.specs.declared.trees.tree.Index as indexes
+use Rattle.nd_syntax.specs.declared.trees.tree.IndexItem as item
+use Rattle.nd_syntax.specs.declared.trees.tree.Fold as folds
+use Rattle.nd_syntax.specs.declared.trees.tree.Axis as axis
+use Rattle.nd_syntax.specs.declared.trees.calls.Accumulation.{Accumulation}
+use Rattle.nd_syntax.specs.Trees.Calls.{accumulation_of}
+use Rattle.nd_syntax.specs.Trees.Syntax.{expr_of, bound_of, element_of, fold_of, method_of, suffix_of, index_of, item_of}
+use Rattle.nd_syntax.specs.Trees.Lists.{operation_of}
+use Rattle.nd_syntax.proofs.trees.Nodes.{call_row}
+use Rattle.nd_syntax.proofs.trees.Chains.{row_of, postfix_is, item_row, index_is, list_is, nested_is, chain_is}
 use Rattle.nd_model.proofs.Steps.{goes_on, run_bind}
 use Rattle.nd_eval.specs.Parts.{binary_value, choose_value, fold_call, index_parts, listed, make_value, method_value, suffix_value, viewed_value, view_value}
 use Rattle.nd_eval.specs.Suffixes.{suffix_tokens}

@@ -1,19 +1,19 @@
 -- Effects that print lines that may be too long.
 use Rattle.std.proofs.Common.{◌≡◌, leb, true, false, cond, List, length, Result, Ok, Err, IsErrAnd, refl, sym, ap, subst}
 use Rattle.std.proofs.lemmas.Result.{err_from_is_err_and}
-use Rattle.nd_model.specs.Fault.{Fault, Stmt, TextTooLong}
-use Rattle.nd_model.specs.Value as model
-use Rattle.nd_model.specs.Running.{Running, Inputs, Effect, Nothing, Prints, Saves, Binding, Unbinding, Storing, Output, output}
-use Rattle.nd_model.specs.Evaluation.{Gives, run, ◌>>=◌, decide}
-use Rattle.nd_model.specs.Operand.{Operand, Usage}
-use Rattle.nd_model.specs.Operation.{do_deed}
-use Rattle.nd_model.specs.Printing.{printed_line, print_deed}
-use Rattle.nd_model.specs.Cell.{most_text, had}
-use Rattle.nd_refusal.specs.declared.stop.Stop.{Stop}
-use Rattle.nd_refusal.specs.declared.stop.Stop.TheVariants.{Memory, Refused}
+use Rattle.nd_model.specs.Cells.Fault.{Fault, Stmt, TextTooLong}
+use Rattle.nd_model.specs.Arrays.Value as model
+use Rattle.nd_model.specs.Cells.Running.{Running, Inputs, Effect, Nothing, Prints, Saves, Binding, Unbinding, Storing, Output, output}
+use Rattle.nd_model.specs.Cells.Evaluation.{Gives, run, ◌>>=◌, decide}
+use Rattle.nd_model.specs.Making.Operand.{Operand, Usage}
+use Rattle.nd_model.specs.Cells.Operation.{do_deed}
+use Rattle.nd_model.specs.Text.Printing.{printed_line, print_deed}
+use Rattle.nd_model.specs.Cells.Cell.{most_text, had}
+use Rattle.nd_operation.specs.declared.refusals.stop.Stop.{Stop}
+use Rattle.nd_operation.specs.declared.refusals.stop.Stop.TheVariants.{Memory, Refused}
 use Rattle.nd_eval.specs.Ends.{Ends}
-use Rattle.nd_model.specs.Cell.{limit_text}
-use Rattle.nd_operation.specs.Lines.{limit_line}
+use Rattle.nd_model.specs.Cells.Cell.{limit_text}
+use Rattle.nd_operation.specs.Operators.Lines.{limit_line}
 use Rattle.nd_eval.specs.Lines.{limit_effect}
 
 -- ---- effects

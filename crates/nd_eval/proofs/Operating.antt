@@ -3,27 +3,27 @@ use Rattle.std.proofs.Common.{◌≡◌, ℕ, ◌+◌, ◌<◌, ◌≤◌, List,
 use Rattle.std.proofs.Math.Seq.{take-suc}
 use Rattle.std.proofs.lemmas.Result.{err_from_is_err_and}
 use Rattle.std.proofs.lemmas.List.{map-append, take-append-drop}
-use Rattle.nd_model.specs.Fault.{Fault}
-use Rattle.nd_model.specs.Syntax.{Expr, BinaryOp, Binary}
-use Rattle.nd_model.specs.Tokens.{tokens_of}
-use Rattle.nd_model.specs.Cells.{chained}
-use Rattle.nd_model.specs.Running.{Running, Inputs}
-use Rattle.nd_model.specs.Evaluation.{run}
-use Rattle.nd_model.specs.Meaning.{value}
-use Rattle.nd_model.specs.Elementwise.{binary}
+use Rattle.nd_model.specs.Cells.Fault.{Fault}
+use Rattle.nd_model.specs.Grammar.Syntax.{Expr, BinaryOp, Binary}
+use Rattle.nd_model.specs.Grammar.Tokens.{tokens_of}
+use Rattle.nd_model.specs.Grammar.Cells.{chained}
+use Rattle.nd_model.specs.Cells.Running.{Running, Inputs}
+use Rattle.nd_model.specs.Cells.Evaluation.{run}
+use Rattle.nd_model.specs.Cells.Meaning.{value}
+use Rattle.nd_model.specs.Making.Elementwise.{binary}
 use Rattle.nd_model.proofs.Steps.{goes_on, run_bind}
-use Rattle.nd_syntax.specs.declared.tree.Expr as tree
-use Rattle.nd_syntax.specs.declared.tree.BinaryOp as operators
-use Rattle.nd_syntax.specs.Lists.{operation_of}
+use Rattle.nd_syntax.specs.declared.trees.tree.Expr as tree
+use Rattle.nd_syntax.specs.declared.trees.tree.BinaryOp as operators
+use Rattle.nd_syntax.specs.Trees.Lists.{operation_of}
 use Rattle.nd_heap.specs.declared.value.Value.{Value}
 use Rattle.nd_heap.specs.Values.{value_of}
-use Rattle.nd_refusal.specs.declared.stop.Stop.{Stop}
-use Rattle.nd_refusal.specs.declared.stop.Stop.TheVariants.{Memory, Refused}
+use Rattle.nd_operation.specs.declared.refusals.stop.Stop.{Stop}
+use Rattle.nd_operation.specs.declared.refusals.stop.Stop.TheVariants.{Memory, Refused}
 use Rattle.nd_eval.specs.Ends.{Ends}
-use Rattle.nd_refusal.specs.Faults.{fault_of}
+use Rattle.nd_operation.specs.Refusals.Faults.{fault_of}
 use Rattle.nd_eval.specs.Parts.{binary_value}
 use Rattle.nd_eval.proofs.Chains.{ends_as, follows}
-use Rattle.nd_operation.proofs.InTurn.{next_item}
+use Rattle.nd_operation.proofs.operators.InTurn.{next_item}
 
 -- the last operator stands outermost
 pub chained-last : (e : Expr) (xs : List (BinaryOp × Expr)) (x : BinaryOp × Expr) (ys : List (BinaryOp × Expr)) → chained e (xs ++ x ∷ ys) ≡ chained (Binary x.0 (chained e xs) x.1) ys

@@ -1,20 +1,20 @@
 -- The operands of an operation, one after the other.
 use Rattle.std.proofs.Common.{◌≡◌, ℕ, List, [], ◌∷◌, Result, Ok, Err, refl, sym, ap, ◌∙◌}
-use Rattle.nd_model.specs.Fault.{Fault}
-use Rattle.nd_model.specs.Syntax.{Expr}
-use Rattle.nd_model.specs.Value as model
-use Rattle.nd_model.specs.Running.{Running, Inputs, Effect, Binding, Unbinding}
-use Rattle.nd_model.specs.Evaluation.{Eval, Gives, run, ◌>>=◌}
-use Rattle.nd_model.specs.Operand.{Plain, Usage, Whole, Unused, BindsFirst, Unbinds}
-use Rattle.nd_model.specs.Operation.{use_operand, act_on, evaluate_all}
-use Rattle.nd_model.specs.Meaning.{value, whole_plans}
+use Rattle.nd_model.specs.Cells.Fault.{Fault}
+use Rattle.nd_model.specs.Grammar.Syntax.{Expr}
+use Rattle.nd_model.specs.Arrays.Value as model
+use Rattle.nd_model.specs.Cells.Running.{Running, Inputs, Effect, Binding, Unbinding}
+use Rattle.nd_model.specs.Cells.Evaluation.{Eval, Gives, run, ◌>>=◌}
+use Rattle.nd_model.specs.Making.Operand.{Plain, Usage, Whole, Unused, BindsFirst, Unbinds}
+use Rattle.nd_model.specs.Cells.Operation.{use_operand, act_on, evaluate_all}
+use Rattle.nd_model.specs.Cells.Meaning.{value, whole_plans}
 use Rattle.nd_types.specs.declared.num.Num.{Num}
 use Rattle.nd_types.specs.declared.num.Num.TheVariants as num
 use Rattle.nd_heap.specs.declared.value.Value.{Value}
 use Rattle.nd_heap.specs.declared.value.Value.TheVariants.{Number, Array, Row}
 use Rattle.nd_heap.specs.Values.{value_of}
 use Rattle.nd_model.proofs.Steps.{goes_on, run_bind}
-use Rattle.nd_operation.specs.Contents.{num_of, unused_of}
+use Rattle.nd_operation.specs.Operators.Contents.{num_of, unused_of}
 use Rattle.nd_eval.specs.Parts.{values_then, values, wholes}
 
 -- ---- the code's values

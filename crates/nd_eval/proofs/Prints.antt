@@ -1,16 +1,16 @@
 -- What `print` comes to.
 use Rattle.std.proofs.Common.{◌≡◌, List, map, Ok, sym, ap, ◌∙◌}
-use Rattle.nd_model.specs.Running.{Running, Inputs, Prints}
-use Rattle.nd_model.specs.Syntax.{Expr}
-use Rattle.nd_model.specs.Evaluation.{Gives, run, ◌>>=◌, decide}
-use Rattle.nd_model.specs.Operand as model
-use Rattle.nd_model.specs.Printing.{print_deed, printed_line}
-use Rattle.nd_model.specs.Operation.{act_on, do_deed, evaluate_all}
-use Rattle.nd_model.specs.Meaning.{whole_plans}
+use Rattle.nd_model.specs.Cells.Running.{Running, Inputs, Prints}
+use Rattle.nd_model.specs.Grammar.Syntax.{Expr}
+use Rattle.nd_model.specs.Cells.Evaluation.{Gives, run, ◌>>=◌, decide}
+use Rattle.nd_model.specs.Making.Operand as model
+use Rattle.nd_model.specs.Text.Printing.{print_deed, printed_line}
+use Rattle.nd_model.specs.Cells.Operation.{act_on, do_deed, evaluate_all}
+use Rattle.nd_model.specs.Cells.Meaning.{whole_plans}
 use Rattle.nd_model.proofs.Steps.{goes_on, run_bind}
 use Rattle.nd_heap.specs.declared.value.Value.{Value}
 use Rattle.nd_heap.specs.Values.{value_of}
-use Rattle.nd_operation.specs.Lines.{limit_line}
+use Rattle.nd_operation.specs.Operators.Lines.{limit_line}
 use Rattle.nd_eval.specs.Lines.{limit_effect}
 use Rattle.nd_eval.specs.Parts.{values, wholes}
 use Rattle.nd_eval.specs.Uses.{all_marked, operands_over}

@@ -1,26 +1,26 @@
 -- Statements that print nothing, so that no limit meets them.
 use Rattle.std.proofs.Common.{◌≡◌, ℕ, zero, suc, Bool, true, false, List, [], ◌∷◌, Result, Ok, Err, refl}
-use Rattle.nd_model.specs.Fault.{Fault, Stmt, BadArgument}
-use Rattle.nd_model.specs.Files.{operand_file, save}
-use Rattle.nd_model.specs.InputName.{is_input_name}
-use Rattle.nd_model.specs.Value as model
-use Rattle.nd_model.specs.Value.{Int, Truth, Scalar, Array, Row}
-use Rattle.nd_model.specs.Running.{Running, Inputs, reply, after, Effect, Nothing, Prints, Saves, Binding, Unbinding, Storing}
-use Rattle.nd_model.specs.Refusing as refusing
-use Rattle.nd_model.specs.Syntax.{Expr, Index, BinaryOp, Augment, AugmentItem, Bind, Assign, Delete, Save}
-use Rattle.nd_model.specs.Evaluation.{Eval, Gives, Refuses, Asks, run, ◌>>=◌, decide}
-use Rattle.nd_model.specs.Operand.{Operand, Plain, Elements, Usage, Whole, Unused, Made, ANumber, AnArray, Deed, BindsFirst, BindsMade, SavesFile, Unbinds, Writes}
-use Rattle.nd_model.specs.Operation.{Views, Named, Plans, Done, And, perform, evaluate, evaluate_all, act_on, do_deed, give, with_value, store_in}
-use Rattle.nd_model.specs.Content.{Content}
-use Rattle.nd_model.specs.Index.{has_array}
-use Rattle.nd_model.specs.View.{Geo}
-use Rattle.nd_model.specs.Viewing.{Viewing}
-use Rattle.nd_model.specs.Writing.{assignment_writes}
-use Rattle.nd_model.specs.Elementwise.{binary}
-use Rattle.nd_model.specs.Augmenting.{array_in_place, augment_array, augment_item, augment_name, deed_of_made, in_place_writes, operand_of_made}
-use Rattle.nd_model.specs.Meaning.{plan, one, two, viewing_of, index_plans, assignment_deed, meaning}
+use Rattle.nd_model.specs.Cells.Fault.{Fault, Stmt, BadArgument}
+use Rattle.nd_model.specs.Formats.Files.{operand_file, save}
+use Rattle.nd_model.specs.Cells.InputName.{is_input_name}
+use Rattle.nd_model.specs.Arrays.Value as model
+use Rattle.nd_model.specs.Arrays.Value.{Int, Truth, Scalar, Array, Row}
+use Rattle.nd_model.specs.Cells.Running.{Running, Inputs, reply, after, Effect, Nothing, Prints, Saves, Binding, Unbinding, Storing}
+use Rattle.nd_model.specs.Cells.Refusing as refusing
+use Rattle.nd_model.specs.Grammar.Syntax.{Expr, Index, BinaryOp, Augment, AugmentItem, Bind, Assign, Delete, Save}
+use Rattle.nd_model.specs.Cells.Evaluation.{Eval, Gives, Refuses, Asks, run, ◌>>=◌, decide}
+use Rattle.nd_model.specs.Making.Operand.{Operand, Plain, Elements, Usage, Whole, Unused, Made, ANumber, AnArray, Deed, BindsFirst, BindsMade, SavesFile, Unbinds, Writes}
+use Rattle.nd_model.specs.Cells.Operation.{Views, Named, Plans, Done, And, perform, evaluate, evaluate_all, act_on, do_deed, give, with_value, store_in}
+use Rattle.nd_model.specs.Arrays.Content.{Content}
+use Rattle.nd_model.specs.Indexing.Index.{has_array}
+use Rattle.nd_model.specs.Arrays.View.{Geo}
+use Rattle.nd_model.specs.Indexing.Viewing.{Viewing}
+use Rattle.nd_model.specs.Making.Writing.{assignment_writes}
+use Rattle.nd_model.specs.Making.Elementwise.{binary}
+use Rattle.nd_model.specs.Making.Augmenting.{array_in_place, augment_array, augment_item, augment_name, deed_of_made, in_place_writes, operand_of_made}
+use Rattle.nd_model.specs.Cells.Meaning.{plan, one, two, viewing_of, index_plans, assignment_deed, meaning}
 use Rattle.nd_model.proofs.Soundness.{Safe, safe_bind, safe_operands, IfGiven, given_run}
-use Rattle.nd_refusal.specs.declared.stop.Stop.{Stop}
+use Rattle.nd_operation.specs.declared.refusals.stop.Stop.{Stop}
 use Rattle.nd_eval.specs.Ends.{Ends}
 use Rattle.nd_eval.specs.Lines.{limit_effect}
 

@@ -1,22 +1,22 @@
 -- `np.arange`: its bounds one after the other.
 use Rattle.std.proofs.Common.{◌≡◌, Bool, true, false, [], ◌∷◌, ◌++◌, Option, None, Some, refl, sym, ◌∙◌, option_map}
-use Rattle.nd_model.specs.Calls as calls
-use Rattle.nd_model.specs.Running.{Running, Inputs}
-use Rattle.nd_model.specs.Evaluation.{Gives, run, ◌>>=◌, decide}
-use Rattle.nd_model.specs.Operation.{Computes, perform, give}
-use Rattle.nd_model.specs.Creation.{arange}
-use Rattle.nd_model.specs.Syntax as syntax
-use Rattle.nd_model.specs.Syntax.{Expr, Bound, Omitted, Given, Called}
-use Rattle.nd_model.specs.Meaning.{value}
-use Rattle.nd_syntax.specs.declared.tree.Expr as tree
-use Rattle.nd_syntax.specs.declared.tree.Call as call
-use Rattle.nd_syntax.specs.declared.calls.DType.{DType}
-use Rattle.nd_syntax.specs.Calls.{dtype_of}
-use Rattle.nd_syntax.specs.Syntax.{bound_of, call_of, expr_of}
+use Rattle.nd_model.specs.Grammar.Calls as calls
+use Rattle.nd_model.specs.Cells.Running.{Running, Inputs}
+use Rattle.nd_model.specs.Cells.Evaluation.{Gives, run, ◌>>=◌, decide}
+use Rattle.nd_model.specs.Cells.Operation.{Computes, perform, give}
+use Rattle.nd_model.specs.Making.Creation.{arange}
+use Rattle.nd_model.specs.Grammar.Syntax as syntax
+use Rattle.nd_model.specs.Grammar.Syntax.{Expr, Bound, Omitted, Given, Called}
+use Rattle.nd_model.specs.Cells.Meaning.{value}
+use Rattle.nd_syntax.specs.declared.trees.tree.Expr as tree
+use Rattle.nd_syntax.specs.declared.trees.tree.Call as call
+use Rattle.nd_syntax.specs.declared.trees.calls.DType.{DType}
+use Rattle.nd_syntax.specs.Trees.Calls.{dtype_of}
+use Rattle.nd_syntax.specs.Trees.Syntax.{bound_of, call_of, expr_of}
 use Rattle.nd_heap.specs.declared.value.Value.{Value}
 use Rattle.nd_heap.specs.Values.{value_of}
 use Rattle.nd_eval.specs.Contents.{option_values}
-use Rattle.nd_operation.specs.New.{bounds_of}
+use Rattle.nd_operation.specs.Operators.New.{bounds_of}
 use Rattle.nd_eval.specs.Parts.{range_value, unused, values}
 use Rattle.nd_eval.proofs.Calls.{none_used}
 use Rattle.nd_eval.proofs.Parts.{then_same, regrouped}

@@ -1,35 +1,35 @@
 -- Views of values, and `np.broadcast_to`.
 use Rattle.std.proofs.Common.{◌≡◌, ℕ, true, List, map, Option, None, Some, Result, Ok, Err, IsErrAnd, refl, sym, ap, subst, ◌∙◌}
 use Rattle.std.proofs.lemmas.Result.{err_from_is_err_and}
-use Rattle.nd_model.specs.View.{Geo, item_size}
-use Rattle.nd_model.specs.Content.{Content, content_or}
-use Rattle.nd_model.specs.Fault.{Fault, ViewFault}
-use Rattle.nd_model.specs.Refusing as refusing
-use Rattle.nd_model.specs.Strides.{limit_fault}
-use Rattle.nd_model.specs.Broadcast.{unless_fault}
-use Rattle.nd_model.specs.Creation.{lengths_of, without_axes}
-use Rattle.nd_model.specs.Running.{Running, Inputs}
-use Rattle.nd_model.specs.Value as model
-use Rattle.nd_model.specs.Value.{Base}
-use Rattle.nd_model.specs.Evaluation.{Eval, run, ◌>>=◌, decide}
-use Rattle.nd_model.specs.Operand as operand
-use Rattle.nd_model.specs.Operand.{Operand, Plain, Elements, Chosen, AView, Stretched, RowsOnly}
-use Rattle.nd_model.specs.Operation.{operands, choose_in, choose_of, choose_of_number}
-use Rattle.nd_model.specs.ShapeChoices.{stretch_operand, stretch_to}
+use Rattle.nd_model.specs.Arrays.View.{Geo, item_size}
+use Rattle.nd_model.specs.Arrays.Content.{Content, content_or}
+use Rattle.nd_model.specs.Cells.Fault.{Fault, ViewFault}
+use Rattle.nd_model.specs.Cells.Refusing as refusing
+use Rattle.nd_model.specs.Arrays.Strides.{limit_fault}
+use Rattle.nd_model.specs.Arrays.Broadcast.{unless_fault}
+use Rattle.nd_model.specs.Making.Creation.{lengths_of, without_axes}
+use Rattle.nd_model.specs.Cells.Running.{Running, Inputs}
+use Rattle.nd_model.specs.Arrays.Value as model
+use Rattle.nd_model.specs.Arrays.Value.{Base}
+use Rattle.nd_model.specs.Cells.Evaluation.{Eval, run, ◌>>=◌, decide}
+use Rattle.nd_model.specs.Making.Operand as operand
+use Rattle.nd_model.specs.Making.Operand.{Operand, Plain, Elements, Chosen, AView, Stretched, RowsOnly}
+use Rattle.nd_model.specs.Cells.Operation.{operands, choose_in, choose_of, choose_of_number}
+use Rattle.nd_model.specs.Indexing.ShapeChoices.{stretch_operand, stretch_to}
 use Rattle.nd_types.specs.declared.num.Num.{Num}
 use Rattle.nd_types.specs.declared.num.Num.TheVariants as num
 use Rattle.nd_heap.specs.declared.value.Value.{Value}
 use Rattle.nd_heap.specs.declared.value.Value.TheVariants.{Number, Array, Row}
 use Rattle.nd_heap.specs.declared.value.Array as heap
 use Rattle.nd_heap.specs.Values.{base_of, geo_of, value_of}
-use Rattle.nd_operation.specs.declared.operand.New.{New}
-use Rattle.nd_operation.specs.declared.operand.Operand as lent
-use Rattle.nd_operation.specs.declared.operand.Operand.TheVariants as lent_operand
-use Rattle.nd_refusal.specs.declared.stop.Stop.{Stop}
-use Rattle.nd_refusal.specs.declared.stop.Stop.TheVariants.{Memory, Refused}
-use Rattle.nd_operation.specs.Contents.{num_of, operand_of, unused_of}
-use Rattle.nd_operation.specs.New.{given}
-use Rattle.nd_choice.specs.Shapes.{IsAlone, MakesStretched}
+use Rattle.nd_operation.specs.declared.operators.operand.New.{New}
+use Rattle.nd_operation.specs.declared.operators.operand.Operand as lent
+use Rattle.nd_operation.specs.declared.operators.operand.Operand.TheVariants as lent_operand
+use Rattle.nd_operation.specs.declared.refusals.stop.Stop.{Stop}
+use Rattle.nd_operation.specs.declared.refusals.stop.Stop.TheVariants.{Memory, Refused}
+use Rattle.nd_operation.specs.Operators.Contents.{num_of, operand_of, unused_of}
+use Rattle.nd_operation.specs.Operators.New.{given}
+use Rattle.nd_select.specs.Choosing.Shapes.{IsAlone, MakesStretched}
 use Rattle.nd_eval.specs.Ends.{Ends}
 use Rattle.nd_eval.specs.Parts.{stretch, unused}
 use Rattle.nd_eval.specs.Uses.{IsNoArray, marked, operand_over}

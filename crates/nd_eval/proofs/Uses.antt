@@ -3,32 +3,32 @@ use Rattle.std.proofs.Common.{◌≡◌, ℕ, Bool, true, false, cond, List, [],
 use Rattle.std.specs.Prelude.{is_some}
 use Rattle.std.specs.List.{flat_map}
 use Rattle.std.proofs.lemmas.List.{map-append}
-use Rattle.nd_model.specs.Fault.{Fault}
-use Rattle.nd_model.specs.View.{Geo, byte_places}
-use Rattle.nd_model.specs.Value.{Base}
-use Rattle.nd_model.specs.Value as model_value
-use Rattle.nd_model.specs.Operand as model
-use Rattle.nd_model.specs.Operand.{Usage, Whole, ArraysOnly, Unused, is_used}
-use Rattle.nd_model.specs.Index.{SliceForm}
-use Rattle.nd_model.specs.Viewing.{Viewing, Indexed, choose_of_first}
-use Rattle.nd_model.specs.Writing.{assignment_writes}
-use Rattle.nd_model.specs.Running.{Running, Inputs, Use, after}
-use Rattle.nd_model.specs.Evaluation.{Eval, run, ◌>>=◌}
-use Rattle.nd_model.specs.Operation.{use_operand, operands, elements}
+use Rattle.nd_model.specs.Cells.Fault.{Fault}
+use Rattle.nd_model.specs.Arrays.View.{Geo, byte_places}
+use Rattle.nd_model.specs.Arrays.Value.{Base}
+use Rattle.nd_model.specs.Arrays.Value as model_value
+use Rattle.nd_model.specs.Making.Operand as model
+use Rattle.nd_model.specs.Making.Operand.{Usage, Whole, ArraysOnly, Unused, is_used}
+use Rattle.nd_model.specs.Indexing.Index.{SliceForm}
+use Rattle.nd_model.specs.Indexing.Viewing.{Viewing, Indexed, choose_of_first}
+use Rattle.nd_model.specs.Making.Writing.{assignment_writes}
+use Rattle.nd_model.specs.Cells.Running.{Running, Inputs, Use, after}
+use Rattle.nd_model.specs.Cells.Evaluation.{Eval, run, ◌>>=◌}
+use Rattle.nd_model.specs.Cells.Operation.{use_operand, operands, elements}
 use Rattle.nd_types.specs.declared.num.Num.{Num}
 use Rattle.nd_types.specs.declared.num.Num.TheVariants as num
 use Rattle.nd_heap.specs.declared.value.Value.{Value}
 use Rattle.nd_heap.specs.declared.value.Value.TheVariants.{Number, Array, Row}
 use Rattle.nd_heap.specs.Values.{value_of}
-use Rattle.nd_choice.specs.declared.indexes.ItemValue.{ItemValue}
-use Rattle.nd_choice.specs.declared.indexes.ItemValue.TheVariants as item
-use Rattle.nd_choice.specs.declared.indexes.IndexValue.{IndexValue}
-use Rattle.nd_choice.specs.declared.indexes.IndexValue.TheVariants as index
-use Rattle.nd_operation.specs.declared.operand.Operand.{Operand}
-use Rattle.nd_refusal.specs.declared.stop.Stop.{Stop}
-use Rattle.nd_operation.specs.Contents.{elements_over, operand_of, unused_of}
-use Rattle.nd_operation.specs.New.{option_list}
-use Rattle.nd_choice.specs.Indexing.{form_of, forms_of, index_operand, item_operands, items_operands, index_operands, viewing_of}
+use Rattle.nd_select.specs.declared.choosing.indexes.ItemValue.{ItemValue}
+use Rattle.nd_select.specs.declared.choosing.indexes.ItemValue.TheVariants as item
+use Rattle.nd_select.specs.declared.choosing.indexes.IndexValue.{IndexValue}
+use Rattle.nd_select.specs.declared.choosing.indexes.IndexValue.TheVariants as index
+use Rattle.nd_operation.specs.declared.operators.operand.Operand.{Operand}
+use Rattle.nd_operation.specs.declared.refusals.stop.Stop.{Stop}
+use Rattle.nd_operation.specs.Operators.Contents.{elements_over, operand_of, unused_of}
+use Rattle.nd_operation.specs.Operators.New.{option_list}
+use Rattle.nd_select.specs.Choosing.Indexing.{form_of, forms_of, index_operand, item_operands, items_operands, index_operands, viewing_of}
 use Rattle.nd_eval.specs.Ends.{Ends}
 use Rattle.nd_eval.specs.Contents as contents
 use Rattle.nd_eval.specs.Contents.{option_values}

@@ -1,19 +1,19 @@
 -- What the parts of an evaluation stand for.
 use Rattle.std.specs.Prelude.{List, [], ◌∷◌, ◌++◌, Option, Some, None, map, Vec}
 use Rattle.std.specs.Global.{Global}
-use Rattle.nd_model.specs.Value as model
-use Rattle.nd_model.specs.Operand as operand
-use Rattle.nd_model.specs.Viewing.{Viewing, Fielded, Transposed, Reshaped, ViewedAs}
-use Rattle.nd_syntax.specs.Calls.{dtype_of}
+use Rattle.nd_model.specs.Arrays.Value as model
+use Rattle.nd_model.specs.Making.Operand as operand
+use Rattle.nd_model.specs.Indexing.Viewing.{Viewing, Fielded, Transposed, Reshaped, ViewedAs}
+use Rattle.nd_syntax.specs.Trees.Calls.{dtype_of}
 use Rattle.nd_heap.specs.declared.value.Value.{Value}
 use Rattle.nd_heap.specs.Values.{value_of}
-use Rattle.nd_operation.specs.declared.operand.Operand.{Operand}
-use Rattle.nd_choice.specs.declared.indexes.ItemValue.{ItemValue}
-use Rattle.nd_choice.specs.declared.indexes.ItemValue.TheVariants as item
-use Rattle.nd_choice.specs.declared.indexes.IndexValue.{IndexValue}
-use Rattle.nd_choice.specs.declared.indexes.IndexValue.TheVariants as index
-use Rattle.nd_operation.specs.Contents.{operand_of}
-use Rattle.nd_choice.specs.Indexing.{form_of}
+use Rattle.nd_operation.specs.declared.operators.operand.Operand.{Operand}
+use Rattle.nd_select.specs.declared.choosing.indexes.ItemValue.{ItemValue}
+use Rattle.nd_select.specs.declared.choosing.indexes.ItemValue.TheVariants as item
+use Rattle.nd_select.specs.declared.choosing.indexes.IndexValue.{IndexValue}
+use Rattle.nd_select.specs.declared.choosing.indexes.IndexValue.TheVariants as index
+use Rattle.nd_operation.specs.Operators.Contents.{operand_of}
+use Rattle.nd_select.specs.Choosing.Indexing.{form_of}
 use Rattle.nd_eval.specs.Parts.{ItemParts, IndexParts, parts_of_items, unused}
 use Rattle.nd_eval.specs.declared.views.ViewMethod.{ViewMethod}
 use Rattle.nd_eval.specs.declared.views.ViewMethod.TheVariants.{Transpose, Reshape, ViewAs}

@@ -1,21 +1,21 @@
 -- What effects stand for, and when they can be done.
 use Rattle.std.specs.Prelude.{ℕ, List, Result, string_bytes}
-use Rattle.nd_model.specs.Value as model
-use Rattle.nd_model.specs.Running as running
-use Rattle.nd_model.specs.Running.{Running}
-use Rattle.nd_model.specs.Evaluation.{Eval}
+use Rattle.nd_model.specs.Arrays.Value as model
+use Rattle.nd_model.specs.Cells.Running as running
+use Rattle.nd_model.specs.Cells.Running.{Running}
+use Rattle.nd_model.specs.Cells.Evaluation.{Eval}
 use Rattle.nd_heap.specs.Values.{base_of, geo_of, value_of}
-use Rattle.nd_choice.specs.Selections.{selected}
-use Rattle.nd_choice.specs.Targets.{writes_to}
-use Rattle.nd_refusal.specs.declared.stop.Stop.{Stop}
+use Rattle.nd_select.specs.Choosing.Selections.{selected}
+use Rattle.nd_select.specs.Choosing.Targets.{writes_to}
+use Rattle.nd_operation.specs.declared.refusals.stop.Stop.{Stop}
 use Rattle.nd_eval.specs.declared.evaluator.Evaluator.{Evaluator}
 use Rattle.nd_eval.specs.declared.effect.Effect.{Effect}
 use Rattle.nd_eval.specs.declared.effect.Effect.TheVariants.{Nothing, Print, Save, Bind, Unbind, Store, Scatter, Update, UpdateChosen}
 use Rattle.nd_eval.specs.Ends.{Evaluates, EvaluatesInLimit, session_of}
 use Rattle.nd_eval.specs.Uses.{IsHeld, operand_over}
-use Rattle.nd_store.specs.Storable.{IsCopyUpdatable, IsStorable, IsStorableIn, copy_updates}
-use Rattle.nd_store.specs.Updatable.{IsUpdatable, updates}
-use Rattle.nd_syntax.specs.Syntax.{binary_op}
+use Rattle.nd_select.specs.Storing.Storable.{IsCopyUpdatable, IsStorable, IsStorableIn, copy_updates}
+use Rattle.nd_select.specs.Storing.Updatable.{IsUpdatable, updates}
+use Rattle.nd_syntax.specs.Trees.Syntax.{binary_op}
 use Rattle.nd_types.specs.Kinds.{kind_of}
 
 -- the elements that are stored, and those that an operator reads, are those in these blocks

@@ -1,14 +1,14 @@
 -- How an evaluation ends.
 use Rattle.std.specs.Prelude.{◌≡◌, Result, Ok, Err}
-use Rattle.nd_model.specs.Fault.{Fault}
-use Rattle.nd_model.specs.Running.{Running, Effect}
-use Rattle.nd_model.specs.Evaluation.{Eval, run}
-use Rattle.nd_session.specs.Live.{live}
-use Rattle.nd_input.specs.Values.{inputs_of}
-use Rattle.nd_refusal.specs.declared.stop.Stop.{Stop}
-use Rattle.nd_refusal.specs.declared.stop.Stop.TheVariants.{Memory, Refused}
+use Rattle.nd_model.specs.Cells.Fault.{Fault}
+use Rattle.nd_model.specs.Cells.Running.{Running, Effect}
+use Rattle.nd_model.specs.Cells.Evaluation.{Eval, run}
+use Rattle.nd_session.specs.Session.Live.{live}
+use Rattle.nd_session.specs.Inputs.Values.{inputs_of}
+use Rattle.nd_operation.specs.declared.refusals.stop.Stop.{Stop}
+use Rattle.nd_operation.specs.declared.refusals.stop.Stop.TheVariants.{Memory, Refused}
 use Rattle.nd_eval.specs.declared.evaluator.Evaluator.{Evaluator}
-use Rattle.nd_refusal.specs.Faults.{fault_of}
+use Rattle.nd_operation.specs.Refusals.Faults.{fault_of}
 use Rattle.nd_eval.specs.Lines.{limit_effect}
 
 -- as the definitions have it, unless memory ran out

@@ -5,5 +5,5 @@ pub mod Uses
 pub mod Lines
 pub mod Suffixes
 pub mod Done
-pub use Rattle.nd_refusal.specs.Faults
+pub use Rattle.nd_operation.specs.Refusals.Faults
 pub mod Effects

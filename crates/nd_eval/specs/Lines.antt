@@ -1,8 +1,8 @@
 -- Effects that print a text no longer than a cell's may be.
 use Rattle.std.specs.Prelude.{nat_le, if◌then◌else◌, length, Result, Ok, Err}
-use Rattle.nd_model.specs.Fault.{Fault, Stmt, TextTooLong}
-use Rattle.nd_model.specs.Running.{Running, Effect, Nothing, Prints, Saves, Binding, Unbinding, Storing}
-use Rattle.nd_model.specs.Cell.{most_text}
+use Rattle.nd_model.specs.Cells.Fault.{Fault, Stmt, TextTooLong}
+use Rattle.nd_model.specs.Cells.Running.{Running, Effect, Nothing, Prints, Saves, Binding, Unbinding, Storing}
+use Rattle.nd_model.specs.Cells.Cell.{most_text}
 
 -- an effect that prints a text over the limit is refused
 abbrev pub limit_effect : Result Effect Fault × Running → Result Effect Fault × Running

@@ -1,28 +1,28 @@
 -- Parts of the meaning, as the functions work them out.
 use Rattle.std.specs.Prelude.{ℕ, ℤ, pos, Bool, true, false, List, [], ◌∷◌, ◌++◌, map, Option, Some, None, Result, Ok, Err}
 use Rattle.std.specs.List.{flat_map}
-use Rattle.nd_model.specs.View.{Geo}
-use Rattle.nd_model.specs.Content.{Content}
-use Rattle.nd_model.specs.Value as given
-use Rattle.nd_model.specs.Value.{Base, Value}
-use Rattle.nd_model.specs.Running.{Effect, Storing}
-use Rattle.nd_model.specs.Refusing as refusing
-use Rattle.nd_model.specs.Fault.{Fault, Stmt, NotAnArray}
-use Rattle.nd_model.specs.Calls.{Fill, DType, Ufunc}
-use Rattle.nd_model.specs.Creation.{arange, array_of_list, astype, copy_array, filled, full}
-use Rattle.nd_model.specs.Elementwise.{binary}
-use Rattle.nd_model.specs.Files.{save}
-use Rattle.nd_model.specs.Reductions.{reduce_array, accumulate_array, reduce_call, accumulate_call}
-use Rattle.nd_model.specs.Writing.{assignment_writes}
-use Rattle.nd_model.specs.Augmenting.{array_in_place, augment_item, augment_name, in_place_writes, operand_of_made}
-use Rattle.nd_model.specs.Syntax.{BinaryOp, Expr, Bound, Omitted, Given, Elements, NoElement, AndElement, Element, Single, Nested, Fold, Reduce, Accumulate, Method, Copy, AsType, Transpose, Reshape, ViewAs, Reduced, Accumulated, Axis, DefaultAxis, AllAxes, AtAxis, Exprs, NoExpr, AndExpr, Index, Field, Items, IndexItems, IndexItem, AndItem, NoItem, At, Slice, Ellipsis, NewAxis, Listed}
-use Rattle.nd_model.specs.Cells.{Suffix, AtIndex, OfMethod}
-use Rattle.nd_model.specs.Evaluation.{Eval, Gives, ◌>>=◌}
-use Rattle.nd_model.specs.Operand.{Operand, Usage, Whole, ArraysOnly, RowsOnly, Unused, Made}
-use Rattle.nd_model.specs.Index.{Form, AtForm, SliceForm, EllipsisForm, NewAxisForm, EmptyForm}
-use Rattle.nd_model.specs.Viewing.{Viewing, Indexed, Fielded, Transposed, Reshaped, BroadcastTo, ViewedAs}
-use Rattle.nd_model.specs.Operation.{Computes, Views, perform, act_on, give, store_in}
-use Rattle.nd_model.specs.Meaning.{is_given, is_empty_list, one, two, along, value, assignment_deed}
+use Rattle.nd_model.specs.Arrays.View.{Geo}
+use Rattle.nd_model.specs.Arrays.Content.{Content}
+use Rattle.nd_model.specs.Arrays.Value as given
+use Rattle.nd_model.specs.Arrays.Value.{Base, Value}
+use Rattle.nd_model.specs.Cells.Running.{Effect, Storing}
+use Rattle.nd_model.specs.Cells.Refusing as refusing
+use Rattle.nd_model.specs.Cells.Fault.{Fault, Stmt, NotAnArray}
+use Rattle.nd_model.specs.Grammar.Calls.{Fill, DType, Ufunc}
+use Rattle.nd_model.specs.Making.Creation.{arange, array_of_list, astype, copy_array, filled, full}
+use Rattle.nd_model.specs.Making.Elementwise.{binary}
+use Rattle.nd_model.specs.Formats.Files.{save}
+use Rattle.nd_model.specs.Making.Reductions.{reduce_array, accumulate_array, reduce_call, accumulate_call}
+use Rattle.nd_model.specs.Making.Writing.{assignment_writes}
+use Rattle.nd_model.specs.Making.Augmenting.{array_in_place, augment_item, augment_name, in_place_writes, operand_of_made}
+use Rattle.nd_model.specs.Grammar.Syntax.{BinaryOp, Expr, Bound, Omitted, Given, Elements, NoElement, AndElement, Element, Single, Nested, Fold, Reduce, Accumulate, Method, Copy, AsType, Transpose, Reshape, ViewAs, Reduced, Accumulated, Axis, DefaultAxis, AllAxes, AtAxis, Exprs, NoExpr, AndExpr, Index, Field, Items, IndexItems, IndexItem, AndItem, NoItem, At, Slice, Ellipsis, NewAxis, Listed}
+use Rattle.nd_model.specs.Grammar.Cells.{Suffix, AtIndex, OfMethod}
+use Rattle.nd_model.specs.Cells.Evaluation.{Eval, Gives, ◌>>=◌}
+use Rattle.nd_model.specs.Making.Operand.{Operand, Usage, Whole, ArraysOnly, RowsOnly, Unused, Made}
+use Rattle.nd_model.specs.Indexing.Index.{Form, AtForm, SliceForm, EllipsisForm, NewAxisForm, EmptyForm}
+use Rattle.nd_model.specs.Indexing.Viewing.{Viewing, Indexed, Fielded, Transposed, Reshaped, BroadcastTo, ViewedAs}
+use Rattle.nd_model.specs.Cells.Operation.{Computes, Views, perform, act_on, give, store_in}
+use Rattle.nd_model.specs.Cells.Meaning.{is_given, is_empty_list, one, two, along, value, assignment_deed}
 
 -- what is computed of one value
 abbrev pub make_value : (Operand → Result Made Fault) → Value → Eval Value

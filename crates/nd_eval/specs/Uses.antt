@@ -1,16 +1,16 @@
 -- The uses of values: what is noted of them, and the operands that they are in their blocks.
 use Rattle.std.specs.Prelude.{◌≡◌, Bool, true, false, List, [], ◌∷◌}
-use Rattle.nd_model.specs.Operand as operand
-use Rattle.nd_model.specs.View.{ElementType, byte_places}
-use Rattle.nd_model.specs.Running.{Running, Use, after}
+use Rattle.nd_model.specs.Making.Operand as operand
+use Rattle.nd_model.specs.Arrays.View.{ElementType, byte_places}
+use Rattle.nd_model.specs.Cells.Running.{Running, Use, after}
 use Rattle.nd_heap.specs.declared.value.Value.{Value}
 use Rattle.nd_heap.specs.declared.value.Value.TheVariants.{Number, Array, Row}
 use Rattle.nd_heap.specs.Values.{base_of, geo_of}
-use Rattle.nd_choice.specs.declared.indexes.ItemValue.{ItemValue}
-use Rattle.nd_choice.specs.declared.indexes.ItemValue.TheVariants as item
-use Rattle.nd_choice.specs.declared.indexes.IndexValue.{IndexValue}
-use Rattle.nd_choice.specs.declared.indexes.IndexValue.TheVariants as index
-pub use Rattle.nd_store.specs.Operands.{IsHeld, AreHeld, operand_over, operands_over}
+use Rattle.nd_select.specs.declared.choosing.indexes.ItemValue.{ItemValue}
+use Rattle.nd_select.specs.declared.choosing.indexes.ItemValue.TheVariants as item
+use Rattle.nd_select.specs.declared.choosing.indexes.IndexValue.{IndexValue}
+use Rattle.nd_select.specs.declared.choosing.indexes.IndexValue.TheVariants as index
+pub use Rattle.nd_select.specs.Storing.Operands.{IsHeld, AreHeld, operand_over, operands_over}
 
 -- the session once all elements of the value are noted as used
 abbrev pub marked : Value → Running → Running

@@ -1,36 +1,40 @@
-//! Assignments with an operator.
+//! `augment_effect` and `augment_item_effect`: assignments with an operator, such as `x += 1` and
+//! `x[m] += 1`.
 
 ghost use Rattle.std.specs.Prelude.{◌≡◌, true, ◌+◌, ◌<◌, ◌^◌, IfOk, MatchResult};
-ghost use Rattle.nd_model.specs.Evaluation as evaluation;
-ghost use Rattle.nd_model.specs.Index.{has_array};
-ghost use Rattle.nd_model.specs.Meaning as meaning;
-ghost use Rattle.nd_model.specs.Sound.{IsHeldView};
-ghost use Rattle.nd_model.specs.Syntax.{Augment, AugmentItem};
-ghost use Rattle.nd_model.specs.Tokens.{tokens_of_stmt};
-ghost use Rattle.nd_syntax.specs.Syntax.{binary_op, expr_of, index_of};
+ghost use Rattle.nd_model.specs.Cells.Evaluation as evaluation;
+ghost use Rattle.nd_model.specs.Indexing.Index.{has_array};
+ghost use Rattle.nd_model.specs.Cells.Meaning as meaning;
+ghost use Rattle.nd_model.specs.Cells.Sound.{IsHeldView};
+ghost use Rattle.nd_model.specs.Grammar.Syntax.{Augment, AugmentItem};
+ghost use Rattle.nd_model.specs.Grammar.Tokens.{tokens_of_stmt};
+ghost use Rattle.nd_syntax.specs.Trees.Syntax.{binary_op, expr_of, index_of};
 ghost use Rattle.nd_heap.specs.Values.{base_of, geo_of, value_of};
 ghost use Rattle.nd_heap.specs.declared.value.Value.TheVariants as values;
-ghost use Rattle.nd_session.specs.Live.{live};
-ghost use Rattle.nd_operation.specs.Contents.{contents_over, unused_of};
-ghost use Rattle.nd_refusal.specs.Ends.{Makes};
-ghost use Rattle.nd_choice.specs.Indexing.{index_operands, operands_of, viewing_of};
+ghost use Rattle.nd_session.specs.Session.Live.{live};
+ghost use Rattle.nd_operation.specs.Operators.Contents.{contents_over, unused_of};
+ghost use Rattle.nd_operation.specs.Refusals.Ends.{Makes};
+ghost use Rattle.nd_select.specs.Choosing.Indexing.{index_operands, operands_of, viewing_of};
 ghost use Rattle.nd_eval.specs.Contents as contents;
 ghost use Rattle.nd_eval.specs.Effects.{EvaluatesEffect, IsReady, effect_of};
 ghost use Rattle.nd_eval.specs.Ends.{session_of};
 ghost use Rattle.nd_eval.specs.Parts as parts;
 ghost use Rattle.nd_eval.specs.Uses.{HasTypeOf, IsHeld, IsNoArray, operand_over};
 
+use crate::discard::{discard, discard_array, discard_target};
 use crate::effect::Effect;
 use crate::evaluator::Evaluator;
 use crate::exec::store_effect;
 use crate::operation::{mark_index, mark_operand, operand_in};
-use nd_choice::{IndexValue, Target, assignment_target, is_advanced};
-use nd_operation::{Elements, OfTwo, Operand, kind_in_place, make_of_two, not_an_array};
-use nd_refusal::Stop;
-use nd_session::{Array, Session, Value};
-use nd_syntax::{BinaryOp, Expr, Index};
+use nd_operation::operators::{
+    BinaryCall, BorrowedArray, Operand, kind_in_place, make_of_two, not_an_array,
+};
+use nd_operation::refusals::Stop;
+use nd_select::choosing::{IndexValue, Target, assignment_target, is_advanced};
+use nd_session::session::{Array, Session, Value};
+use nd_syntax::trees::{BinaryOp, Expr, Index};
 
-/// The array that a value is, or the value again.
+/// The array that a value is, or else the value.
 fn array_of(value: Value) -> Result<Array, Value>
     ensures { MatchResult result (λ a. value ≡ values.Array a) (λ v. (v ≡ value) × IsNoArray v) }
 {
@@ -40,7 +44,7 @@ fn array_of(value: Value) -> Result<Array, Value>
     }
 }
 
-/// What an operator in place on an array comes to, once the elements of both are noted as used.
+/// The effect of an operator in place on an array, once the elements of both are noted as used.
 fn update_effect(
     session: &Session,
     op: BinaryOp,
@@ -60,8 +64,8 @@ fn update_effect(
     Ok(Effect::Update(kind, op, array, value))
 }
 
-/// What an operator in place on a copy of the elements that an index with arrays chose comes to, once the elements of all are noted as
-/// used: the copy is then assigned to the elements.
+/// The effect of an operator on the elements that an advanced index selects, once all elements are
+/// noted as used. It works on a copy, which is then assigned.
 fn copy_update_effect(
     session: &Session,
     op: BinaryOp,
@@ -84,13 +88,16 @@ fn copy_update_effect(
 {
     let operand = operand_in(session, &value);
     let kind = kind_in_place(session.allocator(), op, &copy.view, &operand)?;
-    let copied = Operand::Elements(Elements {
+    let copied = Operand::Elements(BorrowedArray {
         view: &copy.view,
         block: session.bytes(copy.base),
         is_row: false,
     });
     let found = assignment_target(session, &copied, target, index)?;
     let Value::Array(array) = target else {
+        discard_target(found);
+        discard_array(copy);
+        discard(value);
         return Err(Stop::Refused(not_an_array()));
     };
     let Target::Elements(selection) = found else {
@@ -100,7 +107,8 @@ fn copy_update_effect(
 }
 
 impl Evaluator<'_> {
-    /// What `name op= value` comes to where the name's value is no array: the name gets what the operator makes.
+    /// The effect of `name op= value` where the name's value is no array: the name is bound to the
+    /// result.
     fn rebind(
         &mut self,
         name: &str,
@@ -116,12 +124,12 @@ impl Evaluator<'_> {
             (binary_op op) (value_of found.now) (value_of value.now)) self.new }
         ensures ready { IfOk result (IsReady (session_of self.new)) }
     {
-        let bound = self.operate(OfTwo::Operator(op), found, value)?;
+        let bound = self.operate(BinaryCall::Operator(op), found, value)?;
         let name = String::from_str(self.session.allocator(), name)?;
         Ok(Effect::Bind(name, bound))
     }
 
-    /// What `name op= value` comes to, where these are the name's value and the other one.
+    /// The effect of `name op= value`, for the name's value and the operand.
     fn augment(
         &mut self,
         name: &str,
@@ -142,11 +150,16 @@ impl Evaluator<'_> {
                 mark_operand(self.session, &value)?;
                 update_effect(self.session, op, array, value)
             }
-            Err(found) => self.rebind(name, op, &found, &value),
+            Err(found) => {
+                let bound = self.rebind(name, op, &found, &value);
+                discard(found);
+                discard(value);
+                bound
+            }
         }
     }
 
-    /// What `name op= expr` comes to: the name's value is found first.
+    /// Returns the effect of `name op= expr`. The name's value is found before the operand.
     pub(crate) fn augment_effect(
         &mut self,
         name: &str,
@@ -165,8 +178,8 @@ impl Evaluator<'_> {
         self.augment(name, op, found, value)
     }
 
-    /// What `target[index] op= value` comes to where the item is no array, once all operands are noted as used: what the operator makes
-    /// is assigned to it.
+    /// The effect of `target[index] op= value` where the item is no array, once all operands are
+    /// noted as used: the result is assigned to it.
     fn assign_made(
         &mut self,
         op: BinaryOp,
@@ -190,17 +203,21 @@ impl Evaluator<'_> {
         let alloc = self.session.allocator();
         let left = operand_in(self.session, found);
         let right = operand_in(self.session, value);
-        let new = make_of_two(alloc, OfTwo::Operator(op), &left, &right)?;
+        let new = make_of_two(alloc, BinaryCall::Operator(op), &left, &right)?;
         let elements = assignment_target(self.session, &new.operand(), target, index)?;
         let made = self.give(new)?;
         match target {
-            Value::Number(_) => Err(Stop::Refused(not_an_array())),
+            Value::Number(_) => {
+                discard_target(elements);
+                discard(made);
+                Err(Stop::Refused(not_an_array()))
+            }
             Value::Array(array) => Ok(store_effect(array.base, elements, made)),
             Value::Row(row) => Ok(store_effect(row.base, elements, made)),
         }
     }
 
-    /// What `target[index] op= value` comes to, where the item was found before.
+    /// The effect of `target[index] op= value`, for an item that is found already.
     fn augment_item(
         &mut self,
         op: BinaryOp,
@@ -230,11 +247,17 @@ impl Evaluator<'_> {
                 }
                 update_effect(self.session, op, array, value)
             }
-            Err(found) => self.assign_made(op, &value, &found, target, index),
+            Err(found) => {
+                let made = self.assign_made(op, &value, &found, target, index);
+                discard(found);
+                discard(value);
+                made
+            }
         }
     }
 
-    /// What `target[index] op= expr` comes to: the target, the index and the item are found before the expression's value.
+    /// Returns the effect of `target[index] op= expr`. Target, index and item are found before the
+    /// operand.
     pub(crate) fn augment_item_effect(
         &mut self,
         target: &Expr,

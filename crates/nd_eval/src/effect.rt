@@ -1,25 +1,27 @@
-//! Effects.
+//! `Effect`: what a statement will do once all of it is evaluated. At most one effect, carried out
+//! last: so a refused statement changes nothing.
 
-use nd_choice::Selection;
-use nd_session::{Array, Base, Value};
-use nd_syntax::BinaryOp;
+use nd_select::choosing::Selection;
+use nd_session::session::{Array, Base, Value};
+use nd_syntax::trees::BinaryOp;
 use nd_types::Kind;
 
-/// What a statement does once it is evaluated.
+/// What a statement will do, once it is evaluated.
 #[derive(Drop)]
 pub(crate) enum Effect {
     Nothing,
     Print(String),
-    /// A file is saved by a name.
+    /// A file is saved under a name.
     Save(String, Vec<u8>),
     Bind(String, Value),
     Unbind(String),
-    /// The elements of an array get those of a value.
+    /// A value is assigned to the elements of an array.
     Store(Array, Value),
-    /// Elements that an index with arrays chose in a base get those of a value.
+    /// A value is assigned to the elements of a block that an advanced index selects.
     Scatter(Base, Selection, Value),
-    /// The elements of an array get what an operator of this kind gives of them and a value.
+    /// An operator in place, of this kind, is applied to an array and a value.
     Update(Kind, BinaryOp, Array, Value),
-    /// Elements that an index with arrays chose in a base get what an operator of this kind gives of a copy of them and a value.
+    /// An operator of this kind is applied to a copy of the elements that an advanced index selects
+    /// in a block. The results are assigned.
     UpdateChosen(Kind, BinaryOp, Base, Selection, Array, Value),
 }

@@ -1,50 +1,50 @@
-//! Expressions.
+//! Expressions of the running cell, evaluated: names, operators, calls, subscripts.
 
 ghost use Rattle.std.specs.Prelude.{◌≡◌, ◌+◌, ◌<◌, ◌^◌, IfOk, is_some, map, option_map};
-ghost use Rattle.nd_model.specs.Cells.{chained, elements_of, items_of};
-ghost use Rattle.nd_model.specs.Evaluation as evaluation;
-ghost use Rattle.nd_model.specs.Meaning as meaning;
-ghost use Rattle.nd_model.specs.Meaning.{along, is_given};
-ghost use Rattle.nd_model.specs.Operation as operation;
-ghost use Rattle.nd_model.specs.Syntax.{Called, Items, Listed, Nested, NewArray};
-ghost use Rattle.nd_model.specs.Tokens.{tokens_of, tokens_of_elements, tokens_of_call, tokens_of_fold, tokens_of_index, tokens_of_item, tokens_of_all, tokens_of_bound, tokens_of_element, tokens_of_method};
-ghost use Rattle.nd_syntax.specs.Lists.{operation_of};
-ghost use Rattle.nd_syntax.specs.Syntax.{axis_of, bound_of, expr_of, call_of, element_of, fold_of, index_of, item_of, method_of, suffix_of};
+ghost use Rattle.nd_model.specs.Grammar.Cells.{chained, elements_of, items_of};
+ghost use Rattle.nd_model.specs.Cells.Evaluation as evaluation;
+ghost use Rattle.nd_model.specs.Cells.Meaning as meaning;
+ghost use Rattle.nd_model.specs.Cells.Meaning.{along, is_given};
+ghost use Rattle.nd_model.specs.Cells.Operation as operation;
+ghost use Rattle.nd_model.specs.Grammar.Syntax.{Called, Items, Listed, Nested, NewArray};
+ghost use Rattle.nd_model.specs.Grammar.Tokens.{tokens_of, tokens_of_elements, tokens_of_call, tokens_of_fold, tokens_of_index, tokens_of_item, tokens_of_all, tokens_of_bound, tokens_of_element, tokens_of_method};
+ghost use Rattle.nd_syntax.specs.Trees.Lists.{operation_of};
+ghost use Rattle.nd_syntax.specs.Trees.Syntax.{axis_of, bound_of, expr_of, call_of, element_of, fold_of, index_of, item_of, method_of, suffix_of};
 ghost use Rattle.nd_heap.specs.Values.{value_of};
 ghost use Rattle.nd_eval.specs.Contents as contents;
 ghost use Rattle.nd_eval.specs.Contents.{option_values, values_of};
 ghost use Rattle.nd_eval.specs.Ends.{Evaluates, session_of};
 ghost use Rattle.nd_eval.specs.Uses.{HasTypeOf, IsHeld};
-ghost use Rattle.nd_model.specs.Index.{has_array};
-ghost use Rattle.nd_choice.specs.Indexing.{operands_of};
-ghost use Rattle.nd_operation.specs.Contents.{unused_of};
+ghost use Rattle.nd_model.specs.Indexing.Index.{has_array};
+ghost use Rattle.nd_select.specs.Choosing.Indexing.{operands_of};
+ghost use Rattle.nd_operation.specs.Operators.Contents.{unused_of};
 ghost use Rattle.nd_eval.specs.Parts as parts;
 ghost use Rattle.nd_eval.specs.Suffixes.{axis_tokens, suffix_tokens};
-ghost use Rattle.nd_operation.specs.New.{made_of_one};
-ghost use Rattle.nd_operation.specs.OfTwo.{made_of_two};
-ghost use Rattle.nd_syntax.specs.Calls.{dtype_of, fill_of, ufunc_of};
+ghost use Rattle.nd_operation.specs.Operators.New.{made_of_one};
+ghost use Rattle.nd_operation.specs.Operators.OfTwo.{made_of_two};
+ghost use Rattle.nd_syntax.specs.Trees.Calls.{dtype_of, fill_of, ufunc_of};
 ghost use Rattle.nd_fold.specs.Folds.{made_of_fold};
 
 use crate::evaluator::Evaluator;
 use crate::operation::{mark_index, mark_operand, mark_operands, operand_in};
 use crate::views::ViewMethod;
-use nd_choice::{IndexValue, ItemValue, choose};
 use nd_files::InputSort;
 use nd_fold::Folding;
-use nd_operation::{
-    OfOne, OfTwo, is_empty_list, make_filled, make_full, make_list, make_of_one, make_of_two,
-    make_range,
+use nd_operation::operators::{
+    BinaryCall, UnaryCall, is_empty_list, make_filled, make_full, make_list, make_of_one,
+    make_of_two, make_range,
 };
-use nd_refusal::{StmtError, StmtFault, Stop};
-use nd_session::Value;
-use nd_syntax::{
+use nd_operation::refusals::{StmtError, StmtFault, Stop};
+use nd_select::choosing::{IndexValue, ItemValue, choose};
+use nd_session::session::Value;
+use nd_syntax::trees::{
     Axis, BinaryOp, Call, DType, Element, Expr, Fill, Fold, Index, IndexItem, Method, Suffix, Ufunc,
 };
 use nd_types::Num;
-use nd_ufunc::{BinaryUfunc, Single};
+use nd_ufunc::scalar::{BinaryUfunc, Single};
 
 impl Evaluator<'_> {
-    /// The value of a bound name.
+    /// Returns the value of a bound name, and notes that it was looked up.
     pub(crate) fn look_up(&mut self, name: &str) -> Result<Value, Stop>
         ensures { Evaluates value_of result self.old (operation.name name.now) self.new }
     {
@@ -57,8 +57,8 @@ impl Evaluator<'_> {
         }
     }
 
-    /// The value of an expression. It calls itself for an operand, and for each index that goes on it, but not once more for
-    /// each that stands before: so only brackets and signs take it deeper.
+    /// Returns the value of an expression. Suffixes (`x[0].T`) are a loop: only brackets and signs
+    /// recurse, at most 64 levels deep.
     #[cycle(value)]
     pub(crate) fn value(&mut self, expr: &Expr) -> Result<Value, Stop>
         requires { (session_of self.old).next + tokens_of (expr_of expr.now) < 2 ^ 64 }
@@ -70,7 +70,7 @@ impl Evaluator<'_> {
             Expr::Integer(number) => Ok(Value::Number(Num::Int(i128::from(*number)))),
             Expr::Truth(truth) => Ok(Value::Number(Num::Bool(*truth))),
             Expr::Unary(op, operand) => {
-                self.value_of_one(OfOne::Operator(Single::Of(*op)), operand)
+                self.value_of_one(UnaryCall::Operator(Single::Of(*op)), operand)
             }
             Expr::Call(call) => self.call_value(call),
             Expr::Postfix(operand, suffixes) => {
@@ -84,7 +84,7 @@ impl Evaluator<'_> {
         }
     }
 
-    /// The value of an operand and of the operators behind it, from left to right.
+    /// The value of an operand and the operators behind it, from left to right.
     #[cycle(value)]
     fn chain_value(&mut self, operand: &Expr, others: &[(BinaryOp, Expr)]) -> Result<Value, Stop>
         requires { (session_of self.old).next
@@ -96,14 +96,14 @@ impl Evaluator<'_> {
         self.session.soundness();
         let mut found = self.value(operand)?;
         for other in others {
-            found = self.binary_value(OfTwo::Operator(other.0), &found, &other.1)?;
+            found = self.binary_value(BinaryCall::Operator(other.0), &found, &other.1)?;
         }
         Ok(found)
     }
 
-    /// What an operator, or a function of NumPy, gives of a value that was found before and of the expression behind it.
+    /// The result of an operator or a function of NumPy, for a value and the expression behind it.
     #[cycle(value)]
-    fn binary_value(&mut self, call: OfTwo, left: &Value, right: &Expr) -> Result<Value, Stop>
+    fn binary_value(&mut self, call: BinaryCall, left: &Value, right: &Expr) -> Result<Value, Stop>
         requires held { IsHeld (session_of self.old) left.now }
         requires room { (session_of self.old).next + tokens_of (expr_of right.now) + 1 < 2 ^ 64 }
         ensures { Evaluates value_of result self.old
@@ -115,10 +115,10 @@ impl Evaluator<'_> {
         self.operate(call, left, &right)
     }
 
-    /// What an operator, or a function of NumPy, gives of two values.
+    /// Returns the result of an operator or a function of NumPy, for two values.
     pub(crate) fn operate(
         &mut self,
-        call: OfTwo,
+        call: BinaryCall,
         left: &Value,
         right: &Value,
     ) -> Result<Value, Stop>
@@ -137,9 +137,9 @@ impl Evaluator<'_> {
         self.give(new)
     }
 
-    /// What a function of NumPy gives of the values of two expressions.
+    /// The result of a function of NumPy, for two expressions.
     #[cycle(value)]
-    fn value_of_two(&mut self, call: OfTwo, left: &Expr, right: &Expr) -> Result<Value, Stop>
+    fn value_of_two(&mut self, call: BinaryCall, left: &Expr, right: &Expr) -> Result<Value, Stop>
         requires { (session_of self.old).next + tokens_of (expr_of left.now)
             + tokens_of (expr_of right.now) + 1 < 2 ^ 64 }
         ensures { Evaluates value_of result self.old
@@ -151,9 +151,9 @@ impl Evaluator<'_> {
         self.binary_value(call, &left, right)
     }
 
-    /// What a call or an operator gives of one expression's value.
+    /// The result of a call or an operator, for one expression.
     #[cycle(value)]
-    fn value_of_one(&mut self, call: OfOne<'_>, operand: &Expr) -> Result<Value, Stop>
+    fn value_of_one(&mut self, call: UnaryCall<'_>, operand: &Expr) -> Result<Value, Stop>
         requires { (session_of self.old).next + tokens_of (expr_of operand.now) + 1 < 2 ^ 64 }
         ensures { Evaluates value_of result self.old
             (parts.value_of_one (made_of_one call.entry) (expr_of operand.now)) self.new }
@@ -163,8 +163,8 @@ impl Evaluator<'_> {
         self.make_value(call, &operand)
     }
 
-    /// What a call or an operator gives of one value.
-    fn make_value(&mut self, call: OfOne<'_>, operand: &Value) -> Result<Value, Stop>
+    /// The result of a call or an operator, for one value.
+    fn make_value(&mut self, call: UnaryCall<'_>, operand: &Value) -> Result<Value, Stop>
         requires held { IsHeld (session_of self.old) operand.now }
         requires room { (session_of self.old).next + 1 < 2 ^ 64 }
         ensures { Evaluates value_of result self.old
@@ -176,7 +176,7 @@ impl Evaluator<'_> {
         self.give(new)
     }
 
-    /// What a method that gives a view gives of a value, by its expressions.
+    /// The result of a method that gives a view, for a value and the method's expressions.
     #[cycle(value)]
     fn viewed_value(
         &mut self,
@@ -209,7 +209,7 @@ impl Evaluator<'_> {
         self.stretch_value(&found, &shape)
     }
 
-    /// What a method gives of a value that was found before.
+    /// The result of a method, for a value.
     #[cycle(value)]
     fn method_value(&mut self, found: &Value, method: &Method) -> Result<Value, Stop>
         requires held { IsHeld (session_of self.old) found.now }
@@ -219,8 +219,8 @@ impl Evaluator<'_> {
             (parts.method_value (method_of method.now) (value_of found.now)) self.new }
     {
         match method {
-            Method::Copy => self.make_value(OfOne::Copy, found),
-            Method::AsType(dtype) => self.make_value(OfOne::AsType(dtype), found),
+            Method::Copy => self.make_value(UnaryCall::Copy, found),
+            Method::AsType(dtype) => self.make_value(UnaryCall::AsType(dtype), found),
             Method::Transpose(axes) => self.viewed_value(ViewMethod::Transpose, found, axes),
             Method::Reshape(shape) => self.viewed_value(ViewMethod::Reshape, found, shape),
             Method::View(dtype) => self.view_value(ViewMethod::ViewAs(dtype), found, &[]),
@@ -233,7 +233,7 @@ impl Evaluator<'_> {
         }
     }
 
-    /// What a fold gives of a value along the axis that an expression says.
+    /// The reduction or accumulation of a value along the axis that an expression says.
     #[cycle(value)]
     fn fold_at(&mut self, folding: Folding, found: &Value, axis: &Expr) -> Result<Value, Stop>
         requires held { IsHeld (session_of self.old) found.now }
@@ -247,7 +247,8 @@ impl Evaluator<'_> {
         self.fold_along(folding, found, &axis)
     }
 
-    /// What a fold gives of a value along an axis, where none is written along the other one or of all numbers.
+    /// The reduction of a value along an axis; where none is written, along `otherwise` or of all
+    /// numbers.
     #[cycle(value)]
     fn reduction_value(
         &mut self,
@@ -268,7 +269,7 @@ impl Evaluator<'_> {
         }
     }
 
-    /// The same of a fold whose axis is a number.
+    /// The result of an accumulation whose axis is a number.
     #[cycle(value)]
     fn accumulation_value(
         &mut self,
@@ -392,7 +393,7 @@ impl Evaluator<'_> {
         self.give(new)
     }
 
-    /// Puts the values of the numbers of an element of a list behind others, from left to right.
+    /// Appends the values of an element of a list, from left to right.
     #[cycle(value)]
     fn push_values(&mut self, values: &mut Vec<Value>, element: &Element) -> Result<(), Stop>
         requires { (session_of self.old).next + tokens_of_element (element_of element.now)
@@ -411,7 +412,7 @@ impl Evaluator<'_> {
         }
     }
 
-    /// Puts the values of the numbers of a list behind others, from left to right.
+    /// Appends the values of a list, from left to right.
     #[cycle(value)]
     fn push_all(&mut self, values: &mut Vec<Value>, elements: &[Element]) -> Result<(), Stop>
         requires { (session_of self.old).next
@@ -426,7 +427,7 @@ impl Evaluator<'_> {
         Ok(())
     }
 
-    /// The array of a list, of the type that is written or else of its own.
+    /// The array of a list, of the dtype that is written or else of its own.
     #[cycle(value)]
     fn list_value(&mut self, elements: &[Element], dtype: &Option<DType>) -> Result<Value, Stop>
         requires { (session_of self.old).next
@@ -453,12 +454,12 @@ impl Evaluator<'_> {
             (option_map dtype_of dtype.now)))) self.new }
     {
         match element {
-            Element::Single(value) => self.value_of_one(OfOne::ArrayOf(dtype), value),
+            Element::Single(value) => self.value_of_one(UnaryCall::ArrayOf(dtype), value),
             Element::Nested(elements) => self.list_value(elements, dtype),
         }
     }
 
-    /// What a call of a function gives.
+    /// The result of a function's call.
     #[cycle(value)]
     fn call_value(&mut self, call: &Call) -> Result<Value, Stop>
         requires { (session_of self.old).next + tokens_of_call (call_of call.now) < 2 ^ 64 }
@@ -470,17 +471,20 @@ impl Evaluator<'_> {
             Call::Filled(fill, shape, dtype) => self.filled_value(*fill, shape, dtype),
             Call::Full(shape, value, dtype) => self.full_value(shape, value, dtype),
             Call::Array(element, dtype) => self.array_value(element, dtype),
-            Call::Convert(kind, value) => self.value_of_one(OfOne::Convert(*kind), value),
+            Call::Convert(kind, value) => self.value_of_one(UnaryCall::Convert(*kind), value),
             Call::BroadcastTo(operand, shape) => self.stretched_value(operand, shape),
             Call::Minimum(left, right) => {
-                self.value_of_two(OfTwo::Call(BinaryUfunc::Minimum), left, right)
+                self.value_of_two(BinaryCall::Call(BinaryUfunc::Minimum), left, right)
             }
             Call::Maximum(left, right) => {
-                self.value_of_two(OfTwo::Call(BinaryUfunc::Maximum), left, right)
+                self.value_of_two(BinaryCall::Call(BinaryUfunc::Maximum), left, right)
             }
-            Call::Absolute(operand) => self.value_of_one(OfOne::Ufunc(Single::Absolute), operand),
+            Call::Absolute(operand) => self.value_of_one(
+                UnaryCall::Ufunc(Single::Absolute),
+                operand,
+            ),
             Call::PythonAbs(operand) => {
-                self.value_of_one(OfOne::Operator(Single::Absolute), operand)
+                self.value_of_one(UnaryCall::Operator(Single::Absolute), operand)
             }
             Call::Load(name) => self.input_value(InputSort::File, name.as_str()),
             Call::Buffer(name) => self.input_value(InputSort::Buffer, name.as_str()),
@@ -488,7 +492,7 @@ impl Evaluator<'_> {
         }
     }
 
-    /// What an index or a method gives of a value that was found before.
+    /// The result of an index or a method, for a value.
     #[cycle(value)]
     fn suffix_value(&mut self, found: &Value, suffix: &Suffix) -> Result<Value, Stop>
         requires held { IsHeld (session_of self.old) found.now }
@@ -503,7 +507,7 @@ impl Evaluator<'_> {
         }
     }
 
-    /// What an index gives of a value that was found before.
+    /// The result of an index, for a value.
     #[cycle(value)]
     fn index_into(&mut self, found: &Value, index: &Index) -> Result<Value, Stop>
         requires held { IsHeld (session_of self.old) found.now }
@@ -517,7 +521,7 @@ impl Evaluator<'_> {
         self.choose_value(found, &index)
     }
 
-    /// An index with the values of its expressions.
+    /// Returns an index with the values of its expressions.
     #[cycle(value)]
     pub(crate) fn index_value<'n>(&mut self, index: &'n Index) -> Result<IndexValue<'n>, Stop>
         requires { (session_of self.old).next + tokens_of_index (index_of index.now) < 2 ^ 64 }
@@ -549,7 +553,7 @@ impl Evaluator<'_> {
         Ok(values)
     }
 
-    /// A list as an item of an index: the array of it, unless it has no number.
+    /// A list as an item of an index: an array, unless the list is empty.
     #[cycle(value)]
     fn list_item(&mut self, elements: &[Element]) -> Result<ItemValue, Stop>
         requires { (session_of self.old).next
@@ -588,7 +592,7 @@ impl Evaluator<'_> {
         }
     }
 
-    /// What an index chooses of a value.
+    /// Returns what an index selects of a value.
     pub(crate) fn choose_value(
         &mut self,
         target: &Value,
@@ -610,7 +614,7 @@ impl Evaluator<'_> {
         }
     }
 
-    /// The values of expressions, from left to right.
+    /// Returns the values of expressions, from left to right.
     #[cycle(value)]
     pub(crate) fn values(&mut self, exprs: &[Expr]) -> Result<Vec<Value>, Stop>
         requires { (session_of self.old).next + tokens_of_all (map expr_of exprs.now) < 2 ^ 64 }

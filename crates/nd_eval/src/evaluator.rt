@@ -1,8 +1,8 @@
-//! Evaluations.
+//! `Evaluator`: expressions and statements of the running cell, over its session and the inputs.
 
-use nd_session::{Inputs, Session};
+use nd_session::session::{Inputs, Session};
 
-/// A statement's evaluation: the session that it asks and changes, and the inputs.
+/// The evaluation of a statement: the session that it reads and changes, and the inputs.
 #[derive(Drop)]
 pub(crate) struct Evaluator<'s> {
     pub(crate) session: &'s mut Session,

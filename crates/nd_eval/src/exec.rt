@@ -1,47 +1,50 @@
-//! Statements.
+//! `run_stmt`: evaluates a statement, and carries its effect out.
 
 ghost use Rattle.std.specs.Prelude.{◌≡◌, ℕ, List, ◌+◌, ◌<◌, ◌≤◌, ◌^◌, IfOk, OnOk, map};
-ghost use Rattle.nd_model.specs.Running as running;
-ghost use Rattle.nd_model.specs.Running.{Running};
-ghost use Rattle.nd_model.specs.Value as model;
-ghost use Rattle.nd_model.specs.Meaning as meaning;
-ghost use Rattle.nd_model.specs.Cell.{statement};
-ghost use Rattle.nd_model.specs.Syntax.{Assign, Bind, Delete, Print};
-ghost use Rattle.nd_model.specs.Tokens.{tokens_of, tokens_of_all, tokens_of_stmt};
-ghost use Rattle.nd_syntax.specs.Syntax.{expr_of, index_of, stmt_of};
+ghost use Rattle.nd_model.specs.Cells.Running as running;
+ghost use Rattle.nd_model.specs.Cells.Running.{Running};
+ghost use Rattle.nd_model.specs.Arrays.Value as model;
+ghost use Rattle.nd_model.specs.Cells.Meaning as meaning;
+ghost use Rattle.nd_model.specs.Cells.Cell.{statement};
+ghost use Rattle.nd_model.specs.Grammar.Syntax.{Assign, Bind, Delete, Print};
+ghost use Rattle.nd_model.specs.Grammar.Tokens.{tokens_of, tokens_of_all, tokens_of_stmt};
+ghost use Rattle.nd_syntax.specs.Trees.Syntax.{expr_of, index_of, stmt_of};
 ghost use Rattle.nd_heap.specs.Values.{base_of, value_of};
-ghost use Rattle.nd_input.specs.Values.{inputs_of};
-ghost use Rattle.nd_session.specs.Live.{live};
+ghost use Rattle.nd_session.specs.Inputs.Values.{inputs_of};
+ghost use Rattle.nd_session.specs.Session.Live.{live};
 ghost use Rattle.nd_eval.specs.Ends.{Ends, session_of};
 ghost use Rattle.nd_eval.specs.Contents as contents;
 ghost use Rattle.nd_eval.specs.Effects.{EvaluatesEffect, EvaluatesEffectInLimit, IsReady, effect_of};
 ghost use Rattle.nd_eval.specs.Done.{output_of, outcome_of};
-ghost use Rattle.nd_model.specs.Cell.{limit_text};
+ghost use Rattle.nd_model.specs.Cells.Cell.{limit_text};
 ghost use Rattle.nd_eval.specs.Uses.{IsHeld, operand_over};
-ghost use Rattle.nd_choice.specs.Targets.{geo_in, writes_to};
-ghost use Rattle.nd_store.specs.Storable.{IsStorableIn};
+ghost use Rattle.nd_select.specs.Choosing.Targets.{geo_in, writes_to};
+ghost use Rattle.nd_select.specs.Storing.Storable.{IsStorableIn};
 ghost use Rattle.nd_eval.specs.Parts as parts;
 ghost use Rattle.nd_eval.specs.Lines.{limit_effect};
-ghost use Rattle.nd_model.specs.Evaluation.{run};
+ghost use Rattle.nd_model.specs.Cells.Evaluation.{run};
 
+use crate::discard::{discard, discard_array, discard_selection, discard_target, discard_text};
 use crate::effect::Effect;
 use crate::evaluator::Evaluator;
 use crate::operation::{mark_index, mark_operand, mark_operands, operand_in, operands_in};
-use nd_choice::{IndexValue, Target, assignment_target};
-use nd_operation::{not_an_array, print_line};
-use nd_refusal::{StmtFault, Stop};
-use nd_session::{Array, Base, Inputs, OutOfMemory, Session, Value};
-use nd_store::{scatter, store, update, update_chosen};
-use nd_syntax::{Expr, Index, Stmt};
+use nd_operation::operators::{not_an_array, print_line};
+use nd_operation::refusals::{StmtFault, Stop};
+use nd_select::choosing::{IndexValue, Target, assignment_target};
+use nd_select::storing::{scatter, store, update, update_chosen};
+use nd_session::session::{Array, Base, Inputs, OutOfMemory, Session, Value};
+use nd_syntax::trees::{Expr, Index, Stmt};
+use std::alloc::Global;
 
-/// What a statement gives to its cell: the text that it prints, and perhaps a file that it saves, by its name.
+/// What a statement gives to its cell: the text that it prints, and a file that it saves, if any,
+/// with its name.
 #[derive(Drop)]
 pub struct Output {
     pub text: String,
     pub save: Option<(String, Vec<u8>)>,
 }
 
-/// What an assignment of a value to elements in a base comes to.
+/// Returns the effect of assigning a value to elements of a block.
 pub(crate) fn store_effect(base: Base, target: Target, value: Value) -> Effect
     ensures effect { (bytes : model.Base → List ℕ) → effect_of bytes result
         ≡ running.Storing (base_of base) (writes_to (geo_in target) (operand_over bytes value)) }
@@ -55,7 +58,7 @@ pub(crate) fn store_effect(base: Base, target: Target, value: Value) -> Effect
 }
 
 impl Evaluator<'_> {
-    /// What a binding comes to.
+    /// The effect of a binding.
     fn binding_effect(&mut self, name: &str, expr: &Expr) -> Result<Effect, Stop>
         requires { (session_of self.old).next + tokens_of (expr_of expr.now) < 2 ^ 64 }
         ensures effect { EvaluatesEffect result self.old
@@ -68,7 +71,7 @@ impl Evaluator<'_> {
         Ok(Effect::Bind(name, bound))
     }
 
-    /// What an assignment of these values comes to.
+    /// The effect of an assignment, for the values of its parts.
     fn assign(
         &mut self,
         value: Value,
@@ -86,13 +89,17 @@ impl Evaluator<'_> {
         let operand = operand_in(self.session, &value);
         let found = assignment_target(self.session, &operand, target, index)?;
         match target {
-            Value::Number(_) => Err(Stop::Refused(not_an_array())),
+            Value::Number(_) => {
+                discard_target(found);
+                discard(value);
+                Err(Stop::Refused(not_an_array()))
+            }
             Value::Array(array) => Ok(store_effect(array.base, found, value)),
             Value::Row(row) => Ok(store_effect(row.base, found, value)),
         }
     }
 
-    /// What an assignment comes to: the value, the target and the index are evaluated in this order.
+    /// The effect of an assignment. Value, target and index are evaluated in this order.
     fn assignment_effect(
         &mut self,
         target: &Expr,
@@ -113,18 +120,20 @@ impl Evaluator<'_> {
         self.assign(written, &target, &index)
     }
 
-    /// What a deletion comes to.
+    /// The effect of a deletion.
     fn deletion_effect(&mut self, name: &str) -> Result<Effect, Stop>
         ensures effect { EvaluatesEffect result self.old (meaning.meaning (Delete name.now))
             self.new }
         ensures ready { IfOk result (IsReady (session_of self.new)) }
     {
-        let _bound = self.look_up(name)?;
+        // the name must be bound, and is noted as looked up
+        let bound = self.look_up(name)?;
+        discard(bound);
         let name = String::from_str(self.session.allocator(), name)?;
         Ok(Effect::Unbind(name))
     }
 
-    /// What `print` comes to.
+    /// The effect of `print`: none on the session, but its text.
     fn print_effect(&mut self, exprs: &[Expr]) -> Result<Effect, Stop>
         requires { (session_of self.old).next + tokens_of_all (map expr_of exprs.now) < 2 ^ 64 }
         ensures effect { EvaluatesEffectInLimit result self.old
@@ -139,7 +148,7 @@ impl Evaluator<'_> {
         Ok(Effect::Print(line))
     }
 
-    /// What a statement comes to.
+    /// The effect of a statement.
     fn stmt_effect(&mut self, stmt: &Stmt) -> Result<Effect, Stop>
         requires { (session_of self.old).next + tokens_of_stmt (stmt_of stmt.now) < 2 ^ 64 }
         ensures effect { EvaluatesEffectInLimit result self.old
@@ -161,7 +170,7 @@ impl Evaluator<'_> {
     }
 }
 
-/// Does it, and gives what the cell gets of it.
+/// Carries an effect out, and returns what the cell gets of it.
 fn do_effect(session: &mut Session, effect: Effect) -> Result<Output, OutOfMemory>
     requires { IsReady (live session.old) effect }
     ensures output { IfOk result (λ o. output_of o
@@ -169,25 +178,67 @@ fn do_effect(session: &mut Session, effect: Effect) -> Result<Output, OutOfMemor
     ensures done { OnOk result (live session.new
         ≡ running.done (effect_of (live session.old).bytes effect) (live session.old)) }
 {
-    let mut text = String::new(session.allocator());
-    let mut save = None;
+    let alloc = session.allocator();
     match effect {
-        Effect::Nothing => {}
-        Effect::Print(line) => text = line,
-        Effect::Save(name, file) => save = Some((name, file)),
-        Effect::Bind(name, bound) => session.bind(name, bound)?,
-        Effect::Unbind(name) => session.unbind(name.as_str())?,
-        Effect::Store(target, value) => store(session, &target, &value)?,
-        Effect::Scatter(base, selection, value) => scatter(session, base, &selection, &value)?,
-        Effect::Update(kind, op, target, value) => update(session, op, kind, &target, &value)?,
+        Effect::Nothing => Ok(no_output(alloc)),
+        Effect::Print(text) => Ok(Output { text, save: None }),
+        Effect::Save(name, file) => Ok(Output {
+            text: String::new(alloc),
+            save: Some((name, file)),
+        }),
+        Effect::Bind(name, bound) => {
+            session.bind(name, bound)?;
+            Ok(no_output(alloc))
+        }
+        Effect::Unbind(name) => {
+            let done = session.unbind(name.as_str());
+            discard_text(name);
+            done?;
+            Ok(no_output(alloc))
+        }
+        Effect::Store(target, value) => {
+            let done = store(session, &target, &value);
+            discard_array(target);
+            discard(value);
+            done?;
+            Ok(no_output(alloc))
+        }
+        Effect::Scatter(base, selection, value) => {
+            let done = scatter(session, base, &selection, &value);
+            discard_selection(selection);
+            discard(value);
+            done?;
+            Ok(no_output(alloc))
+        }
+        Effect::Update(kind, op, target, value) => {
+            let done = update(session, op, kind, &target, &value);
+            discard_array(target);
+            discard(value);
+            done?;
+            Ok(no_output(alloc))
+        }
         Effect::UpdateChosen(kind, op, base, selection, copy, value) => {
-            update_chosen(session, op, kind, base, &selection, &copy, &value)?;
+            let done = update_chosen(session, op, kind, base, &selection, &copy, &value);
+            discard_selection(selection);
+            discard_array(copy);
+            discard(value);
+            done?;
+            Ok(no_output(alloc))
         }
     }
-    Ok(Output { text, save })
 }
 
-/// What a statement comes to, evaluated over a session.
+/// Nothing for the cell.
+fn no_output(alloc: Global) -> Output
+    ensures { output_of result ≡ running.output running.Nothing }
+{
+    Output {
+        text: String::new(alloc),
+        save: None,
+    }
+}
+
+/// The effect of a statement, evaluated over a session.
 fn evaluate_stmt(session: &mut Session, inputs: &Inputs, stmt: &Stmt) -> Result<Effect, Stop>
     requires { (live session.old).next + tokens_of_stmt (stmt_of stmt.now) < 2 ^ 64 }
     ensures effect { Ends (effect_of (live session.new).bytes) result (live session.new)
@@ -199,9 +250,10 @@ fn evaluate_stmt(session: &mut Session, inputs: &Inputs, stmt: &Stmt) -> Result<
     evaluator.stmt_effect(stmt)
 }
 
-/// Runs a statement: what it gives to its cell, or why it is refused. A refused statement binds, unbinds and writes
-/// nothing, yet it may have made bases. A text that no cell takes is refused here already, so that it is not built to its
-/// end.
+/// Runs a statement, and returns what it gives to its cell, or its refusal.
+///
+/// A refused statement binds, unbinds and writes nothing, yet it may have made blocks. A text
+/// longer than any cell may print is refused at once, so that it is never built whole.
 pub fn run_stmt(
     session: &mut Session,
     inputs: &Inputs,

@@ -1,11 +1,11 @@
-//! Arrays of inputs, and arrays that are saved.
+//! `np.load`, `buffer` and `np.save` in a running cell.
 
 ghost use Rattle.std.specs.Prelude.{◌+◌, ◌<◌, ◌^◌, IfOk};
-ghost use Rattle.nd_model.specs.Meaning as meaning;
-ghost use Rattle.nd_model.specs.Operation as operation;
-ghost use Rattle.nd_model.specs.Syntax.{Save};
-ghost use Rattle.nd_model.specs.Tokens.{tokens_of};
-ghost use Rattle.nd_syntax.specs.Syntax.{expr_of};
+ghost use Rattle.nd_model.specs.Cells.Meaning as meaning;
+ghost use Rattle.nd_model.specs.Cells.Operation as operation;
+ghost use Rattle.nd_model.specs.Grammar.Syntax.{Save};
+ghost use Rattle.nd_model.specs.Grammar.Tokens.{tokens_of};
+ghost use Rattle.nd_syntax.specs.Trees.Syntax.{expr_of};
 ghost use Rattle.nd_heap.specs.Values.{value_of};
 ghost use Rattle.nd_files.specs.Loads.{load_by};
 ghost use Rattle.nd_eval.specs.Effects.{EvaluatesEffect, IsReady};
@@ -17,14 +17,14 @@ use crate::effect::Effect;
 use crate::evaluator::Evaluator;
 use crate::operation::{mark_operand, operand_in};
 use nd_files::{InputSort, load, save_file};
-use nd_input::find_input;
-use nd_operation::bad_argument;
-use nd_refusal::Stop;
-use nd_session::{Value, is_input_name};
-use nd_syntax::Expr;
+use nd_operation::operators::bad_argument;
+use nd_operation::refusals::Stop;
+use nd_session::inputs::find_input;
+use nd_session::session::{Value, is_input_name};
+use nd_syntax::trees::Expr;
 
 impl Evaluator<'_> {
-    /// What is made of an input, which is read also where it is then refused.
+    /// Returns a new array of an input. It is noted as asked for, also where it is then refused.
     pub(crate) fn input_value(&mut self, sort: InputSort, name: &str) -> Result<Value, Stop>
         requires { (session_of self.old).next + 1 < 2 ^ 64 }
         ensures { Evaluates value_of result self.old
@@ -39,7 +39,7 @@ impl Evaluator<'_> {
         self.give(new)
     }
 
-    /// What saving a value comes to.
+    /// The effect of saving a value.
     fn save(&mut self, name: &str, value: &Value) -> Result<Effect, Stop>
         requires { IsHeld (session_of self.old) value.now }
         ensures effect { EvaluatesEffect result self.old
@@ -54,7 +54,7 @@ impl Evaluator<'_> {
         Ok(Effect::Save(name, file))
     }
 
-    /// What `np.save` comes to.
+    /// Returns the effect of `np.save`.
     pub(crate) fn save_effect(&mut self, name: &str, expr: &Expr) -> Result<Effect, Stop>
         requires { (session_of self.old).next + tokens_of (expr_of expr.now) < 2 ^ 64 }
         ensures effect { EvaluatesEffect result self.old

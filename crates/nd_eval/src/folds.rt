@@ -1,7 +1,7 @@
-//! Folds of values: reductions and accumulations, whose axis is found.
+//! Reductions and accumulations of values, once their axis is found.
 
 ghost use Rattle.std.specs.Prelude.{◌+◌, ◌<◌, ◌^◌};
-ghost use Rattle.nd_model.specs.Meaning.{along};
+ghost use Rattle.nd_model.specs.Cells.Meaning.{along};
 ghost use Rattle.nd_heap.specs.Values.{value_of};
 ghost use Rattle.nd_fold.specs.Folds.{made_of_fold};
 ghost use Rattle.nd_eval.specs.Ends.{Evaluates, session_of};
@@ -11,11 +11,11 @@ ghost use Rattle.nd_eval.specs.Uses.{IsHeld};
 use crate::evaluator::Evaluator;
 use crate::operation::{mark_operand, operand_in};
 use nd_fold::{Folding, make_fold, make_fold_along};
-use nd_refusal::Stop;
-use nd_session::Value;
+use nd_operation::refusals::Stop;
+use nd_session::session::Value;
 
 impl Evaluator<'_> {
-    /// What a fold gives of a value that was found before, along this axis or of all numbers.
+    /// Returns the reduction or accumulation of a value, along this axis or of all numbers.
     pub(crate) fn fold_value(
         &mut self,
         folding: Folding,
@@ -33,7 +33,7 @@ impl Evaluator<'_> {
         self.give(new)
     }
 
-    /// What a fold gives of a value along the axis that another value is.
+    /// Returns the reduction or accumulation of a value along the axis that another value is.
     pub(crate) fn fold_along(
         &mut self,
         folding: Folding,

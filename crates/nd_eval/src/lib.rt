@@ -1,7 +1,8 @@
-//! Statements, evaluated over a session.
+//! Statements, evaluated over a session: [`run_stmt`] is the only way in.
 #![tactic(auto)]
 
 mod augment;
+mod discard;
 mod effect;
 mod eval;
 mod evaluator;
@@ -12,7 +13,7 @@ mod operation;
 mod views;
 
 pub use exec::{Output, run_stmt};
-pub use nd_refusal::{
+pub use nd_operation::refusals::{
     FormatFault, IndexFault, NpyFault, ReduceFault, ShapeFault, StmtError, StmtFault, UfuncFault,
     ViewFault,
 };

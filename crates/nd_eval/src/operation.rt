@@ -1,29 +1,29 @@
-//! Operations: how values become operands, and results become values.
+//! How values become operands, and results become values: `operand_in` and `give`.
 
 ghost use Rattle.std.specs.Prelude.{◌≡◌, Bool, ◌+◌, ◌<◌, ◌^◌, [], length, IfOk, OnOk, slice_index};
-ghost use Rattle.nd_model.specs.Operand as model;
-ghost use Rattle.nd_model.specs.Operand.{ACopy};
-ghost use Rattle.nd_model.specs.Operation as operation;
-ghost use Rattle.nd_model.specs.Sound.{LiesIn};
-ghost use Rattle.nd_model.specs.View.{Geo};
+ghost use Rattle.nd_model.specs.Making.Operand as model;
+ghost use Rattle.nd_model.specs.Making.Operand.{ACopy};
+ghost use Rattle.nd_model.specs.Cells.Operation as operation;
+ghost use Rattle.nd_model.specs.Cells.Sound.{LiesIn};
+ghost use Rattle.nd_model.specs.Arrays.View.{Geo};
 ghost use Rattle.nd_heap.specs.Values.{base_of, geo_of, value_of};
-ghost use Rattle.nd_session.specs.Live.{live};
-ghost use Rattle.nd_operation.specs.Contents.{operand_of};
+ghost use Rattle.nd_session.specs.Session.Live.{live};
+ghost use Rattle.nd_operation.specs.Operators.Contents.{operand_of};
 ghost use Rattle.nd_eval.specs.Contents.{operands_of};
 ghost use Rattle.nd_eval.specs.Ends.{Evaluates, session_of};
-ghost use Rattle.nd_choice.specs.Indexing.{CopyLies, IsCopyOf, IsOne, chosen_of};
-ghost use Rattle.nd_choice.specs.Selections.{selected};
-ghost use Rattle.nd_operation.specs.New.{given};
+ghost use Rattle.nd_select.specs.Choosing.Indexing.{CopyLies, IsCopyOf, IsOne, chosen_of};
+ghost use Rattle.nd_select.specs.Choosing.Selections.{selected};
+ghost use Rattle.nd_operation.specs.Operators.New.{given};
 ghost use Rattle.nd_eval.specs.Uses.{IsHeld, AreHeld, item_marked, items_marked, index_marked};
 ghost use Rattle.nd_eval.specs.Uses.{HasTypeOf, IsOfType, marked, all_marked};
 ghost use Rattle.nd_eval.specs.Uses.{operand_over, operands_over};
 
 use crate::evaluator::Evaluator;
-use nd_choice::{Chosen, IndexValue, ItemValue, Selection, copy_selection};
 use nd_element::number_in;
-use nd_operation::{Elements, New, Operand};
-use nd_refusal::Stop;
-use nd_session::{Array, Base, OutOfMemory, Session, Value};
+use nd_operation::operators::{BorrowedArray, New, Operand};
+use nd_operation::refusals::Stop;
+use nd_select::choosing::{Chosen, IndexValue, ItemValue, Selection, copy_selection};
+use nd_session::session::{Array, Base, OutOfMemory, Session, Value};
 use nd_types::{ElemType, Num};
 use nd_view::View;
 use std::alloc::AllocError;
@@ -41,7 +41,7 @@ pub(crate) fn mark_operand(session: &mut Session, value: &Value) -> Result<(), O
     Ok(())
 }
 
-/// Notes that all elements of an item of an index are used, if it is an array. A row is none.
+/// Notes that all elements of an item of an index are used, if it is an array.
 fn mark_item(session: &mut Session, item: &Value) -> Result<(), OutOfMemory>
     ensures { OnOk result (live session.new ≡ item_marked item.now (live session.old)) }
 {
@@ -83,19 +83,19 @@ pub(crate) fn mark_operands(session: &mut Session, values: &[Value]) -> Result<(
     Ok(())
 }
 
-/// The operand that a value is. It notes nothing: that was done before.
+/// Returns the operand that a value is. It notes nothing: `mark_operand` does.
 pub(crate) fn operand_in<'v>(session: &'v Session, value: &'v Value) -> Operand<'v>
     requires { IsHeld (live session.now) value.now }
     ensures { operand_of result ≡ operand_over (live session.now).bytes value.now }
 {
     match value {
         Value::Number(number) => Operand::Number(*number),
-        Value::Array(array) => Operand::Elements(Elements {
+        Value::Array(array) => Operand::Elements(BorrowedArray {
             view: &array.view,
             block: session.bytes(array.base),
             is_row: false,
         }),
-        Value::Row(row) => Operand::Elements(Elements {
+        Value::Row(row) => Operand::Elements(BorrowedArray {
             view: &row.view,
             block: session.bytes(row.base),
             is_row: true,
@@ -103,7 +103,7 @@ pub(crate) fn operand_in<'v>(session: &'v Session, value: &'v Value) -> Operand<
     }
 }
 
-/// The operands that values are.
+/// Returns the operands that values are.
 pub(crate) fn operands_in<'v>(
     session: &'v Session,
     values: &'v [Value],
@@ -120,7 +120,7 @@ pub(crate) fn operands_in<'v>(
 }
 
 impl Evaluator<'_> {
-    /// Gives what a call made. An array gets a new base.
+    /// Returns the value of a result. An array gets a block of its own.
     pub(crate) fn give(&mut self, new: New) -> Result<Value, Stop>
         requires { (session_of self.old).next + 1 < 2 ^ 64 }
         ensures { Evaluates value_of result self.old (given new) self.new }
@@ -134,13 +134,15 @@ impl Evaluator<'_> {
         }
     }
 
-    /// Gives an element that was chosen in a base: a NumPy scalar, or a row, which uses none of its bytes.
+    /// The value of one selected element of a block: a NumPy scalar, or a row, none of whose bytes
+    /// is used.
     fn element_value(&mut self, base: Base, view: View) -> Result<Value, Stop>
         requires { view.shape ≡ [] }
         ensures { Evaluates value_of result self.old (operation.element_of (base_of base)
             view.writable view.element (slice_index view.places 0)) self.new }
     {
-        // Says that there is one element, in the limits of arrays.
+        // proof: there is one element, within the limits of arrays, by the clauses of count() and
+        // shape().
         let _count = view.count();
         let _shape = view.shape();
         match view.elem() {
@@ -156,7 +158,7 @@ impl Evaluator<'_> {
         }
     }
 
-    /// Gives a copy of the elements that an index with arrays chose in a base.
+    /// A copy of the elements of a block that an advanced index selects.
     fn copy_chosen(&mut self, base: Base, selection: &Selection) -> Result<Value, Stop>
         requires lies { LiesIn (length ((session_of self.old).bytes (base_of base)))
             (selected selection.now) }
@@ -173,7 +175,7 @@ impl Evaluator<'_> {
         self.give(copy)
     }
 
-    /// Gives what was chosen of an array.
+    /// Returns the value of what was selected of an array.
     pub(crate) fn chosen_value(&mut self, array: &Array, chosen: Chosen) -> Result<Value, Stop>
         requires one { IsOne array.now.view.writable chosen }
         requires lies { CopyLies (length ((session_of self.old).bytes (base_of array.now.base)))
@@ -188,7 +190,7 @@ impl Evaluator<'_> {
         match chosen {
             Chosen::Element(view) => self.element_value(base, view),
             Chosen::View(view) => {
-                // Says that it is in the limits of arrays.
+                // proof: the shape is within the limits of arrays, by the clause of shape().
                 let _shape = view.shape();
                 Ok(Value::Array(Array { base, view }))
             }

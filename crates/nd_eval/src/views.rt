@@ -1,12 +1,12 @@
-//! Views of values: other axes, other shapes and other types, and `np.broadcast_to`.
+//! Views of values: other axes, shapes and dtypes, and `np.broadcast_to`.
 
 ghost use Rattle.std.specs.Prelude.{◌≡◌, ◌+◌, ◌<◌, ◌^◌, map};
-ghost use Rattle.nd_model.specs.Operand.{ACopy, AView};
-ghost use Rattle.nd_model.specs.Operation as operation;
-ghost use Rattle.nd_model.specs.Sound.{IsHeldView};
-ghost use Rattle.nd_model.specs.Tuple.{elements_of};
-ghost use Rattle.nd_model.specs.Viewing as viewing;
-ghost use Rattle.nd_syntax.specs.Calls.{dtype_of};
+ghost use Rattle.nd_model.specs.Making.Operand.{ACopy, AView};
+ghost use Rattle.nd_model.specs.Cells.Operation as operation;
+ghost use Rattle.nd_model.specs.Cells.Sound.{IsHeldView};
+ghost use Rattle.nd_model.specs.Arrays.Tuple.{elements_of};
+ghost use Rattle.nd_model.specs.Indexing.Viewing as viewing;
+ghost use Rattle.nd_syntax.specs.Trees.Calls.{dtype_of};
 ghost use Rattle.nd_heap.specs.Values.{base_of, geo_of, value_of};
 ghost use Rattle.nd_eval.specs.Contents.{viewing_of};
 ghost use Rattle.nd_eval.specs.Ends.{Evaluates, session_of};
@@ -16,11 +16,11 @@ ghost use Rattle.nd_eval.specs.Uses.{IsHeld, IsNoArray};
 
 use crate::evaluator::Evaluator;
 use crate::operation::{mark_operand, operand_in};
-use nd_choice::{Reshaped, reshape, stretch_element, stretch_view, transpose, view_as};
-use nd_operation::{Elements, copy_reshaped, not_an_array};
-use nd_refusal::Stop;
-use nd_session::{Array, Value};
-use nd_syntax::DType;
+use nd_operation::operators::{BorrowedArray, copy_reshaped, not_an_array};
+use nd_operation::refusals::Stop;
+use nd_select::choosing::{Reshaped, reshape, stretch_element, stretch_view, transpose, view_as};
+use nd_session::session::{Array, Value};
+use nd_syntax::trees::DType;
 use nd_view::View;
 
 /// A method that gives a view of an array.
@@ -28,19 +28,19 @@ use nd_view::View;
 pub(crate) enum ViewMethod<'t> {
     /// `.transpose(..)`, `.T`
     Transpose,
-    /// `.reshape(..)`, which copies where there is no such view.
+    /// `.reshape(..)`, which copies where no strides lead to the elements
     Reshape,
     /// `.view(t)`
     ViewAs(&'t DType),
 }
 
 impl Evaluator<'_> {
-    /// Gives a view of the array that was found before.
+    /// The value of a view of an array.
     fn seen_value(&mut self, found: &Value, view: View) -> Result<Value, Stop>
         ensures { Evaluates value_of result self.old
             (operation.choose_of (value_of found.now) (AView view)) self.new }
     {
-        // Says that it is in the limits of arrays.
+        // proof: the shape is within the limits of arrays, by the clause of shape().
         let _shape = view.shape();
         match found {
             Value::Number(_) => Err(Stop::Refused(not_an_array())),
@@ -72,7 +72,7 @@ impl Evaluator<'_> {
     {
         let alloc = self.session.allocator();
         self.session.mark_used(array)?;
-        let elements = Elements {
+        let elements = BorrowedArray {
             view: &array.view,
             block: self.session.bytes(array.base),
             is_row: false,
@@ -95,7 +95,7 @@ impl Evaluator<'_> {
         }
     }
 
-    /// `.view(t)` of a value, which has no expressions.
+    /// `.view(t)` of a value
     fn recast_value(
         &mut self,
         found: &Value,
@@ -110,7 +110,8 @@ impl Evaluator<'_> {
         self.seen_value(found, view)
     }
 
-    /// What a method that gives a view gives of a value, by the values of its expressions.
+    /// Returns the result of a method that gives a view, for a value and the values of the method's
+    /// expressions.
     pub(crate) fn view_value(
         &mut self,
         method: ViewMethod<'_>,
@@ -129,7 +130,7 @@ impl Evaluator<'_> {
         }
     }
 
-    /// `np.broadcast_to` of a number or a row, which is used: a view of a new array of the one element.
+    /// `np.broadcast_to` of a number or a row, which is used: a view of a new array of one element.
     fn stretch_element(&mut self, found: &Value, shape: &[Value]) -> Result<Value, Stop>
         requires alone { IsNoArray found.now }
         requires held { IsHeld (session_of self.old) found.now }
@@ -143,13 +144,13 @@ impl Evaluator<'_> {
         self.give(new)
     }
 
-    /// `np.broadcast_to` of an array, which is not used.
+    /// `np.broadcast_to` of an array, whose elements are not used.
     fn stretch_array(&mut self, array: &Array, shape: &[Value]) -> Result<Value, Stop>
         ensures { Evaluates value_of result self.old
             (parts.stretch (value_of (values.Array array.now)) (map value_of shape.now)) self.new }
     {
         let view = stretch_view(self.session.allocator(), array, shape)?;
-        // Says that it is in the limits of arrays.
+        // proof: the shape is within the limits of arrays, by the clause of shape().
         let _shape = view.shape();
         let base = array.base;
         Ok(Value::Array(Array { base, view }))

@@ -1,16 +1,16 @@
 -- What inputs give: new arrays in blocks of their own.
 use Rattle.std.specs.Prelude.{◌≡◌, ℕ, List, Option, Result, Ok, Err}
-use Rattle.nd_model.specs.Evaluation.{Refuses, ◌>>=◌, decide}
-use Rattle.nd_model.specs.Fault.{Fault, Stmt, NoInput}
-use Rattle.nd_model.specs.Files as files
-use Rattle.nd_model.specs.Operand.{Loaded}
-use Rattle.nd_model.specs.Operation.{give_loaded}
-use Rattle.nd_model.specs.Running.{Source}
-use Rattle.nd_operation.specs.declared.operand.New.{New}
-use Rattle.nd_refusal.specs.declared.stop.Stop.{Stop}
-use Rattle.nd_refusal.specs.declared.stop.Stop.TheVariants.{Memory, Refused}
-use Rattle.nd_refusal.specs.Faults.{fault_of}
-use Rattle.nd_operation.specs.New.{given}
+use Rattle.nd_model.specs.Cells.Evaluation.{Refuses, ◌>>=◌, decide}
+use Rattle.nd_model.specs.Cells.Fault.{Fault, Stmt, NoInput}
+use Rattle.nd_model.specs.Formats.Files as files
+use Rattle.nd_model.specs.Making.Operand.{Loaded}
+use Rattle.nd_model.specs.Cells.Operation.{give_loaded}
+use Rattle.nd_model.specs.Cells.Running.{Source}
+use Rattle.nd_operation.specs.declared.operators.operand.New.{New}
+use Rattle.nd_operation.specs.declared.refusals.stop.Stop.{Stop}
+use Rattle.nd_operation.specs.declared.refusals.stop.Stop.TheVariants.{Memory, Refused}
+use Rattle.nd_operation.specs.Refusals.Faults.{fault_of}
+use Rattle.nd_operation.specs.Operators.New.{given}
 use Rattle.nd_files.specs.declared.inputs.InputSort.{InputSort}
 use Rattle.nd_files.specs.declared.inputs.InputSort.TheVariants.{File, Buffer}
 

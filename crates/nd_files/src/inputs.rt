@@ -1,30 +1,30 @@
-//! Arrays of inputs.
+//! `load`: an input as an array, for `np.load` and `buffer`.
 
 ghost use Rattle.std.specs.Prelude.{◌≡◌, option_map};
-ghost use Rattle.nd_model.specs.Files as files;
-ghost use Rattle.nd_model.specs.FormatReading.{read_format};
-ghost use Rattle.nd_model.specs.NpyReading as reading;
-ghost use Rattle.nd_input.specs.Values.{source_of};
+ghost use Rattle.nd_model.specs.Formats.Files as files;
+ghost use Rattle.nd_model.specs.Formats.FormatReading.{read_format};
+ghost use Rattle.nd_model.specs.Formats.NpyReading as reading;
+ghost use Rattle.nd_session.specs.Inputs.Values.{source_of};
 ghost use Rattle.nd_files.specs.Loads.{LoadsNew, RefusesInput, load_by};
 
 use nd_block::RawBlock;
-use nd_input::Input;
-use nd_npy::read_npy;
-use nd_operation::New;
-use nd_pep::parse_format;
-use nd_refusal::{StmtError, StmtFault, Stop};
+use nd_npy::header::read_npy;
+use nd_npy::pep3118::parse_format;
+use nd_operation::operators::New;
+use nd_operation::refusals::{StmtError, StmtFault, Stop};
+use nd_session::inputs::Input;
 use nd_view::View;
 use std::alloc::Global;
 use std::rc::Rc;
 
-/// The sort of input that a call takes: an NPY file, or a strided buffer (PEP 3118).
+/// The form of input that a call takes: an NPY file, or a strided buffer (PEP 3118).
 #[derive(Clone, Copy)]
 pub enum InputSort {
     File,
     Buffer,
 }
 
-/// Refuses an input that is not there, or is of the other sort.
+/// Refuses an input that does not exist, or has the other form.
 fn refuse_input(alloc: Global, name: &str) -> Result<New, Stop>
     ensures { RefusesInput result name.now }
 {
@@ -32,7 +32,7 @@ fn refuse_input(alloc: Global, name: &str) -> Result<New, Stop>
     Err(Stop::Refused(StmtFault::Stmt(StmtError::NoInput(name))))
 }
 
-/// A new array of what an NPY file holds, in C order.
+/// A new contiguous array of an NPY file.
 fn file_array(alloc: Global, bytes: &[u8]) -> Result<New, Stop>
     ensures { LoadsNew result (files.file_array (reading.read_npy bytes.now)) }
 {
@@ -40,7 +40,7 @@ fn file_array(alloc: Global, bytes: &[u8]) -> Result<New, Stop>
     Ok(New::Array(array.view, array.block))
 }
 
-/// A new array over a copy of these bytes.
+/// A new array over a copy of a buffer's bytes.
 fn buffer_array(
     alloc: Global,
     format: &str,
@@ -60,8 +60,10 @@ fn buffer_array(
     }
 }
 
-/// `np.load` or `buffer`: a new array of the input of this name. It is refused where there is none of this sort; then for the first
-/// fault of the file (NumPy's description of the NPY format), or for that of the buffer's format and then of its view (PEP 3118).
+/// Returns a new array of the input of this name, for `np.load` or `buffer`.
+///
+/// Refused in this order: no input of this name and form; the first fault of the file (NumPy's
+/// description of the NPY format), or that of the buffer's format and then of its view (PEP 3118).
 pub fn load(
     alloc: Global,
     sort: InputSort,

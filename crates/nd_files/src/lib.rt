@@ -1,4 +1,4 @@
-//! Inputs as arrays, and arrays as files.
+//! Files: [`load`] makes an array of an input, [`save_file`] a file of an array.
 #![tactic(auto)]
 
 mod inputs;

@@ -1,20 +1,20 @@
-//! Arrays as files.
+//! `save_file`: an array as a file of its cell (`np.save`).
 
 ghost use Rattle.std.specs.Prelude.{◌≡◌, IfOk, Ok};
-ghost use Rattle.nd_model.specs.Files as files;
-ghost use Rattle.nd_model.specs.Operand.{Plain, SavesFile};
-ghost use Rattle.nd_operation.specs.Contents.{elements_operand, num_of, operand_of};
-ghost use Rattle.nd_refusal.specs.Ends.{Makes};
+ghost use Rattle.nd_model.specs.Formats.Files as files;
+ghost use Rattle.nd_model.specs.Making.Operand.{Plain, SavesFile};
+ghost use Rattle.nd_operation.specs.Operators.Contents.{elements_operand, num_of, operand_of};
+ghost use Rattle.nd_operation.specs.Refusals.Ends.{Makes};
 
 use nd_block::push_bytes;
-use nd_input::is_input_name;
-use nd_operation::{Elements, Operand, array_kind, bad_argument, whole_number};
-use nd_refusal::Stop;
-use nd_save::{write_elements, write_npy};
+use nd_npy::writing::{write_elements, write_npy};
+use nd_operation::operators::{BorrowedArray, Operand, array_kind, bad_argument, whole_number};
+use nd_operation::refusals::Stop;
+use nd_session::inputs::is_input_name;
 use nd_types::{Elem, ElemType, Num};
 use std::alloc::{AllocError, Global};
 
-/// The file of an array of one number without axes.
+/// The file of an array of one number, of shape ().
 fn number_file(alloc: Global, number: Num) -> Result<Vec<u8>, Stop>
     ensures { Makes (λ f. f.items) result (files.operand_file (Plain (num_of number))) }
 {
@@ -26,7 +26,7 @@ fn number_file(alloc: Global, number: Num) -> Result<Vec<u8>, Stop>
 }
 
 /// The file of elements as they are.
-fn elements_file(alloc: Global, elements: &Elements<'_>) -> Result<Vec<u8>, AllocError>
+fn elements_file(alloc: Global, elements: &BorrowedArray<'_>) -> Result<Vec<u8>, AllocError>
     ensures { IfOk result (λ f. files.operand_file (elements_operand elements.now) ≡ Ok f.items) }
 {
     elements.soundness();
@@ -34,8 +34,8 @@ fn elements_file(alloc: Global, elements: &Elements<'_>) -> Result<Vec<u8>, Allo
     Ok(file)
 }
 
-/// `np.save`: the NPY file of an array of the operand. It is refused where no file may have the name, and for a Python integer
-/// that an int64 does not take (NumPy's description of the NPY format).
+/// Returns the NPY file of an operand, for `np.save`. Refused in this order: a name that no file
+/// may have; a Python integer outside `int64` (NumPy's description of the NPY format).
 pub fn save_file(alloc: Global, name: &str, operand: &Operand<'_>) -> Result<Vec<u8>, Stop>
     ensures { Makes (λ f. SavesFile name.now f.items) result
         (files.save name.now (operand_of operand.now)) }

@@ -1,35 +1,35 @@
 -- The arrays of folds, and the number of one without axes.
 use Rattle.std.proofs.Common.{◌≡◌, ℕ, suc, ℤ, pos, ◌+ℤ◌, ◌||◌, take, Bool, true, false, not, List, length, Option, None, Some, Result, Ok, Err, refl, sym, ap, subst, ◌∙◌}
 use Rattle.std.specs.Prelude.{slice_index}
-use Rattle.nd_model.specs.Element.{Kind, IsValue, wrap}
-use Rattle.nd_model.specs.Calls.{Reduction}
-use Rattle.nd_model.specs.Elementwise.{Numbers, element_sort, little, numbers_made, operand_sort}
-use Rattle.nd_model.specs.Evaluation.{Refuses, ◌>>=◌, decide}
-use Rattle.nd_model.specs.Fault.{Fault, ViewFault, Reduce}
-use Rattle.nd_model.specs.ReduceFault.{EmptyReduce, NoAxis}
-use Rattle.nd_model.specs.Broadcast.{in_limits, unless_fault}
-use Rattle.nd_model.specs.Content.{Content}
-use Rattle.nd_model.specs.Operand.{Scalar, Operand, Plain, Elements, Made, shape_of}
-use Rattle.nd_model.specs.Operators.{is_zero}
-use Rattle.nd_model.specs.Operation.{give}
-use Rattle.nd_model.specs.Reductions.{accumulated_numbers, axis_in, fold_kind, folded, folds, kind_of_sort, lacks_numbers, lane, lane_length, numbers_of, prefix_folds, reduced_numbers, reduced_shape}
-use Rattle.nd_model.specs.Refusing as refusing
-use Rattle.nd_model.specs.Refusing.{when}
-use Rattle.nd_model.specs.Strides.{IsInLimits, limit_fault}
-use Rattle.nd_model.specs.Tuple.{elements_of, first_index}
-use Rattle.nd_model.specs.View.{Geo, One, item_size}
+use Rattle.nd_model.specs.Arrays.Element.{Kind, IsValue, wrap}
+use Rattle.nd_model.specs.Grammar.Calls.{Reduction}
+use Rattle.nd_model.specs.Making.Elementwise.{Numbers, element_sort, little, numbers_made, operand_sort}
+use Rattle.nd_model.specs.Cells.Evaluation.{Refuses, ◌>>=◌, decide}
+use Rattle.nd_model.specs.Cells.Fault.{Fault, ViewFault, Reduce}
+use Rattle.nd_model.specs.Making.ReduceFault.{EmptyReduce, NoAxis}
+use Rattle.nd_model.specs.Arrays.Broadcast.{in_limits, unless_fault}
+use Rattle.nd_model.specs.Arrays.Content.{Content}
+use Rattle.nd_model.specs.Making.Operand.{Scalar, Operand, Plain, Elements, Made, shape_of}
+use Rattle.nd_model.specs.Making.Operators.{is_zero}
+use Rattle.nd_model.specs.Cells.Operation.{give}
+use Rattle.nd_model.specs.Making.Reductions.{accumulated_numbers, axis_in, fold_kind, folded, folds, kind_of_sort, lacks_numbers, lane, lane_length, numbers_of, prefix_folds, reduced_numbers, reduced_shape}
+use Rattle.nd_model.specs.Cells.Refusing as refusing
+use Rattle.nd_model.specs.Cells.Refusing.{when}
+use Rattle.nd_model.specs.Arrays.Strides.{IsInLimits, limit_fault}
+use Rattle.nd_model.specs.Arrays.Tuple.{elements_of, first_index}
+use Rattle.nd_model.specs.Arrays.View.{Geo, One, item_size}
 use Rattle.nd_model.proofs.Values.{wrap_in_range}
-use Rattle.nd_reduce.specs.Made.{array_of, new_array}
-use Rattle.nd_reduce.specs.Faults.{Makes}
-use Rattle.nd_reduce.specs.declared.fault.ReduceFault.{ReduceFault}
-use Rattle.nd_reduce.specs.declared.fault.ReduceFault.TheVariants as fault
+use Rattle.nd_reduce.specs.Axes.Made.{array_of, new_array}
+use Rattle.nd_reduce.specs.Axes.Faults.{Makes}
+use Rattle.nd_reduce.specs.declared.axes.fault.AxisFault.{AxisFault}
+use Rattle.nd_reduce.specs.declared.axes.fault.AxisFault.TheVariants as fault
 use Rattle.nd_types.specs.declared.num.Num.{Num}
 use Rattle.nd_types.specs.declared.num.Num.TheVariants as num
-use Rattle.nd_operation.specs.declared.operand.New.TheVariants.{Number}
-use Rattle.nd_operation.specs.Contents.{number_made}
-use Rattle.nd_refusal.specs.declared.stop.Stop.{Stop}
-use Rattle.nd_operation.specs.Elementwise.{IsArrayOf}
-use Rattle.nd_operation.specs.New.{MakesNew, given}
+use Rattle.nd_operation.specs.declared.operators.operand.New.TheVariants.{Number}
+use Rattle.nd_operation.specs.Operators.Contents.{number_made}
+use Rattle.nd_operation.specs.declared.refusals.stop.Stop.{Stop}
+use Rattle.nd_operation.specs.Operators.Elementwise.{IsArrayOf}
+use Rattle.nd_operation.specs.Operators.New.{MakesNew, given}
 use Rattle.nd_fold.specs.Stops.{fold_stop}
 
 abbrev taken : {A : Type 0} → A → Result A Fault → A
@@ -136,10 +136,10 @@ refuses : (m : Result Made Fault) (f : Fault) → m ≡ Err f → (decide m >>= 
 refuses m f h = ap (λ m. decide m >>= give) h
 
 -- why there is no number
-pub not_reduced : {X : Type 0} (v : X → Made) (m : Result Made Fault) (f : ReduceFault) (s : Stop) → s ≡ fold_stop f → Makes v (Err f) m → MakesNew (Err s) m
+pub not_reduced : {X : Type 0} (v : X → Made) (m : Result Made Fault) (f : AxisFault) (s : Stop) → s ≡ fold_stop f → Makes v (Err f) m → MakesNew (Err s) m
 not_reduced v m f s is h = subst (λ s. MakesNew (Err s) m) (sym is) (at f h)
   where
-    at : (f : ReduceFault) → Makes v (Err f) m → MakesNew (Err (fold_stop f)) m
+    at : (f : AxisFault) → Makes v (Err f) m → MakesNew (Err (fold_stop f)) m
     at fault.Memory h = tt
     at fault.NotNumbers h = refuses m _ h
     at fault.NoAxis h = refuses m _ h
@@ -147,10 +147,10 @@ not_reduced v m f s is h = subst (λ s. MakesNew (Err s) m) (sym is) (at f h)
     at (fault.View f) h = refuses m _ h
 
 -- why there is no array
-pub not_folded : (r : Result Numbers Fault) (f : ReduceFault) (s : Stop) → s ≡ fold_stop f → Makes (λ (m : Geo × List ℕ). m) (Err f) (array_of r) → MakesNew (Err s) (numbers_made r)
+pub not_folded : (r : Result Numbers Fault) (f : AxisFault) (s : Stop) → s ≡ fold_stop f → Makes (λ (m : Geo × List ℕ). m) (Err f) (array_of r) → MakesNew (Err s) (numbers_made r)
 not_folded r f s is h = subst (λ s. MakesNew (Err s) (numbers_made r)) (sym is) (at f h)
   where
-    at : (f : ReduceFault) → Makes (λ (m : Geo × List ℕ). m) (Err f) (array_of r) → MakesNew (Err (fold_stop f)) (numbers_made r)
+    at : (f : AxisFault) → Makes (λ (m : Geo × List ℕ). m) (Err f) (array_of r) → MakesNew (Err (fold_stop f)) (numbers_made r)
     at fault.Memory h = tt
     at fault.NotNumbers h = refuses (numbers_made r) _ (not_made r _ h)
     at fault.NoAxis h = refuses (numbers_made r) _ (not_made r _ h)

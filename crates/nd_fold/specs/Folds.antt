@@ -1,9 +1,9 @@
 -- What folds make, as the definitions have it.
 use Rattle.std.specs.Prelude.{ℤ, Option, Result}
-use Rattle.nd_model.specs.Fault.{Fault}
-use Rattle.nd_model.specs.Operand.{Operand, Made}
-use Rattle.nd_model.specs.Reductions.{reduce_array, accumulate_array, reduce_call, accumulate_call}
-use Rattle.nd_syntax.specs.Calls.{accumulation_of, reduction_of, ufunc_of}
+use Rattle.nd_model.specs.Cells.Fault.{Fault}
+use Rattle.nd_model.specs.Making.Operand.{Operand, Made}
+use Rattle.nd_model.specs.Making.Reductions.{reduce_array, accumulate_array, reduce_call, accumulate_call}
+use Rattle.nd_syntax.specs.Trees.Calls.{accumulation_of, reduction_of, ufunc_of}
 use Rattle.nd_fold.specs.declared.folding.Folding.{Folding}
 use Rattle.nd_fold.specs.declared.folding.Folding.TheVariants.{Reduce, Accumulate, ReduceCall, AccumulateCall}
 

@@ -1,35 +1,35 @@
-//! Folds by their calls.
+//! `make_fold`: the result of a reduction or accumulation, by its call.
 
 ghost use Rattle.std.specs.Prelude.{◌≡◌, Some};
-ghost use Rattle.nd_model.specs.Meaning.{along};
-ghost use Rattle.nd_model.specs.Reductions as reductions;
-ghost use Rattle.nd_syntax.specs.Calls.{accumulation_of, reduction_of, ufunc_of};
-ghost use Rattle.nd_operation.specs.Contents.{operand_of};
-ghost use Rattle.nd_refusal.specs.Ends.{Says};
-ghost use Rattle.nd_operation.specs.New.{MakesNew};
+ghost use Rattle.nd_model.specs.Cells.Meaning.{along};
+ghost use Rattle.nd_model.specs.Making.Reductions as reductions;
+ghost use Rattle.nd_syntax.specs.Trees.Calls.{accumulation_of, reduction_of, ufunc_of};
+ghost use Rattle.nd_operation.specs.Operators.Contents.{operand_of};
+ghost use Rattle.nd_operation.specs.Refusals.Ends.{Says};
+ghost use Rattle.nd_operation.specs.Operators.New.{MakesNew};
 ghost use Rattle.nd_fold.specs.Folds.{made_of_fold};
 
 use crate::numbers::{accumulate_elements, reduce_elements, reduce_scalar, scalar_of};
-use nd_operation::{New, Operand, bad_argument, not_an_array};
-use nd_refusal::{ReduceFault, StmtFault, Stop};
-use nd_syntax::{Accumulation, Reduction, Ufunc};
+use nd_operation::operators::{New, Operand, bad_argument, not_an_array};
+use nd_operation::refusals::{ReduceFault, StmtFault, Stop};
+use nd_syntax::trees::{Accumulation, Reduction, Ufunc};
 use nd_types::{ElemType, Num};
 use std::alloc::Global;
 
-/// A fold of the numbers of a value, as a statement calls it.
+/// A reduction or accumulation, as a statement calls it.
 #[derive(Clone, Copy)]
 pub enum Folding {
-    /// `x.sum()` and the like. Whether the axis is kept with length 1.
+    /// `x.sum()` and the like, and whether `keepdims` is true.
     Reduce(Reduction, bool),
     /// `x.cumsum()`, `x.cumprod()`
     Accumulate(Accumulation),
-    /// `np.add.reduce(x)` and the like. Whether the axis is kept with length 1.
+    /// `np.add.reduce(x)` and the like, and whether `keepdims` is true.
     ReduceCall(Ufunc, bool),
     /// `np.add.accumulate(x)` and the like.
     AccumulateCall(Ufunc),
 }
 
-/// The axis that is written: a Python integer.
+/// The axis that is written, a Python integer.
 fn axis_number(axis: &Operand<'_>) -> Result<i128, StmtFault>
     ensures { Says (λ z. z) result (reductions.axis_number (operand_of axis.now)) }
 {
@@ -39,7 +39,7 @@ fn axis_number(axis: &Operand<'_>) -> Result<i128, StmtFault>
     }
 }
 
-/// The reduction that goes by the name of a universal function.
+/// The reduction of a universal function.
 fn ufunc_reduction(ufunc: Ufunc) -> Reduction
     ensures { reduction_of result ≡ reductions.ufunc_reduction (ufunc_of ufunc) }
 {
@@ -51,7 +51,7 @@ fn ufunc_reduction(ufunc: Ufunc) -> Reduction
     }
 }
 
-/// The reduction of the first numbers, as many as there are so far.
+/// The reduction of an accumulation.
 fn accumulation_reduction(accumulation: Accumulation) -> Reduction
     ensures { reduction_of result
         ≡ reductions.accumulation_reduction (accumulation_of accumulation) }
@@ -102,7 +102,7 @@ fn accumulate_array(
     }
 }
 
-/// `np.add.reduce(x, ..)` and the like, where Python's numbers count as NumPy's.
+/// `np.add.reduce(x, ..)` and the like, for which Python's numbers count as NumPy's.
 fn reduce_call(
     alloc: Global,
     ufunc: Ufunc,
@@ -125,7 +125,7 @@ fn reduce_call(
     }
 }
 
-/// `np.add.accumulate(x, ..)` and the like. A value without axes has none along which it is accumulated.
+/// `np.add.accumulate(x, ..)` and the like. A value without axes cannot be accumulated.
 fn accumulate_call(
     alloc: Global,
     ufunc: Ufunc,
@@ -150,9 +150,11 @@ fn accumulate_call(
     accumulate_elements(alloc, ufunc_reduction(ufunc), elements, axis)
 }
 
-/// Returns what a fold makes of an operand, along this axis or of all numbers. It refuses in this order: `NotAnArray` where a method
-/// is of no array, and of no NumPy scalar where it reduces; `NeedsType` for a Python integer that int64 does not take;
-/// `Reduce.NotNumbers`, `Reduce.NoAxis`, `Reduce.EmptyReduce`, the limits of arrays.
+/// Returns the reduction or accumulation of an operand, along this axis or of all numbers.
+///
+/// Refused in this order: `NotAnArray` for a method of no array, and of no NumPy scalar where it
+/// reduces; `NeedsType` for a Python integer outside `int64`; `Reduce.NotNumbers`, `Reduce.NoAxis`,
+/// `Reduce.EmptyReduce`, the limits of arrays.
 pub fn make_fold(
     alloc: Global,
     folding: Folding,
@@ -171,8 +173,8 @@ pub fn make_fold(
     }
 }
 
-/// Returns what a fold makes of an operand along the axis that another operand says. An axis that is no Python integer is refused
-/// first, with `BadArgument`.
+/// Returns the reduction or accumulation of an operand along the axis that another operand says. An
+/// axis that is no Python integer is refused first (`BadArgument`).
 pub fn make_fold_along(
     alloc: Global,
     folding: Folding,

@@ -1,5 +1,5 @@
-//! Folds of the numbers of an operand, as statements call them: reductions and accumulations (NumPy reference, `ndarray.sum` and the
-//! like, `ufunc.reduce`, `ufunc.accumulate`).
+//! Reductions and accumulations as statements call them, [`make_fold`] (NumPy reference,
+//! `ndarray.sum` and the like, `ufunc.reduce`, `ufunc.accumulate`).
 #![tactic(auto)]
 
 mod folding;

@@ -1,38 +1,38 @@
-//! Folds of elements and of NumPy scalars.
+//! `reduce_elements` and `reduce_scalar`: reductions of arrays and of NumPy scalars.
 
 ghost use Rattle.std.specs.Prelude.{◌≡◌};
-ghost use Rattle.nd_model.specs.Elementwise.{numbers_made};
-ghost use Rattle.nd_model.specs.Operand.{Plain, Scalar};
-ghost use Rattle.nd_model.specs.Operators as operators;
-ghost use Rattle.nd_model.specs.Reductions.{accumulated_numbers, reduced_numbers};
+ghost use Rattle.nd_model.specs.Making.Elementwise.{numbers_made};
+ghost use Rattle.nd_model.specs.Making.Operand.{Plain, Scalar};
+ghost use Rattle.nd_model.specs.Making.Operators as operators;
+ghost use Rattle.nd_model.specs.Making.Reductions.{accumulated_numbers, reduced_numbers};
 ghost use Rattle.nd_types.specs.Kinds.{kind_of};
-ghost use Rattle.nd_syntax.specs.Calls.{reduction_of};
-ghost use Rattle.nd_operation.specs.Contents.{elements_operand, num_of};
-ghost use Rattle.nd_refusal.specs.Ends.{Says};
-ghost use Rattle.nd_operation.specs.New.{MakesNew};
+ghost use Rattle.nd_syntax.specs.Trees.Calls.{reduction_of};
+ghost use Rattle.nd_operation.specs.Operators.Contents.{elements_operand, num_of};
+ghost use Rattle.nd_operation.specs.Refusals.Ends.{Says};
+ghost use Rattle.nd_operation.specs.Operators.New.{MakesNew};
 ghost use Rattle.nd_fold.specs.Stops.{fold_stop, scalar_number};
 
-use nd_operation::{Elements, New, new_numbers};
-use nd_reduce::{ReduceFault, accumulate, reduce, reduce_number};
-use nd_refusal::{ReduceFault as Refusal, StmtError, StmtFault, Stop};
-use nd_syntax::Reduction;
+use nd_operation::operators::{BorrowedArray, New, new_numbers};
+use nd_operation::refusals::{ReduceFault as Refusal, StmtError, StmtFault, Stop};
+use nd_reduce::axes::{AxisFault, accumulate, reduce, reduce_number};
+use nd_syntax::trees::Reduction;
 use nd_types::{Kind, Num, fits};
 use std::alloc::Global;
 
-/// Why an evaluation stops where there is no fold.
-fn stop_of(fault: ReduceFault) -> Stop
+/// The refusal of a reduction, as a statement's.
+fn stop_of(fault: AxisFault) -> Stop
     ensures { result ≡ fold_stop fault }
 {
     match fault {
-        ReduceFault::Memory => Stop::Memory,
-        ReduceFault::NotNumbers => Stop::Refused(StmtFault::Reduce(Refusal::NotNumbers)),
-        ReduceFault::NoAxis => Stop::Refused(StmtFault::Reduce(Refusal::NoAxis)),
-        ReduceFault::EmptyReduce => Stop::Refused(StmtFault::Reduce(Refusal::EmptyReduce)),
-        ReduceFault::View(fault) => Stop::Refused(StmtFault::View(fault)),
+        AxisFault::Memory => Stop::Memory,
+        AxisFault::NotNumbers => Stop::Refused(StmtFault::Reduce(Refusal::NotNumbers)),
+        AxisFault::NoAxis => Stop::Refused(StmtFault::Reduce(Refusal::NoAxis)),
+        AxisFault::EmptyReduce => Stop::Refused(StmtFault::Reduce(Refusal::EmptyReduce)),
+        AxisFault::View(fault) => Stop::Refused(StmtFault::View(fault)),
     }
 }
 
-/// The NumPy scalar that a number counts as: a Python integer is an int64, if it fits.
+/// Returns the NumPy scalar that a number counts as: a Python integer is an `int64`, if it fits.
 pub(crate) fn scalar_of(number: Num) -> Result<(Kind, i128), StmtFault>
     ensures { Says scalar_number result (operators.numpy_number (num_of number)) }
 {
@@ -48,7 +48,7 @@ pub(crate) fn scalar_of(number: Num) -> Result<(Kind, i128), StmtFault>
     }
 }
 
-/// The fold of a NumPy scalar.
+/// Returns the reduction of a NumPy scalar.
 pub(crate) fn reduce_scalar(
     reduction: Reduction,
     _keepdims: bool,
@@ -65,12 +65,12 @@ pub(crate) fn reduce_scalar(
     }
 }
 
-/// The folds of elements along an axis, or of all of them.
+/// Returns the reduction of elements along an axis, or of all of them.
 pub(crate) fn reduce_elements(
     alloc: Global,
     reduction: Reduction,
     keepdims: bool,
-    elements: &Elements<'_>,
+    elements: &BorrowedArray<'_>,
     axis: Option<i128>,
 ) -> Result<New, Stop>
     ensures { MakesNew result (numbers_made (reduced_numbers (reduction_of reduction) axis
@@ -86,7 +86,7 @@ pub(crate) fn reduce_elements(
         elements.block,
     ) {
         Ok((view, block)) => {
-            // Says that it is in the limits of arrays.
+            // proof: the shape is within the limits of arrays, by the clause of shape().
             let _shape = view.shape();
             Ok(new_numbers(view, block))
         }
@@ -94,11 +94,11 @@ pub(crate) fn reduce_elements(
     }
 }
 
-/// The accumulation of elements along an axis, or of all of them.
+/// Returns the accumulation of elements along an axis, or of all of them.
 pub(crate) fn accumulate_elements(
     alloc: Global,
     reduction: Reduction,
-    elements: &Elements<'_>,
+    elements: &BorrowedArray<'_>,
     axis: Option<i128>,
 ) -> Result<New, Stop>
     ensures { MakesNew result (numbers_made (accumulated_numbers (reduction_of reduction) axis
@@ -107,7 +107,7 @@ pub(crate) fn accumulate_elements(
     elements.soundness();
     match accumulate(alloc, reduction, axis, elements.view, elements.block) {
         Ok((view, block)) => {
-            // Says that it is in the limits of arrays.
+            // proof: the shape is within the limits of arrays, by the clause of shape().
             let _shape = view.shape();
             Ok(new_numbers(view, block))
         }

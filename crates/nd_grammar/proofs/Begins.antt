@@ -1,10 +1,10 @@
 -- How texts and fronts begin.
 use Rattle.std.proofs.Common.{◌≡◌, ℕ, zero, suc, ◌<◌, true, false, List, [], length, refl, subst, ◌∙◌, arith, inl, inr, ◌⊎◌}
-use Rattle.nd_model.specs.Predict.{Look, look_then}
+use Rattle.nd_model.specs.Grammar.Predict.{Look, look_then}
 use Rattle.nd_model.proofs.Parsing.Sets.{true_false, next_left, next_right, also_left, also_right}
 use Rattle.nd_model.proofs.Parsing.Laws.{fits_then, fits_or, fits_many}
-use Rattle.nd_model.specs.Rules.{Rule, Nothing, One, Then, Or, Many, Part, kinds_of, Repeats, Spans, Reaches}
-use Rattle.nd_model.specs.RuleReading.{look, head, stands}
+use Rattle.nd_model.specs.Formats.Rules.{Rule, Nothing, One, Then, Or, Many, Part, kinds_of, Repeats, Spans, Reaches}
+use Rattle.nd_model.specs.Formats.RuleReading.{look, head, stands}
 
 -- A text is empty, or it begins with a token of `first`, and fewer parts are left after it.
 abbrev pub Front : Look → List Part → List Part → Type 0

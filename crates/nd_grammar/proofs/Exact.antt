@@ -2,8 +2,8 @@
 use Rattle.std.proofs.Common.{◌≡◌, ℕ, Bool, true, false, List, [], ◌∷◌, ◌++◌, length, refl, sym, ap, subst, ◌∙◌, arith, inl, inr}
 use Rattle.std.proofs.lemmas.List.{length-append, append-nil}
 use Rattle.nd_model.proofs.Parsing.Sets.{true_false, also_left, also_right}
-use Rattle.nd_model.specs.Rules.{Rule, Part, kinds_of, Spans, Reaches, Means, Opens, Stops}
-use Rattle.nd_model.specs.RuleReading.{look, head, stands, Step, Taken, Refused, Ended, step, Reading, is_ended, go_on, run, reading, ReadingIsExact}
+use Rattle.nd_model.specs.Formats.Rules.{Rule, Part, kinds_of, Spans, Reaches, Means, Opens, Stops}
+use Rattle.nd_model.specs.Formats.RuleReading.{look, head, stands, Step, Taken, Refused, Ended, step, Reading, is_ended, go_on, run, reading, ReadingIsExact}
 use Rattle.nd_grammar.proofs.Begins.{front, whole}
 use Rattle.nd_grammar.proofs.Moves.{cut, uncut, Goes, begun, skips, Moves, moves, comes_starts}
 use Rattle.nd_grammar.proofs.Steps.{sounds, firsts, AreFit, has_zero, keeps}

@@ -1,8 +1,8 @@
 -- What tokens come to is computed.
 use Rattle.std.proofs.Common.{◌≡◌, ℕ, Bool, true, false, List, refl, sym, ap, ◌∙◌}
-use Rattle.nd_model.specs.Rules.{Rule, Part}
-use Rattle.nd_model.specs.RuleReading.{look, Reading, reading}
-use Rattle.nd_model.specs.Judging.{IsReadAs, ComesTo, judged}
+use Rattle.nd_model.specs.Formats.Rules.{Rule, Part}
+use Rattle.nd_model.specs.Formats.RuleReading.{look, Reading, reading}
+use Rattle.nd_model.specs.Formats.Judging.{IsReadAs, ComesTo, judged}
 use Rattle.nd_grammar.proofs.Exact.{reading_is_exact}
 
 pub comes_judged : {X : Type 0} (r : Rule) (ts : List ℕ) (judge : List Part → Bool → X) (x : X) → (look r).fits ≡ true → ComesTo r ts judge x → judged r ts judge ≡ x

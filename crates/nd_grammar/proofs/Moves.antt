@@ -1,12 +1,12 @@
 -- One step of a reading, and the texts and the fronts of the rules that it begins.
 use Rattle.std.proofs.Common.{◌≡◌, ℕ, zero, suc, ◌<◌, Bool, true, false, cond, List, [], ◌∷◌, length, refl, sym, ap, subst, ◌∙◌, arith, inl, inr, ◌⊎◌}
 use Rattle.std.specs.Prelude.{bit_or}
-use Rattle.nd_model.specs.Grammar.{has}
-use Rattle.nd_model.specs.Predict.{apart}
+use Rattle.nd_model.specs.Grammar.Grammar.{has}
+use Rattle.nd_model.specs.Grammar.Predict.{apart}
 use Rattle.nd_model.proofs.Parsing.Sets.{true_false, and_true, apart_false, also_not_left, also_not_right, or_not_left, or_not_right}
 use Rattle.nd_model.proofs.Parsing.Laws.{fits_then, fits_or, fits_many}
-use Rattle.nd_model.specs.Rules.{Rule, Nothing, One, Then, Or, Many, Part, Repeats, Spans, Reaches}
-use Rattle.nd_model.specs.RuleReading.{look, head, stands, Step, Taken, Refused, step_by}
+use Rattle.nd_model.specs.Formats.Rules.{Rule, Nothing, One, Then, Or, Many, Part, Repeats, Spans, Reaches}
+use Rattle.nd_model.specs.Formats.RuleReading.{look, head, stands, Step, Taken, Refused, step_by}
 use Rattle.nd_grammar.proofs.Begins.{front, none, starts}
 
 -- ---- the rules that are still to be read

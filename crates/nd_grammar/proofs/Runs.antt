@@ -5,8 +5,8 @@ use Rattle.std.proofs.lemmas.List.{append-nil}
 use Rattle.std.proofs.lemmas.Bool.{eqb-true}
 use Rattle.nd_model.proofs.Parsing.Sets.{not_true, which}
 use Rattle.nd_model.proofs.Parsing.Laws.{fits_then, fits_or, fits_many}
-use Rattle.nd_model.specs.Rules.{Rule, Nothing, One, Then, Or, Many}
-use Rattle.nd_model.specs.RuleReading.{look, stands, Step, Taken, Refused, Ended, step_by, step, go_on, run}
+use Rattle.nd_model.specs.Formats.Rules.{Rule, Nothing, One, Then, Or, Many}
+use Rattle.nd_model.specs.Formats.RuleReading.{look, stands, Step, Taken, Refused, Ended, step_by, step, go_on, run}
 use Rattle.nd_grammar.specs.Reads.{roles_of, ahead}
 
 -- how a rule that isn't empty is read doesn't depend on what is behind it

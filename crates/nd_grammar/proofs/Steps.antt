@@ -4,12 +4,12 @@ use Rattle.std.specs.Prelude.{bit_or, ◌==◌, max}
 use Rattle.std.specs.Int.{bit_at}
 use Rattle.std.proofs.lemmas.Bool.{eqb-true}
 use Rattle.std.proofs.lemmas.Nat.Bits.{bit_at_or, bit_at-zero}
-use Rattle.nd_model.specs.Grammar.{has}
-use Rattle.nd_model.specs.Predict.{also}
+use Rattle.nd_model.specs.Grammar.Grammar.{has}
+use Rattle.nd_model.specs.Grammar.Predict.{also}
 use Rattle.nd_model.proofs.Parsing.Sets.{eq-true, true_false, which, chosen, next_left, next_right, next_apart, also_left, also_right}
 use Rattle.nd_model.proofs.Parsing.Laws.{fits_then, fits_or, fits_many}
-use Rattle.nd_model.specs.Rules.{Rule, Nothing, One, Then, Or, Many, Part}
-use Rattle.nd_model.specs.RuleReading.{look, head, stands, Step, Taken, Refused, Ended, step_by, step}
+use Rattle.nd_model.specs.Formats.Rules.{Rule, Nothing, One, Then, Or, Many, Part}
+use Rattle.nd_model.specs.Formats.RuleReading.{look, head, stands, Step, Taken, Refused, Ended, step_by, step}
 use Rattle.nd_grammar.proofs.Moves.{uncut, recut, Goes}
 
 -- ---- what is taken is a text, or a front

@@ -2,8 +2,8 @@
 use Rattle.std.specs.Prelude.{ℕ, Bool, false, List, ◌++◌, map, Option, Some, None}
 use Rattle.std.specs.Borrow.{Bor}
 use Rattle.nd_grammar.specs.declared.Rule as code
-use Rattle.nd_model.specs.Rules.{Rule, Nothing, One, Then, Or, Many, Part}
-use Rattle.nd_model.specs.RuleReading.{Reading, run}
+use Rattle.nd_model.specs.Formats.Rules.{Rule, Nothing, One, Then, Or, Many, Part}
+use Rattle.nd_model.specs.Formats.RuleReading.{Reading, run}
 
 abbrev pub rule_of : code.Rule → Rule
 rule_of code.Nothing = Nothing

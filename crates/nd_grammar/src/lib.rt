@@ -1,20 +1,21 @@
-//! Reading texts of small grammars, each written as a constant.
+//! Texts of small grammars, each written as a constant [`Rule`]: [`read`] gives the roles of their
+//! tokens.
 #![tactic(auto)]
 
 ghost use Rattle.std.specs.Prelude.{◌≡◌, ◌<◌, ◌≤◌, ◌∷◌, true, false, List, length, IfOk, IfSome};
 ghost use Rattle.std.specs.Option.{option_map};
-ghost use Rattle.nd_model.specs.Grammar.{has};
-ghost use Rattle.nd_model.specs.Rules as rules;
-ghost use Rattle.nd_model.specs.RuleReading.{look, stands, run, ReadingIsExact};
-ghost use Rattle.nd_model.specs.RuleReading as runs;
+ghost use Rattle.nd_model.specs.Grammar.Grammar.{has};
+ghost use Rattle.nd_model.specs.Formats.Rules as rules;
+ghost use Rattle.nd_model.specs.Formats.RuleReading.{look, stands, run, ReadingIsExact};
+ghost use Rattle.nd_model.specs.Formats.RuleReading as runs;
 ghost use Rattle.nd_grammar.specs.Reads.{rule_of, ahead, after, seen, rest_of};
 
 use std::alloc::{AllocError, Global};
 
-/// A set of kinds of tokens, by its bits.
+/// A set of kinds of tokens, one bit for each.
 pub type Kinds = u64;
 
-/// A grammar. Its texts are lists of tokens, each of which is known by its kind.
+/// A grammar. Its texts are lists of tokens, of which only the kinds matter.
 #[derive(Clone, Copy)]
 pub enum Rule<'g> {
     /// No token.
@@ -29,7 +30,7 @@ pub enum Rule<'g> {
     Many(Kinds, &'g Rule<'g>),
 }
 
-/// What was read of tokens: the roles of those that are the front of a text, and whether they are all of one.
+/// The roles of the tokens that are the front of a text, and whether they are all of one.
 #[derive(Debug, Drop)]
 pub struct Reading {
     pub roles: Vec<u8>,
@@ -51,14 +52,14 @@ fn next_in(set: Kinds, tokens: &[u8]) -> bool
     }
 }
 
-// Reads what stands there by the rule, and returns the tokens behind it, none where the next one is refused.
+// Reads the tokens by the rule, and returns those behind it, or `None` where one is refused.
 fn read_rule<'t>(
     rule: &Rule,
     tokens: &'t [u8],
     roles: &mut Vec<u8>,
 ) -> Result<Option<&'t [u8]>, AllocError>
     requires { (look (rule_of rule.now)).fits ≡ true }
-    // The rest is read by the rules that are to come, whichever they are.
+    // The rest is read by any rules that may follow.
     ensures read { IfOk result (λ o. (k : List rules.Rule)
         → ahead roles.old.items (run (rule_of rule.now ∷ k) tokens.now)
         ≡ after roles.new.items (rest_of o) k) }
@@ -99,7 +100,7 @@ fn read_rule<'t>(
     }
 }
 
-/// Reads the tokens by the rule, which one token of lookahead has to be enough for.
+/// Reads the tokens by the rule, for which one token of lookahead must be enough.
 pub fn read(alloc: Global, rule: &Rule, tokens: &[u8]) -> Result<Reading, AllocError>
     requires { (look (rule_of rule.now)).fits ≡ true }
     ensures read { IfOk result (λ r. (r.roles.items, r.whole)
@@ -114,7 +115,8 @@ pub fn read(alloc: Global, rule: &Rule, tokens: &[u8]) -> Result<Reading, AllocE
     Ok(Reading { roles, whole })
 }
 
-/// A law: what is read whole is a text of the rule, with its one meaning. Of other tokens the longest front of a text is read.
+/// A law: what is read whole is a text of the rule, with its one meaning. Otherwise the longest
+/// front of a text is read.
 pub fn reading_is_exact()
     ensures { ReadingIsExact }
 {}

@@ -1,8 +1,8 @@
 -- Heaps that are compared: names place by place, and the bytes of the bases that they hold.
 use Rattle.std.proofs.Common.{◌≡◌, ℕ, zero, suc, ◌+◌, true, ◌||◌, List, [], ◌∷◌, take, slice_get, Some, add-one, refl, sym, ap, ap₂, subst, ◌∙◌, inl, inr}
 use Rattle.std.proofs.lemmas.Bool.{cases_Bool}
-use Rattle.nd_model.specs.Value as model
-use Rattle.nd_model.specs.Session.{Names, is_held}
+use Rattle.nd_model.specs.Arrays.Value as model
+use Rattle.nd_model.specs.Cells.Session.{Names, is_held}
 use Rattle.nd_heap.proofs.Layering.{held_next}
 use Rattle.nd_heap.proofs.Plain.{none_some, some_same}
 

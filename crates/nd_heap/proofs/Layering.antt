@@ -1,8 +1,8 @@
 -- Names in layers.
 use Rattle.std.proofs.Common.{◌≡◌, ℕ, zero, suc, ◌+◌, ◌-◌, ◌≤◌, Bool, true, false, ◌||◌, cond, bytes_eq, List, [], ◌∷◌, ◌++◌, length, take, slice_get, Option, Some, None, is_some, option_map, unwrap_or, add-one, refl, sym, ap, ◌∙◌, inl, inr, arith}
 use Rattle.std.proofs.lemmas.Bool.{cases_Bool, or_parts, or_from}
-use Rattle.nd_model.specs.Value as model
-use Rattle.nd_model.specs.Session.{Names, lookup, bind, unbind, is_held}
+use Rattle.nd_model.specs.Arrays.Value as model
+use Rattle.nd_model.specs.Cells.Session.{Names, lookup, bind, unbind, is_held}
 use Rattle.nd_model.proofs.Lists.{lookup-bind, lookup-unbind, bytes_eq_same}
 use Rattle.nd_heap.specs.Layers.{overridden, AreDistinctNames}
 use Rattle.nd_heap.specs.Loose.{lies_in_found, LosesHolder}

@@ -2,9 +2,9 @@
 use Rattle.std.proofs.Common.{◌≡◌, ℕ, suc, zero, true, false, not, ◌&&◌, ◌||◌, cond, bytes_eq, List, [], ◌∷◌, length, drop, filter, Some, Global, refl, sym, ap, ◌∙◌, inl, inr}
 use Rattle.std.specs.declared.rc.RcStr.{RcStr}
 use Rattle.std.proofs.lemmas.Bool.{cases_Bool, or_parts, or_from, or_right}
-use Rattle.nd_model.specs.Value as model
-use Rattle.nd_model.specs.Session.{Names, lookup, bind, is_held}
-use Rattle.nd_model.specs.Running as running
+use Rattle.nd_model.specs.Arrays.Value as model
+use Rattle.nd_model.specs.Cells.Session.{Names, lookup, bind, is_held}
+use Rattle.nd_model.specs.Cells.Running as running
 use Rattle.nd_heap.specs.declared.value.Base.{Base}
 use Rattle.nd_heap.specs.Values.{base_of, names_of}
 use Rattle.nd_heap.specs.Contents.{bases_of}

@@ -3,7 +3,7 @@ use Rattle.std.proofs.Common.{◌≡◌, ℕ, suc, zero, Bool, true, false, ◌|
 use Rattle.std.specs.List.{AllZip}
 use Rattle.std.specs.Map.{lookup as find}
 use Rattle.std.proofs.lemmas.Bool.{cases_Bool}
-use Rattle.nd_model.specs.Value as model
+use Rattle.nd_model.specs.Arrays.Value as model
 use Rattle.nd_heap.specs.declared.value.Base.{Base}
 use Rattle.nd_heap.specs.Values.{base_of}
 use Rattle.nd_heap.specs.Contents.{bases_of, blocks_of}

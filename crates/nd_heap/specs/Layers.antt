@@ -1,7 +1,7 @@
 -- Names in layers: old ones, newer values of some of these, and names that were added behind them. Blocks that are there.
 use Rattle.std.specs.Prelude.{◌≡◌, ℕ, Bool, false, ◌||◌, List, [], ◌∷◌, None, unwrap_or}
-use Rattle.nd_model.specs.Value.{Base, same_base}
-use Rattle.nd_model.specs.Session.{Names, lookup}
+use Rattle.nd_model.specs.Arrays.Value.{Base, same_base}
+use Rattle.nd_model.specs.Cells.Session.{Names, lookup}
 
 -- the old names, each with its newer value where there is one
 abbrev pub overridden : (newer old : Names) → Names

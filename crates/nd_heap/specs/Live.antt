@@ -1,6 +1,6 @@
 -- The bytes of blocks, and bases that are among others.
 use Rattle.std.specs.Prelude.{ℕ, Bool, false, ◌||◌, List, [], ◌∷◌, if◌then◌else◌}
-use Rattle.nd_model.specs.Value.{Base, same_base}
+use Rattle.nd_model.specs.Arrays.Value.{Base, same_base}
 
 -- the bytes of a block, and none where there is no such block
 abbrev pub bytes_at : List (Base × List ℕ) → Base → List ℕ

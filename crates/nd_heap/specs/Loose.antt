@@ -1,7 +1,7 @@
 -- What contracts see of a heap, and what is true of it.
 use Rattle.std.specs.Prelude.{◌≡◌, ℕ, Bool, false, List, [], Option, Some, None}
-use Rattle.nd_model.specs.Value.{Base, Value, lies_in}
-use Rattle.nd_model.specs.Session.{Names, Session, is_held, lookup}
+use Rattle.nd_model.specs.Arrays.Value.{Base, Value, lies_in}
+use Rattle.nd_model.specs.Cells.Session.{Names, Session, is_held, lookup}
 use Rattle.nd_heap.specs.Live.{bytes_at, is_base_among}
 
 pub record HeapData : Type 0 where

@@ -1,8 +1,8 @@
-// Blocks in layers, so that a change copies few of them.
+//! `BlockTable`: blocks by base in two layers, so that a change copies few of them.
 
 ghost use Rattle.std.specs.Prelude.{◌≡◌, [], IfOk, IsTrue, OnErr, OnOk, if◌then◌else◌, true};
-ghost use Rattle.nd_model.specs.Running as running;
-ghost use Rattle.nd_model.specs.Value as values;
+ghost use Rattle.nd_model.specs.Cells.Running as running;
+ghost use Rattle.nd_model.specs.Arrays.Value as values;
 ghost use Rattle.nd_heap.specs.Contents.{bases_of, blocks_of, bytes_in};
 ghost use Rattle.nd_heap.specs.Live.{bytes_at, is_base_among};
 ghost use Rattle.nd_heap.specs.Values.{base_of, value_of};
@@ -31,7 +31,7 @@ pub(crate) struct BlockTable {
 
 impl Model for BlockTable {
     ghost use Rattle.std.specs.Prelude.{◌++◌, List, ℕ};
-    ghost use Rattle.nd_model.specs.Value.{Base};
+    ghost use Rattle.nd_model.specs.Arrays.Value.{Base};
 
     ghost Value = { List (Base × List ℕ) };
 
@@ -53,7 +53,7 @@ impl BlockTable {
         })
     }
 
-    /// The same blocks. No byte is copied.
+    /// A copy that shares every block: no byte is copied.
     pub(crate) fn try_clone(&self) -> Result<BlockTable, OutOfMemory>
         ensures { IfOk result (λ t. t ≡ self.now) }
     {

@@ -1,9 +1,9 @@
-// Blocks, which versions share.
+//! `Blocks`: one layer of blocks by base, each shared by the versions that have it.
 
 ghost use Rattle.std.specs.Prelude.{◌≡◌, ◌+◌, ◌≤◌, ◌^◌, ◌||◌, ◌&&◌, ◌++◌, not, [], IfOk, IsFalse, IsTrue, OnErr, OnOk, if◌then◌else◌};
-ghost use Rattle.nd_model.specs.Value as values;
-ghost use Rattle.nd_model.specs.Session as model;
-ghost use Rattle.nd_model.specs.Running as running;
+ghost use Rattle.nd_model.specs.Arrays.Value as values;
+ghost use Rattle.nd_model.specs.Cells.Session as model;
+ghost use Rattle.nd_model.specs.Cells.Running as running;
 ghost use Rattle.nd_heap.specs.Values.{base_of, value_of, names_of};
 ghost use Rattle.nd_heap.specs.Contents.{blocks_of, bases_of, bytes_in};
 ghost use Rattle.nd_heap.specs.Layers.{is_block_among};
@@ -76,7 +76,7 @@ pub(crate) fn write_block<W: BlockWriter + Drop>(
     Ok(())
 }
 
-/// The same for blocks that are shared, which are copied first.
+/// Writes to a block of a layer that is shared: the layer is copied first, and nothing is written where there is no such block.
 pub(crate) fn write<W: BlockWriter + Drop>(
     blocks: &mut Rc<Blocks>,
     base: Base,
@@ -178,7 +178,7 @@ pub(crate) fn remove_blocks(blocks: &mut Blocks, bases: &Bases)
     }
 }
 
-/// The same for blocks that are shared, which are copied first where one of them is to go.
+/// Takes the blocks of these bases out of a layer that is shared: the layer is copied first where one of them is to go.
 pub(crate) fn remove_shared(blocks: &mut Rc<Blocks>, bases: &Bases) -> Result<(), OutOfMemory>
     ensures ok { OnOk result ((b : values.Base)
         → bytes_at (blocks_of blocks.new.value.entries) b

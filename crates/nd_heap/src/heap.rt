@@ -1,10 +1,10 @@
-// Names with their values, and the blocks that they lie in.
+//! `Heap`: names with their values, and the blocks that arrays among these lie in.
 
 ghost use Rattle.std.specs.Prelude.{◌≡◌, ◌↔◌, ◌<◌, ◌||◌, [], IfOk, IsFalse, IsTrue, OnErr, OnOk, false, if◌then◌else◌, length, option_map, slice_get, true};
 ghost use Rattle.std.specs.Rc.{rc_str_bytes};
-ghost use Rattle.nd_model.specs.Value as values;
-ghost use Rattle.nd_model.specs.Session as model;
-ghost use Rattle.nd_model.specs.Running as running;
+ghost use Rattle.nd_model.specs.Arrays.Value as values;
+ghost use Rattle.nd_model.specs.Cells.Session as model;
+ghost use Rattle.nd_model.specs.Cells.Running as running;
 ghost use Rattle.nd_heap.specs.Values.{base_of, value_of};
 ghost use Rattle.nd_heap.specs.Contents.{bases_of, blocks_of, bytes_in};
 ghost use Rattle.nd_heap.specs.Live.{bytes_at, is_base_among};
@@ -102,7 +102,7 @@ impl Heap {
         })
     }
 
-    /// The same names and blocks. No name and no byte is copied.
+    /// A copy that shares names and blocks: no name and no byte is copied.
     pub fn try_clone(&self) -> Result<Heap, OutOfMemory>
         ensures { IfOk result (λ h. h ≡ self.now) }
     {

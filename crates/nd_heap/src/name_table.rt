@@ -1,9 +1,9 @@
-// Names in layers, so that a change copies few of them.
+//! `NameTable`: names in order with their values in layers, so that a change copies few of them.
 
 ghost use Rattle.std.specs.Prelude.{◌≡◌, ◌<◌, ◌↔◌, [], Some, IfOk, IsFalse, IsTrue, false, OnErr, OnOk, length, option_map, slice_get};
 ghost use Rattle.std.specs.Rc.{rc_str_bytes};
-ghost use Rattle.nd_model.specs.Session as model;
-ghost use Rattle.nd_model.specs.Value as values;
+ghost use Rattle.nd_model.specs.Cells.Session as model;
+ghost use Rattle.nd_model.specs.Arrays.Value as values;
 ghost use Rattle.nd_heap.specs.Contents.{bases_of};
 ghost use Rattle.nd_heap.specs.Layers.{AreDistinctNames};
 ghost use Rattle.nd_heap.specs.Live.{is_base_among};
@@ -34,7 +34,7 @@ pub(crate) struct NameTable {
 
 impl Model for NameTable {
     ghost use Rattle.std.specs.Prelude.{◌++◌, List, ℕ};
-    ghost use Rattle.nd_model.specs.Value as values;
+    ghost use Rattle.nd_model.specs.Arrays.Value as values;
 
     ghost Value = { List (List ℕ × values.Value) };
 
@@ -62,7 +62,7 @@ impl NameTable {
         })
     }
 
-    /// The same names.
+    /// A copy that shares the old names and each value.
     pub(crate) fn try_clone(&self) -> Result<NameTable, OutOfMemory>
         ensures { IfOk result (λ t. t ≡ self.now) }
     {

@@ -1,9 +1,9 @@
-// Names in order, with their values, which versions share.
+//! `Names`: one layer of names in order with their values, which versions share.
 
 ghost use Rattle.std.specs.Prelude.{◌≡◌, ◌↔◌, IsFalse, OnErr, OnOk, false, option_map};
 ghost use Rattle.std.specs.Rc.{rc_str_bytes};
-ghost use Rattle.nd_model.specs.Session as model;
-ghost use Rattle.nd_model.specs.Value as values;
+ghost use Rattle.nd_model.specs.Cells.Session as model;
+ghost use Rattle.nd_model.specs.Arrays.Value as values;
 ghost use Rattle.nd_heap.specs.Values.{base_of, value_of, names_of};
 
 use crate::memory::OutOfMemory;

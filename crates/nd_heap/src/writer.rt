@@ -1,4 +1,4 @@
-// What is written to a block.
+//! `BlockWriter`: what is written to a block, as a function of its bytes.
 
 ghost use Rattle.std.specs.Prelude.{◌≡◌, ℕ, List, length};
 

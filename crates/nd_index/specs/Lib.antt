@@ -1,6 +1,4 @@
-pub mod Counts
-pub mod Faults
-pub mod Inside
+pub mod Basic
+pub mod Advanced
 pub mod Items
-pub mod Packed
-pub mod Slices
+pub mod Offsets

@@ -1,9 +1,10 @@
-//! Bytes at the places of a set: whether two blocks have the same ones, and those of one block put into another.
+//! `is_same_words` and `patch_words`: compares and copies the bytes of blocks at marked byte
+//! offsets.
 ghost use Rattle.std.specs.Prelude.{◌≡◌, ℕ, ◌+◌, ◌-◌, ◌^◌, ◌<◌, ◌≤◌, ◌&&◌, ◌↔◌, if◌then◌else◌, IsTrue, true, nat_eq, nat_le, nat_lt, length, slice_index};
 ghost use Rattle.std.specs.Int.{bit_at};
 ghost use Rattle.nd_marks.specs.Marks.{has_bit, in_word};
 
-/// The byte at a place, 0 past the end.
+/// The byte at a byte offset, 0 past the end.
 fn byte_at(bytes: &[u8], place: u128) -> u8
     ensures { result ≡ slice_index bytes.now place }
 {
@@ -14,7 +15,7 @@ fn byte_at(bytes: &[u8], place: u128) -> u8
     }
 }
 
-/// Whether both have the same bytes at the places of a range that lies in both.
+/// Whether both have equal bytes in a range that lies in both.
 fn is_same_inside(a: &[u8], b: &[u8], start: usize, end: usize) -> bool
     requires { (start ≤ end) × (end ≤ length a.now) × (end ≤ length b.now) }
     ensures { IsTrue result
@@ -23,7 +24,7 @@ fn is_same_inside(a: &[u8], b: &[u8], start: usize, end: usize) -> bool
     a[start..end] == b[start..end]
 }
 
-/// Whether both have the same bytes at the places of a range, looked at one by one.
+/// Whether both have equal bytes in a range, compared one by one.
 fn is_same_outside(a: &[u8], b: &[u8], from: u128, to: u128) -> bool
     ensures { IsTrue result
         ↔ ((p : ℕ) → from ≤ p → p < to → slice_index a.now p ≡ slice_index b.now p) }
@@ -37,7 +38,7 @@ fn is_same_outside(a: &[u8], b: &[u8], from: u128, to: u128) -> bool
     true
 }
 
-/// Whether both have the same bytes at the places from one on, before another. A place past an end has a 0.
+/// Returns whether both have equal bytes in `from..to`. A byte past an end reads as 0.
 pub(crate) fn is_same_range(a: &[u8], b: &[u8], from: u128, to: u128) -> bool
     ensures { IsTrue result
         ↔ ((p : ℕ) → from ≤ p → p < to → slice_index a.now p ≡ slice_index b.now p) }
@@ -48,7 +49,7 @@ pub(crate) fn is_same_range(a: &[u8], b: &[u8], from: u128, to: u128) -> bool
     is_same_inside(a, b, start, end) && is_same_outside(a, b, from.max(both as u128), to)
 }
 
-/// Whether both have the same bytes at the places of a word's bits. A word of all bits is a range.
+/// Whether both have equal bytes at the set bits of a word. A word of all bits is a range.
 fn is_same_word(a: &[u8], b: &[u8], word: u64, low: u128) -> bool
     requires { low < 2 ^ 100 }
     ensures { IsTrue result ↔ ((i : ℕ) → i < 64 → in_word word i ≡ true
@@ -67,7 +68,7 @@ fn is_same_word(a: &[u8], b: &[u8], word: u64, low: u128) -> bool
     true
 }
 
-/// Whether both have the same bytes at the places whose bits are set.
+/// Returns whether both have equal bytes at all set bits.
 pub(crate) fn is_same_words(a: &[u8], b: &[u8], words: &[u64]) -> bool
     ensures { IsTrue result ↔ ((p : ℕ) → has_bit words.now p ≡ true
         → slice_index a.now p ≡ slice_index b.now p) }
@@ -81,7 +82,7 @@ pub(crate) fn is_same_words(a: &[u8], b: &[u8], words: &[u64]) -> bool
     true
 }
 
-/// Puts the bytes of the source at the places of a range that lies in both.
+/// Copies the bytes of a range that lies in both.
 fn patch_inside(target: &mut [u8], source: &[u8], start: usize, end: usize)
     requires { (start ≤ end) × (end ≤ length target.old) × (end ≤ length source.now) }
     ensures len { length target.new ≡ length target.old }
@@ -92,7 +93,7 @@ fn patch_inside(target: &mut [u8], source: &[u8], start: usize, end: usize)
     target[start..end].copy_from_slice(&source[start..end]);
 }
 
-/// Puts the bytes of the source at the places of a range, one by one.
+/// Copies the bytes of a range one by one.
 fn patch_outside(target: &mut [u8], source: &[u8], from: u128, to: u128)
     ensures len { length target.new ≡ length target.old }
     ensures bytes { (p : ℕ) → p < length target.old
@@ -108,7 +109,7 @@ fn patch_outside(target: &mut [u8], source: &[u8], from: u128, to: u128)
     }
 }
 
-/// Puts the bytes of the source at the places from one on, before another. Places past the end are passed over.
+/// Copies the bytes of `from..to`. Bytes past the target's end are skipped.
 pub(crate) fn patch_range(target: &mut [u8], source: &[u8], from: u128, to: u128)
     ensures len { length target.new ≡ length target.old }
     ensures bytes { (p : ℕ) → p < length target.old
@@ -122,7 +123,7 @@ pub(crate) fn patch_range(target: &mut [u8], source: &[u8], from: u128, to: u128
     patch_outside(target, source, from.max(both as u128), to);
 }
 
-/// Puts the bytes of the source at the places of a word's bits.
+/// Copies the bytes at the set bits of a word.
 fn patch_word(target: &mut [u8], source: &[u8], word: u64, low: u128)
     requires { low < 2 ^ 100 }
     ensures len { length target.new ≡ length target.old }
@@ -143,7 +144,7 @@ fn patch_word(target: &mut [u8], source: &[u8], word: u64, low: u128)
     }
 }
 
-/// Puts the bytes of the source at the places whose bits are set.
+/// Copies the bytes at all set bits.
 pub(crate) fn patch_words(target: &mut [u8], source: &[u8], words: &[u64])
     ensures len { length target.new ≡ length target.old }
     ensures bytes { (p : ℕ) → p < length target.old

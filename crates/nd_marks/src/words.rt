@@ -1,14 +1,14 @@
-//! Sets of places as words of 64 bits.
+//! `set_bits` and `is_set`: sets of byte offsets as bits in words of 64.
 ghost use Rattle.std.specs.Prelude.{◌≡◌, ℕ, ◌+◌, ◌-◌, ◌*◌, ◌^◌, ◌<◌, ◌≤◌, ◌||◌, ◌&&◌, not, nat_le, nat_lt, nat_eq, length, slice_index, OnOk};
 ghost use Rattle.std.specs.Int.{bit_at};
 ghost use Rattle.std.specs.List.{All, flat_map};
-ghost use Rattle.nd_model.specs.Session.{is_in};
-ghost use Rattle.nd_model.specs.Tuple.{count_up};
+ghost use Rattle.nd_model.specs.Cells.Session.{is_in};
+ghost use Rattle.nd_model.specs.Arrays.Tuple.{count_up};
 ghost use Rattle.nd_marks.specs.Marks.{has_bit, in_word};
 
 use std::alloc::AllocError;
 
-/// The lowest bits of a word.
+/// The word of the lowest `count` bits.
 fn ones(count: u64) -> u64
     requires { count ≤ 64 }
     ensures { result ≡ 2 ^ count - 1 }
@@ -20,7 +20,7 @@ fn ones(count: u64) -> u64
     }
 }
 
-/// The bits from one on, before another.
+/// The word of the bits `from..to`.
 fn mask(from: u64, to: u64) -> u64
     requires { (from ≤ to) × (to ≤ 64) }
     ensures { result ≡ 2 ^ to - 2 ^ from }
@@ -28,7 +28,7 @@ fn mask(from: u64, to: u64) -> u64
     ones(to) - ones(from)
 }
 
-/// The word of this number, 0 past the last.
+/// The word of this index, 0 past the last.
 fn word_of(words: &[u64], at: usize) -> u64
     ensures { result ≡ slice_index words.now at }
 {
@@ -38,14 +38,14 @@ fn word_of(words: &[u64], at: usize) -> u64
     }
 }
 
-/// Whether the bit of a place is set.
+/// Returns whether the bit of a byte offset is set.
 pub(crate) fn is_set(words: &[u64], place: u64) -> bool
     ensures { result ≡ has_bit words.now place }
 {
     (word_of(words, (place / 64) as usize) >> (place % 64)) & 1 == 1
 }
 
-/// Appends words without bits, up to so many.
+/// Appends words without bits, until there are `count`.
 fn grow(words: &mut Vec<u64>, count: u64) -> Result<(), AllocError>
     ensures same { OnOk result ((q : ℕ)
         → slice_index words.new.items q ≡ slice_index words.old.items q) }
@@ -57,7 +57,7 @@ fn grow(words: &mut Vec<u64>, count: u64) -> Result<(), AllocError>
     Ok(())
 }
 
-/// Sets the bits of a word from one on, before another, but for those of the exceptions.
+/// Sets the bits `from..to` of a word, except those of `except`.
 fn set_word(words: &mut Vec<u64>, at: usize, from: u64, to: u64, except: u64)
     requires { (at < length words.old.items) × (from ≤ to) × (to ≤ 64) }
     ensures len { length words.new.items ≡ length words.old.items }
@@ -68,7 +68,7 @@ fn set_word(words: &mut Vec<u64>, at: usize, from: u64, to: u64, except: u64)
     words[at] = words[at] | (mask(from, to) & !except);
 }
 
-/// Sets the bits of the places from one on, before another, but for those of the exceptions.
+/// Sets the bits of the byte offsets `from..to`, except those of `except`.
 pub(crate) fn set_bits(
     words: &mut Vec<u64>,
     from: u128,
@@ -100,7 +100,8 @@ pub(crate) fn set_bits(
     Ok(())
 }
 
-/// Sets the bits of `size` places from one on, which are those of words that are there, but for those of the exceptions.
+/// Sets the bits of `size` byte offsets from `first` on, for which there are words, except those of
+/// `except`.
 fn set_run(words: &mut Vec<u64>, first: u64, size: u64, except: &[u64])
     requires size { (0 < size) × (size ≤ 64) }
     requires room { first + size ≤ length words.old.items * 64 }
@@ -117,7 +118,7 @@ fn set_run(words: &mut Vec<u64>, first: u64, size: u64, except: &[u64])
     }
 }
 
-/// The greatest of the places, 0 where there are none.
+/// The greatest of the byte offsets, 0 where there are none.
 fn greatest(places: &[u64]) -> u64
     ensures { All (λ p. p ≤ result) places.now }
 {
@@ -128,7 +129,7 @@ fn greatest(places: &[u64]) -> u64
     greatest
 }
 
-/// Sets the bits of `size` places from each of these on, but for those of the exceptions.
+/// Sets the bits of `size` byte offsets from each of these on, except those of `except`.
 pub(crate) fn set_runs(
     words: &mut Vec<u64>,
     places: &[u64],

@@ -1,4 +1,4 @@
-//! A count of the runs of cells.
+//! [`Meter`]: counts the runs of cells, so that contracts can bound them.
 #![tactic(auto)]
 
 mod meter;

@@ -2,12 +2,12 @@
 use Rattle.std.proofs.Common.{◌≡◌, ℕ, ◌⊎◌, IsTrue, Bool, true, false, cond, eqb, List, [], ◌∷◌, length, get_or, Option, Some, None, IfSome, refl, sym, ap, ap₂, subst, ◌∙◌, inl, inr}
 use Rattle.std.specs.Prelude.{bytes_eq}
 use Rattle.std.proofs.lemmas.Bool.{cases_Bool, or_left, or_right, or_cases}
-use Rattle.nd_model.specs.Value.{Base, Value, lies_in}
-use Rattle.nd_model.specs.Session.{Names, lookup, bind, unbind, is_held, held_bytes}
-use Rattle.nd_model.specs.Running.{Event, Binds, Unbinds, Name, Input, Length, Byte, Key, is_touched}
-use Rattle.nd_model.specs.Footprint.{Bound, Number, found, patched, replayed}
-use Rattle.nd_model.specs.Overlay.{IsOwn, BindsOwn, IsOnce, did}
-use Rattle.nd_model.specs.Beside.{BesideBegins, BesideHolds, BesideStays}
+use Rattle.nd_model.specs.Arrays.Value.{Base, Value, lies_in}
+use Rattle.nd_model.specs.Cells.Session.{Names, lookup, bind, unbind, is_held, held_bytes}
+use Rattle.nd_model.specs.Cells.Running.{Event, Binds, Unbinds, Name, Input, Length, Byte, Key, is_touched}
+use Rattle.nd_model.specs.Cells.Footprint.{Bound, Number, found, patched, replayed}
+use Rattle.nd_model.specs.Book.Overlay.{IsOwn, BindsOwn, IsOnce, did}
+use Rattle.nd_model.specs.Book.Beside.{BesideBegins, BesideHolds, BesideStays}
 use Rattle.nd_model.proofs.Lists.{same_bytes, bytes_eq_self, not_both, lookup-bind, lookup-unbind}
 use Rattle.nd_model.proofs.Overlaying.{held_did, once_replayed, own_false, untouched_lookup}
 

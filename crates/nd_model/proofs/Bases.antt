@@ -1,27 +1,27 @@
 -- A statement makes at most one base for each of its tokens.
 use Rattle.std.proofs.Common.{◌≡◌, ℕ, ℤ, pos, zero, suc, ◌+◌, ◌≤◌, Bool, true, false, cond, List, [], ◌∷◌, Option, Some, None, Result, Ok, Err, refl, arith}
-use Rattle.nd_model.specs.View.{ElementType, One, Structure, Geo, item_size}
-use Rattle.nd_model.specs.Content.{Content}
-use Rattle.nd_model.specs.Value.{Base, Value, Int, Truth, Scalar, Array, Row}
-use Rattle.nd_model.specs.Strides.{limit_fault}
-use Rattle.nd_model.specs.Running.{Source, Inputs, Running, Lookup, Ask, Use, Make, reply, after, Effect, Nothing, Prints, Saves, Binding, Unbinding, Storing}
-use Rattle.nd_model.specs.Fault.{Fault, ViewFault, BadArgument}
-use Rattle.nd_model.specs.Fault as fault
-use Rattle.nd_model.specs.InputName.{is_input_name}
-use Rattle.nd_model.specs.Syntax as syntax
-use Rattle.nd_model.specs.Syntax.{Expr, Call, Axis, Method, Elements, Element, Index, IndexItems, IndexItem, Stmt}
-use Rattle.nd_model.specs.Tokens.{tokens_of, tokens_of_call, tokens_of_axis, tokens_of_first, tokens_of_shape, tokens_of_lengths, tokens_of_exprs, tokens_of_bound, tokens_of_step, tokens_of_index, tokens_of_items, tokens_of_item, tokens_of_method, tokens_of_elements, tokens_of_others, tokens_of_element, tokens_of_all, tokens_of_stmt}
-use Rattle.nd_model.specs.Evaluation.{Eval, Gives, Refuses, Asks, run, ◌>>=◌, decide}
-use Rattle.nd_model.specs.Operand as operand
-use Rattle.nd_model.specs.Operand.{Operand, Usage, Made, ANumber, AnArray, Loaded, AFile, ABuffer, Chosen, AnElement, AView, ACopy, Stretched, Deed, NoDeed, PrintsText, SavesFile, BindsFirst, BindsMade, Unbinds, Writes, MakesAndWrites}
-use Rattle.nd_model.specs.Viewing.{choose}
-use Rattle.nd_model.specs.Operation
-use Rattle.nd_model.specs.Operation.{operands, Operation, Computes, Views, perform, Plan, Named, FromInput, Does, Plans, Done, And, evaluate, with_values, evaluate_all, Work, Acts, ActsOn, do_work}
-use Rattle.nd_model.specs.Creation.{array_of_list}
-use Rattle.nd_model.specs.Reductions.{reduce_array, reduce_call}
-use Rattle.nd_model.specs.Meaning
-use Rattle.nd_model.specs.Cell.{had}
-use Rattle.nd_model.specs.Bases.{FewBases}
+use Rattle.nd_model.specs.Arrays.View.{ElementType, One, Structure, Geo, item_size}
+use Rattle.nd_model.specs.Arrays.Content.{Content}
+use Rattle.nd_model.specs.Arrays.Value.{Base, Value, Int, Truth, Scalar, Array, Row}
+use Rattle.nd_model.specs.Arrays.Strides.{limit_fault}
+use Rattle.nd_model.specs.Cells.Running.{Source, Inputs, Running, Lookup, Ask, Use, Make, reply, after, Effect, Nothing, Prints, Saves, Binding, Unbinding, Storing}
+use Rattle.nd_model.specs.Cells.Fault.{Fault, ViewFault, BadArgument}
+use Rattle.nd_model.specs.Cells.Fault as fault
+use Rattle.nd_model.specs.Cells.InputName.{is_input_name}
+use Rattle.nd_model.specs.Grammar.Syntax as syntax
+use Rattle.nd_model.specs.Grammar.Syntax.{Expr, Call, Axis, Method, Elements, Element, Index, IndexItems, IndexItem, Stmt}
+use Rattle.nd_model.specs.Grammar.Tokens.{tokens_of, tokens_of_call, tokens_of_axis, tokens_of_first, tokens_of_shape, tokens_of_lengths, tokens_of_exprs, tokens_of_bound, tokens_of_step, tokens_of_index, tokens_of_items, tokens_of_item, tokens_of_method, tokens_of_elements, tokens_of_others, tokens_of_element, tokens_of_all, tokens_of_stmt}
+use Rattle.nd_model.specs.Cells.Evaluation.{Eval, Gives, Refuses, Asks, run, ◌>>=◌, decide}
+use Rattle.nd_model.specs.Making.Operand as operand
+use Rattle.nd_model.specs.Making.Operand.{Operand, Usage, Made, ANumber, AnArray, Loaded, AFile, ABuffer, Chosen, AnElement, AView, ACopy, Stretched, Deed, NoDeed, PrintsText, SavesFile, BindsFirst, BindsMade, Unbinds, Writes, MakesAndWrites}
+use Rattle.nd_model.specs.Indexing.Viewing.{choose}
+use Rattle.nd_model.specs.Cells.Operation
+use Rattle.nd_model.specs.Cells.Operation.{operands, Operation, Computes, Views, perform, Plan, Named, FromInput, Does, Plans, Done, And, evaluate, with_values, evaluate_all, Work, Acts, ActsOn, do_work}
+use Rattle.nd_model.specs.Making.Creation.{array_of_list}
+use Rattle.nd_model.specs.Making.Reductions.{reduce_array, reduce_call}
+use Rattle.nd_model.specs.Cells.Meaning
+use Rattle.nd_model.specs.Cells.Cell.{had}
+use Rattle.nd_model.specs.Cells.Bases.{FewBases}
 
 -- ---- evaluations that make at most n bases
 

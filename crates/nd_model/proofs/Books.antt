@@ -1,9 +1,9 @@
 -- No label shows in what a book tells.
 use Rattle.std.proofs.Common.{◌≡◌, ℕ, List, [], ◌∷◌, length, refl, sym, ap, subst, ◌∙◌, arith}
-use Rattle.nd_model.specs.Reading.{reading}
-use Rattle.nd_model.specs.Renaming.{AreDistinct, parsed_of}
-use Rattle.nd_model.specs.Renaming as cells
-use Rattle.nd_model.specs.Book.{Cell, read_cells, labels_of, relabelled, AnyLabels}
+use Rattle.nd_model.specs.Grammar.Reading.{reading}
+use Rattle.nd_model.specs.Book.Renaming.{AreDistinct, parsed_of}
+use Rattle.nd_model.specs.Book.Renaming as cells
+use Rattle.nd_model.specs.Book.Book.{Cell, read_cells, labels_of, relabelled, AnyLabels}
 use Rattle.nd_model.proofs.Labels.{any_labels}
 
 labels-read : (cs : List Cell) → cells.labels_of (read_cells cs) ≡ labels_of cs

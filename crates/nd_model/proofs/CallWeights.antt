@@ -2,13 +2,13 @@
 use Rattle.std.proofs.Common.{ℕ, ◌+◌, ◌-◌, ◌≤◌, true, false, List, [], ◌∷◌, Option, None, Some, refl, arith}
 use Rattle.std.specs.Prelude.{Bool, bytes_eq, codes}
 use Rattle.std.proofs.lemmas.Bool.{cond_both}
-use Rattle.nd_model.specs.Grammar.{Gram, has}
-use Rattle.nd_model.specs.Token.{Token}
-use Rattle.nd_model.specs.Calls.{Accumulation, FieldType, DType, Simple, Packed}
-use Rattle.nd_model.specs.Syntax.{Expr, Call, Minimum, Maximum, Method, Transpose, AsType, ViewAs, Accumulated, Axis, DefaultAxis, AllAxes, AtAxis, Bound, Omitted, Given}
-use Rattle.nd_model.specs.Tokens.{tokens_of_type, tokens_of_fields, tokens_of_dtype, tokens_of_typing, tokens_of_keepdims, tokens_of, tokens_of_call, tokens_of_fold, tokens_of_axis, tokens_of_number, tokens_of_method, tokens_of_first, tokens_of_shape, tokens_of_lengths, tokens_of_exprs}
-use Rattle.nd_model.specs.Kinds.{ARANGE, FILL, FULL, ARRAY, BROADCAST, UFUNC, EXTREMUM, ABSOLUTE, LOAD, KIND, KIND_PLAIN, REDUCE, ACCUMULATE, TRANSPOSED, TRANSPOSE, RESHAPE, COPY, CONVERSION, REDUCTION, ACCUMULATION, AXIS, AXIS_BOUND, KEEPDIMS, KEEPDIMS_BOUND, DTYPE, DTYPE_BOUND, TRUTH, OPEN, OPEN_NONE, OPEN_TUPLE, CLOSE, OPEN_BRACKET, CLOSE_BRACKET, COMMA, COMMA_MORE, COMMA_LAST, COMMA_INNER, COMMA_CLOSING, NONE, QUOTED, EQUAL, DOT, NP}
-use Rattle.nd_model.specs.Cells.{exprs_of, name_of, accumulation_named, extremum_named, conversion_named, ranged, Anywhere, Length, Number, AxisNumber, Level, Inside, comma_expr, exprs, quoted, no_lengths, tuple, shape, kind_name, type_name, pair, fields, dtype, typing, only_typing, comma_typing, named_axis, numbered_axis, named_keepdims, only_keepdims, comma_keepdims, options, comma_options, first_axis, third, second, arange, filled, full, new_array, broadcast_to, two, reduce, accumulate, fold, call, function, empty, type_argument, axes, lengths, reduction_options, reduction, accumulation, attribute, method}
+use Rattle.nd_model.specs.Grammar.Grammar.{Gram, has}
+use Rattle.nd_model.specs.Grammar.Token.{Token}
+use Rattle.nd_model.specs.Grammar.Calls.{Accumulation, FieldType, DType, Simple, Packed}
+use Rattle.nd_model.specs.Grammar.Syntax.{Expr, Call, Minimum, Maximum, Method, Transpose, AsType, ViewAs, Accumulated, Axis, DefaultAxis, AllAxes, AtAxis, Bound, Omitted, Given}
+use Rattle.nd_model.specs.Grammar.Tokens.{tokens_of_type, tokens_of_fields, tokens_of_dtype, tokens_of_typing, tokens_of_keepdims, tokens_of, tokens_of_call, tokens_of_fold, tokens_of_axis, tokens_of_number, tokens_of_method, tokens_of_first, tokens_of_shape, tokens_of_lengths, tokens_of_exprs}
+use Rattle.nd_model.specs.Grammar.Kinds.{ARANGE, FILL, FULL, ARRAY, BROADCAST, UFUNC, EXTREMUM, ABSOLUTE, LOAD, KIND, KIND_PLAIN, REDUCE, ACCUMULATE, TRANSPOSED, TRANSPOSE, RESHAPE, COPY, CONVERSION, REDUCTION, ACCUMULATION, AXIS, AXIS_BOUND, KEEPDIMS, KEEPDIMS_BOUND, DTYPE, DTYPE_BOUND, TRUTH, OPEN, OPEN_NONE, OPEN_TUPLE, CLOSE, OPEN_BRACKET, CLOSE_BRACKET, COMMA, COMMA_MORE, COMMA_LAST, COMMA_INNER, COMMA_CLOSING, NONE, QUOTED, EQUAL, DOT, NP}
+use Rattle.nd_model.specs.Grammar.Cells.{exprs_of, name_of, accumulation_named, extremum_named, conversion_named, ranged, Anywhere, Length, Number, AxisNumber, Level, Inside, comma_expr, exprs, quoted, no_lengths, tuple, shape, kind_name, type_name, pair, fields, dtype, typing, only_typing, comma_typing, named_axis, numbered_axis, named_keepdims, only_keepdims, comma_keepdims, options, comma_options, first_axis, third, second, arange, filled, full, new_array, broadcast_to, two, reduce, accumulate, fold, call, function, empty, type_argument, axes, lengths, reduction_options, reduction, accumulation, attribute, method}
 use Rattle.nd_model.proofs.Weights.{HasNoEnd, Weighs, done, one, token_weighs, both, either, shut, total, many, lighter, enclosed, in_parentheses, LevelWeighs, InsideWeighs, entered, maybe, grouped_weighs, mapped_weighs, separated_tokens, separated_weighs, element_weighs}
 
 -- ---- parts of calls

@@ -1,26 +1,26 @@
 -- What is chosen of an array or a row lies where it lies: one lemma for each way to choose.
 use Rattle.std.proofs.Common.{◌≡◌, ℕ, ◌+◌, ◌≤◌, Bool, true, false, ℤ, List, [], ◌∷◌, length, Option, Some, None, Result, Ok, refl, subst, arith}
 use Rattle.std.specs.List.{list_all}
-use Rattle.nd_model.specs.Tuple.{elements_of}
-use Rattle.nd_model.specs.View.{Field, Geo, item_size}
-use Rattle.nd_model.specs.Content.{Content, content_or}
-use Rattle.nd_model.specs.Fault.{Fault}
-use Rattle.nd_model.specs.Operand.{Operand, Elements, Chosen, AnElement, AView, ACopy, Stretched}
-use Rattle.nd_model.specs.Selecting.{Item, select, field_of, view_of_field}
-use Rattle.nd_model.specs.Advanced as advanced
-use Rattle.nd_model.specs.Advanced.{IndexItem}
-use Rattle.nd_model.specs.Index.{array_of, items_of, has_array, basic_items, is_number, choice_of, choose_basic, choose_items, choose_field}
-use Rattle.nd_model.specs.Viewing.{Viewing, Indexed, Fielded, Transposed, Reshaped, BroadcastTo, ViewedAs, choose}
-use Rattle.nd_model.specs.Types.{element_type}
-use Rattle.nd_model.specs.Transposing.{transpose, reversed_view}
-use Rattle.nd_model.specs.Reshaping as reshaping
-use Rattle.nd_model.specs.Stretching.{broadcast_to}
-use Rattle.nd_model.specs.Recasting.{view_as}
-use Rattle.nd_model.specs.Creation.{integers_of, lengths_of, without_axes, number_element}
-use Rattle.nd_model.specs.Strides.{limit_fault}
-use Rattle.nd_model.specs.Broadcast.{in_limits}
-use Rattle.nd_model.specs.ShapeChoices.{seen, ordered, bounded_lengths, reshaped_choice, stretch_operand}
-use Rattle.nd_model.specs.Sound.{LiesIn}
+use Rattle.nd_model.specs.Arrays.Tuple.{elements_of}
+use Rattle.nd_model.specs.Arrays.View.{Field, Geo, item_size}
+use Rattle.nd_model.specs.Arrays.Content.{Content, content_or}
+use Rattle.nd_model.specs.Cells.Fault.{Fault}
+use Rattle.nd_model.specs.Making.Operand.{Operand, Elements, Chosen, AnElement, AView, ACopy, Stretched}
+use Rattle.nd_model.specs.Indexing.Selecting.{Item, select, field_of, view_of_field}
+use Rattle.nd_model.specs.Indexing.Advanced as advanced
+use Rattle.nd_model.specs.Indexing.Advanced.{IndexItem}
+use Rattle.nd_model.specs.Indexing.Index.{array_of, items_of, has_array, basic_items, is_number, choice_of, choose_basic, choose_items, choose_field}
+use Rattle.nd_model.specs.Indexing.Viewing.{Viewing, Indexed, Fielded, Transposed, Reshaped, BroadcastTo, ViewedAs, choose}
+use Rattle.nd_model.specs.Arrays.Types.{element_type}
+use Rattle.nd_model.specs.Indexing.Transposing.{transpose, reversed_view}
+use Rattle.nd_model.specs.Indexing.Reshaping as reshaping
+use Rattle.nd_model.specs.Indexing.Stretching.{broadcast_to}
+use Rattle.nd_model.specs.Indexing.Recasting.{view_as}
+use Rattle.nd_model.specs.Making.Creation.{integers_of, lengths_of, without_axes, number_element}
+use Rattle.nd_model.specs.Arrays.Strides.{limit_fault}
+use Rattle.nd_model.specs.Arrays.Broadcast.{in_limits}
+use Rattle.nd_model.specs.Indexing.ShapeChoices.{seen, ordered, bounded_lengths, reshaped_choice, stretch_operand}
+use Rattle.nd_model.specs.Cells.Sound.{LiesIn}
 use Rattle.nd_model.proofs.Taking.{IsWithin}
 use Rattle.nd_model.proofs.Selected.{selected_lies}
 use Rattle.nd_model.proofs.Fielded.{found_lies}

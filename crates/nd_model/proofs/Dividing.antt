@@ -3,7 +3,7 @@ use Rattle.std.proofs.Common.{◌≡◌, ◌≢◌, ℕ, zero, suc, ◌+◌, ◌
 use Rattle.std.specs.Prelude.{pos, negsuc, neg_ℤ, ◌+ℤ◌, ◌-ℤ◌, ◌*ℤ◌, ◌/◌, ◌%◌, ◌==◌, not}
 use Rattle.std.proofs.lemmas.Int.{ints}
 use Rattle.std.proofs.lemmas.Bool.{eqb-true, eqb-false}
-use Rattle.nd_model.specs.Operators.{Divides, FloorDivision}
+use Rattle.nd_model.specs.Making.Operators.{Divides, FloorDivision}
 
 -- by a number above zero
 up : (a d q r : ℕ) → 0 < d → d * q + r ≡ a → r < d → Divides (pos a) (pos d) (pos q) (pos r)

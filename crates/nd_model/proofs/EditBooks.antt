@@ -1,7 +1,7 @@
 -- An edit of the notebook that contracts see is an edit of its book.
 use Rattle.std.proofs.Common.{refl}
-use Rattle.nd_model.specs.Book.{Insert, Change, Move, Remove, SetInput, DropInput}
-use Rattle.nd_model.specs.Notebook.{EditsBook}
+use Rattle.nd_model.specs.Book.Book.{Insert, Change, Move, Remove, SetInput, DropInput}
+use Rattle.nd_model.specs.Book.Notebook.{EditsBook}
 use Rattle.nd_model.proofs.Lists.{lookup-bind, lookup-unbind}
 
 pub edits_book : EditsBook

@@ -3,9 +3,9 @@ use Rattle.std.proofs.Common.{◌≡◌, ℕ, zero, suc, ◌+◌, ◌-◌, ◌�
 use Rattle.std.proofs.lemmas.Bool.{cases_Bool, cases_eq, or_parts, or_from, cases_lt}
 use Rattle.std.proofs.lemmas.Bool.Decides.{nat_tests}
 use Rattle.std.specs.Prelude.{insert, remove, slice_set, slice_index_or}
-use Rattle.nd_model.specs.Session.{is_in}
-use Rattle.nd_model.specs.Renaming.{AreDistinct}
-use Rattle.nd_model.specs.Book.{Cell, Book, count_of, Insert, Change, Move, Remove, SetInput, DropInput, refusal, edited_cells, edited, is_label, above_labels, first_free, fresh_label, no_cell, labels_of, LabelsStayDistinct, EditFault, unless_refused}
+use Rattle.nd_model.specs.Cells.Session.{is_in}
+use Rattle.nd_model.specs.Book.Renaming.{AreDistinct}
+use Rattle.nd_model.specs.Book.Book.{Cell, Book, count_of, Insert, Change, Move, Remove, SetInput, DropInput, refusal, edited_cells, edited, is_label, above_labels, first_free, fresh_label, no_cell, labels_of, LabelsStayDistinct, EditFault, unless_refused}
 
 -- ---- lists of labels
 

@@ -1,18 +1,18 @@
 -- A run cell by cell, as a loop over the cells needs it.
 use Rattle.std.proofs.Common.{◌≡◌, ℕ, zero, suc, ◌+◌, ◌<◌, ◌≤◌, Bool, List, [], ◌∷◌, ◌++◌, length, map, take, get_or, Some, IfSome, refl, sym, ap, ap₂, ◌∙◌, inl, inr, arith, add-one}
 use Rattle.std.proofs.lemmas.List.{map-append, take-map}
-use Rattle.nd_model.specs.Session.{Session, no_session}
-use Rattle.nd_model.specs.Running.{Key, Name, Input, Length, Byte, Inputs}
-use Rattle.nd_model.specs.Reading.{reading}
+use Rattle.nd_model.specs.Cells.Session.{Session, no_session}
+use Rattle.nd_model.specs.Cells.Running.{Key, Name, Input, Length, Byte, Inputs}
+use Rattle.nd_model.specs.Grammar.Reading.{reading}
 use Rattle.std.specs.Prelude.{slice_get, IsTrue}
-use Rattle.nd_model.specs.Cell.{session_after, notebook}
-use Rattle.nd_model.specs.Footprint.{Given, Agree, HasNone, reads_of, with_effects}
-use Rattle.nd_model.specs.Records.{Record, StillHolds}
-use Rattle.nd_model.specs.Scheduler.{IsOfRun, told_of}
-use Rattle.nd_model.specs.Renaming.{AreDistinct, told}
-use Rattle.nd_model.specs.Book.{Cell, Book, labels_of, no_cell, read_cells}
-use Rattle.nd_model.specs.Entries.{Entry, entry_at, ToldByRecords, SharesFront, SameFrontReads, ended, record_at, entries, after_cells, entries_of, records_of, session_before}
-use Rattle.nd_model.specs.Stale.{IsStale, AtLeast, entry_before, kept_of}
+use Rattle.nd_model.specs.Cells.Cell.{session_after, notebook}
+use Rattle.nd_model.specs.Cells.Footprint.{Given, Agree, HasNone, reads_of, with_effects}
+use Rattle.nd_model.specs.Book.Records.{Record, StillHolds}
+use Rattle.nd_model.specs.Book.Scheduler.{IsOfRun, told_of}
+use Rattle.nd_model.specs.Book.Renaming.{AreDistinct, told}
+use Rattle.nd_model.specs.Book.Book.{Cell, Book, labels_of, no_cell, read_cells}
+use Rattle.nd_model.specs.Book.Entries.{Entry, entry_at, ToldByRecords, SharesFront, SameFrontReads, ended, record_at, entries, after_cells, entries_of, records_of, session_before}
+use Rattle.nd_model.specs.Book.Stale.{IsStale, AtLeast, entry_before, kept_of}
 use Rattle.nd_model.proofs.Tracks.{effects_are_all}
 use Rattle.nd_model.proofs.Keeping.{kept}
 use Rattle.nd_model.proofs.Lazy.{same_front, NoneOf, none_of_nothing, none_behind, Fresh, was_fresh, kept_of_run, stale, still_holds}

@@ -9,9 +9,9 @@ use Rattle.std.proofs.lemmas.Bool.Decides.{Decides-int_eq, nat_tests}
 use Rattle.std.proofs.lemmas.Int.{ints}
 use Rattle.std.proofs.lemmas.List.Elements.{All-weaker}
 use Rattle.std.proofs.lemmas.List.Sums.{list_all-from_AllPass}
-use Rattle.nd_model.specs.Tuple.{elements_of, indices, number}
-use Rattle.nd_model.specs.Strides.{way_to, begins_at}
-use Rattle.nd_model.specs.Reshaping.{distance, steps_in, is_even, LeadsTo, EvenPlaces}
+use Rattle.nd_model.specs.Arrays.Tuple.{elements_of, indices, number}
+use Rattle.nd_model.specs.Arrays.Strides.{way_to, begins_at}
+use Rattle.nd_model.specs.Indexing.Reshaping.{distance, steps_in, is_even, LeadsTo, EvenPlaces}
 use Rattle.nd_model.proofs.Tuples.{IsTuple, all_tuples}
 use Rattle.nd_model.proofs.Recast.{at_each}
 

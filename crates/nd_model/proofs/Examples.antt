@@ -1,10 +1,10 @@
 -- Notebooks that compute.
 use Rattle.std.proofs.Common.{◌≡◌, ℕ, List, [], ◌∷◌, Option, Some, None, Ok, Err, refl, map, codes}
-use Rattle.nd_model.specs.Session.{Session, no_session}
-use Rattle.nd_model.specs.Fault.{ParseFault, BadToken, Refusal, Parse, Statement, OutOfBounds, NoName}
-use Rattle.nd_model.specs.Fault as fault
-use Rattle.nd_model.specs.Syntax.{Name, Integer, Unary, Negative, Called, Arange, Omitted, Expr, Item, Index, Items, AndItem, NoItem, At, Stmt, Bind, Assign, Delete, Print, Line, Parsed}
-use Rattle.nd_model.specs.Cell.{Ended, notebook}
+use Rattle.nd_model.specs.Cells.Session.{Session, no_session}
+use Rattle.nd_model.specs.Cells.Fault.{ParseFault, BadToken, Refusal, Parse, Statement, OutOfBounds, NoName}
+use Rattle.nd_model.specs.Cells.Fault as fault
+use Rattle.nd_model.specs.Grammar.Syntax.{Name, Integer, Unary, Negative, Called, Arange, Omitted, Expr, Item, Index, Items, AndItem, NoItem, At, Stmt, Bind, Assign, Delete, Print, Line, Parsed}
+use Rattle.nd_model.specs.Cells.Cell.{Ended, notebook}
 use Rattle.std.specs.Prelude.{pos}
 use Rattle.std.specs.Fmt.{digits}
 

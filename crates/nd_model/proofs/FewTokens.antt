@@ -1,14 +1,14 @@
 -- The statements of a text have together at most as many tokens as the text has bytes.
 use Rattle.std.proofs.Common.{ℕ, zero, suc, ◌+◌, ◌-◌, ◌≤◌, List, [], ◌∷◌, length, Option, None, Some, IfOk, refl, subst, arith}
-use Rattle.nd_model.specs.Grammar.{Gram, Then, Many, has}
-use Rattle.nd_model.specs.Token as words
-use Rattle.nd_model.specs.Token.{Word, Token}
-use Rattle.nd_model.specs.Lexing.{words_in}
-use Rattle.nd_model.specs.Syntax.{BinaryOp, Expr, Binary, Index, Stmt}
-use Rattle.nd_model.specs.Tokens.{tokens_of, tokens_of_method, tokens_of_index, tokens_of_all, tokens_of_stmt, tokens_of_lines}
-use Rattle.nd_model.specs.Kinds.{NUMPY, SAVE, SIGN, POWER, PRODUCT, SUM, SHIFT, AMPERSAND, CARET, BAR, COMPARISON, OPEN, QUOTED, ASSIGNMENT, DOT, NP, NP_SAVE, ABS, BUFFER, PRINT, IMPORT, AS, DEL}
-use Rattle.nd_model.specs.Cells.{leaf_of, chained, chained_once, bound, written, Suffix, AtIndex, OfMethod, with_suffix, suffixed, operation, Spot, Anywhere, Statement, Target, FirstItem, LaterItem, Length, Number, AxisNumber, leaves, modules, openings, Level, operand, suffix, postfix, exponent, power, signed, unary, term, sum, shift, band, bxor, bor, comparison, expr, under, module_name, imports, delete, printed, print, saved, save, value, bind, target, assign, stmt, line, lines, cell}
-use Rattle.nd_model.specs.Few.{FewTokens}
+use Rattle.nd_model.specs.Grammar.Grammar.{Gram, Then, Many, has}
+use Rattle.nd_model.specs.Grammar.Token as words
+use Rattle.nd_model.specs.Grammar.Token.{Word, Token}
+use Rattle.nd_model.specs.Grammar.Lexing.{words_in}
+use Rattle.nd_model.specs.Grammar.Syntax.{BinaryOp, Expr, Binary, Index, Stmt}
+use Rattle.nd_model.specs.Grammar.Tokens.{tokens_of, tokens_of_method, tokens_of_index, tokens_of_all, tokens_of_stmt, tokens_of_lines}
+use Rattle.nd_model.specs.Grammar.Kinds.{NUMPY, SAVE, SIGN, POWER, PRODUCT, SUM, SHIFT, AMPERSAND, CARET, BAR, COMPARISON, OPEN, QUOTED, ASSIGNMENT, DOT, NP, NP_SAVE, ABS, BUFFER, PRINT, IMPORT, AS, DEL}
+use Rattle.nd_model.specs.Grammar.Cells.{leaf_of, chained, chained_once, bound, written, Suffix, AtIndex, OfMethod, with_suffix, suffixed, operation, Spot, Anywhere, Statement, Target, FirstItem, LaterItem, Length, Number, AxisNumber, leaves, modules, openings, Level, operand, suffix, postfix, exponent, power, signed, unary, term, sum, shift, band, bxor, bor, comparison, expr, under, module_name, imports, delete, printed, print, saved, save, value, bind, target, assign, stmt, line, lines, cell}
+use Rattle.nd_model.specs.Grammar.Few.{FewTokens}
 use Rattle.nd_model.proofs.Parsing.Texts.{read_is_cell}
 use Rattle.nd_model.proofs.TokenLaws.{few_words}
 use Rattle.nd_model.proofs.Weights.{HasNoEnd, Weighs, done, here, one, token_weighs, skip, both, either, shut, total, many, lighter, in_parentheses, LevelWeighs, entered, maybe, optional, name_weighs, grouped_weighs, mapped_weighs, list_weighs, index_weighs}

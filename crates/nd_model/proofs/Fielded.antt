@@ -8,13 +8,13 @@ use Rattle.std.proofs.lemmas.Bool.{cases_Bool}
 use Rattle.std.proofs.lemmas.Bool.Decides.{nat_tests}
 use Rattle.std.proofs.lemmas.List.{length-map}
 use Rattle.std.proofs.lemmas.List.Elements.{All-map, All-weaker}
-use Rattle.nd_model.specs.Element.{size_of}
-use Rattle.nd_model.specs.Fault.{TooManyAxes, TooManyElements}
-use Rattle.nd_model.specs.Strides.{is_too_large, IsInLimits}
-use Rattle.nd_model.specs.Tuple.{elements_of}
-use Rattle.nd_model.specs.View.{Field, ElementType, One, Structure, Geo, item_size}
-use Rattle.nd_model.specs.Selecting.{field_in, if_inside, field_of, view_of_field, field_view}
-use Rattle.nd_model.specs.Sound.{LiesIn}
+use Rattle.nd_model.specs.Arrays.Element.{size_of}
+use Rattle.nd_model.specs.Cells.Fault.{TooManyAxes, TooManyElements}
+use Rattle.nd_model.specs.Arrays.Strides.{is_too_large, IsInLimits}
+use Rattle.nd_model.specs.Arrays.Tuple.{elements_of}
+use Rattle.nd_model.specs.Arrays.View.{Field, ElementType, One, Structure, Geo, item_size}
+use Rattle.nd_model.specs.Indexing.Selecting.{field_in, if_inside, field_of, view_of_field, field_view}
+use Rattle.nd_model.specs.Cells.Sound.{LiesIn}
 
 -- the field that is found is one of them
 pub found_is : (P : Field → Type 0) (name : List ℕ) (fs : List Field) (f : Field) → field_in name fs ≡ Some f → All P fs → P f

@@ -6,18 +6,18 @@ use Rattle.std.proofs.Math.Nat.{mod-lt, div-lt_iff_lt-mul}
 use Rattle.std.proofs.lemmas.Bool.Decides.{nat_tests}
 use Rattle.std.proofs.lemmas.List.{length-map, length-take-le, length-drop, take-append-drop, take_at, drop_at, drop-drop, drop_more}
 use Rattle.std.proofs.lemmas.List.Elements.{All-nil, All-cons, All-head, All-tail, All-map, All-weaker}
-use Rattle.nd_model.specs.Tuple.{count_up, elements_of, number}
-use Rattle.nd_model.specs.View.{Geo, item_size, rearranged_view}
-use Rattle.nd_model.specs.Strides.{limit_fault}
-use Rattle.nd_model.specs.Fault.{Fault, IndexFault, OutOfBounds, MaskShape}
-use Rattle.nd_model.specs.Refusing.{◌>>=◌}
-use Rattle.nd_model.specs.Broadcast.{broadcast, broadcasts_to, own_tuple}
-use Rattle.nd_model.specs.Slicing.{slice_positions, step_or}
-use Rattle.nd_model.specs.Selecting as selecting
-use Rattle.nd_model.specs.Selecting.{Item, At, Slice, Ellipsis, NewAxis, whole_slice, counted_from, is_within, filled_items, items_for, picks_of, picked_shape, picked_view, first_outside, select}
-use Rattle.nd_model.specs.Advanced.{IndexItem, Basic, Numbers, Mask, axes_of, axes_in, ellipses_of, ellipses_in, or_next, first_fault, mask_fault, shape_fault, number_fault, outside_fault, bounds_fault, unless_fault, true_numbers, common_shape, with_shape, slices_of, slices_in, unravelled, Take, Whole, Added, Spread, takes_of, takes_in, kept_shape, number_at, source, are_together, kept_before, place_for, chosen_shape, chosen_source, chosen_view, choose_filled, choose}
-use Rattle.nd_model.specs.Sound.{LiesIn}
-use Rattle.nd_model.specs.Selected.{HoldsAll}
+use Rattle.nd_model.specs.Arrays.Tuple.{count_up, elements_of, number}
+use Rattle.nd_model.specs.Arrays.View.{Geo, item_size, rearranged_view}
+use Rattle.nd_model.specs.Arrays.Strides.{limit_fault}
+use Rattle.nd_model.specs.Cells.Fault.{Fault, IndexFault, OutOfBounds, MaskShape}
+use Rattle.nd_model.specs.Cells.Refusing.{◌>>=◌}
+use Rattle.nd_model.specs.Arrays.Broadcast.{broadcast, broadcasts_to, own_tuple}
+use Rattle.nd_model.specs.Indexing.Slicing.{slice_positions, step_or}
+use Rattle.nd_model.specs.Indexing.Selecting as selecting
+use Rattle.nd_model.specs.Indexing.Selecting.{Item, At, Slice, Ellipsis, NewAxis, whole_slice, counted_from, is_within, filled_items, items_for, picks_of, picked_shape, picked_view, first_outside, select}
+use Rattle.nd_model.specs.Indexing.Advanced.{IndexItem, Basic, Numbers, Mask, axes_of, axes_in, ellipses_of, ellipses_in, or_next, first_fault, mask_fault, shape_fault, number_fault, outside_fault, bounds_fault, unless_fault, true_numbers, common_shape, with_shape, slices_of, slices_in, unravelled, Take, Whole, Added, Spread, takes_of, takes_in, kept_shape, number_at, source, are_together, kept_before, place_for, chosen_shape, chosen_source, chosen_view, choose_filled, choose}
+use Rattle.nd_model.specs.Cells.Sound.{LiesIn}
+use Rattle.nd_model.specs.Indexing.Selected.{HoldsAll}
 use Rattle.nd_model.proofs.Tuples.{length-count_up, IsTuple, number_below}
 use Rattle.nd_model.proofs.Taking.{taking_within, narrowed_tuple}
 use Rattle.nd_model.proofs.Selected.{counted_below, slices_axes, outside_ok, selected_lies}

@@ -1,9 +1,9 @@
 -- What an evaluation leaves as it was: names, the bytes of all bases but the new ones, and what was read.
 use Rattle.std.proofs.Common.{◌≡◌, ℕ, ◌<◌, ◌≤◌, true, false, cond, eqb, eqb-true, refl, sym, ap, ◌∙◌, inl, inr, arith}
 use Rattle.std.proofs.lemmas.Bool.{cases_Bool, or_left}
-use Rattle.nd_model.specs.Value.{Base, same_base}
-use Rattle.nd_model.specs.Running.{Inputs, Key, Running, Act, Lookup, Ask, Use, Make, reply, after}
-use Rattle.nd_model.specs.Evaluation.{Eval, Gives, Refuses, Asks, run}
+use Rattle.nd_model.specs.Arrays.Value.{Base, same_base}
+use Rattle.nd_model.specs.Cells.Running.{Inputs, Key, Running, Act, Lookup, Ask, Use, Make, reply, after}
+use Rattle.nd_model.specs.Cells.Evaluation.{Eval, Gives, Refuses, Asks, run}
 
 pub record Grows (x y : Running) : Type 0 where
   pub label : y.label ≡ x.label

@@ -2,10 +2,10 @@
 use Rattle.std.proofs.Common.{◌≡◌, ℕ, Bool, true, false, cond, ◌&&◌, ◌||◌, List, [], ◌∷◌, Option, Some, None, refl, sym, ap, ◌∙◌, inl, inr}
 use Rattle.std.specs.Prelude.{bytes_eq}
 use Rattle.std.proofs.lemmas.Bool.{cases_Bool, or_left, or_right, or_cases, or_parts, or_from, and_from}
-use Rattle.nd_model.specs.Value.{Base, Value, lies_in}
-use Rattle.nd_model.specs.Session.{Names, lookup, bind, unbind, is_held}
-use Rattle.nd_model.specs.Running.{Event, Binds, Unbinds}
-use Rattle.nd_model.specs.Footprint.{replayed}
+use Rattle.nd_model.specs.Arrays.Value.{Base, Value, lies_in}
+use Rattle.nd_model.specs.Cells.Session.{Names, lookup, bind, unbind, is_held}
+use Rattle.nd_model.specs.Cells.Running.{Event, Binds, Unbinds}
+use Rattle.nd_model.specs.Cells.Footprint.{replayed}
 use Rattle.nd_model.proofs.Lists.{same_bytes, bytes_eq_self, bytes_eq_apart, not_both, lookup-bind, lookup-unbind}
 
 module _ (b : Base) where

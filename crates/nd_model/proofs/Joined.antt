@@ -5,7 +5,7 @@ use Rattle.std.specs.Option.{option_map}
 use Rattle.std.proofs.lemmas.Bool.{cases_Bool, or_cases}
 use Rattle.std.proofs.lemmas.Bool.Decides.{nat_tests}
 use Rattle.std.proofs.lemmas.List.{drop_all, drop-append-le, reverse-append, reverse-reverse, length-reverse}
-use Rattle.nd_model.specs.Broadcast.{common_length, and_axis, common_axes, broadcast, can_stretch, broadcasts_to}
+use Rattle.nd_model.specs.Arrays.Broadcast.{common_length, and_axis, common_axes, broadcast, can_stretch, broadcasts_to}
 use Rattle.nd_model.proofs.Transposed.{both}
 
 -- ---- axes, the last one first

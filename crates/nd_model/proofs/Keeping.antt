@@ -2,12 +2,12 @@
 use Rattle.std.proofs.Common.{◌≡◌, ℕ, cond, Some, None, refl, sym, ap, ◌∙◌, inl, inr}
 use mathlib.Core.Path.{fun_ext}
 use Rattle.std.proofs.lemmas.Bool.{cases_Bool}
-use Rattle.nd_model.specs.Session.{Session}
-use Rattle.nd_model.specs.Running.{Key, Inputs}
-use Rattle.nd_model.specs.Syntax.{Parsed}
-use Rattle.nd_model.specs.Cell.{cell}
-use Rattle.nd_model.specs.Footprint.{Found, found, Agree, reads_of, effects_of}
-use Rattle.nd_model.specs.Records.{record_of, StillHolds, Kept}
+use Rattle.nd_model.specs.Cells.Session.{Session}
+use Rattle.nd_model.specs.Cells.Running.{Key, Inputs}
+use Rattle.nd_model.specs.Grammar.Syntax.{Parsed}
+use Rattle.nd_model.specs.Cells.Cell.{cell}
+use Rattle.nd_model.specs.Cells.Footprint.{Found, found, Agree, reads_of, effects_of}
+use Rattle.nd_model.specs.Book.Records.{record_of, StillHolds, Kept}
 use Rattle.nd_model.proofs.Frames.{frame}
 use Rattle.nd_model.proofs.Tracks.{replay}
 

@@ -4,17 +4,17 @@ use Rattle.std.specs.Prelude.{⊤}
 use Rattle.std.proofs.lemmas.Bool.{cases_Bool, and_from, or_parts}
 use Rattle.std.proofs.lemmas.Bool.Decides.{nat_tests}
 use Rattle.std.proofs.lemmas.List.{take-map}
-use Rattle.nd_model.specs.Session.{Session, no_session, is_in}
-use Rattle.nd_model.specs.Running.{Inputs}
-use Rattle.nd_model.specs.Reading.{reading}
-use Rattle.nd_model.specs.Cell.{session_after}
-use Rattle.nd_model.specs.Footprint.{Agree, HasNone, found, reads_of}
-use Rattle.nd_model.specs.Records.{record_of, StillHolds}
-use Rattle.nd_model.specs.Scheduler.{IsOfRun, AreOfRuns, records}
-use Rattle.nd_model.specs.Renaming.{AreDistinct}
-use Rattle.nd_model.specs.Book.{Cell, Book, labels_of}
-use Rattle.nd_model.specs.Entries.{Entry, ended, record_at, entries, after_cells, entries_of, records_of, SameFront}
-use Rattle.nd_model.specs.Stale.{is_same, entry_before, IsStale, AtLeast, slot_of, RunsAtNeed, runs_in, FewRuns, MarksAll, AtMostIsAtMost, MarksOnly, FrontIsNotStale}
+use Rattle.nd_model.specs.Cells.Session.{Session, no_session, is_in}
+use Rattle.nd_model.specs.Cells.Running.{Inputs}
+use Rattle.nd_model.specs.Grammar.Reading.{reading}
+use Rattle.nd_model.specs.Cells.Cell.{session_after}
+use Rattle.nd_model.specs.Cells.Footprint.{Agree, HasNone, found, reads_of}
+use Rattle.nd_model.specs.Book.Records.{record_of, StillHolds}
+use Rattle.nd_model.specs.Book.Scheduler.{IsOfRun, AreOfRuns, records}
+use Rattle.nd_model.specs.Book.Renaming.{AreDistinct}
+use Rattle.nd_model.specs.Book.Book.{Cell, Book, labels_of}
+use Rattle.nd_model.specs.Book.Entries.{Entry, ended, record_at, entries, after_cells, entries_of, records_of, SameFront}
+use Rattle.nd_model.specs.Book.Stale.{is_same, entry_before, IsStale, AtLeast, slot_of, RunsAtNeed, runs_in, FewRuns, MarksAll, AtMostIsAtMost, MarksOnly, FrontIsNotStale}
 use Rattle.nd_model.proofs.Lists.{bytes_eq_self, not_both, same_bytes}
 use Rattle.nd_model.proofs.Fresh.{has_none_after}
 use Rattle.nd_model.proofs.Passing.{any_pass}

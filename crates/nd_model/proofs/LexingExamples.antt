@@ -1,9 +1,9 @@
 -- The tokens of some texts, computed.
 use Rattle.std.specs.Prelude.{ℕ, Bool, true, false, List, [], ◌∷◌, ◌++◌, codes, Result, Ok, Err}
 use Rattle.std.proofs.Common.{◌≡◌, refl}
-use Rattle.nd_model.specs.Token.{Word, Name, Integer, Plus, Equal, OpenParen, Ellipsis, Dot, Quoted, Keyword, Print, End, Token}
-use Rattle.nd_model.specs.Fault.{ParseFault, BadToken}
-use Rattle.nd_model.specs.Lexing.{tokens, tokens_from, piece_at, word_at, symbols, keywords}
+use Rattle.nd_model.specs.Grammar.Token.{Word, Name, Integer, Plus, Equal, OpenParen, Ellipsis, Dot, Quoted, Keyword, Print, End, Token}
+use Rattle.nd_model.specs.Cells.Fault.{ParseFault, BadToken}
+use Rattle.nd_model.specs.Grammar.Lexing.{tokens, tokens_from, piece_at, word_at, symbols, keywords}
 
 token : Bool → Word → ℕ → ℕ → Token
 token starts word line column = record { word = word; line = line; column = column; starts = starts }

@@ -4,7 +4,7 @@ use Rattle.std.specs.Prelude.{bytes_eq}
 use Rattle.std.proofs.lemmas.Bool.{cases_Bool, cases_lt, cases_eq, eqb-false, or_parts, or_from, false_from_ne_true}
 use Rattle.std.proofs.lemmas.Slice.Eq.{bytes_eq-Decides}
 use Rattle.std.proofs.Math.ListN.{get_or-eq_default}
-use Rattle.nd_model.specs.Session.{lookup, bind, unbind, put, is_place}
+use Rattle.nd_model.specs.Cells.Session.{lookup, bind, unbind, put, is_place}
 
 -- TEXTS
 pub same_bytes : (a b : List ℕ) → bytes_eq a b ≡ true → a ≡ b

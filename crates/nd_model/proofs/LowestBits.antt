@@ -6,7 +6,7 @@ use Rattle.std.proofs.Math.Pow.{mod-mod-pow, pow_mono}
 use Rattle.std.proofs.Math.Nat.{mod-lt}
 use Rattle.std.proofs.lemmas.Nat.{pow-add, mod-pow-add, mod-mul-add}
 use Rattle.std.proofs.lemmas.Int.{of_z-to_z}
-use Rattle.nd_model.specs.Element.{Kind, Boolean, Int8, Int16, Int32, Int64, UInt8, UInt16, UInt32, UInt64, Element, residue, value_in, width_of, bytes_in, bytes_of, wrap}
+use Rattle.nd_model.specs.Arrays.Element.{Kind, Boolean, Int8, Int16, Int32, Int64, UInt8, UInt16, UInt32, UInt64, Element, residue, value_in, width_of, bytes_in, bytes_of, wrap}
 use Rattle.nd_model.proofs.Values.{signed_residue, residue_small}
 
 -- what is left below a power, of a number that two powers hold

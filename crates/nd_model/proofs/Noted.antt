@@ -3,23 +3,23 @@ use Rattle.std.proofs.Common.{◌≡◌, ℕ, zero, suc, Bool, true, false, not,
 use Rattle.std.specs.Prelude.{nat_eq}
 use mathlib.Core.Path.{fun_ext}
 use Rattle.std.proofs.lemmas.Bool.{cases_Bool, or_left, and_from}
-use Rattle.nd_model.specs.View.{ElementType, One, Structure, Geo, item_size, byte_places, contiguous}
-use Rattle.nd_model.specs.Broadcast.{broadcast_view}
-use Rattle.nd_model.specs.Value.{Base, same_base, Value, Int, Truth, Scalar, Array, Row}
-use Rattle.nd_model.specs.Strides.{limit_fault}
-use Rattle.nd_model.specs.Session.{lookup}
-use Rattle.nd_model.specs.Content.{Content, array_bytes}
-use Rattle.nd_model.specs.Running.{Inputs, Key, Name, Input, Length, Byte, Running, Lookup, Use, Make, after, is_name, is_length_of, is_own, Effect, Storing, done}
-use Rattle.nd_model.specs.Fault.{Fault, ViewFault}
-use Rattle.nd_model.specs.Evaluation.{Eval, run}
-use Rattle.nd_model.specs.Operand as operand
-use Rattle.nd_model.specs.Operand.{Operand, Usage, Made, ANumber, AnArray, Loaded, AFile, ABuffer, Chosen, AnElement, AView, ACopy, Stretched, Deed, NoDeed, PrintsText, SavesFile, BindsFirst, BindsMade, Unbinds, Writes, MakesAndWrites}
-use Rattle.nd_model.specs.Viewing.{choose}
-use Rattle.nd_model.specs.Operation
-use Rattle.nd_model.specs.Operation.{Operation, Computes, Views, perform, Plan, Named, FromInput, Does, Plans, Done, And, evaluate, with_values, evaluate_all, Work, Acts, ActsOn}
-use Rattle.nd_model.specs.Meaning
-use Rattle.nd_model.specs.Sound.{IsViewOf}
-use Rattle.nd_model.specs.Noting.{WritesReadNoMore}
+use Rattle.nd_model.specs.Arrays.View.{ElementType, One, Structure, Geo, item_size, byte_places, contiguous}
+use Rattle.nd_model.specs.Arrays.Broadcast.{broadcast_view}
+use Rattle.nd_model.specs.Arrays.Value.{Base, same_base, Value, Int, Truth, Scalar, Array, Row}
+use Rattle.nd_model.specs.Arrays.Strides.{limit_fault}
+use Rattle.nd_model.specs.Cells.Session.{lookup}
+use Rattle.nd_model.specs.Arrays.Content.{Content, array_bytes}
+use Rattle.nd_model.specs.Cells.Running.{Inputs, Key, Name, Input, Length, Byte, Running, Lookup, Use, Make, after, is_name, is_length_of, is_own, Effect, Storing, done}
+use Rattle.nd_model.specs.Cells.Fault.{Fault, ViewFault}
+use Rattle.nd_model.specs.Cells.Evaluation.{Eval, run}
+use Rattle.nd_model.specs.Making.Operand as operand
+use Rattle.nd_model.specs.Making.Operand.{Operand, Usage, Made, ANumber, AnArray, Loaded, AFile, ABuffer, Chosen, AnElement, AView, ACopy, Stretched, Deed, NoDeed, PrintsText, SavesFile, BindsFirst, BindsMade, Unbinds, Writes, MakesAndWrites}
+use Rattle.nd_model.specs.Indexing.Viewing.{choose}
+use Rattle.nd_model.specs.Cells.Operation
+use Rattle.nd_model.specs.Cells.Operation.{Operation, Computes, Views, perform, Plan, Named, FromInput, Does, Plans, Done, And, evaluate, with_values, evaluate_all, Work, Acts, ActsOn}
+use Rattle.nd_model.specs.Cells.Meaning
+use Rattle.nd_model.specs.Cells.Sound.{IsViewOf}
+use Rattle.nd_model.specs.Cells.Noting.{WritesReadNoMore}
 use Rattle.nd_model.proofs.Growing.{Grows, stays, grows_on}
 use Rattle.nd_model.proofs.Soundness.{views_map, Safe, safe_bind, safe_decided, safe_limits, safe_operands, safe_input, IfFound, IfGiven, given_run}
 

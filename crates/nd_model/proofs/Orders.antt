@@ -2,9 +2,9 @@
 use Rattle.std.proofs.Common.{◌≡◌, ℕ, zero, suc, ◌+◌, ◌<◌, ◌≤◌, Bool, true, false, ◌||◌, nat_eq, if◌then◌else◌, List, [], ◌∷◌, length, get_or, refl, sym, ap, ◌∙◌, ◌⊎◌, inl, inr, arith, eqb-true}
 use Rattle.std.proofs.lemmas.Bool.{cases_Bool}
 use Rattle.std.proofs.lemmas.Bool.Decides.{nat_tests}
-use Rattle.nd_model.specs.Session.{is_in}
-use Rattle.nd_model.specs.Transposing.{position_in}
-use Rattle.nd_model.specs.Tuple.{count_up}
+use Rattle.nd_model.specs.Cells.Session.{is_in}
+use Rattle.nd_model.specs.Indexing.Transposing.{position_in}
+use Rattle.nd_model.specs.Arrays.Tuple.{count_up}
 use Rattle.nd_model.proofs.Tuples.{length-count_up}
 
 pub same_is : (a : ℕ) → nat_eq a a ≡ true

@@ -3,15 +3,15 @@ use Rattle.std.proofs.Common.{◌≡◌, ℕ, zero, suc, ◌+◌, ◌<◌, IsTru
 use mathlib.Core.Path.{fun_ext}
 use Rattle.std.specs.Prelude.{bytes_eq, ⊤}
 use Rattle.std.proofs.lemmas.Bool.{cases_Bool, or_left, or_right, or_cases, or_parts, or_from, eqb-false}
-use Rattle.nd_model.specs.Value.{Base, Value, Truth, lies_in}
-use Rattle.nd_model.specs.Session.{Names, lookup, bind, unbind, is_held, Session, held_bytes}
-use Rattle.nd_model.specs.Running.{Event, Binds, Unbinds, Name, Input, Length, Byte, Key, Inputs, is_event_of, is_touched}
-use Rattle.nd_model.specs.Reading.{reading}
-use Rattle.nd_model.specs.Sound.{IsSoundSession}
-use Rattle.nd_model.specs.Footprint.{Bound, Number, found, patched, replayed}
-use Rattle.nd_model.specs.Records.{Record, StillHolds}
-use Rattle.nd_model.specs.Entries.{Entry, record_at, entry_at, session_before}
-use Rattle.nd_model.specs.Overlay.{IsOwn, IsForeign, BindsOwn, BindSame, WritesNothing, IsOverlay, BindsOthers, IsApart, Misses, StandApart, AreBound, IsUnder, did, IsOnce, NamesStandOnce, OverlayBegins, OverlayHolds, OverlayStays, blanks, blanked, OverlayBlanks, SessionsAreSound}
+use Rattle.nd_model.specs.Arrays.Value.{Base, Value, Truth, lies_in}
+use Rattle.nd_model.specs.Cells.Session.{Names, lookup, bind, unbind, is_held, Session, held_bytes}
+use Rattle.nd_model.specs.Cells.Running.{Event, Binds, Unbinds, Name, Input, Length, Byte, Key, Inputs, is_event_of, is_touched}
+use Rattle.nd_model.specs.Grammar.Reading.{reading}
+use Rattle.nd_model.specs.Cells.Sound.{IsSoundSession}
+use Rattle.nd_model.specs.Cells.Footprint.{Bound, Number, found, patched, replayed}
+use Rattle.nd_model.specs.Book.Records.{Record, StillHolds}
+use Rattle.nd_model.specs.Book.Entries.{Entry, record_at, entry_at, session_before}
+use Rattle.nd_model.specs.Book.Overlay.{IsOwn, IsForeign, BindsOwn, BindSame, WritesNothing, IsOverlay, BindsOthers, IsApart, Misses, StandApart, AreBound, IsUnder, did, IsOnce, NamesStandOnce, OverlayBegins, OverlayHolds, OverlayStays, blanks, blanked, OverlayBlanks, SessionsAreSound}
 use Rattle.nd_model.proofs.Lists.{same_bytes, bytes_eq_same, bytes_eq_self, not_both, lookup-bind, lookup-unbind}
 use Rattle.nd_model.proofs.CutOff.{does, patched_none}
 use Rattle.nd_model.proofs.Entries.{fresh_at, session_before-next}

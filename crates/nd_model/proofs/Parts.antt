@@ -5,12 +5,12 @@ use Rattle.std.specs.List.{list_all, All}
 use Rattle.std.proofs.lemmas.List.Elements.{All-nil, All-cons}
 use Rattle.std.proofs.lemmas.List.{length-map}
 use Rattle.std.proofs.lemmas.Bool.Decides.{nat_tests}
-use Rattle.nd_model.specs.Fault.{ViewFault, AxesDiffer, OutOfBlock}
-use Rattle.nd_model.specs.Tuple.{indices}
-use Rattle.nd_model.specs.View.{ElementType, Geo, item_size}
-use Rattle.nd_model.specs.Sound.{LiesIn}
+use Rattle.nd_model.specs.Cells.Fault.{ViewFault, AxesDiffer, OutOfBlock}
+use Rattle.nd_model.specs.Arrays.Tuple.{indices}
+use Rattle.nd_model.specs.Arrays.View.{ElementType, Geo, item_size}
+use Rattle.nd_model.specs.Cells.Sound.{LiesIn}
 use Rattle.nd_model.proofs.Tuples.{length-indices}
-use Rattle.nd_model.specs.Strides.{begins_at, place_at, is_held, are_held, limit_fault, or_else, parts_fault, unless, parted, from_parts, PartsAreHeld}
+use Rattle.nd_model.specs.Arrays.Strides.{begins_at, place_at, is_held, are_held, limit_fault, or_else, parts_fault, unless, parted, from_parts, PartsAreHeld}
 
 held_end : (size len : ℕ) (z : ℤ) → is_held size len z ≡ true → unsigned_abs z + size ≤ len
 held_end size len z held =

@@ -3,7 +3,7 @@ use Rattle.std.proofs.Common.{◌≡◌, ℕ, zero, suc, ◌-◌, ◌*◌, ◌/�
 use Rattle.std.specs.List.{concat}
 use Rattle.std.proofs.Math.Nat.{zero-div, div-eq-sub-div, mul-div_cancel}
 use Rattle.std.proofs.lemmas.List.{take-append-drop}
-use Rattle.nd_model.specs.Runs.{pieces, in_pieces}
+use Rattle.nd_model.specs.Arrays.Runs.{pieces, in_pieces}
 
 -- the empty list has none
 pub no_pieces : (n : ℕ) → in_pieces n [] ≡ []

@@ -2,9 +2,9 @@
 use Rattle.std.proofs.Common.{◌≡◌, ℕ, zero, suc, ◌+◌, ◌<◌, ◌≤◌, List, [], ◌∷◌, ◌++◌, length, take, drop, map, refl, sym, ap, ◌∙◌, arith, append-nil}
 use Rattle.std.specs.Prelude.{slice_set}
 use Rattle.std.specs.List.{zip}
-use Rattle.nd_model.specs.Element.{with_bytes}
-use Rattle.nd_model.specs.Tuple.{count_up}
-use Rattle.nd_model.specs.Session.{put}
+use Rattle.nd_model.specs.Arrays.Element.{with_bytes}
+use Rattle.nd_model.specs.Arrays.Tuple.{count_up}
+use Rattle.nd_model.specs.Cells.Session.{put}
 
 pub put-append : (vs ws : List (ℕ × ℕ)) (xs : List ℕ) → put (vs ++ ws) xs ≡ put ws (put vs xs)
 put-append [] ws xs = refl

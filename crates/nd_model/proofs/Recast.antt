@@ -8,16 +8,16 @@ use Rattle.std.proofs.lemmas.Bool.Decides.{nat_tests}
 use Rattle.std.proofs.lemmas.List.{length-map}
 use Rattle.std.proofs.lemmas.List.Elements.{All-map, All-weaker}
 use Rattle.std.proofs.lemmas.List.Folds.{list_all-append}
-use Rattle.nd_model.specs.Element.{Element, size_of}
-use Rattle.nd_model.specs.Tuple.{count_up, indices}
-use Rattle.nd_model.specs.Strides.{limit_fault}
-use Rattle.nd_model.specs.View.{Geo, One, item_size, place_of}
-use Rattle.nd_model.specs.Fault.{Fault, View, ItemSizes}
-use Rattle.nd_model.specs.Refusing.{when}
-use Rattle.nd_model.specs.Broadcast.{in_limits}
-use Rattle.nd_model.specs.Creation.{is_number_type}
-use Rattle.nd_model.specs.Recasting.{last_of, with_last, row_start, has_whole_rows, row_bytes, can_recast, recast_shape, recast_view, view_as}
-use Rattle.nd_model.specs.Sound.{LiesIn}
+use Rattle.nd_model.specs.Arrays.Element.{Element, size_of}
+use Rattle.nd_model.specs.Arrays.Tuple.{count_up, indices}
+use Rattle.nd_model.specs.Arrays.Strides.{limit_fault}
+use Rattle.nd_model.specs.Arrays.View.{Geo, One, item_size, place_of}
+use Rattle.nd_model.specs.Cells.Fault.{Fault, View, ItemSizes}
+use Rattle.nd_model.specs.Cells.Refusing.{when}
+use Rattle.nd_model.specs.Arrays.Broadcast.{in_limits}
+use Rattle.nd_model.specs.Making.Creation.{is_number_type}
+use Rattle.nd_model.specs.Indexing.Recasting.{last_of, with_last, row_start, has_whole_rows, row_bytes, can_recast, recast_shape, recast_view, view_as}
+use Rattle.nd_model.specs.Cells.Sound.{LiesIn}
 use Rattle.nd_model.proofs.Tuples.{length-indices, IsTuple, all_tuples}
 use Rattle.nd_model.proofs.Taking.{place_within}
 use Rattle.nd_model.proofs.Transposed.{both, when_ok, ok_same}

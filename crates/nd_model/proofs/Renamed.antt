@@ -3,26 +3,26 @@ use Rattle.std.proofs.Common.{◌≡◌, ℕ, zero, suc, ◌+◌, Bool, true, fa
 use Rattle.std.specs.Prelude.{bytes_eq}
 use Rattle.std.specs.List.{flat_map}
 use Rattle.std.proofs.lemmas.Bool.{cases_Bool, cases_eq}
-use Rattle.nd_model.specs.View.{ElementType, One, Structure, Geo, item_size, contiguous}
-use Rattle.nd_model.specs.Value.{Base, same_base, Value, lies_in}
-use Rattle.nd_model.specs.Session.{Names, lookup, bind, unbind, is_held, Session, no_session, put}
-use Rattle.nd_model.specs.Content.{Content, contents_in, content_in_order}
-use Rattle.nd_model.specs.Running.{Key, Source, Inputs, Running, start, having_read, Lookup, Ask, Use, Make, reply, made, after, Effect, Nothing, Prints, Saves, Binding, Unbinding, Storing, done, Output, output}
-use Rattle.nd_model.specs.Fault.{Fault, ViewFault, BadArgument}
-use Rattle.nd_model.specs.Fault as fault
-use Rattle.nd_model.specs.InputName.{is_input_name}
-use Rattle.nd_model.specs.Strides.{limit_fault}
-use Rattle.nd_model.specs.Syntax.{Stmt, Line, Parsed}
-use Rattle.nd_model.specs.Evaluation.{Eval, Gives, Refuses, Asks, run, ◌>>=◌, decide}
-use Rattle.nd_model.specs.Operand as operand
-use Rattle.nd_model.specs.Operand.{Operand, Usage, Made, ANumber, AnArray, Loaded, AFile, ABuffer, Chosen, AnElement, AView, ACopy, Stretched, Deed, NoDeed, PrintsText, SavesFile, BindsFirst, BindsMade, Unbinds, Writes, MakesAndWrites}
-use Rattle.nd_model.specs.Viewing.{choose}
-use Rattle.nd_model.specs.Operation
-use Rattle.nd_model.specs.Operation.{operands, Operation, Computes, Views, perform, Plan, Named, FromInput, Does, Plans, Done, And, evaluate, with_values, evaluate_all, Work, Acts, ActsOn}
-use Rattle.nd_model.specs.Meaning
-use Rattle.nd_model.specs.Cell.{Saved, Ended, had, statement, most_text, with_save, and_then, statements, ran, cell, session_after, notebook}
-use Rattle.nd_model.specs.Renaming
-use Rattle.nd_model.specs.Renaming.{IsOneToOne, AreRelabelled, SameBase, SameValue, int, truth, scalar, array, row, SameNames, no_name, entry, LikeSessions, Like, LikeEnds, Shown, shown_element, shown, shown_names, Told, told, Rename}
+use Rattle.nd_model.specs.Arrays.View.{ElementType, One, Structure, Geo, item_size, contiguous}
+use Rattle.nd_model.specs.Arrays.Value.{Base, same_base, Value, lies_in}
+use Rattle.nd_model.specs.Cells.Session.{Names, lookup, bind, unbind, is_held, Session, no_session, put}
+use Rattle.nd_model.specs.Arrays.Content.{Content, contents_in, content_in_order}
+use Rattle.nd_model.specs.Cells.Running.{Key, Source, Inputs, Running, start, having_read, Lookup, Ask, Use, Make, reply, made, after, Effect, Nothing, Prints, Saves, Binding, Unbinding, Storing, done, Output, output}
+use Rattle.nd_model.specs.Cells.Fault.{Fault, ViewFault, BadArgument}
+use Rattle.nd_model.specs.Cells.Fault as fault
+use Rattle.nd_model.specs.Cells.InputName.{is_input_name}
+use Rattle.nd_model.specs.Arrays.Strides.{limit_fault}
+use Rattle.nd_model.specs.Grammar.Syntax.{Stmt, Line, Parsed}
+use Rattle.nd_model.specs.Cells.Evaluation.{Eval, Gives, Refuses, Asks, run, ◌>>=◌, decide}
+use Rattle.nd_model.specs.Making.Operand as operand
+use Rattle.nd_model.specs.Making.Operand.{Operand, Usage, Made, ANumber, AnArray, Loaded, AFile, ABuffer, Chosen, AnElement, AView, ACopy, Stretched, Deed, NoDeed, PrintsText, SavesFile, BindsFirst, BindsMade, Unbinds, Writes, MakesAndWrites}
+use Rattle.nd_model.specs.Indexing.Viewing.{choose}
+use Rattle.nd_model.specs.Cells.Operation
+use Rattle.nd_model.specs.Cells.Operation.{operands, Operation, Computes, Views, perform, Plan, Named, FromInput, Does, Plans, Done, And, evaluate, with_values, evaluate_all, Work, Acts, ActsOn}
+use Rattle.nd_model.specs.Cells.Meaning
+use Rattle.nd_model.specs.Cells.Cell.{Saved, Ended, had, statement, most_text, with_save, and_then, statements, ran, cell, session_after, notebook}
+use Rattle.nd_model.specs.Book.Renaming
+use Rattle.nd_model.specs.Book.Renaming.{IsOneToOne, AreRelabelled, SameBase, SameValue, int, truth, scalar, array, row, SameNames, no_name, entry, LikeSessions, Like, LikeEnds, Shown, shown_element, shown, shown_names, Told, told, Rename}
 
 abbrev is : {A : Type 0} → A → A → Type 0
 is x y = x ≡ y

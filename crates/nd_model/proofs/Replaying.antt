@@ -1,18 +1,18 @@
 -- The effects of a cell, put on another session, leave it sound: what a cell binds has its own bases below the next one.
 use Rattle.std.proofs.Common.{◌≡◌, ℕ, ◌<◌, leb, List, [], ◌∷◌, ◌++◌, length, Result, Ok, Err, refl, sym, subst, ◌∙◌, eq-eqb, true, false, arith}
 use Rattle.std.proofs.lemmas.Bool.{or_parts, and_from}
-use Rattle.nd_model.specs.View.{Geo}
-use Rattle.nd_model.specs.Value.{Base, same_base, Value, Int, Truth, Scalar, Array, Row, lies_in}
-use Rattle.nd_model.specs.Session.{Names, bind, unbind, is_held, Session, held_bytes}
-use Rattle.nd_model.specs.Running.{Event, Binds, Unbinds, Inputs, Running, start, Act, Lookup, Ask, Use, Make, reply, after, Effect, Nothing, Prints, Saves, Binding, Unbinding, Storing, done, Output}
-use Rattle.nd_model.specs.Fault.{Fault}
-use Rattle.nd_model.specs.Syntax.{Stmt, Line, Parsed}
-use Rattle.nd_model.specs.Evaluation.{Eval, Gives, Refuses, Asks, run}
-use Rattle.nd_model.specs.Meaning.{meaning, work}
-use Rattle.nd_model.specs.Cell.{Saved, Ended, had, statement, most_text, with_save, and_then, statements, ran, cell}
-use Rattle.nd_model.specs.Footprint.{effects_of, replayed, with_effects}
-use Rattle.nd_model.specs.Sound.{LiesIn, IsViewOf, AreViewsOf, IsHeldView, IsSound, IsSoundSession, ReplaysSound}
-use Rattle.nd_model.specs.Overlay.{OverlaySound}
+use Rattle.nd_model.specs.Arrays.View.{Geo}
+use Rattle.nd_model.specs.Arrays.Value.{Base, same_base, Value, Int, Truth, Scalar, Array, Row, lies_in}
+use Rattle.nd_model.specs.Cells.Session.{Names, bind, unbind, is_held, Session, held_bytes}
+use Rattle.nd_model.specs.Cells.Running.{Event, Binds, Unbinds, Inputs, Running, start, Act, Lookup, Ask, Use, Make, reply, after, Effect, Nothing, Prints, Saves, Binding, Unbinding, Storing, done, Output}
+use Rattle.nd_model.specs.Cells.Fault.{Fault}
+use Rattle.nd_model.specs.Grammar.Syntax.{Stmt, Line, Parsed}
+use Rattle.nd_model.specs.Cells.Evaluation.{Eval, Gives, Refuses, Asks, run}
+use Rattle.nd_model.specs.Cells.Meaning.{meaning, work}
+use Rattle.nd_model.specs.Cells.Cell.{Saved, Ended, had, statement, most_text, with_save, and_then, statements, ran, cell}
+use Rattle.nd_model.specs.Cells.Footprint.{effects_of, replayed, with_effects}
+use Rattle.nd_model.specs.Cells.Sound.{LiesIn, IsViewOf, AreViewsOf, IsHeldView, IsSound, IsSoundSession, ReplaysSound}
+use Rattle.nd_model.specs.Book.Overlay.{OverlaySound}
 use Rattle.nd_model.proofs.Lists.{not_both}
 use Rattle.nd_model.proofs.Frames.{either_end}
 use Rattle.nd_model.proofs.Growing.{Grows, grows_run}

@@ -7,13 +7,13 @@ use Rattle.std.proofs.lemmas.Bool.{cases_Bool}
 use Rattle.std.proofs.lemmas.Bool.Decides.{nat_tests}
 use Rattle.std.proofs.lemmas.Int.{ints}
 use Rattle.std.proofs.lemmas.List.{length-map}
-use Rattle.nd_model.specs.Fault.{Fault, Shape, TooManyAxes, TooManyElements}
-use Rattle.nd_model.specs.Strides.{IsInLimits, is_too_large}
-use Rattle.nd_model.specs.Tuple.{elements_of}
-use Rattle.nd_model.specs.View.{Geo, item_size}
-use Rattle.nd_model.specs.ShapeFault.{TwoUnknown, SizeMismatch}
-use Rattle.nd_model.specs.Reshaping.{is_unknown, is_length, is_left, unknowns, length_or, lengths_with, known_elements, shape_for, is_even, Reshaped, View, Copy, reshaped_or, reshape}
-use Rattle.nd_model.specs.Sound.{LiesIn}
+use Rattle.nd_model.specs.Cells.Fault.{Fault, Shape, TooManyAxes, TooManyElements}
+use Rattle.nd_model.specs.Arrays.Strides.{IsInLimits, is_too_large}
+use Rattle.nd_model.specs.Arrays.Tuple.{elements_of}
+use Rattle.nd_model.specs.Arrays.View.{Geo, item_size}
+use Rattle.nd_model.specs.Indexing.ShapeFault.{TwoUnknown, SizeMismatch}
+use Rattle.nd_model.specs.Indexing.Reshaping.{is_unknown, is_length, is_left, unknowns, length_or, lengths_with, known_elements, shape_for, is_even, Reshaped, View, Copy, reshaped_or, reshape}
+use Rattle.nd_model.specs.Cells.Sound.{LiesIn}
 use Rattle.nd_model.proofs.Taking.{IsWithin}
 use Rattle.nd_model.proofs.Transposed.{both, when_ok, ok_same}
 

@@ -6,7 +6,7 @@ use Rattle.std.specs.Int.RustNames.{FitsSigned}
 use native.Mathlib.Nat.{mod-eq_of_lt}
 use Rattle.std.proofs.lemmas.Nat.{le_bytes_2, be_bytes_2, le_bytes_4, be_bytes_4, le_bytes_8, be_bytes_8}
 use Rattle.std.proofs.lemmas.Int.{of_z-to_z, SFits-int_wrap}
-use Rattle.nd_model.specs.Element.{Kind, Boolean, Int8, Int16, Int32, Int64, UInt8, UInt16, UInt32, UInt64, width_of, size_of, IsValue, number_in, value_in, bytes_in, residue, wrap, BytesRoundTrip, OneWrap}
+use Rattle.nd_model.specs.Arrays.Element.{Kind, Boolean, Int8, Int16, Int32, Int64, UInt8, UInt16, UInt32, UInt64, width_of, size_of, IsValue, number_in, value_in, bytes_in, residue, wrap, BytesRoundTrip, OneWrap}
 use Rattle.nd_model.proofs.Values.{bits_are, residue_small, residue_signed, signed_residue, value_residue, wrap_in_range, few_bytes}
 
 -- ---- residues

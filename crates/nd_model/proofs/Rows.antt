@@ -1,23 +1,23 @@
 -- Rows: cells that compute.
 use Rattle.std.proofs.Common.{◌≡◌, ℕ, pos, negsuc, List, [], ◌∷◌, ◌++◌, Option, Some, None, refl, codes}
 use Rattle.std.specs.Fmt.{digits}
-use Rattle.nd_model.specs.Session.{no_session}
-use Rattle.nd_model.specs.Fault.{Refusal}
-use Rattle.nd_model.specs.Cell.{Ended, Saved, cell as cell_of}
-use Rattle.nd_model.specs.Running.{Source, Npy, Buffer}
-use Rattle.nd_model.specs.RuleReading.{reading as rule_reading}
-use Rattle.nd_model.specs.FormatGrammar.{format}
-use Rattle.nd_model.specs.FormatReading.{read_format}
-use Rattle.nd_model.specs.NpyHeader.{header, header_in}
-use Rattle.nd_model.specs.NpyReading.{header_of, elements_in, read_npy}
-use Rattle.nd_model.specs.NpyWriting.{npy_front}
-use Rattle.nd_model.specs.Reading.{reading}
-use Rattle.nd_model.specs.FaultText.{refusal_text}
-use Rattle.nd_model.specs.Grammar.{has}
-use Rattle.nd_model.specs.Lexing.{tokens, tokens_from, piece_at, word_at, keywords, symbols}
-use Rattle.nd_model.specs.Kinds.{keyword_kinds, name_kinds}
-use Rattle.nd_model.specs.Cells.{name, grouped, bound_in, step_in, slice, newaxis, elements, list, part, item, nothing, contents, index, exprs, quoted, no_lengths, tuple, shape, kind_name, type_name, pair, fields, dtype, typing, only_typing, comma_typing, named_axis, numbered_axis, named_keepdims, only_keepdims, comma_keepdims, options, comma_options, first_axis, third, second, arange, filled, full, new_array, broadcast_to, two, reduce, accumulate, fold, call, function, empty, type_argument, axes, lengths, reduction_options, reduction, accumulation, attribute, method, operand, suffix, postfix, exponent, power, signed, unary, term, sum, shift, band, bxor, bor, comparison, expr, under, module_name, imports, delete, printed, print, saved, save, value, line, lines}
-use Rattle.nd_model.specs.Factored.{bind, place, group, groups, target, assign, stmt, cell}
+use Rattle.nd_model.specs.Cells.Session.{no_session}
+use Rattle.nd_model.specs.Cells.Fault.{Refusal}
+use Rattle.nd_model.specs.Cells.Cell.{Ended, Saved, cell as cell_of}
+use Rattle.nd_model.specs.Cells.Running.{Source, Npy, Buffer}
+use Rattle.nd_model.specs.Formats.RuleReading.{reading as rule_reading}
+use Rattle.nd_model.specs.Formats.FormatGrammar.{format}
+use Rattle.nd_model.specs.Formats.FormatReading.{read_format}
+use Rattle.nd_model.specs.Formats.NpyHeader.{header, header_in}
+use Rattle.nd_model.specs.Formats.NpyReading.{header_of, elements_in, read_npy}
+use Rattle.nd_model.specs.Formats.NpyWriting.{npy_front}
+use Rattle.nd_model.specs.Grammar.Reading.{reading}
+use Rattle.nd_model.specs.Text.FaultText.{refusal_text}
+use Rattle.nd_model.specs.Grammar.Grammar.{has}
+use Rattle.nd_model.specs.Grammar.Lexing.{tokens, tokens_from, piece_at, word_at, keywords, symbols}
+use Rattle.nd_model.specs.Grammar.Kinds.{keyword_kinds, name_kinds}
+use Rattle.nd_model.specs.Grammar.Cells.{name, grouped, bound_in, step_in, slice, newaxis, elements, list, part, item, nothing, contents, index, exprs, quoted, no_lengths, tuple, shape, kind_name, type_name, pair, fields, dtype, typing, only_typing, comma_typing, named_axis, numbered_axis, named_keepdims, only_keepdims, comma_keepdims, options, comma_options, first_axis, third, second, arange, filled, full, new_array, broadcast_to, two, reduce, accumulate, fold, call, function, empty, type_argument, axes, lengths, reduction_options, reduction, accumulation, attribute, method, operand, suffix, postfix, exponent, power, signed, unary, term, sum, shift, band, bxor, bor, comparison, expr, under, module_name, imports, delete, printed, print, saved, save, value, line, lines}
+use Rattle.nd_model.specs.Grammar.Factored.{bind, place, group, groups, target, assign, stmt, cell}
 
 abbrev refused : Option (ℕ × Refusal) → List ℕ
 refused None = codes "ok"

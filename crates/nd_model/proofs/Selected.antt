@@ -7,16 +7,16 @@ use Rattle.std.proofs.lemmas.Bool.Decides.{nat_tests}
 use Rattle.std.proofs.Math.Nat.{div-mul-le_self, mul-le-mul_right}
 use Rattle.std.proofs.lemmas.Int.{ints}
 use Rattle.std.proofs.lemmas.List.Elements.{All-nil, All-cons, All-map}
-use Rattle.nd_model.specs.Tuple.{count_up}
-use Rattle.nd_model.specs.View.{Geo, item_size}
-use Rattle.nd_model.specs.Strides.{limit_fault}
-use Rattle.nd_model.specs.Fault.{Fault, ViewFault, IndexFault, OutOfBounds}
-use Rattle.nd_model.specs.Refusing.{when}
-use Rattle.nd_model.specs.Broadcast.{unless_fault}
-use Rattle.nd_model.specs.Selecting.{counted_from, is_within}
-use Rattle.nd_model.specs.Slicing.{from_end, clipped, bound_or, step_or, steps, upwards, downwards, slice_positions}
-use Rattle.nd_model.specs.Selecting.{Item, At, Slice, Ellipsis, NewAxis, axes_in, whole_slice, filled_items, items_for, Pick, KeptAxis, OnePosition, AddedAxis, picks_of, first_outside, unless_outside, picked_shape, source, picked_view, select}
-use Rattle.nd_model.specs.Sound.{LiesIn}
+use Rattle.nd_model.specs.Arrays.Tuple.{count_up}
+use Rattle.nd_model.specs.Arrays.View.{Geo, item_size}
+use Rattle.nd_model.specs.Arrays.Strides.{limit_fault}
+use Rattle.nd_model.specs.Cells.Fault.{Fault, ViewFault, IndexFault, OutOfBounds}
+use Rattle.nd_model.specs.Cells.Refusing.{when}
+use Rattle.nd_model.specs.Arrays.Broadcast.{unless_fault}
+use Rattle.nd_model.specs.Indexing.Selecting.{counted_from, is_within}
+use Rattle.nd_model.specs.Indexing.Slicing.{from_end, clipped, bound_or, step_or, steps, upwards, downwards, slice_positions}
+use Rattle.nd_model.specs.Indexing.Selecting.{Item, At, Slice, Ellipsis, NewAxis, axes_in, whole_slice, filled_items, items_for, Pick, KeptAxis, OnePosition, AddedAxis, picks_of, first_outside, unless_outside, picked_shape, source, picked_view, select}
+use Rattle.nd_model.specs.Cells.Sound.{LiesIn}
 use Rattle.nd_model.proofs.Tuples.{IsTuple}
 use Rattle.nd_model.proofs.Taking.{taking_within}
 

@@ -6,29 +6,29 @@ use Rattle.std.proofs.Math.Nat.{mul-le-mul_right}
 use Rattle.std.proofs.lemmas.Bool.{or_left, or_right, and_from}
 use Rattle.std.proofs.lemmas.List.{length-map, length-replicate}
 use Rattle.std.proofs.lemmas.List.Elements.{All-nil, All-cons}
-use Rattle.nd_model.specs.Tuple.{count_up, elements_of, indices}
-use Rattle.nd_model.specs.View.{ElementType, One, Structure, Geo, item_size, byte_places, contiguous}
-use Rattle.nd_model.specs.Value.{Base, same_base, Value, Int, Truth, Scalar, Array, Row, lies_in}
-use Rattle.nd_model.specs.Strides.{limit_fault, from_parts}
+use Rattle.nd_model.specs.Arrays.Tuple.{count_up, elements_of, indices}
+use Rattle.nd_model.specs.Arrays.View.{ElementType, One, Structure, Geo, item_size, byte_places, contiguous}
+use Rattle.nd_model.specs.Arrays.Value.{Base, same_base, Value, Int, Truth, Scalar, Array, Row, lies_in}
+use Rattle.nd_model.specs.Arrays.Strides.{limit_fault, from_parts}
 use Rattle.nd_model.proofs.Parts.{parts_lie}
-use Rattle.nd_model.specs.Session.{Names, lookup, bind, unbind, is_held, Session, held_bytes, put}
-use Rattle.nd_model.specs.Content.{Content, element_bytes, writes, array_bytes}
-use Rattle.nd_model.specs.Running.{Source, Inputs, Running, start, Lookup, Ask, Use, Make, reply, with_base, after, Effect, Nothing, Prints, Saves, Binding, Unbinding, Storing, done, Output}
-use Rattle.nd_model.specs.Fault.{Fault, ViewFault, BadArgument}
-use Rattle.nd_model.specs.Fault as fault
-use Rattle.nd_model.specs.InputName.{is_input_name}
-use Rattle.nd_model.specs.Syntax.{Stmt, Line, Parsed}
-use Rattle.nd_model.specs.Evaluation.{Eval, Gives, Refuses, Asks, run, ◌>>=◌, decide}
-use Rattle.nd_model.specs.Operand as operand
-use Rattle.nd_model.specs.Operand.{Operand, Plain, Elements, Usage, Made, ANumber, AnArray, Loaded, AFile, ABuffer, Chosen, AnElement, AView, ACopy, Stretched, Deed, NoDeed, PrintsText, SavesFile, BindsFirst, BindsMade, Unbinds, Writes, MakesAndWrites}
-use Rattle.nd_model.specs.Viewing.{Viewing, choose}
-use Rattle.nd_model.specs.Broadcast.{broadcast_view}
-use Rattle.nd_model.specs.Operation
-use Rattle.nd_model.specs.Operation.{operands, Operation, Computes, Views, perform, Plan, Named, FromInput, Does, Plans, Done, And, evaluate, with_values, evaluate_all, Work, Acts, ActsOn}
-use Rattle.nd_model.specs.Meaning
-use Rattle.nd_model.specs.Cell.{Saved, Ended, had, statement, most_text, with_save, and_then, statements, ran, cell, session_after}
-use Rattle.nd_model.specs.Footprint.{HasNone}
-use Rattle.nd_model.specs.Sound.{LiesIn, IsViewOf, AreViewsOf, IsHeldView, IsSound, IsSoundSession, StaysSound}
+use Rattle.nd_model.specs.Cells.Session.{Names, lookup, bind, unbind, is_held, Session, held_bytes, put}
+use Rattle.nd_model.specs.Arrays.Content.{Content, element_bytes, writes, array_bytes}
+use Rattle.nd_model.specs.Cells.Running.{Source, Inputs, Running, start, Lookup, Ask, Use, Make, reply, with_base, after, Effect, Nothing, Prints, Saves, Binding, Unbinding, Storing, done, Output}
+use Rattle.nd_model.specs.Cells.Fault.{Fault, ViewFault, BadArgument}
+use Rattle.nd_model.specs.Cells.Fault as fault
+use Rattle.nd_model.specs.Cells.InputName.{is_input_name}
+use Rattle.nd_model.specs.Grammar.Syntax.{Stmt, Line, Parsed}
+use Rattle.nd_model.specs.Cells.Evaluation.{Eval, Gives, Refuses, Asks, run, ◌>>=◌, decide}
+use Rattle.nd_model.specs.Making.Operand as operand
+use Rattle.nd_model.specs.Making.Operand.{Operand, Plain, Elements, Usage, Made, ANumber, AnArray, Loaded, AFile, ABuffer, Chosen, AnElement, AView, ACopy, Stretched, Deed, NoDeed, PrintsText, SavesFile, BindsFirst, BindsMade, Unbinds, Writes, MakesAndWrites}
+use Rattle.nd_model.specs.Indexing.Viewing.{Viewing, choose}
+use Rattle.nd_model.specs.Arrays.Broadcast.{broadcast_view}
+use Rattle.nd_model.specs.Cells.Operation
+use Rattle.nd_model.specs.Cells.Operation.{operands, Operation, Computes, Views, perform, Plan, Named, FromInput, Does, Plans, Done, And, evaluate, with_values, evaluate_all, Work, Acts, ActsOn}
+use Rattle.nd_model.specs.Cells.Meaning
+use Rattle.nd_model.specs.Cells.Cell.{Saved, Ended, had, statement, most_text, with_save, and_then, statements, ran, cell, session_after}
+use Rattle.nd_model.specs.Cells.Footprint.{HasNone}
+use Rattle.nd_model.specs.Cells.Sound.{LiesIn, IsViewOf, AreViewsOf, IsHeldView, IsSound, IsSoundSession, StaysSound}
 use Rattle.nd_model.proofs.Lists.{not_both, length-put}
 use Rattle.nd_model.proofs.Frames.{either_end}
 use Rattle.nd_model.proofs.Growing.{Grows, stays, grows_on, grows_after, grows_run}

@@ -2,10 +2,10 @@
 use Rattle.std.proofs.Common.{◌≡◌, ℕ, Bool, true, false, not, cond, ◌&&◌, ◌||◌, eqb, eqb-true, refl, ap, ◌∙◌, inl, inr}
 use mathlib.Core.Path.{fun_ext}
 use Rattle.std.proofs.lemmas.Bool.{cases_Bool}
-use Rattle.nd_model.specs.Value.{Base, same_base}
-use Rattle.nd_model.specs.Session as model
-use Rattle.nd_model.specs.Running as running
-use Rattle.nd_model.specs.Storing.{StoresByParts}
+use Rattle.nd_model.specs.Arrays.Value.{Base, same_base}
+use Rattle.nd_model.specs.Cells.Session as model
+use Rattle.nd_model.specs.Cells.Running as running
+use Rattle.nd_model.specs.Cells.Storing.{StoresByParts}
 
 both : (x y : Bool) → (x && y) ≡ true → (x ≡ true) × (y ≡ true)
 both true y h = (refl, h)

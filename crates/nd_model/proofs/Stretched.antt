@@ -1,11 +1,11 @@
 -- What is broadcast of a view lies where the view lies.
 use Rattle.std.proofs.Common.{◌≡◌, ℕ, List, Option, Some, None, Result, Ok, refl, subst}
-use Rattle.nd_model.specs.Fault.{Fault, ViewFault}
-use Rattle.nd_model.specs.Strides.{limit_fault}
-use Rattle.nd_model.specs.View.{Geo, item_size}
-use Rattle.nd_model.specs.Broadcast.{broadcasts_to, broadcast_view, unless_fault}
-use Rattle.nd_model.specs.Stretching.{broadcast_to}
-use Rattle.nd_model.specs.Sound.{LiesIn}
+use Rattle.nd_model.specs.Cells.Fault.{Fault, ViewFault}
+use Rattle.nd_model.specs.Arrays.Strides.{limit_fault}
+use Rattle.nd_model.specs.Arrays.View.{Geo, item_size}
+use Rattle.nd_model.specs.Arrays.Broadcast.{broadcasts_to, broadcast_view, unless_fault}
+use Rattle.nd_model.specs.Indexing.Stretching.{broadcast_to}
+use Rattle.nd_model.specs.Cells.Sound.{LiesIn}
 use Rattle.nd_model.proofs.Taking.{spread_within}
 use Rattle.nd_model.proofs.Transposed.{when_ok, ok_same}
 

@@ -4,10 +4,10 @@ use Rattle.std.specs.List.{All}
 use Rattle.std.proofs.lemmas.Bool.{cases_Bool, or_cases}
 use Rattle.std.proofs.lemmas.List.{length-map}
 use Rattle.std.proofs.lemmas.List.Elements.{All-map, All-weaker}
-use Rattle.nd_model.specs.Tuple.{elements_of, indices, number}
-use Rattle.nd_model.specs.View.{Geo, item_size, place_of, rearranged_view}
-use Rattle.nd_model.specs.Broadcast.{can_stretch, broadcasts_to, narrowed_axes, own_tuple, broadcast_view}
-use Rattle.nd_model.specs.Sound.{LiesIn}
+use Rattle.nd_model.specs.Arrays.Tuple.{elements_of, indices, number}
+use Rattle.nd_model.specs.Arrays.View.{Geo, item_size, place_of, rearranged_view}
+use Rattle.nd_model.specs.Arrays.Broadcast.{can_stretch, broadcasts_to, narrowed_axes, own_tuple, broadcast_view}
+use Rattle.nd_model.specs.Cells.Sound.{LiesIn}
 use Rattle.nd_model.proofs.Tuples.{length-indices, IsTuple, number_below, all_tuples, length-tuple, tuple-drop}
 
 -- what a view of a base of so many bytes wants, but for the limits

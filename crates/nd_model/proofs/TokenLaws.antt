@@ -5,9 +5,9 @@ use Rattle.std.specs.Char.{is_ascii_digit}
 use Rattle.std.specs.List.{AllByRecursion, prefix_len, starts_with}
 use Rattle.std.specs.Option.{is_some, option_map}
 use Rattle.std.proofs.lemmas.Bool.{cond_both}
-use Rattle.nd_model.specs.Token.{Word, Integer, Token}
-use Rattle.nd_model.specs.Fault.{ParseFault}
-use Rattle.nd_model.specs.Lexing.{is_keyword, begins_name, is_name_byte, is_quote, is_quotable, joins_number, most_name, word_of_name, symbols, first_of, word_at, is_blank, lexeme, State, Place, ahead, Piece, Blank, Newline, Lexeme, piece_at, reads, followed, tokens_from, tokens, end_at, ended, ended_by_newline, token_here, after_newline, is_end, words_in, FewWords, AreStatements, WholeStatements}
+use Rattle.nd_model.specs.Grammar.Token.{Word, Integer, Token}
+use Rattle.nd_model.specs.Cells.Fault.{ParseFault}
+use Rattle.nd_model.specs.Grammar.Lexing.{is_keyword, begins_name, is_name_byte, is_quote, is_quotable, joins_number, most_name, word_of_name, symbols, first_of, word_at, is_blank, lexeme, State, Place, ahead, Piece, Blank, Newline, Lexeme, piece_at, reads, followed, tokens_from, tokens, end_at, ended, ended_by_newline, token_here, after_newline, is_end, words_in, FewWords, AreStatements, WholeStatements}
 
 abbrev Answer : Type 0
 Answer = Result (List Token) ParseFault

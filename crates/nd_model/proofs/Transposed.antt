@@ -5,16 +5,16 @@ use Rattle.std.specs.List.{list_all, list_any}
 use Rattle.std.proofs.lemmas.Bool.{cases_Bool}
 use Rattle.std.proofs.lemmas.Bool.Decides.{nat_tests}
 use Rattle.std.proofs.lemmas.List.{length-map, get_or-map}
-use Rattle.nd_model.specs.Session.{is_in}
-use Rattle.nd_model.specs.Fault.{TooManyAxes, TooManyElements}
-use Rattle.nd_model.specs.Strides.{limit_fault}
-use Rattle.nd_model.specs.Tuple.{count_up, elements_of}
-use Rattle.nd_model.specs.View.{Geo, item_size}
-use Rattle.nd_model.specs.Selecting.{is_within}
-use Rattle.nd_model.specs.Fault.{Fault}
-use Rattle.nd_model.specs.Refusing.{when}
-use Rattle.nd_model.specs.Transposing.{axes_of, is_order, position_in, ordered_tuple, transposed_view, transpose, count_down, reversed_view}
-use Rattle.nd_model.specs.Sound.{LiesIn}
+use Rattle.nd_model.specs.Cells.Session.{is_in}
+use Rattle.nd_model.specs.Cells.Fault.{TooManyAxes, TooManyElements}
+use Rattle.nd_model.specs.Arrays.Strides.{limit_fault}
+use Rattle.nd_model.specs.Arrays.Tuple.{count_up, elements_of}
+use Rattle.nd_model.specs.Arrays.View.{Geo, item_size}
+use Rattle.nd_model.specs.Indexing.Selecting.{is_within}
+use Rattle.nd_model.specs.Cells.Fault.{Fault}
+use Rattle.nd_model.specs.Cells.Refusing.{when}
+use Rattle.nd_model.specs.Indexing.Transposing.{axes_of, is_order, position_in, ordered_tuple, transposed_view, transpose, count_down, reversed_view}
+use Rattle.nd_model.specs.Cells.Sound.{LiesIn}
 use Rattle.nd_model.proofs.Tuples.{IsTuple, tuple_at, tuple_by}
 use Rattle.nd_model.proofs.Taking.{taking_within}
 use Rattle.nd_model.proofs.Orders.{IsOrder, gather, over_order, position_is, in_more}

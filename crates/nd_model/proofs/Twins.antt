@@ -4,10 +4,10 @@ use mathlib.Core.Path.{fun_ext}
 use Rattle.std.proofs.lemmas.Bool.{cases_Bool, or_left, or_right, or_cases, and_from, not_from_false}
 use Rattle.std.proofs.lemmas.Bool.Decides.{nat_tests}
 use Rattle.std.specs.Prelude.{bytes_eq}
-use Rattle.nd_model.specs.Value.{Base, same_base, Value}
-use Rattle.nd_model.specs.Session.{lookup, put, is_place, is_in}
-use Rattle.nd_model.specs.Running.{Key, Name, Input, Length, Byte, Event, Binds, Unbinds, Inputs, Running, is_event_of, is_touched, is_own, is_doing_of, having_read, is_name, is_length, is_length_of, Act, Lookup, Ask, Use, Make, asked, reply, with_base, made, after, Source, Effect, Nothing, Prints, Saves, Binding, Unbinding, Storing, done}
-use Rattle.nd_model.specs.Footprint.{Found, Bound, Given, Number}
+use Rattle.nd_model.specs.Arrays.Value.{Base, same_base, Value}
+use Rattle.nd_model.specs.Cells.Session.{lookup, put, is_place, is_in}
+use Rattle.nd_model.specs.Cells.Running.{Key, Name, Input, Length, Byte, Event, Binds, Unbinds, Inputs, Running, is_event_of, is_touched, is_own, is_doing_of, having_read, is_name, is_length, is_length_of, Act, Lookup, Ask, Use, Make, asked, reply, with_base, made, after, Source, Effect, Nothing, Prints, Saves, Binding, Unbinding, Storing, done}
+use Rattle.nd_model.specs.Cells.Footprint.{Found, Bound, Given, Number}
 use Rattle.nd_model.proofs.Lists.{bytes_eq_self, not_both, lookup-bind, lookup-unbind, length-put, same_put}
 
 -- what stands at a key now

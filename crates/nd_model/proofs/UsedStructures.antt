@@ -4,10 +4,10 @@ use Rattle.std.specs.List.{flat_map, All}
 use Rattle.std.proofs.Math.Seq.{drop-append_seam, take-append_seam}
 use Rattle.std.proofs.lemmas.List.{length-map, append_assoc}
 use Rattle.std.proofs.lemmas.List.Elements.{All-head, All-tail}
-use Rattle.nd_model.specs.Element.{size_of, value_of, bytes_at}
-use Rattle.nd_model.specs.Tuple.{count_up}
-use Rattle.nd_model.specs.View.{Field, Structure, element_places, field_places}
-use Rattle.nd_model.specs.Content.{Rec, number_at, content_at, contents_in, packed_fields, fields_size}
+use Rattle.nd_model.specs.Arrays.Element.{size_of, value_of, bytes_at}
+use Rattle.nd_model.specs.Arrays.Tuple.{count_up}
+use Rattle.nd_model.specs.Arrays.View.{Field, Structure, element_places, field_places}
+use Rattle.nd_model.specs.Arrays.Content.{Rec, number_at, content_at, contents_in, packed_fields, fields_size}
 use Rattle.nd_model.proofs.Tuples.{length-count_up}
 use Rattle.nd_model.proofs.Uses.{gathered, map-append'}
 

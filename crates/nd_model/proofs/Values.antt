@@ -10,7 +10,7 @@ use lib.Pow.{pow_pos}
 use Rattle.std.proofs.lemmas.Nat.{from_le_bytes-to_le_bytes_2, from_be_bytes-to_be_bytes_2, from_le_bytes-to_le_bytes_4, from_be_bytes-to_be_bytes_4, from_le_bytes-to_le_bytes_8, from_be_bytes-to_be_bytes_8}
 use Rattle.std.proofs.lemmas.Int.{of_z-to_z, int_wrap_fits, SFits-int_wrap, ints}
 use borrow.Author.Differences.{fits_in}
-use Rattle.nd_model.specs.Element.{Kind, Boolean, Int8, Int16, Int32, Int64, UInt8, UInt16, UInt32, UInt64, Element, width_of, size_of, lowest, highest, IsValue, number_in, value_in, bytes_in, bytes_of, residue, wrap, RoundTrip}
+use Rattle.nd_model.specs.Arrays.Element.{Kind, Boolean, Int8, Int16, Int32, Int64, UInt8, UInt16, UInt32, UInt64, Element, width_of, size_of, lowest, highest, IsValue, number_in, value_in, bytes_in, bytes_of, residue, wrap, RoundTrip}
 
 -- eight bits a byte
 pub bits_are : (w : Width) → 8 * byte_len w ≡ bits w

@@ -2,13 +2,13 @@
 use Rattle.std.proofs.Common.{◌≡◌, ℕ, suc, ◌+◌, ◌-◌, ◌≤◌, true, false, List, [], ◌∷◌, Option, None, Some, inl, inr, refl, ap, arith}
 use Rattle.std.specs.Prelude.{◌==◌, ◌&&◌, not, if◌then◌else◌}
 use Rattle.std.proofs.lemmas.Bool.{cond_both}
-use Rattle.nd_model.specs.Grammar.{Gram, Done, Here, One, Then, Or, Many, Shut, has, Repeats, Spans}
-use Rattle.nd_model.specs.Token.{Word, End, Token}
-use Rattle.nd_model.specs.Lexing.{is_end, words_in}
-use Rattle.nd_model.specs.Syntax.{Expr, Items, IndexItem, Listed, Bound, Omitted, Given, Elements, Element, Single, Nested}
-use Rattle.nd_model.specs.Tokens.{tokens_of, tokens_of_index, tokens_of_items, tokens_of_item, tokens_of_bound, tokens_of_step, tokens_of_elements, tokens_of_others, tokens_of_element}
-use Rattle.nd_model.specs.Kinds.{kind_of_word, kind, NAME, NEWAXIS, OPEN, OPEN_NONE, CLOSE, OPEN_BRACKET, CLOSE_BRACKET, COMMA_MORE, COMMA_LAST, COLON, ELLIPSIS, NONE, QUOTED, DOT, NP_NEWAXIS}
-use Rattle.nd_model.specs.Cells.{items_of, elements_of, sliced, between, mapped, some, separated, Spot, Anywhere, FirstItem, LaterItem, Level, Bottom, Under, Inside, enter, name, grouped, bound_in, step_in, slice, newaxis_name, newaxis, element, elements, list, part, item, nothing, contents, index}
+use Rattle.nd_model.specs.Grammar.Grammar.{Gram, Done, Here, One, Then, Or, Many, Shut, has, Repeats, Spans}
+use Rattle.nd_model.specs.Grammar.Token.{Word, End, Token}
+use Rattle.nd_model.specs.Grammar.Lexing.{is_end, words_in}
+use Rattle.nd_model.specs.Grammar.Syntax.{Expr, Items, IndexItem, Listed, Bound, Omitted, Given, Elements, Element, Single, Nested}
+use Rattle.nd_model.specs.Grammar.Tokens.{tokens_of, tokens_of_index, tokens_of_items, tokens_of_item, tokens_of_bound, tokens_of_step, tokens_of_elements, tokens_of_others, tokens_of_element}
+use Rattle.nd_model.specs.Grammar.Kinds.{kind_of_word, kind, NAME, NEWAXIS, OPEN, OPEN_NONE, CLOSE, OPEN_BRACKET, CLOSE_BRACKET, COMMA_MORE, COMMA_LAST, COLON, ELLIPSIS, NONE, QUOTED, DOT, NP_NEWAXIS}
+use Rattle.nd_model.specs.Grammar.Cells.{items_of, elements_of, sliced, between, mapped, some, separated, Spot, Anywhere, FirstItem, LaterItem, Level, Bottom, Under, Inside, enter, name, grouped, bound_in, step_in, slice, newaxis_name, newaxis, element, elements, list, part, item, nothing, contents, index}
 use Rattle.nd_model.proofs.Parsing.Sets.{true_false}
 
 -- ---- words

@@ -1,17 +1,17 @@
-//! The laws of the grammar of cells: what `reading` computes is what the grammar says, and it says one thing of each text. The
-//! laws of a text's tokens, and how many tokens its statements have.
+//! The laws of the grammar of cells: `reading` computes what the grammar says, and that is one
+//! thing of each text. Also the laws of a text's tokens, and their number in statements.
 ghost use Rattle.std.specs.Prelude.{◌≡◌, ◌↔◌, ◌-◌, ℕ, true, List, length, slice_get, IsSome, Ok, Err};
-ghost use Rattle.nd_model.specs.Token.{Token};
-ghost use Rattle.nd_model.specs.Grammar.{Stop};
-ghost use Rattle.nd_model.specs.Faults.{HasFault};
-ghost use Rattle.nd_model.specs.Kinds.{kind};
-ghost use Rattle.nd_model.specs.Cells.{cell};
-ghost use Rattle.nd_model.specs.Syntax.{Line};
-ghost use Rattle.nd_model.specs.Fault.{ParseFault};
-ghost use Rattle.nd_model.specs.Reading.{reading, IsCell, HasCellFault};
-ghost use Rattle.nd_model.specs.Lookahead.{LookaheadChooses};
-ghost use Rattle.nd_model.specs.Lexing.{AreStatements, FewWords, WholeStatements};
-ghost use Rattle.nd_model.specs.Few.{FewTokens};
+ghost use Rattle.nd_model.specs.Grammar.Token.{Token};
+ghost use Rattle.nd_model.specs.Grammar.Grammar.{Stop};
+ghost use Rattle.nd_model.specs.Grammar.Faults.{HasFault};
+ghost use Rattle.nd_model.specs.Grammar.Kinds.{kind};
+ghost use Rattle.nd_model.specs.Grammar.Cells.{cell};
+ghost use Rattle.nd_model.specs.Grammar.Syntax.{Line};
+ghost use Rattle.nd_model.specs.Cells.Fault.{ParseFault};
+ghost use Rattle.nd_model.specs.Grammar.Reading.{reading, IsCell, HasCellFault};
+ghost use Rattle.nd_model.specs.Grammar.Lookahead.{LookaheadChooses};
+ghost use Rattle.nd_model.specs.Grammar.Lexing.{AreStatements, FewWords, WholeStatements};
+ghost use Rattle.nd_model.specs.Grammar.Few.{FewTokens};
 
 /// No text is a cell in two ways.
 pub fn one_meaning()
@@ -24,7 +24,7 @@ pub fn one_fault()
         → f ≡ g }
 {}
 
-/// What is read are the cells with their statements, and the faults of all other texts.
+/// What is read is a cell exactly for the texts that are one, and the fault of all other texts.
 pub fn reading_is_exact()
     ensures statements { (text : List ℕ) (ls : List Line) → (reading text ≡ Ok ls)
         ↔ IsCell text ls }
@@ -32,7 +32,8 @@ pub fn reading_is_exact()
         ↔ HasCellFault text f }
 {}
 
-/// Whole statements have their fault at one of their tokens: at the end of a statement, where nothing else is left.
+/// Whole statements have their fault at one of their tokens: at the end of a statement, if nothing
+/// else is left.
 pub fn faults_are_at_tokens()
     ensures { (ts : List Token) (s : Stop) → AreStatements true ts → HasFault kind cell ts s
         → IsSome (slice_get ts (length ts - s.left)) }
@@ -43,8 +44,8 @@ pub fn few_words()
     ensures { FewWords }
 {}
 
-/// The tokens of a text are whole statements: the last token, if there is one, is an end, and a token starts a statement
-/// where it is the first or stands directly behind an end, and nowhere else.
+/// The tokens of a text are whole statements. The last token, if there is one, is an end; a token
+/// starts a statement exactly where it is the first or follows an end.
 pub fn whole_statements()
     ensures { WholeStatements }
 {}
@@ -54,7 +55,8 @@ pub fn few_tokens()
     ensures { FewTokens }
 {}
 
-/// Wherever the grammar knows one kind of a token it knows all: each may stand there, or is refused for a reason of its own.
+/// Wherever the grammar knows one kind of a token it knows all: each is taken there, or is refused
+/// for a reason of its own.
 pub fn lookahead_chooses()
     ensures { LookaheadChooses }
 {}

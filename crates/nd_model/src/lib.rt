@@ -1,16 +1,17 @@
-//! What a notebook means, and the laws of it.
+//! What a notebook means, in the definitions of this crate, and the laws of it: `frame`, `replay`,
+//! `any_pass`, `few_runs` and the others.
 #![tactic(auto)]
 
-ghost use Rattle.nd_model.specs.Bases.{FewBases};
-ghost use Rattle.nd_model.specs.Beside.{BesideBegins, BesideHolds, BesideStays};
-ghost use Rattle.nd_model.specs.Book.{LabelsStayDistinct, AnyLabels as AnyBookLabels};
-ghost use Rattle.nd_model.specs.CutOff.{CutOff, CutOffReads, MeetsAfter, QuietLeaves};
-ghost use Rattle.nd_model.specs.Element.{BytesRoundTrip, OneWrap, RoundTrip};
-ghost use Rattle.nd_model.specs.Entries.{SameFront, SameFrontReads, ToldByRecords};
-ghost use Rattle.nd_model.specs.Footprint.{Frame, EffectsAreAll, Replay};
-ghost use Rattle.nd_model.specs.Notebook.{EditsBook};
-ghost use Rattle.nd_model.specs.Noting.{WritesReadNoMore};
-ghost use Rattle.nd_model.specs.Overlay.{
+ghost use Rattle.nd_model.specs.Cells.Bases.{FewBases};
+ghost use Rattle.nd_model.specs.Book.Beside.{BesideBegins, BesideHolds, BesideStays};
+ghost use Rattle.nd_model.specs.Book.Book.{LabelsStayDistinct, AnyLabels as AnyBookLabels};
+ghost use Rattle.nd_model.specs.Book.CutOff.{CutOff, CutOffReads, MeetsAfter, QuietLeaves};
+ghost use Rattle.nd_model.specs.Arrays.Element.{BytesRoundTrip, OneWrap, RoundTrip};
+ghost use Rattle.nd_model.specs.Book.Entries.{SameFront, SameFrontReads, ToldByRecords};
+ghost use Rattle.nd_model.specs.Cells.Footprint.{Frame, EffectsAreAll, Replay};
+ghost use Rattle.nd_model.specs.Book.Notebook.{EditsBook};
+ghost use Rattle.nd_model.specs.Cells.Noting.{WritesReadNoMore};
+ghost use Rattle.nd_model.specs.Book.Overlay.{
   NamesStandOnce,
   OverlayBegins,
   OverlayBlanks,
@@ -19,24 +20,24 @@ ghost use Rattle.nd_model.specs.Overlay.{
   OverlayStays,
   SessionsAreSound,
 };
-ghost use Rattle.nd_model.specs.Operators.{FloorDivision};
-ghost use Rattle.nd_model.specs.Promotion.{PromotionTable};
-ghost use Rattle.nd_model.specs.Records.{Kept};
-ghost use Rattle.nd_model.specs.Renaming.{Rename, AnyLabels};
-ghost use Rattle.nd_model.specs.Reshaping.{EvenPlaces};
-ghost use Rattle.nd_model.specs.Scheduler.{AnyPass};
-ghost use Rattle.nd_model.specs.Selected.{AdvancedLies, FieldLies, SelectedLies};
-ghost use Rattle.nd_model.specs.Shaped.{
+ghost use Rattle.nd_model.specs.Making.Operators.{FloorDivision};
+ghost use Rattle.nd_model.specs.Arrays.Promotion.{PromotionTable};
+ghost use Rattle.nd_model.specs.Book.Records.{Kept};
+ghost use Rattle.nd_model.specs.Book.Renaming.{Rename, AnyLabels};
+ghost use Rattle.nd_model.specs.Indexing.Reshaping.{EvenPlaces};
+ghost use Rattle.nd_model.specs.Book.Scheduler.{AnyPass};
+ghost use Rattle.nd_model.specs.Indexing.Selected.{AdvancedLies, FieldLies, SelectedLies};
+ghost use Rattle.nd_model.specs.Indexing.Shaped.{
   RecastLies,
   ReshapedLies,
   ReversedLies,
   StretchedLies,
   TransposedLies,
 };
-ghost use Rattle.nd_model.specs.Sound.{ReplaysSound, StaysSound};
-ghost use Rattle.nd_model.specs.Stale.{AtMostIsAtMost, FewRuns, FrontIsNotStale};
-ghost use Rattle.nd_model.specs.Storing.{StoresByParts};
-ghost use Rattle.nd_model.specs.Strides.{PartsAreHeld};
+ghost use Rattle.nd_model.specs.Cells.Sound.{ReplaysSound, StaysSound};
+ghost use Rattle.nd_model.specs.Book.Stale.{AtMostIsAtMost, FewRuns, FrontIsNotStale};
+ghost use Rattle.nd_model.specs.Cells.Storing.{StoresByParts};
+ghost use Rattle.nd_model.specs.Arrays.Strides.{PartsAreHeld};
 
 pub mod grammar;
 
@@ -50,12 +51,14 @@ pub fn bytes_round_trip()
     ensures { BytesRoundTrip }
 {}
 
-/// What a number wraps to is the one number of the kind that is equal to it modulo 2 to the power of the width.
+/// A number wraps to the one number of the kind that is equal to it modulo 2 to the power of the
+/// width.
 pub fn one_wrap()
     ensures { OneWrap }
 {}
 
-/// A quotient that is rounded down and its remainder give the number again, and the remainder lies between zero and the divisor.
+/// A quotient that is rounded down and its remainder give the number again. The remainder lies
+/// between zero and the divisor.
 pub fn floor_division()
     ensures { FloorDivision }
 {}
@@ -65,57 +68,60 @@ pub fn promotion_table()
     ensures { PromotionTable }
 {}
 
-/// A view that is made of parts has every byte of its elements in the block.
+/// A view that is made of parts has all bytes of its elements in the block.
 pub fn parts_are_held()
     ensures { PartsAreHeld }
 {}
 
-/// What a basic index chooses of a view that lies in its base lies there.
+/// A basic index selects a view that lies in the block in which its source lies.
 pub fn selected_lies()
     ensures { SelectedLies }
 {}
 
-/// What an index with arrays, each with all its contents, chooses of a view that lies in its base lies there.
+/// An advanced index, whose arrays have all their contents, selects elements that lie in the block
+/// in which its source lies.
 pub fn advanced_lies()
     ensures { AdvancedLies }
 {}
 
-/// The view of a field of a view that lies in its base lies there.
+/// The view of a field lies in the block in which its source lies.
 pub fn field_lies()
     ensures { FieldLies }
 {}
 
-/// What is transposed of a view that lies in its base lies there.
+/// A transposed view lies in the block in which its source lies.
 pub fn transposed_lies()
     ensures { TransposedLies }
 {}
 
-/// So does the view with its axes the other way round.
+/// A view with its axes reversed lies in the block in which its source lies.
 pub fn reversed_lies()
     ensures { ReversedLies }
 {}
 
-/// What is broadcast of a view that lies in its base lies there.
+/// A view that is broadcast lies in the block in which its source lies.
 pub fn stretched_lies()
     ensures { StretchedLies }
 {}
 
-/// What is seen of a view that lies in its base in another shape lies there.
+/// A reshaped view lies in the block in which its source lies.
 pub fn reshaped_lies()
     ensures { ReshapedLies }
 {}
 
-/// Elements are a view in a shape where, and only where, a start and one number for each axis lead to all their places.
+/// Elements are a view in a shape exactly where a start and a stride for each axis lead to all
+/// their byte offsets.
 pub fn even_places()
     ensures { EvenPlaces }
 {}
 
-/// What is seen of a view that lies in its base as numbers of another kind lies there.
+/// A view as numbers of another dtype lies in the block in which its source lies.
 pub fn recast_lies()
     ensures { RecastLies }
 {}
 
-/// Sessions and inputs that agree on what a cell reads in the first give it the same reads and effects.
+/// Sessions and inputs that agree on what a cell reads in the first give it the same reads and
+/// effects.
 pub fn frame()
     ensures { Frame }
 {}
@@ -125,7 +131,8 @@ pub fn effects_are_all()
     ensures { EffectsAreAll }
 {}
 
-/// The effects of a run over one session give the session after a run over another that agrees on what it read.
+/// The effects of a run over one session give the session after a run over another that agrees on
+/// what was read.
 pub fn replay()
     ensures { Replay }
 {}
@@ -135,73 +142,78 @@ pub fn record_stands()
     ensures { Kept }
 {}
 
-/// Whichever cells a pass runs, while the records of the others still hold, it gives what running all cells gives.
+/// Whichever cells a pass runs, as long as the records of the others still hold, it gives what
+/// running all cells gives.
 pub fn any_pass()
     ensures { AnyPass }
 {}
 
-/// A pass over an edited notebook that runs a cell only for want of a record that still holds, the records being those of the run
-/// before, has the records of running all cells in order from nothing, and runs stale cells only.
+/// A pass that runs a cell only where no record of the run before still holds has the records of a
+/// fresh run of all cells. It runs stale cells only.
 pub fn few_runs()
     ensures { FewRuns }
 {}
 
-/// A number that is at most the number of stale cells is at most the number of flags, wherever each stale cell has a flag.
+/// Where each stale cell has a flag, a number of at most the stale cells is at most the number of
+/// flags.
 pub fn at_most_is_at_most()
     ensures { AtMostIsAtMost }
 {}
 
-/// Where the first cells and the inputs of two notebooks are the same, so are their records and the sessions before and after them.
+/// Where the first cells and the inputs of two notebooks are equal, so are the records of these
+/// cells and the sessions around them.
 pub fn same_front()
     ensures { SameFront }
 {}
 
-/// The same where inputs differ that none of these cells read.
+/// What front cells read is unchanged, too, where inputs differ that none of them read.
 pub fn same_front_reads()
     ensures { SameFrontReads }
 {}
 
-/// What a notebook tells of a cell is told by the record of its run and the session after it.
+/// All that a notebook answers of a cell is in the record of its run and the session after it.
 pub fn told_by_records()
     ensures { ToldByRecords }
 {}
 
-/// None of these cells is stale: an edit of a cell makes none before it stale, and an edit that changes nothing makes none stale.
+/// Front cells are not stale: an edit of a cell makes none before it stale, and an edit that
+/// changes nothing makes none stale.
 pub fn front_is_not_stale()
     ensures { FrontIsNotStale }
 {}
 
-/// Where the cells and inputs are the same from two places on, and the session there is the same, nothing behind is another.
+/// The early cut-off: where cells and inputs are equal from two positions on, and the sessions
+/// there are, all behind is equal.
 pub fn cut_off()
     ensures { CutOff }
 {}
 
-/// The same where inputs differ that none of the cells behind read.
+/// The early cut-off holds, too, where inputs differ that none of the cells behind read.
 pub fn cut_off_reads()
     ensures { CutOffReads }
 {}
 
-/// Two cells whose records do the same to a session leave the same session, over the same one.
+/// Two cells whose records have the same effects leave the same session, begun from the same one.
 pub fn meets_after()
     ensures { MeetsAfter }
 {}
 
-/// A cell that binds and unbinds no name and writes nothing leaves the session as it was.
+/// A quiet cell, which binds and unbinds no name and writes nothing, leaves the session as it was.
 pub fn quiet_leaves()
     ensures { QuietLeaves }
 {}
 
-/// Nothing that is told of a notebook depends on the labels of its cells.
+/// No answer of a notebook depends on the labels of its cells.
 pub fn rename()
     ensures { Rename }
 {}
 
-/// Two labellings that tell the cells apart give the same, whatever the labels are.
+/// Two labellings that tell the cells apart give the same answers.
 pub fn any_labels()
     ensures { AnyLabels }
 {}
 
-/// Nothing that a book of cells tells depends on their labels, as long as these are distinct.
+/// No answer of a book of cells depends on their labels, as long as these are distinct.
 pub fn any_book_labels()
     ensures { AnyBookLabels }
 {}
@@ -211,22 +223,24 @@ pub fn labels_stay_distinct()
     ensures { LabelsStayDistinct }
 {}
 
-/// The notebook that contracts see after an edit stands for the edited book.
+/// The notebook of the contracts after an edit stands for the edited book.
 pub fn edits_book()
     ensures { EditsBook }
 {}
 
-/// A session in which each array and row lies in its base stays so, at a cell's start, after each statement and after a cell.
+/// A session in which each array and row lies in its block stays so, at a cell's start, after each
+/// statement and after a cell.
 pub fn stays_sound()
     ensures { StaysSound }
 {}
 
-/// The effects of a run over one sound session, put on another that agrees with what was read, give a sound session.
+/// The effects of a run over one sound session, put on another that agrees with what was read, give
+/// a sound session.
 pub fn replays_sound()
     ensures { ReplaysSound }
 {}
 
-/// A statement, whether it is refused or not, makes at most as many bases as it has tokens.
+/// A statement, refused or not, makes at most as many blocks as it has tokens.
 pub fn few_bases()
     ensures { FewBases }
 {}
@@ -236,7 +250,7 @@ pub fn writes_read_no_more()
     ensures { WritesReadNoMore }
 {}
 
-/// To note bytes as written and then to write them is one store.
+/// Noting bytes as written and then writing them is one store.
 pub fn stores_by_parts()
     ensures { StoresByParts }
 {}
@@ -246,17 +260,18 @@ pub fn names_stand_once()
     ensures { NamesStandOnce }
 {}
 
-/// Behind a cell that ran anew, and bound the same names, what it did now gives the session after it, put over the one after what it did before.
+/// After a cell that ran anew and bound the same names, the session is that of the old run, with
+/// the new effects over it.
 pub fn overlay_begins()
     ensures { OverlayBegins }
 {}
 
-/// What misses a run holds as well where that has come over the session.
+/// A record that read nothing of a run holds, too, in a session over which that run is put.
 pub fn overlay_holds()
     ensures { OverlayHolds }
 {}
 
-/// Behind a run that is apart from another, that one is still to be put over the session.
+/// After a run that is apart from another, the other is still to be put over the session.
 pub fn overlay_stays()
     ensures { OverlayStays }
 {}
@@ -266,27 +281,28 @@ pub fn overlay_blanks()
     ensures { OverlayBlanks }
 {}
 
-/// In the session before a cell each array and each row lies in its base.
+/// In the session before a cell each array and each row lies in its block.
 pub fn sessions_are_sound()
     ensures { SessionsAreSound }
 {}
 
-/// A cell may go on in a session in which it ran, where that is sound.
+/// A cell may go on in a sound session in which it ran.
 pub fn overlay_sound()
     ensures { OverlaySound }
 {}
 
-/// A cell that does nothing but bind new names to values of its own leaves a session beside the one without it.
+/// A cell that does nothing but bind new names to its own values leaves a session beside the one
+/// without it.
 pub fn beside_begins()
     ensures { BesideBegins }
 {}
 
-/// What misses a run holds beside it as well.
+/// A record that read nothing of a run holds, too, in the session beside it.
 pub fn beside_holds()
     ensures { BesideHolds }
 {}
 
-/// Two sessions that stand beside one another do so behind what does the same to both.
+/// Two sessions that stand beside one another do so after effects that are the same for both.
 pub fn beside_stays()
     ensures { BesideStays }
 {}

@@ -1,2 +1,3 @@
-pub mod Gives
-pub mod Following
+pub mod Header
+pub mod Pep3118
+pub mod Writing

@@ -1,18 +1,16 @@
-//! Headers, and how their bytes are characters.
-use nd_types::ElemType;
+//! NPY files (NumPy's description of the format): [`read_npy`] reads one as a new array.
+mod elements;
+mod fault;
+mod file;
+mod grammar;
+mod header;
+mod kinds;
+mod literal;
+mod sets;
+mod split;
+mod state;
+mod texts;
 
-/// How the bytes of a header are characters.
-#[derive(Clone, Copy, PartialEq, Eq)]
-pub enum Encoding {
-    Latin1,
-    Utf8,
-}
-
-/// What the header of a file says of its array.
-#[derive(Drop)]
-pub struct Header {
-    pub elem: ElemType,
-    /// The first axis runs fastest.
-    pub fortran: bool,
-    pub shape: Vec<u64>,
-}
+pub use fault::{NpyError, NpyFault};
+pub use file::{NpyArray, read_npy, rest_is_ignored};
+pub use literal::{header_is_read, one_meaning};

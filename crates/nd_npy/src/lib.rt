@@ -1,18 +1,6 @@
-//! Arrays from NPY files (NumPy's description of the format).
+//! NPY files and their types: PEP 3118 formats, headers that are read, files that are written.
 #![tactic(auto)]
 
-mod elements;
-mod fault;
-mod file;
-mod grammar;
-mod header;
-mod kinds;
-mod literal;
-mod sets;
-mod split;
-mod state;
-mod texts;
-
-pub use fault::{NpyError, NpyFault};
-pub use file::{NpyArray, read_npy, rest_is_ignored};
-pub use literal::{header_is_read, one_meaning};
+pub mod header;
+pub mod pep3118;
+pub mod writing;

@@ -1,6 +1,2 @@
-pub mod Contents
-pub mod Lines
-pub mod New
-pub mod OfTwo
-pub mod Elementwise
-pub mod Listing
+pub mod Operators
+pub mod Refusals

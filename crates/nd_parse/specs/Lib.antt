@@ -1,1 +1,4 @@
-pub mod Readers
+pub mod Calls
+pub mod Cells
+pub mod Reader
+pub mod Rules

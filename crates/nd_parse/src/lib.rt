@@ -1,9 +1,7 @@
-//! The syntax of cells: the statements of a text, or its fault.
+//! The parser: from a cell's text to its statements, or the first fault with its line and column.
 #![tactic(auto)]
 
-mod expr;
-mod parse;
-mod stmt;
-
-pub use nd_syntax::{Line, ParseFault, ParseKind};
-pub use parse::parse_cell;
+pub mod calls;
+pub mod cells;
+pub mod reader;
+pub mod rules;

@@ -4,10 +4,10 @@ use Rattle.std.specs.Prelude.{ℤ, pos, ◌*ℤ◌, unsigned_abs, if◌then◌el
 use Rattle.std.proofs.Math.Nat.{mul-le-mul}
 use Rattle.std.proofs.lemmas.Int.{unsigned_abs-mul}
 use Rattle.std.proofs.lemmas.List.{take-append-drop, drop-drop, take-set, take_more_set, length-map, map-append}
-use Rattle.nd_model.specs.Advanced.{true_numbers}
+use Rattle.nd_model.specs.Indexing.Advanced.{true_numbers}
 use Rattle.nd_places.specs.Forms.{trues_on}
 use Rattle.nd_places.specs.Near.{is_true, place_on_line, trues_in}
-use Rattle.nd_places.specs.declared.line.Line.{Line}
+use Rattle.nd_places.specs.declared.line.StridedLine.{StridedLine}
 use Rattle.nd_places.proofs.Fronts.{drop_one}
 
 pub one_at_most : (b : Bool) (n : ℕ) → n ≡ (if b then 1 else 0) → n ≤ 1
@@ -73,7 +73,7 @@ count_split k n mask =
 
 -- ---- where they lie
 
-pub trues_split : (line : Line) (first : ℕ) (part rest : List ℕ) → trues_on line first (part ++ rest) ≡ trues_on line first part ++ trues_on line (first + length part) rest
+pub trues_split : (line : StridedLine) (first : ℕ) (part rest : List ℕ) → trues_on line first (part ++ rest) ≡ trues_on line first part ++ trues_on line (first + length part) rest
 trues_split line first part rest =
     let place : ℕ → ℕ = place_on_line line.start line.step in
     ap (λ bs. map place (true_numbers first bs)) (map-append is_true part rest) ∙ ap (map place) (true_append first (map is_true part) (map is_true rest))

@@ -1,13 +1,13 @@
 -- Lists of places, in the forms in which they are kept.
 use Rattle.std.specs.Prelude.{ℕ, List, map}
 use Rattle.nd_places.specs.Near.{place_on_line, rows_places, trues_in}
-use Rattle.nd_places.specs.declared.line.Line.{Line}
+use Rattle.nd_places.specs.declared.line.StridedLine.{StridedLine}
 use Rattle.nd_places.specs.declared.form.Form.{Form}
 use Rattle.nd_places.specs.declared.form.Form.TheVariants.{Each, Rows, Trues}
 use Rattle.nd_places.specs.declared.list.PlaceList.TheInside.{Inside}
 
 -- of the elements of a line whose bytes of a mask are true, the first of which has this number
-abbrev pub trues_on : Line → ℕ → List ℕ → List ℕ
+abbrev pub trues_on : StridedLine → ℕ → List ℕ → List ℕ
 trues_on line first mask = map (place_on_line line.start line.step) (trues_in first mask)
 
 abbrev pub places_in : Form → List ℕ

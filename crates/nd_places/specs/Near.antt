@@ -1,7 +1,7 @@
 -- Places at the ends of ways from the first byte.
 use Rattle.std.specs.Prelude.{ℕ, Bool, ◌&&◌, ◌^◌, ◌≤◌, ℤ, pos, ◌+ℤ◌, ◌*ℤ◌, int_le, int_lt, unsigned_abs, if◌then◌else◌, not, nat_eq, List, map}
 use Rattle.std.specs.List.{flat_map}
-use Rattle.nd_model.specs.Advanced.{true_numbers}
+use Rattle.nd_model.specs.Indexing.Advanced.{true_numbers}
 
 -- a way that is a place
 abbrev pub place_on : ℤ → ℕ

@@ -1,12 +1,13 @@
-//! The forms in which places are kept.
+//! `Form`: how a list of byte offsets is kept: one by one, as rows, or as a mask over a line.
 ghost use Rattle.std.specs.Prelude.{◌<◌, ◌≤◌, ◌^◌, length};
 ghost use Rattle.std.specs.List.{All};
 ghost use Rattle.nd_places.specs.Near.{IsNear};
 
-use crate::line::Line;
+use crate::line::StridedLine;
 use nd_block::RawBlock;
 
-/// Rows of elements: how many bytes from the first one of a block each begins, and how many bytes from there its elements lie.
+/// Rows of elements: the byte offset at which each row begins, and the offsets of its elements from
+/// there.
 #[derive(Drop)]
 pub struct Rows {
     pub starts: Vec<i64>,
@@ -16,15 +17,15 @@ pub struct Rows {
     ghost some: { 0 < length ways.items },
 }
 
-/// The elements of a line whose bytes of a mask are true.
+/// The elements of a line that a mask selects: a byte other than 0 is true.
 #[derive(Drop)]
 pub struct Trues {
-    pub line: Line,
+    pub line: StridedLine,
     pub mask: RawBlock,
     ghost few: { length mask ≤ 2 ^ 24 },
 }
 
-/// Places one after another, of rows, or of what a mask chooses.
+/// How byte offsets are kept: one by one, as rows, or as a line and its mask.
 #[derive(Drop)]
 pub(crate) enum Form {
     Each(Vec<u64>),

@@ -1,4 +1,5 @@
-//! Lists of the places of elements in a block of bytes, kept one by one, by rows, or as a mask of a line.
+//! [`PlaceList`]: the byte offsets of selected elements in a block, kept one by one, by rows, or as
+//! a mask over a line.
 #![tactic(auto)]
 
 mod form;
@@ -8,7 +9,7 @@ mod masks;
 mod walk;
 
 pub use form::{Rows, Trues};
-pub use line::{Line, near_place};
+pub use line::{StridedLine, near_place};
 pub use list::PlaceList;
 pub use masks::count_trues;
 pub use walk::PlaceWalk;

@@ -1,18 +1,18 @@
-//! Places at the ends of ways that are near enough for sums of 64 bits.
+//! `StridedLine`: elements at one distance from another, whose byte offsets 64 bits hold.
 ghost use Rattle.std.specs.Prelude.{◌≡◌, ◌^◌, ◌≤◌, unsigned_abs};
 ghost use Rattle.nd_places.specs.Near.{IsNear, place_on};
 
-/// Elements on a line: how many bytes from the first one of a block the element with the number 0 lies, and how many bytes each is from
-/// the one before.
+/// A strided line of elements: the byte offset of the element of index 0, and the bytes from one to
+/// the next.
 #[derive(Clone, Copy)]
-pub struct Line {
+pub struct StridedLine {
     pub start: i64,
     pub step: i64,
     ghost start_near: { IsNear start },
     ghost step_near: { unsigned_abs step ≤ 2 ^ 29 },
 }
 
-/// Returns the place at the end of a way, 0 where there is none.
+/// Returns the byte offset that a distance from the block's first byte is, 0 where it is none.
 #[inline(always)]
 pub fn near_place(way: i64) -> u64
     ensures { result ≡ place_on way }

@@ -1,4 +1,4 @@
-//! `PlaceList`: the places of elements.
+//! `PlaceList`: the byte offsets of selected elements, in a compact form.
 ghost use Rattle.std.specs.Prelude.{◌≡◌, [], IfOk, IfSome};
 ghost use Rattle.nd_places.specs.Forms.{trues_on};
 ghost use Rattle.nd_places.specs.Near.{rows_places};
@@ -8,10 +8,11 @@ use crate::walk::PlaceWalk;
 use std::alloc::AllocError;
 use std::marker::Model;
 
-// How many places are found at a time.
+// How many byte offsets are worked out at a time.
 const MANY: usize = 512;
 
-/// The places of elements in order. They are kept as rows or as a mask where that takes less room. A clause sees the list of them.
+/// The byte offsets of elements in order, kept as rows or as a mask where that takes less memory. A
+/// clause sees the list of them.
 #[derive(Drop)]
 pub struct PlaceList {
     form: Form,
@@ -28,7 +29,7 @@ impl Model for PlaceList {
 }
 
 impl PlaceList {
-    /// Makes the list of these places.
+    /// Returns the list of these byte offsets.
     pub fn of_each(places: Vec<u64>) -> PlaceList
         ensures { result ≡ places.items }
     {
@@ -37,7 +38,8 @@ impl PlaceList {
         }
     }
 
-    /// Makes the list of the places of rows.
+    /// Returns the list of the byte offsets of rows. Rows that start at 0 and 40, with offsets 0
+    /// and 8, have `0 8 40 48`.
     pub fn of_rows(rows: Rows) -> PlaceList
         ensures { result ≡ rows_places rows.starts.items rows.ways.items }
     {
@@ -46,7 +48,8 @@ impl PlaceList {
         }
     }
 
-    /// Makes the list of the places of elements that a mask chooses.
+    /// Returns the list of the byte offsets that a mask selects. A line from 0 in steps of 8 with
+    /// the mask `1 0 1` has `0 16`.
     pub fn of_trues(trues: Trues) -> PlaceList
         ensures { result ≡ trues_on trues.line 0 trues.mask }
     {
@@ -55,7 +58,7 @@ impl PlaceList {
         }
     }
 
-    /// Returns the line and the mask, where the list is kept so.
+    /// Returns the line and the mask, where the list is kept as these.
     pub fn trues(&self) -> Option<&Trues>
         ensures { IfSome result (λ t. self.now ≡ trues_on t.now.line 0 t.now.mask) }
     {
@@ -65,14 +68,15 @@ impl PlaceList {
         }
     }
 
-    /// Begins a walk over the places.
+    /// Begins a walk over the byte offsets.
     pub fn walk(&self) -> PlaceWalk<'_>
         ensures { result ≡ self.now }
     {
         PlaceWalk::new(&self.form)
     }
 
-    /// Returns the places one after another: where this list has them, and else in the room, which is empty and is filled with them.
+    /// Returns the byte offsets as a slice: the list's own where it has one, else `room`, which
+    /// must be empty, filled with them.
     pub fn lend<'p>(&'p self, room: &'p mut Vec<u64>) -> Result<&'p [u64], AllocError>
         requires { room.old.items ≡ [] }
         ensures { IfOk result (λ places. places.now ≡ self.now) }

@@ -1,11 +1,11 @@
-//! The true bytes of masks, found by loops that ask nothing.
+//! `write_true_places` and `count_trues`: the true bytes of masks, in loops without a branch.
 ghost use Rattle.std.specs.Prelude.{◌≡◌, ◌+◌, ◌^◌, ◌≤◌, if◌then◌else◌, length, take};
 ghost use Rattle.nd_places.specs.Forms.{trues_on};
 ghost use Rattle.nd_places.specs.Near.{is_true, trues_in};
 
-use crate::line::{Line, near_place};
+use crate::line::{StridedLine, near_place};
 
-// How many places the byte of a mask makes.
+// By how much the byte of a mask advances the count of true ones.
 #[inline(always)]
 fn count_of_byte(byte: u8) -> u8
     ensures { result ≡ (if is_true byte then 1 else 0) }
@@ -13,10 +13,15 @@ fn count_of_byte(byte: u8) -> u8
     if byte == 0 { 0 } else { 1 }
 }
 
-/// Writes the places of the elements of a line whose bytes of a mask are true, the first of which has this number, and returns how many
-/// there are.
+/// Writes the byte offsets of the elements of a line that a mask selects, and returns their number.
+/// `first` is the index of the mask's first element.
 #[inline(always)]
-pub(crate) fn write_true_places(out: &mut [u64], line: Line, first: u64, mask: &[u8]) -> usize
+pub(crate) fn write_true_places(
+    out: &mut [u64],
+    line: StridedLine,
+    first: u64,
+    mask: &[u8],
+) -> usize
     requires room { length mask.now ≤ length out.old }
     requires range { first + length mask.now ≤ 2 ^ 32 }
     ensures len { length out.new ≡ length out.old }
@@ -32,10 +37,10 @@ pub(crate) fn write_true_places(out: &mut [u64], line: Line, first: u64, mask: &
     count
 }
 
-// The most bytes whose sum of truths a byte holds.
+// The most bytes whose count of true ones fits a byte.
 const MOST: usize = 255;
 
-// How many of a few bytes of a mask are true.
+// How many of at most 255 bytes of a mask are true.
 #[inline(always)]
 fn count_few(mask: &[u8]) -> u8
     requires { length mask.now ≤ MOST }
@@ -48,7 +53,7 @@ fn count_few(mask: &[u8]) -> u8
     count
 }
 
-/// Returns how many bytes of a mask are not 0.
+/// Returns how many bytes of a mask are true.
 pub fn count_trues(mask: &[u8]) -> u64
     ensures value { result ≡ length (trues_in 0 mask.now) }
     ensures few { result ≤ length mask.now }

@@ -1,4 +1,4 @@
-//! `PlaceWalk`: a walk over places, some at a time.
+//! `PlaceWalk`: a walk over byte offsets, a part at a time.
 ghost use Rattle.std.specs.Prelude.{◌≡◌, ◌<◌, [], ◌+ℤ◌, drop, length, map, MatchOption};
 ghost use Rattle.std.specs.List.{All};
 ghost use Rattle.nd_places.specs.Forms.{places_in};
@@ -10,11 +10,12 @@ use crate::line::near_place;
 use crate::masks::write_true_places;
 use std::marker::Model;
 
-/// A walk over the places of a list in order. A clause sees the list of those that are left.
+/// A walk over the byte offsets of a list in order. A clause sees the list of those that are left.
 #[derive(Drop)]
 pub struct PlaceWalk<'p> {
     form: &'p Form,
-    // how many places, rows or bytes of a mask are done, and how many elements of the row behind them
+    // how many byte offsets, rows or bytes of a mask are done, and how many elements of the row
+    // behind them
     done: usize,
     within: usize,
 }
@@ -31,7 +32,7 @@ impl<'p> Model for PlaceWalk<'p> {
     ghost invariant = { IsWalk };
 }
 
-// The next of places that stand one after another, of which so many are done.
+// The next byte offsets of those kept one by one, at most `most`. `done` of them are taken.
 fn next_each<'b>(places: &'b [u64], done: &mut usize, most: usize) -> Option<&'b [u64]>
     requires { 0 < most }
     ensures { MatchOption result ((drop done.old places.now ≡ []) × (drop done.new places.now ≡ []))
@@ -46,7 +47,7 @@ fn next_each<'b>(places: &'b [u64], done: &mut usize, most: usize) -> Option<&'b
     Some(part)
 }
 
-// Writes the places of the elements of a row.
+// Writes the byte offsets of the elements of a row.
 fn write_row(out: &mut [u64], start: i64, ways: &[i64])
     requires each { length ways.now ≡ length out.old }
     requires start { IsNear start }
@@ -58,7 +59,7 @@ fn write_row(out: &mut [u64], start: i64, ways: &[i64])
     }
 }
 
-// Writes the next places of rows, as many of one row as there is room for.
+// Writes the next byte offsets of rows, as many of one row as there is room for.
 fn next_in_rows<'b>(
     rows: &Rows,
     done: &mut usize,
@@ -89,7 +90,8 @@ fn next_in_rows<'b>(
     Some(&room[..count])
 }
 
-// Writes the next places of the elements that a mask chooses. So many of its bytes are done.
+// Writes the next byte offsets that a mask selects into `room`. `done` bytes of the mask are looked
+// at.
 fn next_trues<'b>(trues: &Trues, done: &mut usize, room: &'b mut [u64]) -> Option<&'b [u64]>
     requires { 0 < length room.old }
     ensures { MatchOption result ((trues_left trues.now done.old ≡ [])
@@ -121,8 +123,8 @@ impl<'p> PlaceWalk<'p> {
         }
     }
 
-    /// Returns the next places, at least one and no more than there is room for, or `None` where none is left. They are in the room, or
-    /// where the list has them.
+    /// Returns the next byte offsets, at least one and at most as many as there is room for, or
+    /// `None` where none is left. They lie in the room or in the list.
     pub fn next<'b>(&mut self, room: &'b mut [u64]) -> Option<&'b [u64]>
     where
         'p: 'b,

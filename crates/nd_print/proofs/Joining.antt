@@ -4,7 +4,7 @@ use Rattle.std.specs.List.{All, flat_map}
 use Rattle.std.proofs.lemmas.List.{map-append, append-nil, take_more, length-map, length-take}
 use Rattle.std.proofs.lemmas.List.Elements.{All-head, All-tail}
 use Rattle.std.proofs.lemmas.Grind.{flat_map-append}
-use Rattle.nd_model.specs.Text.{joined}
+use Rattle.nd_model.specs.Text.Text.{joined}
 
 joined_more : (between : List ℕ) (ps : List (List ℕ)) (q : List ℕ) → 0 < length ps → joined between (ps ++ q ∷ []) ≡ joined between ps ++ (between ++ q)
 joined_more between [] q lt = absurd (omega arith)

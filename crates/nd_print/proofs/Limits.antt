@@ -3,10 +3,10 @@ use Rattle.std.proofs.Common.{rules, ◌≡◌, ◌==◌, true, false, ℕ, ◌-
 use Rattle.std.specs.Prelude.{not, IsTrue}
 use Rattle.std.proofs.lemmas.List.{length-map}
 use Rattle.std.proofs.lemmas.Bool.{cases_lt}
-use Rattle.nd_model.specs.Content.{content_at}
-use Rattle.nd_model.specs.StructureText.{elements_text}
-use Rattle.nd_model.specs.Tuple.{elements_of}
-use Rattle.nd_model.specs.View.{ElementType}
+use Rattle.nd_model.specs.Arrays.Content.{content_at}
+use Rattle.nd_model.specs.Text.StructureText.{elements_text}
+use Rattle.nd_model.specs.Arrays.Tuple.{elements_of}
+use Rattle.nd_model.specs.Arrays.View.{ElementType}
 use Rattle.nd_print.specs.declared.columns.Column.{Column}
 use Rattle.nd_print.specs.Columns.{least_columns, fields_in, is_structure, has_axes, wider_columns}
 use Rattle.nd_print.specs.Lengths.{element_len, nested_len}

@@ -4,8 +4,8 @@ use Rattle.std.specs.List.{All}
 use Rattle.std.proofs.lemmas.List.{length-replicate, length-map, length-take-le, length-drop}
 use Rattle.std.proofs.lemmas.List.Elements.{All-head, All-cons, All-take, All-drop}
 use Rattle.std.proofs.Math.Nat.{mul-le-mul_left}
-use Rattle.nd_model.specs.Text.{joined, split, bracketed}
-use Rattle.nd_model.specs.Tuple.{elements_of}
+use Rattle.nd_model.specs.Text.Text.{joined, split, bracketed}
+use Rattle.nd_model.specs.Arrays.Tuple.{elements_of}
 use Rattle.nd_print.specs.Lengths.{gap_len, nested_len}
 use Rattle.nd_print.proofs.Joining.{length-joined}
 

@@ -4,9 +4,9 @@ use Rattle.std.specs.List.{flat_map, All}
 use Rattle.std.proofs.lemmas.List.{take-map, take-take, drop-take, drop-drop, length-take-le, length-drop}
 use Rattle.std.proofs.lemmas.List.Elements.{All-cons}
 use Rattle.std.proofs.Math.Nat.{div-mul-le_self}
-use Rattle.nd_model.specs.Runs.{pieces, in_pieces, last_length}
-use Rattle.nd_model.specs.Tuple.{elements_of}
-use Rattle.nd_model.specs.Text.{split, bracketed, joined}
+use Rattle.nd_model.specs.Arrays.Runs.{pieces, in_pieces, last_length}
+use Rattle.nd_model.specs.Arrays.Tuple.{elements_of}
+use Rattle.nd_model.specs.Text.Text.{split, bracketed, joined}
 use Rattle.nd_print.proofs.Sizes.{below_is}
 
 drop-map : {X Y : Type 0} (f : X → Y) (n : ℕ) (xs : List X) → drop n (map f xs) ≡ map f (drop n xs)

@@ -2,13 +2,13 @@
 use Rattle.std.proofs.Common.{◌≡◌, ℕ, ◌+◌, ◌-◌, ◌<◌, ℤ, max, Bool, true, false, List, [], ◌∷◌, map, length, take, drop, refl, sym, ap, ap₂, ◌∙◌, arith, append-nil}
 use Rattle.std.specs.Prelude.{codes}
 use Rattle.std.proofs.lemmas.List.{drop-drop}
-use Rattle.nd_model.specs.Element.{Element, size_of, value_of}
-use Rattle.nd_model.specs.Tuple.{elements_of}
-use Rattle.nd_model.specs.View.{Field, ElementType, One, Structure}
-use Rattle.nd_model.specs.Content.{number_in, number_at, content_at}
-use Rattle.nd_model.specs.Text as text
-use Rattle.nd_model.specs.Text.{number_text, widest, aligned, bracketed}
-use Rattle.nd_model.specs.StructureText.{number_texts, field_texts, wider, widths_of, all_aligned, in_parentheses, elements_text}
+use Rattle.nd_model.specs.Arrays.Element.{Element, size_of, value_of}
+use Rattle.nd_model.specs.Arrays.Tuple.{elements_of}
+use Rattle.nd_model.specs.Arrays.View.{Field, ElementType, One, Structure}
+use Rattle.nd_model.specs.Arrays.Content.{number_in, number_at, content_at}
+use Rattle.nd_model.specs.Text.Text as text
+use Rattle.nd_model.specs.Text.Text.{number_text, widest, aligned, bracketed}
+use Rattle.nd_model.specs.Text.StructureText.{number_texts, field_texts, wider, widths_of, all_aligned, in_parentheses, elements_text}
 use Rattle.nd_print.specs.declared.columns.Column.{Column}
 use Rattle.nd_print.specs.Columns.{least_width, least_columns, fields_in, is_structure, has_axes, wider_column, wider_columns}
 use Rattle.nd_print.specs.Texts.{column_text, text_at}

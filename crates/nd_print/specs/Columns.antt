@@ -1,10 +1,10 @@
 -- Columns: the numbers that each element of an array has, and how wide each of them is shown.
 use Rattle.std.specs.Prelude.{ℕ, max, Bool, true, false, if◌then◌else◌, List, [], ◌∷◌, map, length, drop}
-use Rattle.nd_model.specs.Element.{Kind, Element}
-use Rattle.nd_model.specs.Content.{number_at}
-use Rattle.nd_model.specs.Text as text
-use Rattle.nd_model.specs.Text.{number_text}
-use Rattle.nd_model.specs.View.{Field, ElementType, One, Structure}
+use Rattle.nd_model.specs.Arrays.Element.{Kind, Element}
+use Rattle.nd_model.specs.Arrays.Content.{number_at}
+use Rattle.nd_model.specs.Text.Text as text
+use Rattle.nd_model.specs.Text.Text.{number_text}
+use Rattle.nd_model.specs.Arrays.View.{Field, ElementType, One, Structure}
 use Rattle.nd_print.specs.declared.columns.Column.{Column}
 
 -- numbers are padded in arrays that have axes

@@ -1,8 +1,8 @@
 -- The text of a number outside arrays, and of an element of an array.
 use Rattle.std.specs.Prelude.{ℕ, Bool, true, false, List, [], ◌∷◌, ◌++◌, map, drop}
 use Rattle.std.specs.Fmt.{signed_decimal}
-use Rattle.nd_model.specs.StructureText.{in_parentheses}
-use Rattle.nd_model.specs.Text.{truth_text, number_text, aligned, joined}
+use Rattle.nd_model.specs.Text.StructureText.{in_parentheses}
+use Rattle.nd_model.specs.Text.Text.{truth_text, number_text, aligned, joined}
 use Rattle.nd_types.specs.declared.num.Num.{Num}
 use Rattle.nd_types.specs.declared.num.Num.TheVariants.{Int, Bool as Truth, Scalar}
 use Rattle.nd_types.specs.Kinds.{kind_of}

@@ -1,11 +1,11 @@
-//! The text of an array's elements.
+//! `push_elements`: the text that `print` gives for an array.
 ghost use Rattle.std.specs.Prelude.{◌≡◌, ◌+◌, ◌^◌, ◌<◌, ◌≤◌, [], ◌++◌, map, length, take, drop, replicate, slice_index_or, string_bytes, string_len, OnOk, IfOk};
 ghost use Rattle.std.specs.List.{All, concat};
-ghost use Rattle.nd_model.specs.Content.{content_at};
-ghost use Rattle.nd_model.specs.Runs.{last_length};
-ghost use Rattle.nd_model.specs.StructureText.{elements_text};
-ghost use Rattle.nd_model.specs.Text as model;
-ghost use Rattle.nd_model.specs.Tuple.{elements_of};
+ghost use Rattle.nd_model.specs.Arrays.Content.{content_at};
+ghost use Rattle.nd_model.specs.Arrays.Runs.{last_length};
+ghost use Rattle.nd_model.specs.Text.StructureText.{elements_text};
+ghost use Rattle.nd_model.specs.Text.Text as model;
+ghost use Rattle.nd_model.specs.Arrays.Tuple.{elements_of};
 ghost use Rattle.nd_print.specs.Fits.{Ends};
 ghost use Rattle.nd_print.specs.Texts.{text_at, row_text};
 
@@ -16,17 +16,24 @@ use crate::scalars::push_times;
 use nd_view::{Run, Runs, View};
 use std::alloc::{AllocError, Global};
 
-/// Whether a text was appended to a line that has a limit.
+/// Whether a text was appended to a line of limited length.
 #[derive(Clone, Copy)]
 pub enum Fit {
-    /// It stands behind the line.
+    /// It was appended.
     Whole,
     /// The line would be longer than its limit.
     TooLong,
 }
 
-/// Appends the text of a view's elements to a line of at most `limit` bytes, as the block with these bytes holds them. A byte past
-/// the end of the block is taken for 0. Where there is no room for the text, none of it is built.
+/// Appends the text of a view's elements to a line of at most `limit` bytes, as NumPy prints them:
+///
+/// ```text
+/// [[ 0  1]
+///  [10 11]]
+/// ```
+///
+/// A byte past the end of the block reads as 0. Where there is no room, nothing is built or
+/// appended.
 pub fn push_elements(
     alloc: Global,
     line: &mut String,
@@ -68,7 +75,7 @@ fn push_text(line: &mut String, room: usize, text: &str) -> Result<Fit, AllocErr
     Ok(Fit::Whole)
 }
 
-// Appends the elements of a view that has some.
+// Appends the elements of a view that is not empty.
 fn push_array(
     line: &mut String,
     view: &View,
@@ -122,7 +129,8 @@ fn push_next(
     }
 }
 
-// Appends the brackets of the axes that are left, inside `depth` open ones, with the elements of the next rows.
+// Appends the brackets of the remaining axes, inside `depth` open ones, with the elements of the
+// next rows.
 fn push_nested(
     line: &mut String,
     depth: usize,
@@ -158,7 +166,7 @@ fn push_nested(
     Ok(())
 }
 
-// Appends what stands between two parts of an axis.
+// Appends the line breaks and blanks between two parts of an axis.
 fn push_break(line: &mut String, lines: usize, blanks: usize) -> Result<(), AllocError>
     ensures { OnOk result (string_bytes line.new
         ≡ string_bytes line.old ++ (replicate lines 10 ++ replicate blanks 32)) }

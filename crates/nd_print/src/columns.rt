@@ -1,6 +1,6 @@
-//! Columns: the numbers that each element of an array has, and how wide each of them is shown.
+//! `Column`: a number that each element of an array has, and the width in which it is printed.
 ghost use Rattle.std.specs.Prelude.{◌≡◌, map, drop, IfOk};
-ghost use Rattle.nd_model.specs.Content.{number_at};
+ghost use Rattle.nd_model.specs.Arrays.Content.{number_at};
 ghost use Rattle.nd_types.specs.Fields.{fields_of};
 ghost use Rattle.nd_types.specs.Kinds.{kind_of};
 ghost use Rattle.nd_types.specs.Types.{type_of};
@@ -12,7 +12,7 @@ use nd_types::{Elem, ElemType, Field, Kind};
 use nd_view::View;
 use std::alloc::{AllocError, Global};
 
-/// A number of each element: where it begins inside the element, and how wide it is shown.
+/// A number of each element: its byte offset inside the element, and its printed width.
 #[derive(Clone, Copy)]
 pub(crate) struct Column {
     pub(crate) at: u32,
@@ -20,7 +20,7 @@ pub(crate) struct Column {
     pub(crate) width: u8,
 }
 
-// The width of the narrowest number: in an array a Boolean is as wide as False.
+// The least width of a kind's numbers: `False` sets that of Booleans in an array.
 fn least_width(kind: Kind, is_padded: bool) -> u8
     ensures { result ≡ spec.least_width is_padded (kind_of kind) }
 {
@@ -31,7 +31,7 @@ fn least_width(kind: Kind, is_padded: bool) -> u8
 }
 
 impl Column {
-    // The column of numbers that begin there, before any is seen.
+    // The column of numbers at a byte offset, before any is seen.
     fn new(at: u32, elem: Elem, is_padded: bool) -> Column
         ensures { result ≡ spec.least_column is_padded at elem }
     {
@@ -42,14 +42,14 @@ impl Column {
         }
     }
 
-    /// Returns the number of an element of these bytes. A byte past the end is taken for 0.
+    /// Returns the number of an element. A byte past the end reads as 0.
     pub(crate) fn number(&self, element: &[u8]) -> i128
         ensures { result ≡ number_at self.now.elem element.now self.now.at }
     {
         number_in(element, u64::from(self.at), self.elem)
     }
 
-    // The column, where it is widened if the number of this element needs it.
+    // The column, widened for the number of an element.
     fn widen_to(&self, element: &[u8]) -> Column
         ensures { result ≡ spec.wider_column element.now self.now }
     {
@@ -63,7 +63,7 @@ impl Column {
     }
 }
 
-/// Returns the bytes from a place on, none past the end.
+/// Returns the bytes from a byte offset on, none past the end.
 pub(crate) fn bytes_from(bytes: &[u8], place: u64) -> &[u8]
     ensures { result.now ≡ drop place bytes.now }
 {
@@ -85,7 +85,7 @@ fn columns_of_fields(
     Ok(columns)
 }
 
-/// Returns the columns of elements, as narrow as they may be.
+/// Returns the columns of a dtype, as narrow as they may be.
 pub(crate) fn columns_of(
     alloc: Global,
     element: &ElemType,

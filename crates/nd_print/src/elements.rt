@@ -1,4 +1,4 @@
-//! The text of one element.
+//! `Layout`: the widths of an array's printed elements, and their text.
 ghost use Rattle.std.specs.Prelude.{◌≡◌, ◌<◌, ◌++◌, length, string_bytes, true, IfOk, OnOk};
 ghost use Rattle.nd_print.specs.Columns as spec;
 ghost use Rattle.nd_print.specs.Texts as texts;
@@ -8,7 +8,8 @@ use crate::scalars::push_aligned;
 use nd_view::View;
 use std::alloc::{AllocError, Global};
 
-/// How the elements of an array are shown: their columns, and whether they are structures, which have parentheses.
+/// How elements are printed: their columns, and whether they are structures, which have
+/// parentheses.
 #[derive(Drop)]
 pub(crate) struct Layout {
     pub(crate) columns: Vec<Column>,
@@ -16,7 +17,7 @@ pub(crate) struct Layout {
 }
 
 impl Layout {
-    /// Returns how the elements of a view are shown, their columns as narrow as they may be.
+    /// Returns how the elements of a view are printed, their columns as narrow as they may be.
     pub(crate) fn new(alloc: Global, view: &View) -> Result<Layout, AllocError>
         ensures columns { IfOk result (λ layout. layout.columns.items ≡ spec.least_columns
             (spec.has_axes view.now.shape) (spec.fields_in view.now.element)) }
@@ -73,7 +74,7 @@ fn push_structure(line: &mut String, columns: &[Column], element: &[u8]) -> Resu
     line.push_str(if columns.len() == 1 { ",)" } else { ")" })
 }
 
-/// Appends the element of these bytes.
+/// Appends an element.
 pub(crate) fn push_element(
     line: &mut String,
     layout: &Layout,

@@ -1,12 +1,12 @@
-//! How many bytes the text of an array has, from the widths of its columns.
+//! `has_room`: the length of an array's text, from the widths of its columns.
 ghost use Rattle.std.specs.Prelude.{◌≡◌, ◌+◌, ◌*◌, ◌^◌, ◌<◌, ◌≤◌, length, IsTrue, ◌↔◌, MatchOption};
-ghost use Rattle.nd_model.specs.Tuple.{elements_of};
+ghost use Rattle.nd_model.specs.Arrays.Tuple.{elements_of};
 ghost use Rattle.nd_print.specs.Lengths as lengths;
 
 use crate::columns::Column;
 use crate::elements::Layout;
 
-// The numbers of an element, with commas between them.
+// The length of an element's numbers, with commas between them.
 fn columns_len(columns: &[Column]) -> u128
     ensures value { result ≡ lengths.columns_len columns.now }
     ensures limit { result ≤ 257 * length columns.now }
@@ -21,7 +21,7 @@ fn columns_len(columns: &[Column]) -> u128
     len
 }
 
-// An element.
+// The length of an element.
 fn element_len(layout: &Layout) -> u128
     ensures { result ≡ lengths.element_len layout.now.is_structure layout.now.columns.items }
 {
@@ -35,7 +35,7 @@ fn element_len(layout: &Layout) -> u128
     }
 }
 
-// What stands between two parts of an axis.
+// The length of what stands between two parts of an axis.
 fn gap_len(depth: usize, below: &[u64]) -> u128
     ensures { (result ≡ lengths.gap_len depth below.now) × (result < 2 ^ 66) }
 {
@@ -46,7 +46,7 @@ fn gap_len(depth: usize, below: &[u64]) -> u128
     }
 }
 
-// An array, of which each element has this length, if there is room for it.
+// The length of an array whose elements have length `each`, if there is room for it.
 fn nested_len(depth: usize, shape: &[u64], each: u128, room: usize) -> Option<u128>
     requires deep { depth + length shape.now < 2 ^ 64 }
     requires some { 0 < elements_of shape.now }
@@ -63,7 +63,7 @@ fn nested_len(depth: usize, shape: &[u64], each: u128, room: usize) -> Option<u1
     (len <= room as u128).then_some(len)
 }
 
-/// Returns whether there is room for an array of this shape.
+/// Returns whether there is room for the text of an array of this shape.
 pub(crate) fn has_room(layout: &Layout, shape: &[u64], room: usize) -> bool
     requires some { 0 < elements_of shape.now }
     requires limit { elements_of shape.now ≤ 2 ^ 24 }

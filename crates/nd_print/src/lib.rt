@@ -1,4 +1,4 @@
-//! The text of numbers and arrays, as NumPy prints them.
+//! The text of numbers and arrays as NumPy prints them: [`scalar_text`] and [`push_elements`].
 #![tactic(auto)]
 
 mod arrays;

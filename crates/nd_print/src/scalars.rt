@@ -1,8 +1,8 @@
-//! The text of one number.
+//! `scalar_text`: the text that `print` gives for a number.
 ghost use Rattle.std.specs.Prelude.{◌≡◌, ◌<◌, ◌++◌, length, replicate, string_bytes, OnOk, IfOk};
 ghost use Rattle.std.specs.Fmt.{signed_decimal};
-ghost use Rattle.nd_model.specs.Text as model;
-ghost use Rattle.nd_model.specs.Text.{number_text, aligned};
+ghost use Rattle.nd_model.specs.Text.Text as model;
+ghost use Rattle.nd_model.specs.Text.Text.{number_text, aligned};
 ghost use Rattle.nd_types.specs.Kinds.{kind_of};
 ghost use Rattle.nd_print.specs.Texts.{num_text};
 
@@ -10,7 +10,7 @@ use itoa::Buffer;
 use nd_types::{Kind, Num};
 use std::alloc::{AllocError, Global};
 
-/// Returns the text of a number outside arrays.
+/// Returns the text of a number outside arrays: `7`, `True`.
 pub fn scalar_text(alloc: Global, num: Num) -> Result<String, AllocError>
     ensures { IfOk result (λ text. string_bytes text ≡ num_text num) }
 {
@@ -82,7 +82,7 @@ pub(crate) fn push_aligned(
     }
 }
 
-// Appends a character so many times.
+// Appends a character `times` times.
 pub(crate) fn push_times(text: &mut String, character: char, times: usize) -> Result<(), AllocError>
     requires { character < 128 }
     ensures { OnOk result (string_bytes text.new

@@ -5,8 +5,8 @@ ghost use Rattle.std.specs.Process.{exit_status};
 
 use clap::error::ErrorKind;
 use clap::{Arg, ArgAction, ArgMatches, Command, Error};
-use nd_rerun::{EditFault, Input, Meter, Notebook};
-use nd_run::{RunFault, ScriptReader, ScriptWriter, run};
+use nd_commands::{RunFault, ScriptReader, ScriptWriter, run};
+use nd_notebook::{EditFault, Input, Meter, Notebook};
 use std::alloc::{AllocFailed, Global};
 use std::io::Read;
 use std::process::ExitCode;
@@ -24,12 +24,22 @@ const REFUSED: u8 = 2;
 /// The file of an input could not be read, or the notebook refused it.
 const NO_INPUT: u8 = 3;
 
+/// What the program is, as its help says it.
+const ABOUT: &str = "runs a script of a reactive notebook for integer and Boolean arrays";
+
 /// How much of the file of an input is read: a byte more than an input may take.
 const MOST_READ: u64 = 67_108_865;
 
+/// An input: its name, and the path of its file.
+#[derive(Clone, Copy, Debug)]
+struct InputFile<'a> {
+    name: &'a str,
+    path: &'a str,
+}
+
 /// Why the program did not run a script to its end.
 #[derive(Debug, Drop, thiserror::Error)]
-enum ProgramFault {
+enum ProgramFault<'a> {
     /// An argument is not UTF-8.
     #[error("the arguments are not text")]
     NotText,
@@ -37,45 +47,65 @@ enum ProgramFault {
     #[error("{0}")]
     Refused(Error),
     /// A word is neither an option nor an input.
-    #[error("an input is given as NAME=PATH")]
-    NoInputWord,
+    #[error("{0}: an input is given as NAME=PATH")]
+    NoInputWord(&'a str),
     /// The file of an input cannot be read.
-    #[error("an input cannot be read")]
-    UnreadInput,
+    #[error("input {name}: {path}: {1}", name = .0.name, path = .0.path)]
+    UnreadInput(InputFile<'a>, io::Error),
     /// The notebook refused an input.
-    #[error("an input is refused: {0:?}")]
-    RefusedInput(EditFault),
-    /// The script was not run to its end, or memory ran out before it began.
+    #[error("input {name}: {path}: {why}", name = .0.name, path = .0.path, why = refusal_text(.1))]
+    RefusedInput(InputFile<'a>, EditFault),
+    /// The file of the script cannot be opened.
+    #[error("script {0}: {1}")]
+    UnopenedScript(&'a str, io::Error),
+    /// The script of a file was not run to its end.
+    #[error("script {0}: {1}")]
+    StoppedScript(&'a str, RunFault),
+    /// The script of standard input was not run to its end, or memory ran out before a script began.
     #[error("{0}")]
     Stopped(RunFault),
 }
 
-impl<T: Drop> From<AllocFailed<T>> for ProgramFault {
-    fn from(_failed: AllocFailed<T>) -> ProgramFault {
+/// Why a notebook refuses an input, in words. No input meets the other refusals of edits.
+fn refusal_text(fault: &EditFault) -> &'static str {
+    match fault {
+        EditFault::BadInputName => "a name has 1 to 64 digits, letters, '-', '.' or '_'",
+        EditFault::InputTooLarge => "larger than 67108864 bytes",
+        EditFault::OutOfMemory => "out of memory",
+        _ => "refused",
+    }
+}
+
+impl<'a, T: Drop> From<AllocFailed<T>> for ProgramFault<'a> {
+    fn from(_failed: AllocFailed<T>) -> ProgramFault<'a> {
         ProgramFault::Stopped(RunFault::OutOfMemory)
     }
 }
 
-impl ProgramFault {
+impl<'a> ProgramFault<'a> {
     /// Want of memory is no fault of the command line.
     fn status(&self) -> u8
         ensures { result ≤ 3 }
     {
         match self {
-            ProgramFault::NotText | ProgramFault::Refused(_) | ProgramFault::NoInputWord => REFUSED,
-            ProgramFault::UnreadInput | ProgramFault::RefusedInput(_) => NO_INPUT,
-            ProgramFault::Stopped(_) => STOPPED,
+            ProgramFault::NotText | ProgramFault::Refused(_) | ProgramFault::NoInputWord(_) => {
+                REFUSED
+            }
+            ProgramFault::UnreadInput(_, _) | ProgramFault::RefusedInput(_, _) => NO_INPUT,
+            ProgramFault::UnopenedScript(_, _)
+            | ProgramFault::StoppedScript(_, _)
+            | ProgramFault::Stopped(_) => STOPPED,
         }
     }
 
-    fn of_arguments(error: &io::Error) -> ProgramFault {
+    fn of_arguments(error: &io::Error) -> ProgramFault<'a> {
         match error.kind() {
             io::ErrorKind::OutOfMemory => ProgramFault::Stopped(RunFault::OutOfMemory),
             _ => ProgramFault::NotText,
         }
     }
 
-    fn of_command_line(error: Error) -> ProgramFault {
+    fn of_command_line(error: Error) -> ProgramFault<'a> {
         match error.kind() {
             ErrorKind::OutOfMemory => ProgramFault::Stopped(RunFault::OutOfMemory),
             _ => ProgramFault::Refused(error),
@@ -89,13 +119,6 @@ fn words_of(rt: &HostRuntime) -> io::Result<Vec<String>> {
     Ok(words)
 }
 
-/// An input: its name, and the path of its file.
-#[derive(Clone, Copy)]
-struct InputFile<'a> {
-    name: &'a str,
-    path: &'a str,
-}
-
 /// What a command line asks for: the path of the script, if one is given, and the inputs in order.
 #[derive(Drop)]
 struct Request<'a> {
@@ -104,11 +127,11 @@ struct Request<'a> {
 }
 
 /// The inputs that these words name, each as `NAME=PATH`.
-fn inputs_of<'a>(alloc: Global, words: &[&'a str]) -> Result<Vec<InputFile<'a>>, ProgramFault> {
+fn inputs_of<'a>(alloc: Global, words: &[&'a str]) -> Result<Vec<InputFile<'a>>, ProgramFault<'a>> {
     let mut inputs = Vec::new(alloc);
     for word in words {
         let Some((name, path)) = word.split_once('=') else {
-            return Err(ProgramFault::NoInputWord);
+            return Err(ProgramFault::NoInputWord(word));
         };
         inputs.push(InputFile { name, path })?;
     }
@@ -119,14 +142,22 @@ fn inputs_of<'a>(alloc: Global, words: &[&'a str]) -> Result<Vec<InputFile<'a>>,
 fn matches_of<'a>(alloc: Global, words: &'a [String]) -> Result<ArgMatches<'a>, Error> {
     let script = Arg::new(alloc, "script")
         .long("script")
+        .value_name("PATH")
+        .help("The script; else that of standard input")
         .action(ArgAction::Set);
-    let inputs = Arg::new(alloc, "input").action(ArgAction::Append);
-    let command = Command::new(alloc, "ndnote").arg(script)?.arg(inputs)?;
+    let inputs = Arg::new(alloc, "input")
+        .value_name("NAME=PATH")
+        .help("An input and its NPY file")
+        .action(ArgAction::Append);
+    let command = Command::new(alloc, "ndnote")
+        .about(ABOUT)
+        .arg(script)?
+        .arg(inputs)?;
     command.try_get_matches_from(words)
 }
 
 /// What the words of the command line ask for.
-fn request_of<'a>(alloc: Global, words: &'a [String]) -> Result<Request<'a>, ProgramFault> {
+fn request_of<'a>(alloc: Global, words: &'a [String]) -> Result<Request<'a>, ProgramFault<'a>> {
     let matches = matches_of(alloc, words).map_err(ProgramFault::of_command_line)?;
     let inputs = inputs_of(alloc, matches.get_strs("input").unwrap_or(&[]))?;
     Ok(Request {
@@ -144,19 +175,20 @@ fn read_input(rt: &HostRuntime, path: &str) -> io::Result<Vec<u8>> {
 }
 
 /// Sets the inputs of a notebook in order, to the first that is not to be had.
-fn set_inputs(
+fn set_inputs<'a>(
     rt: &HostRuntime,
     meter: &mut Meter,
     notebook: &mut Notebook,
-    inputs: &[InputFile],
-) -> Result<(), ProgramFault> {
+    inputs: &[InputFile<'a>],
+) -> Result<(), ProgramFault<'a>> {
     for input in inputs {
-        let Ok(bytes) = read_input(rt, input.path) else {
-            return Err(ProgramFault::UnreadInput);
+        let bytes = match read_input(rt, input.path) {
+            Ok(bytes) => bytes,
+            Err(error) => return Err(ProgramFault::UnreadInput(*input, error)),
         };
-        notebook
-            .set_input(meter, input.name, &Input::Npy(bytes))
-            .map_err(ProgramFault::RefusedInput)?;
+        if let Err(fault) = notebook.set_input(meter, input.name, &Input::Npy(bytes)) {
+            return Err(ProgramFault::RefusedInput(*input, fault));
+        }
     }
     Ok(())
 }
@@ -174,28 +206,32 @@ fn run_reader<R: Read + Drop>(
 }
 
 /// Runs the script at the path, or that of standard input. A script that cannot be opened cannot be read.
-fn run_path(
+fn run_path<'a>(
     rt: &HostRuntime,
-    path: Option<&str>,
+    path: Option<&'a str>,
     meter: &mut Meter,
     notebook: &mut Notebook,
-) -> Result<(), RunFault> {
-    match path {
-        None => run_reader(rt, rt.stdin(), meter, notebook),
-        Some(path) => match fs::open(rt, path) {
-            Ok(file) => run_reader(rt, file, meter, notebook),
-            Err(_) => Err(RunFault::ReadFault),
-        },
+) -> Result<(), ProgramFault<'a>> {
+    let Some(path) = path else {
+        return run_reader(rt, rt.stdin(), meter, notebook).map_err(ProgramFault::Stopped);
+    };
+    let ended = match fs::open(rt, path) {
+        Ok(file) => run_reader(rt, file, meter, notebook),
+        Err(error) => return Err(ProgramFault::UnopenedScript(path, error)),
+    };
+    match ended {
+        Ok(()) => Ok(()),
+        Err(fault) => Err(ProgramFault::StoppedScript(path, fault)),
     }
 }
 
 /// Runs the script that a command line names, of which the first word is the program, over its inputs.
-fn run_command_line(rt: &HostRuntime, words: &[String]) -> Result<(), ProgramFault> {
+fn run_command_line<'a>(rt: &HostRuntime, words: &'a [String]) -> Result<(), ProgramFault<'a>> {
     let request = request_of(rt.alloc(), words)?;
     let mut meter = Meter::new(rt);
     let mut notebook = Notebook::new(rt.alloc());
     set_inputs(rt, &mut meter, &mut notebook, &request.inputs)?;
-    run_path(rt, request.script, &mut meter, &mut notebook).map_err(ProgramFault::Stopped)
+    run_path(rt, request.script, &mut meter, &mut notebook)
 }
 
 /// The exit status of a run, of which a fault is said on standard error.
@@ -205,7 +241,7 @@ fn status_of_run(rt: &HostRuntime, ended: Result<(), ProgramFault>) -> ExitCode
     match ended {
         Ok(()) => ExitCode::from(ENDED),
         Err(fault) => {
-            let _ = eprintln!(rt; "{fault}");
+            let _ = eprintln!(rt; "ndnote: {fault}");
             ExitCode::from(fault.status())
         }
     }

@@ -1,5 +1,2 @@
 pub mod Axes
-pub mod Faults
-pub mod LastAxis
-pub mod Made
-pub mod Tables
+pub mod Folds

@@ -1,15 +1,5 @@
-//! NumPy's reductions and accumulations of arrays: folds of the numbers along an axis, or of all of them.
+//! Reductions: folds of runs of numbers, and folds along an axis of an array.
 #![tactic(auto)]
 
-mod accumulating;
-mod axis;
-mod columns;
-mod fault;
-mod place_tables;
-mod places;
-mod reducing;
-mod tables;
-
-pub use accumulating::accumulate;
-pub use fault::ReduceFault;
-pub use reducing::{reduce, reduce_number};
+pub mod axes;
+pub mod folds;

@@ -4,15 +4,15 @@ use Rattle.std.specs.Prelude.{pos, ◌==◌, if◌then◌else◌}
 use Rattle.std.proofs.lemmas.Bool.Decides.{nat_tests}
 use Rattle.std.specs.List.{All}
 use Rattle.std.proofs.lemmas.List.{length-map, get_or-map}
-use Rattle.nd_model.specs.Assigning.{value_shape, fits_into, assigned_writes}
-use Rattle.nd_model.specs.Broadcast.{own_tuple}
-use Rattle.nd_model.specs.Content.{Content, Num, Rec, number_at, content_at, writes, all_writes, content_or}
-use Rattle.nd_model.specs.Conversion.{converts, converted_content}
-use Rattle.nd_model.specs.Creation.{is_number_type}
-use Rattle.nd_model.specs.Element.{size_of, wrap}
-use Rattle.nd_model.specs.Session.{put}
-use Rattle.nd_model.specs.Tuple.{elements_of, indices, number}
-use Rattle.nd_model.specs.View.{Field, ElementType, One, Structure, Geo, item_size, contiguous}
+use Rattle.nd_model.specs.Making.Assigning.{value_shape, fits_into, assigned_writes}
+use Rattle.nd_model.specs.Arrays.Broadcast.{own_tuple}
+use Rattle.nd_model.specs.Arrays.Content.{Content, Num, Rec, number_at, content_at, writes, all_writes, content_or}
+use Rattle.nd_model.specs.Making.Conversion.{converts, converted_content}
+use Rattle.nd_model.specs.Making.Creation.{is_number_type}
+use Rattle.nd_model.specs.Arrays.Element.{size_of, wrap}
+use Rattle.nd_model.specs.Cells.Session.{put}
+use Rattle.nd_model.specs.Arrays.Tuple.{elements_of, indices, number}
+use Rattle.nd_model.specs.Arrays.View.{Field, ElementType, One, Structure, Geo, item_size, contiguous}
 use Rattle.nd_model.proofs.Lists.{length-put}
 use Rattle.nd_view.specs.Indexes.{IsIndex}
 use Rattle.nd_view.proofs.Indexed.{length-indices, same_indexes}

@@ -5,11 +5,11 @@ use Rattle.std.specs.List.{All, zip}
 use Rattle.std.proofs.lemmas.Bool.{or_cases, or_from, or_left, or_right, or_parts, eqb-true, eqb-false, ne_eqb}
 use Rattle.std.proofs.lemmas.List.{map-append}
 use Rattle.std.proofs.lemmas.List.Elements.{All-head, All-tail}
-use Rattle.nd_model.specs.Content.{Content, Num, Rec, number_writes, field_writes, writes}
-use Rattle.nd_model.specs.Element.{size_of, bytes_of}
-use Rattle.nd_model.specs.Session.{is_in, is_place}
-use Rattle.nd_model.specs.Tuple.{count_up}
-use Rattle.nd_model.specs.View.{Field, ElementType, One, Structure, item_size, element_places, field_places}
+use Rattle.nd_model.specs.Arrays.Content.{Content, Num, Rec, number_writes, field_writes, writes}
+use Rattle.nd_model.specs.Arrays.Element.{size_of, bytes_of}
+use Rattle.nd_model.specs.Cells.Session.{is_in, is_place}
+use Rattle.nd_model.specs.Arrays.Tuple.{count_up}
+use Rattle.nd_model.specs.Arrays.View.{Field, ElementType, One, Structure, item_size, element_places, field_places}
 use Rattle.nd_model.proofs.Values.{length-bytes_of}
 use Rattle.nd_view.proofs.Tuples.{length-count_up, shifted}
 use Rattle.nd_assign.specs.HeldFields.{HoldsFields}

@@ -4,16 +4,16 @@ use Rattle.std.specs.Prelude.{if◌then◌else◌}
 use Rattle.std.specs.List.{All, flat_map}
 use Rattle.std.proofs.Math.Seq.{drop-append_seam}
 use Rattle.std.proofs.lemmas.List.{drop-take, take-append-le, take-append-drop, drop-drop}
-use Rattle.nd_model.specs.Element.{Boolean, Element, size_of, bytes_at, bytes_of, with_bytes}
-use Rattle.nd_model.specs.Session.{put}
-use Rattle.nd_model.specs.View.{One}
+use Rattle.nd_model.specs.Arrays.Element.{Boolean, Element, size_of, bytes_at, bytes_of, with_bytes}
+use Rattle.nd_model.specs.Cells.Session.{put}
+use Rattle.nd_model.specs.Arrays.View.{One}
 use Rattle.nd_model.proofs.Values.{length-bytes_of}
-use Rattle.nd_model.specs.Content.{number_at}
+use Rattle.nd_model.specs.Arrays.Content.{number_at}
 use Rattle.nd_model.proofs.Contents.{number_bytes}
 use Rattle.nd_places.specs.Near.{is_true, trues_in}
 use Rattle.nd_places.proofs.Found.{next_of, further}
 use Rattle.nd_block.proofs.Copied.{beside, length-bytes_at, length-with_bytes}
-use Rattle.nd_convert.proofs.Written.{place_more}
+use Rattle.nd_convert.proofs.conversion.Written.{place_more}
 use Rattle.nd_element.specs.Elements.{canonical_at}
 use Rattle.nd_scatter.specs.Ready.{AreValues}
 use Rattle.nd_scatter.specs.Scattered.{byte_copies, scattered}

@@ -3,11 +3,11 @@ use Rattle.std.proofs.Common.{◌≡◌, ℕ, ◌+◌, ◌*◌, ◌<◌, ◌≤�
 use Rattle.std.specs.Prelude.{slice_index}
 use Rattle.std.specs.List.{All, zip}
 use Rattle.std.proofs.lemmas.List.{map-append, length-map, get_or-map}
-use Rattle.nd_model.specs.Element.{size_of, bytes_at, with_bytes}
-use Rattle.nd_model.specs.Session.{put}
-use Rattle.nd_model.specs.Tuple.{count_up}
-use Rattle.nd_model.specs.View as view
-use Rattle.nd_model.specs.View.{ElementType, field_places}
+use Rattle.nd_model.specs.Arrays.Element.{size_of, bytes_at, with_bytes}
+use Rattle.nd_model.specs.Cells.Session.{put}
+use Rattle.nd_model.specs.Arrays.Tuple.{count_up}
+use Rattle.nd_model.specs.Arrays.View as view
+use Rattle.nd_model.specs.Arrays.View.{ElementType, field_places}
 use Rattle.nd_model.proofs.Puts.{put-append, with_bytes-put}
 use Rattle.nd_model.proofs.Uses.{gathered}
 use Rattle.nd_view.proofs.Tuples.{length-count_up}

@@ -4,9 +4,9 @@ use Rattle.std.specs.Prelude.{nat_eq, slice_index}
 use Rattle.std.specs.List.{zip}
 use Rattle.std.proofs.lemmas.Bool.{cases_Bool, cases_eq, cases_lt, or_cases, eqb-true}
 use Rattle.std.proofs.lemmas.Grind.{same_number_lists}
-use Rattle.nd_model.specs.Content.{Content, writes}
-use Rattle.nd_model.specs.Session.{put, is_in}
-use Rattle.nd_model.specs.View.{ElementType, item_size, element_places}
+use Rattle.nd_model.specs.Arrays.Content.{Content, writes}
+use Rattle.nd_model.specs.Cells.Session.{put, is_in}
+use Rattle.nd_model.specs.Arrays.View.{ElementType, item_size, element_places}
 use Rattle.nd_model.proofs.Lists.{length-put, put_elsewhere}
 use Rattle.nd_view.proofs.Tuples.{map-map}
 use Rattle.nd_assign.specs.HeldFields.{HoldsFields}

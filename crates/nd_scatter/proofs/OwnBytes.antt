@@ -2,10 +2,10 @@
 use Rattle.std.proofs.Common.{◌≡◌, ◌≢◌, ℕ, zero, suc, ◌+◌, ◌*◌, ◌<◌, ◌≤◌, List, ◌++◌, map, length, drop, sym, ap, ◌∙◌, arith}
 use Rattle.std.specs.List.{All, flat_map}
 use Rattle.std.proofs.lemmas.List.Elements.{All-take, All-drop}
-use Rattle.nd_model.specs.Content.{number_at}
-use Rattle.nd_model.specs.Element.{Boolean, Element, size_of, bytes_at}
-use Rattle.nd_model.specs.Tuple.{count_up}
-use Rattle.nd_model.specs.View.{One}
+use Rattle.nd_model.specs.Arrays.Content.{number_at}
+use Rattle.nd_model.specs.Arrays.Element.{Boolean, Element, size_of, bytes_at}
+use Rattle.nd_model.specs.Arrays.Tuple.{count_up}
+use Rattle.nd_model.specs.Arrays.View.{One}
 use Rattle.nd_model.proofs.Contents.{number_bytes}
 use Rattle.nd_model.proofs.Residues.{bytes_round_trip}
 use Rattle.nd_block.proofs.Copied.{length-bytes_at}

@@ -2,12 +2,12 @@
 use Rattle.std.proofs.Common.{◌≡◌, ℕ, ◌+◌, ◌-◌, ◌*◌, ◌<◌, ◌≤◌, true, List, ◌++◌, map, length, take, drop, get_or, refl, sym, ap, ◌∙◌, subst, arith}
 use Rattle.std.specs.List.{All}
 use Rattle.std.proofs.lemmas.List.{take-append-drop}
-use Rattle.nd_model.specs.Assigning.{fits_into, value_shape, without_ones}
-use Rattle.nd_model.specs.Broadcast.{own_tuple}
-use Rattle.nd_model.specs.Element.{Element, bytes_at, size_of, with_bytes}
-use Rattle.nd_model.specs.Sound.{LiesIn}
-use Rattle.nd_model.specs.Tuple.{count_up, elements_of, indices, number}
-use Rattle.nd_model.specs.View.{ElementType, Geo, One, contiguous, item_size}
+use Rattle.nd_model.specs.Making.Assigning.{fits_into, value_shape, without_ones}
+use Rattle.nd_model.specs.Arrays.Broadcast.{own_tuple}
+use Rattle.nd_model.specs.Arrays.Element.{Element, bytes_at, size_of, with_bytes}
+use Rattle.nd_model.specs.Cells.Sound.{LiesIn}
+use Rattle.nd_model.specs.Arrays.Tuple.{count_up, elements_of, indices, number}
+use Rattle.nd_model.specs.Arrays.View.{ElementType, Geo, One, contiguous, item_size}
 use Rattle.nd_block.proofs.Copied.{length-bytes_at}
 use Rattle.nd_view.proofs.Indexed.{at_index, same_indexes}
 use Rattle.nd_view.proofs.Tuples.{map-map, map_same, numbers}
@@ -18,7 +18,7 @@ use Rattle.nd_assign.specs.SideBySide.{side_by_side}
 use Rattle.nd_assign.specs.Stretched.{value_places}
 use Rattle.nd_assign.proofs.Assigned.{assigned}
 use Rattle.nd_assign.proofs.Bytewise.{bytewise, end_held}
-use Rattle.nd_fancy.proofs.Alike.{own_same}
+use Rattle.nd_index.proofs.advanced.Alike.{own_same}
 use Rattle.nd_scatter.specs.OwnValues.{AreOwnValues}
 
 -- ---- a value of the target's own shape

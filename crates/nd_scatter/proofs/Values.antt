@@ -4,12 +4,12 @@ use Rattle.std.specs.List.{All}
 use Rattle.std.proofs.Math.Nat.{mul-le-mul_right}
 use Rattle.std.proofs.lemmas.List.{length-map, get_or-map}
 use Rattle.std.proofs.lemmas.List.Elements.{All-head, All-tail}
-use Rattle.nd_model.specs.Content.{Content, writes, all_writes}
-use Rattle.nd_model.specs.Session.{put, is_place}
-use Rattle.nd_model.specs.Sound.{LiesIn}
-use Rattle.nd_model.specs.Strides.{IsInLimits}
-use Rattle.nd_model.specs.Tuple.{count_up, elements_of}
-use Rattle.nd_model.specs.View.{ElementType, item_size, element_places, contiguous}
+use Rattle.nd_model.specs.Arrays.Content.{Content, writes, all_writes}
+use Rattle.nd_model.specs.Cells.Session.{put, is_place}
+use Rattle.nd_model.specs.Cells.Sound.{LiesIn}
+use Rattle.nd_model.specs.Arrays.Strides.{IsInLimits}
+use Rattle.nd_model.specs.Arrays.Tuple.{count_up, elements_of}
+use Rattle.nd_model.specs.Arrays.View.{ElementType, item_size, element_places, contiguous}
 use Rattle.nd_model.proofs.Lists.{length-put, put_elsewhere}
 use Rattle.nd_model.proofs.Puts.{put-append}
 use Rattle.nd_view.proofs.Tuples.{length-count_up, get_or-count_up}

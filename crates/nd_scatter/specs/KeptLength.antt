@@ -2,8 +2,8 @@
 use Rattle.std.specs.Prelude.{◌≡◌, ℕ, ◌+◌, ◌==◌, refl, true, false, if◌then◌else◌, List, [], ◌∷◌, length}
 use Rattle.std.proofs.Common.{◌∙◌}
 use Rattle.nd_model.proofs.Lists as lists
-use Rattle.nd_model.specs.Session.{put}
-use Rattle.nd_model.specs.View.{ElementType}
+use Rattle.nd_model.specs.Cells.Session.{put}
+use Rattle.nd_model.specs.Arrays.View.{ElementType}
 use Rattle.nd_scatter.specs.Scattered.{Prepared, byte_copies, scattered, written_by}
 
 pub length-scattered : (t : ElementType) (values : List ℕ) (step from : ℕ) (places old : List ℕ) → length (scattered t values step from places old) ≡ length old

@@ -1,12 +1,12 @@
 -- Elements on a line.
 use Rattle.std.specs.Prelude.{◌≡◌, ℕ, ◌+◌, ◌<◌, ◌≤◌, pos, ◌≤ℤ◌}
 use Rattle.nd_places.specs.Near.{place_on_line}
-use Rattle.nd_places.specs.declared.line.Line.{Line}
+use Rattle.nd_places.specs.declared.line.StridedLine.{StridedLine}
 
 -- the first so many elements of so many bytes end among so many bytes
-abbrev pub AreOnLine : Line → (size count len : ℕ) → Type 0
+abbrev pub AreOnLine : StridedLine → (size count len : ℕ) → Type 0
 AreOnLine line size count len = (k : ℕ) → k < count → place_on_line line.start line.step k + size ≤ len
 
 -- elements of so many bytes lie side by side in a block
-abbrev pub IsRow : Line → ℕ → Type 0
+abbrev pub IsRow : StridedLine → ℕ → Type 0
 IsRow line size = (line.step ≡ pos size) × (pos 0 ≤ℤ line.start)

@@ -1,8 +1,8 @@
 -- What the fields of an assignment to chosen elements say.
 use Rattle.std.specs.Prelude.{ℕ, ◌+◌, ◌*◌, ◌^◌, ◌<◌, ◌≤◌, List, length}
 use Rattle.std.specs.List.{All}
-use Rattle.nd_model.specs.View.{Geo, item_size}
-use Rattle.nd_fancy.specs.Chosen.{view_at}
+use Rattle.nd_model.specs.Arrays.View.{Geo, item_size}
+use Rattle.nd_index.specs.Advanced.Chosen.{view_at}
 use Rattle.nd_scatter.specs.Scattered.{Prepared}
 use Rattle.nd_scatter.specs.declared.scatter.Scatter.TheInside.{Inside}
 

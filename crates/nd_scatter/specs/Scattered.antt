@@ -1,8 +1,8 @@
 -- Elements that are written to chosen places, one after another.
 use Rattle.std.specs.Prelude.{ℕ, ◌+◌, ◌==◌, if◌then◌else◌, List, [], ◌∷◌, map, length, slice_index}
 use Rattle.std.specs.List.{zip}
-use Rattle.nd_model.specs.Session.{put}
-use Rattle.nd_model.specs.View.{ElementType, Geo, element_places}
+use Rattle.nd_model.specs.Cells.Session.{put}
+use Rattle.nd_model.specs.Arrays.View.{ElementType, Geo, element_places}
 
 -- the bytes of the element of these values at the second place, each with its place in an element at the first one; pad bytes are none
 abbrev pub byte_copies : ElementType → (values : List ℕ) → (to from : ℕ) → List (ℕ × ℕ)

@@ -1,27 +1,27 @@
-//! New arrays of the elements at chosen places.
+//! `gather`: a new array of the elements at selected byte offsets.
 ghost use Rattle.std.specs.Prelude.{◌≡◌, ◌+◌, ◌*◌, ◌^◌, ◌≤◌, length, replicate, IfOk};
 ghost use Rattle.std.specs.List.{All, flat_map};
-ghost use Rattle.nd_model.specs.Strides.{IsInLimits};
-ghost use Rattle.nd_model.specs.Tuple.{elements_of};
-ghost use Rattle.nd_model.specs.View.{One, contiguous, item_size};
+ghost use Rattle.nd_model.specs.Arrays.Strides.{IsInLimits};
+ghost use Rattle.nd_model.specs.Arrays.Tuple.{elements_of};
+ghost use Rattle.nd_model.specs.Arrays.View.{One, contiguous, item_size};
 ghost use Rattle.nd_types.specs.Types.{type_of};
 ghost use Rattle.nd_element.specs.Elements.{canonical_at, canonical_bytes, canonical_structure};
-ghost use Rattle.nd_fancy.specs.Chosen.{view_at};
+ghost use Rattle.nd_index.specs.Advanced.Chosen.{view_at};
 
 use crate::masked::{append_trues, inner_trues};
 use crate::numbers::append_numbers;
 use nd_block::{Filling, RawBlock};
 use nd_element::write_structure;
-use nd_fancy::Places;
+use nd_index::advanced::ChosenPlaces;
 use nd_places::PlaceList;
 use nd_types::{Elem, ElemType, RecType};
 use nd_view::View;
 use std::alloc::{AllocError, Global};
 
-// How many places are found at a time.
+// How many byte offsets are worked out at a time.
 const MANY: usize = 512;
 
-// The block of the numbers at these places, which are so many.
+// The block of the `count` numbers at these byte offsets.
 fn read_many(
     alloc: Global,
     elem: Elem,
@@ -46,7 +46,8 @@ fn read_many(
     Ok(out.finish())
 }
 
-// Writes the structures at these places over as many zeros, one after another.
+// Writes the structures at these byte offsets one after another, over zeros that have room for
+// them.
 fn read_structures(out: &mut [u8], structure: &RecType, bytes: &[u8], places: &[u64])
     requires zeros { out.old ≡ replicate (length places.now * structure.now.1) 0 }
     requires ends { All (λ p. p + structure.now.1 ≤ 2 ^ 64) places.now }
@@ -59,7 +60,7 @@ fn read_structures(out: &mut [u8], structure: &RecType, bytes: &[u8], places: &[
     }
 }
 
-// The block of the structures at these places.
+// The block of the structures at these byte offsets.
 fn read_records(
     alloc: Global,
     structure: &RecType,
@@ -78,7 +79,7 @@ fn read_records(
     Ok(block)
 }
 
-// The block of the elements at these places, which are so many.
+// The block of the `count` elements at these byte offsets.
 fn read_elements(
     alloc: Global,
     elem: &ElemType,
@@ -98,13 +99,15 @@ fn read_elements(
     }
 }
 
-/// Returns a new array of the elements of a view of these bytes at chosen places, and its block. A Boolean is 0 or 1 in it, and pad
-/// bytes are 0. A byte past the end is taken for 0.
+/// Returns a new contiguous array of the selected elements of a view, and its block.
+///
+/// The array has the shape of `places` and the view's dtype: `x[[2, 0]]` of `[5 6 7]` gives
+/// `[7 5]`. A Boolean becomes 0 or 1, and pad bytes become 0. A byte past the end reads as 0.
 pub fn gather(
     alloc: Global,
     view: &View,
     bytes: &[u8],
-    places: &Places,
+    places: &ChosenPlaces,
 ) -> Result<(View, RawBlock), AllocError>
     requires limits { IsInLimits (item_size view.now.element) places.now.shape.items }
     requires count { length places.now.places ≡ elements_of places.now.shape.items }

@@ -1,15 +1,15 @@
-//! The loops over numbers: the bytes of each go to its place, by a loop of its own for each number of bytes.
+//! `write_numbers`: the scatter loops over numbers, one specialised for each itemsize.
 ghost use Rattle.std.specs.Prelude.{◌≡◌, ◌+◌, ◌<◌, ◌≤◌, length};
 ghost use Rattle.std.specs.List.{All};
-ghost use Rattle.nd_model.specs.Element.{bytes_at, size_of, with_bytes};
-ghost use Rattle.nd_model.specs.View.{One};
+ghost use Rattle.nd_model.specs.Arrays.Element.{bytes_at, size_of, with_bytes};
+ghost use Rattle.nd_model.specs.Arrays.View.{One};
 ghost use Rattle.nd_element.specs.Elements.{AreHeld};
 ghost use Rattle.nd_scatter.specs.Ready.{AreValues};
 ghost use Rattle.nd_scatter.specs.Scattered.{scattered};
 
 use nd_types::{Elem, Kind};
 
-/// Says that bytes are below 256, and does nothing.
+/// proof: every byte is below 256.
 #[inline(always)]
 pub(crate) fn hold_bytes(bytes: &[u8])
     ensures { All (λ byte. byte < 256) bytes.now }
@@ -17,7 +17,7 @@ pub(crate) fn hold_bytes(bytes: &[u8])
     let _len = bytes.len();
 }
 
-/// Copies so many bytes from a place of the values to another place.
+/// Copies `size` bytes from byte offset `from` of the values to byte offset `to`.
 #[inline(always)]
 pub(crate) fn copy_bytes(out: &mut [u8], to: usize, values: &[u8], from: usize, size: usize)
     requires out { to + size ≤ length out.old }
@@ -29,7 +29,8 @@ pub(crate) fn copy_bytes(out: &mut [u8], to: usize, values: &[u8], from: usize, 
     out[to..to + size].copy_from_slice(&values[from..from + size]);
 }
 
-// Writes the values, which begin so many bytes apart from one byte on, to their places.
+// Writes the values to the byte offsets `places`. The first value begins at byte `from`, each next
+// one `step` bytes behind.
 #[inline(always)]
 fn write_each(
     out: &mut [u8],
@@ -50,7 +51,8 @@ fn write_each(
     }
 }
 
-/// Writes the values, which begin so many bytes apart from one byte on, to their places, one after another.
+/// Writes the values to the byte offsets `places` in order, by a loop specialised for the itemsize.
+/// The first value begins at byte `from`, each next one `step` bytes behind.
 pub(crate) fn write_numbers(
     out: &mut [u8],
     elem: Elem,

@@ -1,4 +1,5 @@
-//! Elements that an index chooses by arrays: copies of them, and assignments to them.
+//! Gather and scatter, NumPy's advanced indexing: [`gather`] copies the elements that arrays or
+//! masks select, [`Scatter`] assigns to them.
 #![tactic(auto)]
 
 mod gathering;

@@ -1,8 +1,9 @@
-//! The numbers on a line that a mask chooses: they are read and written by loops in which nothing is asked of the mask.
+//! `append_trues` and `assign_trues`: gather and scatter by a mask, in loops without a branch on
+//! the mask.
 ghost use Rattle.std.specs.Prelude.{◌≡◌, ◌≢◌, ℕ, ◌+◌, ◌*◌, ◌^◌, ◌<◌, ◌≤◌, ◌++◌, pos, ◌+ℤ◌, ◌*ℤ◌, ◌≤ℤ◌, if◌then◌else◌, length, take, IfSome, IsTrue};
 ghost use Rattle.std.specs.List.{flat_map};
-ghost use Rattle.nd_model.specs.Element.{Boolean, bytes_at, size_of, with_bytes};
-ghost use Rattle.nd_model.specs.View.{One};
+ghost use Rattle.nd_model.specs.Arrays.Element.{Boolean, bytes_at, size_of, with_bytes};
+ghost use Rattle.nd_model.specs.Arrays.View.{One};
 ghost use Rattle.nd_types.specs.Kinds.{kind_of};
 ghost use Rattle.nd_element.specs.Elements.{canonical_at};
 ghost use Rattle.nd_places.specs.Forms.{trues_on};
@@ -14,16 +15,16 @@ ghost use Rattle.nd_scatter.specs.Scattered.{scattered};
 use crate::kernel::{copy_bytes, hold_bytes};
 use nd_block::{Filling, store_at, value_at};
 use nd_element::keeps_bytes;
-use nd_places::{Line, PlaceList, Trues, near_place};
+use nd_places::{PlaceList, StridedLine, Trues, near_place};
 use nd_types::{Elem, Kind};
 
-// How many bytes of a mask are looked at at a time.
+// The bytes of a mask that are looked at at a time.
 const MANY: usize = 512;
 
-// How many bytes so many numbers have at most.
+// The bytes of a buffer that holds the numbers for one chunk of a mask: 8 bytes for each.
 const MANY_BYTES: usize = 4096;
 
-// Whether an element of so many bytes at the end of a way lies among so many bytes.
+// Whether an element of `size` bytes at byte offset `way` ends within the first `len` bytes.
 fn ends_inside(way: i64, size: u64, len: usize) -> bool
     requires { size ≤ 8 }
     ensures above { IsTrue result → pos 0 ≤ℤ way }
@@ -32,8 +33,9 @@ fn ends_inside(way: i64, size: u64, len: usize) -> bool
     way >= 0 && way as u64 + size <= len as u64
 }
 
-// Whether all elements of so many bytes on a line, of which there are so many, lie among so many bytes.
-fn lie_inside(line: Line, count: usize, size: u64, len: usize) -> bool
+// Whether the `count` elements of a line, of `size` bytes each, all lie within the first `len`
+// bytes.
+fn lie_inside(line: StridedLine, count: usize, size: u64, len: usize) -> bool
     requires few { count ≤ 2 ^ 24 }
     requires size { size ≤ 8 }
     ensures ways { IsTrue result → (k : ℕ) → k < count
@@ -47,8 +49,8 @@ fn lie_inside(line: Line, count: usize, size: u64, len: usize) -> bool
     ends_inside(line.start, size, len) && ends_inside(last, size, len)
 }
 
-/// Returns the line and the mask of a list that is kept so, where the numbers are no Booleans and all of those on the line lie among so
-/// many bytes.
+/// Returns the line and the mask of a list that is kept as these. `None` where the numbers are
+/// Booleans, or some element of the line exceeds `len` bytes.
 pub(crate) fn inner_trues(elem: Elem, places: &PlaceList, len: usize) -> Option<&Trues>
     ensures kind { IfSome result (λ t. elem.kind ≢ Boolean) }
     ensures places { IfSome result (λ t. places.now ≡ trues_on t.now.line 0 t.now.mask) }
@@ -64,17 +66,18 @@ pub(crate) fn inner_trues(elem: Elem, places: &PlaceList, len: usize) -> Option<
     }
 }
 
-// Whether the elements of so many bytes on a line lie side by side in a block.
-fn is_row(line: Line, size: usize) -> bool
+// Whether the elements of a line, of `size` bytes each, are contiguous.
+fn is_row(line: StridedLine, size: usize) -> bool
     requires { size ≤ 8 }
     ensures { IsTrue result → IsRow line size }
 {
     line.step == size as i64 && line.start >= 0
 }
 
-// The place of the element of this number on a line, whose elements may lie side by side.
+// The byte offset of an element of a line. `is_row` tells that the line is contiguous, which is
+// faster.
 #[inline(always)]
-fn place_at(line: Line, size: usize, is_row: bool, number: u64) -> u64
+fn place_at(line: StridedLine, size: usize, is_row: bool, number: u64) -> u64
     requires number { number ≤ 2 ^ 32 }
     requires size { size ≤ 8 }
     requires row { IsTrue is_row → IsRow line size }
@@ -87,7 +90,7 @@ fn place_at(line: Line, size: usize, is_row: bool, number: u64) -> u64
     }
 }
 
-// So many bytes where the byte of a mask is true, and else none.
+// The itemsize where the byte of a mask is true, and else 0.
 #[inline(always)]
 fn step_of(byte: u8, size: usize) -> usize
     ensures { result ≡ (if is_true byte then size else 0) }
@@ -95,15 +98,15 @@ fn step_of(byte: u8, size: usize) -> usize
     if byte == 0 { 0 } else { size }
 }
 
-// Copies the numbers on a line whose bytes of a mask are true, the first of which has this number, one behind the other, and returns
-// how many bytes they have. The bytes behind them may be written too.
+// Packs the selected elements to the front of `out`, without a branch: an unselected one is
+// overwritten by the next. Returns the bytes used.
 #[inline(always)]
 fn keep_trues(
     out: &mut [u8],
     elem: Elem,
     size: usize,
     bytes: &[u8],
-    line: Line,
+    line: StridedLine,
     is_row: bool,
     first: u64,
     mask: &[u8],
@@ -129,14 +132,14 @@ fn keep_trues(
     kept
 }
 
-// Does the same by a loop of its own for elements that lie side by side.
+// Packs the selected elements by a loop specialised for a contiguous line.
 #[inline(always)]
 fn keep_on_line(
     out: &mut [u8],
     elem: Elem,
     size: usize,
     bytes: &[u8],
-    line: Line,
+    line: StridedLine,
     first: u64,
     mask: &[u8],
 ) -> usize
@@ -157,14 +160,14 @@ fn keep_on_line(
     }
 }
 
-// Appends such numbers of so many bytes.
+// Appends the selected elements, a chunk of the mask at a time.
 #[inline(always)]
 fn append_each(
     filling: Filling,
     elem: Elem,
     size: usize,
     bytes: &[u8],
-    line: Line,
+    line: StridedLine,
     mask: &[u8],
 ) -> Filling
     requires kind { elem.kind ≢ Boolean }
@@ -189,8 +192,14 @@ fn append_each(
     out
 }
 
-// Appends the numbers on a line whose bytes of a mask are true, by a loop of its own for each number of bytes.
-fn append_by_size(filling: Filling, elem: Elem, bytes: &[u8], line: Line, mask: &[u8]) -> Filling
+// Appends the selected elements of a line, by a loop specialised for the itemsize.
+fn append_by_size(
+    filling: Filling,
+    elem: Elem,
+    bytes: &[u8],
+    line: StridedLine,
+    mask: &[u8],
+) -> Filling
     requires kind { elem.kind ≢ Boolean }
     requires inside { AreOnLine line (size_of elem.kind) (length mask.now) (length bytes.now) }
     requires range { length mask.now ≤ 2 ^ 24 }
@@ -207,7 +216,7 @@ fn append_by_size(filling: Filling, elem: Elem, bytes: &[u8], line: Line, mask: 
     }
 }
 
-/// Appends the numbers on a line that a mask chooses.
+/// Appends the elements of a line that its mask selects.
 pub(crate) fn append_trues(filling: Filling, elem: Elem, bytes: &[u8], trues: &Trues) -> Filling
     requires kind { elem.kind ≢ Boolean }
     requires inside { AreOnLine trues.now.line (size_of elem.kind) (length trues.now.mask)
@@ -230,8 +239,8 @@ fn choose_number(byte: u8, old: i128, new: i128) -> i128
     if byte == 0 { old } else { new }
 }
 
-// Writes the bytes of a value, which are read as one word of this kind, to a place where the byte of a mask is true, and else those that
-// stand there once more.
+// Writes a value to byte offset `to` where the byte of a mask is true, and else writes the old
+// bytes again. Either is read as one word.
 #[inline(always)]
 fn write_chosen(out: &mut [u8], to: usize, values: &[u8], from: usize, word: Kind, byte: u8)
     requires word { kind_of word ≢ Boolean }
@@ -249,15 +258,15 @@ fn write_chosen(out: &mut [u8], to: usize, values: &[u8], from: usize, word: Kin
     store_at(out, to, same, choose_number(byte, old, new));
 }
 
-// Writes the values, which begin so many bytes apart, to the elements on a line whose bytes of a mask are true, each as a word of this
-// kind. Behind the last value there is none to read, so the last one is read again.
+// Writes the values, `step` bytes apart, to the selected elements of a line, each as one word.
+// Behind the last value the last one is read again.
 #[inline(always)]
 fn write_each(
     out: &mut [u8],
     elem: Elem,
     size: usize,
     word: Kind,
-    line: Line,
+    line: StridedLine,
     is_row: bool,
     mask: &[u8],
     values: &[u8],
@@ -273,6 +282,7 @@ fn write_each(
         (length values.now) }
     ensures { out.new ≡ scattered (One elem) values.now step 0 (trues_on line 0 mask.now) out.old }
 {
+    // proof: the number of bytes is bounded, by the clause of len().
     let _len = out.len();
     if values.len() < size {
         return;
@@ -286,14 +296,15 @@ fn write_each(
     }
 }
 
-// Does the same by a loop of its own for elements that lie side by side, and for one value.
+// Writes the values by a loop specialised for a contiguous line, and for one value that all
+// elements get.
 #[inline(always)]
 fn write_line(
     out: &mut [u8],
     elem: Elem,
     size: usize,
     word: Kind,
-    line: Line,
+    line: StridedLine,
     mask: &[u8],
     values: &[u8],
     step: usize,
@@ -316,9 +327,16 @@ fn write_line(
     }
 }
 
-// Writes the values, which begin no more bytes apart than a number has, to the numbers on a line whose bytes of a mask are true, by a
-// loop of its own for each number of bytes.
-fn write_by_size(out: &mut [u8], elem: Elem, line: Line, mask: &[u8], values: &[u8], step: usize)
+// Writes the values to the selected elements of a line, by a loop specialised for the itemsize.
+// `step` is at most the itemsize.
+fn write_by_size(
+    out: &mut [u8],
+    elem: Elem,
+    line: StridedLine,
+    mask: &[u8],
+    values: &[u8],
+    step: usize,
+)
     requires step { step ≤ size_of elem.kind }
     requires inside { AreOnLine line (size_of elem.kind) (length mask.now) (length out.old) }
     requires range { length mask.now ≤ 2 ^ 24 }
@@ -336,7 +354,8 @@ fn write_by_size(out: &mut [u8], elem: Elem, line: Line, mask: &[u8], values: &[
     }
 }
 
-/// Writes the values, which begin no more bytes apart than a number has, to the numbers on a line that a mask chooses.
+/// Writes the values to the elements of a line that its mask selects. They lie `step` bytes apart,
+/// at most the itemsize.
 pub(crate) fn assign_trues(out: &mut [u8], elem: Elem, trues: &Trues, values: &[u8], step: usize)
     requires step { step ≤ size_of elem.kind }
     requires inside { AreOnLine trues.now.line (size_of elem.kind) (length trues.now.mask)

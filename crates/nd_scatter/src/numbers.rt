@@ -1,8 +1,9 @@
-//! The numbers at chosen places, which are appended to a block that fills: each byte is written once, where it stays.
+//! `append_numbers`: gathers the numbers at selected byte offsets into a filling block. Each byte
+//! of the block is written once.
 ghost use Rattle.std.specs.Prelude.{◌≡◌, ◌≢◌, ◌+◌, ◌*◌, ◌^◌, ◌≤◌, ◌++◌, length, slice_index, IsTrue};
 ghost use Rattle.std.specs.List.{flat_map};
-ghost use Rattle.nd_model.specs.Element.{Boolean, size_of};
-ghost use Rattle.nd_model.specs.View.{One};
+ghost use Rattle.nd_model.specs.Arrays.Element.{Boolean, size_of};
+ghost use Rattle.nd_model.specs.Arrays.View.{One};
 ghost use Rattle.nd_types.specs.Kinds.{kind_of};
 ghost use Rattle.nd_assign.specs.SideBySide.{side_by_side};
 ghost use Rattle.nd_element.specs.Elements.{canonical_at};
@@ -11,7 +12,7 @@ use nd_block::{Filling, value_at};
 use nd_element::number_in;
 use nd_types::{Elem, Kind};
 
-// Appends the number at a place, some bytes of which lie past the end, where each byte is taken for 0.
+// Appends the number at a byte offset where some of its bytes lie past the end and read as 0.
 #[inline(never)]
 fn append_past(filling: Filling, elem: Elem, bytes: &[u8], place: u64) -> Filling
     requires { size_of elem.kind ≤ filling.1 }
@@ -23,8 +24,8 @@ fn append_past(filling: Filling, elem: Elem, bytes: &[u8], place: u64) -> Fillin
     out
 }
 
-// Appends the number at a place, the bytes of which are those of its value. They are read and written as one word, which is a number of
-// this kind. A byte past the end is taken for 0.
+// Appends the number at a byte offset, read and written as one word. A byte past the end reads as
+// 0.
 #[inline(always)]
 fn append_number(filling: Filling, elem: Elem, word: Kind, bytes: &[u8], place: u64) -> Filling
     requires kinds { (elem.kind ≢ Boolean) × (kind_of word ≢ Boolean) }
@@ -42,7 +43,7 @@ fn append_number(filling: Filling, elem: Elem, word: Kind, bytes: &[u8], place: 
     append_past(filling, elem, bytes, place)
 }
 
-// Appends such numbers.
+// Appends the numbers at these byte offsets, each as one word.
 #[inline(always)]
 fn append_each(filling: Filling, elem: Elem, word: Kind, bytes: &[u8], places: &[u64]) -> Filling
     requires kinds { (elem.kind ≢ Boolean) × (kind_of word ≢ Boolean) }
@@ -59,7 +60,7 @@ fn append_each(filling: Filling, elem: Elem, word: Kind, bytes: &[u8], places: &
     out
 }
 
-// Appends the values of the numbers at these places. A byte past the end is taken for 0.
+// Appends the values of the numbers at these byte offsets. A byte past the end reads as 0.
 fn append_values(filling: Filling, elem: Elem, bytes: &[u8], places: &[u64]) -> Filling
     requires { length places.now * size_of elem.kind ≤ filling.1 }
     ensures written { result.0 ≡ filling.0
@@ -73,7 +74,8 @@ fn append_values(filling: Filling, elem: Elem, bytes: &[u8], places: &[u64]) -> 
     out
 }
 
-// Whether elements of so many bytes at these places lie side by side among so many bytes.
+// Whether elements of `size` bytes at these byte offsets are contiguous, and end within the first
+// `len` bytes.
 fn are_side_by_side(places: &[u64], size: u64, len: usize) -> bool
     requires few { length places.now ≤ 2 ^ 24 }
     requires size { size ≤ 8 }
@@ -93,7 +95,7 @@ fn are_side_by_side(places: &[u64], size: u64, len: usize) -> bool
     all
 }
 
-// Appends the bytes of numbers that lie side by side, which are those of their values.
+// Appends contiguous numbers by one copy of their bytes.
 fn append_row(filling: Filling, elem: Elem, bytes: &[u8], places: &[u64]) -> Filling
     requires kind { elem.kind ≢ Boolean }
     requires places { places.now
@@ -106,6 +108,7 @@ fn append_row(filling: Filling, elem: Elem, bytes: &[u8], places: &[u64]) -> Fil
         ++ flat_map (canonical_at (One elem) bytes.now) places.now }
     ensures room { result.1 + length places.now * size_of elem.kind ≡ filling.1 }
 {
+    // proof: the number of bytes is bounded, by the clause of len().
     let _len = bytes.len();
     let start = places[0] as usize;
     let end = start + places.len() * elem.size() as usize;
@@ -114,7 +117,7 @@ fn append_row(filling: Filling, elem: Elem, bytes: &[u8], places: &[u64]) -> Fil
     out
 }
 
-// Appends numbers whose bytes are those of their values, each as a word of this kind, or all at once where they lie side by side.
+// Appends numbers by one copy where they are contiguous, and else each as one word.
 #[inline(always)]
 fn append_words(filling: Filling, elem: Elem, word: Kind, bytes: &[u8], places: &[u64]) -> Filling
     requires kinds { (elem.kind ≢ Boolean) × (kind_of word ≢ Boolean) }
@@ -132,8 +135,8 @@ fn append_words(filling: Filling, elem: Elem, word: Kind, bytes: &[u8], places: 
     }
 }
 
-/// Appends the numbers at these places, by a loop of its own for each number of bytes. The bytes of a Boolean may be others than those
-/// of its value.
+/// Appends the numbers at these byte offsets, by a loop specialised for the itemsize. A Boolean
+/// becomes 0 or 1.
 pub(crate) fn append_numbers(filling: Filling, elem: Elem, bytes: &[u8], places: &[u64]) -> Filling
     requires few { length places.now ≤ 2 ^ 24 }
     requires room { length places.now * size_of elem.kind ≤ filling.1 }

@@ -1,23 +1,23 @@
-//! What of an assignment to chosen elements takes memory: it is done before anything is written.
+//! `prepare_scatter`: the part of a scatter that takes memory, done before anything is written.
 ghost use Rattle.std.specs.Prelude.{◌≡◌, ℕ, List, length, true, IfOk};
-ghost use Rattle.nd_model.specs.Creation.{is_number_type};
-ghost use Rattle.nd_model.specs.Sound.{LiesIn};
+ghost use Rattle.nd_model.specs.Making.Creation.{is_number_type};
+ghost use Rattle.nd_model.specs.Cells.Sound.{LiesIn};
 ghost use Rattle.nd_types.specs.Types.{type_of};
 ghost use Rattle.nd_assign.specs.Assigned.{with_elements, with_number};
 ghost use Rattle.nd_assign.specs.HeldFields.{HoldsFields};
 ghost use Rattle.nd_assign.specs.Sources.{IsSource, IsValue, with_source};
-ghost use Rattle.nd_fancy.specs.Chosen.{view_at};
+ghost use Rattle.nd_index.specs.Advanced.Chosen.{view_at};
 ghost use Rattle.nd_scatter.specs.Scattered.{written_by};
 
 use crate::scatter::Scatter;
-use nd_assign::{Source, assign};
+use nd_assign::{AssignedValue, assign};
 use nd_block::RawBlock;
-use nd_fancy::Places;
+use nd_index::advanced::ChosenPlaces;
 use nd_types::ElemType;
 use nd_view::View;
 use std::alloc::{AllocError, Global};
 
-/// Says that the fields of a structure lie in it, and does nothing.
+/// proof: the fields of a structure lie within its itemsize, by the clause of fields().
 pub fn hold_fields(elem: &ElemType)
     ensures { HoldsFields (type_of elem.now) }
 {
@@ -26,11 +26,11 @@ pub fn hold_fields(elem: &ElemType)
     }
 }
 
-// From one number: it stands once among the values.
+// Prepares the assignment of a number, which stands once among the values.
 fn prepare_number<'p>(
     alloc: Global,
     view: &'p View,
-    places: &'p Places,
+    places: &'p ChosenPlaces,
     len: usize,
     number: i128,
 ) -> Result<Scatter<'p>, AllocError>
@@ -42,15 +42,16 @@ fn prepare_number<'p>(
 {
     let one = View::contiguous(alloc, view.elem().try_clone()?, &[])?;
     let mut values = RawBlock::zeros(alloc, view.elem().size() as usize)?;
-    assign(alloc, &one, &mut values, Source::Number(number))?;
+    assign(alloc, &one, &mut values, AssignedValue::Number(number))?;
     Ok(Scatter::new(view, places, values, 0, len))
 }
 
-/// From the elements of a view of these bytes: they are converted, and stand among the values as often as they are written.
+/// Prepares the assignment of a view's elements. They are converted, broadcast to the shape of the
+/// places, and kept as contiguous values.
 pub(crate) fn prepare_elements<'p>(
     alloc: Global,
     view: &'p View,
-    places: &'p Places,
+    places: &'p ChosenPlaces,
     len: usize,
     value: &View,
     bytes: &[u8],
@@ -67,18 +68,21 @@ pub(crate) fn prepare_elements<'p>(
     let size = elem.size() as usize;
     let all = View::contiguous(alloc, elem.try_clone()?, places.shape.as_slice())?;
     let mut values = RawBlock::zeros(alloc, all.count() * size)?;
-    assign(alloc, &all, &mut values, Source::Other(value, bytes))?;
+    assign(alloc, &all, &mut values, AssignedValue::Other(value, bytes))?;
     Ok(Scatter::new(view, places, values, size, len))
 }
 
-/// Makes an assignment to the elements of a view at chosen places ready for blocks with as many bytes as this one, which is the view's.
-/// All that is assigned is read and converted now, for which there may be no memory.
+/// Prepares an assignment to the selected elements of a view, for blocks as long as `block`, which
+/// is the view's.
+///
+/// All values are read and converted now, so that `Scatter::write` cannot fail. An error means want
+/// of memory.
 pub fn prepare_scatter<'p>(
     alloc: Global,
     view: &'p View,
-    places: &'p Places,
+    places: &'p ChosenPlaces,
     block: &[u8],
-    source: Source<'_>,
+    source: AssignedValue<'_>,
 ) -> Result<Scatter<'p>, AllocError>
     requires target { LiesIn (length block.now) (view_at view.now places.now) }
     requires source { IsSource (view_at view.now places.now) (length block.now) source }
@@ -87,9 +91,16 @@ pub fn prepare_scatter<'p>(
         ≡ with_source (view_at view.now places.now) source.entry block.now) }
 {
     match source {
-        Source::Number(number) => prepare_number(alloc, view, places, block.len(), number),
-        Source::Same(value) => prepare_elements(alloc, view, places, block.len(), value, block),
-        Source::Other(value, bytes) => {
+        AssignedValue::Number(number) => prepare_number(alloc, view, places, block.len(), number),
+        AssignedValue::Same(value) => prepare_elements(
+            alloc,
+            view,
+            places,
+            block.len(),
+            value,
+            block,
+        ),
+        AssignedValue::Other(value, bytes) => {
             prepare_elements(alloc, view, places, block.len(), value, bytes)
         }
     }

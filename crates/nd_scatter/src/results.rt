@@ -1,12 +1,13 @@
-//! Assignments of arrays whose blocks are given away: the block itself becomes the values where its bytes are theirs.
+//! `prepare_results`: prepares the scatter of a temporary array, whose own block becomes the values
+//! where that is possible.
 ghost use Rattle.std.specs.Prelude.{◌≡◌, ◌≢◌, ◌<◌, ◌^◌, ◌≤◌, ◌↔◌, length, IfOk, IfSome, IsTrue};
-ghost use Rattle.nd_model.specs.Element.{Boolean, size_of};
-ghost use Rattle.nd_model.specs.Sound.{LiesIn};
-ghost use Rattle.nd_model.specs.View.{One};
+ghost use Rattle.nd_model.specs.Arrays.Element.{Boolean, size_of};
+ghost use Rattle.nd_model.specs.Cells.Sound.{LiesIn};
+ghost use Rattle.nd_model.specs.Arrays.View.{One};
 ghost use Rattle.nd_assign.specs.Assigned.{with_elements};
 ghost use Rattle.nd_assign.specs.SideBySide.{side_by_side};
 ghost use Rattle.nd_assign.specs.Sources.{IsValue};
-ghost use Rattle.nd_fancy.specs.Chosen.{view_at};
+ghost use Rattle.nd_index.specs.Advanced.Chosen.{view_at};
 ghost use Rattle.nd_scatter.specs.OwnValues.{AreOwnValues};
 ghost use Rattle.nd_scatter.specs.Scattered.{written_by};
 
@@ -16,12 +17,12 @@ use crate::scatter::Scatter;
 use nd_assign::gapless_run;
 use nd_block::RawBlock;
 use nd_element::keeps_bytes;
-use nd_fancy::Places;
+use nd_index::advanced::ChosenPlaces;
 use nd_types::{Elem, ElemType};
 use nd_view::View;
 use std::alloc::{AllocError, Global};
 
-// The type of the numbers of both views, if it is one and the bytes of its numbers are those of their values.
+// The dtype of both views, where it is one dtype of numbers and not of Booleans.
 fn shared_elem(view: &View, array: &View) -> Option<Elem>
     ensures { IfSome result (λ elem. (view.now.element ≡ One elem)
         × (array.now.element ≡ One elem) × (elem.kind ≢ Boolean)) }
@@ -38,29 +39,31 @@ fn shared_elem(view: &View, array: &View) -> Option<Elem>
     Some(*elem)
 }
 
-// Whether all elements of a view lie side by side from the first byte of a block on.
+// Whether a view is contiguous, not empty, and begins at the first byte of its block.
 fn begins_gapless(view: &View, elem: Elem) -> bool
     ensures { IsTrue result → (view.now.places ≡ side_by_side (size_of elem.kind) 0
         (length view.now.places)) × (0 < length view.now.places)
         × (length view.now.places ≤ 2 ^ 24) }
 {
+    // proof: the number of elements is bounded, by the clause of count().
     let _len = view.count();
     let Some(run) = gapless_run(view, elem) else {
         return false;
     };
+    // proof: the run has an element, by the clause of count().
     let _count = run.count();
     run.start() == 0
 }
 
-// Whether both shapes are the same.
+// Whether both shapes are equal.
 fn is_same_shape(shape: &[u64], other: &[u64]) -> bool
     ensures { IsTrue result ↔ (shape.now ≡ other.now) }
 {
     shape == other
 }
 
-// Whether the bytes of an array's block are those of the values that it is assigned as.
-fn stands_ready(view: &View, places: &Places, array: &View) -> bool
+// Whether the bytes of an array's block are the converted, broadcast values already.
+fn stands_ready(view: &View, places: &ChosenPlaces, array: &View) -> bool
     ensures { IsTrue result → AreOwnValues (view_at view.now places.now) array.now }
 {
     let Some(elem) = shared_elem(view, array) else {
@@ -72,13 +75,15 @@ fn stands_ready(view: &View, places: &Places, array: &View) -> bool
     begins_gapless(array, elem)
 }
 
-/// Makes an assignment of an array to the elements of a view at chosen places ready for blocks with as many bytes as this one, which is
-/// the view's. The array's block is taken over where its bytes are those of the values; else they are converted, for which there may be
-/// no memory.
+/// Prepares the assignment of a temporary array to the selected elements of a view, for blocks as
+/// long as `block`.
+///
+/// `values`, the array's block, is taken over where its bytes are the values already. Otherwise
+/// they are converted; an error means want of memory.
 pub fn prepare_results<'p>(
     alloc: Global,
     view: &'p View,
-    places: &'p Places,
+    places: &'p ChosenPlaces,
     block: &[u8],
     array: &View,
     values: RawBlock,

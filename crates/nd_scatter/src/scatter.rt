@@ -1,22 +1,23 @@
-//! `Scatter`: an assignment to chosen elements that is made ready.
+//! `Scatter`: a prepared assignment to the elements that an advanced index selects.
 ghost use Rattle.std.specs.Prelude.{◌≡◌};
-ghost use Rattle.nd_fancy.specs.Chosen.{view_at};
+ghost use Rattle.nd_index.specs.Advanced.Chosen.{view_at};
 ghost use Rattle.nd_scatter.specs.Ready.{IsPrepared};
 ghost use Rattle.nd_scatter.specs.Scattered.{written_by};
 
 use crate::writing::write_values;
 use nd_block::RawBlock;
-use nd_fancy::Places;
+use nd_index::advanced::ChosenPlaces;
 use nd_view::View;
 use std::marker::Model;
 
-/// An assignment to chosen elements that `prepare_scatter` made ready: its write takes no memory. A clause sees the elements that are
-/// written, the bytes of the values that they get, how many bytes lie from one value to the next, and the length of the block.
+/// An assignment that `prepare_scatter` prepared: writing it takes no memory. A clause sees the
+/// selected elements, the bytes of the values, the bytes from one value to the next, and the length
+/// of the block.
 #[derive(Drop)]
 pub struct Scatter<'p> {
     view: &'p View,
-    places: &'p Places,
-    // the values as the view's elements, 0 bytes apart where each element gets the same one
+    places: &'p ChosenPlaces,
+    // the values in the view's dtype; their step is 0 where one value is for all elements
     values: RawBlock,
     step: usize,
     // how many bytes the block has
@@ -38,7 +39,7 @@ impl<'p> Model for Scatter<'p> {
 impl<'p> Scatter<'p> {
     pub(crate) fn new(
         view: &'p View,
-        places: &'p Places,
+        places: &'p ChosenPlaces,
         values: RawBlock,
         step: usize,
         len: usize,
@@ -60,8 +61,8 @@ impl<'p> Scatter<'p> {
         }
     }
 
-    /// Writes it to a block of as many bytes as it was made ready for, and leaves any other one as it is. Of an element that was chosen
-    /// more than once the last value in C order stays.
+    /// Writes the values to a block of the length that they were prepared for; any other block
+    /// stays as it is. Where an element is selected twice, the last value in C order stays.
     pub fn write(&self, block: &mut RawBlock)
         ensures { block.new ≡ written_by self.now block.old }
     {

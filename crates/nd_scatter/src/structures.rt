@@ -1,8 +1,9 @@
-//! The loop over structures: the bytes of their fields go to their places, and pad bytes stay as they are.
+//! `write_structures`: the scatter loop over structures, which writes their fields and leaves pad
+//! bytes as they are.
 ghost use Rattle.std.specs.Prelude.{◌≡◌, ◌+◌, ◌≤◌, length};
 ghost use Rattle.std.specs.List.{All};
-ghost use Rattle.nd_model.specs.Session.{put};
-ghost use Rattle.nd_model.specs.View.{Structure};
+ghost use Rattle.nd_model.specs.Cells.Session.{put};
+ghost use Rattle.nd_model.specs.Arrays.View.{Structure};
 ghost use Rattle.nd_scatter.specs.Ready.{AreValues};
 ghost use Rattle.nd_scatter.specs.Scattered.{byte_copies, scattered};
 
@@ -24,7 +25,8 @@ fn write_structure(out: &mut [u8], structure: &RecType, to: usize, values: &[u8]
     }
 }
 
-/// Writes the values, which begin so many bytes apart from one byte on, to their places, one after another.
+/// Writes the values to the byte offsets `places` in order. The first value begins at byte `from`,
+/// each next one `step` bytes behind.
 pub(crate) fn write_structures(
     out: &mut [u8],
     structure: &RecType,

@@ -1,7 +1,7 @@
-//! The writes of values to chosen elements.
+//! `write_values`: writes prepared values to selected elements.
 ghost use Rattle.std.specs.Prelude.{◌≡◌, ◌+◌, ◌^◌, ◌≤◌, false, length, IsTrue};
 ghost use Rattle.std.specs.List.{All};
-ghost use Rattle.nd_model.specs.View.{item_size};
+ghost use Rattle.nd_model.specs.Arrays.View.{item_size};
 ghost use Rattle.nd_types.specs.Types.{type_of};
 ghost use Rattle.nd_scatter.specs.Ready.{AreValues};
 ghost use Rattle.nd_scatter.specs.Scattered.{scattered};
@@ -12,10 +12,11 @@ use crate::structures::write_structures;
 use nd_places::PlaceList;
 use nd_types::ElemType;
 
-// How many places are found at a time.
+// How many byte offsets are worked out at a time.
 const MANY: usize = 512;
 
-// Writes the values, which begin so many bytes apart from one byte on, to these places.
+// Writes the values to these byte offsets. The first value begins at byte `from`, each next one
+// `step` bytes behind.
 fn write_part(
     out: &mut [u8],
     elem: &ElemType,
@@ -35,7 +36,7 @@ fn write_part(
     }
 }
 
-// Writes the values, which begin so many bytes apart, to their places, one after another, as these are found.
+// Writes the values, `step` bytes apart, while their byte offsets are worked out a part at a time.
 fn write_found(out: &mut [u8], elem: &ElemType, places: &PlaceList, values: &[u8], step: usize)
     requires out { All (λ p. p + item_size (type_of elem.now) ≤ length out.old) places.now }
     requires held { AreValues (item_size (type_of elem.now)) 0 step (length places.now)
@@ -52,8 +53,8 @@ fn write_found(out: &mut [u8], elem: &ElemType, places: &PlaceList, values: &[u8
     }
 }
 
-// Writes the values, which begin so many bytes apart, to the numbers that a mask chooses, where all of their line lie in these bytes.
-// Returns whether it wrote them; else it leaves the bytes as they are.
+// Writes the values, `step` bytes apart, to the numbers that a mask selects, where their whole line
+// lies in these bytes. Returns whether it wrote: otherwise the bytes stay as they are.
 fn write_masked(
     out: &mut [u8],
     elem: &ElemType,
@@ -80,7 +81,7 @@ fn write_masked(
     true
 }
 
-/// Writes the values, which begin so many bytes apart, to their places, one after another.
+/// Writes the values, `step` bytes apart, to their byte offsets in order.
 pub(crate) fn write_values(
     out: &mut [u8],
     elem: &ElemType,

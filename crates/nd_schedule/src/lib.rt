@@ -1,13 +1,5 @@
-//! The scheduler of a notebook, over what runs cells.
+//! The schedule: which cells of a notebook run after an edit, and which are replayed from their records.
 #![tactic(auto)]
 
-mod beside;
-mod cells;
-mod front;
-mod notebook;
-mod pass;
-mod step;
-mod versions;
-
-pub use cells::Cells;
-pub use notebook::Notebook;
+pub mod cells;
+pub mod schedule;

@@ -1,28 +1,5 @@
-//! Sessions: names with their values, the blocks of bytes that arrays are views of, and what the running cell has read and done.
+//! A session: names, blocks and inputs while cells run, what was read and written, and snapshots.
 #![tactic(auto)]
 
-ghost use Rattle.nd_session.specs.State.{State};
-ghost use Rattle.nd_session.specs.Listed.{IsListed};
-
-mod changes;
-mod matching;
-mod overlay;
-mod readings;
-mod reads;
-mod redo;
-mod session;
-mod version;
-
-pub use changes::Changes;
-pub use nd_heap::{Array, Base, BlockWriter, OutOfMemory, Value};
-pub use nd_input::{Input, Inputs, has_input, is_input_name, with_input, without_input};
-pub use nd_trace::{Event, Trace};
-pub use readings::Readings;
-pub use reads::Reads;
-pub use session::Session;
-pub use version::Version;
-
-/// What a session has read and written is what its trace lists.
-pub fn reads_are_listed()
-    ensures { (s : State) → IsListed s }
-{}
+pub mod inputs;
+pub mod session;

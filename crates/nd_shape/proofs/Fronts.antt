@@ -8,10 +8,10 @@ use Rattle.std.proofs.lemmas.Bool.{cases_lt}
 use Rattle.std.proofs.lemmas.Bool.Decides.{nat_tests, Decides-int_eq}
 use Rattle.std.proofs.lemmas.Int.{ints}
 use Rattle.std.proofs.lemmas.Nat.{div-mul-add}
-use Rattle.nd_model.specs.Strides.{way_to, begins_at}
-use Rattle.nd_model.specs.Tuple.{elements_of, indices, number}
-use Rattle.nd_model.specs.View.{Geo, item_size}
-use Rattle.nd_model.specs.Reshaping.{distance, steps_in, is_even}
+use Rattle.nd_model.specs.Arrays.Strides.{way_to, begins_at}
+use Rattle.nd_model.specs.Arrays.Tuple.{elements_of, indices, number}
+use Rattle.nd_model.specs.Arrays.View.{Geo, item_size}
+use Rattle.nd_model.specs.Indexing.Reshaping.{distance, steps_in, is_even}
 use Rattle.nd_model.proofs.Recast.{at_each}
 use Rattle.nd_model.proofs.Transposed.{both}
 use Rattle.nd_view.specs.Indexes.{IsIndex}

@@ -2,7 +2,7 @@
 use Rattle.std.proofs.Common.{◌≡◌, ℕ, zero, suc, ◌+◌, ◌*◌, ◌<◌, ◌≤◌, ℤ, List, [], ◌∷◌, ◌++◌, min, length, get_or, drop, refl, sym, ap, ◌∙◌, inl, inr, arith, add-one, append-nil, drop-cons}
 use Rattle.std.proofs.lemmas.Bool.{cases_lt}
 use Rattle.std.proofs.lemmas.List.{drop_all}
-use Rattle.nd_model.specs.Reshaping.{length_or, lengths_with, known_elements}
+use Rattle.nd_model.specs.Indexing.Reshaping.{length_or, lengths_with, known_elements}
 use Rattle.nd_shape.proofs.Pushed.{joined}
 
 -- a product that is cut off may be cut off before

@@ -6,10 +6,10 @@ use Rattle.std.proofs.Math.Nat.{div-eq_of_lt, mod-eq_of_lt}
 use Rattle.std.proofs.lemmas.Nat.{div-add-mod'}
 use Rattle.std.proofs.lemmas.Bool.{cases_Bool, cases_lt, cases_eq}
 use Rattle.std.proofs.lemmas.Bool.Decides.{nat_tests}
-use Rattle.nd_model.specs.Reshaping.{is_unknown, is_length, unknowns, lengths_with, known_elements, is_left, shape_for}
-use Rattle.nd_model.specs.Fault.{Shape}
-use Rattle.nd_model.specs.ShapeFault.{SizeMismatch}
-use Rattle.nd_model.specs.Tuple.{elements_of}
+use Rattle.nd_model.specs.Indexing.Reshaping.{is_unknown, is_length, unknowns, lengths_with, known_elements, is_left, shape_for}
+use Rattle.nd_model.specs.Cells.Fault.{Shape}
+use Rattle.nd_model.specs.Indexing.ShapeFault.{SizeMismatch}
+use Rattle.nd_model.specs.Arrays.Tuple.{elements_of}
 use Rattle.nd_shape.specs.Reshapes.{fills, IsLeft}
 
 -- where no length is open none is filled in

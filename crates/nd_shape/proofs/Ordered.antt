@@ -4,11 +4,11 @@ use Rattle.std.specs.Prelude.{ℤ, pos, ◌+ℤ◌, ◌*ℤ◌, Bool, true, nat_
 use Rattle.std.proofs.lemmas.Bool.{cases_Bool}
 use Rattle.std.proofs.lemmas.Int.{ints}
 use Rattle.std.proofs.lemmas.List.{length-map}
-use Rattle.nd_model.specs.Session.{is_in}
-use Rattle.nd_model.specs.Strides.{way_to, places_by, parts_fault}
-use Rattle.nd_model.specs.Transposing.{position_in, ordered_tuple, transposed_view}
-use Rattle.nd_model.specs.Tuple.{count_up}
-use Rattle.nd_model.specs.View.{ElementType, Geo, item_size}
+use Rattle.nd_model.specs.Cells.Session.{is_in}
+use Rattle.nd_model.specs.Arrays.Strides.{way_to, places_by, parts_fault}
+use Rattle.nd_model.specs.Indexing.Transposing.{position_in, ordered_tuple, transposed_view}
+use Rattle.nd_model.specs.Arrays.Tuple.{count_up}
+use Rattle.nd_model.specs.Arrays.View.{ElementType, Geo, item_size}
 use Rattle.nd_model.proofs.Orders.{IsOrder, AreDistinct, gather, gather_same, over_order, order_distinct, same_is}
 use Rattle.nd_model.proofs.Transposed.{same_limits, ordered_is_tuple}
 use Rattle.nd_view.specs.Indexes.{IsIndex}

@@ -2,7 +2,7 @@
 use Rattle.std.proofs.Common.{◌≡◌, ℕ, zero, suc, ◌+◌, ◌-◌, ◌<◌, Bool, true, false, List, [], ◌∷◌, ◌++◌, map, length, get_or, drop, refl, sym, ap, ◌∙◌, arith, add-one, append_assoc, drop-cons}
 use Rattle.std.specs.Prelude.{◌&&◌}
 use Rattle.std.specs.List.{list_all}
-use Rattle.nd_model.specs.Transposing.{count_down}
+use Rattle.nd_model.specs.Indexing.Transposing.{count_down}
 
 pub joined : {A : Type 0} (items new rest whole : List A) (v : A) → new ≡ items ++ v ∷ [] → items ++ v ∷ rest ≡ whole → new ++ rest ≡ whole
 joined items new rest whole v e f = ap (λ l. l ++ rest) e ∙ append_assoc items (v ∷ []) rest ∙ f

@@ -1,9 +1,9 @@
 -- Views whose elements are those of another one at other index tuples, by strides that lead there.
 use Rattle.std.proofs.Common.{◌≡◌, ℕ, ◌^◌, true, List, [], ◌∷◌, map, length, get_or, sym, ap, ◌∙◌}
 use Rattle.std.specs.Prelude.{ℤ, pos, ◌+ℤ◌, None, Bool, unsigned_abs}
-use Rattle.nd_model.specs.Strides.{way_to, begins_at, place_at, places_by, is_held, are_held, IsInLimits, parts_fault}
-use Rattle.nd_model.specs.Tuple.{indices, number}
-use Rattle.nd_model.specs.View.{ElementType, Geo, item_size, place_of, rearranged_view}
+use Rattle.nd_model.specs.Arrays.Strides.{way_to, begins_at, place_at, places_by, is_held, are_held, IsInLimits, parts_fault}
+use Rattle.nd_model.specs.Arrays.Tuple.{indices, number}
+use Rattle.nd_model.specs.Arrays.View.{ElementType, Geo, item_size, place_of, rearranged_view}
 use Rattle.nd_model.proofs.Tuples.{IsTuple}
 use Rattle.nd_view.specs.Indexes.{IsIndex}
 use Rattle.nd_view.proofs.Indexed.{all_indexes, of_all, same_indexes}

@@ -4,12 +4,12 @@ use Rattle.std.specs.Prelude.{ℤ, pos, ◌+ℤ◌, ◌*ℤ◌, ◌≤ℤ◌, No
 use Rattle.std.specs.List.{All, list_all}
 use Rattle.std.proofs.lemmas.Bool.Decides.{nat_tests}
 use Rattle.std.proofs.lemmas.Int.{ints}
-use Rattle.nd_model.specs.Element.{Element, size_of}
-use Rattle.nd_model.specs.Strides.{way_to, begins_at, place_at, places_by, is_held, are_held, IsInLimits, parts_fault}
-use Rattle.nd_model.specs.Tuple.{elements_of, indices, number}
-use Rattle.nd_model.specs.View.{One, Geo, item_size, place_of}
-use Rattle.nd_model.specs.Recasting.{last_of, with_last, row_start, has_whole_rows, row_bytes, can_recast, recast_shape, recast_view}
-use Rattle.nd_model.specs.Sound.{LiesIn}
+use Rattle.nd_model.specs.Arrays.Element.{Element, size_of}
+use Rattle.nd_model.specs.Arrays.Strides.{way_to, begins_at, place_at, places_by, is_held, are_held, IsInLimits, parts_fault}
+use Rattle.nd_model.specs.Arrays.Tuple.{elements_of, indices, number}
+use Rattle.nd_model.specs.Arrays.View.{One, Geo, item_size, place_of}
+use Rattle.nd_model.specs.Indexing.Recasting.{last_of, with_last, row_start, has_whole_rows, row_bytes, can_recast, recast_shape, recast_view}
+use Rattle.nd_model.specs.Cells.Sound.{LiesIn}
 use Rattle.nd_model.proofs.Parts.{parts_are_held}
 use Rattle.nd_model.proofs.Recast.{at_each, last_with, last_tuple, last_below, length-with_last, row_some, element_inside, some_axes}
 use Rattle.nd_model.proofs.Transposed.{both}

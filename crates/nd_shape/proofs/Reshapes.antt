@@ -3,10 +3,10 @@ use Rattle.std.proofs.Common.{◌≡◌, ℕ, ◌+◌, ◌<◌, ◌≤◌, ◌^�
 use Rattle.std.specs.Prelude.{ℤ, pos, ◌+ℤ◌, None, unsigned_abs}
 use Rattle.std.proofs.lemmas.Bool.{cases_Bool}
 use Rattle.std.proofs.lemmas.Int.{ints}
-use Rattle.nd_model.specs.Strides.{begins_at, place_at, places_by, is_held, are_held, IsInLimits, parts_fault}
-use Rattle.nd_model.specs.Tuple.{count_up, elements_of, indices, number}
-use Rattle.nd_model.specs.View.{ElementType, Geo, item_size}
-use Rattle.nd_model.specs.Reshaping.{is_even}
+use Rattle.nd_model.specs.Arrays.Strides.{begins_at, place_at, places_by, is_held, are_held, IsInLimits, parts_fault}
+use Rattle.nd_model.specs.Arrays.Tuple.{count_up, elements_of, indices, number}
+use Rattle.nd_model.specs.Arrays.View.{ElementType, Geo, item_size}
+use Rattle.nd_model.specs.Indexing.Reshaping.{is_even}
 use Rattle.nd_model.proofs.Transposed.{by_place}
 use Rattle.nd_view.specs.Indexes.{IsIndex}
 use Rattle.nd_view.proofs.Extents.{held_by}

@@ -5,9 +5,9 @@ use Rattle.std.proofs.lemmas.Bool.{cases_Bool, cases_lt, or_cases}
 use Rattle.std.proofs.lemmas.Bool.Decides.{nat_tests}
 use Rattle.std.proofs.lemmas.Int.{ints}
 use Rattle.std.proofs.lemmas.List.{drop_all, length-replicate, reverse-append, take_all, take_more}
-use Rattle.nd_model.specs.Broadcast.{can_stretch, broadcasts_to, narrowed_axes, own_tuple, broadcast_view, common_length, and_axis, common_axes}
-use Rattle.nd_model.specs.Strides.{way_to, IsInLimits, parts_fault, places_by}
-use Rattle.nd_model.specs.View.{ElementType, Geo, item_size}
+use Rattle.nd_model.specs.Arrays.Broadcast.{can_stretch, broadcasts_to, narrowed_axes, own_tuple, broadcast_view, common_length, and_axis, common_axes}
+use Rattle.nd_model.specs.Arrays.Strides.{way_to, IsInLimits, parts_fault, places_by}
+use Rattle.nd_model.specs.Arrays.View.{ElementType, Geo, item_size}
 use Rattle.nd_model.proofs.Transposed.{both}
 use Rattle.nd_view.specs.Indexes.{IsIndex}
 use Rattle.nd_view.proofs.Made.{axes}

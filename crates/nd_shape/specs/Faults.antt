@@ -1,9 +1,9 @@
 -- The refusals of other shapes as the definitions have them.
 use Rattle.std.specs.Prelude.{Result, Ok, Err}
-use Rattle.nd_model.specs.Fault.{Fault, Shape}
-use Rattle.nd_model.specs.Fault as fault
-use Rattle.nd_model.specs.ShapeFault as model
-use Rattle.nd_model.specs.View.{Geo}
+use Rattle.nd_model.specs.Cells.Fault.{Fault, Shape}
+use Rattle.nd_model.specs.Cells.Fault as fault
+use Rattle.nd_model.specs.Indexing.ShapeFault as model
+use Rattle.nd_model.specs.Arrays.View.{Geo}
 use Rattle.nd_view.specs.Faults.{view_fault_of}
 use Rattle.nd_shape.specs.declared.fault.ShapeFault.{ShapeFault}
 use Rattle.nd_shape.specs.declared.fault.ShapeFault.TheVariants.{BadAxes, ShapeMismatch, ItemSizes, TwoUnknown, SizeMismatch, View}

@@ -1,7 +1,7 @@
 -- What is made of other shapes, as the definitions have it.
 use Rattle.std.specs.Prelude.{ℕ, List, Result, Ok, Err}
-use Rattle.nd_model.specs.Reshaping as model
-use Rattle.nd_model.specs.Fault.{Fault}
+use Rattle.nd_model.specs.Indexing.Reshaping as model
+use Rattle.nd_model.specs.Cells.Fault.{Fault}
 use Rattle.nd_shape.specs.Faults.{fault_of}
 use Rattle.nd_shape.specs.declared.fault.ShapeFault.{ShapeFault}
 use Rattle.nd_shape.specs.declared.reshaping.Reshaped.{Reshaped}

@@ -1,19 +1,19 @@
-//! Why an array has no other shape or type of its own bytes.
+//! `ShapeFault`: why a view in another shape or dtype is refused.
 use nd_view::ViewFault;
 
-/// Why there is no such view of an array.
+/// Why a view in another shape or dtype is refused.
 #[derive(Clone, Copy)]
 pub enum ShapeFault {
-    /// The numbers are not the axes of the array in some order.
+    /// The numbers are not the array's axes, each once.
     BadAxes,
-    /// The shape of the array does not broadcast to this one.
+    /// The array's shape does not broadcast to this one.
     ShapeMismatch,
-    /// The bytes of the last axis are no whole number of elements of the other size, or do not lie one behind the other.
+    /// The last axis has no whole number of elements of the new itemsize, or is not contiguous.
     ItemSizes,
-    /// More than one length is left open.
+    /// More than one length is -1.
     TwoUnknown,
-    /// The lengths are those of another number of elements.
+    /// The lengths do not multiply to the number of elements.
     SizeMismatch,
-    /// The view would be above the limits of arrays.
+    /// The view would exceed the limits of arrays.
     View(ViewFault),
 }

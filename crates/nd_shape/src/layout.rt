@@ -1,4 +1,4 @@
-//! Lengths and strides of the axes of a new view.
+//! `Layout`: the lengths and strides of a new view.
 ghost use Rattle.std.specs.Prelude.{◌≡◌, ◌++◌, [], ◌∷◌, OnOk, IfOk};
 
 use smallvec::SmallVec;
@@ -12,7 +12,7 @@ pub(crate) struct Layout {
 }
 
 impl Layout {
-    /// No axes.
+    /// Returns the layout without axes.
     pub(crate) fn new(alloc: Global) -> Layout
         ensures lengths { result.lengths.items ≡ [] }
         ensures strides { result.strides.items ≡ [] }

@@ -1,4 +1,5 @@
-//! Views of the same elements in another shape, or of the same bytes as numbers of another kind.
+//! Views of the same bytes in another form: [`reshape`], [`transpose`], [`broadcast_to`], and
+//! [`view_as`] for another dtype.
 #![tactic(auto)]
 
 mod fault;

@@ -1,9 +1,9 @@
-//! Views of the same bytes as numbers of another kind or order.
+//! `view_as`: the same bytes as numbers of another kind or byte order.
 ghost use Rattle.std.specs.Prelude.{◌≡◌, ◌/◌, ◌*◌, ◌≤◌, ◌<◌, ◌^◌, pos, length, true, false, IsTrue, ◌↔◌, IfOk, MatchOption};
-ghost use Rattle.nd_model.specs.Creation.{is_number_type};
-ghost use Rattle.nd_model.specs.Element.{size_of};
-ghost use Rattle.nd_model.specs.Recasting as model;
-ghost use Rattle.nd_model.specs.Recasting.{can_recast, has_whole_rows, row_bytes, with_last};
+ghost use Rattle.nd_model.specs.Making.Creation.{is_number_type};
+ghost use Rattle.nd_model.specs.Arrays.Element.{size_of};
+ghost use Rattle.nd_model.specs.Indexing.Recasting as model;
+ghost use Rattle.nd_model.specs.Indexing.Recasting.{can_recast, has_whole_rows, row_bytes, with_last};
 ghost use Rattle.nd_shape.specs.Faults.{given};
 ghost use Rattle.nd_shape.specs.Recasts.{with_last_step};
 
@@ -19,14 +19,14 @@ fn is_step(stride: i128, size: u64) -> bool
     stride == i128::from(size)
 }
 
-// Whether the elements are numbers, and no structures.
+// Whether the elements are numbers, not structures.
 fn holds_numbers(view: &View) -> bool
     ensures { result ≡ is_number_type view.now.element }
 {
     matches!(view.elem(), ElemType::One(_))
 }
 
-// Whether the elements along the last axis lie one behind the other.
+// Whether the last axis is contiguous.
 fn has_whole_rows(view: &View) -> bool
     requires { 0 < length view.now.shape }
     ensures { result ≡ has_whole_rows view.now }
@@ -43,7 +43,8 @@ fn has_whole_rows(view: &View) -> bool
     is_step(strides[last], view.elem().size())
 }
 
-// The length of the last axis in elements of the other size, `None` where the view can't be seen so.
+// The length of the last axis in elements of the new dtype, or `None` where the view cannot be seen
+// so.
 fn recast_length(view: &View, elem: Elem) -> Option<u64>
     ensures { MatchOption result (can_recast elem view.now ≡ false) (λ n.
         (can_recast elem view.now ≡ true) × (n ≡ row_bytes view.now / size_of elem.kind)) }
@@ -82,9 +83,12 @@ fn recast_axes(
     Ok(layout)
 }
 
-/// Returns the view of the same bytes as numbers of another kind or order, as NumPy's `ndarray.view`. The same size always works;
-/// another one changes the length of the last axis, whose elements lie one behind the other. The first refusal that holds:
-/// `ItemSizes` where there is no such axis, its bytes are no whole number of elements, or it is one of structures; the limits of arrays.
+/// Returns the view of the same bytes as numbers of another dtype (`ndarray.view`). One of the same
+/// itemsize always works; another one changes the length of the last axis, which must be
+/// contiguous.
+///
+/// 4 numbers of `int32` are 2 of `int64` or 16 of `int8`. Refused in this order: `ItemSizes` where
+/// the last axis does not allow it, or for structures; the limits of arrays.
 pub fn view_as(
     alloc: Global,
     view: &View,

@@ -1,11 +1,11 @@
-//! Other shapes of the same elements in C order.
+//! `reshape`: the elements of an array in C order in another shape.
 ghost use Rattle.std.specs.Prelude.{◌≡◌, ◌+◌, ◌*◌, ◌/◌, ◌^◌, ◌<◌, ◌≤◌, min, pos, ◌≤ℤ◌, ◌+ℤ◌, ◌*ℤ◌, length, map, replicate, true, false, unsigned_abs, IfOk, MatchOption};
 ghost use Rattle.std.specs.List.{All, list_all};
-ghost use Rattle.nd_model.specs.Reshaping as model;
-ghost use Rattle.nd_model.specs.Reshaping.{known_elements, length_or, lengths_with, unknowns};
-ghost use Rattle.nd_model.specs.Strides.{IsInLimits};
-ghost use Rattle.nd_model.specs.Tuple.{elements_of};
-ghost use Rattle.nd_model.specs.View.{item_size};
+ghost use Rattle.nd_model.specs.Indexing.Reshaping as model;
+ghost use Rattle.nd_model.specs.Indexing.Reshaping.{known_elements, length_or, lengths_with, unknowns};
+ghost use Rattle.nd_model.specs.Arrays.Strides.{IsInLimits};
+ghost use Rattle.nd_model.specs.Arrays.Tuple.{elements_of};
+ghost use Rattle.nd_model.specs.Arrays.View.{item_size};
 ghost use Rattle.nd_shape.specs.NewShapes.{reshaped_given, shape_given};
 ghost use Rattle.nd_shape.specs.Reshapes as reshapes;
 ghost use Rattle.nd_shape.specs.Reshapes.{IsLeft, fills, steps_for};
@@ -18,12 +18,12 @@ use std::alloc::{AllocError, Global};
 // One more than the most elements of an array.
 const TOO_MANY: u64 = (1 << 24) + 1;
 
-/// The same elements in another shape.
+/// The result of a reshape: the elements of an array in another shape.
 #[derive(Drop)]
 pub enum Reshaped {
-    /// A view of them, where they lie.
+    /// A view of the elements, where they lie.
     View(View),
-    /// The shape of a copy: no strides lead to them in this order.
+    /// The shape of a copy: no strides lead to the elements in this order.
     Copy(Shape),
 }
 
@@ -39,7 +39,7 @@ fn is_length(length: i128) -> bool
     length >= -1
 }
 
-// The length that a number is, or the one that is left where it is -1.
+// The length that a number is, or `left` where it is -1.
 fn length_or(left: u64, length: i128) -> u64
     requires known { model.is_length length ≡ true }
     requires limit { (length ≤ℤ pos (2 ^ 32)) × (left ≤ 2 ^ 32) }
@@ -53,7 +53,7 @@ fn length_or(left: u64, length: i128) -> u64
     }
 }
 
-// How many lengths are left open.
+// How many lengths are -1.
 fn count_unknowns(lengths: &[i128]) -> usize
     ensures value { result ≡ unknowns lengths.now }
 {
@@ -77,7 +77,7 @@ fn are_lengths(lengths: &[i128]) -> bool
     true
 }
 
-// The number of elements, or one that is too many for an array where it is as great.
+// The product of a count and a length, or a number above the limit of arrays where it is above.
 fn multiply(count: u64, length: u64) -> u64
     requires { (count ≤ 2 ^ 24 + 1) × (length ≤ 2 ^ 32) }
     ensures value { result ≡ min (count * length) (2 ^ 24 + 1) }
@@ -91,7 +91,7 @@ fn multiply(count: u64, length: u64) -> u64
     }
 }
 
-// The product of the lengths that are known, or one that is too great for an array.
+// The product of the known lengths, or a number above the limit of arrays.
 fn known_elements(lengths: &[i128]) -> u64
     requires known { list_all model.is_length lengths.now ≡ true }
     requires limit { All (λ z. z ≤ℤ pos (2 ^ 32)) lengths.now }
@@ -104,7 +104,8 @@ fn known_elements(lengths: &[i128]) -> u64
     count
 }
 
-// The length that is left, 0 where none is open. `None` where no length makes the number of elements.
+// The length that -1 stands for, 0 where none is -1. `None` where no length gives the number of
+// elements.
 fn length_left(count: u64, unknowns: usize, known: u64) -> Option<u64>
     requires { count ≤ 2 ^ 24 }
     ensures { MatchOption result (fills count unknowns known ≡ false) (λ left.
@@ -150,7 +151,7 @@ fn new_shape(
     Ok(Ok(shape))
 }
 
-// So many steps.
+// The distance of `by` steps.
 fn scale(by: u64, step: i128) -> i128
     requires by { by ≤ 2 ^ 24 }
     requires step { unsigned_abs step ≤ 2 ^ 93 }
@@ -161,7 +162,7 @@ fn scale(by: u64, step: i128) -> i128
     i128::from(by) * step
 }
 
-// The way, so many steps further.
+// The distance `by` steps behind `way`.
 fn go_on(way: i128, by: u64, step: i128) -> i128
     requires way { unsigned_abs way ≤ 2 ^ 122 }
     requires by { by ≤ 2 ^ 24 }
@@ -173,7 +174,7 @@ fn go_on(way: i128, by: u64, step: i128) -> i128
     way + scale(by, step)
 }
 
-// How far the element of this number is from the first one.
+// The distance of an element from the first one. `number` is its flat index.
 fn way_of(shape: &[u64], strides: &[i128], count: u64, number: u64) -> i128
     requires each { length strides.now ≡ length shape.now }
     requires most { length shape.now ≤ 32 }
@@ -192,7 +193,7 @@ fn way_of(shape: &[u64], strides: &[i128], count: u64, number: u64) -> i128
     way
 }
 
-// The strides of another shape of the same elements: on each axis the way to its second element.
+// The strides of another shape: on each axis the distance to its second element.
 fn steps_for(
     alloc: Global,
     shape: &[u64],
@@ -218,7 +219,8 @@ fn steps_for(
     Ok(steps)
 }
 
-// Whether an axis of this length and stride has its second element so far from the first one, where it has a second one.
+// Whether the second element of an axis lies at this distance from the first, where it has a second
+// one.
 fn is_met(length: u64, stride: i128, way: i128) -> bool
     ensures { result ≡ reshapes.is_met length stride way }
 {
@@ -244,13 +246,13 @@ fn are_met(shape: &[u64], strides: &[i128], count: u64, to: &[u64], steps: &[i12
     true
 }
 
-// The view without elements, in another shape.
+// The view of an empty array in another shape.
 fn empty_view(alloc: Global, view: &View, shape: &[u64]) -> Result<View, AllocError>
     requires limits { IsInLimits (item_size view.now.element) shape.now }
     requires none { (elements_of shape.now ≡ 0) × (elements_of view.now.shape ≡ 0) }
     ensures { IfOk result (λ v. v ≡ record view.now { shape = shape.now }) }
 {
-    // Says that there are no places.
+    // proof: there are no elements, by the clause of count().
     let _count = view.count();
     let steps: SmallVec<i128, 32> = SmallVec::from_elem(alloc, 0, shape.len())?;
     let elem = view.elem().try_clone()?;
@@ -258,10 +260,12 @@ fn empty_view(alloc: Global, view: &View, shape: &[u64]) -> Result<View, AllocEr
     Ok(empty)
 }
 
-/// Returns the same elements in C order in another shape, as NumPy's `reshape`: a view exactly where there are a start and a number
-/// for each axis such that the place of each element is the start plus the sum of index times number, and else the shape of a copy.
-/// A length of -1 stands for the one that is left. The first refusal that holds: `TwoUnknown`; `SizeMismatch`, also for another
-/// negative length and where -1 stands beside a length of 0.
+/// Returns the elements in C order in another shape (`ndarray.reshape`): a view wherever strides
+/// can lead to them in this order, else the shape of a copy. A length of -1 stands for the one that
+/// is left.
+///
+/// Shape (2, 6) in (-1, 4) gives (3, 4). Refused in this order: `TwoUnknown`; `SizeMismatch`, also
+/// for another negative length and for -1 beside a length of 0.
 pub fn reshape(
     alloc: Global,
     view: &View,

@@ -1,8 +1,8 @@
-//! Views that are stretched to a greater shape, and the common shape of two.
+//! `broadcast_to` and `broadcast`: views that are broadcast, and the common shape of two.
 ghost use Rattle.std.specs.Prelude.{◌≡◌, ◌+◌, ◌-◌, ◌≤◌, ◌<◌, if◌then◌else◌, length, reverse, slice_index_or, nat_lt, true, IfOk};
 ghost use Rattle.std.specs.Option.{option_map};
-ghost use Rattle.nd_model.specs.Broadcast as broadcasting;
-ghost use Rattle.nd_model.specs.Stretching as model;
+ghost use Rattle.nd_model.specs.Arrays.Broadcast as broadcasting;
+ghost use Rattle.nd_model.specs.Indexing.Stretching as model;
 ghost use Rattle.nd_shape.specs.Faults.{given};
 ghost use Rattle.nd_shape.specs.Stretches as stretches;
 ghost use Rattle.nd_shape.specs.Stretches.{joined_shape, stretched_strides};
@@ -12,8 +12,8 @@ use nd_view::{Shape, View, limit_fault};
 use smallvec::SmallVec;
 use std::alloc::{AllocError, Global};
 
-/// Returns whether a shape broadcasts to another: aligned at the last axis, each length is the same or 1, and an axis that is missing
-/// is stretched too (NumPy user guide, "Broadcasting").
+/// Returns whether a shape broadcasts to another: aligned at the last axis, each length is equal or
+/// 1, and missing axes count as 1 (NumPy user guide, "Broadcasting").
 pub fn broadcasts_to(shape: &[u64], to: &[u64]) -> bool
     ensures { result ≡ broadcasting.broadcasts_to shape.now to.now }
 {
@@ -29,14 +29,14 @@ pub fn broadcasts_to(shape: &[u64], to: &[u64]) -> bool
     true
 }
 
-// The stride of an axis that may be stretched, where it has this length.
+// The stride of an axis of this length in a broadcast: 0 where the length is 1.
 fn own_stride(length: u64, stride: i128) -> i128
     ensures { result ≡ stretches.own_stride length stride }
 {
     if length == 1 { 0 } else { stride }
 }
 
-// The strides with as many new axes in front: 0 on those, and on axes of length 1.
+// The strides of a broadcast: 0 on new axes and on axes of length 1.
 fn stretch_strides(
     alloc: Global,
     shape: &[u64],
@@ -53,8 +53,11 @@ fn stretch_strides(
     Ok(stretched)
 }
 
-/// Returns the view of a greater shape, as NumPy's `broadcast_to`: its stride is 0 on each axis that is stretched or added, and
-/// it may not be written to. The first refusal that holds: the limits of arrays, `ShapeMismatch`.
+/// Returns the view in another shape, as NumPy's `broadcast_to`: read-only, with stride 0 on each
+/// axis that is new or had length 1.
+///
+/// Shape (3, 1) broadcasts to (2, 3, 4). Refused in this order: the limits of arrays,
+/// `ShapeMismatch`.
 pub fn broadcast_to(
     alloc: Global,
     view: &View,
@@ -81,7 +84,7 @@ pub fn broadcast_to(
     Ok(Ok(stretched))
 }
 
-// The length of the axis at this place from the last one on, 1 where there is none.
+// The length of an axis, counted from the last one, and 1 where there is none.
 fn length_from_last(shape: &[u64], at: usize) -> u64
     ensures { result ≡ slice_index_or (reverse shape.now) at 1 }
 {
@@ -129,8 +132,8 @@ fn joined_length(left: u64, right: u64) -> u64
     if left == 1 { right } else { left }
 }
 
-/// Returns the shape to which both shapes broadcast, `None` where there is none: aligned at the last axis, lengths are equal or
-/// one of them is 1, and a missing axis counts as 1 (NumPy user guide, "Broadcasting").
+/// Returns the shape to which both shapes broadcast, or `None` where there is none (NumPy user
+/// guide, "Broadcasting"). For (3, 1) and (4,) this is (3, 4).
 pub fn broadcast(alloc: Global, left: &[u64], right: &[u64]) -> Result<Option<Shape>, AllocError>
     ensures { IfOk result (λ found. option_map (λ v. v.items) found
         ≡ broadcasting.broadcast left.now right.now) }

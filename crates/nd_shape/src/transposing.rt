@@ -1,9 +1,9 @@
-//! Views with the axes in another order.
+//! `transpose` and `reverse_axes`: views with the axes in another order.
 ghost use Rattle.std.specs.Prelude.{◌≡◌, ◌≤◌, length, true, IfOk};
-ghost use Rattle.nd_model.specs.Selecting.{counted_from, is_within};
-ghost use Rattle.nd_model.specs.Session.{is_in};
-ghost use Rattle.nd_model.specs.Transposing as model;
-ghost use Rattle.nd_model.specs.Transposing.{axes_of, count_down, is_order, reversed_view};
+ghost use Rattle.nd_model.specs.Indexing.Selecting.{counted_from, is_within};
+ghost use Rattle.nd_model.specs.Cells.Session.{is_in};
+ghost use Rattle.nd_model.specs.Indexing.Transposing as model;
+ghost use Rattle.nd_model.specs.Indexing.Transposing.{axes_of, count_down, is_order, reversed_view};
 ghost use Rattle.nd_shape.specs.Faults.{given};
 ghost use Rattle.nd_shape.specs.Layouts.{lengths_on, strides_on};
 
@@ -12,7 +12,7 @@ use crate::layout::Layout;
 use nd_view::View;
 use std::alloc::{AllocError, Global};
 
-// The axis that a number means, where it means one. A negative one counts from the end.
+// The axis that a number means, or one past all axes. A negative number counts from the end.
 fn axis_of(axes: usize, number: i128) -> u128
     requires { axes ≤ 32 }
     ensures { result ≡ counted_from axes number }
@@ -45,7 +45,7 @@ fn has_axis(axes: usize, order: &[i128], axis: usize) -> bool
     false
 }
 
-// Whether the numbers mean the axes in some order.
+// Whether the numbers mean the axes, each once.
 fn is_order(axes: usize, order: &[i128]) -> bool
     requires { axes ≤ 32 }
     ensures { result ≡ is_order axes order.now }
@@ -89,7 +89,7 @@ fn order_axes(
     Ok(layout)
 }
 
-// The axes from the last one to the first.
+// The axes, reversed.
 fn turn_axes(alloc: Global, shape: &[u64], strides: &[i128]) -> Result<Layout, AllocError>
     requires each { length strides.now ≡ length shape.now }
     ensures lengths { IfOk result (λ v. v.lengths.items ≡ lengths_on shape.now
@@ -106,8 +106,8 @@ fn turn_axes(alloc: Global, shape: &[u64], strides: &[i128]) -> Result<Layout, A
     Ok(layout)
 }
 
-/// Returns the view whose axis k is axis `axes[k]` of this one, as NumPy's `transpose` orders them. A negative number counts from
-/// the end. `BadAxes` where they are not the axes of the view, each once.
+/// Returns the view whose axis `k` is axis `axes[k]` of this one (`ndarray.transpose`). Negative
+/// numbers count from the end. `BadAxes` where they are not the view's axes, each once.
 pub fn transpose(
     alloc: Global,
     view: &View,
@@ -131,7 +131,7 @@ pub fn transpose(
     Ok(Ok(transposed))
 }
 
-/// Returns the view with its axes the other way round, as NumPy's `.T`.
+/// Returns the view with its axes reversed (`ndarray.T`).
 pub fn reverse_axes(alloc: Global, view: &View) -> Result<View, AllocError>
     ensures { IfOk result (λ v. v ≡ reversed_view view.now) }
 {

@@ -1,3 +1,2 @@
-pub mod Calls
-pub mod Syntax
-pub mod Lists
+pub mod Dtypes
+pub mod Trees

@@ -1,11 +1,5 @@
-//! The trees of a cell's text, and why a text is none.
+//! The tree of a cell: statements, expressions, and the dtypes that they name.
 #![tactic(auto)]
 
-mod calls;
-mod tree;
-
-pub use calls::{Accumulation, DType, FieldType, Fill, Reduction, TypeName, Ufunc};
-pub use tree::{
-    Axis, BinaryOp, Call, Element, Expr, Fold, Index, IndexItem, Line, Method, ParseFault,
-    ParseKind, Stmt, Suffix, UnaryOp,
-};
+pub mod dtypes;
+pub mod trees;

@@ -9,8 +9,8 @@ use Rattle.std.proofs.lemmas.Bool.Decides.{nat_tests, Decides-eqb}
 use Rattle.std.proofs.lemmas.List.{get_or_past}
 use Rattle.std.proofs.lemmas.List.Sums.{prefix_len-le-length}
 use Rattle.std.proofs.lemmas.Slice.Eq.{starts_is}
-use Rattle.nd_model.specs.Token.{Word, Integer}
-use Rattle.nd_model.specs.Lexing.{begins_name, is_name_byte, is_quote, is_quotable, joins_number, most_name, name_at, number_at, quoted_at, symbols, first_of, word_at, Piece, lexeme, is_blank, comment_length, piece_at}
+use Rattle.nd_model.specs.Grammar.Token.{Word, Integer}
+use Rattle.nd_model.specs.Grammar.Lexing.{begins_name, is_name_byte, is_quote, is_quotable, joins_number, most_name, name_at, number_at, quoted_at, symbols, first_of, word_at, Piece, lexeme, is_blank, comment_length, piece_at}
 use Rattle.nd_token.specs.States.{size_of}
 use Rattle.nd_token.proofs.Runs.{run_nonempty}
 

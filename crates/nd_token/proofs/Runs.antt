@@ -13,7 +13,7 @@ use Rattle.std.specs.Int.{IsInRange}
 use Rattle.std.specs.Result.{result_ok}
 use Rattle.std.specs.Str.Parse.{ParsesUnsigned, digits_value}
 use Rattle.std.proofs.lemmas.Str.Parse.{numerals_by_value, tells_by_index, parse_digits}
-use Rattle.nd_model.specs.Lexing.{begins_name, is_name_byte, is_quote, is_plain, integer_of, most_integer}
+use Rattle.nd_model.specs.Grammar.Lexing.{begins_name, is_name_byte, is_quote, is_plain, integer_of, most_integer}
 
 pub ruleset runs = prefix_len-le-length
 

@@ -6,9 +6,9 @@ use Rattle.nd_token.specs.Tokens.{token_of}
 use Rattle.nd_token.specs.declared.token.Token as declared
 use Rattle.std.proofs.Common.{map}
 use Rattle.std.proofs.lemmas.List.{map-append}
-use Rattle.nd_model.specs.Token.{Word, OpenParen, CloseParen, OpenBracket, CloseBracket, Token}
-use Rattle.nd_model.specs.Fault.{ParseFault, BadToken}
-use Rattle.nd_model.specs.Lexing.{State, at_first, depth_after, tokens, Blank, Newline, Lexeme, piece_at, reads, followed, tokens_from, ended, ended_by_newline, token_here, after_word, after_blank, after_newline}
+use Rattle.nd_model.specs.Grammar.Token.{Word, OpenParen, CloseParen, OpenBracket, CloseBracket, Token}
+use Rattle.nd_model.specs.Cells.Fault.{ParseFault, BadToken}
+use Rattle.nd_model.specs.Grammar.Lexing.{State, at_first, depth_after, tokens, Blank, Newline, Lexeme, piece_at, reads, followed, tokens_from, ended, ended_by_newline, token_here, after_word, after_blank, after_newline}
 
 abbrev Answer : Type 0
 Answer = Result (List Token) ParseFault

@@ -1,7 +1,7 @@
 -- Where a pass over a text stands, and what it meets.
 use Rattle.std.specs.Prelude.{ℕ, ◌+◌, ◌≤◌}
 use Rattle.std.specs.Option.{option_map}
-use Rattle.nd_model.specs.Lexing as model
+use Rattle.nd_model.specs.Grammar.Lexing as model
 use Rattle.nd_token.specs.Tokens.{word_of}
 use Rattle.nd_token.specs.declared.scan.Place.{Place}
 use Rattle.nd_token.specs.declared.scan.State.{State}

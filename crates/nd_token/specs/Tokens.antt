@@ -6,9 +6,9 @@ use Rattle.nd_token.specs.declared.token.Word.TheVariants as words
 use Rattle.std.specs.declared.alloc.Global.{Global}
 use Rattle.nd_token.specs.declared.token.Token.{Token}
 use Rattle.nd_token.specs.declared.token.BadToken.{BadToken}
-use Rattle.nd_model.specs.Fault.{ParseFault}
-use Rattle.nd_model.specs.Fault as fault
-use Rattle.nd_model.specs.Token as model
+use Rattle.nd_model.specs.Cells.Fault.{ParseFault}
+use Rattle.nd_model.specs.Cells.Fault as fault
+use Rattle.nd_model.specs.Grammar.Token as model
 
 abbrev pub word_of : Word → model.Word
 word_of (words.Name text) = model.Name text.now

@@ -1,4 +1,5 @@
-//! The tokens of a cell's text.
+//! The tokens of a cell's text: names, numbers, quoted texts and symbols, with their lines and
+//! columns.
 #![tactic(auto)]
 
 mod scan;

@@ -1,8 +1,8 @@
-//! A pass over a text that gives its tokens.
+//! `tokens`: the pass over a text that gives its tokens.
 
 ghost use Rattle.std.specs.Prelude.{◌≡◌, ◌+◌, ◌<◌, ◌≤◌, ◌^◌, ◌++◌, IfOk, IfSome, OnOk, drop, length, map, option_to_list};
 ghost use Rattle.std.specs.Option.{option_map};
-ghost use Rattle.nd_model.specs.Lexing.{after_blank, after_newline, after_word, ahead, at_first, comment_length, depth_after, ended, ended_by_newline, piece_at, token_here, tokens};
+ghost use Rattle.nd_model.specs.Grammar.Lexing.{after_blank, after_newline, after_word, ahead, at_first, comment_length, depth_after, ended, ended_by_newline, piece_at, token_here, tokens};
 ghost use Rattle.nd_token.specs.States.{piece_of, place_of, size_of, state_of};
 ghost use Rattle.nd_token.specs.Tokens.{token_of, tokens_of, word_of};
 
@@ -10,7 +10,8 @@ use crate::token::{BadToken, Token, Word};
 use crate::word::{bytes_from, word_at};
 use std::alloc::{AllocError, Global};
 
-// What stands at the front of a text: bytes that separate tokens, a newline, or a token, with how many bytes it has.
+// The front of a text: bytes that separate tokens, a newline, or a token, with the number of its
+// bytes.
 #[derive(Clone, Copy)]
 enum Piece<'a> {
     Blank(usize),
@@ -25,14 +26,14 @@ struct Place {
     column: usize,
 }
 
-// Where the reading stands.
+// The state of the pass.
 #[derive(Clone, Copy)]
 struct State {
-    // The place of the next byte.
+    // the line and column of the next byte
     here: Place,
-    // How many brackets are open.
+    // how many brackets are open
     depth: usize,
-    // The place behind the last token of the statement; none before its first.
+    // where the statement's last token ends, `None` before its first
     behind: Option<Place>,
 }
 
@@ -48,7 +49,7 @@ impl Place {
     }
 }
 
-// How many brackets are open behind the word.
+// The number of brackets that are open behind the word.
 fn depth_after(word: &Word, depth: usize) -> usize
     requires { depth + 1 < 2 ^ 64 }
     ensures { result ≡ depth_after (word_of word.now) depth }
@@ -61,7 +62,7 @@ fn depth_after(word: &Word, depth: usize) -> usize
 }
 
 impl State {
-    // At the first byte of a text.
+    // The state before the first byte of a text.
     fn first() -> State
         ensures { state_of result ≡ at_first }
     {
@@ -72,7 +73,7 @@ impl State {
         }
     }
 
-    // After this many bytes that separate tokens.
+    // The state behind `count` bytes that separate tokens.
     fn after_blank(self, count: usize) -> State
         requires { self.here.column + count < 2 ^ 64 }
         ensures { state_of result ≡ after_blank count (state_of self) }
@@ -140,15 +141,15 @@ impl State {
     }
 }
 
-// How many bytes a comment has: it goes on up to the line's end.
+// The number of bytes of a comment, which ends with its line.
 fn comment_length(text: &[u8]) -> usize
     ensures { result ≡ comment_length text.now }
 {
     text.iter().take_while(|byte| **byte != b'\n').count()
 }
 
-// What stands at this place of the text.
-#[tactic(auto, unfolding(nd_model::specs::Lexing::piece_at))]
+// The piece at this index of the text.
+#[tactic(auto, unfolding(nd_model::specs::Grammar::Lexing::piece_at))]
 fn piece_at(text: &str, at: usize) -> Option<Piece<'_>>
     requires { at < length text.now }
     ensures value { option_map piece_of result ≡ piece_at (drop at text.now) }
@@ -179,7 +180,8 @@ fn push_end<'a>(tokens: &mut Vec<Token<'a>>, end: Option<Token<'a>>) -> Result<(
     Ok(())
 }
 
-/// The tokens of a text, each statement with its end, or the first place that is no token.
+/// Returns the tokens of a text, each statement with its end, or the first byte that begins no
+/// token. Brackets join lines.
 pub fn tokens<'a>(
     alloc: Global,
     text: &'a str,

@@ -1,11 +1,12 @@
+//! `symbol_at`: operators and brackets, of which the longest one is taken.
 ghost use Rattle.std.specs.Prelude.{◌≡◌, map};
 ghost use Rattle.std.specs.Option.{option_map};
-ghost use Rattle.nd_model.specs.Lexing.{first_of, symbol_at};
+ghost use Rattle.nd_model.specs.Grammar.Lexing.{first_of, symbol_at};
 ghost use Rattle.nd_token.specs.Tokens.{entry, lexed};
 
 use crate::token::Word;
 
-// The longer ones come first.
+// All symbols, the longer ones first.
 static SYMBOLS: [(&[u8], Word<'static>); 43] = [
     (b"**=", Word::DoubleStarEqual),
     (b"//=", Word::DoubleSlashEqual),
@@ -52,7 +53,7 @@ static SYMBOLS: [(&[u8], Word<'static>); 43] = [
     (b"@", Word::At),
 ];
 
-// The first of these symbols that stands at the front of the text, and how many bytes it has.
+// The first of these symbols that begins the text, and the number of its bytes.
 fn first_of(symbols: &[(&[u8], Word<'static>)], text: &[u8]) -> Option<(Word<'static>, usize)>
     ensures { option_map lexed result ≡ first_of (map entry symbols.now) text.now }
 {
@@ -64,8 +65,8 @@ fn first_of(symbols: &[(&[u8], Word<'static>)], text: &[u8]) -> Option<(Word<'st
     None
 }
 
-#[tactic(auto, unfolding(nd_model::specs::Lexing::symbols))]
-/// The longest symbol at the front of the text, and how many bytes it has.
+#[tactic(auto, unfolding(nd_model::specs::Grammar::Lexing::symbols))]
+/// Returns the longest symbol that begins the text, and the number of its bytes.
 pub(crate) fn symbol_at(text: &[u8]) -> Option<(Word<'static>, usize)>
     ensures { option_map lexed result ≡ symbol_at text.now }
 {

@@ -1,3 +1,5 @@
+//! `Token`: a word of a cell's text and where it begins.
+
 /// What a token is.
 #[derive(Clone, Copy, Debug)]
 pub enum Word<'a> {
@@ -106,7 +108,8 @@ pub enum Word<'a> {
     End,
 }
 
-/// A token with its place: line and column in bytes, both from 1. The end of a statement stands just behind its last token.
+/// A token, and where it begins: line and column in bytes, both from 1. The end of a statement lies
+/// just behind its last token.
 #[derive(Clone, Copy)]
 pub struct Token<'a> {
     pub word: Word<'a>,
@@ -116,7 +119,7 @@ pub struct Token<'a> {
     pub starts: bool,
 }
 
-/// The first place of a text that is no token: line and column in bytes, both from 1.
+/// The first byte of a text that begins no token: its line and column in bytes, both from 1.
 #[derive(Clone, Copy)]
 pub struct BadToken {
     pub line: usize,

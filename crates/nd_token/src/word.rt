@@ -1,11 +1,11 @@
-//! Names, numbers and texts in quotes.
+//! `word_at`: names, numbers and quoted texts among the tokens of a cell.
 
 ghost use Rattle.std.specs.Prelude.{◌≡◌, ℕ, ◌+◌, ◌<◌, ◌≤◌, IsTrue, drop, length, slice_index, take};
 ghost use Rattle.std.specs.Char.{is_ascii_digit};
 ghost use Rattle.std.specs.List.{prefix_len};
 ghost use Rattle.std.specs.Option.{option_map};
 ghost use Rattle.std.specs.Str.{IsCharBoundary};
-ghost use Rattle.nd_model.specs.Lexing.{begins_name, integer_of, is_keyword, is_name_byte, is_plain, is_quotable, is_quote, joins_number, name_at, number_at, quoted_at, word_at, word_of_name};
+ghost use Rattle.nd_model.specs.Grammar.Lexing.{begins_name, integer_of, is_keyword, is_name_byte, is_plain, is_quotable, is_quote, joins_number, name_at, number_at, quoted_at, word_at, word_of_name};
 ghost use Rattle.nd_token.specs.Tokens.{lexed, word_of};
 
 use crate::symbol::symbol_at;
@@ -34,7 +34,7 @@ fn is_name_byte(byte: u8) -> bool
     begins_name(byte) || byte.is_ascii_digit()
 }
 
-// No number ends before this byte.
+// Whether a byte may not follow a number at once, as a letter.
 fn joins_number(byte: u8) -> bool
     ensures { result ≡ joins_number byte }
 {
@@ -47,14 +47,14 @@ fn is_quote(byte: u8) -> bool
     byte == b'"' || byte == b'\''
 }
 
-// The byte may stand between two of this quote.
+// Whether a byte may stand between two of this quote.
 fn is_quotable(quote: u8, byte: u8) -> bool
     ensures { result ≡ is_quotable quote byte }
 {
     byte != quote && byte != b'\\' && byte != b'\n'
 }
 
-/// The bytes of a text from this place on.
+/// Returns the bytes of a text from an index on.
 pub(crate) fn bytes_from(text: &str, at: usize) -> &[u8]
     requires { at ≤ length text.now }
     ensures { result.now ≡ drop at text.now }
@@ -62,7 +62,7 @@ pub(crate) fn bytes_from(text: &str, at: usize) -> &[u8]
     &text.as_bytes()[at..]
 }
 
-// The part of a text from this place on that has this many bytes.
+// The part of a text of `count` bytes from an index on.
 fn part(text: &str, at: usize, count: usize) -> &str
     requires in_text { at + count ≤ length text.now }
     requires begins { IsCharBoundary text.now at }
@@ -72,7 +72,7 @@ fn part(text: &str, at: usize, count: usize) -> &str
     &text[at..at + count]
 }
 
-// How many bytes of a name stand at the front.
+// The length of the name that begins the text.
 #[tactic(auto, using(crate::proofs::Runs::runs))]
 fn name_length(text: &[u8]) -> usize
     ensures value { result ≡ prefix_len is_name_byte text.now }
@@ -81,7 +81,7 @@ fn name_length(text: &[u8]) -> usize
     text.iter().take_while(|byte| is_name_byte(**byte)).count()
 }
 
-// How many digits stand at the front.
+// The number of digits that begin the text.
 #[tactic(auto, using(crate::proofs::Runs::runs))]
 fn digit_count(text: &[u8]) -> usize
     ensures value { result ≡ prefix_len is_ascii_digit text.now }
@@ -90,7 +90,7 @@ fn digit_count(text: &[u8]) -> usize
     text.iter().take_while(|byte| byte.is_ascii_digit()).count()
 }
 
-// How many bytes at the front may stand between two of this quote.
+// The number of first bytes that may stand between two of this quote.
 #[tactic(auto, using(crate::proofs::Runs::runs))]
 fn quotable_length(quote: u8, text: &[u8]) -> usize
     ensures value { result ≡ prefix_len (is_quotable quote) text.now }
@@ -101,14 +101,14 @@ fn quotable_length(quote: u8, text: &[u8]) -> usize
         .count()
 }
 
-#[tactic(auto, unfolding(nd_model::specs::Lexing::keywords))]
+#[tactic(auto, unfolding(nd_model::specs::Grammar::Lexing::keywords))]
 fn is_keyword(name: &str) -> bool
     ensures { result ≡ is_keyword name.now }
 {
     KEYWORDS.contains(&name)
 }
 
-// The word of a name.
+// The word of a name: reserved, a keyword, or neither.
 fn word_of_name(name: &str) -> Word<'_>
     ensures { word_of result ≡ word_of_name name.now }
 {
@@ -124,7 +124,7 @@ fn word_of_name(name: &str) -> Word<'_>
     }
 }
 
-// The name at this place, and how many bytes it has.
+// The name at this index, and the number of its bytes.
 fn name_at(text: &str, at: usize) -> Option<(Word<'_>, usize)>
     requires in_text { at < length text.now }
     requires begins { IsTrue (begins_name (slice_index text.now at)) }
@@ -137,7 +137,7 @@ fn name_at(text: &str, at: usize) -> Option<(Word<'_>, usize)>
     Some((word_of_name(part(text, at, length)), length))
 }
 
-// The digits are `0`, or the first one is another.
+// Whether digits are `0`, or begin with another digit.
 fn is_plain(digits: &str) -> bool
     requires { 0 < length digits.now }
     ensures { result ≡ is_plain digits.now }
@@ -145,7 +145,7 @@ fn is_plain(digits: &str) -> bool
     digits.len() == 1 || digits.as_bytes()[0] != b'0'
 }
 
-// The integer that digits write. Zeros in front and a number that does not fit are refused.
+// The integer that digits write, or `None` for leading zeros and numbers above 64 bits.
 fn integer_of(digits: &str) -> Option<u64>
     requires some { 0 < length digits.now }
     requires digits { (k : ℕ) → k < length digits.now
@@ -159,7 +159,7 @@ fn integer_of(digits: &str) -> Option<u64>
     }
 }
 
-// The number at this place, and how many bytes it has.
+// The number at this index, and the number of its bytes.
 fn number_at(text: &str, at: usize) -> Option<(Word<'_>, usize)>
     requires in_text { at < length text.now }
     requires begins { IsTrue (is_ascii_digit (slice_index text.now at)) }
@@ -175,7 +175,7 @@ fn number_at(text: &str, at: usize) -> Option<(Word<'_>, usize)>
     Some((Word::Integer(value), length))
 }
 
-// The text in quotes whose first quote stands at this place, and how many bytes it has with its quotes.
+// The quoted text whose first quote has this index, and the number of its bytes with both quotes.
 fn quoted_at(text: &str, at: usize) -> Option<(Word<'_>, usize)>
     requires in_text { at < length text.now }
     requires begins { IsTrue (is_quote (slice_index text.now at)) }
@@ -193,8 +193,9 @@ fn quoted_at(text: &str, at: usize) -> Option<(Word<'_>, usize)>
     }
 }
 
-/// The longest token that begins at this place, and how many bytes it has. `None`: no token begins here.
-#[tactic(auto, unfolding(nd_model::specs::Lexing::word_at))]
+/// Returns the longest token at this index, and the number of its bytes. `None` where no token
+/// begins here.
+#[tactic(auto, unfolding(nd_model::specs::Grammar::Lexing::word_at))]
 pub(crate) fn word_at(text: &str, at: usize) -> Option<(Word<'_>, usize)>
     requires { at < length text.now }
     ensures { option_map lexed result ≡ word_at (drop at text.now) }

@@ -3,12 +3,12 @@ use Rattle.std.proofs.Common.{◌≡◌, ℕ, Bool, true, false, not, ◌&&◌, 
 use mathlib.Core.Path.{fun_ext}
 use Rattle.std.proofs.lemmas.Bool.{cases_Bool}
 use Rattle.std.proofs.lemmas.Bool.Decides.{nat_tests}
-use Rattle.nd_model.specs.Value.{Base, same_base}
-use Rattle.nd_model.specs.Session as model
-use Rattle.nd_model.specs.Running.{Key, Name, Input, Length, Byte}
-use Rattle.nd_model.specs.Running as running
+use Rattle.nd_model.specs.Arrays.Value.{Base, same_base}
+use Rattle.nd_model.specs.Cells.Session as model
+use Rattle.nd_model.specs.Cells.Running.{Key, Name, Input, Length, Byte}
+use Rattle.nd_model.specs.Cells.Running as running
 use Rattle.nd_marks.specs.Marks.{Places}
-use Rattle.nd_model.specs.Storing.{having_written}
+use Rattle.nd_model.specs.Cells.Storing.{having_written}
 use Rattle.nd_heap.specs.Live.{is_base_among}
 use Rattle.nd_trace.specs.Marked.{is_among, is_marked, is_read}
 use Rattle.nd_heap.proofs.Same.{same_bases, same_bytes}

@@ -4,7 +4,7 @@ use Rattle.std.specs.Prelude.{unwrap_or}
 use Rattle.std.specs.List.{refill}
 use Rattle.std.proofs.lemmas.List.{ext_get_or, drop_all, take_all}
 use Rattle.nd_marks.specs.Marks.{Places, holds}
-use Rattle.nd_model.specs.Footprint.{patched}
+use Rattle.nd_model.specs.Cells.Footprint.{patched}
 use Rattle.nd_trace.specs.Patching.{marked_of, length-patched}
 
 get_or-patched : (w : ℕ → Option ℕ) (xs : List ℕ) (p : ℕ) → p < length xs → slice_index (patched w xs) p ≡ unwrap_or (w p) (slice_index xs p)

@@ -5,8 +5,8 @@ use Rattle.indexmap.specs.IndexMap.{insert_entry}
 use Rattle.std.proofs.lemmas.Bool.{cases_Bool, and_parts}
 use Rattle.std.proofs.lemmas.Bool.Decides.{nat_tests}
 use Rattle.nd_marks.specs.Marks.{Places, holds}
-use Rattle.nd_model.specs.Value as model
-use Rattle.nd_model.specs.Session.{is_in}
+use Rattle.nd_model.specs.Arrays.Value as model
+use Rattle.nd_model.specs.Cells.Session.{is_in}
 use Rattle.nd_heap.specs.declared.value.Base.{Base}
 use Rattle.nd_heap.specs.Values.{base_of}
 use Rattle.nd_trace.specs.Contents.{marks_of}

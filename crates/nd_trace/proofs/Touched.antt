@@ -7,7 +7,7 @@ use Rattle.std.proofs.lemmas.Bool.{cases_Bool}
 use Rattle.std.proofs.lemmas.List.{map-append}
 use Rattle.std.proofs.lemmas.List.Folds.{list_any-append}
 use Rattle.indexmap.specs.IndexSet.{insert_key}
-use Rattle.nd_model.specs.Running as running
+use Rattle.nd_model.specs.Cells.Running as running
 use Rattle.nd_trace.specs.declared.trace.Event.{Event}
 use Rattle.nd_trace.specs.Events.{event_of, name_of_event}
 use Rattle.nd_heap.proofs.NameLists.{name_eq}

@@ -8,11 +8,11 @@ use Rattle.std.proofs.lemmas.List.{map-append}
 use Rattle.std.proofs.lemmas.Slice.Eq.{bytes_eq-Decides}
 use Rattle.indexmap.specs.IndexSet.{insert_key}
 use Rattle.nd_marks.specs.Marks.{Places}
-use Rattle.nd_model.specs.Session.{is_in}
-use Rattle.nd_model.specs.Session as session
-use Rattle.nd_model.specs.Value as model
-use Rattle.nd_model.specs.Running.{Key, Name, Input, Length, Byte}
-use Rattle.nd_model.specs.Running as running
+use Rattle.nd_model.specs.Cells.Session.{is_in}
+use Rattle.nd_model.specs.Cells.Session as session
+use Rattle.nd_model.specs.Arrays.Value as model
+use Rattle.nd_model.specs.Cells.Running.{Key, Name, Input, Length, Byte}
+use Rattle.nd_model.specs.Cells.Running as running
 use Rattle.nd_heap.specs.declared.value.Base.{Base}
 use Rattle.nd_heap.specs.Values.{base_of}
 use Rattle.nd_trace.specs.Seen.{Seen}

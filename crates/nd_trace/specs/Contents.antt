@@ -1,6 +1,6 @@
 -- What maps of marks hold.
 use Rattle.std.specs.Prelude.{List, [], ◌∷◌}
-use Rattle.nd_model.specs.Value as model
+use Rattle.nd_model.specs.Arrays.Value as model
 use Rattle.nd_marks.specs.Marks.{Places}
 use Rattle.nd_heap.specs.declared.value.Base.{Base}
 use Rattle.nd_heap.specs.Values.{base_of}

@@ -2,7 +2,7 @@
 use Rattle.std.specs.Prelude.{◌≡◌, ℕ, Bool, true, false, List, bytes_eq, map, string_bytes}
 use Rattle.std.specs.Rc.{rc_str_bytes}
 use Rattle.std.specs.List.{list_any}
-use Rattle.nd_model.specs.Running as running
+use Rattle.nd_model.specs.Cells.Running as running
 use Rattle.nd_trace.specs.declared.trace.Event.{Event}
 use Rattle.nd_trace.specs.declared.trace.Event.TheVariants.{Binds, Unbinds}
 use Rattle.nd_trace.specs.declared.trace.Trace.TheInside.{Inside}

@@ -1,7 +1,7 @@
 -- What is marked in several bases, and which keys are read.
 use Rattle.std.specs.Prelude.{ℕ, Bool, false, ◌||◌, bytes_eq, List, [], ◌∷◌, if◌then◌else◌}
-use Rattle.nd_model.specs.Value.{Base, same_base}
-use Rattle.nd_model.specs.Running.{Key, Name, Input, Length, Byte}
+use Rattle.nd_model.specs.Arrays.Value.{Base, same_base}
+use Rattle.nd_model.specs.Cells.Running.{Key, Name, Input, Length, Byte}
 use Rattle.nd_marks.specs.Marks.{Places, holds}
 use Rattle.nd_heap.specs.Live.{is_base_among}
 

@@ -1,8 +1,8 @@
 -- The bytes at marked places, put in the place of others.
 use Rattle.std.specs.Prelude.{◌≡◌, ℕ, suc, Bool, false, ◌||◌, List, [], ◌∷◌, length, Option, Some, None, slice_index, if◌then◌else◌}
 use Rattle.std.proofs.Common.{refl, ap}
-use Rattle.nd_model.specs.Value.{Base, same_base}
-use Rattle.nd_model.specs.Footprint.{patched}
+use Rattle.nd_model.specs.Arrays.Value.{Base, same_base}
+use Rattle.nd_model.specs.Cells.Footprint.{patched}
 use Rattle.nd_marks.specs.Marks.{Places, holds}
 use Rattle.nd_trace.specs.Marked.{is_marked}
 

@@ -1,7 +1,7 @@
 -- What contracts see of a trace: what the running cell has read and done, as lists.
 use Rattle.std.specs.Prelude.{ℕ, Bool, List, [], ◌∷◌, ◌++◌}
-use Rattle.nd_model.specs.Value.{Base}
-use Rattle.nd_model.specs.Running.{Running, Key, Event}
+use Rattle.nd_model.specs.Arrays.Value.{Base}
+use Rattle.nd_model.specs.Cells.Running.{Running, Key, Event}
 use Rattle.nd_marks.specs.Marks.{Places}
 use Rattle.nd_trace.specs.Marked.{is_marked, is_read}
 

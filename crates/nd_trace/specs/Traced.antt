@@ -1,6 +1,6 @@
 -- What a trace alone stands for.
 use Rattle.std.specs.Prelude.{[]}
-use Rattle.nd_model.specs.Running.{Running}
+use Rattle.nd_model.specs.Cells.Running.{Running}
 use Rattle.nd_heap.specs.Live.{bytes_at}
 use Rattle.nd_trace.specs.Marked.{is_marked, is_read}
 use Rattle.nd_trace.specs.Seen.{Seen}

@@ -1,4 +1,5 @@
-//! What a running cell has read and done: its trace, and the marked places of several bases.
+//! What a running cell has read and done: its [`Trace`], and marked bytes of several blocks, a
+//! [`Footprint`].
 #![tactic(auto)]
 
 mod marking;

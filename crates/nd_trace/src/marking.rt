@@ -1,12 +1,12 @@
-// The marked places of several blocks.
+//! `Footprint`: the marked byte offsets of several blocks.
 
 ghost use Rattle.std.specs.Prelude.{◌≡◌, ℕ, ◌+◌, ◌≤◌, ◌^◌, ◌||◌, ◌&&◌, not, false, IfOk, OnOk};
 ghost use Rattle.std.specs.List.{All, flat_map};
 ghost use Rattle.nd_marks.specs.Marks.{holds};
-ghost use Rattle.nd_model.specs.Session.{is_in};
-ghost use Rattle.nd_model.specs.Value as values;
-ghost use Rattle.nd_model.specs.Value.{same_base};
-ghost use Rattle.nd_model.specs.View.{item_size, byte_places, element_places};
+ghost use Rattle.nd_model.specs.Cells.Session.{is_in};
+ghost use Rattle.nd_model.specs.Arrays.Value as values;
+ghost use Rattle.nd_model.specs.Arrays.Value.{same_base};
+ghost use Rattle.nd_model.specs.Arrays.View.{item_size, byte_places, element_places};
 ghost use Rattle.nd_types.specs.Types.{type_of};
 ghost use Rattle.nd_heap.specs.Values.{base_of};
 ghost use Rattle.nd_trace.specs.Contents.{marks_of};
@@ -20,13 +20,13 @@ use nd_types::ElemType;
 use nd_view::View;
 use std::alloc::{AllocError, Global};
 
-// How many places are found at a time.
+// How many byte offsets are worked out at a time.
 const MANY: usize = 512;
 
-/// A set of places for each base. A base without one has no place in it.
+/// A set of byte offsets for each block. A block without an entry has no marks.
 pub type Footprint = IndexMap<Base, Marks>;
 
-/// Whether the place of the base is marked.
+/// Returns whether a byte of a block is marked.
 pub(crate) fn has_mark(marked: &Footprint, base: Base, place: u64) -> bool
     ensures { result ≡ is_marked (marks_of marked.now.entries) (base_of base) place }
 {
@@ -36,7 +36,7 @@ pub(crate) fn has_mark(marked: &Footprint, base: Base, place: u64) -> bool
     }
 }
 
-/// The marks of a base, where there are any, and else those of no place.
+/// Returns the marks of a block, or `nothing` where it has none.
 pub(crate) fn marks_in<'a>(marked: &'a Footprint, base: Base, nothing: &'a Marks) -> &'a Marks
     requires { (p : ℕ) → holds nothing.now p ≡ false }
     ensures { (p : ℕ)
@@ -48,7 +48,7 @@ pub(crate) fn marks_in<'a>(marked: &'a Footprint, base: Base, nothing: &'a Marks
     }
 }
 
-/// Takes out the marks of a base, which the caller puts back.
+/// Takes out the marks of a block, which the caller puts back.
 fn take_marks(alloc: Global, marked: &mut Footprint, base: Base) -> Result<Marks, OutOfMemory>
     ensures marks { IfOk result (λ m. (p : ℕ)
         → holds m p ≡ is_marked (marks_of marked.old.entries) (base_of base) p) }
@@ -62,7 +62,7 @@ fn take_marks(alloc: Global, marked: &mut Footprint, base: Base) -> Result<Marks
     }
 }
 
-/// Marks the bytes of all elements of a view, but for those of the other set.
+/// Marks the bytes of all elements of a view, except those of the other set.
 pub(crate) fn mark_view(
     alloc: Global,
     marked: &mut Footprint,
@@ -81,7 +81,7 @@ pub(crate) fn mark_view(
     Ok(())
 }
 
-/// Marks the bytes of the element that begins at the place, but for those of the other set.
+/// Marks the bytes of the element at byte offset `place`, except those of the other set.
 pub(crate) fn mark_element(
     alloc: Global,
     marked: &mut Footprint,
@@ -102,8 +102,8 @@ pub(crate) fn mark_element(
     Ok(())
 }
 
-// Adds the bytes of the elements that begin at these places to a set, but for those of the other one, some at a time as the places
-// are found.
+// Adds the bytes of the elements at these byte offsets to a set, except those of the other one, a
+// part at a time.
 fn mark_places(
     marks: &mut Marks,
     elem: &ElemType,
@@ -123,7 +123,7 @@ fn mark_places(
     Ok(())
 }
 
-/// Marks the bytes of the elements that begin at these places, but for those of the other set.
+/// Marks the bytes of the elements at these byte offsets, except those of the other set.
 pub(crate) fn mark_elements(
     alloc: Global,
     marked: &mut Footprint,

@@ -1,19 +1,19 @@
-// What the running cell has read and done.
+//! `Trace`: what the running cell has read and done, recorded for its replay.
 
 ghost use Rattle.std.specs.Prelude.{◌≡◌, ◌+◌, ◌≤◌, ◌^◌, IfOk, IsTrue, OnOk, Some, bytes_eq, map, option_map, slice_get, string_bytes};
 ghost use Rattle.std.specs.List.{All, IsDistinct, flat_map};
 ghost use Rattle.std.specs.Rc.{rc_str_bytes};
-ghost use Rattle.nd_model.specs.Running as running;
-ghost use Rattle.nd_model.specs.Session as model;
-ghost use Rattle.nd_model.specs.Value.{same_base};
-ghost use Rattle.nd_model.specs.View.{item_size, byte_places, element_places};
+ghost use Rattle.nd_model.specs.Cells.Running as running;
+ghost use Rattle.nd_model.specs.Cells.Session as model;
+ghost use Rattle.nd_model.specs.Arrays.Value.{same_base};
+ghost use Rattle.nd_model.specs.Arrays.View.{item_size, byte_places, element_places};
 ghost use Rattle.nd_types.specs.Types.{type_of};
 ghost use Rattle.nd_heap.specs.Values.{base_of, geo_of, value_of};
 ghost use Rattle.nd_trace.specs.Contents.{marks_of};
 ghost use Rattle.nd_trace.specs.Events.{binds, event_of, name_of_event};
 ghost use Rattle.nd_trace.specs.Traced.{trace_of};
 ghost use Rattle.nd_trace.specs.Seen.{names_read, inputs_read, bases_read, is_used, is_written};
-ghost use Rattle.nd_model.specs.Storing.{having_written};
+ghost use Rattle.nd_model.specs.Cells.Storing.{having_written};
 ghost use Rattle.nd_trace.specs.Seen.{having_event};
 
 use crate::marking::{Footprint, has_mark, mark_element, mark_elements, mark_view, marks_in};
@@ -51,7 +51,7 @@ impl Event {
         matches!(self, Event::Binds(_, _))
     }
 
-    /// Whether both bind, or both unbind, the same name, to the same value.
+    /// Returns true only where both bind, or both unbind, the same name, to the same value.
     pub fn is_same(&self, other: &Event) -> bool
         ensures { IsTrue result → event_of self.now ≡ event_of other.now }
     {
@@ -66,7 +66,7 @@ impl Event {
         }
     }
 
-    /// The same event, which shares the name and the value.
+    /// Returns an equal event, which shares the name and the value.
     pub fn try_clone(&self) -> Result<Event, OutOfMemory>
         ensures { IfOk result (λ e. event_of e ≡ event_of self.now) }
     {
@@ -77,9 +77,11 @@ impl Event {
     }
 }
 
-/// The running cell's label, and what it has read and done: the names that it looked up and the inputs that it asked for, the
-/// bases whose length it read, and the bytes that it used and wrote. No byte of a base of its own is noted as used, and no name
-/// that it bound or unbound before as looked up. The names of the events are kept as a set too.
+/// What the running cell has read and done: names looked up, inputs asked for, blocks whose length
+/// it read, bytes that it used and wrote, and bindings.
+///
+/// Only what other cells left counts as read: no byte of a block of its own, and no name that it
+/// bound or unbound before.
 #[derive(Drop)]
 pub struct Trace {
     label: u64,
@@ -105,7 +107,7 @@ impl Model for Trace {
 }
 
 impl Trace {
-    /// The trace of a cell of this label that has read and done nothing.
+    /// Returns the trace of a cell of this label that has read and done nothing.
     pub fn new(alloc: Global, label: u64) -> Trace
         ensures { trace_of result ≡ running.start label model.no_session }
     {
@@ -128,7 +130,8 @@ impl Trace {
         self.label
     }
 
-    /// The name at this place in the order in which names were first looked up, none past the last.
+    /// Returns the name at this position in the order in which names were first looked up, `None`
+    /// past the last.
     pub fn name(&self, i: usize) -> Option<&str>
         ensures name { option_map (λ n. n.now) result ≡ slice_get (names_read self.now) i }
         ensures once { IsDistinct bytes_eq (names_read self.now) }
@@ -139,7 +142,8 @@ impl Trace {
         }
     }
 
-    /// The input at this place in the order in which inputs were first asked for, none past the last.
+    /// Returns the input at this position in the order in which inputs were first asked for, `None`
+    /// past the last.
     pub fn input(&self, i: usize) -> Option<&str>
         ensures name { option_map (λ n. n.now) result ≡ slice_get (inputs_read self.now) i }
         ensures once { IsDistinct bytes_eq (inputs_read self.now) }
@@ -150,8 +154,9 @@ impl Trace {
         }
     }
 
-    /// The base at this place in the order in which the lengths of bases were first read, none past the last: those that a value
-    /// that was looked up lies in, or that were written, but for the running cell's own.
+    /// Returns the block at this position in the order in which lengths were first read, `None`
+    /// past the last. Such blocks hold a value that was looked up, or were written; the cell's own
+    /// are left out.
     pub fn base(&self, i: usize) -> Option<Base>
         ensures base { option_map base_of result ≡ slice_get (bases_read self.now) i }
         ensures once { IsDistinct same_base (bases_read self.now) }
@@ -162,21 +167,21 @@ impl Trace {
         }
     }
 
-    /// The binding or unbinding at this place in their order, none past the last.
+    /// Returns the binding or unbinding at this position in their order, `None` past the last.
     pub fn event(&self, i: usize) -> Option<&Event>
         ensures { option_map (λ e. event_of e.now) result ≡ slice_get self.now.events i }
     {
         self.events.get(i)
     }
 
-    /// The bindings and unbindings in their order.
+    /// Returns the bindings and unbindings in their order.
     pub fn events(&self) -> &[Event]
         ensures { map event_of result.now ≡ self.now.events }
     {
         &self.events
     }
 
-    /// Whether the byte was read as another cell had left it.
+    /// Returns whether the byte was read as another cell had left it.
     pub fn is_used(&self, base: Base, place: u64) -> bool
         ensures { result ≡ is_used self.now (base_of base) place }
     {
@@ -204,7 +209,7 @@ impl Trace {
         self.asked.as_slice()
     }
 
-    /// The bases in the order in which their lengths were first read.
+    /// Returns the blocks in the order in which their lengths were first read.
     pub fn bases(&self) -> &[Base]
         ensures { map base_of result.now ≡ bases_read self.now }
     {
@@ -266,7 +271,7 @@ impl Trace {
         Ok(())
     }
 
-    /// Notes that the length of a base is read.
+    /// Notes that the length of a block is read.
     pub fn note_length(&mut self, base: Base) -> Result<(), OutOfMemory>
         ensures after { OnOk result (trace_of self.new
             ≡ running.having_read (running.is_length (base_of base)) (trace_of self.old)) }
@@ -279,7 +284,7 @@ impl Trace {
         Ok(())
     }
 
-    /// Notes that the length of the block is read that the value lies in, if it lies in one.
+    /// Notes that the length of a value's block is read, if it lies in one.
     pub fn note_length_of(&mut self, value: &Value) -> Result<(), OutOfMemory>
         ensures after { OnOk result (trace_of self.new
             ≡ running.having_read (running.is_length_of (Some (value_of value.now)))
@@ -309,7 +314,7 @@ impl Trace {
         Ok(())
     }
 
-    /// Notes that the element is read that begins at the place.
+    /// Notes that the element at byte offset `place` is read.
     pub fn note_element(
         &mut self,
         alloc: Global,
@@ -332,7 +337,7 @@ impl Trace {
         Ok(())
     }
 
-    /// Notes that the elements are read that begin at these places.
+    /// Notes that the elements at these byte offsets are read.
     pub fn note_elements(
         &mut self,
         alloc: Global,
@@ -368,7 +373,7 @@ impl Trace {
         Ok(())
     }
 
-    /// Notes that the element is written that begins at the place.
+    /// Notes that the element at byte offset `place` is written.
     pub fn write_element(
         &mut self,
         alloc: Global,
@@ -388,7 +393,7 @@ impl Trace {
         Ok(())
     }
 
-    /// Notes that the elements are written that begin at these places.
+    /// Notes that the elements at these byte offsets are written.
     pub fn write_elements(
         &mut self,
         alloc: Global,

@@ -1,4 +1,4 @@
-// Bytes that are written to a block where places are marked.
+//! `MarkedBytes`: bytes that are written to a block at marked byte offsets.
 
 ghost use Rattle.std.specs.Prelude.{◌≡◌, ℕ, List, length};
 
@@ -6,7 +6,7 @@ use nd_block::RawBlock;
 use nd_heap::BlockWriter;
 use nd_marks::Marks;
 
-/// The bytes at the marked places.
+/// Bytes that replace those at the marked byte offsets of a block.
 #[derive(Drop)]
 pub struct MarkedBytes<'b> {
     pub marks: &'b Marks,
@@ -14,7 +14,7 @@ pub struct MarkedBytes<'b> {
 }
 
 impl<'b> BlockWriter for MarkedBytes<'b> {
-    ghost use Rattle.nd_model.specs.Footprint.{patched};
+    ghost use Rattle.nd_model.specs.Cells.Footprint.{patched};
     ghost use Rattle.nd_trace.specs.Patching.{length-patched, marked_of};
 
     ghost written = { λ w bytes. patched (marked_of w.marks.now w.source.now) bytes };

@@ -1,7 +1,7 @@
 -- A kind that does not have both ranges is passed over.
 use Rattle.std.proofs.Common.{◌≡◌, ◌&&◌, ℕ, zero, suc, ◌<◌, false, List, [], ◌∷◌, length, map, drop, get_or, refl, arith}
-use Rattle.nd_model.specs.Element as element
-use Rattle.nd_model.specs.Promotion.{first_for, has_range_of}
+use Rattle.nd_model.specs.Arrays.Element as element
+use Rattle.nd_model.specs.Arrays.Promotion.{first_for, has_range_of}
 use Rattle.nd_types.specs.Kinds.{kind_of}
 use Rattle.nd_types.specs.declared.kind.Kind.{Kind}
 

@@ -1,6 +1,6 @@
 -- Which fields of the definitions the fields of the code are.
 use Rattle.std.specs.Prelude.{List, map, string_bytes}
-use Rattle.nd_model.specs.View as view
+use Rattle.nd_model.specs.Arrays.View as view
 use Rattle.nd_types.specs.declared.field.Field.{Field}
 
 abbrev pub field_of : Field → view.Field

@@ -1,6 +1,6 @@
 -- Which kind of the definitions a kind of the code is.
 use Rattle.std.specs.Prelude.{◌≡◌, refl}
-use Rattle.nd_model.specs.Element as element
+use Rattle.nd_model.specs.Arrays.Element as element
 use Rattle.nd_types.specs.declared.kind.Kind.{Kind}
 use Rattle.nd_types.specs.declared.kind.Kind.TheVariants as kind
 

@@ -1,7 +1,7 @@
 -- The tables of kinds.
 use Rattle.std.specs.Prelude.{ℕ, List}
 use Rattle.std.specs.Borrow.{Bor}
-use Rattle.nd_model.specs.Element as element
+use Rattle.nd_model.specs.Arrays.Element as element
 use Rattle.nd_types.specs.declared.kind.Kind.{Kind}
 use Rattle.nd_types.specs.Kinds.{kind_of}
 

@@ -1,6 +1,6 @@
 -- What the types of the code stand for among the definitions.
-use Rattle.nd_model.specs.Element as element
-use Rattle.nd_model.specs.View as view
+use Rattle.nd_model.specs.Arrays.Element as element
+use Rattle.nd_model.specs.Arrays.View as view
 use Rattle.std.specs.Prelude.{Option, Some, None, Result, Ok, Err}
 use Rattle.nd_types.specs.declared.kind.Kind.{Kind}
 use Rattle.nd_types.specs.declared.types.ElemType.{ElemType}

@@ -1,7 +1,7 @@
-//! Kinds by their names, and elements by array-protocol type strings.
+//! `kind_named` and `parse_descr`: kinds by name, and dtypes by array-protocol type strings.
 ghost use Rattle.std.specs.Prelude.{◌≡◌, None, map, option_map};
-ghost use Rattle.nd_model.specs.Session as session;
-ghost use Rattle.nd_model.specs.Types as model;
+ghost use Rattle.nd_model.specs.Cells.Session as session;
+ghost use Rattle.nd_model.specs.Arrays.Types as model;
 ghost use Rattle.nd_types.specs.Kinds.{kind_of};
 ghost use Rattle.nd_types.specs.Names.{named_kind};
 
@@ -32,7 +32,7 @@ static KIND_CODES: [(&str, Kind); 9] = [
     ("u8", Kind::U64),
 ];
 
-// What the table has for a name.
+// The kind of a name in a table.
 fn find_kind(table: &[(&str, Kind)], name: &[u8]) -> Option<Kind>
     ensures { option_map kind_of result ≡ session.lookup name.now (map named_kind table.now) }
 {
@@ -44,14 +44,14 @@ fn find_kind(table: &[(&str, Kind)], name: &[u8]) -> Option<Kind>
     None
 }
 
-/// Returns the kind of this name, such as `int8` or `bool` (NumPy user guide, "Data types").
+/// Returns the kind of a name such as `int8` or `bool` (NumPy user guide, "Data types").
 pub fn kind_named(name: &str) -> Option<Kind>
     ensures { option_map kind_of result ≡ session.lookup name.now model.kind_names }
 {
     find_kind(&KIND_NAMES, name.as_bytes())
 }
 
-// The element of this letter and size.
+// The dtype of a code such as `i4`, in a byte order.
 fn element_of(code: &[u8], big: bool) -> Option<Elem>
     ensures { result ≡ model.with_order big (session.lookup code.now model.kind_codes) }
 {
@@ -59,7 +59,7 @@ fn element_of(code: &[u8], big: bool) -> Option<Elem>
     Some(Elem::new(kind, big))
 }
 
-// The same where no order is said, if it has one byte.
+// The dtype of a code after `|`, which stands for one byte only.
 fn byte_element_of(code: &[u8]) -> Option<Elem>
     ensures { result ≡ model.without_order (session.lookup code.now model.kind_codes) }
 {
@@ -70,8 +70,10 @@ fn byte_element_of(code: &[u8]) -> Option<Elem>
     Some(Elem::little(kind))
 }
 
-/// Returns the element of an array-protocol type string, such as `<i4`: an order, which may be left out, a letter, and the number of
-/// bytes; `|` stands for one byte alone (NPY format description, "descr").
+/// Returns the dtype of an array-protocol type string, such as `<i4`, `>u2` or `|b1`.
+///
+/// It has a byte order, which may be left out, a letter, and an itemsize; `|` stands for one byte
+/// only (NPY format description, "descr").
 pub fn parse_descr(text: &str) -> Option<Elem>
     ensures { result ≡ model.or_coded None text.now }
 {

@@ -1,13 +1,13 @@
-//! Elements of arrays.
+//! `Elem`: the dtype of a number, its kind and byte order.
 ghost use Rattle.std.specs.Prelude.{◌≡◌, ◌<◌, ◌≤◌, ◌&&◌, nat_lt, false};
-ghost use Rattle.nd_model.specs.Element as element;
+ghost use Rattle.nd_model.specs.Arrays.Element as element;
 ghost use Rattle.nd_types.specs.Kinds.{kind_of};
 
 use crate::kind::Kind;
 use std::marker::Model;
 
-/// A number in an array, and whether its highest byte comes first. A number of one byte is never called big, so that equal
-/// elements are equal values. A clause sees it as the definition's element.
+/// The dtype of a number: its kind, and whether it is big-endian. A number of one byte never is, so
+/// that equal dtypes are equal values. A clause sees it as the definition's element.
 #[derive(Clone, Copy, PartialEq, Eq)]
 pub struct Elem {
     kind: Kind,
@@ -16,7 +16,7 @@ pub struct Elem {
 
 impl Model for Elem {
     ghost use Rattle.std.specs.Prelude.{IsTrue};
-    ghost use Rattle.nd_model.specs.Element.{Element, is_canonical};
+    ghost use Rattle.nd_model.specs.Arrays.Element.{Element, is_canonical};
     ghost use Rattle.nd_types.specs.Kinds.{kind_of, kind_from, from_of};
 
     ghost Value = { Element };
@@ -31,7 +31,7 @@ impl Model for Elem {
 }
 
 impl Elem {
-    /// Returns the element of the kind, big-endian if so asked and if there is more than one byte.
+    /// Returns the dtype of a kind, big-endian if asked for and if there is more than one byte.
     #[inline]
     pub fn new(kind: Kind, big: bool) -> Elem
         ensures { result ≡ record {
@@ -45,7 +45,7 @@ impl Elem {
         }
     }
 
-    /// Returns the element of the kind whose lowest byte comes first.
+    /// Returns the little-endian dtype of a kind.
     #[inline]
     pub fn little(kind: Kind) -> Elem
         ensures { result ≡ record { kind = kind_of kind; big = false } }
@@ -61,7 +61,7 @@ impl Elem {
         self.kind
     }
 
-    /// Returns whether the highest byte comes first.
+    /// Returns whether it is big-endian.
     #[inline]
     pub fn big(self) -> bool
         ensures { result ≡ self.big }
@@ -69,7 +69,7 @@ impl Elem {
         self.big
     }
 
-    /// Returns the number of bytes.
+    /// Returns the itemsize.
     #[inline]
     pub fn size(self) -> u64
         ensures value { result ≡ element.size_of self.kind }

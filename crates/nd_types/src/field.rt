@@ -1,10 +1,10 @@
-//! Fields of structures.
+//! `Field`: a named number inside a structured dtype.
 ghost use Rattle.std.specs.Prelude.{◌≡◌, IsTrue, ◌↔◌};
 ghost use Rattle.nd_types.specs.Fields.{field_of};
 
 use crate::elem::Elem;
 
-/// A field of a structure: its name, the place of its first byte inside the structure, and its element.
+/// A field of a structure: its name, the offset in bytes inside the structure, and its dtype.
 #[derive(Drop)]
 pub struct Field {
     pub name: String,
@@ -13,7 +13,7 @@ pub struct Field {
 }
 
 impl Field {
-    // Whether both have the same name, place and element.
+    // Whether both have the same name, offset and dtype.
     pub(crate) fn is_same(&self, other: &Field) -> bool
         ensures { IsTrue result ↔ (field_of self.now ≡ field_of other.now) }
     {

@@ -1,33 +1,33 @@
-//! Kinds of numbers.
+//! `Kind`: NumPy's nine kinds of integers and Booleans, their ranges and `wrap`.
 ghost use Rattle.std.specs.Prelude.{◌≡◌, ◌<◌, ◌≤◌, IsTrue, ◌↔◌};
-ghost use Rattle.nd_model.specs.Element as element;
+ghost use Rattle.nd_model.specs.Arrays.Element as element;
 ghost use Rattle.nd_types.specs.Kinds.{kind_of};
 
-/// What kind a number of NumPy is (NumPy user guide, "Data types").
+/// One of NumPy's nine kinds of integers and Booleans (NumPy user guide, "Data types").
 #[derive(Clone, Copy, PartialEq, Eq, Debug)]
 pub enum Kind {
-    /// 0 or 1, in one byte.
+    /// `bool`: 0 or 1, in one byte.
     Bool,
-    /// Signed, with 8 bits.
+    /// `int8`: signed, 8 bits.
     I8,
-    /// Signed, with 16 bits.
+    /// `int16`: signed, 16 bits.
     I16,
-    /// Signed, with 32 bits.
+    /// `int32`: signed, 32 bits.
     I32,
-    /// Signed, with 64 bits.
+    /// `int64`: signed, 64 bits.
     I64,
-    /// Unsigned, with 8 bits.
+    /// `uint8`: unsigned, 8 bits.
     U8,
-    /// Unsigned, with 16 bits.
+    /// `uint16`: unsigned, 16 bits.
     U16,
-    /// Unsigned, with 32 bits.
+    /// `uint32`: unsigned, 32 bits.
     U32,
-    /// Unsigned, with 64 bits.
+    /// `uint64`: unsigned, 64 bits.
     U64,
 }
 
 impl Kind {
-    /// Returns the number of bytes of an element.
+    /// Returns the itemsize.
     #[inline]
     pub fn size(self) -> u64
         ensures value { result ≡ element.size_of (kind_of self) }
@@ -80,8 +80,10 @@ pub fn fits(kind: Kind, number: i128) -> bool
     lowest(kind) <= number && number <= highest(kind)
 }
 
-/// Returns the number of the kind that is equal to the number modulo 2 to the power of the kind's bits, in two's complement
-/// where the kind is signed. A Boolean is 0 for 0, and else 1.
+/// Returns the number modulo 2 to the power of the kind's bits, in two's complement where the kind
+/// is signed. For a Boolean it is 0 for 0, else 1.
+///
+/// `wrap(Kind::I8, 200)` is `-56`.
 pub fn wrap(kind: Kind, number: i128) -> i128
     ensures value { result ≡ element.wrap (kind_of kind) number }
     ensures in_range { element.IsValue (kind_of kind) result }

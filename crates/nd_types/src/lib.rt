@@ -1,4 +1,5 @@
-//! The kinds of numbers, the elements of arrays, and numbers outside arrays.
+//! Dtypes: the [`Kind`] of a number, its byte order in [`Elem`], structures in [`RecType`], either
+//! in [`ElemType`]; and [`Num`], numbers outside arrays.
 #![tactic(auto)]
 
 mod descr;

@@ -1,8 +1,8 @@
-//! Which names a field may have.
+//! `is_field_name`: the names that a field of a structure may have.
 ghost use Rattle.std.specs.Prelude.{◌≡◌, ◌||◌, not};
-ghost use Rattle.nd_model.specs.Structure as structure;
+ghost use Rattle.nd_model.specs.Arrays.Structure as structure;
 
-// Whether the byte is a control character, or ends one that begins with the byte before it.
+// Whether the byte is a control character of ASCII, or ends one of UTF-8 that `before` begins.
 fn is_control(before: u8, byte: u8) -> bool
     ensures { result ≡ structure.is_control before byte }
 {
@@ -35,7 +35,8 @@ fn are_name_bytes(bytes: &[u8]) -> bool
     true
 }
 
-/// Returns whether a field may have the name: 1 to 64 bytes, without colon, quote, backslash or control character.
+/// Returns whether a field may have the name: 1 to 64 bytes, without colon, quote, backslash or
+/// control character.
 pub fn is_field_name(name: &str) -> bool
     ensures { result ≡ structure.is_field_name name.now }
 {

@@ -1,16 +1,17 @@
-//! Which kind two kinds give.
+//! `promote` and `same_kind`: NumPy's promotion of two kinds, and its casting rule for writes in
+//! place.
 ghost use Rattle.std.specs.Prelude.{◌≡◌, ◌&&◌};
-ghost use Rattle.nd_model.specs.Promotion as promotion;
+ghost use Rattle.nd_model.specs.Arrays.Promotion as promotion;
 ghost use Rattle.nd_types.specs.Kinds.{kind_of};
 ghost use Rattle.nd_types.specs.Types.{kind_given};
 
 use crate::kind::{Kind, highest, lowest};
 
-/// Only a float would hold both ranges.
+/// The refusal of a promotion: only a float would hold both ranges.
 #[derive(Clone, Copy)]
 pub struct FloatResult;
 
-// The order in which a kind for two others is looked for.
+// The order in which the common kind is looked for.
 const ORDER: [Kind; 9] = [
     Kind::Bool,
     Kind::U8,
@@ -38,8 +39,10 @@ fn has_both(kind: Kind, a: Kind, b: Kind) -> bool
     has_range_of(kind, a) && has_range_of(kind, b)
 }
 
-/// Returns the first kind, in the order of NEP 50's table, whose range holds the ranges of both. Refused for uint64 beside
-/// a signed kind, where NumPy would give a float.
+/// Returns the first kind, in the order of NEP 50's table, whose range holds the ranges of both.
+///
+/// `uint8` and `int8` give `int16`. Refused for `uint64` beside a signed kind, where NumPy gives a
+/// float.
 pub fn promote(a: Kind, b: Kind) -> Result<Kind, FloatResult>
     ensures { kind_given result ≡ promotion.promoted (kind_of a) (kind_of b) }
 {
@@ -62,8 +65,9 @@ fn sort_of(kind: Kind) -> u8
     }
 }
 
-/// Returns whether a result of the first kind may be written in place into numbers of the second: Booleans go to each kind,
-/// unsigned numbers to unsigned and signed ones, signed numbers to signed ones (NumPy's `same_kind`).
+/// Returns whether results of one kind may be written in place into numbers of another (NumPy's
+/// `same_kind`): Booleans to each kind, unsigned numbers to unsigned and signed ones, signed
+/// numbers to signed ones.
 pub fn same_kind(from: Kind, to: Kind) -> bool
     ensures { result ≡ promotion.same_kind (kind_of from) (kind_of to) }
 {

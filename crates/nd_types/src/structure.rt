@@ -1,17 +1,19 @@
-//! Structures: several numbers at one place.
+//! `RecType`: a structured dtype, several numbers in one element.
 ghost use Rattle.std.specs.Prelude.{◌≡◌, ◌+◌, ◌<◌, ◌≤◌, length, IsTrue, ◌↔◌};
 ghost use Rattle.std.specs.List.{All};
-ghost use Rattle.nd_model.specs.Element.{size_of};
-ghost use Rattle.nd_model.specs.Structure as structure;
+ghost use Rattle.nd_model.specs.Arrays.Element.{size_of};
+ghost use Rattle.nd_model.specs.Arrays.Structure as structure;
 ghost use Rattle.nd_types.specs.Fields.{field_of, fields_of};
 
 use crate::field::Field;
 use crate::name::is_field_name;
 use std::marker::Model;
 
-/// A structure: its fields in order, and its size in bytes, pad bytes among them. It has 1 to 256 fields, which lie apart inside
-/// the size, at most 65,536 bytes, and have distinct names of 1 to 64 bytes without colon, quote, backslash or control character.
-/// A clause sees it as the definition's fields and size.
+/// A structured dtype: its fields in the order of their offsets, and its itemsize with pad bytes.
+///
+/// It has 1 to 256 fields, which do not overlap and lie within the itemsize, at most 65,536 bytes.
+/// Their names are distinct, as `is_field_name` wants them. A clause sees it as the definition's
+/// fields and size.
 #[derive(Drop)]
 pub struct RecType {
     fields: Vec<Field>,
@@ -20,8 +22,8 @@ pub struct RecType {
 
 impl Model for RecType {
     ghost use Rattle.std.specs.Prelude.{List, ℕ, IsTrue};
-    ghost use Rattle.nd_model.specs.View.{Field};
-    ghost use Rattle.nd_model.specs.Structure.{is_structure};
+    ghost use Rattle.nd_model.specs.Arrays.View.{Field};
+    ghost use Rattle.nd_model.specs.Arrays.Structure.{is_structure};
     ghost use Rattle.nd_types.specs.Fields.{fields_of};
 
     ghost Value = { List Field × ℕ };
@@ -105,7 +107,8 @@ fn are_same(these: &[Field], those: &[Field]) -> bool
 impl RecType {
     ghost use Rattle.nd_types.specs.Structures.{made};
 
-    /// Returns the structure of these fields and this size in bytes, None where they are none.
+    /// Returns the structured dtype of these fields and this itemsize, or `None` where a rule is
+    /// broken.
     pub fn new(fields: Vec<Field>, size: u32) -> Option<RecType>
         ensures { result ≡ made (fields_of fields.items) size }
     {
@@ -116,7 +119,7 @@ impl RecType {
         }
     }
 
-    /// Returns the fields, in the order of their places.
+    /// Returns the fields, in the order of their offsets.
     pub fn fields(&self) -> &[Field]
         ensures value { fields_of result.now ≡ self.now.0 }
         ensures inside { All (λ f. f.at + size_of f.element.kind ≤ self.now.1) self.now.0 }
@@ -124,7 +127,7 @@ impl RecType {
         self.fields.as_slice()
     }
 
-    /// Returns the number of bytes, pad bytes among them.
+    /// Returns the itemsize, pad bytes among it.
     pub fn size(&self) -> u32
         ensures value { result ≡ self.now.1 }
         ensures range { (0 < result) × (result ≤ 65536) }
@@ -132,7 +135,7 @@ impl RecType {
         self.size
     }
 
-    /// Returns whether both have the same fields, in the same order, and the same size.
+    /// Returns whether both have the same fields, in the same order, and the same itemsize.
     pub fn is_same(&self, other: &RecType) -> bool
         ensures { IsTrue result ↔ (self.now ≡ other.now) }
     {

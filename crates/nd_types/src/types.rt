@@ -1,6 +1,6 @@
-//! What lies at the places of an array.
+//! `ElemType`: the dtype of an array's elements.
 ghost use Rattle.std.specs.Prelude.{◌≡◌, ◌<◌, ◌≤◌, IfOk, IsTrue, ◌↔◌};
-ghost use Rattle.nd_model.specs.View.{Structure, item_size};
+ghost use Rattle.nd_model.specs.Arrays.View.{Structure, item_size};
 ghost use Rattle.nd_types.specs.Types.{type_of};
 
 use crate::elem::Elem;
@@ -8,7 +8,7 @@ use crate::structure::RecType;
 use std::alloc::{AllocError, Global};
 use std::rc::Rc;
 
-/// What lies at each place of an array: one number, or a structure, which all types share that were cloned from one.
+/// The dtype of an array's elements: one number, or a structure, which all clones share.
 #[derive(Drop)]
 pub enum ElemType {
     One(Elem),
@@ -16,7 +16,7 @@ pub enum ElemType {
 }
 
 impl ElemType {
-    /// Returns the type of elements that are this structure.
+    /// Returns the dtype of elements that are this structure.
     pub fn of_structure(alloc: Global, structure: RecType) -> Result<ElemType, AllocError>
         ensures { IfOk result (λ t. type_of t ≡ Structure structure.0 structure.1) }
     {
@@ -26,7 +26,7 @@ impl ElemType {
         }
     }
 
-    /// Returns the number of bytes of what lies at a place, with pad bytes.
+    /// Returns the itemsize, with pad bytes.
     pub fn size(&self) -> u64
         ensures value { result ≡ item_size (type_of self.now) }
         ensures range { (0 < result) × (result ≤ 65536) }
@@ -37,7 +37,7 @@ impl ElemType {
         }
     }
 
-    /// Returns whether both are the same type: of one number, or with the same fields and size.
+    /// Returns whether both are the same dtype.
     pub fn is_same(&self, other: &ElemType) -> bool
         ensures { IsTrue result ↔ (type_of self.now ≡ type_of other.now) }
     {
@@ -48,7 +48,7 @@ impl ElemType {
         }
     }
 
-    /// Returns the same type. The fields of a structure are shared, not copied.
+    /// Returns the same dtype. The fields of a structure are shared, not copied.
     pub fn try_clone(&self) -> Result<ElemType, AllocError>
         ensures { IfOk result (λ t. type_of t ≡ type_of self.now) }
     {

@@ -1,4 +1,3 @@
-pub mod Faults
-pub mod Numbers
-pub mod Ufuncs
-pub mod Division
+pub mod Elementwise
+pub mod Loops
+pub mod Scalar

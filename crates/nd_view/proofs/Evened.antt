@@ -6,9 +6,9 @@ use Rattle.std.proofs.lemmas.Bool.Decides.{nat_tests}
 use Rattle.std.proofs.lemmas.Grind.{same_number_lists}
 use Rattle.std.proofs.lemmas.Int.{ints}
 use Rattle.std.proofs.lemmas.List.{length-map, get_or-map, get_or-take, get_or-drop}
-use Rattle.nd_model.specs.Runs as runs
-use Rattle.nd_model.specs.Strides.{way_to, places_by}
-use Rattle.nd_model.specs.Tuple.{count_up, elements_of, number}
+use Rattle.nd_model.specs.Arrays.Runs as runs
+use Rattle.nd_model.specs.Arrays.Strides.{way_to, places_by}
+use Rattle.nd_model.specs.Arrays.Tuple.{count_up, elements_of, number}
 use Rattle.nd_view.specs.Indexes.{IsIndex}
 use Rattle.nd_view.specs.Strides.{IsEven, AreJoined, joined_step}
 use Rattle.nd_view.specs.Walks.{AreSteps}

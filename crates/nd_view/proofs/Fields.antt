@@ -3,9 +3,9 @@ use Rattle.std.proofs.Common.{◌≡◌, ℕ, zero, suc, ◌+◌, ◌-◌, ◌*�
 use Rattle.std.specs.Prelude.{ℤ, pos, ◌||◌, nat_le, if◌then◌else◌}
 use Rattle.std.proofs.lemmas.Bool.{cases_lt}
 use Rattle.std.proofs.lemmas.Bool.Decides.{nat_tests}
-use Rattle.nd_model.specs.Strides.{place_at, places_by}
-use Rattle.nd_model.specs.Tuple.{elements_of, number}
-use Rattle.nd_model.specs.View.{ElementType, Geo, contiguous, item_size}
+use Rattle.nd_model.specs.Arrays.Strides.{place_at, places_by}
+use Rattle.nd_model.specs.Arrays.Tuple.{elements_of, number}
+use Rattle.nd_model.specs.Arrays.View.{ElementType, Geo, contiguous, item_size}
 use Rattle.nd_types.specs.Types.{type_of}
 use Rattle.nd_view.specs.Indexes.{IsIndex}
 use Rattle.nd_view.specs.Strides.{before, before_of, behind_of, kept_all, steps_of, strides_of}

@@ -4,9 +4,9 @@ use Rattle.std.specs.Prelude.{ℤ, pos, ◌+ℤ◌, ◌*ℤ◌, unsigned_abs, na
 use Rattle.std.proofs.lemmas.Bool.{cases_lt}
 use Rattle.std.proofs.lemmas.Bool.Decides.{nat_tests}
 use Rattle.std.proofs.lemmas.Int.{ints}
-use Rattle.nd_model.specs.Tuple.{count_up, elements_of, indices}
+use Rattle.nd_model.specs.Arrays.Tuple.{count_up, elements_of, indices}
 use Rattle.std.proofs.lemmas.List.{append-nil}
-use Rattle.nd_model.specs.Strides.{way_to, place_at, places_by}
+use Rattle.nd_model.specs.Arrays.Strides.{way_to, place_at, places_by}
 use Rattle.nd_view.specs.Strides.{steps_of, strides_of}
 use Rattle.nd_view.proofs.Tuples.{map-map, map-flat_map, map_same, flat_map_same, shifted, runs, no_tuples}
 

@@ -1,8 +1,8 @@
 -- The elements of an array in C order, from a list of their contents.
 use Rattle.std.proofs.Common.{◌≡◌, ℕ, ◌+◌, List, [], ◌∷◌, ◌++◌, map, length, sym, refl, ap, ap₂, ◌∙◌, append_assoc, length-append}
 use Rattle.std.specs.List.{flat_map}
-use Rattle.nd_model.specs.Content.{Content, content_or, content_in_order}
-use Rattle.nd_model.specs.Tuple.{count_up, elements_of, indices, number}
+use Rattle.nd_model.specs.Arrays.Content.{Content, content_or, content_in_order}
+use Rattle.nd_model.specs.Arrays.Tuple.{count_up, elements_of, indices, number}
 use Rattle.nd_view.proofs.Tuples.{numbers}
 
 pub flat_map-map : {A B C : Type 0} (f : B → List C) (g : A → B) (xs : List A) → flat_map f (map g xs) ≡ flat_map (λ x. f (g x)) xs

@@ -4,7 +4,7 @@ use Rattle.std.specs.Prelude.{◌&&◌}
 use Rattle.std.specs.List.{flat_map, list_all}
 use Rattle.std.proofs.lemmas.List.{length-map, get_or_append_left, get_or-append_right}
 use Rattle.std.proofs.lemmas.List.Folds.{list_all-append}
-use Rattle.nd_model.specs.Tuple.{count_up, elements_of, indices, number}
+use Rattle.nd_model.specs.Arrays.Tuple.{count_up, elements_of, indices, number}
 use Rattle.nd_view.specs.Indexes.{IsIndex}
 use Rattle.nd_view.proofs.Steps.{number-below}
 use Rattle.nd_view.proofs.Tuples.{numbers, length-count_up, map-map, map-flat_map, flat_map_same}

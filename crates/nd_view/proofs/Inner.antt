@@ -2,7 +2,7 @@
 use Rattle.std.proofs.Common.{◌≡◌, ℕ, ◌+◌, ◌<◌, ◌≤◌, ◌^◌, List, length, get_or, sym, ap, subst, ◌∙◌, arith}
 use Rattle.std.specs.List.{All}
 use Rattle.std.proofs.lemmas.List.{get_or-map, length-map}
-use Rattle.nd_model.specs.Element.{size_of}
+use Rattle.nd_model.specs.Arrays.Element.{size_of}
 use Rattle.nd_types.specs.Fields.{field_of, fields_of}
 use Rattle.nd_types.specs.declared.field.Field.{Field}
 

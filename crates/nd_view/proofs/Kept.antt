@@ -4,8 +4,8 @@ use Rattle.std.specs.Prelude.{ℤ, pos, ◌+ℤ◌, ◌*ℤ◌, ◌||◌, nat_le
 use Rattle.std.proofs.lemmas.Bool.{cases_lt}
 use Rattle.std.proofs.lemmas.Bool.Decides.{nat_tests}
 use Rattle.std.proofs.lemmas.Int.{ints}
-use Rattle.nd_model.specs.Strides.{way_to, place_at, places_by}
-use Rattle.nd_model.specs.Tuple.{elements_of}
+use Rattle.nd_model.specs.Arrays.Strides.{way_to, place_at, places_by}
+use Rattle.nd_model.specs.Arrays.Tuple.{elements_of}
 use Rattle.nd_view.specs.Indexes.{IsIndex}
 use Rattle.nd_view.specs.Strides.{before, behind, before_of, behind_of, kept, kept_all}
 use Rattle.nd_view.proofs.Indexed.{same_indexes}

@@ -3,9 +3,9 @@ use Rattle.std.proofs.Common.{◌≡◌, ℕ, ◌*◌, ◌^◌, ◌≤◌, Bool,
 use Rattle.std.specs.Prelude.{◌||◌, nat_lt, Some, None, if◌then◌else◌}
 use Rattle.std.specs.List.{list_any}
 use Rattle.std.proofs.lemmas.Bool.Decides.{nat_tests}
-use Rattle.nd_model.specs.Fault.{TooManyAxes, TooManyElements}
-use Rattle.nd_model.specs.Strides.{is_too_large, IsInLimits}
-use Rattle.nd_model.specs.Tuple.{elements_of}
+use Rattle.nd_model.specs.Cells.Fault.{TooManyAxes, TooManyElements}
+use Rattle.nd_model.specs.Arrays.Strides.{is_too_large, IsInLimits}
+use Rattle.nd_model.specs.Arrays.Tuple.{elements_of}
 
 pub record AreLimited (size : ℕ) (shape : List ℕ) : Type 0 where
   pub axes : length shape ≤ 32

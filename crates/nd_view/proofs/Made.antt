@@ -3,10 +3,10 @@ use Rattle.std.proofs.Common.{◌≡◌, ℕ, ◌+◌, ◌^◌, ◌≤◌, ◌==
 use Rattle.std.specs.Prelude.{ℤ, not, Option, Some, None, Result, Ok, if◌then◌else◌}
 use Rattle.std.proofs.lemmas.Bool.{cases_lt}
 use Rattle.std.proofs.lemmas.Bool.Decides.{nat_tests}
-use Rattle.nd_model.specs.Fault.{ViewFault, AxesDiffer, OutOfBlock}
-use Rattle.nd_model.specs.Strides.{IsInLimits, are_held, limit_fault, or_else, parts_fault, from_parts, places_by}
-use Rattle.nd_model.specs.Tuple.{elements_of}
-use Rattle.nd_model.specs.View.{ElementType, Geo, item_size}
+use Rattle.nd_model.specs.Cells.Fault.{ViewFault, AxesDiffer, OutOfBlock}
+use Rattle.nd_model.specs.Arrays.Strides.{IsInLimits, are_held, limit_fault, or_else, parts_fault, from_parts, places_by}
+use Rattle.nd_model.specs.Arrays.Tuple.{elements_of}
+use Rattle.nd_model.specs.Arrays.View.{ElementType, Geo, item_size}
 use Rattle.nd_view.specs.Strides.{before_of, behind_of, kept_all, strides_of}
 use Rattle.nd_view.proofs.Extents.{lies}
 use Rattle.nd_view.proofs.Fields.{gapless}

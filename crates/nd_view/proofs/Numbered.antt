@@ -4,8 +4,8 @@ use Rattle.std.specs.Prelude.{ℤ}
 use Rattle.std.proofs.Math.Nat.{mod-lt, div-lt_iff_lt-mul}
 use Rattle.std.proofs.lemmas.Nat.{div-add-mod'}
 use Rattle.std.proofs.lemmas.List.{length-map}
-use Rattle.nd_model.specs.Strides.{place_at, places_by}
-use Rattle.nd_model.specs.Tuple.{elements_of, indices, number}
+use Rattle.nd_model.specs.Arrays.Strides.{place_at, places_by}
+use Rattle.nd_model.specs.Arrays.Tuple.{elements_of, indices, number}
 use Rattle.nd_view.specs.Indexes.{IsIndex}
 use Rattle.nd_view.proofs.Counts.{rest_some}
 use Rattle.nd_view.proofs.Indexed.{at_index, length-indices}

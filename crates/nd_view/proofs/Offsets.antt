@@ -3,9 +3,9 @@ use Rattle.std.proofs.Common.{◌≡◌, ℕ, zero, suc, List, [], ◌∷◌, le
 use Rattle.std.specs.Prelude.{ℤ, pos, ◌+ℤ◌, ◌*ℤ◌, unsigned_abs}
 use Rattle.std.proofs.lemmas.Bool.{cases_lt}
 use Rattle.std.proofs.lemmas.Int.{ints}
-use Rattle.nd_model.specs.Strides.{way_to, place_at, places_by}
-use Rattle.nd_model.specs.Tuple.{elements_of}
-use Rattle.nd_model.specs.View.{Geo}
+use Rattle.nd_model.specs.Arrays.Strides.{way_to, place_at, places_by}
+use Rattle.nd_model.specs.Arrays.Tuple.{elements_of}
+use Rattle.nd_model.specs.Arrays.View.{Geo}
 use Rattle.nd_view.specs.Strides.{kept_all}
 use Rattle.nd_view.specs.Views.{geo_of, IsView}
 use Rattle.nd_view.specs.declared.strided.View.TheInside.{Inside}

@@ -4,8 +4,8 @@ use Rattle.std.specs.Prelude.{ℤ, pos, negsuc, None, unsigned_abs}
 use Rattle.std.specs.List.{All}
 use Rattle.std.proofs.lemmas.Bool.{cases_lt}
 use Rattle.std.proofs.lemmas.List.Elements.{All-nil, All-cons}
-use Rattle.nd_model.specs.Strides.{parts_fault}
-use Rattle.nd_model.specs.View.{Geo, item_size}
+use Rattle.nd_model.specs.Arrays.Strides.{parts_fault}
+use Rattle.nd_model.specs.Arrays.View.{Geo, item_size}
 use Rattle.nd_types.specs.Types.{type_of}
 use Rattle.nd_view.specs.Strides.{before, behind, before_of, behind_of, kept_all}
 use Rattle.nd_view.specs.Views.{geo_of, IsView}

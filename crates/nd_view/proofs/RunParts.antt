@@ -3,8 +3,8 @@ use Rattle.std.proofs.Common.{◌≡◌, ℕ, zero, suc, ◌+◌, ◌<◌, ◌�
 use Rattle.std.specs.Prelude.{ℤ, pos, ◌+ℤ◌, ◌*ℤ◌, ◌≤ℤ◌, unsigned_abs}
 use Rattle.std.proofs.lemmas.Int.{ints}
 use Rattle.std.proofs.lemmas.List.{length-map, get_or-map, get_or-take, get_or-drop, same_lists}
-use Rattle.nd_model.specs.Runs.{place_at, spot_at, run_places}
-use Rattle.nd_model.specs.Tuple.{count_up}
+use Rattle.nd_model.specs.Arrays.Runs.{place_at, spot_at, run_places}
+use Rattle.nd_model.specs.Arrays.Tuple.{count_up}
 use Rattle.nd_view.specs.Walks.{places_of, IsRun}
 use Rattle.nd_view.specs.declared.runs.Run.TheInside.{Inside}
 use Rattle.nd_view.proofs.RunPlaces.{count_of, way, spot}

@@ -3,8 +3,8 @@ use Rattle.std.proofs.Common.{◌≡◌, ℕ, ◌<◌, ◌^◌, List, length, ge
 use Rattle.std.specs.Prelude.{ℤ, pos, ◌+ℤ◌, ◌*ℤ◌, ◌≤ℤ◌, ◌<ℤ◌, unsigned_abs}
 use Rattle.std.proofs.lemmas.Int.{ints}
 use Rattle.std.proofs.lemmas.List.{length-map, get_or-map}
-use Rattle.nd_model.specs.Runs.{place_at, spot_at}
-use Rattle.nd_model.specs.Tuple.{count_up}
+use Rattle.nd_model.specs.Arrays.Runs.{place_at, spot_at}
+use Rattle.nd_model.specs.Arrays.Tuple.{count_up}
 use Rattle.nd_view.specs.Walks.{places_of, IsRun}
 use Rattle.nd_view.specs.declared.runs.Run.TheInside.{Inside}
 use Rattle.nd_view.proofs.Split.{of_low}

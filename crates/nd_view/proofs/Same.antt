@@ -3,8 +3,8 @@ use Rattle.std.proofs.Common.{◌≡◌, ℕ, zero, suc, ◌<◌, ◌^◌, List,
 use Rattle.std.specs.Prelude.{ℤ, pos, ◌+ℤ◌, ◌*ℤ◌}
 use Rattle.std.proofs.lemmas.Bool.{cases_lt}
 use Rattle.std.proofs.lemmas.Int.{ints}
-use Rattle.nd_model.specs.Strides.{way_to, begins_at, place_at, places_by}
-use Rattle.nd_model.specs.Tuple.{elements_of, number}
+use Rattle.nd_model.specs.Arrays.Strides.{way_to, begins_at, place_at, places_by}
+use Rattle.nd_model.specs.Arrays.Tuple.{elements_of, number}
 use Rattle.nd_view.specs.Indexes.{IsIndex}
 use Rattle.nd_view.specs.Strides.{kept, kept_all}
 use Rattle.nd_view.proofs.Counts.{rest_some}

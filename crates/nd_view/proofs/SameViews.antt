@@ -6,9 +6,9 @@ use Rattle.std.specs.Cmp.Lexicographic.{pointwise, pointwise_decides, bytes_deci
 use Rattle.std.specs.Ordering.{int_eq}
 use Rattle.std.proofs.lemmas.Bool.{cases_lt}
 use Rattle.std.proofs.lemmas.Bool.Decides.{Decides-int_eq}
-use Rattle.nd_model.specs.Strides.{places_by}
-use Rattle.nd_model.specs.Tuple.{elements_of}
-use Rattle.nd_model.specs.View.{Geo, item_size}
+use Rattle.nd_model.specs.Arrays.Strides.{places_by}
+use Rattle.nd_model.specs.Arrays.Tuple.{elements_of}
+use Rattle.nd_model.specs.Arrays.View.{Geo, item_size}
 use Rattle.nd_types.specs.Types.{type_of}
 use Rattle.nd_view.specs.Strides.{kept_all}
 use Rattle.nd_view.specs.Views.{geo_of, IsView}

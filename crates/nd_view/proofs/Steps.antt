@@ -3,7 +3,7 @@ use Rattle.std.proofs.Common.{◌≡◌, ℕ, zero, suc, ◌+◌, ◌-◌, ◌*�
 use Rattle.std.specs.List.{AllZip}
 use Rattle.std.proofs.Math.Nat.{mul-le-mul_right}
 use Rattle.std.proofs.lemmas.List.{take_more_set, drop_all, length-set, length-replicate}
-use Rattle.nd_model.specs.Tuple.{elements_of, number}
+use Rattle.nd_model.specs.Arrays.Tuple.{elements_of, number}
 use Rattle.nd_view.specs.Indexes.{IsIndex}
 use Rattle.nd_view.proofs.Counts.{rest_some}
 

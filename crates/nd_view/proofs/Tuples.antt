@@ -2,7 +2,7 @@
 use Rattle.std.proofs.Common.{◌≡◌, ℕ, zero, suc, ◌+◌, ◌*◌, ◌<◌, List, [], ◌∷◌, ◌++◌, map, length, get_or, refl, sym, ap, ◌∙◌, arith}
 use Rattle.std.specs.List.{flat_map}
 use Rattle.std.proofs.lemmas.List.{map-append}
-use Rattle.nd_model.specs.Tuple.{count_up, elements_of, indices, number}
+use Rattle.nd_model.specs.Arrays.Tuple.{count_up, elements_of, indices, number}
 
 -- ---- lists
 

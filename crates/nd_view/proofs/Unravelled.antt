@@ -4,8 +4,8 @@ use Rattle.std.specs.Prelude.{ℤ, pos, ◌+ℤ◌, ◌*ℤ◌, unsigned_abs}
 use Rattle.std.proofs.Math.Nat.{mod-lt, div-lt_iff_lt-mul, mul-div_cancel_left}
 use Rattle.std.proofs.lemmas.Int.{ints}
 use Rattle.std.proofs.lemmas.List.{drop_all}
-use Rattle.nd_model.specs.Strides.{place_at}
-use Rattle.nd_model.specs.Tuple.{elements_of}
+use Rattle.nd_model.specs.Arrays.Strides.{place_at}
+use Rattle.nd_model.specs.Arrays.Tuple.{elements_of}
 use Rattle.nd_view.proofs.Counts.{rest_some}
 use Rattle.nd_view.proofs.Extents.{Lies, step, onward}
 use Rattle.nd_view.proofs.Numbered.{tuple_of}

@@ -2,10 +2,10 @@
 use Rattle.std.proofs.Common.{◌≡◌, ℕ, suc, ◌-◌, ◌*◌, ◌<◌, ◌≤◌, List, [], ◌∷◌, length, take, drop, get_or, refl, sym, ap, subst, ◌∙◌, arith}
 use Rattle.std.specs.Prelude.{ℤ, pos, unsigned_abs}
 use Rattle.std.specs.List.{concat}
-use Rattle.nd_model.specs.Runs.{in_pieces}
-use Rattle.nd_model.specs.Strides.{place_at}
-use Rattle.nd_model.specs.Tuple.{elements_of, number}
-use Rattle.nd_model.specs.View.{Geo, item_size}
+use Rattle.nd_model.specs.Arrays.Runs.{in_pieces}
+use Rattle.nd_model.specs.Arrays.Strides.{place_at}
+use Rattle.nd_model.specs.Arrays.Tuple.{elements_of, number}
+use Rattle.nd_model.specs.Arrays.View.{Geo, item_size}
 use Rattle.nd_model.proofs.Pieces.{joined}
 use Rattle.nd_types.specs.Types.{type_of}
 use Rattle.nd_view.specs.Indexes.{IsIndex}

@@ -4,7 +4,7 @@ use Rattle.std.specs.Prelude.{ℤ, pos, nat_le, if◌then◌else◌}
 use Rattle.std.proofs.lemmas.Bool.{cases_lt}
 use Rattle.std.proofs.lemmas.Bool.Decides.{nat_tests}
 use Rattle.std.proofs.Math.Nat.{mul-div_cancel_left, zero-div}
-use Rattle.nd_model.specs.Tuple.{elements_of}
+use Rattle.nd_model.specs.Arrays.Tuple.{elements_of}
 use Rattle.nd_view.specs.Strides.{steps_of, strides_of}
 use Rattle.nd_view.proofs.Counts.{rest_some}
 

@@ -4,8 +4,8 @@ use Rattle.std.specs.Prelude.{pos, ◌≤ℤ◌}
 use Rattle.std.proofs.Math.Nat.{mul-le-mul_right}
 use Rattle.std.proofs.lemmas.Bool.{cases_lt}
 use Rattle.std.proofs.lemmas.List.{drop-drop}
-use Rattle.nd_model.specs.Runs.{place_at, spot_at, run_places, in_pieces}
-use Rattle.nd_model.specs.Tuple.{elements_of, number}
+use Rattle.nd_model.specs.Arrays.Runs.{place_at, spot_at, run_places, in_pieces}
+use Rattle.nd_model.specs.Arrays.Tuple.{elements_of, number}
 use Rattle.nd_model.proofs.Pieces.{first_piece}
 use Rattle.nd_view.specs.Indexes.{IsIndex}
 use Rattle.nd_view.specs.Walks.{AreSteps, IsWalk}

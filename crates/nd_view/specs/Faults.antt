@@ -1,7 +1,7 @@
 -- The refusals of views as the definitions have them.
 use Rattle.std.specs.Prelude.{Result, Ok, Err}
-use Rattle.nd_model.specs.Fault as model
-use Rattle.nd_model.specs.View.{Geo}
+use Rattle.nd_model.specs.Cells.Fault as model
+use Rattle.nd_model.specs.Arrays.View.{Geo}
 use Rattle.nd_view.specs.declared.fault.ViewFault.{ViewFault}
 use Rattle.nd_view.specs.declared.fault.ViewFault.TheVariants.{OutOfBlock, TooManyAxes, TooManyElements, AxesDiffer}
 

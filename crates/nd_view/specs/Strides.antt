@@ -1,7 +1,7 @@
 -- What strides reach, the strides that a view keeps, and those of an array without gaps.
 use Rattle.std.specs.Prelude.{◌≡◌, ℕ, ◌+◌, ◌-◌, ◌*◌, ◌<◌, ◌==◌, ◌&&◌, ◌||◌, suc, ℤ, pos, negsuc, ◌+ℤ◌, ◌*ℤ◌, nat_le, nat_lt, if◌then◌else◌, List, [], ◌∷◌, length, drop, replicate}
-use Rattle.nd_model.specs.Strides.{way_to}
-use Rattle.nd_model.specs.Tuple.{elements_of, number}
+use Rattle.nd_model.specs.Arrays.Strides.{way_to}
+use Rattle.nd_model.specs.Arrays.Tuple.{elements_of, number}
 use Rattle.nd_view.specs.Indexes.{IsIndex}
 
 -- how far the last element of an axis is before the first one, and behind it

@@ -1,8 +1,8 @@
 -- What the fields of a view stand for.
 use Rattle.std.specs.Prelude.{◌≡◌, ◌+◌, ◌^◌, ◌<◌, ◌≤◌, length}
-use Rattle.nd_model.specs.Strides.{places_by, IsInLimits}
-use Rattle.nd_model.specs.Tuple.{elements_of}
-use Rattle.nd_model.specs.View.{Geo, item_size}
+use Rattle.nd_model.specs.Arrays.Strides.{places_by, IsInLimits}
+use Rattle.nd_model.specs.Arrays.Tuple.{elements_of}
+use Rattle.nd_model.specs.Arrays.View.{Geo, item_size}
 use Rattle.nd_types.specs.Types.{type_of}
 use Rattle.nd_view.specs.Strides.{before_of, behind_of, kept_all}
 use Rattle.nd_view.specs.declared.strided.View.TheInside.{Inside}

@@ -1,8 +1,8 @@
 -- Runs of elements, and walks over a view by its runs.
 use Rattle.std.specs.Prelude.{◌≡◌, ℕ, ◌+◌, ◌^◌, ◌<◌, ◌≤◌, ℤ, pos, ◌≤ℤ◌, List, length, take, drop, slice_index}
-use Rattle.nd_model.specs.Runs.{place_at, spot_at, run_places, in_pieces}
-use Rattle.nd_model.specs.Tuple.{elements_of, number}
-use Rattle.nd_model.specs.View.{Geo}
+use Rattle.nd_model.specs.Arrays.Runs.{place_at, spot_at, run_places, in_pieces}
+use Rattle.nd_model.specs.Arrays.Tuple.{elements_of, number}
+use Rattle.nd_model.specs.Arrays.View.{Geo}
 use Rattle.nd_view.specs.Indexes.{IsIndex}
 use Rattle.nd_view.specs.declared.inner_loop.InnerLoop.{InnerLoop}
 use Rattle.nd_view.specs.declared.runs.Run.TheInside as run

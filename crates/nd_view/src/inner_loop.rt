@@ -1,12 +1,13 @@
-//! Inner loops: the last axes of an array, walked as one.
+//! `InnerLoop`: the last axes of an array, walked as one.
 ghost use Rattle.std.specs.Prelude.{◌≡◌, ◌-◌, ◌^◌, ◌≤◌, pos, length, drop, slice_index_or, IsTrue};
-ghost use Rattle.nd_model.specs.Tuple.{elements_of};
+ghost use Rattle.nd_model.specs.Arrays.Tuple.{elements_of};
 ghost use Rattle.nd_view.specs.Strides as strides;
 ghost use Rattle.nd_view.specs.Strides.{AreJoined, IsEvenBehind};
 
-use crate::shapes::{elements, length_of, step_on};
+use crate::shapes::{element_count, length_of, stride_of};
 
-/// The last axes of an array, walked as one: how many axes lie before them, and the step and the number of their elements.
+/// The last axes of an array, walked as one: how many axes lie before them, and the step and the
+/// number of their elements.
 #[derive(Clone, Copy)]
 pub(crate) struct InnerLoop {
     pub(crate) outer: usize,
@@ -14,7 +15,8 @@ pub(crate) struct InnerLoop {
     pub(crate) count: u64,
 }
 
-// Whether one step leads through an axis and the `count` elements behind each of its indexes, which are `step` bytes apart.
+// Whether an axis and the `count` elements behind each of its indices, which are `step` bytes
+// apart, are walked by one step.
 fn are_joined(length: u64, stride: i128, count: u64, step: i128) -> bool
     ensures { IsTrue result → AreJoined length stride count step }
 {
@@ -27,7 +29,7 @@ fn are_joined(length: u64, stride: i128, count: u64, step: i128) -> bool
     }
 }
 
-// That step.
+// The step by which they are walked.
 fn joined_step(length: u64, stride: i128, count: u64, step: i128) -> i128
     ensures { result ≡ strides.joined_step length stride count step }
 {
@@ -47,7 +49,7 @@ pub(crate) fn widest_loop(shape: &[u64], strides: &[i128]) -> InnerLoop
     ensures even { IsEvenBehind result.outer shape.now strides.now result.step }
     ensures alone { result.count ≡ 1 → result.step ≡ pos 0 }
 {
-    if elements(shape) == 0 {
+    if element_count(shape) == 0 {
         return InnerLoop {
             outer: 0,
             step: 0,
@@ -75,7 +77,7 @@ pub(crate) fn last_axis(shape: &[u64], strides: &[i128]) -> InnerLoop
     let outer = shape.len().saturating_sub(1);
     InnerLoop {
         outer,
-        step: step_on(strides, outer),
+        step: stride_of(strides, outer),
         count: length_of(shape, outer),
     }
 }

@@ -1,4 +1,4 @@
-//! Views: what an array is apart from its bytes.
+//! [`View`]: dtype, shape, strides and offset of an array, apart from its bytes.
 #![tactic(auto)]
 
 mod elements;
@@ -12,5 +12,5 @@ mod walk;
 
 pub use fault::ViewFault;
 pub use runs::{Run, Runs};
-pub use shapes::limit_fault;
+pub use shapes::{element_count, limit_fault, stride_of};
 pub use strided::{Index, Shape, View};

@@ -1,25 +1,25 @@
-//! Whether an offset and strides make a view of a block.
+//! `parts_fault`: whether an offset and strides make a view of a block.
 ghost use Rattle.std.specs.Prelude.{◌≡◌, ◌==◌, if◌then◌else◌, ◌*◌, ◌^◌, ◌<◌, ◌≤◌, length, IfOk};
 ghost use Rattle.std.specs.Option.{option_map};
-ghost use Rattle.nd_model.specs.Strides as model;
-ghost use Rattle.nd_model.specs.Tuple.{elements_of};
+ghost use Rattle.nd_model.specs.Arrays.Strides as model;
+ghost use Rattle.nd_model.specs.Arrays.Tuple.{elements_of};
 ghost use Rattle.nd_view.specs.Faults.{view_fault_of};
 ghost use Rattle.nd_view.specs.Strides as strides;
 ghost use Rattle.nd_view.specs.Strides.{before_of, behind_of, kept_all};
 
 use crate::fault::ViewFault;
-use crate::shapes::{elements, limit_fault};
+use crate::shapes::{element_count, limit_fault};
 use smallvec::SmallVec;
 use std::alloc::{AllocError, Global};
 
-// How far the elements of a view begin before its first one and behind it, in bytes.
+// The distances in bytes from the first element of a view to its lowest and its highest one.
 #[derive(Clone, Copy)]
 struct Extent {
     before: u128,
     behind: u128,
 }
 
-// How far the last element of an axis begins before the first one.
+// The distance from the first element of an axis down to the last one.
 fn before(length: u64, stride: i64) -> u128
     requires { (0 < length) × (length ≤ 2 ^ 24) }
     ensures { (result ≡ strides.before length stride) × (result ≤ 2 ^ 87) }
@@ -31,7 +31,7 @@ fn before(length: u64, stride: i64) -> u128
     }
 }
 
-// How far the last element of an axis begins behind the first one.
+// The distance from the first element of an axis up to the last one.
 fn behind(length: u64, stride: i64) -> u128
     requires { (0 < length) × (length ≤ 2 ^ 24) }
     ensures { (result ≡ strides.behind length stride) × (result ≤ 2 ^ 87) }
@@ -43,7 +43,7 @@ fn behind(length: u64, stride: i64) -> u128
     }
 }
 
-// The extent of lengths and strides: each axis reaches as far as its last element.
+// The extent of a view with these lengths and strides: the sum over its axes.
 fn extent_of(shape: &[u64], strides: &[i64]) -> Extent
     requires axes { length shape.now ≡ length strides.now }
     requires most { length shape.now ≤ 32 }
@@ -64,14 +64,14 @@ fn extent_of(shape: &[u64], strides: &[i64]) -> Extent
     extent
 }
 
-// Whether every byte of every element lies in a block of so many bytes.
+// Whether all bytes of all elements lie in a block of `block_len` bytes.
 fn are_held(size: u64, shape: &[u64], strides: &[i64], offset: u64, block_len: u64) -> bool
     requires axes { length shape.now ≡ length strides.now }
     requires size { size ≤ 65536 }
     requires limits { model.IsInLimits size shape.now }
     ensures { result ≡ model.are_held size block_len offset strides.now shape.now }
 {
-    if elements(shape) == 0 {
+    if element_count(shape) == 0 {
         return true;
     }
     let extent = extent_of(shape, strides);
@@ -79,7 +79,8 @@ fn are_held(size: u64, shape: &[u64], strides: &[i64], offset: u64, block_len: u
     extent.before <= offset && offset + extent.behind + u128::from(size) <= u128::from(block_len)
 }
 
-/// Returns why the parts make no view of a block of `block_len` bytes, if they make none.
+/// Returns why the parts make no view of a block of `block_len` bytes, or `None` where they make
+/// one.
 pub(crate) fn parts_fault(
     size: u64,
     shape: &[u64],
@@ -104,7 +105,7 @@ pub(crate) fn parts_fault(
     }
 }
 
-// The stride that is kept of an axis, where there are so many elements.
+// The stride of an axis as a view of `count` elements keeps it.
 fn kept_stride(count: u64, length: u64, stride: i64) -> i128
     ensures { result ≡ strides.kept count length stride }
 {
@@ -120,10 +121,11 @@ pub(crate) fn kept_offset(shape: &[u64], offset: u64) -> u64
     requires { elements_of shape.now ≤ 2 ^ 24 }
     ensures { result ≡ (if elements_of shape.now == 0 then 0 else offset) }
 {
-    if elements(shape) == 0 { 0 } else { offset }
+    if element_count(shape) == 0 { 0 } else { offset }
 }
 
-/// Returns the strides as a view keeps them: 0 on an axis that is not walked, and 0 where there are no elements.
+/// Returns the strides as a view keeps them: 0 on an axis of at most one element, and 0 on all
+/// where there are no elements.
 pub(crate) fn kept_strides(
     alloc: Global,
     shape: &[u64],
@@ -133,7 +135,7 @@ pub(crate) fn kept_strides(
     requires elements { elements_of shape.now ≤ 2 ^ 24 }
     ensures { IfOk result (λ v. v.items ≡ kept_all (elements_of shape.now) shape.now strides.now) }
 {
-    let count = elements(shape);
+    let count = element_count(shape);
     let mut all = SmallVec::new(alloc);
     for (axis, length) in shape.iter().enumerate() {
         all.push(kept_stride(count, *length, strides[axis]))?;
@@ -141,14 +143,14 @@ pub(crate) fn kept_strides(
     Ok(all)
 }
 
-// The same of a stride that a view may already have.
+// The stride of an axis as a view of `count` elements keeps it, in 128 bits.
 fn kept_step(count: u64, length: u64, stride: i128) -> i128
     ensures { result ≡ strides.kept count length stride }
 {
     if length > 1 && count > 0 { stride } else { 0 }
 }
 
-/// Returns strides that a view may already have, as another view keeps them.
+/// Returns strides that are those of a view already, as another view keeps them.
 pub(crate) fn kept_steps(
     alloc: Global,
     shape: &[u64],
@@ -158,7 +160,7 @@ pub(crate) fn kept_steps(
     requires elements { elements_of shape.now ≤ 2 ^ 24 }
     ensures { IfOk result (λ v. v.items ≡ kept_all (elements_of shape.now) shape.now strides.now) }
 {
-    let count = elements(shape);
+    let count = element_count(shape);
     let mut all = SmallVec::new(alloc);
     for (axis, length) in shape.iter().enumerate() {
         all.push(kept_step(count, *length, strides[axis]))?;

@@ -1,7 +1,7 @@
-//! Runs: elements one step apart, as axes of a view have them.
+//! `Runs`: the elements of a view in C order, as runs of elements one step apart.
 ghost use Rattle.std.specs.Prelude.{◌≡◌, ℕ, pos, ◌≤ℤ◌, ◌<◌, ◌≤◌, ◌^◌, [], ◌+◌, ◌∷◌, length, take, drop, slice_index, MatchOption};
 ghost use Rattle.std.specs.List.{concat};
-ghost use Rattle.nd_model.specs.Runs.{place_at, spot_at, run_places, in_pieces};
+ghost use Rattle.nd_model.specs.Arrays.Runs.{place_at, spot_at, run_places, in_pieces};
 ghost use Rattle.nd_view.specs.Walks.{IsInner};
 
 use crate::inner_loop::InnerLoop;
@@ -10,7 +10,7 @@ use crate::strided::View;
 use crate::walk::{advance, shift_place};
 use std::marker::Model;
 
-/// Elements that begin one step apart, at least one. A clause sees the list of their places.
+/// Elements that begin one step apart, at least one. A clause sees the list of their byte offsets.
 #[derive(Drop)]
 pub struct Run {
     start: u64,
@@ -41,14 +41,15 @@ impl Run {
         Run { start, step, count }
     }
 
-    /// Returns the place of the first element.
+    /// Returns the byte offset of the first element.
     pub fn start(&self) -> u64
         ensures { result ≡ slice_index self.now 0 }
     {
         self.start
     }
 
-    /// Returns how many bytes it is from one element to the next, which may be negative. It is 0 where there is one element.
+    /// Returns the bytes from one element to the next, which may be negative. The step of a single
+    /// element is 0.
     pub fn step(&self) -> i128
         ensures places { (k : ℕ) → k < length self.now → place_at (slice_index self.now 0) result k
             ≡ pos (slice_index self.now k) }
@@ -65,7 +66,7 @@ impl Run {
         self.count
     }
 
-    /// Returns the place of the element of this number.
+    /// Returns the byte offset of an element.
     #[inline]
     pub fn place(&self, number: u64) -> u64
         requires { number < length self.now }
@@ -74,7 +75,7 @@ impl Run {
         shift_place(self.start, number, self.step)
     }
 
-    /// Returns the run of so many of the elements, from the one of this number on.
+    /// Returns the run of `count` of the elements, from index `first` on.
     pub fn part(&self, first: u64, count: u64) -> Run
         requires some { 0 < count }
         requires inside { first + count ≤ length self.now }
@@ -87,14 +88,15 @@ impl Run {
     }
 }
 
-/// A walk over the runs of a view in C order. It takes no memory. A clause sees the list of the runs that are left.
+/// A walk over the runs of a view in C order. It takes no memory. A clause sees the list of the
+/// runs that are left.
 #[derive(Drop)]
 pub struct Runs<'v> {
     view: &'v View,
-    // the axes of a run, and the index of the axes before them
+    // the axes of a run, and the index tuple of the axes before them
     inner: InnerLoop,
     index: [u64; MOST_AXES],
-    // the number of the next element, and how many elements there are
+    // the number of the next element, and the number of all
     at: u64,
     count: u64,
 }

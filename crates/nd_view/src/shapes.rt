@@ -1,9 +1,9 @@
-//! Numbers of elements, limits and strides.
+//! `limit_fault`: the limits of arrays, and the strides of contiguous ones.
 ghost use Rattle.std.specs.Prelude.{◌≡◌, ◌*◌, ◌^◌, ◌<◌, ◌≤◌, nat_lt, pos, slice_index_or, false, IfOk, MatchOption};
 ghost use Rattle.std.specs.List.{list_any};
 ghost use Rattle.std.specs.Option.{option_map};
-ghost use Rattle.nd_model.specs.Strides as model;
-ghost use Rattle.nd_model.specs.Tuple.{elements_of};
+ghost use Rattle.nd_model.specs.Arrays.Strides as model;
+ghost use Rattle.nd_model.specs.Arrays.Tuple.{elements_of};
 ghost use Rattle.nd_view.specs.Faults.{view_fault_of};
 ghost use Rattle.nd_view.specs.Strides.{strides_of};
 
@@ -14,15 +14,15 @@ use std::alloc::{AllocError, Global};
 /// The most axes of an array.
 pub(crate) const MOST_AXES: usize = 32;
 
-// The most elements of an axis, of an array, and the most bytes of an array.
+// The longest axis; the most elements, and the most bytes, of an array.
 const LONGEST_AXIS: u64 = 1 << 32;
 
 const MOST_ELEMENTS: u64 = 1 << 24;
 
 const MOST_BYTES: u64 = 1 << 27;
 
-// The number of elements of a shape.
-pub(crate) fn elements(shape: &[u64]) -> u64
+/// Returns the number of elements of a shape: 1 for a shape without axes, 0 where an axis has no element.
+pub fn element_count(shape: &[u64]) -> u64
     requires { elements_of shape.now ≤ 2 ^ 24 }
     ensures { result ≡ elements_of shape.now }
 {
@@ -46,8 +46,8 @@ pub(crate) fn length_of(shape: &[u64], axis: usize) -> u64
     }
 }
 
-// The stride of an axis, 0 where there is no such axis.
-pub(crate) fn step_on(strides: &[i128], axis: usize) -> i128
+/// Returns the stride of an axis in bytes, 0 where there is no such axis.
+pub fn stride_of(strides: &[i128], axis: usize) -> i128
     ensures { result ≡ slice_index_or strides.now axis (pos 0) }
 {
     match strides.get(axis) {
@@ -56,7 +56,7 @@ pub(crate) fn step_on(strides: &[i128], axis: usize) -> i128
     }
 }
 
-// Whether an axis has too many elements.
+// Whether an axis is too long.
 fn has_long_axis(shape: &[u64]) -> bool
     ensures { result ≡ list_any (nat_lt (2 ^ 32)) shape.now }
 {
@@ -68,7 +68,7 @@ fn has_long_axis(shape: &[u64]) -> bool
     false
 }
 
-// The number of elements, `None` where they are too many.
+// The number of elements, `None` above the limit.
 fn elements_within(shape: &[u64]) -> Option<u64>
     requires { list_any (nat_lt (2 ^ 32)) shape.now ≡ false }
     ensures { MatchOption result (2 ^ 24 < elements_of shape.now) (λ n. (n ≡ elements_of shape.now)
@@ -87,7 +87,7 @@ fn elements_within(shape: &[u64]) -> Option<u64>
     Some(count)
 }
 
-// Whether an array with elements of `size` bytes is above the limits of its lengths.
+// Whether an array of itemsize `size` exceeds the limits of lengths, elements or bytes.
 fn is_too_large(size: u64, shape: &[u64]) -> bool
     requires { size ≤ 65536 }
     ensures { result ≡ model.is_too_large size shape.now }
@@ -101,8 +101,8 @@ fn is_too_large(size: u64, shape: &[u64]) -> bool
     }
 }
 
-/// Returns why there is no array of these lengths, with elements of `size` bytes: `TooManyAxes` above 32 axes, else
-/// `TooManyElements` where an axis, the elements or their bytes are too many.
+/// Returns why no array of itemsize `size` has this shape: `TooManyAxes` above 32 axes, else
+/// `TooManyElements` where an axis, the elements or their bytes exceed their limits.
 pub fn limit_fault(size: u64, shape: &[u64]) -> Option<ViewFault>
     requires { size ≤ 65536 }
     ensures { option_map view_fault_of result ≡ model.limit_fault size shape.now }
@@ -116,7 +116,7 @@ pub fn limit_fault(size: u64, shape: &[u64]) -> Option<ViewFault>
     None
 }
 
-// The strides of an array without gaps, each element of which has `size` bytes.
+// The strides of a contiguous array of itemsize `size`.
 pub(crate) fn steps(
     alloc: Global,
     size: u64,
@@ -127,7 +127,7 @@ pub(crate) fn steps(
     ensures { IfOk result (λ v. v.items ≡ strides_of size shape.now) }
 {
     let mut strides = SmallVec::new(alloc);
-    let mut step = elements(shape) * size;
+    let mut step = element_count(shape) * size;
     for length in shape {
         step = step.checked_div(*length).unwrap_or(0);
         strides.push(if *length <= 1 { 0 } else { i128::from(step) })?;

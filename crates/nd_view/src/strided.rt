@@ -1,11 +1,11 @@
 //! `View`: where the elements of an array lie in its bytes.
 ghost use Rattle.std.specs.Prelude.{◌≡◌, ◌+◌, ◌*◌, ◌^◌, ◌<◌, ◌≤◌, length, take, slice_index, false, IsTrue, ◌↔◌, IfOk, OnOk, MatchOption, unsigned_abs};
 ghost use Rattle.std.specs.List.{All, concat};
-ghost use Rattle.nd_model.specs.Runs.{runs_of};
-ghost use Rattle.nd_model.specs.Strides as model;
-ghost use Rattle.nd_model.specs.Strides.{IsInLimits, places_by};
-ghost use Rattle.nd_model.specs.Tuple.{elements_of, number};
-ghost use Rattle.nd_model.specs.View.{Geo, item_size, byte_places, contiguous};
+ghost use Rattle.nd_model.specs.Arrays.Runs.{runs_of};
+ghost use Rattle.nd_model.specs.Arrays.Strides as model;
+ghost use Rattle.nd_model.specs.Arrays.Strides.{IsInLimits, places_by};
+ghost use Rattle.nd_model.specs.Arrays.Tuple.{elements_of, number};
+ghost use Rattle.nd_model.specs.Arrays.View.{Geo, item_size, byte_places, contiguous};
 ghost use Rattle.nd_types.specs.Types.{type_of};
 ghost use Rattle.nd_view.specs.Faults.{view_given};
 ghost use Rattle.nd_view.specs.Indexes.{IsIndex};
@@ -16,7 +16,7 @@ use crate::fault::ViewFault;
 use crate::inner_loop::{last_axis, widest_loop};
 use crate::parts::{kept_offset, kept_steps, kept_strides, parts_fault};
 use crate::runs::Runs;
-use crate::shapes::{elements, steps};
+use crate::shapes::{element_count, steps};
 use crate::walk::{advance, place_by, shift_place};
 use nd_types::ElemType;
 use smallvec::SmallVec;
@@ -26,12 +26,14 @@ use std::marker::Model;
 /// The lengths of an array's axes. Up to eight lie in the value itself.
 pub type Shape = SmallVec<u64, 8>;
 
-/// An index tuple: a number for each axis.
+/// An index tuple: an index for each axis.
 pub type Index = SmallVec<u64, 8>;
 
-/// Where the elements of an array lie in its bytes: an offset, and for each axis a stride in bytes (PEP 3118). A stride is 0 on an
-/// axis of at most one element, and all of them and the offset are 0 where there are no elements, so that equal views have
-/// equal fields.
+/// Where the elements of an array lie in its bytes: an offset, and for each axis a stride, both in
+/// bytes (PEP 3118).
+///
+/// Equal views have equal fields: the stride is 0 on an axis of at most one element, and without
+/// elements all strides and the offset are 0.
 #[derive(Drop)]
 pub struct View {
     elem: ElemType,
@@ -42,7 +44,7 @@ pub struct View {
 }
 
 impl Model for View {
-    ghost use Rattle.nd_model.specs.View.{Geo};
+    ghost use Rattle.nd_model.specs.Arrays.View.{Geo};
 
     ghost Value = { Geo };
 
@@ -54,7 +56,9 @@ impl Model for View {
 }
 
 impl View {
-    /// Returns the view of an array alone in its block, in C order without gaps. It may be written to.
+    /// Returns the view of a contiguous array that fills its block. It is writable.
+    ///
+    /// Shape (3, 4) of `int64` has strides (32, 8) and offset 0.
     pub fn contiguous(alloc: Global, elem: ElemType, shape: &[u64]) -> Result<View, AllocError>
         requires { IsInLimits (item_size (type_of elem)) shape.now }
         ensures { IfOk result (λ v. v ≡ contiguous (type_of elem) shape.now) }
@@ -69,9 +73,11 @@ impl View {
         })
     }
 
-    /// Returns the view of a block of `block_len` bytes with these lengths, strides in bytes, and place of the first element, or
-    /// the first fault of: `AxesDiffer`, `TooManyAxes`, `TooManyElements`, `OutOfBlock`. It may be written to. A view without
-    /// elements lies in every block (PEP 3118, "strides").
+    /// Returns the view of a block of `block_len` bytes with this shape, these strides in bytes and
+    /// byte offset of the first element. It is writable. A view without elements lies in every
+    /// block (PEP 3118, "strides").
+    ///
+    /// Refused in this order: `AxesDiffer`, `TooManyAxes`, `TooManyElements`, `OutOfBlock`.
     pub fn from_parts(
         alloc: Global,
         elem: ElemType,
@@ -95,8 +101,8 @@ impl View {
         }))
     }
 
-    /// Returns the view with these lengths, strides in bytes, place of the first element and right to write. Each byte of each
-    /// element lies at a place from 0 to 2^64 - 1.
+    /// Returns the view with this shape, these strides in bytes, byte offset of the first element
+    /// and `writable`. All byte offsets must lie between 0 and 2^64 - 1.
     pub fn from_strides(
         alloc: Global,
         elem: ElemType,
@@ -136,7 +142,7 @@ impl View {
         })
     }
 
-    /// Returns what lies at each place.
+    /// Returns the dtype of the elements.
     pub fn elem(&self) -> &ElemType
         ensures { type_of result.now ≡ self.now.element }
     {
@@ -151,7 +157,7 @@ impl View {
         self.shape.as_slice()
     }
 
-    /// Returns how many bytes each axis goes on from one element to the next.
+    /// Returns the strides: the bytes from one element to the next along each axis.
     pub fn strides(&self) -> &[i128]
         ensures axes { length result.now ≡ length self.now.shape }
         ensures places { self.now.places ≡ places_by (slice_index self.now.places 0) result.now
@@ -161,7 +167,8 @@ impl View {
         self.strides.as_slice()
     }
 
-    /// Returns these strides, with what they keep to: from the first element they lead to places from 0 to 2^64 - 1.
+    /// Returns the strides. Their clauses also say that all byte offsets lie between 0 and 2^64 -
+    /// 1.
     pub fn held_strides(&self) -> &[i128]
         ensures held { model.parts_fault (item_size self.now.element) self.now.shape result.now
             (slice_index self.now.places 0) (2 ^ 64) ≡ None }
@@ -172,14 +179,15 @@ impl View {
         SmallVec::as_slice(&self.strides)
     }
 
-    /// Returns the place of the first element, 0 where there are none.
+    /// Returns the byte offset of the first element, 0 where there are none.
     pub fn offset(&self) -> u64
         ensures { result ≡ slice_index self.now.places 0 }
     {
         self.offset
     }
 
-    /// Returns whether both have the same types, lengths, right to write, and places in the same order.
+    /// Returns whether both have the same dtype, shape and `writable`, and the same byte offsets in
+    /// C order.
     pub fn is_same(&self, other: &View) -> bool
         ensures { IsTrue result ↔ (self.now ≡ other.now) }
     {
@@ -211,17 +219,17 @@ impl View {
         ensures elements { result ≡ elements_of self.now.shape }
         ensures limit { result ≤ 2 ^ 24 }
     {
-        elements(self.shape.as_slice()) as usize
+        element_count(self.shape.as_slice()) as usize
     }
 
-    /// Returns the place of the element of this number in C order.
+    /// Returns the byte offset of an element. `number` is its flat index in C order.
     pub fn place_of(&self, number: u64) -> u64
         requires { number < length self.now.places }
         ensures value { result ≡ slice_index self.now.places number }
         ensures limit { result + item_size self.now.element ≤ 2 ^ 64 }
     {
         let strides = self.strides.as_slice();
-        let mut each = elements(self.shape.as_slice());
+        let mut each = element_count(self.shape.as_slice());
         let mut left = number;
         let mut place = self.offset;
         for (axis, length) in self.shape.as_slice().iter().enumerate() {
@@ -244,7 +252,7 @@ impl View {
         Ok(Some(index))
     }
 
-    /// Returns the place of the element of an index tuple.
+    /// Returns the byte offset of the element of an index tuple.
     pub fn place(&self, index: &Index) -> u64
         requires { IsIndex self.now.shape index.now.items }
         ensures { result ≡ slice_index self.now.places (number self.now.shape index.now.items) }
@@ -252,7 +260,8 @@ impl View {
         place_by(self.offset, self.strides.as_slice(), index.as_slice())
     }
 
-    /// Moves the index tuple to the next one in C order, and returns whether there is one. At the last one it stays.
+    /// Moves the index tuple to the next one in C order, and returns whether there is one. The last
+    /// tuple stays.
     pub fn next(&self, index: &mut Index) -> bool
         requires { IsIndex self.now.shape index.old.items }
         ensures inside { IsIndex self.now.shape index.new.items }
@@ -265,8 +274,8 @@ impl View {
         advance(self.shape.as_slice(), index.as_mut_slice())
     }
 
-    /// Returns the elements in C order, in runs of as many as lie one step apart. Axes are walked together where one step leads
-    /// through them, as NumPy's iterator does: a view without gaps is one run.
+    /// Returns the elements in C order as runs. Axes are walked together where one step leads
+    /// through them, as NumPy's iterator does: a contiguous view is one run.
     pub fn runs(&self) -> Runs<'_>
         ensures places { concat result ≡ self.now.places }
         ensures ends { All (λ p. p + item_size self.now.element ≤ 2 ^ 64) self.now.places }
@@ -277,7 +286,8 @@ impl View {
         )
     }
 
-    /// Returns the runs of elements along the last axis, in C order. A view without axes has one run of one element.
+    /// Returns the runs of elements along the last axis, in C order. A view without axes has one
+    /// run of one element.
     pub fn rows(&self) -> Runs<'_>
         ensures value { result ≡ runs_of self.now }
         ensures places { concat result ≡ self.now.places }
@@ -289,7 +299,7 @@ impl View {
         )
     }
 
-    // The place of the first element at the index of the first axes.
+    // The byte offset of the first element with these indices on the first axes.
     pub(crate) fn place_on(&self, outer: &[u64]) -> u64
         requires inside { IsIndex (take (length outer.now) self.now.shape) outer.now }
         requires axes { length outer.now ≤ length self.now.shape }
@@ -299,7 +309,7 @@ impl View {
         place_by(self.offset, self.strides.as_slice(), outer)
     }
 
-    /// Returns the places of the bytes of all elements, without pad bytes.
+    /// Returns the byte offsets of the bytes of all elements, without pad bytes.
     pub fn byte_places(&self, alloc: Global) -> Result<Vec<u64>, AllocError>
         ensures { IfOk result (λ v. v.items ≡ byte_places self.now) }
     {

@@ -1,12 +1,12 @@
-//! Index tuples in C order.
+//! `advance` and `place_by`: index tuples in C order, and their byte offsets.
 ghost use Rattle.std.specs.Prelude.{◌≡◌, ◌+◌, ◌-◌, ◌^◌, ◌<◌, ◌≤◌, pos, ◌+ℤ◌, ◌*ℤ◌, ◌≤ℤ◌, ◌<ℤ◌, ◌++◌, length, take, drop, replicate, slice_index, false, IsTrue, ◌↔◌};
 ghost use Rattle.std.specs.List.{AllZip};
-ghost use Rattle.nd_model.specs.Tuple.{elements_of, number};
-ghost use Rattle.nd_model.specs.Strides.{place_at};
+ghost use Rattle.nd_model.specs.Arrays.Tuple.{elements_of, number};
+ghost use Rattle.nd_model.specs.Arrays.Strides.{place_at};
 ghost use Rattle.nd_view.specs.Indexes.{IsIndex};
 ghost use Rattle.nd_view.specs.Paths.{IsPath};
 
-// The place of an element from that of another, so many strides before it on one axis.
+// The byte offset `by` strides behind `place`.
 #[inline]
 pub(crate) fn shift_place(place: u64, by: u64, stride: i128) -> u64
     requires low { pos 0 ≤ℤ (pos place +ℤ (pos by *ℤ stride)) }
@@ -16,7 +16,8 @@ pub(crate) fn shift_place(place: u64, by: u64, stride: i128) -> u64
     (i128::from(place) + i128::from(by) * stride) as u64
 }
 
-// The place of the element of an index tuple. On the axes past the tuple's end its index is 0.
+// The byte offset of the element of an index tuple, which may lack the last axes: their indices are
+// 0.
 pub(crate) fn place_by(offset: u64, strides: &[i128], index: &[u64]) -> u64
     requires { IsPath offset strides.now index.now }
     ensures { result ≡ place_at offset strides.now index.now }
@@ -60,7 +61,7 @@ fn count_open_axes(shape: &[u64], index: &[u64]) -> usize
     axes
 }
 
-// Sets the indexes from an axis on to 0.
+// Sets the indices of the axes from `from` on to 0.
 fn clear_from(index: &mut [u64], from: usize)
     requires { from ≤ length index.old }
     ensures { index.new ≡ take from index.old ++ replicate (length index.old - from) 0 }

@@ -2,8 +2,8 @@
 use Rattle.std.proofs.Common.{◌≡◌, ◌<◌, ◌≤◌, ◌∷◌, List, ℕ, Option, Some, None, IfSome, true, false, length, refl, ap, subst, ◌∙◌, sym, arith, Bool}
 use Rattle.std.specs.Borrow.{Bor}
 use Rattle.nd_model.proofs.Parsing.Laws.{fits_many}
-use Rattle.nd_model.specs.Rules.{Rule, Nothing, Then, Many}
-use Rattle.nd_model.specs.RuleReading.{look, stands, run}
+use Rattle.nd_model.specs.Formats.Rules.{Rule, Nothing, Then, Many}
+use Rattle.nd_model.specs.Formats.RuleReading.{look, stands, run}
 use Rattle.nd_grammar.specs.Reads.{rule_of, ahead, after, rest_of}
 use Rattle.nd_grammar.proofs.Runs.{run_nothing, run_then, run_more, run_end, if_ok}
 use Rattle.nd_grammar.proofs.+read_rule.Goals as goal

@@ -1,7 +1,7 @@
 -- What is left is read as all of the tokens are, with the roles so far before it.
 use Rattle.std.proofs.Common.{◌≡◌, ◌≤◌, List, ◌∷◌, length}
-use Rattle.nd_model.specs.Rules.{Rule, Many}
-use Rattle.nd_model.specs.RuleReading.{run}
+use Rattle.nd_model.specs.Formats.Rules.{Rule, Many}
+use Rattle.nd_model.specs.Formats.RuleReading.{run}
 use Rattle.nd_grammar.specs.Reads.{rule_of, ahead}
 use Rattle.nd_grammar.proofs.+read_rule.Given as goal
 

@@ -1,6 +1,6 @@
 -- The rule is read before no rules.
 use Rattle.std.proofs.Common.{◌≡◌, ◌≤◌, length, List, [], ◌∷◌, ℕ, Bool, ap, subst, sym, ◌∙◌}
-use Rattle.nd_model.specs.RuleReading.{run, reading}
+use Rattle.nd_model.specs.Formats.RuleReading.{run, reading}
 use Rattle.nd_grammar.specs.Reads.{rule_of, ahead, after, rest_of, seen, roles_of}
 use Rattle.nd_grammar.proofs.Runs.{run_none, run_within}
 use Rattle.nd_grammar.proofs.read.Goals as goal

@@ -4,16 +4,16 @@ use Rattle.std.specs.Prelude.{bit_or}
 use Rattle.std.specs.Int.{bit_at}
 use Rattle.std.proofs.lemmas.Bool.{eqb-true}
 use Rattle.std.proofs.lemmas.Nat.Bits.{bit_at_or}
-use Rattle.nd_model.specs.Grammar.{Gram, One, Then, Or, Shut, Spans, Reaches, Opens, has}
-use Rattle.nd_model.specs.Predict.{Look, look, next_in}
-use Rattle.nd_model.specs.Faults.{IsBelow}
-use Rattle.nd_model.specs.Token.{Token}
-use Rattle.nd_model.specs.Syntax.{Expr, Called, PythonAbs, Buffer, Index, Stmt}
-use Rattle.nd_model.specs.Kinds.{kind, CALLED, PLUS, OPEN, NP_NO_SAVE, ABS, BUFFER, NAME, BOUND, OPERAND, PLACE, UNBOUND, INTEGER, TRUTH, ASSIGNMENT, SUFFIX, START}
-use Rattle.nd_model.specs.Cells.{Statement, Target, Level, unknown_call, left_out, token, function, quoted, grouped, name_of, written, name, operand, index, method, suffix, postfix, value, line, lines, under}
-use Rattle.nd_model.specs.Cells as cells
-use Rattle.nd_model.specs.Factored.{place, group, groups}
-use Rattle.nd_model.specs.Factored as factored
+use Rattle.nd_model.specs.Grammar.Grammar.{Gram, One, Then, Or, Shut, Spans, Reaches, Opens, has}
+use Rattle.nd_model.specs.Grammar.Predict.{Look, look, next_in}
+use Rattle.nd_model.specs.Grammar.Faults.{IsBelow}
+use Rattle.nd_model.specs.Grammar.Token.{Token}
+use Rattle.nd_model.specs.Grammar.Syntax.{Expr, Called, PythonAbs, Buffer, Index, Stmt}
+use Rattle.nd_model.specs.Grammar.Kinds.{kind, CALLED, PLUS, OPEN, NP_NO_SAVE, ABS, BUFFER, NAME, BOUND, OPERAND, PLACE, UNBOUND, INTEGER, TRUTH, ASSIGNMENT, SUFFIX, START}
+use Rattle.nd_model.specs.Grammar.Cells.{Statement, Target, Level, unknown_call, left_out, token, function, quoted, grouped, name_of, written, name, operand, index, method, suffix, postfix, value, line, lines, under}
+use Rattle.nd_model.specs.Grammar.Cells as cells
+use Rattle.nd_model.specs.Grammar.Factored.{place, group, groups}
+use Rattle.nd_model.specs.Grammar.Factored as factored
 use Rattle.nd_model.proofs.Parsing.Sets.{which, true_false, eq-true, has_left}
 use Rattle.nd_model.proofs.Parsing.Laws.{none, whole, front, starts, opens_first}
 use Rattle.nd_model.proofs.Parsing.Below.{below_refl, below_trans, below_then, below_or}

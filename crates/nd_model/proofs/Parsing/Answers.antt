@@ -1,8 +1,8 @@
 -- Reading all tokens: exactly the texts are read, each has one meaning, and any other has its fault.
 use Rattle.std.proofs.Common.{◌≡◌, ◌≢◌, ℕ, ◌≤◌, true, List, [], ◌∷◌, length, Ok, Err, refl, sym, ap, subst, ◌∙◌, inl, inr}
-use Rattle.nd_model.specs.Grammar.{Stop, Opens, Gram, Spans}
-use Rattle.nd_model.specs.Faults.{Means, HasFault, IsBelow}
-use Rattle.nd_model.specs.Predict.{stop, read, look, ended, read_all}
+use Rattle.nd_model.specs.Grammar.Grammar.{Stop, Opens, Gram, Spans}
+use Rattle.nd_model.specs.Grammar.Faults.{Means, HasFault, IsBelow}
+use Rattle.nd_model.specs.Grammar.Predict.{stop, read, look, ended, read_all}
 use Rattle.nd_model.proofs.Parsing.Sets.{ok_is, err_is, bind_ok, bind_err, left_of}
 use Rattle.nd_model.proofs.Parsing.Laws.{whole}
 use Rattle.nd_model.proofs.Parsing.Exact.{sound, stops}

@@ -1,7 +1,7 @@
 -- Grammars with the same texts and fronts, part by part.
 use Rattle.std.proofs.Common.{ℕ, List, inl, inr}
-use Rattle.nd_model.specs.Grammar.{Gram, Then, Or}
-use Rattle.nd_model.specs.Faults.{IsBelow}
+use Rattle.nd_model.specs.Grammar.Grammar.{Gram, Then, Or}
+use Rattle.nd_model.specs.Grammar.Faults.{IsBelow}
 
 pub below_refl : {T C : Type 0} (kind : List T → ℕ) (g : Gram T C) → IsBelow kind g g
 below_refl kind g = record { spans = λ ts rest c h. h; reaches = λ ts rest h. h; opens = λ ts rest w h. h }

@@ -4,16 +4,16 @@ use Rattle.std.specs.Prelude.{slice_get, IsSome, ◌&&◌, ◌==◌}
 use Rattle.std.proofs.lemmas.Bool.{eqb-true}
 use Rattle.std.proofs.lemmas.List.{length-append}
 use Rattle.std.proofs.lemmas.Option.{slice_get-get_or}
-use Rattle.nd_model.specs.Grammar.{Gram, Done, Here, One, Then, Or, Many, Shut, Stop, has, Repeats, Spans, Reaches}
-use Rattle.nd_model.specs.Faults.{HasFault}
-use Rattle.nd_model.specs.Predict.{apart}
-use Rattle.nd_model.specs.Token.{Word, Name, Keyword, End, Token}
-use Rattle.nd_model.specs.Lexing.{is_end, AreStatements}
-use Rattle.nd_model.specs.Syntax.{Expr, Elements, Stmt, Line}
-use Rattle.nd_model.specs.Kinds.{OPEN, OPEN_ONE, OPEN_SOME, DTYPE, DTYPE_BOUND, name_kinds, keyword_kinds, kind_of_symbol, kind, kind_of_word, END}
-use Rattle.nd_model.specs.Cells.{Level, Bottom, Under, Spot, Anywhere, FirstItem, LaterItem, Length, Number, AxisNumber, name, grouped, bound_in, step_in, slice, newaxis_name, newaxis, elements, list, part, item, nothing, contents, index, exprs, quoted, no_lengths, tuple, shape, kind_name, type_name, pair, fields, dtype, typing, only_typing, comma_typing, named_axis, numbered_axis, named_keepdims, only_keepdims, comma_keepdims, options, comma_options, first_axis, third, second, arange, filled, full, new_array, broadcast_to, two, reduce, accumulate, fold, call, function, empty, type_argument, axes, lengths, reduction_options, reduction, accumulation, attribute, method, operand, suffix, postfix, exponent, power, signed, unary, term, sum, shift, band, bxor, bor, comparison, expr, under, module_name, imports, delete, printed, print, saved, save, value, line, lines}
-use Rattle.nd_model.specs.Cells as cells
-use Rattle.nd_model.specs.Factored.{bind, place, group, groups, target, assign, stmt, cell}
+use Rattle.nd_model.specs.Grammar.Grammar.{Gram, Done, Here, One, Then, Or, Many, Shut, Stop, has, Repeats, Spans, Reaches}
+use Rattle.nd_model.specs.Grammar.Faults.{HasFault}
+use Rattle.nd_model.specs.Grammar.Predict.{apart}
+use Rattle.nd_model.specs.Grammar.Token.{Word, Name, Keyword, End, Token}
+use Rattle.nd_model.specs.Grammar.Lexing.{is_end, AreStatements}
+use Rattle.nd_model.specs.Grammar.Syntax.{Expr, Elements, Stmt, Line}
+use Rattle.nd_model.specs.Grammar.Kinds.{OPEN, OPEN_ONE, OPEN_SOME, DTYPE, DTYPE_BOUND, name_kinds, keyword_kinds, kind_of_symbol, kind, kind_of_word, END}
+use Rattle.nd_model.specs.Grammar.Cells.{Level, Bottom, Under, Spot, Anywhere, FirstItem, LaterItem, Length, Number, AxisNumber, name, grouped, bound_in, step_in, slice, newaxis_name, newaxis, elements, list, part, item, nothing, contents, index, exprs, quoted, no_lengths, tuple, shape, kind_name, type_name, pair, fields, dtype, typing, only_typing, comma_typing, named_axis, numbered_axis, named_keepdims, only_keepdims, comma_keepdims, options, comma_options, first_axis, third, second, arange, filled, full, new_array, broadcast_to, two, reduce, accumulate, fold, call, function, empty, type_argument, axes, lengths, reduction_options, reduction, accumulation, attribute, method, operand, suffix, postfix, exponent, power, signed, unary, term, sum, shift, band, bxor, bor, comparison, expr, under, module_name, imports, delete, printed, print, saved, save, value, line, lines}
+use Rattle.nd_model.specs.Grammar.Cells as cells
+use Rattle.nd_model.specs.Grammar.Factored.{bind, place, group, groups, target, assign, stmt, cell}
 use Rattle.nd_model.proofs.Parsing.Sets.{and_true, apart_false}
 use Rattle.nd_model.proofs.Parsing.Words.{by_place, implied, so, by_both, no_keyword, no_name}
 use Rattle.nd_model.proofs.Parsing.Unique.{front_end}

@@ -1,7 +1,7 @@
 -- What reading by a grammar gives: its texts with their meanings, and of any other text the longest front.
 use Rattle.std.proofs.Common.{cond, ◌≡◌, ◌≢◌, ℕ, zero, suc, Bool, true, List, [], ◌∷◌, length, Result, Ok, Err, refl, sym, ap, subst, ◌∙◌, inl, inr}
-use Rattle.nd_model.specs.Grammar.{Stop, Gram, Done, Here, One, Then, Or, Many, Shut, has, Repeats, Spans, Reaches, Opens}
-use Rattle.nd_model.specs.Predict.{◌>>=◌, next_in, stop, read_many, read}
+use Rattle.nd_model.specs.Grammar.Grammar.{Stop, Gram, Done, Here, One, Then, Or, Many, Shut, has, Repeats, Spans, Reaches, Opens}
+use Rattle.nd_model.specs.Grammar.Predict.{◌>>=◌, next_in, stop, read_many, read}
 use Rattle.nd_model.proofs.Parsing.Sets.{Err-of, which, chosen, ok_is, err_is, bind_ok, bind_err}
 
 -- ---- what is read is a text

@@ -1,16 +1,16 @@
 -- Texts, and what they mean.
 use Rattle.std.proofs.Common.{◌≡◌, ◌++◌, ◌+◌, ◌^◌, ℕ, true, List, [], ◌∷◌, None, Some, Ok, Err, refl}
 use Rattle.std.specs.Prelude.{codes, bit_or}
-use Rattle.nd_model.specs.Lexing.{tokens, tokens_from, piece_at, word_at, keywords, symbols}
-use Rattle.nd_model.specs.Element.{Int8}
-use Rattle.nd_model.specs.Calls.{Zeros, Sum, KindName, Simple}
-use Rattle.nd_model.specs.Syntax.{Name, Integer, Truth, Unary, Negative, Binary, Multiply, Subtract, Power, Less, Called, Arange, Filled, Attribute, Transpose, Reduced, AtAxis, NoExpr, AndExpr, Expr, Item, Index, Items, AndItem, NoItem, At, Omitted, Import, Bind, Augment, Assign, AugmentItem, Delete, Print}
-use Rattle.nd_model.specs.Fault.{ParseKind, BadToken, Unexpected, UnknownCall, LeftOut}
-use Rattle.nd_model.specs.Grammar.{has}
-use Rattle.nd_model.specs.Kinds.{keyword_kinds, name_kinds, NAME, CALLED, ANY_NAME, NUMPY, NUMPY_CALLED, FUNCTION, NO_FUNCTION, KIND_PLAIN, NO_KIND, REDUCE, ACCUMULATE, NO_FOLD, TRANSPOSED, TRANSPOSE, RESHAPE, COPY, CONVERSION, REDUCTION, ACCUMULATION, NO_METHOD, OPERAND}
-use Rattle.nd_model.specs.Cells.{name, grouped, bound_in, step_in, slice, newaxis, elements, list, part, item, nothing, contents, index, exprs, quoted, no_lengths, tuple, shape, kind_name, type_name, pair, fields, dtype, typing, only_typing, comma_typing, named_axis, numbered_axis, named_keepdims, only_keepdims, comma_keepdims, options, comma_options, first_axis, third, second, arange, filled, full, new_array, broadcast_to, two, reduce, accumulate, fold, call, function, empty, type_argument, axes, lengths, reduction_options, reduction, accumulation, attribute, method, operand, suffix, postfix, exponent, power, signed, unary, term, sum, shift, band, bxor, bor, comparison, expr, under, module_name, imports, delete, printed, print, saved, save, value, line, lines}
-use Rattle.nd_model.specs.Factored.{bind, place, group, groups, target, assign, stmt, cell}
-use Rattle.nd_model.specs.Reading.{reading}
+use Rattle.nd_model.specs.Grammar.Lexing.{tokens, tokens_from, piece_at, word_at, keywords, symbols}
+use Rattle.nd_model.specs.Arrays.Element.{Int8}
+use Rattle.nd_model.specs.Grammar.Calls.{Zeros, Sum, KindName, Simple}
+use Rattle.nd_model.specs.Grammar.Syntax.{Name, Integer, Truth, Unary, Negative, Binary, Multiply, Subtract, Power, Less, Called, Arange, Filled, Attribute, Transpose, Reduced, AtAxis, NoExpr, AndExpr, Expr, Item, Index, Items, AndItem, NoItem, At, Omitted, Import, Bind, Augment, Assign, AugmentItem, Delete, Print}
+use Rattle.nd_model.specs.Cells.Fault.{ParseKind, BadToken, Unexpected, UnknownCall, LeftOut}
+use Rattle.nd_model.specs.Grammar.Grammar.{has}
+use Rattle.nd_model.specs.Grammar.Kinds.{keyword_kinds, name_kinds, NAME, CALLED, ANY_NAME, NUMPY, NUMPY_CALLED, FUNCTION, NO_FUNCTION, KIND_PLAIN, NO_KIND, REDUCE, ACCUMULATE, NO_FOLD, TRANSPOSED, TRANSPOSE, RESHAPE, COPY, CONVERSION, REDUCTION, ACCUMULATION, NO_METHOD, OPERAND}
+use Rattle.nd_model.specs.Grammar.Cells.{name, grouped, bound_in, step_in, slice, newaxis, elements, list, part, item, nothing, contents, index, exprs, quoted, no_lengths, tuple, shape, kind_name, type_name, pair, fields, dtype, typing, only_typing, comma_typing, named_axis, numbered_axis, named_keepdims, only_keepdims, comma_keepdims, options, comma_options, first_axis, third, second, arange, filled, full, new_array, broadcast_to, two, reduce, accumulate, fold, call, function, empty, type_argument, axes, lengths, reduction_options, reduction, accumulation, attribute, method, operand, suffix, postfix, exponent, power, signed, unary, term, sum, shift, band, bxor, bor, comparison, expr, under, module_name, imports, delete, printed, print, saved, save, value, line, lines}
+use Rattle.nd_model.specs.Grammar.Factored.{bind, place, group, groups, target, assign, stmt, cell}
+use Rattle.nd_model.specs.Grammar.Reading.{reading}
 
 abbrev is_refused : List ℕ → ParseKind → ℕ → ℕ → Type 0
 is_refused text kind line column = reading text ≡ Err (record { kind = kind; line = line; column = column })

@@ -1,8 +1,8 @@
 -- What reading by a grammar gives: its texts with their meanings, and of any other text the longest front.
 use Rattle.std.proofs.Common.{◌≡◌, ℕ, ◌<◌, true, false, List, [], ◌∷◌, length, refl, subst, ◌∙◌, arith, inl, inr, ◌⊎◌}
 use Rattle.std.proofs.lemmas.Bool.{eqb-true}
-use Rattle.nd_model.specs.Grammar.{Gram, Done, Here, One, Then, Or, Many, Shut, Repeats, Spans, Reaches, Opens}
-use Rattle.nd_model.specs.Predict.{next_in, Look, apart, look_then, look_or, look_many, look}
+use Rattle.nd_model.specs.Grammar.Grammar.{Gram, Done, Here, One, Then, Or, Many, Shut, Repeats, Spans, Reaches, Opens}
+use Rattle.nd_model.specs.Grammar.Predict.{next_in, Look, apart, look_then, look_or, look_many, look}
 use Rattle.nd_model.proofs.Parsing.Sets.{true_false, and_true, not_not, next_left, next_right, also_left, also_right}
 
 -- ---- what fits

@@ -1,13 +1,13 @@
 -- One token of lookahead tells how to read each rule, at each level.
 use Rattle.std.proofs.Common.{◌≡◌, ◌+◌, ℕ, zero, suc, true, false, refl, ap, ◌⊎◌, inl, inr}
 use Rattle.std.specs.Prelude.{bit_or}
-use Rattle.nd_model.specs.Grammar.{Gram}
-use Rattle.nd_model.specs.Predict.{Look, look}
-use Rattle.nd_model.specs.Token.{Token}
-use Rattle.nd_model.specs.Syntax.{Expr, Elements, Stmt}
-use Rattle.nd_model.specs.Kinds.{CALLED, PLUS, SIGN, OPEN, OPEN_NONE, OPEN_TUPLE, ABS, BUFFER, NP, QUOTED, OPEN_BRACKET, DOT, ANY_NAME, DTYPE, DTYPE_BOUND, AXIS, AXIS_BOUND, KEEPDIMS_BOUND, FIRST_AXIS, SUFFIX, NP_SAVE, POWER, PRODUCT, SUM, SHIFT, AMPERSAND, CARET, BAR, COMPARISON, COMMA, ASSIGNMENT, EXPR, PLACE_START, START, ANY}
-use Rattle.nd_model.specs.Cells.{Spot, Anywhere, Statement, Target, FirstItem, LaterItem, Length, Number, AxisNumber, leaves, modules, openings, Level, Bottom, Under, Inside, name, grouped, bound_in, step_in, slice, newaxis_name, newaxis, elements, list, part, item, nothing, contents, index, exprs, quoted, no_lengths, tuple, shape, kind_name, type_name, pair, fields, dtype, typing, only_typing, comma_typing, named_axis, numbered_axis, named_keepdims, only_keepdims, comma_keepdims, options, comma_options, first_axis, third, second, arange, filled, full, new_array, broadcast_to, two, reduce, accumulate, fold, call, function, empty, type_argument, axes, lengths, reduction_options, reduction, accumulation, attribute, method, operand, suffix, postfix, exponent, power, signed, unary, term, sum, shift, band, bxor, bor, comparison, expr, under, module_name, imports, delete, printed, print, saved, save, value, line, lines}
-use Rattle.nd_model.specs.Factored.{bind, place, group, groups, target, assign, stmt, cell}
+use Rattle.nd_model.specs.Grammar.Grammar.{Gram}
+use Rattle.nd_model.specs.Grammar.Predict.{Look, look}
+use Rattle.nd_model.specs.Grammar.Token.{Token}
+use Rattle.nd_model.specs.Grammar.Syntax.{Expr, Elements, Stmt}
+use Rattle.nd_model.specs.Grammar.Kinds.{CALLED, PLUS, SIGN, OPEN, OPEN_NONE, OPEN_TUPLE, ABS, BUFFER, NP, QUOTED, OPEN_BRACKET, DOT, ANY_NAME, DTYPE, DTYPE_BOUND, AXIS, AXIS_BOUND, KEEPDIMS_BOUND, FIRST_AXIS, SUFFIX, NP_SAVE, POWER, PRODUCT, SUM, SHIFT, AMPERSAND, CARET, BAR, COMPARISON, COMMA, ASSIGNMENT, EXPR, PLACE_START, START, ANY}
+use Rattle.nd_model.specs.Grammar.Cells.{Spot, Anywhere, Statement, Target, FirstItem, LaterItem, Length, Number, AxisNumber, leaves, modules, openings, Level, Bottom, Under, Inside, name, grouped, bound_in, step_in, slice, newaxis_name, newaxis, elements, list, part, item, nothing, contents, index, exprs, quoted, no_lengths, tuple, shape, kind_name, type_name, pair, fields, dtype, typing, only_typing, comma_typing, named_axis, numbered_axis, named_keepdims, only_keepdims, comma_keepdims, options, comma_options, first_axis, third, second, arange, filled, full, new_array, broadcast_to, two, reduce, accumulate, fold, call, function, empty, type_argument, axes, lengths, reduction_options, reduction, accumulation, attribute, method, operand, suffix, postfix, exponent, power, signed, unary, term, sum, shift, band, bxor, bor, comparison, expr, under, module_name, imports, delete, printed, print, saved, save, value, line, lines}
+use Rattle.nd_model.specs.Grammar.Factored.{bind, place, group, groups, target, assign, stmt, cell}
 
 -- what begins with a token of `first`, and may go on with one of `ext`
 abbrev pub seen : ℕ → ℕ → Look

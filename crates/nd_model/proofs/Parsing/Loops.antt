@@ -1,7 +1,7 @@
 -- Reading parts one after the other, as a loop does.
 use Rattle.std.proofs.Common.{◌≡◌, ℕ, zero, suc, ◌<◌, ◌≤◌, Bool, true, false, cond, List, [], ◌∷◌, length, ◌++◌, append_assoc, Result, Ok, Err, refl, sym, ap, subst, ◌∙◌, arith, inl, inr}
-use Rattle.nd_model.specs.Grammar.{Stop, Gram, One, Then, Many, Shut, has}
-use Rattle.nd_model.specs.Predict.{◌>>=◌, next_in, stop, read_many, read, look}
+use Rattle.nd_model.specs.Grammar.Grammar.{Stop, Gram, One, Then, Many, Shut, has}
+use Rattle.nd_model.specs.Grammar.Predict.{◌>>=◌, next_in, stop, read_many, read, look}
 use Rattle.nd_model.proofs.Parsing.Sets.{true_false, chosen, ok_is, bind_ok, left_of}
 use Rattle.std.proofs.lemmas.List.{append-nil}
 use Rattle.nd_model.proofs.Parsing.Laws.{front}

@@ -1,13 +1,13 @@
 -- What the grammar knows behind each token of a cell is settled by the token alone.
 use Rattle.std.proofs.Common.{◌≡◌, ◌+◌, ℕ, zero, suc, true, false, refl, inl, inr}
 use Rattle.std.specs.Prelude.{bit_or}
-use Rattle.nd_model.specs.Grammar.{Gram}
-use Rattle.nd_model.specs.Predict.{look}
-use Rattle.nd_model.specs.Token.{Token}
-use Rattle.nd_model.specs.Syntax.{Expr, Elements, Stmt}
-use Rattle.nd_model.specs.Kinds.{CLOSE, OPEN, OPEN_BRACKET, CLOSE_BRACKET, COMMA, COLON, SUFFIX, POWER, PRODUCT, SUM, SHIFT, AMPERSAND, CARET, BAR, COMPARISON, ASSIGNMENT, ANY_NAME, EXPR, DTYPE, DTYPE_BOUND, AXIS, AXIS_BOUND, END, START}
-use Rattle.nd_model.specs.Cells.{Spot, Anywhere, Statement, FirstItem, LaterItem, Length, Number, AxisNumber, modules, openings, Level, Bottom, Under, Inside, name, grouped, bound_in, step_in, slice, newaxis_name, newaxis, elements, list, part, item, nothing, contents, index, exprs, quoted, no_lengths, tuple, shape, kind_name, type_name, pair, fields, dtype, typing, only_typing, comma_typing, named_axis, numbered_axis, named_keepdims, only_keepdims, comma_keepdims, options, comma_options, first_axis, third, second, arange, filled, full, new_array, broadcast_to, two, reduce, accumulate, fold, call, function, empty, type_argument, axes, lengths, reduction_options, reduction, accumulation, attribute, method, operand, suffix, postfix, exponent, power, signed, unary, chain, term, sum, shift, band, bxor, bor, comparison, expr, under, module_name, imports, delete, printed, print, saved, save, value, bind, target, assign, stmt, line, lines, cell}
-use Rattle.nd_model.specs.Lookahead.{from, LookaheadChooses}
+use Rattle.nd_model.specs.Grammar.Grammar.{Gram}
+use Rattle.nd_model.specs.Grammar.Predict.{look}
+use Rattle.nd_model.specs.Grammar.Token.{Token}
+use Rattle.nd_model.specs.Grammar.Syntax.{Expr, Elements, Stmt}
+use Rattle.nd_model.specs.Grammar.Kinds.{CLOSE, OPEN, OPEN_BRACKET, CLOSE_BRACKET, COMMA, COLON, SUFFIX, POWER, PRODUCT, SUM, SHIFT, AMPERSAND, CARET, BAR, COMPARISON, ASSIGNMENT, ANY_NAME, EXPR, DTYPE, DTYPE_BOUND, AXIS, AXIS_BOUND, END, START}
+use Rattle.nd_model.specs.Grammar.Cells.{Spot, Anywhere, Statement, FirstItem, LaterItem, Length, Number, AxisNumber, modules, openings, Level, Bottom, Under, Inside, name, grouped, bound_in, step_in, slice, newaxis_name, newaxis, elements, list, part, item, nothing, contents, index, exprs, quoted, no_lengths, tuple, shape, kind_name, type_name, pair, fields, dtype, typing, only_typing, comma_typing, named_axis, numbered_axis, named_keepdims, only_keepdims, comma_keepdims, options, comma_options, first_axis, third, second, arange, filled, full, new_array, broadcast_to, two, reduce, accumulate, fold, call, function, empty, type_argument, axes, lengths, reduction_options, reduction, accumulation, attribute, method, operand, suffix, postfix, exponent, power, signed, unary, chain, term, sum, shift, band, bxor, bor, comparison, expr, under, module_name, imports, delete, printed, print, saved, save, value, bind, target, assign, stmt, line, lines, cell}
+use Rattle.nd_model.specs.Grammar.Lookahead.{from, LookaheadChooses}
 use Rattle.nd_model.proofs.Parsing.Looks.{IsKnown, IsKnownInside, below, here, known_here, known, seen, lines_start, look_list, look_nothing, look_index, look_tuple, look_no_lengths, look_shape, look_pair, look_dtype, look_typing, look_comma_typing, look_named_axis, look_numbered_axis, look_comma_keepdims, look_comma_options, look_third, look_second, look_arange, look_filled, look_full, look_new_array, look_broadcast_to, look_grouped, look_two, look_reduce, look_accumulate, look_fold, look_quoted, look_call, look_axes, look_lengths, look_empty, look_type_argument, look_reduction, look_accumulation, look_suffix, look_exponent, look_unary, look_term, look_sum, look_shift, look_band, look_bxor, look_bor, look_expr, look_value, look_printed, look_postfix, look_saved}
 use Rattle.nd_model.proofs.Parsing.Settled.{settled, settled_or, settled_is, places, places_are}
 

@@ -4,8 +4,8 @@ use Rattle.std.specs.Prelude.{bit_and, bit_or, ◌==◌, ◌&&◌, not}
 use Rattle.std.specs.Int.{bit_at}
 use Rattle.std.proofs.lemmas.Bool.{eqb-true}
 use Rattle.std.proofs.lemmas.Nat.Bits.{bit_at_or, bit_at_and, bit_at-zero, bit_at-lt}
-use Rattle.nd_model.specs.Grammar.{Stop, has}
-use Rattle.nd_model.specs.Predict.{◌>>=◌, next_in, apart, also}
+use Rattle.nd_model.specs.Grammar.Grammar.{Stop, has}
+use Rattle.nd_model.specs.Grammar.Predict.{◌>>=◌, next_in, apart, also}
 
 pub eq-true : (a b : ℕ) → a ≡ b → (a == b) ≡ true
 eq-true a b e = eq-eqb a b e

@@ -4,11 +4,11 @@ use Rattle.std.specs.Prelude.{◌&&◌, ◌||◌, not, bit_or, max}
 use Rattle.std.specs.Int.{bit_at}
 use Rattle.std.proofs.lemmas.Bool.{eqb-true}
 use Rattle.std.proofs.lemmas.Nat.Bits.{bit_at_or}
-use Rattle.nd_model.specs.Grammar.{Gram, Done, Here, One, Then, Or, Many, Shut, has}
-use Rattle.nd_model.specs.Predict.{look}
-use Rattle.nd_model.specs.Token.{Word, Name, Keyword, Token}
-use Rattle.nd_model.specs.Kinds.{kind_of_symbol, kind_in, name_kinds, before_next, refined, kind_of_word}
-use Rattle.nd_model.specs.Lookahead.{IsSettled, from, AreSettled}
+use Rattle.nd_model.specs.Grammar.Grammar.{Gram, Done, Here, One, Then, Or, Many, Shut, has}
+use Rattle.nd_model.specs.Grammar.Predict.{look}
+use Rattle.nd_model.specs.Grammar.Token.{Word, Name, Keyword, Token}
+use Rattle.nd_model.specs.Grammar.Kinds.{kind_of_symbol, kind_in, name_kinds, before_next, refined, kind_of_word}
+use Rattle.nd_model.specs.Grammar.Lookahead.{IsSettled, from, AreSettled}
 use Rattle.nd_model.proofs.Parsing.Sets.{which, and_true, and_both, eq-true}
 use Rattle.nd_model.proofs.Parsing.Words.{or_second, by_table, all_below, by_both, by_before}
 

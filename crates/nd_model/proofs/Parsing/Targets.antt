@@ -1,13 +1,13 @@
 -- A target as it is published, and as it is read: (index | method)* index is (method* index)+.
 use Rattle.std.proofs.Common.{ℕ, ◌≡◌, List, [], ◌∷◌, ◌++◌, map, inl, inr, ◌⊎◌, refl, sym, ap, subst, ◌∙◌}
-use Rattle.nd_model.specs.Grammar.{Gram, Then, Or, Many, Repeats, Spans, Reaches, Opens}
-use Rattle.nd_model.specs.Faults.{IsBelow}
+use Rattle.nd_model.specs.Grammar.Grammar.{Gram, Then, Or, Many, Repeats, Spans, Reaches, Opens}
+use Rattle.nd_model.specs.Grammar.Faults.{IsBelow}
 use Rattle.nd_model.proofs.Parsing.Laws.{none, whole}
-use Rattle.nd_model.specs.Token.{Token}
-use Rattle.nd_model.specs.Syntax.{Expr, Index, Method, Item}
-use Rattle.nd_model.specs.Kinds.{kind, DOT, OPEN_BRACKET, SUFFIX}
-use Rattle.nd_model.specs.Cells.{mapped, Suffix, AtIndex, OfMethod, suffixed}
-use Rattle.nd_model.specs.Factored.{Group, attributed, placed}
+use Rattle.nd_model.specs.Grammar.Token.{Token}
+use Rattle.nd_model.specs.Grammar.Syntax.{Expr, Index, Method, Item}
+use Rattle.nd_model.specs.Grammar.Kinds.{kind, DOT, OPEN_BRACKET, SUFFIX}
+use Rattle.nd_model.specs.Grammar.Cells.{mapped, Suffix, AtIndex, OfMethod, suffixed}
+use Rattle.nd_model.specs.Grammar.Factored.{Group, attributed, placed}
 
 module _ (m : Gram Token Method) (x : Gram Token Index) where
   abbrev trailer : Gram Token Suffix

@@ -1,16 +1,16 @@
 -- What is read of a text is what the grammar says of it.
 use Rattle.std.proofs.Common.{◌≡◌, ℕ, List, [], inl, inr, Result, Ok, Err, refl, sym, ap, ◌∙◌}
-use Rattle.nd_model.specs.Grammar.{Stop}
-use Rattle.nd_model.specs.Faults.{HasFault}
-use Rattle.nd_model.specs.Predict.{read_all}
-use Rattle.nd_model.specs.Token.{Token}
-use Rattle.nd_model.specs.Fault.{ParseFault}
-use Rattle.nd_model.specs.Syntax.{Line, Parsed}
-use Rattle.nd_model.specs.Lexing.{tokens}
-use Rattle.nd_model.specs.Kinds.{kind}
-use Rattle.nd_model.specs.Factored.{cell}
-use Rattle.nd_model.specs.Cells as cells
-use Rattle.nd_model.specs.Reading.{fault_at, parsed, reading_of, reading, IsCell, HasCellFault}
+use Rattle.nd_model.specs.Grammar.Grammar.{Stop}
+use Rattle.nd_model.specs.Grammar.Faults.{HasFault}
+use Rattle.nd_model.specs.Grammar.Predict.{read_all}
+use Rattle.nd_model.specs.Grammar.Token.{Token}
+use Rattle.nd_model.specs.Cells.Fault.{ParseFault}
+use Rattle.nd_model.specs.Grammar.Syntax.{Line, Parsed}
+use Rattle.nd_model.specs.Grammar.Lexing.{tokens}
+use Rattle.nd_model.specs.Grammar.Kinds.{kind}
+use Rattle.nd_model.specs.Grammar.Factored.{cell}
+use Rattle.nd_model.specs.Grammar.Cells as cells
+use Rattle.nd_model.specs.Grammar.Reading.{fault_at, parsed, reading_of, reading, IsCell, HasCellFault}
 use Rattle.nd_model.proofs.Parsing.Answers.{read_all_sound, read_all_complete, read_all_fault, same_fault}
 use Rattle.nd_model.proofs.Parsing.Unique as unique
 use Rattle.nd_model.proofs.Parsing.Looks.{fits}

@@ -1,8 +1,8 @@
 -- What is left is an end of the tokens, so no tokens have two faults.
 use Rattle.std.proofs.Common.{◌≡◌, ◌≢◌, ℕ, suc, zero, List, [], ◌∷◌, ◌++◌, length, append_assoc, refl, sym, ap, subst, ◌∙◌, arith, inl, inr}
 use Rattle.std.proofs.lemmas.List.{length-append}
-use Rattle.nd_model.specs.Grammar.{Stop, Gram, Done, Here, One, Then, Or, Many, Shut, Repeats, Spans, Reaches, Opens}
-use Rattle.nd_model.specs.Faults.{HasFault}
+use Rattle.nd_model.specs.Grammar.Grammar.{Stop, Gram, Done, Here, One, Then, Or, Many, Shut, Repeats, Spans, Reaches, Opens}
+use Rattle.nd_model.specs.Grammar.Faults.{HasFault}
 
 abbrev pub IsEnd : {T : Type 0} → List T → List T → Type 0
 IsEnd {T} ts rest = (front : List T) × (ts ≡ front ++ rest)

@@ -1,8 +1,8 @@
 -- Where one token of lookahead tells how to read, each text is read, each front is passed, and each opening refused.
 use Rattle.std.proofs.Common.{◌≡◌, ℕ, zero, suc, ◌<◌, ◌≤◌, Bool, true, false, List, [], ◌∷◌, length, Result, Ok, Err, refl, sym, ap, subst, ◌∙◌, arith, inl, inr, ◌⊎◌}
 use Rattle.std.specs.Prelude.{bit_or}
-use Rattle.nd_model.specs.Grammar.{Stop, Gram, Done, Here, One, Then, Or, Many, Shut, has, Repeats, Spans, Reaches, Opens}
-use Rattle.nd_model.specs.Predict.{◌>>=◌, next_in, stop, read_many, read, apart, look}
+use Rattle.nd_model.specs.Grammar.Grammar.{Stop, Gram, Done, Here, One, Then, Or, Many, Shut, has, Repeats, Spans, Reaches, Opens}
+use Rattle.nd_model.specs.Grammar.Predict.{◌>>=◌, next_in, stop, read_many, read, apart, look}
 use Rattle.nd_model.proofs.Parsing.Sets.{true_false, which, apart_false, also_not_left, also_not_right, or_not_left, or_not_right, left_of, then_left, map_left}
 use Rattle.nd_model.proofs.Parsing.Laws.{fits_then, fits_or, fits_many, front, front_many, at_same, whole, Starts, starts, starts_from, opens_first}
 

@@ -2,10 +2,10 @@
 use Rattle.std.proofs.Common.{◌≡◌, ◌+◌, ◌==◌, ◌<◌, ◌||◌, ◌≢◌, inl, inr, nat_lt, ℕ, zero, suc, Bool, true, false, cond, List, [], ◌∷◌, refl, ◌∙◌, arith}
 use Rattle.std.specs.Prelude.{codes, bytes_eq, ◌&&◌, not}
 use Rattle.std.proofs.lemmas.Bool.{eqb-true, eqb-false, ltb-true}
-use Rattle.nd_model.specs.Grammar.{has}
-use Rattle.nd_model.specs.Predict.{next_in}
-use Rattle.nd_model.specs.Token.{Word, Name, Keyword, Token}
-use Rattle.nd_model.specs.Kinds.{kind_of_symbol, kind_in, keyword_kinds, name_kinds, before, before_next, is_before, is_before_name, holds_comma, refined, kind_of_word, kind_of, kind, NAME, BOUND, OPERAND, PLACE, ASSIGNMENT, SUFFIX}
+use Rattle.nd_model.specs.Grammar.Grammar.{has}
+use Rattle.nd_model.specs.Grammar.Predict.{next_in}
+use Rattle.nd_model.specs.Grammar.Token.{Word, Name, Keyword, Token}
+use Rattle.nd_model.specs.Grammar.Kinds.{kind_of_symbol, kind_in, keyword_kinds, name_kinds, before, before_next, is_before, is_before_name, holds_comma, refined, kind_of_word, kind_of, kind, NAME, BOUND, OPERAND, PLACE, ASSIGNMENT, SUFFIX}
 use Rattle.nd_model.proofs.Parsing.Sets.{which, and_true, not_not}
 
 -- ---- tests of kinds

@@ -1,7 +1,7 @@
 use Rattle.std.proofs.Common.{◌≡◌, ◌+◌, ◌-◌, ◌*◌, ◌<◌, ◌≤◌, ℕ, List, length, take, drop, get_or, sym, ap, ◌∙◌, arith}
 use Rattle.std.specs.List.{All}
 use borrow.Rule.Slice.PartMut.{put_mid}
-use Rattle.nd_model.specs.Element.{size_of, bytes_at, with_bytes}
+use Rattle.nd_model.specs.Arrays.Element.{size_of, bytes_at, with_bytes}
 use Rattle.nd_block.proofs.Copied.{length-bytes_at}
 use Rattle.nd_assign.proofs.Bytewise.{bytewise, put_bytes}
 use Rattle.nd_assign.proofs.gapless.copy_gapless.Goals as goal

@@ -1,5 +1,5 @@
 use Rattle.std.proofs.Common.{◌≡◌, ◌*◌, ◌<◌, ℕ, List, length, get_or, arith}
-use Rattle.nd_model.specs.Element.{size_of}
+use Rattle.nd_model.specs.Arrays.Element.{size_of}
 use Rattle.nd_assign.proofs.Bytewise.{end_held, small_bytes}
 use Rattle.nd_assign.proofs.gapless.end_of.Goals as goal
 

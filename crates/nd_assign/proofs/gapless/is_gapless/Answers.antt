@@ -2,7 +2,7 @@ use Rattle.std.proofs.Common.{rules, tests, ◌≡◌, ◌<◌, pos, length, sym
 use Rattle.std.specs.Int.{w128, cast_signed, cast_unsigned}
 use Rattle.std.specs.Int.RustNames.{FitsSigned}
 use mir.Facts.{to_z-of_z}
-use Rattle.nd_model.specs.Element.{size_of}
+use Rattle.nd_model.specs.Arrays.Element.{size_of}
 use Rattle.nd_assign.proofs.Bytewise.{alone, by_step, step_is}
 use Rattle.nd_assign.proofs.gapless.is_gapless.Goals as goal
 

@@ -2,11 +2,11 @@ use Rattle.std.proofs.Common.{rules, ◌≡◌, ℕ, ℤ, List, ◌+◌, ◌<◌
 use Rattle.std.specs.Int.{w128, cast_signed, cast_unsigned}
 use Rattle.std.specs.Int.RustNames.{FitsSigned}
 use mir.Facts.{to_z-of_z}
-use Rattle.nd_model.specs.Content.{number_at, writes}
-use Rattle.nd_model.specs.Element.{size_of, bytes_of, with_bytes, wrap}
-use Rattle.nd_model.specs.Runs.{spot_at, run_places}
-use Rattle.nd_model.specs.Session.{put}
-use Rattle.nd_model.specs.View.{One}
+use Rattle.nd_model.specs.Arrays.Content.{number_at, writes}
+use Rattle.nd_model.specs.Arrays.Element.{size_of, bytes_of, with_bytes, wrap}
+use Rattle.nd_model.specs.Arrays.Runs.{spot_at, run_places}
+use Rattle.nd_model.specs.Cells.Session.{put}
+use Rattle.nd_model.specs.Arrays.View.{One}
 use Rattle.nd_assign.specs.Copies.{copied_content, with_copies}
 use Rattle.nd_assign.proofs.Copied.{number_put, run_at, length-run, one_more, all_done}
 use Rattle.nd_assign.proofs.kernel.copy_each.Goals as goal

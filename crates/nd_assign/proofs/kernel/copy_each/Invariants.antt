@@ -1,6 +1,6 @@
 use Rattle.std.proofs.Common.{◌≡◌, length, drop}
-use Rattle.nd_model.specs.Runs.{run_places}
-use Rattle.nd_model.specs.View.{One}
+use Rattle.nd_model.specs.Arrays.Runs.{run_places}
+use Rattle.nd_model.specs.Arrays.View.{One}
 use Rattle.nd_assign.specs.Copies.{with_copies}
 use Rattle.nd_assign.proofs.kernel.copy_each.Given as goal
 

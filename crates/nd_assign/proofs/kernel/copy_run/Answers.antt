@@ -2,9 +2,9 @@ use Rattle.std.proofs.Common.{rules, ◌≡◌, ℕ, List, length, pos, sym, ap,
 use Rattle.std.specs.Int.{w128, cast_signed, cast_unsigned}
 use Rattle.std.specs.Int.RustNames.{FitsSigned}
 use mir.Facts.{to_z-of_z}
-use Rattle.nd_model.specs.Runs.{place_at, run_places}
-use Rattle.nd_model.specs.View.{One}
-use Rattle.nd_convert.proofs.Pieces.{run_is}
+use Rattle.nd_model.specs.Arrays.Runs.{place_at, run_places}
+use Rattle.nd_model.specs.Arrays.View.{One}
+use Rattle.nd_convert.proofs.conversion.Pieces.{run_is}
 use Rattle.nd_assign.specs.Copies.{with_copies}
 use Rattle.nd_assign.proofs.kernel.copy_run.Goals as goal
 

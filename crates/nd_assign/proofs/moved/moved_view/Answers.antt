@@ -1,7 +1,7 @@
 use Rattle.std.proofs.Common.{◌≡◌, ◌-◌, ◌^◌, map, get_or, refl, ap, ◌∙◌}
 use Rattle.std.proofs.lemmas.Result.{IfOk-weaker}
-use Rattle.nd_model.specs.Strides.{parts_fault, places_by}
-use Rattle.nd_model.specs.View.{item_size}
+use Rattle.nd_model.specs.Arrays.Strides.{parts_fault, places_by}
+use Rattle.nd_model.specs.Arrays.View.{item_size}
 use Rattle.nd_types.specs.Types.{type_of}
 use Rattle.nd_assign.proofs.Nearer.{moved_fault, moved_places}
 use Rattle.nd_assign.proofs.moved.moved_view.Goals as goal

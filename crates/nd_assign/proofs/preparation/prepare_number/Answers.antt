@@ -3,10 +3,10 @@ use Rattle.std.specs.Prelude.{Some}
 use Rattle.std.specs.Int.{w128, cast_signed, cast_unsigned}
 use Rattle.std.specs.Int.RustNames.{FitsSigned}
 use mir.Facts.{to_z-of_z}
-use Rattle.nd_model.specs.Content.{number_at}
-use Rattle.nd_model.specs.Conversion.{converts}
-use Rattle.nd_model.specs.Element.{Element, size_of, wrap}
-use Rattle.nd_model.specs.View.{Geo, One, contiguous}
+use Rattle.nd_model.specs.Arrays.Content.{number_at}
+use Rattle.nd_model.specs.Making.Conversion.{converts}
+use Rattle.nd_model.specs.Arrays.Element.{Element, size_of, wrap}
+use Rattle.nd_model.specs.Arrays.View.{Geo, One, contiguous}
 use Rattle.nd_model.proofs.Values.{few_bytes, wrap_in_range}
 use Rattle.nd_types.specs.Types.{type_of}
 use Rattle.nd_assign.specs.Prepared.{Prepared, written_by}

@@ -1,9 +1,9 @@
 use Rattle.std.proofs.Common.{◌≡◌, ◌+◌, ◌≤◌, ℕ, List, length, sym, ap, ◌∙◌, subst}
 use Rattle.std.specs.List.{All}
 use Rattle.std.proofs.lemmas.Result.{IfOk-weaker}
-use Rattle.nd_model.specs.Strides.{IsInLimits}
-use Rattle.nd_model.specs.Tuple.{elements_of}
-use Rattle.nd_model.specs.View.{ElementType, item_size}
+use Rattle.nd_model.specs.Arrays.Strides.{IsInLimits}
+use Rattle.nd_model.specs.Arrays.Tuple.{elements_of}
+use Rattle.nd_model.specs.Arrays.View.{ElementType, item_size}
 use Rattle.nd_assign.specs.Assigned.{with_elements}
 use Rattle.nd_assign.specs.Copies.{with_copies}
 use Rattle.nd_assign.specs.Stretched.{value_places}

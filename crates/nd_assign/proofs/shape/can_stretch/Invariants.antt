@@ -1,5 +1,5 @@
 use Rattle.std.proofs.Common.{◌≡◌, drop}
-use Rattle.nd_model.specs.Broadcast.{can_stretch}
+use Rattle.nd_model.specs.Arrays.Broadcast.{can_stretch}
 use Rattle.nd_assign.proofs.shape.can_stretch.Given as goal
 
 abbrev pub invariant-loop-axis : goal.invariant-loop-axis

@@ -1,5 +1,5 @@
 use Rattle.std.proofs.Common.{◌≡◌, ◌-◌, ◌≤◌, length, drop}
-use Rattle.nd_model.specs.Assigning.{without_ones}
+use Rattle.nd_model.specs.Making.Assigning.{without_ones}
 use Rattle.nd_assign.proofs.shape.count_ones.Given as goal
 
 abbrev pub invariant-loop-axis : goal.invariant-loop-axis

@@ -1,7 +1,7 @@
 use Rattle.std.proofs.Common.{◌≡◌, ◌^◌, ℕ, ℤ, List, get_or, ◌∙◌}
 use Rattle.std.proofs.lemmas.Result.{IfOk-weaker}
-use Rattle.nd_model.specs.Strides.{parts_fault, places_by}
-use Rattle.nd_model.specs.View.{item_size}
+use Rattle.nd_model.specs.Arrays.Strides.{parts_fault, places_by}
+use Rattle.nd_model.specs.Arrays.View.{item_size}
 use Rattle.nd_types.specs.Types.{type_of}
 use Rattle.nd_assign.specs.Stretched.{value_places}
 use Rattle.nd_assign.proofs.Stretched.{longer, own_strides, length-own, strides_are, stretched_fault, stretched_places}

@@ -4,10 +4,10 @@ use Rattle.std.specs.Int.{w128}
 use Rattle.std.specs.Int.RustNames.{FitsSigned}
 use Rattle.std.proofs.lemmas.List.{get_or-map, length-map, drop_all}
 use Rattle.std.proofs.lemmas.Int.{to_z-of_z}
-use Rattle.nd_model.specs.Content.{field_writes}
-use Rattle.nd_model.specs.Element.{size_of, bytes_of, with_bytes}
-use Rattle.nd_model.specs.Session.{put}
-use Rattle.nd_model.specs.View as view
+use Rattle.nd_model.specs.Arrays.Content.{field_writes}
+use Rattle.nd_model.specs.Arrays.Element.{size_of, bytes_of, with_bytes}
+use Rattle.nd_model.specs.Cells.Session.{put}
+use Rattle.nd_model.specs.Arrays.View as view
 use Rattle.nd_types.specs.Fields.{field_of, fields_of}
 use Rattle.nd_types.specs.declared.field.Field.{Field}
 use Rattle.nd_assign.proofs.Fielded.{numbers_in, field_more, fields_done}

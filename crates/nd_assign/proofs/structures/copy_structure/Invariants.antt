@@ -1,6 +1,6 @@
 use Rattle.std.proofs.Common.{◌≡◌, length, drop}
-use Rattle.nd_model.specs.Content.{field_writes}
-use Rattle.nd_model.specs.Session.{put}
+use Rattle.nd_model.specs.Arrays.Content.{field_writes}
+use Rattle.nd_model.specs.Cells.Session.{put}
 use Rattle.nd_types.specs.Fields.{fields_of}
 use Rattle.nd_assign.proofs.Fielded.{numbers_in}
 use Rattle.nd_assign.proofs.structures.copy_structure.Given as goal

@@ -1,7 +1,7 @@
 use Rattle.std.proofs.Common.{◌<◌, length, ◌∙◌, arith}
-use Rattle.nd_model.specs.Content.{content_at, writes}
-use Rattle.nd_model.specs.Session.{put}
-use Rattle.nd_model.specs.View.{ElementType, Structure}
+use Rattle.nd_model.specs.Arrays.Content.{content_at, writes}
+use Rattle.nd_model.specs.Cells.Session.{put}
+use Rattle.nd_model.specs.Arrays.View.{ElementType, Structure}
 use Rattle.nd_assign.specs.Copies.{with_copies}
 use Rattle.nd_assign.proofs.Copied.{one_more}
 use Rattle.nd_assign.proofs.structures.copy_structures.Goals as goal

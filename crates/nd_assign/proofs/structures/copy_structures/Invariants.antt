@@ -1,5 +1,5 @@
 use Rattle.std.proofs.Common.{◌≡◌, length, drop}
-use Rattle.nd_model.specs.View.{Structure}
+use Rattle.nd_model.specs.Arrays.View.{Structure}
 use Rattle.nd_assign.specs.Copies.{with_copies}
 use Rattle.nd_assign.proofs.structures.copy_structures.Given as goal
 

@@ -1,6 +1,6 @@
 use Rattle.std.proofs.Common.{◌≡◌, sym, ap, ◌∙◌}
-use Rattle.nd_model.specs.Conversion.{converts}
-use Rattle.nd_model.specs.View.{Structure}
+use Rattle.nd_model.specs.Making.Conversion.{converts}
+use Rattle.nd_model.specs.Arrays.View.{Structure}
 use Rattle.nd_types.specs.Types.{type_of}
 use Rattle.nd_assign.specs.Copies.{with_copies}
 use Rattle.nd_assign.proofs.SameTypes.{same_structure}

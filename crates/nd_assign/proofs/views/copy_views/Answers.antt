@@ -1,6 +1,6 @@
 use Rattle.std.proofs.Common.{◌≡◌, ◌+◌, ◌≤◌, ◌++◌, List, ℕ, length, take, sym, ap, ◌∙◌, subst, arith, length-take, length-append}
 use Rattle.std.specs.List.{All, concat}
-use Rattle.nd_model.specs.View.{ElementType, item_size}
+use Rattle.nd_model.specs.Arrays.View.{ElementType, item_size}
 use Rattle.nd_view.proofs.ByRuns.{in_run, behind_run}
 use Rattle.nd_assign.specs.Copies.{with_copies}
 use Rattle.nd_assign.proofs.Copied.{copies-append}

@@ -3,8 +3,8 @@ use Rattle.std.specs.List.{All}
 use Rattle.std.specs.Prelude.{Some}
 use Rattle.std.proofs.lemmas.List.{length-map}
 use Rattle.nd_assign.specs.HeldFields.{HoldsFields}
-use Rattle.nd_model.specs.Conversion.{converts}
-use Rattle.nd_model.specs.View.{ElementType, item_size}
+use Rattle.nd_model.specs.Making.Conversion.{converts}
+use Rattle.nd_model.specs.Arrays.View.{ElementType, item_size}
 use Rattle.nd_assign.specs.Copies.{with_copies}
 use Rattle.nd_assign.specs.Prepared.{Prepared, written_by}
 use Rattle.nd_assign.proofs.Parted.{moved_inside, apart}

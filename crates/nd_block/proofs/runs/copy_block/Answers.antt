@@ -1,5 +1,5 @@
 use Rattle.std.proofs.Common.{◌≡◌, ◌+◌, ◌-◌, ◌*◌, ◌++◌, take, drop, refl, sym, ap, ◌∙◌, arith}
-use Rattle.nd_model.specs.Element.{bytes_at}
+use Rattle.nd_model.specs.Arrays.Element.{bytes_at}
 use Rattle.nd_block.proofs.Copied.{length-bytes_at}
 use Rattle.nd_block.proofs.Together.{together, whole}
 use Rattle.nd_block.proofs.runs.copy_block.Goals as goal

@@ -1,7 +1,7 @@
 use Rattle.std.proofs.Common.{◌≡◌, suc, ◌+◌, ◌-◌, ◌++◌, ℤ, length, take, drop, sym, ap, ◌∙◌, subst, arith}
 use Rattle.std.specs.Int.{w128, cast_signed, cast_unsigned}
 use mir.Facts.{to_z-of_z}
-use Rattle.nd_model.specs.Runs.{AreWithin, AreApart, copied}
+use Rattle.nd_model.specs.Arrays.Runs.{AreWithin, AreApart, copied}
 use Rattle.nd_block.proofs.Copied.{next}
 use Rattle.nd_block.proofs.Together.{step_is}
 use Rattle.nd_block.proofs.runs.copy_elements.Goals as goal

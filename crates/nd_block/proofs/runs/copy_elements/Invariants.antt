@@ -1,5 +1,5 @@
 use Rattle.std.proofs.Common.{◌≡◌}
-use Rattle.nd_model.specs.Runs.{copied}
+use Rattle.nd_model.specs.Arrays.Runs.{copied}
 use Rattle.nd_block.proofs.runs.copy_elements.Given as goal
 
 abbrev pub invariant-loop-k : goal.invariant-loop-k

@@ -1,5 +1,5 @@
 use Rattle.std.proofs.Common.{◌∙◌, sym, ap, option_map}
-use Rattle.nd_model.specs.Cell.{with_save}
+use Rattle.nd_model.specs.Cells.Cell.{with_save}
 use Rattle.nd_cell.specs.Results.{saved_of, saves_of}
 use Rattle.nd_cell.proofs.Lines.{saves-insert}
 use Rattle.nd_cell.proofs.run.keep.Goals as goal

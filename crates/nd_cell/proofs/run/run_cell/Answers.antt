@@ -1,11 +1,11 @@
 use Rattle.std.proofs.Common.{◌∙◌, ap, sym}
-use Rattle.nd_model.specs.Cell.{ran}
-use Rattle.nd_model.specs.Reading.{reading}
-use Rattle.nd_model.specs.Running.{Running, session_of}
-use Rattle.nd_model.specs.Session.{collected}
-use Rattle.nd_session.specs.Kept.{version_of}
-use Rattle.nd_session.specs.Live.{live}
-use Rattle.nd_input.specs.Values.{inputs_of}
+use Rattle.nd_model.specs.Cells.Cell.{ran}
+use Rattle.nd_model.specs.Grammar.Reading.{reading}
+use Rattle.nd_model.specs.Cells.Running.{Running, session_of}
+use Rattle.nd_model.specs.Cells.Session.{collected}
+use Rattle.nd_session.specs.Session.Kept.{version_of}
+use Rattle.nd_session.specs.Session.Live.{live}
+use Rattle.nd_session.specs.Inputs.Values.{inputs_of}
 use Rattle.nd_cell.specs.Records.{recorded}
 use Rattle.nd_cell.specs.Results.{ended_of}
 use Rattle.nd_cell.proofs.Recording.{collected_start, ends_run, recorded_run, sound_now}

@@ -1,8 +1,8 @@
 use Rattle.std.proofs.Common.{◌∙◌, ap, string_bytes}
-use Rattle.nd_model.specs.Cell.{statement}
-use Rattle.nd_syntax.specs.Syntax.{stmt_of}
-use Rattle.nd_input.specs.Values.{inputs_of}
-use Rattle.nd_session.specs.Live.{live}
+use Rattle.nd_model.specs.Cells.Cell.{statement}
+use Rattle.nd_syntax.specs.Trees.Syntax.{stmt_of}
+use Rattle.nd_session.specs.Inputs.Values.{inputs_of}
+use Rattle.nd_session.specs.Session.Live.{live}
 use Rattle.nd_eval.specs.Done.{outcome_of, output_of}
 use Rattle.nd_cell.specs.Results.{saves_of}
 use Rattle.nd_cell.proofs.Lines.{limited_line, limited_output}

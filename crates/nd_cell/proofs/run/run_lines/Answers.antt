@@ -1,6 +1,6 @@
 use Rattle.std.proofs.Common.{◌∙◌, arith}
-use Rattle.nd_input.specs.Values.{inputs_of}
-use Rattle.nd_session.specs.Live.{live}
+use Rattle.nd_session.specs.Inputs.Values.{inputs_of}
+use Rattle.nd_session.specs.Session.Live.{live}
 use Rattle.nd_cell.proofs.Lines.{line_goes_on, line_stops, tokens_more}
 use Rattle.nd_cell.proofs.run.run_lines.Goals as goal
 

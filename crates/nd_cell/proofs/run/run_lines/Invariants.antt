@@ -1,9 +1,9 @@
 use Rattle.std.proofs.Common.{◌≡◌, ◌+◌, ◌<◌, ◌^◌, [], drop, string_bytes}
-use Rattle.nd_model.specs.Cell.{statements}
-use Rattle.nd_model.specs.Tokens.{tokens_of_lines}
-use Rattle.nd_syntax.specs.Syntax.{lines_of}
-use Rattle.nd_input.specs.Values.{inputs_of}
-use Rattle.nd_session.specs.Live.{live}
+use Rattle.nd_model.specs.Cells.Cell.{statements}
+use Rattle.nd_model.specs.Grammar.Tokens.{tokens_of_lines}
+use Rattle.nd_syntax.specs.Trees.Syntax.{lines_of}
+use Rattle.nd_session.specs.Inputs.Values.{inputs_of}
+use Rattle.nd_session.specs.Session.Live.{live}
 use Rattle.nd_cell.specs.Results.{saves_of}
 use Rattle.nd_cell.proofs.run.run_lines.Given as goal
 

@@ -1,9 +1,9 @@
 use Rattle.std.proofs.Common.{◌≡◌, ℕ, ◌+◌, ◌<◌, ◌≤◌, ◌^◌, List, length, ap, ◌∙◌, arith}
-use Rattle.nd_model.specs.Tokens.{tokens_of_lines}
+use Rattle.nd_model.specs.Grammar.Tokens.{tokens_of_lines}
 use Rattle.nd_model.proofs.FewTokens.{few_tokens}
-use Rattle.nd_syntax.specs.declared.tree.Line.{Line}
-use Rattle.nd_syntax.specs.Syntax.{lines_of, parsed_of}
-use Rattle.nd_session.specs.Live.{live}
+use Rattle.nd_syntax.specs.declared.trees.tree.Line.{Line}
+use Rattle.nd_syntax.specs.Trees.Syntax.{lines_of, parsed_of}
+use Rattle.nd_session.specs.Session.Live.{live}
 use Rattle.nd_cell.proofs.run.run_text.Goals as goal
 
 few : (text : List ℕ) (next : ℕ) (lines : List Line) → next ≡ 0 → length text < 2 ^ 64 → tokens_of_lines (lines_of lines) ≤ length text → next + tokens_of_lines (lines_of lines) < 2 ^ 64

@@ -2,7 +2,7 @@ use Rattle.std.proofs.Common.{◌+◌, ◌≤◌, ◌^◌, ◌++◌, get_or, ref
 use Rattle.std.specs.List.{concat, flat_map}
 use Rattle.std.proofs.lemmas.Grind.{flat_map-append}
 use Rattle.nd_element.specs.Elements.{canonical_at}
-use Rattle.nd_model.specs.View.{item_size}
+use Rattle.nd_model.specs.Arrays.View.{item_size}
 use Rattle.nd_view.proofs.ByRuns.{begun, taken, ended, in_run, behind_run}
 use Rattle.nd_element.proofs.canonical.canonical_bytes.Goals as goal
 

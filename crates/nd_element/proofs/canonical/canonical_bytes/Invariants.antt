@@ -1,7 +1,7 @@
 use Rattle.std.proofs.Common.{◌≡◌, ◌+◌, ◌≤◌, ◌^◌, ◌++◌, length, drop}
 use Rattle.std.specs.List.{All, concat, flat_map}
 use Rattle.nd_element.specs.Elements.{canonical_at}
-use Rattle.nd_model.specs.View.{item_size}
+use Rattle.nd_model.specs.Arrays.View.{item_size}
 use Rattle.nd_element.proofs.canonical.canonical_bytes.Given as goal
 
 abbrev pub invariant-loop-number : goal.invariant-loop-number

@@ -3,7 +3,7 @@ use Rattle.std.specs.Prelude.{slice_index}
 use Rattle.std.specs.Int.{w128}
 use Rattle.std.specs.Int.RustNames.{FitsSigned}
 use Rattle.std.proofs.lemmas.Int.{to_z-of_z}
-use Rattle.nd_model.specs.Tuple.{count_up}
+use Rattle.nd_model.specs.Arrays.Tuple.{count_up}
 use Rattle.nd_element.proofs.Structures.{of_rest}
 use Rattle.nd_element.proofs.canonical.number_past.Goals as goal
 

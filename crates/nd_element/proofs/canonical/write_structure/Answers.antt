@@ -4,12 +4,12 @@ use Rattle.std.specs.Int.{w128}
 use Rattle.std.specs.Int.RustNames.{FitsSigned}
 use Rattle.std.proofs.lemmas.List.{get_or-map, length-map}
 use Rattle.std.proofs.lemmas.Int.{to_z-of_z}
-use Rattle.nd_model.specs.Element.{size_of, bytes_of, with_bytes}
-use Rattle.nd_model.specs.View as view
+use Rattle.nd_model.specs.Arrays.Element.{size_of, bytes_of, with_bytes}
+use Rattle.nd_model.specs.Arrays.View as view
 use Rattle.nd_types.specs.Fields.{field_of, fields_of}
 use Rattle.nd_types.specs.declared.field.Field.{Field}
 use Rattle.nd_types.proofs.Sized.{some_bytes}
-use Rattle.nd_model.specs.Session.{put}
+use Rattle.nd_model.specs.Cells.Session.{put}
 use Rattle.nd_element.proofs.Structures.{writes, field_more, fields_written}
 use Rattle.nd_element.proofs.canonical.write_structure.Goals as goal
 

@@ -1,6 +1,6 @@
 use Rattle.std.proofs.Common.{◌≡◌, length, take, replicate}
 use Rattle.std.specs.List.{flat_map}
-use Rattle.nd_model.specs.Session.{put}
+use Rattle.nd_model.specs.Cells.Session.{put}
 use Rattle.nd_types.specs.Fields.{fields_of}
 use Rattle.nd_element.proofs.Structures.{writes}
 use Rattle.nd_element.proofs.canonical.write_structure.Given as goal

@@ -1,6 +1,6 @@
 use Rattle.std.proofs.Common.{◌+◌, ◌≤◌, ◌++◌, length, append_assoc, sym, ap, ◌∙◌}
 use Rattle.std.specs.List.{concat}
-use Rattle.nd_model.specs.Element.{size_of}
+use Rattle.nd_model.specs.Arrays.Element.{size_of}
 use Rattle.nd_element.specs.Elements.{numbers_at}
 use Rattle.nd_element.proofs.Pushed.{run_more}
 use Rattle.nd_view.proofs.ByRuns.{in_run, behind_run}

@@ -3,7 +3,7 @@ use Rattle.std.specs.List.{flat_map}
 use Rattle.std.specs.Int.{w128}
 use Rattle.std.specs.Int.RustNames.{FitsSigned}
 use Rattle.std.proofs.lemmas.Int.{to_z-of_z}
-use Rattle.nd_model.specs.Element.{bytes_of}
+use Rattle.nd_model.specs.Arrays.Element.{bytes_of}
 use Rattle.nd_element.proofs.Pushed.{bytes_more}
 use Rattle.nd_element.proofs.numbers.push_bytes_of.Goals as goal
 

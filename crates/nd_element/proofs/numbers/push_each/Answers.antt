@@ -2,7 +2,7 @@ use Rattle.std.proofs.Common.{rules, ◌≡◌, ◌++◌, [], ◌∷◌, to_z, o
 use Rattle.std.specs.Int.{w128}
 use Rattle.std.specs.Int.RustNames.{FitsSigned}
 use Rattle.std.proofs.lemmas.Int.{to_z-of_z}
-use Rattle.nd_model.specs.Content.{number_at}
+use Rattle.nd_model.specs.Arrays.Content.{number_at}
 use Rattle.nd_element.specs.Elements.{numbers_at}
 use Rattle.nd_element.proofs.Pushed.{number_more}
 use Rattle.nd_element.proofs.numbers.push_each.Goals as goal

@@ -1,21 +1,21 @@
 use Rattle.std.proofs.Common.{◌≡◌, Ok, Err, true, false, length, map, sym, ap, ◌∙◌, subst}
-use Rattle.nd_model.specs.Assigning.{fits_into}
-use Rattle.nd_model.specs.Augmenting.{content_in_place, in_place_kind}
-use Rattle.nd_model.specs.Operand as model
-use Rattle.nd_model.specs.Sound.{LiesIn}
-use Rattle.nd_model.specs.Tuple.{indices}
-use Rattle.nd_model.specs.View.{Geo}
-use Rattle.nd_syntax.specs.Syntax.{binary_op}
+use Rattle.nd_model.specs.Making.Assigning.{fits_into}
+use Rattle.nd_model.specs.Making.Augmenting.{content_in_place, in_place_kind}
+use Rattle.nd_model.specs.Making.Operand as model
+use Rattle.nd_model.specs.Cells.Sound.{LiesIn}
+use Rattle.nd_model.specs.Arrays.Tuple.{indices}
+use Rattle.nd_model.specs.Arrays.View.{Geo}
+use Rattle.nd_syntax.specs.Trees.Syntax.{binary_op}
 use Rattle.nd_types.specs.Kinds.{kind_of}
 use Rattle.nd_heap.specs.declared.value.Value.TheVariants.{Array}
 use Rattle.nd_heap.specs.Values.{base_of, geo_of, value_of}
-use Rattle.nd_session.specs.Live.{live}
-use Rattle.nd_operation.specs.Contents.{contents_over, unused_of}
-use Rattle.nd_refusal.specs.Ends.{Makes}
-use Rattle.nd_choice.specs.Indexing.{index_operands, operands_of, viewing_of}
-use Rattle.nd_model.specs.Index.{has_array}
-use Rattle.nd_choice.specs.declared.targets.Target.TheVariants.{Elements}
-use Rattle.nd_choice.specs.Targets.{IsChosenOf, Lies, geo_in, writes_to}
+use Rattle.nd_session.specs.Session.Live.{live}
+use Rattle.nd_operation.specs.Operators.Contents.{contents_over, unused_of}
+use Rattle.nd_operation.specs.Refusals.Ends.{Makes}
+use Rattle.nd_select.specs.Choosing.Indexing.{index_operands, operands_of, viewing_of}
+use Rattle.nd_model.specs.Indexing.Index.{has_array}
+use Rattle.nd_select.specs.declared.choosing.targets.Target.TheVariants.{Elements}
+use Rattle.nd_select.specs.Choosing.Targets.{IsChosenOf, Lies, geo_in, writes_to}
 use Rattle.nd_eval.specs.Parts.{stored_in}
 use Rattle.nd_eval.specs.Uses.{HasTypeOf, IsHeld, operand_over}
 use Rattle.nd_eval.proofs.Augmented.{exits_copy, exits_left, goes_left, only_of_an_array}

@@ -1,9 +1,9 @@
 use Rattle.std.proofs.Common.{Err, sym, ap, ◌∙◌, subst}
-use Rattle.nd_model.specs.Augmenting.{in_place_kind}
-use Rattle.nd_syntax.specs.Syntax.{binary_op}
+use Rattle.nd_model.specs.Making.Augmenting.{in_place_kind}
+use Rattle.nd_syntax.specs.Trees.Syntax.{binary_op}
 use Rattle.nd_types.specs.Kinds.{kind_of}
 use Rattle.nd_heap.specs.Values.{geo_of}
-use Rattle.nd_refusal.specs.Ends.{Makes}
+use Rattle.nd_operation.specs.Refusals.Ends.{Makes}
 use Rattle.nd_eval.proofs.Augmented.{exits_update, goes_update}
 use Rattle.nd_eval.proofs.augment.update_effect.Goals as goal
 

@@ -1,12 +1,12 @@
 use Rattle.std.proofs.Common.{◌∙◌, ap, ap₂, sym, Result, Ok}
-use Rattle.nd_model.specs.Meaning.{meaning}
-use Rattle.nd_model.specs.Evaluation.{run}
-use Rattle.nd_model.specs.Running.{Running, Effect, Output}
-use Rattle.nd_model.specs.Cell.{had}
-use Rattle.nd_model.specs.Fault.{Fault}
-use Rattle.nd_syntax.specs.Syntax.{stmt_of}
-use Rattle.nd_input.specs.Values.{inputs_of}
-use Rattle.nd_session.specs.Live.{live}
+use Rattle.nd_model.specs.Cells.Meaning.{meaning}
+use Rattle.nd_model.specs.Cells.Evaluation.{run}
+use Rattle.nd_model.specs.Cells.Running.{Running, Effect, Output}
+use Rattle.nd_model.specs.Cells.Cell.{had}
+use Rattle.nd_model.specs.Cells.Fault.{Fault}
+use Rattle.nd_syntax.specs.Trees.Syntax.{stmt_of}
+use Rattle.nd_session.specs.Inputs.Values.{inputs_of}
+use Rattle.nd_session.specs.Session.Live.{live}
 use Rattle.nd_eval.specs.Effects.{effect_of}
 use Rattle.nd_eval.proofs.Bounds.{next_done, next_ended}
 use Rattle.nd_eval.proofs.Lines.{limit_had, limit_given, limit_session}

@@ -1,5 +1,5 @@
 use Rattle.std.proofs.Common.{◌≡◌, drop}
-use Rattle.nd_session.specs.Live.{live}
+use Rattle.nd_session.specs.Session.Live.{live}
 use Rattle.nd_eval.specs.Uses.{items_marked}
 use Rattle.nd_eval.proofs.operation.mark_items.Given as goal
 

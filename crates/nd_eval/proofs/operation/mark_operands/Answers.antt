@@ -1,8 +1,8 @@
 use Rattle.std.proofs.Common.{◌+◌, List, ap, ◌∙◌, sym, drop}
 use Rattle.nd_heap.specs.declared.value.Value.{Value}
-use Rattle.nd_session.specs.Live.{live}
+use Rattle.nd_session.specs.Session.Live.{live}
 use Rattle.nd_eval.specs.Uses.{all_marked}
-use Rattle.nd_operation.proofs.InTurn.{next_item}
+use Rattle.nd_operation.proofs.operators.InTurn.{next_item}
 use Rattle.nd_eval.proofs.operation.mark_operands.Goals as goal
 
 pub loop-value-preserved : goal.loop-value-preserved

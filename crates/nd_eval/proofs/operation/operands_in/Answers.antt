@@ -1,10 +1,10 @@
 use Rattle.std.proofs.Common.{◌+◌, ◌++◌, [], ◌∷◌, List, map, append_assoc, subst, ap, ◌∙◌, sym, drop}
-use Rattle.nd_model.specs.Operand as model
+use Rattle.nd_model.specs.Making.Operand as model
 use Rattle.nd_heap.specs.declared.value.Value.{Value}
-use Rattle.nd_session.specs.Live.{live}
-use Rattle.nd_operation.specs.Contents.{operand_of}
+use Rattle.nd_session.specs.Session.Live.{live}
+use Rattle.nd_operation.specs.Operators.Contents.{operand_of}
 use Rattle.nd_eval.specs.Uses.{IsHeld, operands_over}
-use Rattle.nd_operation.proofs.InTurn.{next_item, pushed}
+use Rattle.nd_operation.proofs.operators.InTurn.{next_item, pushed}
 use Rattle.nd_eval.proofs.operation.operands_in.Goals as goal
 
 pub operand_in-requires : goal.operand_in-requires

@@ -1,6 +1,6 @@
 use Rattle.std.proofs.Common.{◌≡◌, ◌++◌, map, drop}
-use Rattle.nd_session.specs.Live.{live}
-use Rattle.nd_operation.specs.Contents.{operand_of}
+use Rattle.nd_session.specs.Session.Live.{live}
+use Rattle.nd_operation.specs.Operators.Contents.{operand_of}
 use Rattle.nd_eval.specs.Uses.{operands_over}
 use Rattle.nd_eval.proofs.operation.operands_in.Given as goal
 

@@ -1,6 +1,6 @@
 use Rattle.std.proofs.Common.{List, Ok, ap, sym, ◌∙◌}
-use Rattle.nd_model.specs.Content.{Content}
-use Rattle.nd_model.specs.NpyWriting.{npy_bytes}
+use Rattle.nd_model.specs.Arrays.Content.{Content}
+use Rattle.nd_model.specs.Formats.NpyWriting.{npy_bytes}
 use Rattle.nd_files.proofs.save.elements_file.Goals as goal
 
 pub returns : goal.returns

@@ -3,16 +3,16 @@ use Rattle.std.specs.Int.RustNames.{FitsSigned}
 use Rattle.std.proofs.lemmas.Int.{to_z-of_z}
 use Rattle.std.proofs.Common.{rules, ◌≡◌, ◌++◌, List, [], ◌∷◌, ℕ, ℤ, Ok, Result, ap, ap₂, sym, ◌∙◌, append-nil}
 use Rattle.nd_types.specs.Kinds.{kind_of}
-use Rattle.nd_model.specs.Creation.{little}
-use Rattle.nd_model.specs.Content.{Num}
-use Rattle.nd_model.specs.Element.{Element, Kind, bytes_of}
-use Rattle.nd_model.specs.Fault.{Fault}
-use Rattle.nd_model.specs.NpyWriting.{npy_front, npy_bytes}
-use Rattle.nd_model.specs.Operand.{number_of}
-use Rattle.nd_model.specs.Refusing as refusing
-use Rattle.nd_model.specs.View.{One}
+use Rattle.nd_model.specs.Making.Creation.{little}
+use Rattle.nd_model.specs.Arrays.Content.{Num}
+use Rattle.nd_model.specs.Arrays.Element.{Element, Kind, bytes_of}
+use Rattle.nd_model.specs.Cells.Fault.{Fault}
+use Rattle.nd_model.specs.Formats.NpyWriting.{npy_front, npy_bytes}
+use Rattle.nd_model.specs.Making.Operand.{number_of}
+use Rattle.nd_model.specs.Cells.Refusing as refusing
+use Rattle.nd_model.specs.Arrays.View.{One}
 use Rattle.nd_model.proofs.Contents.{number_bytes}
-use Rattle.nd_operation.specs.Contents.{num_of}
+use Rattle.nd_operation.specs.Operators.Contents.{num_of}
 use Rattle.nd_files.proofs.save.number_file.Goals as goal
 
 -- the file of one number

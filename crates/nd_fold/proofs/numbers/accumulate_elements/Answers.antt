@@ -1,10 +1,10 @@
 use Rattle.std.proofs.Common.{Ok, Err, sym, subst}
-use Rattle.nd_model.specs.Elementwise.{numbers_made}
-use Rattle.nd_model.specs.Reductions.{accumulated_numbers}
-use Rattle.nd_syntax.specs.Calls.{reduction_of}
-use Rattle.nd_reduce.specs.Made.{array_operand, contents_over}
-use Rattle.nd_operation.specs.New.{MakesNew}
-use Rattle.nd_operation.proofs.NumberArrays.{gives_numbers}
+use Rattle.nd_model.specs.Making.Elementwise.{numbers_made}
+use Rattle.nd_model.specs.Making.Reductions.{accumulated_numbers}
+use Rattle.nd_syntax.specs.Trees.Calls.{reduction_of}
+use Rattle.nd_reduce.specs.Axes.Made.{array_operand, contents_over}
+use Rattle.nd_operation.specs.Operators.New.{MakesNew}
+use Rattle.nd_operation.proofs.operators.NumberArrays.{gives_numbers}
 use Rattle.nd_fold.proofs.Made.{array_made, not_folded, accumulated_valid, row_accumulated}
 use Rattle.nd_fold.proofs.numbers.accumulate_elements.Goals as goal
 

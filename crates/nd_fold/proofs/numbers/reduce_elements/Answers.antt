@@ -1,7 +1,7 @@
-use Rattle.nd_model.specs.Reductions.{reduced_numbers}
-use Rattle.nd_syntax.specs.Calls.{reduction_of}
-use Rattle.nd_operation.specs.Contents.{elements_operand}
-use Rattle.nd_operation.proofs.NumberArrays.{gives_numbers}
+use Rattle.nd_model.specs.Making.Reductions.{reduced_numbers}
+use Rattle.nd_syntax.specs.Trees.Calls.{reduction_of}
+use Rattle.nd_operation.specs.Operators.Contents.{elements_operand}
+use Rattle.nd_operation.proofs.operators.NumberArrays.{gives_numbers}
 use Rattle.nd_fold.proofs.Made.{array_made, not_folded, reduced_valid}
 use Rattle.nd_fold.proofs.numbers.reduce_elements.Goals as goal
 

@@ -1,15 +1,15 @@
 use Rattle.std.proofs.Common.{◌≡◌, Ok, Err, false, sym, ap, subst, ◌∙◌, rules}
-use Rattle.nd_model.specs.Elementwise.{numbers_made}
-use Rattle.nd_model.specs.Evaluation.{◌>>=◌, decide}
-use Rattle.nd_model.specs.Operand.{Plain, Scalar}
-use Rattle.nd_model.specs.Operation.{give}
-use Rattle.nd_model.specs.Reductions.{reduced_numbers}
+use Rattle.nd_model.specs.Making.Elementwise.{numbers_made}
+use Rattle.nd_model.specs.Cells.Evaluation.{◌>>=◌, decide}
+use Rattle.nd_model.specs.Making.Operand.{Plain, Scalar}
+use Rattle.nd_model.specs.Cells.Operation.{give}
+use Rattle.nd_model.specs.Making.Reductions.{reduced_numbers}
 use Rattle.nd_types.specs.Kinds.{kind_of}
-use Rattle.nd_syntax.specs.Calls.{reduction_of}
-use Rattle.nd_reduce.specs.Faults.{Makes}
-use Rattle.nd_operation.specs.Contents.{number_made}
-use Rattle.nd_operation.specs.New.{MakesNew}
-use Rattle.nd_operation.specs.declared.operand.New.TheVariants.{Number}
+use Rattle.nd_syntax.specs.Trees.Calls.{reduction_of}
+use Rattle.nd_reduce.specs.Axes.Faults.{Makes}
+use Rattle.nd_operation.specs.Operators.Contents.{number_made}
+use Rattle.nd_operation.specs.Operators.New.{MakesNew}
+use Rattle.nd_operation.specs.declared.operators.operand.New.TheVariants.{Number}
 use Rattle.nd_fold.proofs.Made.{not_reduced, number_gives, keeps_nothing}
 use Rattle.nd_fold.proofs.numbers.reduce_scalar.Goals as goal
 

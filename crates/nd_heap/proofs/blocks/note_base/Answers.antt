@@ -1,5 +1,5 @@
 use Rattle.std.proofs.Common.{◌∙◌, ◌||◌, inl, inr, ap, sym}
-use Rattle.nd_model.specs.Value as values
+use Rattle.nd_model.specs.Arrays.Value as values
 use Rattle.nd_heap.specs.Values.{value_of}
 use Rattle.nd_heap.specs.Contents.{bases_of}
 use Rattle.nd_heap.specs.Live.{is_base_among}

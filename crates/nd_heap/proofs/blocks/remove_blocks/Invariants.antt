@@ -1,5 +1,5 @@
 use Rattle.std.proofs.Common.{◌≡◌, ◌&&◌, not, cond, take, []}
-use Rattle.nd_model.specs.Value as values
+use Rattle.nd_model.specs.Arrays.Value as values
 use Rattle.nd_heap.specs.Contents.{bases_of, blocks_of}
 use Rattle.nd_heap.specs.Layers.{is_block_among}
 use Rattle.nd_heap.specs.Live.{bytes_at, is_base_among}

@@ -2,7 +2,7 @@ use Rattle.std.proofs.Common.{◌≡◌, ◌∙◌, ◌-◌, ◌+◌, ◌++◌, 
 use Rattle.nd_heap.specs.Contents.{blocks_of}
 use Rattle.nd_heap.specs.Live.{bytes_at}
 use Rattle.nd_heap.specs.Values.{base_of}
-use Rattle.nd_model.specs.Running as running
+use Rattle.nd_model.specs.Cells.Running as running
 use Rattle.nd_heap.proofs.Bases.{cloned_blocks}
 use Rattle.nd_heap.proofs.Stacking.{over_more, drop_past}
 use Rattle.nd_heap.proofs.blocks.stack.Goals as goal

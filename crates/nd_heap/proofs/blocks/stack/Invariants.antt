@@ -1,5 +1,5 @@
 use Rattle.std.proofs.Common.{◌≡◌, ◌++◌, drop}
-use Rattle.nd_model.specs.Value as values
+use Rattle.nd_model.specs.Arrays.Value as values
 use Rattle.nd_heap.specs.Contents.{blocks_of}
 use Rattle.nd_heap.specs.Live.{bytes_at}
 use Rattle.nd_heap.proofs.blocks.stack.Given as goal

@@ -1,6 +1,6 @@
 use Rattle.std.proofs.Common.{◌∙◌, ap, ⊎_elim}
 use Rattle.std.specs.Prelude.{is_ok}
-use Rattle.nd_model.specs.Running as running
+use Rattle.nd_model.specs.Cells.Running as running
 use Rattle.nd_heap.specs.Contents.{blocks_of}
 use Rattle.nd_heap.specs.Live.{bytes_at}
 use Rattle.nd_heap.specs.Values.{base_of}

@@ -1,6 +1,6 @@
 use Rattle.std.proofs.Common.{◌≡◌, take, true}
-use Rattle.nd_model.specs.Session as model
-use Rattle.nd_model.specs.Value as values
+use Rattle.nd_model.specs.Cells.Session as model
+use Rattle.nd_model.specs.Arrays.Value as values
 use Rattle.nd_heap.specs.Live.{bytes_at}
 use Rattle.nd_heap.proofs.heap.have_same_bytes.Given as goal
 

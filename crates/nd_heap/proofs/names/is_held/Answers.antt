@@ -1,6 +1,6 @@
 use Rattle.std.proofs.Common.{◌≡◌, ◌-◌, ◌+◌, sym, ◌∙◌, ap, ◌||◌, drop, arith}
-use Rattle.nd_model.specs.Session as model
-use Rattle.nd_model.specs.Value as values
+use Rattle.nd_model.specs.Cells.Session as model
+use Rattle.nd_model.specs.Arrays.Value as values
 use Rattle.nd_heap.specs.Values.{base_of, names_of, value_of}
 use Rattle.nd_heap.proofs.Loosening.{held_behind}
 use Rattle.nd_heap.proofs.NameLists.{held_from}

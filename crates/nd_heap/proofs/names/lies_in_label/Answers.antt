@@ -1,5 +1,5 @@
 use Rattle.std.proofs.Common.{inl, inr, ap}
-use Rattle.nd_model.specs.Value as values
+use Rattle.nd_model.specs.Arrays.Value as values
 use Rattle.nd_heap.specs.Values.{base_of, value_of}
 use Rattle.nd_heap.proofs.Held.{in_label}
 use Rattle.nd_heap.proofs.names.lies_in_label.Goals as goal

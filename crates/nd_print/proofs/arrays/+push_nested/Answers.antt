@@ -1,6 +1,6 @@
 use Rattle.std.proofs.Common.{◌≡◌, ℕ, [], ◌∷◌, ◌+◌, ◌-◌, ◌<◌, ◌++◌, List, length, get_or, take, drop, string_bytes, refl, ap, sym, ◌∙◌, arith, append-nil}
 use Rattle.std.specs.List.{concat}
-use Rattle.nd_model.specs.Tuple.{elements_of}
+use Rattle.nd_model.specs.Arrays.Tuple.{elements_of}
 use Rattle.nd_print.specs.Texts.{text_at}
 use Rattle.nd_print.proofs.Sizes.{sizes, below_is, length_below}
 use Rattle.nd_print.proofs.Nested.{part, gap, further, further_more, further_none, nested_is, even_below, even_above, left_more, left_all, whole_more, none_left, one_left, whole_first, open_and_closed, after_gap}

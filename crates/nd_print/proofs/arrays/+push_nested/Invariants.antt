@@ -1,7 +1,7 @@
 use Rattle.std.proofs.Common.{◌≡◌, ◌+◌, ◌-◌, ◌*◌, ◌≤◌, ◌++◌, length, drop, string_bytes}
 use Rattle.std.specs.List.{All, concat}
-use Rattle.nd_model.specs.Runs.{last_length}
-use Rattle.nd_model.specs.Tuple.{elements_of}
+use Rattle.nd_model.specs.Arrays.Runs.{last_length}
+use Rattle.nd_model.specs.Arrays.Tuple.{elements_of}
 use Rattle.nd_print.specs.Texts.{text_at}
 use Rattle.nd_print.proofs.Nested.{further}
 use Rattle.nd_print.proofs.arrays.+push_nested.Given as goal

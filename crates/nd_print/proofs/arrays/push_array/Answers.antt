@@ -1,6 +1,6 @@
 use Rattle.std.proofs.Common.{◌≡◌, length, ap, ◌∙◌, subst, sym}
 use Rattle.std.specs.List.{All}
-use Rattle.nd_model.specs.Runs.{last_length}
+use Rattle.nd_model.specs.Arrays.Runs.{last_length}
 use Rattle.nd_print.proofs.Nested.{even_rows}
 use Rattle.nd_print.proofs.arrays.push_array.Goals as goal
 

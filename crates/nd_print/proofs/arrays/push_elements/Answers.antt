@@ -1,7 +1,7 @@
 use Rattle.std.proofs.Common.{rules, ◌≡◌, ℕ, ◌<◌, ◌++◌, List, map, length, string_bytes, string_len, refl, sym, ap, ◌∙◌, arith}
-use Rattle.nd_model.specs.Tuple.{elements_of}
-use Rattle.nd_model.specs.Text.{bracketed}
-use Rattle.nd_model.specs.View.{ElementType}
+use Rattle.nd_model.specs.Arrays.Tuple.{elements_of}
+use Rattle.nd_model.specs.Text.Text.{bracketed}
+use Rattle.nd_model.specs.Arrays.View.{ElementType}
 use Rattle.nd_print.specs.Columns.{least_columns, fields_in, is_structure, has_axes, wider_columns}
 use Rattle.nd_print.specs.Lengths.{element_len, nested_len}
 use Rattle.nd_print.specs.Texts.{text_at}

@@ -1,5 +1,5 @@
 use Rattle.std.proofs.Common.{◌≡◌, ℕ, ◌<◌, [], ◌∷◌, ◌++◌, List, map, length, string_bytes, get_or, take, sym, ap, ◌∙◌, arith, append_assoc}
-use Rattle.nd_model.specs.Text.{joined}
+use Rattle.nd_model.specs.Text.Text.{joined}
 use Rattle.nd_print.specs.Texts.{element_text, text_at}
 use Rattle.nd_print.proofs.Joining.{joined_first, joined_next, regroup}
 use Rattle.nd_print.proofs.arrays.push_row.Goals as goal

@@ -1,5 +1,5 @@
 use Rattle.std.proofs.Common.{◌≡◌, [], ◌∷◌, ◌++◌, map, take, string_bytes}
-use Rattle.nd_model.specs.Text.{joined}
+use Rattle.nd_model.specs.Text.Text.{joined}
 use Rattle.nd_print.specs.Texts.{text_at}
 use Rattle.nd_print.proofs.arrays.push_row.Given as goal
 

@@ -1,5 +1,5 @@
 use Rattle.std.proofs.Common.{◌≡◌, ℕ, ◌<◌, [], ◌∷◌, ◌++◌, List, map, length, string_bytes, get_or, take, sym, ap, ◌∙◌, arith, append_assoc}
-use Rattle.nd_model.specs.Text.{joined}
+use Rattle.nd_model.specs.Text.Text.{joined}
 use Rattle.nd_print.specs.declared.columns.Column.{Column}
 use Rattle.nd_print.specs.Texts.{column_text}
 use Rattle.nd_print.proofs.Joining.{joined_first, joined_next, regroup}

@@ -1,7 +1,7 @@
 use Rattle.std.proofs.Common.{◌≡◌, ◌*◌, ◌++◌, length}
 use Rattle.std.specs.List.{flat_map}
-use Rattle.nd_model.specs.Element.{size_of}
-use Rattle.nd_model.specs.View.{One}
+use Rattle.nd_model.specs.Arrays.Element.{size_of}
+use Rattle.nd_model.specs.Arrays.View.{One}
 use Rattle.nd_element.specs.Elements.{canonical_at}
 use Rattle.nd_scatter.proofs.gathering.read_many.Given as goal
 

@@ -4,8 +4,8 @@ use Rattle.std.proofs.Math.Nat.{mul-le-mul_right}
 use Rattle.std.proofs.lemmas.List.{length-replicate}
 use Rattle.std.proofs.lemmas.Slice.{take-put_mid, drop-put_mid}
 use Rattle.nd_element.specs.Elements.{canonical_structure}
-use Rattle.nd_convert.proofs.Written.{flat_map_more}
-use Rattle.nd_convert.proofs.Pieces.{same_further, length-put_mid}
+use Rattle.nd_convert.proofs.conversion.Written.{flat_map_more}
+use Rattle.nd_convert.proofs.conversion.Pieces.{same_further, length-put_mid}
 use Rattle.nd_scatter.proofs.gathering.read_structures.Goals as goal
 
 pub loop-index-preserved : goal.loop-index-preserved

@@ -1,6 +1,6 @@
 use Rattle.std.proofs.Common.{◌≡◌, ◌+◌, ◌-◌, ℕ, List, length, drop, take, ap, ◌∙◌, arith}
 use borrow.Rule.Slice.PartMut.{put_mid}
-use Rattle.nd_model.specs.Element.{bytes_at}
+use Rattle.nd_model.specs.Arrays.Element.{bytes_at}
 use Rattle.nd_block.proofs.Copied.{length-bytes_at}
 use Rattle.nd_assign.proofs.Bytewise.{put_bytes}
 use Rattle.nd_scatter.proofs.kernel.copy_bytes.Goals as goal

@@ -1,6 +1,6 @@
 use Rattle.std.proofs.Common.{◌+◌, ◌*◌, ◌<◌, ◌≤◌, ℕ, List, length, get_or, ap, ◌∙◌, arith}
-use Rattle.nd_model.specs.Element.{bytes_at, size_of, with_bytes}
-use Rattle.nd_model.specs.View.{One}
+use Rattle.nd_model.specs.Arrays.Element.{bytes_at, size_of, with_bytes}
+use Rattle.nd_model.specs.Arrays.View.{One}
 use Rattle.nd_scatter.specs.Scattered.{scattered}
 use Rattle.nd_scatter.proofs.Copies.{run_put, element_more}
 use Rattle.nd_scatter.proofs.kernel.write_each.Goals as goal

@@ -1,5 +1,5 @@
 use Rattle.std.proofs.Common.{◌≡◌, ◌+◌, ◌*◌, length, drop}
-use Rattle.nd_model.specs.View.{One}
+use Rattle.nd_model.specs.Arrays.View.{One}
 use Rattle.nd_scatter.specs.Scattered.{scattered}
 use Rattle.nd_scatter.proofs.kernel.write_each.Given as goal
 

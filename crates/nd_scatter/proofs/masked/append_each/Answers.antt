@@ -3,7 +3,7 @@ use Rattle.std.specs.List.{flat_map}
 use Rattle.std.proofs.Math.Nat.{mul-le-mul}
 use Rattle.std.proofs.lemmas.Grind.{flat_map-append}
 use Rattle.std.proofs.lemmas.List.{drop_all, length-take-le, length-drop}
-use Rattle.nd_model.specs.View.{One}
+use Rattle.nd_model.specs.Arrays.View.{One}
 use Rattle.nd_model.proofs.Values.{few_bytes}
 use Rattle.nd_element.specs.Elements.{canonical_at}
 use Rattle.nd_places.specs.Forms.{trues_on}

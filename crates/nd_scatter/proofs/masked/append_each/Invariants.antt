@@ -1,6 +1,6 @@
 use Rattle.std.proofs.Common.{◌≡◌, ◌+◌, ◌-◌, ◌≤◌, ◌++◌, length, drop}
 use Rattle.std.specs.List.{flat_map}
-use Rattle.nd_model.specs.View.{One}
+use Rattle.nd_model.specs.Arrays.View.{One}
 use Rattle.nd_element.specs.Elements.{canonical_at}
 use Rattle.nd_places.specs.Forms.{trues_on}
 use Rattle.nd_scatter.proofs.masked.append_each.Given as goal

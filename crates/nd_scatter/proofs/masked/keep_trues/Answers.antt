@@ -1,8 +1,8 @@
 use Rattle.std.proofs.Common.{◌≡◌, ◌+◌, ◌*◌, ◌<◌, ◌≤◌, ℕ, List, ◌++◌, length, map, take, drop, get_or, ap, ◌∙◌, arith}
 use Rattle.std.proofs.Math.Nat.{mul-le-mul_right}
 use Rattle.std.specs.List.{flat_map}
-use Rattle.nd_model.specs.Element.{bytes_at}
-use Rattle.nd_model.specs.View.{One}
+use Rattle.nd_model.specs.Arrays.Element.{bytes_at}
+use Rattle.nd_model.specs.Arrays.View.{One}
 use Rattle.nd_block.proofs.Copied.{length-bytes_at}
 use Rattle.nd_element.specs.Elements.{canonical_at}
 use Rattle.nd_places.specs.Near.{is_true, place_on_line, trues_in}

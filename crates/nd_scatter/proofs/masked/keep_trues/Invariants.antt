@@ -1,6 +1,6 @@
 use Rattle.std.proofs.Common.{◌≡◌, ◌+◌, ◌*◌, ◌≤◌, ◌++◌, length, map, take, drop}
 use Rattle.std.specs.List.{flat_map}
-use Rattle.nd_model.specs.View.{One}
+use Rattle.nd_model.specs.Arrays.View.{One}
 use Rattle.nd_element.specs.Elements.{canonical_at}
 use Rattle.nd_places.specs.Near.{place_on_line, trues_in}
 use Rattle.nd_scatter.proofs.masked.keep_trues.Given as goal

@@ -2,15 +2,15 @@ use Rattle.std.proofs.Common.{◌≡◌, ℕ, ◌-◌, ◌^◌, ◌≤◌, pos, 
 use Rattle.std.specs.Prelude.{◌+ℤ◌, ◌-ℤ◌, ◌*ℤ◌, ◌≤ℤ◌}
 use Rattle.std.specs.Int.{w64}
 use Rattle.std.proofs.lemmas.Int.{ints}
-use Rattle.nd_places.specs.declared.line.Line.{Line}
+use Rattle.nd_places.specs.declared.line.StridedLine.{StridedLine}
 use Rattle.nd_places.proofs.Found.{near_product}
 use Rattle.nd_scatter.proofs.Between.{not_before, not_behind, place_inside}
 use Rattle.nd_scatter.proofs.masked.lie_inside.Goals as goal
 
-start_is : (line : Line) → to_z w64 (of_z w64 line.start) ≡ line.start
+start_is : (line : StridedLine) → to_z w64 (of_z w64 line.start) ≡ line.start
 start_is line = omega (arith, ints, line.start_near)
 
-end_is : (line : Line) (n : ℕ) → n ≤ 2 ^ 24 → (n ≡ 0 → ⊥)
+end_is : (line : StridedLine) (n : ℕ) → n ≤ 2 ^ 24 → (n ≡ 0 → ⊥)
     → to_z w64 (of_z w64 (to_z w64 (of_z w64 line.start) +ℤ to_z w64 (of_z w64 (to_z w64 (of_z w64 (to_z w64 n -ℤ pos 1)) *ℤ to_z w64 (of_z w64 line.step))))) ≡ line.start +ℤ (pos (n - 1) *ℤ line.step)
 end_is line n few some =
     let whole : to_z w64 (of_z w64 (to_z w64 n -ℤ pos 1)) ≡ pos (n - 1) = omega (arith, ints, few, some) in

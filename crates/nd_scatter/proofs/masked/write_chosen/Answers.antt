@@ -3,9 +3,9 @@ use Rattle.std.specs.Prelude.{if◌then◌else◌}
 use Rattle.std.specs.Int.{w128, cast_signed, cast_unsigned}
 use Rattle.std.specs.Int.RustNames.{FitsSigned}
 use mir.Facts.{to_z-of_z}
-use Rattle.nd_model.specs.Content.{number_at}
-use Rattle.nd_model.specs.Element.{Element, size_of, bytes_of, with_bytes}
-use Rattle.nd_model.specs.Elementwise.{little}
+use Rattle.nd_model.specs.Arrays.Content.{number_at}
+use Rattle.nd_model.specs.Arrays.Element.{Element, size_of, bytes_of, with_bytes}
+use Rattle.nd_model.specs.Making.Elementwise.{little}
 use Rattle.nd_types.specs.Kinds.{kind_of}
 use Rattle.nd_places.specs.Near.{is_true}
 use Rattle.nd_assign.proofs.Bytewise.{small_bytes}

@@ -1,8 +1,8 @@
 use Rattle.std.proofs.Common.{◌≡◌, ◌+◌, ◌*◌, ◌<◌, ◌≤◌, ℕ, List, [], length, map, drop, get_or, refl, sym, ap, ◌∙◌, subst, arith}
 use Rattle.std.specs.Prelude.{if◌then◌else◌}
 use Rattle.std.proofs.lemmas.List.{drop_all}
-use Rattle.nd_model.specs.Element.{bytes_at, size_of, with_bytes}
-use Rattle.nd_model.specs.View.{One}
+use Rattle.nd_model.specs.Arrays.Element.{bytes_at, size_of, with_bytes}
+use Rattle.nd_model.specs.Arrays.View.{One}
 use Rattle.nd_places.specs.Forms.{trues_on}
 use Rattle.nd_places.specs.Near.{is_true, place_on_line, trues_in}
 use Rattle.nd_scatter.specs.Ready.{AreValues}

@@ -1,5 +1,5 @@
 use Rattle.std.proofs.Common.{◌≡◌, ◌+◌, ◌*◌, ◌≤◌, length, map, drop}
-use Rattle.nd_model.specs.View.{One}
+use Rattle.nd_model.specs.Arrays.View.{One}
 use Rattle.nd_places.specs.Forms.{trues_on}
 use Rattle.nd_places.specs.Near.{place_on_line, trues_in}
 use Rattle.nd_scatter.specs.Scattered.{scattered}

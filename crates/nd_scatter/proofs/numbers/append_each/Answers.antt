@@ -1,9 +1,9 @@
 use Rattle.std.proofs.Common.{◌≡◌, ℕ, List, ◌++◌, ◌+◌, ◌*◌, ◌<◌, length, take, get_or, sym, ap, ◌∙◌, arith, append_assoc}
 use Rattle.std.specs.List.{flat_map}
-use Rattle.nd_model.specs.Element.{size_of}
-use Rattle.nd_model.specs.View.{One}
+use Rattle.nd_model.specs.Arrays.Element.{size_of}
+use Rattle.nd_model.specs.Arrays.View.{One}
 use Rattle.nd_element.specs.Elements.{canonical_at}
-use Rattle.nd_convert.proofs.Written.{flat_map_more}
+use Rattle.nd_convert.proofs.conversion.Written.{flat_map_more}
 use Rattle.nd_scatter.proofs.numbers.append_each.Goals as goal
 
 pub loop-place-preserved : goal.loop-place-preserved

@@ -2,10 +2,10 @@ use Rattle.std.proofs.Common.{rules, ◌≡◌, ◌+◌, ◌≤◌, ◌++◌, �
 use Rattle.std.specs.Int.{w128, cast_signed, cast_unsigned}
 use Rattle.std.specs.Int.RustNames.{FitsSigned}
 use mir.Facts.{to_z-of_z}
-use Rattle.nd_model.specs.Content.{number_at}
-use Rattle.nd_model.specs.Element.{Element, size_of, bytes_at, bytes_of}
-use Rattle.nd_model.specs.Elementwise.{little}
-use Rattle.nd_model.specs.View.{One}
+use Rattle.nd_model.specs.Arrays.Content.{number_at}
+use Rattle.nd_model.specs.Arrays.Element.{Element, size_of, bytes_at, bytes_of}
+use Rattle.nd_model.specs.Making.Elementwise.{little}
+use Rattle.nd_model.specs.Arrays.View.{One}
 use Rattle.nd_model.proofs.Contents.{number_bytes}
 use Rattle.nd_types.specs.Kinds.{kind_of}
 use Rattle.nd_element.specs.Elements.{canonical_at}

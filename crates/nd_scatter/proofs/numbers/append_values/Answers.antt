@@ -3,12 +3,12 @@ use Rattle.std.specs.List.{flat_map}
 use Rattle.std.specs.Int.{w128, cast_signed, cast_unsigned}
 use Rattle.std.specs.Int.RustNames.{FitsSigned}
 use mir.Facts.{to_z-of_z}
-use Rattle.nd_model.specs.Content.{number_at}
-use Rattle.nd_model.specs.Element.{size_of, bytes_of}
-use Rattle.nd_model.specs.View.{One}
+use Rattle.nd_model.specs.Arrays.Content.{number_at}
+use Rattle.nd_model.specs.Arrays.Element.{size_of, bytes_of}
+use Rattle.nd_model.specs.Arrays.View.{One}
 use Rattle.nd_model.proofs.Contents.{number_bytes}
 use Rattle.nd_element.specs.Elements.{canonical_at}
-use Rattle.nd_convert.proofs.Written.{flat_map_more}
+use Rattle.nd_convert.proofs.conversion.Written.{flat_map_more}
 use Rattle.nd_scatter.proofs.numbers.append_values.Goals as goal
 
 pub loop-place-preserved : goal.loop-place-preserved

@@ -1,5 +1,5 @@
 use Rattle.std.proofs.Common.{◌≡◌, ℕ, List, pos, ◌<◌, length, get_or, refl, sym, ap, arith}
-use Rattle.nd_model.specs.Runs.{place_at}
+use Rattle.nd_model.specs.Arrays.Runs.{place_at}
 use Rattle.nd_assign.proofs.Bytewise.{by_step}
 use Rattle.nd_scatter.proofs.numbers.are_side_by_side.Goals as goal
 

@@ -2,13 +2,13 @@ use Rattle.std.proofs.Common.{◌≡◌, ◌+◌, ◌*◌, ◌≤◌, ℕ, List,
 use Rattle.std.specs.List.{All}
 use Rattle.std.proofs.Math.Nat.{mul-le-mul_right}
 use Rattle.std.proofs.lemmas.List.{length-replicate}
-use Rattle.nd_model.specs.Sound.{LiesIn}
-use Rattle.nd_model.specs.Tuple.{elements_of}
-use Rattle.nd_model.specs.View.{Geo, item_size, contiguous}
+use Rattle.nd_model.specs.Cells.Sound.{LiesIn}
+use Rattle.nd_model.specs.Arrays.Tuple.{elements_of}
+use Rattle.nd_model.specs.Arrays.View.{Geo, item_size, contiguous}
 use Rattle.nd_types.specs.Types.{type_of}
 use Rattle.nd_assign.specs.Assigned.{with_elements}
 use Rattle.nd_assign.specs.HeldFields.{HoldsFields}
-use Rattle.nd_fancy.specs.Chosen.{view_at}
+use Rattle.nd_index.specs.Advanced.Chosen.{view_at}
 use Rattle.nd_scatter.specs.Scattered.{Prepared, scattered, written_by}
 use Rattle.nd_scatter.proofs.Assigned.{written_to, elements, length-elements}
 use Rattle.nd_scatter.proofs.Values.{lies_alone}

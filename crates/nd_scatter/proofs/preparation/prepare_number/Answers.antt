@@ -3,10 +3,10 @@ use Rattle.std.specs.List.{All}
 use Rattle.std.specs.Int.{w128, cast_signed, cast_unsigned}
 use Rattle.std.proofs.lemmas.List.{length-replicate}
 use mir.Facts.{to_z-of_z}
-use Rattle.nd_model.specs.View.{Geo, item_size, contiguous}
+use Rattle.nd_model.specs.Arrays.View.{Geo, item_size, contiguous}
 use Rattle.nd_types.specs.Types.{type_of}
 use Rattle.nd_assign.specs.Assigned.{with_number}
-use Rattle.nd_fancy.specs.Chosen.{view_at}
+use Rattle.nd_index.specs.Advanced.Chosen.{view_at}
 use Rattle.nd_scatter.specs.Scattered.{Prepared, written_by}
 use Rattle.nd_scatter.proofs.Assigned.{written_to, one_number}
 use Rattle.nd_scatter.proofs.preparation.prepare_number.Goals as goal

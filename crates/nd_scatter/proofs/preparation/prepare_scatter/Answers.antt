@@ -1,8 +1,8 @@
 use Rattle.std.proofs.Common.{◌≡◌, ℕ, List, refl, sym, ap, ◌∙◌}
 use Rattle.std.proofs.lemmas.Result.{IfOk-weaker}
-use Rattle.nd_model.specs.View.{Geo}
+use Rattle.nd_model.specs.Arrays.View.{Geo}
 use Rattle.nd_assign.specs.Sources.{with_source}
-use Rattle.nd_fancy.specs.Chosen.{view_at}
+use Rattle.nd_index.specs.Advanced.Chosen.{view_at}
 use Rattle.nd_scatter.specs.Scattered.{written_by}
 use Rattle.nd_scatter.proofs.preparation.prepare_scatter.Goals as goal
 

@@ -2,11 +2,11 @@ use Rattle.std.proofs.Common.{◌≡◌, ◌+◌, ◌*◌, ◌<◌, ◌≤◌, �
 use Rattle.std.specs.List.{All}
 use Rattle.std.proofs.Math.Nat.{mul-le-mul_right}
 use Rattle.std.proofs.lemmas.Result.{IfOk-weaker}
-use Rattle.nd_model.specs.Tuple.{elements_of}
-use Rattle.nd_model.specs.View.{Geo, item_size}
+use Rattle.nd_model.specs.Arrays.Tuple.{elements_of}
+use Rattle.nd_model.specs.Arrays.View.{Geo, item_size}
 use Rattle.nd_assign.specs.Assigned.{with_elements}
 use Rattle.nd_assign.specs.Sources.{IsValue}
-use Rattle.nd_fancy.specs.Chosen.{view_at}
+use Rattle.nd_index.specs.Advanced.Chosen.{view_at}
 use Rattle.nd_scatter.specs.OwnValues.{AreOwnValues}
 use Rattle.nd_scatter.specs.Scattered.{Prepared, scattered, written_by}
 use Rattle.nd_scatter.proofs.Assigned.{written_to, elements}

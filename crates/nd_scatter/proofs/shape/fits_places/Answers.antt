@@ -1,7 +1,7 @@
 use Rattle.std.proofs.Common.{◌≡◌, ◌==◌, ◌-◌, ◌<◌, ℕ, suc, true, List, [], ◌∷◌, length, take, drop, get_or, refl, sym, ap, ◌∙◌, arith}
 use Rattle.std.proofs.Math.Seq.{take-length}
 use Rattle.std.proofs.lemmas.Bool.Decides.{nat_tests}
-use Rattle.nd_model.specs.Assigning.{value_shape, without_ones}
+use Rattle.nd_model.specs.Making.Assigning.{value_shape, without_ones}
 use Rattle.nd_scatter.proofs.shape.fits_places.Goals as goal
 
 -- without a leading axis of length 1, of which there are more than in the target

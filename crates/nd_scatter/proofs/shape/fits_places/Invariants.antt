@@ -1,5 +1,5 @@
 use Rattle.std.proofs.Common.{◌≡◌, length}
-use Rattle.nd_model.specs.Assigning.{value_shape}
+use Rattle.nd_model.specs.Making.Assigning.{value_shape}
 use Rattle.nd_scatter.proofs.shape.fits_places.Given as goal
 
 abbrev pub invariant-loop-value : goal.invariant-loop-value

@@ -1,6 +1,6 @@
 use Rattle.std.proofs.Common.{◌+◌, ℕ, List, drop, ap, ◌∙◌, arith}
-use Rattle.nd_model.specs.Element.{bytes_at, with_bytes}
-use Rattle.nd_model.specs.Session.{put}
+use Rattle.nd_model.specs.Arrays.Element.{bytes_at, with_bytes}
+use Rattle.nd_model.specs.Cells.Session.{put}
 use Rattle.nd_types.specs.Fields.{field_of, fields_of}
 use Rattle.nd_scatter.proofs.Copies.{field_copies, field_next, field_more}
 use Rattle.nd_scatter.proofs.structures.write_structure.Goals as goal

@@ -1,5 +1,5 @@
 use Rattle.std.proofs.Common.{◌≡◌, length, drop}
-use Rattle.nd_model.specs.Session.{put}
+use Rattle.nd_model.specs.Cells.Session.{put}
 use Rattle.nd_types.specs.Fields.{fields_of}
 use Rattle.nd_scatter.proofs.Copies.{field_copies}
 use Rattle.nd_scatter.proofs.structures.write_structure.Given as goal

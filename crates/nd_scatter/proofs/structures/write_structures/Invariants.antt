@@ -1,5 +1,5 @@
 use Rattle.std.proofs.Common.{◌≡◌, ◌+◌, ◌*◌, length, drop}
-use Rattle.nd_model.specs.View.{Structure}
+use Rattle.nd_model.specs.Arrays.View.{Structure}
 use Rattle.nd_scatter.specs.Scattered.{scattered}
 use Rattle.nd_scatter.proofs.structures.write_structures.Given as goal
 

@@ -1,5 +1,5 @@
 use Rattle.std.proofs.Common.{◌≡◌, ◌+◌, ◌*◌, ◌≤◌, List, ℕ, length, sym, ap, ◌∙◌, arith, rules, length-append}
-use Rattle.nd_model.specs.View.{item_size}
+use Rattle.nd_model.specs.Arrays.View.{item_size}
 use Rattle.nd_view.proofs.ByRuns.{behind_run}
 use Rattle.nd_types.specs.Types.{type_of}
 use Rattle.nd_scatter.specs.KeptLength.{length-scattered}

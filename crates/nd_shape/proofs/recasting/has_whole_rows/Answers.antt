@@ -3,9 +3,9 @@ use Rattle.std.specs.Int.{w128}
 use Rattle.std.specs.Int.RustNames.{FitsSigned}
 use Rattle.std.proofs.lemmas.Bool.{cases_Bool}
 use Rattle.std.proofs.lemmas.Int.{to_z-of_z}
-use Rattle.nd_model.specs.Recasting.{last_of, has_whole_rows}
-use Rattle.nd_model.specs.Tuple.{elements_of}
-use Rattle.nd_model.specs.View.{item_size}
+use Rattle.nd_model.specs.Indexing.Recasting.{last_of, has_whole_rows}
+use Rattle.nd_model.specs.Arrays.Tuple.{elements_of}
+use Rattle.nd_model.specs.Arrays.View.{item_size}
 use Rattle.nd_view.proofs.Made.{axes}
 use Rattle.nd_shape.proofs.Rearranged.{HasStrides}
 use Rattle.nd_shape.proofs.Recasts.{last_at, last_step_at, short_rows, no_rows, even_rows, rows_even}

@@ -1,9 +1,9 @@
 use Rattle.std.proofs.Common.{◌≡◌, ◌*◌, ◌/◌, ◌%◌, ◌-◌, ◌<◌, ℕ, Bool, true, false, not, length, get_or, refl, sym, ap, ◌∙◌, arith}
 use Rattle.std.specs.Prelude.{◌==◌}
 use Rattle.std.proofs.lemmas.Bool.Decides.{nat_tests}
-use Rattle.nd_model.specs.Element.{size_of}
-use Rattle.nd_model.specs.Recasting.{has_whole_rows, row_bytes}
-use Rattle.nd_model.specs.View.{item_size}
+use Rattle.nd_model.specs.Arrays.Element.{size_of}
+use Rattle.nd_model.specs.Indexing.Recasting.{has_whole_rows, row_bytes}
+use Rattle.nd_model.specs.Arrays.View.{item_size}
 use Rattle.nd_shape.proofs.Recasts.{last_at}
 use Rattle.nd_shape.proofs.recasting.recast_length.Goals as goal
 

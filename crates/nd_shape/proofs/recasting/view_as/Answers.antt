@@ -2,11 +2,11 @@ use Rattle.std.proofs.Common.{◌≡◌, ◌≢◌, ℕ, true, false, pos, sym, 
 use Rattle.std.specs.Prelude.{Ok, ◌==◌}
 use Rattle.std.specs.Option.{option_map}
 use Rattle.std.proofs.lemmas.Bool.Decides.{nat_tests}
-use Rattle.nd_model.specs.Creation.{is_number_type}
-use Rattle.nd_model.specs.Element.{size_of}
-use Rattle.nd_model.specs.Recasting.{with_last, can_recast, recast_shape}
-use Rattle.nd_model.specs.Strides.{IsInLimits, limit_fault}
-use Rattle.nd_model.specs.View.{item_size}
+use Rattle.nd_model.specs.Making.Creation.{is_number_type}
+use Rattle.nd_model.specs.Arrays.Element.{size_of}
+use Rattle.nd_model.specs.Indexing.Recasting.{with_last, can_recast, recast_shape}
+use Rattle.nd_model.specs.Arrays.Strides.{IsInLimits, limit_fault}
+use Rattle.nd_model.specs.Arrays.View.{item_size}
 use Rattle.nd_view.specs.Faults.{view_fault_of}
 use Rattle.nd_shape.specs.Recasts.{with_last_step}
 use Rattle.nd_shape.proofs.Recasts.{recast_fault, recast_is}

@@ -1,5 +1,5 @@
 use Rattle.std.proofs.Common.{◌≡◌, drop}
-use Rattle.nd_model.specs.Tuple.{elements_of}
+use Rattle.nd_model.specs.Arrays.Tuple.{elements_of}
 use Rattle.nd_shape.specs.Reshapes.{way_of, are_met}
 use Rattle.nd_shape.proofs.reshaping.are_met.Given as goal
 

@@ -1,5 +1,5 @@
 use Rattle.std.proofs.Common.{◌≡◌, ◌+◌, ◌≤◌, drop}
-use Rattle.nd_model.specs.Reshaping.{unknowns}
+use Rattle.nd_model.specs.Indexing.Reshaping.{unknowns}
 use Rattle.nd_shape.proofs.reshaping.count_unknowns.Given as goal
 
 abbrev pub invariant-loop-length : goal.invariant-loop-length

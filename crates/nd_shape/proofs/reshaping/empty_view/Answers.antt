@@ -1,6 +1,6 @@
 use Rattle.std.proofs.Common.{◌≡◌, ◌^◌, length, ap, ◌∙◌, arith}
-use Rattle.nd_model.specs.Strides.{parts_fault}
-use Rattle.nd_model.specs.View.{item_size}
+use Rattle.nd_model.specs.Arrays.Strides.{parts_fault}
+use Rattle.nd_model.specs.Arrays.View.{item_size}
 use Rattle.nd_shape.proofs.Reshapes.{empty_fault, empty_places}
 use Rattle.nd_shape.proofs.reshaping.empty_view.Goals as goal
 

@@ -2,7 +2,7 @@ use Rattle.std.proofs.Common.{◌*◌, ◌+◌, ◌^◌, pos, min, get_or, ap, �
 use Rattle.std.specs.Int.{w128}
 use Rattle.std.specs.Int.RustNames.{FitsSigned}
 use Rattle.std.proofs.lemmas.Int.{to_z-of_z}
-use Rattle.nd_model.specs.Reshaping.{is_length, length_or}
+use Rattle.nd_model.specs.Indexing.Reshaping.{is_length, length_or}
 use Rattle.nd_shape.proofs.LengthLoops.{known_next}
 use Rattle.nd_shape.proofs.Pushed.{all_next}
 use Rattle.nd_shape.proofs.reshaping.known_elements.Goals as goal

@@ -1,6 +1,6 @@
 use Rattle.std.proofs.Common.{◌≡◌, ◌+◌, ◌*◌, ◌^◌, ◌≤◌, true, min, drop}
 use Rattle.std.specs.List.{list_all}
-use Rattle.nd_model.specs.Reshaping.{is_length, known_elements}
+use Rattle.nd_model.specs.Indexing.Reshaping.{is_length, known_elements}
 use Rattle.nd_shape.proofs.reshaping.known_elements.Given as goal
 
 abbrev pub invariant-loop-length : goal.invariant-loop-length

@@ -1,6 +1,6 @@
 use Rattle.std.proofs.Common.{◌≡◌, true, sym, ◌∙◌, arith}
 use Rattle.std.specs.List.{list_all}
-use Rattle.nd_model.specs.Reshaping.{is_length}
+use Rattle.nd_model.specs.Indexing.Reshaping.{is_length}
 use Rattle.nd_shape.proofs.Lengths.{no_shape, own_shape}
 use Rattle.nd_shape.proofs.LengthLoops.{lengths_last}
 use Rattle.nd_shape.proofs.reshaping.new_shape.Goals as goal

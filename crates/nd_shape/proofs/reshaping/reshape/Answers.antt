@@ -1,10 +1,10 @@
 use Rattle.std.proofs.Common.{◌≡◌, ◌<◌, ◌^◌, ℕ, Bool, true, false, List, ℤ, length, get_or, sym, ap, subst, ◌∙◌, arith}
 use Rattle.std.specs.Prelude.{Ok, if◌then◌else◌}
-use Rattle.nd_model.specs.Reshaping as model
-use Rattle.nd_model.specs.Reshaping.{is_even, reshaped_or, shape_for}
-use Rattle.nd_model.specs.Strides.{IsInLimits}
-use Rattle.nd_model.specs.Tuple.{elements_of}
-use Rattle.nd_model.specs.View.{Geo, item_size}
+use Rattle.nd_model.specs.Indexing.Reshaping as model
+use Rattle.nd_model.specs.Indexing.Reshaping.{is_even, reshaped_or, shape_for}
+use Rattle.nd_model.specs.Arrays.Strides.{IsInLimits}
+use Rattle.nd_model.specs.Arrays.Tuple.{elements_of}
+use Rattle.nd_model.specs.Arrays.View.{Geo, item_size}
 use Rattle.nd_model.proofs.Reshaped.{IsShapeFor, shape_facts, same_limits}
 use Rattle.nd_view.proofs.Made.{axes}
 use Rattle.nd_shape.specs.NewShapes.{shape_given}

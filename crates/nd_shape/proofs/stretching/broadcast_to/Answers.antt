@@ -1,9 +1,9 @@
 use Rattle.std.proofs.Common.{◌≡◌, ◌-◌, true, length, sym, ap, ◌∙◌}
 use Rattle.std.specs.Prelude.{Ok}
 use Rattle.std.specs.Option.{option_map}
-use Rattle.nd_model.specs.Broadcast.{broadcasts_to}
-use Rattle.nd_model.specs.Strides.{IsInLimits, limit_fault}
-use Rattle.nd_model.specs.View.{item_size}
+use Rattle.nd_model.specs.Arrays.Broadcast.{broadcasts_to}
+use Rattle.nd_model.specs.Arrays.Strides.{IsInLimits, limit_fault}
+use Rattle.nd_model.specs.Arrays.View.{item_size}
 use Rattle.nd_view.specs.Faults.{view_fault_of}
 use Rattle.nd_shape.specs.Stretches.{stretched_strides}
 use Rattle.nd_shape.proofs.Stretches.{stretch_fault, stretch_view}

@@ -1,5 +1,5 @@
 use Rattle.std.proofs.Common.{◌≡◌, ◌+◌, ◌-◌, length, drop}
-use Rattle.nd_model.specs.Broadcast.{can_stretch}
+use Rattle.nd_model.specs.Arrays.Broadcast.{can_stretch}
 use Rattle.nd_shape.proofs.stretching.broadcasts_to.Given as goal
 
 abbrev pub invariant-loop-axis : goal.invariant-loop-axis

@@ -1,6 +1,6 @@
 use Rattle.std.proofs.Common.{◌≡◌, drop}
-use Rattle.nd_model.specs.Session.{is_in}
-use Rattle.nd_model.specs.Transposing.{axes_of}
+use Rattle.nd_model.specs.Cells.Session.{is_in}
+use Rattle.nd_model.specs.Indexing.Transposing.{axes_of}
 use Rattle.nd_shape.proofs.transposing.has_axis.Given as goal
 
 abbrev pub invariant-loop-number : goal.invariant-loop-number

@@ -1,8 +1,8 @@
 use Rattle.std.proofs.Common.{◌≡◌, ℕ, suc, ◌+◌, ◌-◌, ◌<◌, Bool, true, refl, sym, ◌∙◌, arith}
 use Rattle.std.specs.List.{list_all}
-use Rattle.nd_model.specs.Session.{is_in}
-use Rattle.nd_model.specs.Transposing.{axes_of}
-use Rattle.nd_model.specs.Tuple.{count_up}
+use Rattle.nd_model.specs.Cells.Session.{is_in}
+use Rattle.nd_model.specs.Indexing.Transposing.{axes_of}
+use Rattle.nd_model.specs.Arrays.Tuple.{count_up}
 use Rattle.nd_shape.proofs.transposing.is_order.Goals as goal
 
 next : (p : ℕ → Bool) (a n : ℕ) → a < n → p a ≡ true → list_all p (count_up a (n - a)) ≡ list_all p (count_up (a + 1) (n - (a + 1)))

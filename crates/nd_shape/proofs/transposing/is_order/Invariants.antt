@@ -1,9 +1,9 @@
 use Rattle.std.proofs.Common.{◌≡◌, ◌-◌, drop}
 use Rattle.std.specs.List.{list_all}
-use Rattle.nd_model.specs.Selecting.{is_within}
-use Rattle.nd_model.specs.Session.{is_in}
-use Rattle.nd_model.specs.Transposing.{axes_of}
-use Rattle.nd_model.specs.Tuple.{count_up}
+use Rattle.nd_model.specs.Indexing.Selecting.{is_within}
+use Rattle.nd_model.specs.Cells.Session.{is_in}
+use Rattle.nd_model.specs.Indexing.Transposing.{axes_of}
+use Rattle.nd_model.specs.Arrays.Tuple.{count_up}
 use Rattle.nd_shape.proofs.transposing.is_order.Given as goal
 
 abbrev pub invariant-loop-number : goal.invariant-loop-number

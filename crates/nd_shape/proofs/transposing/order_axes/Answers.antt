@@ -2,7 +2,7 @@ use Rattle.std.proofs.Common.{pos, length, get_or, ap, ◌∙◌, arith, rules}
 use Rattle.std.specs.Int.{w128}
 use Rattle.std.specs.Int.RustNames.{FitsSigned}
 use Rattle.std.proofs.lemmas.Int.{to_z-of_z}
-use Rattle.nd_model.specs.Selecting.{counted_from, is_within}
+use Rattle.nd_model.specs.Indexing.Selecting.{counted_from, is_within}
 use Rattle.nd_shape.proofs.Pushed.{pushed, all_next}
 use Rattle.nd_shape.proofs.transposing.order_axes.Goals as goal
 

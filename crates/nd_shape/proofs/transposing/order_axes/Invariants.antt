@@ -1,7 +1,7 @@
 use Rattle.std.proofs.Common.{◌≡◌, true, length, drop, ◌++◌}
 use Rattle.std.specs.List.{list_all}
-use Rattle.nd_model.specs.Selecting.{is_within}
-use Rattle.nd_model.specs.Transposing.{axes_of}
+use Rattle.nd_model.specs.Indexing.Selecting.{is_within}
+use Rattle.nd_model.specs.Indexing.Transposing.{axes_of}
 use Rattle.nd_shape.specs.Layouts.{lengths_on, strides_on}
 use Rattle.nd_shape.proofs.transposing.order_axes.Given as goal
 

@@ -1,5 +1,5 @@
 use Rattle.std.proofs.Common.{length, ◌∙◌}
-use Rattle.nd_model.specs.Transposing.{count_down}
+use Rattle.nd_model.specs.Indexing.Transposing.{count_down}
 use Rattle.nd_model.proofs.Transposed.{down_is}
 use Rattle.nd_shape.proofs.Ordered.{order_fault, order_view}
 use Rattle.nd_shape.proofs.transposing.reverse_axes.Goals as goal

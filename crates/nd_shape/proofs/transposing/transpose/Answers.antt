@@ -1,6 +1,6 @@
 use Rattle.std.proofs.Common.{◌≡◌, true, length, sym, ap, ◌∙◌}
 use Rattle.std.specs.Prelude.{Ok}
-use Rattle.nd_model.specs.Transposing.{axes_of, is_order}
+use Rattle.nd_model.specs.Indexing.Transposing.{axes_of, is_order}
 use Rattle.nd_model.proofs.Transposed.{order_is}
 use Rattle.nd_shape.proofs.Ordered.{order_fault, order_view}
 use Rattle.nd_shape.proofs.transposing.transpose.Goals as goal

@@ -1,5 +1,5 @@
 use Rattle.std.proofs.Common.{◌≡◌, ◌≤◌, length, ◌++◌}
-use Rattle.nd_model.specs.Transposing.{count_down}
+use Rattle.nd_model.specs.Indexing.Transposing.{count_down}
 use Rattle.nd_shape.specs.Layouts.{lengths_on, strides_on}
 use Rattle.nd_shape.proofs.transposing.turn_axes.Given as goal
 

@@ -1,5 +1,5 @@
 use Rattle.std.proofs.Common.{◌≡◌, drop, map}
-use Rattle.nd_model.specs.Lexing.{first_of}
+use Rattle.nd_model.specs.Grammar.Lexing.{first_of}
 use Rattle.nd_token.specs.Tokens.{entry}
 use Rattle.nd_token.proofs.symbol.first_of.Given as goal
 

@@ -1,5 +1,5 @@
 use Rattle.nd_marks.specs.Marks.{holds}
-use Rattle.nd_model.specs.View.{element_places}
+use Rattle.nd_model.specs.Arrays.View.{element_places}
 use Rattle.nd_types.specs.Types.{type_of}
 use Rattle.nd_trace.proofs.Places.{put_back}
 use Rattle.nd_trace.proofs.marking.mark_element.Goals as goal

@@ -1,6 +1,6 @@
 use Rattle.std.specs.List.{flat_map}
 use Rattle.nd_marks.specs.Marks.{holds}
-use Rattle.nd_model.specs.View.{element_places}
+use Rattle.nd_model.specs.Arrays.View.{element_places}
 use Rattle.nd_types.specs.Types.{type_of}
 use Rattle.nd_trace.proofs.Places.{put_back}
 use Rattle.nd_trace.proofs.marking.mark_elements.Goals as goal

@@ -1,7 +1,7 @@
 use Rattle.std.proofs.Common.{◌+◌, ◌≤◌, ◌^◌, ℕ, List, ap, ◌∙◌, rules}
 use Rattle.std.specs.List.{flat_map}
 use Rattle.std.proofs.lemmas.Grind.{flat_map-append}
-use Rattle.nd_model.specs.View.{element_places, item_size}
+use Rattle.nd_model.specs.Arrays.View.{element_places, item_size}
 use Rattle.nd_types.specs.Types.{type_of}
 use Rattle.nd_view.proofs.ByRuns.{in_run, behind_run}
 use Rattle.nd_marks.specs.Marks.{holds}

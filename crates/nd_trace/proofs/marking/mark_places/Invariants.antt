@@ -1,7 +1,7 @@
 use Rattle.std.proofs.Common.{◌≡◌, ◌+◌, ◌≤◌, ◌^◌, ℕ, ◌||◌, ◌&&◌, not, length}
 use Rattle.std.specs.List.{All, flat_map}
-use Rattle.nd_model.specs.Session.{is_in}
-use Rattle.nd_model.specs.View.{element_places, item_size}
+use Rattle.nd_model.specs.Cells.Session.{is_in}
+use Rattle.nd_model.specs.Arrays.View.{element_places, item_size}
 use Rattle.nd_types.specs.Types.{type_of}
 use Rattle.nd_marks.specs.Marks.{holds}
 use Rattle.nd_trace.proofs.marking.mark_places.Given as goal

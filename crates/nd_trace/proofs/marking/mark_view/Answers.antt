@@ -1,5 +1,5 @@
 use Rattle.nd_marks.specs.Marks.{holds}
-use Rattle.nd_model.specs.View.{byte_places}
+use Rattle.nd_model.specs.Arrays.View.{byte_places}
 use Rattle.nd_trace.proofs.Places.{put_back}
 use Rattle.nd_trace.proofs.marking.mark_view.Goals as goal
 

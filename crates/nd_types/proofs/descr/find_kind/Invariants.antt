@@ -1,5 +1,5 @@
 use Rattle.std.proofs.Common.{◌≡◌, drop, map}
-use Rattle.nd_model.specs.Session.{lookup}
+use Rattle.nd_model.specs.Cells.Session.{lookup}
 use Rattle.nd_types.specs.Names.{named_kind}
 use Rattle.nd_types.proofs.descr.find_kind.Given as goal
 

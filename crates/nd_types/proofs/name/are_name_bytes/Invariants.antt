@@ -1,5 +1,5 @@
 use Rattle.std.proofs.Common.{◌≡◌, drop}
-use Rattle.nd_model.specs.Structure as structure
+use Rattle.nd_model.specs.Arrays.Structure as structure
 use Rattle.nd_types.proofs.name.are_name_bytes.Given as goal
 
 abbrev pub invariant-loop-byte : goal.invariant-loop-byte

@@ -1,5 +1,5 @@
 use Rattle.std.proofs.Common.{◌≡◌, drop, map}
-use Rattle.nd_model.specs.Promotion as promotion
+use Rattle.nd_model.specs.Arrays.Promotion as promotion
 use Rattle.nd_types.specs.Kinds.{kind_of}
 use Rattle.nd_types.proofs.promotion.promote.Given as goal
 

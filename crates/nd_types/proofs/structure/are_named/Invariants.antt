@@ -1,5 +1,5 @@
 use Rattle.std.proofs.Common.{◌≡◌, drop}
-use Rattle.nd_model.specs.Structure as structure
+use Rattle.nd_model.specs.Arrays.Structure as structure
 use Rattle.nd_types.specs.Fields.{fields_of}
 use Rattle.nd_types.proofs.structure.are_named.Given as goal
 

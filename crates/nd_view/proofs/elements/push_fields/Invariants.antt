@@ -1,5 +1,5 @@
 use Rattle.std.proofs.Common.{◌≡◌, ◌++◌, take}
-use Rattle.nd_model.specs.View.{field_places}
+use Rattle.nd_model.specs.Arrays.View.{field_places}
 use Rattle.nd_types.specs.Fields.{fields_of}
 use Rattle.nd_view.proofs.elements.push_fields.Given as goal
 

@@ -1,5 +1,5 @@
 use Rattle.std.proofs.Common.{◌+◌, ◌++◌, ◌∷◌, [], ap, sym, ◌∙◌, append_assoc}
-use Rattle.nd_model.specs.Tuple.{count_up}
+use Rattle.nd_model.specs.Arrays.Tuple.{count_up}
 use Rattle.nd_view.proofs.Tuples.{count_up_more}
 use Rattle.nd_view.proofs.elements.push_run.Goals as goal
 

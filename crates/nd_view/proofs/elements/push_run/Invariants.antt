@@ -1,5 +1,5 @@
 use Rattle.std.proofs.Common.{◌≡◌, ◌++◌}
-use Rattle.nd_model.specs.Tuple.{count_up}
+use Rattle.nd_model.specs.Arrays.Tuple.{count_up}
 use Rattle.nd_view.proofs.elements.push_run.Given as goal
 
 abbrev pub invariant-loop-at : goal.invariant-loop-at

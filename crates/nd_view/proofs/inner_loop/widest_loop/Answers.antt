@@ -4,14 +4,14 @@ use Rattle.std.specs.Int.{w128}
 use Rattle.std.specs.Int.RustNames.{FitsSigned}
 use Rattle.std.proofs.lemmas.Int.{to_z-of_z}
 use Rattle.std.proofs.lemmas.List.{drop_all}
-use Rattle.nd_model.specs.Tuple.{elements_of}
+use Rattle.nd_model.specs.Arrays.Tuple.{elements_of}
 use Rattle.nd_view.specs.Strides.{AreJoined, joined_step}
 use Rattle.nd_view.proofs.Evened.{even_none, even_empty, even_before, count_before, step_alone}
 use Rattle.nd_view.proofs.Split.{behind}
 use Rattle.nd_view.proofs.inner_loop.widest_loop.Goals as goal
 
-pub returns-then-elements-eq0-clause-even : goal.returns-then-elements-eq0-clause-even
-returns-then-elements-eq0-clause-even c = even_empty c.args.shape.now c.args.strides.now (pos 0) (omega (arith, c.elements.ensures))
+pub returns-then-element_count-eq0-clause-even : goal.returns-then-element_count-eq0-clause-even
+returns-then-element_count-eq0-clause-even c = even_empty c.args.shape.now c.args.strides.now (pos 0) (omega (arith, c.element_count.ensures))
 
 pub loop-outer-init : goal.loop-outer-init
 loop-outer-init c =
@@ -22,7 +22,7 @@ loop-outer-init c =
 pub overflow_mul-count : goal.overflow_mul-count
 overflow_mul-count c =
     let all = count_before c.args.shape.now c.loop-outer.outer c.loop-outer.count (omega arith) c.loop-outer.invariant.outer c.loop-outer.invariant.count in
-    let most = behind c.args.shape.now (c.loop-outer.outer - 1) (omega (arith, c.elements.ensures)) in
+    let most = behind c.args.shape.now (c.loop-outer.outer - 1) (omega (arith, c.element_count.ensures)) in
     omega (arith, all, most.1, c.requires.elements)
 
 pub loop-outer-preserved : goal.loop-outer-preserved

@@ -1,5 +1,5 @@
 use Rattle.std.proofs.Common.{◌≡◌, ◌++◌, drop}
-use Rattle.nd_model.specs.Tuple.{elements_of}
+use Rattle.nd_model.specs.Arrays.Tuple.{elements_of}
 use Rattle.nd_view.specs.Strides.{kept_all}
 use Rattle.nd_view.proofs.parts.kept_strides.Given as goal
 

@@ -8,5 +8,5 @@ returns c =
     sym (append-nil c.loop-length.strides.items)
     ∙ ap (λ r. c.loop-length.strides.items ++ walked c.loop-length.step r) (sym (drop_all c.loop-length.length-index c.args.shape.now (omega arith)))
     ∙ c.loop-length.invariant
-    ∙ ap (λ n. walked (n * c.args.size) c.args.shape.now) c.elements.ensures
+    ∙ ap (λ n. walked (n * c.args.size) c.args.shape.now) c.element_count.ensures
     ∙ walked-strides c.args.size c.args.shape.now

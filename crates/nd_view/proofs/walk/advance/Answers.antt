@@ -1,5 +1,5 @@
 use Rattle.std.proofs.Common.{◌≡◌, ◌+◌, ◌<◌, rules, arith}
-use Rattle.nd_model.specs.Tuple.{number, elements_of}
+use Rattle.nd_model.specs.Arrays.Tuple.{number, elements_of}
 use Rattle.nd_view.specs.Indexes.{IsIndex}
 use Rattle.nd_view.proofs.Steps.{advanced, number-last, number-below}
 use Rattle.nd_view.proofs.walk.advance.Goals as goal

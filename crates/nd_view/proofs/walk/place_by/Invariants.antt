@@ -1,5 +1,5 @@
 use Rattle.std.proofs.Common.{◌≡◌, drop}
-use Rattle.nd_model.specs.Strides.{place_at}
+use Rattle.nd_model.specs.Arrays.Strides.{place_at}
 use Rattle.nd_view.specs.Paths.{IsPath}
 use Rattle.nd_view.proofs.walk.place_by.Given as goal
 

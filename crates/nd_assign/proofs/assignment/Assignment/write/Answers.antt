@@ -1,7 +1,7 @@
 use Rattle.std.proofs.Common.{◌≡◌, ◌+◌, ◌≤◌, ◌++◌, ℕ, List, length, take, drop, sym, ap, ◌∙◌, subst}
 use Rattle.std.specs.List.{All}
-use Rattle.nd_model.specs.View.{ElementType, Geo, item_size}
-use Rattle.nd_convert.proofs.Written.{all_written}
+use Rattle.nd_model.specs.Arrays.View.{ElementType, Geo, item_size}
+use Rattle.nd_convert.proofs.conversion.Written.{all_written}
 use Rattle.nd_assign.specs.Copies.{with_copies}
 use Rattle.nd_assign.specs.Prepared.{written_by}
 use Rattle.nd_assign.specs.Ways.{AreIn, AreParted, IsMoved, IsWay, bytes_read, own_copy}

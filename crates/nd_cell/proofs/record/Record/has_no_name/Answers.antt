@@ -1,7 +1,7 @@
 use Rattle.std.proofs.Common.{subst}
 use Rattle.std.specs.Prelude.{◌↔◌, IsTrue}
-use Rattle.nd_model.specs.Beside.{HasNoName}
-use Rattle.nd_session.specs.Kept.{version_of}
+use Rattle.nd_model.specs.Book.Beside.{HasNoName}
+use Rattle.nd_session.specs.Session.Kept.{version_of}
 use Rattle.nd_cell.specs.Records.{RecordData, recorded}
 use Rattle.nd_cell.proofs.record.Record.has_no_name.Goals as goal
 

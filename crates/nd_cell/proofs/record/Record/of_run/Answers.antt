@@ -1,7 +1,7 @@
 use Rattle.std.proofs.Common.{ap, refl, string_bytes, option_map}
-use Rattle.nd_session.specs.Live.{live}
-use Rattle.nd_session.specs.Kept.{version_of}
-use Rattle.nd_input.specs.Values.{inputs_of}
+use Rattle.nd_session.specs.Session.Live.{live}
+use Rattle.nd_session.specs.Session.Kept.{version_of}
+use Rattle.nd_session.specs.Inputs.Values.{inputs_of}
 use Rattle.nd_cell.specs.declared.result.CellResult.{CellResult}
 use Rattle.nd_cell.specs.Records.{RecordData}
 use Rattle.nd_cell.specs.Results.{ended_of, refusal_of, saves_of}

@@ -1,8 +1,8 @@
 use Rattle.std.proofs.Common.{◌∙◌, ap, option_map, string_bytes, subst, sym}
-use Rattle.nd_model.specs.Overlay.{did}
-use Rattle.nd_model.specs.Running.{session_of}
-use Rattle.nd_model.specs.Session.{Session}
-use Rattle.nd_session.specs.Live.{live}
+use Rattle.nd_model.specs.Book.Overlay.{did}
+use Rattle.nd_model.specs.Cells.Running.{session_of}
+use Rattle.nd_model.specs.Cells.Session.{Session}
+use Rattle.nd_session.specs.Session.Live.{live}
 use Rattle.nd_cell.specs.Records.{RecordData, recorded}
 use Rattle.nd_cell.specs.Results.{refusal_of, saves_of}
 use Rattle.nd_cell.proofs.Overlaying.{Stands, did_blanked, goes_on, none_blanked}

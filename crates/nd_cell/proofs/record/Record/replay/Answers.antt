@@ -1,7 +1,7 @@
 use Rattle.std.proofs.Common.{option_map, string_bytes, subst, sym}
-use Rattle.nd_model.specs.Records.{StillHolds}
-use Rattle.nd_model.specs.Running.{session_of}
-use Rattle.nd_session.specs.Live.{live}
+use Rattle.nd_model.specs.Book.Records.{StillHolds}
+use Rattle.nd_model.specs.Cells.Running.{session_of}
+use Rattle.nd_session.specs.Session.Live.{live}
 use Rattle.nd_cell.specs.Records.{RecordData, recorded}
 use Rattle.nd_cell.specs.Results.{refusal_of, saves_of}
 use Rattle.nd_cell.proofs.Recording.{redo_sound, sound_now}

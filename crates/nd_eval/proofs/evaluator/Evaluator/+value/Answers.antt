@@ -1,48 +1,48 @@
 use Rattle.std.proofs.Common.{Ok, None, append-nil, ◌+◌, List, [], ◌∷◌, ◌++◌, refl, map, option_map, take, drop, ap, sym, ◌∙◌, arith}
 use Rattle.std.proofs.lemmas.List.{drop_all, length-map}
-use Rattle.nd_model.specs.Index.{Form, AtForm, SliceForm}
-use Rattle.nd_model.specs.Operand.{ArraysOnly}
-use Rattle.nd_model.specs.Evaluation.{Eval, Gives, run, ◌>>=◌, decide}
-use Rattle.nd_model.specs.Meaning as meaning
-use Rattle.nd_model.specs.Viewing as viewing
-use Rattle.nd_model.specs.Cells.{chained, elements_of, items_of}
-use Rattle.nd_model.specs.Elementwise.{binary}
-use Rattle.nd_model.specs.Creation.{arange}
-use Rattle.nd_model.specs.Meaning.{is_given}
+use Rattle.nd_model.specs.Indexing.Index.{Form, AtForm, SliceForm}
+use Rattle.nd_model.specs.Making.Operand.{ArraysOnly}
+use Rattle.nd_model.specs.Cells.Evaluation.{Eval, Gives, run, ◌>>=◌, decide}
+use Rattle.nd_model.specs.Cells.Meaning as meaning
+use Rattle.nd_model.specs.Indexing.Viewing as viewing
+use Rattle.nd_model.specs.Grammar.Cells.{chained, elements_of, items_of}
+use Rattle.nd_model.specs.Making.Elementwise.{binary}
+use Rattle.nd_model.specs.Making.Creation.{arange}
+use Rattle.nd_model.specs.Cells.Meaning.{is_given}
 use Rattle.nd_eval.proofs.Ranging.{range_first, range_is, range_parts}
-use Rattle.nd_model.specs.Operation.{give}
-use Rattle.nd_model.specs.Tokens.{tokens_of, tokens_of_call, tokens_of_fold, tokens_of_method}
-use Rattle.nd_syntax.specs.Lists.{operation_of}
-use Rattle.nd_syntax.specs.Syntax.{axis_of, bound_of, element_of, expr_of, call_of, fold_of, suffix_of, index_of, item_of, method_of}
-use Rattle.nd_syntax.specs.declared.tree.Suffix.{Suffix}
-use Rattle.nd_syntax.specs.declared.tree.Element.{Element}
-use Rattle.nd_syntax.specs.declared.tree.IndexItem.{IndexItem}
+use Rattle.nd_model.specs.Cells.Operation.{give}
+use Rattle.nd_model.specs.Grammar.Tokens.{tokens_of, tokens_of_call, tokens_of_fold, tokens_of_method}
+use Rattle.nd_syntax.specs.Trees.Lists.{operation_of}
+use Rattle.nd_syntax.specs.Trees.Syntax.{axis_of, bound_of, element_of, expr_of, call_of, fold_of, suffix_of, index_of, item_of, method_of}
+use Rattle.nd_syntax.specs.declared.trees.tree.Suffix.{Suffix}
+use Rattle.nd_syntax.specs.declared.trees.tree.Element.{Element}
+use Rattle.nd_syntax.specs.declared.trees.tree.IndexItem.{IndexItem}
 use Rattle.nd_heap.specs.Values.{value_of}
-use Rattle.nd_input.specs.Values.{inputs_of}
-use Rattle.nd_session.specs.Live.{live}
+use Rattle.nd_session.specs.Inputs.Values.{inputs_of}
+use Rattle.nd_session.specs.Session.Live.{live}
 use Rattle.nd_eval.proofs.Bounds.{accumulated_tokens, axis_behind, bound_behind, few_of_items, step_more, list_others, next_behind, next_index, next_item_parts, next_list, next_bound, next_value, next_values, next_at_suffix}
 use Rattle.nd_eval.proofs.Calls.{filled_first, filled_parts, full_first, full_follows, list_first, list_parts, stretched_first}
-use Rattle.nd_syntax.specs.Calls.{accumulation_of, dtype_of, fill_of, ufunc_of}
-use Rattle.nd_model.specs.Creation.{array_of_list, filled, full_of}
-use Rattle.nd_operation.specs.Contents.{operand_of, unused_of}
+use Rattle.nd_syntax.specs.Trees.Calls.{accumulation_of, dtype_of, fill_of, ufunc_of}
+use Rattle.nd_model.specs.Making.Creation.{array_of_list, filled, full_of}
+use Rattle.nd_operation.specs.Operators.Contents.{operand_of, unused_of}
 use Rattle.nd_eval.specs.Contents as contents
 use Rattle.nd_eval.specs.Contents.{option_values, values_of}
 use Rattle.nd_eval.specs.Parts.{list_parts as as_item}
 use Rattle.nd_eval.specs.Parts.{bound_exprs, fold_call, exprs_in, exprs_of_element, index_parts, item_parts, items_parts, items_then, parts_of_items, unused, ItemParts, suffix_value, list_value, binary_value, values_behind, values_then, values, method_value, viewed_value}
-use Rattle.nd_model.specs.Value as model
-use Rattle.nd_syntax.specs.declared.tree.Expr.{Expr}
-use Rattle.nd_operation.specs.New.{bounds_of}
+use Rattle.nd_model.specs.Arrays.Value as model
+use Rattle.nd_syntax.specs.declared.trees.tree.Expr.{Expr}
+use Rattle.nd_operation.specs.Operators.New.{bounds_of}
 use Rattle.nd_eval.proofs.Creating.{exits_new, follows_new}
 use Rattle.nd_eval.proofs.Chains.{exits, follows, goes, ends_as, ends_alike}
-use Rattle.nd_model.specs.Syntax.{Called, Nested, NewArray}
-use Rattle.nd_syntax.proofs.Nodes.{filled_is, full_is, broadcast_is, reshape_is, transpose_is}
+use Rattle.nd_model.specs.Grammar.Syntax.{Called, Nested, NewArray}
+use Rattle.nd_syntax.proofs.trees.Nodes.{filled_is, full_is, broadcast_is, reshape_is, transpose_is}
 use Rattle.nd_eval.proofs.Operating.{chain_step, chain_rest, exits_chain, exits_later, fewer_tokens}
 use Rattle.nd_eval.proofs.Turns.{stays_on}
-use Rattle.nd_model.specs.Running.{Running}
+use Rattle.nd_model.specs.Cells.Running.{Running}
 use Rattle.nd_eval.specs.Uses.{marked, all_marked}
 use Rattle.nd_eval.proofs.Uses.{slice_seen, kept_bytes, kept_next, all_marked_bytes, all_marked_next}
 use Rattle.nd_eval.proofs.Held.{held_after, held_marked, held_past, sound_after, suffix_held, value_held}
-use Rattle.nd_operation.proofs.InTurn.{next_item, pushed}
+use Rattle.nd_operation.proofs.operators.InTurn.{next_item, pushed}
 use Rattle.nd_eval.proofs.InTurn.{as_many, behind_others, many_in, onto, onto_more}
 use Rattle.nd_eval.proofs.Indexing.{accumulate_is, accumulated_is, chain, fold_first, nodes_of_accumulate, nodes_of_accumulated, nodes_of_fold, elements_in_list, nodes_of_its_elements, run_postfix, tokens_of_postfix, nodes_of_postfix, nodes_of_filled, nodes_of_full, list_in_items, nodes_of_list, nodes_of_item, nodes_of_slice, slice_is, shape_tokens, items_in_index, nodes_of_its_items, is_chain, nodes_of_chain, listed_is, nodes_of_reshaped, nodes_of_stretched, nodes_of_transposed, reshaped_tokens, transposed_tokens}
 use Rattle.nd_eval.proofs.evaluator.Evaluator.+value.Goals as goal

@@ -1,14 +1,14 @@
 use Rattle.std.proofs.Common.{◌≡◌, ◌+◌, ◌<◌, ◌≤◌, ◌^◌, Ok, map, take, drop}
-use Rattle.nd_model.specs.Cells.{chained, elements_of, items_of}
-use Rattle.nd_model.specs.Sound.{IsSound}
-use Rattle.nd_model.specs.Evaluation.{run}
-use Rattle.nd_model.specs.Meaning as meaning
-use Rattle.nd_model.specs.Tokens.{tokens_of_all, tokens_of_items, tokens_of_others}
-use Rattle.nd_syntax.specs.Lists.{operation_of}
-use Rattle.nd_syntax.specs.Syntax.{element_of, expr_of, item_of, suffix_of}
+use Rattle.nd_model.specs.Grammar.Cells.{chained, elements_of, items_of}
+use Rattle.nd_model.specs.Cells.Sound.{IsSound}
+use Rattle.nd_model.specs.Cells.Evaluation.{run}
+use Rattle.nd_model.specs.Cells.Meaning as meaning
+use Rattle.nd_model.specs.Grammar.Tokens.{tokens_of_all, tokens_of_items, tokens_of_others}
+use Rattle.nd_syntax.specs.Trees.Lists.{operation_of}
+use Rattle.nd_syntax.specs.Trees.Syntax.{element_of, expr_of, item_of, suffix_of}
 use Rattle.nd_heap.specs.Values.{value_of}
-use Rattle.nd_input.specs.Values.{inputs_of}
-use Rattle.nd_session.specs.Live.{live}
+use Rattle.nd_session.specs.Inputs.Values.{inputs_of}
+use Rattle.nd_session.specs.Session.Live.{live}
 use Rattle.nd_eval.specs.Ends.{Stays}
 use Rattle.nd_eval.specs.Parts.{exprs_in, items_parts, items_then, values, values_behind, values_then}
 use Rattle.nd_eval.specs.Contents as contents

@@ -1,22 +1,22 @@
 use Rattle.std.proofs.Common.{refl, sym, ap, subst, ◌∙◌, ◌∷◌, Ok, Err, length}
-use Rattle.nd_model.specs.Assigning.{fits_into}
-use Rattle.nd_model.specs.Creation.{operand_converts}
-use Rattle.nd_model.specs.Refusing as refusing
-use Rattle.nd_model.specs.Running.{Storing}
-use Rattle.nd_model.specs.Evaluation.{run, ◌>>=◌, decide}
-use Rattle.nd_model.specs.Operand.{Whole, Unused, Writes, shape_of}
-use Rattle.nd_model.specs.Operation.{do_deed, store_in}
-use Rattle.nd_model.specs.Writing.{assignment_writes}
+use Rattle.nd_model.specs.Making.Assigning.{fits_into}
+use Rattle.nd_model.specs.Making.Creation.{operand_converts}
+use Rattle.nd_model.specs.Cells.Refusing as refusing
+use Rattle.nd_model.specs.Cells.Running.{Storing}
+use Rattle.nd_model.specs.Cells.Evaluation.{run, ◌>>=◌, decide}
+use Rattle.nd_model.specs.Making.Operand.{Whole, Unused, Writes, shape_of}
+use Rattle.nd_model.specs.Cells.Operation.{do_deed, store_in}
+use Rattle.nd_model.specs.Making.Writing.{assignment_writes}
 use Rattle.nd_heap.specs.declared.value.Value.{Value}
 use Rattle.nd_heap.specs.declared.value.Value.TheVariants.{Number}
 use Rattle.nd_heap.specs.Values.{base_of, value_of}
-use Rattle.nd_input.specs.Values.{inputs_of}
-use Rattle.nd_session.specs.Live.{live}
-use Rattle.nd_operation.specs.Contents.{operand_of, unused_of}
-use Rattle.nd_choice.specs.Indexing.{index_operands, viewing_of}
-use Rattle.nd_choice.specs.Targets.{Lies, geo_in, writes_to}
-use Rattle.nd_choice.specs.declared.targets.Target.{Target}
-use Rattle.nd_choice.proofs.Lying.{writes_made}
+use Rattle.nd_session.specs.Inputs.Values.{inputs_of}
+use Rattle.nd_session.specs.Session.Live.{live}
+use Rattle.nd_operation.specs.Operators.Contents.{operand_of, unused_of}
+use Rattle.nd_select.specs.Choosing.Indexing.{index_operands, viewing_of}
+use Rattle.nd_select.specs.Choosing.Targets.{Lies, geo_in, writes_to}
+use Rattle.nd_select.specs.declared.choosing.targets.Target.{Target}
+use Rattle.nd_select.proofs.choosing.Lying.{writes_made}
 use Rattle.nd_eval.specs.Contents as contents
 use Rattle.nd_eval.specs.Uses.{IsHeld}
 use Rattle.nd_eval.proofs.Chains.{decided_later, ends_alike, exits_making, goes_making}

@@ -1,21 +1,21 @@
 use Rattle.std.proofs.Common.{◌≡◌, refl, sym, ap, subst, ◌∙◌, Ok, Err, length}
-use Rattle.nd_model.specs.Assigning.{fits_into}
-use Rattle.nd_model.specs.Creation.{operand_converts}
-use Rattle.nd_model.specs.Elementwise.{binary}
-use Rattle.nd_model.specs.Evaluation.{run}
-use Rattle.nd_model.specs.Operand.{shape_of}
-use Rattle.nd_model.specs.Operation.{store_in}
-use Rattle.nd_model.specs.Running.{Storing}
+use Rattle.nd_model.specs.Making.Assigning.{fits_into}
+use Rattle.nd_model.specs.Making.Creation.{operand_converts}
+use Rattle.nd_model.specs.Making.Elementwise.{binary}
+use Rattle.nd_model.specs.Cells.Evaluation.{run}
+use Rattle.nd_model.specs.Making.Operand.{shape_of}
+use Rattle.nd_model.specs.Cells.Operation.{store_in}
+use Rattle.nd_model.specs.Cells.Running.{Storing}
 use Rattle.nd_heap.specs.declared.value.Value.TheVariants.{Number}
 use Rattle.nd_heap.specs.Values.{base_of, value_of}
-use Rattle.nd_input.specs.Values.{inputs_of}
-use Rattle.nd_session.specs.Live.{live}
-use Rattle.nd_syntax.specs.Syntax.{binary_op}
-use Rattle.nd_operation.specs.Contents.{operand_of, unused_of}
-use Rattle.nd_operation.specs.New.{given, MakesNew, StandsFor}
-use Rattle.nd_choice.specs.Indexing.{index_operands, viewing_of}
-use Rattle.nd_choice.specs.Targets.{Lies, geo_in, writes_to}
-use Rattle.nd_choice.proofs.Lying.{writes_made}
+use Rattle.nd_session.specs.Inputs.Values.{inputs_of}
+use Rattle.nd_session.specs.Session.Live.{live}
+use Rattle.nd_syntax.specs.Trees.Syntax.{binary_op}
+use Rattle.nd_operation.specs.Operators.Contents.{operand_of, unused_of}
+use Rattle.nd_operation.specs.Operators.New.{given, MakesNew, StandsFor}
+use Rattle.nd_select.specs.Choosing.Indexing.{index_operands, viewing_of}
+use Rattle.nd_select.specs.Choosing.Targets.{Lies, geo_in, writes_to}
+use Rattle.nd_select.proofs.choosing.Lying.{writes_made}
 use Rattle.nd_eval.specs.Uses.{IsHeld, operand_over}
 use Rattle.nd_eval.proofs.Augmented.{exits_assigned, exits_made, given_held, given_operand, goes_made}
 use Rattle.nd_eval.proofs.Chains.{ends_alike, exits, goes}

@@ -1,10 +1,10 @@
 use Rattle.std.proofs.Common.{arith, ◌∷◌}
-use Rattle.nd_model.specs.Meaning as meaning
-use Rattle.nd_model.specs.Operand.{Whole, Unused}
-use Rattle.nd_model.specs.Operation.{act_on}
-use Rattle.nd_syntax.specs.Syntax.{expr_of, index_of}
+use Rattle.nd_model.specs.Cells.Meaning as meaning
+use Rattle.nd_model.specs.Making.Operand.{Whole, Unused}
+use Rattle.nd_model.specs.Cells.Operation.{act_on}
+use Rattle.nd_syntax.specs.Trees.Syntax.{expr_of, index_of}
 use Rattle.nd_heap.specs.Values.{value_of}
-use Rattle.nd_input.specs.Values.{inputs_of}
+use Rattle.nd_session.specs.Inputs.Values.{inputs_of}
 use Rattle.nd_eval.specs.Contents as contents
 use Rattle.nd_eval.specs.Parts.{index_parts}
 use Rattle.nd_eval.proofs.Bounds.{next_value}

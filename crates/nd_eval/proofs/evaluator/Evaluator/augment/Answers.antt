@@ -1,10 +1,10 @@
 use Rattle.std.proofs.Common.{refl, sym, ap, subst, ◌∙◌}
-use Rattle.nd_model.specs.Evaluation.{run}
-use Rattle.nd_syntax.specs.Syntax.{binary_op}
+use Rattle.nd_model.specs.Cells.Evaluation.{run}
+use Rattle.nd_syntax.specs.Trees.Syntax.{binary_op}
 use Rattle.nd_heap.specs.declared.value.Value.TheVariants.{Array}
 use Rattle.nd_heap.specs.Values.{value_of}
-use Rattle.nd_input.specs.Values.{inputs_of}
-use Rattle.nd_session.specs.Live.{live}
+use Rattle.nd_session.specs.Inputs.Values.{inputs_of}
+use Rattle.nd_session.specs.Session.Live.{live}
 use Rattle.nd_eval.specs.Effects.{effect_of}
 use Rattle.nd_eval.specs.Parts.{augmentation}
 use Rattle.nd_eval.specs.Uses.{IsHeld}
@@ -43,14 +43,14 @@ returns-in_ok-mark_operand-in-Ok-clause-effect c =
       (refl, refl),
     )
 
-pub rebind-requires-clause-found : goal.rebind-requires-clause-found
-rebind-requires-clause-found c = subst (IsHeld (live c.args.self.now.session.now)) (sym c.in-Err.ensures.0) c.requires.found
+pub rebind-bound-requires-clause-found : goal.rebind-bound-requires-clause-found
+rebind-bound-requires-clause-found c = subst (IsHeld (live c.args.self.now.session.now)) (sym c.in-Err.ensures.0) c.requires.found
 
 pub returns-in-Err-clause-effect : goal.returns-in-Err-clause-effect
 returns-in-Err-clause-effect c =
     let i = inputs_of c.args.self.now.inputs.now.entries in
     let op = binary_op c.args.op in
     let r = live c.args.self.now.session.now in (
-      ends_alike _ _ _ (ap (λ f. run i (augmentation c.args.name.now op (value_of f) (value_of c.args.value)) r) (sym c.in-Err.ensures.0)) c.rebind.ensures.effect.0,
-      c.rebind.ensures.effect.1,
+      ends_alike _ _ _ (ap (λ f. run i (augmentation c.args.name.now op (value_of f) (value_of c.args.value)) r) (sym c.in-Err.ensures.0)) c.rebind-bound.ensures.effect.0,
+      c.rebind-bound.ensures.effect.1,
     )

@@ -1,10 +1,10 @@
 use Rattle.std.proofs.Common.{arith}
-use Rattle.nd_model.specs.Meaning as meaning
-use Rattle.nd_model.specs.Operation as operation
-use Rattle.nd_model.specs.Syntax.{Name}
-use Rattle.nd_syntax.specs.Syntax.{expr_of}
+use Rattle.nd_model.specs.Cells.Meaning as meaning
+use Rattle.nd_model.specs.Cells.Operation as operation
+use Rattle.nd_model.specs.Grammar.Syntax.{Name}
+use Rattle.nd_syntax.specs.Trees.Syntax.{expr_of}
 use Rattle.nd_heap.specs.Values.{value_of}
-use Rattle.nd_input.specs.Values.{inputs_of}
+use Rattle.nd_session.specs.Inputs.Values.{inputs_of}
 use Rattle.nd_eval.proofs.Bounds.{next_value}
 use Rattle.nd_eval.proofs.Chains.{exits, follows}
 use Rattle.nd_eval.proofs.Turns.{stays_on}

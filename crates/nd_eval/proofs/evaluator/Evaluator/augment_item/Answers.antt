@@ -1,13 +1,13 @@
 use Rattle.std.proofs.Common.{◌≡◌, true, refl, sym, ap, subst, ◌∙◌}
-use Rattle.nd_model.specs.Evaluation.{run}
-use Rattle.nd_model.specs.Index.{has_array}
-use Rattle.nd_syntax.specs.Syntax.{binary_op}
+use Rattle.nd_model.specs.Cells.Evaluation.{run}
+use Rattle.nd_model.specs.Indexing.Index.{has_array}
+use Rattle.nd_syntax.specs.Trees.Syntax.{binary_op}
 use Rattle.nd_heap.specs.declared.value.Value.TheVariants.{Array}
 use Rattle.nd_heap.specs.Values.{value_of}
-use Rattle.nd_input.specs.Values.{inputs_of}
-use Rattle.nd_session.specs.Live.{live}
-use Rattle.nd_operation.specs.Contents.{unused_of}
-use Rattle.nd_choice.specs.Indexing.{operands_of}
+use Rattle.nd_session.specs.Inputs.Values.{inputs_of}
+use Rattle.nd_session.specs.Session.Live.{live}
+use Rattle.nd_operation.specs.Operators.Contents.{unused_of}
+use Rattle.nd_select.specs.Choosing.Indexing.{operands_of}
 use Rattle.nd_eval.specs.Contents as contents
 use Rattle.nd_eval.specs.Effects.{effect_of}
 use Rattle.nd_eval.specs.Parts.{item_augmentation}
@@ -38,8 +38,8 @@ update_effect-requires-clause-value c =
     held_index_marked c.args.index.now v q u c.in_ok-mark_index.ensures
     (held_marked c.args.found v s q c.in_ok-mark_operand-2.ensures (held_marked v v r s c.in_ok-mark_operand.ensures c.requires.value))
 
-pub assign_made-requires-clause-value : goal.assign_made-requires-clause-value
-assign_made-requires-clause-value c =
+pub assign_made-made-requires-clause-value : goal.assign_made-made-requires-clause-value
+assign_made-made-requires-clause-value c =
     let r = live c.args.self.now.session.now in
     let s = live c.mark_operand.new.session in
     let q = live c.mark_operand-2.new.session in
@@ -48,8 +48,8 @@ assign_made-requires-clause-value c =
     held_index_marked c.args.index.now v q u c.in_ok-mark_index.ensures
     (held_marked c.args.found v s q c.in_ok-mark_operand-2.ensures (held_marked v v r s c.in_ok-mark_operand.ensures c.requires.value))
 
-pub assign_made-requires-clause-found : goal.assign_made-requires-clause-found
-assign_made-requires-clause-found c =
+pub assign_made-made-requires-clause-found : goal.assign_made-made-requires-clause-found
+assign_made-made-requires-clause-found c =
     let r = live c.args.self.now.session.now in
     let s = live c.mark_operand.new.session in
     let q = live c.mark_operand-2.new.session in
@@ -58,8 +58,8 @@ assign_made-requires-clause-found c =
     subst (IsHeld u) (sym c.in-Err.ensures.0) (held_index_marked c.args.index.now f q u c.in_ok-mark_index.ensures
     (held_marked f f s q c.in_ok-mark_operand-2.ensures (held_marked c.args.value f r s c.in_ok-mark_operand.ensures c.requires.found)))
 
-pub assign_made-requires-clause-target : goal.assign_made-requires-clause-target
-assign_made-requires-clause-target c =
+pub assign_made-made-requires-clause-target : goal.assign_made-made-requires-clause-target
+assign_made-made-requires-clause-target c =
     let r = live c.args.self.now.session.now in
     let s = live c.mark_operand.new.session in
     let q = live c.mark_operand-2.new.session in
@@ -68,8 +68,8 @@ assign_made-requires-clause-target c =
     held_index_marked c.args.index.now t q u c.in_ok-mark_index.ensures
     (held_marked c.args.found t s q c.in_ok-mark_operand-2.ensures (held_marked c.args.value t r s c.in_ok-mark_operand.ensures c.requires.target))
 
-pub assign_made-requires-clause-room : goal.assign_made-requires-clause-room
-assign_made-requires-clause-room c =
+pub assign_made-made-requires-clause-room : goal.assign_made-made-requires-clause-room
+assign_made-made-requires-clause-room c =
     let once = kept_next c.args.value _ _ c.in_ok-mark_operand.ensures in
     let again = kept_next c.args.found _ _ c.in_ok-mark_operand-2.ensures in
     let last = index_next c.args.index.now _ _ c.in_ok-mark_index.ensures in
@@ -89,8 +89,8 @@ returns-in-Err-clause-effect c =
     let u = live c.mark_index.new.session in (
       ends_alike _ _ _ (ap (λ f. run i (item_augmentation op (value_of v) (value_of f) (value_of t) (contents.index_of x)) r) (sym c.in-Err.ensures.0)
           ∙ made_assigned i op v f t x r s q u c.in-Err.ensures.1 c.in_ok-mark_operand.ensures (c.in_ok-mark_operand-2.ensures ∙ ap (λ f. marked f s) (sym c.in-Err.ensures.0)) c.in_ok-mark_index.ensures)
-          c.assign_made.ensures.effect.0,
-      c.assign_made.ensures.effect.1,
+          c.assign_made-made.ensures.effect.0,
+      c.assign_made-made.ensures.effect.1,
     )
 
 pub copy_update_effect-requires-clause-copy : goal.copy_update_effect-requires-clause-copy

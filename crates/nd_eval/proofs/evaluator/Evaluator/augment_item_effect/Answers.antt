@@ -1,13 +1,13 @@
 use Rattle.std.proofs.Common.{arith, ◌∷◌, ◌∙◌}
-use Rattle.nd_model.specs.Augmenting.{augment_item}
-use Rattle.nd_model.specs.Cells.{AtIndex}
-use Rattle.nd_model.specs.Evaluation.{◌>>=◌}
-use Rattle.nd_model.specs.Meaning as meaning
-use Rattle.nd_model.specs.Operand.{Whole, Unused}
-use Rattle.nd_model.specs.Operation.{Views, act_on, perform}
-use Rattle.nd_syntax.specs.Syntax.{binary_op, expr_of, index_of}
+use Rattle.nd_model.specs.Making.Augmenting.{augment_item}
+use Rattle.nd_model.specs.Grammar.Cells.{AtIndex}
+use Rattle.nd_model.specs.Cells.Evaluation.{◌>>=◌}
+use Rattle.nd_model.specs.Cells.Meaning as meaning
+use Rattle.nd_model.specs.Making.Operand.{Whole, Unused}
+use Rattle.nd_model.specs.Cells.Operation.{Views, act_on, perform}
+use Rattle.nd_syntax.specs.Trees.Syntax.{binary_op, expr_of, index_of}
 use Rattle.nd_heap.specs.Values.{value_of}
-use Rattle.nd_input.specs.Values.{inputs_of}
+use Rattle.nd_session.specs.Inputs.Values.{inputs_of}
 use Rattle.nd_eval.specs.Contents as contents
 use Rattle.nd_eval.specs.Parts.{choose_value, index_parts}
 use Rattle.nd_eval.proofs.Bounds.{next_at_suffix, next_index, next_value}

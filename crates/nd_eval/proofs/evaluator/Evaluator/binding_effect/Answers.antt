@@ -1,13 +1,13 @@
 use Rattle.std.proofs.Common.{◌∙◌, sym, ap, Ok, [], ◌∷◌}
-use Rattle.nd_model.specs.Running as running
-use Rattle.nd_model.specs.Evaluation.{run}
-use Rattle.nd_model.specs.Meaning as meaning
-use Rattle.nd_model.specs.Operand.{Unused, BindsFirst}
-use Rattle.nd_model.specs.Operation.{act_on}
-use Rattle.nd_syntax.specs.Syntax.{expr_of}
+use Rattle.nd_model.specs.Cells.Running as running
+use Rattle.nd_model.specs.Cells.Evaluation.{run}
+use Rattle.nd_model.specs.Cells.Meaning as meaning
+use Rattle.nd_model.specs.Making.Operand.{Unused, BindsFirst}
+use Rattle.nd_model.specs.Cells.Operation.{act_on}
+use Rattle.nd_syntax.specs.Trees.Syntax.{expr_of}
 use Rattle.nd_heap.specs.Values.{value_of}
-use Rattle.nd_input.specs.Values.{inputs_of}
-use Rattle.nd_session.specs.Live.{live}
+use Rattle.nd_session.specs.Inputs.Values.{inputs_of}
+use Rattle.nd_session.specs.Session.Live.{live}
 use Rattle.nd_eval.proofs.Held.{value_held}
 use Rattle.nd_eval.proofs.Chains.{exits, goes}
 use Rattle.nd_eval.proofs.Parts.{binding_parts}

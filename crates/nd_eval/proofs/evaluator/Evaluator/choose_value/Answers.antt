@@ -1,14 +1,14 @@
 use Rattle.std.proofs.Common.{◌∷◌, length, refl, sym, ap, ◌∙◌, subst}
-use Rattle.nd_model.specs.Evaluation.{run, ◌>>=◌, decide}
-use Rattle.nd_model.specs.Operand.{Unused}
-use Rattle.nd_model.specs.Operation.{choose_of, with_value}
-use Rattle.nd_model.specs.Viewing.{choose_of_first}
+use Rattle.nd_model.specs.Cells.Evaluation.{run, ◌>>=◌, decide}
+use Rattle.nd_model.specs.Making.Operand.{Unused}
+use Rattle.nd_model.specs.Cells.Operation.{choose_of, with_value}
+use Rattle.nd_model.specs.Indexing.Viewing.{choose_of_first}
 use Rattle.nd_heap.specs.Values.{base_of, value_of}
-use Rattle.nd_input.specs.Values.{inputs_of}
-use Rattle.nd_session.specs.Live.{live}
-use Rattle.nd_operation.specs.Contents.{unused_of}
-use Rattle.nd_choice.specs.Indexing.{chosen_of, index_operands, viewing_of}
-use Rattle.nd_choice.specs.Targets.{Lies}
+use Rattle.nd_session.specs.Inputs.Values.{inputs_of}
+use Rattle.nd_session.specs.Session.Live.{live}
+use Rattle.nd_operation.specs.Operators.Contents.{unused_of}
+use Rattle.nd_select.specs.Choosing.Indexing.{chosen_of, index_operands, viewing_of}
+use Rattle.nd_select.specs.Choosing.Targets.{Lies}
 use Rattle.nd_eval.specs.Contents as contents
 use Rattle.nd_eval.specs.Uses.{IsHeld}
 use Rattle.nd_eval.proofs.Held.{held_index_marked}

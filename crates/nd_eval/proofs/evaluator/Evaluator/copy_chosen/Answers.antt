@@ -1,14 +1,14 @@
 use Rattle.std.proofs.Common.{sym, ap, ◌∙◌, subst, length}
 use Rattle.std.specs.List.{flat_map}
-use Rattle.nd_model.specs.Evaluation.{run}
-use Rattle.nd_model.specs.Operation.{give}
-use Rattle.nd_model.specs.Running.{Running, Use, after}
-use Rattle.nd_model.specs.Sound.{LiesIn}
-use Rattle.nd_model.specs.View.{element_places}
+use Rattle.nd_model.specs.Cells.Evaluation.{run}
+use Rattle.nd_model.specs.Cells.Operation.{give}
+use Rattle.nd_model.specs.Cells.Running.{Running, Use, after}
+use Rattle.nd_model.specs.Cells.Sound.{LiesIn}
+use Rattle.nd_model.specs.Arrays.View.{element_places}
 use Rattle.nd_heap.specs.Values.{base_of, value_of}
-use Rattle.nd_input.specs.Values.{inputs_of}
-use Rattle.nd_session.specs.Live.{live}
-use Rattle.nd_choice.specs.Selections.{copy_of, selected}
+use Rattle.nd_session.specs.Inputs.Values.{inputs_of}
+use Rattle.nd_session.specs.Session.Live.{live}
+use Rattle.nd_select.specs.Choosing.Selections.{copy_of, selected}
 use Rattle.nd_eval.proofs.Chains.{ends_alike}
 use Rattle.nd_eval.proofs.Copying.{copied_type}
 use Rattle.nd_eval.proofs.evaluator.Evaluator.copy_chosen.Goals as goal

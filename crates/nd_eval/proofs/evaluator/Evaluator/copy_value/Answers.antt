@@ -1,13 +1,13 @@
 use Rattle.std.proofs.Common.{refl, sym, ap, ◌∙◌, Ok}
-use Rattle.nd_model.specs.Content.{content_in_order}
-use Rattle.nd_model.specs.Evaluation.{run}
-use Rattle.nd_model.specs.Running.{Running}
-use Rattle.nd_model.specs.Operand.{AnArray}
-use Rattle.nd_model.specs.Operation.{fresh_array}
+use Rattle.nd_model.specs.Arrays.Content.{content_in_order}
+use Rattle.nd_model.specs.Cells.Evaluation.{run}
+use Rattle.nd_model.specs.Cells.Running.{Running}
+use Rattle.nd_model.specs.Making.Operand.{AnArray}
+use Rattle.nd_model.specs.Cells.Operation.{fresh_array}
 use Rattle.nd_heap.specs.Values.{base_of, geo_of, value_of}
-use Rattle.nd_input.specs.Values.{inputs_of}
-use Rattle.nd_session.specs.Live.{live}
-use Rattle.nd_operation.specs.Contents.{contents_over}
+use Rattle.nd_session.specs.Inputs.Values.{inputs_of}
+use Rattle.nd_session.specs.Session.Live.{live}
+use Rattle.nd_operation.specs.Operators.Contents.{contents_over}
 use Rattle.nd_eval.proofs.Chains.{ends_alike}
 use Rattle.nd_eval.proofs.Creating.{exits_new, follows_new}
 use Rattle.nd_eval.proofs.evaluator.Evaluator.copy_value.Goals as goal

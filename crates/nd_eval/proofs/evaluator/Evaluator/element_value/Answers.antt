@@ -2,18 +2,18 @@ use Rattle.std.proofs.Common.{refl, rules, ◌≡◌, ◌∙◌, ℤ, Ok, get_or
 use Rattle.std.specs.Int.{w128}
 use Rattle.std.specs.Int.RustNames.{FitsSigned}
 use Rattle.std.proofs.lemmas.Int.{to_z-of_z}
-use Rattle.nd_model.specs.Element.{Kind}
-use Rattle.nd_model.specs.Value.{Scalar}
-use Rattle.nd_model.specs.Running.{Running, Use, after}
-use Rattle.nd_model.specs.View.{One, element_places}
-use Rattle.nd_model.specs.Evaluation.{run}
-use Rattle.nd_model.specs.Content.{number_at}
-use Rattle.nd_model.specs.Operation as operation
+use Rattle.nd_model.specs.Arrays.Element.{Kind}
+use Rattle.nd_model.specs.Arrays.Value.{Scalar}
+use Rattle.nd_model.specs.Cells.Running.{Running, Use, after}
+use Rattle.nd_model.specs.Arrays.View.{One, element_places}
+use Rattle.nd_model.specs.Cells.Evaluation.{run}
+use Rattle.nd_model.specs.Arrays.Content.{number_at}
+use Rattle.nd_model.specs.Cells.Operation as operation
 use Rattle.nd_types.specs.Types.{type_of}
 use Rattle.nd_heap.specs.Values.{base_of}
-use Rattle.nd_input.specs.Values.{inputs_of}
-use Rattle.nd_session.specs.Live.{live}
-use Rattle.nd_operation.proofs.Decoding.{used_alone}
+use Rattle.nd_session.specs.Inputs.Values.{inputs_of}
+use Rattle.nd_session.specs.Session.Live.{live}
+use Rattle.nd_operation.proofs.operators.Decoding.{used_alone}
 use Rattle.nd_eval.proofs.evaluator.Evaluator.element_value.Goals as goal
 
 pub returns-in_ok-mark_element-in-One : goal.returns-in_ok-mark_element-in-One

@@ -1,10 +1,10 @@
 use Rattle.std.proofs.Common.{refl}
-use Rattle.nd_model.specs.Evaluation.{◌>>=◌, decide}
-use Rattle.nd_model.specs.Operand.{Operand}
-use Rattle.nd_model.specs.Operation.{give}
+use Rattle.nd_model.specs.Cells.Evaluation.{◌>>=◌, decide}
+use Rattle.nd_model.specs.Making.Operand.{Operand}
+use Rattle.nd_model.specs.Cells.Operation.{give}
 use Rattle.nd_heap.specs.Values.{value_of}
-use Rattle.nd_input.specs.Values.{inputs_of}
-use Rattle.nd_operation.specs.Contents.{operand_of}
+use Rattle.nd_session.specs.Inputs.Values.{inputs_of}
+use Rattle.nd_operation.specs.Operators.Contents.{operand_of}
 use Rattle.nd_fold.specs.Folds.{made_of_fold}
 use Rattle.nd_eval.proofs.Creating.{exits_new, follows_new}
 use Rattle.nd_eval.proofs.Uses.{kept_bytes, kept_next, follows_use}

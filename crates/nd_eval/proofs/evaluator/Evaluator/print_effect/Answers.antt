@@ -1,14 +1,14 @@
 use Rattle.std.proofs.Common.{◌≡◌, ap, ◌∙◌, map, string_bytes, String, Global}
-use Rattle.nd_model.specs.Running.{Prints}
-use Rattle.nd_model.specs.Evaluation.{Gives}
-use Rattle.nd_model.specs.Operation.{act_on}
-use Rattle.nd_model.specs.Printing.{print_deed, printed_line}
-use Rattle.nd_syntax.specs.Syntax.{expr_of}
-use Rattle.nd_input.specs.Values.{inputs_of}
-use Rattle.nd_session.specs.Live.{live}
-use Rattle.nd_operation.specs.Contents.{operand_of}
+use Rattle.nd_model.specs.Cells.Running.{Prints}
+use Rattle.nd_model.specs.Cells.Evaluation.{Gives}
+use Rattle.nd_model.specs.Cells.Operation.{act_on}
+use Rattle.nd_model.specs.Text.Printing.{print_deed, printed_line}
+use Rattle.nd_syntax.specs.Trees.Syntax.{expr_of}
+use Rattle.nd_session.specs.Inputs.Values.{inputs_of}
+use Rattle.nd_session.specs.Session.Live.{live}
+use Rattle.nd_operation.specs.Operators.Contents.{operand_of}
 use Rattle.nd_eval.specs.Contents.{values_of}
-use Rattle.nd_operation.specs.Lines.{limit_line}
+use Rattle.nd_operation.specs.Operators.Lines.{limit_line}
 use Rattle.nd_eval.specs.Parts.{values}
 use Rattle.nd_eval.specs.Uses.{AreHeld, all_marked, operands_over}
 use Rattle.nd_eval.proofs.Chains.{exits, ends_alike, exits_making, goes_making}

@@ -1,11 +1,11 @@
 use Rattle.std.proofs.Common.{◌∙◌, sym, ap, Ok}
-use Rattle.nd_model.specs.Elementwise.{binary}
-use Rattle.nd_model.specs.Evaluation.{Gives}
-use Rattle.nd_model.specs.Running as running
+use Rattle.nd_model.specs.Making.Elementwise.{binary}
+use Rattle.nd_model.specs.Cells.Evaluation.{Gives}
+use Rattle.nd_model.specs.Cells.Running as running
 use Rattle.nd_heap.specs.Values.{value_of}
-use Rattle.nd_input.specs.Values.{inputs_of}
-use Rattle.nd_session.specs.Live.{live}
-use Rattle.nd_syntax.specs.Syntax.{binary_op}
+use Rattle.nd_session.specs.Inputs.Values.{inputs_of}
+use Rattle.nd_session.specs.Session.Live.{live}
+use Rattle.nd_syntax.specs.Trees.Syntax.{binary_op}
 use Rattle.nd_eval.specs.Parts.{operate}
 use Rattle.nd_eval.proofs.Augmented.{made_bound, operate_held}
 use Rattle.nd_eval.proofs.Chains.{ends_alike, exits, goes}

@@ -1,14 +1,14 @@
 use Rattle.std.proofs.Common.{Bor, map, refl, ap, ◌∙◌}
-use Rattle.nd_model.specs.Evaluation.{run}
-use Rattle.nd_model.specs.Operation.{choose_of}
-use Rattle.nd_model.specs.Viewing.{Reshaped, choose_of_first}
+use Rattle.nd_model.specs.Cells.Evaluation.{run}
+use Rattle.nd_model.specs.Cells.Operation.{choose_of}
+use Rattle.nd_model.specs.Indexing.Viewing.{Reshaped, choose_of_first}
 use Rattle.nd_heap.specs.declared.value.Array.{Array}
 use Rattle.nd_heap.specs.declared.value.Value.TheVariants as values
 use Rattle.nd_heap.specs.Values.{geo_of, value_of}
-use Rattle.nd_input.specs.Values.{inputs_of}
-use Rattle.nd_session.specs.Live.{live}
-use Rattle.nd_operation.specs.Contents.{unused_of}
-use Rattle.nd_choice.specs.Shapes.{choice_of}
+use Rattle.nd_session.specs.Inputs.Values.{inputs_of}
+use Rattle.nd_session.specs.Session.Live.{live}
+use Rattle.nd_operation.specs.Operators.Contents.{unused_of}
+use Rattle.nd_select.specs.Choosing.Shapes.{choice_of}
 use Rattle.nd_eval.proofs.Calls.{view_parts}
 use Rattle.nd_eval.proofs.Chains.{ends_alike, exits_making, goes_making}
 use Rattle.nd_eval.proofs.evaluator.Evaluator.reshape_value.Goals as goal

@@ -1,13 +1,13 @@
 use Rattle.std.proofs.Common.{refl, sym, ap, ◌∙◌, [], ◌∷◌, Ok, Vec, Global, ℕ}
-use Rattle.nd_model.specs.Running as running
-use Rattle.nd_model.specs.Evaluation.{◌>>=◌, decide}
-use Rattle.nd_model.specs.Files.{save}
-use Rattle.nd_model.specs.Operand.{Whole, SavesFile}
-use Rattle.nd_model.specs.Operation.{do_deed}
+use Rattle.nd_model.specs.Cells.Running as running
+use Rattle.nd_model.specs.Cells.Evaluation.{◌>>=◌, decide}
+use Rattle.nd_model.specs.Formats.Files.{save}
+use Rattle.nd_model.specs.Making.Operand.{Whole, SavesFile}
+use Rattle.nd_model.specs.Cells.Operation.{do_deed}
 use Rattle.nd_heap.specs.Values.{value_of}
-use Rattle.nd_input.specs.Values.{inputs_of}
-use Rattle.nd_session.specs.Live.{live}
-use Rattle.nd_operation.specs.Contents.{operand_of}
+use Rattle.nd_session.specs.Inputs.Values.{inputs_of}
+use Rattle.nd_session.specs.Session.Live.{live}
+use Rattle.nd_operation.specs.Operators.Contents.{operand_of}
 use Rattle.nd_eval.specs.Effects.{effect_of}
 use Rattle.nd_eval.proofs.Chains.{exits_making, goes_making}
 use Rattle.nd_eval.proofs.Uses.{kept_bytes, follows_use, goes_used}

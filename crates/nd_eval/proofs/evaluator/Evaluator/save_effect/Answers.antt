@@ -1,7 +1,7 @@
-use Rattle.nd_model.specs.Meaning as meaning
-use Rattle.nd_syntax.specs.Syntax.{expr_of}
+use Rattle.nd_model.specs.Cells.Meaning as meaning
+use Rattle.nd_syntax.specs.Trees.Syntax.{expr_of}
 use Rattle.nd_heap.specs.Values.{value_of}
-use Rattle.nd_input.specs.Values.{inputs_of}
+use Rattle.nd_session.specs.Inputs.Values.{inputs_of}
 use Rattle.nd_eval.proofs.Chains.{exits, follows}
 use Rattle.nd_eval.proofs.Held.{value_held}
 use Rattle.nd_eval.proofs.Turns.{stays_on}

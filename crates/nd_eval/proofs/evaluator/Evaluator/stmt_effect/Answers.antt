@@ -1,13 +1,13 @@
 use Rattle.std.proofs.Common.{ℕ, List, subst}
 use Rattle.std.specs.Prelude.{string_bytes}
-use Rattle.nd_model.specs.Evaluation.{run}
-use Rattle.nd_model.specs.Meaning.{meaning}
-use Rattle.nd_model.specs.Syntax.{Augment, Save}
-use Rattle.nd_session.specs.Live.{live}
+use Rattle.nd_model.specs.Cells.Evaluation.{run}
+use Rattle.nd_model.specs.Cells.Meaning.{meaning}
+use Rattle.nd_model.specs.Grammar.Syntax.{Augment, Save}
+use Rattle.nd_session.specs.Session.Live.{live}
 use Rattle.nd_eval.specs.Effects.{effect_of}
 use Rattle.nd_eval.specs.Ends.{Ends}
-use Rattle.nd_syntax.specs.Syntax.{binary_op, expr_of, index_of}
-use Rattle.nd_input.specs.Values.{inputs_of}
+use Rattle.nd_syntax.specs.Trees.Syntax.{binary_op, expr_of, index_of}
+use Rattle.nd_session.specs.Inputs.Values.{inputs_of}
 use Rattle.nd_eval.proofs.Quiet.{quiet_assignment, quiet_augment, quiet_augment_item, quiet_binding, quiet_saving}
 use Rattle.nd_eval.proofs.evaluator.Evaluator.stmt_effect.Goals as goal
 

@@ -1,16 +1,16 @@
 use Rattle.std.proofs.Common.{map, refl, ap, ◌∙◌}
-use Rattle.nd_model.specs.Evaluation.{run}
-use Rattle.nd_model.specs.Operand.{AView}
-use Rattle.nd_model.specs.Operation as operation
-use Rattle.nd_model.specs.Operation.{choose_of}
-use Rattle.nd_model.specs.ShapeChoices.{stretch_to}
-use Rattle.nd_model.specs.Evaluation.{Gives}
-use Rattle.nd_model.specs.Value as model
+use Rattle.nd_model.specs.Cells.Evaluation.{run}
+use Rattle.nd_model.specs.Making.Operand.{AView}
+use Rattle.nd_model.specs.Cells.Operation as operation
+use Rattle.nd_model.specs.Cells.Operation.{choose_of}
+use Rattle.nd_model.specs.Indexing.ShapeChoices.{stretch_to}
+use Rattle.nd_model.specs.Cells.Evaluation.{Gives}
+use Rattle.nd_model.specs.Arrays.Value as model
 use Rattle.nd_heap.specs.declared.value.Value.TheVariants.{Array}
 use Rattle.nd_heap.specs.Values.{base_of, value_of}
-use Rattle.nd_input.specs.Values.{inputs_of}
-use Rattle.nd_session.specs.Live.{live}
-use Rattle.nd_operation.specs.Contents.{unused_of}
+use Rattle.nd_session.specs.Inputs.Values.{inputs_of}
+use Rattle.nd_session.specs.Session.Live.{live}
+use Rattle.nd_operation.specs.Operators.Contents.{unused_of}
 use Rattle.nd_eval.proofs.Chains.{ends_alike, exits_making, goes_making}
 use Rattle.nd_eval.proofs.Seeing.{stretch_array_parts}
 use Rattle.nd_eval.proofs.evaluator.Evaluator.stretch_array.Goals as goal

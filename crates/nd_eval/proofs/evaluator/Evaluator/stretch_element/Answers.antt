@@ -1,9 +1,9 @@
 use Rattle.std.proofs.Common.{map, refl}
-use Rattle.nd_model.specs.ShapeChoices.{stretch_to}
+use Rattle.nd_model.specs.Indexing.ShapeChoices.{stretch_to}
 use Rattle.nd_heap.specs.Values.{value_of}
-use Rattle.nd_input.specs.Values.{inputs_of}
-use Rattle.nd_session.specs.Live.{live}
-use Rattle.nd_operation.specs.Contents.{operand_of, unused_of}
+use Rattle.nd_session.specs.Inputs.Values.{inputs_of}
+use Rattle.nd_session.specs.Session.Live.{live}
+use Rattle.nd_operation.specs.Operators.Contents.{operand_of, unused_of}
 use Rattle.nd_eval.proofs.Chains.{ends_alike}
 use Rattle.nd_eval.proofs.Uses.{kept_bytes}
 use Rattle.nd_eval.proofs.Seeing.{alone_is, stretch_used, exits_stretching, follows_stretching}

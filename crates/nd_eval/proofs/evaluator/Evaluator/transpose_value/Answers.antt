@@ -1,11 +1,11 @@
 use Rattle.std.proofs.Common.{map, refl, ◌∙◌}
-use Rattle.nd_model.specs.Operand.{AView}
-use Rattle.nd_model.specs.Operation.{choose_of}
-use Rattle.nd_model.specs.Viewing.{Transposed, choose_of_first}
+use Rattle.nd_model.specs.Making.Operand.{AView}
+use Rattle.nd_model.specs.Cells.Operation.{choose_of}
+use Rattle.nd_model.specs.Indexing.Viewing.{Transposed, choose_of_first}
 use Rattle.nd_heap.specs.Values.{value_of}
-use Rattle.nd_input.specs.Values.{inputs_of}
-use Rattle.nd_session.specs.Live.{live}
-use Rattle.nd_operation.specs.Contents.{unused_of}
+use Rattle.nd_session.specs.Inputs.Values.{inputs_of}
+use Rattle.nd_session.specs.Session.Live.{live}
+use Rattle.nd_operation.specs.Operators.Contents.{unused_of}
 use Rattle.nd_eval.proofs.Calls.{view_parts}
 use Rattle.nd_eval.proofs.Chains.{ends_alike, exits_making, goes_making}
 use Rattle.nd_eval.proofs.evaluator.Evaluator.transpose_value.Goals as goal

@@ -1,5 +1,5 @@
 use Rattle.std.proofs.Common.{◌∙◌, ap}
-use Rattle.nd_model.specs.Running as running
+use Rattle.nd_model.specs.Cells.Running as running
 use Rattle.nd_heap.specs.Values.{base_of}
 use Rattle.nd_heap.proofs.Bases.{on_err, at_err}
 use Rattle.nd_heap.proofs.block_table.BlockTable.write.Goals as goal

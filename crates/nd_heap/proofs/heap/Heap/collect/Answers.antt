@@ -1,5 +1,5 @@
 use Rattle.std.proofs.Common.{◌∙◌, [], cond, ap₂}
-use Rattle.nd_model.specs.Session as model
+use Rattle.nd_model.specs.Cells.Session as model
 use Rattle.nd_heap.proofs.Bases.{on_err, at_err}
 use Rattle.nd_heap.proofs.heap.Heap.collect.Goals as goal
 

@@ -1,5 +1,5 @@
 use Rattle.std.proofs.Common.{◌∙◌, sym, ap}
-use Rattle.nd_model.specs.Session as model
+use Rattle.nd_model.specs.Cells.Session as model
 use Rattle.nd_heap.specs.Loose.{HeapData}
 use Rattle.nd_heap.proofs.heap.Heap.is_label_held.Goals as goal
 

@@ -1,5 +1,5 @@
 use Rattle.std.proofs.Common.{◌∙◌, [], cond, ap}
-use Rattle.nd_model.specs.Session as model
+use Rattle.nd_model.specs.Cells.Session as model
 use Rattle.nd_heap.specs.Contents.{bases_of}
 use Rattle.nd_heap.specs.Live.{bytes_at}
 use Rattle.nd_heap.specs.Loose.{HeapData}

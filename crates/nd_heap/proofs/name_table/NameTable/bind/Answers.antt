@@ -1,7 +1,7 @@
 use Rattle.std.proofs.Common.{◌∙◌, sym, ap, subst, Bor}
 use Rattle.std.specs.Rc.{rc_str_bytes}
-use Rattle.nd_model.specs.Session as model
-use Rattle.nd_model.specs.Session.{Names}
+use Rattle.nd_model.specs.Cells.Session as model
+use Rattle.nd_model.specs.Cells.Session.{Names}
 use Rattle.nd_heap.specs.Layers.{AreDistinctNames}
 use Rattle.nd_heap.specs.Values.{names_of, value_of}
 use Rattle.nd_heap.proofs.Layering.{bind_newer, bind_more, distinct_bind, found_is, lacks_is}

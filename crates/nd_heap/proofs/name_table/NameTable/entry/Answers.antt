@@ -1,8 +1,8 @@
 use Rattle.std.proofs.Common.{◌≡◌, ◌∙◌, ◌-◌, ◌+◌, ◌≤◌, sym, ap, subst, length, slice_get, option_map, unwrap_or, Some, ℕ, List, Global, arith}
 use Rattle.std.specs.Rc.{rc_str_bytes}
 use Rattle.std.specs.declared.rc.RcStr.{RcStr}
-use Rattle.nd_model.specs.Session.{Names, lookup}
-use Rattle.nd_model.specs.Value as model
+use Rattle.nd_model.specs.Cells.Session.{Names, lookup}
+use Rattle.nd_model.specs.Arrays.Value as model
 use Rattle.nd_heap.specs.Values.{names_of, value_of}
 use Rattle.nd_heap.proofs.Layering.{added_there, length-layers, old_there}
 use Rattle.nd_heap.proofs.Plain.{false_true}

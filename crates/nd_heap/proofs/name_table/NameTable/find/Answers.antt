@@ -1,5 +1,5 @@
 use Rattle.std.proofs.Common.{◌≡◌, ◌∙◌, sym, ap, unwrap_or, Some, None}
-use Rattle.nd_model.specs.Session.{Names, lookup}
+use Rattle.nd_model.specs.Cells.Session.{Names, lookup}
 use Rattle.nd_heap.specs.Values.{names_of, value_of}
 use Rattle.nd_heap.proofs.Layering.{found_old, found_added}
 use Rattle.nd_heap.proofs.name_table.NameTable.find.Goals as goal

@@ -1,5 +1,5 @@
 use Rattle.std.proofs.Common.{◌≡◌, take, false}
-use Rattle.nd_model.specs.Session as model
+use Rattle.nd_model.specs.Cells.Session as model
 use Rattle.nd_heap.specs.Values.{base_of}
 use Rattle.nd_heap.proofs.name_table.NameTable.has_holder.Given as goal
 

@@ -1,6 +1,6 @@
 use Rattle.std.proofs.Common.{◌∙◌, ◌||◌, sym, ap}
 use Rattle.std.specs.Rc.{rc_str_bytes}
-use Rattle.nd_model.specs.Value as values
+use Rattle.nd_model.specs.Arrays.Value as values
 use Rattle.nd_heap.specs.Contents.{bases_of}
 use Rattle.nd_heap.specs.Live.{is_base_among}
 use Rattle.nd_heap.specs.Values.{value_of}

@@ -1,6 +1,6 @@
 use Rattle.std.proofs.Common.{◌≡◌, take}
-use Rattle.nd_model.specs.Session as model
-use Rattle.nd_model.specs.Value as values
+use Rattle.nd_model.specs.Cells.Session as model
+use Rattle.nd_model.specs.Arrays.Value as values
 use Rattle.nd_heap.specs.Contents.{bases_of}
 use Rattle.nd_heap.specs.Live.{is_base_among}
 use Rattle.nd_heap.proofs.name_table.NameTable.held_bases.Given as goal

@@ -1,6 +1,6 @@
 use Rattle.std.proofs.Common.{◌∙◌, sym, ap}
-use Rattle.nd_model.specs.Session as model
-use Rattle.nd_model.specs.Session.{Names}
+use Rattle.nd_model.specs.Cells.Session as model
+use Rattle.nd_model.specs.Cells.Session.{Names}
 use Rattle.nd_heap.specs.Values.{base_of, names_of}
 use Rattle.nd_heap.proofs.Layering.{held_added, unheld_layers}
 use Rattle.nd_heap.proofs.name_table.NameTable.is_held.Goals as goal

@@ -1,8 +1,8 @@
 use Rattle.std.proofs.Common.{◌∙◌, ◌||◌, sym, ap, arith}
 use Rattle.std.proofs.lemmas.List.{take_all}
 use Rattle.std.specs.Rc.{rc_str_bytes}
-use Rattle.nd_model.specs.Session as model
-use Rattle.nd_model.specs.Value as values
+use Rattle.nd_model.specs.Cells.Session as model
+use Rattle.nd_model.specs.Arrays.Value as values
 use Rattle.nd_heap.specs.Values.{value_of}
 use Rattle.nd_heap.proofs.Layering.{held_next, unheld_there}
 use Rattle.nd_heap.proofs.Plain.{false_true}

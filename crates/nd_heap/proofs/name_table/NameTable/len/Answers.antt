@@ -1,5 +1,5 @@
 use Rattle.std.proofs.Common.{◌∙◌, ◌+◌, sym, ap, ap₂, length}
-use Rattle.nd_model.specs.Session.{Names}
+use Rattle.nd_model.specs.Cells.Session.{Names}
 use Rattle.nd_heap.specs.Values.{names_of}
 use Rattle.nd_heap.proofs.Layering.{length-layers}
 use Rattle.nd_heap.proofs.NameLists.{names-length}

@@ -1,6 +1,6 @@
 use Rattle.std.proofs.Common.{◌≡◌, ◌∙◌, ◌++◌, sym, ap, subst, Bor, None}
-use Rattle.nd_model.specs.Session as model
-use Rattle.nd_model.specs.Session.{Names}
+use Rattle.nd_model.specs.Cells.Session as model
+use Rattle.nd_model.specs.Cells.Session.{Names}
 use Rattle.nd_heap.specs.Layers.{overridden, AreDistinctNames}
 use Rattle.nd_heap.specs.Values.{names_of, value_of}
 use Rattle.nd_heap.proofs.Layering.{unbind_added, distinct_unbind, lacks_is, loses}

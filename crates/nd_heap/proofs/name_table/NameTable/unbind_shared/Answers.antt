@@ -1,6 +1,6 @@
 use Rattle.std.proofs.Common.{◌≡◌, ◌∙◌, ◌++◌, [], refl, sym, ap, subst, arith}
-use Rattle.nd_model.specs.Session as model
-use Rattle.nd_model.specs.Session.{Names}
+use Rattle.nd_model.specs.Cells.Session as model
+use Rattle.nd_model.specs.Cells.Session.{Names}
 use Rattle.nd_heap.specs.Layers.{overridden, AreDistinctNames}
 use Rattle.nd_heap.specs.Values.{names_of}
 use Rattle.nd_heap.proofs.Bases.{at_err}

@@ -1,6 +1,6 @@
 use Rattle.std.proofs.Common.{◌∙◌, ap, subst, slice_get}
 use Rattle.std.specs.List.{IsDistinct}
-use Rattle.nd_model.specs.Value.{same_base}
+use Rattle.nd_model.specs.Arrays.Value.{same_base}
 use Rattle.nd_heap.specs.Values.{base_of}
 use Rattle.nd_trace.specs.Seen.{Seen, bases_read}
 use Rattle.nd_trace.proofs.Traces.{bases_once, none_past}

@@ -2,8 +2,8 @@ use Rattle.std.proofs.Common.{◌≡◌, ◌∙◌, false, nat_eq, ap, arith}
 use Rattle.std.proofs.lemmas.Bool.Decides.{nat_tests}
 use Rattle.std.specs.List.{flat_map}
 use Rattle.nd_marks.specs.Marks.{holds}
-use Rattle.nd_model.specs.Running as running
-use Rattle.nd_model.specs.View.{element_places}
+use Rattle.nd_model.specs.Cells.Running as running
+use Rattle.nd_model.specs.Arrays.View.{element_places}
 use Rattle.nd_types.specs.Types.{type_of}
 use Rattle.nd_heap.specs.Values.{base_of}
 use Rattle.nd_trace.specs.Contents.{marks_of}

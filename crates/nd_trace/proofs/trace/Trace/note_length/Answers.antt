@@ -1,6 +1,6 @@
 use Rattle.std.proofs.Common.{◌≡◌, ◌∙◌, ◌||◌, true, false, nat_eq, ap, map, sym, subst, arith}
 use Rattle.std.proofs.lemmas.Bool.Decides.{nat_tests}
-use Rattle.nd_model.specs.Running as running
+use Rattle.nd_model.specs.Cells.Running as running
 use Rattle.nd_trace.specs.Events.{seen_in}
 use Rattle.nd_trace.specs.Traced.{trace_of}
 use Rattle.nd_heap.specs.Live.{is_base_among}

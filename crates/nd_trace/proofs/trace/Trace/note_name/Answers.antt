@@ -1,5 +1,5 @@
 use Rattle.std.proofs.Common.{◌≡◌, ◌∙◌, ◌||◌, true, ap, map, sym, string_bytes, subst}
-use Rattle.nd_model.specs.Running as running
+use Rattle.nd_model.specs.Cells.Running as running
 use Rattle.nd_trace.specs.Events.{seen_in}
 use Rattle.nd_trace.specs.Traced.{trace_of}
 use Rattle.nd_trace.specs.Marked.{is_among}

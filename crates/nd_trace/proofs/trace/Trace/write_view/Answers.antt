@@ -1,6 +1,6 @@
 use Rattle.std.proofs.Common.{◌∙◌, ap}
 use Rattle.nd_marks.specs.Marks.{holds}
-use Rattle.nd_model.specs.View.{byte_places}
+use Rattle.nd_model.specs.Arrays.View.{byte_places}
 use Rattle.nd_heap.specs.Values.{base_of, geo_of}
 use Rattle.nd_trace.specs.Contents.{marks_of}
 use Rattle.nd_trace.specs.Marked.{is_marked}

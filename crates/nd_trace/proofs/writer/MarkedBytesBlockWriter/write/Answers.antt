@@ -1,5 +1,5 @@
 use Rattle.std.proofs.Common.{◌≡◌, ◌∙◌, ap, length}
-use Rattle.nd_model.specs.Footprint.{patched}
+use Rattle.nd_model.specs.Cells.Footprint.{patched}
 use Rattle.nd_trace.specs.Patching.{marked_of}
 use Rattle.nd_trace.proofs.Patches.{is_patched, refilled}
 use Rattle.nd_trace.proofs.writer.MarkedBytesBlockWriter.write.Goals as goal

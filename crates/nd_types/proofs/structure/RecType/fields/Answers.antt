@@ -1,7 +1,7 @@
 use Rattle.std.proofs.Common.{ℕ, ◌+◌, ◌≤◌, List, subst}
 use Rattle.std.specs.List.{All}
-use Rattle.nd_model.specs.Element.{size_of}
-use Rattle.nd_model.specs.View.{Field}
+use Rattle.nd_model.specs.Arrays.Element.{size_of}
+use Rattle.nd_model.specs.Arrays.View.{Field}
 use Rattle.nd_types.specs.Fields.{fields_of}
 use Rattle.nd_types.proofs.Sized.{each_inside}
 use Rattle.nd_types.proofs.structure.RecType.fields.Goals as goal

@@ -3,7 +3,7 @@ use Rattle.std.specs.Prelude.{ℤ, pos, ◌≤ℤ◌}
 use Rattle.std.specs.Int.{w128}
 use Rattle.std.specs.Int.RustNames.{FitsSigned}
 use Rattle.std.proofs.lemmas.Int.{to_z-of_z}
-use Rattle.nd_model.specs.Runs.{place_at, spot_at, run_places}
+use Rattle.nd_model.specs.Arrays.Runs.{place_at, spot_at, run_places}
 use Rattle.nd_view.proofs.RunParts.{part_is, each_is, each_low}
 use Rattle.nd_view.proofs.runs.Run.part.Goals as goal
 

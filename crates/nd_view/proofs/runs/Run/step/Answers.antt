@@ -2,7 +2,7 @@ use Rattle.std.proofs.Common.{rules, sym, ◌∙◌}
 use Rattle.std.specs.Int.{w128}
 use Rattle.std.specs.Int.RustNames.{FitsSigned}
 use Rattle.std.proofs.lemmas.Int.{to_z-of_z}
-use Rattle.nd_model.specs.Runs.{place_at}
+use Rattle.nd_model.specs.Arrays.Runs.{place_at}
 use Rattle.nd_view.proofs.RunPlaces.{count_of, way, start_of}
 use Rattle.nd_view.proofs.runs.Run.step.Goals as goal
 

@@ -1,5 +1,5 @@
 use Rattle.std.proofs.Common.{◌≡◌, ℕ, ◌<◌, List, take, replicate, sym, ◌∙◌, arith}
-use Rattle.nd_model.specs.Tuple.{number}
+use Rattle.nd_model.specs.Arrays.Tuple.{number}
 use Rattle.nd_view.specs.Indexes.{IsIndex}
 use Rattle.nd_view.proofs.Steps.{front_zeros, take_zeros}
 use Rattle.nd_view.proofs.ViewLoops.{all_runs}

@@ -3,7 +3,7 @@ use Rattle.std.specs.Int.{w128}
 use Rattle.std.specs.Int.RustNames.{FitsSigned}
 use Rattle.std.proofs.lemmas.Int.{to_z-of_z}
 use Rattle.std.proofs.lemmas.List.{drop_all}
-use Rattle.nd_model.specs.Runs.{in_pieces, run_places}
+use Rattle.nd_model.specs.Arrays.Runs.{in_pieces, run_places}
 use Rattle.nd_model.proofs.Pieces.{no_pieces}
 use Rattle.nd_view.proofs.Walking.{start_is, count_some, count_within, spots_here, walk_is, run_left}
 use Rattle.nd_view.proofs.runs.Runs.next.Goals as goal

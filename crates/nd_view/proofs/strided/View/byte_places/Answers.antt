@@ -2,7 +2,7 @@ use Rattle.std.proofs.Common.{◌≡◌, ◌+◌, ◌≤◌, ◌^◌, ◌++◌, 
 use Rattle.std.specs.List.{All, concat, flat_map}
 use Rattle.std.proofs.lemmas.List.Elements.{All-from_get_or}
 use Rattle.std.proofs.lemmas.Grind.{flat_map-append}
-use Rattle.nd_model.specs.View.{element_places, item_size}
+use Rattle.nd_model.specs.Arrays.View.{element_places, item_size}
 use Rattle.nd_types.specs.Types.{type_of}
 use Rattle.nd_view.proofs.ByRuns.{begun, taken, ended, in_run, behind_run}
 use Rattle.nd_view.proofs.Fields.{ends}

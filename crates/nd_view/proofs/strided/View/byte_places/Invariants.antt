@@ -1,6 +1,6 @@
 use Rattle.std.proofs.Common.{◌≡◌, ◌+◌, ◌≤◌, ◌^◌, ◌++◌, length, drop}
 use Rattle.std.specs.List.{All, concat, flat_map}
-use Rattle.nd_model.specs.View.{element_places, item_size}
+use Rattle.nd_model.specs.Arrays.View.{element_places, item_size}
 use Rattle.nd_view.proofs.strided.View.byte_places.Given as goal
 
 abbrev pub invariant-loop-number : goal.invariant-loop-number

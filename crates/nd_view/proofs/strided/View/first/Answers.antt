@@ -1,5 +1,5 @@
 use Rattle.std.proofs.Common.{◌≡◌, ◌<◌, length, replicate, ◌∙◌, ap, arith}
-use Rattle.nd_model.specs.Tuple.{elements_of}
+use Rattle.nd_model.specs.Arrays.Tuple.{elements_of}
 use Rattle.nd_view.proofs.Fields.{elements_are}
 use Rattle.nd_view.proofs.Steps.{zeros}
 use Rattle.nd_view.proofs.strided.View.first.Goals as goal

@@ -1,8 +1,8 @@
 use Rattle.std.proofs.Common.{◌≡◌, ◌≤◌, sym, ap, ◌∙◌, arith}
 use Rattle.std.specs.Prelude.{None}
 use Rattle.std.specs.Option.{option_map}
-use Rattle.nd_model.specs.Strides as model
-use Rattle.nd_model.specs.View.{item_size}
+use Rattle.nd_model.specs.Arrays.Strides as model
+use Rattle.nd_model.specs.Arrays.View.{item_size}
 use Rattle.nd_types.specs.Types.{type_of}
 use Rattle.nd_view.specs.Faults.{view_fault_of}
 use Rattle.nd_view.proofs.Made.{parted_fields, parted}

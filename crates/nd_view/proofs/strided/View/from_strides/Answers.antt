@@ -1,5 +1,5 @@
 use Rattle.std.proofs.Common.{◌≤◌, ◌^◌, arith}
-use Rattle.nd_model.specs.View.{item_size}
+use Rattle.nd_model.specs.Arrays.View.{item_size}
 use Rattle.nd_types.specs.Types.{type_of}
 use Rattle.nd_view.proofs.Made.{parted_fields, parted_as}
 use Rattle.nd_view.proofs.strided.View.from_strides.Goals as goal

@@ -1,5 +1,5 @@
 use Rattle.std.proofs.Common.{◌≡◌, length, ◌∙◌, arith}
-use Rattle.nd_model.specs.Tuple.{elements_of, number}
+use Rattle.nd_model.specs.Arrays.Tuple.{elements_of, number}
 use Rattle.nd_view.proofs.Fields.{count_of}
 use Rattle.nd_view.proofs.strided.View.next.Goals as goal
 

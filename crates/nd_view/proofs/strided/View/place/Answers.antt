@@ -1,6 +1,6 @@
 use Rattle.std.proofs.Common.{get_or, ap, ◌∙◌}
-use Rattle.nd_model.specs.Strides.{place_at}
-use Rattle.nd_model.specs.Tuple.{number}
+use Rattle.nd_model.specs.Arrays.Strides.{place_at}
+use Rattle.nd_model.specs.Arrays.Tuple.{number}
 use Rattle.nd_view.specs.Indexes.{IsIndex}
 use Rattle.nd_view.proofs.Fields.{shape_is, path_at, tuple_at}
 use Rattle.nd_view.proofs.Steps.{whole_index}

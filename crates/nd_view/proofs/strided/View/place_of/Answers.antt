@@ -3,9 +3,9 @@ use Rattle.std.specs.Prelude.{pos, ◌+ℤ◌, ◌*ℤ◌}
 use Rattle.std.specs.Int.{w128}
 use Rattle.std.specs.Int.RustNames.{FitsSigned}
 use Rattle.std.proofs.lemmas.Int.{to_z-of_z, ints}
-use Rattle.nd_model.specs.Strides.{place_at}
-use Rattle.nd_model.specs.Tuple.{elements_of}
-use Rattle.nd_model.specs.View.{item_size}
+use Rattle.nd_model.specs.Arrays.Strides.{place_at}
+use Rattle.nd_model.specs.Arrays.Tuple.{elements_of}
+use Rattle.nd_model.specs.Arrays.View.{item_size}
 use Rattle.nd_types.specs.Types.{type_of}
 use Rattle.nd_view.proofs.Fields.{count_of, number_at, ends, lies_of}
 use Rattle.nd_view.proofs.Numbered.{tuple_of}
@@ -14,7 +14,7 @@ use Rattle.nd_view.proofs.strided.View.place_of.Goals as goal
 
 pub loop-axis-init : goal.loop-axis-init
 loop-axis-init c =
-    let each : c.elements-each.result ≡ elements_of c.self.inside.shape.items = c.elements-each.ensures ∙ ap elements_of c.as_slice.ensures in
+    let each : c.element_count-each.result ≡ elements_of c.self.inside.shape.items = c.element_count-each.ensures ∙ ap elements_of c.as_slice.ensures in
     let below : c.args.number < elements_of c.self.inside.shape.items = omega (arith, c.requires, count_of c.self.inside c.self.invariant c.args.self.now c.self.view_is) in
     let lies = lies_of c.self.inside c.self.invariant c.args.self.now c.self.view_is in
     let size : item_size c.args.self.now.element ≡ item_size (type_of c.self.inside.elem) = sym (λ i. item_size (c.self.view_is i).element) in

@@ -1,5 +1,5 @@
-use Rattle.nd_model.specs.Strides.{place_at}
-use Rattle.nd_model.specs.View.{item_size}
+use Rattle.nd_model.specs.Arrays.Strides.{place_at}
+use Rattle.nd_model.specs.Arrays.View.{item_size}
 use Rattle.nd_view.proofs.Numbered.{tuple_of}
 use Rattle.nd_view.proofs.Unravelled.{IsAt}
 use Rattle.nd_view.proofs.strided.View.place_of.Given as goal

@@ -1,5 +1,5 @@
 use Rattle.std.proofs.Common.{length, take, ap, ◌∙◌}
-use Rattle.nd_model.specs.Strides.{place_at}
+use Rattle.nd_model.specs.Arrays.Strides.{place_at}
 use Rattle.nd_view.specs.Indexes.{IsIndex}
 use Rattle.nd_view.proofs.Fields.{shape_is, path_at}
 use Rattle.nd_view.proofs.ViewLoops.{outer_place}

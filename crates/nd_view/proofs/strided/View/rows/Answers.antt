@@ -1,7 +1,7 @@
 use Rattle.std.proofs.Common.{◌+◌, ◌-◌, ◌≤◌, ◌^◌, length, get_or, ap, ◌∙◌}
 use Rattle.std.specs.Prelude.{pos}
 use Rattle.std.proofs.lemmas.List.Elements.{All-from_get_or}
-use Rattle.nd_model.specs.View.{item_size}
+use Rattle.nd_model.specs.Arrays.View.{item_size}
 use Rattle.nd_view.proofs.Fields.{ends}
 use Rattle.nd_view.proofs.ViewLoops.{inner_last}
 use Rattle.nd_view.proofs.strided.View.rows.Goals as goal

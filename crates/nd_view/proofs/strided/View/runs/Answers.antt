@@ -1,7 +1,7 @@
 use Rattle.std.proofs.Common.{◌+◌, ◌≤◌, ◌^◌, length, drop, ap, ◌∙◌, arith}
 use Rattle.std.proofs.lemmas.List.Elements.{All-from_get_or}
-use Rattle.nd_model.specs.Tuple.{elements_of}
-use Rattle.nd_model.specs.View.{item_size}
+use Rattle.nd_model.specs.Arrays.Tuple.{elements_of}
+use Rattle.nd_model.specs.Arrays.View.{item_size}
 use Rattle.nd_view.specs.Strides.{IsEven}
 use Rattle.nd_view.proofs.Fields.{ends}
 use Rattle.nd_view.proofs.ViewLoops.{inner_is}

@@ -1,8 +1,0 @@
--- The items that a filled index has.
-use Rattle.std.specs.Prelude.{List, ◌++◌, replicate}
-use Rattle.nd_model.specs.Selecting as model
-use Rattle.nd_basic.specs.Items.{items_of}
-use Rattle.nd_basic.specs.declared.full_index.FullIndex.{FullIndex}
-
-abbrev pub items_in : FullIndex → List model.Item
-items_in f = items_of f.front.now ++ (replicate f.missing model.whole_slice ++ items_of f.back.now)

@@ -1,5 +1,0 @@
-use Rattle.nd_syntax.proofs.Nodes.{broadcast_is}
-use Rattle.nd_call.proofs.call.broadcast_call.Goals as goal
-
-pub returns : goal.returns
-returns c = broadcast_is c.args.value c.args.shape

@@ -1,9 +1,0 @@
-use Rattle.std.proofs.Common.{◌∙◌, ap}
-use Rattle.nd_model.specs.Cells.{suffixed}
-use Rattle.nd_syntax.specs.Syntax.{expr_of}
-use Rattle.nd_read.specs.Gives.{suffixes_of}
-use Rattle.nd_syntax.proofs.Chains.{postfix_is}
-use Rattle.nd_call.proofs.operands.with_suffixes.Goals as goal
-
-pub returns : goal.returns
-returns c = postfix_is c.in_ok-new.field-0 c.args.suffixes ∙ ap (λ e. suffixed (expr_of e) (suffixes_of c.args.suffixes)) c.in_ok-new.ensures.ok

@@ -1,0 +1,49 @@
+use Rattle.std.proofs.Common.{◌∙◌, refl, inl}
+use Rattle.std.specs.Prelude.{codes}
+use Rattle.nd_commands.specs.Source.{lines_so_far, opening_of}
+use Rattle.nd_commands.proofs.Carried.{closed_text, closed_bytes}
+use Rattle.nd_commands.proofs.line.close_source.Goals as goal
+
+pub returns-in-Insert-clause-carried : goal.returns-in-Insert-clause-carried
+returns-in-Insert-clause-carried c =
+    let s = c.args.source.now in
+    let utf8 = rw c.bytes.ensures at c.in-Ok.ensures.cases.1 in
+    let is = closed_text (opening_of s.opening) (lines_so_far s) c.in-Ok.text.now (c.in-Ok.ensures.cases.0 ∙ c.bytes.ensures) utf8 in
+    let same = rw c.in-Insert.is at is in
+    rw (c.in-Insert.is, same) c.insert_cell.ensures.carried
+
+pub returns-in-Insert-clause-counts : goal.returns-in-Insert-clause-counts
+returns-in-Insert-clause-counts c =
+    let s = c.args.source.now in
+    let utf8 = rw c.bytes.ensures at c.in-Ok.ensures.cases.1 in
+    let is = closed_text (opening_of s.opening) (lines_so_far s) c.in-Ok.text.now (c.in-Ok.ensures.cases.0 ∙ c.bytes.ensures) utf8 in
+    let same = rw c.in-Insert.is at is in
+    rw (c.in-Insert.is, same) c.insert_cell.ensures.counts
+
+pub returns-in-Edit-clause-carried : goal.returns-in-Edit-clause-carried
+returns-in-Edit-clause-carried c =
+    let s = c.args.source.now in
+    let utf8 = rw c.bytes.ensures at c.in-Ok.ensures.cases.1 in
+    let is = closed_text (opening_of s.opening) (lines_so_far s) c.in-Ok.text.now (c.in-Ok.ensures.cases.0 ∙ c.bytes.ensures) utf8 in
+    let same = rw c.in-Edit.is at is in
+    rw (c.in-Edit.is, same) c.edit_cell.ensures.carried
+
+pub returns-in-Edit-clause-counts : goal.returns-in-Edit-clause-counts
+returns-in-Edit-clause-counts c =
+    let s = c.args.source.now in
+    let utf8 = rw c.bytes.ensures at c.in-Ok.ensures.cases.1 in
+    let is = closed_text (opening_of s.opening) (lines_so_far s) c.in-Ok.text.now (c.in-Ok.ensures.cases.0 ∙ c.bytes.ensures) utf8 in
+    let same = rw c.in-Edit.is at is in
+    rw (c.in-Edit.is, same) c.edit_cell.ensures.counts
+
+pub returns-in-Err-clause-carried : goal.returns-in-Err-clause-carried
+returns-in-Err-clause-carried c =
+    let s = c.args.source.now in
+    let other = rw c.bytes.ensures at c.in-Err.ensures.cases.0 in
+    rw (closed_bytes (opening_of s.opening) (lines_so_far s) other) (codes "bad command\n", inl (refl, refl), c.push_text.ensures)
+
+pub returns-in-Err-clause-counts : goal.returns-in-Err-clause-counts
+returns-in-Err-clause-counts c =
+    let s = c.args.source.now in
+    let other = rw c.bytes.ensures at c.in-Err.ensures.cases.0 in
+    rw (closed_bytes (opening_of s.opening) (lines_so_far s) other) refl

@@ -1,0 +1,20 @@
+-- Commands that are carried out.
+use Rattle.std.specs.Prelude.{◌≡◌, ℕ, List, ◌++◌, Result, OnOk}
+use Rattle.std.specs.declared.alloc.AllocError.{AllocError}
+use Rattle.nd_model.specs.Book.Book.{Book}
+use Rattle.nd_model.specs.Book.Script.{Command, Answer, Line, Whole, Opens}
+use Rattle.nd_script.specs.Lines.Counts.{CountsCommand}
+
+-- The command was carried out, and has an answer, which was appended if memory was there for it.
+abbrev pub Carried : Command → Book → (was : List ℕ) → Result (Unit {0}) AllocError → (now : List ℕ) → Book → Type 0
+Carried c old was r now new = (text : List ℕ) × Answer c old text new × OnOk r (now ≡ was ++ text)
+
+-- the same of what a line says; the opening of a source does nothing
+abbrev pub CarriedLine : Line → Book → (was : List ℕ) → Result (Unit {0}) AllocError → (now : List ℕ) → Book → Type 0
+CarriedLine (Whole c) old was r now new = Carried c old was r now new
+CarriedLine (Opens o) old was r now new = (new ≡ old) × (now ≡ was)
+
+-- what a line counts on the meter; the opening of a source counts nothing
+abbrev pub CountsLine : Line → Book → (before after : ℕ) → Type 0
+CountsLine (Whole c) b before after = CountsCommand c b before after
+CountsLine (Opens o) b before after = after ≡ before

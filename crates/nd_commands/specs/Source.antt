@@ -1,0 +1,24 @@
+-- Sources, as far as their lines have come.
+use Rattle.std.specs.Prelude.{ℕ, ◌==◌, List, [], Option, Some, None, Vec}
+use Rattle.std.specs.Global.{Global}
+use Rattle.std.specs.List.{slice_split}
+use Rattle.nd_model.specs.Book.Script as script
+use Rattle.nd_commands.specs.declared.source.Opening.{Opening}
+use Rattle.nd_commands.specs.declared.source.Opening.TheVariants.{Insert, Edit}
+use Rattle.nd_commands.specs.declared.source.OpenText.{OpenText}
+
+abbrev pub opening_of : Opening → script.Opening
+opening_of (Insert at) = script.Inserting at
+opening_of (Edit at) = script.Changing at
+
+abbrev pub text_lines : Option (Vec ℕ Global) → List (List ℕ)
+text_lines None = []
+text_lines (Some text) = slice_split (λ c. c == 10) text.items
+
+abbrev pub lines_so_far : OpenText → List (List ℕ)
+lines_so_far s = text_lines s.text
+
+-- where a script stands
+abbrev pub stage_of : Option OpenText → script.Stage
+stage_of None = script.Between
+stage_of (Some s) = script.Within (opening_of s.opening) (lines_so_far s)

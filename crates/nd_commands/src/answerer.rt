@@ -1,0 +1,44 @@
+//! `NotebookAnswerer`: answers the lines of a script on a notebook.
+
+ghost use Rattle.nd_commands.specs.Run.{tally_of};
+ghost use Rattle.nd_commands.specs.Source.{stage_of};
+
+use crate::line::answer_line;
+use crate::source::OpenText;
+use nd_notebook::{Meter, Notebook};
+use nd_script::lines::Answerer;
+use nd_script::words::push_text;
+use std::alloc::{AllocError, Global};
+
+/// Answers the lines of a script on a notebook, whose runs a meter counts.
+#[derive(Drop)]
+pub struct NotebookAnswerer<'a> {
+    pub alloc: Global,
+    pub meter: &'a mut Meter,
+    pub notebook: &'a mut Notebook,
+    /// The source that is open, if any.
+    pub source: &'a mut Option<OpenText>,
+}
+
+impl Answerer for NotebookAnswerer<'_> {
+    ghost stage = { λ s. stage_of s.source.now };
+
+    ghost tally = { λ s. tally_of s.notebook.now s.meter.now };
+
+    ghost reference = { λ s. s.notebook.ghost_name };
+
+    ghost meter_reference = { λ s. s.meter.ghost_name };
+
+    fn answer_line(&mut self, line: &[u8], answer: &mut Vec<u8>) -> Result<(), AllocError> {
+        let source = self.source.take();
+        *self.source = answer_line(self.alloc, source, line, answer, self.meter, self.notebook)?;
+        Ok(())
+    }
+
+    fn answer_end(&self, answer: &mut Vec<u8>) -> Result<(), AllocError> {
+        if self.source.is_some() {
+            push_text(answer, "bad command\n")?;
+        }
+        Ok(())
+    }
+}

@@ -1,0 +1,15 @@
+//! Scripts of a notebook: [`run`] carries commands out one by one, and answers each.
+#![tactic(auto)]
+
+mod answer;
+mod answerer;
+mod carry;
+mod fault;
+mod input;
+mod line;
+mod runner;
+mod source;
+mod value;
+
+pub use nd_script::lines::{CountedRead, CountedWrite, RunFault, ScriptReader, ScriptWriter};
+pub use runner::{run, run_script, run_turns};

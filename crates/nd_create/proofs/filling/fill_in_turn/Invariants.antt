@@ -1,6 +1,0 @@
-use Rattle.std.proofs.Common.{◌≡◌, ◌*◌, ◌++◌, length, drop, pos, slice_index_or}
-use Rattle.nd_create.specs.Numbers.{bytes_below}
-use Rattle.nd_create.proofs.filling.fill_in_turn.Given as goal
-
-abbrev pub invariant-loop-index : goal.invariant-loop-index
-invariant-loop-index l = l.bytes ≡ bytes_below l.elem (λ k. slice_index_or l.fn.numbers k (pos 0)) l.index ++ drop (l.index * l.size) l.initial.bytes

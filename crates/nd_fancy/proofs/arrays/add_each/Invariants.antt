@@ -1,6 +1,0 @@
-use Rattle.std.proofs.Common.{◌≡◌, ◌++◌, drop}
-use Rattle.nd_ways.specs.Ways.{sums_of}
-use Rattle.nd_fancy.proofs.arrays.add_each.Given as goal
-
-abbrev pub invariant-loop-at : goal.invariant-loop-at
-invariant-loop-at l = l.sums.items ++ sums_of (drop l.at l.ways) (drop l.at l.own) ≡ sums_of l.ways l.own

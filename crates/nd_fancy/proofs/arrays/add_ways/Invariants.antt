@@ -1,6 +1,0 @@
-use Rattle.std.proofs.Common.{◌≡◌, ◌++◌, drop}
-use Rattle.nd_ways.specs.Ways.{sums_at}
-use Rattle.nd_fancy.proofs.arrays.add_ways.Given as goal
-
-abbrev pub invariant-loop-at : goal.invariant-loop-at
-invariant-loop-at l = l.sums.items ++ sums_at l.own (drop l.at l.ways) (drop l.at l.numbers) ≡ sums_at l.own l.ways l.numbers

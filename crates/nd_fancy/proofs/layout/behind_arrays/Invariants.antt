@@ -1,7 +1,0 @@
-use Rattle.std.proofs.Common.{◌≡◌, drop}
-use Rattle.nd_model.specs.Advanced as model
-use Rattle.nd_index.specs.Items.{items_of}
-use Rattle.nd_fancy.proofs.layout.behind_arrays.Given as goal
-
-abbrev pub invariant-loop-number : goal.invariant-loop-number
-invariant-loop-number l = model.behind_arrays (items_of l.items) ≡ model.behind_arrays (items_of (drop l.number l.items))

@@ -1,6 +1,0 @@
-use Rattle.nd_index.specs.Items.{numbers_of}
-use Rattle.nd_index.proofs.Items.{near_positions}
-use Rattle.nd_fancy.proofs.takes.spread_numbers.Goals as goal
-
-pub invariant_of-result-clause-near : goal.invariant_of-result-clause-near
-invariant_of-result-clause-near c = near_positions 0 c.args.size (numbers_of c.args.array.now) c.requires.size (c.requires.inside 0)

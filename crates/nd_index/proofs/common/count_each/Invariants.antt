@@ -1,9 +1,0 @@
-use Rattle.std.proofs.Common.{◌≡◌, ◌+◌, ◌≤◌, drop}
-use Rattle.nd_index.specs.Counts.{true_count}
-use Rattle.nd_index.proofs.common.count_each.Given as goal
-
-abbrev pub invariant-loop-at : goal.invariant-loop-at
-invariant-loop-at l = record {
-  total : l.count + true_count l.elem l.bytes (drop l.at l.run) ≡ true_count l.elem l.bytes l.run;
-  few : l.count ≤ l.at;
-}

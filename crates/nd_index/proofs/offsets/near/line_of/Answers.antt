@@ -1,0 +1,32 @@
+use Rattle.std.proofs.Common.{◌≡◌, [], ◌∷◌, get_or, pos, to_z, of_z, refl, sym, ap, ◌∙◌, arith}
+use Rattle.std.specs.Prelude.{◌+ℤ◌, ◌*ℤ◌}
+use Rattle.std.specs.Int.{w64, w128}
+use Rattle.std.proofs.lemmas.Int.{ints}
+use Rattle.nd_index.specs.Offsets.RowPlaces.{way_on}
+use Rattle.nd_places.specs.Near.{IsNear}
+use Rattle.nd_places.specs.Near.{place_on}
+use Rattle.nd_index.proofs.offsets.NearWays.{joined}
+use Rattle.nd_index.proofs.offsets.Rows.{near_at, alone}
+use Rattle.nd_index.proofs.offsets.near.line_of.Goals as goal
+
+pub invariant_of-result : goal.invariant_of-result
+invariant_of-result c =
+    let row = c.args.row.now in
+    let near : IsNear (to_z w128 (of_z w128 (to_z w128 (of_z w128 row.start) +ℤ to_z w128 (of_z w128 (get_or row.ways.now 0 (pos 0)))))) = c.if-not-is_near.ensures.0 refl in
+    record {
+      start_near = omega (arith, ints, near);
+      step_near = omega (arith, ints, c.in_ok-step.ensures.0);
+    }
+
+pub returns : goal.returns
+returns c = λ k.
+    let row = c.args.row.now in let axes = c.args.axes.now in let first = get_or row.ways.now 0 (pos 0) in
+    let near : IsNear (to_z w128 (of_z w128 (to_z w128 (of_z w128 row.start) +ℤ to_z w128 (of_z w128 first)))) = c.if-not-is_near.ensures.0 refl in
+    let start : to_z w64 (of_z w64 (to_z w128 (of_z w128 (to_z w128 (of_z w128 row.start) +ℤ to_z w128 (of_z w128 first))))) ≡ row.start +ℤ first
+    = omega (arith, ints, near_at row.ways.now 0 row.each, row.start_near, near) in
+    let step : to_z w64 (of_z w64 c.in_ok-step.step) ≡ c.in_ok-step.step = omega (arith, ints, c.in_ok-step.ensures.0) in
+    let same : pos k *ℤ to_z w64 (of_z w64 c.in_ok-step.step) ≡ way_on axes k = ap (λ t. pos k *ℤ t) step ∙ sym (c.in_ok-step.ensures.1 k) in
+    let sum : (row.start +ℤ way_on axes k) +ℤ first
+    ≡ to_z w64 (of_z w64 (to_z w128 (of_z w128 (to_z w128 (of_z w128 row.start) +ℤ to_z w128 (of_z w128 first))))) +ℤ (pos k *ℤ to_z w64 (of_z w64 c.in_ok-step.step))
+    = joined row.start (way_on axes k) first _ _ start same in
+    alone (λ z. place_on ((row.start +ℤ way_on axes k) +ℤ z)) row.ways.now c.if-row-ne1.false ∙ ap (λ y. place_on y ∷ []) sum

@@ -1,8 +1,0 @@
-//! Inputs: what a cell may load, by name, and the names that they may have.
-#![tactic(auto)]
-
-mod input;
-mod input_name;
-
-pub use input::{Input, Inputs, are_same_inputs, find_input, has_input, with_input, without_input};
-pub use input_name::is_input_name;

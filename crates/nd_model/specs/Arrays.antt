@@ -1,0 +1,11 @@
+pub mod Element
+pub mod Promotion
+pub mod Tuple
+pub mod View
+pub mod Structure
+pub mod Runs
+pub mod Value
+pub mod Content
+pub mod Strides
+pub mod Broadcast
+pub mod Types

@@ -1,0 +1,12 @@
+pub mod Format
+pub mod Rules
+pub mod RuleReading
+pub mod Judging
+pub mod FormatFault
+pub mod NpyFault
+pub mod FormatGrammar
+pub mod FormatReading
+pub mod NpyHeader
+pub mod NpyReading
+pub mod NpyWriting
+pub mod Files

@@ -1,0 +1,13 @@
+pub mod ShapeFault
+pub mod Index
+pub mod Slicing
+pub mod Selecting
+pub mod Advanced
+pub mod Transposing
+pub mod Reshaping
+pub mod Stretching
+pub mod Recasting
+pub mod ShapeChoices
+pub mod Viewing
+pub mod Selected
+pub mod Shaped

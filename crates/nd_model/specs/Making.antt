@@ -1,0 +1,10 @@
+pub mod ReduceFault
+pub mod Operand
+pub mod Operators
+pub mod Elementwise
+pub mod Reductions
+pub mod Conversion
+pub mod Creation
+pub mod Assigning
+pub mod Writing
+pub mod Augmenting

@@ -1,0 +1,46 @@
+-- Edits and their answers as the definitions have them.
+use Rattle.std.specs.Prelude.{ℕ, List, [], ◌∷◌, Result, Ok, Err}
+use Rattle.nd_model.specs.Book.Book as model
+use Rattle.nd_session.specs.Inputs.Values.{source_of}
+use Rattle.nd_notebook.specs.declared.edit.Edit.{Edit}
+use Rattle.nd_notebook.specs.declared.edit.Edit.TheVariants.{Insert, Change, Move, Remove, SetInput, DropInput}
+use Rattle.nd_notebook.specs.declared.edit.EditFault.{EditFault}
+use Rattle.nd_notebook.specs.declared.edit.EditFault.TheVariants as edits
+
+abbrev pub edit_of : Edit → model.Edit
+edit_of (Insert at source) = model.Insert at source.now
+edit_of (Change at source) = model.Change at source.now
+edit_of (Move from to) = model.Move from to
+edit_of (Remove at) = model.Remove at
+edit_of (SetInput name input) = model.SetInput name.now (source_of input.now)
+edit_of (DropInput name) = model.DropInput name.now
+
+-- the name of the input that an edit is of
+abbrev pub name_in : model.Edit → List ℕ
+name_in (model.Insert at source) = []
+name_in (model.Change at source) = []
+name_in (model.Move from to) = []
+name_in (model.Remove at) = []
+name_in (model.SetInput name input) = name
+name_in (model.DropInput name) = name
+
+-- why an edit of this name is not done
+abbrev pub edit_fault_of : List ℕ → EditFault → model.EditFault
+edit_fault_of name (edits.NoCell at count) = model.EditFault.NoCell at count
+edit_fault_of name edits.TooManyCells = model.TooManyCells
+edit_fault_of name edits.CellTooLong = model.CellTooLong
+edit_fault_of name edits.BadInputName = model.BadInputName
+edit_fault_of name edits.InputTooLarge = model.InputTooLarge
+edit_fault_of name edits.NoInputNamed = model.NoInputNamed name
+edit_fault_of name edits.OutOfMemory = model.EditFault.OutOfMemory
+
+-- the answer to an edit
+abbrev pub outcome_of : model.Edit → Result (Unit {0}) EditFault → Result (Unit {0}) model.EditFault
+outcome_of e (Ok done) = Ok done
+outcome_of e (Err f) = Err (edit_fault_of (name_in e) f)
+
+-- the answers to the first of these edits
+abbrev pub outcomes_of : List model.Edit → List (Result (Unit {0}) EditFault) → List (Result (Unit {0}) model.EditFault)
+outcomes_of [] rs = []
+outcomes_of (e ∷ es) [] = []
+outcomes_of (e ∷ es) (r ∷ rs) = outcome_of e r ∷ outcomes_of es rs

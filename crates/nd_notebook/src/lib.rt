@@ -1,0 +1,18 @@
+//! The notebook under edits: the answers of [`Notebook`] are those of running all its cells in
+//! order from nothing.
+#![tactic(auto)]
+
+mod edit;
+mod kernel;
+mod notebook;
+mod query;
+
+pub use edit::{Edit, EditFault};
+pub use nd_cell::{
+    CellFault, CellResult, FormatFault, IndexFault, Meter, NpyFault, ParseKind, ReduceFault,
+    Refusal, ShapeFault, StmtError, StmtFault, UfuncFault, ViewFault,
+};
+pub use nd_session::session::{Input, OutOfMemory};
+pub use nd_types::{Elem, ElemType, Field, Kind, RecType};
+pub use notebook::Notebook;
+pub use query::{QueryFault, Shown};

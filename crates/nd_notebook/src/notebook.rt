@@ -1,0 +1,331 @@
+//! `Notebook`: cells that are edited, and whose answers are those of a fresh run.
+
+ghost use Rattle.std.specs.Prelude.{◌≡◌, IfOk, OnErr, OnOk, length};
+ghost use Rattle.nd_model.specs.Book.Book as model;
+ghost use Rattle.nd_model.specs.Book.Notebook.{Answers, CountsRuns, no_sheet};
+ghost use Rattle.nd_session.specs.Inputs.Values.{source_of};
+ghost use Rattle.nd_notebook.specs.Edits.{outcome_of};
+
+use crate::edit::{Edit, EditFault};
+use crate::kernel::SessionRunner;
+use crate::query::{QueryFault, Shown, names_of, what_shows};
+use indexmap::IndexMap;
+use nd_cell::{CellResult, Meter};
+use nd_schedule::schedule::Schedule;
+use nd_session::session::{
+    Input, OutOfMemory, Version, has_input, is_input_name, with_input, without_input,
+};
+use std::alloc::Global;
+use std::marker::Model;
+
+/// The most cells of a notebook.
+const MOST_CELLS: usize = 10_000;
+
+/// The most bytes of a cell's text.
+const MOST_SOURCE: usize = 65_536;
+
+/// The most bytes that an input may take.
+const MOST_INPUT: u128 = 67_108_864;
+
+/// A list of cells and inputs under edits, whose answers are those of running all cells in order
+/// from nothing. Positions count from 0.
+///
+/// With the cells `x = np.arange(3)` and `print(x + 1)` the second one gives the text `[1 2 3]`.
+/// After an edit of the first to `x = np.arange(2)` it gives `[1 2]`.
+#[derive(Drop)]
+pub struct Notebook {
+    schedule: Schedule<SessionRunner>,
+    alloc: Global,
+}
+
+impl Model for Notebook {
+    ghost use Rattle.nd_model.specs.Book.Notebook.{Sheet};
+
+    ghost Value = { Sheet };
+
+    ghost view = { λ n. n.schedule };
+}
+
+impl Notebook {
+    /// Returns a notebook without cells and inputs. It takes no memory.
+    pub fn new(alloc: Global) -> Notebook
+        ensures { result ≡ no_sheet }
+    {
+        let schedule = Schedule::new(alloc, IndexMap::new(alloc));
+        Notebook { schedule, alloc }
+    }
+
+    /// Returns the number of cells.
+    pub fn count(&self) -> usize
+        ensures { result ≡ length self.now.cells }
+    {
+        self.schedule.count()
+    }
+}
+
+impl Notebook {
+    /// Inserts a cell at a position, which may be behind the last one.
+    ///
+    /// Refused in this order: no such position (`NoCell`), 10,000 cells already (`TooManyCells`), a
+    /// text of more than 65,536 bytes (`CellTooLong`), want of memory.
+    pub fn insert(&mut self, meter: &mut Meter, at: usize, source: &str) -> Result<(), EditFault>
+        ensures answered { Answers (model.Insert at source.now) self.old
+            (outcome_of (model.Insert at source.now) result) self.new }
+        ensures counts { CountsRuns (model.Insert at source.now) self.old
+            (outcome_of (model.Insert at source.now) result) meter.old meter.new }
+    {
+        let count = self.schedule.count();
+        if count < at {
+            return Err(EditFault::NoCell(at, count));
+        }
+        if MOST_CELLS <= count {
+            return Err(EditFault::TooManyCells);
+        }
+        if source.len() > MOST_SOURCE {
+            return Err(EditFault::CellTooLong);
+        }
+        self.schedule.insert(meter, at, source)?;
+        Ok(())
+    }
+
+    /// Gives the cell at a position another text.
+    ///
+    /// Refused in this order: no such cell (`NoCell`), a text of more than 65,536 bytes
+    /// (`CellTooLong`), want of memory.
+    pub fn edit(&mut self, meter: &mut Meter, at: usize, source: &str) -> Result<(), EditFault>
+        ensures answered { Answers (model.Change at source.now) self.old
+            (outcome_of (model.Change at source.now) result) self.new }
+        ensures counts { CountsRuns (model.Change at source.now) self.old
+            (outcome_of (model.Change at source.now) result) meter.old meter.new }
+    {
+        let count = self.schedule.count();
+        if count <= at {
+            return Err(EditFault::NoCell(at, count));
+        }
+        if source.len() > MOST_SOURCE {
+            return Err(EditFault::CellTooLong);
+        }
+        self.schedule.edit(meter, at, source)?;
+        Ok(())
+    }
+
+    /// Moves the cell at `from`, so that it is at `to` afterwards.
+    ///
+    /// Refused where one of them has no cell, with the first such position (`NoCell`), and for want
+    /// of memory.
+    pub fn move_cell(&mut self, meter: &mut Meter, from: usize, to: usize) -> Result<(), EditFault>
+        ensures answered { Answers (model.Move from to) self.old
+            (outcome_of (model.Move from to) result) self.new }
+        ensures counts { CountsRuns (model.Move from to) self.old
+            (outcome_of (model.Move from to) result) meter.old meter.new }
+    {
+        let count = self.schedule.count();
+        if count <= from {
+            return Err(EditFault::NoCell(from, count));
+        }
+        if count <= to {
+            return Err(EditFault::NoCell(to, count));
+        }
+        self.schedule.move_cell(meter, from, to)?;
+        Ok(())
+    }
+
+    /// Removes the cell at a position. Refused where there is none (`NoCell`), and for want of
+    /// memory.
+    pub fn remove(&mut self, meter: &mut Meter, at: usize) -> Result<(), EditFault>
+        ensures answered { Answers (model.Remove at) self.old
+            (outcome_of (model.Remove at) result) self.new }
+        ensures counts { CountsRuns (model.Remove at) self.old
+            (outcome_of (model.Remove at) result) meter.old meter.new }
+    {
+        let count = self.schedule.count();
+        if count <= at {
+            return Err(EditFault::NoCell(at, count));
+        }
+        self.schedule.remove(meter, at)?;
+        Ok(())
+    }
+
+    /// Sets a copy of the input under a name, in place of one that has it.
+    ///
+    /// Refused in this order: a name that no input may have (`BadInputName`), an input of more than
+    /// 2^26 bytes (`InputTooLarge`), want of memory.
+    pub fn set_input(
+        &mut self,
+        meter: &mut Meter,
+        name: &str,
+        input: &Input,
+    ) -> Result<(), EditFault>
+        ensures answered { Answers (model.SetInput name.now (source_of input.now)) self.old
+            (outcome_of (model.SetInput name.now (source_of input.now)) result) self.new }
+        ensures counts { CountsRuns (model.SetInput name.now (source_of input.now)) self.old
+            (outcome_of (model.SetInput name.now (source_of input.now)) result)
+            meter.old meter.new }
+    {
+        if !is_input_name(name) {
+            return Err(EditFault::BadInputName);
+        }
+        if MOST_INPUT < input.size() {
+            return Err(EditFault::InputTooLarge);
+        }
+        let inputs = with_input(self.alloc, self.schedule.inputs(), name, input)?;
+        self.schedule.set_inputs(meter, inputs)?;
+        Ok(())
+    }
+
+    /// Drops the input of a name.
+    ///
+    /// Refused in this order: a name that no input may have (`BadInputName`), no input of the name
+    /// (`NoInputNamed`), want of memory.
+    pub fn drop_input(&mut self, meter: &mut Meter, name: &str) -> Result<(), EditFault>
+        ensures answered { Answers (model.DropInput name.now) self.old
+            (outcome_of (model.DropInput name.now) result) self.new }
+        ensures counts { CountsRuns (model.DropInput name.now) self.old
+            (outcome_of (model.DropInput name.now) result) meter.old meter.new }
+    {
+        if !is_input_name(name) {
+            return Err(EditFault::BadInputName);
+        }
+        if !has_input(self.schedule.inputs(), name) {
+            return Err(EditFault::NoInputNamed);
+        }
+        let inputs = without_input(self.schedule.inputs(), name)?;
+        self.schedule.set_inputs(meter, inputs)?;
+        Ok(())
+    }
+}
+
+impl Notebook {
+    ghost use Rattle.std.specs.Prelude.{◌+◌, ◌<◌, ◌≤◌, [], map, string_bytes};
+    ghost use Rattle.nd_model.specs.Book.Entries.{session_before};
+    ghost use Rattle.nd_model.specs.Book.Notebook.{book_of, Tells};
+    ghost use Rattle.nd_session.specs.Session.Kept.{version_of};
+    ghost use Rattle.nd_notebook.specs.Queries.{answer_of, result_of, shown_of};
+
+    /// Returns the text of the cell at a position. It takes no memory.
+    pub fn source(&self, at: usize) -> Result<&str, QueryFault>
+        ensures { answer_of [] (λ s. s.now) result ≡ model.source_at (book_of self.now) at }
+    {
+        let count = self.schedule.count();
+        if count <= at {
+            return Err(QueryFault::NoCell(at, count));
+        }
+        Ok(self.schedule.text(at))
+    }
+
+    /// Returns the result of the cell at a position. It takes no memory.
+    pub fn result(&self, at: usize) -> Result<&CellResult, QueryFault>
+        ensures { answer_of [] (λ r. result_of r.now) result
+            ≡ model.result_at (book_of self.now) at }
+    {
+        let count = self.schedule.count();
+        if count <= at {
+            return Err(QueryFault::NoCell(at, count));
+        }
+        Ok(self.schedule.record_at(at).result())
+    }
+
+    /// Returns the file that the cell at a position saved under this name. It takes no memory.
+    pub fn file(&self, at: usize, name: &str) -> Result<&[u8], QueryFault>
+        ensures { answer_of name.now (λ f. f.now) result
+            ≡ model.saved_at (book_of self.now) at name.now }
+    {
+        match self.result(at) {
+            Ok(shown) => shown.file(name).ok_or(QueryFault::NoSave),
+            Err(fault) => Err(fault),
+        }
+    }
+
+    /// The snapshot before the cell at a position, or after the last one.
+    fn version_before(&self, at: usize) -> Result<Version, OutOfMemory>
+        requires { at ≤ length self.now.cells }
+        ensures { IfOk result (λ v. version_of v ≡ session_before (book_of self.now) at) }
+    {
+        let session = self.schedule.session_before(at)?;
+        let version = session.freeze()?;
+        Ok(version)
+    }
+
+    /// Returns the names that are bound after the cell at a position, in order.
+    pub fn names(&self, at: usize) -> Result<Vec<String>, QueryFault>
+        ensures { Tells (answer_of [] (λ v. map string_bytes v.items) result)
+            (model.names_at (book_of self.now) at) }
+    {
+        let count = self.schedule.count();
+        if count <= at {
+            return Err(QueryFault::NoCell(at, count));
+        }
+        let version = self.version_before(at + 1)?;
+        Ok(names_of(self.alloc, &version)?)
+    }
+
+    /// Returns the value of a name after the cell at a position, as it is shown.
+    pub fn value(&self, at: usize, name: &str) -> Result<Shown, QueryFault>
+        ensures { Tells (answer_of name.now shown_of result)
+            (model.value_at (book_of self.now) at name.now) }
+    {
+        let count = self.schedule.count();
+        if count <= at {
+            return Err(QueryFault::NoCell(at, count));
+        }
+        if !self.schedule.is_bound(at + 1, name) {
+            return Err(QueryFault::NoName);
+        }
+        let version = self.version_before(at + 1)?;
+        match version.peek(name) {
+            Some(value) => Ok(what_shows(self.alloc, &version, value)?),
+            None => Err(QueryFault::NoName),
+        }
+    }
+}
+
+impl Notebook {
+    ghost use Rattle.std.specs.Prelude.{map};
+    ghost use Rattle.nd_model.specs.Book.Book.{AnswersUnderAnyLabels};
+    ghost use Rattle.nd_model.specs.Book.Notebook.{book_of, AreAnswered};
+    ghost use Rattle.nd_notebook.specs.Edits.{edit_of, outcomes_of};
+
+    /// Makes an edit, or refuses it.
+    pub fn apply(&mut self, meter: &mut Meter, edit: Edit) -> Result<(), EditFault>
+        ensures answered { Answers (edit_of edit.entry) self.old
+            (outcome_of (edit_of edit.entry) result) self.new }
+        ensures counts { CountsRuns (edit_of edit.entry) self.old
+            (outcome_of (edit_of edit.entry) result) meter.old meter.new }
+    {
+        match edit {
+            Edit::Insert(at, source) => self.insert(meter, at, source),
+            Edit::Change(at, source) => self.edit(meter, at, source),
+            Edit::Move(from, to) => self.move_cell(meter, from, to),
+            Edit::Remove(at) => self.remove(meter, at),
+            Edit::SetInput(name, input) => self.set_input(meter, name, input),
+            Edit::DropInput(name) => self.drop_input(meter, name),
+        }
+    }
+
+    /// Makes these edits one after another, and returns the answer to each; a refused one changes
+    /// nothing. Without memory for the answers, no edit is made.
+    ///
+    /// Afterwards all queries answer what running all present cells in order from nothing over the
+    /// present inputs gives, whatever distinct labels the cells have.
+    pub fn apply_all(
+        &mut self,
+        meter: &mut Meter,
+        edits: &[Edit],
+    ) -> Result<Vec<Result<(), EditFault>>, OutOfMemory>
+        ensures answered { IfOk result (λ answers. AreAnswered
+            (map edit_of edits.now) self.old meter.old
+            (outcomes_of (map edit_of edits.now) answers.items) self.new meter.new) }
+        ensures err { OnErr result (self.new ≡ self.old) }
+        ensures err_counts { OnErr result (meter.new ≡ meter.old) }
+        ensures any_labels { AnswersUnderAnyLabels (book_of self.new) }
+    {
+        self.schedule.distinctness();
+        let mut answers = Vec::with_capacity(self.alloc, edits.len())?;
+        for edit in edits {
+            let answer = self.apply(meter, *edit);
+            answers.push_reserved(answer);
+        }
+        self.schedule.distinctness();
+        Ok(answers)
+    }
+}

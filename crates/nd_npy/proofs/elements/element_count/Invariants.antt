@@ -1,9 +1,0 @@
-use Rattle.std.proofs.Common.{◌≡◌, ◌*◌, ◌<◌, drop}
-use Rattle.nd_model.specs.Tuple.{elements_of}
-use Rattle.nd_npy.proofs.elements.element_count.Given as goal
-
-abbrev pub invariant-loop-length : goal.invariant-loop-length
-invariant-loop-length l = record {
-  product : l.count * elements_of (drop l.length-index l.shape) ≡ elements_of l.shape;
-  some : 0 < elements_of (drop l.length-index l.shape);
-}

@@ -1,9 +1,0 @@
-use Rattle.std.proofs.Common.{◌≡◌, ◌++◌, drop, length}
-use Rattle.nd_model.specs.NpyHeader as header
-use Rattle.nd_npy.proofs.kinds.kinds_of.Given as goal
-
-abbrev pub invariant-loop-at : goal.invariant-loop-at
-invariant-loop-at l = record {
-  all : header.kinds_of l.bytes ≡ l.kinds.items ++ header.kinds_of (drop l.at l.bytes);
-  len : length l.kinds.items ≡ l.at;
-}

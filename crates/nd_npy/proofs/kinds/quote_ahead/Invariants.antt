@@ -1,6 +1,0 @@
-use Rattle.std.proofs.Common.{◌≡◌, drop}
-use Rattle.nd_model.specs.NpyHeader as header
-use Rattle.nd_npy.proofs.kinds.quote_ahead.Given as goal
-
-abbrev pub invariant-loop-byte : goal.invariant-loop-byte
-invariant-loop-byte l = header.quote_ahead l.rest ≡ header.quote_ahead (drop l.byte-index l.rest)

@@ -1,5 +1,0 @@
-use Rattle.nd_npy.proofs.ElementTexts.{no_element}
-use Rattle.nd_npy.proofs.texts.element_in.Goals as goal
-
-pub returns-in-Err : goal.returns-in-Err
-returns-in-Err c = no_element c.args.text.now c.in-Err.ensures.cases.0

@@ -1,8 +1,0 @@
-use Rattle.std.proofs.Common.{◌≡◌, drop}
-use Rattle.std.specs.List.{list_all}
-use Rattle.nd_model.specs.Creation.{fits_int64}
-use Rattle.nd_operation.specs.Listing.{numbers_in}
-use Rattle.nd_operation.proofs.lists.fit_int64.Given as goal
-
-abbrev pub invariant-loop-value : goal.invariant-loop-value
-invariant-loop-value l = list_all fits_int64 (numbers_in l.fn.values) ≡ list_all fits_int64 (numbers_in (drop l.value-index l.values))

@@ -1,8 +1,0 @@
-use Rattle.std.proofs.Common.{map, string_bytes, drop}
-use Rattle.nd_operation.specs.Contents.{operand_of}
-use Rattle.nd_model.specs.Printing.{printed_line}
-use Rattle.nd_operation.proofs.Lines.{GoesOn}
-use Rattle.nd_operation.proofs.printing.print_line.Given as goal
-
-abbrev pub invariant-loop-operand : goal.invariant-loop-operand
-invariant-loop-operand l = GoesOn (printed_line (map operand_of l.operands)) (string_bytes l.line) (map operand_of (drop l.operand-index l.rest))

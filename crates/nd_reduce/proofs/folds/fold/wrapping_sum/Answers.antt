@@ -1,0 +1,6 @@
+use Rattle.std.specs.Int.{w64}
+use Rattle.std.proofs.lemmas.Int.{wrapping_add_is}
+use Rattle.nd_reduce.proofs.folds.fold.wrapping_sum.Goals as goal
+
+pub returns : goal.returns
+returns c = wrapping_add_is w64 c.args.left c.args.right c.ranges.left c.ranges.right

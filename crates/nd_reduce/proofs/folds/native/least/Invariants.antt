@@ -1,0 +1,9 @@
+use Rattle.std.proofs.Common.{◌≡◌}
+use Rattle.std.specs.Prelude.{int_lt}
+use Rattle.nd_model.specs.Making.Reductions.{best}
+use Rattle.nd_types.specs.Kinds.{kind_of}
+use Rattle.nd_reduce.specs.Folds.Lanes.{numbers_in}
+use Rattle.nd_reduce.proofs.folds.native.least.Given as goal
+
+abbrev pub invariant-loop-index : goal.invariant-loop-index
+invariant-loop-index g l = g.N.Native.number l.best ≡ best int_lt (numbers_in (kind_of l.kind) l.bytes l.index)

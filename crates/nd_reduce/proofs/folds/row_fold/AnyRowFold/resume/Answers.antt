@@ -1,0 +1,12 @@
+use Rattle.std.proofs.Common.{rules, not, FitsSigned, ap, ◌∙◌}
+use Rattle.std.specs.Int.{w128}
+use Rattle.std.specs.List.{list_any}
+use mir.Facts.{to_z-of_z}
+use Rattle.nd_model.specs.Making.Operators.{is_zero}
+use Rattle.nd_reduce.proofs.folds.Truths.{truth_again}
+use Rattle.nd_reduce.proofs.folds.row_fold.AnyRowFold.resume.Goals as goal
+
+pub returns : goal.returns
+returns c = λ zs some values is.
+    let ff : FitsSigned w128 c.args.fold = search rules in
+    ap not (c.is_zero.ensures ∙ ap is_zero (to_z-of_z ff ∙ is)) ∙ truth_again (list_any (λ z. not (is_zero z)) zs)

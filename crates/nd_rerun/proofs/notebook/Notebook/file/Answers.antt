@@ -1,8 +1,0 @@
-use Rattle.std.proofs.Common.{◌≡◌, ℕ, List, [], ap, sym, ◌∙◌}
-use Rattle.nd_model.specs.Notebook.{book_of}
-use Rattle.nd_rerun.specs.Queries.{result_of}
-use Rattle.nd_rerun.proofs.Asked.{save_told, save_not_told}
-use Rattle.nd_rerun.proofs.notebook.Notebook.file.Goals as goal
-
-pub returns-in-Err : goal.returns-in-Err
-returns-in-Err c = save_not_told (book_of c.args.self.now) c.args.at c.args.name.now c.in-Err.fault c.in-Err.ensures

@@ -1,9 +1,0 @@
-pub mod Edits
-pub mod Queries
-pub use Rattle.nd_types.specs.Kinds
-pub use Rattle.nd_types.specs.Fields
-pub use Rattle.nd_types.specs.Types
-pub use Rattle.nd_cell.specs.Syntax
-pub use Rattle.nd_cell.specs.Faults
-pub use Rattle.nd_cell.specs.Results
-pub use Rattle.nd_input.specs.Values

@@ -1,9 +1,0 @@
-use Rattle.std.proofs.Common.{◌∙◌, ap}
-use Rattle.nd_model.specs.Cells.{chained}
-use Rattle.nd_syntax.specs.Syntax.{expr_of}
-use Rattle.nd_read.specs.Gives.{operations_of}
-use Rattle.nd_syntax.proofs.Chains.{chain_is}
-use Rattle.nd_rule.proofs.operators.with_operations.Goals as goal
-
-pub returns : goal.returns
-returns c = chain_is c.in_ok-new.field-0 c.args.others ∙ ap (λ e. chained (expr_of e) (operations_of c.args.others)) c.in_ok-new.ensures.ok

@@ -1,7 +1,0 @@
-use Rattle.std.proofs.Common.{ℤ, List, ◌++◌}
-use Rattle.nd_loops.specs.Sides.{numbers_on}
-use Rattle.nd_loops.specs.declared.kernel.Side.TheVariants.{Same}
-use Rattle.nd_runs.proofs.lanes.fold_same.Given as goal
-
-abbrev pub invariant-loop-index : goal.invariant-loop-index
-invariant-loop-index g l = (zs : List ℤ) → g.F.Fold.has_taken l.fn.fold zs → g.F.Fold.has_taken l.all (zs ++ numbers_on (Same l.number) l._index)

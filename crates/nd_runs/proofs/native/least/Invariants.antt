@@ -1,9 +1,0 @@
-use Rattle.std.proofs.Common.{◌≡◌}
-use Rattle.std.specs.Prelude.{int_lt}
-use Rattle.nd_model.specs.Reductions.{best}
-use Rattle.nd_types.specs.Kinds.{kind_of}
-use Rattle.nd_runs.specs.Lanes.{numbers_in}
-use Rattle.nd_runs.proofs.native.least.Given as goal
-
-abbrev pub invariant-loop-index : goal.invariant-loop-index
-invariant-loop-index g l = g.N.Native.number l.best ≡ best int_lt (numbers_in (kind_of l.kind) l.bytes l.index)

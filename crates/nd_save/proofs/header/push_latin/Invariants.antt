@@ -1,7 +1,0 @@
-use Rattle.std.proofs.Common.{◌≡◌, ◌++◌, drop}
-use Rattle.nd_model.specs.NpyWriting as model
-use Rattle.nd_save.proofs.header.push_latin.Given as goal
-
-abbrev pub invariant-loop-byte : goal.invariant-loop-byte
-invariant-loop-byte l =
-    l.out.items ++ model.latin_bytes l.before (drop l.byte-index l.text) ≡ l.initial.out.items ++ model.latin_bytes 0 l.text

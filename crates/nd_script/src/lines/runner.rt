@@ -1,0 +1,70 @@
+//! `run_lines`: reads a script line by line, and writes the answers.
+
+ghost use Rattle.std.specs.Prelude.{◌≡◌, ◌⊎◌, IfErr, OnOk};
+ghost use Rattle.nd_model.specs.Book.Script.{Between};
+ghost use Rattle.nd_script.specs.Lines.Counts.{CountedStop, CountedToEnd};
+ghost use Rattle.nd_script.specs.Lines.Ends.{counted_on};
+ghost use Rattle.nd_model.specs.Book.ScriptRuns.{RanToEnd, StoppedAt};
+ghost use Rattle.nd_script.specs.Lines.Run.{run_fault_of};
+
+use crate::lines::answerer::Answerer;
+use crate::lines::input::CountedRead;
+use crate::lines::output::CountedWrite;
+use crate::lines::run_fault::RunFault;
+use crate::lines::script::Script;
+use std::alloc::Global;
+
+/// Runs a script by at most `turns` reads. Each line's answer is written before the next one is
+/// carried out. At a fault the commands so far stand.
+pub fn run_lines<R: CountedRead, W: CountedWrite, A: Answerer>(
+    alloc: Global,
+    reader: &mut R,
+    writer: &mut W,
+    answerer: &mut A,
+    turns: u64,
+) -> Result<(), RunFault>
+    requires { A.stage answerer.old ≡ Between }
+    ensures to_end { OnOk result (RanToEnd (R.remaining reader.old) (R.remaining reader.new)
+        (A.tally answerer.old).book (W.contents writer.old)
+        (W.contents writer.new) (A.tally answerer.new).book) }
+    ensures stopped { IfErr result (λ f. StoppedAt (run_fault_of f)
+        (R.remaining reader.old) (R.remaining reader.new)
+        (A.tally answerer.old).book (W.contents writer.old)
+        (W.contents writer.new) (A.tally answerer.new).book) }
+
+    // The meter after each command: an edit counts at most its stale cells, a refused edit and a
+    // query none.
+    ensures counted { OnOk result (CountedToEnd
+        (R.remaining reader.old) (R.remaining reader.new)
+        (A.tally answerer.old) (W.contents writer.old)
+        (W.contents writer.new) (A.tally answerer.new)) }
+    ensures counted_stop { IfErr result (λ f. CountedStop (run_fault_of f)
+        (R.remaining reader.old) (R.remaining reader.new)
+        (A.tally answerer.old) (W.contents writer.old)
+        (W.contents writer.new) (A.tally answerer.new)) }
+
+    // A read fault comes only where a read failed or all reads were made, a write fault only where
+    // a write failed.
+    ensures read { IfErr result (λ f. f ≡ RunFault.ReadFault →
+        (R.failures reader.new ≡ counted_on (R.failures reader.old) 1)
+        ⊎ (R.reads reader.new ≡ counted_on (R.reads reader.old) turns)) }
+    ensures written { IfErr result (λ f. f ≡ RunFault.WriteFault →
+        W.failures writer.new ≡ counted_on (W.failures writer.old) 1) }
+    ensures reader_kept { OnOk result (R.failures reader.new ≡ R.failures reader.old) }
+    ensures writer_kept { OnOk result (W.failures writer.new ≡ W.failures writer.old) }
+    ensures same_reference { A.reference answerer.new ≡ A.reference answerer.old }
+    ensures same_meter { A.meter_reference answerer.new ≡ A.meter_reference answerer.old }
+{
+    let mut script = Script::new(alloc);
+    let mut chunk = [0u8; 8192];
+    for _turn in 0..turns {
+        let Ok(n) = reader.read_counted(&mut chunk) else {
+            return Err(RunFault::ReadFault);
+        };
+        if n == 0 {
+            return script.finish(alloc, answerer, writer);
+        }
+        script.take_bytes(alloc, &chunk[..n], answerer, writer)?;
+    }
+    Err(RunFault::ReadFault)
+}

@@ -1,0 +1,161 @@
+//! `Script`: a script under way, of which some bytes have come.
+
+ghost use Rattle.std.specs.Prelude.{◌≡◌, ◌≢◌, ◌==◌, ◌++◌, [], ◌≤◌, length, position, OnOk, OnErr, IfErr, is_ok};
+ghost use Rattle.nd_script.specs.Lines.Ends.{counted_on};
+ghost use Rattle.nd_model.specs.Book.ScriptRuns.{most_line, IsInLine};
+ghost use Rattle.nd_script.specs.Lines.Run.{open_answer, FinishStops, Finishes, FitsLine, IsInAnswer, IsTooLong, LineRuns, LineStops, Runs, Stops, Wrote};
+
+use crate::lines::answerer::Answerer;
+use crate::lines::output::{CountedWrite, write_answer};
+use crate::lines::run_fault::RunFault;
+use std::alloc::Global;
+
+// The most bytes of a line.
+const MOST_LINE: usize = 1 << 28;
+
+/// The state of a script between two of its bytes, apart from what its answerer knows.
+#[derive(Drop)]
+pub struct Script {
+    /// The open line, without a newline.
+    pub line: Vec<u8>,
+}
+
+// The index of the first newline.
+fn newline_in(bytes: &[u8]) -> Option<usize>
+    ensures { result ≡ position (λ c. c == 10) bytes.now }
+{
+    bytes.iter().position(|byte| *byte == b'\n')
+}
+
+// Answers the end of a script.
+fn answer_end<A: Answerer, W: CountedWrite>(
+    alloc: Global,
+    answerer: &A,
+    writer: &mut W,
+) -> Result<(), RunFault>
+    ensures answer { Wrote (W.contents writer.old) (open_answer (A.stage answerer.now))
+        (is_ok result) (W.contents writer.new) }
+    ensures fault { IfErr result IsInAnswer }
+    ensures kept { OnOk result (W.failures writer.new ≡ W.failures writer.old) }
+    ensures failed { IfErr result (λ f. f ≡ RunFault.WriteFault
+        → W.failures writer.new ≡ counted_on (W.failures writer.old) 1) }
+{
+    let mut answer = Vec::new(alloc);
+    answerer.answer_end(&mut answer)?;
+    write_answer(writer, &answer)
+}
+
+impl Script {
+    /// Returns the state before the first byte.
+    pub fn new(alloc: Global) -> Script
+        ensures { result.line.items ≡ [] }
+    {
+        Script {
+            line: Vec::new(alloc),
+        }
+    }
+
+    // Adds bytes to the open line.
+    fn extend_line(&mut self, part: &[u8]) -> Result<(), RunFault>
+        requires { length self.old.line.items ≤ most_line }
+        ensures line { OnOk result (self.new.line.items ≡ self.old.line.items ++ part.now) }
+        ensures fits { OnOk result (length self.new.line.items ≤ most_line) }
+        ensures fault { IfErr result (IsTooLong (self.old.line.items ++ part.now)) }
+    {
+        if part.len() > MOST_LINE - self.line.len() {
+            return Err(RunFault::LineTooLong);
+        }
+        self.line.extend_from_slice(part)?;
+        Ok(())
+    }
+
+    // Ends the open line: it is carried out and answered.
+    fn end_line<A: Answerer, W: CountedWrite>(
+        &mut self,
+        alloc: Global,
+        answerer: &mut A,
+        writer: &mut W,
+    ) -> Result<(), RunFault>
+        requires { IsInLine self.old.line.items }
+        ensures ok { OnOk result (LineRuns (A.stage answerer.old) self.old.line.items
+            (A.stage answerer.new)
+            (A.tally answerer.old) (W.contents writer.old)
+            (W.contents writer.new) (A.tally answerer.new)) }
+        ensures line { OnOk result (self.new.line.items ≡ []) }
+        ensures err { OnErr result (LineStops (A.stage answerer.old) self.old.line.items
+            (A.tally answerer.old) (W.contents writer.old)
+            (W.contents writer.new) (A.tally answerer.new)) }
+        ensures fault { IfErr result IsInAnswer }
+        ensures kept { OnOk result (W.failures writer.new ≡ W.failures writer.old) }
+        ensures failed { IfErr result (λ f. f ≡ RunFault.WriteFault
+            → W.failures writer.new ≡ counted_on (W.failures writer.old) 1) }
+        ensures same_reference { A.reference answerer.new ≡ A.reference answerer.old }
+        ensures same_meter { A.meter_reference answerer.new ≡ A.meter_reference answerer.old }
+    {
+        let mut answer = Vec::new(alloc);
+        answerer.answer_line(&self.line, &mut answer)?;
+        self.line.clear();
+        write_answer(writer, &answer)
+    }
+
+    /// Runs the next bytes of the script.
+    pub fn take_bytes<A: Answerer, W: CountedWrite>(
+        &mut self,
+        alloc: Global,
+        bytes: &[u8],
+        answerer: &mut A,
+        writer: &mut W,
+    ) -> Result<(), RunFault>
+        requires { FitsLine self.old.line.items }
+        ensures ok { OnOk result (Runs (A.stage answerer.old) self.old.line.items bytes.now
+            (A.stage answerer.new) self.new.line.items
+            (A.tally answerer.old) (W.contents writer.old)
+            (W.contents writer.new) (A.tally answerer.new)) }
+        ensures fits { OnOk result (FitsLine self.new.line.items) }
+        ensures err { IfErr result (λ f. Stops f (A.stage answerer.old)
+            self.old.line.items bytes.now
+            (A.tally answerer.old) (W.contents writer.old)
+            (W.contents writer.new) (A.tally answerer.new)) }
+        ensures kept { OnOk result (W.failures writer.new ≡ W.failures writer.old) }
+        ensures unread { IfErr result (λ f. f ≢ RunFault.ReadFault) }
+        ensures failed { IfErr result (λ f. f ≡ RunFault.WriteFault
+            → W.failures writer.new ≡ counted_on (W.failures writer.old) 1) }
+        ensures same_reference { A.reference answerer.new ≡ A.reference answerer.old }
+        ensures same_meter { A.meter_reference answerer.new ≡ A.meter_reference answerer.old }
+    {
+        let mut rest = bytes;
+        while let Some(end) = newline_in(rest) {
+            self.extend_line(&rest[..end])?;
+            self.end_line(alloc, answerer, writer)?;
+            rest = &rest[end + 1..];
+        }
+        self.extend_line(rest)
+    }
+
+    /// Runs what is left at the end of the script.
+    pub fn finish<A: Answerer, W: CountedWrite>(
+        &mut self,
+        alloc: Global,
+        answerer: &mut A,
+        writer: &mut W,
+    ) -> Result<(), RunFault>
+        requires { IsInLine self.old.line.items }
+        ensures ok { OnOk result (Finishes (A.stage answerer.old) self.old.line.items
+            (A.tally answerer.old) (W.contents writer.old)
+            (W.contents writer.new) (A.tally answerer.new)) }
+        ensures err { OnErr result (FinishStops (A.stage answerer.old) self.old.line.items
+            (A.tally answerer.old) (W.contents writer.old)
+            (W.contents writer.new) (A.tally answerer.new)) }
+        ensures fault { IfErr result IsInAnswer }
+        ensures kept { OnOk result (W.failures writer.new ≡ W.failures writer.old) }
+        ensures failed { IfErr result (λ f. f ≡ RunFault.WriteFault
+            → W.failures writer.new ≡ counted_on (W.failures writer.old) 1) }
+        ensures same_reference { A.reference answerer.new ≡ A.reference answerer.old }
+        ensures same_meter { A.meter_reference answerer.new ≡ A.meter_reference answerer.old }
+    {
+        if !self.line.is_empty() {
+            self.end_line(alloc, answerer, writer)?;
+        }
+        answer_end(alloc, answerer, writer)
+    }
+}

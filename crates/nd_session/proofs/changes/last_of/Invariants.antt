@@ -1,7 +1,0 @@
-use Rattle.std.proofs.Common.{map, take}
-use Rattle.nd_trace.specs.Events.{event_of}
-use Rattle.nd_session.proofs.Last.{IsLast}
-use Rattle.nd_session.proofs.changes.last_of.Given as goal
-
-abbrev pub invariant-loop-event : goal.invariant-loop-event
-invariant-loop-event l = IsLast l.name (map event_of (take l.event-index l.events)) l.last

@@ -1,8 +1,0 @@
-use Rattle.nd_model.specs.Running as running
-use Rattle.nd_heap.proofs.Entries.{AllBefore}
-use Rattle.nd_session.proofs.Agreeing.{IsLengthFound}
-use Rattle.nd_session.specs.Live.{live}
-use Rattle.nd_session.proofs.reads.have_same_lengths.Given as goal
-
-abbrev pub invariant-loop-i : goal.invariant-loop-i
-invariant-loop-i l = AllBefore (IsLengthFound (running.session_of (live l.session))) l.reads.entries l.i

@@ -1,7 +1,0 @@
-use Rattle.nd_heap.proofs.Entries.{AllBefore}
-use Rattle.nd_session.proofs.Agreeing.{IsNameFound}
-use Rattle.nd_session.specs.Live.{live}
-use Rattle.nd_session.proofs.reads.have_same_names.Given as goal
-
-abbrev pub invariant-loop-i : goal.invariant-loop-i
-invariant-loop-i l = AllBefore (IsNameFound (live l.session).names) l.reads.entries l.i

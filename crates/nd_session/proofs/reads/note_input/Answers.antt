@@ -1,9 +1,0 @@
-use Rattle.std.proofs.Common.{◌∙◌, ap, cond, bytes_eq, Some}
-use Rattle.nd_model.specs.Session as model
-use Rattle.nd_session.specs.Reading.{by_text, source_at}
-use Rattle.nd_session.proofs.Reading.{text_insert}
-use Rattle.nd_session.proofs.reads.note_input.Goals as goal
-
-pub returns : goal.returns
-returns c = λ n. ap (λ es. model.lookup n (by_text source_at es)) c.in_ok-insert.ensures.entries ∙ text_insert source_at c.in_ok-key.key c.in_ok-input.input c.args.reads.now.entries n
-    ∙ (λ i. cond (bytes_eq n (c.in_ok-key.ensures.ok i)) (Some (c.in_ok-input.ensures i)) (model.lookup n (by_text source_at c.args.reads.now.entries)))

@@ -1,0 +1,121 @@
+-- What was read stands as it was found.
+use Rattle.std.proofs.Common.{◌≡◌, ℕ, true, false, cond, List, length, slice_index, string_bytes, String, Global, Option, Some, None, option_map, Bor, refl, sym, ap, ◌∙◌, inl, inr}
+use Rattle.std.specs.Prelude.{is_some, IsTrue}
+use Rattle.std.specs.declared.rc.Rc.{Rc}
+use Rattle.std.proofs.lemmas.Bool.{cases_Bool}
+use Rattle.nd_marks.specs.Marks.{Places, holds}
+use Rattle.nd_model.specs.Arrays.Value as model
+use Rattle.nd_model.specs.Cells.Session.{Names, Session, lookup, held_bytes}
+use Rattle.nd_model.specs.Cells.Running.{Key, Name, Input, Length, Byte, Inputs, Source}
+use Rattle.nd_model.specs.Cells.Footprint.{Bound, Given, Number, found}
+use Rattle.nd_heap.specs.declared.value.Base.{Base}
+use Rattle.nd_heap.specs.declared.value.Value.{Value}
+use Rattle.nd_session.specs.declared.inputs.input.Input as code
+use Rattle.nd_session.specs.declared.session.reads.BytesRead.{BytesRead}
+use Rattle.std.specs.Option.{option_copied}
+use Rattle.nd_heap.specs.Values.{base_of, value_of}
+use Rattle.nd_session.specs.Inputs.Values.{source_of}
+use Rattle.nd_session.proofs.session.Reading.{some_same}
+use Rattle.nd_session.specs.Session.Reading.{value_at, source_at, bytes_of}
+use Rattle.nd_session.specs.Session.Reads.{ReadsData, lookup_base, byte_at, found_of, keys_of}
+
+-- ---- at an entry
+
+abbrev pub IsNameFound : Names → String Global × Option (Rc Value Global) → Type 0
+IsNameFound names e = value_at e.1 ≡ lookup (string_bytes e.0) names
+
+abbrev pub IsLengthFound : Session → Base × ℕ → Type 0
+IsLengthFound s e = e.1 ≡ length (held_bytes s (base_of e.0))
+
+-- the bytes at the places are those of the base
+abbrev pub AreSameBytes : Session → model.Base → Places × List ℕ → Type 0
+AreSameBytes s b e = (p : ℕ) → holds e.0 p ≡ true → slice_index e.1 p ≡ slice_index (held_bytes s b) p
+
+abbrev pub AreBytesFound : Session → Base × BytesRead → Type 0
+AreBytesFound s e = AreSameBytes s (base_of e.0) (bytes_of e.1)
+
+abbrev pub IsInputFound : Inputs → String Global × Option (Rc code.Input Global) → Type 0
+IsInputFound inputs e = source_at e.1 ≡ inputs (string_bytes e.0)
+
+abbrev pub IsUnchanged : Inputs → Inputs → String Global × Option (Rc code.Input Global) → Type 0
+IsUnchanged old new e = old (string_bytes e.0) ≡ new (string_bytes e.0)
+
+pub lent_value : (r : Option (Bor (Rc Value Global))) → option_map (λ (v : Bor (Rc Value Global)). value_of v.now.value) r ≡ value_at (option_copied r)
+lent_value None = refl
+lent_value (Some v) = refl
+
+pub lent_source : (r : Option (Bor (Rc code.Input Global))) → option_map (λ (x : Bor (Rc code.Input Global)). source_of x.now.value) r ≡ source_at (option_copied r)
+lent_source None = refl
+lent_source (Some x) = refl
+
+pub false_true : {P : Type 0} → false ≡ true → P
+false_true e = cc
+
+-- ---- at a key
+
+is_some_from : {X Y : Type 0} (f : X → Y) (o : Option X) (x : X) → o ≡ Some x → is_some (option_map f o) ≡ true
+is_some_from f o x is = ap (λ o. is_some (option_map f o)) is
+
+bound : (o p : Option model.Value) → Some (Bound o) ≡ Some (Bound p) → o ≡ p
+bound o p h = cc
+
+given : (o p : Option Source) → Some (Given o) ≡ Some (Given p) → o ≡ p
+given o p h = cc
+
+number : (m n : ℕ) → Some (Number m) ≡ Some (Number n) → m ≡ n
+number m n h = cc
+
+-- what is found, where something is
+found_there : {X Y : Type 0} (f : X → Y) (o : Option X) (y : Y) → ((x : X) → o ≡ Some x → f x ≡ y) → is_some (option_map f o) ≡ true → option_map f o ≡ Some y
+found_there f None y h there = false_true there
+found_there f (Some x) y h there = ap Some (h x refl)
+
+none_some : {P : Type 0} (n : ℕ) → None ≡ Some n → P
+none_some n h = cc
+
+byte_there : (o : Option (Places × List ℕ)) (p m : ℕ) → ((e : Places × List ℕ) → o ≡ Some e → holds e.0 p ≡ true → slice_index e.1 p ≡ m) → (n : ℕ) → byte_at o p ≡ Some n → n ≡ m
+byte_there None p m h n at = none_some n at
+byte_there (Some e) p m h n at = elim (cases_Bool (holds e.0 p)) [
+  | inl there ↦ let here : Some (slice_index e.1 p) ≡ Some n = rw there at at in sym (some_same (slice_index e.1 p) n here) ∙ h e refl there
+  | inr apart ↦ let here : None ≡ Some n = rw apart at at in none_some n here
+]
+
+byte_found : (o : Option (Places × List ℕ)) (e : Places × List ℕ) (p : ℕ) → o ≡ Some e → holds e.0 p ≡ true → byte_at o p ≡ Some (slice_index e.1 p)
+byte_found o e p is there = ap (λ o. byte_at o p) is ∙ ap (λ h. cond h (Some (slice_index e.1 p)) None) there
+
+module _ (r : ReadsData) (s : Session) (inputs : Inputs) where
+  abbrev pub SameNames : Type 0
+  SameNames = (n : List ℕ) (v : Option model.Value) → lookup n r.names ≡ Some v → v ≡ lookup n s.names
+
+  abbrev pub SameInputs : Type 0
+  SameInputs = (n : List ℕ) (x : Option Source) → lookup n r.inputs ≡ Some x → x ≡ inputs n
+
+  abbrev pub SameLengths : Type 0
+  SameLengths = (b : model.Base) (n : ℕ) → lookup_base b r.lengths ≡ Some n → n ≡ length (held_bytes s b)
+
+  abbrev pub SameBytes : Type 0
+  SameBytes = (b : model.Base) (e : Places × List ℕ) → lookup_base b r.bytes ≡ Some e → AreSameBytes s b e
+
+  abbrev pub Agreed : Type 0
+  Agreed = (k : Key) → IsTrue (keys_of r k) → found_of r k ≡ Some (found s inputs k)
+
+  pub agreeing : SameNames → SameInputs → SameLengths → SameBytes → Agreed
+  agreeing names given long bytes (Name n) there = found_there Bound (lookup n r.names) _ (λ v is. ap Bound (names n v is)) there
+  agreeing names given long bytes (Input n) there = found_there Given (lookup n r.inputs) _ (λ x is. ap Given (given n x is)) there
+  agreeing names given long bytes (Length b) there = found_there Number (lookup_base b r.lengths) _ (λ n is. ap Number (long b n is)) there
+  agreeing names given long bytes (Byte b p) there = found_there Number (byte_at (lookup_base b r.bytes) p) _
+      (λ n is. ap Number (byte_there (lookup_base b r.bytes) p _ (λ e at h. bytes b e at p h) n is)) there
+
+  pub agree_names : Agreed → SameNames
+  agree_names all n v is = bound _ _ (sym (ap (option_map Bound) is) ∙ all (Name n) (is_some_from Bound (lookup n r.names) v is))
+
+  pub agree_inputs : Agreed → SameInputs
+  agree_inputs all n x is = given _ _ (sym (ap (option_map Given) is) ∙ all (Input n) (is_some_from Given (lookup n r.inputs) x is))
+
+  pub agree_lengths : Agreed → SameLengths
+  agree_lengths all b n is = number _ _ (sym (ap (option_map Number) is) ∙ all (Length b) (is_some_from Number (lookup_base b r.lengths) n is))
+
+  pub agree_bytes : Agreed → SameBytes
+  agree_bytes all b e is p there =
+      let at : byte_at (lookup_base b r.bytes) p ≡ Some (slice_index e.1 p) = byte_found (lookup_base b r.bytes) e p is there in
+      number _ _ (sym (ap (option_map Number) at) ∙ all (Byte b p) (is_some_from Number (byte_at (lookup_base b r.bytes) p) _ at))

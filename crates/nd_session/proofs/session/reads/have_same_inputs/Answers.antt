@@ -1,0 +1,31 @@
+use Rattle.std.proofs.Common.{◌≡◌, ◌∙◌, ap, sym, refl, arith, string_bytes}
+use Rattle.nd_session.specs.Session.Reading.{source_at}
+use Rattle.nd_session.specs.Inputs.Values.{inputs_of}
+use Rattle.nd_session.proofs.session.Agreeing.{IsInputFound, false_true, lent_source}
+use Rattle.nd_heap.proofs.Entries.{all_more, all_of}
+use Rattle.nd_session.proofs.session.Reading.{text_all, text_entry}
+use Rattle.nd_session.proofs.session.reads.have_same_inputs.Goals as goal
+
+pub returns-then-not-are_same_inputs : goal.returns-then-not-are_same_inputs
+returns-then-not-are_same_inputs c =
+    let inputs = inputs_of c.args.inputs.now.entries in (
+      false_true,
+      λ all. sym c.if-not-are_same_inputs.true ∙ c.are_same_inputs.ensures.1 (lent_source c.as_ref.result ∙ ap source_at c.as_ref.ensures.value
+          ∙ all (string_bytes c.in-Some.name.now) (source_at c.in-Some.input.now) (text_entry source_at c.in-Some.name.now c.in-Some.input.now c.args.reads.now.entries c.in-Some.ensures.value)
+          ∙ sym (c.find_input.ensures ∙ ap inputs c.as_str.ensures.value)),
+    )
+
+pub loop-i-preserved : goal.loop-i-preserved
+loop-i-preserved c =
+    let inputs = inputs_of c.args.inputs.now.entries in
+    all_more (IsInputFound inputs) c.args.reads.now.entries c.loop-i.i (c.in-Some.name.now, c.in-Some.input.now) (sym c.in-Some.ensures.entry)
+    (sym (lent_source c.as_ref.result ∙ ap source_at c.as_ref.ensures.value) ∙ c.are_same_inputs.ensures.0 c.if-not-are_same_inputs.false
+    ∙ c.find_input.ensures ∙ ap inputs c.as_str.ensures.value) c.loop-i.invariant
+
+pub returns : goal.returns
+returns c =
+    let inputs = inputs_of c.args.inputs.now.entries in (
+      λ yes. text_all source_at (λ n x. x ≡ inputs n) c.args.reads.now.entries
+          (all_of (IsInputFound inputs) c.args.reads.now.entries c.loop-i.i (omega (arith, c.loop-i-test.false, c.len-i-end.ensures.len)) c.loop-i.invariant),
+      λ all. refl,
+    )

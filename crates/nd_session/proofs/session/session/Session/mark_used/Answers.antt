@@ -1,0 +1,15 @@
+use Rattle.std.proofs.Common.{◌∙◌, ap}
+use Rattle.nd_model.specs.Cells.Running as running
+use Rattle.nd_model.specs.Arrays.View.{byte_places}
+use Rattle.nd_trace.specs.Traced.{trace_of}
+use Rattle.nd_heap.specs.Live.{bytes_at}
+use Rattle.nd_session.specs.Session.Live.{live}
+use Rattle.nd_session.specs.Session.State.{State}
+use Rattle.nd_heap.specs.Values.{base_of, geo_of}
+use Rattle.nd_session.proofs.session.Sessions.{noted_over}
+use Rattle.nd_session.proofs.session.session.Session.mark_used.Goals as goal
+
+pub returns : goal.returns
+unfolding live
+returns c = noted_over (running.is_byte (base_of c.args.array.now.base) (byte_places (geo_of c.args.array.now))) (trace_of c.self.inside.trace) (trace_of c.note_view.new.self) c.self.inside.heap.names (bytes_at c.self.inside.heap.blocks) c.self.inside.next c.in_ok-note_view.ensures.after
+    ∙ ap (λ (s : State). running.after (running.Use (base_of c.args.array.now.base) (byte_places (geo_of c.args.array.now))) (live s)) c.self.view_is

@@ -1,0 +1,10 @@
+pub mod State
+pub mod Live
+pub mod Listed
+pub mod Kept
+pub mod Fields
+pub mod Intact
+pub mod Reads
+pub mod Reading
+pub mod Changes
+pub mod Noted

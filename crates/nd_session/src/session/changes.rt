@@ -1,0 +1,262 @@
+//! `Changes`: what a cell did to its session, kept for its replay.
+
+ghost use Rattle.std.specs.Prelude.{◌≡◌, ◌⊎◌, ℕ, ◌||◌, [], true, false, nat_eq, map, filter, IfOk, OnOk, IsTrue, None, unwrap_or};
+ghost use Rattle.nd_model.specs.Cells.Footprint.{effects_of, replayed};
+ghost use Rattle.nd_model.specs.Cells.Session as model;
+ghost use Rattle.nd_model.specs.Arrays.Value as values;
+ghost use Rattle.nd_session.specs.Session.Changes.{bases_in, ended, events_in, is_bound, writes_in};
+ghost use Rattle.nd_session.specs.Session.Fields.{effects_over};
+ghost use Rattle.nd_heap.specs.Contents.{bases_of, blocks_of};
+ghost use Rattle.nd_trace.specs.Contents.{marks_of};
+ghost use Rattle.nd_trace.specs.Events.{event_of};
+ghost use Rattle.nd_heap.specs.Live.{is_base_among};
+ghost use Rattle.nd_trace.specs.Marked.{is_marked};
+ghost use Rattle.nd_session.specs.Session.Live.{live};
+ghost use Rattle.nd_trace.specs.Patching.{has_marks};
+ghost use Rattle.nd_heap.specs.Values.{base_of};
+
+use crate::session::matching::{are_among, are_same_events, are_written_among};
+use crate::session::redo::replay;
+use crate::session::session::Session;
+use indexmap::IndexMap;
+use nd_heap::{Base, Bases, Blocks, Heap, OutOfMemory};
+use nd_trace::{Event, Footprint, Trace};
+use std::alloc::Global;
+use std::marker::Model;
+
+/// What a cell did to its session: names bound and unbound, blocks that it made and a name still
+/// holds, and bytes written to other blocks.
+///
+/// Names, values and blocks are shared with the session.
+#[derive(Drop)]
+pub struct Changes {
+    pub(crate) label: u64,
+    pub(crate) next: u64,
+    pub(crate) events: Vec<Event>,
+    pub(crate) written: Footprint,
+    pub(crate) blocks: Blocks,
+}
+
+impl Model for Changes {
+    ghost use Rattle.nd_session.specs.Session.Changes.{ChangesData};
+
+    ghost Value = { ChangesData };
+
+    ghost use Rattle.std.specs.Prelude.{map};
+    ghost use Rattle.nd_heap.specs.Contents.{blocks_of};
+    ghost use Rattle.nd_trace.specs.Contents.{marks_of};
+    ghost use Rattle.nd_trace.specs.Events.{event_of};
+
+    ghost view = { λ c. record {
+      label = c.label;
+      next = c.next;
+      events = map event_of c.events.items;
+      written = marks_of c.written.entries;
+      blocks = blocks_of c.blocks.entries;
+    } };
+}
+
+/// Returns equal events, which share names and values.
+fn copy_events(alloc: Global, events: &[Event]) -> Result<Vec<Event>, OutOfMemory>
+    ensures { IfOk result (λ v. map event_of v.items ≡ map event_of events.now) }
+{
+    let mut copy = Vec::new(alloc);
+    for event in events {
+        let same = event.try_clone()?;
+        copy.push(same)?;
+    }
+    Ok(copy)
+}
+
+/// Returns equal marks with memory of their own.
+fn copy_marks(alloc: Global, marked: &Footprint) -> Result<Footprint, OutOfMemory>
+    ensures { IfOk result (λ m. (b : values.Base) (p : ℕ)
+        → is_marked (marks_of m.entries) b p ≡ is_marked (marks_of marked.now.entries) b p) }
+{
+    let mut copy = IndexMap::new(alloc);
+    for i in (0..marked.len()).rev() {
+        let Some((base, marks)) = marked.get_index(i) else {
+            unreachable!();
+        };
+        let same = marks.try_clone(alloc)?;
+        copy.insert(*base, same)?;
+    }
+    Ok(copy)
+}
+
+/// Keeps only the blocks of this label.
+fn retain_own(bases: &mut Bases, label: u64)
+    ensures { bases.new.entries ≡ filter (λ e. nat_eq e.0.label label) bases.old.entries }
+{
+    bases.retain(
+        |base: &Base, _unit: &mut ()| -> bool
+            ensures { (result ≡ nat_eq base.now.label label) × (_unit.new ≡ _unit.old) }
+        { base.label == label },
+    );
+}
+
+/// Adds the blocks that have marks.
+fn note_marked(bases: &mut Bases, marked: &Footprint) -> Result<(), OutOfMemory>
+    ensures { OnOk result ((b : values.Base) → is_base_among (bases_of bases.new.entries) b
+        ≡ (is_base_among (bases_of bases.old.entries) b
+        || has_marks (marks_of marked.now.entries) b)) }
+{
+    for i in 0..marked.len() {
+        let Some((base, _)) = marked.get_index(i) else {
+            unreachable!();
+        };
+        bases.insert(*base, ())?;
+    }
+    Ok(())
+}
+
+/// The blocks of this label that some name holds after the events alone.
+fn own_bases(alloc: Global, label: u64, events: &[Event]) -> Result<Bases, OutOfMemory>
+    ensures { IfOk result (λ own. (b : values.Base) → nat_eq b.label label ≡ true
+        → is_base_among (bases_of own.entries) b
+        ≡ model.is_held b (replayed (map event_of events.now) [])) }
+{
+    let mut heap = Heap::new(alloc)?;
+    replay(&mut heap, events)?;
+    let mut own = heap.held_bases()?;
+    retain_own(&mut own, label);
+    Ok(own)
+}
+
+/// What a trace did over the blocks of a session.
+fn keep(alloc: Global, trace: &Trace, heap: &Heap, next: u64) -> Result<Changes, OutOfMemory>
+    ensures label { IfOk result (λ c. c.label ≡ trace.now.label) }
+    ensures next { IfOk result (λ c. c.next ≡ next) }
+    ensures events { IfOk result (λ c. events_in c ≡ trace.now.events) }
+    ensures bases { IfOk result (λ c. (b : values.Base) → bases_in c b
+        ≡ (effects_over trace.now heap.now.blocks).bases b) }
+    ensures writes { IfOk result (λ c. (b : values.Base) (p : ℕ) → writes_in c b p
+        ≡ (effects_over trace.now heap.now.blocks).writes b p) }
+{
+    let label = trace.label();
+    let done = trace.events();
+    let marked = trace.written_bytes();
+    let mut bases = own_bases(alloc, label, done)?;
+    note_marked(&mut bases, marked)?;
+    let kept = heap.pick_blocks(alloc, &bases)?;
+    let events = copy_events(alloc, done)?;
+    let written = copy_marks(alloc, marked)?;
+    Ok(Changes {
+        label,
+        next,
+        events,
+        written,
+        blocks: kept,
+    })
+}
+
+/// Whether all marked blocks are of this label.
+pub(crate) fn are_own(marked: &Footprint, label: u64) -> bool
+    ensures { IsTrue result → (b : values.Base) → nat_eq b.label label ≡ false
+        → has_marks (marks_of marked.now.entries) b ≡ false }
+{
+    for i in 0..marked.len() {
+        let Some((base, _)) = marked.get_index(i) else {
+            unreachable!();
+        };
+        if base.label != label {
+            return false;
+        }
+    }
+    true
+}
+
+/// What the events last do to a name: true where they bind it, false where they unbind it, `None`
+/// where they do neither.
+fn last_of(events: &[Event], name: &str) -> Option<bool>
+    ensures { (names : model.Names) → is_bound name.now (replayed (map event_of events.now) names)
+        ≡ unwrap_or result (is_bound name.now names) }
+{
+    let mut last = None;
+    for event in events {
+        if name == event.name().as_str() {
+            last = Some(event.binds());
+        }
+    }
+    last
+}
+
+/// Whether each byte that one cell wrote to blocks of other labels was written by the other, too,
+/// with the same value.
+fn wrote_same(one: &Changes, other: &Changes) -> bool
+    requires { one.now.label ≡ other.now.label }
+    ensures { IsTrue result → (b : values.Base) → ((p : ℕ)
+        → writes_in one.now b p ≡ writes_in other.now b p) ⊎ ((p : ℕ)
+        → writes_in one.now b p ≡ None) }
+{
+    are_written_among(
+        &one.written,
+        &one.blocks,
+        &other.written,
+        &other.blocks,
+        one.label,
+    )
+}
+
+impl Changes {
+    /// Returns what the running cell did to a session so far. No byte of a block is copied.
+    pub fn new(alloc: Global, session: &Session) -> Result<Changes, OutOfMemory>
+        ensures label { IfOk result (λ c. c.label ≡ (live session.now).label) }
+        ensures next { IfOk result (λ c. c.next ≡ (live session.now).next) }
+        ensures events { IfOk result (λ c. events_in c ≡ (live session.now).events) }
+        ensures bases { IfOk result (λ c. (b : values.Base)
+            → bases_in c b ≡ (effects_of (ended (live session.now))).bases b) }
+        ensures writes { IfOk result (λ c. (b : values.Base) (p : ℕ)
+            → writes_in c b p ≡ (effects_of (ended (live session.now))).writes b p) }
+    {
+        let changes = keep(alloc, session.seen(), &session.heap, session.next)?;
+        Ok(changes)
+    }
+
+    /// Returns the label of the cell.
+    pub fn label(&self) -> u64
+        ensures { result ≡ self.now.label }
+    {
+        self.label
+    }
+
+    /// Returns what the cell last did to a name: true where it bound it, false where it unbound it,
+    /// `None` where it did neither.
+    pub fn last_of(&self, name: &str) -> Option<bool>
+        ensures { (names : model.Names) → is_bound name.now (replayed (events_in self.now) names)
+            ≡ unwrap_or result (is_bound name.now names) }
+    {
+        last_of(&self.events, name)
+    }
+
+    /// Returns true only where the cell bound and unbound no name and wrote to no block of another
+    /// cell.
+    pub fn is_quiet(&self) -> bool
+        ensures events { IsTrue result → events_in self.now ≡ [] }
+        ensures writes { IsTrue result → (b : values.Base) (p : ℕ)
+            → writes_in self.now b p ≡ None }
+    {
+        self.events.is_empty() && are_own(&self.written, self.label)
+    }
+    /// Returns true only where two cells of one label had the same effects on their sessions,
+    /// whatever they read and printed.
+    pub fn is_same(&self, other: &Changes) -> bool
+        requires { self.now.label ≡ other.now.label }
+        ensures events { IsTrue result → events_in self.now ≡ events_in other.now }
+        ensures bases { IsTrue result → (b : values.Base)
+            → bases_in self.now b ≡ bases_in other.now b }
+        ensures writes { IsTrue result → (b : values.Base) (p : ℕ)
+            → writes_in self.now b p ≡ writes_in other.now b p }
+    {
+        if !are_same_events(&self.events, &other.events) {
+            return false;
+        }
+        if !are_among(&self.blocks, &other.blocks, self.label) {
+            return false;
+        }
+        if !are_among(&other.blocks, &self.blocks, self.label) {
+            return false;
+        }
+        wrote_same(self, other) && wrote_same(other, self)
+    }
+}

@@ -1,0 +1,452 @@
+//! `Reads`: what a cell read, with what it found there.
+
+ghost use Rattle.std.specs.Prelude.{◌≡◌, ◌↔◌, ℕ, Contains, IfOk, IsFalse, IsTrue, List, None, OnOk, false, is_some};
+ghost use Rattle.std.specs.Prelude.{Option, Some, true, bytes_eq, if◌then◌else◌, length, map, slice_index, string_bytes};
+ghost use Rattle.std.specs.List.{All};
+ghost use Rattle.nd_marks.specs.Marks.{Places, holds};
+ghost use Rattle.nd_model.specs.Cells.Footprint.{found};
+ghost use Rattle.nd_model.specs.Cells.Running as running;
+ghost use Rattle.nd_model.specs.Cells.Session as model;
+ghost use Rattle.nd_model.specs.Arrays.Value as values;
+ghost use Rattle.nd_session.specs.Session.Changes.{events_in};
+ghost use Rattle.nd_trace.specs.Contents.{marks_of};
+ghost use Rattle.nd_trace.specs.Events.{event_of};
+ghost use Rattle.nd_session.specs.Session.Kept.{version_of};
+ghost use Rattle.nd_heap.specs.Live.{is_base_among};
+ghost use Rattle.nd_trace.specs.Marked.{is_among, is_marked};
+ghost use Rattle.nd_session.specs.Session.Live.{live};
+ghost use Rattle.nd_session.specs.Session.Noted.{StaysNoted};
+ghost use Rattle.nd_session.specs.Session.Reading.{by_text, by_base, value_at, source_at, length_at, bytes_of};
+ghost use Rattle.nd_session.specs.Session.Reads.{byte_at, found_in, found_of, keys_of, lookup_base};
+ghost use Rattle.nd_trace.specs.Seen.{is_read_in};
+ghost use Rattle.nd_heap.specs.Values.{base_of};
+ghost use Rattle.nd_session.specs.Inputs.Values.{inputs_of};
+
+use crate::inputs::{Input, Inputs, are_same_inputs, find_input};
+use crate::session::changes::Changes;
+use crate::session::overlay::{has_label, touches};
+use crate::session::readings::Readings;
+use crate::session::session::Session;
+use crate::session::version::Version;
+use indexmap::IndexMap;
+use nd_block::RawBlock;
+use nd_heap::{Base, OutOfMemory, Value, are_same_values};
+use nd_marks::Marks;
+use nd_trace::{Event, Footprint, Trace};
+use std::alloc::Global;
+use std::marker::Model;
+use std::rc::Rc;
+
+/// The values of names, `None` where a name was not bound.
+type NamesRead = IndexMap<String, Option<Rc<Value>>>;
+
+/// Inputs by name, `None` where there was no such input.
+type InputsRead = IndexMap<String, Option<Rc<Input>>>;
+
+/// The lengths of blocks.
+type LengthsRead = IndexMap<Base, usize>;
+
+/// The bytes that were read of blocks.
+type AllBytesRead = IndexMap<Base, BytesRead>;
+
+/// The byte offsets that were read of a block, and the block as it was.
+#[derive(Drop)]
+struct BytesRead {
+    marks: Marks,
+    block: Option<Rc<RawBlock>>,
+}
+
+impl BytesRead {
+    /// Returns all bytes of the block.
+    fn bytes(&self) -> &[u8]
+        ensures { result.now ≡ (bytes_of self.now).1 }
+    {
+        match &self.block {
+            Some(block) => block.as_ref().as_slice(),
+            None => &[],
+        }
+    }
+}
+
+/// What a cell read, with what it found there. Values, inputs and blocks are shared: no byte of a
+/// block is copied.
+#[derive(Drop)]
+pub struct Reads {
+    names: NamesRead,
+    inputs: InputsRead,
+    lengths: LengthsRead,
+    bytes: AllBytesRead,
+}
+
+impl Model for Reads {
+    ghost use Rattle.nd_session.specs.Session.Reads.{ReadsData};
+
+    ghost Value = { ReadsData };
+
+    ghost use Rattle.nd_session.specs.Session.Reading.{reads_of};
+
+    ghost view = { reads_of };
+}
+
+/// Notes a name with the value that it had.
+fn note_name(
+    alloc: Global,
+    reads: &mut NamesRead,
+    name: &str,
+    before: &Version,
+) -> Result<(), OutOfMemory>
+    ensures { OnOk result ((n : List ℕ) → model.lookup n (by_text value_at reads.new.entries)
+        ≡ (if bytes_eq n name.now then Some (model.lookup name.now (version_of before.now).names)
+        else model.lookup n (by_text value_at reads.old.entries))) }
+{
+    let value = before.share_value(name)?;
+    let key = String::from_str(alloc, name)?;
+    reads.insert(key, value)?;
+    Ok(())
+}
+
+/// The names with the values that they had.
+fn find_names(alloc: Global, names: &[String], before: &Version) -> Result<NamesRead, OutOfMemory>
+    ensures { IfOk result (λ r. (n : List ℕ) → model.lookup n (by_text value_at r.entries)
+        ≡ (if is_among (map string_bytes names.now) n
+        then Some (model.lookup n (version_of before.now).names) else None)) }
+{
+    let mut reads = IndexMap::new(alloc);
+    for name in names {
+        note_name(alloc, &mut reads, name.as_str(), before)?;
+    }
+    Ok(reads)
+}
+
+/// An input, shared.
+fn share_input(inputs: &Inputs, name: &str) -> Result<Option<Rc<Input>>, OutOfMemory>
+    ensures { IfOk result (λ o. source_at o ≡ inputs_of inputs.now.entries name.now) }
+{
+    match find_input(inputs, name) {
+        Some(input) => Ok(Some(input.clone()?)),
+        None => Ok(None),
+    }
+}
+
+/// Notes an input with its name.
+fn note_input(
+    alloc: Global,
+    reads: &mut InputsRead,
+    name: &str,
+    inputs: &Inputs,
+) -> Result<(), OutOfMemory>
+    ensures { OnOk result ((n : List ℕ) → model.lookup n (by_text source_at reads.new.entries)
+        ≡ (if bytes_eq n name.now then Some (inputs_of inputs.now.entries name.now)
+        else model.lookup n (by_text source_at reads.old.entries))) }
+{
+    let input = share_input(inputs, name)?;
+    let key = String::from_str(alloc, name)?;
+    reads.insert(key, input)?;
+    Ok(())
+}
+
+/// The inputs of these names.
+fn find_inputs(alloc: Global, names: &[String], inputs: &Inputs) -> Result<InputsRead, OutOfMemory>
+    ensures { IfOk result (λ r. (n : List ℕ) → model.lookup n (by_text source_at r.entries)
+        ≡ (if is_among (map string_bytes names.now) n
+        then Some (inputs_of inputs.now.entries n) else None)) }
+{
+    let mut reads = IndexMap::new(alloc);
+    for name in names {
+        note_input(alloc, &mut reads, name.as_str(), inputs)?;
+    }
+    Ok(reads)
+}
+
+/// Notes a block with the length that it had.
+fn note_length(reads: &mut LengthsRead, base: Base, before: &Version) -> Result<(), OutOfMemory>
+    ensures { OnOk result ((b : values.Base)
+        → lookup_base b (by_base length_at reads.new.entries)
+        ≡ (if values.same_base b (base_of base)
+        then Some (length ((version_of before.now).bytes (base_of base)))
+        else lookup_base b (by_base length_at reads.old.entries))) }
+{
+    reads.insert(base, before.bytes(base).len())?;
+    Ok(())
+}
+
+/// The blocks with the lengths that they had.
+fn find_lengths(alloc: Global, bases: &[Base], before: &Version) -> Result<LengthsRead, OutOfMemory>
+    ensures { IfOk result (λ r. (b : values.Base) → lookup_base b (by_base length_at r.entries)
+        ≡ (if is_base_among (map base_of bases.now) b
+        then Some (length ((version_of before.now).bytes b)) else None)) }
+{
+    let mut reads = IndexMap::new(alloc);
+    for base in bases {
+        note_length(&mut reads, *base, before)?;
+    }
+    Ok(reads)
+}
+
+/// Notes the byte offsets that were read of a block.
+fn note_bytes(
+    alloc: Global,
+    reads: &mut AllBytesRead,
+    base: Base,
+    marks: &Marks,
+    before: &Version,
+) -> Result<(), OutOfMemory>
+    ensures { OnOk result ((b : values.Base) → lookup_base b (by_base bytes_of reads.new.entries)
+        ≡ (if values.same_base b (base_of base)
+        then Some (marks.now, (version_of before.now).bytes (base_of base))
+        else lookup_base b (by_base bytes_of reads.old.entries))) }
+{
+    let block = before.share_block(base)?;
+    let marks = marks.try_clone(alloc)?;
+    reads.insert(base, BytesRead { marks, block })?;
+    Ok(())
+}
+
+/// The byte offsets that were read, with their blocks.
+fn find_bytes(
+    alloc: Global,
+    used: &Footprint,
+    before: &Version,
+) -> Result<AllBytesRead, OutOfMemory>
+    ensures { IfOk result (λ r. (b : values.Base) (p : ℕ)
+        → byte_at (lookup_base b (by_base bytes_of r.entries)) p
+        ≡ (if is_marked (marks_of used.now.entries) b p
+        then Some (slice_index ((version_of before.now).bytes b) p) else None)) }
+{
+    let mut reads = IndexMap::new(alloc);
+    for i in 0..used.len() {
+        let Some((base, marks)) = used.get_index(i) else {
+            unreachable!();
+        };
+        note_bytes(alloc, &mut reads, *base, marks, before)?;
+    }
+    Ok(reads)
+}
+
+/// Whether each name has the value that was found.
+fn have_same_names(reads: &NamesRead, session: &Session) -> bool
+    ensures { IsTrue result ↔ ((n : List ℕ) (v : Option values.Value)
+        → model.lookup n (by_text value_at reads.now.entries) ≡ Some v
+        → v ≡ model.lookup n (live session.now).names) }
+{
+    for i in 0..reads.len() {
+        let Some((name, value)) = reads.get_index(i) else {
+            unreachable!();
+        };
+        if !are_same_values(value.as_ref(), session.peek(name.as_str())) {
+            return false;
+        }
+    }
+    true
+}
+
+/// Whether each input equals the one that was found.
+fn have_same_inputs(reads: &InputsRead, inputs: &Inputs) -> bool
+    ensures { IsTrue result ↔ ((n : List ℕ) (x : Option running.Source)
+        → model.lookup n (by_text source_at reads.now.entries) ≡ Some x
+        → x ≡ inputs_of inputs.now.entries n) }
+{
+    for i in 0..reads.len() {
+        let Some((name, input)) = reads.get_index(i) else {
+            unreachable!();
+        };
+        if !are_same_inputs(input.as_ref(), find_input(inputs, name.as_str())) {
+            return false;
+        }
+    }
+    true
+}
+
+/// Whether each block is as long as it was found.
+fn have_same_lengths(reads: &LengthsRead, session: &Session) -> bool
+    ensures { IsTrue result ↔ ((b : values.Base) (n : ℕ)
+        → lookup_base b (by_base length_at reads.now.entries) ≡ Some n
+        → n ≡ length (model.held_bytes (running.session_of (live session.now)) b)) }
+{
+    for i in 0..reads.len() {
+        let Some((base, count)) = reads.get_index(i) else {
+            unreachable!();
+        };
+        if *count != session.held_bytes(*base).len() {
+            return false;
+        }
+    }
+    true
+}
+
+/// Whether each byte that was read has the value that was found.
+fn have_same_bytes(reads: &AllBytesRead, session: &Session) -> bool
+    ensures { IsTrue result ↔ ((b : values.Base) (e : Places × List ℕ)
+        → lookup_base b (by_base bytes_of reads.now.entries) ≡ Some e
+        → (p : ℕ) → holds e.0 p ≡ true → slice_index e.1 p
+        ≡ slice_index (model.held_bytes (running.session_of (live session.now)) b) p) }
+{
+    for i in 0..reads.len() {
+        let Some((base, read)) = reads.get_index(i) else {
+            unreachable!();
+        };
+        if !read.marks.are_same(read.bytes(), session.held_bytes(*base)) {
+            return false;
+        }
+    }
+    true
+}
+
+/// Whether the inputs that were read are equal in both.
+fn are_unchanged(reads: &InputsRead, old: &Inputs, new: &Inputs) -> bool
+    ensures { IsTrue result ↔ ((n : List ℕ) (x : Option running.Source)
+        → model.lookup n (by_text source_at reads.now.entries) ≡ Some x
+        → inputs_of old.now.entries n ≡ inputs_of new.now.entries n) }
+{
+    for i in 0..reads.len() {
+        let Some((name, _)) = reads.get_index(i) else {
+            unreachable!();
+        };
+        if !are_same_inputs(
+            find_input(old, name.as_str()),
+            find_input(new, name.as_str()),
+        ) {
+            return false;
+        }
+    }
+    true
+}
+
+/// True only where no name that was read is one of the events'.
+fn names_miss(reads: &NamesRead, events: &[Event]) -> bool
+    ensures { IsTrue result → (n : List ℕ)
+        → IsTrue (is_some (model.lookup n (by_text value_at reads.now.entries)))
+        → running.is_touched n (map event_of events.now) ≡ false }
+{
+    for i in 0..reads.len() {
+        let Some((name, _)) = reads.get_index(i) else {
+            unreachable!();
+        };
+        if touches(events, name.as_str()) {
+            return false;
+        }
+    }
+    true
+}
+
+/// Notes the names.
+fn note_names(names: &NamesRead, readings: &mut Readings) -> Result<(), OutOfMemory>
+    ensures noted { OnOk result ((n : List ℕ)
+        → IsTrue (is_some (model.lookup n (by_text value_at names.now.entries)))
+        → Contains readings.new.names n) }
+    ensures stays { StaysNoted readings.old readings.new }
+{
+    for i in 0..names.len() {
+        let Some((name, _)) = names.get_index(i) else {
+            unreachable!();
+        };
+        readings.note_name(name.as_str())?;
+    }
+    Ok(())
+}
+
+/// Notes the labels of the blocks.
+fn note_labels<V>(bases: &IndexMap<Base, V>, readings: &mut Readings) -> Result<(), OutOfMemory>
+    ensures noted { OnOk result
+        (All (λ e. Contains readings.new.labels e.0.label) bases.now.entries) }
+    ensures stays { StaysNoted readings.old readings.new }
+{
+    for i in 0..bases.len() {
+        let Some((base, _)) = bases.get_index(i) else {
+            unreachable!();
+        };
+        readings.note_label(base.label)?;
+    }
+    Ok(())
+}
+
+impl Reads {
+    /// Returns what a cell read that began with a snapshot and these inputs.
+    pub fn new(
+        alloc: Global,
+        trace: &Trace,
+        before: &Version,
+        inputs: &Inputs,
+    ) -> Result<Reads, OutOfMemory>
+        ensures keys { IfOk result (λ r. (k : running.Key)
+            → keys_of r k ≡ is_read_in trace.now k) }
+        ensures found { IfOk result (λ r. (k : running.Key) → IsTrue (keys_of r k)
+            → found_of r k
+            ≡ Some (found_in (version_of before.now) (inputs_of inputs.now.entries) k)) }
+    {
+        let names = find_names(alloc, trace.names(), before)?;
+        let inputs = find_inputs(alloc, trace.inputs(), inputs)?;
+        let lengths = find_lengths(alloc, trace.bases(), before)?;
+        let bytes = find_bytes(alloc, trace.used_bytes(), before)?;
+        Ok(Reads {
+            names,
+            inputs,
+            lengths,
+            bytes,
+        })
+    }
+
+    /// Returns whether a session and inputs still have what was read. It takes no memory.
+    pub fn agree(&self, session: &Session, inputs: &Inputs) -> bool
+        ensures { IsTrue result ↔ ((k : running.Key) → IsTrue (keys_of self.now k)
+            → found_of self.now k ≡ Some (found (running.session_of (live session.now))
+            (inputs_of inputs.now.entries) k)) }
+    {
+        if !have_same_names(&self.names, session) {
+            return false;
+        }
+        if !have_same_inputs(&self.inputs, inputs) {
+            return false;
+        }
+        if !have_same_lengths(&self.lengths, session) {
+            return false;
+        }
+        have_same_bytes(&self.bytes, session)
+    }
+
+    /// Returns whether an input that was read differs in the new inputs.
+    pub fn have_inputs_changed(&self, old: &Inputs, new: &Inputs) -> bool
+        ensures { IsFalse result ↔ ((n : List ℕ) → IsTrue (keys_of self.now (running.Input n))
+            → inputs_of old.now.entries n ≡ inputs_of new.now.entries n) }
+    {
+        !are_unchanged(&self.inputs, old, new)
+    }
+
+    /// Notes the names that were read, and the labels of the blocks of which a length or a byte was
+    /// read. Earlier notes stay, also for want of memory.
+    pub fn note(&self, readings: &mut Readings) -> Result<(), OutOfMemory>
+        ensures names { OnOk result ((n : List ℕ) → IsTrue (keys_of self.now (running.Name n))
+            → Contains readings.new.names n) }
+        ensures lengths { OnOk result ((b : values.Base)
+            → IsTrue (keys_of self.now (running.Length b))
+            → Contains readings.new.labels b.label) }
+        ensures bytes { OnOk result ((b : values.Base) (p : ℕ)
+            → IsTrue (keys_of self.now (running.Byte b p))
+            → Contains readings.new.labels b.label) }
+        ensures stays { StaysNoted readings.old readings.new }
+    {
+        note_names(&self.names, readings)?;
+        note_labels(&self.lengths, readings)?;
+        note_labels(&self.bytes, readings)?;
+        Ok(())
+    }
+
+    /// Returns true only where nothing was read of the names that another cell bound and of the
+    /// blocks that it made. It takes no memory.
+    pub fn miss(&self, over: &Changes) -> bool
+        ensures names { IsTrue result → (n : List ℕ) → IsTrue (keys_of self.now (running.Name n))
+            → running.is_touched n (events_in over.now) ≡ false }
+        ensures lengths { IsTrue result → (b : values.Base)
+            → IsTrue (keys_of self.now (running.Length b)) → ¬ (b.label ≡ over.now.label) }
+        ensures bytes { IsTrue result → (b : values.Base) (p : ℕ)
+            → IsTrue (keys_of self.now (running.Byte b p)) → ¬ (b.label ≡ over.now.label) }
+    {
+        if has_label(&self.lengths, over.label) {
+            return false;
+        }
+        if has_label(&self.bytes, over.label) {
+            return false;
+        }
+        names_miss(&self.names, &over.events)
+    }
+}

@@ -1,0 +1,425 @@
+//! `Session`: the names and blocks between two cells, with a trace of the running one.
+
+ghost use Rattle.std.specs.Prelude.{◌≡◌, ◌+◌, ◌<◌, ◌≤◌, ◌^◌, [], IfOk, IsFalse, IsTrue, OnOk, ◌↔◌, option_map, string_bytes};
+ghost use Rattle.std.specs.List.{All, flat_map};
+ghost use Rattle.nd_model.specs.Cells.Session as model;
+ghost use Rattle.nd_model.specs.Cells.Running as running;
+ghost use Rattle.nd_model.specs.Cells.Footprint.{HasNone, replayed};
+ghost use Rattle.nd_model.specs.Book.Overlay.{blanks};
+ghost use Rattle.nd_session.specs.Session.Changes.{changed, going_on};
+ghost use Rattle.nd_model.specs.Cells.Sound.{IsHeldView, IsSound, IsViewOf};
+ghost use Rattle.nd_model.specs.Arrays.View.{item_size, byte_places, element_places};
+ghost use Rattle.nd_types.specs.Types.{type_of};
+ghost use Rattle.nd_heap.specs.Contents.{bytes_in};
+ghost use Rattle.nd_heap.specs.Values.{base_of, geo_of, value_of};
+ghost use Rattle.nd_session.specs.Session.Live.{live};
+ghost use Rattle.nd_session.specs.Session.Kept.{thawed, version_of};
+ghost use Rattle.nd_session.specs.Session.Listed.{seen_of};
+ghost use Rattle.nd_model.specs.Cells.Storing.{having_written, having_block};
+
+use crate::session::changes::Changes;
+use crate::session::overlay::blank;
+use crate::session::redo::redo;
+use crate::session::version::Version;
+use nd_block::RawBlock;
+use nd_heap::{Array, Base, BlockWriter, Heap, OutOfMemory, Value};
+use nd_places::PlaceList;
+use nd_trace::{Event, Trace};
+use nd_types::ElemType;
+use std::alloc::Global;
+use std::marker::Model;
+use std::mem::replace;
+use std::rc::{Rc, RcStr};
+
+/// Names and blocks while a cell runs, with what the cell has read and done.
+///
+/// They are shared with snapshots: the first write after one copies what it changes. After an
+/// error, which is want of memory, the session may only be dropped.
+#[derive(Drop)]
+pub struct Session {
+    pub(crate) heap: Heap,
+    trace: Trace,
+    pub(crate) next: u64,
+    alloc: Global,
+}
+
+impl Model for Session {
+    ghost use Rattle.nd_session.specs.Session.State.{State};
+
+    ghost Value = { State };
+
+    ghost use Rattle.nd_session.specs.Session.Fields.{state_of};
+
+    ghost view = { state_of };
+
+    ghost use Rattle.nd_session.specs.Session.Intact.{IsIntact};
+
+    ghost invariant = { IsIntact };
+}
+
+impl Session {
+    /// Returns a session without names, as a cell of label 0 begins.
+    pub fn new(alloc: Global) -> Result<Session, OutOfMemory>
+        ensures { IfOk result (λ s. live s ≡ running.start 0 model.no_session) }
+    {
+        let heap = Heap::new(alloc)?;
+        Ok(Session {
+            heap,
+            trace: Trace::new(alloc, 0),
+            next: 0,
+            alloc,
+        })
+    }
+
+    /// Returns the allocator of the session. To a clause all values of `Global` are one.
+    pub fn allocator(&self) -> Global {
+        self.alloc
+    }
+
+    /// Begins a cell of this label: nothing is read or done. Blocks that no bound value lies in are
+    /// freed. No name and no byte is copied.
+    pub fn start(&mut self, label: u64) -> Result<(), OutOfMemory>
+        requires { HasNone label (running.session_of (live self.old)) }
+        ensures { OnOk result (live self.new
+            ≡ running.start label (running.session_of (live self.old))) }
+    {
+        self.heap.collect()?;
+        self.trace = Trace::new(self.alloc, label);
+        self.next = 0;
+        Ok(())
+    }
+
+    /// proof: each array that a name is bound to lies in its block.
+    #[tactic(auto, unfolding(crate::specs::Session::Live::live))]
+    pub fn soundness(&self)
+        ensures { IsSound (live self.now) }
+    {
+        let _ = &self.next;
+    }
+
+    /// Returns the bytes of a block, none where there is no such block. It notes nothing:
+    /// `mark_used`, `mark_element` and `mark_used_elements` do.
+    #[tactic(auto, unfolding(crate::specs::Session::Live::live))]
+    pub fn bytes(&self, base: Base) -> &[u8]
+        ensures { result.now ≡ (live self.now).bytes (base_of base) }
+    {
+        self.heap.bytes(base)
+    }
+
+    /// Returns a block, shared, so that it may be read while another is written. It notes nothing.
+    /// While it is shared, a write to it copies it first.
+    #[tactic(auto, unfolding(crate::specs::Session::Live::live))]
+    pub fn share(&self, base: Base) -> Result<Option<Rc<RawBlock>>, OutOfMemory>
+        ensures { IfOk result (λ o. bytes_in o ≡ (live self.now).bytes (base_of base)) }
+    {
+        self.heap.share_block(base)
+    }
+
+    /// Returns the bytes of a block that some bound value lies in, none where there is no such
+    /// block. It notes nothing.
+    #[tactic(auto, unfolding(crate::specs::Session::Live::live))]
+    pub fn held_bytes(&self, base: Base) -> &[u8]
+        ensures { result.now
+            ≡ model.held_bytes (running.session_of (live self.now)) (base_of base) }
+    {
+        self.heap.held_bytes(base)
+    }
+
+    /// Returns whether some bound value lies in a block that a cell of this label made.
+    #[tactic(auto, unfolding(crate::specs::Session::Live::live))]
+    pub fn has_label(&self, label: u64) -> bool
+        ensures { IsFalse result ↔ HasNone label (running.session_of (live self.now)) }
+    {
+        self.heap.is_label_held(label)
+    }
+
+    /// Returns the value of a name, and notes that it was looked up.
+    pub fn lookup(&mut self, name: &str) -> Result<Option<Value>, OutOfMemory>
+        ensures value { IfOk result (λ o. option_map value_of o
+            ≡ model.lookup name.now (live self.old).names) }
+        ensures after { OnOk result (live self.new
+            ≡ running.after (running.Lookup name.now) (live self.old)) }
+    {
+        self.trace.note_name(self.alloc, name)?;
+        let Some(found) = self.heap.find(name) else {
+            return Ok(None);
+        };
+        let value = found.try_clone()?;
+        self.trace.note_length_of(&value)?;
+        Ok(Some(value))
+    }
+
+    /// Notes that an input is asked for.
+    pub fn ask(&mut self, name: &str) -> Result<(), OutOfMemory>
+        ensures { OnOk result (live self.new
+            ≡ running.after (running.Ask name.now) (live self.old)) }
+    {
+        self.trace.note_input(self.alloc, name)?;
+        Ok(())
+    }
+
+    /// Notes that all elements of an array are read, whose bytes `bytes` then gives.
+    pub fn mark_used(&mut self, array: &Array) -> Result<(), OutOfMemory>
+        ensures { OnOk result (live self.new
+            ≡ running.after (running.Use (base_of array.now.base) (byte_places (geo_of array.now)))
+            (live self.old)) }
+    {
+        self.trace.note_view(self.alloc, array)?;
+        Ok(())
+    }
+
+    /// Notes that the element at byte offset `place` is read.
+    pub fn mark_element(
+        &mut self,
+        base: Base,
+        place: u64,
+        elem: &ElemType,
+    ) -> Result<(), OutOfMemory>
+        requires { place + item_size (type_of elem.now) ≤ 2 ^ 64 }
+        ensures { OnOk result (live self.new
+            ≡ running.after (running.Use (base_of base) (element_places (type_of elem.now) place))
+            (live self.old)) }
+    {
+        self.trace.note_element(self.alloc, base, place, elem)?;
+        Ok(())
+    }
+
+    /// Notes that the elements at these byte offsets are read.
+    pub fn mark_used_elements(
+        &mut self,
+        base: Base,
+        elem: &ElemType,
+        places: &PlaceList,
+    ) -> Result<(), OutOfMemory>
+        requires ends { All (λ p. p + item_size (type_of elem.now) ≤ 2 ^ 64) places.now }
+        ensures { OnOk result (live self.new ≡ running.after (running.Use (base_of base)
+            (flat_map (element_places (type_of elem.now)) places.now)) (live self.old)) }
+    {
+        self.trace.note_elements(self.alloc, base, elem, places)?;
+        Ok(())
+    }
+
+    /// Notes that all elements of an array are written.
+    pub fn mark_written(&mut self, array: &Array) -> Result<(), OutOfMemory>
+        ensures { OnOk result (live self.new
+            ≡ having_written (base_of array.now.base) (byte_places (geo_of array.now))
+            (live self.old)) }
+    {
+        self.trace.write_view(self.alloc, array)?;
+        Ok(())
+    }
+
+    /// Notes that the element at byte offset `place` is written.
+    pub fn mark_written_element(
+        &mut self,
+        base: Base,
+        place: u64,
+        elem: &ElemType,
+    ) -> Result<(), OutOfMemory>
+        requires { place + item_size (type_of elem.now) ≤ 2 ^ 64 }
+        ensures { OnOk result (live self.new
+            ≡ having_written (base_of base) (element_places (type_of elem.now) place)
+            (live self.old)) }
+    {
+        self.trace.write_element(self.alloc, base, place, elem)?;
+        Ok(())
+    }
+
+    /// Notes that the elements at these byte offsets are written.
+    pub fn mark_written_elements(
+        &mut self,
+        base: Base,
+        elem: &ElemType,
+        places: &PlaceList,
+    ) -> Result<(), OutOfMemory>
+        requires ends { All (λ p. p + item_size (type_of elem.now) ≤ 2 ^ 64) places.now }
+        ensures { OnOk result (live self.new ≡ having_written (base_of base)
+            (flat_map (element_places (type_of elem.now)) places.now) (live self.old)) }
+    {
+        self.trace.write_elements(self.alloc, base, elem, places)?;
+        Ok(())
+    }
+
+    /// Writes to a block, which is copied first where a snapshot shares it. It notes nothing:
+    /// `mark_written`, `mark_written_element` and `mark_written_elements` do.
+    ///
+    /// By the law `stores_by_parts` the two calls are one store, where the bytes written are those
+    /// noted.
+    #[tactic(auto, unfolding(crate::specs::Session::Live::live))]
+    pub fn write<W: BlockWriter + Drop>(&mut self, base: Base, writer: W) -> Result<(), OutOfMemory>
+        ensures { OnOk result (live self.new ≡ having_block (base_of base)
+            (W.written writer ((live self.old).bytes (base_of base))) (live self.old)) }
+    {
+        self.heap.write(base, writer)?;
+        Ok(())
+    }
+
+    /// Adds a block, whose base is the running cell's label and the next number.
+    #[tactic(auto, unfolding(crate::specs::Session::Live::live))]
+    pub fn new_block(&mut self, block: RawBlock) -> Result<Base, OutOfMemory>
+        requires { (live self.old).next + 1 < 2 ^ 64 }
+        ensures base { IfOk result (λ b. base_of b
+            ≡ record { label = (live self.old).label; number = (live self.old).next }) }
+        ensures after { OnOk result (live self.new
+            ≡ running.after (running.Make block) (live self.old)) }
+    {
+        let base = self.next_base();
+        let shared = Rc::new(self.alloc, block)?;
+        self.heap.put_block(base, shared)?;
+        self.next += 1;
+        Ok(base)
+    }
+
+    /// Binds a name: a bound one keeps its position, a new one goes last.
+    #[tactic(auto, unfolding(crate::specs::Session::Live::live))]
+    pub fn bind(&mut self, name: String, value: Value) -> Result<(), OutOfMemory>
+        requires { IsViewOf (IsHeldView (live self.old)) (value_of value) }
+        ensures { OnOk result (live self.new
+            ≡ running.done (running.Binding (string_bytes name) (value_of value)) (live self.old)) }
+    {
+        let bound = RcStr::from_string(name)?;
+        let kept = Rc::new(self.alloc, value)?;
+        self.heap.bind(bound.clone()?, kept.clone()?)?;
+        self.trace.note_event(Event::Binds(bound, kept))?;
+        Ok(())
+    }
+
+    /// Unbinds a name.
+    #[tactic(auto, unfolding(crate::specs::Session::Live::live))]
+    pub fn unbind(&mut self, name: &str) -> Result<(), OutOfMemory>
+        ensures { OnOk result (live self.new
+            ≡ running.done (running.Unbinding name.now) (live self.old)) }
+    {
+        let unbound = RcStr::from_str(self.alloc, name)?;
+        self.heap.unbind(name)?;
+        self.trace.note_event(Event::Unbinds(unbound))?;
+        Ok(())
+    }
+
+    /// Returns the value of a name. It notes nothing.
+    #[tactic(auto, unfolding(crate::specs::Session::Live::live))]
+    pub fn peek(&self, name: &str) -> Option<&Value>
+        ensures { option_map (λ v. value_of v.now) result
+            ≡ model.lookup name.now (live self.now).names }
+    {
+        self.heap.find(name)
+    }
+
+    /// Returns the number that the next new block gets.
+    #[tactic(auto, unfolding(crate::specs::Session::Live::live))]
+    pub fn next_number(&self) -> u64
+        ensures { result ≡ (live self.now).next }
+    {
+        self.next_base().number
+    }
+
+    /// Sets the number that the next new block gets.
+    #[tactic(auto, unfolding(crate::specs::Session::Live::live))]
+    pub fn skip_to(&mut self, number: u64)
+        requires { (live self.old).next ≤ number }
+        ensures { live self.new ≡ record (live self.old) { next = number } }
+    {
+        self.next = number;
+    }
+
+    /// Returns what the running cell has read and done.
+    pub fn seen(&self) -> &Trace
+        ensures { result.now ≡ seen_of self.now }
+    {
+        &self.trace
+    }
+
+    /// The base of the next new block.
+    #[tactic(auto, unfolding(crate::specs::Session::Live::live))]
+    fn next_base(&self) -> Base
+        ensures { base_of result
+            ≡ record { label = (live self.now).label; number = (live self.now).next } }
+    {
+        Base {
+            label: self.trace.label(),
+            number: self.next,
+        }
+    }
+
+    /// Returns a session at a snapshot: the cell of its label goes on from its next number, and has
+    /// read and done nothing since. No name and no byte is copied.
+    pub fn thaw(alloc: Global, version: &Version) -> Result<Session, OutOfMemory>
+        ensures { IfOk result (λ s. live s ≡ thawed version.now) }
+    {
+        let heap = version.heap.try_clone()?;
+        Ok(Session {
+            heap,
+            trace: Trace::new(alloc, version.label),
+            next: version.next,
+            alloc,
+        })
+    }
+
+    /// Returns a snapshot of names and blocks, without blocks that no bound value lies in. No name
+    /// and no byte is copied.
+    pub fn freeze(&self) -> Result<Version, OutOfMemory>
+        ensures session { IfOk result (λ v. version_of v
+            ≡ model.collected (running.session_of (live self.now))) }
+        ensures label { IfOk result (λ v. v.label ≡ (live self.now).label) }
+        ensures next { IfOk result (λ v. v.next ≡ (live self.now).next) }
+    {
+        let Base { label, number } = self.next_base();
+        let mut heap = self.heap.try_clone()?;
+        heap.collect()?;
+        Ok(Version {
+            heap,
+            label,
+            next: number,
+        })
+    }
+
+    /// Returns true only where session and snapshot are equal up to unreachable blocks. It takes no
+    /// memory.
+    ///
+    /// `first` is the position of the name at which they last differed: it is compared first, and
+    /// set anew, so that asking again is fast.
+    #[tactic(auto, unfolding(crate::specs::Session::Live::live))]
+    pub fn is_at(&self, version: &Version, first: &mut usize) -> bool
+        ensures { IsTrue result → model.collected (running.session_of (live self.now))
+            ≡ model.collected (version_of version.now) }
+    {
+        self.heap.is_same(&version.heap, first)
+    }
+
+    /// Binds each name that a cell bound to a value without a block, so that nothing the cell made
+    /// is left. Then `redo` may take another run of it. It notes nothing.
+    #[tactic(auto, unfolding(crate::specs::Session::Live::live))]
+    pub fn blank(&mut self, changes: &Changes) -> Result<(), OutOfMemory>
+        ensures { OnOk result (live self.new ≡ record (live self.old) {
+          names = replayed (blanks changes.now.events) (live self.old).names;
+        }) }
+    {
+        let nothing = Heap::new(self.alloc)?;
+        let mut heap = replace(&mut self.heap, nothing);
+        blank(self.alloc, &mut heap, &changes.events)?;
+        self.heap = heap;
+        Ok(())
+    }
+
+    /// Makes the changes of a cell: its names, its blocks, which are shared, and the bytes that it
+    /// wrote. The session then is that of the cell, which has read nothing.
+    #[tactic(auto, unfolding(crate::specs::Session::Live::live))]
+    pub fn redo(&mut self, changes: &Changes) -> Result<(), OutOfMemory>
+        requires none { HasNone changes.now.label (running.session_of (live self.old)) }
+        requires sound { IsSound (going_on changes.now (running.session_of (live self.old))) }
+        ensures names { OnOk result ((live self.new).names
+            ≡ replayed changes.now.events (live self.old).names) }
+        ensures session { OnOk result (model.collected (running.session_of (live self.new))
+            ≡ changed changes.now (running.session_of (live self.old))) }
+        ensures cell { OnOk result (record (live self.new) { names = []; bytes = λ b. [] }
+            ≡ record (running.start changes.now.label model.no_session) { next = changes.now.next }) }
+    {
+        let nothing = Heap::new(self.alloc)?;
+        let mut heap = replace(&mut self.heap, nothing);
+        redo(&mut heap, changes)?;
+        self.trace = Trace::new(self.alloc, changes.label);
+        self.next = changes.next;
+        self.heap = heap;
+        Ok(())
+    }
+}

@@ -1,0 +1,60 @@
+use Rattle.std.proofs.Common.{◌≡◌, ℕ, ℤ, ◌+◌, ◌*◌, ◌<◌, ◌≤◌, List, length, get_or, sym, ap, ◌∙◌, subst, arith}
+use Rattle.std.specs.List.{All}
+use Rattle.nd_model.specs.Arrays.Element.{Element, IsValue, Kind, size_of, with_bytes}
+use Rattle.nd_model.specs.Making.Operand.{Operand}
+use Rattle.nd_model.specs.Making.Operators.{Operator, exact}
+use Rattle.nd_model.specs.Cells.Sound.{LiesIn}
+use Rattle.nd_model.specs.Grammar.Syntax.{BinaryOp}
+use Rattle.nd_model.specs.Arrays.View.{ElementType, Geo, item_size}
+use Rattle.nd_model.proofs.Values.{wrap_in_range}
+use Rattle.nd_syntax.specs.Trees.Syntax.{binary_op}
+use Rattle.nd_types.specs.Kinds.{kind_of}
+use Rattle.nd_assign.specs.SideBySide.{side_by_side}
+use Rattle.nd_assign.proofs.Bytewise.{end_held}
+use Rattle.nd_element.specs.Elements.{numbers_at}
+use Rattle.nd_ufunc.specs.Elementwise.Arguments.{numbers_beside}
+use Rattle.nd_ufunc.specs.Elementwise.Beside.{beside_numbers, left_beside}
+use Rattle.nd_ufunc.specs.Elementwise.Prepared.{DirectInPlace, right_operand, with_results}
+use Rattle.nd_ufunc.specs.Elementwise.Replaced.{replaced}
+use Rattle.nd_ufunc.specs.Loops.Results.{binary_result}
+use Rattle.nd_ufunc.proofs.elementwise.Mapped.{length-beside}
+use Rattle.nd_ufunc.proofs.elementwise.Overwritten.{written_over}
+use Rattle.nd_ufunc.proofs.elementwise.direct.Direct.replace.Goals as goal
+
+pub replace_numbers-requires-clause-beside : goal.replace_numbers-requires-clause-beside
+replace_numbers-requires-clause-beside g c =
+    let d = c.self.inside in let is = c.self.invariant in let bytes : List ℕ = c.args.bytes.now in let y : Operand = right_operand d.right bytes in
+    let len : length bytes ≡ d.len = c.requires.len ∙ sym (ap (λ (r : DirectInPlace). r.len) c.self.view_is) in
+    let numbers : left_beside c.begin-beside.result bytes ≡ numbers_beside y d.target.now.shape
+    = c.begin-beside.ensures.numbers bytes ∙ ap (λ n. beside_numbers d.beside n bytes) c.count-count.ensures.value ∙ is.beside bytes len in
+    ap length numbers ∙ length-beside y d.target.now.shape ∙ sym is.lies.count ∙ ap length (sym is.run)
+
+pub replace_numbers-requires-clause-wraps : goal.replace_numbers-requires-clause-wraps
+replace_numbers-requires-clause-wraps g c = λ x y.
+    let d = c.self.inside in let k : Kind = kind_of d.kind in let op : BinaryOp = binary_op d.op in
+    let gives : g.O.Operation.gives k ≡ binary_result (Operator op) k
+    = subst (λ (r : DirectInPlace). g.O.Operation.gives r.kind ≡ binary_result (Operator r.op) r.kind) (sym c.self.view_is) c.requires.gives in
+    subst (λ (h : ℤ → ℤ → ℤ). IsValue k (h x y)) (sym gives) (wrap_in_range k (exact k (Operator op) x y))
+
+pub returns : goal.returns
+returns g c =
+    let d = c.self.inside in let is = c.self.invariant in let k : Kind = kind_of d.kind in let op : BinaryOp = binary_op d.op in let e : Element = d.elem in
+    let bytes : List ℕ = c.args.bytes.now in let target : Geo = d.target.now in let y : Operand = right_operand d.right bytes in
+    let run : List ℕ = d.run in let first = get_or run 0 0 in
+    let len : length bytes ≡ d.len = c.requires.len ∙ sym (ap (λ (r : DirectInPlace). r.len) c.self.view_is) in
+    let gives : g.O.Operation.gives k ≡ binary_result (Operator op) k
+    = subst (λ (r : DirectInPlace). g.O.Operation.gives r.kind ≡ binary_result (Operator r.op) r.kind) (sym c.self.view_is) c.requires.gives in
+    let numbers : left_beside c.begin-beside.result bytes ≡ numbers_beside y target.shape
+    = c.begin-beside.ensures.numbers bytes ∙ ap (λ n. beside_numbers d.beside n bytes) c.count-count.ensures.value ∙ is.beside bytes len in
+    let lies : LiesIn (length bytes) target = subst (λ n. LiesIn n target) (sym len) is.lies in
+    let inside : All (λ p. p + size_of e.kind ≤ length bytes) target.places = subst (λ (t : ElementType). All (λ p. p + item_size t ≤ length bytes) target.places) is.element lies.inside in
+    let held : All (λ p. p + size_of e.kind ≤ length bytes) run = subst (All (λ p. p + size_of e.kind ≤ length bytes)) (sym is.run) inside in
+    let some : 0 < length run = omega (arith, c.count-count.ensures.value, c.count-count.ensures.some) in
+    let end = end_held run (size_of e.kind) first (length bytes) some is.gapless held in
+    let many : length run ≡ length target.places = ap length is.run in
+    let room : first + length target.places * size_of e.kind ≤ length bytes = subst (λ n. first + n * size_of e.kind ≤ length bytes) many end in
+    let gapless : target.places ≡ side_by_side (size_of e.kind) first (length target.places) = sym is.run ∙ is.gapless ∙ ap (side_by_side (size_of e.kind) first) many in
+    c.replace_numbers.ensures
+    ∙ (λ i. with_bytes bytes first (replaced e (gives i) (numbers_at e bytes (is.run i)) (numbers i)))
+    ∙ written_over k op target e y bytes first is.element lies gapless room
+    ∙ ap (λ (r : DirectInPlace). with_results r.kind r.op r.target r.right bytes) c.self.view_is

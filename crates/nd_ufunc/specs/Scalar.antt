@@ -1,0 +1,4 @@
+pub mod Faults
+pub mod Numbers
+pub mod Ufuncs
+pub mod Division

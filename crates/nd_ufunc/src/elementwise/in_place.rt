@@ -1,0 +1,215 @@
+//! `prepare_in_place`: augmented assignments such as `x += y`, prepared so that the write cannot
+//! fail.
+ghost use Rattle.std.specs.Prelude.{◌≡◌, Ok, false, length, IfOk};
+ghost use Rattle.nd_model.specs.Making.Augmenting as augmenting;
+ghost use Rattle.nd_model.specs.Cells.Sound.{LiesIn};
+ghost use Rattle.nd_assign.specs.Prepared.{written_by};
+ghost use Rattle.nd_syntax.specs.Trees.Syntax.{binary_op};
+ghost use Rattle.nd_types.specs.Kinds.{kind_of};
+ghost use Rattle.nd_types.specs.Types.{type_of};
+ghost use Rattle.nd_ufunc.specs.Elementwise.Arguments.{LiesInBlock, argument_of, contents_over};
+ghost use Rattle.nd_ufunc.specs.Elementwise.Faults.{Makes};
+ghost use Rattle.nd_ufunc.specs.Elementwise.Prepared.{IsRightSide, right_operand, with_results};
+ghost use Rattle.nd_ufunc.specs.Elementwise.Prepared.{written_in_place};
+ghost use Rattle.nd_ufunc.specs.Elementwise.InPlaceResults.{AreResults};
+
+use crate::elementwise::argument::{Argument, argument_sort, binary_kind, element_sort, shape_of};
+use crate::elementwise::direct::{Direct, prepare_directly};
+use crate::elementwise::fault::MapFault;
+use crate::elementwise::powers::has_power_below;
+use crate::elementwise::results::binary_results;
+use crate::elementwise::stretched::stretch;
+use crate::scalar::{BinaryUfunc, UfuncFault};
+use nd_assign::Assignment;
+use nd_block::RawBlock;
+use nd_shape::broadcasts_to;
+use nd_syntax::trees::BinaryOp;
+use nd_types::{Elem, ElemType, Kind, Num, same_kind};
+use nd_view::View;
+use std::alloc::{AllocError, Global};
+use std::marker::Model;
+
+/// The right operand of an operator in place.
+#[derive(Clone, Copy)]
+pub enum RightSide<'v> {
+    /// A number, which is broadcast to the target's shape.
+    Number(Num),
+    /// A view of the target's own block, which may overlap the target.
+    Own(&'v View),
+    /// A view of another block, which has these bytes.
+    Other(&'v View, &'v [u8]),
+}
+
+// How results get to the target.
+#[derive(Drop)]
+enum Way<'v> {
+    // They are all worked out before any is written.
+    Found(Assignment<'v>),
+    // They are worked out as they are written.
+    Directly(Direct<'v>),
+}
+
+/// Prepared results of an operator in place: writing them takes no memory.
+#[derive(Drop)]
+pub struct InPlace<'v> {
+    way: Way<'v>,
+}
+
+impl<'v> Model for InPlace<'v> {
+    ghost use Rattle.nd_ufunc.specs.Elementwise.Prepared.{PreparedInPlace};
+
+    ghost Value = { PreparedInPlace };
+
+    ghost use Rattle.nd_ufunc.specs.Elementwise.WaysInPlace.{prepared_in_place};
+
+    ghost view = { prepared_in_place };
+}
+
+impl<'v> InPlace<'v> {
+    /// Writes the results to a block of the length that they were prepared for; any other block
+    /// stays as it is.
+    pub fn write(&self, block: &mut RawBlock)
+        ensures { block.new ≡ written_in_place self.now block.old }
+    {
+        match &self.way {
+            Way::Found(assignment) => assignment.write(block),
+            Way::Directly(direct) => direct.write(block),
+        }
+    }
+}
+
+// Whether results of a kind may be written to elements of a dtype (NumPy's casting rule
+// `same_kind`).
+fn casts_in_place(kind: Kind, elem: &ElemType) -> bool
+    ensures { result ≡ augmenting.casts_in_place (kind_of kind) (type_of elem.now) }
+{
+    match elem {
+        ElemType::One(elem) => same_kind(kind, elem.kind()),
+        ElemType::Rec(_) => false,
+    }
+}
+
+/// Returns the right operand as an argument, where the target's block has these bytes.
+pub fn argument_beside<'b>(right: RightSide<'b>, block: &'b [u8]) -> Argument<'b>
+    requires { IsRightSide (length block.now) right }
+    ensures operand { argument_of result ≡ right_operand right.entry block.now }
+    ensures lies { LiesInBlock result }
+{
+    match right {
+        RightSide::Number(number) => Argument::Number(number),
+        RightSide::Own(view) => Argument::Elements(view, block),
+        RightSide::Other(view, bytes) => Argument::Elements(view, bytes),
+    }
+}
+
+/// Returns the kind of the operation `target op= right`.
+///
+/// Refused in this order: operands that the operator does not take; results that `same_kind`
+/// casting forbids (`KindCast`); a read-only target (`ReadOnly`); a right operand that does not
+/// broadcast to the target's shape (`ShapeMismatch`); a negative exponent (`NegativePower`).
+pub fn in_place_kind(
+    alloc: Global,
+    op: BinaryOp,
+    target: &View,
+    right: Argument<'_>,
+) -> Result<Kind, MapFault>
+    requires { LiesInBlock right }
+    ensures { Makes kind_of result
+        (augmenting.in_place_kind (binary_op op) target.now (argument_of right.entry)) }
+{
+    let ufunc = BinaryUfunc::Operator(op);
+    let kind = binary_kind(ufunc, element_sort(target.elem()), argument_sort(right))?;
+    if !casts_in_place(kind, target.elem()) {
+        return Err(MapFault::Ufunc(UfuncFault::KindCast));
+    }
+    if !target.writable() {
+        return Err(MapFault::Ufunc(UfuncFault::ReadOnly));
+    }
+    if !broadcasts_to(shape_of(right), target.shape()) {
+        return Err(MapFault::Ufunc(UfuncFault::ShapeMismatch));
+    }
+    let exponents = stretch(alloc, right, target.shape())?;
+    if has_power_below(ufunc, &exponents, target.count()) {
+        return Err(MapFault::Ufunc(UfuncFault::NegativePower));
+    }
+    Ok(kind)
+}
+
+/// Returns the results of `target op= right` as a new array in the kind of the operation, and its
+/// block. `block` is the target's. Converted to the target's dtype, they are what the operator
+/// writes.
+pub fn results_in_place(
+    alloc: Global,
+    op: BinaryOp,
+    kind: Kind,
+    target: &View,
+    block: &[u8],
+    right: RightSide<'_>,
+) -> Result<(View, RawBlock), AllocError>
+    requires target { LiesIn (length block.now) target.now }
+    requires right { IsRightSide (length block.now) right }
+    requires kind { augmenting.in_place_kind (binary_op op) target.now
+        (right_operand right block.now) ≡ Ok (kind_of kind) }
+    ensures { IfOk result (λ r. AreResults (kind_of kind) (binary_op op) target.now
+        (contents_over target.now block.now) (right_operand right.entry block.now) r.0 r.1) }
+{
+    let (shape, count) = (target.shape(), target.count());
+    let left = stretch(alloc, Argument::Elements(target, block), shape)?;
+    let right = stretch(alloc, argument_beside(right, block), shape)?;
+    let ufunc = BinaryUfunc::Operator(op);
+    let results = binary_results(alloc, ufunc, kind, &left, &right, count)?;
+    let view = View::contiguous(alloc, ElemType::One(Elem::little(kind)), shape)?;
+    Ok((view, results))
+}
+
+// Works out all results before any is written.
+fn find_all<'v>(
+    alloc: Global,
+    op: BinaryOp,
+    kind: Kind,
+    target: &'v View,
+    block: &[u8],
+    right: RightSide<'v>,
+) -> Result<Assignment<'v>, AllocError>
+    requires target { LiesIn (length block.now) target.now }
+    requires right { IsRightSide (length block.now) right }
+    requires kind { augmenting.in_place_kind (binary_op op) target.now
+        (right_operand right block.now) ≡ Ok (kind_of kind) }
+    ensures { IfOk result (λ a. written_by a block.now
+        ≡ with_results (kind_of kind) (binary_op op) target.now right.entry block.now) }
+{
+    // proof: the number of elements is bounded, by the clause of count().
+    let _count = target.count();
+    let found = results_in_place(alloc, op, kind, target, block, right)?;
+    Ok(Assignment::of_block(target, found.0, found.1, block.len()))
+}
+
+/// Prepares the results of `target op= right` for blocks as long as `block`, which is the target's.
+///
+/// The results are those of reading both operands before any write, also where they overlap:
+/// `x[1:] += x[:-1]` makes `[1 3 5]` of `[1 2 3]`. An error means want of memory.
+pub fn prepare_in_place<'v>(
+    alloc: Global,
+    op: BinaryOp,
+    kind: Kind,
+    target: &'v View,
+    block: &[u8],
+    right: RightSide<'v>,
+) -> Result<InPlace<'v>, AllocError>
+    requires target { LiesIn (length block.now) target.now }
+    requires right { IsRightSide (length block.now) right }
+    requires kind { augmenting.in_place_kind (binary_op op) target.now
+        (right_operand right block.now) ≡ Ok (kind_of kind) }
+    ensures { IfOk result (λ p. written_in_place p block.now
+        ≡ with_results (kind_of kind) (binary_op op) target.now right.entry block.now) }
+{
+    if let Some(direct) = prepare_directly(alloc, op, kind, target, block, right)? {
+        return Ok(InPlace {
+            way: Way::Directly(direct),
+        });
+    }
+    let assignment = find_all(alloc, op, kind, target, block, right)?;
+    Ok(InPlace {
+        way: Way::Found(assignment),
+    })
+}

@@ -1,0 +1,155 @@
+//! `replace_numbers`: the loop that writes results over the left operand, a chunk at a time.
+ghost use Rattle.std.specs.Prelude.{◌≡◌, ℕ, ℤ, List, ◌+◌, ◌*◌, ◌≤◌, ◌<◌, length, take, drop, slice_index};
+ghost use Rattle.std.specs.List.{flat_map};
+ghost use Rattle.nd_model.specs.Arrays.Element.{bytes_of, size_of, with_bytes};
+ghost use Rattle.nd_model.specs.Making.Elementwise.{little};
+ghost use Rattle.nd_types.specs.Kinds.{kind_of};
+ghost use Rattle.nd_assign.specs.SideBySide.{side_by_side};
+ghost use Rattle.nd_element.specs.Elements.{AreHeld, numbers_at};
+ghost use Rattle.nd_ufunc.specs.Elementwise.Beside.{HeldBeside, StaysBeside, left_beside, size_beside};
+ghost use Rattle.nd_ufunc.specs.Elementwise.Replaced.{AreValues, Wraps, replaced, written_numbers};
+ghost use Rattle.nd_ufunc.specs.Loops.Results.{result_bytes};
+ghost use Rattle.nd_ufunc.specs.Loops.Sides.{Keeps};
+
+use crate::elementwise::beside::LeftBeside;
+use crate::elementwise::stretched::side_kind;
+use crate::loops::operation::Operation;
+use crate::loops::{CHUNK, apply_sides, chunk_of, side_of};
+use nd_convert::conversion::convert;
+use nd_element::is_elem;
+use nd_types::{Elem, Kind};
+use nd_view::Run;
+
+// The target's dtype, and the kinds in which its numbers are read, the function is applied and
+// results are worked out.
+#[derive(Clone, Copy)]
+struct Kinds {
+    elem: Elem,
+    own: Kind,
+    operands: Kind,
+    results: Kind,
+}
+
+// Writes contiguous results of a kind as elements of a dtype.
+fn write_numbers(out: &mut [u8], elem: Elem, to: Kind, results: &[u8], places: &Run)
+    requires out { length out.old ≡ length places.now * size_of elem.kind }
+    requires results { length results.now ≡ length places.now * size_of (kind_of to) }
+    requires places { places.now
+        ≡ side_by_side (size_of (kind_of to)) 0 (length places.now) }
+    ensures { (zs : List ℤ) → AreValues (kind_of to) zs → length zs ≡ length places.now
+        → results.now ≡ flat_map (bytes_of (little (kind_of to))) zs
+        → out.new ≡ written_numbers elem zs }
+{
+    let own = Elem::little(to);
+    if is_elem(elem, own) {
+        out.copy_from_slice(results);
+    } else {
+        convert(out, elem, results, own, places);
+    }
+}
+
+// Works out the results for a run of the target and the next numbers of the right operand.
+// Converted numbers lie in the buffers.
+fn find_results<'v, 'b, O: Operation>(
+    out: &mut [u8],
+    kinds: &Kinds,
+    block: &'b [u8],
+    part: &Run,
+    beside: &mut LeftBeside<'v>,
+    left_buffer: &'b mut [u8],
+    right_buffer: &'b mut [u8; CHUNK],
+)
+where
+    'v: 'b,
+    requires out { length out.old ≡ length part.now * size_of (kind_of kinds.now.results) }
+    requires held { AreHeld kinds.now.elem block.now part.now }
+    requires enough { length part.now ≤ length (left_beside beside.old block.now) }
+    requires beside_held { HeldBeside beside.old (length block.now) }
+    requires keeps { Keeps kinds.now.elem.kind (kind_of kinds.now.own) }
+    requires left_buffer { length part.now * size_of (kind_of kinds.now.own)
+        ≤ length left_buffer.old }
+    requires right_buffer { length part.now * size_beside beside.old ≤ 8192 }
+    ensures out { out.new ≡ result_bytes (little (kind_of kinds.now.results))
+        (O.gives (kind_of kinds.now.results)) (numbers_at kinds.now.elem block.now part.now)
+        (take (length part.now) (left_beside beside.old block.now)) }
+    ensures further { (bytes : List ℕ) → left_beside beside.new bytes
+        ≡ drop (length part.now) (left_beside beside.old bytes) }
+    ensures size { size_beside beside.new ≡ size_beside beside.old }
+    ensures held { (len : ℕ) → HeldBeside beside.old len → HeldBeside beside.new len }
+    ensures stays { (first step at : ℕ) → StaysBeside beside.old first step at
+        → StaysBeside beside.new first step (at + length part.now) }
+{
+    let Kinds {
+        elem,
+        own,
+        operands,
+        results,
+    } = *kinds;
+    let count = part.count() as usize;
+    let xs = side_of(left_buffer, own, block, elem, part);
+    let ys = beside.take(right_buffer, block, count);
+    apply_sides::<O>(operands, out, results, xs, ys, count);
+}
+
+/// Replaces the numbers of a contiguous run by the results for them and the right operand. `places`
+/// are the byte offsets of contiguous results in a buffer.
+pub(crate) fn replace_numbers<O: Operation>(
+    bytes: &mut [u8],
+    elem: Elem,
+    run: &Run,
+    to: Kind,
+    kind: Kind,
+    beside: &mut LeftBeside<'_>,
+    places: &Run,
+)
+    requires held { AreHeld elem bytes.old run.now }
+    requires gapless { run.now ≡ side_by_side (size_of elem.kind) (slice_index run.now 0)
+        (length run.now) }
+    requires beside { length (left_beside beside.old bytes.old) ≡ length run.now }
+    requires beside_held { HeldBeside beside.old (length bytes.old) }
+    requires stays { StaysBeside beside.old (slice_index run.now 0) (size_of elem.kind) 0 }
+    requires wraps { Wraps (kind_of to) (O.gives (kind_of to)) }
+    requires places { places.now ≡ side_by_side (size_of (kind_of to)) 0 8192 }
+    ensures { bytes.new ≡ with_bytes bytes.old (slice_index run.now 0)
+        (replaced elem (O.gives (kind_of to)) (numbers_at elem bytes.old run.now)
+        (left_beside beside.old bytes.old)) }
+{
+    // proof: the number of bytes is bounded, by the clause of len().
+    let _len = bytes.len();
+    let (size, width) = (to.size() as usize, elem.size() as usize);
+    let first = run.start() as usize;
+    let own = side_kind(kind, elem.kind());
+    let kinds = Kinds {
+        elem,
+        own,
+        operands: kind,
+        results: to,
+    };
+    let chunk = chunk_of(size, own.size() as usize, beside.size()) as u64;
+    let mut left_buffer = [0; CHUNK];
+    let mut right_buffer = [0; CHUNK];
+    let mut buffer = [0; CHUNK];
+    let mut at = 0;
+    while at < run.count() {
+        let some = chunk.min(run.count() - at);
+        let count = some as usize;
+        find_results::<O>(
+            &mut buffer[..count * size],
+            &kinds,
+            bytes,
+            &run.part(at, some),
+            beside,
+            &mut left_buffer,
+            &mut right_buffer,
+        );
+        let start = first + at as usize * width;
+        write_numbers(
+            &mut bytes[start..start + count * width],
+            elem,
+            to,
+            &buffer[..count * size],
+            &places.part(0, some),
+        );
+        at += some;
+    }
+}

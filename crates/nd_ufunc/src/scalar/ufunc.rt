@@ -1,0 +1,18 @@
+//! `BinaryUfunc` and `Single`: the universal functions of two numbers and of one.
+
+use nd_syntax::trees::{BinaryOp, UnaryOp};
+
+/// A function of two numbers: an operator, `np.minimum`, or `np.maximum`.
+#[derive(Clone, Copy)]
+pub enum BinaryUfunc {
+    Operator(BinaryOp),
+    Minimum,
+    Maximum,
+}
+
+/// A function of one number: an operator, or the absolute value.
+#[derive(Clone, Copy)]
+pub enum Single {
+    Of(UnaryOp),
+    Absolute,
+}

@@ -1,0 +1,187 @@
+//! Scripts from readers that give little at a time or fail, and to writers that take little or fail.
+
+use nd_commands::{RunFault, ScriptReader, ScriptWriter, run, run_script, run_turns};
+use nd_notebook::{Meter, Notebook};
+use std::alloc::{AllocError, Global};
+use std::io::{self, Read, Write};
+
+/// Gives a byte a call. Behind the last one it ends, or fails.
+#[derive(Drop)]
+struct Dripping<'a> {
+    bytes: &'a [u8],
+    fails: bool,
+}
+
+impl Read for Dripping<'_> {
+    fn read(&mut self, buffer: &mut [u8]) -> io::Result<usize> {
+        if self.bytes.is_empty() || buffer.is_empty() {
+            if self.fails {
+                return Err(io::ErrorKind::Interrupted.into());
+            }
+            return Ok(0);
+        }
+        buffer[0] = self.bytes[0];
+        self.bytes = &self.bytes[1..];
+        Ok(1)
+    }
+}
+
+/// Gives the same line again and again.
+#[derive(Drop)]
+struct Endless;
+
+impl Read for Endless {
+    fn read(&mut self, buffer: &mut [u8]) -> io::Result<usize> {
+        let line = b"count\n";
+        let count = buffer.len().min(line.len());
+        for i in 0..count {
+            buffer[i] = line[i];
+        }
+        Ok(count)
+    }
+}
+
+/// Takes a few bytes a call. Once it has `most` it takes none, or fails.
+#[derive(Drop)]
+struct Narrow {
+    got: Vec<u8>,
+    width: usize,
+    most: usize,
+    fails: bool,
+}
+
+impl Write for Narrow {
+    fn write(&mut self, buffer: &[u8]) -> io::Result<usize> {
+        let room = self.most.saturating_sub(self.got.len());
+        if room == 0 && self.fails {
+            return Err(io::ErrorKind::BrokenPipe.into());
+        }
+        let count = buffer.len().min(self.width).min(room);
+        self.got.extend_from_slice(&buffer[..count])?;
+        Ok(count)
+    }
+
+    fn flush(&mut self) -> io::Result<()> {
+        Ok(())
+    }
+}
+
+/// Prints how a run ended, and the answers that were written.
+fn print_end(
+    rt: &HostRuntime,
+    title: &str,
+    ended: Result<(), RunFault>,
+    answers: &[u8],
+) -> io::Result<()> {
+    println!(rt; "= {title}")?;
+    rt.stdout().write_all(answers)?;
+    match ended {
+        Ok(()) => println!(rt; "; ended"),
+        Err(fault) => println!(rt; "; {fault}"),
+    }
+}
+
+/// A script from a reader of single bytes.
+fn print_dripping(rt: &HostRuntime, title: &str, script: &[u8], fails: bool) -> io::Result<()> {
+    let mut reader = ScriptReader::new(Dripping {
+        bytes: script,
+        fails,
+    });
+    let mut writer = ScriptWriter::new(Vec::new(rt.alloc()));
+    let ended = run_script(rt.alloc(), &mut reader, &mut writer, &mut Meter::new(rt));
+    print_end(rt, title, ended, writer.into_inner().as_slice())
+}
+
+/// A script from a reader of single bytes that fails, and how many cells the notebook has then.
+fn print_cells_kept(rt: &HostRuntime, notebook: &mut Notebook) -> io::Result<()> {
+    let mut reader = ScriptReader::new(Dripping {
+        bytes: b"count\ninsert 0\nx = 1\n.\ncount\ninsert 0\ny = 1\n",
+        fails: true,
+    });
+    let mut writer = ScriptWriter::new(Vec::new(rt.alloc()));
+    let ended = run(
+        rt.alloc(),
+        &mut reader,
+        &mut writer,
+        &mut Meter::new(rt),
+        notebook,
+    );
+    print_end(
+        rt,
+        "a reader that fails within a source",
+        ended,
+        writer.into_inner().as_slice(),
+    )?;
+    println!(rt; "{} cells", notebook.count())
+}
+
+/// Prints the cells that a new notebook has after a script that cannot be read to its end.
+fn print_kept(rt: &HostRuntime) -> io::Result<()> {
+    print_cells_kept(rt, &mut Notebook::new(rt.alloc()))
+}
+
+/// Three reads of a script that has no end.
+fn print_endless(rt: &HostRuntime) -> io::Result<()> {
+    let mut reader = ScriptReader::new(Endless);
+    let mut writer = ScriptWriter::new(Vec::new(rt.alloc()));
+    let mut notebook = Notebook::new(rt.alloc());
+    let ended = run_turns(
+        rt.alloc(),
+        &mut reader,
+        &mut writer,
+        &mut Meter::new(rt),
+        &mut notebook,
+        3,
+    );
+    print_end(
+        rt,
+        "a reader without an end",
+        ended,
+        writer.into_inner().as_slice(),
+    )
+}
+
+/// A script whose answers go to a writer that takes little.
+fn print_narrow(
+    rt: &HostRuntime,
+    title: &str,
+    width: usize,
+    most: usize,
+    fails: bool,
+) -> io::Result<()> {
+    let script = b"count\nfrob\ncount\n";
+    let mut reader = ScriptReader::new(script.as_slice());
+    let mut writer = ScriptWriter::new(Narrow {
+        got: Vec::new(rt.alloc()),
+        width,
+        most,
+        fails,
+    });
+    let ended = run_script(rt.alloc(), &mut reader, &mut writer, &mut Meter::new(rt));
+    print_end(rt, title, ended, writer.into_inner().got.as_slice())
+}
+
+/// A script of more bytes than a reader is asked for at once.
+fn long_script(alloc: Global) -> Result<String, AllocError> {
+    "# one byte a call\n".repeat(alloc, 500)
+}
+
+fn print_long_dripping(rt: &HostRuntime) -> io::Result<()> {
+    let mut long = long_script(rt.alloc())?;
+    long.push_str("count\n")?;
+    print_dripping(rt, "9,006 single bytes", long.as_bytes(), false)
+}
+
+/// Runs each of them, and prints how it ended.
+pub(crate) fn print_runs(rt: &HostRuntime) -> io::Result<()> {
+    print_dripping(rt, "single bytes", b"count\nfrob\ncount", false)?;
+    print_long_dripping(rt)?;
+    print_dripping(rt, "a reader that fails at once", b"", true)?;
+    print_kept(rt)?;
+    print_endless(rt)?;
+    print_narrow(rt, "a writer of single bytes", 1, 100, false)?;
+    print_narrow(rt, "a writer that fails", 2, 12, true)?;
+    print_narrow(rt, "a writer that takes nothing", 2, 0, false)?;
+    print_narrow(rt, "a writer that takes three bytes", 2, 3, false)?;
+    print_narrow(rt, "a writer that takes one answer", 2, 8, false)
+}

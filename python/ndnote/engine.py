@@ -1,0 +1,248 @@
+"""One process of the proved program, spoken to by the commands of its scripts. Nothing here knows of books or pages."""
+from __future__ import annotations
+
+import os
+import resource
+import subprocess
+import tempfile
+import threading
+from functools import cached_property
+from pathlib import Path
+from typing import Any, Callable, Iterable, NamedTuple, Optional, Sequence, TypeVar
+
+from .values import Layout, Value
+
+Answer = TypeVar('Answer')
+
+
+class Refused(Exception):
+    """An edit or a question that the notebook refused, in its words: 'NoCell 3 3'. Nothing has changed."""
+
+
+class Died(Exception):
+    """The process ended, or was ended, before it had answered."""
+
+
+class Refusal(NamedTuple):
+    """Why a cell stopped, and on which of its lines, counted from 1."""
+    line: int
+    fault: str          # 'Index.OutOfBounds 0 5 3'
+
+
+class Result(NamedTuple):
+    """What a cell printed, why it stopped if it did, and its saved files with their lengths."""
+    text: str
+    refusal: Optional[Refusal]
+    saves: dict[str, int]
+
+
+def program() -> str:
+    """The path of the built program: $NDNOTE_PROGRAM, or what the checkout around this package has built."""
+    told = os.environ.get('NDNOTE_PROGRAM')
+    path = Path(told) if told else Path(__file__).resolve().parents[2] / 'crates/ndnote/out/ndnote'
+    if not path.is_file():
+        raise FileNotFoundError(f'{path}: the program is not built; NDNOTE_PROGRAM may name another')
+    return str(path)
+
+
+def script_source(source: str) -> bytes:
+    """The lines of a source as a script takes them: a line '.' would end it, and ' .' means the same to the grammar."""
+    lines = source.encode('utf-8', 'replace').split(b'\n')
+    return b'\n'.join(b' .' if line == b'.' else line for line in lines)
+
+
+def list_word(numbers: Sequence[int]) -> str:
+    """A list of numbers as one word of a script."""
+    return ','.join(map(str, numbers)) or '()'
+
+
+class Notebook:
+    """A notebook of the program, edited and asked by the commands of its scripts. Cells are counted from 0."""
+
+    def __init__(self, path: Optional[str] = None, memory: Optional[int] = None) -> None:
+        self._log = tempfile.TemporaryFile()
+        self._process = subprocess.Popen([path or program()], stdin=subprocess.PIPE, stdout=subprocess.PIPE,
+                                         stderr=self._log)
+        if memory:
+            resource.prlimit(self._process.pid, resource.RLIMIT_AS, (memory, memory))
+        self.count = 0
+
+    def __enter__(self) -> 'Notebook':
+        return self
+
+    def __exit__(self, *_: object) -> None:
+        self.close()
+
+    def close(self) -> None:
+        self._process.kill()
+        self._process.wait()
+        for pipe in (self._process.stdin, self._process.stdout, self._log):
+            try:
+                pipe.close()
+            except BrokenPipeError:
+                pass
+
+    @property
+    def process(self) -> int:
+        """The number of the process."""
+        return self._process.pid
+
+    def kill(self) -> None:
+        """Ends the process, from any thread: whoever waits for an answer gets Died."""
+        self._process.kill()
+
+    def starve(self) -> bool:
+        """Refuses the program any more memory, from any thread and on Linux alone; tells whether that could be done.
+        An edit that takes memory is then refused for want of it, and the notebook is as it was."""
+        return self._bound_memory(lambda most: (1, most))
+
+    def feed(self) -> bool:
+        """Ends `starve`."""
+        return self._bound_memory(lambda most: (most, most))
+
+    def _bound_memory(self, limits: Callable[[int], tuple[int, int]]) -> bool:
+        try:
+            _, most = resource.prlimit(self._process.pid, resource.RLIMIT_AS)
+            resource.prlimit(self._process.pid, resource.RLIMIT_AS, limits(most))
+            return True
+        except (AttributeError, OSError):
+            return False
+
+    def is_over(self) -> bool:
+        return self._process.poll() is not None
+
+    # What is sent, and what is read. A thread of its own writes a batch, so that long answers cannot block both sides.
+
+    def death(self) -> Died:
+        """How the process ended."""
+        status = self._process.wait()
+        self._log.seek(0)
+        said = self._log.read(1000).decode('utf-8', 'replace').strip()
+        how = f'ended by signal {-status}' if status < 0 else f'ended with status {status}'
+        return Died(how + (f': {said}' if said else ''))
+
+    def _write(self, parts: Iterable[bytes]) -> None:
+        try:
+            for part in parts:
+                self._process.stdin.write(part)
+            self._process.stdin.flush()
+        except (BrokenPipeError, ValueError):
+            pass                                # the reader finds the end of the answers
+
+    def _line(self) -> str:
+        line = self._process.stdout.readline()
+        if not line.endswith(b'\n'):
+            raise self.death()
+        return line[:-1].decode()
+
+    def _bytes(self, count: int) -> bytes:
+        data = self._process.stdout.read(count)
+        if len(data) < count:
+            raise self.death()
+        return data
+
+    def _ask(self, *parts: bytes) -> str:
+        self._write(parts)
+        line = self._line()
+        if line.startswith('refused ') or line == 'bad command':
+            raise Refused(line.removeprefix('refused '))
+        return line
+
+    def _ask_all(self, commands: Iterable[bytes], read: Callable[[], Answer]) -> list[Answer]:
+        """The answers to many commands, sent without waiting for each."""
+        sent = list(commands)
+        writer = threading.Thread(target=self._write, args=(sent,))
+        writer.start()
+        try:
+            return [read() for _ in sent]
+        finally:
+            writer.join()
+
+    @cached_property
+    def words(self) -> frozenset[str]:
+        """The words that this program has beside those of its first scripts; asked for once."""
+        try:
+            return frozenset(self._ask(b'words\n').split(' ')[1:])
+        except Refused:
+            return frozenset()
+
+    # Edits.
+
+    def insert(self, at: int, source: str) -> None:
+        self._ask(b'insert %d\n' % at, script_source(source), b'\n.\n')
+        self.count += 1
+
+    def edit(self, at: int, source: str) -> None:
+        self._ask(b'edit %d\n' % at, script_source(source), b'\n.\n')
+
+    def move(self, origin: int, to: int) -> None:
+        self._ask(b'move %d %d\n' % (origin, to))
+
+    def remove(self, at: int) -> None:
+        self._ask(b'remove %d\n' % at)
+        self.count -= 1
+
+    def input(self, name: str, data: Any, layout: Optional[Layout] = None) -> None:
+        """Sets an input. With a layout the bytes are a buffer's memory. Else bytes are those of an NPY file, a path
+        names one, and any object with a buffer (PEP 3118) is handed over as a buffer in C order."""
+        if isinstance(data, (str, os.PathLike)):
+            data = Path(data).read_bytes()
+        if isinstance(data, (bytes, bytearray)) and not layout:
+            self._ask(f'input {name} npy '.encode(), data.hex().encode() or b'-', b'\n')
+            return
+        if not layout:
+            view = memoryview(data)
+            layout, data = Layout.of_view(view), view.tobytes('C')
+        words = (f'input {name} buffer {layout.format} {layout.itemsize} {list_word(layout.shape)} '
+                 f'{list_word(layout.strides)} {layout.offset} ')
+        self._ask(words.encode(), data.hex().encode() or b'-', b'\n')
+
+    def drop(self, name: str) -> None:
+        self._ask(f'drop {name}\n'.encode())
+
+    # Questions.
+
+    def _result(self) -> Result:
+        line = self._line()
+        if not line.startswith('text '):
+            raise Refused(line.removeprefix('refused '))
+        text, refusal, saves = self._bytes(int(line[5:])).decode(), None, {}
+        while (line := self._line()) != 'end':
+            word, *rest = line.split(' ', 2)
+            if word == 'refused':
+                refusal = Refusal(int(rest[0]), rest[1])
+            elif word == 'save':
+                saves[rest[0]] = int(rest[1])
+        return Result(text, refusal, saves)
+
+    def show(self, at: int) -> Result:
+        return self.show_all([at])[0]
+
+    def show_all(self, places: Iterable[int]) -> list[Result]:
+        return self._ask_all((b'show %d\n' % at for at in places), self._result)
+
+    def source(self, at: int) -> str:
+        text = self._bytes(int(self._ask(b'source %d\n' % at)[7:])).decode()
+        self._bytes(1)
+        return text
+
+    def names(self, at: int) -> list[str]:
+        return [self._line() for _ in range(int(self._ask(b'names %d\n' % at)[6:]))]
+
+    def value(self, at: int, name: str) -> Value:
+        return Value.of_answer(self._ask(f'value {at} {name}\n'.encode()))
+
+    def saved(self, at: int, name: str) -> bytes:
+        return bytes.fromhex(self._ask(f'saved {at} {name}\n'.encode()).removeprefix('saved ').replace('-', ''))
+
+    def __getitem__(self, name: str) -> Value:
+        """The value of a name after the last cell."""
+        try:
+            return self.value(self.count - 1, name)
+        except Refused as refused:
+            if str(refused).startswith('NoName'):
+                raise KeyError(name) from refused
+            raise
+
+    def __len__(self) -> int:
+        return self.count

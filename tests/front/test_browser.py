@@ -1,0 +1,71 @@
+"""The live page in a browser: typing, stepping numbers, moving cells, conflicts, stopping, and refusals in words."""
+import unittest
+
+from browsing import Browsing, has_browser
+
+try:
+    from selenium.webdriver.common.by import By
+    from selenium.webdriver.common.keys import Keys
+except ImportError:
+    pass
+
+
+@has_browser
+class Browsers(Browsing):
+    def test_an_edit_shows_at_once_and_is_saved(self):
+        self.type(0, 'x = np.arange(5)\nprint(x)', Keys.CONTROL, Keys.ENTER)
+        self.wait(lambda: self.texts() == ['[0 1 2 3 4]', '10'])
+        self.assertIn('arange(5)', self.book.read_text())
+        self.assertIn('2 outputs changed', self.state())
+
+    def test_an_arrow_key_steps_a_number(self):
+        area = self.sections()[0].find_element(By.TAG_NAME, 'textarea')
+        self.page.execute_script('const a = arguments[0]; a.focus(); a.selectionStart = a.selectionEnd = 14', area)
+        area.send_keys(Keys.ALT, Keys.ARROW_UP)
+        self.wait(lambda: self.texts() == ['[0 1 2 3]', '6'])
+
+    def test_cells_come_go_and_move(self):
+        self.press(0, 'A cell below')
+        self.wait(lambda: len(self.sections()) == 3)
+        self.type(1, 'x *= 2', Keys.CONTROL, Keys.ENTER)
+        self.wait(lambda: self.texts() == ['[0 1 2]', '6'])
+        self.press(1, 'Move down')
+        self.wait(lambda: self.texts() == ['[0 1 2]', '3'])
+        self.press(2, 'Remove')
+        self.wait(lambda: len(self.sections()) == 2)
+
+    def test_an_edit_elsewhere_is_shown_and_not_overwritten(self):
+        self.book.write_text(self.book.read_text().replace('arange(3)', 'arange(4)'))
+        self.wait(lambda: self.texts() == ['[0 1 2 3]', '6'])
+        self.type(0, 'x = 1')
+        self.book.write_text(self.book.read_text().replace('arange(4)', 'arange(5)'))
+        self.wait(lambda: self.page.find_elements(By.CSS_SELECTOR, '.conflict'))
+        self.assertIn('arange(5)', self.book.read_text())
+        self.page.find_elements(By.CSS_SELECTOR, '.conflict button')[0].click()
+        self.wait(lambda: 'x = 1\n' in self.book.read_text())
+
+    def test_a_refusal_says_what_the_operands_were(self):
+        self.type(1, 'print(x + np.arange(2))', Keys.CONTROL, Keys.ENTER)
+        self.wait(lambda: 'np.arange(2) is int64' in self.said(1))
+        self.assertIn('x is int64 · 3', self.said(1))
+        self.assertIn('the shapes do not broadcast together', self.said(1).lower())
+        self.assertIn('book.py:9 · Ufunc.ShapeMismatch', self.said(1))
+
+    def test_a_long_text_is_cut_plainly(self):
+        self.type(1, 'print(np.arange(200000))\nprint(5)', Keys.CONTROL, Keys.ENTER)
+        self.wait(lambda: 'cut by ndnote' in self.said(1))
+        self.assertIn('199998 199999]', self.said(1))
+        self.assertIn('did not run', self.said(1))
+        self.assertEqual(self.page.find_elements(By.CSS_SELECTOR, '.refusal'), [])
+
+    def test_pictures_follow(self):
+        self.type(0, 'x = np.arange(600).reshape(20, 30) > 3\nprint(x.sum())', Keys.CONTROL, Keys.ENTER)
+        find = "return document.querySelector('img.mask')?.src"
+        self.wait(lambda: self.page.execute_script(find))
+        before = self.page.execute_script(find)
+        self.type(0, 'x = np.arange(600).reshape(20, 30) > 300\nprint(x.sum())', Keys.CONTROL, Keys.ENTER)
+        self.wait(lambda: self.page.execute_script(find) not in (None, before))
+
+
+if __name__ == '__main__':
+    unittest.main()

@@ -1,0 +1,366 @@
+#!/usr/bin/env python3
+"""tests/random_edits.py [--seconds S] [--seed N]: edited notebooks answer as fresh notebooks of the same cells do.
+
+A trial is a notebook under fifty random edits, refused ones among them. After each edit the program is asked for all:
+the sources, texts, refusals and saved files of all cells, the names after each, and the value of every name. The same
+questions go to a run of the program that is given the inputs and cells as they are by then, from nothing, and the
+answers must be the same. Where the program has the command `runs`, no edit may run more cells than it makes stale, as
+`stale_cells` counts them, and a refused edit runs none.
+
+The program is that of NDNOTE_PROGRAM, else the one built in crates/ndnote. Exit status 1: a trial failed; its script
+is printed, made short.
+"""
+import argparse
+import os
+import random
+import subprocess
+import sys
+import time
+from concurrent.futures import ThreadPoolExecutor
+from dataclasses import dataclass
+from typing import Dict, List, Optional, Tuple
+
+sys.dont_write_bytecode = True
+from stale_cells import Pass  # noqa: E402
+
+ROOT = os.path.dirname(os.path.dirname(os.path.abspath(__file__)))
+PROGRAM = os.environ.get("NDNOTE_PROGRAM", os.path.join(ROOT, "crates/ndnote/out/ndnote"))
+MOST_CELLS = 12
+EDITS = 50
+MARK = "bad command"
+
+ARRAYS = ["x = np.arange(4)", "y = np.arange(3)", "z = np.arange(6)", "x = np.arange(2)"]
+SHARED = ["y = x", "z = y", "x = z", "y = z", "z = x", "x = y", "x = x"]
+WRITES = ["x[0] = 7", "y[1] = 8", "z[-1] = -9", "x[-2] = 5", "y[0] = 7", "z[1] = x[0]", "x[1] = y[-1]",
+          "y[0] = y[1]", "x[0] = x[0]", "z[0] = 18"]
+VIEWS = ["y = x[1:]", "z = x[::-1]", "x = z[:3]", "z = y[::2]", "y[:2] = x[-2:]", "print(x[1:])", "print(z[::-2])"]
+AUGMENTED = ["x += 1", "y -= 2", "x[1:] += x[:-1]", "z[::2] *= 3", "x[0] += 5", "y[-1] -= z[0]", "z += z[0]",
+             "x += y", "y //= 2", "z[:2] ^= y[-2:]", "a += 1", "b *= a", "b -= x", "x += b"]
+PRINTS = ["print(x)", "print(y, z)", "print(x, y, z)", "print(x[0])", "print(z[-1], y[0])", "print(y[1])"]
+NUMBERS = ["a = 1", "a = -2", "a = True", "b = a", "a = b", "b = 0", "b = x[1]", "a = y[-1]", "a = x[b]", "x[a] = 4",
+           "y[b] = a", "x[0] = b", "print(a, b)", "print(x[a])", "print(b)"]
+UNBOUND = ["del x", "del y", "del z", "del a", "del b", "x = y", "z = x", "a = x", "b = a", "x = 3"]
+REFUSED = ["x[9] = 1", "y[-7] = 1", "print(x[6])", "print(q)", "w = q", "del q", "a[0] = 1", "x[0, 0] = 1",
+           "x[0] = z", "x[y] = 1", "x[0] = 9223372036854775808", "a = 18446744073709551616", "y = x.T",
+           "x = np.zeros(3)"]
+UNREAD = ["x = 1 +", "y = 1 < 2 < 3", "x = $", "print(x", "frob(x)"]
+SILENT = ["", "# a remark", "import numpy as np"]
+LOADED = ["x = np.load('f')", "y = np.load('g')", "z = np.load('none')", "x = buffer('b')", "y = buffer('f')"]
+SAVED = ["np.save('s', x)", "np.save('t', y[0])", "np.save('s', z[1:])", "np.save('t', a)"]
+POOLS: Dict[str, List[List[str]]] = {
+    "sharing": [ARRAYS, SHARED, WRITES, PRINTS],
+    "numbers": [ARRAYS, NUMBERS, NUMBERS, WRITES, PRINTS],
+    "unbinding": [ARRAYS, SHARED, UNBOUND, WRITES, PRINTS],
+    "refusals": [ARRAYS, ARRAYS, SHARED, WRITES, PRINTS, REFUSED],
+    "inputs": [ARRAYS, WRITES, PRINTS, LOADED, SAVED],
+    "in place": [ARRAYS, SHARED, VIEWS, AUGMENTED, AUGMENTED, PRINTS],
+    "saves": [ARRAYS, VIEWS, WRITES, SAVED, SAVED],
+    "all": [ARRAYS, SHARED, WRITES, PRINTS, NUMBERS, UNBOUND, REFUSED, UNREAD, SILENT, LOADED, VIEWS, AUGMENTED, SAVED],
+}
+OPENING = "x = np.arange(4)\ny = np.arange(3)\nz = x\na = 1\nb = True"
+NAMES = ["x", "y", "z", "a", "b", "w", "q"]
+SAVES = ["s", "t"]
+CHOICES = ["insert"] * 5 + ["change"] * 4 + ["keep"] + ["move"] * 3 + ["remove"] * 2 + ["input", "drop", "refused"]
+
+
+@dataclass(frozen=True)
+class Input:
+    """An input: the words of its line, and the elements that it has, if it has any."""
+    kind: str
+    words: str
+    elements: Optional[Tuple[int, ...]]
+    element_kind: str = "int64"
+
+
+def npy_of(numbers: List[int]) -> bytes:
+    """The NPY file of an array of int64 with one axis."""
+    text = f"{{'descr': '<i8', 'fortran_order': False, 'shape': ({len(numbers)},), }}"
+    header = text.ljust(117).encode() + b"\n"
+    data = b"".join(number.to_bytes(8, "little", signed=True) for number in numbers)
+    return b"\x93NUMPY\x01\x00" + len(header).to_bytes(2, "little") + header + data
+
+
+BYTES = [b"", b"no file", b"\x93NUMPY\x01\x00", b"\x01\x02\x03\x04"]
+INPUTS = [Input("load", "npy " + (data.hex() or "-"), None) for data in BYTES]
+INPUTS += [Input("load", "npy " + npy_of(list(numbers)).hex(), numbers) for numbers in ((1, 2), (1, 3), (4, 5, 6))]
+INPUTS += [Input("buffer", f"buffer b 1 2 1 0 {data.hex() or '-'}", tuple(data[:2]) or None, "int8")
+           for data in (b"", b"\x01\x02\x03\x04", b"\x05\x02")]
+
+
+@dataclass(frozen=True)
+class Edit:
+    """An edit: its word, its places or the name of an input, and the text or input that it brings."""
+    word: str
+    at: int = 0
+    to: int = 0
+    text: str = ""
+    name: str = ""
+    input: Optional[Input] = None
+
+    def lines(self) -> List[str]:
+        if self.word in ("insert", "edit"):
+            return [f"{self.word} {self.at}", *(self.text.split("\n") if self.text else []), "."]
+        if self.word == "move":
+            return [f"move {self.at} {self.to}"]
+        if self.word == "remove":
+            return [f"remove {self.at}"]
+        return [f"input {self.name} {self.input.words}" if self.input else f"drop {self.name}"]
+
+
+@dataclass(frozen=True)
+class Cell:
+    """A cell: its label, which tells it from the others as long as it stands, and its text."""
+    label: int
+    text: str
+
+
+class Book:
+    """The cells and inputs that edits leave."""
+
+    def __init__(self) -> None:
+        self.cells: List[Cell] = []
+        self.inputs: Dict[str, Input] = {}
+
+    def refusal(self, edit: Edit) -> Optional[str]:
+        count = len(self.cells)
+        if edit.word in ("input", "drop"):
+            if "/" in edit.name:
+                return "refused BadInputName"
+            return f"refused NoInputNamed {edit.name}" if edit.word == "drop" and edit.name not in self.inputs else None
+        most = count if edit.word == "insert" else count - 1
+        for at in (edit.at, edit.to if edit.word == "move" else 0):
+            if at > most and (at or edit.word != "insert"):
+                return f"refused NoCell {at} {count}"
+        return None
+
+    def make(self, edit: Edit) -> str:
+        """Makes an edit, and gives its answer."""
+        refusal = self.refusal(edit)
+        if refusal:
+            return refusal
+        if edit.word == "insert":
+            labels = {cell.label for cell in self.cells}
+            label = next(label for label in range(len(labels) + 1) if label not in labels)
+            self.cells.insert(edit.at, Cell(label, edit.text))
+        elif edit.word == "edit":
+            self.cells[edit.at] = Cell(self.cells[edit.at].label, edit.text)
+        elif edit.word == "move":
+            self.cells.insert(edit.to, self.cells.pop(edit.at))
+        elif edit.word == "remove":
+            del self.cells[edit.at]
+        elif edit.word == "input":
+            self.inputs[edit.name] = edit.input
+        else:
+            del self.inputs[edit.name]
+        return "ok"
+
+    def lines(self) -> List[str]:
+        """A script that makes these cells and inputs from nothing."""
+        edits = [Edit("input", name=name, input=value) for name, value in self.inputs.items()]
+        edits += [Edit("insert", at, text=cell.text) for at, cell in enumerate(self.cells)]
+        return [line for edit in edits for line in edit.lines()]
+
+    def questions(self) -> List[str]:
+        """Everything that a script may ask of these cells."""
+        lines = ["count"]
+        for at in range(len(self.cells)):
+            lines += [f"source {at}", f"show {at}", f"names {at}"]
+            lines += [f"value {at} {name}" for name in NAMES] + [f"saved {at} {name}" for name in SAVES]
+        return lines
+
+
+class Drawer:
+    """Draws the edits of a notebook."""
+
+    def __init__(self, seed: int) -> None:
+        self.random = random.Random(seed)
+        self.pool = self.random.choice(list(POOLS.values()))
+        self.most = max(self.random.randint(0, MOST_CELLS), self.random.randint(0, MOST_CELLS))
+
+    def text(self, book: Book) -> str:
+        draw = self.random
+        if not book.cells or draw.randrange(20) == 0:
+            return OPENING
+        if draw.randrange(8) == 0:
+            return draw.choice(book.cells).text
+        if draw.randrange(30) == 0:
+            return ""
+        return "\n".join(draw.choice(draw.choice(self.pool)) for _ in range(draw.randint(1, 4)))
+
+    def refused(self, count: int) -> Edit:
+        behind, inside = count + self.random.randrange(3), self.random.randrange(count) if count else 0
+        text, name = "x = np.arange(4)", self.random.choice(["a/b", "none"])
+        return self.random.choice([
+            Edit("insert", behind + 1, text=text), Edit("edit", behind, text=text), Edit("move", behind, inside),
+            Edit("move", inside, behind), Edit("remove", behind), Edit("drop", name=name),
+            Edit("input", name="a/b", input=self.random.choice(INPUTS))])
+
+    def edit(self, book: Book) -> Edit:
+        """An edit of the present cells and inputs."""
+        draw, count = self.random, len(book.cells)
+        at = draw.randrange(count) if count else 0
+        choice = draw.choice(CHOICES)
+        if choice == "insert" and count < self.most:
+            return Edit("insert", draw.randint(0, count), text=self.text(book))
+        if choice in ("insert", "change"):
+            return Edit("edit", at, text=self.text(book))
+        if choice == "keep":
+            return Edit("edit", at, text=book.cells[at].text if count else "")
+        if choice == "move":
+            return Edit("move", at, draw.randrange(count) if count else 0)
+        if choice == "remove":
+            return Edit("remove", at)
+        if choice == "refused":
+            return self.refused(count)
+        name = draw.choice(["f", "g", "b"])
+        return Edit("input", name=name, input=draw.choice(INPUTS)) if choice == "input" else Edit("drop", name=name)
+
+
+def answers(lines: List[str]) -> List[str]:
+    """What the program answers to a script, in the parts between its marks."""
+    done = subprocess.run([PROGRAM], input="\n".join(lines) + "\n", capture_output=True, text=True, timeout=120)
+    if done.returncode:
+        return [f"exit status {done.returncode}: {done.stderr}"]
+    return done.stdout.split(MARK + "\n")
+
+
+def counts_runs() -> bool:
+    """Whether the program has the command `runs`."""
+    return answers(["runs"])[0].startswith("runs ")
+
+
+def is_read(text: str) -> bool:
+    return not any(line in UNREAD or line == "a = 18446744073709551616" for line in text.split("\n"))
+
+
+def first_difference(found: str, wanted: str) -> str:
+    for one, other in zip(found.split("\n") + [""], wanted.split("\n") + [""]):
+        if one != other:
+            return f"answered: {one}\n  a fresh notebook: {other}"
+    return f"answered: {found}\n  a fresh notebook: {wanted}"
+
+
+@dataclass(frozen=True)
+class Fault:
+    """What is wrong, and with which edit."""
+    number: int
+    text: str
+
+
+@dataclass
+class Step:
+    """What is expected after an edit: its answer, and those of a script that makes the same cells."""
+    number: int
+    wanted: str
+    fresh: List[str]
+    cells: List[Cell]
+    inputs: Dict[str, Input]
+
+
+def steps_of(edits: List[Edit], has_runs: bool, every: bool) -> Tuple[List[str], List[Step]]:
+    """A script of the edits with all questions after each, or after the last alone, and what is expected there."""
+    book, script, steps = Book(), [], []
+    for number, edit in enumerate(edits):
+        wanted = book.make(edit)
+        script += edit.lines()
+        if every or number == len(edits) - 1:
+            script += ["mark", *(["runs"] if has_runs else []), "mark", *book.questions(), "mark"]
+            fresh = [*book.lines(), "mark", *book.questions()]
+            steps.append(Step(number, wanted, fresh, list(book.cells), dict(book.inputs)))
+    return script, steps
+
+
+def wrong_answers(told: List[str], steps: List[Step], every: bool) -> Optional[Fault]:
+    """The first edit that is not answered as the book has it, or behind which a fresh notebook answers otherwise."""
+    with ThreadPoolExecutor(os.cpu_count()) as pool:
+        fresh = list(pool.map(lambda step: answers(step.fresh)[-1], steps))
+    for at, step in enumerate(steps):
+        answer, found = told[3 * at], told[3 * at + 2]
+        if every and answer != step.wanted + "\n":
+            return Fault(step.number, f"edit {step.number} is answered {answer!r} in place of {step.wanted!r}")
+        if found != fresh[at]:
+            return Fault(step.number, f"after edit {step.number} " + first_difference(found, fresh[at]))
+    return None
+
+
+def wrong_runs(told: List[str], steps: List[Step]) -> Optional[Fault]:
+    """The first edit that ran more cells than it made stale."""
+    runs, last = 0, Pass()
+    for at, step in enumerate(steps):
+        now = int(told[3 * at + 1].split()[1])
+        following = last.then(step.cells, step.inputs, is_read) if step.wanted == "ok" else last
+        most = following.stale if step.wanted == "ok" else 0
+        if now - runs > most:
+            return Fault(step.number, f"edit {step.number} ran {now - runs} cells, where {most} were stale")
+        runs, last = now, following
+    return None
+
+
+def fault_of(edits: List[Edit], has_runs: bool, every: bool = True) -> Optional[Fault]:
+    """What is wrong with the answers to these edits, asked for after each or after the last alone."""
+    if not edits:
+        return None
+    script, steps = steps_of(edits, has_runs, every)
+    told = answers(script)
+    if len(told) != 3 * len(steps) + 1:
+        return Fault(len(edits) - 1, f"{len(told)} parts of answers, not {3 * len(steps) + 1}: {told[-1][-200:]}")
+    fault = wrong_answers(told, steps, every)
+    return fault or (wrong_runs(told, steps) if has_runs and every else None)
+
+
+def shortened(edits: List[Edit], fault: Fault, has_runs: bool, until: float) -> List[Edit]:
+    """Fewer edits whose answers are wrong too."""
+    edits = edits[:fault.number + 1]
+    every = not fault_of(edits, has_runs, False)
+    at = len(edits)
+    while at > 0 and time.monotonic() < until:
+        at -= 1
+        fewer = edits[:at] + edits[at + 1:]
+        if fault_of(fewer, has_runs, every):
+            edits = fewer
+    return edits
+
+
+def drawn_edits(seed: int) -> List[Edit]:
+    drawer, book, edits = Drawer(seed), Book(), []
+    for _ in range(EDITS):
+        edits.append(drawer.edit(book))
+        book.make(edits[-1])
+    return edits
+
+
+def trial(seed: int, has_runs: bool) -> bool:
+    """Whether the notebook of a seed is answered as it should be; says what is wrong."""
+    edits = drawn_edits(seed)
+    fault = fault_of(edits, has_runs)
+    if not fault:
+        return True
+    edits = shortened(edits, fault, has_runs, time.monotonic() + 30)
+    print(f"seed {seed}: {(fault_of(edits, has_runs) or fault).text}")
+    print("\n".join(line for edit in edits for line in edit.lines()))
+    return False
+
+
+def main() -> int:
+    parser = argparse.ArgumentParser(description=__doc__.split("\n")[0])
+    parser.add_argument("--seconds", type=float, default=120)
+    parser.add_argument("--seed", type=int, default=random.randrange(1 << 32))
+    options = parser.parse_args()
+    if not os.access(PROGRAM, os.X_OK):
+        sys.exit(f"there is no program at {PROGRAM}")
+    has_runs = counts_runs()
+    told = "runs are counted" if has_runs else "the program tells no runs"
+    print(f"seed {options.seed}, {options.seconds:g} seconds, {told}", flush=True)
+    until, passed, failed, seed = time.monotonic() + options.seconds, 0, 0, options.seed
+    while time.monotonic() < until and failed < 5:
+        if trial(seed, has_runs):
+            passed += 1
+        else:
+            failed += 1
+        seed += 1
+    print(f"{passed} passed, {failed} failed")
+    return 1 if failed else 0
+
+
+if __name__ == "__main__":
+    sys.exit(main())

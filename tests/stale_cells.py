@@ -1,0 +1,313 @@
+"""Counts the cells that an edit makes stale, for notebooks whose cells have the statements of `random_edits`.
+
+A cell is stale where it is new, has another text, or where its last run read something that is another now: what a
+name is bound to, an element of an array that the cell did not make or write itself, or an input. All cells are run here
+from nothing over arrays with one axis; a run keeps what it read. Texts are read as Python's own syntax tree; a call or
+an index of another form raises NotImplementedError.
+"""
+import ast
+import operator
+from dataclasses import dataclass, field
+from typing import Any, Dict, List, Optional, Tuple, Union
+
+INT64 = 1 << 63
+OPERATORS = {ast.Add: operator.add, ast.Sub: operator.sub, ast.Mult: operator.mul, ast.BitXor: operator.xor,
+             ast.FloorDiv: lambda a, b: a // b if b else 0}
+BaseKey = Tuple[int, int]
+
+
+class Refused(Exception):
+    """The rest of the cell is not run."""
+
+
+def wrapped(number: int) -> int:
+    """The int64 that a number wraps to."""
+    return (number + INT64) % (2 * INT64) - INT64
+
+
+@dataclass(frozen=True)
+class Scalar:
+    """A NumPy scalar."""
+    number: int
+    kind: str = "int64"
+
+
+@dataclass(frozen=True)
+class Array:
+    """Elements of a base: the first, the step and the count."""
+    base: BaseKey
+    start: int
+    step: int
+    count: int
+    kind: str = "int64"
+
+    def places(self) -> List[int]:
+        return [self.start + self.step * i for i in range(self.count)]
+
+
+Value = Union[int, bool, Scalar, Array]
+
+
+def same(one: Optional[Value], other: Optional[Value]) -> bool:
+    return type(one) is type(other) and one == other
+
+
+@dataclass
+class Session:
+    """What names are bound to, and the elements of each base."""
+    names: Dict[str, Value] = field(default_factory=dict)
+    bases: Dict[BaseKey, List[int]] = field(default_factory=dict)
+
+
+@dataclass
+class Reads:
+    """What a run read from before the cell."""
+    names: Dict[str, Optional[Value]] = field(default_factory=dict)
+    elements: Dict[Tuple[BaseKey, int], int] = field(default_factory=dict)
+    inputs: Dict[str, Any] = field(default_factory=dict)
+
+    def agree(self, session: Session, inputs: Dict[str, Any]) -> bool:
+        """Whether a run would read the same of these names, bases and inputs."""
+        for name, value in self.names.items():
+            if not same(session.names.get(name), value):
+                return False
+        for (base, place), number in self.elements.items():
+            if place >= len(session.bases.get(base, [])) or session.bases[base][place] != number:
+                return False
+        return all(inputs.get(name) == value for name, value in self.inputs.items())
+
+
+class Run:
+    """A run of one cell."""
+
+    def __init__(self, session: Session, label: int, inputs: Dict[str, Any]) -> None:
+        self.session, self.label, self.inputs = session, label, inputs
+        self.reads, self.own, self.made = Reads(), set(), 0
+        self.bound: set = set()
+
+    def run(self, text: str, is_read: bool) -> Reads:
+        """Runs a text, none of which is run where it is no cell."""
+        if is_read:
+            try:
+                for statement in ast.parse(text).body:
+                    self.statement(statement)
+            except Refused:
+                pass
+        return self.reads
+
+    def name(self, name: str) -> Value:
+        value = self.session.names.get(name)
+        if name not in self.bound:
+            self.reads.names.setdefault(name, value)
+        if value is None:
+            raise Refused
+        return value
+
+    def bind(self, name: str, value: Optional[Value]) -> None:
+        self.bound.add(name)
+        if value is None:
+            self.session.names.pop(name, None)
+        else:
+            self.session.names[name] = value
+
+    def element(self, base: BaseKey, place: int) -> int:
+        number = self.session.bases[base][place]
+        if base[0] != self.label and (base, place) not in self.own:
+            self.reads.elements.setdefault((base, place), number)
+        return number
+
+    def numbers(self, value: Array) -> List[int]:
+        return [self.element(value.base, place) for place in value.places()]
+
+    def write(self, array: Array, numbers: List[int]) -> None:
+        for place, number in zip(array.places(), numbers):
+            self.own.add((array.base, place))
+            self.session.bases[array.base][place] = number
+
+    def fresh(self, numbers: List[int], kind: str = "int64") -> Array:
+        base = (self.label, self.made)
+        self.made += 1
+        self.session.bases[base] = list(numbers)
+        return Array(base, 0, 1, len(numbers), kind)
+
+    def statement(self, node: ast.stmt) -> None:
+        if isinstance(node, ast.Assign):
+            value = self.value(node.value)
+            target = node.targets[0]
+            self.bind(target.id, value) if isinstance(target, ast.Name) else self.assign(target, value)
+        elif isinstance(node, ast.AugAssign):
+            self.augment(node)
+        elif isinstance(node, ast.Delete):
+            name = node.targets[0].id
+            self.name(name)
+            self.bind(name, None)
+        elif isinstance(node, ast.Expr):
+            self.call(node.value)
+
+    def call(self, node: ast.Call) -> None:
+        """A call that prints or saves: its arguments are evaluated first, and then read."""
+        used = node.args[1:] if isinstance(node.func, ast.Attribute) else node.args
+        for value in [self.value(argument) for argument in used]:
+            if isinstance(value, Array):
+                self.numbers(value)
+
+    def value(self, node: ast.expr) -> Value:
+        if isinstance(node, ast.Constant):
+            if type(node.value) is int and node.value >= 2 * INT64:
+                raise Refused
+            return node.value
+        if isinstance(node, ast.UnaryOp):
+            return -self.value(node.operand)
+        if isinstance(node, ast.Name):
+            return self.name(node.id)
+        if isinstance(node, ast.Subscript):
+            chosen = self.choose(node)
+            if isinstance(chosen, Array) and isinstance(node.slice, ast.Slice):
+                return chosen
+            return Scalar(self.element(chosen.base, chosen.start), chosen.kind)
+        if isinstance(node, ast.Attribute):
+            if node.attr != "T":
+                raise NotImplementedError(node.attr)
+            value = self.value(node.value)
+            if not isinstance(value, Array):
+                raise Refused
+            return value
+        return self.made_by(node)
+
+    def made_by(self, node: ast.Call) -> Value:
+        """A new array: counted, of an input, or none."""
+        word = node.func.attr if isinstance(node.func, ast.Attribute) else node.func.id
+        if len(node.args) != 1 or node.keywords or not isinstance(node.args[0], ast.Constant):
+            raise NotImplementedError(ast.dump(node))
+        argument = node.args[0].value
+        if word == "arange":
+            return self.fresh(list(range(argument)))
+        if word == "zeros":
+            raise Refused
+        if word not in ("load", "buffer"):
+            raise NotImplementedError(word)
+        found = self.inputs.get(argument)
+        self.reads.inputs.setdefault(argument, found)
+        if found is None or found.kind != word or found.elements is None:
+            raise Refused
+        return self.fresh(found.elements, found.element_kind)
+
+    def position(self, node: ast.expr) -> int:
+        value = self.value(node)
+        if isinstance(value, (bool, Array)) or not isinstance(value, (int, Scalar)):
+            raise Refused
+        return value.number if isinstance(value, Scalar) else value
+
+    def choose(self, node: ast.Subscript) -> Array:
+        """The elements that an index chooses: a slice, or one position."""
+        array = self.value(node.value)
+        if isinstance(node.slice, ast.Tuple):
+            raise Refused
+        if isinstance(node.slice, ast.Constant) and not isinstance(node.slice.value, int):
+            raise NotImplementedError(ast.dump(node.slice))
+        if isinstance(node.slice, ast.Slice):
+            bounds = [None if part is None else self.position(part)
+                      for part in (node.slice.lower, node.slice.upper, node.slice.step)]
+            if not isinstance(array, Array):
+                raise Refused
+            chosen = range(array.count)[slice(*bounds)]
+            start = array.start + array.step * chosen.start
+            return Array(array.base, start, array.step * chosen.step, len(chosen), array.kind)
+        at = self.position(node.slice)
+        if not isinstance(array, Array) or not -array.count <= at < array.count:
+            raise Refused
+        return Array(array.base, array.start + array.step * (at % array.count), array.step, 1, array.kind)
+
+    def spread(self, value: Value, count: int, kind: str) -> List[int]:
+        """The numbers of a value as so many elements of a kind."""
+        if isinstance(value, Array):
+            if value.count not in (1, count):
+                raise Refused
+            numbers = self.numbers(value)
+            return [fitted(number, kind) for number in (numbers * count if value.count == 1 else numbers)]
+        if isinstance(value, Scalar):
+            return [fitted(value.number, kind)] * count
+        if not isinstance(value, bool) and fitted(value, kind) != value:
+            raise Refused
+        return [int(value)] * count
+
+    def use(self, value: Value) -> None:
+        """Reads the elements of a value, as a statement does that is refused behind it."""
+        if isinstance(value, Array):
+            self.numbers(value)
+
+    def assign(self, target: ast.Subscript, value: Value) -> None:
+        self.use(value)
+        chosen = self.choose(target)
+        if isinstance(value, Array) and not isinstance(target.slice, ast.Slice):
+            raise Refused
+        self.write(chosen, self.spread(value, chosen.count, chosen.kind))
+
+    def augment(self, node: ast.AugAssign) -> None:
+        work = OPERATORS[type(node.op)]
+        if isinstance(node.target, ast.Name):
+            old = self.name(node.target.id)
+            value = self.value(node.value)
+            if isinstance(old, Array):
+                self.in_place(old, work, value)
+            else:
+                self.bind(node.target.id, self.computed(work, old, value))
+            return
+        try:
+            chosen = self.choose(node.target)
+        except Refused:
+            self.use(self.value(node.value))
+            raise
+        self.use(chosen)
+        value = self.value(node.value)
+        self.use(value)
+        if isinstance(value, Array) and not isinstance(node.target.slice, ast.Slice):
+            raise Refused
+        self.in_place(chosen, work, value)
+
+    def in_place(self, target: Array, work: Any, value: Value) -> None:
+        self.use(target)
+        self.use(value)
+        if isinstance(value, Array) and value.count not in (1, target.count):
+            raise Refused
+        right = self.spread(value, target.count, "int64")
+        left = self.numbers(target)
+        self.write(target, [fitted(work(a, b), target.kind) for a, b in zip(left, right)])
+
+    def computed(self, work: Any, one: Value, other: Value) -> Value:
+        """A number, or a new array."""
+        if isinstance(other, Array):
+            right = self.numbers(other)
+            left, kind = (one.number, "int64") if isinstance(one, Scalar) else (int(one), other.kind)
+            return self.fresh([fitted(work(left, b), kind) for b in right], kind)
+        plain = [v.number if isinstance(v, Scalar) else v for v in (one, other)]
+        result = work(*plain)
+        if isinstance(one, Scalar) or isinstance(other, Scalar):
+            return Scalar(wrapped(int(result)))
+        if not -INT64 <= result < 2 * INT64:
+            raise Refused
+        return result
+
+
+def fitted(number: int, kind: str) -> int:
+    """A number as an element of a kind."""
+    number = int(number)
+    return wrapped(number) if kind == "int64" else (number + 128) % 256 - 128
+
+
+@dataclass
+class Pass:
+    """The runs of all cells of a notebook, by their labels and texts."""
+    runs: List[Tuple[int, str, Reads]] = field(default_factory=list)
+    stale: int = 0
+
+    def then(self, cells: List[Any], inputs: Dict[str, Any], is_read: Any) -> "Pass":
+        """Runs all cells anew, and counts those for which no run of this pass stands."""
+        session, following = Session(), Pass()
+        for cell in cells:
+            stands = any(label == cell.label and text == cell.text and reads.agree(session, inputs)
+                         for label, text, reads in self.runs)
+            following.stale += not stands
+            reads = Run(session, cell.label, inputs).run(cell.text, is_read(cell.text))
+            following.runs.append((cell.label, cell.text, reads))
+        return following

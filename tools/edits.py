@@ -1,0 +1,146 @@
+"""edits: the notebooks that `tools/bench edits` measures: an edit of one cell of many, beside inserting all of them."""
+from __future__ import annotations
+
+from collections.abc import Callable, Iterator
+from dataclasses import dataclass
+
+from driver import Program
+
+IMAGES = 50
+LARGE = 1 << 24
+READERS = 50
+
+
+@dataclass
+class Shape:
+    """A notebook: its cells, the text of cell k with another value v, and the elements of its input with one."""
+
+    name: str
+    cells: list[str]
+    other: Callable[[int, int], str]
+    input: Callable[[int], list[int]] | None = None
+
+
+def shapes(count: int) -> Iterator[Shape]:
+    """The notebooks of `count` cells, and those that have a size of their own."""
+    def source(v: int) -> str:
+        return f"v0 = np.arange(4) + {v}"
+
+    rest = range(1, count)
+    yield Shape("chain", ["v0 = np.arange(4)", *(f"v{k} = v{k - 1} + 1" for k in rest)],
+                lambda k, v: f"v{k} = v{k - 1} + {v}" if k else source(v))
+    yield Shape("star", ["v0 = np.arange(4)", *(f"v{k} = v0 + {k}" for k in rest)],
+                lambda k, v: f"v{k} = v0 + {v}" if k else source(v))
+    yield Shape("independent", [f"v{k} = np.arange(4)" for k in range(count)],
+                lambda k, v: f"v{k} = np.arange(4) + {v}")
+    zeros = f"a = np.zeros({count}, dtype='int64')"
+    yield Shape("in place",
+                [f"{zeros}\nb = a[:]", *(f"a[{k}] = {k}" if k % 2 else f"b[{k}] += {k}" for k in rest)],
+                lambda k, v: f"a[{k}] = {v + count}" if k else f"{zeros} + {v}\nb = a[:]")
+    yield Shape("rebound", ["t = np.arange(4)", *(["t = t + 1"] * (count - 1))],
+                lambda k, v: f"t = t + {v}" if k else f"t = np.arange(4) + {v}")
+    yield Shape("prints", [f"print({k})" for k in range(count)], lambda k, v: f"print({k + v})")
+    yield Shape("images", [image_cell(k, 1) for k in range(max(count, 2 * IMAGES))], image_cell)
+    yield Shape("large", [f"x = np.arange({LARGE})", *(f"y{k} = x[{k}]" for k in range(READERS))],
+                lambda k, v: f"y{k - 1} = x[{k + v}]" if k else f"x = np.arange({LARGE}) + {v}")
+    yield Shape("input", ["d = np.load('d')" if k == 50 else f"v{k} = np.arange(4) + {k}" for k in range(100)],
+                lambda k, v: f"d = np.load('d') + {v}" if k == 50 else f"v{k} = np.arange(4) + {v}",
+                lambda v: [v, v + 1, v + 2])
+
+
+def image_cell(k: int, v: int) -> str:
+    """A cell of an image pipeline: the images, a view of each, and steps that write through views and read others."""
+    image, other = k % IMAGES, (k * 7 + 3) % IMAGES
+    if k < IMAGES:
+        return f"i{image} = np.zeros((16, 16), dtype='int64') + {v}"
+    if k < 2 * IMAGES:
+        return f"w{image} = i{image}[{v % 4}:15, 1:15]"
+    steps = (f"w{image}[{k % 8}] += {v}", f"w{image}[:, {k % 8}] = i{other}[{k % 8}, 0] + {v}",
+             f"s{k} = w{image}.sum() + {v}", f"i{image}[0] = i{other}[1] * {v}")
+    return steps[k // IMAGES % len(steps)]
+
+
+def npy(numbers: list[int]) -> bytes:
+    """An NPY file of version 1.0 of numbers of eight bytes."""
+    header = f"{{'descr': '<i8', 'fortran_order': False, 'shape': ({len(numbers)},), }}"
+    header = header.ljust(117) + "\n"
+    return b"\x93NUMPY\x01\x00" + len(header).to_bytes(2, "little") + header.encode() + b"".join(
+        it.to_bytes(8, "little", signed=True) for it in numbers)
+
+
+@dataclass
+class Cost:
+    """What a kind of edit took: processor seconds, the least of its turns."""
+
+    what: str
+    seconds: float
+
+
+@dataclass
+class Costs:
+    """A notebook's cells, the seconds of inserting them, the bytes of each, the edits, and the most bytes at a time."""
+
+    shape: str
+    cells: int
+    whole: float
+    bytes_each: int
+    edits: list[Cost]
+    peak: int
+
+
+def measure(path: str, shape: Shape, turns: int) -> Costs:
+    """Inserts the cells of a notebook, and edits the last, the middle and the first of them in several ways."""
+    program, cells, count = Program(path), shape.cells, len(shape.cells)
+
+    def set_input(v: int) -> float:
+        seconds, answer = program.command(f"input d npy {npy(shape.input(v)).hex()}\n")
+        return checked(seconds, answer)
+
+    def checked(seconds: float, answer: str) -> float:
+        if answer != "ok":
+            raise ValueError(f"{shape.name}: an edit is answered {answer}")
+        return seconds
+
+    def least(what: str, call: Callable[[int], float]) -> Cost:
+        return Cost(what, min(call(turn) for turn in range(turns)))
+
+    def edited(k: int, text: str) -> float:
+        """Seconds of an edit, behind which the cell is put back."""
+        seconds = checked(*program.edit(k, text))
+        checked(*program.edit(k, cells[k]))
+        return seconds
+
+    def removed(k: int) -> float:
+        seconds = checked(*program.remove(k))
+        checked(*program.insert(k, cells[k]))
+        return seconds
+
+    def moved(k: int, to: int) -> float:
+        seconds = checked(*program.move(k, to))
+        checked(*program.move(to, k))
+        return seconds
+
+    def inserted(k: int, text: str) -> float:
+        seconds = checked(*program.insert(k, text))
+        checked(*program.remove(k))
+        return seconds
+
+    try:
+        if shape.input:
+            set_input(0)
+        alone = program.memory()[0]
+        whole = program.load(cells)
+        each = (program.memory()[0] - alone) // count
+        edits = []
+        for place, k in (("last", count - 1), ("middle", count // 2), ("first", 0)):
+            edits.append(least(f"another value in the {place} cell", lambda turn: edited(k, shape.other(k, 5 + turn))))
+            edits.append(least(f"blanks in the {place} cell", lambda turn: edited(k, cells[k] + " " * (turn + 1))))
+            edits.append(least(f"the {place} cell is removed", lambda turn: removed(k)))
+        edits.append(least("the middle cell moves one place down", lambda turn: moved(count // 2, count // 2 + 1)))
+        edits.append(least("the last cell moves to place 1", lambda turn: moved(count - 1, 1)))
+        edits.append(least("a new name in the middle", lambda turn: inserted(count // 2, f"zz{turn} = np.arange(3)")))
+        if shape.input:
+            edits.append(least("the input is replaced", lambda turn: set_input(turn + 1)))
+        return Costs(shape.name, count, whole, each, edits, program.memory()[1])
+    finally:
+        program.close()

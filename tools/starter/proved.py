@@ -1,0 +1,215 @@
+"""`./ndnote --build`: proves the crates below the program, side by side, and builds it."""
+import fcntl
+import hashlib
+import json
+import os
+import re
+import shutil
+import subprocess
+import sys
+import time
+from pathlib import Path
+from typing import Dict, IO, List, Tuple
+
+import shipped
+import sources
+from preview import NotBuilt
+
+BUILT = 'crates/ndnote/out/ndnote'
+BUILT_SUM = 'crates/ndnote/out/ndnote.sum'
+# What a check takes, in seconds of one processor: for a crate, a line of code, a line of definitions and proofs.
+CRATE_SECONDS, CODE_SECONDS, PROOF_SECONDS = 8.0, 0.02, 0.008
+CHECK_BYTES = 2_500_000_000
+
+
+def lines_in(folder: Path, ending: str) -> int:
+    return sum(file.read_bytes().count(b'\n') for file in folder.rglob(f'*{ending}'))
+
+
+def weights(top: Path) -> Dict[str, float]:
+    """The seconds of one processor that the check of each crate is likely to take, lowest crate first."""
+    found = {}
+    for crate in sources.crates(top):
+        folder = top / 'crates' / crate
+        code = lines_in(folder / 'src', '.rt')
+        proofs = lines_in(folder / 'specs', '.antt') + lines_in(folder / 'proofs', '.antt')
+        found[crate] = CRATE_SECONDS + CODE_SECONDS * code + PROOF_SECONDS * proofs
+    return found
+
+
+def seconds_of(weight: Dict[str, float], below: Dict[str, List[str]], done: List[str], lanes: int) -> float:
+    """How long the crates that are not done take in lanes, each started once those below it have ended."""
+    ended = {crate: 0.0 for crate in done}
+    free = [0.0] * max(lanes, 1)
+    for crate in weight:
+        if crate not in ended:
+            lane = min(range(len(free)), key=free.__getitem__)
+            start = max([free[lane], *(ended[other] for other in below[crate] if other in ended)])
+            free[lane] = ended[crate] = start + weight[crate]
+    return max(ended.values(), default=0.0)
+
+
+def lanes_here() -> int:
+    """How many checks run side by side: one for each processor, as far as memory goes."""
+    try:
+        told = Path('/proc/meminfo').read_text(encoding='ascii')
+        free = 1024 * int(re.findall(r'MemAvailable:\s+(\d+)', told)[0])
+    except (OSError, IndexError):
+        free = CHECK_BYTES
+    return max(1, min(len(os.sched_getaffinity(0)), free // CHECK_BYTES))
+
+
+def span(seconds: float) -> str:
+    return f'{seconds:.0f} s' if seconds < 90 else f'{seconds / 60:.0f} minutes'
+
+
+def estimate(top: Path) -> Tuple[int, int, float]:
+    """How many crates a build proves, how many side by side, and how long that is likely to take."""
+    weight, lanes = weights(top), lanes_here()
+    return len(weight), lanes, seconds_of(weight, sources.below(top), [], lanes)
+
+
+def room_of(top: Path) -> Path:
+    """The folder in which the proof is done. It is kept, so that a build which stopped goes on. It lies outside the
+    repository, whose gate refuses a second crates.txt."""
+    base = Path(os.environ.get('XDG_CACHE_HOME') or Path.home() / '.cache')
+    return base / 'ndnote' / hashlib.sha256(str(top).encode()).hexdigest()[:12]
+
+
+def copy_sources(top: Path, room: Path) -> None:
+    """Makes the sources in the room those of the repository. Files that are the same stay as they are."""
+    wanted = {name: (top / name).read_bytes() for name in sources.files(top)}
+    crates = sources.crates(top)
+    lines = wanted['crates.txt'].decode().splitlines(keepends=True)
+    wanted['crates.txt'] = ''.join(it for it in lines if it.partition(':')[0].strip() in crates).encode()
+    for folder in sorted((room / 'crates').glob('*')):
+        if folder.name not in crates:
+            shutil.rmtree(folder)
+    for part in sources.PROVED_OF:
+        for file in (room / 'crates').glob(f'*/{part}/**/*'):
+            if file.is_file() and str(file.relative_to(room)) not in wanted:
+                file.unlink()
+    for name, data in wanted.items():
+        path = room / name
+        if not path.is_file() or path.read_bytes() != data:
+            path.parent.mkdir(parents=True, exist_ok=True)
+            path.write_bytes(data)
+
+
+class Progress:
+    """What is proved so far, as one line on a terminal and as a line for each crate elsewhere."""
+
+    def __init__(self, top: Path, room: Path, lanes: int) -> None:
+        self.weight, self.below, self.lanes = weights(top), sources.below(top), lanes
+        self.kept, self.began = room / 'functions.json', time.monotonic()
+        self.done: List[str] = []
+        self.functions: Dict[str, int] = {}
+        try:
+            self.functions = json.loads(self.kept.read_text(encoding='utf-8'))
+        except (OSError, ValueError):
+            pass
+        self.is_seen, self.proved = sys.stderr.isatty(), 0
+
+    def end(self, crate: str, said: str) -> None:
+        if crate not in self.weight or crate in self.done:
+            return
+        self.done.append(crate)
+        counts = re.findall(r'(?m)^logic=proved\b.* functions=(\d+)', said)
+        if counts:
+            self.functions[crate] = int(counts[-1])
+            sources.write(self.kept, json.dumps(self.functions).encode())
+            self.proved += 1
+        elapsed = time.monotonic() - self.began
+        planned = seconds_of(self.weight, self.below, self.done, self.lanes)
+        first = seconds_of(self.weight, self.below, [], self.lanes)
+        pace = elapsed / (first - planned) if self.proved > 2 and first > planned else 1.0
+        line = (f'ndnote: {len(self.done)} of {len(self.weight)} crates, {crate} '
+                f'({int(elapsed) // 60}:{int(elapsed) % 60:02d}; some {span(planned * pace)} left)')
+        sys.stderr.write(f'\r\x1b[K{line}' if self.is_seen else f'{line}\n')
+        sys.stderr.flush()
+
+    def close(self) -> None:
+        if self.is_seen:
+            print(file=sys.stderr)
+
+
+def prove_all(room: Path, progress: Progress) -> None:
+    """Proves each crate in the room, lowest first, side by side. Two calls of `rt` would wait for one another, since
+    each locks its crate and all below it; so one call does them all."""
+    words = ['rt', 'all', 'check', '--jobs', str(progress.lanes)]
+    ran = subprocess.Popen(words, cwd=room, stdin=subprocess.DEVNULL, stdout=subprocess.PIPE, stderr=subprocess.STDOUT,
+                           text=True, errors='replace')
+    assert ran.stdout
+    said: Dict[str, List[str]] = {}
+    whole: List[str] = []
+    crate = ''
+    for line in ran.stdout:
+        head = re.fullmatch(r'== (\w+)\n', line)
+        if head:
+            if crate:
+                progress.end(crate, ''.join(said[crate]))
+            crate = head[1]
+            said[crate] = []
+        elif crate:
+            said[crate].append(line)
+            if line.startswith('logic=proved '):
+                progress.end(crate, line)
+        else:
+            whole.append(line)
+    progress.close()
+    if ran.wait():
+        failed = [it for it in said if re.search(rf'(?m)^{it}: failed', ''.join(said.get('summary', [])))]
+        told = ''.join(f'== {it}\n{"".join(said[it])}' for it in failed) or ''.join(whole)
+        raise NotBuilt(f'{told}not proved: {", ".join(failed) or "see above"}')
+
+
+def link_program(room: Path) -> bytes:
+    ran = subprocess.run(['rt', 'run'], cwd=room / 'crates' / sources.PROGRAM, stdin=subprocess.DEVNULL,
+                         stdout=subprocess.PIPE, stderr=subprocess.STDOUT, text=True, errors='replace', check=False)
+    if ran.returncode:
+        raise NotBuilt(ran.stdout)
+    return (room / BUILT).read_bytes()
+
+
+def toolchain() -> str:
+    """The line by which the toolchain names itself, or nothing where there is none."""
+    if not shutil.which('rt'):
+        return ''
+    return subprocess.run(['rt', 'version'], stdout=subprocess.PIPE, text=True, check=False).stdout.strip()
+
+
+def lock_of(room: Path) -> IO[bytes]:
+    """Waits until no other build works in the room."""
+    room.mkdir(parents=True, exist_ok=True)
+    lock = open(room / 'lock', 'wb')
+    try:
+        fcntl.flock(lock, fcntl.LOCK_EX | fcntl.LOCK_NB)
+    except BlockingIOError:
+        print('ndnote: waiting for another build of this folder', file=sys.stderr)
+        fcntl.flock(lock, fcntl.LOCK_EX)
+    return lock
+
+
+def build(top: Path) -> None:
+    """Proves and builds the program of the sources as they are at the start."""
+    if not shutil.which('rt'):
+        raise NotBuilt('a proof needs the Rattle toolchain: there is no `rt` on the PATH')
+    room = room_of(top)
+    with lock_of(room):
+        count, lanes, seconds = estimate(top)
+        print(f'ndnote: proving {count} crates, {lanes} side by side; from nothing some {span(seconds)}, in {room}',
+              file=sys.stderr)
+        copy_sources(top, room)
+        proved, line = sources.sum_of(top), toolchain()
+        progress = Progress(top, room, lanes)
+        prove_all(room, progress)
+        program = link_program(room)
+        if sources.sum_of(top) != proved:
+            raise NotBuilt('a source was changed meanwhile: once more')
+        told = shipped.Sum(proved, line, hashlib.sha256(program).hexdigest())
+        if not sources.write(top / BUILT, program, 0o755) or not sources.write(top / BUILT_SUM, told.text().encode()):
+            raise NotBuilt(f'{BUILT} cannot be written')
+        elapsed = time.monotonic() - progress.began
+        functions = sum(progress.functions.get(crate, 0) for crate in progress.weight)
+        print(f'ndnote: proved {count} crates, {functions} functions, by {line}, in {span(elapsed)} '
+              f'({progress.proved} crates now, the others before)', file=sys.stderr)

@@ -158,7 +158,10 @@ fn matches_of<'a>(alloc: Global, words: &'a [String]) -> Result<ArgMatches<'a>, 
 
 /// What the words of the command line ask for.
 fn request_of<'a>(alloc: Global, words: &'a [String]) -> Result<Request<'a>, ProgramFault<'a>> {
-    let matches = matches_of(alloc, words).map_err(ProgramFault::of_command_line)?;
+    let matches = match matches_of(alloc, words) {
+        Ok(matches) => matches,
+        Err(error) => return Err(ProgramFault::of_command_line(error)),
+    };
     let inputs = inputs_of(alloc, matches.get_strs("input").unwrap_or(&[]))?;
     Ok(Request {
         script: matches.get_str("script"),
@@ -213,7 +216,10 @@ fn run_path<'a>(
     notebook: &mut Notebook,
 ) -> Result<(), ProgramFault<'a>> {
     let Some(path) = path else {
-        return run_reader(rt, rt.stdin(), meter, notebook).map_err(ProgramFault::Stopped);
+        return match run_reader(rt, rt.stdin(), meter, notebook) {
+            Ok(()) => Ok(()),
+            Err(fault) => Err(ProgramFault::Stopped(fault)),
+        };
     };
     let ended = match fs::open(rt, path) {
         Ok(file) => run_reader(rt, file, meter, notebook),

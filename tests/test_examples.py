@@ -151,7 +151,7 @@ class Documents(unittest.TestCase):
             self.assertGreater(len(examples), 1, name)
 
     def test_each_refusal_has_an_example(self) -> None:
-        texts = (TOP / "crates/nd_model/specs/FaultText.antt").read_text(encoding="utf-8")
+        texts = (TOP / "crates/nd_model/specs/Text/FaultText.antt").read_text(encoding="utf-8")
         groups = {group: name for group, name in EXAMPLES.re.findall(r'codes "([A-Z]\w+)\." \+\+ (\w+_text)', texts)}
         self.assertEqual(len(groups), 9)
         page = (TOP / "docs/SCRIPT.md").read_text(encoding="utf-8")

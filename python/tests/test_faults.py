@@ -29,7 +29,7 @@ class Faults(unittest.TestCase):
 
     def test_every_fault_of_a_group_has_a_sentence(self):
         """The definitions have a list for each group, as `view_text OutOfBlock = codes "OutOfBlock"`."""
-        lists = (TOP / 'crates/nd_model/specs/FaultText.antt').read_text('utf-8')
+        lists = (TOP / 'crates/nd_model/specs/Text/FaultText.antt').read_text('utf-8')
         for front, name in re.findall(r'^(\w+)_text .* = codes "([A-Z]\w*) ?"', lists, re.M):
             if front in ('edit_fault', 'query_fault'):
                 self.assertIn(name, FAULTS)

@@ -83,17 +83,17 @@ pub fn remove_cell(
     push_edit_answer(out, "", &done)
 }
 
-/// Sets an input.
+/// Sets an input, which the notebook keeps.
 pub fn set_input(
     out: &mut Vec<u8>,
     meter: &mut Meter,
     notebook: &mut Notebook,
     name: &str,
-    input: &Input,
+    input: Input,
 ) -> Result<(), AllocError>
-    ensures carried { Carried (script.Edits (SetInput name.now (source_of input.now)))
+    ensures carried { Carried (script.Edits (SetInput name.now (source_of input)))
         (book_of notebook.old) out.old.items result out.new.items (book_of notebook.new) }
-    ensures counts { CountsCommand (script.Edits (SetInput name.now (source_of input.now)))
+    ensures counts { CountsCommand (script.Edits (SetInput name.now (source_of input)))
         (book_of notebook.old) meter.old meter.new }
 {
     let done = notebook.set_input(meter, name, input);

@@ -139,7 +139,7 @@ fn answer_whole(
         LineCommand::Value { at, name } => show_value(answer, notebook, at, name),
         LineCommand::Saved { at, name } => show_save(answer, notebook, at, name),
         LineCommand::SetInput { name, input } => {
-            set_input(answer, meter, notebook, name, &input_of_line(input))
+            set_input(answer, meter, notebook, name, input_of_line(input))
         }
         LineCommand::DropInput(name) => drop_input(answer, meter, notebook, name),
         LineCommand::Count => push_count_line(answer, "count", notebook.count()),

@@ -1,3 +1,5 @@
 pub mod Bits
 pub mod Ranges
 pub mod Slices
+pub mod Strips
+pub mod Walks

@@ -1,11 +1,14 @@
-//! `is_same_words` and `patch_words`: compares and copies the bytes of blocks at marked byte
-//! offsets.
-ghost use Rattle.std.specs.Prelude.{◌≡◌, ℕ, ◌+◌, ◌-◌, ◌^◌, ◌<◌, ◌≤◌, ◌&&◌, ◌↔◌, if◌then◌else◌, IsTrue, true, nat_eq, nat_le, nat_lt, length, slice_index};
-ghost use Rattle.std.specs.Int.{bit_at};
-ghost use Rattle.nd_marks.specs.Marks.{has_bit, in_word};
+//! `is_same_strips` and `patch_strips`: compares and copies the bytes of blocks at marked byte
+//! offsets, row by row and word by word.
+ghost use Rattle.std.specs.Prelude.{◌≡◌, ℕ, ◌+◌, ◌-◌, ◌*◌, ◌^◌, ◌<◌, ◌≤◌, ◌&&◌, ◌↔◌, if◌then◌else◌, IsTrue, true, nat_eq, nat_le, nat_lt, length, slice_index};
+ghost use Rattle.std.specs.Int.{bit_at, from_le_bytes, to_le_bytes, w16, w32, w64};
+ghost use Rattle.nd_model.specs.Arrays.Element.{bytes_at};
+ghost use Rattle.nd_marks.specs.Marks.{has_bit, in_word, in_strip, in_strips};
 
-/// The byte at a byte offset, 0 past the end.
-fn byte_at(bytes: &[u8], place: u128) -> u8
+use crate::strip::Strip;
+
+/// Returns the byte at a byte offset, 0 past the end.
+pub(crate) fn byte_at(bytes: &[u8], place: u128) -> u8
     ensures { result ≡ slice_index bytes.now place }
 {
     if place < bytes.len() as u128 {
@@ -83,6 +86,7 @@ pub(crate) fn is_same_words(a: &[u8], b: &[u8], words: &[u64]) -> bool
 }
 
 /// Copies the bytes of a range that lies in both.
+#[inline(always)]
 fn patch_inside(target: &mut [u8], source: &[u8], start: usize, end: usize)
     requires { (start ≤ end) × (end ≤ length target.old) × (end ≤ length source.now) }
     ensures len { length target.new ≡ length target.old }
@@ -156,5 +160,173 @@ pub(crate) fn patch_words(target: &mut [u8], source: &[u8], words: &[u64])
         if word != 0 {
             patch_word(target, source, word, at as u128 * 64);
         }
+    }
+}
+
+/// The 16 bits from a byte offset on. The bytes are copied together, so that they are one load.
+#[inline(always)]
+fn bits16(bytes: &[u8], from: usize) -> u16
+    requires { from + 2 ≤ length bytes.now }
+    ensures value { result ≡ from_le_bytes w16 (bytes_at bytes.now from 2) }
+    ensures bytes { to_le_bytes w16 result ≡ bytes_at bytes.now from 2 }
+{
+    let mut run = [0; 2];
+    run.copy_from_slice(&bytes[from..from + 2]);
+    u16::from_le_bytes(run)
+}
+
+/// The 32 bits from a byte offset on.
+#[inline(always)]
+fn bits32(bytes: &[u8], from: usize) -> u32
+    requires { from + 4 ≤ length bytes.now }
+    ensures value { result ≡ from_le_bytes w32 (bytes_at bytes.now from 4) }
+    ensures bytes { to_le_bytes w32 result ≡ bytes_at bytes.now from 4 }
+{
+    let mut run = [0; 4];
+    run.copy_from_slice(&bytes[from..from + 4]);
+    u32::from_le_bytes(run)
+}
+
+/// The 64 bits from a byte offset on.
+#[inline(always)]
+fn bits64(bytes: &[u8], from: usize) -> u64
+    requires { from + 8 ≤ length bytes.now }
+    ensures value { result ≡ from_le_bytes w64 (bytes_at bytes.now from 8) }
+    ensures bytes { to_le_bytes w64 result ≡ bytes_at bytes.now from 8 }
+{
+    let mut run = [0; 8];
+    run.copy_from_slice(&bytes[from..from + 8]);
+    u64::from_le_bytes(run)
+}
+
+/// Whether both have equal bytes in a row that lies in both. A row as wide as a usual itemsize is
+/// compared as one number.
+#[inline(always)]
+fn is_same_row(a: &[u8], b: &[u8], from: usize, width: usize) -> bool
+    requires { (from + width ≤ length a.now) × (from + width ≤ length b.now) }
+    ensures { IsTrue result
+        ↔ ((p : ℕ) → from ≤ p → p < from + width → slice_index a.now p ≡ slice_index b.now p) }
+{
+    match width {
+        1 => a[from] == b[from],
+        2 => bits16(a, from) == bits16(b, from),
+        4 => bits32(a, from) == bits32(b, from),
+        8 => bits64(a, from) == bits64(b, from),
+        _ => is_same_inside(a, b, from, from + width),
+    }
+}
+
+/// Whether both have equal bytes in all rows of a strip that lies in both.
+fn is_same_rows(a: &[u8], b: &[u8], strip: &Strip) -> bool
+    requires a { (k : ℕ) → k < strip.now.count
+        → strip.now.first + k * strip.now.step + strip.now.width ≤ length a.now }
+    requires b { (k : ℕ) → k < strip.now.count
+        → strip.now.first + k * strip.now.step + strip.now.width ≤ length b.now }
+    ensures { IsTrue result ↔ ((p : ℕ) → in_strip strip.now p ≡ true
+        → slice_index a.now p ≡ slice_index b.now p) }
+{
+    let width = strip.width() as usize;
+    for number in 0..strip.count() {
+        if !is_same_row(a, b, strip.offset(number), width) {
+            return false;
+        }
+    }
+    true
+}
+
+/// Returns whether both have equal bytes in all rows of a strip.
+pub(crate) fn is_same_strip(a: &[u8], b: &[u8], strip: &Strip) -> bool
+    ensures { IsTrue result ↔ ((p : ℕ) → in_strip strip.now p ≡ true
+        → slice_index a.now p ≡ slice_index b.now p) }
+{
+    if strip.lies_in(a.len()) && strip.lies_in(b.len()) {
+        return is_same_rows(a, b, strip);
+    }
+    let width = u128::from(strip.width());
+    for number in 0..strip.count() {
+        let from = strip.start(number);
+        if !is_same_range(a, b, from, from + width) {
+            return false;
+        }
+    }
+    true
+}
+
+/// Returns whether both have equal bytes in all rows of all strips.
+pub(crate) fn is_same_strips(a: &[u8], b: &[u8], strips: &[Strip]) -> bool
+    ensures { IsTrue result ↔ ((p : ℕ) → in_strips strips.now p ≡ true
+        → slice_index a.now p ≡ slice_index b.now p) }
+{
+    for strip in strips {
+        if !is_same_strip(a, b, strip) {
+            return false;
+        }
+    }
+    true
+}
+
+/// Copies the bytes of a row that lies in both. A row as wide as a usual itemsize is copied as one
+/// number.
+#[inline(always)]
+fn patch_row(target: &mut [u8], source: &[u8], from: usize, width: usize)
+    requires { (from + width ≤ length target.old) × (from + width ≤ length source.now) }
+    ensures len { length target.new ≡ length target.old }
+    ensures bytes { (p : ℕ) → p < length target.old
+        → slice_index target.new p ≡ (if nat_le from p && nat_lt p (from + width)
+        then slice_index source.now p else slice_index target.old p) }
+{
+    match width {
+        1 => patch_inside(target, source, from, from + 1),
+        2 => patch_inside(target, source, from, from + 2),
+        4 => patch_inside(target, source, from, from + 4),
+        8 => patch_inside(target, source, from, from + 8),
+        _ => patch_inside(target, source, from, from + width),
+    }
+}
+
+/// Copies the bytes of all rows of a strip that lies in both.
+fn patch_rows(target: &mut [u8], source: &[u8], strip: &Strip)
+    requires target { (k : ℕ) → k < strip.now.count
+        → strip.now.first + k * strip.now.step + strip.now.width ≤ length target.old }
+    requires source { (k : ℕ) → k < strip.now.count
+        → strip.now.first + k * strip.now.step + strip.now.width ≤ length source.now }
+    ensures len { length target.new ≡ length target.old }
+    ensures bytes { (p : ℕ) → p < length target.old
+        → slice_index target.new p ≡ (if in_strip strip.now p
+        then slice_index source.now p else slice_index target.old p) }
+{
+    let width = strip.width() as usize;
+    for number in 0..strip.count() {
+        patch_row(target, source, strip.offset(number), width);
+    }
+}
+
+/// Copies the bytes of all rows of a strip.
+pub(crate) fn patch_strip(target: &mut [u8], source: &[u8], strip: &Strip)
+    ensures len { length target.new ≡ length target.old }
+    ensures bytes { (p : ℕ) → p < length target.old
+        → slice_index target.new p ≡ (if in_strip strip.now p
+        then slice_index source.now p else slice_index target.old p) }
+{
+    if strip.lies_in(target.len()) && strip.lies_in(source.len()) {
+        patch_rows(target, source, strip);
+        return;
+    }
+    let width = u128::from(strip.width());
+    for number in 0..strip.count() {
+        let from = strip.start(number);
+        patch_range(target, source, from, from + width);
+    }
+}
+
+/// Copies the bytes of all rows of all strips.
+pub(crate) fn patch_strips(target: &mut [u8], source: &[u8], strips: &[Strip])
+    ensures len { length target.new ≡ length target.old }
+    ensures bytes { (p : ℕ) → p < length target.old
+        → slice_index target.new p ≡ (if in_strips strips.now p
+        then slice_index source.now p else slice_index target.old p) }
+{
+    for strip in strips {
+        patch_strip(target, source, strip);
     }
 }

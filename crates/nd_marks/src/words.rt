@@ -4,8 +4,9 @@ ghost use Rattle.std.specs.Int.{bit_at};
 ghost use Rattle.std.specs.List.{All, flat_map};
 ghost use Rattle.nd_model.specs.Cells.Session.{is_in};
 ghost use Rattle.nd_model.specs.Arrays.Tuple.{count_up};
-ghost use Rattle.nd_marks.specs.Marks.{has_bit, in_word};
+ghost use Rattle.nd_marks.specs.Marks.{has_bit, in_word, in_strip};
 
+use crate::strip::Strip;
 use std::alloc::AllocError;
 
 /// The word of the lowest `count` bits.
@@ -75,7 +76,7 @@ pub(crate) fn set_bits(
     to: u128,
     except: &[u64],
 ) -> Result<(), AllocError>
-    requires { to ≤ 2 ^ 64 }
+    requires { to ≤ 2 ^ 65 }
     ensures { OnOk result ((p : ℕ) → has_bit words.new.items p ≡ (has_bit words.old.items p
         || ((nat_le from p && nat_lt p to) && not (has_bit except.now p)))) }
 {
@@ -145,6 +146,18 @@ pub(crate) fn set_runs(
     grow(words, ((end + 63) / 64) as u64)?;
     for place in places {
         set_run(words, *place, size, except);
+    }
+    Ok(())
+}
+
+/// Sets the bits of all rows of a strip.
+pub(crate) fn set_strip(words: &mut Vec<u64>, strip: &Strip) -> Result<(), AllocError>
+    ensures { OnOk result ((p : ℕ) → has_bit words.new.items p ≡ (has_bit words.old.items p
+        || in_strip strip.now p)) }
+{
+    for number in 0..strip.count() {
+        let from = strip.start(number);
+        set_bits(words, from, from + u128::from(strip.width()), &[])?;
     }
     Ok(())
 }

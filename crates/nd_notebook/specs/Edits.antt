@@ -1,6 +1,7 @@
 -- Edits and their answers as the definitions have them.
-use Rattle.std.specs.Prelude.{ℕ, List, [], ◌∷◌, Result, Ok, Err}
+use Rattle.std.specs.Prelude.{◌≡◌, ℕ, List, [], ◌∷◌, None, Result, Ok, Err}
 use Rattle.nd_model.specs.Book.Book as model
+use Rattle.nd_model.specs.Book.Notebook.{Sheet, Answers, CountsRuns, book_of}
 use Rattle.nd_session.specs.Inputs.Values.{source_of}
 use Rattle.nd_notebook.specs.declared.edit.Edit.{Edit}
 use Rattle.nd_notebook.specs.declared.edit.Edit.TheVariants.{Insert, Change, Move, Remove, SetInput, DropInput}
@@ -44,3 +45,8 @@ abbrev pub outcomes_of : List model.Edit → List (Result (Unit {0}) EditFault) 
 outcomes_of [] rs = []
 outcomes_of (e ∷ es) [] = []
 outcomes_of (e ∷ es) (r ∷ rs) = outcome_of e r ∷ outcomes_of es rs
+
+-- the edit is refused in this way in each notebook, which counts nothing; or it is refused in none
+abbrev pub IsRefusalOf : model.Edit → Result (Unit {0}) EditFault → Type 0
+IsRefusalOf e (Ok done) = (s : Sheet) → model.refusal e (book_of s) ≡ None
+IsRefusalOf e (Err f) = (s : Sheet) (n : ℕ) → Answers e s (Err (edit_fault_of (name_in e) f)) s × CountsRuns e s (Err (edit_fault_of (name_in e) f)) n n

@@ -4,7 +4,7 @@ ghost use Rattle.std.specs.Prelude.{◌≡◌, IfOk, OnErr, OnOk, length};
 ghost use Rattle.nd_model.specs.Book.Book as model;
 ghost use Rattle.nd_model.specs.Book.Notebook.{Answers, CountsRuns, no_sheet};
 ghost use Rattle.nd_session.specs.Inputs.Values.{source_of};
-ghost use Rattle.nd_notebook.specs.Edits.{outcome_of};
+ghost use Rattle.nd_notebook.specs.Edits.{IsRefusalOf, outcome_of};
 
 use crate::edit::{Edit, EditFault};
 use crate::kernel::SessionRunner;
@@ -26,6 +26,19 @@ const MOST_SOURCE: usize = 65_536;
 
 /// The most bytes that an input may take.
 const MOST_INPUT: u128 = 67_108_864;
+
+/// Refuses an input that no notebook takes under a name. Want of memory is none of its refusals.
+fn check_input(name: &str, input: &Input) -> Result<(), EditFault>
+    ensures { IsRefusalOf (model.SetInput name.now (source_of input.now)) result }
+{
+    if !is_input_name(name) {
+        return Err(EditFault::BadInputName);
+    }
+    if MOST_INPUT < input.size() {
+        return Err(EditFault::InputTooLarge);
+    }
+    Ok(())
+}
 
 /// A list of cells and inputs under edits, whose answers are those of running all cells in order
 /// from nothing. Positions count from 0.
@@ -146,7 +159,8 @@ impl Notebook {
         Ok(())
     }
 
-    /// Sets a copy of the input under a name, in place of one that has it.
+    /// Sets the input under a name, in place of one that has it. The notebook keeps its bytes, and
+    /// copies none. A refused input is dropped.
     ///
     /// Refused in this order: a name that no input may have (`BadInputName`), an input of more than
     /// 2^26 bytes (`InputTooLarge`), want of memory.
@@ -154,19 +168,16 @@ impl Notebook {
         &mut self,
         meter: &mut Meter,
         name: &str,
-        input: &Input,
+        input: Input,
     ) -> Result<(), EditFault>
-        ensures answered { Answers (model.SetInput name.now (source_of input.now)) self.old
-            (outcome_of (model.SetInput name.now (source_of input.now)) result) self.new }
-        ensures counts { CountsRuns (model.SetInput name.now (source_of input.now)) self.old
-            (outcome_of (model.SetInput name.now (source_of input.now)) result)
+        ensures answered { Answers (model.SetInput name.now (source_of input)) self.old
+            (outcome_of (model.SetInput name.now (source_of input)) result) self.new }
+        ensures counts { CountsRuns (model.SetInput name.now (source_of input)) self.old
+            (outcome_of (model.SetInput name.now (source_of input)) result)
             meter.old meter.new }
     {
-        if !is_input_name(name) {
-            return Err(EditFault::BadInputName);
-        }
-        if MOST_INPUT < input.size() {
-            return Err(EditFault::InputTooLarge);
+        if let Err(fault) = check_input(name, &input) {
+            return Err(fault);
         }
         let inputs = with_input(self.alloc, self.schedule.inputs(), name, input)?;
         self.schedule.set_inputs(meter, inputs)?;
@@ -285,7 +296,22 @@ impl Notebook {
     ghost use Rattle.nd_model.specs.Book.Notebook.{book_of, AreAnswered};
     ghost use Rattle.nd_notebook.specs.Edits.{edit_of, outcomes_of};
 
-    /// Makes an edit, or refuses it.
+    /// Sets a copy of an input that is lent. An input that is refused is not copied.
+    fn set_copy(&mut self, meter: &mut Meter, name: &str, input: &Input) -> Result<(), EditFault>
+        ensures answered { Answers (model.SetInput name.now (source_of input.now)) self.old
+            (outcome_of (model.SetInput name.now (source_of input.now)) result) self.new }
+        ensures counts { CountsRuns (model.SetInput name.now (source_of input.now)) self.old
+            (outcome_of (model.SetInput name.now (source_of input.now)) result)
+            meter.old meter.new }
+    {
+        if let Err(fault) = check_input(name, input) {
+            return Err(fault);
+        }
+        let copy = input.try_clone(self.alloc)?;
+        self.set_input(meter, name, copy)
+    }
+
+    /// Makes an edit, or refuses it. The input of an edit is lent, so the notebook keeps a copy.
     pub fn apply(&mut self, meter: &mut Meter, edit: Edit) -> Result<(), EditFault>
         ensures answered { Answers (edit_of edit.entry) self.old
             (outcome_of (edit_of edit.entry) result) self.new }
@@ -297,7 +323,7 @@ impl Notebook {
             Edit::Change(at, source) => self.edit(meter, at, source),
             Edit::Move(from, to) => self.move_cell(meter, from, to),
             Edit::Remove(at) => self.remove(meter, at),
-            Edit::SetInput(name, input) => self.set_input(meter, name, input),
+            Edit::SetInput(name, input) => self.set_copy(meter, name, input),
             Edit::DropInput(name) => self.drop_input(meter, name),
         }
     }

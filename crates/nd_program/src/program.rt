@@ -169,10 +169,13 @@ fn request_of<'a>(alloc: Global, words: &'a [String]) -> Result<Request<'a>, Pro
     })
 }
 
-/// The bytes of a file, and of a large one as many as are more than an input may take.
+/// The bytes of a file, and of a large one as many as are more than an input may take. The buffer is made for the file's length; where
+/// none is known, as of a pipe, it grows.
 fn read_input(rt: &HostRuntime, path: &str) -> io::Result<Vec<u8>> {
-    let mut bytes = Vec::new(rt.alloc());
     let file = fs::open(rt, path)?;
+    // A byte more than the file has, so that the read that finds the end needs no more room.
+    let room = file.metadata()?.len().saturating_add(1).min(MOST_READ);
+    let mut bytes = Vec::with_capacity(rt.alloc(), room as usize)?;
     file.take(MOST_READ).read_to_end(&mut bytes)?;
     Ok(bytes)
 }
@@ -189,7 +192,7 @@ fn set_inputs<'a>(
             Ok(bytes) => bytes,
             Err(error) => return Err(ProgramFault::UnreadInput(*input, error)),
         };
-        if let Err(fault) = notebook.set_input(meter, input.name, &Input::Npy(bytes)) {
+        if let Err(fault) = notebook.set_input(meter, input.name, Input::Npy(bytes)) {
             return Err(ProgramFault::RefusedInput(*input, fault));
         }
     }

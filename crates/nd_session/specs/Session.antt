@@ -4,6 +4,7 @@ pub mod Listed
 pub mod Kept
 pub mod Fields
 pub mod Intact
+pub mod Found
 pub mod Reads
 pub mod Reading
 pub mod Changes

@@ -4,6 +4,7 @@ ghost use Rattle.nd_session.specs.Session.State.{State};
 ghost use Rattle.nd_session.specs.Session.Listed.{IsListed};
 
 mod changes;
+mod found;
 mod matching;
 mod overlay;
 mod readings;

@@ -3,7 +3,6 @@ use Rattle.std.proofs.Common.{◌≡◌, ℕ, true, false, cond, List, length, s
 use Rattle.std.specs.Prelude.{is_some, IsTrue}
 use Rattle.std.specs.declared.rc.Rc.{Rc}
 use Rattle.std.proofs.lemmas.Bool.{cases_Bool}
-use Rattle.nd_marks.specs.Marks.{Places, holds}
 use Rattle.nd_model.specs.Arrays.Value as model
 use Rattle.nd_model.specs.Cells.Session.{Names, Session, lookup, held_bytes}
 use Rattle.nd_model.specs.Cells.Running.{Key, Name, Input, Length, Byte, Inputs, Source}
@@ -11,12 +10,14 @@ use Rattle.nd_model.specs.Cells.Footprint.{Bound, Given, Number, found}
 use Rattle.nd_heap.specs.declared.value.Base.{Base}
 use Rattle.nd_heap.specs.declared.value.Value.{Value}
 use Rattle.nd_session.specs.declared.inputs.input.Input as code
-use Rattle.nd_session.specs.declared.session.reads.BytesRead.{BytesRead}
+use Rattle.nd_session.specs.declared.session.found.FoundBytes.{FoundBytes}
+use Rattle.nd_session.specs.Session.Found as places
+use Rattle.nd_session.specs.Session.Found.{bytes_of, found_at}
 use Rattle.std.specs.Option.{option_copied}
 use Rattle.nd_heap.specs.Values.{base_of, value_of}
 use Rattle.nd_session.specs.Inputs.Values.{source_of}
 use Rattle.nd_session.proofs.session.Reading.{some_same}
-use Rattle.nd_session.specs.Session.Reading.{value_at, source_at, bytes_of}
+use Rattle.nd_session.specs.Session.Reading.{value_at, source_at}
 use Rattle.nd_session.specs.Session.Reads.{ReadsData, lookup_base, byte_at, found_of, keys_of}
 
 -- ---- at an entry
@@ -28,10 +29,10 @@ abbrev pub IsLengthFound : Session → Base × ℕ → Type 0
 IsLengthFound s e = e.1 ≡ length (held_bytes s (base_of e.0))
 
 -- the bytes at the places are those of the base
-abbrev pub AreSameBytes : Session → model.Base → Places × List ℕ → Type 0
-AreSameBytes s b e = (p : ℕ) → holds e.0 p ≡ true → slice_index e.1 p ≡ slice_index (held_bytes s b) p
+abbrev pub AreSameBytes : Session → model.Base → places.Found → Type 0
+AreSameBytes s b e = (p n : ℕ) → found_at e p ≡ Some n → slice_index (held_bytes s b) p ≡ n
 
-abbrev pub AreBytesFound : Session → Base × BytesRead → Type 0
+abbrev pub AreBytesFound : Session → Base × FoundBytes → Type 0
 AreBytesFound s e = AreSameBytes s (base_of e.0) (bytes_of e.1)
 
 abbrev pub IsInputFound : Inputs → String Global × Option (Rc code.Input Global) → Type 0
@@ -73,15 +74,9 @@ found_there f (Some x) y h there = ap Some (h x refl)
 none_some : {P : Type 0} (n : ℕ) → None ≡ Some n → P
 none_some n h = cc
 
-byte_there : (o : Option (Places × List ℕ)) (p m : ℕ) → ((e : Places × List ℕ) → o ≡ Some e → holds e.0 p ≡ true → slice_index e.1 p ≡ m) → (n : ℕ) → byte_at o p ≡ Some n → n ≡ m
+byte_there : (o : Option places.Found) (p m : ℕ) → ((e : places.Found) → o ≡ Some e → (n : ℕ) → found_at e p ≡ Some n → m ≡ n) → (n : ℕ) → byte_at o p ≡ Some n → n ≡ m
 byte_there None p m h n at = none_some n at
-byte_there (Some e) p m h n at = elim (cases_Bool (holds e.0 p)) [
-  | inl there ↦ let here : Some (slice_index e.1 p) ≡ Some n = rw there at at in sym (some_same (slice_index e.1 p) n here) ∙ h e refl there
-  | inr apart ↦ let here : None ≡ Some n = rw apart at at in none_some n here
-]
-
-byte_found : (o : Option (Places × List ℕ)) (e : Places × List ℕ) (p : ℕ) → o ≡ Some e → holds e.0 p ≡ true → byte_at o p ≡ Some (slice_index e.1 p)
-byte_found o e p is there = ap (λ o. byte_at o p) is ∙ ap (λ h. cond h (Some (slice_index e.1 p)) None) there
+byte_there (Some e) p m h n at = sym (h e refl n at)
 
 module _ (r : ReadsData) (s : Session) (inputs : Inputs) where
   abbrev pub SameNames : Type 0
@@ -94,7 +89,7 @@ module _ (r : ReadsData) (s : Session) (inputs : Inputs) where
   SameLengths = (b : model.Base) (n : ℕ) → lookup_base b r.lengths ≡ Some n → n ≡ length (held_bytes s b)
 
   abbrev pub SameBytes : Type 0
-  SameBytes = (b : model.Base) (e : Places × List ℕ) → lookup_base b r.bytes ≡ Some e → AreSameBytes s b e
+  SameBytes = (b : model.Base) (e : places.Found) → lookup_base b r.bytes ≡ Some e → AreSameBytes s b e
 
   abbrev pub Agreed : Type 0
   Agreed = (k : Key) → IsTrue (keys_of r k) → found_of r k ≡ Some (found s inputs k)
@@ -104,7 +99,7 @@ module _ (r : ReadsData) (s : Session) (inputs : Inputs) where
   agreeing names given long bytes (Input n) there = found_there Given (lookup n r.inputs) _ (λ x is. ap Given (given n x is)) there
   agreeing names given long bytes (Length b) there = found_there Number (lookup_base b r.lengths) _ (λ n is. ap Number (long b n is)) there
   agreeing names given long bytes (Byte b p) there = found_there Number (byte_at (lookup_base b r.bytes) p) _
-      (λ n is. ap Number (byte_there (lookup_base b r.bytes) p _ (λ e at h. bytes b e at p h) n is)) there
+      (λ n is. ap Number (byte_there (lookup_base b r.bytes) p _ (λ e at n is. bytes b e at p n is) n is)) there
 
   pub agree_names : Agreed → SameNames
   agree_names all n v is = bound _ _ (sym (ap (option_map Bound) is) ∙ all (Name n) (is_some_from Bound (lookup n r.names) v is))
@@ -116,6 +111,6 @@ module _ (r : ReadsData) (s : Session) (inputs : Inputs) where
   agree_lengths all b n is = number _ _ (sym (ap (option_map Number) is) ∙ all (Length b) (is_some_from Number (lookup_base b r.lengths) n is))
 
   pub agree_bytes : Agreed → SameBytes
-  agree_bytes all b e is p there =
-      let at : byte_at (lookup_base b r.bytes) p ≡ Some (slice_index e.1 p) = byte_found (lookup_base b r.bytes) e p is there in
-      number _ _ (sym (ap (option_map Number) at) ∙ all (Byte b p) (is_some_from Number (byte_at (lookup_base b r.bytes) p) _ at))
+  agree_bytes all b e is p n there =
+      let at : byte_at (lookup_base b r.bytes) p ≡ Some n = ap (λ o. byte_at o p) is ∙ there in
+      sym (number _ _ (sym (ap (option_map Number) at) ∙ all (Byte b p) (is_some_from Number (byte_at (lookup_base b r.bytes) p) _ at)))

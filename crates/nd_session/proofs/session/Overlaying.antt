@@ -17,6 +17,7 @@ use Rattle.nd_session.specs.Session.Changes.{ChangesData, writes_in}
 use Rattle.nd_trace.specs.Contents.{marks_of}
 use Rattle.nd_session.specs.Session.Intact.{AllLie}
 use Rattle.nd_trace.specs.Marked.{is_marked}
+use Rattle.nd_session.specs.Session.Found as places
 use Rattle.nd_session.specs.Session.Reads.{byte_at}
 use Rattle.nd_session.proofs.session.Intact.{with_binding}
 
@@ -43,7 +44,7 @@ pub found_inside : {X Y : Type 0} (f : X → Y) (o : Option X) → IsTrue (is_so
 found_inside f None there = there
 found_inside f (Some x) there = refl
 
-pub read_there : (o : Option (Places × List ℕ)) (p : ℕ) → IsTrue (is_some (byte_at o p)) → IsTrue (is_some o)
+pub read_there : (o : Option places.Found) (p : ℕ) → IsTrue (is_some (byte_at o p)) → IsTrue (is_some o)
 read_there None p there = there
 read_there (Some e) p there = refl
 

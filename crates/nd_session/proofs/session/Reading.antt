@@ -14,6 +14,7 @@ use Rattle.nd_trace.specs.Contents.{marks_of}
 use Rattle.nd_heap.specs.Live.{is_base_among}
 use Rattle.nd_trace.specs.Marked.{is_among, is_marked}
 use Rattle.nd_session.specs.Session.Reading.{by_text, by_base}
+use Rattle.nd_session.specs.Session.Found as places
 use Rattle.nd_session.specs.Session.Reads.{lookup_base, byte_at}
 use Rattle.nd_heap.proofs.Same.{same_bases, same_bytes, bytes_same}
 use Rattle.nd_heap.proofs.Bases.{base_eq}
@@ -171,24 +172,24 @@ marked_step (d ∷ es) zero e b at = or_false (model.same_base (base_of d.0) b) 
 marked_step (d ∷ es) (suc i) e b at = ap (λ h. model.same_base (base_of d.0) b || h) (marked_step es i e b at)
     ∙ either (model.same_base (base_of d.0) b) (is_base_among (marked_bases (take i es)) b) (model.same_base (base_of e.0) b)
 
-pub bytes_noted : (bytes : model.Base → List ℕ) (old new : List (model.Base × (Places × List ℕ))) (es : List (Base × Places)) (i : ℕ) (e : Base × Places) (b : model.Base) (p : ℕ)
+pub bytes_noted : (bytes : model.Base → List ℕ) (old new : List (model.Base × places.Found)) (es : List (Base × Places)) (i : ℕ) (e : Base × Places) (b : model.Base) (p : ℕ)
     → slice_get es i ≡ Some e → find (base_eq e.0) es ≡ Some e.1
-    → lookup_base b new ≡ cond (model.same_base b (base_of e.0)) (Some (e.1, bytes (base_of e.0))) (lookup_base b old)
+    → byte_at (lookup_base b new) p ≡ cond (model.same_base b (base_of e.0)) (cond (holds e.1 p) (Some (slice_index (bytes (base_of e.0)) p)) None) (byte_at (lookup_base b old) p)
     → byte_at (lookup_base b old) p ≡ cond (is_base_among (marked_bases (take i es)) b && is_marked (marks_of es) b p) (Some (slice_index (bytes b) p)) None
     → byte_at (lookup_base b new) p ≡ cond (is_base_among (marked_bases (take (suc i) es)) b && is_marked (marks_of es) b p) (Some (slice_index (bytes b) p)) None
 bytes_noted bytes old new es i e b p at found noted before =
     let all = sym (ap (λ h. cond (h && is_marked (marks_of es) b p) (Some (slice_index (bytes b) p)) None) (marked_step es i e b at)) in
-    ap (λ o. byte_at o p) noted ∙ elim (cases_Bool (model.same_base b (base_of e.0))) [
+    noted ∙ elim (cases_Bool (model.same_base b (base_of e.0))) [
       | inl same ↦
           let is : b ≡ base_of e.0 = same_bases b (base_of e.0) same in
           let here : model.same_base (base_of e.0) b ≡ true = same_base_sym (base_of e.0) b ∙ same in
           let marked : holds e.1 p ≡ is_marked (marks_of es) b p = sym (ap (λ c. is_marked (marks_of es) c p) is ∙ found_marked e.0 es p ∙ ap (λ o. found_marks o p) found) in
-          ap (λ h. byte_at (cond h (Some (e.1, bytes (base_of e.0))) (lookup_base b old)) p) same
+          ap (λ h. cond h (cond (holds e.1 p) (Some (slice_index (bytes (base_of e.0)) p)) None) (byte_at (lookup_base b old) p)) same
           ∙ ap₂ (λ h c. cond h (Some (slice_index (bytes c) p)) None) marked (sym is)
           ∙ sym (ap (λ h. cond (h && is_marked (marks_of es) b p) (Some (slice_index (bytes b) p)) None) (or_right (is_base_among (marked_bases (take i es)) b) _ here)) ∙ all
       | inr apart ↦
           let here : model.same_base (base_of e.0) b ≡ false = same_base_sym (base_of e.0) b ∙ apart in
-          ap (λ h. byte_at (cond h (Some (e.1, bytes (base_of e.0))) (lookup_base b old)) p) apart ∙ before
+          ap (λ h. cond h (cond (holds e.1 p) (Some (slice_index (bytes (base_of e.0)) p)) None) (byte_at (lookup_base b old) p)) apart ∙ before
           ∙ sym (ap (λ h. cond (h && is_marked (marks_of es) b p) (Some (slice_index (bytes b) p)) None) (ap (λ h. is_base_among (marked_bases (take i es)) b || h) here ∙ or_false _)) ∙ all
     ]
 

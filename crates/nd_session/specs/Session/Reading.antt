@@ -2,15 +2,13 @@
 use Rattle.std.specs.Prelude.{ℕ, List, [], ◌∷◌, Option, option_map, String, string_bytes}
 use Rattle.std.proofs.Common.{Global}
 use Rattle.std.specs.declared.rc.Rc.{Rc}
-use Rattle.nd_marks.specs.Marks.{Places}
 use Rattle.nd_model.specs.Arrays.Value as model
 use Rattle.nd_model.specs.Cells.Running.{Source}
 use Rattle.nd_session.specs.declared.inputs.input.Input.{Input}
 use Rattle.nd_heap.specs.declared.value.Base.{Base}
 use Rattle.nd_heap.specs.declared.value.Value.{Value}
-use Rattle.nd_session.specs.declared.session.reads.BytesRead.{BytesRead}
 use Rattle.nd_session.specs.declared.session.reads.Reads.TheInside.{Inside}
-use Rattle.nd_heap.specs.Contents.{bytes_in}
+use Rattle.nd_session.specs.Session.Found.{bytes_of}
 use Rattle.nd_heap.specs.Values.{base_of, value_of}
 use Rattle.nd_session.specs.Inputs.Values.{source_of}
 use Rattle.nd_session.specs.Session.Reads.{ReadsData}
@@ -32,9 +30,6 @@ source_at o = option_map (λ x. source_of x.value) o
 
 abbrev pub length_at : ℕ → ℕ
 length_at n = n
-
-abbrev pub bytes_of : BytesRead → Places × List ℕ
-bytes_of r = (r.marks, bytes_in r.block)
 
 abbrev pub reads_of : Inside → ReadsData
 reads_of r = record {

@@ -1,17 +1,18 @@
 -- What a cell read, with what it found there, as plain lists.
 use Rattle.std.specs.Prelude.{◌≡◌, ℕ, Bool, refl, if◌then◌else◌, List, [], ◌∷◌, length, slice_index, Option, Some, None, option_map, is_some}
-use Rattle.nd_marks.specs.Marks.{Places, holds}
+use Rattle.nd_session.specs.Session.Found.{found_at}
+use Rattle.nd_session.specs.Session.Found as places
 use Rattle.nd_model.specs.Arrays.Value.{Base, Value, same_base}
 use Rattle.nd_model.specs.Cells.Session.{Session, lookup, collected}
 use Rattle.nd_model.specs.Cells.Running.{Key, Name, Input, Length, Byte, Inputs, Source}
 use Rattle.nd_model.specs.Cells.Footprint.{Found, Bound, Given, Number, found}
 
--- names, inputs, and the lengths of bases with what was found there, and the places that were read of bases with all bytes of each
+-- names, inputs, the lengths of bases, and the bytes of bases at the places that were read, with what was found there
 pub record ReadsData : Type 0 where
   pub names : List (List ℕ × Option Value)
   pub inputs : List (List ℕ × Option Source)
   pub lengths : List (Base × ℕ)
-  pub bytes : List (Base × (Places × List ℕ))
+  pub bytes : List (Base × places.Found)
 
 -- what stands by a base
 abbrev pub lookup_base : {A : Type 0} → Base → List (Base × A) → Option A
@@ -19,9 +20,9 @@ lookup_base b [] = None
 lookup_base b (e ∷ es) = if same_base b e.0 then Some e.1 else lookup_base b es
 
 -- the byte, if the place was read
-abbrev pub byte_at : Option (Places × List ℕ) → ℕ → Option ℕ
+abbrev pub byte_at : Option places.Found → ℕ → Option ℕ
 byte_at None p = None
-byte_at (Some e) p = if holds e.0 p then Some (slice_index e.1 p) else None
+byte_at (Some e) p = found_at e p
 
 -- what was found at a key, and none where it was not read
 abbrev pub found_of : ReadsData → Key → Option Found

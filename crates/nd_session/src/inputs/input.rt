@@ -151,20 +151,19 @@ pub fn has_input(inputs: &Inputs, name: &str) -> bool
     find_input(inputs, name).is_some()
 }
 
-/// Returns the inputs with a copy of an input under a name, in place of one that has it.
+/// Returns the inputs with this one under a name, in place of one that has it. No byte is copied.
 pub fn with_input(
     alloc: Global,
     inputs: &Inputs,
     name: &str,
-    input: &Input,
+    input: Input,
 ) -> Result<Inputs, OutOfMemory>
     ensures { IfOk result (λ all. given_of all.entries
-        ≡ bind name.now (source_of input.now) (given_of inputs.now.entries)) }
+        ≡ bind name.now (source_of input) (given_of inputs.now.entries)) }
 {
-    let mut all = inputs.clone()?;
+    let shared = Rc::new(alloc, input)?;
     let key = RcStr::from_str(alloc, name)?;
-    let copy = input.try_clone(alloc)?;
-    let shared = Rc::new(alloc, copy)?;
+    let mut all = inputs.clone()?;
     all.insert(key, shared)?;
     Ok(all)
 }

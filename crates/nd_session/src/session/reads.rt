@@ -3,7 +3,7 @@
 ghost use Rattle.std.specs.Prelude.{◌≡◌, ◌↔◌, ℕ, Contains, IfOk, IsFalse, IsTrue, List, None, OnOk, false, is_some};
 ghost use Rattle.std.specs.Prelude.{Option, Some, true, bytes_eq, if◌then◌else◌, length, map, slice_index, string_bytes};
 ghost use Rattle.std.specs.List.{All};
-ghost use Rattle.nd_marks.specs.Marks.{Places, holds};
+ghost use Rattle.nd_marks.specs.Marks.{holds};
 ghost use Rattle.nd_model.specs.Cells.Footprint.{found};
 ghost use Rattle.nd_model.specs.Cells.Running as running;
 ghost use Rattle.nd_model.specs.Cells.Session as model;
@@ -16,7 +16,8 @@ ghost use Rattle.nd_heap.specs.Live.{is_base_among};
 ghost use Rattle.nd_trace.specs.Marked.{is_among, is_marked};
 ghost use Rattle.nd_session.specs.Session.Live.{live};
 ghost use Rattle.nd_session.specs.Session.Noted.{StaysNoted};
-ghost use Rattle.nd_session.specs.Session.Reading.{by_text, by_base, value_at, source_at, length_at, bytes_of};
+ghost use Rattle.nd_session.specs.Session.Reading.{by_text, by_base, value_at, source_at, length_at};
+ghost use Rattle.nd_session.specs.Session.Found.{bytes_of, found_at, Found};
 ghost use Rattle.nd_session.specs.Session.Reads.{byte_at, found_in, found_of, keys_of, lookup_base};
 ghost use Rattle.nd_trace.specs.Seen.{is_read_in};
 ghost use Rattle.nd_heap.specs.Values.{base_of};
@@ -24,12 +25,12 @@ ghost use Rattle.nd_session.specs.Inputs.Values.{inputs_of};
 
 use crate::inputs::{Input, Inputs, are_same_inputs, find_input};
 use crate::session::changes::Changes;
+use crate::session::found::FoundBytes;
 use crate::session::overlay::{has_label, touches};
 use crate::session::readings::Readings;
 use crate::session::session::Session;
 use crate::session::version::Version;
 use indexmap::IndexMap;
-use nd_block::RawBlock;
 use nd_heap::{Base, OutOfMemory, Value, are_same_values};
 use nd_marks::Marks;
 use nd_trace::{Event, Footprint, Trace};
@@ -47,29 +48,10 @@ type InputsRead = IndexMap<String, Option<Rc<Input>>>;
 type LengthsRead = IndexMap<Base, usize>;
 
 /// The bytes that were read of blocks.
-type AllBytesRead = IndexMap<Base, BytesRead>;
+type AllBytesRead = IndexMap<Base, FoundBytes>;
 
-/// The byte offsets that were read of a block, and the block as it was.
-#[derive(Drop)]
-struct BytesRead {
-    marks: Marks,
-    block: Option<Rc<RawBlock>>,
-}
-
-impl BytesRead {
-    /// Returns all bytes of the block.
-    fn bytes(&self) -> &[u8]
-        ensures { result.now ≡ (bytes_of self.now).1 }
-    {
-        match &self.block {
-            Some(block) => block.as_ref().as_slice(),
-            None => &[],
-        }
-    }
-}
-
-/// What a cell read, with what it found there. Values, inputs and blocks are shared: no byte of a
-/// block is copied.
+/// What a cell read, with what it found there. Values and inputs are shared. So is a block, unless
+/// the bytes that were read of it are few: then they are kept alone.
 #[derive(Drop)]
 pub struct Reads {
     names: NamesRead,
@@ -191,14 +173,16 @@ fn note_bytes(
     marks: &Marks,
     before: &Version,
 ) -> Result<(), OutOfMemory>
-    ensures { OnOk result ((b : values.Base) → lookup_base b (by_base bytes_of reads.new.entries)
+    ensures { OnOk result ((b : values.Base) (p : ℕ)
+        → byte_at (lookup_base b (by_base bytes_of reads.new.entries)) p
         ≡ (if values.same_base b (base_of base)
-        then Some (marks.now, (version_of before.now).bytes (base_of base))
-        else lookup_base b (by_base bytes_of reads.old.entries))) }
+        then (if holds marks.now p
+        then Some (slice_index ((version_of before.now).bytes (base_of base)) p) else None)
+        else byte_at (lookup_base b (by_base bytes_of reads.old.entries)) p)) }
 {
     let block = before.share_block(base)?;
-    let marks = marks.try_clone(alloc)?;
-    reads.insert(base, BytesRead { marks, block })?;
+    let found = FoundBytes::new(alloc, marks, block)?;
+    reads.insert(base, found)?;
     Ok(())
 }
 
@@ -276,16 +260,16 @@ fn have_same_lengths(reads: &LengthsRead, session: &Session) -> bool
 
 /// Whether each byte that was read has the value that was found.
 fn have_same_bytes(reads: &AllBytesRead, session: &Session) -> bool
-    ensures { IsTrue result ↔ ((b : values.Base) (e : Places × List ℕ)
+    ensures { IsTrue result ↔ ((b : values.Base) (e : Found)
         → lookup_base b (by_base bytes_of reads.now.entries) ≡ Some e
-        → (p : ℕ) → holds e.0 p ≡ true → slice_index e.1 p
-        ≡ slice_index (model.held_bytes (running.session_of (live session.now)) b) p) }
+        → (p n : ℕ) → found_at e p ≡ Some n
+        → slice_index (model.held_bytes (running.session_of (live session.now)) b) p ≡ n) }
 {
     for i in 0..reads.len() {
         let Some((base, read)) = reads.get_index(i) else {
             unreachable!();
         };
-        if !read.marks.are_same(read.bytes(), session.held_bytes(*base)) {
+        if !read.is_found_in(session.held_bytes(*base)) {
             return false;
         }
     }

@@ -9,4 +9,4 @@ returns c =
     ap given_of c.in_ok-insert.ensures.entries
     ∙ given-insert c.in_ok-key.key c.in_ok-shared.shared c.in_ok-all.all.entries
     ∙ ap (bind _ _) (cloned_inputs _ _ c.in_ok-all.ensures.cases)
-    ∙ ap₂ (λ n s. bind n s (given_of c.args.inputs.now.entries)) c.in_ok-key.ensures.ok (ap source_of c.in_ok-shared.ensures.ok ∙ c.in_ok-copy.ensures)
+    ∙ ap₂ (λ n s. bind n s (given_of c.args.inputs.now.entries)) c.in_ok-key.ensures.ok (ap source_of c.in_ok-shared.ensures.ok)

@@ -4,7 +4,8 @@ use Rattle.nd_trace.specs.Contents.{marks_of}
 use Rattle.nd_session.specs.Session.Kept.{version_of}
 use Rattle.nd_heap.specs.Live.{is_base_among}
 use Rattle.nd_trace.specs.Marked.{is_marked}
-use Rattle.nd_session.specs.Session.Reading.{by_base, bytes_of}
+use Rattle.nd_session.specs.Session.Reading.{by_base}
+use Rattle.nd_session.specs.Session.Found.{bytes_of}
 use Rattle.nd_session.specs.Session.Reads.{lookup_base, byte_at}
 use Rattle.nd_session.proofs.session.Reading.{marked_bases}
 use Rattle.nd_session.proofs.session.reads.find_bytes.Given as goal

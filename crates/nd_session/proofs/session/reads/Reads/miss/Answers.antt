@@ -4,9 +4,10 @@ use Rattle.std.proofs.lemmas.List.Elements.{recursion_from_All}
 use Rattle.nd_model.specs.Cells.Footprint.{Number}
 use Rattle.nd_model.specs.Cells.Running.{Length, Byte}
 use Rattle.nd_heap.specs.declared.value.Base.{Base}
-use Rattle.nd_session.specs.declared.session.reads.BytesRead.{BytesRead}
+use Rattle.nd_session.specs.declared.session.found.FoundBytes.{FoundBytes}
+use Rattle.nd_session.specs.Session.Found.{bytes_of}
 use Rattle.nd_session.specs.Session.Changes.{ChangesData}
-use Rattle.nd_session.specs.Session.Reading.{by_base, bytes_of, length_at, reads_of}
+use Rattle.nd_session.specs.Session.Reading.{by_base, length_at, reads_of}
 use Rattle.nd_session.specs.Session.Reads.{ReadsData, byte_at, keys_of, lookup_base}
 use Rattle.nd_session.proofs.session.Overlaying.{found_inside, read_there, something}
 use Rattle.nd_session.proofs.session.Reading.{base_all}
@@ -27,4 +28,4 @@ returns-clause-bytes c = λ _ b p there own.
     let read : IsTrue (keys_of (reads_of c.self.inside) (Byte b p)) = subst (λ (r : ReadsData). IsTrue (keys_of r (Byte b p))) (sym c.self.view_is) there in
     something (lookup_base b (by_base bytes_of es)) (read_there (lookup_base b (by_base bytes_of es)) p (found_inside Number (byte_at (lookup_base b (by_base bytes_of es)) p) read))
     (λ n at. base_all bytes_of (λ d m. ¬ (d.label ≡ l)) es
-    (recursion_from_All (λ (e : Base × BytesRead). ¬ (e.0.label ≡ l)) es (c.has_label-2.ensures c.if-has_label-2.false)) b n at (own ∙ sym (ap (λ (k : ChangesData). k.label) c.over.view_is)))
+    (recursion_from_All (λ (e : Base × FoundBytes). ¬ (e.0.label ≡ l)) es (c.has_label-2.ensures c.if-has_label-2.false)) b n at (own ∙ sym (ap (λ (k : ChangesData). k.label) c.over.view_is)))

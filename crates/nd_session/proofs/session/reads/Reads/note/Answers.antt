@@ -5,8 +5,9 @@ use Rattle.nd_model.specs.Cells.Footprint.{Bound, Number}
 use Rattle.nd_model.specs.Cells.Running.{Name, Length, Byte}
 use Rattle.nd_model.specs.Cells.Session.{lookup}
 use Rattle.nd_heap.specs.declared.value.Base.{Base}
-use Rattle.nd_session.specs.declared.session.reads.BytesRead.{BytesRead}
-use Rattle.nd_session.specs.Session.Reading.{by_base, by_text, bytes_of, length_at, reads_of, value_at}
+use Rattle.nd_session.specs.declared.session.found.FoundBytes.{FoundBytes}
+use Rattle.nd_session.specs.Session.Found.{bytes_of}
+use Rattle.nd_session.specs.Session.Reading.{by_base, by_text, length_at, reads_of, value_at}
 use Rattle.nd_session.specs.Session.Reads.{ReadsData, byte_at, keys_of, lookup_base}
 use Rattle.nd_session.proofs.session.Gathering.{stays_on}
 use Rattle.nd_session.proofs.session.Overlaying.{found_inside, read_there, something}
@@ -35,7 +36,7 @@ returns-clause-bytes c = λ b p there.
     let read : IsTrue (keys_of (reads_of c.self.inside) (Byte b p)) = subst (λ (r : ReadsData). IsTrue (keys_of r (Byte b p))) (sym c.self.view_is) there in
     something (lookup_base b (by_base bytes_of es)) (read_there (lookup_base b (by_base bytes_of es)) p (found_inside Number (byte_at (lookup_base b (by_base bytes_of es)) p) read))
     (λ n at. base_all bytes_of (λ d m. Contains ls d.label) es
-    (recursion_from_All (λ (e : Base × BytesRead). Contains ls e.0.label) es c.in_ok-note_labels-2.ensures.noted) b n at)
+    (recursion_from_All (λ (e : Base × FoundBytes). Contains ls e.0.label) es c.in_ok-note_labels-2.ensures.noted) b n at)
 
 pub returns-clause-stays : goal.returns-clause-stays
 returns-clause-stays c = stays_on c.args.readings.now c.note_labels.new.readings c.note_labels-2.new.readings

@@ -1,0 +1,6 @@
+use Rattle.std.proofs.Common.{◌≡◌, ℕ, ◌<◌, cond, length, slice_index}
+use Rattle.nd_marks.specs.Marks.{in_rows}
+use Rattle.nd_marks.proofs.bytes.patch_strip.Given as goal
+
+abbrev pub invariant-loop-number : goal.invariant-loop-number
+invariant-loop-number l = (p : ℕ) → p < length l.target → slice_index l.target p ≡ cond (in_rows l.strip.first l.strip.width l.strip.step l.number p) (slice_index l.source p) (slice_index l.fn.target p)

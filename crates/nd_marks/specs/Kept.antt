@@ -1,0 +1,63 @@
+-- The places of a set in the order of a walk over them, and the bytes that are kept of these.
+use Rattle.std.specs.Prelude.{◌≡◌, ℕ, zero, suc, ◌+◌, ◌-◌, ◌*◌, ◌^◌, ◌<◌, ◌≤◌, List, [], ◌∷◌, ◌++◌, Option, Some, None, filter, drop, length, map, nat_eq, if◌then◌else◌}
+use Rattle.nd_model.specs.Arrays.Tuple.{count_up}
+use Rattle.nd_marks.specs.Marks.{Places, Strip, has_bit, holds}
+use Rattle.nd_marks.specs.declared.walk.Walk.TheInside as walk
+use Rattle.nd_marks.specs.declared.kept.KeptBytes.TheInside as kept
+
+-- the places of rows
+abbrev pub row_places : ℕ → ℕ → ℕ → ℕ → List ℕ
+row_places first width step zero = []
+row_places first width step (suc n) = count_up first width ++ row_places (first + step) width step n
+
+-- from the row of this number on
+abbrev pub rows_left : Strip → ℕ → List ℕ
+rows_left s row = row_places (s.first + row * s.step) s.width s.step (s.count - row)
+
+abbrev pub strips_places : List Strip → List ℕ
+strips_places [] = []
+strips_places (s ∷ ss) = rows_left s 0 ++ strips_places ss
+
+-- the places of bits from one on
+abbrev pub bits_left : List ℕ → ℕ → List ℕ
+bits_left words at = filter (has_bit words) (count_up at (length words * 64 - at))
+
+-- all places of a set
+abbrev pub places_in : Places → List ℕ
+places_in m = rows_left m.last 0 ++ (strips_places m.strips ++ bits_left m.words 0)
+
+-- those that a walk has before it
+abbrev pub left_of : walk.Inside → List ℕ
+left_of w = rows_left w.rows w.row ++ (strips_places (drop w.strip w.strips.now) ++ bits_left w.words.now w.bit)
+
+-- the next of them are a range
+pub record IsNext (old : List ℕ) (from width : ℕ) (new : List ℕ) : Type 0 where
+  pub split : old ≡ count_up from width ++ new
+  pub some : 0 < width
+  pub near : from + width ≤ 2 ^ 72
+
+-- the byte of a place, of bytes in the order of the places
+abbrev pub byte_for : List ℕ → List ℕ → ℕ → ℕ
+byte_for [] bytes p = 0
+byte_for (q ∷ qs) [] p = 0
+byte_for (q ∷ qs) (b ∷ bs) p = if nat_eq p q then b else byte_for qs bs p
+
+-- what contracts see of bytes that are kept
+pub record KeptData : Type 0 where
+  pub marks : Places
+  pub bytes : List ℕ
+
+abbrev pub kept_of : kept.Inside → KeptData
+kept_of k = record { marks = k.marks; bytes = k.bytes.items }
+
+-- the byte that is kept of a place
+abbrev pub byte_of : KeptData → ℕ → ℕ
+byte_of k p = byte_for (places_in k.marks) k.bytes p
+
+-- the same, and none where the place is not marked
+abbrev pub kept_at : KeptData → ℕ → Option ℕ
+kept_at k p = if holds k.marks p then Some (byte_of k p) else None
+
+-- a place that is listed twice has the same byte twice
+abbrev pub IsKept : kept.Inside → Type 0
+IsKept k = k.bytes.items ≡ map (byte_of (kept_of k)) (places_in k.marks)

@@ -1,0 +1,404 @@
+//! `Strip`: rows of bytes at one step, such as every second element of an array, or a
+//! column of a table.
+ghost use Rattle.std.specs.Prelude.{◌≡◌, ℕ, ◌+◌, ◌*◌, ◌^◌, ◌<◌, ◌≤◌, ◌||◌, ◌⊎◌, true, false, IsTrue, IfSome, length, slice_index};
+ghost use Rattle.std.specs.List.{flat_map};
+ghost use Rattle.nd_model.specs.Cells.Session.{is_in};
+ghost use Rattle.nd_model.specs.Arrays.Tuple.{count_up};
+ghost use Rattle.nd_marks.specs.Marks.{in_row, in_rows, in_strip};
+
+use nd_view::Run;
+use std::marker::Model;
+
+/// A strip: `count` rows of `width` bytes, each `step` bytes behind the one before it.
+///
+/// A range is one row. A field of 4 bytes in 100 records of 24 bytes is 100 rows of width 4 at
+/// step 24.
+#[derive(Clone, Copy)]
+pub struct Strip {
+    first: u64,
+    width: u64,
+    step: u64,
+    count: u64,
+}
+
+impl Model for Strip {
+    ghost use Rattle.std.specs.Prelude.{◌+◌, ◌*◌, ◌^◌, ◌<◌, ◌≤◌};
+    ghost use Rattle.nd_marks.specs.Marks.{Strip};
+
+    ghost Value = { Strip };
+
+    ghost view = { λ r. record {
+      first = r.first;
+      width = r.width;
+      step = r.step;
+      count = r.count;
+    } };
+
+    ghost invariant = { λ r. (0 < r.step) × ((r.width ≤ r.step) × (r.first + r.count * r.step
+        ≤ 2 ^ 65)) };
+
+    ghost inverse = { λ r. record {
+      first = r.first;
+      width = r.width;
+      step = r.step;
+      count = r.count;
+    } };
+
+    ghost inverse_ok = { λ r h i. record {
+      first = r.first;
+      width = r.width;
+      step = r.step;
+      count = r.count;
+    } };
+}
+
+/// A stretch of byte offsets that are all in a set, or all outside, up to `end`.
+#[derive(Clone, Copy)]
+pub(crate) struct Stretch {
+    pub(crate) is_held: bool,
+    pub(crate) end: u128,
+}
+
+impl Stretch {
+    /// Returns a stretch of the union of two sets, of each of which one is given.
+    pub(crate) fn with(self, other: Stretch) -> Stretch
+        ensures held { result.is_held ≡ (self.is_held || other.is_held) }
+        ensures end { (p : ℕ) → p < result.end → ((IsTrue self.is_held × (p < self.end))
+            ⊎ ((IsTrue other.is_held × (p < other.end)) ⊎ ((self.is_held ≡ false)
+            × ((other.is_held ≡ false) × ((p < self.end) × (p < other.end)))))) }
+        ensures more { (p : ℕ) → p < self.end → p < other.end → p < result.end }
+    {
+        if self.is_held == other.is_held {
+            Stretch {
+                is_held: self.is_held,
+                end: self.end.min(other.end),
+            }
+        } else if self.is_held {
+            self
+        } else {
+            other
+        }
+    }
+}
+
+impl Strip {
+    /// Returns a strip without rows.
+    pub(crate) fn empty() -> Strip
+        ensures { (p : ℕ) → in_strip result p ≡ false }
+    {
+        Strip {
+            first: 0,
+            width: 1,
+            step: 1,
+            count: 0,
+        }
+    }
+
+    /// Returns a strip of one row.
+    pub(crate) fn range(first: u64, width: u64) -> Strip
+        requires { 0 < width }
+        ensures { (p : ℕ) → in_strip result p ≡ in_row first width p }
+    {
+        Strip {
+            first,
+            width,
+            step: width,
+            count: 1,
+        }
+    }
+
+    /// The count of rows.
+    pub(crate) fn count(&self) -> u64
+        ensures { result ≡ self.now.count }
+    {
+        self.count
+    }
+
+    /// The bytes in a row.
+    pub(crate) fn width(&self) -> u64
+        ensures { result ≡ self.now.width }
+    {
+        self.width
+    }
+
+    /// The byte offset at which the row of this index begins.
+    pub(crate) fn start(&self, number: u64) -> u128
+        requires { number < self.now.count }
+        ensures value { result ≡ self.now.first + number * self.now.step }
+        ensures end { result + self.now.width ≤ 2 ^ 65 }
+    {
+        u128::from(self.first) + u128::from(number) * u128::from(self.step)
+    }
+
+    /// Returns true only where all rows lie in a block of this length.
+    pub(crate) fn lies_in(&self, len: usize) -> bool
+        ensures { IsTrue result → (k : ℕ) → k < self.now.count
+            → self.now.first + k * self.now.step + self.now.width ≤ len }
+    {
+        u128::from(self.first) + u128::from(self.count) * u128::from(self.step)
+            <= len as u128 + u128::from(self.step - self.width)
+    }
+
+    /// The byte offset of the row of this index, in a strip that lies in a block.
+    pub(crate) fn offset(&self, number: u64) -> usize
+        requires { self.now.first + number * self.now.step < 2 ^ 64 }
+        ensures { result ≡ self.now.first + number * self.now.step }
+    {
+        (self.first + number * self.step) as usize
+    }
+
+    /// Returns whether a byte offset is in a row: one division.
+    pub(crate) fn holds(&self, place: u64) -> bool
+        ensures { result ≡ in_strip self.now place }
+    {
+        if place < self.first {
+            return false;
+        }
+        let behind = place - self.first;
+        behind / self.step < self.count && behind % self.step < self.width
+    }
+
+    /// Returns how far all byte offsets from `place` on, or none of them, are in rows.
+    pub(crate) fn stretch(&self, place: u64) -> Stretch
+        ensures more { place < result.end }
+        ensures alike { (p : ℕ) → place ≤ p → p < result.end
+            → in_strip self.now p ≡ result.is_held }
+    {
+        if place < self.first {
+            return Stretch {
+                is_held: false,
+                end: u128::from(self.first),
+            };
+        }
+        let behind = place - self.first;
+        if behind / self.step >= self.count {
+            return Stretch {
+                is_held: false,
+                end: u128::MAX,
+            };
+        }
+        let inside = behind % self.step;
+        let is_held = inside < self.width;
+        let length = if is_held { self.width } else { self.step };
+        Stretch {
+            is_held,
+            end: u128::from(place) + u128::from(length - inside),
+        }
+    }
+
+    /// Returns true only where both have equal fields.
+    pub(crate) fn is_same(&self, other: &Strip) -> bool
+        ensures { IsTrue result → self.now ≡ other.now }
+    {
+        self.first == other.first
+            && self.width == other.width
+            && self.step == other.step
+            && self.count == other.count
+    }
+
+    /// Returns true only where this strip contains the other: an equal one, or one row over all of
+    /// its rows.
+    pub(crate) fn covers(&self, other: &Strip) -> bool
+        ensures { IsTrue result → (p : ℕ) → (in_strip self.now p || in_strip other.now p)
+            ≡ in_strip self.now p }
+    {
+        if other.count == 0 || self.is_same(other) {
+            return true;
+        }
+        let other_end = u128::from(other.first) + u128::from(other.count) * u128::from(other.step)
+            - u128::from(other.step - other.width);
+        if self.count != 1 || other.first < self.first {
+            return false;
+        }
+        other_end <= u128::from(self.first) + u128::from(self.width)
+    }
+
+    /// Returns one row for two that overlap or touch.
+    fn join_ranges(&self, other: &Strip) -> Option<Strip>
+        ensures { IfSome result (λ r. (p : ℕ) → in_strip r p
+            ≡ (in_strip self.now p || in_strip other.now p)) }
+    {
+        if self.count != 1 || other.count != 1 {
+            return None;
+        }
+        let end = u128::from(self.first) + u128::from(self.width);
+        let other_end = u128::from(other.first) + u128::from(other.width);
+        if u128::from(other.first) > end || u128::from(self.first) > other_end {
+            return None;
+        }
+        let from = self.first.min(other.first);
+        let width = end.max(other_end) - u128::from(from);
+        if width == 0 || width > u128::from(u64::MAX) {
+            return None;
+        }
+        Some(Strip::range(from, width as u64))
+    }
+
+    /// Returns one row for a strip without gaps, else the strip.
+    fn collapse(&self) -> Strip
+        ensures { (p : ℕ) → in_strip result p ≡ in_strip self.now p }
+    {
+        if self.width != self.step || self.count == 0 {
+            return *self;
+        }
+        match self.count.checked_mul(self.step) {
+            Some(width) => Strip::range(self.first, width),
+            None => *self,
+        }
+    }
+
+    /// Returns a strip of wider rows where each row ends at the start of one of the other strip.
+    fn join_adjacent(&self, other: &Strip) -> Option<Strip>
+        ensures { IfSome result (λ r. (p : ℕ) → in_strip r p
+            ≡ (in_strip self.now p || in_strip other.now p)) }
+    {
+        if self.step != other.step || self.count != other.count {
+            return None;
+        }
+        if self.width > other.first || other.first - self.width != self.first {
+            return None;
+        }
+        if other.width > self.step - self.width {
+            return None;
+        }
+        let wider = Strip {
+            first: self.first,
+            width: self.width + other.width,
+            step: self.step,
+            count: self.count,
+        };
+        Some(wider.collapse())
+    }
+
+    /// Returns the strip with the other's row behind it, if the step fits.
+    fn join_next(&self, other: &Strip) -> Option<Strip>
+        ensures { IfSome result (λ r. (p : ℕ) → in_strip r p
+            ≡ (in_strip self.now p || in_strip other.now p)) }
+    {
+        if other.count != 1 || other.width != self.width || other.first <= self.first {
+            return None;
+        }
+        if self.count == 1 {
+            let step = other.first - self.first;
+            if self.width > step {
+                return None;
+            }
+            return Some(Strip {
+                first: self.first,
+                width: self.width,
+                step,
+                count: 2,
+            });
+        }
+        if u128::from(self.count) * u128::from(self.step) != u128::from(other.first - self.first) {
+            return None;
+        }
+        let count = self.count.checked_add(1)?;
+        Some(Strip {
+            first: self.first,
+            width: self.width,
+            step: self.step,
+            count,
+        })
+    }
+
+    /// Returns the strip with the other's row in front of it, if the step fits.
+    fn join_previous(&self, other: &Strip) -> Option<Strip>
+        ensures { IfSome result (λ r. (p : ℕ) → in_strip r p
+            ≡ (in_strip self.now p || in_strip other.now p)) }
+    {
+        if other.count != 1 || other.width != self.width || self.first <= other.first {
+            return None;
+        }
+        if self.first - other.first != self.step {
+            return None;
+        }
+        let count = self.count.checked_add(1)?;
+        Some(Strip {
+            first: other.first,
+            width: self.width,
+            step: self.step,
+            count,
+        })
+    }
+
+    /// Returns one strip for the union of both, if it is one of the forms that are looked for.
+    pub(crate) fn join(&self, other: &Strip) -> Option<Strip>
+        ensures { IfSome result (λ r. (p : ℕ) → in_strip r p
+            ≡ (in_strip self.now p || in_strip other.now p)) }
+    {
+        if self.covers(other) {
+            return Some(*self);
+        }
+        if other.covers(self) {
+            return Some(*other);
+        }
+        if let Some(joined) = self.join_ranges(other) {
+            return Some(joined);
+        }
+        if let Some(joined) = self.join_adjacent(other) {
+            return Some(joined);
+        }
+        if let Some(joined) = other.join_adjacent(self) {
+            return Some(joined);
+        }
+        if let Some(joined) = self.join_next(other) {
+            return Some(joined);
+        }
+        if let Some(joined) = other.join_next(self) {
+            return Some(joined);
+        }
+        self.join_previous(other)
+    }
+}
+
+/// Returns true only where the elements of a run lie `step` bytes apart, in increasing order.
+pub(crate) fn are_together(run: &Run, step: u64) -> bool
+    ensures { IsTrue result → (k : ℕ) → k < length run.now
+        → slice_index run.now k ≡ slice_index run.now 0 + k * step }
+{
+    run.count() == 1 || run.step() == i128::from(step)
+}
+
+/// Returns true only where the elements of a run lie `step` bytes apart, in decreasing order.
+fn are_backwards(run: &Run, step: u64) -> bool
+    ensures { IsTrue result → (k : ℕ) → k < length run.now
+        → slice_index run.now k + k * step ≡ slice_index run.now 0 }
+{
+    run.step() == -i128::from(step)
+}
+
+/// Returns the bytes of the elements of a run as a strip, where elements of `size` bytes do not
+/// overlap.
+pub(crate) fn strip_of(run: &Run, size: u64) -> Option<Strip>
+    ensures { IfSome result (λ r. (p : ℕ) → in_strip r p
+        ≡ is_in p (flat_map (λ q. count_up q size) run.now)) }
+{
+    let step = run.step().unsigned_abs();
+    if step == 0 || step > u128::from(u64::MAX) || u128::from(size) > step {
+        return None;
+    }
+    let step = step as u64;
+    let count = run.count();
+    let first = run.start();
+    let last = run.place(count - 1);
+    if are_together(run, step) {
+        return Some(Strip {
+            first,
+            width: size,
+            step,
+            count,
+        }
+        .collapse());
+    }
+    if are_backwards(run, step) {
+        return Some(Strip {
+            first: last,
+            width: size,
+            step,
+            count,
+        }
+        .collapse());
+    }
+    None
+}

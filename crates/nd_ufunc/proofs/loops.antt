@@ -4,3 +4,4 @@ pub mod SideBySide
 pub mod Zipped
 pub mod Turns
 pub mod Cycles
+pub mod Laid

@@ -1,4 +1,5 @@
 pub mod Modulo
 pub mod Reciprocals
+pub mod ShortNumbers
 pub mod Squares
 pub mod WholeNumbers

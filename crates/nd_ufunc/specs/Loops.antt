@@ -5,3 +5,4 @@ pub mod Lending
 pub mod Feeds
 pub mod Turns
 pub mod Cycles
+pub mod Laid

@@ -20,7 +20,7 @@ read_all (x ∷ xs) = ap (λ l. x ∷ l) (ap (map (λ k. get_or (x ∷ xs) k 0))
     next : (k : ℕ) → 1 + k ≡ suc k
     next k = omega arith
 
-at_counted : (f : ℕ → ℤ) (n k : ℕ) → k < n → get_or (map f (count_up 0 n)) k (pos 0) ≡ f k
+pub at_counted : (f : ℕ → ℤ) (n k : ℕ) → k < n → get_or (map f (count_up 0 n)) k (pos 0) ≡ f k
 at_counted f n k lt = get_or-map f (count_up 0 n) k 0 (pos 0) (omega (arith, length-count_up 0 n)) ∙ ap f (get_or-count_up 0 n k 0 lt ∙ omega arith)
 
 module _ (to from : Element) (bytes places : List ℕ) (room : ℕ) (enough : room ≤ length places) (part rest : List ℕ)

@@ -3,7 +3,7 @@ use Rattle.std.proofs.Common.{◌≡◌, ℕ, zero, suc, ◌+◌, ◌*◌, ◌/�
 use Rattle.std.specs.Prelude.{not, ◌==◌}
 use Rattle.std.specs.Int.{Width, int_pow, int_wrap}
 use Rattle.std.proofs.Math.IntN.{pos-*ℤ-pos, negsuc-*ℤ-pos, negsuc-*ℤ-negsuc, *ℤ-negsuc, *ℤ-zero, *ℤ_comm, neg_ℤ-neg_ℤ}
-use Rattle.std.proofs.lemmas.Int.{int_wrap-mul_left, int_wrap-mul_right}
+use Rattle.std.proofs.lemmas.Int.{ints, int_wrap-mul_left, int_wrap-mul_right}
 use Rattle.std.proofs.lemmas.Bool.Decides.{nat_tests}
 use Rattle.std.proofs.Math.Nat.{mul-zero, mul_comm, mul_assoc, pow-zero}
 use Rattle.std.proofs.lemmas.Grind.{pow_more}
@@ -106,3 +106,11 @@ odd_step w s p next more' n odd is by =
     ∙ ap (λ b. int_wrap w (int_pow b (n / 2) *ℤ (s *ℤ p))) is ∙ wrap_base w (s *ℤ s) (s *ℤ p) (n / 2)
     ∙ ap (λ b. int_wrap w (b *ℤ (s *ℤ p))) (int_pow-square s (n / 2))
     ∙ ap (int_wrap w) (sym (assoc q s p) ∙ ap (λ b. b *ℤ p) (*ℤ_comm q s ∙ sym (int_pow-suc s (2 * (n / 2))) ∙ ap (int_pow s) half))
+
+by_one : (z : ℤ) → z *ℤ pos 1 ≡ z
+by_one z = omega (arith, ints)
+
+-- of a power too
+pub wrap_alone : (w : Width) (x : ℤ) (m : ℕ) → int_wrap w (int_pow (int_wrap w x) m) ≡ int_wrap w (int_pow x m)
+wrap_alone w x m =
+    ap (int_wrap w) (sym (by_one (int_pow (int_wrap w x) m))) ∙ wrap_base w x (pos 1) m ∙ ap (int_wrap w) (by_one (int_pow x m))

@@ -8,12 +8,13 @@ ghost use Rattle.nd_model.specs.Grammar.Syntax as syntax;
 ghost use Rattle.nd_syntax.specs.Trees.Syntax.{binary_op};
 ghost use Rattle.nd_types.specs.Kinds.{kind_of};
 ghost use Rattle.nd_ufunc.specs.Scalar.Ufuncs.{single_of, ufunc_of};
+ghost use Rattle.nd_ufunc.specs.Loops.Feeds.{numbers_left};
 ghost use Rattle.nd_ufunc.specs.Loops.Results.{binary_result, result_bytes};
 ghost use Rattle.nd_ufunc.specs.Elementwise.Stretched.{HasCount, IsHeld, stretched_numbers};
 
 use crate::elementwise::stretched::Stretched;
 use crate::loops::operation::Operation;
-use crate::loops::{ROOM, fill, operation as functions};
+use crate::loops::{Feed, ROOM, fill, operation as functions};
 use crate::scalar::{BinaryUfunc, Single};
 use nd_block::{Filling, RawBlock};
 use nd_syntax::trees::{BinaryOp, UnaryOp};
@@ -38,6 +39,23 @@ pub(crate) fn operand_kind<O: Operation>(
     }
 }
 
+// Begins with all numbers of an operand, in the form that the function's loop is fast for.
+fn begin<'b, O: Operation>(
+    numbers: &'b Stretched<'_>,
+    kind: Kind,
+    count: usize,
+    room: &'b mut [u8; ROOM],
+) -> Feed<'b>
+    requires { IsHeld numbers.now }
+    ensures { numbers_left result ≡ stretched_numbers numbers.now count }
+{
+    if O::LAYS_OUT {
+        numbers.begin_laid_out(kind, count, room)
+    } else {
+        numbers.begin(kind, count, room)
+    }
+}
+
 // The block with the results of a function for `count` numbers of both operands.
 fn results<O: Operation>(
     alloc: Global,
@@ -58,8 +76,8 @@ fn results<O: Operation>(
     let room = Filling::with_room(alloc, count * to.size() as usize)?;
     let mut left_room = [0; ROOM];
     let mut right_room = [0; ROOM];
-    let mut left = left.begin(kind, count, &mut left_room);
-    let mut right = right.begin(kind, count, &mut right_room);
+    let mut left = begin::<O>(left, kind, count, &mut left_room);
+    let mut right = begin::<O>(right, kind, count, &mut right_room);
     let out = fill::<O>(room, to, kind, &mut left, &mut right, count);
     Ok(out.finish())
 }

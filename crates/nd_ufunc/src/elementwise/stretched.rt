@@ -14,10 +14,10 @@ ghost use Rattle.nd_ufunc.specs.Loops.Sides.{Keeps};
 ghost use Rattle.nd_ufunc.specs.Elementwise.Stretched.{IsHeld, stretched_numbers};
 
 use crate::elementwise::argument::Argument;
-use crate::loops::{Feed, ROOM, Repeated};
+use crate::loops::{Feed, LaidOut, ROOM, Repeated};
 use crate::scalar::whole_number;
 use nd_shape::broadcast_to;
-use nd_types::{Elem, ElemType, Kind, highest, lowest};
+use nd_types::{Elem, ElemType, Kind, fits, highest, lowest};
 use nd_view::View;
 use std::alloc::{AllocError, Global};
 
@@ -108,6 +108,25 @@ impl<'v> Stretched<'v> {
                 let kind = side_kind(kind, elem.kind());
                 Feed::of_view(view, bytes, *elem, kind, room)
             }
+        }
+    }
+
+    /// Begins with all `count` numbers as [`Stretched::begin`], but a scalar that fits `kind` is
+    /// laid out in `room`, for loops that are vectorised over two arrays alone.
+    pub(crate) fn begin_laid_out<'b>(
+        &'b self,
+        kind: Kind,
+        count: usize,
+        room: &'b mut [u8; ROOM],
+    ) -> Feed<'b>
+        requires { IsHeld self.now }
+        ensures { numbers_left result ≡ stretched_numbers self.now count }
+    {
+        match self {
+            Stretched::Number(number) if fits(kind, *number) => {
+                Feed::LaidOut(LaidOut::new(*number, kind, count, room))
+            }
+            _ => self.begin(kind, count, room),
         }
     }
 

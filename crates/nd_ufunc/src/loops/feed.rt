@@ -9,16 +9,18 @@ use crate::loops::chunks::CHUNK;
 use crate::loops::cycle::{Cycle, ROOM, period_of};
 use crate::loops::elements::Elements;
 use crate::loops::kernel::Side;
+use crate::loops::laid_out::LaidOut;
 use crate::loops::lent::Lent;
 use crate::loops::repeated::Repeated;
 use nd_types::{Elem, Kind};
 use nd_view::View;
 
-/// What is left of an operand's numbers: a scalar, a short broadcast period, a borrowed contiguous
+/// What is left of an operand's numbers: a scalar, once or laid out, a short broadcast period, a borrowed contiguous
 /// slice, or strided elements that are converted a chunk at a time.
 #[derive(Drop)]
 pub enum Feed<'v> {
     Number(Repeated),
+    LaidOut(LaidOut<'v>),
     Cycle(Cycle<'v>),
     Lent(Lent<'v>),
     All(Elements<'v>),
@@ -71,6 +73,7 @@ impl<'v> Feed<'v> {
     {
         match self {
             Feed::Number(number) => Side::Same(number.take(count)),
+            Feed::LaidOut(numbers) => numbers.take(count),
             Feed::Cycle(cycle) => cycle.take(count),
             Feed::Lent(lent) => lent.take(count),
             Feed::All(elements) => elements.take(buffer, count),
@@ -85,6 +88,7 @@ impl<'v> Feed<'v> {
     {
         match self {
             Feed::Number(_) | Feed::Lent(_) => 1,
+            Feed::LaidOut(numbers) => numbers.size(),
             Feed::Cycle(cycle) => cycle.size(),
             Feed::All(elements) => elements.size(),
         }

@@ -24,6 +24,10 @@ pub trait Operation {
     /// it, no result does.
     const IS_COMPARISON: bool;
 
+    /// Whether a scalar operand is laid out over a chunk: the loop of two arrays is vectorised, and
+    /// that of an array and a scalar is not. No result depends on it.
+    const LAYS_OUT: bool;
+
     /// Returns what is worked out once for a right operand that meets many left ones, as the
     /// reciprocal of a divisor. No result depends on it.
     #[inline(always)]
@@ -44,6 +48,8 @@ impl Operation for Add {
 
     const IS_COMPARISON: bool = false;
 
+    const LAYS_OUT: bool = false;
+
     #[inline(always)]
     fn apply(kind: Kind, left: i128, right: i128, _hint: u64) -> i128 {
         sum(kind, left, right)
@@ -57,6 +63,8 @@ impl Operation for Subtract {
     ghost gives = { binary_result (operators.Operator syntax.Subtract) };
 
     const IS_COMPARISON: bool = false;
+
+    const LAYS_OUT: bool = false;
 
     #[inline(always)]
     fn apply(kind: Kind, left: i128, right: i128, _hint: u64) -> i128 {
@@ -72,6 +80,8 @@ impl Operation for Multiply {
 
     const IS_COMPARISON: bool = false;
 
+    const LAYS_OUT: bool = false;
+
     #[inline(always)]
     fn apply(kind: Kind, left: i128, right: i128, _hint: u64) -> i128 {
         product(kind, left, right)
@@ -85,6 +95,8 @@ impl Operation for FloorDivide {
     ghost gives = { binary_result (operators.Operator syntax.FloorDivide) };
 
     const IS_COMPARISON: bool = false;
+
+    const LAYS_OUT: bool = false;
 
     #[inline(always)]
     fn hint(right: i128) -> u64 {
@@ -108,6 +120,8 @@ impl Operation for Remainder {
 
     const IS_COMPARISON: bool = false;
 
+    const LAYS_OUT: bool = false;
+
     #[inline(always)]
     fn hint(right: i128) -> u64 {
         reciprocal_of(right)
@@ -130,6 +144,8 @@ impl Operation for Power {
 
     const IS_COMPARISON: bool = false;
 
+    const LAYS_OUT: bool = false;
+
     #[inline(always)]
     fn apply(kind: Kind, left: i128, right: i128, _hint: u64) -> i128 {
         power(kind, left, right)
@@ -143,6 +159,8 @@ impl Operation for LeftShift {
     ghost gives = { binary_result (operators.Operator syntax.LeftShift) };
 
     const IS_COMPARISON: bool = false;
+
+    const LAYS_OUT: bool = false;
 
     #[inline(always)]
     fn apply(kind: Kind, left: i128, right: i128, _hint: u64) -> i128 {
@@ -158,6 +176,8 @@ impl Operation for RightShift {
 
     const IS_COMPARISON: bool = false;
 
+    const LAYS_OUT: bool = false;
+
     #[inline(always)]
     fn apply(kind: Kind, left: i128, right: i128, _hint: u64) -> i128 {
         right_shift(kind, left, right)
@@ -171,6 +191,8 @@ impl Operation for BitwiseAnd {
     ghost gives = { binary_result (operators.Operator syntax.BitAnd) };
 
     const IS_COMPARISON: bool = false;
+
+    const LAYS_OUT: bool = false;
 
     #[inline(always)]
     fn apply(kind: Kind, left: i128, right: i128, _hint: u64) -> i128 {
@@ -186,6 +208,8 @@ impl Operation for BitwiseXor {
 
     const IS_COMPARISON: bool = false;
 
+    const LAYS_OUT: bool = false;
+
     #[inline(always)]
     fn apply(kind: Kind, left: i128, right: i128, _hint: u64) -> i128 {
         wrap(kind, left ^ right)
@@ -199,6 +223,8 @@ impl Operation for BitwiseOr {
     ghost gives = { binary_result (operators.Operator syntax.BitOr) };
 
     const IS_COMPARISON: bool = false;
+
+    const LAYS_OUT: bool = false;
 
     #[inline(always)]
     fn apply(kind: Kind, left: i128, right: i128, _hint: u64) -> i128 {
@@ -214,6 +240,8 @@ impl Operation for Less {
 
     const IS_COMPARISON: bool = true;
 
+    const LAYS_OUT: bool = true;
+
     #[inline(always)]
     fn apply(kind: Kind, left: i128, right: i128, _hint: u64) -> i128 {
         wrap(kind, i128::from(left < right))
@@ -227,6 +255,8 @@ impl Operation for LessEqual {
     ghost gives = { binary_result (operators.Operator syntax.LessEqual) };
 
     const IS_COMPARISON: bool = true;
+
+    const LAYS_OUT: bool = true;
 
     #[inline(always)]
     fn apply(kind: Kind, left: i128, right: i128, _hint: u64) -> i128 {
@@ -242,6 +272,8 @@ impl Operation for Greater {
 
     const IS_COMPARISON: bool = true;
 
+    const LAYS_OUT: bool = true;
+
     #[inline(always)]
     fn apply(kind: Kind, left: i128, right: i128, _hint: u64) -> i128 {
         wrap(kind, i128::from(left > right))
@@ -255,6 +287,8 @@ impl Operation for GreaterEqual {
     ghost gives = { binary_result (operators.Operator syntax.GreaterEqual) };
 
     const IS_COMPARISON: bool = true;
+
+    const LAYS_OUT: bool = true;
 
     #[inline(always)]
     fn apply(kind: Kind, left: i128, right: i128, _hint: u64) -> i128 {
@@ -270,6 +304,8 @@ impl Operation for Equal {
 
     const IS_COMPARISON: bool = true;
 
+    const LAYS_OUT: bool = true;
+
     #[inline(always)]
     fn apply(kind: Kind, left: i128, right: i128, _hint: u64) -> i128 {
         wrap(kind, i128::from(left == right))
@@ -283,6 +319,8 @@ impl Operation for NotEqual {
     ghost gives = { binary_result (operators.Operator syntax.NotEqual) };
 
     const IS_COMPARISON: bool = true;
+
+    const LAYS_OUT: bool = true;
 
     #[inline(always)]
     fn apply(kind: Kind, left: i128, right: i128, _hint: u64) -> i128 {
@@ -298,6 +336,8 @@ impl Operation for Minimum {
 
     const IS_COMPARISON: bool = false;
 
+    const LAYS_OUT: bool = true;
+
     #[inline(always)]
     fn apply(kind: Kind, left: i128, right: i128, _hint: u64) -> i128 {
         wrap(kind, if left <= right { left } else { right })
@@ -311,6 +351,8 @@ impl Operation for Maximum {
     ghost gives = { binary_result operators.Maximum };
 
     const IS_COMPARISON: bool = false;
+
+    const LAYS_OUT: bool = true;
 
     #[inline(always)]
     fn apply(kind: Kind, left: i128, right: i128, _hint: u64) -> i128 {
@@ -326,6 +368,8 @@ impl Operation for Negative {
 
     const IS_COMPARISON: bool = false;
 
+    const LAYS_OUT: bool = false;
+
     #[inline(always)]
     fn apply(kind: Kind, left: i128, _right: i128, _hint: u64) -> i128 {
         apply_single(kind, Single::Of(UnaryOp::Negative), left)
@@ -339,6 +383,8 @@ impl Operation for Invert {
     ghost gives = { λ k x y. single_number (operators.Of syntax.Invert) k x };
 
     const IS_COMPARISON: bool = false;
+
+    const LAYS_OUT: bool = false;
 
     #[inline(always)]
     fn apply(kind: Kind, left: i128, _right: i128, _hint: u64) -> i128 {
@@ -356,6 +402,8 @@ impl Operation for Absolute {
     ghost gives = { λ k x y. single_number operators.Absolute k x };
 
     const IS_COMPARISON: bool = false;
+
+    const LAYS_OUT: bool = false;
 
     #[inline(always)]
     fn apply(kind: Kind, left: i128, _right: i128, _hint: u64) -> i128 {

@@ -1,7 +1,7 @@
 //! Integer arithmetic of 128 bits: signs, Euclid's quotients, and results that wrap.
 
 ghost use Rattle.std.specs.Prelude.{◌≡◌, ◌≢◌, ◌+ℤ◌, ◌-ℤ◌, ◌*ℤ◌, ◌^◌, ◌<◌, pos};
-ghost use Rattle.std.specs.Int.{NotMinOverMinusOne, int_div_euclid, int_rem_euclid, int_wrap, w128};
+ghost use Rattle.std.specs.Int.{NotMinOverMinusOne, int_div_euclid, int_rem_euclid, int_wrap, w64, w128};
 ghost use Rattle.nd_model.specs.Making.Operators as operators;
 
 /// Returns whether the number is negative.
@@ -60,6 +60,15 @@ pub(crate) fn floor_shift(number: i128, count: u32) -> i128
     number >> count
 }
 
+/// Returns 2 to the power of `count`.
+#[inline(always)]
+pub(crate) fn power_of_two(count: u32) -> i128
+    requires { count < 64 }
+    ensures { result ≡ pos (2 ^ count) }
+{
+    1 << count
+}
+
 /// Returns whether a quotient that is rounded down is less than Euclid's: the divisor is negative
 /// and something is left.
 #[inline]
@@ -94,6 +103,22 @@ pub(crate) fn wrapping_difference(left: i128, right: i128) -> i128
 #[inline]
 pub(crate) fn wrapping_product(left: i128, right: i128) -> i128
     ensures { result ≡ int_wrap w128 (left *ℤ right) }
+{
+    left.wrapping_mul(right)
+}
+
+/// Returns the lowest 64 bits of a number.
+#[inline(always)]
+pub(crate) fn lowest_bits(number: i128) -> i64
+    ensures { result ≡ int_wrap w64 number }
+{
+    (number.rem_euclid(1 << 64) as u64).cast_signed()
+}
+
+/// Returns the lowest 64 bits of a product.
+#[inline(always)]
+pub(crate) fn short_product(left: i64, right: i64) -> i64
+    ensures { result ≡ int_wrap w64 (left *ℤ right) }
 {
     left.wrapping_mul(right)
 }

@@ -1,10 +1,10 @@
 //! `exact_power` and `wrapping_power`: powers of integers.
 
 ghost use Rattle.std.specs.Prelude.{◌≡◌, ◌^◌, ◌≤◌, FitsSigned};
-ghost use Rattle.std.specs.Int.{int_pow, int_wrap, w128};
+ghost use Rattle.std.specs.Int.{int_pow, int_wrap, w64, w128};
 ghost use Rattle.std.specs.Option.{SomeIff};
 
-use crate::scalar::integers::wrapping_product;
+use crate::scalar::integers::short_product;
 
 /// The power, for an exponent of more than 32 bits.
 fn high_power(base: i128, exponent: u128) -> Option<i128>
@@ -36,18 +36,19 @@ pub fn exact_power(base: i128, exponent: u128) -> Option<i128>
     base.checked_pow(exponent as u32)
 }
 
-/// Returns the lowest 128 bits of the power, by repeated squaring.
-pub(crate) fn wrapping_power(base: i128, exponent: u128) -> i128
-    ensures { int_wrap w128 result ≡ int_wrap w128 (int_pow base exponent) }
+/// Returns the lowest 64 bits of the power, by repeated squaring. Kinds have at most 64 bits.
+#[inline]
+pub(crate) fn wrapping_power(base: i64, exponent: u128) -> i64
+    ensures { int_wrap w64 result ≡ int_wrap w64 (int_pow base exponent) }
 {
     let mut power = 1;
     let mut square = base;
     let mut left = exponent;
     while left > 0 {
         if left % 2 == 1 {
-            power = wrapping_product(square, power);
+            power = short_product(square, power);
         }
-        square = wrapping_product(square, square);
+        square = short_product(square, square);
         left /= 2;
     }
     power

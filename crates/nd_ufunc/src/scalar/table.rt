@@ -3,7 +3,7 @@
 ghost use Rattle.std.specs.Prelude.{◌≡◌, ◌≢◌, ◌+ℤ◌, ◌-ℤ◌, ◌*ℤ◌, ◌<◌, ℤ, pos, neg_ℤ, FitsSigned, true, unsigned_abs};
 ghost use Rattle.std.specs.Int.{int_pow, int_wrap, w128};
 ghost use Rattle.std.specs.Option.{SomeIff};
-ghost use Rattle.nd_model.specs.Arrays.Element.{wrap};
+ghost use Rattle.nd_model.specs.Arrays.Element.{Boolean, wrap};
 ghost use Rattle.nd_model.specs.Making.Operators as operators;
 ghost use Rattle.nd_types.specs.Kinds.{kind_of};
 ghost use Rattle.nd_ufunc.specs.Scalar.Ufuncs.{single_of, ufunc_of};
@@ -11,8 +11,8 @@ ghost use Rattle.nd_model.specs.Grammar.Syntax.{LeftShift, RightShift};
 ghost use Rattle.nd_syntax.specs.Trees.Syntax.{binary_op};
 
 use crate::scalar::integers::{
-    euclid_quotient, euclid_remainder, floor_shift, is_below, is_negative, is_zero,
-    wrapping_difference, wrapping_product, wrapping_sum,
+    euclid_quotient, euclid_remainder, floor_shift, is_below, is_negative, is_zero, lowest_bits,
+    power_of_two, wrapping_difference, wrapping_product, wrapping_sum,
 };
 use crate::scalar::powers::{exact_power, wrapping_power};
 use crate::scalar::ufunc::{BinaryUfunc, Single};
@@ -116,6 +116,17 @@ fn leaves_bits(kind: Kind, count: i128) -> bool
     count.unsigned_abs() < u128::from(8 * kind.size())
 }
 
+// The count of a shift that leaves bits, cut to the kind's width, so that the compiler knows that
+// the shift can be done in this width.
+#[inline(always)]
+fn bit_count(kind: Kind, count: i128) -> u32
+    requires { operators.leaves_bits (kind_of kind) count ≡ true }
+    ensures value { result ≡ unsigned_abs count }
+    ensures few { result < 64 }
+{
+    (count.unsigned_abs() % u128::from(8 * kind.size())) as u32
+}
+
 /// Returns the number, shifted up by `count` bits and wrapped to the kind; 0 where no bit is left.
 #[inline(always)]
 pub fn left_shift(kind: Kind, number: i128, count: i128) -> i128
@@ -125,7 +136,7 @@ pub fn left_shift(kind: Kind, number: i128, count: i128) -> i128
     if !leaves_bits(kind, count) {
         return wrap(kind, 0);
     }
-    product(kind, number, 2i128.pow(count.unsigned_abs() as u32))
+    product(kind, number, power_of_two(bit_count(kind, count)))
 }
 
 /// Returns the number, shifted down by `count` bits, rounded down and wrapped to the kind; 0 or -1
@@ -136,7 +147,7 @@ pub fn right_shift(kind: Kind, number: i128, count: i128) -> i128
         (operators.exact (kind_of kind) (operators.Operator RightShift) number count) }
 {
     if leaves_bits(kind, count) {
-        return wrap(kind, floor_shift(number, count.unsigned_abs() as u32));
+        return wrap(kind, floor_shift(number, bit_count(kind, count)));
     }
     if is_negative(number) {
         return wrap(kind, -1);
@@ -144,16 +155,28 @@ pub fn right_shift(kind: Kind, number: i128, count: i128) -> i128
     wrap(kind, 0)
 }
 
+// The power, wrapped to a Boolean.
+fn boolean_power(base: i128, exponent: u128) -> i128
+    ensures { result ≡ wrap Boolean (int_pow base exponent) }
+{
+    match exact_power(base, exponent) {
+        Some(number) => wrap(Kind::Bool, number),
+        None => 1,
+    }
+}
+
 /// Returns the power, wrapped to the kind. A negative exponent counts as its absolute value.
 pub fn power(kind: Kind, base: i128, exponent: i128) -> i128
     ensures { result ≡ wrap (kind_of kind) (int_pow base (unsigned_abs exponent)) }
 {
     let exponent = exponent.unsigned_abs();
-    wrap_exact(
-        kind,
-        exact_power(base, exponent),
-        wrapping_power(base, exponent),
-    )
+    match kind {
+        Kind::Bool => boolean_power(base, exponent),
+        _ => wrap(
+            kind,
+            i128::from(wrapping_power(lowest_bits(base), exponent)),
+        ),
+    }
 }
 
 /// The result of an operator.

@@ -24,6 +24,9 @@ use std::rc::Rc;
 
 /// The record of a cell's run: what it read, with what it found there, what it did to the session,
 /// and what it gave.
+///
+/// The record of `print(x[0])` has the name `x`, and the bytes of one element. It still holds where
+/// an edit before the cell changed `x[1]`, and not where that changed `x[0]`.
 #[derive(Drop)]
 pub struct Record {
     reads: Reads,

@@ -157,6 +157,9 @@ fn run_text(session: &mut Session, inputs: &Inputs, text: &str) -> Result<CellRe
 
 /// Runs a cell of this label over a session, counts the run, and returns its record, with the
 /// result. After want of memory the session may only be dropped.
+///
+/// The text `x = 1`, `print(x)`, `print(y)`, in three lines, gives the text `1` and a newline, and
+/// the refusal `NoName y` at line 3. It binds `x`, and has read that there is no `y`.
 pub fn run_cell(
     meter: &mut Meter,
     session: &mut Session,

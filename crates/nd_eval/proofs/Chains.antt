@@ -71,3 +71,13 @@ pub decided_later : {A B C : Type 0} (i : Inputs) (m : Result A Fault) (f : A �
     → run i (decide (refusing.◌>>=◌ m (λ x. Ok (f x))) >>= k) r ≡ run i (decide m >>= λ x. k (f x)) r
 decided_later i (Ok x) f k r = refl
 decided_later i (Err e) f k r = refl
+
+-- the exit by `?` where nothing is asked
+pub makes_exit : {A X Y : Type 0} (v : X → A) (w : Y → A) (m : Result A Fault) (e : Stop) (o : Result Y Stop) → IsErrAnd o (λ x. x ≡ e) → Makes v (Err e) m → Makes w o m
+makes_exit {A} {X} {Y} v w m e o is h =
+    let p : (x : Stop) × (o ≡ Err x) × (x ≡ e) = err_from_is_err_and o is in
+    subst (λ (o : Result Y Stop). Makes w o m) (sym (p.1 ∙ ap Err p.2)) (at e h)
+  where
+    at : (e : Stop) → Makes v (Err e) m → Makes w (Err e) m
+    at Memory h = tt
+    at (Refused f) h = h

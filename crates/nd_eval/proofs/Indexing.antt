@@ -151,7 +151,7 @@ abbrev mutual
   nodes_of_call (call.Array x t) = 3 + nodes_of_element x
   nodes_of_call (call.Convert k e) = 2 + nodes e
   nodes_of_call (call.PythonAbs e) = 2 + nodes e
-  nodes_of_call (call.BroadcastTo' e shape es) = 3 + nodes e + nodes_in_exprs es
+  nodes_of_call (call.BroadcastTo' e shape es) = 4 + nodes e + nodes_in_exprs es
   nodes_of_call (call.Fold f x) = 1 + nodes_of_fold x
   nodes_of_call c = 1
 
@@ -204,7 +204,7 @@ abbrev mutual
 
   pub nodes_of_item : item.IndexItem → ℕ
   nodes_of_item (item.At e) = 1 + nodes e
-  nodes_of_item (item.Slice' a b c) = 1 + nodes_in_bound a + nodes_in_bound b + nodes_in_bound c
+  nodes_of_item (item.Slice' a b c) = 3 + nodes_in_bound a + nodes_in_bound b + nodes_in_bound c
   nodes_of_item (item.List' shape es) = 3 + nodes_in_elements es
   nodes_of_item i = 1
 
@@ -274,10 +274,10 @@ nodes_of_full x es e t same =
     let row = call_row (call.Full es e t) in
     ap nodes_of_call same ∙ ap (λ k. 3 + k + nodes e) (nodes_in_expr_row row.0 row.1 ∙ ap nodes_of_exprs (call.items_hidden-the_row-Expr-0 es))
 
-pub nodes_of_stretched : (x : call.Call) (e : tree.Expr) (es : Vec tree.Expr Global) → x ≡ call.BroadcastTo e es → nodes_of_call x ≡ 3 + nodes e + nodes_of_exprs es.items
+pub nodes_of_stretched : (x : call.Call) (e : tree.Expr) (es : Vec tree.Expr Global) → x ≡ call.BroadcastTo e es → nodes_of_call x ≡ 4 + nodes e + nodes_of_exprs es.items
 nodes_of_stretched x e es same =
     let row = call_row (call.BroadcastTo e es) in
-    ap nodes_of_call same ∙ ap (λ k. 3 + nodes e + k) (nodes_in_expr_row row.0 row.1 ∙ ap nodes_of_exprs (call.items_hidden-the_row-Expr-0 es))
+    ap nodes_of_call same ∙ ap (λ k. 4 + nodes e + k) (nodes_in_expr_row row.0 row.1 ∙ ap nodes_of_exprs (call.items_hidden-the_row-Expr-0 es))
 
 -- ---- and of a method
 
@@ -377,7 +377,7 @@ slice_is (Some a) None (Some c) = refl
 slice_is (Some a) (Some b) None = refl
 slice_is (Some a) (Some b) (Some c) = refl
 
-pub nodes_of_slice : (a b c : Option tree.Expr) → nodes_of_item (item.Slice a b c) ≡ 1 + nodes_of_bound a + nodes_of_bound b + nodes_of_bound c
+pub nodes_of_slice : (a b c : Option tree.Expr) → nodes_of_item (item.Slice a b c) ≡ 3 + nodes_of_bound a + nodes_of_bound b + nodes_of_bound c
 nodes_of_slice None None None = refl
 nodes_of_slice None None (Some c) = refl
 nodes_of_slice None (Some b) None = refl

@@ -78,8 +78,11 @@ viewed_value w es v = values es >>= view_value w v
 abbrev pub stretch : Value → List Value → Eval Value
 stretch v ws = perform (Views BroadcastTo) ((RowsOnly, v) ∷ unused ws)
 
+abbrev pub stretch_by : Value → List Expr → Eval Value
+stretch_by v es = values es >>= stretch v
+
 abbrev pub stretched_value : Expr → List Expr → Eval Value
-stretched_value e es = value e >>= λ v. values es >>= stretch v
+stretched_value e es = value e >>= λ v. stretch_by v es
 
 -- ---- folds
 
@@ -140,9 +143,16 @@ abbrev pub list_parts : (is_empty : Bool) → Elements → Eval ItemParts
 list_parts true es = Gives (EmptyForm, [])
 list_parts false es = list_value (Nested es) None >>= λ v. Gives (AtForm, (ArraysOnly, v) ∷ [])
 
+-- a slice, by the values of its start and its stop, and by that of its start
+abbrev pub slice_to : (has_start has_stop : Bool) → List Value → List Value → Bound → Eval ItemParts
+slice_to p q xs ys c = values (bound_exprs c) >>= λ zs. Gives (SliceForm p q (is_given c), unused (xs ++ ys ++ zs))
+
+abbrev pub slice_from : (has_start : Bool) → List Value → Bound → Bound → Eval ItemParts
+slice_from p xs b c = values (bound_exprs b) >>= λ ys. slice_to p (is_given b) xs ys c
+
 abbrev pub item_parts : IndexItem → Eval ItemParts
 item_parts (At e) = value e >>= λ v. Gives (AtForm, (ArraysOnly, v) ∷ [])
-item_parts (Slice a b c) = values (bound_exprs a) >>= λ xs. values (bound_exprs b) >>= λ ys. values (bound_exprs c) >>= λ zs. Gives (SliceForm (is_given a) (is_given b) (is_given c), unused (xs ++ ys ++ zs))
+item_parts (Slice a b c) = values (bound_exprs a) >>= λ xs. slice_from (is_given a) xs b c
 item_parts Ellipsis = Gives (EllipsisForm, [])
 item_parts NewAxis = Gives (NewAxisForm, [])
 item_parts (Listed es) = list_parts (is_empty_list es) es
@@ -179,6 +189,10 @@ suffix_value (OfMethod m) v = method_value m v
 abbrev pub assignment : Value → Value → IndexParts → Eval Effect
 assignment v t x = act_on (assignment_deed x.0) ((Whole, v) ∷ (Unused, t) ∷ x.1)
 
+-- `t[..] = v` by the expressions of the index
+abbrev pub index_assignment : Value → Value → Index → Eval Effect
+index_assignment v t x = index_parts x >>= assignment v t
+
 -- bytes that are stored where a value lies
 abbrev pub stored_in : List (ℕ × ℕ) → Value → Result Effect Fault
 stored_in ws (given.Array b g) = Ok (Storing b ws)
@@ -201,7 +215,11 @@ augmentation n op x y = act_on (two (augment_name n op)) ((Whole, x) ∷ (Whole,
 abbrev pub item_augmentation : BinaryOp → Value → Value → Value → IndexParts → Eval Effect
 item_augmentation op y x t p = act_on (augment_item op p.0) ((Whole, y) ∷ (Whole, x) ∷ (Unused, t) ∷ p.1)
 
--- the same where x is no array, once all is used: what the operator makes is assigned
+-- `t[..] op= y` by the expressions of the index and the operand
+abbrev pub index_augmentation : BinaryOp → Expr → Value → Index → Eval Effect
+index_augmentation op e t x = index_parts x >>= λ p. choose_value t p >>= λ v. value e >>= λ y. item_augmentation op y v t p
+
+-- `t[..] op= y` where `t[..]` is no array, once all is used: what the operator makes is assigned
 abbrev pub made_assignment : BinaryOp → Operand → Operand → Viewing → Operand → List Operand → Result (Made × List (ℕ × ℕ)) Fault
 made_assignment op x y w t os = refusing.◌>>=◌ (binary op x y) (λ m. refusing.◌>>=◌ (assignment_writes w (operand_of_made m) t os) (λ ws. Ok (m, ws)))
 
@@ -216,14 +234,28 @@ values_behind vs es = values_then es (λ ws. Gives (vs ++ ws))
 abbrev pub filled_value : Fill → List Expr → Option DType → Eval Value
 filled_value f es t = values es >>= λ vs. perform (Computes (filled f t)) (unused vs)
 
--- `np.full`
-abbrev pub full_value : List Expr → Expr → Option DType → Eval Value
-full_value es e t = values es >>= λ vs. value e >>= λ v. perform (Computes (full t)) (wholes vs ++ (Whole, v) ∷ [])
+-- `np.full` of values, of an expression, and of expressions
+abbrev pub full_array : List Value → Value → Option DType → Eval Value
+full_array vs v t = perform (Computes (full t)) (wholes vs ++ (Whole, v) ∷ [])
 
--- `np.arange`
+abbrev pub full_of_shape : List Value → Expr → Option DType → Eval Value
+full_of_shape vs e t = value e >>= λ v. full_array vs v t
+
+abbrev pub full_value : List Expr → Expr → Option DType → Eval Value
+full_value es e t = values es >>= λ vs. full_of_shape vs e t
+
+-- `np.arange` of values, of a step, of an end and a step, and of expressions
+abbrev pub range_array : (has_start has_step : Bool) → List Value → Value → List Value → Option DType → Eval Value
+range_array p q xs v ys t = perform (Computes (arange p q t)) (unused (xs ++ v ∷ ys))
+
+abbrev pub range_to : (has_start : Bool) → List Value → Value → Bound → Option DType → Eval Value
+range_to p xs v c t = values (bound_exprs c) >>= λ ys. range_array p (is_given c) xs v ys t
+
+abbrev pub range_from : (has_start : Bool) → List Value → Expr → Bound → Option DType → Eval Value
+range_from p xs b c t = value b >>= λ v. range_to p xs v c t
+
 abbrev pub range_value : Bound → Expr → Bound → Option DType → Eval Value
-range_value a b c t =
-    values (bound_exprs a) >>= λ xs. value b >>= λ v. values (bound_exprs c) >>= λ ys. perform (Computes (arange (is_given a) (is_given c) t)) (unused (xs ++ v ∷ ys))
+range_value a b c t = values (bound_exprs a) >>= λ xs. range_from (is_given a) xs b c t
 
 -- what saving a value by a name comes to
 abbrev pub saving : List ℕ → Value → Eval Effect

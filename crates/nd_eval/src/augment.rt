@@ -1,13 +1,13 @@
 //! `augment_effect` and `augment_item_effect`: assignments with an operator, such as `x += 1` and
 //! `x[m] += 1`.
 
-ghost use Rattle.std.specs.Prelude.{◌≡◌, true, ◌+◌, ◌<◌, ◌^◌, IfOk, MatchResult};
+ghost use Rattle.std.specs.Prelude.{◌≡◌, true, ◌+◌, ◌<◌, ◌^◌, IfOk, MatchResult, OnOk};
 ghost use Rattle.nd_model.specs.Cells.Evaluation as evaluation;
 ghost use Rattle.nd_model.specs.Indexing.Index.{has_array};
 ghost use Rattle.nd_model.specs.Cells.Meaning as meaning;
 ghost use Rattle.nd_model.specs.Cells.Sound.{IsHeldView};
 ghost use Rattle.nd_model.specs.Grammar.Syntax.{Augment, AugmentItem};
-ghost use Rattle.nd_model.specs.Grammar.Tokens.{tokens_of_stmt};
+ghost use Rattle.nd_model.specs.Grammar.Tokens.{tokens_of, tokens_of_index, tokens_of_stmt};
 ghost use Rattle.nd_syntax.specs.Trees.Syntax.{binary_op, expr_of, index_of};
 ghost use Rattle.nd_heap.specs.Values.{base_of, geo_of, value_of};
 ghost use Rattle.nd_heap.specs.declared.value.Value.TheVariants as values;
@@ -17,11 +17,13 @@ ghost use Rattle.nd_operation.specs.Refusals.Ends.{Makes};
 ghost use Rattle.nd_select.specs.Choosing.Indexing.{index_operands, operands_of, viewing_of};
 ghost use Rattle.nd_eval.specs.Contents as contents;
 ghost use Rattle.nd_eval.specs.Effects.{EvaluatesEffect, IsReady, effect_of};
+ghost use Rattle.nd_eval.specs.declared.augment.CopyUpdate.{CopyUpdate};
+ghost use Rattle.nd_eval.specs.declared.effect.Effect.TheVariants as effects;
 ghost use Rattle.nd_eval.specs.Ends.{session_of};
 ghost use Rattle.nd_eval.specs.Parts as parts;
-ghost use Rattle.nd_eval.specs.Uses.{HasTypeOf, IsHeld, IsNoArray, operand_over};
+ghost use Rattle.nd_eval.specs.Uses.{HasTypeOf, IsHeld, IsNoArray, index_marked, marked, operand_over};
 
-use crate::discard::{discard, discard_array, discard_target};
+use crate::discard::{discard, discard_target};
 use crate::effect::Effect;
 use crate::evaluator::Evaluator;
 use crate::exec::store_effect;
@@ -30,9 +32,18 @@ use nd_operation::operators::{
     BinaryCall, BorrowedArray, Operand, kind_in_place, make_of_two, not_an_array,
 };
 use nd_operation::refusals::Stop;
-use nd_select::choosing::{IndexValue, Target, assignment_target, is_advanced};
-use nd_session::session::{Array, Session, Value};
+use nd_select::choosing::{IndexValue, Selection, Target, assignment_target, is_advanced};
+use nd_session::session::{Array, Base, OutOfMemory, Session, Value};
 use nd_syntax::trees::{BinaryOp, Expr, Index};
+use nd_types::Kind;
+
+/// An operator on a copy of chosen elements: its kind, and where its results are assigned.
+#[derive(Drop)]
+struct CopyUpdate {
+    kind: Kind,
+    base: Base,
+    selection: Selection,
+}
 
 /// The array that a value is, or else the value.
 fn array_of(value: Value) -> Result<Array, Value>
@@ -64,6 +75,54 @@ fn update_effect(
     Ok(Effect::Update(kind, op, array, value))
 }
 
+/// The kind of an operator on a copy of the elements that an advanced index selects, and what it
+/// selects: once all elements are noted as used.
+fn copy_update(
+    session: &Session,
+    op: BinaryOp,
+    copy: &Array,
+    value: &Value,
+    target: &Value,
+    index: &IndexValue<'_>,
+) -> Result<CopyUpdate, Stop>
+    requires advanced { has_array (operands_of index.now) ≡ true }
+    requires copy { IsHeldView (live session.now) (base_of copy.now.base) (geo_of copy.now) }
+    requires value { IsHeld (live session.now) value.now }
+    requires target { IsHeld (live session.now) target.now }
+    requires types { HasTypeOf true (unused_of target.now) (values.Array copy.now) }
+    ensures effect { Makes (λ (found : CopyUpdate). effect_of (live session.now).bytes
+        (effects.UpdateChosen found.kind op found.base found.selection copy.now value.now)) result
+        (parts.copy_update (binary_op op) (geo_of copy.now)
+        (contents_over (geo_of copy.now) ((live session.now).bytes (base_of copy.now.base)))
+        (operand_over (live session.now).bytes value.now) (viewing_of index.now)
+        (value_of target.now) (unused_of target.now)
+        (index_operands (live session.now).bytes index.now)) }
+    ensures ready { IfOk result (λ (found : CopyUpdate). IsReady (live session.now)
+        (effects.UpdateChosen found.kind op found.base found.selection copy.now value.now)) }
+{
+    let operand = operand_in(session, value);
+    let kind = kind_in_place(session.allocator(), op, &copy.view, &operand)?;
+    let copied = Operand::Elements(BorrowedArray {
+        view: &copy.view,
+        block: session.bytes(copy.base),
+        is_row: false,
+    });
+    let found = assignment_target(session, &copied, target, index)?;
+    let Value::Array(array) = target else {
+        discard_target(found);
+        return Err(Stop::Refused(not_an_array()));
+    };
+    let Target::Elements(selection) = found else {
+        return Err(Stop::Refused(not_an_array()));
+    };
+    let base = array.base;
+    Ok(CopyUpdate {
+        kind,
+        base,
+        selection,
+    })
+}
+
 /// The effect of an operator on the elements that an advanced index selects, once all elements are
 /// noted as used. It works on a copy, which is then assigned.
 fn copy_update_effect(
@@ -86,24 +145,23 @@ fn copy_update_effect(
         (unused_of target.now) (index_operands (live session.now).bytes index.now)) }
     ensures ready { IfOk result (IsReady (live session.now)) }
 {
-    let operand = operand_in(session, &value);
-    let kind = kind_in_place(session.allocator(), op, &copy.view, &operand)?;
-    let copied = Operand::Elements(BorrowedArray {
-        view: &copy.view,
-        block: session.bytes(copy.base),
-        is_row: false,
-    });
-    let found = assignment_target(session, &copied, target, index)?;
-    let Value::Array(array) = target else {
-        discard_target(found);
-        discard_array(copy);
-        discard(value);
-        return Err(Stop::Refused(not_an_array()));
-    };
-    let Target::Elements(selection) = found else {
-        return Err(Stop::Refused(not_an_array()));
-    };
-    Ok(Effect::UpdateChosen(kind, op, array.base, selection, copy, value))
+    let found = copy_update(session, op, &copy, &value, target, index)?;
+    Ok(Effect::UpdateChosen(found.kind, op, found.base, found.selection, copy, value))
+}
+
+/// Notes that all elements of two values are used, and what an index uses.
+fn mark_item_operands(
+    session: &mut Session,
+    value: &Value,
+    found: &Value,
+    index: &IndexValue<'_>,
+) -> Result<(), OutOfMemory>
+    ensures { OnOk result (live session.new
+        ≡ index_marked index.now (marked found.now (marked value.now (live session.old)))) }
+{
+    mark_operand(session, value)?;
+    mark_operand(session, found)?;
+    mark_index(session, index)
 }
 
 impl Evaluator<'_> {
@@ -237,9 +295,7 @@ impl Evaluator<'_> {
             (contents.index_of index.now)) self.new }
         ensures ready { IfOk result (IsReady (session_of self.new)) }
     {
-        mark_operand(self.session, &value)?;
-        mark_operand(self.session, &found)?;
-        mark_index(self.session, index)?;
+        mark_item_operands(self.session, &value, &found, index)?;
         match array_of(found) {
             Ok(array) => {
                 if is_advanced(index) {
@@ -274,9 +330,28 @@ impl Evaluator<'_> {
     {
         self.session.soundness();
         let target = self.value(target)?;
+        self.augment_index(&target, index, op, expr)
+    }
+
+    /// The effect of `target[index] op= expr`, for the target's value.
+    fn augment_index(
+        &mut self,
+        target: &Value,
+        index: &Index,
+        op: BinaryOp,
+        expr: &Expr,
+    ) -> Result<Effect, Stop>
+        requires held { IsHeld (session_of self.old) target.now }
+        requires room { (session_of self.old).next + tokens_of_index (index_of index.now)
+            + tokens_of (expr_of expr.now) + 3 < 2 ^ 64 }
+        ensures effect { EvaluatesEffect result self.old (parts.index_augmentation (binary_op op)
+            (expr_of expr.now) (value_of target.now) (index_of index.now)) self.new }
+        ensures ready { IfOk result (IsReady (session_of self.new)) }
+    {
+        self.session.soundness();
         let index = self.index_value(index)?;
-        let found = self.choose_value(&target, &index)?;
+        let found = self.choose_value(target, &index)?;
         let value = self.value(expr)?;
-        self.augment_item(op, value, found, &target, &index)
+        self.augment_item(op, value, found, target, &index)
     }
 }

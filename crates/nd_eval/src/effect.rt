@@ -7,6 +7,13 @@ use nd_syntax::trees::BinaryOp;
 use nd_types::Kind;
 
 /// What a statement will do, once it is evaluated.
+///
+/// ```text
+/// print(x)      Print          x[1:] = 0     Store
+/// y = x + 1     Bind           x[mask] = 0   Scatter
+/// del y         Unbind         x += 1        Update
+/// np.save(..)   Save           x[mask] += 1  UpdateChosen
+/// ```
 #[derive(Drop)]
 pub(crate) enum Effect {
     Nothing,

@@ -25,6 +25,7 @@ ghost use Rattle.nd_operation.specs.Operators.OfTwo.{made_of_two};
 ghost use Rattle.nd_syntax.specs.Trees.Calls.{dtype_of, fill_of, ufunc_of};
 ghost use Rattle.nd_fold.specs.Folds.{made_of_fold};
 
+use crate::discard::discard_chosen;
 use crate::evaluator::Evaluator;
 use crate::operation::{mark_index, mark_operand, mark_operands, operand_in};
 use crate::views::ViewMethod;
@@ -205,8 +206,20 @@ impl Evaluator<'_> {
     {
         self.session.soundness();
         let found = self.value(operand)?;
+        self.stretch_by(&found, shape)
+    }
+
+    /// `np.broadcast_to` of a value, by the expressions of the lengths.
+    #[cycle(value)]
+    fn stretch_by(&mut self, found: &Value, shape: &[Expr]) -> Result<Value, Stop>
+        requires held { IsHeld (session_of self.old) found.now }
+        requires room { (session_of self.old).next + tokens_of_all (map expr_of shape.now) + 1
+            < 2 ^ 64 }
+        ensures { Evaluates value_of result self.old
+            (parts.stretch_by (value_of found.now) (map expr_of shape.now)) self.new }
+    {
         let shape = self.values(shape)?;
-        self.stretch_value(&found, &shape)
+        self.stretch_value(found, &shape)
     }
 
     /// The result of a method, for a value.
@@ -347,12 +360,45 @@ impl Evaluator<'_> {
             (option_map dtype_of dtype.now)) self.new }
     {
         self.session.soundness();
-        let alloc = self.session.allocator();
         let shape = self.values(shape)?;
+        self.full_of_shape(&shape, value, dtype)
+    }
+
+    /// `np.full`, by the values of the lengths.
+    #[cycle(value)]
+    fn full_of_shape(
+        &mut self,
+        shape: &[Value],
+        value: &Expr,
+        dtype: &Option<DType>,
+    ) -> Result<Value, Stop>
+        requires { (session_of self.old).next + tokens_of (expr_of value.now) + 1 < 2 ^ 64 }
+        ensures { Evaluates value_of result self.old
+            (parts.full_of_shape (map value_of shape.now) (expr_of value.now)
+            (option_map dtype_of dtype.now)) self.new }
+    {
+        self.session.soundness();
         let value = self.value(value)?;
-        mark_operands(self.session, &shape)?;
-        mark_operand(self.session, &value)?;
-        let new = make_full(alloc, dtype, &shape, &operand_in(self.session, &value))?;
+        self.full_array(shape, &value, dtype)
+    }
+
+    /// `np.full` of values.
+    fn full_array(
+        &mut self,
+        shape: &[Value],
+        value: &Value,
+        dtype: &Option<DType>,
+    ) -> Result<Value, Stop>
+        requires held { IsHeld (session_of self.old) value.now }
+        requires room { (session_of self.old).next + 1 < 2 ^ 64 }
+        ensures { Evaluates value_of result self.old
+            (parts.full_array (map value_of shape.now) (value_of value.now)
+            (option_map dtype_of dtype.now)) self.new }
+    {
+        let alloc = self.session.allocator();
+        mark_operands(self.session, shape)?;
+        mark_operand(self.session, value)?;
+        let new = make_full(alloc, dtype, shape, &operand_in(self.session, value))?;
         self.give(new)
     }
 
@@ -385,11 +431,63 @@ impl Evaluator<'_> {
             (parts.range_value (bound_of start.now) (expr_of stop.now) (bound_of step.now)
             (option_map dtype_of dtype.now)) self.new }
     {
-        let alloc = self.session.allocator();
         let start = self.bound_value(start)?;
+        self.range_from(&start, stop, step, dtype)
+    }
+
+    /// `np.arange`, by the value of its start.
+    #[cycle(value)]
+    fn range_from(
+        &mut self,
+        start: &Option<Value>,
+        stop: &Expr,
+        step: &Option<Expr>,
+        dtype: &Option<DType>,
+    ) -> Result<Value, Stop>
+        requires { (session_of self.old).next + tokens_of (expr_of stop.now)
+            + tokens_of_bound (bound_of step.now) + 1 < 2 ^ 64 }
+        ensures { Evaluates value_of result self.old
+            (parts.range_from (is_some start.now) (option_values start.now) (expr_of stop.now)
+            (bound_of step.now) (option_map dtype_of dtype.now)) self.new }
+    {
         let stop = self.value(stop)?;
+        self.range_to(start, &stop, step, dtype)
+    }
+
+    /// `np.arange`, by the values of its start and its stop.
+    #[cycle(value)]
+    fn range_to(
+        &mut self,
+        start: &Option<Value>,
+        stop: &Value,
+        step: &Option<Expr>,
+        dtype: &Option<DType>,
+    ) -> Result<Value, Stop>
+        requires { (session_of self.old).next + tokens_of_bound (bound_of step.now) + 1 < 2 ^ 64 }
+        ensures { Evaluates value_of result self.old
+            (parts.range_to (is_some start.now) (option_values start.now) (value_of stop.now)
+            (bound_of step.now) (option_map dtype_of dtype.now)) self.new }
+    {
         let step = self.bound_value(step)?;
-        let new = make_range(alloc, &start, &stop, &step, dtype)?;
+        self.range_array(start, stop, &step, dtype)
+    }
+
+    /// `np.arange` of values.
+    fn range_array(
+        &mut self,
+        start: &Option<Value>,
+        stop: &Value,
+        step: &Option<Value>,
+        dtype: &Option<DType>,
+    ) -> Result<Value, Stop>
+        requires { (session_of self.old).next + 1 < 2 ^ 64 }
+        ensures { Evaluates value_of result self.old
+            (parts.range_array (is_some start.now) (is_some step.now) (option_values start.now)
+            (value_of stop.now) (option_values step.now) (option_map dtype_of dtype.now))
+            self.new }
+    {
+        let alloc = self.session.allocator();
+        let new = make_range(alloc, start, stop, step, dtype)?;
         self.give(new)
     }
 
@@ -568,6 +666,40 @@ impl Evaluator<'_> {
         Ok(ItemValue::At(value))
     }
 
+    /// A slice, by the value of its start.
+    #[cycle(value)]
+    fn slice_from(
+        &mut self,
+        start: Option<Value>,
+        stop: &Option<Expr>,
+        step: &Option<Expr>,
+    ) -> Result<ItemValue, Stop>
+        requires { (session_of self.old).next + tokens_of_bound (bound_of stop.now)
+            + tokens_of_bound (bound_of step.now) < 2 ^ 64 }
+        ensures { Evaluates contents.item_of result self.old (parts.slice_from (is_some start)
+            (option_values start) (bound_of stop.now) (bound_of step.now)) self.new }
+    {
+        let stop = self.bound_value(stop)?;
+        self.slice_to(start, stop, step)
+    }
+
+    /// A slice, by the values of its start and its stop.
+    #[cycle(value)]
+    fn slice_to(
+        &mut self,
+        start: Option<Value>,
+        stop: Option<Value>,
+        step: &Option<Expr>,
+    ) -> Result<ItemValue, Stop>
+        requires { (session_of self.old).next + tokens_of_bound (bound_of step.now) < 2 ^ 64 }
+        ensures { Evaluates contents.item_of result self.old
+            (parts.slice_to (is_some start) (is_some stop) (option_values start)
+            (option_values stop) (bound_of step.now)) self.new }
+    {
+        let step = self.bound_value(step)?;
+        Ok(ItemValue::Slice { start, stop, step })
+    }
+
     /// An item of an index with the values of its expressions.
     #[cycle(value)]
     fn item_value(&mut self, item: &IndexItem) -> Result<ItemValue, Stop>
@@ -582,9 +714,7 @@ impl Evaluator<'_> {
             }
             IndexItem::Slice(start, stop, step) => {
                 let start = self.bound_value(start)?;
-                let stop = self.bound_value(stop)?;
-                let step = self.bound_value(step)?;
-                Ok(ItemValue::Slice { start, stop, step })
+                self.slice_from(start, stop, step)
             }
             IndexItem::Ellipsis => Ok(ItemValue::Ellipsis),
             IndexItem::NewAxis => Ok(ItemValue::NewAxis),
@@ -608,7 +738,10 @@ impl Evaluator<'_> {
         mark_index(self.session, index)?;
         let chosen = choose(self.session, target, index)?;
         match target {
-            Value::Number(_) => Err(Stop::Refused(StmtFault::Stmt(StmtError::NotAnArray))),
+            Value::Number(_) => {
+                discard_chosen(chosen);
+                Err(Stop::Refused(StmtFault::Stmt(StmtError::NotAnArray)))
+            }
             Value::Array(array) => self.chosen_value(array, chosen),
             Value::Row(row) => self.chosen_value(row, chosen),
         }

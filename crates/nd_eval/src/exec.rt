@@ -7,7 +7,7 @@ ghost use Rattle.nd_model.specs.Arrays.Value as model;
 ghost use Rattle.nd_model.specs.Cells.Meaning as meaning;
 ghost use Rattle.nd_model.specs.Cells.Cell.{statement};
 ghost use Rattle.nd_model.specs.Grammar.Syntax.{Assign, Bind, Delete, Print};
-ghost use Rattle.nd_model.specs.Grammar.Tokens.{tokens_of, tokens_of_all, tokens_of_stmt};
+ghost use Rattle.nd_model.specs.Grammar.Tokens.{tokens_of, tokens_of_all, tokens_of_index, tokens_of_stmt};
 ghost use Rattle.nd_syntax.specs.Trees.Syntax.{expr_of, index_of, stmt_of};
 ghost use Rattle.nd_heap.specs.Values.{base_of, value_of};
 ghost use Rattle.nd_session.specs.Inputs.Values.{inputs_of};
@@ -99,6 +99,20 @@ impl Evaluator<'_> {
         }
     }
 
+    /// The effect of an assignment, for the values of its right side and its target.
+    fn assign_at(&mut self, value: Value, target: &Value, index: &Index) -> Result<Effect, Stop>
+        requires value { IsHeld (session_of self.old) value }
+        requires target { IsHeld (session_of self.old) target.now }
+        requires room { (session_of self.old).next + tokens_of_index (index_of index.now)
+            < 2 ^ 64 }
+        ensures effect { EvaluatesEffect result self.old (parts.index_assignment (value_of value)
+            (value_of target.now) (index_of index.now)) self.new }
+        ensures ready { IfOk result (IsReady (session_of self.new)) }
+    {
+        let index = self.index_value(index)?;
+        self.assign(value, target, &index)
+    }
+
     /// The effect of an assignment. Value, target and index are evaluated in this order.
     fn assignment_effect(
         &mut self,
@@ -116,8 +130,7 @@ impl Evaluator<'_> {
         self.session.soundness();
         let written = self.value(expr)?;
         let target = self.value(target)?;
-        let index = self.index_value(index)?;
-        self.assign(written, &target, &index)
+        self.assign_at(written, &target, index)
     }
 
     /// The effect of a deletion.
@@ -251,6 +264,9 @@ fn evaluate_stmt(session: &mut Session, inputs: &Inputs, stmt: &Stmt) -> Result<
 }
 
 /// Runs a statement, and returns what it gives to its cell, or its refusal.
+///
+/// Where `x` is bound to `[5 6 7]`, the output of `print(x[1:])` has the text `[6 7]` and a newline.
+/// The statement `x[9] = 1` is refused with `OutOfBounds`: axis 0, index 9, length 3.
 ///
 /// A refused statement binds, unbinds and writes nothing, yet it may have made blocks. A text
 /// longer than any cell may print is refused at once, so that it is never built whole.

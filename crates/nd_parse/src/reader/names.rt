@@ -51,8 +51,8 @@ fn named<T: Copy>(table: &[(&str, T)], other: T, name: &str) -> T
     other
 }
 
-/// Returns the kind of this name (NumPy user guide, "Data types"). The grammar hands on names of
-/// kinds only.
+/// Returns the kind of this name (NumPy user guide, "Data types"): `int16` for `"int16"`. The
+/// grammar hands on names of kinds only.
 pub fn kind_named(name: &str) -> Kind
     ensures { kind_of result ≡ kind_named name.now }
 {

@@ -21,6 +21,9 @@ pub type Tokens<'t> = &'t [Token<'t>];
 pub type Read<'t, X> = Result<(X, Tokens<'t>), Failure>;
 
 /// Why a token is refused.
+///
+/// In `x = +1` the `+` is left out, and in `x = np.sort(y)` the call is unknown. In `x = )` the
+/// bracket itself does not fit.
 #[derive(Clone, Copy)]
 pub enum Reason {
     /// The token itself does not fit.
@@ -87,6 +90,9 @@ pub fn refuse(tokens: &[Token], set: u128, why: Reason) -> Failure
 }
 
 /// Reads a token of the set.
+///
+/// From `x = 1` a set with plain names takes `x`, and leaves `= 1`. A set of commas takes nothing:
+/// the reader stops at `x`.
 pub fn take<'t>(tokens: Tokens<'t>, set: u128) -> Read<'t, Token<'t>>
     ensures { Gives (with_rest token_of) result (read kind (token set) (tokens_of tokens.now)) }
 {
@@ -102,7 +108,7 @@ pub fn take<'t>(tokens: Tokens<'t>, set: u128) -> Read<'t, Token<'t>>
     }
 }
 
-/// Returns the tokens behind a token of the set.
+/// Returns the tokens behind a token of the set: of `, 1)` those of `1)`, for a set of commas.
 pub fn skip<'t>(tokens: Tokens<'t>, set: u128) -> Result<Tokens<'t>, Failure>
     ensures { Gives (λ rest. (front (tokens_of tokens.now), tokens_of rest.now)) result
         (read kind (token set) (tokens_of tokens.now)) }

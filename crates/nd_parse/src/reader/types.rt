@@ -218,7 +218,7 @@ fn fields<'t>(alloc: Global, levels: u8, tokens: Tokens<'t>) -> Read<'t, Vec<Fie
     some_fields(alloc, levels - 1, tokens)
 }
 
-/// Reads a dtype.
+/// Reads a dtype: `np.int8`, `'<u2'`, or fields such as `[('a', np.int8), ('b', '<u2')]`.
 #[tactic(auto, unfolding(nd_model::specs::Grammar::Cells::dtype))]
 pub fn dtype<'t>(alloc: Global, levels: u8, tokens: Tokens<'t>) -> Read<'t, DType>
     ensures { Gives (with_rest dtype_of) result (read kind (dtype (under levels))

@@ -21,7 +21,7 @@ use crate::rules::rows::{append, lead};
 use nd_syntax::trees::{Axis, Expr};
 
 impl<'f, F: for<'t> Fn(u8, Spot, Tokens<'t>) -> Read<'t, Expr>> Rules<'f, F> {
-    /// The lengths of a shape.
+    /// The lengths of a shape: `6` in `np.zeros(6)`, `(2, 3)` in `np.zeros((2, 3))`.
     #[tactic(auto, unfolding(nd_model::specs::Grammar::Cells::shape))]
     pub fn shape<'t>(&self, levels: u8, tokens: Tokens<'t>) -> Read<'t, Vec<Expr>>
         requires { Operands F.Fn self.now.operand.now (levels + 1) }

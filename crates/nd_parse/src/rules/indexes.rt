@@ -24,7 +24,8 @@ use nd_syntax::trees::{Element, Expr, Index, IndexItem};
 use std::alloc::Global;
 
 impl<'f, F: for<'t> Fn(u8, Spot, Tokens<'t>) -> Read<'t, Expr>> Rules<'f, F> {
-    /// `[index]`, which may open `levels` levels
+    /// `[index]`, which may open `levels` levels: `[1:, ::2]` is two slices, `['a']` a field, `[m]`
+    /// one item that is an expression
     pub fn index<'t>(&self, levels: u8, tokens: Tokens<'t>) -> Read<'t, Index>
         requires { Operands F.Fn self.now.operand.now levels }
         ensures { Gives (with_rest index_of) result (read kind (index (under levels))

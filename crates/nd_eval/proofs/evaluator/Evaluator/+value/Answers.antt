@@ -1,15 +1,15 @@
+use Rattle.std.specs.Prelude.{is_some}
 use Rattle.std.proofs.Common.{Ok, None, append-nil, ◌+◌, List, [], ◌∷◌, ◌++◌, refl, map, option_map, take, drop, ap, sym, ◌∙◌, arith}
 use Rattle.std.proofs.lemmas.List.{drop_all, length-map}
-use Rattle.nd_model.specs.Indexing.Index.{Form, AtForm, SliceForm}
+use Rattle.nd_model.specs.Indexing.Index.{AtForm, SliceForm}
 use Rattle.nd_model.specs.Making.Operand.{ArraysOnly}
-use Rattle.nd_model.specs.Cells.Evaluation.{Eval, Gives, run, ◌>>=◌, decide}
+use Rattle.nd_model.specs.Cells.Evaluation.{Gives, run, ◌>>=◌, decide}
 use Rattle.nd_model.specs.Cells.Meaning as meaning
 use Rattle.nd_model.specs.Indexing.Viewing as viewing
 use Rattle.nd_model.specs.Grammar.Cells.{chained, elements_of, items_of}
 use Rattle.nd_model.specs.Making.Elementwise.{binary}
-use Rattle.nd_model.specs.Making.Creation.{arange}
 use Rattle.nd_model.specs.Cells.Meaning.{is_given}
-use Rattle.nd_eval.proofs.Ranging.{range_first, range_is, range_parts}
+use Rattle.nd_eval.proofs.Ranging.{range_first, range_is}
 use Rattle.nd_model.specs.Cells.Operation.{give}
 use Rattle.nd_model.specs.Grammar.Tokens.{tokens_of, tokens_of_call, tokens_of_fold, tokens_of_method}
 use Rattle.nd_syntax.specs.Trees.Lists.{operation_of}
@@ -21,17 +21,16 @@ use Rattle.nd_heap.specs.Values.{value_of}
 use Rattle.nd_session.specs.Inputs.Values.{inputs_of}
 use Rattle.nd_session.specs.Session.Live.{live}
 use Rattle.nd_eval.proofs.Bounds.{accumulated_tokens, axis_behind, bound_behind, few_of_items, step_more, list_others, next_behind, next_index, next_item_parts, next_list, next_bound, next_value, next_values, next_at_suffix}
-use Rattle.nd_eval.proofs.Calls.{filled_first, filled_parts, full_first, full_follows, list_first, list_parts, stretched_first}
+use Rattle.nd_eval.proofs.Calls.{filled_first, filled_parts, full_first, list_first, list_parts, stretched_first}
 use Rattle.nd_syntax.specs.Trees.Calls.{accumulation_of, dtype_of, fill_of, ufunc_of}
-use Rattle.nd_model.specs.Making.Creation.{array_of_list, filled, full_of}
-use Rattle.nd_operation.specs.Operators.Contents.{operand_of, unused_of}
+use Rattle.nd_model.specs.Making.Creation.{array_of_list, filled}
+use Rattle.nd_operation.specs.Operators.Contents.{unused_of}
 use Rattle.nd_eval.specs.Contents as contents
 use Rattle.nd_eval.specs.Contents.{option_values, values_of}
 use Rattle.nd_eval.specs.Parts.{list_parts as as_item}
 use Rattle.nd_eval.specs.Parts.{bound_exprs, fold_call, exprs_in, exprs_of_element, index_parts, item_parts, items_parts, items_then, parts_of_items, unused, ItemParts, suffix_value, list_value, binary_value, values_behind, values_then, values, method_value, viewed_value}
 use Rattle.nd_model.specs.Arrays.Value as model
 use Rattle.nd_syntax.specs.declared.trees.tree.Expr.{Expr}
-use Rattle.nd_operation.specs.Operators.New.{bounds_of}
 use Rattle.nd_eval.proofs.Creating.{exits_new, follows_new}
 use Rattle.nd_eval.proofs.Chains.{exits, follows, goes, ends_as, ends_alike}
 use Rattle.nd_model.specs.Grammar.Syntax.{Called, Nested, NewArray}
@@ -39,9 +38,9 @@ use Rattle.nd_syntax.proofs.trees.Nodes.{filled_is, full_is, broadcast_is, resha
 use Rattle.nd_eval.proofs.Operating.{chain_step, chain_rest, exits_chain, exits_later, fewer_tokens}
 use Rattle.nd_eval.proofs.Turns.{stays_on}
 use Rattle.nd_model.specs.Cells.Running.{Running}
-use Rattle.nd_eval.specs.Uses.{marked, all_marked}
-use Rattle.nd_eval.proofs.Uses.{slice_seen, kept_bytes, kept_next, all_marked_bytes, all_marked_next}
-use Rattle.nd_eval.proofs.Held.{held_after, held_marked, held_past, sound_after, suffix_held, value_held}
+use Rattle.nd_eval.specs.Uses.{all_marked}
+use Rattle.nd_eval.proofs.Uses.{slice_seen, all_marked_next}
+use Rattle.nd_eval.proofs.Held.{held_after, sound_after, suffix_held, value_held}
 use Rattle.nd_operation.proofs.operators.InTurn.{next_item, pushed}
 use Rattle.nd_eval.proofs.InTurn.{as_many, behind_others, many_in, onto, onto_more}
 use Rattle.nd_eval.proofs.Indexing.{accumulate_is, accumulated_is, chain, fold_first, nodes_of_accumulate, nodes_of_accumulated, nodes_of_fold, elements_in_list, nodes_of_its_elements, run_postfix, tokens_of_postfix, nodes_of_postfix, nodes_of_filled, nodes_of_full, list_in_items, nodes_of_list, nodes_of_item, nodes_of_slice, slice_is, shape_tokens, items_in_index, nodes_of_its_items, is_chain, nodes_of_chain, listed_is, nodes_of_reshaped, nodes_of_stretched, nodes_of_transposed, reshaped_tokens, transposed_tokens}
@@ -413,87 +412,60 @@ range_value-returns-in_err-start t c = (
   c.in_err-start.ensures.value.1,
 )
 
-pub range_value-value-requires : goal.range_value-value-requires
-range_value-value-requires t c =
+pub range_value-range_from-requires : goal.range_value-range_from-requires
+range_value-range_from-requires t c =
     let below = c.decreases in
     let room = c.requires in
     let made = next_bound (inputs_of c.args.self.now.inputs.now.entries) (bound_of c.args.start.now) _ _ _ c.in_ok-start.ensures.value.0 in
     (omega arith, omega arith)
 
-pub range_value-returns-in_err-stop : goal.range_value-returns-in_err-stop
-range_value-returns-in_err-stop t c =
-    let i = inputs_of c.args.self.now.inputs.now.entries in (
-      follows option_values value_of i (values (bound_exprs (bound_of c.args.start.now))) _ _ _ _ c.in_ok-start.start _ c.in_ok-start.ensures.value.0
-          (exits value_of value_of i (meaning.value (expr_of c.args.stop.now)) _ _ _ _ _ c.from_residual-in_err-stop.ensures.1 (rw c.in_ok-start.ensures.value.1.1 at c.in_err-stop.ensures.0)),
-      stays_on c.in_ok-start.ensures.value.1 c.in_err-stop.ensures.1,
-    )
+pub range_value-returns : goal.range_value-returns
+range_value-returns t c = (
+  follows option_values value_of (inputs_of c.args.self.now.inputs.now.entries) (values (bound_exprs (bound_of c.args.start.now))) _ _ _ _ c.in_ok-start.start _ c.in_ok-start.ensures.value.0
+      (rw (c.in_ok-start.ensures.value.1.1, c.in_ok-start.ensures.given) at c.range_from.ensures.0),
+  stays_on c.in_ok-start.ensures.value.1 c.range_from.ensures.1,
+)
 
-pub range_value-bound_value-requires-2 : goal.range_value-bound_value-requires-2
-range_value-bound_value-requires-2 t c =
-    let i = inputs_of c.args.self.now.inputs.now.entries in
+pub range_from-returns-in_err-stop : goal.range_from-returns-in_err-stop
+range_from-returns-in_err-stop t c = (
+  exits value_of value_of (inputs_of c.args.self.now.inputs.now.entries) (meaning.value (expr_of c.args.stop.now)) _ _ _ _ _
+      c.from_residual.ensures.1 c.in_err-stop.ensures.0,
+  c.in_err-stop.ensures.1,
+)
+
+pub range_from-range_to-requires : goal.range_from-range_to-requires
+range_from-range_to-requires t c =
     let below = c.decreases in
     let room = c.requires in
-    let first = next_bound i (bound_of c.args.start.now) _ _ _ c.in_ok-start.ensures.value.0 in
-    let second = next_value i (expr_of c.args.stop.now) _ _ _ (rw c.in_ok-start.ensures.value.1.1 at c.in_ok-stop.ensures.0) in
+    let made = next_value (inputs_of c.args.self.now.inputs.now.entries) (expr_of c.args.stop.now) _ _ _ c.in_ok-stop.ensures.0 in
     (omega arith, omega arith)
 
-pub range_value-returns-in_err-step : goal.range_value-returns-in_err-step
-range_value-returns-in_err-step t c =
-    let i = inputs_of c.args.self.now.inputs.now.entries in
-    let stays = stays_on c.in_ok-start.ensures.value.1 c.in_ok-stop.ensures.1 in (
-      follows option_values value_of i (values (bound_exprs (bound_of c.args.start.now))) _ _ _ _ c.in_ok-start.start _ c.in_ok-start.ensures.value.0
-          (follows value_of value_of i (meaning.value (expr_of c.args.stop.now)) _ _ _ _ c.in_ok-stop.stop _ (rw c.in_ok-start.ensures.value.1.1 at c.in_ok-stop.ensures.0)
-          (exits option_values value_of i (values (bound_exprs (bound_of c.args.step.now))) _ _ _ _ _ c.from_residual-in_err-step.ensures.1 (rw stays.1 at c.in_err-step.ensures.value.0))),
-      stays_on stays c.in_err-step.ensures.value.1,
-    )
+pub range_from-returns : goal.range_from-returns
+range_from-returns t c = (
+  follows value_of value_of (inputs_of c.args.self.now.inputs.now.entries) (meaning.value (expr_of c.args.stop.now)) _ _ _ _ c.in_ok-stop.stop _ c.in_ok-stop.ensures.0
+      (rw c.in_ok-stop.ensures.1.1 at c.range_to.ensures.0),
+  stays_on c.in_ok-stop.ensures.1 c.range_to.ensures.1,
+)
 
-pub range_value-returns-in_err-new : goal.range_value-returns-in_err-new
-range_value-returns-in_err-new t c =
-    let i = inputs_of c.args.self.now.inputs.now.entries in
-    let p = is_given (bound_of c.args.start.now) in
-    let q = is_given (bound_of c.args.step.now) in
-    let d = option_map dtype_of c.args.dtype.now in
-    let xs = c.in_ok-start.start in
-    let v = c.in_ok-stop.stop in
-    let ys = c.in_ok-step.step in
-    let stays = stays_on c.in_ok-start.ensures.value.1 c.in_ok-stop.ensures.1 in
-    let made = rw (c.in_ok-start.ensures.given, c.in_ok-step.ensures.given) at c.in_err-new.ensures in (
-      follows option_values value_of i (values (bound_exprs (bound_of c.args.start.now))) _ _ _ _ xs _ c.in_ok-start.ensures.value.0
-          (follows value_of value_of i (meaning.value (expr_of c.args.stop.now)) _ _ _ _ v _ (rw c.in_ok-start.ensures.value.1.1 at c.in_ok-stop.ensures.0)
-          (follows option_values value_of i (values (bound_exprs (bound_of c.args.step.now))) _ _ _ _ ys _ (rw stays.1 at c.in_ok-step.ensures.value.0)
-          (ends_as value_of i _ _ _ (range_parts p q d xs v ys) (exits_new i (arange p q d (bounds_of xs v ys)) _ _ _ c.from_residual-in_err-new.ensures.1 made)))),
-      stays_on stays c.in_ok-step.ensures.value.1,
-    )
+pub range_to-returns-in_err-step : goal.range_to-returns-in_err-step
+range_to-returns-in_err-step t c = (
+  exits option_values value_of (inputs_of c.args.self.now.inputs.now.entries) (values (bound_exprs (bound_of c.args.step.now))) _ _ _ _ _
+      c.from_residual.ensures.1 c.in_err-step.ensures.value.0,
+  c.in_err-step.ensures.value.1,
+)
 
-pub range_value-give-requires : goal.range_value-give-requires
-range_value-give-requires t c =
-    let i = inputs_of c.args.self.now.inputs.now.entries in
+pub range_to-range_array-requires : goal.range_to-range_array-requires
+range_to-range_array-requires t c =
     let room = c.requires in
-    let stays = stays_on c.in_ok-start.ensures.value.1 c.in_ok-stop.ensures.1 in
-    let first = next_bound i (bound_of c.args.start.now) _ _ _ c.in_ok-start.ensures.value.0 in
-    let second = next_value i (expr_of c.args.stop.now) _ _ _ (rw c.in_ok-start.ensures.value.1.1 at c.in_ok-stop.ensures.0) in
-    let third = next_bound i (bound_of c.args.step.now) _ _ _ (rw stays.1 at c.in_ok-step.ensures.value.0) in
+    let made = next_bound (inputs_of c.args.self.now.inputs.now.entries) (bound_of c.args.step.now) _ _ _ c.in_ok-step.ensures.value.0 in
     omega arith
 
-pub range_value-returns : goal.range_value-returns
-range_value-returns t c =
-    let i = inputs_of c.args.self.now.inputs.now.entries in
-    let p = is_given (bound_of c.args.start.now) in
-    let q = is_given (bound_of c.args.step.now) in
-    let d = option_map dtype_of c.args.dtype.now in
-    let xs = c.in_ok-start.start in
-    let v = c.in_ok-stop.stop in
-    let ys = c.in_ok-step.step in
-    let before = stays_on c.in_ok-start.ensures.value.1 c.in_ok-stop.ensures.1 in
-    let stays = stays_on before c.in_ok-step.ensures.value.1 in
-    let made = rw (c.in_ok-start.ensures.given, c.in_ok-step.ensures.given) at c.in_ok-new.ensures in (
-      follows option_values value_of i (values (bound_exprs (bound_of c.args.start.now))) _ _ _ _ xs _ c.in_ok-start.ensures.value.0
-          (follows value_of value_of i (meaning.value (expr_of c.args.stop.now)) _ _ _ _ v _ (rw c.in_ok-start.ensures.value.1.1 at c.in_ok-stop.ensures.0)
-          (follows option_values value_of i (values (bound_exprs (bound_of c.args.step.now))) _ _ _ _ ys _ (rw before.1 at c.in_ok-step.ensures.value.0)
-          (ends_as value_of i _ _ _ (range_parts p q d xs v ys)
-          (follows_new i (arange p q d (bounds_of xs v ys)) _ _ c.in_ok-new.new _ made (rw stays.1 at c.give.ensures.0))))),
-      stays_on stays c.give.ensures.1,
-    )
+pub range_to-returns : goal.range_to-returns
+range_to-returns t c = (
+  follows option_values value_of (inputs_of c.args.self.now.inputs.now.entries) (values (bound_exprs (bound_of c.args.step.now))) _ _ _ _ c.in_ok-step.step _ c.in_ok-step.ensures.value.0
+      (rw (c.in_ok-step.ensures.value.1.1, c.in_ok-step.ensures.given) at c.range_array.ensures.0),
+  stays_on c.in_ok-step.ensures.value.1 c.range_array.ensures.1,
+)
 
 pub filled_value-values-requires : goal.filled_value-values-requires
 filled_value-values-requires t c =
@@ -550,78 +522,42 @@ full_value-returns-in_err-shape t c = (
   c.in_err-shape.ensures.1,
 )
 
-pub full_value-value-requires : goal.full_value-value-requires
-full_value-value-requires t c =
+pub full_value-full_of_shape-requires : goal.full_value-full_of_shape-requires
+full_value-full_of_shape-requires t c =
     let below = c.decreases in
     let room = c.requires in
     let made = next_values (inputs_of c.args.self.now.inputs.now.entries) (map expr_of c.args.shape.now) _ _ _ c.in_ok-shape.ensures.0 in
     (omega arith, omega arith)
 
-pub full_value-returns-in_err-value : goal.full_value-returns-in_err-value
-full_value-returns-in_err-value t c =
-    let i = inputs_of c.args.self.now.inputs.now.entries in (
-      follows values_of value_of i (values (map expr_of c.args.shape.now)) _ _ _ _ c.in_ok-shape.shape _ c.in_ok-shape.ensures.0
-          (exits value_of value_of i (meaning.value (expr_of c.args.value.now)) _ _ _ _ _ c.from_residual-in_err-value.ensures.1 (rw c.in_ok-shape.ensures.1.1 at c.in_err-value.ensures.0)),
-      stays_on c.in_ok-shape.ensures.1 c.in_err-value.ensures.1,
-    )
+pub full_value-returns : goal.full_value-returns
+full_value-returns t c = (
+  follows values_of value_of (inputs_of c.args.self.now.inputs.now.entries) (values (map expr_of c.args.shape.now)) _ _ _ _ c.in_ok-shape.shape _ c.in_ok-shape.ensures.0
+      (rw (c.in_ok-shape.ensures.1.1, c.deref.ensures.value) at c.full_of_shape.ensures.0),
+  stays_on c.in_ok-shape.ensures.1 c.full_of_shape.ensures.1,
+)
 
-pub full_value-operand_in-requires : goal.full_value-operand_in-requires
-full_value-operand_in-requires t c =
-    let i = inputs_of c.args.self.now.inputs.now.entries in
-    let vs = c.in_ok-shape.shape.items in
-    let v = c.in_ok-value.value in
-    let s = live c.value.new.self.session.now in
-    let sound = sound_after i (values (map expr_of c.args.shape.now)) _ _ _ c.in_ok-shape.ensures.0 c.soundness.ensures in
-    let held = value_held i (expr_of c.args.value.now) _ _ v (rw c.in_ok-shape.ensures.1.1 at c.in_ok-value.ensures.0) sound in
-    held_marked v v (live c.mark_operands.new.session) (live c.mark_operand.new.session) c.in_ok-mark_operand.ensures
-    (held_past vs v s (live c.mark_operands.new.session) (c.in_ok-mark_operands.ensures ∙ ap (λ vs. all_marked vs s) c.deref.ensures.value) held)
+pub full_of_shape-returns-in_err-value : goal.full_of_shape-returns-in_err-value
+full_of_shape-returns-in_err-value t c = (
+  exits value_of value_of (inputs_of c.args.self.now.inputs.now.entries) (meaning.value (expr_of c.args.value.now)) _ _ _ _ _
+      c.from_residual.ensures.1 c.in_err-value.ensures.0,
+  c.in_err-value.ensures.1,
+)
 
-pub full_value-returns-in_err-new : goal.full_value-returns-in_err-new
-full_value-returns-in_err-new t c =
-    let i = inputs_of c.args.self.now.inputs.now.entries in
-    let d = option_map dtype_of c.args.dtype.now in
-    let vs = c.in_ok-shape.shape.items in
-    let v = c.in_ok-value.value in
-    let s = live c.value.new.self.session.now in
-    let x = c.operand_in.result in
-    let marks = c.in_ok-mark_operands.ensures ∙ ap (λ vs. all_marked vs s) c.deref.ensures.value in
-    let kept = kept_bytes v _ _ c.in_ok-mark_operand.ensures ∙ ap (λ (q : Running). q.bytes) marks ∙ all_marked_bytes vs s in (
-      follows values_of value_of i (values (map expr_of c.args.shape.now)) _ _ _ _ c.in_ok-shape.shape _ c.in_ok-shape.ensures.0
-          (follows value_of value_of i (meaning.value (expr_of c.args.value.now)) _ _ _ _ v _ (rw c.in_ok-shape.ensures.1.1 at c.in_ok-value.ensures.0)
-          (full_follows i d vs v s _ _ _ x _ (c.in_ok-mark_operand.ensures ∙ ap (marked v) marks) kept c.operand_in.ensures
-          (exits_new i (full_of d (map unused_of vs) (operand_of x)) _ _ _ c.from_residual-in_err-new.ensures.1 (rw c.deref-2.ensures.value at c.in_err-new.ensures)))),
-      stays_on c.in_ok-shape.ensures.1 c.in_ok-value.ensures.1,
-    )
+pub full_of_shape-full_array-requires-clause-held : goal.full_of_shape-full_array-requires-clause-held
+full_of_shape-full_array-requires-clause-held t c =
+    value_held (inputs_of c.args.self.now.inputs.now.entries) (expr_of c.args.value.now) _ _ c.in_ok-value.value c.in_ok-value.ensures.0 c.soundness.ensures
 
-pub full_value-give-requires : goal.full_value-give-requires
-full_value-give-requires t c =
-    let i = inputs_of c.args.self.now.inputs.now.entries in
-    let vs = c.in_ok-shape.shape.items in
-    let s = live c.value.new.self.session.now in
-    let room = c.requires in
-    let lengths = next_values i (map expr_of c.args.shape.now) _ _ _ c.in_ok-shape.ensures.0 in
-    let value = next_value i (expr_of c.args.value.now) _ _ _ (rw c.in_ok-shape.ensures.1.1 at c.in_ok-value.ensures.0) in
-    let marks = ap (λ (q : Running). q.next) (c.in_ok-mark_operands.ensures ∙ ap (λ vs. all_marked vs s) c.deref.ensures.value) ∙ all_marked_next vs s in
-    let none = kept_next c.in_ok-value.value _ _ c.in_ok-mark_operand.ensures in
+pub full_of_shape-full_array-requires-clause-room : goal.full_of_shape-full_array-requires-clause-room
+full_of_shape-full_array-requires-clause-room t c =
+    let made = next_value (inputs_of c.args.self.now.inputs.now.entries) (expr_of c.args.value.now) _ _ _ c.in_ok-value.ensures.0 in
     omega arith
 
-pub full_value-returns : goal.full_value-returns
-full_value-returns t c =
-    let i = inputs_of c.args.self.now.inputs.now.entries in
-    let d = option_map dtype_of c.args.dtype.now in
-    let vs = c.in_ok-shape.shape.items in
-    let v = c.in_ok-value.value in
-    let s = live c.value.new.self.session.now in
-    let x = c.operand_in.result in
-    let marks = c.in_ok-mark_operands.ensures ∙ ap (λ vs. all_marked vs s) c.deref.ensures.value in
-    let kept = kept_bytes v _ _ c.in_ok-mark_operand.ensures ∙ ap (λ (q : Running). q.bytes) marks ∙ all_marked_bytes vs s in
-    let stays = stays_on c.in_ok-shape.ensures.1 c.in_ok-value.ensures.1 in (
-      follows values_of value_of i (values (map expr_of c.args.shape.now)) _ _ _ _ c.in_ok-shape.shape _ c.in_ok-shape.ensures.0
-          (follows value_of value_of i (meaning.value (expr_of c.args.value.now)) _ _ _ _ v _ (rw c.in_ok-shape.ensures.1.1 at c.in_ok-value.ensures.0)
-          (full_follows i d vs v s _ _ _ x _ (c.in_ok-mark_operand.ensures ∙ ap (marked v) marks) kept c.operand_in.ensures
-          (follows_new i (full_of d (map unused_of vs) (operand_of x)) _ _ c.in_ok-new.new _ (rw c.deref-2.ensures.value at c.in_ok-new.ensures) (rw stays.1 at c.give.ensures.0)))),
-      stays_on stays c.give.ensures.1,
-    )
+pub full_of_shape-returns : goal.full_of_shape-returns
+full_of_shape-returns t c = (
+  follows value_of value_of (inputs_of c.args.self.now.inputs.now.entries) (meaning.value (expr_of c.args.value.now)) _ _ _ _
+      c.in_ok-value.value _ c.in_ok-value.ensures.0 (rw c.in_ok-value.ensures.1.1 at c.full_array.ensures.0),
+  stays_on c.in_ok-value.ensures.1 c.full_array.ensures.1,
+)
 
 -- ---- expressions from left to right
 
@@ -943,31 +879,8 @@ item_value-returns-in_err-start-in-Slice t c =
       c.in_err-start-in-Slice.ensures.value.1,
     )
 
-pub item_value-bound_value-requires-in-Slice : goal.item_value-bound_value-requires-in-Slice
-item_value-bound_value-requires-in-Slice t c =
-    let i = inputs_of c.args.self.now.inputs.now.entries in
-    let s = c.in-Slice in
-    let same = ap item_of s.is ∙ slice_is s.start s.stop s.step in
-    let size = ap nodes_of_item s.is ∙ nodes_of_slice s.start s.stop s.step in
-    let room = rw same at c.requires in
-    let below = c.decreases in
-    let first = next_bound i (bound_of s.start) _ _ _ c.in_ok-start-in-Slice.ensures.value.0 in
-    (omega arith, omega arith)
-
-pub item_value-returns-in_err-stop-in-Slice : goal.item_value-returns-in_err-stop-in-Slice
-item_value-returns-in_err-stop-in-Slice t c =
-    let i = inputs_of c.args.self.now.inputs.now.entries in
-    let s = c.in-Slice in
-    let same = ap item_of s.is ∙ slice_is s.start s.stop s.step in
-    let stays = c.in_ok-start-in-Slice.ensures.value.1 in (
-      ends_alike contents.item_of _ _ (ap (λ x. run i (item_parts x) (live c.args.self.now.session.now)) same)
-          (follows option_values contents.item_of i (values (bound_exprs (bound_of s.start))) _ _ _ _ c.in_ok-start-in-Slice.start _ c.in_ok-start-in-Slice.ensures.value.0
-          (exits option_values contents.item_of i (values (bound_exprs (bound_of s.stop))) _ _ _ _ _ c.from_residual-in_err-stop-in-Slice.ensures.1 (rw stays.1 at c.in_err-stop-in-Slice.ensures.value.0))),
-      stays_on stays c.in_err-stop-in-Slice.ensures.value.1,
-    )
-
-pub item_value-bound_value-requires-in-Slice-2 : goal.item_value-bound_value-requires-in-Slice-2
-item_value-bound_value-requires-in-Slice-2 t c =
+pub item_value-slice_from-requires : goal.item_value-slice_from-requires
+item_value-slice_from-requires t c =
     let i = inputs_of c.args.self.now.inputs.now.entries in
     let s = c.in-Slice in
     let same = ap item_of s.is ∙ slice_is s.start s.stop s.step in
@@ -976,39 +889,57 @@ item_value-bound_value-requires-in-Slice-2 t c =
     let below = c.decreases in
     let more = step_more (bound_of s.step) in
     let first = next_bound i (bound_of s.start) _ _ _ c.in_ok-start-in-Slice.ensures.value.0 in
-    let second = next_bound i (bound_of s.stop) _ _ _ (rw c.in_ok-start-in-Slice.ensures.value.1.1 at c.in_ok-stop-in-Slice.ensures.value.0) in
     (omega arith, omega arith)
 
-pub item_value-returns-in_err-step-in-Slice : goal.item_value-returns-in_err-step-in-Slice
-item_value-returns-in_err-step-in-Slice t c =
+pub item_value-returns-in_ok-start-in-Slice : goal.item_value-returns-in_ok-start-in-Slice
+item_value-returns-in_ok-start-in-Slice t c =
     let i = inputs_of c.args.self.now.inputs.now.entries in
     let s = c.in-Slice in
     let same = ap item_of s.is ∙ slice_is s.start s.stop s.step in
-    let stays = stays_on c.in_ok-start-in-Slice.ensures.value.1 c.in_ok-stop-in-Slice.ensures.value.1 in (
+    let first = c.in_ok-start-in-Slice in (
       ends_alike contents.item_of _ _ (ap (λ x. run i (item_parts x) (live c.args.self.now.session.now)) same)
-          (follows option_values contents.item_of i (values (bound_exprs (bound_of s.start))) _ _ _ _ c.in_ok-start-in-Slice.start _ c.in_ok-start-in-Slice.ensures.value.0
-          (follows option_values contents.item_of i (values (bound_exprs (bound_of s.stop))) _ _ _ _ c.in_ok-stop-in-Slice.stop _ (rw c.in_ok-start-in-Slice.ensures.value.1.1 at c.in_ok-stop-in-Slice.ensures.value.0)
-          (exits option_values contents.item_of i (values (bound_exprs (bound_of s.step))) _ _ _ _ _ c.from_residual-in_err-step-in-Slice.ensures.1 (rw stays.1 at c.in_err-step-in-Slice.ensures.value.0)))),
-      stays_on stays c.in_err-step-in-Slice.ensures.value.1,
+          (follows option_values contents.item_of i (values (bound_exprs (bound_of s.start))) _ _ _ _ first.start _ first.ensures.value.0
+          (rw (first.ensures.value.1.1, first.ensures.given) at c.slice_from.ensures.0)),
+      stays_on first.ensures.value.1 c.slice_from.ensures.1,
     )
 
-pub item_value-returns-in_ok-step-in-Slice : goal.item_value-returns-in_ok-step-in-Slice
-item_value-returns-in_ok-step-in-Slice t c =
-    let i = inputs_of c.args.self.now.inputs.now.entries in
-    let s = c.in-Slice in
-    let xs = c.in_ok-start-in-Slice.start in
-    let ys = c.in_ok-stop-in-Slice.stop in
-    let zs = c.in_ok-step-in-Slice.step in
-    let same = ap item_of s.is ∙ slice_is s.start s.stop s.step in
-    let before = stays_on c.in_ok-start-in-Slice.ensures.value.1 c.in_ok-stop-in-Slice.ensures.value.1 in
-    let form : Form = SliceForm (is_given (bound_of s.start)) (is_given (bound_of s.stop)) (is_given (bound_of s.step)) in
-    let gives : List model.Value → List model.Value → List model.Value → Eval ItemParts = λ ks bs ds. Gives (form, unused (ks ++ bs ++ ds)) in (
-      ap (λ x. run i (item_parts x) (live c.args.self.now.session.now)) same
-          ∙ goes option_values i (values (bound_exprs (bound_of s.start))) (λ ks. values (bound_exprs (bound_of s.stop)) >>= λ bs. values (bound_exprs (bound_of s.step)) >>= gives ks bs) _ _ xs c.in_ok-start-in-Slice.ensures.value.0
-          ∙ goes option_values i (values (bound_exprs (bound_of s.stop))) (λ bs. values (bound_exprs (bound_of s.step)) >>= gives (option_values xs) bs) _ _ ys (rw c.in_ok-start-in-Slice.ensures.value.1.1 at c.in_ok-stop-in-Slice.ensures.value.0)
-          ∙ goes option_values i (values (bound_exprs (bound_of s.step))) (gives (option_values xs) (option_values ys)) _ _ zs (rw before.1 at c.in_ok-step-in-Slice.ensures.value.0)
-          ∙ slice_seen _ _ _ _ xs ys zs c.in_ok-start-in-Slice.ensures.given c.in_ok-stop-in-Slice.ensures.given c.in_ok-step-in-Slice.ensures.given,
-      stays_on before c.in_ok-step-in-Slice.ensures.value.1,
+pub slice_from-returns-in_err-stop : goal.slice_from-returns-in_err-stop
+slice_from-returns-in_err-stop t c = (
+  exits option_values contents.item_of (inputs_of c.args.self.now.inputs.now.entries) (values (bound_exprs (bound_of c.args.stop.now))) _ _ _ _ _
+      c.from_residual.ensures.1 c.in_err-stop.ensures.value.0,
+  c.in_err-stop.ensures.value.1,
+)
+
+pub slice_from-slice_to-requires : goal.slice_from-slice_to-requires
+slice_from-slice_to-requires t c =
+    let below = c.decreases in
+    let room = c.requires in
+    let made = next_bound (inputs_of c.args.self.now.inputs.now.entries) (bound_of c.args.stop.now) _ _ _ c.in_ok-stop.ensures.value.0 in
+    (omega arith, omega arith)
+
+pub slice_from-returns : goal.slice_from-returns
+slice_from-returns t c = (
+  follows option_values contents.item_of (inputs_of c.args.self.now.inputs.now.entries) (values (bound_exprs (bound_of c.args.stop.now))) _ _ _ _ c.in_ok-stop.stop _ c.in_ok-stop.ensures.value.0
+      (rw (c.in_ok-stop.ensures.value.1.1, c.in_ok-stop.ensures.given) at c.slice_to.ensures.0),
+  stays_on c.in_ok-stop.ensures.value.1 c.slice_to.ensures.1,
+)
+
+pub slice_to-returns-in_err-step : goal.slice_to-returns-in_err-step
+slice_to-returns-in_err-step t c = (
+  exits option_values contents.item_of (inputs_of c.args.self.now.inputs.now.entries) (values (bound_exprs (bound_of c.args.step.now))) _ _ _ _ _
+      c.from_residual.ensures.1 c.in_err-step.ensures.value.0,
+  c.in_err-step.ensures.value.1,
+)
+
+pub slice_to-returns : goal.slice_to-returns
+slice_to-returns t c =
+    let a = c.args.start in
+    let b = c.args.stop in
+    let e = bound_of c.args.step.now in (
+      goes option_values (inputs_of c.args.self.now.inputs.now.entries) (values (bound_exprs e)) (λ zs. Gives (SliceForm (is_some a) (is_some b) (is_given e), unused (option_values a ++ option_values b ++ zs))) _ _
+          c.in_ok-step.step c.in_ok-step.ensures.value.0
+          ∙ slice_seen _ _ _ _ a b c.in_ok-step.step refl refl c.in_ok-step.ensures.given,
+      c.in_ok-step.ensures.value.1,
     )
 
 -- ---- methods that give a view, and `np.broadcast_to`
@@ -1046,45 +977,51 @@ stretched_value-returns-in_err-found t c = (
   c.in_err-found.ensures.1,
 )
 
-pub stretched_value-values-requires : goal.stretched_value-values-requires
-stretched_value-values-requires t c =
+pub stretched_value-stretch_by-requires : goal.stretched_value-stretch_by-requires
+stretched_value-stretch_by-requires t c =
+    let i = inputs_of c.args.self.now.inputs.now.entries in
+    let e = expr_of c.args.operand.now in
     let below = c.decreases in
     let room = c.requires in
-    let made = next_value (inputs_of c.args.self.now.inputs.now.entries) (expr_of c.args.operand.now) _ _ _ c.in_ok-found.ensures.0 in
-    (omega arith, omega arith)
-
-pub stretched_value-returns-in_err-shape : goal.stretched_value-returns-in_err-shape
-stretched_value-returns-in_err-shape t c =
-    let i = inputs_of c.args.self.now.inputs.now.entries in (
-      follows value_of value_of i (meaning.value (expr_of c.args.operand.now)) _ _ _ _ c.in_ok-found.found _ c.in_ok-found.ensures.0
-          (exits values_of value_of i (values (map expr_of c.args.shape.now)) _ _ _ _ _ c.from_residual-in_err-shape.ensures.1 (rw c.in_ok-found.ensures.1.1 at c.in_err-shape.ensures.0)),
-      stays_on c.in_ok-found.ensures.1 c.in_err-shape.ensures.1,
-    )
-
-pub stretched_value-stretch_value-requires-clause-held : goal.stretched_value-stretch_value-requires-clause-held
-stretched_value-stretch_value-requires-clause-held t c =
-    let i = inputs_of c.args.self.now.inputs.now.entries in
-    let v = c.in_ok-found.found in
-    held_after i (values (map expr_of c.args.shape.now)) _ _ _ v (rw c.in_ok-found.ensures.1.1 at c.in_ok-shape.ensures.0)
-    (value_held i (expr_of c.args.operand.now) _ _ v c.in_ok-found.ensures.0 c.soundness.ensures)
-
-pub stretched_value-stretch_value-requires-clause-room : goal.stretched_value-stretch_value-requires-clause-room
-stretched_value-stretch_value-requires-clause-room t c =
-    let i = inputs_of c.args.self.now.inputs.now.entries in
-    let room = c.requires in
-    let first = next_value i (expr_of c.args.operand.now) _ _ _ c.in_ok-found.ensures.0 in
-    let lengths = next_values i (map expr_of c.args.shape.now) _ _ _ (rw c.in_ok-found.ensures.1.1 at c.in_ok-shape.ensures.0) in
-    omega arith
+    let made = next_value i e _ _ _ c.in_ok-found.ensures.0 in
+    (omega arith, (value_held i e _ _ c.in_ok-found.found c.in_ok-found.ensures.0 c.soundness.ensures, omega arith))
 
 pub stretched_value-returns : goal.stretched_value-returns
-stretched_value-returns t c =
-    let i = inputs_of c.args.self.now.inputs.now.entries in
-    let stays = stays_on c.in_ok-found.ensures.1 c.in_ok-shape.ensures.1 in (
-      follows value_of value_of i (meaning.value (expr_of c.args.operand.now)) _ _ _ _ c.in_ok-found.found _ c.in_ok-found.ensures.0
-          (follows values_of value_of i (values (map expr_of c.args.shape.now)) _ _ _ _ c.in_ok-shape.shape _ (rw c.in_ok-found.ensures.1.1 at c.in_ok-shape.ensures.0)
-          (rw (stays.1, c.deref.ensures.value) at c.stretch_value.ensures.0)),
-      stays_on stays c.stretch_value.ensures.1,
-    )
+stretched_value-returns t c = (
+  follows value_of value_of (inputs_of c.args.self.now.inputs.now.entries) (meaning.value (expr_of c.args.operand.now)) _ _ _ _ c.in_ok-found.found _ c.in_ok-found.ensures.0
+      (rw c.in_ok-found.ensures.1.1 at c.stretch_by.ensures.0),
+  stays_on c.in_ok-found.ensures.1 c.stretch_by.ensures.1,
+)
+
+pub stretch_by-values-requires : goal.stretch_by-values-requires
+stretch_by-values-requires t c =
+    let below = c.decreases in
+    let room = c.requires.room in
+    (omega arith, omega arith)
+
+pub stretch_by-returns-in_err-shape : goal.stretch_by-returns-in_err-shape
+stretch_by-returns-in_err-shape t c = (
+  exits values_of value_of (inputs_of c.args.self.now.inputs.now.entries) (values (map expr_of c.args.shape.now)) _ _ _ _ _
+      c.from_residual.ensures.1 c.in_err-shape.ensures.0,
+  c.in_err-shape.ensures.1,
+)
+
+pub stretch_by-stretch_value-requires-clause-held : goal.stretch_by-stretch_value-requires-clause-held
+stretch_by-stretch_value-requires-clause-held t c =
+    held_after (inputs_of c.args.self.now.inputs.now.entries) (values (map expr_of c.args.shape.now)) _ _ _ c.args.found.now c.in_ok-shape.ensures.0 c.requires.held
+
+pub stretch_by-stretch_value-requires-clause-room : goal.stretch_by-stretch_value-requires-clause-room
+stretch_by-stretch_value-requires-clause-room t c =
+    let room = c.requires.room in
+    let made = next_values (inputs_of c.args.self.now.inputs.now.entries) (map expr_of c.args.shape.now) _ _ _ c.in_ok-shape.ensures.0 in
+    omega arith
+
+pub stretch_by-returns : goal.stretch_by-returns
+stretch_by-returns t c = (
+  follows values_of value_of (inputs_of c.args.self.now.inputs.now.entries) (values (map expr_of c.args.shape.now)) _ _ _ _ c.in_ok-shape.shape _ c.in_ok-shape.ensures.0
+      (rw (c.in_ok-shape.ensures.1.1, c.deref.ensures.value) at c.stretch_value.ensures.0),
+  stays_on c.in_ok-shape.ensures.1 c.stretch_value.ensures.1,
+)
 
 pub suffix_value-method_value-requires : goal.suffix_value-method_value-requires
 suffix_value-method_value-requires t c =

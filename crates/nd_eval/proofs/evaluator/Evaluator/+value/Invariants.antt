@@ -31,13 +31,22 @@ abbrev pub decreases-bound_value : goal.decreases-bound_value
 decreases-bound_value l = nodes_of_bound l.bound.now
 
 abbrev pub decreases-range_value : goal.decreases-range_value
-decreases-range_value l = 1 + nodes_of_bound l.start.now + nodes l.stop.now + nodes_of_bound l.step.now
+decreases-range_value l = 3 + nodes_of_bound l.start.now + nodes l.stop.now + nodes_of_bound l.step.now
+
+abbrev pub decreases-range_from : goal.decreases-range_from
+decreases-range_from l = 2 + nodes l.stop.now + nodes_of_bound l.step.now
+
+abbrev pub decreases-range_to : goal.decreases-range_to
+decreases-range_to l = 1 + nodes_of_bound l.step.now
 
 abbrev pub decreases-filled_value : goal.decreases-filled_value
 decreases-filled_value l = 2 + nodes_of_exprs l.shape.now
 
 abbrev pub decreases-full_value : goal.decreases-full_value
 decreases-full_value l = 2 + nodes_of_exprs l.shape.now + nodes l.value.now
+
+abbrev pub decreases-full_of_shape : goal.decreases-full_of_shape
+decreases-full_of_shape l = 1 + nodes l.value.now
 
 abbrev pub decreases-array_value : goal.decreases-array_value
 decreases-array_value l = 2 + nodes_of_element l.element.now
@@ -76,7 +85,10 @@ abbrev pub decreases-viewed_value : goal.decreases-viewed_value
 decreases-viewed_value l = 2 + nodes_of_exprs l.exprs.now
 
 abbrev pub decreases-stretched_value : goal.decreases-stretched_value
-decreases-stretched_value l = 2 + nodes l.operand.now + nodes_of_exprs l.shape.now
+decreases-stretched_value l = 3 + nodes l.operand.now + nodes_of_exprs l.shape.now
+
+abbrev pub decreases-stretch_by : goal.decreases-stretch_by
+decreases-stretch_by l = 2 + nodes_of_exprs l.shape.now
 
 abbrev pub decreases-values : goal.decreases-values
 decreases-values l = 1 + nodes_of_exprs l.exprs.now
@@ -98,6 +110,12 @@ decreases-index_value l = nodes_of_index l.index.now
 
 abbrev pub decreases-item_values : goal.decreases-item_values
 decreases-item_values l = 1 + nodes_of_items l.items.now
+
+abbrev pub decreases-slice_from : goal.decreases-slice_from
+decreases-slice_from l = 2 + nodes_of_bound l.stop.now + nodes_of_bound l.step.now
+
+abbrev pub decreases-slice_to : goal.decreases-slice_to
+decreases-slice_to l = 1 + nodes_of_bound l.step.now
 
 abbrev pub decreases-item_value : goal.decreases-item_value
 decreases-item_value l = nodes_of_item l.item.now

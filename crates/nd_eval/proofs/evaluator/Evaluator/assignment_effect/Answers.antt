@@ -5,8 +5,6 @@ use Rattle.nd_model.specs.Cells.Operation.{act_on}
 use Rattle.nd_syntax.specs.Trees.Syntax.{expr_of, index_of}
 use Rattle.nd_heap.specs.Values.{value_of}
 use Rattle.nd_session.specs.Inputs.Values.{inputs_of}
-use Rattle.nd_eval.specs.Contents as contents
-use Rattle.nd_eval.specs.Parts.{index_parts}
 use Rattle.nd_eval.proofs.Bounds.{next_value}
 use Rattle.nd_eval.proofs.Chains.{exits, follows, ends_alike}
 use Rattle.nd_eval.proofs.Turns.{stays_on}
@@ -35,15 +33,29 @@ returns-in_err-target-clause-effect c = (
   stays_on c.in_ok-written.ensures.1 c.in_err-target.ensures.1,
 )
 
-pub index_value-requires : goal.index_value-requires
-index_value-requires c =
+pub assign_at-requires-clause-value : goal.assign_at-requires-clause-value
+assign_at-requires-clause-value c =
     let i = inputs_of c.args.self.now.inputs.now.entries in
+    let v = c.in_ok-written.written in
+    held_after i (meaning.value (expr_of c.args.target.now)) _ _ _ v (rw c.in_ok-written.ensures.1.1 at c.in_ok-target.ensures.0)
+    (value_held i (expr_of c.args.expr.now) _ _ v c.in_ok-written.ensures.0 c.soundness.ensures)
+
+pub assign_at-requires-clause-target : goal.assign_at-requires-clause-target
+assign_at-requires-clause-target c =
+    let i = inputs_of c.args.self.now.inputs.now.entries in
+    value_held i (expr_of c.args.target.now) _ _ c.in_ok-target.target (rw c.in_ok-written.ensures.1.1 at c.in_ok-target.ensures.0)
+    (sound_after i (meaning.value (expr_of c.args.expr.now)) _ _ _ c.in_ok-written.ensures.0 c.soundness.ensures)
+
+pub assign_at-requires-clause-room : goal.assign_at-requires-clause-room
+assign_at-requires-clause-room c =
+    let i = inputs_of c.args.self.now.inputs.now.entries in
+    let room = c.requires in
     let made = next_value i (expr_of c.args.expr.now) _ _ _ c.in_ok-written.ensures.0 in
     let more = next_value i (expr_of c.args.target.now) _ _ _ (rw c.in_ok-written.ensures.1.1 at c.in_ok-target.ensures.0) in
     omega arith
 
-pub returns-in_err-index-clause-effect : goal.returns-in_err-index-clause-effect
-returns-in_err-index-clause-effect c =
+pub returns-clause-effect : goal.returns-clause-effect
+returns-clause-effect c =
     let i = inputs_of c.args.self.now.inputs.now.entries in
     let v = value_of c.in_ok-written.written in
     let t = value_of c.in_ok-target.target in
@@ -51,36 +63,6 @@ returns-in_err-index-clause-effect c =
       follows value_of _ i (meaning.value (expr_of c.args.expr.now)) _ _ _ _ c.in_ok-written.written _ c.in_ok-written.ensures.0
           (follows value_of _ i (meaning.value (expr_of c.args.target.now)) _ _ _ _ c.in_ok-target.target _ (rw c.in_ok-written.ensures.1.1 at c.in_ok-target.ensures.0)
           (ends_alike _ _ _ (index_all i (index_of c.args.index.now) (λ w vs. act_on (meaning.assignment_deed w) ((Whole, v) ∷ (Unused, t) ∷ vs)) _)
-          (exits contents.index_of _ i (index_parts (index_of c.args.index.now)) _ _ _ _ _ c.from_residual-in_err-index.ensures.1 (rw stays.1 at c.in_err-index.ensures.0)))),
-      stays_on stays c.in_err-index.ensures.1,
-    )
-
-pub assign-requires-clause-value : goal.assign-requires-clause-value
-assign-requires-clause-value c =
-    let i = inputs_of c.args.self.now.inputs.now.entries in
-    let v = c.in_ok-written.written in
-    held_after i (index_parts (index_of c.args.index.now)) _ _ _ v (rw (stays_on c.in_ok-written.ensures.1 c.in_ok-target.ensures.1).1 at c.in_ok-index.ensures.0)
-    (held_after i (meaning.value (expr_of c.args.target.now)) _ _ _ v (rw c.in_ok-written.ensures.1.1 at c.in_ok-target.ensures.0)
-    (value_held i (expr_of c.args.expr.now) _ _ v c.in_ok-written.ensures.0 c.soundness.ensures))
-
-pub assign-requires-clause-target : goal.assign-requires-clause-target
-assign-requires-clause-target c =
-    let i = inputs_of c.args.self.now.inputs.now.entries in
-    let t = c.in_ok-target.target in
-    held_after i (index_parts (index_of c.args.index.now)) _ _ _ t (rw (stays_on c.in_ok-written.ensures.1 c.in_ok-target.ensures.1).1 at c.in_ok-index.ensures.0)
-    (value_held i (expr_of c.args.target.now) _ _ t (rw c.in_ok-written.ensures.1.1 at c.in_ok-target.ensures.0)
-    (sound_after i (meaning.value (expr_of c.args.expr.now)) _ _ _ c.in_ok-written.ensures.0 c.soundness.ensures))
-
-pub returns-clause-effect : goal.returns-clause-effect
-returns-clause-effect c =
-    let i = inputs_of c.args.self.now.inputs.now.entries in
-    let v = value_of c.in_ok-written.written in
-    let t = value_of c.in_ok-target.target in
-    let before = stays_on c.in_ok-written.ensures.1 c.in_ok-target.ensures.1 in
-    let stays = stays_on before c.in_ok-index.ensures.1 in (
-      follows value_of _ i (meaning.value (expr_of c.args.expr.now)) _ _ _ _ c.in_ok-written.written _ c.in_ok-written.ensures.0
-          (follows value_of _ i (meaning.value (expr_of c.args.target.now)) _ _ _ _ c.in_ok-target.target _ (rw c.in_ok-written.ensures.1.1 at c.in_ok-target.ensures.0)
-          (ends_alike _ _ _ (index_all i (index_of c.args.index.now) (λ w vs. act_on (meaning.assignment_deed w) ((Whole, v) ∷ (Unused, t) ∷ vs)) _)
-          (follows contents.index_of _ i (index_parts (index_of c.args.index.now)) _ _ _ _ c.in_ok-index.index _ (rw before.1 at c.in_ok-index.ensures.0) (rw stays.1 at c.assign.ensures.effect.0)))),
-      stays_on stays c.assign.ensures.effect.1,
+          (rw stays.1 at c.assign_at.ensures.effect.0))),
+      stays_on stays c.assign_at.ensures.effect.1,
     )

@@ -21,58 +21,59 @@ use Rattle.nd_eval.proofs.evaluator.Evaluator.augment_item.Goals as goal
 pub update_effect-requires-clause-array : goal.update_effect-requires-clause-array
 update_effect-requires-clause-array c =
     let r = live c.args.self.now.session.now in
-    let s = live c.mark_operand.new.session in
-    let q = live c.mark_operand-2.new.session in
-    let u = live c.mark_index.new.session in
+    let s = marked c.args.value r in
+    let q = marked c.args.found s in
+    let u = live c.mark_item_operands.new.session in
     let f = c.args.found in
-    subst (IsHeld u) c.in-Ok.ensures (held_index_marked c.args.index.now f q u c.in_ok-mark_index.ensures
-    (held_marked f f s q c.in_ok-mark_operand-2.ensures (held_marked c.args.value f r s c.in_ok-mark_operand.ensures c.requires.found)))
+    subst (IsHeld u) c.in-Ok.ensures (held_index_marked c.args.index.now f q u c.in_ok-mark_item_operands.ensures
+    (held_marked f f s q refl (held_marked c.args.value f r s refl c.requires.found)))
 
 pub update_effect-requires-clause-value : goal.update_effect-requires-clause-value
 update_effect-requires-clause-value c =
     let r = live c.args.self.now.session.now in
-    let s = live c.mark_operand.new.session in
-    let q = live c.mark_operand-2.new.session in
-    let u = live c.mark_index.new.session in
+    let s = marked c.args.value r in
+    let q = marked c.args.found s in
+    let u = live c.mark_item_operands.new.session in
     let v = c.args.value in
-    held_index_marked c.args.index.now v q u c.in_ok-mark_index.ensures
-    (held_marked c.args.found v s q c.in_ok-mark_operand-2.ensures (held_marked v v r s c.in_ok-mark_operand.ensures c.requires.value))
+    held_index_marked c.args.index.now v q u c.in_ok-mark_item_operands.ensures
+    (held_marked c.args.found v s q refl (held_marked v v r s refl c.requires.value))
 
 pub assign_made-made-requires-clause-value : goal.assign_made-made-requires-clause-value
 assign_made-made-requires-clause-value c =
     let r = live c.args.self.now.session.now in
-    let s = live c.mark_operand.new.session in
-    let q = live c.mark_operand-2.new.session in
-    let u = live c.mark_index.new.session in
+    let s = marked c.args.value r in
+    let q = marked c.args.found s in
+    let u = live c.mark_item_operands.new.session in
     let v = c.args.value in
-    held_index_marked c.args.index.now v q u c.in_ok-mark_index.ensures
-    (held_marked c.args.found v s q c.in_ok-mark_operand-2.ensures (held_marked v v r s c.in_ok-mark_operand.ensures c.requires.value))
+    held_index_marked c.args.index.now v q u c.in_ok-mark_item_operands.ensures
+    (held_marked c.args.found v s q refl (held_marked v v r s refl c.requires.value))
 
 pub assign_made-made-requires-clause-found : goal.assign_made-made-requires-clause-found
 assign_made-made-requires-clause-found c =
     let r = live c.args.self.now.session.now in
-    let s = live c.mark_operand.new.session in
-    let q = live c.mark_operand-2.new.session in
-    let u = live c.mark_index.new.session in
+    let s = marked c.args.value r in
+    let q = marked c.args.found s in
+    let u = live c.mark_item_operands.new.session in
     let f = c.args.found in
-    subst (IsHeld u) (sym c.in-Err.ensures.0) (held_index_marked c.args.index.now f q u c.in_ok-mark_index.ensures
-    (held_marked f f s q c.in_ok-mark_operand-2.ensures (held_marked c.args.value f r s c.in_ok-mark_operand.ensures c.requires.found)))
+    subst (IsHeld u) (sym c.in-Err.ensures.0) (held_index_marked c.args.index.now f q u c.in_ok-mark_item_operands.ensures
+    (held_marked f f s q refl (held_marked c.args.value f r s refl c.requires.found)))
 
 pub assign_made-made-requires-clause-target : goal.assign_made-made-requires-clause-target
 assign_made-made-requires-clause-target c =
     let r = live c.args.self.now.session.now in
-    let s = live c.mark_operand.new.session in
-    let q = live c.mark_operand-2.new.session in
-    let u = live c.mark_index.new.session in
+    let s = marked c.args.value r in
+    let q = marked c.args.found s in
+    let u = live c.mark_item_operands.new.session in
     let t = c.args.target.now in
-    held_index_marked c.args.index.now t q u c.in_ok-mark_index.ensures
-    (held_marked c.args.found t s q c.in_ok-mark_operand-2.ensures (held_marked c.args.value t r s c.in_ok-mark_operand.ensures c.requires.target))
+    held_index_marked c.args.index.now t q u c.in_ok-mark_item_operands.ensures
+    (held_marked c.args.found t s q refl (held_marked c.args.value t r s refl c.requires.target))
 
 pub assign_made-made-requires-clause-room : goal.assign_made-made-requires-clause-room
 assign_made-made-requires-clause-room c =
-    let once = kept_next c.args.value _ _ c.in_ok-mark_operand.ensures in
-    let again = kept_next c.args.found _ _ c.in_ok-mark_operand-2.ensures in
-    let last = index_next c.args.index.now _ _ c.in_ok-mark_index.ensures in
+    let r = live c.args.self.now.session.now in
+    let once = kept_next c.args.value r (marked c.args.value r) refl in
+    let again = kept_next c.args.found (marked c.args.value r) (marked c.args.found (marked c.args.value r)) refl in
+    let last = index_next c.args.index.now _ _ c.in_ok-mark_item_operands.ensures in
     rw (last, again, once) c.requires.room
 
 pub returns-in-Err-clause-effect : goal.returns-in-Err-clause-effect
@@ -84,11 +85,11 @@ returns-in-Err-clause-effect c =
     let t = c.args.target.now in
     let x = c.args.index.now in
     let r = live c.args.self.now.session.now in
-    let s = live c.mark_operand.new.session in
-    let q = live c.mark_operand-2.new.session in
-    let u = live c.mark_index.new.session in (
+    let s = marked c.args.value r in
+    let q = marked c.args.found s in
+    let u = live c.mark_item_operands.new.session in (
       ends_alike _ _ _ (ap (λ f. run i (item_augmentation op (value_of v) (value_of f) (value_of t) (contents.index_of x)) r) (sym c.in-Err.ensures.0)
-          ∙ made_assigned i op v f t x r s q u c.in-Err.ensures.1 c.in_ok-mark_operand.ensures (c.in_ok-mark_operand-2.ensures ∙ ap (λ f. marked f s) (sym c.in-Err.ensures.0)) c.in_ok-mark_index.ensures)
+          ∙ made_assigned i op v f t x r s q u c.in-Err.ensures.1 refl (ap (λ f. marked f s) (sym c.in-Err.ensures.0)) c.in_ok-mark_item_operands.ensures)
           c.assign_made-made.ensures.effect.0,
       c.assign_made-made.ensures.effect.1,
     )
@@ -96,32 +97,32 @@ returns-in-Err-clause-effect c =
 pub copy_update_effect-requires-clause-copy : goal.copy_update_effect-requires-clause-copy
 copy_update_effect-requires-clause-copy c =
     let r = live c.args.self.now.session.now in
-    let s = live c.mark_operand.new.session in
-    let q = live c.mark_operand-2.new.session in
-    let u = live c.mark_index.new.session in
+    let s = marked c.args.value r in
+    let q = marked c.args.found s in
+    let u = live c.mark_item_operands.new.session in
     let f = c.args.found in
-    subst (IsHeld u) c.in-Ok.ensures (held_index_marked c.args.index.now f q u c.in_ok-mark_index.ensures
-    (held_marked f f s q c.in_ok-mark_operand-2.ensures (held_marked c.args.value f r s c.in_ok-mark_operand.ensures c.requires.found)))
+    subst (IsHeld u) c.in-Ok.ensures (held_index_marked c.args.index.now f q u c.in_ok-mark_item_operands.ensures
+    (held_marked f f s q refl (held_marked c.args.value f r s refl c.requires.found)))
 
 pub copy_update_effect-requires-clause-value : goal.copy_update_effect-requires-clause-value
 copy_update_effect-requires-clause-value c =
     let r = live c.args.self.now.session.now in
-    let s = live c.mark_operand.new.session in
-    let q = live c.mark_operand-2.new.session in
-    let u = live c.mark_index.new.session in
+    let s = marked c.args.value r in
+    let q = marked c.args.found s in
+    let u = live c.mark_item_operands.new.session in
     let v = c.args.value in
-    held_index_marked c.args.index.now v q u c.in_ok-mark_index.ensures
-    (held_marked c.args.found v s q c.in_ok-mark_operand-2.ensures (held_marked v v r s c.in_ok-mark_operand.ensures c.requires.value))
+    held_index_marked c.args.index.now v q u c.in_ok-mark_item_operands.ensures
+    (held_marked c.args.found v s q refl (held_marked v v r s refl c.requires.value))
 
 pub copy_update_effect-requires-clause-target : goal.copy_update_effect-requires-clause-target
 copy_update_effect-requires-clause-target c =
     let r = live c.args.self.now.session.now in
-    let s = live c.mark_operand.new.session in
-    let q = live c.mark_operand-2.new.session in
-    let u = live c.mark_index.new.session in
+    let s = marked c.args.value r in
+    let q = marked c.args.found s in
+    let u = live c.mark_item_operands.new.session in
     let t = c.args.target.now in
-    held_index_marked c.args.index.now t q u c.in_ok-mark_index.ensures
-    (held_marked c.args.found t s q c.in_ok-mark_operand-2.ensures (held_marked c.args.value t r s c.in_ok-mark_operand.ensures c.requires.target))
+    held_index_marked c.args.index.now t q u c.in_ok-mark_item_operands.ensures
+    (held_marked c.args.found t s q refl (held_marked c.args.value t r s refl c.requires.target))
 
 pub copy_update_effect-requires-clause-advanced : goal.copy_update_effect-requires-clause-advanced
 copy_update_effect-requires-clause-advanced c = sym c.is_advanced.ensures ∙ c.if-is_advanced.true
@@ -141,11 +142,11 @@ returns-then-is_advanced-clause-effect c =
     let t = c.args.target.now in
     let x = c.args.index.now in
     let r = live c.args.self.now.session.now in
-    let s = live c.mark_operand.new.session in
-    let q = live c.mark_operand-2.new.session in
-    let u = live c.mark_index.new.session in (
+    let s = marked c.args.value r in
+    let q = marked c.args.found s in
+    let u = live c.mark_item_operands.new.session in (
       ends_alike _ _ _ (ap (λ f. run i (item_augmentation op (value_of v) (value_of f) (value_of t) (contents.index_of x)) r) c.in-Ok.ensures
-          ∙ copy_item_augmented i op c.in-Ok.array v t x r s q u c.in_ok-mark_operand.ensures (c.in_ok-mark_operand-2.ensures ∙ ap (λ f. marked f s) c.in-Ok.ensures) c.in_ok-mark_index.ensures
+          ∙ copy_item_augmented i op c.in-Ok.array v t x r s q u refl (ap (λ f. marked f s) c.in-Ok.ensures) c.in_ok-mark_item_operands.ensures
           (sym c.is_advanced.ensures ∙ c.if-is_advanced.true))
           (makes_ends (effect_of u.bytes) i u _ _ c.copy_update_effect.ensures.effect),
       (refl, refl),
@@ -159,11 +160,11 @@ returns-else-is_advanced-clause-effect c =
     let t = c.args.target.now in
     let x = c.args.index.now in
     let r = live c.args.self.now.session.now in
-    let s = live c.mark_operand.new.session in
-    let q = live c.mark_operand-2.new.session in
-    let u = live c.mark_index.new.session in (
+    let s = marked c.args.value r in
+    let q = marked c.args.found s in
+    let u = live c.mark_item_operands.new.session in (
       ends_alike _ _ _ (ap (λ f. run i (item_augmentation op (value_of v) (value_of f) (value_of t) (contents.index_of x)) r) c.in-Ok.ensures
-          ∙ array_item_augmented i op c.in-Ok.array v t x r s q u c.in_ok-mark_operand.ensures (c.in_ok-mark_operand-2.ensures ∙ ap (λ f. marked f s) c.in-Ok.ensures) c.in_ok-mark_index.ensures
+          ∙ array_item_augmented i op c.in-Ok.array v t x r s q u refl (ap (λ f. marked f s) c.in-Ok.ensures) c.in_ok-mark_item_operands.ensures
           (sym c.is_advanced.ensures ∙ c.if-is_advanced.false))
           (makes_ends (effect_of u.bytes) i u _ _ c.update_effect.ensures.effect),
       (refl, refl),

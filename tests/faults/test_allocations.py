@@ -1,0 +1,90 @@
+"""Each allocation of the program is refused in turn: one, several, and all from one on."""
+from __future__ import annotations
+
+import functools
+import random
+import tempfile
+import unittest
+from collections import Counter
+from pathlib import Path
+from typing import Iterable, List, Tuple
+
+from setting import IS_ALL, SEED, program, refusals, shim, tell, workers
+from commands import commands_of
+from judging import Fault, Script
+from notebook import FOLDER, Notebook, notebooks
+from trials import Counts, MEMORY, chosen, try_notebook
+
+MOST = 1 << 40
+INPUT = FOLDER / 'file_in_fortran_order.ndn'
+
+
+def try_all(paths: Iterable[Path], most: int) -> Tuple[Counts, List[str]]:
+    counts, faults = Counter(), []
+    one = functools.partial(try_notebook, program=program(), shim=shim(), most=most, seed=SEED)
+    with workers() as pool:
+        for found, fault in pool.map(one, paths):
+            counts.update(found)
+            faults += [fault] if fault else []
+    return counts, faults
+
+
+def summary(name: str, books: int, counts: Counts) -> str:
+    return (f'{name}: {books} notebooks, {counts["allocations"]} allocations, {counts["trials"]} trials: '
+            f'{counts["refused"]} with a refused command, {counts["ended"]} ended, {counts["answered"]} as ever')
+
+
+class OfCommands(unittest.TestCase):
+    """Of each command of the notebooks. What was refused has changed nothing, and succeeds when it is given again."""
+
+    def test_every_allocation_of_the_notebooks(self) -> None:
+        shim()
+        counts, faults = try_all(notebooks(), MOST)
+        tell(summary('every allocation', len(notebooks()), counts))
+        self.assertEqual(faults, [])
+        self.assertGreater(min(counts['refused'], counts['ended']), 0)
+
+
+class OfRuns(unittest.TestCase):
+    """Of whole runs, from the first allocation of the program on, with an input and a script as files."""
+
+    def setUp(self) -> None:
+        self.shim = shim()
+        room = tempfile.TemporaryDirectory(prefix='ndnote-faults-')
+        self.addCleanup(room.cleanup)
+        setting, *self.commands = commands_of(INPUT.read_bytes())
+        file, script = Path(room.name) / 'f.npy', Path(room.name) / 'script'
+        file.write_bytes(bytes.fromhex(setting.decode().split()[-1]))
+        script.write_bytes(b''.join(self.commands))
+        self.words = [program(), f'f={file}', '--script', str(script)]
+
+    def judge(self, ran: refusals.Ran, script: Script, what: str) -> None:
+        try:
+            script.judged(ran.output, ran.status != 0)
+        except Fault as fault:
+            self.fail(f'{what}: {fault}')
+        self.assertIn(ran.status, (0, 1, 3), what)
+        self.assertEqual(ran.status == 0, not ran.errors, what)
+        self.assertTrue(ran.status == 0 or MEMORY in ran.errors, (what, ran.errors))
+        self.assertTrue(ran.status != 3 or not ran.output, what)
+
+    def test_every_allocation_of_a_run(self) -> None:
+        notebook = Notebook(INPUT, program(), self.shim)
+        self.addCleanup(notebook.close)
+        setting = tuple(commands_of(INPUT.read_bytes()))[:1]
+        script = Script(tuple(self.commands), lambda it: notebook.told(setting + it).answers[1:])
+        count = refusals.run(self.words, b'', self.shim).allocations
+        ends: Counts = Counter()
+        for several in (1, 7, MOST):
+            for first in chosen(count, MOST if IS_ALL else 400, random.Random(SEED)):
+                faults = refusals.Faults(allocation=first, allocations=several)
+                ran = refusals.run(self.words, b'', self.shim, faults)
+                self.judge(ran, script, f'{several} allocations refused from {first} on')
+                ends[str(ran.status)] += 1
+        told = ', '.join(f'{count} with status {status}' for status, count in sorted(ends.items()))
+        tell(f'every allocation of a run: {count} allocations, {sum(ends.values())} runs: {told}')
+        self.assertEqual(set(ends), {'0', '1', '3'})
+
+
+if __name__ == '__main__':
+    unittest.main()

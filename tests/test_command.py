@@ -123,6 +123,7 @@ class Tree(unittest.TestCase):
         cached = shutil.ignore_patterns('__pycache__')
         shutil.copytree(TOP / 'tools' / 'starter', self.top / 'tools' / 'starter', ignore=cached)
         shutil.copy2(TOP / 'ndnote', self.top / 'ndnote')
+        self.put('python/ndnote/tunables', (TOP / 'python/ndnote/tunables').read_text())
         self.put('crates.txt', 'base:   # lowest\nndnote: base std\nother: base\n')
         self.put('HANDLES', 'Handles allowed: none.\n')
         for name in ('base/src/lib.rt', 'base/proofs/f/Proof.antt', 'ndnote/src/main.rt', 'other/src/lib.rt'):
@@ -195,6 +196,18 @@ class Words(Tree):
         self.assertEqual(self.start('--script', 'first.ndn').stdout, b'ok\ntext 3\nend\nok\nend\n')
         for status, words in ((1, '--script missing'), (2, '--frob'), (3, 'a=missing'), (0, 'a=first.ndn')):
             self.assertEqual(self.start(*words.split()).returncode, status, words)
+
+    def test_the_allocator_is_told_how_to_keep_memory(self) -> None:
+        self.ship('#!/bin/sh\necho "$GLIBC_TUNABLES"\n')
+        told = (TOP / 'python/ndnote/tunables').read_bytes()
+        self.assertEqual(self.start('a=1').stdout, told)
+        self.assertEqual(self.start('a=1', env={'GLIBC_TUNABLES': 'x=1'}).stdout, b'x=1\n')
+
+    def test_a_word_that_is_no_command_says_what_is(self) -> None:
+        for word, told in (('chek', b'./ndnote help'), ('b.py', b'./ndnote run b.py'), ('s.ndn', b'--script s.ndn')):
+            ran = self.start(word)
+            self.assertEqual((ran.returncode, ran.stdout), (2, b''))
+            self.assertIn(told, ran.stderr)
 
     def test_relative_paths_are_those_of_the_caller(self) -> None:
         self.ship()
@@ -524,7 +537,7 @@ class Real(Tree):
                  "ndnote: input ?: first.ndn: a name has 1 to 64 digits, letters, '-', '.' or '_'"),
                 (('--script', 'no.ndn'), 1, f'ndnote: script no.ndn: {missing}'),
                 (('--script', 'crates'), 1, 'ndnote: script crates: the script could not be read'),
-                (('first.ndn',), 2, 'ndnote: first.ndn: an input is given as NAME=PATH')):
+                (('first.ndn',), 2, 'ndnote: first.ndn: a script is run by ./ndnote --script first.ndn')):
             ran = self.start(*words)
             self.assertEqual((ran.returncode, ran.stdout, ran.stderr.decode().splitlines()[-1]), (status, b'', told))
 

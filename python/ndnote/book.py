@@ -2,6 +2,7 @@
 from __future__ import annotations
 
 import ast
+import codecs
 import difflib
 import os
 import re
@@ -14,6 +15,7 @@ from typing import Iterable, Sequence, TypeVar, Union
 MARK = re.compile(r'#[ \t]*%%(?!%)[ \t]*(.*)')
 TEXT = re.compile(r'\[(markdown|md)\][ \t]*')
 INPUT = re.compile(r'''\b(np\s*\.\s*load|buffer)\s*\(\s*(['"])([A-Za-z0-9_.-]{1,64})\2''')
+NAME = re.compile('[A-Za-z0-9_.-]{1,64}')     # of an input
 LARGEST = 1 << 26       # bytes of an input
 
 Item = TypeVar('Item')
@@ -191,12 +193,28 @@ def read_input(path: Path) -> bytes:
 
 
 def read(path: PathLike) -> str:
-    """The text of a book. Line ends stay as they are."""
-    return Path(path).read_bytes().decode('utf-8')
+    """The text of a book, without a byte order mark. Line ends stay as they are."""
+    return Path(path).read_bytes().removeprefix(codecs.BOM_UTF8).decode('utf-8')
+
+
+def write(path: PathLike, text: str) -> None:
+    """Puts a text into the file of a book. A byte order mark stays where there was one."""
+    with open(path, 'rb') as file:
+        mark = file.read(3)
+    replace_file(path, (mark if mark == codecs.BOM_UTF8 else b'') + text.encode('utf-8', 'replace'))
 
 
 def replace_file(path: PathLike, data: bytes) -> None:
-    """Puts bytes into a file in one step. Whoever reads it sees the old ones or the new ones, also on a full disk."""
+    """Puts bytes into a file in one step. Whoever reads it sees the old ones or the new ones, also on a full disk.
+    An OSError names this file."""
+    try:
+        put(path, data)
+    except OSError as error:
+        raise OSError(error.errno, error.strerror, str(path)) from None
+
+
+def put(path: PathLike, data: bytes) -> None:
+    """Writes a file beside another one, and puts it in the other's place."""
     target = Path(os.path.realpath(path))
     handle, other = tempfile.mkstemp(dir=target.parent, prefix='.ndnote-')
     try:

@@ -2,6 +2,7 @@
 from __future__ import annotations
 
 import os
+import re
 import resource
 import subprocess
 import tempfile
@@ -13,6 +14,8 @@ from typing import Any, Callable, Iterable, NamedTuple, Optional, Sequence, Type
 from .values import Layout, Value
 
 Answer = TypeVar('Answer')
+# How the program's allocator takes and keeps memory, unless the environment says so itself. `./ndnote` reads this file too.
+TUNABLES = Path(__file__).with_name('tunables').read_text('ascii').strip()
 
 
 class Refused(Exception):
@@ -56,13 +59,20 @@ def list_word(numbers: Sequence[int]) -> str:
     return ','.join(map(str, numbers)) or '()'
 
 
+def asked(name: str, refusal: str) -> bytes:
+    """A name as one word of a script. What would be more words, or more lines, has no such name."""
+    if not re.fullmatch(r'\S+', name):
+        raise Refused(refusal)
+    return name.encode('utf-8', 'replace')
+
+
 class Notebook:
     """A notebook of the program, edited and asked by the commands of its scripts. Cells are counted from 0."""
 
     def __init__(self, path: Optional[str] = None, memory: Optional[int] = None) -> None:
         self._log = tempfile.TemporaryFile()
         self._process = subprocess.Popen([path or program()], stdin=subprocess.PIPE, stdout=subprocess.PIPE,
-                                         stderr=self._log)
+                                         stderr=self._log, env={'GLIBC_TUNABLES': TUNABLES, **os.environ})
         if memory:
             resource.prlimit(self._process.pid, resource.RLIMIT_AS, (memory, memory))
         self.count = 0
@@ -185,20 +195,23 @@ class Notebook:
     def input(self, name: str, data: Any, layout: Optional[Layout] = None) -> None:
         """Sets an input. With a layout the bytes are a buffer's memory. Else bytes are those of an NPY file, a path
         names one, and any object with a buffer (PEP 3118) is handed over as a buffer in C order."""
+        word = asked(name, 'BadInputName')
         if isinstance(data, (str, os.PathLike)):
             data = Path(data).read_bytes()
         if isinstance(data, (bytes, bytearray)) and not layout:
-            self._ask(f'input {name} npy '.encode(), data.hex().encode() or b'-', b'\n')
+            self._ask(b'input %s npy ' % word, data.hex().encode() or b'-', b'\n')
             return
         if not layout:
             view = memoryview(data)
             layout, data = Layout.of_view(view), view.tobytes('C')
-        words = (f'input {name} buffer {layout.format} {layout.itemsize} {list_word(layout.shape)} '
+        if re.search(r'\s', layout.format):
+            raise ValueError(f'{layout.format}: a format with spaces is not taken')
+        words = (f' buffer {layout.format} {layout.itemsize} {list_word(layout.shape)} '
                  f'{list_word(layout.strides)} {layout.offset} ')
-        self._ask(words.encode(), data.hex().encode() or b'-', b'\n')
+        self._ask(b'input ', word, words.encode(), data.hex().encode() or b'-', b'\n')
 
     def drop(self, name: str) -> None:
-        self._ask(f'drop {name}\n'.encode())
+        self._ask(b'drop %s\n' % asked(name, f'NoInputNamed {name}'))
 
     # Questions.
 
@@ -230,13 +243,16 @@ class Notebook:
         return [self._line() for _ in range(int(self._ask(b'names %d\n' % at)[6:]))]
 
     def value(self, at: int, name: str) -> Value:
-        return Value.of_answer(self._ask(f'value {at} {name}\n'.encode()))
+        return Value.of_answer(self._ask(b'value %d %s\n' % (at, asked(name, f'NoName {name}'))))
 
     def saved(self, at: int, name: str) -> bytes:
-        return bytes.fromhex(self._ask(f'saved {at} {name}\n'.encode()).removeprefix('saved ').replace('-', ''))
+        answer = self._ask(b'saved %d %s\n' % (at, asked(name, f'NoSave {name}')))
+        return bytes.fromhex(answer.removeprefix('saved ').replace('-', ''))
 
     def __getitem__(self, name: str) -> Value:
         """The value of a name after the last cell."""
+        if not self.count:
+            raise KeyError(name)
         try:
             return self.value(self.count - 1, name)
         except Refused as refused:

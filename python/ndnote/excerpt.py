@@ -34,8 +34,11 @@ def excerpts(notebook: Notebook, at: int, source: str, refusal: Refusal) -> list
         bound.run(f'{name} = {word}' for name, word in zip(names, words))
         with asker(notebook, bound.place) as probe:
             found = known(probe, names)
-            return [Excerpt(shortened(word), found[name].words, ends(probe, name, found[name]))
-                    for name, word in zip(names, words) if name in found]
+            shown = [Excerpt(shortened(word), found[name].words, ends(probe, name, found[name]))
+                     for name, word in zip(names, words) if name in found]
+    left = len(statement.value.args) - len(shown)
+    more = Excerpt(f'{left} more', 'not shown', f'… {left} more arguments left out by ndnote …')
+    return shown + [more] if shown and left else shown
 
 
 def is_behind(source: str, refusal: Refusal) -> bool:

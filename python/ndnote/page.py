@@ -87,6 +87,11 @@ def markdown(text: str) -> str:
 
 # What a cell shows.
 
+def preformatted(kind: str, html: str) -> str:
+    """A text as it stands: HTML drops a newline that comes first, so one that may be dropped is put there."""
+    return f'<pre class="{kind}">\n{html}</pre>'
+
+
 def clipped(text: str) -> str:
     if len(text) <= MOST_TEXT:
         return escape(text)
@@ -147,7 +152,7 @@ def output(shown: Shown, name: str, is_live: bool = False) -> str:
         return markdown(shown.cell.source)
     parts = [f'<p class="note">{escape(shown.note)}</p>'] if shown.note else []
     if shown.result and shown.result.text:
-        parts.append(f'<pre class="text">{clipped(shown.result.text)}</pre>')
+        parts.append(preformatted('text', clipped(shown.result.text)))
     if shown.result and shown.result.refusal:
         has_ends = shown.result.refusal.fault == TOO_LONG and shown.seen.excerpts
         parts.append(too_long(shown) if has_ends else refusal(shown, name))
@@ -163,7 +168,7 @@ def output(shown: Shown, name: str, is_live: bool = False) -> str:
 def cell(shown: Shown, name: str, is_live: bool = False) -> str:
     kind = 'text' if shown.cell.is_text else 'code'
     title = f'<h3>{escape(shown.cell.title)}</h3>' if shown.cell.title else ''
-    source = f'<pre class="source">{escape(shown.cell.source)}</pre>' if kind == 'code' or is_live else ''
+    source = preformatted('source', escape(shown.cell.source)) if kind == 'code' or is_live else ''
     return (f'<section class="{kind}" id="c{shown.id}">{title}{source}'
             f'<div class="out">{output(shown, name, is_live)}</div></section>')
 

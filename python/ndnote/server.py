@@ -155,12 +155,12 @@ class Desk:
         with session.news:
             self.absorb()
             at = next((at for at, shown in enumerate(session.shown) if shown.id == id), None)
-            if at is None and op != 'insert':
+            if at is None and (op != 'insert' or id is not None):
                 raise Conflict('This cell is gone.')
             cells = [shown.cell for shown in session.shown]
             getattr(self, 'do_' + op)(cells, at, **words)
             text = book.written(cells)
-            book.replace_file(session.path, text.encode('utf-8', 'replace'))
+            book.write(session.path, text)
             self.text = text
             if op == 'edit':
                 session.release(session.shown[at])
@@ -173,7 +173,7 @@ class Desk:
         cells[at] = cells[at].with_source(source)
 
     def do_insert(self, cells: list[book.Cell], at: Optional[int], kind: str = 'code') -> None:
-        mark = '# %% [markdown]\n' if kind == 'text' else '# %%\n'
+        mark = {'code': '# %%\n', 'text': '# %% [markdown]\n'}[kind]
         if at is not None:
             cells[at] = cells[at].with_blank_line()
         cells.insert(0 if at is None else at + 1, book.Cell(mark, '\n'))
@@ -262,7 +262,9 @@ class Handler(BaseHTTPRequestHandler):
         if rest is None:
             return
         desk = self.server.desk
-        if rest == '':
+        if not self.path.endswith('/') and rest == '':      # what the page asks for lies behind the sign
+            self.answer(HTTPStatus.SEE_OTHER, Location=f'/{self.server.token}/')
+        elif rest == '':
             with desk.session.news:
                 html, rule = page.page(desk.session, is_live=True)
             self.answer(HTTPStatus.OK, html.encode('utf-8', 'replace'), 'text/html; charset=utf-8',
@@ -312,7 +314,7 @@ class Handler(BaseHTTPRequestHandler):
         is_own = self.headers.get('Content-Type') == 'application/json' and self.headers.get('Origin')
         if not is_own or not re.fullmatch('[0-9]{1,9}', length) or int(length) > LARGEST:
             return None
-        return json.loads(self.rfile.read(int(length)))
+        return json.loads(self.rfile.read(int(length)).decode('utf-8', 'replace'))
 
     def do_POST(self) -> None:
         rest = self.admitted()
@@ -332,7 +334,7 @@ class Handler(BaseHTTPRequestHandler):
             raise
         except OSError as error:
             self.answer(HTTPStatus.INTERNAL_SERVER_ERROR, f'The book was not saved: {error.strerror or error}'.encode())
-        except (TypeError, ValueError, AttributeError, KeyError, RecursionError):
+        except (TypeError, ValueError, AttributeError, KeyError, OverflowError, RecursionError):
             self.refuse(HTTPStatus.BAD_REQUEST)
 
 
@@ -340,9 +342,13 @@ class Server(ThreadingHTTPServer):
     """The book's server. Its address holds the token that lets a browser in."""
     daemon_threads = True
     request_queue_size = 64
+    desk: Optional[Desk] = None
 
     def __init__(self, session: Session, port: int = 0) -> None:
-        super().__init__(('127.0.0.1', port), Handler)
+        try:
+            super().__init__(('127.0.0.1', port), Handler)
+        except OSError as error:
+            raise OSError(error.errno, error.strerror, f'port {port}') from None
         self.token = secrets.token_urlsafe(24)
         self.ticket = secrets.token_urlsafe(24)     # leads to the page once: others see the words that start a browser
         self.lock = threading.Lock()
@@ -362,5 +368,6 @@ class Server(ThreadingHTTPServer):
             super().handle_error(request, client_address)
 
     def server_close(self) -> None:
-        self.desk.close()
+        if self.desk:                           # else the port was refused
+            self.desk.close()
         super().server_close()

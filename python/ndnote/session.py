@@ -148,12 +148,13 @@ class Session:
         data = book.read_input(path)
         if not is_buffer:
             return data, None
+        layout = layout_path(path)
+        if not layout.exists():
+            raise OSError(f'its layout is not there: {layout.name}')
         try:
-            return data, Layout.of_json(layout_path(path).read_text('utf-8'))
-        except FileNotFoundError:
-            raise OSError(f'its layout is not there: {layout_path(path).name}') from None
-        except (ValueError, RecursionError) as error:
-            raise OSError(f'its layout {layout_path(path).name} is wrong: {error}') from None
+            return data, Layout.of_json(book.read_input(layout).decode())
+        except (OSError, ValueError, RecursionError) as error:
+            raise OSError(f'its layout {layout.name} is wrong: {error}') from None
 
     def sync_input(self, name: str, told: Any) -> bool:
         """Sets or drops one input; tells whether it is another now."""

@@ -1,5 +1,6 @@
 """One process of the program: edits, questions, values, inputs, want of memory, and its end."""
 import array
+import os
 import tempfile
 import unittest
 from pathlib import Path
@@ -36,6 +37,12 @@ class Notebooks(unittest.TestCase):
             book.edit(3, '')
         with self.assertRaises(KeyError):
             book['y']
+
+    def test_the_allocator_is_told_how_to_keep_memory(self):
+        told = os.environ.get('GLIBC_TUNABLES', ndnote.engine.TUNABLES)
+        # The loader cuts the text into its parts where it stands, by zeros in the place of colons.
+        words = Path(f'/proc/{self.book.process}/environ').read_bytes().replace(b'\0', b':')
+        self.assertIn(f'GLIBC_TUNABLES={told}:'.encode(), words)
 
     def test_values(self):
         self.book.insert(0, "n = 18446744073709551615\nt = True\ns = np.int8(-5)\n"
@@ -82,6 +89,25 @@ class Notebooks(unittest.TestCase):
             self.book.show(0)
         self.assertEqual(self.book._ask(b'count\n'), 'count 8')
         self.assertEqual(len(self.book), 8)
+
+    def test_names_are_no_commands(self):
+        self.book.insert(0, 'x = 1')
+        with self.assertRaisesRegex(Refused, 'BadInputName'):
+            self.book.input('a npy -\nremove 0', b'')
+        for name in ('x\nremove 0', 'x y', ''):
+            with self.assertRaises(KeyError):
+                self.book[name]
+            with self.assertRaisesRegex(Refused, 'NoSave'):
+                self.book.saved(0, name)
+            with self.assertRaisesRegex(Refused, 'NoInputNamed'):
+                self.book.drop(name)
+        with self.assertRaisesRegex(ValueError, 'a format with spaces'):
+            self.book.input('a', b'a', Layout('T{b:a b:}', 1, (1,), (1,)))
+        self.assertEqual(self.book._ask(b'count\n'), 'count 1')
+
+    def test_an_empty_notebook_has_no_names(self):
+        with self.assertRaises(KeyError):
+            self.book['x']
 
     def test_words_are_asked_for_once(self):
         asked = []

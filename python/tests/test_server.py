@@ -85,11 +85,21 @@ class Served(unittest.TestCase):
         for body in ({}, [], 'x', {'op': 'no'}, {'op': 'edit', 'id': 0, 'was': FIRST, 'source': 5}, {'op': 'look'},
                      {'op': 'edit', 'more': 1}, {'op': 'title', 'id': 0, 'title': 7},
                      {'op': 'move', 'id': 0, 'by': 'x'}, {'op': 'look', 'ids': 7}, {'op': 'edit', 'id': 0},
-                     {'op': '__init__', 'id': 0}, 5):
+                     {'op': '__init__', 'id': 0}, 5, {'op': 'move', 'id': 0, 'by': 10 ** 30}, {'op': 'insert', 'id': 9},
+                     {'op': 'insert', 'id': 0, 'kind': 7}):
             self.assertIn(self.ask(self.root + 'do', body).status, (400, 409), body)
         for path in ('saved/9/s.npy', 'saved/1/../../x', 'saved/1/t', 'saved/', 'events', 'events?rev=x', 'no'):
             self.assertEqual(self.ask(self.root + path).status, 404, path)
         self.assertEqual(self.path.read_text(), TEXT)
+
+    def test_an_address_without_its_last_sign_leads_to_the_page(self):
+        answer = self.ask(self.root[:-1])
+        self.assertEqual((answer.status, answer.getheader('Location')), (303, self.root))
+
+    def test_a_byte_order_mark_stays_in_the_file(self):
+        self.path.write_text('\ufeff' + TEXT)
+        self.assertEqual(self.do(op='edit', id=0, was=FIRST, source='x = 1'), 204)
+        self.assertEqual(self.path.read_text(), '\ufeff' + TEXT.replace(FIRST, 'x = 1'))
 
     def test_an_edit_goes_to_the_file_and_to_the_program(self):
         self.assertEqual(self.do(op='edit', id=0, was=FIRST, source=FIRST.replace('3', '4')), 204)

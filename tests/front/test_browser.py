@@ -18,6 +18,19 @@ class Browsers(Browsing):
         self.assertIn('arange(5)', self.book.read_text())
         self.assertIn('2 outputs changed', self.state())
 
+    def test_blank_lines_before_a_source_stay(self):
+        self.book.write_text(self.book.read_text().replace('x = np', '\n\nx = np'))
+        self.wait(lambda: self.value(0) == '\n\nx = np.arange(3)\nprint(x)')
+        self.page.refresh()
+        self.wait(lambda: self.texts() == self.outputs)
+        self.assertEqual(self.value(0), '\n\nx = np.arange(3)\nprint(x)')
+        self.type(0, '\n\nx = np.arange(4)\nprint(x)', Keys.CONTROL, Keys.ENTER)
+        self.wait(lambda: self.texts() == ['[0 1 2 3]', '6'])
+        self.assertEqual(self.page.find_elements(By.CSS_SELECTOR, '.conflict'), [])
+
+    def value(self, at):
+        return self.sections()[at].find_element(By.TAG_NAME, 'textarea').get_property('value')
+
     def test_an_arrow_key_steps_a_number(self):
         area = self.sections()[0].find_element(By.TAG_NAME, 'textarea')
         self.page.execute_script('const a = arguments[0]; a.focus(); a.selectionStart = a.selectionEnd = 14', area)

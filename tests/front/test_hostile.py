@@ -9,9 +9,11 @@ import tempfile
 import threading
 import time
 import unittest
+import unittest.mock
 import urllib.request
 from pathlib import Path
 
+import ndnote
 from browsing import TEXT, Browsing, has_browser
 
 try:
@@ -31,6 +33,42 @@ ATTACK = '''<!doctype html><title>other</title><form id=f method=post enctype="t
     .then(all => document.title = 'tried ' + all.map(one => one.status + (one.value?.type ?? '')).join(' '));
 </script>'''
 RUNS = "document.title = 'broken'"
+# Lines that a cell repeats for over a minute: one takes memory for each result, the other writes in place.
+TAKES, KEEPS = 'x = x * 3 // y % y + 1\n', 'x **= x\nx %= 1001\n'
+LINES = 900
+MAKING = 'x = np.arange(16777216)\ny = x % 1000 + 1'
+STOPPED = f"""# %%
+{MAKING}
+
+# %%
+d = np.load('d.npy')
+print(d.sum())
+
+# %%
+print(x[5])
+print(1)
+"""
+
+
+def slow_source(lines):
+    return lines * (LINES // lines.count('\n'))
+
+
+def seconds_of(lines):
+    """Processor seconds that a cell of these lines would take, by those of a few of them."""
+    with ndnote.Notebook() as book:
+        def clock():
+            return time.clock_gettime((~book.process << 3) | 2)
+        book.insert(0, MAKING)
+        book.insert(1, lines)
+        before = clock()
+        book.edit(1, 2 * lines)
+        return (clock() - before) / 2 * (LINES // lines.count('\n'))
+
+
+def npy(numbers):
+    header = f"{{'descr': '|u1', 'fortran_order': False, 'shape': ({len(numbers)},), }}".ljust(117) + '\n'
+    return b'\x93NUMPY\x01\x00' + struct.pack('<H', len(header)) + header.encode() + bytes(numbers)
 
 
 @has_browser
@@ -74,14 +112,20 @@ class Hostile(Browsing):
         self.assertIn('ERR_BLOCKED_BY_RESPONSE.NotSameOrigin', refused)
         self.assertEqual(self.book.read_text(), TEXT)
 
-    def test_a_cell_that_runs_for_long_is_stopped(self):
-        self.type(0, 'x = np.arange(16777216)\n' + 'x = x ** 3 % 1001\n' * 900, Keys.CONTROL, Keys.ENTER)
+    def test_a_cell_that_runs_for_over_a_minute_is_stopped(self):
+        self.assertGreater(seconds_of(TAKES), 60)
+        (self.book.parent / 'd.npy').write_bytes(npy([1, 2, 4]))
+        self.book.write_text(STOPPED)
+        self.wait(lambda: self.texts() == ['7', '5\n1'])
+        self.type(2, slow_source(TAKES) + 'print(x[5])', Keys.CONTROL, Keys.ENTER)
         self.wait(lambda: self.page.find_elements(By.CSS_SELECTOR, '#state button'))
         self.page.find_element(By.CSS_SELECTOR, '#state button').click()
-        self.wait(lambda: 'Stopped' in self.said(0))
-        self.assertIn('x ** 3', self.book.read_text())
-        self.type(0, 'x = np.arange(2)', Keys.CONTROL, Keys.ENTER)
-        self.wait(lambda: self.texts() == ['1'])
+        self.wait(lambda: 'Stopped' in self.said(2))
+        self.assertEqual(self.texts()[0], '7')
+        self.assertIn('x * 3 // y', self.book.read_text())
+        self.type(2, 'print(x[6] + d[2])', Keys.CONTROL, Keys.ENTER)
+        self.wait(lambda: self.texts() == ['7', '10'])
+        self.assertEqual(self.book.read_text(), STOPPED.split('print(x[5])')[0] + 'print(x[6] + d[2])\n')
 
     def test_a_program_that_is_killed_in_an_edit_comes_back(self):
         before = self.program()
@@ -161,6 +205,43 @@ class Large(unittest.TestCase):
         while not condition():
             self.assertLess(time.time(), end, 'nothing happened')
             time.sleep(0.03)
+
+    def resident(self, process):
+        words = Path(f'/proc/{process}/statm').read_text().split()
+        return int(words[1]) * os.sysconf('SC_PAGE_SIZE')
+
+    def stop(self, lines, at_work=0):
+        """A cell that would run for over a minute is edited into a book with an input, and stopped by the endpoint once
+        the program has so many bytes. Gives the numbers of the program's process before and after."""
+        self.assertGreater(seconds_of(lines), 60)
+        (self.folder / 'd.npy').write_bytes(npy([1, 2, 4]))
+        served, path = self.serve('stopped.py', STOPPED)
+        session, state = served.desk.session, lambda: served.desk.state['word']
+
+        def texts():
+            return [shown.result and shown.result.text for shown in session.shown]
+        self.wait(lambda: state() == 'ready' and texts() == ['', '7\n', '5\n1\n'])
+        before, slow = session.notebook.process, slow_source(lines).rstrip('\n')
+        self.assertEqual(self.post(served, op='edit', id=2, was='print(x[5])\nprint(1)', source=slow), 204)
+        self.wait(lambda: state() == 'running')
+        self.wait(lambda: self.resident(before) > at_work)
+        time.sleep(0.5)                         # it is in the middle of its lines
+        self.assertEqual((state(), self.post(served, op='stop')), ('running', 204))
+        self.wait(lambda: state() == 'ready' and 'Stopped' in session.shown[2].note)
+        self.assertEqual(texts()[:2], ['', '7\n'])
+        self.assertEqual(path.read_text(), STOPPED.replace('print(x[5])\nprint(1)', slow))
+        self.assertEqual(self.post(served, op='edit', id=2, was=slow, source='print(x[6] + d[2])'), 204)
+        self.wait(lambda: texts() == ['', '7\n', '10\n'])
+        return before, session.notebook.process
+
+    def test_a_cell_that_takes_memory_is_stopped_and_the_notebook_goes_on(self):
+        with unittest.mock.patch('ndnote.session.GRACE', 30):      # a busy machine asks for memory late
+            before, after = self.stop(TAKES)
+        self.assertEqual(before, after)
+
+    def test_a_cell_that_takes_none_is_stopped_and_the_notebook_is_started_again(self):
+        before, after = self.stop(KEEPS, 3 * 128_000_000)     # x, y, and the copy of x that it writes into
+        self.assertNotEqual(before, after)
 
     def test_a_book_of_five_megabytes(self):
         filler = '# ' + 'x' * 98 + '\n'

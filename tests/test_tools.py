@@ -264,6 +264,30 @@ class Profile(unittest.TestCase):
         self.assertEqual(dict(costs["types::f"].parts), {"walk": 2.0, "goals": 1.0, "answers": 2.0, "rest": 1.0})
         self.assertEqual(profile.above(costs), ["types::f"])
 
+    def test_each_function_of_a_cycle_has_a_row(self):
+        modules = [(1.0, "proofs.eval.+value.Code.+value_of", 1), (2.0, "proofs.eval.+value.Code", 1),
+                   (4.0, "proofs.eval.+value.Lts-value", 7), (5.0, "proofs.eval.+value.Lts-value.Given", 1),
+                   (15.0, "proofs.eval.+value.Lts-value_of", 8), (16.0, "proofs.eval.+value.Kinds-value_of-5-0", 1),
+                   (20.0, "proofs.eval.+value.Proof", 1), (21.0, "proofs.eval.+value.Answers", 1),
+                   (22.0, "proofs.eval.+value", 1), (24.0, "proofs.eval.value.Proof", 1)]
+        costs = profile.costs_of(modules, [(0.0, 0.0), (32.0, 32.0)])
+        self.assertEqual(dict(costs["eval::value"].parts), {"walk": 3.0, "goals": 2.0})
+        self.assertEqual(dict(costs["eval::value_of"].parts), {"walk": 10.0, "rest": 2.0})
+        self.assertEqual(dict(costs["eval::+value (cycle)"].parts), {"goals": 4.0, "answers": 1.0, "rest": 2.0})
+        self.assertEqual([costs[f"eval::{it}"].walk for it in ("value", "value_of", "+value (cycle)")], [7, 8, 0])
+        self.assertEqual(profile.above(costs), ["eval::value_of"])
+
+    def test_a_cycle_is_held_against_the_number_of_its_functions(self):
+        modules = [(1.0, "proofs.+f.Lts-f", 1), (2.0, "proofs.+f.Lts-g", 1), (23.0, "proofs.+f.Tie", 1)]
+        costs = profile.costs_of(modules, [(0.0, 0.0), (32.0, 32.0)])
+        self.assertEqual(profile.above(costs), ["+f (cycle)"])
+
+    def test_a_function_that_calls_itself_is_one_row(self):
+        modules = [(1.0, "proofs.lists.+f.Lts-f", 6), (3.0, "proofs.lists.+f.Goals", 1), (4.0, "proofs.lists.+f", 1)]
+        costs = profile.costs_of(modules, [(0.0, 0.0), (10.0, 10.0)])
+        self.assertEqual(set(costs), {"lists::f"})
+        self.assertEqual((costs["lists::f"].walk, costs["lists::f"].seconds), (6, 4.0))
+
 
 class Bench(unittest.TestCase):
     """Statements, notebooks and tables are well made."""
@@ -307,8 +331,8 @@ class Bench(unittest.TestCase):
 
     def test_notebooks_have_as_many_cells_and_other_texts(self):
         for shape in edits.shapes(200):
-            fixed = {"large": 51, "input": 100}
-            self.assertEqual(len(shape.cells), fixed.get(shape.name, 200))
+            fixed = {"large": 51, "large sums": 51, "input": 100}
+            self.assertEqual((len(shape.cells), shape.is_fixed), (fixed.get(shape.name, 200), shape.name in fixed))
             for at in (0, len(shape.cells) // 2, len(shape.cells) - 1):
                 self.assertNotEqual(shape.other(at, 5), shape.cells[at])
                 compile(shape.other(at, 5), shape.name, "exec")

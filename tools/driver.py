@@ -7,12 +7,21 @@ import threading
 import time
 
 
+ROOT = os.path.dirname(os.path.dirname(os.path.realpath(__file__)))
+
+
+def tunables() -> str:
+    """How the allocator takes and keeps memory where `ndnote` starts the program."""
+    with open(f"{ROOT}/python/ndnote/tunables", encoding="ascii") as file:
+        return file.read().strip()
+
+
 class Program:
     """A running program: commands are sent, and their answers read line by line."""
 
-    def __init__(self, path: str, *words: str):
-        # The allocator asks for huge pages, as it does where `ndnote` starts the program.
-        environment = {"GLIBC_TUNABLES": "glibc.malloc.hugetlb=1", **os.environ}
+    def __init__(self, path: str, *words: str, allocator: str = ""):
+        given = {"GLIBC_TUNABLES": allocator} if allocator else {}
+        environment = {"GLIBC_TUNABLES": tunables(), **os.environ, **given}
         pipes = {"stdin": subprocess.PIPE, "stdout": subprocess.PIPE, "bufsize": 0}
         self.process = subprocess.Popen([path, *words], env=environment, **pipes)
         self.rest = b""
@@ -30,6 +39,18 @@ class Program:
             self.rest += more
         line, _, self.rest = self.rest.partition(b"\n")
         return line.decode()
+
+    def skip_line(self, question: str) -> int:
+        """Asks for an answer of one line, which is not kept; gives its length."""
+        self.send(question.encode() + b"\n")
+        length = 0
+        while True:
+            part = os.read(self.process.stdout.fileno(), 1 << 20)
+            if not part:
+                raise EOFError("the program ended")
+            length += len(part)
+            if part.endswith(b"\n"):
+                return length
 
     def clock(self) -> float:
         """Processor seconds of the program so far."""
@@ -88,6 +109,13 @@ class Program:
                 if line.startswith(("VmRSS", "VmHWM")):
                     found[line.split(":")[0]] = int(line.split()[1]) * 1024
         return found["VmRSS"], found["VmHWM"]
+
+    def end(self) -> None:
+        """Ends the process, whatever it does."""
+        self.process.kill()
+        self.process.stdin.close()
+        self.process.stdout.close()
+        self.process.wait()
 
     def close(self) -> None:
         self.process.stdin.close()

@@ -8,17 +8,20 @@ from driver import Program
 
 IMAGES = 50
 LARGE = 1 << 24
-READERS = 50
+READERS, SUMS = 50, 50
+MOST_CELLS = 10_000
 
 
 @dataclass
 class Shape:
-    """A notebook: its cells, the text of cell k with another value v, and the elements of its input with one."""
+    """A notebook: its cells, the text of cell k with another value v, and the elements of its input with one. Where
+    `is_fixed`, it has a size of its own, whatever count of cells is asked for."""
 
     name: str
     cells: list[str]
     other: Callable[[int, int], str]
     input: Callable[[int], list[int]] | None = None
+    is_fixed: bool = False
 
 
 def shapes(count: int) -> Iterator[Shape]:
@@ -42,10 +45,12 @@ def shapes(count: int) -> Iterator[Shape]:
     yield Shape("prints", [f"print({k})" for k in range(count)], lambda k, v: f"print({k + v})")
     yield Shape("images", [image_cell(k, 1) for k in range(max(count, 2 * IMAGES))], image_cell)
     yield Shape("large", [f"x = np.arange({LARGE})", *(f"y{k} = x[{k}]" for k in range(READERS))],
-                lambda k, v: f"y{k - 1} = x[{k + v}]" if k else f"x = np.arange({LARGE}) + {v}")
+                lambda k, v: f"y{k - 1} = x[{k + v}]" if k else f"x = np.arange({LARGE}) + {v}", is_fixed=True)
+    yield Shape("large sums", [f"x = np.arange({LARGE})", *(f"s{k} = x.sum() + {k}" for k in range(SUMS))],
+                lambda k, v: f"s{k - 1} = x.sum() + {k + v}" if k else f"x = np.arange({LARGE}) + {v}", is_fixed=True)
     yield Shape("input", ["d = np.load('d')" if k == 50 else f"v{k} = np.arange(4) + {k}" for k in range(100)],
                 lambda k, v: f"d = np.load('d') + {v}" if k == 50 else f"v{k} = np.arange(4) + {v}",
-                lambda v: [v, v + 1, v + 2])
+                lambda v: [v, v + 1, v + 2], is_fixed=True)
 
 
 def image_cell(k: int, v: int) -> str:
@@ -121,8 +126,14 @@ def measure(path: str, shape: Shape, turns: int) -> Costs:
         return seconds
 
     def inserted(k: int, text: str) -> float:
+        """Seconds of an insertion. A notebook that is full gives up its last cell meanwhile."""
+        is_full = count == MOST_CELLS
+        if is_full:
+            checked(*program.remove(count - 1))
         seconds = checked(*program.insert(k, text))
         checked(*program.remove(k))
+        if is_full:
+            checked(*program.insert(count - 1, cells[count - 1]))
         return seconds
 
     try:

@@ -1,64 +1,188 @@
-"""memory: the scripts that `tools/bench memory` measures: the most memory that some cells take, and many cells."""
+"""memory: the scripts that `tools/bench memory` measures: the most memory that notebooks take, each within a bound."""
 from __future__ import annotations
 
-from collections.abc import Iterator
+import dataclasses
+import resource
+import tempfile
+from collections.abc import Callable, Iterator
 from dataclasses import dataclass
+from pathlib import Path
 
 from driver import Program
 
-ELEMENTS = 1 << 24
+MB = 1_000_000
+LARGE = 1 << 24
 READERS = 50
+# What a case may take where it says nothing else.
+BOUND = 2_000 * MB
+
+
+@dataclass
+class Case:
+    """A notebook that is set up, and what is done to it then; `size` has the bytes of the arrays that it binds."""
+
+    name: str
+    cells: list[str]
+    then: Callable[[Program], None] = lambda program: None
+    size: int = 0
+    bound: int = BOUND
+    words: tuple[str, ...] = ()
 
 
 @dataclass
 class Peak:
-    """A case: processor seconds, the most bytes at a time, what those are beside, and their ratio to it."""
+    """A case: processor seconds, the most bytes at a time, and the bytes of its arrays. With `is_more` it passed the
+    bound that `peak` has, and was ended."""
 
     case: str
     seconds: float
     peak: int
-    beside: str = ""
-    ratio: float | None = None
+    size: int = 0
+    is_more: bool = False
+
+    @property
+    def ratio(self) -> float | None:
+        return self.peak / self.size if self.size and not self.is_more else None
 
 
-def inserted(cells: list[str]) -> str:
-    return "".join(f"insert {at}\n{cell}\n.\n" for at, cell in enumerate(cells))
+class TooMuch(Exception):
+    """An edit was refused for want of memory."""
 
 
-def run_script(path: str, script: str, wanted: list[str]) -> tuple[float, int]:
-    """Processor seconds and the most bytes of a script whose answers must be these."""
-    program = Program(path)
-    try:
-        seconds, answers = program.answers(script, len(wanted))
-        if answers != wanted:
-            raise ValueError(f"answers {[it[:60] for it in answers[-4:]]}, and not {wanted[-4:]}")
-        return seconds, program.memory()[1]
-    finally:
-        program.close()
+def must(answer: tuple[float, str]) -> None:
+    if answer[1] == "refused OutOfMemory":
+        raise TooMuch
+    if answer[1] != "ok":
+        raise ValueError(f"an edit is answered {answer[1]}")
 
 
-def least(path: str, script: str, wanted: list[str], turns: int) -> tuple[float, int]:
-    runs = [run_script(path, script, wanted) for _ in range(turns)]
-    return min(seconds for seconds, _ in runs), min(peak for _, peak in runs)
+def must_show(program: Program, at: int, end: str) -> None:
+    """The cell's last line but one is `ok`, or the refusal that is wanted."""
+    found = program.show(at)[-2]
+    if found != end:
+        raise ValueError(f"cell {at} is answered {found}, and not {end}")
 
 
-def measure(path: str, turns: int, elements: int = ELEMENTS) -> Iterator[Peak]:
-    """Each case in turn. An array has `elements` of eight bytes each; its text must be too long to be printed."""
+def edited(at: int, text: str) -> Callable[[Program], None]:
+    return lambda program: must(program.edit(at, text))
+
+
+def shown(at: int, end: str) -> Callable[[Program], None]:
+    return lambda program: must_show(program, at, end)
+
+
+def asked(line: str) -> Callable[[Program], None]:
+    """A question whose answer is one line."""
+    return lambda program: program.skip_line(line)
+
+
+def many_edits(at: int, texts: list[str]) -> Callable[[Program], None]:
+    def run(program: Program) -> None:
+        for text in texts:
+            must(program.edit(at, text))
+    return run
+
+
+def writes(count: int) -> Case:
+    """Cells that write one element each, from the one before, and an edit of the cell in the middle."""
+    text = "x[{}] += x[{}] + {}".format
+    step = 16_000
+    cells = [f"x = np.arange({LARGE})", *(text(at * step, (at - 1) * step, 1) for at in range(1, count + 1))]
+    half = count // 2
+    return Case(f"{count:,} cells `x[i*16000] += x[(i-1)*16000] + 1`, and an edit in the middle", cells,
+                edited(half, text(half * step, (half - 1) * step, 2)), LARGE * 8)
+
+
+def readers(elements: int) -> Iterator[Case]:
     size = elements * 8
-    whole = f"the array's {size / 1e6:.0f} MB"
-    took, peak = least(path, inserted([f"print(np.arange({elements}))"]) + "show 0\n",
-                       ["ok", "text 0", "refused 1 Stmt.TextTooLong", "end"], turns)
-    yield Peak("a cell prints the array and is refused", took, peak, whole, peak / size)
-    making = f"x = np.arange({elements})"
-    idle = least(path, inserted([making, "y = 1"]) + "show 1\n", ["ok", "ok", "text 0", "ok", "end"], turns)
-    took, peak = least(path, inserted([making, "x[0] = x"]) + "show 1\n",
-                       ["ok", "ok", "text 0", "refused 1 Ufunc.ShapeMismatch", "end"], turns)
-    beside = f"a cell that uses nothing, {idle[1] / 1e6:.0f} MB"
-    yield Peak("another cell uses the whole array and is refused", took, peak, beside, peak / idle[1])
-    cells = [making, *(f"y{at} = x[{at}]" for at in range(READERS))]
-    script = inserted(cells) + f"edit {READERS}\ny{READERS - 1} = x[99]\n.\n"
-    took, peak = least(path, script, ["ok"] * (READERS + 2), turns)
-    yield Peak(f"{READERS} cells read an element each, and the last is edited", took, peak, whole, peak / size)
+    make = f"x = np.arange({elements})"
+    yield Case("a cell prints the array and is refused", [f"print(np.arange({elements}))"],
+               shown(0, "refused 1 Stmt.TextTooLong"), size)
+    yield Case("another cell uses the whole array and is refused", [make, "x[0] = x"],
+               shown(1, "refused 1 Ufunc.ShapeMismatch"), size)
+    yield Case(f"{READERS} cells `y = x[i]`, and an edit of the last", [make, *(f"y{at} = x[{at}]" for at in range(READERS))],
+               edited(READERS, f"y{READERS - 1} = x[99]"), size)
+    for count in (10, 100):
+        yield Case(f"{count} cells `print(x[i], x[-i])`, and an edit of the array",
+                   [make, *(f"print(x[{at}], x[-{at}])" for at in range(1, count + 1))], edited(0, make + " + 1"), size)
+    yield Case("`value` of the array", [make], asked("value x"), size)
+    yield Case("`saved` of the array", [f"np.save('x', np.arange({elements}))"], asked("saved 0 x"), size)
+
+
+def life() -> Iterator[Case]:
+    """Generations on a torus of 512 by 512, a cell each."""
+    around = " + ".join(f"p[{a}:{a + 512}, {b}:{b + 512}]" for a in range(3) for b in range(3) if (a, b) != (1, 1))
+    step = (f"p[1:-1, 1:-1] = g\np[0] = p[-2]\np[-1] = p[1]\np[:, 0] = p[:, -2]\np[:, -1] = p[:, 1]\nn = {around}\n"
+            "g[:] = (n == 3) | (g & (n == 2))")
+    first = ("k = np.arange(512 * 512).reshape(512, 512)\ng = k * k % 7 < {}\np = np.zeros((514, 514), dtype='uint8')")
+    cells = [first.format(2), *[step] * 200]
+    size = 512 * 512 * 8 + 512 * 512 + 514 * 514
+    yield Case("life, 200 generations on 512 by 512, a cell each", cells, size=size)
+    yield Case("the same, and an edit of the first picture", cells, edited(0, first.format(3)), size)
+    yield Case("the same, and an edit of generation 100", cells, edited(100, step + "\ng[0] = False"), size)
+
+
+def table() -> Case:
+    fields = "[('sensor', '<u2'), ('ok', np.bool_), ('pad', np.uint8), ('count', '<i4'), ('time', '<i8'), ('sum', '<i8')]"
+    make = f"t = np.zeros(1000000, dtype={fields})\nt['sensor'] = np.arange(1000000) % 50"
+    fix = "t['count'][t['sensor'] == {0}] += {0} + {1}"
+    cells = [make, *(fix.format(at, 1) for at in range(40))]
+    return Case("a table of 24 MB, a field of which is fixed in 40 cells, and an edit of the 20th", cells,
+                edited(20, fix.format(19, 2)), 24_000_000)
+
+
+def cases(elements: int = LARGE) -> Iterator[Case]:
+    """All cases but that of an input. Arrays of `elements` numbers of eight bytes have a text that is too long."""
+    yield from readers(elements)
+    for count in (10, 100, 1_000):
+        yield dataclasses.replace(writes(count), bound=4_000 * MB)
+    eight = "x = np.arange(1048576)"
+    yield Case("100 cells `y = x[i]` on 8 MB, and 100 edits of the array",
+               [eight, *(f"y{at} = x[{at}]" for at in range(1, 101))],
+               many_edits(0, [f"{eight} + {at}" for at in range(100)]), 8 << 20)
+    yield Case("80 lines `y = (y + 3 // np.maximum(y, 1)) // 2` on 8 MB, in one cell",
+               ["y = np.arange(1048576)\n" + "y = (y + 3 // np.maximum(y, 1)) // 2\n" * 80], size=8 << 20)
+    yield from life()
+    yield table()
     for count in (1_000, 10_000):
-        took, peak = least(path, inserted([f"v{at} = np.arange(3)" for at in range(count)]), ["ok"] * count, 1)
-        yield Peak(f"{count:,} cells of one line are inserted", took, peak)
+        yield Case(f"{count:,} cells `v = np.arange(3)`", [f"v{at} = np.arange(3)" for at in range(count)])
+
+
+def input_case(path: Path) -> Case:
+    """A file of 60 MiB, of numbers of four bytes, which a cell loads."""
+    size = 60 << 20
+    header = f"{{'descr': '<i4', 'fortran_order': False, 'shape': ({(size - 128) // 4},), }}".ljust(117) + "\n"
+    path.write_bytes(b"\x93NUMPY\x01\x00" + len(header).to_bytes(2, "little") + header.encode() + bytes(size - 128))
+    return Case("an input file of 60 MiB, and a cell that loads it", ["d = np.load('d')", "print(d.sum())"],
+                shown(1, "ok"), size, words=(f"d={path}",))
+
+
+def run_case(path: str, case: Case) -> Peak:
+    program = Program(path, *case.words)
+    try:
+        # The bound is of addresses, which a notebook has some more of than of memory.
+        resource.prlimit(program.process.pid, resource.RLIMIT_AS, (case.bound, case.bound))
+        before = program.clock()
+        for at, text in enumerate(case.cells):
+            must(program.insert(at, text))
+        case.then(program)
+        return Peak(case.name, program.clock() - before, program.memory()[1], case.size)
+    except (TooMuch, EOFError, BrokenPipeError):
+        return Peak(case.name, 0.0, case.bound, case.size, is_more=True)
+    finally:
+        program.end()
+
+
+def least(path: str, case: Case, turns: int) -> Peak:
+    """The least time and the least peak of some runs; one where the first takes over five seconds."""
+    found = [run_case(path, case)]
+    while len(found) < turns and not found[0].is_more and found[0].seconds < 5:
+        found.append(run_case(path, case))
+    return dataclasses.replace(min(found, key=lambda it: it.peak), seconds=min(it.seconds for it in found))
+
+
+def measure(path: str, turns: int, elements: int = LARGE) -> Iterator[Peak]:
+    for case in cases(elements):
+        yield least(path, case, turns)
+    with tempfile.TemporaryDirectory() as folder:
+        yield least(path, input_case(Path(folder) / "d.npy"), turns)

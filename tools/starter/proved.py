@@ -18,7 +18,7 @@ from preview import NotBuilt
 BUILT = 'crates/ndnote/out/ndnote'
 BUILT_SUM = 'crates/ndnote/out/ndnote.sum'
 # What a check takes, in seconds of one processor: for a crate, a line of code, a line of definitions and proofs.
-CRATE_SECONDS, CODE_SECONDS, PROOF_SECONDS = 8.0, 0.02, 0.008
+CRATE_SECONDS, CODE_SECONDS, PROOF_SECONDS = 10.0, 0.12, 0.008
 CHECK_BYTES = 2_500_000_000
 
 

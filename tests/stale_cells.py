@@ -219,7 +219,7 @@ class Run:
         return Array(array.base, array.start + array.step * (at % array.count), array.step, 1, array.kind)
 
     def spread(self, value: Value, count: int, kind: str) -> List[int]:
-        """The numbers of a value as so many elements of a kind."""
+        """The numbers of a value as `count` elements of a kind."""
         if isinstance(value, Array):
             if value.count not in (1, count):
                 raise Refused

@@ -211,8 +211,8 @@ class Large(unittest.TestCase):
         return int(words[1]) * os.sysconf('SC_PAGE_SIZE')
 
     def stop(self, lines, at_work=0):
-        """A cell that would run for over a minute is edited into a book with an input, and stopped by the endpoint once
-        the program has so many bytes. Gives the numbers of the program's process before and after."""
+        """A cell that would run for over a minute is edited into a book with an input. The endpoint stops it once the
+        program has more than `at_work` bytes. Gives the numbers of the program's process before and after."""
         self.assertGreater(seconds_of(lines), 60)
         (self.folder / 'd.npy').write_bytes(npy([1, 2, 4]))
         served, path = self.serve('stopped.py', STOPPED)

@@ -1,0 +1,4 @@
+pub mod Change
+pub mod Snapshots
+pub mod Steps
+pub mod Whole

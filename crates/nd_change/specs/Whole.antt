@@ -1,0 +1,84 @@
+-- Changes that have bases whole, and when they are carried on right: behind a run that is in both notebooks, behind runs that are in one,
+-- and put over a session.
+use Rattle.std.specs.Prelude.{◌≡◌, ◌⊎◌, ℕ, Bool, true, false, ◌||◌, IsSome, List, [], ◌∷◌, length, slice_index, Option, Some, None, option_map, unwrap_or, nat_eq, if◌then◌else◌, ⊤}
+use Rattle.nd_model.specs.Arrays.Value.{Base, Value, lies_in}
+use Rattle.nd_model.specs.Cells.Session.{Session, lookup, is_held, held_bytes}
+use Rattle.nd_model.specs.Cells.Running.{Event, Binds, Unbinds, Name, Input, Length, Byte, Source, Inputs, is_touched}
+use Rattle.nd_model.specs.Cells.Footprint.{Bound, Given, Number, patched}
+use Rattle.nd_model.specs.Book.Records.{Record}
+use Rattle.nd_model.specs.Book.Overlay.{IsOnce}
+use Rattle.nd_change.specs.Change.{Change}
+use Rattle.nd_change.specs.Steps.{Keeps, Follows, Leaves, Comes, IsPutOver}
+
+-- what is there now of names and inputs, none where nothing is bound or given, and of whole bases
+pub record Whole : Type 0 where
+  pub names : List ℕ → Option (Option Value)
+  pub inputs : List ℕ → Option (Option Source)
+  pub blocks : Base → Option (List ℕ)
+
+-- a base that is in it is in it with its length and the byte at each place
+abbrev pub whole_of : Whole → Change
+whole_of c (Name n) = option_map Bound (c.names n)
+whole_of c (Input n) = option_map Given (c.inputs n)
+whole_of c (Length b) = option_map (λ bytes. Number (length bytes)) (c.blocks b)
+whole_of c (Byte b p) = option_map (λ bytes. Number (slice_index bytes p)) (c.blocks b)
+
+-- some event binds a value in the base
+abbrev pub binds_in : Base → List Event → Bool
+binds_in b [] = false
+binds_in b (Binds n v ∷ es) = lies_in b v || binds_in b es
+binds_in b (Unbinds n ∷ es) = binds_in b es
+
+-- ---- behind a run that is in both
+
+-- The names that the run touches are gone, and the bases of its own that it binds. Its bytes are written to the others.
+pub record IsWithout (r : Record) (c e : Whole) : Type 0 where
+  pub names : (n : List ℕ) → e.names n ≡ (if is_touched n r.effects.events then None else c.names n)
+  pub inputs : (n : List ℕ) → e.inputs n ≡ c.inputs n
+  pub own : (b : Base) → b.label ≡ r.label → binds_in b r.effects.events ≡ true → e.blocks b ≡ None
+  pub blocks : (b : Base) → nat_eq b.label r.label ≡ false → e.blocks b ≡ option_map (patched (r.effects.writes b)) (c.blocks b)
+
+abbrev pub KeepsWhole : Type 0
+KeepsWhole = (r : Record) (c e : Whole) → IsWithout r c e → Keeps (whole_of c) (whole_of e) r
+
+-- ---- behind runs that are in one
+
+abbrev pub LeavesName : Option Record → List ℕ → Type 0
+LeavesName None n = ⊤
+LeavesName (Some r) n = is_touched n r.effects.events ≡ false
+
+-- the run binds no value in the base, if it is its own, and writes no byte of it
+abbrev pub LeavesBase : Option Record → Base → Type 0
+LeavesBase None b = ⊤
+LeavesBase (Some r) b = (b.label ≡ r.label → binds_in b r.effects.events ≡ false) × ((p : ℕ) → r.effects.writes b p ≡ None)
+
+-- the base is in it with the bytes that it has in the session, if it is in that
+abbrev pub HasBase : Whole → Session → Base → Type 0
+HasBase e t b = (bytes : List ℕ) × (e.blocks b ≡ Some bytes) × (is_held b t.names ≡ true → bytes ≡ held_bytes t b)
+
+-- Each name and base is in it as it is in the session, or is as it was, and both runs leave it.
+pub record IsWith (r q : Option Record) (t : Session) (c e : Whole) : Type 0 where
+  pub names : (n : List ℕ) → (e.names n ≡ Some (lookup n t.names)) ⊎ ((e.names n ≡ c.names n) × LeavesName r n × LeavesName q n)
+  pub inputs : (n : List ℕ) → e.inputs n ≡ c.inputs n
+  pub blocks : (b : Base) → HasBase e t b ⊎ ((e.blocks b ≡ c.blocks b) × LeavesBase r b × LeavesBase q b)
+
+abbrev pub FollowsWhole : Type 0
+FollowsWhole = (r q : Record) (t : Session) (j : Inputs) (c e : Whole) → IsWith (Some r) (Some q) t c e → Follows (whole_of c) (whole_of e) r q t j
+
+abbrev pub LeavesWhole : Type 0
+LeavesWhole = (r : Record) (t : Session) (c e : Whole) → IsWith (Some r) None t c e → Leaves (whole_of c) (whole_of e) r t
+
+abbrev pub ComesWhole : Type 0
+ComesWhole = (q : Record) (t : Session) (c e : Whole) → IsWith None (Some q) t c e → Comes (whole_of c) (whole_of e) q t
+
+-- ---- over a session
+
+-- The session has the names and bases of the change, and else those that were there. A base that was not there is in the change.
+pub record IsPut (c : Whole) (s u : Session) : Type 0 where
+  pub names : (n : List ℕ) → lookup n u.names ≡ unwrap_or (c.names n) (lookup n s.names)
+  pub blocks : (b : Base) → is_held b u.names ≡ true → held_bytes u b ≡ unwrap_or (c.blocks b) (held_bytes s b)
+  pub known : (b : Base) → is_held b u.names ≡ true → (is_held b s.names ≡ true) ⊎ IsSome (c.blocks b)
+  pub once : IsOnce u.names
+
+abbrev pub PutsWhole : Type 0
+PutsWhole = (c : Whole) (s u : Session) → IsPut c s u → IsPutOver (whole_of c) s u

@@ -35,8 +35,7 @@ pub struct CellResult {
 }
 
 impl CellResult {
-    /// Returns the file that the cell saved under this name, or `None`. After `np.save('a', x)`,
-    /// `file("a")` is the NPY file of `x`.
+    /// Returns the file that the cell saved under this name.
     pub fn file(&self, name: &str) -> Option<&[u8]>
         ensures { option_map (λ f. f.now) result
             ≡ lookup name.now (saves_of self.now.saves.entries) }

@@ -1,5 +1,4 @@
-//! New blocks: [`conversion`] makes one of other elements' numbers, [`creation`] one of a number, a
-//! range or a list.
+//! New blocks: `conversion` makes one of other elements' numbers, `creation` one of a number, a range or a list.
 #![tactic(auto)]
 
 pub mod conversion;

@@ -1,5 +1,4 @@
-//! [`status`]: the program without its `main`, from the words of its command line to its exit
-//! status.
+//! The program without its `main`: the command line, and the status that the program ends with.
 #![tactic(auto)]
 
 mod program;

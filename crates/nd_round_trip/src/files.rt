@@ -12,8 +12,7 @@ pub fn file_again()
     rest_is_ignored();
 }
 
-/// A law: the file of an array whose elements lie anywhere in a block is read as the same dtype,
-/// shape and elements.
+/// A law: this holds, too, for an array whose elements lie anywhere in a block.
 pub fn array_again()
     ensures { ArrayAgain }
 {

@@ -1,5 +1,4 @@
-//! Laws that what was written is read again: of NPY files in [`files`], of PEP 3118 formats in
-//! [`formats`].
+//! What was written is read again: formats and NPY files.
 #![tactic(auto)]
 
 pub mod files;

@@ -1,5 +1,4 @@
-//! The tree of a cell, whose statements are [`trees::Stmt`], and the dtypes that it names, by
-//! [`dtypes::element_type`].
+//! The tree of a cell: statements, expressions, and the dtypes that they name.
 #![tactic(auto)]
 
 pub mod dtypes;

@@ -2,3 +2,4 @@ pub mod Places
 pub mod Noting
 pub mod Traces
 pub mod Touched
+pub mod Patches

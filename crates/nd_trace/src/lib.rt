@@ -4,6 +4,8 @@
 
 mod marking;
 mod trace;
+mod writer;
 
 pub use marking::Footprint;
 pub use trace::{Event, Trace};
+pub use writer::MarkedBytes;

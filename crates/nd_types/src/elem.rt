@@ -32,7 +32,6 @@ impl Model for Elem {
 
 impl Elem {
     /// Returns the dtype of a kind, big-endian if asked for and if there is more than one byte.
-    /// `int8` has one dtype.
     #[inline]
     pub fn new(kind: Kind, big: bool) -> Elem
         ensures { result ≡ record {
@@ -70,7 +69,7 @@ impl Elem {
         self.big
     }
 
-    /// Returns the itemsize in bytes.
+    /// Returns the itemsize.
     #[inline]
     pub fn size(self) -> u64
         ensures value { result ≡ element.size_of self.kind }

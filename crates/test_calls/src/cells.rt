@@ -1,5 +1,4 @@
-//! `print_tree`, `print_tokens` and `print_field_name`: the statements and the tokens of a cell's
-//! text, and the names of fields.
+//! Calls `tree`, `tokens` and `field_name`: the statements and the tokens of a cell's text, and the names of fields.
 
 use nd_parse::cells::parse_cell;
 use nd_token::{BadToken, Token, tokens};

@@ -1,5 +1,4 @@
-//! `print_runs`: scripts from readers that give little at a time or fail, and to writers that take
-//! little or fail.
+//! Scripts from readers that give little at a time or fail, and to writers that take little or fail.
 
 use nd_commands::{RunFault, ScriptReader, ScriptWriter, run, run_script, run_turns};
 use nd_notebook::{Meter, Notebook};

@@ -2,15 +2,14 @@
 use crate::trees::calls::{Accumulation, DType, Fill, Reduction, Ufunc};
 use nd_types::Kind;
 
-/// An operator with one operand: `Negative` is `-`, `Invert` is `~`.
+/// An operator with one operand, by NumPy's name.
 #[derive(Clone, Copy, Debug)]
 pub enum UnaryOp {
     Negative,
     Invert,
 }
 
-/// An operator with two operands: `FloorDivide` is `//`, `Divide` is `/`, `Remainder` is `%`,
-/// `Power` is `**`.
+/// An operator with two operands, by NumPy's name.
 #[derive(Clone, Copy, Debug)]
 pub enum BinaryOp {
     Add,
@@ -42,11 +41,11 @@ pub enum Expr {
     Truth(bool),
     Unary(UnaryOp, Box<Expr>),
     /// An operand, and operators of one precedence with their right operands, from left to right.
-    /// There is one at least: `a - b + c` is `a`, with `- b` and `+ c`.
+    /// There is one at least.
     Chain(Box<Expr>, Vec<(BinaryOp, Expr)>),
     Call(Box<Call>),
     /// An operand, and its indexes and methods from left to right. There is one at least, and the
-    /// operand has none of its own, unless in parentheses. `x[0].sum()` is `x` with two.
+    /// operand has none of its own, unless in parentheses.
     Postfix(Box<Expr>, Vec<Suffix>),
 }
 

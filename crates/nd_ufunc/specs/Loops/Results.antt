@@ -1,20 +1,11 @@
 -- The bytes of results that stand one after another.
 use Rattle.std.specs.Prelude.{ℕ, ℤ, List, [], ◌∷◌, ◌++◌}
 use Rattle.nd_model.specs.Arrays.Element.{Kind, Element, bytes_of, wrap}
-use Rattle.nd_model.specs.Making.Elementwise.{single_number}
 use Rattle.nd_model.specs.Making.Operators.{BinaryUfunc, exact}
-use Rattle.nd_ufunc.specs.Scalar.Ufuncs.{single_of, ufunc_of}
-use Rattle.nd_ufunc.specs.declared.scalar.ufunc.AnyUfunc.{AnyUfunc}
-use Rattle.nd_ufunc.specs.declared.scalar.ufunc.AnyUfunc.TheVariants.{Binary, Unary}
 
 -- what a function of two numbers gives, for a result of a kind
 abbrev pub binary_result : BinaryUfunc → Kind → ℤ → ℤ → ℤ
 binary_result f k x y = wrap k (exact k f x y)
-
--- what any function gives: one of a single number passes over the second
-abbrev pub result_of : AnyUfunc → Kind → ℤ → ℤ → ℤ
-result_of (Binary f) = binary_result (ufunc_of f)
-result_of (Unary f) = λ k x y. single_number (single_of f) k x
 
 -- of two lists of numbers, as far as both go
 abbrev pub result_bytes : Element → (ℤ → ℤ → ℤ) → List ℤ → List ℤ → List ℕ

@@ -9,7 +9,7 @@ ghost use Rattle.nd_syntax.specs.Trees.Syntax.{binary_op};
 ghost use Rattle.nd_types.specs.Kinds.{kind_of};
 ghost use Rattle.nd_assign.specs.SideBySide.{side_by_side};
 ghost use Rattle.nd_ufunc.specs.Elementwise.Prepared.{IsRightSide, right_operand, with_results, written_directly};
-ghost use Rattle.nd_ufunc.specs.Loops.Results.{binary_result, result_of};
+ghost use Rattle.nd_ufunc.specs.Loops.Results.{binary_result};
 
 use crate::elementwise::beside::{Beside, stretch_beside};
 use crate::elementwise::in_place::RightSide;
@@ -60,7 +60,7 @@ impl<'v> Direct<'v> {
     // Writes the results of a function, which is the operator's.
     fn replace<O: Operation>(&self, bytes: &mut [u8])
         requires len { length bytes.old ≡ self.now.len }
-        requires gives { result_of O.UFUNC self.now.kind
+        requires gives { O.gives self.now.kind
             ≡ binary_result (operators.Operator self.now.op) self.now.kind }
         ensures { bytes.new ≡ with_results self.now.kind self.now.op self.now.target
             self.now.right bytes.old }

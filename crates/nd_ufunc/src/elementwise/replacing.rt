@@ -8,7 +8,7 @@ ghost use Rattle.nd_assign.specs.SideBySide.{side_by_side};
 ghost use Rattle.nd_element.specs.Elements.{AreHeld, numbers_at};
 ghost use Rattle.nd_ufunc.specs.Elementwise.Beside.{HeldBeside, StaysBeside, left_beside, size_beside};
 ghost use Rattle.nd_ufunc.specs.Elementwise.Replaced.{AreValues, Wraps, replaced, written_numbers};
-ghost use Rattle.nd_ufunc.specs.Loops.Results.{result_bytes, result_of};
+ghost use Rattle.nd_ufunc.specs.Loops.Results.{result_bytes};
 ghost use Rattle.nd_ufunc.specs.Loops.Sides.{Keeps};
 
 use crate::elementwise::beside::LeftBeside;
@@ -70,7 +70,7 @@ where
         ≤ length left_buffer.old }
     requires right_buffer { length part.now * size_beside beside.old ≤ 8192 }
     ensures out { out.new ≡ result_bytes (little (kind_of kinds.now.results))
-        (result_of O.UFUNC (kind_of kinds.now.results)) (numbers_at kinds.now.elem block.now part.now)
+        (O.gives (kind_of kinds.now.results)) (numbers_at kinds.now.elem block.now part.now)
         (take (length part.now) (left_beside beside.old block.now)) }
     ensures further { (bytes : List ℕ) → left_beside beside.new bytes
         ≡ drop (length part.now) (left_beside beside.old bytes) }
@@ -91,67 +91,6 @@ where
     apply_sides::<O>(operands, out, results, xs, ys, count);
 }
 
-// How the numbers of a target are replaced: the kinds, and the byte offsets of contiguous results in
-// a buffer.
-#[derive(Clone, Copy)]
-struct Plan<'p> {
-    kinds: Kinds,
-    places: &'p Run,
-}
-
-// Replaces the numbers of a contiguous part of the target, which fit a chunk, by the results for
-// them and the next numbers of the right operand.
-fn replace_chunk<O: Operation>(
-    bytes: &mut [u8],
-    plan: &Plan<'_>,
-    part: &Run,
-    beside: &mut LeftBeside<'_>,
-    buffer: &mut [u8; CHUNK],
-    left_buffer: &mut [u8; CHUNK],
-    right_buffer: &mut [u8; CHUNK],
-)
-    requires held { AreHeld plan.now.kinds.elem bytes.old part.now }
-    requires room { slice_index part.now 0 + length part.now * size_of plan.now.kinds.elem.kind
-        ≤ length bytes.old }
-    requires enough { length part.now ≤ length (left_beside beside.old bytes.old) }
-    requires beside_held { HeldBeside beside.old (length bytes.old) }
-    requires keeps { Keeps plan.now.kinds.elem.kind (kind_of plan.now.kinds.own) }
-    requires wraps { Wraps (kind_of plan.now.kinds.results)
-        (result_of O.UFUNC (kind_of plan.now.kinds.results)) }
-    requires places { plan.now.places.now
-        ≡ side_by_side (size_of (kind_of plan.now.kinds.results)) 0 8192 }
-    requires results { length part.now * size_of (kind_of plan.now.kinds.results) ≤ 8192 }
-    requires left { length part.now * size_of (kind_of plan.now.kinds.own) ≤ 8192 }
-    requires right { length part.now * size_beside beside.old ≤ 8192 }
-    ensures bytes { bytes.new ≡ with_bytes bytes.old (slice_index part.now 0)
-        (replaced plan.now.kinds.elem (result_of O.UFUNC (kind_of plan.now.kinds.results))
-        (numbers_at plan.now.kinds.elem bytes.old part.now)
-        (take (length part.now) (left_beside beside.old bytes.old))) }
-    ensures further { (bytes : List ℕ) → left_beside beside.new bytes
-        ≡ drop (length part.now) (left_beside beside.old bytes) }
-    ensures size { size_beside beside.new ≡ size_beside beside.old }
-    ensures held { (len : ℕ) → HeldBeside beside.old len → HeldBeside beside.new len }
-    ensures stays { (first step at : ℕ) → StaysBeside beside.old first step at
-        → StaysBeside beside.new first step (at + length part.now) }
-{
-    let (elem, to) = (plan.kinds.elem, plan.kinds.results);
-    let count = part.count() as usize;
-    let len = count * to.size() as usize;
-    find_results::<O>(
-        &mut buffer[..len],
-        &plan.kinds,
-        bytes,
-        part,
-        beside,
-        left_buffer,
-        right_buffer,
-    );
-    let start = part.start() as usize;
-    let end = start + count * elem.size() as usize;
-    let places = plan.places.part(0, count as u64);
-    write_numbers(&mut bytes[start..end], elem, to, &buffer[..len], &places);
-}
-
 /// Replaces the numbers of a contiguous run by the results for them and the right operand. `places`
 /// are the byte offsets of contiguous results in a buffer.
 pub(crate) fn replace_numbers<O: Operation>(
@@ -169,14 +108,16 @@ pub(crate) fn replace_numbers<O: Operation>(
     requires beside { length (left_beside beside.old bytes.old) ≡ length run.now }
     requires beside_held { HeldBeside beside.old (length bytes.old) }
     requires stays { StaysBeside beside.old (slice_index run.now 0) (size_of elem.kind) 0 }
-    requires wraps { Wraps (kind_of to) (result_of O.UFUNC (kind_of to)) }
+    requires wraps { Wraps (kind_of to) (O.gives (kind_of to)) }
     requires places { places.now ≡ side_by_side (size_of (kind_of to)) 0 8192 }
     ensures { bytes.new ≡ with_bytes bytes.old (slice_index run.now 0)
-        (replaced elem (result_of O.UFUNC (kind_of to)) (numbers_at elem bytes.old run.now)
+        (replaced elem (O.gives (kind_of to)) (numbers_at elem bytes.old run.now)
         (left_beside beside.old bytes.old)) }
 {
     // proof: the number of bytes is bounded, by the clause of len().
     let _len = bytes.len();
+    let (size, width) = (to.size() as usize, elem.size() as usize);
+    let first = run.start() as usize;
     let own = side_kind(kind, elem.kind());
     let kinds = Kinds {
         elem,
@@ -184,22 +125,30 @@ pub(crate) fn replace_numbers<O: Operation>(
         operands: kind,
         results: to,
     };
-    let plan = Plan { kinds, places };
-    let chunk = chunk_of(to.size() as usize, own.size() as usize, beside.size()) as u64;
+    let chunk = chunk_of(size, own.size() as usize, beside.size()) as u64;
     let mut left_buffer = [0; CHUNK];
     let mut right_buffer = [0; CHUNK];
     let mut buffer = [0; CHUNK];
     let mut at = 0;
     while at < run.count() {
         let some = chunk.min(run.count() - at);
-        replace_chunk::<O>(
+        let count = some as usize;
+        find_results::<O>(
+            &mut buffer[..count * size],
+            &kinds,
             bytes,
-            &plan,
             &run.part(at, some),
             beside,
-            &mut buffer,
             &mut left_buffer,
             &mut right_buffer,
+        );
+        let start = first + at as usize * width;
+        write_numbers(
+            &mut bytes[start..start + count * width],
+            elem,
+            to,
+            &buffer[..count * size],
+            &places.part(0, some),
         );
         at += some;
     }

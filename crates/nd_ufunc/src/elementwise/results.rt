@@ -9,11 +9,11 @@ ghost use Rattle.nd_syntax.specs.Trees.Syntax.{binary_op};
 ghost use Rattle.nd_types.specs.Kinds.{kind_of};
 ghost use Rattle.nd_ufunc.specs.Scalar.Ufuncs.{single_of, ufunc_of};
 ghost use Rattle.nd_ufunc.specs.Loops.Feeds.{numbers_left};
-ghost use Rattle.nd_ufunc.specs.Loops.Results.{binary_result, result_bytes, result_of};
+ghost use Rattle.nd_ufunc.specs.Loops.Results.{binary_result, result_bytes};
 ghost use Rattle.nd_ufunc.specs.Elementwise.Stretched.{HasCount, IsHeld, stretched_numbers};
 
 use crate::elementwise::stretched::Stretched;
-use crate::loops::operation::{Operation, lays_out};
+use crate::loops::operation::Operation;
 use crate::loops::{Feed, ROOM, fill, operation as functions};
 use crate::scalar::{BinaryUfunc, Single};
 use nd_block::{Filling, RawBlock};
@@ -28,7 +28,7 @@ pub(crate) fn operand_kind<O: Operation>(
     left: Option<Kind>,
     right: Option<Kind>,
 ) -> Kind {
-    if !O::UFUNC.is_comparison() {
+    if !O::IS_COMPARISON {
         return to;
     }
     match (left, right) {
@@ -49,7 +49,7 @@ fn begin<'b, O: Operation>(
     requires { IsHeld numbers.now }
     ensures { numbers_left result ≡ stretched_numbers numbers.now count }
 {
-    if lays_out::<O>() {
+    if O::LAYS_OUT {
         numbers.begin_laid_out(kind, count, room)
     } else {
         numbers.begin(kind, count, room)
@@ -69,9 +69,8 @@ fn results<O: Operation>(
     requires right { IsHeld right.now }
     requires right_count { HasCount right.now count }
     requires count { count ≤ 2 ^ 24 }
-    ensures { IfOk result (λ b. b ≡ result_bytes (little (kind_of to))
-        (result_of O.UFUNC (kind_of to)) (stretched_numbers left.now count)
-        (stretched_numbers right.now count)) }
+    ensures { IfOk result (λ b. b ≡ result_bytes (little (kind_of to)) (O.gives (kind_of to))
+        (stretched_numbers left.now count) (stretched_numbers right.now count)) }
 {
     let kind = operand_kind::<O>(to, left.kind(), right.kind());
     let room = Filling::with_room(alloc, count * to.size() as usize)?;

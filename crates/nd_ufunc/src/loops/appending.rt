@@ -4,7 +4,7 @@ ghost use Rattle.std.specs.Prelude.{◌≡◌, ◌+◌, ◌*◌, ◌≤◌, ◌+
 ghost use Rattle.nd_model.specs.Arrays.Element.{size_of};
 ghost use Rattle.nd_model.specs.Making.Elementwise.{little};
 ghost use Rattle.nd_types.specs.Kinds.{kind_of};
-ghost use Rattle.nd_ufunc.specs.Loops.Results.{result_bytes, result_of};
+ghost use Rattle.nd_ufunc.specs.Loops.Results.{result_bytes};
 ghost use Rattle.nd_ufunc.specs.Loops.Sides.{HasNumbers, IsOf, numbers_on};
 
 use crate::loops::kernel::{Side, append_any, append_each};
@@ -24,7 +24,7 @@ trait Loop<O: Operation> {
         requires left { HasNumbers left count }
         requires right { HasNumbers right count }
         ensures written { result.0 ≡ filling.0 ++ result_bytes (little (kind_of to))
-            (result_of O.UFUNC (kind_of to)) (numbers_on left.entry count) (numbers_on right.entry count) }
+            (O.gives (kind_of to)) (numbers_on left.entry count) (numbers_on right.entry count) }
         ensures room { result.1 + count * size_of (kind_of to) ≡ filling.1 };
 }
 
@@ -73,7 +73,7 @@ fn append_known<O: Operation, W: Loop<O>, T: KnownKind, L: KnownKind, R: KnownKi
     requires left { HasNumbers left count }
     requires right { HasNumbers right count }
     ensures written { result.0 ≡ filling.0 ++ result_bytes (little (kind_of T.KIND))
-        (result_of O.UFUNC (kind_of T.KIND)) (numbers_on left.entry count) (numbers_on right.entry count) }
+        (O.gives (kind_of T.KIND)) (numbers_on left.entry count) (numbers_on right.entry count) }
     ensures room { result.1 + count * size_of (kind_of T.KIND) ≡ filling.1 }
 {
     match (left, right) {
@@ -106,7 +106,7 @@ fn append_at<O: Operation, W: Loop<O>, T: KnownKind, L: KnownKind, R: KnownKind>
     requires left { HasNumbers left count }
     requires right { HasNumbers right count }
     ensures written { result.0 ≡ filling.0 ++ result_bytes (little (kind_of to))
-        (result_of O.UFUNC (kind_of to)) (numbers_on left.entry count) (numbers_on right.entry count) }
+        (O.gives (kind_of to)) (numbers_on left.entry count) (numbers_on right.entry count) }
     ensures room { result.1 + count * size_of (kind_of to) ≡ filling.1 }
 {
     if is_kind(to, T::KIND) && is_of(left, L::KIND) && is_of(right, R::KIND) {
@@ -129,10 +129,10 @@ fn append_kind<O: Operation, K: KnownKind>(
     requires left { HasNumbers left count }
     requires right { HasNumbers right count }
     ensures written { result.0 ≡ filling.0 ++ result_bytes (little (kind_of to))
-        (result_of O.UFUNC (kind_of to)) (numbers_on left.entry count) (numbers_on right.entry count) }
+        (O.gives (kind_of to)) (numbers_on left.entry count) (numbers_on right.entry count) }
     ensures room { result.1 + count * size_of (kind_of to) ≡ filling.1 }
 {
-    if O::UFUNC.is_comparison() {
+    if O::IS_COMPARISON {
         append_at::<O, ByParts, known::Booleans, K, K>(filling, to, left, right, count)
     } else {
         append_at::<O, OneByOne, K, K, K>(filling, to, left, right, count)
@@ -161,7 +161,7 @@ fn append_mixed<O: Operation>(
     requires left { HasNumbers left count }
     requires right { HasNumbers right count }
     ensures written { result.0 ≡ filling.0 ++ result_bytes (little (kind_of to))
-        (result_of O.UFUNC (kind_of to)) (numbers_on left.entry count) (numbers_on right.entry count) }
+        (O.gives (kind_of to)) (numbers_on left.entry count) (numbers_on right.entry count) }
     ensures room { result.1 + count * size_of (kind_of to) ≡ filling.1 }
 {
     if is_of(left, Kind::U64) {
@@ -189,10 +189,10 @@ pub(crate) fn append_sides<O: Operation>(
     requires left { HasNumbers left count }
     requires right { HasNumbers right count }
     ensures written { result.0 ≡ filling.0 ++ result_bytes (little (kind_of to))
-        (result_of O.UFUNC (kind_of to)) (numbers_on left.entry count) (numbers_on right.entry count) }
+        (O.gives (kind_of to)) (numbers_on left.entry count) (numbers_on right.entry count) }
     ensures room { result.1 + count * size_of (kind_of to) ≡ filling.1 }
 {
-    if O::UFUNC.is_comparison() && are_mixed(left, right) {
+    if O::IS_COMPARISON && are_mixed(left, right) {
         return append_mixed::<O>(filling, to, left, right, count);
     }
     match kind {

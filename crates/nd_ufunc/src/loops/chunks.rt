@@ -5,7 +5,7 @@ ghost use Rattle.nd_model.specs.Arrays.Element.{size_of};
 ghost use Rattle.nd_model.specs.Making.Elementwise.{little};
 ghost use Rattle.nd_types.specs.Kinds.{kind_of};
 ghost use Rattle.nd_ufunc.specs.Loops.Feeds.{numbers_left};
-ghost use Rattle.nd_ufunc.specs.Loops.Results.{result_bytes, result_of};
+ghost use Rattle.nd_ufunc.specs.Loops.Results.{result_bytes};
 
 use crate::loops::appending::append_sides;
 use crate::loops::feed::Feed;
@@ -17,8 +17,6 @@ use nd_types::Kind;
 pub const CHUNK: usize = 8192;
 
 /// Returns how many numbers make a chunk, given the itemsizes of the result and both operands.
-///
-/// `chunk_of(1, 8, 4)` is 1024.
 pub fn chunk_of(size: usize, left: usize, right: usize) -> usize
     requires size { (0 < size) × (size ≤ 8) }
     requires left { (0 < left) × (left ≤ 8) }
@@ -33,8 +31,6 @@ pub fn chunk_of(size: usize, left: usize, right: usize) -> usize
 
 /// Appends the results for the next `count` pairs of numbers, and returns the filling block. `kind`
 /// is that of the operands, `to` that of the results.
-///
-/// `fill::<Add>` of the numbers 1, 2, 3 and the scalar 10 appends the bytes of 11, 12, 13.
 pub fn fill<O: Operation>(
     filling: Filling,
     to: Kind,
@@ -48,7 +44,7 @@ pub fn fill<O: Operation>(
     requires room { count * size_of (kind_of to) ≡ filling.1 }
     ensures left { result.1 ≡ 0 }
     ensures written { result.0 ≡ filling.0 ++ result_bytes (little (kind_of to))
-        (result_of O.UFUNC (kind_of to)) (numbers_left left.old) (numbers_left right.old) }
+        (O.gives (kind_of to)) (numbers_left left.old) (numbers_left right.old) }
 {
     let chunk = chunk_of(1, left.size(), right.size());
     let mut left_buffer = [0; CHUNK];

@@ -5,11 +5,10 @@ ghost use Rattle.nd_model.specs.Arrays.Content.{number_at};
 ghost use Rattle.nd_model.specs.Arrays.Element.{Int32, Int64, bytes_at, number_in, size_of, width_of};
 ghost use Rattle.nd_model.specs.Making.Elementwise.{little};
 ghost use Rattle.nd_types.specs.Kinds.{kind_of};
-ghost use Rattle.nd_ufunc.specs.Loops.Results.{result_bytes, result_of};
+ghost use Rattle.nd_ufunc.specs.Loops.Results.{result_bytes};
 ghost use Rattle.nd_ufunc.specs.Loops.Sides.{HasNumbers, number_on, numbers_on};
 
-use crate::loops::operation::{Operation, apply};
-use crate::scalar::reciprocal_of;
+use crate::loops::operation::Operation;
 use nd_block::{Filling, store_at, value_at};
 use nd_types::{Elem, Kind};
 
@@ -70,7 +69,7 @@ fn number_of<O: Operation>(side: Side<'_>, index: usize) -> i128
             // proof: the number of bytes is bounded, by the clause of len().
             let _len = bytes.len();
             let place = index * kind.size() as usize;
-            if O::UFUNC.is_comparison() {
+            if O::IS_COMPARISON {
                 value_at(bytes, place, Elem::little(kind))
             } else {
                 number_in_place(bytes, place, kind)
@@ -79,13 +78,12 @@ fn number_of<O: Operation>(side: Side<'_>, index: usize) -> i128
     }
 }
 
-// What is worked out once for a right operand that is a scalar: the reciprocal of a divisor. No
-// result depends on it.
+// What is worked out once for a right operand that is a scalar.
 #[inline(always)]
 fn hint_of<O: Operation>(right: Side<'_>) -> u64 {
     match right {
-        Side::Same(number) if O::UFUNC.is_division() => reciprocal_of(number),
-        _ => 0,
+        Side::Same(number) => O::hint(number),
+        Side::Each(_, _) => 0,
     }
 }
 
@@ -100,11 +98,11 @@ fn result_at<O: Operation>(
 ) -> i128
     requires left { HasNumbers left (index + 1) }
     requires right { HasNumbers right (index + 1) }
-    ensures { result ≡ result_of O.UFUNC (kind_of to) (number_on left.entry index)
+    ensures { result ≡ O.gives (kind_of to) (number_on left.entry index)
         (number_on right.entry index) }
 {
     let (x, y) = (number_of::<O>(left, index), number_of::<O>(right, index));
-    apply::<O>(to, x, y, hint)
+    O::apply(to, x, y, hint)
 }
 
 /// Writes the results for the first `count` pairs, one after another.
@@ -119,7 +117,7 @@ pub(crate) fn apply_each<O: Operation>(
     requires out { length out.old ≡ count * size_of (kind_of to) }
     requires left { HasNumbers left count }
     requires right { HasNumbers right count }
-    ensures { out.new ≡ result_bytes (little (kind_of to)) (result_of O.UFUNC (kind_of to))
+    ensures { out.new ≡ result_bytes (little (kind_of to)) (O.gives (kind_of to))
         (numbers_on left.entry count) (numbers_on right.entry count) }
 {
     let size = to.size() as usize;
@@ -142,7 +140,7 @@ pub(crate) fn apply_any<O: Operation>(
     requires out { length out.old ≡ count * size_of (kind_of to) }
     requires left { HasNumbers left count }
     requires right { HasNumbers right count }
-    ensures { out.new ≡ result_bytes (little (kind_of to)) (result_of O.UFUNC (kind_of to))
+    ensures { out.new ≡ result_bytes (little (kind_of to)) (O.gives (kind_of to))
         (numbers_on left.entry count) (numbers_on right.entry count) }
 {
     apply_each::<O>(out, to, left, right, count);
@@ -161,7 +159,7 @@ pub(crate) fn append_each<O: Operation>(
     requires left { HasNumbers left count }
     requires right { HasNumbers right count }
     ensures written { result.0 ≡ filling.0 ++ result_bytes (little (kind_of to))
-        (result_of O.UFUNC (kind_of to)) (numbers_on left.entry count) (numbers_on right.entry count) }
+        (O.gives (kind_of to)) (numbers_on left.entry count) (numbers_on right.entry count) }
     ensures room { result.1 + count * size_of (kind_of to) ≡ filling.1 }
 {
     let mut out = filling;
@@ -186,7 +184,7 @@ pub(crate) fn append_any<O: Operation>(
     requires left { HasNumbers left count }
     requires right { HasNumbers right count }
     ensures written { result.0 ≡ filling.0 ++ result_bytes (little (kind_of to))
-        (result_of O.UFUNC (kind_of to)) (numbers_on left.entry count) (numbers_on right.entry count) }
+        (O.gives (kind_of to)) (numbers_on left.entry count) (numbers_on right.entry count) }
     ensures room { result.1 + count * size_of (kind_of to) ≡ filling.1 }
 {
     append_each::<O>(filling, to, left, right, count)

@@ -1,244 +1,412 @@
 //! `Operation`: NumPy's universal functions as types, so that each inner loop is compiled for one
 //! of them.
-ghost use Rattle.std.specs.Prelude.{◌≡◌};
+ghost use Rattle.std.specs.Prelude.{◌≡◌, ℤ};
+ghost use Rattle.nd_model.specs.Arrays.Element as element;
+ghost use Rattle.nd_model.specs.Making.Elementwise.{single_number};
+ghost use Rattle.nd_model.specs.Making.Operators as operators;
+ghost use Rattle.nd_model.specs.Grammar.Syntax as syntax;
 ghost use Rattle.nd_types.specs.Kinds.{kind_of};
-ghost use Rattle.nd_syntax.specs.declared.trees.tree.BinaryOp.TheVariants as op;
-ghost use Rattle.nd_syntax.specs.declared.trees.tree.UnaryOp.TheVariants as unary;
-ghost use Rattle.nd_ufunc.specs.Loops.Results.{result_of};
-ghost use Rattle.nd_ufunc.specs.declared.scalar.ufunc.AnyUfunc.{AnyUfunc};
-ghost use Rattle.nd_ufunc.specs.declared.scalar.ufunc.AnyUfunc.TheVariants.{Binary, Unary};
-ghost use Rattle.nd_ufunc.specs.declared.scalar.ufunc.BinaryUfunc.TheVariants as binary;
-ghost use Rattle.nd_ufunc.specs.declared.scalar.ufunc.Single.TheVariants as single;
+ghost use Rattle.nd_ufunc.specs.Loops.Results.{binary_result};
 
-use crate::scalar::{AnyUfunc, BinaryUfunc, Single, apply_binary, apply_unary};
-use nd_syntax::trees::{BinaryOp, UnaryOp};
-use nd_types::Kind;
+use crate::scalar::{
+    Single, apply_single, difference, floor_quotient_by, floor_remainder_by, is_zero, left_shift,
+    power, product, reciprocal_of, right_shift, sum,
+};
+use nd_syntax::trees::UnaryOp;
+use nd_types::{Kind, wrap};
 
-/// A universal function that is known at compile time.
+/// A function of two numbers. One of a single number ignores the right one.
 pub trait Operation {
-    /// The function, in clauses.
-    ghost UFUNC: { AnyUfunc };
+    /// The result, for a result of the kind.
+    ghost gives: { element.Kind → ℤ → ℤ → ℤ };
 
-    /// The function, at run time.
-    const UFUNC: AnyUfunc;
-}
+    /// Whether the result is a Boolean for operands of each kind. The choice of the loop depends on
+    /// it, no result does.
+    const IS_COMPARISON: bool;
 
-/// Returns the result, for a result of the kind. A function of one number ignores the right one.
-/// Any `hint` will do, that of the right number is faster.
-#[inline(always)]
-pub(crate) fn apply<O: Operation>(kind: Kind, left: i128, right: i128, hint: u64) -> i128
-    ensures { result ≡ result_of O.UFUNC (kind_of kind) left right }
-{
-    match O::UFUNC {
-        AnyUfunc::Binary(ufunc) => apply_binary(kind, ufunc, left, right, hint),
-        AnyUfunc::Unary(ufunc) => apply_unary(kind, ufunc, left),
+    /// Whether a scalar operand is laid out over a chunk: the loop of two arrays is vectorised, and
+    /// that of an array and a scalar is not. No result depends on it.
+    const LAYS_OUT: bool;
+
+    /// Returns what is worked out once for a right operand that meets many left ones, as the
+    /// reciprocal of a divisor. No result depends on it.
+    #[inline(always)]
+    fn hint(_right: i128) -> u64 {
+        0
     }
-}
 
-/// Returns whether a scalar operand is laid out over a chunk: the loop of two arrays is vectorised,
-/// and that of an array and a scalar is not. No result depends on it.
-#[inline(always)]
-pub(crate) fn lays_out<O: Operation>() -> bool {
-    match O::UFUNC {
-        AnyUfunc::Binary(BinaryUfunc::Minimum | BinaryUfunc::Maximum) => true,
-        ufunc => ufunc.is_comparison(),
-    }
+    /// Returns the result. Any `hint` will do, that of the right operand is faster.
+    fn apply(kind: Kind, left: i128, right: i128, hint: u64) -> i128
+        ensures { result ≡ gives (kind_of kind) left right };
 }
 
 /// `np.add`: the sum, a disjunction of Booleans.
 pub struct Add;
 
 impl Operation for Add {
-    ghost UFUNC = { Binary (binary.Operator op.Add) };
+    ghost gives = { binary_result (operators.Operator syntax.Add) };
 
-    const UFUNC: AnyUfunc = AnyUfunc::Binary(BinaryUfunc::Operator(BinaryOp::Add));
+    const IS_COMPARISON: bool = false;
+
+    const LAYS_OUT: bool = false;
+
+    #[inline(always)]
+    fn apply(kind: Kind, left: i128, right: i128, _hint: u64) -> i128 {
+        sum(kind, left, right)
+    }
 }
 
 /// `np.subtract`: the difference.
 pub struct Subtract;
 
 impl Operation for Subtract {
-    ghost UFUNC = { Binary (binary.Operator op.Subtract) };
+    ghost gives = { binary_result (operators.Operator syntax.Subtract) };
 
-    const UFUNC: AnyUfunc = AnyUfunc::Binary(BinaryUfunc::Operator(BinaryOp::Subtract));
+    const IS_COMPARISON: bool = false;
+
+    const LAYS_OUT: bool = false;
+
+    #[inline(always)]
+    fn apply(kind: Kind, left: i128, right: i128, _hint: u64) -> i128 {
+        difference(kind, left, right)
+    }
 }
 
 /// `np.multiply`: the product, a conjunction of Booleans.
 pub struct Multiply;
 
 impl Operation for Multiply {
-    ghost UFUNC = { Binary (binary.Operator op.Multiply) };
+    ghost gives = { binary_result (operators.Operator syntax.Multiply) };
 
-    const UFUNC: AnyUfunc = AnyUfunc::Binary(BinaryUfunc::Operator(BinaryOp::Multiply));
+    const IS_COMPARISON: bool = false;
+
+    const LAYS_OUT: bool = false;
+
+    #[inline(always)]
+    fn apply(kind: Kind, left: i128, right: i128, _hint: u64) -> i128 {
+        product(kind, left, right)
+    }
 }
 
 /// `np.floor_divide`: the quotient rounded down; 0 for the divisor 0.
 pub struct FloorDivide;
 
 impl Operation for FloorDivide {
-    ghost UFUNC = { Binary (binary.Operator op.FloorDivide) };
+    ghost gives = { binary_result (operators.Operator syntax.FloorDivide) };
 
-    const UFUNC: AnyUfunc = AnyUfunc::Binary(BinaryUfunc::Operator(BinaryOp::FloorDivide));
+    const IS_COMPARISON: bool = false;
+
+    const LAYS_OUT: bool = false;
+
+    #[inline(always)]
+    fn hint(right: i128) -> u64 {
+        reciprocal_of(right)
+    }
+
+    #[inline(always)]
+    fn apply(kind: Kind, left: i128, right: i128, hint: u64) -> i128 {
+        if is_zero(right) {
+            return wrap(kind, 0);
+        }
+        floor_quotient_by(kind, left, right, hint)
+    }
 }
 
 /// `np.remainder`: what the quotient rounded down leaves; 0 for the divisor 0.
 pub struct Remainder;
 
 impl Operation for Remainder {
-    ghost UFUNC = { Binary (binary.Operator op.Remainder) };
+    ghost gives = { binary_result (operators.Operator syntax.Remainder) };
 
-    const UFUNC: AnyUfunc = AnyUfunc::Binary(BinaryUfunc::Operator(BinaryOp::Remainder));
+    const IS_COMPARISON: bool = false;
+
+    const LAYS_OUT: bool = false;
+
+    #[inline(always)]
+    fn hint(right: i128) -> u64 {
+        reciprocal_of(right)
+    }
+
+    #[inline(always)]
+    fn apply(kind: Kind, left: i128, right: i128, hint: u64) -> i128 {
+        if is_zero(right) {
+            return wrap(kind, 0);
+        }
+        floor_remainder_by(kind, left, right, hint)
+    }
 }
 
 /// `np.power`: the left number raised to the right one.
 pub struct Power;
 
 impl Operation for Power {
-    ghost UFUNC = { Binary (binary.Operator op.Power) };
+    ghost gives = { binary_result (operators.Operator syntax.Power) };
 
-    const UFUNC: AnyUfunc = AnyUfunc::Binary(BinaryUfunc::Operator(BinaryOp::Power));
+    const IS_COMPARISON: bool = false;
+
+    const LAYS_OUT: bool = false;
+
+    #[inline(always)]
+    fn apply(kind: Kind, left: i128, right: i128, _hint: u64) -> i128 {
+        power(kind, left, right)
+    }
 }
 
 /// `np.left_shift`: the left number, shifted up by the right one.
 pub struct LeftShift;
 
 impl Operation for LeftShift {
-    ghost UFUNC = { Binary (binary.Operator op.LeftShift) };
+    ghost gives = { binary_result (operators.Operator syntax.LeftShift) };
 
-    const UFUNC: AnyUfunc = AnyUfunc::Binary(BinaryUfunc::Operator(BinaryOp::LeftShift));
+    const IS_COMPARISON: bool = false;
+
+    const LAYS_OUT: bool = false;
+
+    #[inline(always)]
+    fn apply(kind: Kind, left: i128, right: i128, _hint: u64) -> i128 {
+        left_shift(kind, left, right)
+    }
 }
 
 /// `np.right_shift`: the left number, shifted down by the right one.
 pub struct RightShift;
 
 impl Operation for RightShift {
-    ghost UFUNC = { Binary (binary.Operator op.RightShift) };
+    ghost gives = { binary_result (operators.Operator syntax.RightShift) };
 
-    const UFUNC: AnyUfunc = AnyUfunc::Binary(BinaryUfunc::Operator(BinaryOp::RightShift));
+    const IS_COMPARISON: bool = false;
+
+    const LAYS_OUT: bool = false;
+
+    #[inline(always)]
+    fn apply(kind: Kind, left: i128, right: i128, _hint: u64) -> i128 {
+        right_shift(kind, left, right)
+    }
 }
 
 /// `np.bitwise_and`: the bits that both have.
 pub struct BitwiseAnd;
 
 impl Operation for BitwiseAnd {
-    ghost UFUNC = { Binary (binary.Operator op.BitAnd) };
+    ghost gives = { binary_result (operators.Operator syntax.BitAnd) };
 
-    const UFUNC: AnyUfunc = AnyUfunc::Binary(BinaryUfunc::Operator(BinaryOp::BitAnd));
+    const IS_COMPARISON: bool = false;
+
+    const LAYS_OUT: bool = false;
+
+    #[inline(always)]
+    fn apply(kind: Kind, left: i128, right: i128, _hint: u64) -> i128 {
+        wrap(kind, left & right)
+    }
 }
 
 /// `np.bitwise_xor`: the bits that exactly one has.
 pub struct BitwiseXor;
 
 impl Operation for BitwiseXor {
-    ghost UFUNC = { Binary (binary.Operator op.BitXor) };
+    ghost gives = { binary_result (operators.Operator syntax.BitXor) };
 
-    const UFUNC: AnyUfunc = AnyUfunc::Binary(BinaryUfunc::Operator(BinaryOp::BitXor));
+    const IS_COMPARISON: bool = false;
+
+    const LAYS_OUT: bool = false;
+
+    #[inline(always)]
+    fn apply(kind: Kind, left: i128, right: i128, _hint: u64) -> i128 {
+        wrap(kind, left ^ right)
+    }
 }
 
 /// `np.bitwise_or`: the bits that any has.
 pub struct BitwiseOr;
 
 impl Operation for BitwiseOr {
-    ghost UFUNC = { Binary (binary.Operator op.BitOr) };
+    ghost gives = { binary_result (operators.Operator syntax.BitOr) };
 
-    const UFUNC: AnyUfunc = AnyUfunc::Binary(BinaryUfunc::Operator(BinaryOp::BitOr));
+    const IS_COMPARISON: bool = false;
+
+    const LAYS_OUT: bool = false;
+
+    #[inline(always)]
+    fn apply(kind: Kind, left: i128, right: i128, _hint: u64) -> i128 {
+        wrap(kind, left | right)
+    }
 }
 
 /// `np.less`: whether the left one is less.
 pub struct Less;
 
 impl Operation for Less {
-    ghost UFUNC = { Binary (binary.Operator op.Less) };
+    ghost gives = { binary_result (operators.Operator syntax.Less) };
 
-    const UFUNC: AnyUfunc = AnyUfunc::Binary(BinaryUfunc::Operator(BinaryOp::Less));
+    const IS_COMPARISON: bool = true;
+
+    const LAYS_OUT: bool = true;
+
+    #[inline(always)]
+    fn apply(kind: Kind, left: i128, right: i128, _hint: u64) -> i128 {
+        wrap(kind, i128::from(left < right))
+    }
 }
 
 /// `np.less_equal`: whether the left one is not greater.
 pub struct LessEqual;
 
 impl Operation for LessEqual {
-    ghost UFUNC = { Binary (binary.Operator op.LessEqual) };
+    ghost gives = { binary_result (operators.Operator syntax.LessEqual) };
 
-    const UFUNC: AnyUfunc = AnyUfunc::Binary(BinaryUfunc::Operator(BinaryOp::LessEqual));
+    const IS_COMPARISON: bool = true;
+
+    const LAYS_OUT: bool = true;
+
+    #[inline(always)]
+    fn apply(kind: Kind, left: i128, right: i128, _hint: u64) -> i128 {
+        wrap(kind, i128::from(left <= right))
+    }
 }
 
 /// `np.greater`: whether the left one is greater.
 pub struct Greater;
 
 impl Operation for Greater {
-    ghost UFUNC = { Binary (binary.Operator op.Greater) };
+    ghost gives = { binary_result (operators.Operator syntax.Greater) };
 
-    const UFUNC: AnyUfunc = AnyUfunc::Binary(BinaryUfunc::Operator(BinaryOp::Greater));
+    const IS_COMPARISON: bool = true;
+
+    const LAYS_OUT: bool = true;
+
+    #[inline(always)]
+    fn apply(kind: Kind, left: i128, right: i128, _hint: u64) -> i128 {
+        wrap(kind, i128::from(left > right))
+    }
 }
 
 /// `np.greater_equal`: whether the left one is not less.
 pub struct GreaterEqual;
 
 impl Operation for GreaterEqual {
-    ghost UFUNC = { Binary (binary.Operator op.GreaterEqual) };
+    ghost gives = { binary_result (operators.Operator syntax.GreaterEqual) };
 
-    const UFUNC: AnyUfunc = AnyUfunc::Binary(BinaryUfunc::Operator(BinaryOp::GreaterEqual));
+    const IS_COMPARISON: bool = true;
+
+    const LAYS_OUT: bool = true;
+
+    #[inline(always)]
+    fn apply(kind: Kind, left: i128, right: i128, _hint: u64) -> i128 {
+        wrap(kind, i128::from(left >= right))
+    }
 }
 
 /// `np.equal`: whether both are equal.
 pub struct Equal;
 
 impl Operation for Equal {
-    ghost UFUNC = { Binary (binary.Operator op.Equal) };
+    ghost gives = { binary_result (operators.Operator syntax.Equal) };
 
-    const UFUNC: AnyUfunc = AnyUfunc::Binary(BinaryUfunc::Operator(BinaryOp::Equal));
+    const IS_COMPARISON: bool = true;
+
+    const LAYS_OUT: bool = true;
+
+    #[inline(always)]
+    fn apply(kind: Kind, left: i128, right: i128, _hint: u64) -> i128 {
+        wrap(kind, i128::from(left == right))
+    }
 }
 
 /// `np.not_equal`: whether they differ.
 pub struct NotEqual;
 
 impl Operation for NotEqual {
-    ghost UFUNC = { Binary (binary.Operator op.NotEqual) };
+    ghost gives = { binary_result (operators.Operator syntax.NotEqual) };
 
-    const UFUNC: AnyUfunc = AnyUfunc::Binary(BinaryUfunc::Operator(BinaryOp::NotEqual));
+    const IS_COMPARISON: bool = true;
+
+    const LAYS_OUT: bool = true;
+
+    #[inline(always)]
+    fn apply(kind: Kind, left: i128, right: i128, _hint: u64) -> i128 {
+        wrap(kind, i128::from(left != right))
+    }
 }
 
 /// `np.minimum`: the lesser of both.
 pub struct Minimum;
 
 impl Operation for Minimum {
-    ghost UFUNC = { Binary binary.Minimum };
+    ghost gives = { binary_result operators.Minimum };
 
-    const UFUNC: AnyUfunc = AnyUfunc::Binary(BinaryUfunc::Minimum);
+    const IS_COMPARISON: bool = false;
+
+    const LAYS_OUT: bool = true;
+
+    #[inline(always)]
+    fn apply(kind: Kind, left: i128, right: i128, _hint: u64) -> i128 {
+        wrap(kind, if left <= right { left } else { right })
+    }
 }
 
 /// `np.maximum`: the greater of both.
 pub struct Maximum;
 
 impl Operation for Maximum {
-    ghost UFUNC = { Binary binary.Maximum };
+    ghost gives = { binary_result operators.Maximum };
 
-    const UFUNC: AnyUfunc = AnyUfunc::Binary(BinaryUfunc::Maximum);
+    const IS_COMPARISON: bool = false;
+
+    const LAYS_OUT: bool = true;
+
+    #[inline(always)]
+    fn apply(kind: Kind, left: i128, right: i128, _hint: u64) -> i128 {
+        wrap(kind, if left <= right { right } else { left })
+    }
 }
 
 /// `np.negative`: the number with the other sign.
 pub struct Negative;
 
 impl Operation for Negative {
-    ghost UFUNC = { Unary (single.Of unary.Negative) };
+    ghost gives = { λ k x y. single_number (operators.Of syntax.Negative) k x };
 
-    const UFUNC: AnyUfunc = AnyUfunc::Unary(Single::Of(UnaryOp::Negative));
+    const IS_COMPARISON: bool = false;
+
+    const LAYS_OUT: bool = false;
+
+    #[inline(always)]
+    fn apply(kind: Kind, left: i128, _right: i128, _hint: u64) -> i128 {
+        apply_single(kind, Single::Of(UnaryOp::Negative), left)
+    }
 }
 
 /// `np.invert`: the number with its bits inverted; the negation of a Boolean.
 pub struct Invert;
 
 impl Operation for Invert {
-    ghost UFUNC = { Unary (single.Of unary.Invert) };
+    ghost gives = { λ k x y. single_number (operators.Of syntax.Invert) k x };
 
-    const UFUNC: AnyUfunc = AnyUfunc::Unary(Single::Of(UnaryOp::Invert));
+    const IS_COMPARISON: bool = false;
+
+    const LAYS_OUT: bool = false;
+
+    #[inline(always)]
+    fn apply(kind: Kind, left: i128, _right: i128, _hint: u64) -> i128 {
+        match kind {
+            Kind::Bool => i128::from(is_zero(left)),
+            _ => apply_single(kind, Single::Of(UnaryOp::Invert), left),
+        }
+    }
 }
 
 /// `np.absolute`: the absolute value.
 pub struct Absolute;
 
 impl Operation for Absolute {
-    ghost UFUNC = { Unary single.Absolute };
+    ghost gives = { λ k x y. single_number operators.Absolute k x };
 
-    const UFUNC: AnyUfunc = AnyUfunc::Unary(Single::Absolute);
+    const IS_COMPARISON: bool = false;
+
+    const LAYS_OUT: bool = false;
+
+    #[inline(always)]
+    fn apply(kind: Kind, left: i128, _right: i128, _hint: u64) -> i128 {
+        apply_single(kind, Single::Absolute, left)
+    }
 }

@@ -4,7 +4,7 @@ ghost use Rattle.std.specs.Prelude.{◌≡◌, ◌*◌, length, IsTrue};
 ghost use Rattle.nd_model.specs.Arrays.Element.{IsValue, size_of};
 ghost use Rattle.nd_model.specs.Making.Elementwise.{little};
 ghost use Rattle.nd_types.specs.Kinds.{kind_of};
-ghost use Rattle.nd_ufunc.specs.Loops.Results.{result_bytes, result_of};
+ghost use Rattle.nd_ufunc.specs.Loops.Results.{result_bytes};
 ghost use Rattle.nd_ufunc.specs.Loops.Sides.{HasNumbers, IsOf, numbers_on};
 
 use crate::loops::kernel::{Side, apply_any, apply_each};
@@ -53,7 +53,7 @@ fn apply_known<O: Operation, K: KnownKind>(
     requires out { length out.old ≡ count * size_of (kind_of K.KIND) }
     requires left { HasNumbers left count }
     requires right { HasNumbers right count }
-    ensures { out.new ≡ result_bytes (little (kind_of K.KIND)) (result_of O.UFUNC (kind_of K.KIND))
+    ensures { out.new ≡ result_bytes (little (kind_of K.KIND)) (O.gives (kind_of K.KIND))
         (numbers_on left.entry count) (numbers_on right.entry count) }
 {
     match (left, right) {
@@ -85,7 +85,7 @@ fn apply_kind<O: Operation, K: KnownKind>(
     requires out { length out.old ≡ count * size_of (kind_of to) }
     requires left { HasNumbers left count }
     requires right { HasNumbers right count }
-    ensures { out.new ≡ result_bytes (little (kind_of to)) (result_of O.UFUNC (kind_of to))
+    ensures { out.new ≡ result_bytes (little (kind_of to)) (O.gives (kind_of to))
         (numbers_on left.entry count) (numbers_on right.entry count) }
 {
     if is_kind(to, K::KIND) && is_of(left, K::KIND) && is_of(right, K::KIND) {
@@ -97,8 +97,6 @@ fn apply_kind<O: Operation, K: KnownKind>(
 
 /// Writes the results for the first `count` pairs, one after another, by a loop specialised for
 /// `kind` where both operands have it.
-///
-/// `apply_sides::<Less>` of the numbers 1, 5 and the scalar 3 writes the bytes 1, 0.
 pub fn apply_sides<O: Operation>(
     kind: Kind,
     out: &mut [u8],
@@ -110,7 +108,7 @@ pub fn apply_sides<O: Operation>(
     requires out { length out.old ≡ count * size_of (kind_of to) }
     requires left { HasNumbers left count }
     requires right { HasNumbers right count }
-    ensures { out.new ≡ result_bytes (little (kind_of to)) (result_of O.UFUNC (kind_of to))
+    ensures { out.new ≡ result_bytes (little (kind_of to)) (O.gives (kind_of to))
         (numbers_on left.entry count) (numbers_on right.entry count) }
 {
     match kind {

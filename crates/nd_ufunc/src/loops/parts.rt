@@ -4,7 +4,7 @@ ghost use Rattle.std.specs.Prelude.{◌≡◌, ℕ, ◌+◌, ◌*◌, ◌≤◌,
 ghost use Rattle.nd_model.specs.Arrays.Element.{size_of};
 ghost use Rattle.nd_model.specs.Making.Elementwise.{little};
 ghost use Rattle.nd_types.specs.Kinds.{kind_of};
-ghost use Rattle.nd_ufunc.specs.Loops.Results.{result_bytes, result_of};
+ghost use Rattle.nd_ufunc.specs.Loops.Results.{result_bytes};
 ghost use Rattle.nd_ufunc.specs.Loops.Sides.{HasNumbers, number_on, numbers_on};
 
 use crate::loops::kernel::{Side, append_any, apply_each};
@@ -54,7 +54,7 @@ fn append_part<O: Operation>(
     requires left { HasNumbers left count }
     requires right { HasNumbers right count }
     ensures written { result.0 ≡ filling.0 ++ result_bytes (little (kind_of to))
-        (result_of O.UFUNC (kind_of to)) (numbers_on left.entry count) (numbers_on right.entry count) }
+        (O.gives (kind_of to)) (numbers_on left.entry count) (numbers_on right.entry count) }
     ensures room { result.1 + count * size_of (kind_of to) ≡ filling.1 }
 {
     let end = count * to.size() as usize;
@@ -78,7 +78,7 @@ pub(crate) fn append_parts<O: Operation>(
     requires left { HasNumbers left count }
     requires right { HasNumbers right count }
     ensures written { result.0 ≡ filling.0 ++ result_bytes (little (kind_of to))
-        (result_of O.UFUNC (kind_of to)) (numbers_on left.entry count) (numbers_on right.entry count) }
+        (O.gives (kind_of to)) (numbers_on left.entry count) (numbers_on right.entry count) }
     ensures room { result.1 + count * size_of (kind_of to) ≡ filling.1 }
 {
     let some = PART / to.size() as usize;

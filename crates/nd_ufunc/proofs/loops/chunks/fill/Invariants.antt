@@ -3,7 +3,7 @@ use Rattle.nd_model.specs.Arrays.Element.{size_of}
 use Rattle.nd_model.specs.Making.Elementwise.{little}
 use Rattle.nd_types.specs.Kinds.{kind_of}
 use Rattle.nd_ufunc.specs.Loops.Feeds.{numbers_left, size_left}
-use Rattle.nd_ufunc.specs.Loops.Results.{result_bytes, result_of}
+use Rattle.nd_ufunc.specs.Loops.Results.{result_bytes}
 use Rattle.nd_ufunc.proofs.loops.chunks.fill.Given as goal
 
 abbrev pub invariant-loop-rest : goal.invariant-loop-rest
@@ -13,8 +13,8 @@ invariant-loop-rest g l = record {
   left_size : size_left l.left ≡ size_left l.fn.left;
   right_size : size_left l.right ≡ size_left l.fn.right;
   room : l.rest * size_of (kind_of l.to) ≡ l.out.1;
-  written : l.out.0 ++ result_bytes (little (kind_of l.to)) (result_of g.O.Operation.UFUNC (kind_of l.to)) (numbers_left l.left) (numbers_left l.right)
-      ≡ l.fn.filling.0 ++ result_bytes (little (kind_of l.to)) (result_of g.O.Operation.UFUNC (kind_of l.to)) (numbers_left l.fn.left) (numbers_left l.fn.right);
+  written : l.out.0 ++ result_bytes (little (kind_of l.to)) (g.O.Operation.gives (kind_of l.to)) (numbers_left l.left) (numbers_left l.right)
+      ≡ l.fn.filling.0 ++ result_bytes (little (kind_of l.to)) (g.O.Operation.gives (kind_of l.to)) (numbers_left l.fn.left) (numbers_left l.fn.right);
 }
 
 abbrev pub decreases-loop-rest : goal.decreases-loop-rest

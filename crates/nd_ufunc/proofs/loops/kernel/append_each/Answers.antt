@@ -9,7 +9,6 @@ use Rattle.nd_model.specs.Making.Elementwise.{little}
 use Rattle.nd_model.specs.Arrays.Tuple.{count_up}
 use Rattle.nd_view.proofs.Tuples.{count_up_more}
 use Rattle.nd_types.specs.Kinds.{kind_of}
-use Rattle.nd_ufunc.specs.Loops.Results.{result_of}
 use Rattle.nd_ufunc.specs.Loops.Sides.{number_on}
 use Rattle.nd_ufunc.proofs.loops.Zipped.{by_items}
 use Rattle.nd_ufunc.proofs.loops.kernel.append_each.Goals as goal
@@ -26,9 +25,9 @@ push_number-requires g c =
 pub loop-index-preserved : goal.loop-index-preserved
 loop-index-preserved g c =
     let a = c.args in let k = c.loop-index.index in let to : Kind = kind_of a.to in let s : ℕ = size_of to in
-    let f : ℕ → List ℕ = λ j. bytes_of (little to) (result_of g.O.Operation.UFUNC to (number_on a.left j) (number_on a.right j)) in
+    let f : ℕ → List ℕ = λ j. bytes_of (little to) (g.O.Operation.gives to (number_on a.left j) (number_on a.right j)) in
     let fits : FitsSigned w128 c.result_at-number.result = search rules in
-    let z : cast_signed w128 (cast_unsigned w128 c.result_at-number.result) ≡ result_of g.O.Operation.UFUNC to (number_on a.left k) (number_on a.right k)
+    let z : cast_signed w128 (cast_unsigned w128 c.result_at-number.result) ≡ g.O.Operation.gives to (number_on a.left k) (number_on a.right k)
     = to_z-of_z fits ∙ c.result_at-number.ensures in
     let ys : List ℕ = bytes_of c.little.result (cast_signed w128 (cast_unsigned w128 c.result_at-number.result)) in
     let is : ys ≡ f k = λ i. bytes_of (c.little.ensures i) (z i) in
@@ -46,8 +45,8 @@ returns-clause-written g c =
     let a = c.args in let to : Kind = kind_of a.to in
     let all : c.loop-index.index ≡ a.count = omega (arith, c.loop-index-test.false) in
     c.loop-index.invariant.written
-    ∙ ap (λ n. a.filling.0 ++ flat_map (λ j. bytes_of (little to) (result_of g.O.Operation.UFUNC to (number_on a.left j) (number_on a.right j))) (count_up 0 n)) all
-    ∙ ap (λ l. a.filling.0 ++ l) (by_items (little to) (result_of g.O.Operation.UFUNC to) (number_on a.left) (number_on a.right) (count_up 0 a.count))
+    ∙ ap (λ n. a.filling.0 ++ flat_map (λ j. bytes_of (little to) (g.O.Operation.gives to (number_on a.left j) (number_on a.right j))) (count_up 0 n)) all
+    ∙ ap (λ l. a.filling.0 ++ l) (by_items (little to) (g.O.Operation.gives to) (number_on a.left) (number_on a.right) (count_up 0 a.count))
 
 pub returns-clause-room : goal.returns-clause-room
 returns-clause-room g c =

@@ -4,13 +4,12 @@ use Rattle.nd_model.specs.Arrays.Element.{size_of, bytes_of}
 use Rattle.nd_model.specs.Making.Elementwise.{little}
 use Rattle.nd_model.specs.Arrays.Tuple.{count_up}
 use Rattle.nd_types.specs.Kinds.{kind_of}
-use Rattle.nd_ufunc.specs.Loops.Results.{result_of}
 use Rattle.nd_ufunc.specs.Loops.Sides.{number_on}
 use Rattle.nd_ufunc.proofs.loops.kernel.append_each.Given as goal
 
 abbrev pub invariant-loop-index : goal.invariant-loop-index
 invariant-loop-index g l = record {
   written : l.out.0
-      ≡ l.fn.filling.0 ++ flat_map (λ j. bytes_of (little (kind_of l.to)) (result_of g.O.Operation.UFUNC (kind_of l.to) (number_on l.left j) (number_on l.right j))) (count_up 0 l.index);
+      ≡ l.fn.filling.0 ++ flat_map (λ j. bytes_of (little (kind_of l.to)) (g.O.Operation.gives (kind_of l.to) (number_on l.left j) (number_on l.right j))) (count_up 0 l.index);
   room : l.out.1 + l.index * size_of (kind_of l.to) ≡ l.fn.filling.1;
 }

@@ -2,7 +2,7 @@ use Rattle.std.proofs.Common.{◌≡◌, ℕ, ℤ, ◌+◌, ◌-◌, ◌*◌, �
 use Rattle.nd_model.specs.Arrays.Element.{Element, size_of}
 use Rattle.nd_model.specs.Making.Elementwise.{little}
 use Rattle.nd_types.specs.Kinds.{kind_of}
-use Rattle.nd_ufunc.specs.Loops.Results.{result_bytes, result_of}
+use Rattle.nd_ufunc.specs.Loops.Results.{result_bytes}
 use Rattle.nd_ufunc.specs.Loops.Sides.{numbers_on}
 use Rattle.nd_ufunc.proofs.loops.Joined.{joined}
 use Rattle.nd_ufunc.proofs.loops.parts.append_parts.Goals as goal
@@ -10,7 +10,7 @@ use Rattle.nd_ufunc.proofs.loops.parts.append_parts.Goals as goal
 pub loop-done-preserved : goal.loop-done-preserved
 loop-done-preserved g c =
     let a = c.args in let is = c.loop-done.invariant in let done = c.loop-done.done in let n : ℕ = 16 / c.size.result in let s : ℕ = size_of (kind_of a.to) in
-    let e : Element = little (kind_of a.to) in let f : ℤ → ℤ → ℤ = result_of g.O.Operation.UFUNC (kind_of a.to) in
+    let e : Element = little (kind_of a.to) in let f : ℤ → ℤ → ℤ = g.O.Operation.gives (kind_of a.to) in
     let xs = c.side_behind-xs.result in let ys = c.side_behind-ys.result in
     let all : (done + n) * s ≡ done * s + n * s = omega arith in
     record {
@@ -24,7 +24,7 @@ loop-done-preserved g c =
 pub returns-clause-written : goal.returns-clause-written
 returns-clause-written g c =
     let a = c.args in let is = c.loop-done.invariant in let done = c.loop-done.done in let n : ℕ = a.count - done in
-    let e : Element = little (kind_of a.to) in let f : ℤ → ℤ → ℤ = result_of g.O.Operation.UFUNC (kind_of a.to) in
+    let e : Element = little (kind_of a.to) in let f : ℤ → ℤ → ℤ = g.O.Operation.gives (kind_of a.to) in
     let xs = c.side_behind-xs-2.result in let ys = c.side_behind-ys-2.result in
     let all : done + n ≡ a.count = omega (arith, is.within) in
     c.append_any.ensures.written ∙ ap (λ l. l ++ result_bytes e f (numbers_on xs n) (numbers_on ys n)) is.written

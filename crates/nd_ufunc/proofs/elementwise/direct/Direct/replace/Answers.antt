@@ -16,7 +16,7 @@ use Rattle.nd_ufunc.specs.Elementwise.Arguments.{numbers_beside}
 use Rattle.nd_ufunc.specs.Elementwise.Beside.{beside_numbers, left_beside}
 use Rattle.nd_ufunc.specs.Elementwise.Prepared.{DirectInPlace, right_operand, with_results}
 use Rattle.nd_ufunc.specs.Elementwise.Replaced.{replaced}
-use Rattle.nd_ufunc.specs.Loops.Results.{binary_result, result_of}
+use Rattle.nd_ufunc.specs.Loops.Results.{binary_result}
 use Rattle.nd_ufunc.proofs.elementwise.Mapped.{length-beside}
 use Rattle.nd_ufunc.proofs.elementwise.Overwritten.{written_over}
 use Rattle.nd_ufunc.proofs.elementwise.direct.Direct.replace.Goals as goal
@@ -32,8 +32,8 @@ replace_numbers-requires-clause-beside g c =
 pub replace_numbers-requires-clause-wraps : goal.replace_numbers-requires-clause-wraps
 replace_numbers-requires-clause-wraps g c = λ x y.
     let d = c.self.inside in let k : Kind = kind_of d.kind in let op : BinaryOp = binary_op d.op in
-    let gives : result_of g.O.Operation.UFUNC k ≡ binary_result (Operator op) k
-    = subst (λ (r : DirectInPlace). result_of g.O.Operation.UFUNC r.kind ≡ binary_result (Operator r.op) r.kind) (sym c.self.view_is) c.requires.gives in
+    let gives : g.O.Operation.gives k ≡ binary_result (Operator op) k
+    = subst (λ (r : DirectInPlace). g.O.Operation.gives r.kind ≡ binary_result (Operator r.op) r.kind) (sym c.self.view_is) c.requires.gives in
     subst (λ (h : ℤ → ℤ → ℤ). IsValue k (h x y)) (sym gives) (wrap_in_range k (exact k (Operator op) x y))
 
 pub returns : goal.returns
@@ -42,8 +42,8 @@ returns g c =
     let bytes : List ℕ = c.args.bytes.now in let target : Geo = d.target.now in let y : Operand = right_operand d.right bytes in
     let run : List ℕ = d.run in let first = get_or run 0 0 in
     let len : length bytes ≡ d.len = c.requires.len ∙ sym (ap (λ (r : DirectInPlace). r.len) c.self.view_is) in
-    let gives : result_of g.O.Operation.UFUNC k ≡ binary_result (Operator op) k
-    = subst (λ (r : DirectInPlace). result_of g.O.Operation.UFUNC r.kind ≡ binary_result (Operator r.op) r.kind) (sym c.self.view_is) c.requires.gives in
+    let gives : g.O.Operation.gives k ≡ binary_result (Operator op) k
+    = subst (λ (r : DirectInPlace). g.O.Operation.gives r.kind ≡ binary_result (Operator r.op) r.kind) (sym c.self.view_is) c.requires.gives in
     let numbers : left_beside c.begin-beside.result bytes ≡ numbers_beside y target.shape
     = c.begin-beside.ensures.numbers bytes ∙ ap (λ n. beside_numbers d.beside n bytes) c.count-count.ensures.value ∙ is.beside bytes len in
     let lies : LiesIn (length bytes) target = subst (λ n. LiesIn n target) (sym len) is.lies in

@@ -1,0 +1,17 @@
+use Rattle.std.proofs.Common.{◌≡◌, ℕ, ◌*◌, List, ◌++◌, length, take, drop, sym, ap, ◌∙◌, arith}
+use Rattle.std.proofs.Math.Seq.{take-append_seam}
+use Rattle.std.proofs.lemmas.List.{length-take-le}
+use Rattle.nd_model.specs.Arrays.Element.{Kind, size_of}
+use Rattle.nd_types.specs.Kinds.{kind_of}
+use Rattle.nd_reduce.proofs.axes.place_tables.place_part.Goals as goal
+
+pub extend_part-requires-clause-to : goal.extend_part-requires-clause-to
+extend_part-requires-clause-to g c = g.met.F.PlaceFold.best_kind (kind_of c.args.kind)
+
+pub returns-clause-places : goal.returns-clause-places
+returns-clause-places g c = λ columns many are bests.
+    let a = c.args in let k : Kind = kind_of a.to in let n = a.count in let end : ℕ = n * c.size.result in let found : List ℕ = c.place_columns.new.out in
+    let every : end ≡ n * size_of k = ap (λ m. n * m) c.size.ensures.value in
+    let full : length found ≡ end = c.place_columns.auto.out ∙ length-take-le end a.found.now (omega (arith, every, c.requires.found)) in
+    let kept : take end (found ++ drop end a.found.now) ≡ found = ap (λ m. take m (found ++ drop end a.found.now)) (sym full) ∙ take-append_seam found (drop end a.found.now) in
+    c.copy_from_slice.ensures.after ∙ kept ∙ c.place_columns.ensures columns many are bests

@@ -1,0 +1,23 @@
+use Rattle.std.proofs.Common.{◌≡◌, ℕ, ℤ, ◌*◌, List, sym, ap, ◌∙◌, subst, arith}
+use Rattle.std.specs.Prelude.{slice_index_or}
+use Rattle.std.specs.List.{All}
+use Rattle.std.proofs.lemmas.List.Elements.{All-map}
+use Rattle.nd_model.specs.Arrays.Content.{number_at}
+use Rattle.nd_model.specs.Arrays.Element.{Kind, IsValue, size_of}
+use Rattle.nd_types.specs.Kinds.{kind_of}
+use Rattle.nd_element.specs.Elements.{numbers_at}
+use Rattle.nd_ufunc.proofs.loops.Ranges.{in_range}
+use Rattle.nd_reduce.proofs.axes.place_tables.table_places.Goals as goal
+
+pub place_tables-requires-clause-values : goal.place_tables-requires-clause-values
+place_tables-requires-clause-values g c =
+    let e = c.args.elem in let bytes = c.args.bytes.now in let places : List ℕ = c.args.view.now.places in
+    let valid : All (λ z. IsValue e.kind z) (numbers_at e bytes places)
+    = All-map (λ z. IsValue e.kind z) (number_at e bytes) places (λ k d lt. in_range e bytes (λ i. omega (arith, c.type_inv.bytes i)) (slice_index_or places k d)) in
+    subst (λ (k : Kind). All (λ z. IsValue k z) c.new-numbers.result.numbers) (sym c.kind-kind.ensures)
+    (subst (λ (l : List ℤ). All (λ z. IsValue e.kind z) l) (sym c.new-numbers.ensures.numbers) valid)
+
+pub place_tables-requires-clause-room : goal.place_tables-requires-clause-room
+place_tables-requires-clause-room g c =
+    let s = size_of (kind_of c.args.to) in let turned : c.args.tables * (c.args.width * s) ≡ c.args.tables * c.args.width * s = omega arith in
+    turned ∙ ap (λ m. m * s) (sym c.requires.count) ∙ ap (λ m. c.args.count * m) (sym c.size-size.ensures.value) ∙ sym c.in_ok-out.ensures.1

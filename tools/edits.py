@@ -48,6 +48,7 @@ def shapes(count: int) -> Iterator[Shape]:
                 lambda k, v: f"y{k - 1} = x[{k + v}]" if k else f"x = np.arange({LARGE}) + {v}", is_fixed=True)
     yield Shape("large sums", [f"x = np.arange({LARGE})", *(f"s{k} = x.sum() + {k}" for k in range(SUMS))],
                 lambda k, v: f"s{k - 1} = x.sum() + {k + v}" if k else f"x = np.arange({LARGE}) + {v}", is_fixed=True)
+    yield Shape("many names", [cell_of_names(k, 0) for k in range(10)], cell_of_names, is_fixed=True)
     yield Shape("input", ["d = np.load('d')" if k == 50 else f"v{k} = np.arange(4) + {k}" for k in range(100)],
                 lambda k, v: f"d = np.load('d') + {v}" if k == 50 else f"v{k} = np.arange(4) + {v}",
                 lambda v: [v, v + 1, v + 2], is_fixed=True)
@@ -63,6 +64,11 @@ def image_cell(k: int, v: int) -> str:
     steps = (f"w{image}[{k % 8}] += {v}", f"w{image}[:, {k % 8}] = i{other}[{k % 8}, 0] + {v}",
              f"s{k} = w{image}.sum() + {v}", f"i{image}[0] = i{other}[1] * {v}")
     return steps[k // IMAGES % len(steps)]
+
+
+def cell_of_names(k: int, v: int) -> str:
+    """A cell that binds 800 arrays."""
+    return "\n".join(f"n{k}_{i} = np.arange({i % 50 + 3}) + {i + v}" for i in range(800))
 
 
 def npy(numbers: list[int]) -> bytes:

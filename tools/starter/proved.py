@@ -1,7 +1,6 @@
 """`./ndnote --build`: proves the crates below the program, side by side, and builds it."""
 import fcntl
 import hashlib
-import json
 import os
 import re
 import shutil
@@ -99,26 +98,18 @@ def copy_sources(top: Path, room: Path) -> None:
 class Progress:
     """What is proved so far, as one line on a terminal and as a line for each crate elsewhere."""
 
-    def __init__(self, top: Path, room: Path, lanes: int) -> None:
+    def __init__(self, top: Path, lanes: int) -> None:
         self.weight, self.below, self.lanes = weights(top), sources.below(top), lanes
-        self.kept, self.began = room / 'functions.json', time.monotonic()
+        self.began = time.monotonic()
         self.done: List[str] = []
-        self.functions: Dict[str, int] = {}
-        try:
-            self.functions = json.loads(self.kept.read_text(encoding='utf-8'))
-        except (OSError, ValueError):
-            pass
         self.is_seen, self.proved = sys.stderr.isatty(), 0
 
-    def end(self, crate: str, said: str) -> None:
+    def end(self, crate: str, is_new: bool) -> None:
+        """Tells that a crate is proved: in this build, or by an earlier run of `rt`."""
         if crate not in self.weight or crate in self.done:
             return
         self.done.append(crate)
-        counts = re.findall(r'(?m)^logic=proved\b.* functions=(\d+)', said)
-        if counts:
-            self.functions[crate] = int(counts[-1])
-            sources.write(self.kept, json.dumps(self.functions).encode())
-            self.proved += 1
+        self.proved += is_new
         elapsed = time.monotonic() - self.began
         planned = seconds_of(self.weight, self.below, self.done, self.lanes)
         first = seconds_of(self.weight, self.below, [], self.lanes)
@@ -134,41 +125,23 @@ class Progress:
 
 
 def prove_all(room: Path, progress: Progress) -> None:
-    """Proves each crate in the room, lowest first, side by side. Two calls of `rt` would wait for one another, since
-    each locks its crate and all below it; so one call does them all."""
-    words = ['rt', 'all', 'check', '--jobs', str(progress.lanes)]
-    ran = subprocess.Popen(words, cwd=room, stdin=subprocess.DEVNULL, stdout=subprocess.PIPE, stderr=subprocess.STDOUT,
-                           text=True, errors='replace')
+    """Proves the crates in the room, side by side, and builds the program, as the gate does. What `rt ci` has proved on
+    this machine, of the same files, is not proved again."""
+    ran = subprocess.Popen(['rt', 'ci'], cwd=room, stdin=subprocess.DEVNULL, stdout=subprocess.PIPE,
+                           stderr=subprocess.STDOUT, text=True, errors='replace')
     assert ran.stdout
-    said: Dict[str, List[str]] = {}
-    whole: List[str] = []
-    crate = ''
+    told: List[str] = []
+    refused: List[str] = []
     for line in ran.stdout:
-        head = re.fullmatch(r'== (\w+)\n', line)
-        if head:
-            if crate:
-                progress.end(crate, ''.join(said[crate]))
-            crate = head[1]
-            said[crate] = []
-        elif crate:
-            said[crate].append(line)
-            if line.startswith('logic=proved '):
-                progress.end(crate, line)
-        else:
-            whole.append(line)
+        told = [line] if line.startswith('== ') else [*told, line]
+        ended = re.match(r'rt: (\w+) (proved|is kept: |NOT PROVED)', line)
+        if ended and ended[2] == 'NOT PROVED':
+            refused += told
+        elif ended:
+            progress.end(ended[1], ended[2] == 'proved')
     progress.close()
     if ran.wait():
-        failed = [it for it in said if re.search(rf'(?m)^{it}: failed', ''.join(said.get('summary', [])))]
-        told = ''.join(f'== {it}\n{"".join(said[it])}' for it in failed) or ''.join(whole)
-        raise NotBuilt(f'{told}not proved: {", ".join(failed) or "see above"}')
-
-
-def link_program(room: Path) -> bytes:
-    ran = subprocess.run(['rt', 'run'], cwd=room / 'crates' / sources.PROGRAM, stdin=subprocess.DEVNULL,
-                         stdout=subprocess.PIPE, stderr=subprocess.STDOUT, text=True, errors='replace', check=False)
-    if ran.returncode:
-        raise NotBuilt(ran.stdout)
-    return (room / BUILT).read_bytes()
+        raise NotBuilt(''.join(refused or told))
 
 
 def toolchain() -> str:
@@ -201,15 +174,14 @@ def build(top: Path) -> None:
               file=sys.stderr)
         copy_sources(top, room)
         proved, line = sources.sum_of(top), toolchain()
-        progress = Progress(top, room, lanes)
+        progress = Progress(top, lanes)
         prove_all(room, progress)
-        program = link_program(room)
+        program = (room / BUILT).read_bytes()
         if sources.sum_of(top) != proved:
             raise NotBuilt('a source was changed meanwhile: once more')
         told = shipped.Sum(proved, line, hashlib.sha256(program).hexdigest())
         if not sources.write(top / BUILT, program, 0o755) or not sources.write(top / BUILT_SUM, told.text().encode()):
             raise NotBuilt(f'{BUILT} cannot be written')
         elapsed = time.monotonic() - progress.began
-        functions = sum(progress.functions.get(crate, 0) for crate in progress.weight)
-        print(f'ndnote: proved {count} crates, {functions} functions, by {line}, in {span(elapsed)} '
-              f'({progress.proved} crates now, the others before)', file=sys.stderr)
+        print(f'ndnote: {count} crates are proved by {line}, {progress.proved} of them now, in {span(elapsed)}',
+              file=sys.stderr)

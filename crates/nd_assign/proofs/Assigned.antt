@@ -35,7 +35,7 @@ assigned g s bytes old fits count =
 
 -- ---- one number
 
--- it is read back from the bytes that hold it
+-- a number is read back from the bytes that hold it
 pub number_back : (e : Element) (y z : ℤ) (xs bytes : List ℕ) → bytes ≡ with_bytes xs 0 (bytes_of e y) → y ≡ z → IsValue e.kind z → number_at e bytes 0 ≡ z
 number_back e y z xs bytes is same value =
     ap (λ l. number_at e l 0) (is ∙ ap (λ v. with_bytes xs 0 (bytes_of e v)) same)

@@ -26,13 +26,13 @@ pub by_step : (ps : List ℕ) (step : ℤ) (size : ℕ) → ((k : ℕ) → k < l
     → ps ≡ side_by_side size (get_or ps 0 0) (length ps)
 by_step ps step size places is = sym (run_is ps (get_or ps 0 0) step places) ∙ ap (λ s. run_places (get_or ps 0 0) s (length ps)) is
 
--- one element lies so too
+-- one element is contiguous
 pub alone : (ps : List ℕ) (size : ℕ) → length ps ≡ 1 → ps ≡ side_by_side size (get_or ps 0 0) (length ps)
 alone [] size one = absurd (omega (arith, one))
 alone (p ∷ []) size one = ap (λ q. q ∷ []) (omega arith)
 alone (p ∷ q ∷ ps) size one = absurd (omega (arith, one))
 
--- and the step of others that do is their size
+-- the step of several contiguous elements is their size
 pub step_is : (ps : List ℕ) (step : ℤ) (size : ℕ) → 1 < length ps → ((k : ℕ) → k < length ps → place_at (get_or ps 0 0) step k ≡ pos (get_or ps k 0))
     → ps ≡ side_by_side size (get_or ps 0 0) (length ps) → step ≡ pos size
 step_is ps step size two places are =
@@ -43,7 +43,7 @@ step_is ps step size two places are =
     let there : place_at (get_or ps 0 0) step 1 ≡ pos (get_or ps 1 0) = places 1 two in
     omega (arith, ints, next, there)
 
--- its last element ends inside
+-- contiguous elements that lie inside len bytes end inside them all together
 pub end_held : (ps : List ℕ) (size first len : ℕ) → 0 < length ps → ps ≡ side_by_side size first (length ps) → All (λ p. p + size ≤ len) ps → first + length ps * size ≤ len
 end_held ps size first len some are all =
     let n = length ps in let last : n - 1 < n = omega (arith, some) in

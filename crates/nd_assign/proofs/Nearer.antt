@@ -35,7 +35,7 @@ module _ (size by offset : ℕ) (shape : List ℕ) (strides : List ℤ) (none : 
   shifted : (o : ℕ) (z w : ℤ) → by ≤ o → pos o +ℤ z ≡ w → pos (o - by) +ℤ z ≡ w +ℤ neg_ℤ (pos by)
   shifted o z w le e = omega (arith, ints, le, e)
 
-  -- the element of a tuple begins so many bytes nearer to the front
+  -- the element of a tuple begins `by` bytes nearer to the front
   nearer : (z : ℤ) → pos 0 ≤ℤ z → by ≤ unsigned_abs z → (pos 0 ≤ℤ (z +ℤ neg_ℤ (pos by))) × (unsigned_abs (z +ℤ neg_ℤ (pos by)) ≡ unsigned_abs z - by)
   nearer z above le = (omega (arith, ints, above, le), omega (arith, ints, above, le))
 

@@ -8,8 +8,8 @@ use Rattle.nd_model.specs.Cells.Session.{is_in, is_place}
 use Rattle.nd_model.specs.Arrays.Tuple.{elements_of}
 use Rattle.nd_model.specs.Arrays.View.{Geo, byte_places}
 
--- THE LAW: they are those of the bytes of the target's elements, whether the elements of a view are assigned, one number, or a number
--- for each index tuple
+-- THE LAW: an assignment writes the places of all bytes of the target's elements. What is assigned are the elements of a view, one
+-- number, or a number for each index tuple.
 pub record AssignedPlaces : Type 0 where
   pub elements : (g s : Geo) (bytes : List ℕ) → length g.places ≡ elements_of g.shape → length s.places ≡ elements_of s.shape
       → converts s.element g.element ≡ true → fits_into s.shape g.shape ≡ true

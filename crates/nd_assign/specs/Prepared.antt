@@ -3,7 +3,7 @@ use Rattle.std.specs.Prelude.{ℕ, ◌==◌, if◌then◌else◌, List, length, 
 use Rattle.nd_model.specs.Arrays.View.{Geo}
 use Rattle.nd_assign.specs.Copies.{with_copies}
 
--- The elements of the source are copied to those of the target, in a block of so many bytes. They are read from other bytes where
+-- The elements of the source are copied to those of the target, in a block of `len` bytes. The source is read from other bytes where
 -- there are any, and else from the block.
 pub record Prepared : Type 0 where
   pub target : Geo

@@ -9,19 +9,19 @@ use Rattle.nd_assign.specs.Assigned.{with_elements, with_number}
 use Rattle.nd_assign.specs.declared.source.AssignedValue.{AssignedValue}
 use Rattle.nd_assign.specs.declared.source.AssignedValue.TheVariants.{Number, Same, Other}
 
--- a view of so many bytes, whose elements convert to the target's and whose shape fits into the target's
+-- a view of `len` bytes, whose elements convert to the target's and whose shape fits into the target's
 pub record IsValue (target : Geo) (len : ℕ) (v : Geo) : Type 0 where
   pub lies : LiesIn len v
   pub types : converts v.element target.element ≡ true
   pub shapes : fits_into v.shape target.shape ≡ true
 
--- it may be assigned to a target in a block of so many bytes
+-- the value may be assigned to a target in a block of `len` bytes
 abbrev pub IsSource : (target : Geo) → (len : ℕ) → AssignedValue → Type 0
 IsSource g len (Number z) = is_number_type g.element ≡ true
 IsSource g len (Same v) = IsValue g len v.now
 IsSource g len (Other v bytes) = IsValue g (length bytes.now) v.now
 
--- the block's bytes after it is assigned to the target
+-- the block's bytes after the value is assigned to the target
 abbrev pub with_source : (target : Geo) → AssignedValue → List ℕ → List ℕ
 with_source g (Number z) old = with_number g z old
 with_source g (Same v) old = with_elements g v.now old old

@@ -11,7 +11,7 @@ use Rattle.nd_assign.specs.declared.assignment.Assignment.TheInside.{Inside}
 use Rattle.nd_assign.specs.declared.assignment.Way.{Way}
 use Rattle.nd_assign.specs.declared.assignment.Way.TheVariants.{Lent, Number, Copied, Moved, Up, Down}
 
--- each of the elements ends in so many bytes
+-- each of the elements ends within `len` bytes
 abbrev pub AreIn : ℕ → Geo → Type 0
 AreIn len g = All (λ p. p + item_size g.element ≤ len) g.places
 
@@ -40,7 +40,7 @@ pub record IsMoved (g moved : Geo) (by : ℕ) : Type 0 where
   pub behind : All (λ p. by ≤ p) g.places
   pub places : moved.places ≡ map (λ p. p - by) g.places
 
--- the elements of the first view end where those of the second one begin, in a block of so many bytes
+-- in a block of `len` bytes, the elements of the first view end at or before `middle`, and those of the second begin there or later
 pub record AreParted (len : ℕ) (before behind moved : Geo) (middle : ℕ) : Type 0 where
   pub inside : middle ≤ len
   pub fields : HoldsFields before.element

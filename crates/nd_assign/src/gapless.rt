@@ -18,8 +18,8 @@ pub(crate) fn is_gapless(run: &Run, elem: Elem) -> bool
     run.count() == 1 || run.step() == i128::from(elem.size())
 }
 
-/// Returns the byte offsets of a contiguous view as a run, and `None` where the view is not
-/// contiguous, or empty. A view of several runs counts as not contiguous.
+/// Returns the byte offsets of a contiguous view as a run: `8 16` for `x[1:3]` with itemsize 8.
+/// `None` where the view is empty, or not one contiguous run.
 pub fn gapless_run(view: &View, elem: Elem) -> Option<Run>
     ensures { IfSome result (λ run. (run ≡ view.now.places)
         × (run ≡ side_by_side (size_of elem.kind) (slice_index run 0) (length run))) }

@@ -49,8 +49,10 @@ fn broadcasts_to(shape: &[u64], target: &[u64]) -> bool
     can_stretch(shape, &target[target.len() - shape.len()..])
 }
 
-/// Returns whether a value of this shape may be assigned to the elements of a view: leading axes of
-/// length 1 are dropped while it has more axes, and the rest must broadcast to the view's shape.
+/// Returns whether a value of this shape may be assigned to the elements of a view. Leading axes of
+/// length 1 are dropped while it has more axes; the rest must broadcast to the view's shape.
+///
+/// To shape (3,), shapes (), (1,), (3,) and (1, 3) fit, and (2,) does not.
 pub fn fits(target: &View, shape: &[u64]) -> bool
     ensures { result ≡ fits_into shape.now target.now.shape }
 {

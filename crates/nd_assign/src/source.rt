@@ -11,9 +11,9 @@ use nd_block::RawBlock;
 use nd_view::View;
 use std::alloc::{AllocError, Global};
 
-/// The value of an assignment. Numbers are wrapped to the target's kind, or tested for not being
-/// zero for a Boolean; pad bytes of structures stay (NumPy user guide, "Assigning values to indexed
-/// arrays").
+/// The value of an assignment (NumPy user guide, "Assigning values to indexed arrays"). Numbers are
+/// wrapped to the target's kind, or tested for not being zero for a Boolean. Pad bytes of
+/// structures stay.
 #[derive(Clone, Copy)]
 pub enum AssignedValue<'v> {
     /// One number.
@@ -24,8 +24,9 @@ pub enum AssignedValue<'v> {
     Other(&'v View, &'v [u8]),
 }
 
-/// Assigns to the elements of a target, as `prepare` and `Assignment::write` do. Where memory is
-/// wanting, the block stays as it is.
+/// Assigns to the elements of a target, as `prepare` and `Assignment::write` do. All values are
+/// those before the write: `x[1:] = x[:3]` makes `1 1 2 3` of `1 2 3 4`. Where memory is wanting,
+/// the block stays as it is.
 pub fn assign(
     alloc: Global,
     target: &View,

@@ -2,7 +2,7 @@
 use Rattle.std.specs.Prelude.{◌≡◌, ℕ, ◌^◌, ◌<◌, List, length}
 use Rattle.nd_block.specs.declared.block.RawBlock.TheInside.{Inside}
 
--- the bytes
+-- the bytes of a block
 abbrev pub block_bytes : Inside → List ℕ
 block_bytes b = b.places.written
 

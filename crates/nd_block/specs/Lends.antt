@@ -5,7 +5,7 @@ use Rattle.std.specs.List.{refill}
 use Rattle.nd_block.specs.declared.memory.Places.{Places}
 use Rattle.nd_block.specs.contracts.memory.Places.{the_row}
 
--- the same places, with other bytes written
+-- the places p with other bytes written
 abbrev pub with_written : Places → List ℕ → Places
 with_written p xs = record { first = p.first; written = xs; unwritten = p.unwritten }
 

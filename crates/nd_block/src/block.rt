@@ -133,7 +133,8 @@ impl RawBlock {
         self.places.as_mut_slice(self.start, len)
     }
 
-    /// Returns whether `size` bytes from a byte offset on lie in the block.
+    /// Returns whether `size` bytes from a byte offset on lie in the block. In a block of 8 bytes,
+    /// 4 bytes from 4 on do, and 4 bytes from 5 on do not.
     pub fn holds_place(&self, place: u64, size: u64) -> bool
         ensures { IsTrue result ↔ (place + size ≤ length self.now) }
     {
@@ -143,7 +144,7 @@ impl RawBlock {
 }
 
 impl RawBlock {
-    /// Returns the number of the element at a byte offset.
+    /// Returns the number of the element at a byte offset, as `value_at` reads it.
     pub fn load(&self, place: u64, elem: Elem) -> i128
         requires { place + size_of elem.kind ≤ length self.now }
         ensures value { result ≡ value_of elem (bytes_at self.now place (size_of elem.kind)) }
@@ -152,7 +153,7 @@ impl RawBlock {
         value_at(self.as_slice(), place as usize, elem)
     }
 
-    /// Writes a number to the element at a byte offset.
+    /// Writes a number to the element at a byte offset. The kind must have the number.
     pub fn store(&mut self, place: u64, elem: Elem, value: i128)
         requires inside { place + size_of elem.kind ≤ length self.old }
         requires in_range { IsValue elem.kind value }
@@ -162,9 +163,11 @@ impl RawBlock {
         store_at(self.as_mut_slice(), place as usize, elem, value);
     }
 
-    /// Copies `n` elements of `size` bytes, the first one from byte offset `src` to `dst`, further
-    /// ones by steps that may be negative. No byte written for an element may be read for a later
-    /// one.
+    /// Copies `n` elements of `size` bytes inside the block, the first one from byte offset `src`
+    /// to `dst`. The steps from one to the next are in bytes, and may be negative. No byte written
+    /// for an element may be read for a later one.
+    ///
+    /// With size 1, two elements from 3 by -1 to 0 by 1 make `4 3 3 4` of `1 2 3 4`.
     pub fn copy_run(
         &mut self,
         dst: u64,

@@ -1,4 +1,4 @@
-//! Numbers as bytes in either byte order: reading, writing and narrowing them.
+//! `value_at` and `store_at`: numbers as bytes in either byte order, read, written and narrowed.
 ghost use Rattle.std.specs.Prelude.{◌≡◌, ◌+◌, ◌<◌, ◌≤◌, ◌++◌, length, OnOk};
 ghost use Rattle.nd_model.specs.Arrays.Element.{Int8, Int16, Int32, Int64, width_of, residue, bytes_at, number_in, with_bytes, bytes_in, size_of, value_of, bytes_of, IsValue};
 
@@ -151,7 +151,8 @@ fn put64(bytes: &mut [u8], place: usize, word: u64, big: bool)
     bytes[place..place + 8].copy_from_slice(&bytes64(word, big));
 }
 
-/// Returns the number of the element at a byte offset, which need not be aligned.
+/// Returns the number of the element at a byte offset, which need not be aligned. The bytes `1 2`
+/// are 513 as `<i2`, and 258 as `>i2`.
 #[inline(always)]
 pub fn value_at(bytes: &[u8], place: usize, elem: Elem) -> i128
     requires { place + size_of elem.kind ≤ length bytes.now }
@@ -187,7 +188,8 @@ pub fn store_at(bytes: &mut [u8], place: usize, elem: Elem, value: i128)
     }
 }
 
-/// Appends the bytes of an element that has this number. A number outside the kind is wrapped.
+/// Appends the bytes of an element that has this number: `255 255 255 254` for -2 as `>i4`. A
+/// number outside the kind is wrapped.
 pub fn push_bytes(bytes: &mut Vec<u8>, elem: Elem, value: i128) -> Result<(), AllocError>
     ensures { OnOk result (bytes.new.items ≡ bytes.old.items ++ bytes_of elem value) }
 {

@@ -1,7 +1,7 @@
 //! `Places`: memory from an allocator, written byte by byte, lent as a slice, and freed. No other
 //! module has a raw pointer.
 //!
-//! The owner of the bytes and the right to free them take no space, and neither can be dropped: so
+//! The owner of the bytes and the right to free them take no space, and neither can be dropped. So
 //! memory that is not freed, or freed twice, does not compile.
 ghost use Rattle.std.specs.Prelude.{◌≡◌, ℕ, ◌+◌, ◌^◌, ◌<◌, List, [], ◌∷◌, ◌++◌, length, IfOk};
 ghost use Rattle.std.specs.Borrow.{sem};

@@ -22,7 +22,7 @@ fn copy_block(bytes: &mut [u8], dst: u64, src: u64, size: usize, n: u64)
     bytes.copy_within(from..from + count, to);
 }
 
-/// Copies `n` elements of `size` bytes, the first one from `src` to `dst`.
+/// Copies `n` elements of `size` bytes, the first one from byte offset `src` to `dst`.
 pub(crate) fn copy_elements(
     bytes: &mut [u8],
     dst: u64,

@@ -79,11 +79,11 @@ saves_found n (e ∷ es) = elim (cases_Bool (bytes_eq n (string_bytes e.0))) [ i
 
 -- ---- a text that no cell takes
 
--- behind another text it is too long as well
+-- a text that is too long is too long behind another one as well
 too_long_behind : (text more : List ℕ) → leb (length more) most_text ≡ false → leb (length (text ++ more)) most_text ≡ false
 too_long_behind text more long = grind (arith, length-append)
 
--- so it may be refused before it is built
+-- a line whose text is too long may be refused before the text is built
 pub limited_and_then : (line : ℕ) (text : List ℕ) (saves : Saved) (m : Result Output Fault × Running) (rest : List ℕ → Saved → Running → Ended)
     → and_then line text saves (limit_text m) rest ≡ and_then line text saves m rest
 limited_and_then line text saves (Ok o, x) rest = elim (cases_Bool (leb (length o.text) most_text)) [
@@ -92,14 +92,14 @@ limited_and_then line text saves (Ok o, x) rest = elim (cases_Bool (leb (length 
 ]
 limited_and_then line text saves (Err f, x) rest = refl
 
--- a statement that is known up to that goes on as it would
+-- a statement that is known but for a text that is too long goes on as the statement does
 pub limited_line : (line : ℕ) (text : List ℕ) (saves : Saved) (m : Result Output Fault × Running) (out : Result Output Fault) (x : Running)
     → limit_text m ≡ (out, x) → (rest : List ℕ → Saved → Running → Ended)
     → and_then line text saves m rest ≡ and_then line text saves (out, x) rest
 limited_line line text saves m out x told rest =
     sym (limited_and_then line text saves m rest) ∙ ap (λ (m : Result Output Fault × Running). and_then line text saves m rest) told
 
--- and where it gave something, as what that adds
+-- where such a statement gave an output, its cell goes on as what the output adds
 pub limited_output : (line : ℕ) (text new : List ℕ) (saves kept : Saved) (m : Result Output Fault × Running) (out : Output) (x : Running) {E : Type 0} (added : Result (Option Refusal) E)
     → limit_text m ≡ (Ok out, x)
     → IfOk added (λ o. (y : Running) → (rest : List ℕ → Saved → Running → Ended) → and_then line text saves (Ok out, y) rest ≡ after_line o new kept y rest)

@@ -1,4 +1,4 @@
-//! Cells: running one over a session, with a record by which it is replayed.
+//! Cells: [`run_cell`] runs one over a session, and gives a [`Record`] by which it is replayed.
 #![tactic(auto)]
 
 mod record;

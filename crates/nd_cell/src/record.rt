@@ -127,7 +127,8 @@ impl Record {
     }
 
     /// Returns what the run last did to a name: true where it bound it, false where it unbound it,
-    /// `None` where it did neither. It takes no memory.
+    /// `None` where it did neither. After `x = 1` and `del x` it is false for `x`. It takes no
+    /// memory.
     pub fn last_of(&self, name: &str) -> Option<bool>
         ensures { (names : Names)
             → is_bound name.now (replayed (recorded self.now).effects.events names)
@@ -137,7 +138,7 @@ impl Record {
     }
 
     /// Returns true only where the run bound and unbound no name and wrote to no block of another
-    /// cell.
+    /// cell, as a run of `print(1)`.
     pub fn is_quiet(&self) -> bool
         ensures { IsTrue result → IsQuiet (recorded self.now) }
     {
@@ -155,7 +156,7 @@ impl Record {
         self.changes.is_same(&other.changes)
     }
 
-    /// Does to a session what the run did to its own, where the record still holds: the session
+    /// Does to a session what the run did to its own, where the record still holds. The session
     /// then is that after a run of the cell, which gives `result`.
     ///
     /// No byte of a block is copied, except those that were written. After want of memory the
@@ -172,9 +173,12 @@ impl Record {
         Ok(())
     }
 
-    /// Returns true only where this run replaces another of the same cell: both do nothing but bind
-    /// the same names in the same order, each once, to values in the cell's own blocks, or in none.
-    /// It takes no memory, and may be false where this holds.
+    /// Returns true only where this run replaces another of the same cell. Both bind the same names
+    /// in the same order, each once, to values in the cell's own blocks or in none, and do nothing
+    /// else.
+    ///
+    /// The runs of `x = np.zeros(2)` and of `x = np.ones(3)` are such. It takes no memory, and may
+    /// be false where this holds.
     pub fn replaces(&self, old: &Record) -> bool
         ensures { IsTrue result → Replaces (recorded old.now) (recorded self.now) }
     {
@@ -241,7 +245,7 @@ impl Record {
         self.changes.has_no_name(before)
     }
 
-    /// Puts this run in place of another run of the cell in a session: its names get the values of
+    /// Puts this run in place of another run of the cell in a session. Its names get the values of
     /// this one, and the blocks of the other go.
     ///
     /// No byte of a block is copied. After want of memory the session may only be dropped.

@@ -35,7 +35,8 @@ pub struct CellResult {
 }
 
 impl CellResult {
-    /// Returns the file that the cell saved under this name.
+    /// Returns the file that the cell saved under this name, or `None`. After `np.save('a', x)`,
+    /// `file("a")` is the NPY file of `x`.
     pub fn file(&self, name: &str) -> Option<&[u8]>
         ensures { option_map (λ f. f.now) result
             ≡ lookup name.now (saves_of self.now.saves.entries) }

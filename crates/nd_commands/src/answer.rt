@@ -14,7 +14,8 @@ use nd_notebook::{CellResult, EditFault, QueryFault, Refusal};
 use nd_script::words::{push_count_line, push_hex, push_names, push_number, push_text};
 use std::alloc::AllocError;
 
-/// Appends the answer to an edit of an input or a cell: `ok`, or the refusal.
+/// Appends the answer to an edit of an input or a cell: `ok`, or the refusal, as
+/// `refused NoCell 7 2` of a notebook of two cells.
 pub fn push_edit_answer(
     out: &mut Vec<u8>,
     name: &str,
@@ -56,7 +57,7 @@ fn push_edit_fault(out: &mut Vec<u8>, name: &str, fault: EditFault) -> Result<()
     }
 }
 
-/// Appends the refusal of a query for a name.
+/// Appends the refusal of a query for a name, such as `refused NoName x`.
 pub fn push_query_refusal(
     out: &mut Vec<u8>,
     name: &str,
@@ -139,7 +140,8 @@ pub fn push_source_answer(out: &mut Vec<u8>, source: &str) -> Result<(), AllocEr
     push_text(out, "\n")
 }
 
-/// Appends the answer to `saved`: a file of a cell, in hex digits.
+/// Appends the answer to `saved`: a file of a cell, in hex digits. An NPY file begins with
+/// `saved 934e554d5059`.
 pub fn push_save_answer(out: &mut Vec<u8>, file: &[u8]) -> Result<(), AllocError>
     ensures { OnOk result (out.new.items ≡ out.old.items ++ script.save_answer file.now) }
 {
@@ -148,7 +150,7 @@ pub fn push_save_answer(out: &mut Vec<u8>, file: &[u8]) -> Result<(), AllocError
     push_text(out, "\n")
 }
 
-/// Appends the answer to `names`: those that are bound after a cell.
+/// Appends the answer to `names`: those that are bound after a cell, a line each behind `names 2`.
 pub fn push_names_answer(out: &mut Vec<u8>, names: &[String]) -> Result<(), AllocError>
     ensures { OnOk result (out.new.items ≡ out.old.items ++ script.names_answer
         (map string_bytes names.now)) }

@@ -1,4 +1,5 @@
-//! New blocks: `conversion` makes one of other elements' numbers, `creation` one of a number, a range or a list.
+//! New blocks: [`conversion`] makes one of other elements' numbers, [`creation`] one of a number, a
+//! range or a list.
 #![tactic(auto)]
 
 pub mod conversion;

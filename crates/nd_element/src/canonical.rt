@@ -61,7 +61,8 @@ fn number(bytes: &[u8], place: usize, elem: Elem) -> i128
     }
 }
 
-/// Returns the number of the element at a byte offset. A byte past the end reads as 0.
+/// Returns the number of the element at a byte offset. A byte past the end reads as 0: of the bytes
+/// `1 2`, `<u4` at 1 is 2.
 pub fn number_in(bytes: &[u8], place: u64, elem: Elem) -> i128
     ensures { result ≡ number_at elem bytes.now place }
 {
@@ -118,8 +119,9 @@ fn push_canonical(
     }
 }
 
-/// Returns the bytes of a view's elements in C order, in the view's own dtype: a Boolean is 0 or 1,
-/// and pad bytes are 0. A byte past the end of the block reads as 0.
+/// Returns the bytes of a view's elements in C order, in the view's own dtype. A Boolean is 0 or 1,
+/// and pad bytes are 0: of the Booleans `2 0` these are `1 0`. A byte past the end of the block
+/// reads as 0.
 pub fn canonical_bytes(alloc: Global, view: &View, bytes: &[u8]) -> Result<Vec<u8>, AllocError>
     ensures { IfOk result (λ v. v.items ≡ elements.canonical_bytes view.now bytes.now) }
 {

@@ -70,7 +70,7 @@ fn push_kind(
     }
 }
 
-/// Appends the numbers of a run, whose bytes must all be there.
+/// Appends the numbers of the elements of a run, whose bytes must all be there.
 pub fn push_numbers(
     numbers: &mut Vec<i128>,
     elem: Elem,
@@ -93,7 +93,8 @@ pub fn push_numbers(
     }
 }
 
-/// Returns the numbers of a view's elements in C order.
+/// Returns the numbers of a view's elements in C order: `7 6 5` for the view `x[::-1]` of
+/// `[5 6 7]`. All their bytes must be there.
 pub fn numbers_of(
     alloc: Global,
     view: &View,
@@ -112,7 +113,8 @@ pub fn numbers_of(
     Ok(numbers)
 }
 
-/// Appends the bytes of elements that have these numbers. A number outside the kind is wrapped.
+/// Appends the bytes of elements that have these numbers: `1 0 255 255` for 1 and -1 as `<i2`. A
+/// number outside the kind is wrapped.
 pub fn push_bytes_of(bytes: &mut Vec<u8>, elem: Elem, numbers: &[i128]) -> Result<(), AllocError>
     ensures { OnOk result (Appends (flat_map (bytes_of elem) numbers.now) bytes.old bytes.new) }
 {

@@ -7,7 +7,8 @@ ghost use Rattle.nd_model.specs.Arrays.Runs.{place_at, spot_at};
 use nd_block::value_at;
 use nd_types::Elem;
 
-/// Returns the byte offset of an element of a run, by the run's first byte offset and its step in bytes.
+/// Returns the byte offset of an element of a run, by the run's first byte offset and its step in
+/// bytes.
 #[inline(always)]
 pub fn spot(start: u64, step: i128, index: usize) -> usize
     requires { (pos 0 ≤ℤ place_at start step index) × (spot_at start step index < 2 ^ 64) }
@@ -16,7 +17,8 @@ pub fn spot(start: u64, step: i128, index: usize) -> usize
     (start as i128 + index as i128 * step) as usize
 }
 
-/// Returns the number of an element of a run: `start` and `step` are in bytes, `index` counts elements.
+/// Returns the number of an element of a run: `start` and `step` are in bytes, `index` counts
+/// elements.
 #[inline(always)]
 pub fn number_of(bytes: &[u8], elem: Elem, start: u64, step: i128, index: usize) -> i128
     requires low { pos 0 ≤ℤ place_at start step index }

@@ -25,7 +25,7 @@ LoadsNew (Ok n) loaded = (decide loaded >>= give_loaded) ≡ given n
 LoadsNew (Err Memory) loaded = Unit {0}
 LoadsNew (Err (Refused f)) loaded = (decide loaded >>= give_loaded) ≡ Refuses (fault_of f)
 
--- it is refused, unless memory ran out
+-- an input of this name is refused, unless memory ran out
 abbrev pub RefusesInput : Result New Stop → List ℕ → Type 0
 RefusesInput (Ok n) name = ⊥
 RefusesInput (Err Memory) name = Unit {0}

@@ -60,10 +60,11 @@ fn buffer_array(
     }
 }
 
-/// Returns a new array of the input of this name, for `np.load` or `buffer`.
+/// Returns a new array of the input of this name, for `np.load` (NumPy's description of the NPY
+/// format) or `buffer` (PEP 3118).
 ///
-/// Refused in this order: no input of this name and form; the first fault of the file (NumPy's
-/// description of the NPY format), or that of the buffer's format and then of its view (PEP 3118).
+/// `NoInput` where no input has this name and form. Then comes the first fault of the file, or that
+/// of the buffer's format and then of its view.
 pub fn load(
     alloc: Global,
     sort: InputSort,

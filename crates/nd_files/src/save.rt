@@ -34,8 +34,11 @@ fn elements_file(alloc: Global, elements: &BorrowedArray<'_>) -> Result<Vec<u8>,
     Ok(file)
 }
 
-/// Returns the NPY file of an operand, for `np.save`. Refused in this order: a name that no file
-/// may have; a Python integer outside `int64` (NumPy's description of the NPY format).
+/// Returns the NPY file of an operand, for `np.save` (NumPy's description of the NPY format). A
+/// number is saved as an array of shape (): the file of 7, of dtype `<i8`, has 136 bytes.
+///
+/// Refused in this order: `BadArgument` for a name that no file may have, `NeedsType` for a Python
+/// integer outside `int64`.
 pub fn save_file(alloc: Global, name: &str, operand: &Operand<'_>) -> Result<Vec<u8>, Stop>
     ensures { Makes (λ f. SavesFile name.now f.items) result
         (files.save name.now (operand_of operand.now)) }

@@ -150,11 +150,12 @@ fn accumulate_call(
     accumulate_elements(alloc, ufunc_reduction(ufunc), elements, axis)
 }
 
-/// Returns the reduction or accumulation of an operand, along this axis or of all numbers.
+/// Returns the reduction or accumulation of an operand, along this axis or of all numbers. The sum
+/// of `[[0 1 2] [3 4 5]]` along axis 0 is `[3 5 7]`, and of all numbers 15.
 ///
-/// Refused in this order: `NotAnArray` for a method of no array, and of no NumPy scalar where it
-/// reduces; `NeedsType` for a Python integer outside `int64`; `Reduce.NotNumbers`, `Reduce.NoAxis`,
-/// `Reduce.EmptyReduce`, the limits of arrays.
+/// Refused in this order: `NotAnArray` or `NeedsType`, `NotNumbers`, `NoAxis`, `EmptyReduce`, the
+/// limits of arrays. `NotAnArray` is for a method of no array, and of no NumPy scalar where it
+/// reduces. `NeedsType` is for a Python integer outside `int64`.
 pub fn make_fold(
     alloc: Global,
     folding: Folding,

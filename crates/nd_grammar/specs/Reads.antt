@@ -19,7 +19,7 @@ roles_of ps = map (λ (p : Part). p.role) ps
 abbrev pub seen : Reading → List ℕ × Bool
 seen r = (roles_of r.parts, r.whole)
 
--- the same where these roles are of tokens before them
+-- the roles of all tokens that are read, where these roles are of tokens before them
 abbrev pub ahead : List ℕ → Reading → List ℕ × Bool
 ahead roles r = (roles ++ roles_of r.parts, r.whole)
 

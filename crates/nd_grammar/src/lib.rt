@@ -101,6 +101,9 @@ fn read_rule<'t>(
 }
 
 /// Reads the tokens by the rule, for which one token of lookahead must be enough.
+///
+/// The rule `Many(1, &One(7, 1))` takes tokens of kind 0. Of the tokens `0 0 2` it reads the roles
+/// `7 7`, which are not the whole text.
 pub fn read(alloc: Global, rule: &Rule, tokens: &[u8]) -> Result<Reading, AllocError>
     requires { (look (rule_of rule.now)).fits ≡ true }
     ensures read { IfOk result (λ r. (r.roles.items, r.whole)

@@ -23,7 +23,12 @@ pub type Blocks = IndexMap<Base, Rc<RawBlock>>;
 /// A set of bases.
 pub type Bases = IndexMap<Base, ()>;
 
-/// The bytes of a block, none where there is no such block.
+/// How many bases at most are looked for one by one among the names.
+const FEW: usize = 8;
+
+/// Returns the bytes of a block, none where there is no such block.
+///
+/// Of a block that is not there they are `[]`.
 pub fn bytes_of(blocks: &Blocks, base: Base) -> &[u8]
     ensures { result.now ≡ bytes_at (blocks_of blocks.now.entries) (base_of base) }
 {
@@ -148,11 +153,30 @@ pub(crate) fn has_base(bases: &Bases, base: Base) -> bool
     bases.contains_key(&base)
 }
 
-/// Only the bases that no bound value lies in.
+/// Takes the base that the value lies in out of these, if it lies in one.
+pub(crate) fn drop_base(bases: &mut Bases, value: &Value)
+    ensures { (b : values.Base) → is_base_among (bases_of bases.new.entries) b
+        ≡ (is_base_among (bases_of bases.old.entries) b
+        && not (values.lies_in b (value_of value.now))) }
+{
+    match value {
+        Value::Number(_) => {}
+        Value::Array(array) | Value::Row(array) => {
+            bases.swap_remove(&array.base);
+        }
+    }
+}
+
+/// Takes out the bases that some bound value lies in. Few are looked for one by one, many by one
+/// pass over the names: a pass for each would cost their product.
 pub(crate) fn retain_unheld(bases: &mut Bases, names: &NameTable)
     ensures { (b : values.Base) → is_base_among (bases_of bases.new.entries) b
         ≡ (is_base_among (bases_of bases.old.entries) b && not (model.is_held b names.now)) }
 {
+    if bases.len() > FEW {
+        names.drop_held(bases);
+        return;
+    }
     bases.retain(
         |base: &Base, _unit: &mut ()| -> bool
             ensures { (result ≡ not (model.is_held (base_of base.now) names.entry.now))

@@ -22,8 +22,12 @@ use std::alloc::Global;
 use std::marker::Model;
 use std::rc::{Rc, RcStr};
 
-/// Names and blocks, of which copies share most. A base is loose from when it is made, and from when a name that
-/// lay in it gets another value, until blocks are collected: only loose bases are asked whether a name still lies in them.
+/// Names and blocks, of which copies share most. A base is loose from when it is made, and from
+/// when a name that lay in it gets another value, until blocks are collected: only loose bases are
+/// asked whether a name still lies in them.
+///
+/// Where `x` and `y` are views of one base, `unbind("x")` leaves the block, and after `unbind("y")`
+/// the next `collect` gives it up.
 #[derive(Drop)]
 pub struct Heap {
     names: NameTable,
@@ -102,7 +106,8 @@ impl Heap {
         })
     }
 
-    /// A copy that shares names and blocks: no name and no byte is copied.
+    /// Returns a copy that shares names and blocks: no name and no byte is copied. What is bound or
+    /// written in one of both is not seen in the other.
     pub fn try_clone(&self) -> Result<Heap, OutOfMemory>
         ensures { IfOk result (λ h. h ≡ self.now) }
     {
@@ -123,7 +128,9 @@ impl Heap {
         self.names.len()
     }
 
-    /// The name at a place in the order of the names, none past the last.
+    /// Returns the name at a place in the order of the names, none past the last.
+    ///
+    /// After `bind` of `x`, of `y` and of `x` again, the names are `x` at place 0 and `y` at 1.
     pub fn name_at(&self, place: usize) -> Option<&str>
         ensures { option_map (λ n. n.now) result
             ≡ option_map (λ e. e.0) (slice_get self.now.names place) }
@@ -135,7 +142,7 @@ impl Heap {
         Some(name.as_str())
     }
 
-    /// The value of a name.
+    /// Returns the value of a name, none where it is not bound.
     pub fn find(&self, name: &str) -> Option<&Value>
         ensures { option_map (λ v. value_of v.now) result ≡ model.lookup name.now self.now.names }
     {
@@ -163,7 +170,9 @@ impl Heap {
         self.blocks.share(base)
     }
 
-    /// The bases that some bound value lies in.
+    /// Returns the bases that some bound value lies in.
+    ///
+    /// Where `x` is an array and `y` a view of it, this is the one base of both.
     pub fn held_bases(&self) -> Result<Bases, OutOfMemory>
         ensures { IfOk result (λ held. (b : values.Base)
             → is_base_among (bases_of held.entries) b ≡ model.is_held b self.now.names) }
@@ -236,7 +245,8 @@ impl Heap {
         self.names.is_label_held(label)
     }
 
-    /// Binds a name: one that is bound keeps its place, another goes last. No name that is shared is copied.
+    /// Binds a name: one that is bound keeps its place, another goes last. No name that is shared is
+    /// copied.
     pub fn bind(&mut self, name: RcStr, value: Rc<Value>) -> Result<(), OutOfMemory>
         ensures ok { OnOk result (self.new.names
             ≡ model.bind (rc_str_bytes name) (value_of value.value) self.old.names) }
@@ -271,7 +281,8 @@ impl Heap {
         Ok(())
     }
 
-    /// Writes to a block, and nothing where there is no such block. A block that is shared is copied first.
+    /// Writes to a block, and nothing where there is no such block. A block that is shared is copied
+    /// first, so that no copy of the heap sees the write.
     pub fn write<W: BlockWriter + Drop>(&mut self, base: Base, writer: W) -> Result<(), OutOfMemory>
         ensures names { self.new.names ≡ self.old.names }
         ensures ok { OnOk result (bytes_at self.new.blocks ≡ running.with_base (base_of base)
@@ -310,6 +321,8 @@ impl Heap {
     }
 
     /// Gives up the blocks that no bound value lies in. Only those of loose bases are looked at.
+    ///
+    /// After `bind` of `x` to an array and then to the number 1, it gives up the array's block.
     pub fn collect(&mut self) -> Result<(), OutOfMemory>
         ensures names { self.new.names ≡ self.old.names }
         ensures ok { OnOk result ((b : values.Base) → bytes_at self.new.blocks b

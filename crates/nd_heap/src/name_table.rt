@@ -1,6 +1,6 @@
 //! `NameTable`: names in order with their values in layers, so that a change copies few of them.
 
-ghost use Rattle.std.specs.Prelude.{◌≡◌, ◌<◌, ◌↔◌, [], Some, IfOk, IsFalse, IsTrue, false, OnErr, OnOk, length, option_map, slice_get};
+ghost use Rattle.std.specs.Prelude.{◌≡◌, ◌<◌, ◌↔◌, ◌&&◌, not, [], Some, IfOk, IsFalse, IsTrue, false, OnErr, OnOk, length, option_map, slice_get};
 ghost use Rattle.std.specs.Rc.{rc_str_bytes};
 ghost use Rattle.nd_model.specs.Cells.Session as model;
 ghost use Rattle.nd_model.specs.Arrays.Value as values;
@@ -10,7 +10,7 @@ ghost use Rattle.nd_heap.specs.Live.{is_base_among};
 ghost use Rattle.nd_heap.specs.Loose.{LosesHolder};
 ghost use Rattle.nd_heap.specs.Values.{base_of, value_of, names_of};
 
-use crate::blocks::{Bases, note_base};
+use crate::blocks::{Bases, drop_base, note_base};
 use crate::memory::OutOfMemory;
 use crate::names::{Names, find, insert, is_held, lies_in, lies_in_label, remove, unbind};
 use crate::value::{Base, Value};
@@ -266,6 +266,17 @@ impl NameTable {
             }
         }
         false
+    }
+
+    /// Takes out the bases that some bound value lies in, by one pass over the names.
+    pub(crate) fn drop_held(&self, bases: &mut Bases)
+        ensures { (b : values.Base) → is_base_among (bases_of bases.new.entries) b
+            ≡ (is_base_among (bases_of bases.old.entries) b && not (model.is_held b self.now)) }
+    {
+        for i in 0..self.len() {
+            let (_, value) = self.entry(i);
+            drop_base(bases, value.as_ref());
+        }
     }
 
     /// The bases that some bound value lies in.

@@ -80,7 +80,7 @@ forwards f step size (q ∷ qs) p at =
     ∙ ap₂ (λ a b. a || b) (ap (λ q. in_row q size p) (sym first) ∙ sym (is_in-count_up p q size)) rest
     ∙ sym (is_in-append p (count_up q size) (flat_map (λ q. count_up q size) qs))
 
--- and backwards, to the last one
+-- the rows of a run whose elements lie in decreasing order
 pub backwards : (f step size : ℕ) (run : List ℕ) (p : ℕ) → ((k : ℕ) → k < length run → slice_index run k + suc k * step ≡ f + length run * step)
     → in_rows f size step (length run) p ≡ is_in p (flat_map (λ q. count_up q size) run)
 backwards f step size [] p at = refl

@@ -10,7 +10,7 @@ abbrev pub row_places : ℕ → ℕ → ℕ → ℕ → List ℕ
 row_places first width step zero = []
 row_places first width step (suc n) = count_up first width ++ row_places (first + step) width step n
 
--- from the row of this number on
+-- the places of a strip from the row of this number on
 abbrev pub rows_left : Strip → ℕ → List ℕ
 rows_left s row = row_places (s.first + row * s.step) s.width s.step (s.count - row)
 
@@ -26,11 +26,11 @@ bits_left words at = filter (has_bit words) (count_up at (length words * 64 - at
 abbrev pub places_in : Places → List ℕ
 places_in m = rows_left m.last 0 ++ (strips_places m.strips ++ bits_left m.words 0)
 
--- those that a walk has before it
+-- the places that a walk has before it
 abbrev pub left_of : walk.Inside → List ℕ
 left_of w = rows_left w.rows w.row ++ (strips_places (drop w.strip w.strips.now) ++ bits_left w.words.now w.bit)
 
--- the next of them are a range
+-- the next places of a walk are a range
 pub record IsNext (old : List ℕ) (from width : ℕ) (new : List ℕ) : Type 0 where
   pub split : old ≡ count_up from width ++ new
   pub some : 0 < width
@@ -54,7 +54,7 @@ kept_of k = record { marks = k.marks; bytes = k.bytes.items }
 abbrev pub byte_of : KeptData → ℕ → ℕ
 byte_of k p = byte_for (places_in k.marks) k.bytes p
 
--- the same, and none where the place is not marked
+-- the byte that is kept of a place, none where the place is not marked
 abbrev pub kept_at : KeptData → ℕ → Option ℕ
 kept_at k p = if holds k.marks p then Some (byte_of k p) else None
 

@@ -103,8 +103,8 @@ fn put_range(block: &mut [u8], from: u128, bytes: &[u8])
 }
 
 impl KeptBytes {
-    /// Keeps the bytes of a block at the marked byte offsets, where these are fewer than `most`, and
-    /// `None` otherwise. An offset that is marked in two pieces may count twice. A byte offset past
+    /// Keeps the bytes of a block at the marked byte offsets, and is `None` where `most` of them or
+    /// more are marked. An offset that is marked in two pieces may count twice. A byte offset past
     /// the end has a 0.
     pub fn new(
         alloc: Global,
@@ -129,7 +129,8 @@ impl KeptBytes {
         Ok(Some(KeptBytes { marks, bytes }))
     }
 
-    /// Returns whether the block has each byte that is kept. A byte offset past the end has a 0.
+    /// Returns whether the block has each byte that is kept: of `5 6 7` at 0 and 2, `5 9 7` has
+    /// each. A byte offset past the end has a 0.
     pub fn is_found_in(&self, block: &[u8]) -> bool
         ensures { IsTrue result ↔ ((p b : ℕ) → kept_at self.now p ≡ Some b
             → slice_index block.now p ≡ b) }
@@ -146,7 +147,8 @@ impl KeptBytes {
         true
     }
 
-    /// Puts each byte that is kept into the block. Byte offsets past the end are passed over.
+    /// Puts each byte that is kept into the block: `5 6 7` at 0 and 2 make `5 1 7` of `1 1 1`. Byte
+    /// offsets past the end are passed over.
     pub fn patch(&self, block: &mut [u8])
         ensures len { length block.new ≡ length block.old }
         ensures bytes { (p : ℕ) → p < length block.old

@@ -61,8 +61,7 @@ fn next_row(rows: &Strip, row: &mut u64) -> Option<ByteRange>
     })
 }
 
-/// The next bits of a word that are set, from bit number `bit` on: none at the end of the word where
-/// no more are set.
+/// The next set bits of a word, from bit `bit` on. At the end of the word there are none.
 fn next_set(word: u64, bit: u64) -> SetBits
     requires { bit < 64 }
     ensures order { (bit ≤ result.from) × ((result.from ≤ result.to) × ((result.to ≤ 64)

@@ -213,7 +213,8 @@ impl Notebook {
     ghost use Rattle.nd_session.specs.Session.Kept.{version_of};
     ghost use Rattle.nd_notebook.specs.Queries.{answer_of, result_of, shown_of};
 
-    /// Returns the text of the cell at a position. It takes no memory.
+    /// Returns the text of the cell at a position. Refused where no cell has it (`NoCell`). It
+    /// takes no memory.
     pub fn source(&self, at: usize) -> Result<&str, QueryFault>
         ensures { answer_of [] (λ s. s.now) result ≡ model.source_at (book_of self.now) at }
     {
@@ -224,7 +225,8 @@ impl Notebook {
         Ok(self.schedule.text(at))
     }
 
-    /// Returns the result of the cell at a position. It takes no memory.
+    /// Returns the result of the cell at a position. Refused where no cell has it (`NoCell`). It
+    /// takes no memory.
     pub fn result(&self, at: usize) -> Result<&CellResult, QueryFault>
         ensures { answer_of [] (λ r. result_of r.now) result
             ≡ model.result_at (book_of self.now) at }
@@ -236,7 +238,8 @@ impl Notebook {
         Ok(self.schedule.record_at(at).result())
     }
 
-    /// Returns the file that the cell at a position saved under this name. It takes no memory.
+    /// Returns the file that the cell at a position saved under this name. Refused in this order:
+    /// no such cell (`NoCell`), no such file (`NoSave`). It takes no memory.
     pub fn file(&self, at: usize, name: &str) -> Result<&[u8], QueryFault>
         ensures { answer_of name.now (λ f. f.now) result
             ≡ model.saved_at (book_of self.now) at name.now }
@@ -257,7 +260,10 @@ impl Notebook {
         Ok(version)
     }
 
-    /// Returns the names that are bound after the cell at a position, in order.
+    /// Returns the names that are bound after the cell at a position, in the order in which they
+    /// were bound first. After `x = 1`, `y = 2`, `x = 3` they are `x y`.
+    ///
+    /// Refused where no cell has the position (`NoCell`), and for want of memory.
     pub fn names(&self, at: usize) -> Result<Vec<String>, QueryFault>
         ensures { Tells (answer_of [] (λ v. map string_bytes v.items) result)
             (model.names_at (book_of self.now) at) }
@@ -270,7 +276,10 @@ impl Notebook {
         Ok(names_of(self.alloc, &version)?)
     }
 
-    /// Returns the value of a name after the cell at a position, as it is shown.
+    /// Returns the value of a name after the cell at a position, as it is shown. After
+    /// `x = np.arange(3)`, `x` is an array of shape (3,) and `<i8`, with 24 bytes.
+    ///
+    /// Refused in this order: no such cell (`NoCell`), no such name (`NoName`), want of memory.
     pub fn value(&self, at: usize, name: &str) -> Result<Shown, QueryFault>
         ensures { Tells (answer_of name.now shown_of result)
             (model.value_at (book_of self.now) at name.now) }
@@ -331,8 +340,9 @@ impl Notebook {
     /// Makes these edits one after another, and returns the answer to each; a refused one changes
     /// nothing. Without memory for the answers, no edit is made.
     ///
-    /// Afterwards all queries answer what running all present cells in order from nothing over the
-    /// present inputs gives, whatever distinct labels the cells have.
+    /// On a notebook without cells, `Insert(0, "x = 1")` and `Remove(7)` are answered `Ok` and
+    /// `NoCell(7, 1)`. Afterwards all queries answer what running all present cells in order from
+    /// nothing over the present inputs gives, whatever distinct labels the cells have.
     pub fn apply_all(
         &mut self,
         meter: &mut Meter,

@@ -1,4 +1,5 @@
-//! NPY files and their types: PEP 3118 formats, headers that are read, files that are written.
+//! NPY files and their dtypes: [`header`] reads files, [`writing`] writes them, [`pep3118`] has
+//! format strings.
 #![tactic(auto)]
 
 pub mod header;

@@ -92,7 +92,7 @@ module _ (place : ℕ → ℕ) where
       ∙ ap (λ n. take count out ++ place (first + k) ∷ map place (trues_in n (drop (k + 1) mask))) (sym (further first k))
       ∙ ap (λ l. take count out ++ map place l) (sym (next_of first mask k true lt here)) ∙ so_far
 
-  -- and one that is not
+  -- one byte more, which is false
   false_written : (first : ℕ) (mask out : List ℕ) (k count value : ℕ) (whole : List ℕ) → k < length mask → is_true (get_or mask k 0) ≡ false
       → take count out ++ map place (trues_in (first + k) (drop k mask)) ≡ whole
       → take count (set out count value) ++ map place (trues_in (first + (k + 1)) (drop (k + 1) mask)) ≡ whole
@@ -101,7 +101,7 @@ module _ (place : ℕ → ℕ) where
       ∙ ap (λ n. take count out ++ map place (trues_in n (drop (k + 1) mask))) (sym (further first k))
       ∙ ap (λ l. take count out ++ map place l) (sym (next_of first mask k false lt here)) ∙ so_far
 
-  -- and any one
+  -- one byte more, true or false
   pub written_next : (first : ℕ) (mask out : List ℕ) (k count more value : ℕ) (whole : List ℕ) → k < length mask → count < length out → value ≡ place (first + k)
       → more ≡ (if is_true (get_or mask k 0) then 1 else 0) → take count out ++ map place (trues_in (first + k) (drop k mask)) ≡ whole
       → take (count + more) (set out count value) ++ map place (trues_in (first + (k + 1)) (drop (k + 1) mask)) ≡ whole

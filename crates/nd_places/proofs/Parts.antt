@@ -28,7 +28,7 @@ row_next starts ways k within n lt le =
     ∙ take-append-le n (drop within row) rest left ∙ ap (take n) (drop-map place within ways) ∙ take-map place n (drop within ways) in
     sym (take-append-drop n (drop within all)) ∙ (λ i. part i ++ drop-drop n within all i)
 
--- and at its end the next row
+-- behind a whole row comes the next one
 pub row_end : (starts ways : List ℤ) (k : ℕ) → k < length starts → drop (length ways) (rows_places (drop k starts) ways) ≡ rows_places (drop (k + 1) starts) ways
 row_end starts ways k lt =
     let place : ℤ → ℕ = λ z. place_on (get_or starts k (pos 0) +ℤ z) in

@@ -6,7 +6,7 @@ use Rattle.nd_places.specs.declared.form.Form.{Form}
 use Rattle.nd_places.specs.declared.form.Form.TheVariants.{Each, Rows, Trues}
 use Rattle.nd_places.specs.declared.list.PlaceList.TheInside.{Inside}
 
--- of the elements of a line whose bytes of a mask are true, the first of which has this number
+-- the places of the elements of a line whose bytes of a mask are true, where the mask begins at this element
 abbrev pub trues_on : StridedLine → ℕ → List ℕ → List ℕ
 trues_on line first mask = map (place_on_line line.start line.step) (trues_in first mask)
 

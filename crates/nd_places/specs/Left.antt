@@ -14,7 +14,7 @@ rows_left rows done within = drop within (rows_places (drop done rows.starts.ite
 abbrev pub trues_left : Trues → (done : ℕ) → List ℕ
 trues_left trues done = trues_on trues.line done (drop done trues.mask)
 
--- where so many places, rows or bytes of a mask are done, and so many elements of the row behind them
+-- the places that are left where `done` places, rows or bytes of a mask are done, and `within` elements of the next row
 abbrev pub left_in : Form → (done within : ℕ) → List ℕ
 left_in (form.Each places) done within = drop done places.items
 left_in (form.Rows rows) done within = rows_left rows done within

@@ -7,11 +7,11 @@ use Rattle.nd_model.specs.Indexing.Advanced.{true_numbers}
 abbrev pub place_on : ℤ → ℕ
 place_on z = if int_le (pos 0) z && int_lt z (pos (2 ^ 64)) then unsigned_abs z else 0
 
--- near enough for sums of 64 bits
+-- a way that is near enough for sums of 64 bits
 abbrev pub IsNear : ℤ → Type 0
 IsNear z = unsigned_abs z ≤ 2 ^ 61
 
--- those of rows that begin at these ways, each with elements at the same ways behind
+-- the places of rows that begin at these ways, each with elements at the same ways behind its start
 abbrev pub rows_places : List ℤ → List ℤ → List ℕ
 rows_places starts ways = flat_map (λ s. map (λ z. place_on (s +ℤ z)) ways) starts
 

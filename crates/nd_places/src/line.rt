@@ -4,6 +4,8 @@ ghost use Rattle.nd_places.specs.Near.{IsNear, place_on};
 
 /// A strided line of elements: the byte offset of the element of index 0, and the bytes from one to
 /// the next.
+///
+/// For `x[::2]` with itemsize 8, `start` is 0 and `step` is 16.
 #[derive(Clone, Copy)]
 pub struct StridedLine {
     pub start: i64,
@@ -12,7 +14,7 @@ pub struct StridedLine {
     ghost step_near: { unsigned_abs step ≤ 2 ^ 29 },
 }
 
-/// Returns the byte offset that a distance from the block's first byte is, 0 where it is none.
+/// Returns a distance from the block's first byte as a byte offset, 0 for a negative one.
 #[inline(always)]
 pub fn near_place(way: i64) -> u64
     ensures { result ≡ place_on way }

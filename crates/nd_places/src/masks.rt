@@ -53,7 +53,7 @@ fn count_few(mask: &[u8]) -> u8
     count
 }
 
-/// Returns how many bytes of a mask are true.
+/// Returns how many bytes of a mask are true: two of `1 0 2`.
 pub fn count_trues(mask: &[u8]) -> u64
     ensures value { result ≡ length (trues_in 0 mask.now) }
     ensures few { result ≤ length mask.now }

@@ -37,7 +37,7 @@ module _ (t : ElementType) (shape bytes places : List ℕ) (size : length places
       (length-elements (is_structure t) bytes places narrow) (length-map places (text_at (is_structure t) wide bytes) ∙ size) some_elements
 
   module _ (line : List ℕ) (limit : ℕ) (inside : length line ≤ limit) where
-    -- it is too long with the least widths
+    -- a text that is too long with the least widths is too long
     pub too_long_narrow : limit - length line < nested_len 0 (element_len (is_structure t) narrow) shape → limit < length (line ++ text)
     too_long_narrow lt =
         let more = nested_mono 0 (element_len (is_structure t) narrow) (element_len (is_structure t) wide) shape (more_elements (is_structure t) bytes places narrow) in

@@ -25,7 +25,8 @@ pub enum Fit {
     TooLong,
 }
 
-/// Appends the text of a view's elements to a line of at most `limit` bytes, as NumPy prints them:
+/// Appends the text of a view's elements to a line of at most `limit` bytes. As NumPy prints them,
+/// numbers are aligned to the widest:
 ///
 /// ```text
 /// [[ 0  1]

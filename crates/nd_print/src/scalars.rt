@@ -10,7 +10,8 @@ use itoa::Buffer;
 use nd_types::{Kind, Num};
 use std::alloc::{AllocError, Global};
 
-/// Returns the text of a number outside arrays: `7`, `True`.
+/// Returns the text that `print` gives for a number outside arrays: `7`, `-3`, `True`. A NumPy
+/// scalar has the text of Python's number.
 pub fn scalar_text(alloc: Global, num: Num) -> Result<String, AllocError>
     ensures { IfOk result (λ text. string_bytes text ≡ num_text num) }
 {

@@ -1,4 +1,5 @@
-//! The program without its `main`: the command line, and the status that the program ends with.
+//! [`status`]: the program without its `main`, from the words of its command line to its exit
+//! status.
 #![tactic(auto)]
 
 mod program;

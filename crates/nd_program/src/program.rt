@@ -1,4 +1,4 @@
-//! The command line, and the status that the program ends with.
+//! `status`: runs what the command line asks for, and gives the exit status of the program.
 
 ghost use Rattle.std.specs.Prelude.{◌≤◌};
 ghost use Rattle.std.specs.Process.{exit_status};
@@ -169,8 +169,8 @@ fn request_of<'a>(alloc: Global, words: &'a [String]) -> Result<Request<'a>, Pro
     })
 }
 
-/// The bytes of a file, and of a large one as many as are more than an input may take. The buffer is made for the file's length; where
-/// none is known, as of a pipe, it grows.
+/// The bytes of a file, and of a large one as many as are more than an input may take. The buffer
+/// is made for the file's length; where none is known, as of a pipe, it grows.
 fn read_input(rt: &HostRuntime, path: &str) -> io::Result<Vec<u8>> {
     let file = fs::open(rt, path)?;
     // A byte more than the file has, so that the read that finds the end needs no more room.
@@ -211,7 +211,8 @@ fn run_reader<R: Read + Drop>(
     run(rt.alloc(), &mut reader, &mut writer, meter, notebook)
 }
 
-/// Runs the script at the path, or that of standard input. A script that cannot be opened cannot be read.
+/// Runs the script at the path, or that of standard input. A script that cannot be opened cannot be
+/// read.
 fn run_path<'a>(
     rt: &HostRuntime,
     path: Option<&'a str>,
@@ -234,7 +235,8 @@ fn run_path<'a>(
     }
 }
 
-/// Runs the script that a command line names, of which the first word is the program, over its inputs.
+/// Runs the script that a command line names, of which the first word is the program, over its
+/// inputs.
 fn run_command_line<'a>(rt: &HostRuntime, words: &'a [String]) -> Result<(), ProgramFault<'a>> {
     let request = request_of(rt.alloc(), words)?;
     let mut meter = Meter::new(rt);
@@ -256,16 +258,23 @@ fn status_of_run(rt: &HostRuntime, ended: Result<(), ProgramFault>) -> ExitCode
     }
 }
 
-/// Runs the program with these words, of which the first is its name, and gives its exit status: 0 where the script ended, 1 where it
-/// was not run to its end, 2 where the command line is refused, 3 where an input is not to be had. Why it is not 0 is said on standard
-/// error.
+/// Runs the program with these words, of which the first is its name, and gives its exit status:
+///
+/// ```text
+/// 0  the script ended           2  the command line is refused
+/// 1  it was not run to its end  3  an input is not to be had
+/// ```
+///
+/// Why it is not 0 is said on standard error. `ndnote --script s.ndn x=x.npy` sets the input `x`,
+/// and runs `s.ndn`.
 pub fn status_of(rt: &HostRuntime, words: &[String]) -> ExitCode
     ensures { exit_status result ≤ 3 }
 {
     status_of_run(rt, run_command_line(rt, words))
 }
 
-/// Runs the program with the words of its command line, and gives its exit status, as `status_of` does.
+/// Runs the program with the words of its command line, and gives its exit status, as `status_of`
+/// does.
 pub fn status(rt: &HostRuntime) -> ExitCode
     ensures { exit_status result ≤ 3 }
 {

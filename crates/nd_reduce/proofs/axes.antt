@@ -3,7 +3,6 @@ pub mod Across
 pub mod Emptied
 pub mod Moved
 pub mod Parts
-pub mod Placed
 pub mod Reduced
 pub mod Results
 pub mod Rows

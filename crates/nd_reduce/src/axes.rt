@@ -4,8 +4,6 @@ mod accumulating;
 mod axis;
 mod columns;
 mod fault;
-mod place_tables;
-mod places;
 mod reducing;
 mod tables;
 

@@ -12,7 +12,8 @@ pub fn file_again()
     rest_is_ignored();
 }
 
-/// A law: this holds, too, for an array whose elements lie anywhere in a block.
+/// A law: the file of an array whose elements lie anywhere in a block is read as the same dtype,
+/// shape and elements.
 pub fn array_again()
     ensures { ArrayAgain }
 {

@@ -20,7 +20,7 @@ at_most : (b : Bool) (n : ℕ) → (if b then n else 0) ≤ n
 at_most true n = omega arith
 at_most false n = omega arith
 
--- its place is its way
+-- an element whose way lies inside a block has a place inside it
 pub place_inside : (z : ℤ) (size len : ℕ) → pos 0 ≤ℤ z → (z +ℤ pos size) ≤ℤ pos len → place_on z + size ≤ len
 place_inside (pos n) size len above inside = omega (arith, ints, inside, at_most (int_le (pos 0) (pos n) && int_lt (pos n) (pos (2 ^ 64))) n)
 place_inside (negsuc n) size len above inside = absurd (omega (arith, ints, above))

@@ -16,7 +16,7 @@ use Rattle.nd_assign.specs.HeldFields.{HoldsFields}
 
 -- ---- places in an element
 
--- they are as far from its place as those in an element at 0 from there
+-- the places in an element at p are those in an element at 0, p further on
 pub places_by : (t : ElementType) (p : ℕ) → element_places t p ≡ map (λ o. p + o) (element_places t 0)
 places_by (One e) p = let none : p ≡ p + 0 = omega arith in ap (λ q. count_up q (size_of e.kind)) none ∙ sym (shifted p 0 (size_of e.kind))
 places_by (Structure fields size) p = all fields
@@ -42,7 +42,7 @@ in_append i (x ∷ xs) ys is = elim (or_cases (nat_eq i x) (is_in i (xs ++ ys)) 
   | inr rest ↦ elim (in_append i xs ys rest) [ inl a ↦ inl (or_right (nat_eq i x) (is_in i xs) a) | inr b ↦ inr b ]
 ]
 
--- they lie before its end
+-- the places in an element at 0 lie before its end
 pub in_element : (t : ElementType) (i : ℕ) → HoldsFields t → is_in i (element_places t 0) ≡ true → i < item_size t
 in_element (One e) i holds is = let less = in_run i 0 (size_of e.kind) is in omega (arith, less)
 in_element (Structure fields size) i holds is = all fields holds is
@@ -125,7 +125,7 @@ length-content (Structure fields size) (Rec zs) is = all fields zs is
         ∙ ap₂ (λ m n. m + n) (sym (run_long (0 + f.at) f z)) (all fs zs (omega (arith, same)))
         ∙ sym (length-append (count_up (0 + f.at) (size_of f.element.kind)) (field_places 0 fs))
 
--- they go to these places in order
+-- a content's bytes go to the places in its element in order
 pub writes_by : (t : ElementType) (p : ℕ) (c : Content) → IsWhole t c → writes t p c ≡ zip (map (λ o. p + o) (element_places t 0)) (content_bytes t c)
 writes_by t p c is = all_in t c is ∙ ap (λ ps. zip ps (content_bytes t c)) (places_by t p)
   where

@@ -32,14 +32,14 @@ pub step_few : (b : Bool) (n size : ℕ) → n ≡ (if b then size else 0) → n
 step_few true n size e = omega (arith, e)
 step_few false n size e = omega (arith, e)
 
--- one or none, each so many bytes further
+-- one element or none, `step` bytes each
 pub times : (b : Bool) (n step : ℕ) → n ≡ (if b then 1 else 0) → n * step ≡ (if b then step else 0)
 times true n step e = let one : 1 * step ≡ step = omega arith in ap (λ m. m * step) e ∙ one
 times false n step e = let none : 0 * step ≡ 0 = omega arith in ap (λ m. m * step) e ∙ none
 
 -- ---- bytes that are written
 
--- those before a place stay
+-- the bytes before a place stay
 take_before : (xs : List ℕ) (p : ℕ) (ys : List ℕ) → p ≤ length xs → take p (with_bytes xs p ys) ≡ take p xs
 take_before xs p ys le =
     let front : List ℕ = take p xs in let rest : List ℕ = drop (p + length ys) xs in
@@ -65,7 +65,7 @@ number_written false e values out to from z number small own room held is =
     ap (with_bytes out to) (ap (bytes_of e) is ∙ sym (number_bytes e (number_at e out to)) ∙ sym (own_bytes e out number own to room))
     ∙ own_again out to (size_of e.kind) room
 
--- ---- those that are read
+-- ---- elements that are read
 
 pub length-canonical : (e : Element) (xs : List ℕ) (p : ℕ) → length (canonical_at (One e) xs p) ≡ size_of e.kind
 length-canonical e xs p = ap length (number_bytes e (number_at e xs p)) ∙ length-bytes_of e (number_at e xs p)
@@ -99,7 +99,7 @@ module _ (F : ℕ → List ℕ) (place : ℕ → ℕ) where
           ap (λ n. take n (with_bytes out kept ys) ++ rest) same ∙ ap (λ l. l ++ rest) (take_before out kept ys room)
           ∙ ap (λ l. take kept out ++ flat_map F (map place l)) (sym (next_false first k mask lt here)) ∙ so_far
 
--- ---- those that are written
+-- ---- elements that are written
 
 -- what is left once a value is written where the byte is true
 pub record Wrote (e : Element) (values : List ℕ) (step at : ℕ) (left out whole : List ℕ) : Type 0 where

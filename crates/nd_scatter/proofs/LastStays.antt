@@ -103,7 +103,7 @@ module _ (t : ElementType) (c : Content) (values : List ℕ) (p q : ℕ) where
           subst (λ j. get_or (put mine out) j 0 ≡ get_or (put theirs out) j 0) split (inside (k - p))
     ]
 
-    -- so a copy writes that content
+    -- a copy of the bytes that hold a content writes that content
     pub copied : put (byte_copies t values p q) out ≡ put (writes t p c) out
     copied =
         ap (λ ws. put ws out) copies

@@ -35,7 +35,7 @@ module _ (e : Element) (xs : List ℕ) (number : e.kind ≢ Boolean) (small : Al
       ∙ ap (λ k. bytes_at xs q size ++ bytes_at xs k (n * size)) next
       ∙ (λ i. own_bytes q here i ++ from_number p (j + 1) n (omega (arith, le, further)) i)
 
-  -- those that lie side by side
+  -- the bytes of contiguous elements are those of each in order
   pub side_by_side_bytes : (p n : ℕ) → p + n * size_of e.kind ≤ length xs
       → bytes_at xs p (n * size_of e.kind) ≡ flat_map (canonical_at (One e) xs) (side_by_side (size_of e.kind) p n)
   side_by_side_bytes p n le =

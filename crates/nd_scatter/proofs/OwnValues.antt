@@ -23,7 +23,7 @@ use Rattle.nd_scatter.specs.OwnValues.{AreOwnValues}
 
 -- ---- a value of the target's own shape
 
--- its elements stand one beside the other
+-- a contiguous value has its elements' places in its own shape
 places_same : (v : Geo) (size : ℕ) → length v.places ≡ elements_of v.shape → v.places ≡ side_by_side size 0 (length v.places) → value_places v v.shape ≡ v.places
 places_same v size count are =
     let shape = v.shape in
@@ -51,7 +51,7 @@ module _ (g v : Geo) (own : AreOwnValues g v) where
   held_fields = subst HoldsFields (sym own.target) tt
 
   module _ (values : List ℕ) (lies : LiesIn (length values) v) where
-    -- they end in the block
+    -- the values end in the block
     end : 0 + length v.places * size_of own.elem.kind ≤ length values
     end = end_held v.places (size_of own.elem.kind) 0 (length values) own.some own.places (subst (λ (t : ElementType). All (λ p. p + item_size t ≤ length values) v.places) own.source lies.inside)
 

@@ -19,12 +19,12 @@ use Rattle.nd_scatter.proofs.ByteWrites.{IsWhole, content_bytes, writes_by, none
 use Rattle.nd_scatter.proofs.LastStays.{Holds, copied}
 
 module _ (t : ElementType) where
-  -- the values hold these contents, from this place on and so many bytes apart
+  -- the values hold these contents, from byte `from` on and `step` bytes apart
   abbrev pub HoldAll : (values : List ℕ) → (step from : ℕ) → List Content → Type 0
   HoldAll values step from [] = Unit {0}
   HoldAll values step from (c ∷ cs) = Holds t values from c × HoldAll values step (from + step) cs
 
-  -- so they are written
+  -- values that hold these contents are written as these contents
   pub all_copied : HoldsFields t → (values : List ℕ) (step from : ℕ) (ps : List ℕ) (cs : List Content) (old : List ℕ) → length ps ≡ length cs → HoldAll values step from cs
       → All (λ p. p + item_size t ≤ length old) ps → scattered t values step from ps old ≡ put (all_writes t ps cs) old
   all_copied fields values step from [] [] old same hold out = refl
@@ -40,7 +40,7 @@ module _ (t : ElementType) where
 
   -- ---- one after another
 
-  -- the places of so many elements, from the one of this number on
+  -- the places of n contiguous elements, from element j on
   abbrev pub side : ℕ → ℕ → List ℕ
   side j n = map (λ k. k * item_size t) (count_up j n)
 

@@ -6,7 +6,7 @@ use Rattle.nd_index.specs.Advanced.Chosen.{view_at}
 use Rattle.nd_scatter.specs.Scattered.{Prepared}
 use Rattle.nd_scatter.specs.declared.scatter.Scatter.TheInside.{Inside}
 
--- from a byte on the values begin so many bytes apart, and there is one for each of the places
+-- `count` values of `size` bytes, which begin `step` bytes apart from a byte on, end within `len` bytes
 abbrev pub AreValues : (size from step count len : ℕ) → Type 0
 AreValues size from step count len = (k : ℕ) → k < count → from + k * step + size ≤ len
 
@@ -16,7 +16,7 @@ target_of s = view_at s.view.now s.places.now
 abbrev pub prepared_of : Inside → Prepared
 prepared_of s = record { target = target_of s; values = s.values; step = s.step; len = s.len }
 
--- each element of the target ends in a block of so many bytes, and has a value; there are no more than an array may have
+-- Each element of the target ends within `len` bytes and has a value. There are no more elements than an array may have.
 pub record IsPrepared (g : Geo) (values : List ℕ) (step len : ℕ) : Type 0 where
   pub out : All (λ p. p + item_size g.element ≤ len) g.places
   pub held : AreValues (item_size g.element) 0 step (length g.places) (length values)

@@ -4,18 +4,18 @@ use Rattle.std.specs.List.{zip}
 use Rattle.nd_model.specs.Cells.Session.{put}
 use Rattle.nd_model.specs.Arrays.View.{ElementType, Geo, element_places}
 
--- the bytes of the element of these values at the second place, each with its place in an element at the first one; pad bytes are none
+-- The bytes of the values' element at the second place, each with its place in an element at the first one, without pad bytes.
 abbrev pub byte_copies : ElementType → (values : List ℕ) → (to from : ℕ) → List (ℕ × ℕ)
 byte_copies t values to from = zip (element_places t to) (map (slice_index values) (element_places t from))
 
--- the bytes once the element at each of the places is as those of the values, of which the first one begins here, and each further one
--- so many bytes behind
+-- The bytes once the element at each of the places has the bytes of a value. The first value begins at byte `from`, each further one
+-- `step` bytes behind.
 abbrev pub scattered : ElementType → (values : List ℕ) → (step from : ℕ) → (places old : List ℕ) → List ℕ
 scattered t values step from [] old = old
 scattered t values step from (p ∷ ps) old = scattered t values step (from + step) ps (put (byte_copies t values p from) old)
 
--- An assignment to chosen elements that is made ready: those of the target, in a block of so many bytes, get the values, which begin
--- so many bytes apart.
+-- A prepared assignment to chosen elements: those of the target, in a block of `len` bytes, get the values, which begin `step` bytes
+-- apart.
 pub record Prepared : Type 0 where
   pub target : Geo
   pub values : List ℕ

@@ -354,8 +354,8 @@ fn write_by_size(
     }
 }
 
-/// Writes the values to the elements of a line that its mask selects. They lie `step` bytes apart,
-/// at most the itemsize.
+/// Writes the values to the elements of a line that its mask selects. The values lie `step` bytes
+/// apart, at most the itemsize.
 pub(crate) fn assign_trues(out: &mut [u8], elem: Elem, trues: &Trues, values: &[u8], step: usize)
     requires step { step ≤ size_of elem.kind }
     requires inside { AreOnLine trues.now.line (size_of elem.kind) (length trues.now.mask)

@@ -63,6 +63,8 @@ impl<'p> Scatter<'p> {
 
     /// Writes the values to a block of the length that they were prepared for; any other block
     /// stays as it is. Where an element is selected twice, the last value in C order stays.
+    ///
+    /// After `x[[0, 0]] = [1, 2]` the first element of `x` is 2.
     pub fn write(&self, block: &mut RawBlock)
         ensures { block.new ≡ written_by self.now block.old }
     {

@@ -4,6 +4,7 @@ pub mod Sessions
 pub mod Intact
 pub mod Reading
 pub mod Agreeing
+pub mod Patching
 pub mod Redoing
 pub mod Retaining
 pub mod Keeping

@@ -6,7 +6,7 @@ last_step [] = pos 0
 last_step (s ∷ []) = s
 last_step (s ∷ z ∷ strides) = last_step (z ∷ strides)
 
--- another one in its place
+-- the strides with another one in place of the last
 abbrev pub with_last_step : List ℤ → ℤ → List ℤ
 with_last_step [] z = []
 with_last_step (s ∷ []) z = z ∷ []

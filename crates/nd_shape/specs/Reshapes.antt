@@ -18,7 +18,7 @@ steps_for way (n ∷ shape) = way (elements_of shape) ∷ steps_for way shape
 abbrev pub is_met : ℕ → ℤ → ℤ → Bool
 is_met n s way = nat_le n 1 || int_eq way s
 
--- each axis has
+-- each axis has its step, if it is walked
 abbrev pub are_met : (ℕ → ℤ) → List ℕ → List ℤ → Bool
 are_met way [] strides = true
 are_met way (n ∷ shape) [] = true
@@ -30,7 +30,7 @@ leads_to shape strides to = are_met (way_of to (steps_for (way_of shape strides)
 
 -- ---- the length that is left
 
--- a length is left that makes so many elements, or none is left open and there are so many
+-- a length is left that makes `count` elements, or none is left open and the known ones make as many
 abbrev pub fills : ℕ → ℕ → ℕ → Bool
 fills count unknowns known = if unknowns == 0 then known == count else (not (known == 0) && (count % known == 0))
 

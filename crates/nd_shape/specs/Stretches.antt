@@ -10,7 +10,7 @@ own_strides [] strides = []
 own_strides (n ∷ shape) [] = []
 own_strides (n ∷ shape) (s ∷ strides) = own_stride n s ∷ own_strides shape strides
 
--- with so many axes more in front
+-- the strides of a shape with `more` axes in front of it
 abbrev pub stretched_strides : ℕ → List ℕ → List ℤ → List ℤ
 stretched_strides more shape strides = replicate more (pos 0) ++ own_strides shape strides
 

@@ -260,12 +260,13 @@ fn empty_view(alloc: Global, view: &View, shape: &[u64]) -> Result<View, AllocEr
     Ok(empty)
 }
 
-/// Returns the elements in C order in another shape (`ndarray.reshape`): a view wherever strides
-/// can lead to them in this order, else the shape of a copy. A length of -1 stands for the one that
-/// is left.
+/// Returns the elements in C order in another shape (`ndarray.reshape`). It is a view wherever
+/// strides can lead to them in this order, else the shape of a copy. A length of -1 stands for the
+/// one that is left.
 ///
-/// Shape (2, 6) in (-1, 4) gives (3, 4). Refused in this order: `TwoUnknown`; `SizeMismatch`, also
-/// for another negative length and for -1 beside a length of 0.
+/// Shape (2, 6) in (-1, 4) gives (3, 4). `x.T.reshape(6)` of shape (2, 3) is a copy. Refused in
+/// this order: `TwoUnknown`; `SizeMismatch`, also for another negative length and for -1 beside a
+/// length of 0.
 pub fn reshape(
     alloc: Global,
     view: &View,

@@ -12,8 +12,10 @@ use nd_view::{Shape, View, limit_fault};
 use smallvec::SmallVec;
 use std::alloc::{AllocError, Global};
 
-/// Returns whether a shape broadcasts to another: aligned at the last axis, each length is equal or
-/// 1, and missing axes count as 1 (NumPy user guide, "Broadcasting").
+/// Returns whether a shape broadcasts to another (NumPy user guide, "Broadcasting"). Aligned at the
+/// last axis, each length is equal or 1, and missing axes count as 1.
+///
+/// (3, 1) broadcasts to (2, 3, 4), and (3,) does not broadcast to (3, 4).
 pub fn broadcasts_to(shape: &[u64], to: &[u64]) -> bool
     ensures { result ≡ broadcasting.broadcasts_to shape.now to.now }
 {

@@ -108,6 +108,8 @@ fn turn_axes(alloc: Global, shape: &[u64], strides: &[i128]) -> Result<Layout, A
 
 /// Returns the view whose axis `k` is axis `axes[k]` of this one (`ndarray.transpose`). Negative
 /// numbers count from the end. `BadAxes` where they are not the view's axes, each once.
+///
+/// Shape (2, 3, 4) with the axes (2, 0, 1) gives (4, 2, 3).
 pub fn transpose(
     alloc: Global,
     view: &View,
@@ -131,7 +133,8 @@ pub fn transpose(
     Ok(Ok(transposed))
 }
 
-/// Returns the view with its axes reversed (`ndarray.T`).
+/// Returns the view with its axes reversed (`ndarray.T`): shape (2, 3) with strides (24, 8) gives
+/// (3, 2) with (8, 24).
 pub fn reverse_axes(alloc: Global, view: &View) -> Result<View, AllocError>
     ensures { IfOk result (λ v. v ≡ reversed_view view.now) }
 {

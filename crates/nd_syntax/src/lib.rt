@@ -1,4 +1,5 @@
-//! The tree of a cell: statements, expressions, and the dtypes that they name.
+//! The tree of a cell, whose statements are [`trees::Stmt`], and the dtypes that it names, by
+//! [`dtypes::element_type`].
 #![tactic(auto)]
 
 pub mod dtypes;

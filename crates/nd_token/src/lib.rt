@@ -1,4 +1,4 @@
-//! The tokens of a cell's text: names, numbers, quoted texts and symbols, with their lines and
+//! [`tokens`]: the names, numbers, quoted texts and symbols of a cell's text, with their lines and
 //! columns.
 #![tactic(auto)]
 

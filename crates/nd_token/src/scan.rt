@@ -182,6 +182,9 @@ fn push_end<'a>(tokens: &mut Vec<Token<'a>>, end: Option<Token<'a>>) -> Result<(
 
 /// Returns the tokens of a text, each statement with its end, or the first byte that begins no
 /// token. Brackets join lines.
+///
+/// `x = 1` has the tokens `x`, `=` and `1` in columns 1, 3 and 5, and the statement's end in column
+/// 6.
 pub fn tokens<'a>(
     alloc: Global,
     text: &'a str,

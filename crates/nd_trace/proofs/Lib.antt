@@ -2,4 +2,3 @@ pub mod Places
 pub mod Noting
 pub mod Traces
 pub mod Touched
-pub mod Patches

@@ -1,5 +1,5 @@
 -- Places places of several bases.
-use Rattle.std.proofs.Common.{◌≡◌, ℕ, zero, suc, Bool, true, false, not, cond, ◌&&◌, ◌||◌, List, [], ◌∷◌, drop, slice_get, Some, None, Option, refl, sym, ap, ap₂, ◌∙◌, inl, inr, arith}
+use Rattle.std.proofs.Common.{◌≡◌, ℕ, Bool, true, false, not, cond, ◌&&◌, ◌||◌, List, [], ◌∷◌, Some, None, Option, refl, sym, ap, ◌∙◌, inl, inr, arith}
 use Rattle.std.specs.Map.{lookup as find}
 use Rattle.indexmap.specs.IndexMap.{insert_entry}
 use Rattle.std.proofs.lemmas.Bool.{cases_Bool, and_parts}
@@ -11,7 +11,6 @@ use Rattle.nd_heap.specs.declared.value.Base.{Base}
 use Rattle.nd_heap.specs.Values.{base_of}
 use Rattle.nd_trace.specs.Contents.{marks_of}
 use Rattle.nd_trace.specs.Marked.{is_marked}
-use Rattle.nd_trace.specs.Patching.{has_marks}
 use Rattle.nd_heap.proofs.Same.{same_bases}
 use Rattle.nd_heap.proofs.Bases.{base_eq, base_eq_sym}
 
@@ -51,30 +50,3 @@ put_back b es ts fs m n e ps was others marked set c p =
       | inl same ↦ rw same (marked p ∙ ap (λ o. o || (is_in p ps && not (e p))) (was p ∙ ap (λ d. is_marked (marks_of es) d p) (same_bases (base_of b) c same)))
       | inr apart ↦ rw apart (others c p apart ∙ or_nothing (is_marked (marks_of es) c p) (is_in p ps && not (e p)))
     ]
-
-pub marked_has : (es : List (model.Base × Places)) (b : model.Base) (p : ℕ) → is_marked es b p ≡ true → has_marks es b ≡ true
-marked_has [] b p h = cc
-marked_has (e ∷ es) b p h = elim (cases_Bool (model.same_base e.0 b)) [
-  | inl same ↦ rw same refl
-  | inr apart ↦ let rest : is_marked es b p ≡ true = rw apart at h in rw apart (marked_has es b p rest)
-]
-
--- the marks from this entry on, and those of the next ones
-pub marked_from : (b : Base) (m n : Places) (es fs gs : List (Base × Places)) (i : ℕ) → slice_get es i ≡ Some (b, m) → n ≡ m → gs ≡ insert_entry base_eq fs b n
-    → ((c : model.Base) (p : ℕ) → is_marked (marks_of fs) c p ≡ is_marked (marks_of (drop (suc i) es)) c p)
-    → (c : model.Base) (p : ℕ) → is_marked (marks_of gs) c p ≡ is_marked (marks_of (drop i es)) c p
-marked_from b m n es fs gs i at same set before c p =
-    ap (λ gs. is_marked (marks_of gs) c p) set ∙ is_marked-insert b n fs c p
-    ∙ ap₂ (λ h r. cond (model.same_base (base_of b) c) h r) (ap (λ m. holds m p) same) (before c p)
-    ∙ sym (ap (λ es. is_marked (marks_of es) c p) (from_here es i (b, m) at))
-  where
-    none_some : {P : Type 0} (e : Base × Places) → None ≡ Some e → P
-    none_some e h = cc
-
-    some_same : (d e : Base × Places) → Some d ≡ Some e → d ≡ e
-    some_same d e h = cc
-
-    from_here : (es : List (Base × Places)) (i : ℕ) (e : Base × Places) → slice_get es i ≡ Some e → drop i es ≡ e ∷ drop (suc i) es
-    from_here [] i e h = none_some e h
-    from_here (d ∷ es) zero e h = ap (λ d. d ∷ es) (some_same d e h)
-    from_here (d ∷ es) (suc i) e h = from_here es i e h

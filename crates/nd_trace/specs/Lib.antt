@@ -3,4 +3,3 @@ pub mod Marked
 pub mod Seen
 pub mod Traced
 pub mod Events
-pub mod Patching

@@ -4,8 +4,6 @@
 
 mod marking;
 mod trace;
-mod writer;
 
 pub use marking::Footprint;
 pub use trace::{Event, Trace};
-pub use writer::MarkedBytes;

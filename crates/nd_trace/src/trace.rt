@@ -82,6 +82,9 @@ impl Event {
 ///
 /// Only what other cells left counts as read: no byte of a block of its own, and no name that it
 /// bound or unbound before.
+///
+/// The cell `y = x[1:]`, `print(y + 1)`, where another bound `x`, looks up `x` alone, and reads the
+/// bytes of `x[1:]`.
 #[derive(Drop)]
 pub struct Trace {
     label: u64,
@@ -298,6 +301,9 @@ impl Trace {
     }
 
     /// Notes that all elements of an array are read.
+    ///
+    /// Of `x[::2]`, where `x` has `int16`s from byte offset 0 on, these are the bytes 0, 1, 4, 5 and
+    /// so on.
     pub fn note_view(&mut self, alloc: Global, array: &Array) -> Result<(), OutOfMemory>
         ensures after { OnOk result (trace_of self.new ≡ running.having_read
             (running.is_byte (base_of array.now.base) (byte_places (geo_of array.now)))
@@ -314,7 +320,7 @@ impl Trace {
         Ok(())
     }
 
-    /// Notes that the element at byte offset `place` is read.
+    /// Notes that the element at byte offset `place` is read: of an `int32` at 8, the bytes 8 to 11.
     pub fn note_element(
         &mut self,
         alloc: Global,

@@ -15,7 +15,7 @@ kind_of kind.U16 = element.UInt16
 kind_of kind.U32 = element.UInt32
 kind_of kind.U64 = element.UInt64
 
--- and back
+-- which kind of the code a kind of the definitions is
 abbrev pub kind_from : element.Kind → Kind
 kind_from element.Boolean = kind.Bool
 kind_from element.Int8 = kind.I8

@@ -44,7 +44,8 @@ fn find_kind(table: &[(&str, Kind)], name: &[u8]) -> Option<Kind>
     None
 }
 
-/// Returns the kind of a name such as `int8` or `bool` (NumPy user guide, "Data types").
+/// Returns the kind of a name such as `int8` or `bool` (NumPy user guide, "Data types"). Any other
+/// text gives `None`, as `float64` and `i4` do.
 pub fn kind_named(name: &str) -> Option<Kind>
     ensures { option_map kind_of result ≡ session.lookup name.now model.kind_names }
 {
@@ -70,10 +71,11 @@ fn byte_element_of(code: &[u8]) -> Option<Elem>
     Some(Elem::little(kind))
 }
 
-/// Returns the dtype of an array-protocol type string, such as `<i4`, `>u2` or `|b1`.
+/// Returns the dtype of an array-protocol type string, such as `<i4`, `>u2` or `|b1`, and `None`
+/// for any other text.
 ///
-/// It has a byte order, which may be left out, a letter, and an itemsize; `|` stands for one byte
-/// only (NPY format description, "descr").
+/// It has a byte order, which may be left out, a letter, and an itemsize in bytes. `|` stands for
+/// one byte only, so `|i4` is none (NPY format description, "descr").
 pub fn parse_descr(text: &str) -> Option<Elem>
     ensures { result ≡ model.or_coded None text.now }
 {

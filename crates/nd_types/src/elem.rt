@@ -32,6 +32,7 @@ impl Model for Elem {
 
 impl Elem {
     /// Returns the dtype of a kind, big-endian if asked for and if there is more than one byte.
+    /// `int8` has one dtype.
     #[inline]
     pub fn new(kind: Kind, big: bool) -> Elem
         ensures { result ≡ record {
@@ -69,7 +70,7 @@ impl Elem {
         self.big
     }
 
-    /// Returns the itemsize.
+    /// Returns the itemsize in bytes.
     #[inline]
     pub fn size(self) -> u64
         ensures value { result ≡ element.size_of self.kind }

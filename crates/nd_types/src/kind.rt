@@ -27,7 +27,7 @@ pub enum Kind {
 }
 
 impl Kind {
-    /// Returns the itemsize.
+    /// Returns the itemsize in bytes.
     #[inline]
     pub fn size(self) -> u64
         ensures value { result ≡ element.size_of (kind_of self) }
@@ -42,7 +42,7 @@ impl Kind {
     }
 }
 
-/// Returns the least number of the kind.
+/// Returns the least number of the kind: -128 for `int8`.
 pub fn lowest(kind: Kind) -> i128
     ensures { result ≡ element.lowest (kind_of kind) }
 {
@@ -55,7 +55,7 @@ pub fn lowest(kind: Kind) -> i128
     }
 }
 
-/// Returns the greatest number of the kind.
+/// Returns the greatest number of the kind: 127 for `int8`.
 pub fn highest(kind: Kind) -> i128
     ensures { result ≡ element.highest (kind_of kind) }
 {
@@ -72,7 +72,7 @@ pub fn highest(kind: Kind) -> i128
     }
 }
 
-/// Returns whether the kind has the number.
+/// Returns whether the kind has the number: `uint8` has 255, and has neither 256 nor -1.
 pub fn fits(kind: Kind, number: i128) -> bool
     ensures value { result ≡ element.fits (kind_of kind) number }
     ensures in_range { IsTrue result ↔ element.IsValue (kind_of kind) number }

@@ -35,8 +35,8 @@ fn are_name_bytes(bytes: &[u8]) -> bool
     true
 }
 
-/// Returns whether a field may have the name: 1 to 64 bytes, without colon, quote, backslash or
-/// control character.
+/// Returns whether a field may have the name: 1 to 64 bytes of UTF-8, without colon, quote,
+/// backslash or control character. `a b` may be one, and `a:b` may not.
 pub fn is_field_name(name: &str) -> bool
     ensures { result ≡ structure.is_field_name name.now }
 {

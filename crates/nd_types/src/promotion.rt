@@ -66,8 +66,10 @@ fn sort_of(kind: Kind) -> u8
 }
 
 /// Returns whether results of one kind may be written in place into numbers of another (NumPy's
-/// `same_kind`): Booleans to each kind, unsigned numbers to unsigned and signed ones, signed
+/// `same_kind`). Booleans may go to each kind, unsigned numbers to all but Booleans, and signed
 /// numbers to signed ones.
+///
+/// `int64` may go to `int8`, and `int8` may not go to `uint8`.
 pub fn same_kind(from: Kind, to: Kind) -> bool
     ensures { result ≡ promotion.same_kind (kind_of from) (kind_of to) }
 {

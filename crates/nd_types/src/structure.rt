@@ -107,8 +107,11 @@ fn are_same(these: &[Field], those: &[Field]) -> bool
 impl RecType {
     ghost use Rattle.nd_types.specs.Structures.{made};
 
-    /// Returns the structured dtype of these fields and this itemsize, or `None` where a rule is
-    /// broken.
+    /// Returns the structured dtype of these fields and this itemsize in bytes, or `None` where a
+    /// rule of [`RecType`] is broken.
+    ///
+    /// Fields `a` of `<i4` at 0 and `b` of `<u2` at 4 with itemsize 8 have two pad bytes behind
+    /// them. With itemsize 5, or with `b` at 3, there is no such dtype.
     pub fn new(fields: Vec<Field>, size: u32) -> Option<RecType>
         ensures { result ≡ made (fields_of fields.items) size }
     {
@@ -127,7 +130,7 @@ impl RecType {
         self.fields.as_slice()
     }
 
-    /// Returns the itemsize, pad bytes among it.
+    /// Returns the itemsize in bytes, pad bytes among it.
     pub fn size(&self) -> u32
         ensures value { result ≡ self.now.1 }
         ensures range { (0 < result) × (result ≤ 65536) }

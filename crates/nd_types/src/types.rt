@@ -16,7 +16,7 @@ pub enum ElemType {
 }
 
 impl ElemType {
-    /// Returns the dtype of elements that are this structure.
+    /// Returns the dtype of elements that are this structure. An error means want of memory.
     pub fn of_structure(alloc: Global, structure: RecType) -> Result<ElemType, AllocError>
         ensures { IfOk result (λ t. type_of t ≡ Structure structure.0 structure.1) }
     {
@@ -26,7 +26,7 @@ impl ElemType {
         }
     }
 
-    /// Returns the itemsize, with pad bytes.
+    /// Returns the itemsize in bytes, pad bytes among it.
     pub fn size(&self) -> u64
         ensures value { result ≡ item_size (type_of self.now) }
         ensures range { (0 < result) × (result ≤ 65536) }
@@ -48,7 +48,7 @@ impl ElemType {
         }
     }
 
-    /// Returns the same dtype. The fields of a structure are shared, not copied.
+    /// Returns an equal dtype. The fields of a structure are shared, not copied.
     pub fn try_clone(&self) -> Result<ElemType, AllocError>
         ensures { IfOk result (λ t. type_of t ≡ type_of self.now) }
     {

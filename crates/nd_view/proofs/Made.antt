@@ -118,7 +118,7 @@ parted t shape lengths strides steps offset start len none same kept at =
 pub no_fault : (size len offset : ℕ) (shape : List ℕ) (strides : List ℤ) → IsInLimits size shape → length strides ≡ length shape → are_held size len offset strides shape ≡ true → parts_fault size shape strides offset len ≡ None
 no_fault size len offset shape strides limits axes held = let test : (length shape == length strides) ≡ true = grind (arith, nat_tests) in rw (test, limits, held) refl
 
--- the same with this right to write
+-- a view by kept strides and offset, with this right to write, is that of the parts
 pub parted_as : (t : ElementType) (shape lengths : List ℕ) (strides steps : List ℤ) (offset start len : ℕ) (writable : Bool) → parts_fault (item_size t) shape strides offset len ≡ None
     → lengths ≡ shape → steps ≡ kept_all (elements_of shape) shape strides → start ≡ (if elements_of shape == 0 then 0 else offset)
     → ◌≡◌ {A = Geo} (record { element = t; shape = lengths; writable = writable; places = places_by start steps lengths })

@@ -8,7 +8,7 @@ use Rattle.nd_model.specs.Arrays.Tuple.{elements_of}
 use Rattle.nd_view.specs.Strides.{steps_of, strides_of}
 use Rattle.nd_view.proofs.Counts.{rest_some}
 
--- the stride of an axis, where the elements from it on have so many bytes
+-- the stride of an axis of length n, where all elements from it on have `step` bytes
 abbrev pub stride_of : ℕ → ℕ → ℤ
 stride_of step n = if nat_le n 1 then pos 0 else pos (step / n)
 

@@ -23,7 +23,7 @@ behind_of [] strides = 0
 behind_of (n ∷ shape) [] = 0
 behind_of (n ∷ shape) (s ∷ strides) = behind n s + behind_of shape strides
 
--- the stride that is kept of an axis of length n, where there are so many elements
+-- the stride that a view of `count` elements keeps of an axis of length n
 abbrev pub kept : ℕ → ℕ → ℤ → ℤ
 kept count n s = if nat_le n 1 || count == 0 then pos 0 else s
 
@@ -32,7 +32,7 @@ kept_all count [] strides = []
 kept_all count (n ∷ shape) [] = []
 kept_all count (n ∷ shape) (s ∷ strides) = kept count n s ∷ kept_all count shape strides
 
--- without gaps in C order: the stride of an axis is the size of all that lies below it, and 0 where the axis is not walked
+-- contiguous in C order: the stride of an axis is the size of all below it, 0 where the axis is not walked
 abbrev pub steps_of : ℕ → List ℕ → List ℤ
 steps_of size [] = []
 steps_of size (n ∷ shape) = (if nat_le n 1 then pos 0 else pos (elements_of shape * size)) ∷ steps_of size shape
@@ -47,7 +47,7 @@ strides_of size shape = if elements_of shape == 0 then replicate (length shape) 
 abbrev pub IsEven : List ℕ → List ℤ → ℤ → Type 0
 IsEven shape strides step = (t : List ℕ) → IsIndex shape t → way_to t strides ≡ pos (number shape t) *ℤ step
 
--- the same of the axes behind the outer ones
+-- element k of the axes behind the outer ones is k steps behind the first one
 abbrev pub IsEvenBehind : ℕ → List ℕ → List ℤ → ℤ → Type 0
 IsEvenBehind outer shape strides step = IsEven (drop outer shape) (drop outer strides) step
 
@@ -55,6 +55,6 @@ IsEvenBehind outer shape strides step = IsEven (drop outer shape) (drop outer st
 abbrev pub joined_step : ℕ → ℤ → ℕ → ℤ → ℤ
 joined_step n s count step = if nat_lt 1 n && nat_le count 1 then s else step
 
--- it leads to each of them
+-- the joined step leads to each of these elements
 abbrev pub AreJoined : ℕ → ℤ → ℕ → ℤ → Type 0
 AreJoined n s count step = (i k : ℕ) → i < n → k < count → (pos i *ℤ s) +ℤ (pos k *ℤ step) ≡ pos (i * count + k) *ℤ joined_step n s count step

@@ -29,7 +29,7 @@ fn are_joined(length: u64, stride: i128, count: u64, step: i128) -> bool
     }
 }
 
-// The step by which they are walked.
+// The step by which an axis and the `count` elements behind each of its indices are walked.
 fn joined_step(length: u64, stride: i128, count: u64, step: i128) -> i128
     ensures { result ≡ strides.joined_step length stride count step }
 {

@@ -124,8 +124,8 @@ pub(crate) fn kept_offset(shape: &[u64], offset: u64) -> u64
     if element_count(shape) == 0 { 0 } else { offset }
 }
 
-/// Returns the strides as a view keeps them: 0 on an axis of at most one element, and 0 on all
-/// where there are no elements.
+/// Returns the strides as a view keeps them: 0 on an axis of at most one element, and all 0 where
+/// there are no elements.
 pub(crate) fn kept_strides(
     alloc: Global,
     shape: &[u64],

@@ -48,8 +48,8 @@ impl Run {
         self.start
     }
 
-    /// Returns the bytes from one element to the next, which may be negative. The step of a single
-    /// element is 0.
+    /// Returns the bytes from one element to the next: -8 along `x[::-1]` with itemsize 8. The step
+    /// of a single element is 0.
     pub fn step(&self) -> i128
         ensures places { (k : ℕ) → k < length self.now → place_at (slice_index self.now 0) result k
             ≡ pos (slice_index self.now k) }
@@ -75,7 +75,8 @@ impl Run {
         shift_place(self.start, number, self.step)
     }
 
-    /// Returns the run of `count` of the elements, from index `first` on.
+    /// Returns the run of `count` of the elements, from index `first` on. Of `0 8 16 24`,
+    /// `part(1, 2)` is `8 16`.
     pub fn part(&self, first: u64, count: u64) -> Run
         requires some { 0 < count }
         requires inside { first + count ≤ length self.now }

@@ -21,7 +21,8 @@ const MOST_ELEMENTS: u64 = 1 << 24;
 
 const MOST_BYTES: u64 = 1 << 27;
 
-/// Returns the number of elements of a shape: 1 for a shape without axes, 0 where an axis has no element.
+/// Returns the number of elements of a shape: 12 for (3, 4), 1 for a shape without axes, 0 where an
+/// axis has no element.
 pub fn element_count(shape: &[u64]) -> u64
     requires { elements_of shape.now ≤ 2 ^ 24 }
     ensures { result ≡ elements_of shape.now }
@@ -101,8 +102,11 @@ fn is_too_large(size: u64, shape: &[u64]) -> bool
     }
 }
 
-/// Returns why no array of itemsize `size` has this shape: `TooManyAxes` above 32 axes, else
-/// `TooManyElements` where an axis, the elements or their bytes exceed their limits.
+/// Returns why no array of itemsize `size`, in bytes, has this shape, or `None` where one may.
+///
+/// `TooManyAxes` is for more than 32 axes. `TooManyElements` is for an axis of more than 2^32, for
+/// more than 2^24 elements or for more than 2^27 bytes. Shape (4096, 4096) of `int64` is just
+/// within the limits.
 pub fn limit_fault(size: u64, shape: &[u64]) -> Option<ViewFault>
     requires { size ≤ 65536 }
     ensures { option_map view_fault_of result ≡ model.limit_fault size shape.now }

@@ -32,7 +32,7 @@ pub type Index = SmallVec<u64, 8>;
 /// Where the elements of an array lie in its bytes: an offset, and for each axis a stride, both in
 /// bytes (PEP 3118).
 ///
-/// Equal views have equal fields: the stride is 0 on an axis of at most one element, and without
+/// Equal views have equal fields. The stride is 0 on an axis of at most one element; without
 /// elements all strides and the offset are 0.
 #[derive(Drop)]
 pub struct View {
@@ -77,7 +77,9 @@ impl View {
     /// byte offset of the first element. It is writable. A view without elements lies in every
     /// block (PEP 3118, "strides").
     ///
-    /// Refused in this order: `AxesDiffer`, `TooManyAxes`, `TooManyElements`, `OutOfBlock`.
+    /// With itemsize 1, shape (2, 2), strides (3, 1) and offset 1 have the byte offsets `1 2 4 5`,
+    /// which need 6 bytes. Refused in this order: `AxesDiffer`, `TooManyAxes`, `TooManyElements`,
+    /// `OutOfBlock`.
     pub fn from_parts(
         alloc: Global,
         elem: ElemType,
@@ -103,6 +105,8 @@ impl View {
 
     /// Returns the view with this shape, these strides in bytes, byte offset of the first element
     /// and `writable`. All byte offsets must lie between 0 and 2^64 - 1.
+    ///
+    /// Shape (3,) with stride -8 and offset 16 has the byte offsets `16 8 0`.
     pub fn from_strides(
         alloc: Global,
         elem: ElemType,
@@ -167,8 +171,8 @@ impl View {
         self.strides.as_slice()
     }
 
-    /// Returns the strides. Their clauses also say that all byte offsets lie between 0 and 2^64 -
-    /// 1.
+    /// Returns the strides in bytes. Their clauses also say that all byte offsets are at least 0
+    /// and below 2^64.
     pub fn held_strides(&self) -> &[i128]
         ensures held { model.parts_fault (item_size self.now.element) self.now.shape result.now
             (slice_index self.now.places 0) (2 ^ 64) ≡ None }
@@ -222,7 +226,8 @@ impl View {
         element_count(self.shape.as_slice()) as usize
     }
 
-    /// Returns the byte offset of an element. `number` is its flat index in C order.
+    /// Returns the byte offset of an element. `number` is its flat index in C order: in a
+    /// contiguous view of shape (2, 3) and itemsize 8, element 4 lies at 32.
     pub fn place_of(&self, number: u64) -> u64
         requires { number < length self.now.places }
         ensures value { result ≡ slice_index self.now.places number }
@@ -252,7 +257,8 @@ impl View {
         Ok(Some(index))
     }
 
-    /// Returns the byte offset of the element of an index tuple.
+    /// Returns the byte offset of the element of an index tuple. In a contiguous view of shape
+    /// (2, 3) and itemsize 8, (1, 2) lies at 40.
     pub fn place(&self, index: &Index) -> u64
         requires { IsIndex self.now.shape index.now.items }
         ensures { result ≡ slice_index self.now.places (number self.now.shape index.now.items) }
@@ -261,7 +267,7 @@ impl View {
     }
 
     /// Moves the index tuple to the next one in C order, and returns whether there is one. The last
-    /// tuple stays.
+    /// tuple stays. In shape (2, 3), the tuple after (0, 2) is (1, 0).
     pub fn next(&self, index: &mut Index) -> bool
         requires { IsIndex self.now.shape index.old.items }
         ensures inside { IsIndex self.now.shape index.new.items }
@@ -275,7 +281,9 @@ impl View {
     }
 
     /// Returns the elements in C order as runs. Axes are walked together where one step leads
-    /// through them, as NumPy's iterator does: a contiguous view is one run.
+    /// through them, as NumPy's iterator does.
+    ///
+    /// A contiguous `x` of shape (2, 3) is one run, and `x[:, :2]` has two of two elements.
     pub fn runs(&self) -> Runs<'_>
         ensures places { concat result ≡ self.now.places }
         ensures ends { All (λ p. p + item_size self.now.element ≤ 2 ^ 64) self.now.places }
@@ -286,8 +294,8 @@ impl View {
         )
     }
 
-    /// Returns the runs of elements along the last axis, in C order. A view without axes has one
-    /// run of one element.
+    /// Returns the runs of elements along the last axis, in C order: two of three elements for
+    /// shape (2, 3). A view without axes has one run of one element.
     pub fn rows(&self) -> Runs<'_>
         ensures value { result ≡ runs_of self.now }
         ensures places { concat result ≡ self.now.places }
@@ -309,7 +317,8 @@ impl View {
         place_by(self.offset, self.strides.as_slice(), outer)
     }
 
-    /// Returns the byte offsets of the bytes of all elements, without pad bytes.
+    /// Returns the byte offsets of the bytes of all elements, without pad bytes: `0 1 4 5` for two
+    /// elements of `<i2` with stride 4.
     pub fn byte_places(&self, alloc: Global) -> Result<Vec<u64>, AllocError>
         ensures { IfOk result (λ v. v.items ≡ byte_places self.now) }
     {

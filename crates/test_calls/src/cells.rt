@@ -1,4 +1,5 @@
-//! Calls `tree`, `tokens` and `field_name`: the statements and the tokens of a cell's text, and the names of fields.
+//! `print_tree`, `print_tokens` and `print_field_name`: the statements and the tokens of a cell's
+//! text, and the names of fields.
 
 use nd_parse::cells::parse_cell;
 use nd_token::{BadToken, Token, tokens};

@@ -1,4 +1,4 @@
-//! Call `format`: format strings with spaces, which no line of a script can say.
+//! `print_format`: reads format strings with spaces, which no line of a script can say.
 
 use nd_npy::pep3118::{FormatError, FormatFault, parse_format, write_format};
 use nd_types::ElemType;

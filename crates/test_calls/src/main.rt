@@ -1,11 +1,18 @@
-//! Makes the calls of parsing that no script shows, a line each on standard input, and prints what they give. A line is the call and,
-//! behind a space, its text, which has the escapes of `test_rows`. Empty lines, and lines that begin with `#`, are passed over. A line
-//! that is no call is answered `bad line`, and a text with a bad escape with its fault.
+//! Makes the calls of parsing that no script shows, a line each on standard input, and prints what
+//! they give.
 //!
-//! `tree TEXT` is answered with the statements of a cell, or with the fault of the text as `LINE KIND COLUMN`; `tokens TEXT` with its
-//! tokens, each as `LINE:COLUMN WORD` with a `^` before it where it begins a statement, or with the first place that is none;
-//! `field_name TEXT` with whether a field may have this name; `format SIZE TEXT` with what the text is as the format of an item of
-//! this size: the size and the format that is written of its type, as `8 as <q`, or its fault.
+//! A line is the call and, behind a space, its text, which has the escapes of `test_rows`. Empty
+//! lines, and lines that begin with `#`, are passed over. A line that is no call is answered
+//! `bad line`, and a text with a bad escape with its fault.
+//!
+//! ```text
+//! tree TEXT         the statements of a cell, or its fault as LINE KIND COLUMN
+//! tokens TEXT       its tokens as LINE:COLUMN WORD, or the first place that is none
+//! field_name TEXT   whether a field may have this name
+//! format SIZE TEXT  the size and the format that is written again, as `8 as <q`, or the fault
+//! ```
+//!
+//! A token that begins a statement has `^` before it.
 #![tactic(auto)]
 
 mod cells;

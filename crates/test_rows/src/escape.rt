@@ -116,7 +116,8 @@ fn push_escape<'a>(
     push_letter(text, escape)
 }
 
-/// The text that a line stands for: itself, where it has no backslash.
+/// The text that a line stands for: itself, where it has no backslash. `a\nb` stands for two lines,
+/// and `\{3:ab}` for `ababab`.
 pub fn unescape(alloc: Global, line: &str) -> Result<String, EscapeFault>
     ensures { ¬ Contains line.now 92 → IfOk result (λ text. string_bytes text ≡ line.now) }
 {

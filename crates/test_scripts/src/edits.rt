@@ -1,4 +1,4 @@
-//! Lists of edits on a notebook without cells, with the meter.
+//! `run_row`: makes a list of edits on a notebook without cells, with the meter.
 
 use nd_notebook::{Edit, EditFault, Input, Meter, Notebook};
 use nd_script::words::{LineCommand, LineInput, command_of};
@@ -13,8 +13,8 @@ fn words_of(line: &str) -> Option<(&str, &str, &str)> {
     Some((word, which, behind))
 }
 
-/// The edit that a line says: `insert AT SOURCE`, `change AT SOURCE`, `move FROM TO`, `remove AT`, `input NAME ..` as in a script, with the
-/// input that it sets beside it, or `drop NAME`.
+/// The edit that a line says: `insert AT SOURCE`, `change AT SOURCE`, `move FROM TO`, `remove AT`,
+/// `input NAME ..` or `drop NAME`. The input that it sets stands beside it.
 fn edit_of<'a>(line: &'a str, input: &'a Input) -> Option<Edit<'a>> {
     let (word, which, behind) = words_of(line)?;
     match word {

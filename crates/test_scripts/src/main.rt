@@ -1,8 +1,14 @@
-//! Rows of scripts, and of calls that no script shows. Each argument `rows FILE` names a file of rows: below each line `= TITLE` stands
-//! a script, whose lines may have the escapes of `test_rows`, and below each line `= edits: TITLE` a list of edits. Each other argument is
-//! a command line of the program, which is run, and its exit status printed; that of the last one is this program's. What is to be run
-//! with refused allocations: with the one word `memory` it makes some edits and no more, and with `repeat` those of the lists of edits
-//! on standard input.
+//! Rows of scripts, and of calls that no script shows.
+//!
+//! Each argument `rows FILE` names a file of rows. A script stands below each line `= TITLE`, and a
+//! list of edits below each line `= edits: TITLE`. A script's lines may have the escapes of
+//! `test_rows`.
+//!
+//! Each other argument is a command line of the program, which is run. Its exit status is printed,
+//! and that of the last one is this program's.
+//!
+//! With allocations refused, the one word `memory` makes some edits and no more. The word `repeat`
+//! makes those of the lists of edits on standard input.
 #![tactic(auto)]
 
 mod edits;

@@ -1,11 +1,12 @@
-//! Edits whose allocations are refused: each is answered with want of memory and leaves all as it was, or is done.
-//! Run with one allocation refused at a time, this prints the same whichever that is.
+//! `print_edits`: edits whose allocations are refused. Each is answered with want of memory and
+//! leaves all as it was, or is done. Run with one allocation refused at a time, this prints the
+//! same whichever that is.
 
 use nd_notebook::{Edit, EditFault, Meter, Notebook, QueryFault, Shown};
 use std::io;
 
-/// A cell as it is to show: its source, the text that it prints, and the elements of the arrays that are bound after it, to `x`
-/// and, where there is one, to `y`.
+/// A cell as it is to show: its source, the text that it prints, and the elements of the arrays
+/// that are bound after it. These are `x` and, where there is one, `y`.
 #[derive(Clone, Copy)]
 struct Cell<'a> {
     source: &'a str,

@@ -1,4 +1,4 @@
-//! `print_pieces` writes each piece of an answer once: counts, names, numbers, shapes, hex digits.
+//! `print_pieces`: writes each piece of an answer once: counts, names, numbers, shapes, hex digits.
 
 use nd_script::words::{
     push_count_line, push_hex, push_integer, push_names, push_number, push_shape, push_text,

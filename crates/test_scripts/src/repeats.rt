@@ -1,5 +1,6 @@
-//! Rows of edits whose allocations are refused: an edit that wants memory leaves all as it was, and is made a second time.
-//! Run with one allocation refused at a time, this prints the same whichever that is.
+//! `repeat_row`: a row of edits whose allocations are refused. An edit that wants memory leaves all
+//! as it was, and is made a second time. Run with one allocation refused at a time, this prints the
+//! same whichever that is.
 
 use crate::edits::{edits_of, inputs_of, print_texts, unescape_lines};
 use nd_notebook::{CellResult, Edit, EditFault, Meter, Notebook};

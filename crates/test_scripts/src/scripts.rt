@@ -1,4 +1,4 @@
-//! Scripts, and command lines of the program.
+//! `run_row` and `run_program`: run scripts, and command lines of the program.
 
 use nd_commands::{ScriptReader, ScriptWriter, run_script};
 use nd_notebook::Meter;

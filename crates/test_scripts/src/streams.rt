@@ -1,4 +1,5 @@
-//! Scripts from readers that give little at a time or fail, and to writers that take little or fail.
+//! `print_runs`: scripts from readers that give little at a time or fail, and to writers that take
+//! little or fail.
 
 use nd_commands::{RunFault, ScriptReader, ScriptWriter, run, run_script, run_turns};
 use nd_notebook::{Meter, Notebook};

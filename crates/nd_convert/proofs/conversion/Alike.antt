@@ -13,7 +13,7 @@ residue_of_wrap k z number = ((one_wrap k z (wrap k z) number).0 refl).1
 pub alike64 : (big : Bool) (z : ℤ) → bytes_of (record { kind = Int64; big = big }) (wrap Int64 z) ≡ bytes_of (record { kind = UInt64; big = big }) (wrap UInt64 z)
 alike64 big z = ap (bytes_in (width_of Int64) big) (residue_of_wrap Int64 z (λ e. cc) ∙ sym (residue_of_wrap UInt64 z (λ e. cc)))
 
--- so the converted numbers have
+-- numbers that are converted to kinds with the same bytes have the same bytes
 pub converted_alike : (to other from : Element) (bytes places : List ℕ) → ((z : ℤ) → bytes_of other (wrap other.kind z) ≡ bytes_of to (wrap to.kind z))
     → converted_bytes other from bytes places ≡ converted_bytes to from bytes places
 converted_alike to other from bytes places same = λ i. flat_map (λ p. same (number_at from bytes p) i) places

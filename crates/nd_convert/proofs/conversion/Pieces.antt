@@ -44,7 +44,7 @@ module _ (ps : List ℕ) (start : ℕ) (step : ℤ) (places : (k : ℕ) → k < 
       get_or-map (spot_at start step) (count_up 0 (length ps)) k 0 d in_order
       ∙ ap (spot_at start step) (get_or-count_up 0 (length ps) k 0 few ∙ omega arith) ∙ spot k few ∙ at_default ps k 0 d few)
 
-  -- and its elements lie where its places are
+  -- the elements of the run lie within len bytes where its places do
   pub within : (size len : ℕ) → All (λ p. p + size ≤ len) ps → AreWithin start step size (length ps) len
   within size len all k lt =
       let end : get_or ps k 0 + size ≤ len = all k 0 lt in

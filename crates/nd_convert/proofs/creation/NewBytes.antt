@@ -92,7 +92,7 @@ zeros_bytes t shape n size is same =
 
 -- ---- elements that are given
 
--- the same bytes once more
+-- k + 1 times the bytes of l are k times these bytes, and l
 pub repeat_more : (l : List ℕ) (k : ℕ) → flat_map (λ j. l) (count_up 0 (k + 1)) ≡ flat_map (λ j. l) (count_up 0 k) ++ l
 repeat_more l k = ap (flat_map (λ j. l)) (one_more k) ∙ flat_map-append (λ j. l) (count_up 0 k) (k ∷ []) ∙ ap (λ r. flat_map (λ j. l) (count_up 0 k) ++ r) (append-nil l)
 

@@ -22,7 +22,7 @@ pub fn zeros(alloc: Global, view: &View) -> Result<RawBlock, AllocError>
 }
 
 /// Returns the block of a new contiguous array of copies of one number (`np.full`). A number
-/// outside the kind is wrapped.
+/// outside the kind is wrapped: 300 as `uint8` is 44.
 pub fn full(alloc: Global, view: &View, elem: Elem, number: i128) -> Result<RawBlock, AllocError>
     ensures { IfOk result (λ b. b ≡ array_bytes (One elem) view.now.shape (λ t. Num number)) }
 {
@@ -33,7 +33,7 @@ pub fn full(alloc: Global, view: &View, elem: Elem, number: i128) -> Result<RawB
 }
 
 /// Returns the block of a new array of one axis with `n` numbers that lie `step` apart
-/// (`np.arange`): from 5 by 2 there are `5 7 9` for `n` 3. A number outside the kind is wrapped.
+/// (`np.arange`). Three from 5 on by 2 are `5 7 9`. A number outside the kind is wrapped.
 pub fn range(
     alloc: Global,
     elem: Elem,

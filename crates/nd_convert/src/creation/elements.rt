@@ -12,7 +12,8 @@ use nd_types::Elem;
 use nd_view::View;
 use std::alloc::{AllocError, Global};
 
-/// Returns the block of a new contiguous array whose elements all have these bytes.
+/// Returns the block of a new contiguous array whose elements all have these bytes, as many as the
+/// itemsize.
 pub fn repeat(alloc: Global, view: &View, element: &[u8]) -> Result<RawBlock, AllocError>
     requires { length element.now ≡ item_size view.now.element }
     ensures { IfOk result (λ b. b ≡ flat_map (λ t. element.now) (indices view.now.shape)) }
@@ -26,8 +27,8 @@ pub fn repeat(alloc: Global, view: &View, element: &[u8]) -> Result<RawBlock, Al
     Ok(block.finish())
 }
 
-/// Returns the block of a new contiguous array with these numbers in C order. A number outside the
-/// kind is wrapped.
+/// Returns the block of a new contiguous array with these numbers in C order (`np.array`). A number
+/// outside the kind is wrapped.
 pub fn list(
     alloc: Global,
     view: &View,

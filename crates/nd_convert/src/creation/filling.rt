@@ -64,9 +64,9 @@ pub(crate) fn next_number(number: i128, step: i128) -> i128
     number.wrapping_add(step)
 }
 
-/// Writes numbers that lie `step` apart, from `start` on, to `n` elements. A number outside the
-/// kind is wrapped.
-pub(crate) fn fill_up(bytes: &mut [u8], elem: Elem, start: i128, step: i128, n: usize)
+/// Writes numbers that lie `step` apart, from `start` on, to `n` elements.
+#[inline(always)]
+fn fill_up_each(bytes: &mut [u8], elem: Elem, start: i128, step: i128, n: usize)
     requires { (length bytes.old ≡ n * size_of elem.kind) × (n ≤ 2 ^ 24) }
     ensures { bytes.new ≡ bytes_below elem (λ k. start +ℤ (pos k *ℤ step)) n }
 {
@@ -75,6 +75,40 @@ pub(crate) fn fill_up(bytes: &mut [u8], elem: Elem, start: i128, step: i128, n: 
     for index in 0..n {
         store_at(bytes, index * size, elem, number);
         number = next_number(number, step);
+    }
+}
+
+/// Fills with numbers of any dtype: the loop is compiled once and not specialised.
+#[inline(never)]
+fn fill_up_any(bytes: &mut [u8], elem: Elem, start: i128, step: i128, n: usize)
+    requires { (length bytes.old ≡ n * size_of elem.kind) × (n ≤ 2 ^ 24) }
+    ensures { bytes.new ≡ bytes_below elem (λ k. start +ℤ (pos k *ℤ step)) n }
+{
+    fill_up_each(bytes, elem, start, step, n);
+}
+
+/// Fills by a loop specialised for `known` where it is the dtype, and by the general one otherwise.
+#[inline(always)]
+fn fill_up_known(bytes: &mut [u8], known: Elem, elem: Elem, start: i128, step: i128, n: usize)
+    requires { (length bytes.old ≡ n * size_of elem.kind) × (n ≤ 2 ^ 24) }
+    ensures { bytes.new ≡ bytes_below elem (λ k. start +ℤ (pos k *ℤ step)) n }
+{
+    if elem == known {
+        fill_up_each(bytes, known, start, step, n);
+    } else {
+        fill_up_any(bytes, elem, start, step, n);
+    }
+}
+
+/// Writes numbers that lie `step` apart, from `start` on, to `n` elements. A number outside the
+/// kind is wrapped.
+pub(crate) fn fill_up(bytes: &mut [u8], elem: Elem, start: i128, step: i128, n: usize)
+    requires { (length bytes.old ≡ n * size_of elem.kind) × (n ≤ 2 ^ 24) }
+    ensures { bytes.new ≡ bytes_below elem (λ k. start +ℤ (pos k *ℤ step)) n }
+{
+    match elem.size() {
+        4 => fill_up_known(bytes, Elem::little(Kind::I32), elem, start, step, n),
+        _ => fill_up_known(bytes, Elem::little(Kind::I64), elem, start, step, n),
     }
 }
 

@@ -1,6 +1,7 @@
 //! `Range`: the integers of NumPy's `arange`.
 
-ghost use Rattle.std.specs.Prelude.{◌≡◌, ◌≢◌, ◌*ℤ◌, pos};
+ghost use Rattle.std.specs.Prelude.{◌≡◌, ◌≢◌, ◌<◌, ◌*ℤ◌, ℕ, IsTrue, pos, true};
+ghost use Rattle.nd_model.specs.Arrays.Element.{fits};
 ghost use Rattle.nd_model.specs.Making.Creation as creation;
 ghost use Rattle.nd_types.specs.Kinds.{kind_of};
 ghost use Rattle.nd_convert.specs.Creation.Ranges.{range_from};
@@ -54,13 +55,27 @@ fn range_number(range: Range, place: usize) -> i128
     next_number(range.start, way_to(place, range.step))
 }
 
-/// Returns the first integer of the range that a kind does not hold. `count` is that of
-/// `range_count`.
+/// Whether a kind holds the first and the last of the range's integers, and so all of them. The
+/// answer is `false` where there are none.
+fn holds_ends(kind: Kind, range: Range, count: usize) -> bool
+    requires step { range.step ≢ pos 0 }
+    requires count { count ≡ creation.range_count (range_from range) }
+    ensures { IsTrue result → (k : ℕ) → k < count
+        → fits (kind_of kind) (creation.range_number (range_from range) k) ≡ true }
+{
+    count != 0 && fits(kind, range_number(range, 0)) && fits(kind, range_number(range, count - 1))
+}
+
+/// Returns the first integer of the range that a kind does not hold: 130 for `int8` and
+/// `120 130 140`. `count` is that of `range_count`.
 pub fn range_misfit(kind: Kind, range: Range, count: usize) -> Option<i128>
     requires step { range.step ≢ pos 0 }
     requires count { count ≡ creation.range_count (range_from range) }
     ensures { result ≡ creation.range_misfit (kind_of kind) (range_from range) }
 {
+    if holds_ends(kind, range, count) {
+        return None;
+    }
     for place in 0..count {
         let number = range_number(range, place);
         if !fits(kind, number) {

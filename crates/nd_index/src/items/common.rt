@@ -72,6 +72,8 @@ fn join(alloc: Global, shape: &[u64], item: &Item<'_>) -> Result<Option<Shape>, 
 
 /// Returns the shape to which all arrays broadcast, or `None` where they do not. A mask counts as
 /// one axis of its true elements, integers as shape ().
+///
+/// Arrays of the shapes (2, 1) and (3,) broadcast to (2, 3), and those of (2,) and (3,) to none.
 pub fn common_shape(alloc: Global, items: &[Item<'_>]) -> Result<Option<Shape>, AllocError>
     ensures { IfOk result (λ found. option_map (λ v. v.items) found
         ≡ model.common_shape (Some []) (items_of items.now)) }

@@ -35,6 +35,8 @@ fn position(length: u64, index: i128) -> Option<u64>
 }
 
 /// Returns the position of an index that is within bounds; a negative one counts from the end.
+///
+/// `inside_position(5, -2)` is 3.
 #[inline(always)]
 pub fn inside_position(length: u64, index: i128) -> u64
     requires { counted_from length index ≤ 2 ^ 32 }

@@ -47,6 +47,8 @@ impl<'a> Axes<'a> {
 
     /// Returns the offset of an element from the first one, in bytes. `number` is its flat index in
     /// C order.
+    ///
+    /// Of lengths (2, 3) and strides (24, 8), `way(4)` is 32.
     #[inline(always)]
     pub fn way(&self, number: u64) -> i128
         requires { number ≤ 2 ^ 32 }

@@ -84,9 +84,9 @@ binary_of words.Percent = syntax.Remainder
 binary_of words.DoubleStar = syntax.Power
 binary_of words.ShiftLeft = syntax.LeftShift
 binary_of words.ShiftRight = syntax.RightShift
-binary_of words.Ampersand = syntax.BitAnd
-binary_of words.Caret = syntax.BitXor
-binary_of words.Bar = syntax.BitOr
+binary_of words.Ampersand = syntax.BitwiseAnd
+binary_of words.Caret = syntax.BitwiseXor
+binary_of words.Bar = syntax.BitwiseOr
 binary_of words.Less = syntax.Less
 binary_of words.LessEqual = syntax.LessEqual
 binary_of words.Greater = syntax.Greater
@@ -106,9 +106,9 @@ augment_of words.PercentEqual = Some syntax.Remainder
 augment_of words.DoubleStarEqual = Some syntax.Power
 augment_of words.ShiftLeftEqual = Some syntax.LeftShift
 augment_of words.ShiftRightEqual = Some syntax.RightShift
-augment_of words.AmpersandEqual = Some syntax.BitAnd
-augment_of words.CaretEqual = Some syntax.BitXor
-augment_of words.BarEqual = Some syntax.BitOr
+augment_of words.AmpersandEqual = Some syntax.BitwiseAnd
+augment_of words.CaretEqual = Some syntax.BitwiseXor
+augment_of words.BarEqual = Some syntax.BitwiseOr
 augment_of w = None
 
 abbrev pub augment : Token → Option BinaryOp

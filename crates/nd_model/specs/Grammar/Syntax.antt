@@ -19,9 +19,9 @@ pub data BinaryOp : Type 0 where
   Power : BinaryOp
   LeftShift : BinaryOp
   RightShift : BinaryOp
-  BitAnd : BinaryOp
-  BitXor : BinaryOp
-  BitOr : BinaryOp
+  BitwiseAnd : BinaryOp
+  BitwiseXor : BinaryOp
+  BitwiseOr : BinaryOp
   Less : BinaryOp
   LessEqual : BinaryOp
   Greater : BinaryOp

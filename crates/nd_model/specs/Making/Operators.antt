@@ -5,7 +5,7 @@ use Rattle.std.specs.Int.{w128, int_pow, int_div_euclid, int_rem_euclid, int_bit
 use Rattle.nd_model.specs.Arrays.Element.{Kind, Boolean, Int8, Int64, size_of, fits, wrap}
 use Rattle.nd_model.specs.Arrays.Promotion.{promoted}
 use Rattle.nd_model.specs.Cells.Fault.{Fault, Ufunc, FloatResult, BoolOp, IntOutOfRange, NegativePower, Stmt, ZeroDivide, NegativeShift, NeedsType}
-use Rattle.nd_model.specs.Grammar.Syntax.{UnaryOp, Negative, Invert, BinaryOp, Add, Subtract, Multiply, FloorDivide, Divide, Remainder, Power, LeftShift, RightShift, BitAnd, BitXor, BitOr, Less, LessEqual, Greater, GreaterEqual, Equal, NotEqual}
+use Rattle.nd_model.specs.Grammar.Syntax.{UnaryOp, Negative, Invert, BinaryOp, Add, Subtract, Multiply, FloorDivide, Divide, Remainder, Power, LeftShift, RightShift, BitwiseAnd, BitwiseXor, BitwiseOr, Less, LessEqual, Greater, GreaterEqual, Equal, NotEqual}
 use Rattle.nd_model.specs.Cells.Refusing.{◌>>=◌, when}
 use Rattle.nd_model.specs.Making.Operand.{Number, Int, Truth, Scalar, Made, ANumber, python_int, truth_number, number_of}
 
@@ -61,9 +61,9 @@ arithmetic Remainder a b = when (not (is_zero b)) (Stmt ZeroDivide) (python_int 
 arithmetic Power a b = when (not (is_negative b)) (Ufunc FloatResult) (python_int (int_pow a (unsigned_abs b)))
 arithmetic LeftShift a b = when (not (is_negative b)) (Stmt NegativeShift) (python_int (a *ℤ power_of_two b))
 arithmetic RightShift a b = when (not (is_negative b)) (Stmt NegativeShift) (python_int (floor_quotient a (power_of_two b)))
-arithmetic BitAnd a b = python_int (int_bit_and w128 a b)
-arithmetic BitXor a b = python_int (int_bit_xor w128 a b)
-arithmetic BitOr a b = python_int (int_bit_or w128 a b)
+arithmetic BitwiseAnd a b = python_int (int_bit_and w128 a b)
+arithmetic BitwiseXor a b = python_int (int_bit_xor w128 a b)
+arithmetic BitwiseOr a b = python_int (int_bit_or w128 a b)
 arithmetic Less a b = truth (int_lt a b)
 arithmetic LessEqual a b = truth (int_le a b)
 arithmetic Greater a b = truth (int_lt b a)
@@ -73,9 +73,9 @@ arithmetic NotEqual a b = truth (not (is_equal a b))
 
 -- `& | ^` of two Booleans give Booleans
 abbrev pub of_truths : BinaryOp → Bool → Bool → Result Made Fault
-of_truths BitAnd s t = truth (s && t)
-of_truths BitXor s t = truth (if s then not t else t)
-of_truths BitOr s t = truth (s || t)
+of_truths BitwiseAnd s t = truth (s && t)
+of_truths BitwiseXor s t = truth (if s then not t else t)
+of_truths BitwiseOr s t = truth (s || t)
 of_truths op s t = arithmetic op (truth_number s) (truth_number t)
 
 abbrev pub of_python : BinaryOp → Number → Number → Result Made Fault
@@ -113,9 +113,9 @@ exact k (Operator Remainder) a b = if is_zero b then pos 0 else floor_remainder 
 exact k (Operator Power) a b = int_pow a (unsigned_abs b)
 exact k (Operator LeftShift) a b = if leaves_bits k b then a *ℤ power_of_two b else pos 0
 exact k (Operator RightShift) a b = if leaves_bits k b then floor_quotient a (power_of_two b) else sign_left a
-exact k (Operator BitAnd) a b = int_bit_and w128 a b
-exact k (Operator BitXor) a b = int_bit_xor w128 a b
-exact k (Operator BitOr) a b = int_bit_or w128 a b
+exact k (Operator BitwiseAnd) a b = int_bit_and w128 a b
+exact k (Operator BitwiseXor) a b = int_bit_xor w128 a b
+exact k (Operator BitwiseOr) a b = int_bit_or w128 a b
 exact k (Operator Less) a b = truth_number (int_lt a b)
 exact k (Operator LessEqual) a b = truth_number (int_le a b)
 exact k (Operator Greater) a b = truth_number (int_lt b a)

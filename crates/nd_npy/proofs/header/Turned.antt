@@ -49,7 +49,7 @@ fortran_block t shape bytes v b is block =
     block ∙ ap (λ (g : Geo). array_bytes g.element g.shape (content_in_order g.shape (map (content_at g.element bytes) g.places))) is
     ∙ ap (λ s. array_bytes t s (content_in_order s (map (content_at t bytes) (reversed_view (contiguous t (reverse shape))).places))) (turned_lengths (reverse shape) ∙ reverse-reverse shape)
 
--- and in C order
+-- the block of elements in C order
 pub c_block : (v : Geo) (bytes b : List ℕ) → v ≡ contiguous v.element v.shape
     → b ≡ array_bytes v.element v.shape (content_in_order v.shape (map (content_at v.element bytes) v.places))
     → b ≡ elements_block v.element false v.shape bytes

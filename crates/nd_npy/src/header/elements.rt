@@ -71,7 +71,8 @@ fn block_of(
     copy_elements(alloc, view, elements)
 }
 
-/// Returns the array whose elements these bytes begin with.
+/// Returns the array of a header, whose elements these bytes begin with. `Truncated` where they are
+/// too few.
 #[tactic(auto, unfolding(nd_model::specs::Formats::NpyReading::elements_in))]
 pub fn elements_in(alloc: Global, header: Header, bytes: &[u8]) -> Result<NpyArray, NpyError>
     requires { IsInLimits (item_size (type_of header.elem)) header.shape.items }

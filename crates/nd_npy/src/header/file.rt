@@ -128,10 +128,11 @@ fn read_version(alloc: Global, bytes: &[u8]) -> Result<NpyArray, NpyError>
 }
 
 /// Returns the array of an NPY file of version 1.0, 2.0 or 3.0, in a new block (NumPy's description
-/// of the format). Bytes behind the last element are ignored.
+/// of the format). Bytes behind the last element are ignored. NumPy's file of
+/// `np.arange(2, dtype='>i2')` gives `[0 1]` of `>i2`.
 ///
-/// Refused in this order: the magic bytes, the version, the end of the header, its text, its keys,
-/// its type, the limits of arrays, the end of the elements.
+/// Refused in this order: `BadMagic`, `BadVersion`, `Truncated` in the header, `NotText`,
+/// `BadHeader`, `BadKeys`, `BadDescr`, `TooLarge`, `Truncated` in the elements.
 #[tactic(auto, unfolding(nd_model::specs::Formats::NpyReading::read_npy))]
 pub fn read_npy(alloc: Global, bytes: &[u8]) -> Result<NpyArray, NpyError>
     ensures { GivesArray result (npy.read_npy bytes.now) }

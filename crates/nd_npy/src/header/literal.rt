@@ -47,7 +47,8 @@ fn judge_roles(
     follow(alloc, encoding, roles, bytes)?.finish(alloc)
 }
 
-/// Returns the header that the bytes are.
+/// Returns the header that the bytes are: `{'descr': '<i2', 'fortran_order': False, 'shape': (2,)}`
+/// has dtype `<i2`, C order and shape (2,). The limits of arrays are not looked at.
 #[tactic(auto, unfolding(nd_model::specs::Formats::NpyHeader::header_in))]
 pub fn parse_header(alloc: Global, encoding: Encoding, bytes: &[u8]) -> Result<Header, NpyError>
     ensures { GivesHeader result (header.header_in (encoding_of encoding) bytes.now) }

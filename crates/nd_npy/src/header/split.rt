@@ -5,7 +5,7 @@ ghost use Rattle.nd_npy.specs.Header.Gives.{parts_given};
 
 use crate::header::fault::NpyFault;
 
-/// Returns the first `n` bytes and those behind them; fewer bytes are refused as truncated.
+/// Returns the first `n` bytes and those behind them. Fewer bytes are refused as `Truncated`.
 pub fn split(n: usize, bytes: &[u8]) -> Result<(&[u8], &[u8]), NpyFault>
     ensures { parts_given result ≡ npy.split n bytes.now }
 {

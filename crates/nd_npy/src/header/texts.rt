@@ -1,4 +1,5 @@
-//! The texts of a header's `descr`: dtypes, numbers of pad bytes, names.
+//! `element_in`, `pad_in` and `text_of`: dtypes, numbers of pad bytes and names in a header's
+//! `descr`.
 ghost use Rattle.std.specs.Prelude.{◌≡◌, ◌≤◌, IfSome, is_some, string_bytes};
 ghost use Rattle.std.specs.Str.{is_utf8};
 ghost use Rattle.nd_model.specs.Formats.NpyHeader as header;
@@ -6,7 +7,7 @@ ghost use Rattle.nd_model.specs.Formats.NpyHeader as header;
 use nd_types::{Elem, parse_descr};
 use std::str;
 
-/// Returns the dtype that a text is.
+/// Returns the dtype that a text is, as `<i4`, or `None` where it is none.
 pub fn element_in(text: &[u8]) -> Option<Elem>
     ensures { result ≡ header.element_in text.now }
 {
@@ -71,7 +72,8 @@ fn unordered_pad_in(text: &[u8]) -> Option<u32>
     }
 }
 
-/// Returns the number of pad bytes of `Vn` or `|Vn`, at most one more than a structure may have.
+/// Returns the number of pad bytes of `Vn` or `|Vn`, as 3 of `|V3`. It is at most one more than a
+/// structure may have.
 pub fn pad_in(text: &[u8]) -> Option<u32>
     ensures value { result ≡ header.pad_in text.now }
     ensures range { IfSome result (λ n. n ≤ 65537) }
@@ -88,7 +90,7 @@ pub fn pad_in(text: &[u8]) -> Option<u32>
     }
 }
 
-/// Returns the text of these bytes.
+/// Returns the text of these bytes, or `None` where they are no UTF-8.
 pub fn text_of(bytes: Vec<u8>) -> Option<String>
     ensures text { IfSome result (λ t. string_bytes t ≡ bytes.items) }
     ensures valid { is_some result ≡ is_utf8 bytes.items }

@@ -8,19 +8,28 @@ use std::alloc::{AllocError, AllocFailed};
 /// counted from 0.
 #[derive(Clone, Copy, PartialEq, Eq, Debug)]
 pub enum FormatFault {
+    /// The byte that begins no item, or the end of a text that is not whole.
     UnknownCode(usize),
+    /// The end of the text, inside `T{`.
     Unclosed(usize),
+    /// The first byte of a name that no field may have, or the byte where the colon is missing.
     NoName(usize),
+    /// The first byte of a name that a field before it has.
     DoubleName(usize),
+    /// The first digit of a count that stands anywhere but before `x`.
     CountNotHere(usize),
+    /// The items need more bytes than the item has.
     LargerThanItem,
+    /// The structure has more than 256 fields.
     TooManyFields,
+    /// A single code needs fewer bytes, or the item has more than 65,536.
     BadItemSize,
 }
 
 /// Why no dtype was read: want of memory, or a fault of the text.
 #[derive(Debug, Drop)]
 pub enum FormatError {
+    /// Want of memory.
     Memory,
     Fault(FormatFault),
 }

@@ -63,8 +63,8 @@ fn judge_roles(
 /// Returns the dtype that a format string (PEP 3118) means for an item of `size` bytes, pad bytes
 /// among them.
 ///
-/// `T{<i4:a:<u2:b:}` with size 6 is a structure of two fields. Refused with the first fault from
-/// the left.
+/// `T{<i:a:<H:b:}` with size 8 is a structure of two fields, with two pad bytes behind them.
+/// Refused with the first fault from the left; the size is looked at last.
 #[tactic(auto, unfolding(nd_model::specs::Formats::FormatReading::read_format))]
 pub fn parse_format(alloc: Global, text: &str, size: u64) -> Result<ElemType, FormatError>
     ensures { Gives result (model.read_format text.now size) }

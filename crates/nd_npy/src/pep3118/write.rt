@@ -82,8 +82,8 @@ fn push_fields(text: &mut String, fields: &[Field], size: u64) -> Result<(), All
     push_pads(text, size.saturating_sub(place))
 }
 
-/// Returns the format string of a dtype (PEP 3118): `<` or `>` before each code of more than one
-/// byte, and pad bytes with their count.
+/// Returns the format string of a dtype (PEP 3118). A code of more than one byte has `<` or `>`
+/// before it, and pad bytes have their count: `T{<i:a:<H:b:2x}`.
 pub fn write_format(alloc: Global, elem: &ElemType) -> Result<String, AllocError>
     ensures { IfOk result (λ s. string_bytes s ≡ model.format_text (type_of elem.now)) }
 {

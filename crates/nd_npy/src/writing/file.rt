@@ -39,6 +39,8 @@ pub fn write_elements(
 
 /// Returns the NPY file of an array, its elements in C order. A Boolean is written as 0 or 1, and
 /// pad bytes as 0. A byte past the end of the block reads as 0.
+///
+/// The file of `[1 2]` as `<i2` has 132 bytes: 128 before the elements, which are `1 0 2 0`.
 pub fn write_npy(alloc: Global, view: &View, block: &[u8]) -> Result<Vec<u8>, AllocError>
     ensures { IfOk result (λ file. file.items ≡ model.npy_bytes view.now.element view.now.shape
         (map (content_at view.now.element block.now) view.now.places)) }

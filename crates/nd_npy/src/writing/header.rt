@@ -97,7 +97,8 @@ fn push_end(header: &mut Vec<u8>, is_wide: bool) -> Result<(), AllocError>
     Ok(())
 }
 
-/// Returns all that stands before the elements of an array with this dtype and shape.
+/// Returns all that stands before the elements of an array with this dtype and shape. Its length is
+/// a multiple of 64: 128 bytes for `<i2` and (2,).
 #[tactic(auto, unfolding(nd_model::specs::Formats::NpyWriting::npy_front))]
 pub fn front(alloc: Global, elem: &ElemType, shape: &[u64]) -> Result<Vec<u8>, AllocError>
     ensures { IfOk result (λ v. v.items ≡ model.npy_front (type_of elem.now) shape.now) }

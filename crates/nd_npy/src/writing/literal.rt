@@ -131,7 +131,12 @@ fn push_tuple(out: &mut Vec<u8>, numbers: &[u64]) -> Result<(), AllocError>
     push_text(out, if numbers.len() == 1 { ",)" } else { ")" })
 }
 
-/// Returns the literal of the header of an array with this dtype and shape, in UTF-8.
+/// Returns the literal of the header of an array with this dtype and shape, in UTF-8. For `<i2` and
+/// (2,) it is:
+///
+/// ```text
+/// {'descr': '<i2', 'fortran_order': False, 'shape': (2,), }
+/// ```
 pub fn literal(alloc: Global, elem: &ElemType, shape: &[u64]) -> Result<Vec<u8>, AllocError>
     ensures { IfOk result (λ v. v.items ≡ model.literal (type_of elem.now) shape.now) }
 {

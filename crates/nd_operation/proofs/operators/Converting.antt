@@ -18,6 +18,7 @@ use Rattle.nd_model.specs.Making.Conversion.{same_order, same_element, same_fiel
 use Rattle.nd_model.specs.Making.Creation.{little, type_or, type_for, array_type, is_number_type, misfit, operand_misfit, unless_misfit, uniform, converted_at, converted_array, full_array, new_array, convert}
 use Rattle.nd_model.proofs.Lists.{same_bytes, bytes_eq_self, length-put}
 use Rattle.nd_operation.specs.Operators.Contents.{contents_over, elements_over}
+use Rattle.nd_operation.proofs.operators.Creating.{over}
 
 both : (a b : Bool) → (a && b) ≡ true → (a ≡ true) × (b ≡ true)
 both true true h = (refl, refl)
@@ -156,6 +157,13 @@ pub full_number : (d : Option DType) (shape : List ℕ) (n : Number) (e : Elemen
 full_number d shape n e typed fine =
     ap (λ T. refusing.◌>>=◌ T (λ t. in_limits t shape (unless_misfit (operand_misfit t (Plain n)) (Ok (uniform t shape (converted_at t (Plain n) [])))))) typed
     ∙ ap (λ L. unless_fault L (number_made e shape n)) fine
+
+-- an array of one number over the limits
+pub full_over : (d : Option DType) (shape : List ℕ) (n : Number) (e : Element) (f : Fault) → type_for d (Plain n) ≡ Ok (One e) → unless_fault (limit_fault (size_of e.kind) shape) (Ok (tt {0})) ≡ Err f
+    → full_array d shape (Plain n) ≡ Err f
+full_over d shape n e f typed limits =
+    ap (λ T. refusing.◌>>=◌ T (λ t. in_limits t shape (unless_misfit (operand_misfit t (Plain n)) (Ok (uniform t shape (converted_at t (Plain n) [])))))) typed
+    ∙ over (limit_fault (size_of e.kind) shape) (number_made e shape n) f limits
 
 -- an array of a number is one without axes
 pub lone_number : (d : Option DType) (n : Number) → new_array d (Plain n) ≡ full_array d [] (Plain n)

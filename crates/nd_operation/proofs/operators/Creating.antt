@@ -12,9 +12,9 @@ use Rattle.nd_model.specs.Arrays.Types.{element_type}
 use Rattle.nd_model.specs.Arrays.Strides.{limit_fault}
 use Rattle.nd_model.specs.Cells.Fault.{Fault, ViewFault, View, Ufunc, FloatResult, TooManyAxes, TooManyElements}
 use Rattle.nd_model.specs.Cells.Refusing as refusing
-use Rattle.nd_model.specs.Cells.Evaluation.{Refuses, ◌>>=◌, decide}
-use Rattle.nd_model.specs.Making.Operand.{Operand, Made}
-use Rattle.nd_model.specs.Cells.Operation.{give, fresh_array}
+use Rattle.nd_model.specs.Cells.Evaluation.{Eval, Refuses, ◌>>=◌, decide}
+use Rattle.nd_model.specs.Making.Operand.{Operand, Made, AnArray}
+use Rattle.nd_model.specs.Cells.Operation.{give, fresh_array, unless_too_large}
 use Rattle.nd_model.specs.Arrays.Broadcast.{unless_fault, in_limits}
 use Rattle.nd_model.specs.Making.Creation.{type_or, type_for, length_of, lengths_of, integer_of, integers_of, fill_content, uniform, filled_array, full_array, full_of, without_axes, operand_misfit, converted_at, unless_misfit}
 use Rattle.nd_operation.specs.declared.refusals.fault.StmtFault.{StmtFault}
@@ -76,6 +76,16 @@ within (Some f) h = absurd cc
 pub over : {A : Type 0} (L : Option ViewFault) (m : Result A Fault) (f : Fault) → unless_fault L (Ok (tt {0})) ≡ Err f → unless_fault L m ≡ Err f
 over None m f h = absurd cc
 over (Some v) m f h = let same : View v ≡ f = cc in ap Err same
+
+refused_large : {A : Type 0} (L : Option ViewFault) (m : Eval A) (f : Fault) → unless_fault L (Ok (tt {0})) ≡ Err f → unless_too_large L m ≡ Refuses f
+refused_large None m f h = absurd cc
+refused_large (Some v) m f h = let same : View v ≡ f = cc in ap Refuses same
+
+-- an array over the limits
+pub new_over : (t : ElementType) (shape : List ℕ) (content : List ℕ → Content) (f : StmtFault) (o : Result New Stop) → IsErrAnd o (λ x. x ≡ Refused f)
+    → unless_fault (limit_fault (item_size t) shape) (Ok (tt {0})) ≡ Err (fault_of f) → MakesNew o (Ok (AnArray t shape content))
+new_over t shape content f o is h =
+    new_stops (Ok (AnArray t shape content)) (Refused f) o is (refused_large (limit_fault (item_size t) shape) _ (fault_of f) h)
 
 -- ---- lengths
 
@@ -187,10 +197,6 @@ abbrev pub before : List ℕ → Result (List ℕ) Fault → Result (List ℕ) F
 before done (Ok ns) = Ok (done ++ ns)
 before done (Err f) = Err f
 
-pub none_before : (r : Result (List ℕ) Fault) → r ≡ before [] r
-none_before (Ok ns) = refl
-none_before (Err f) = refl
-
 pub one_length : (o : Operand) (os : List Operand) (n : ℕ) (done : List ℕ) → clip_length (length_of o) ≡ Ok n
     → before done (clip_lengths (lengths_of (o ∷ os))) ≡ before (done ++ n ∷ []) (clip_lengths (lengths_of os))
 one_length o os n done h = at (length_of o) (lengths_of os) h
@@ -201,22 +207,11 @@ one_length o os n done h = at (length_of o) (lengths_of os) h
     at (Ok m) (Err f) h = refl
     at (Err f) r h = absurd cc
 
-pub no_length : (o : Operand) (os : List Operand) (f : Fault) (done : List ℕ) → clip_length (length_of o) ≡ Err f → before done (clip_lengths (lengths_of (o ∷ os))) ≡ Err f
-no_length o os f done h = at (length_of o) h
-  where
-    at : (l : Result ℕ Fault) → clip_length l ≡ Err f → before done (clip_lengths (refusing.◌>>=◌ l (λ m. refusing.◌>>=◌ (lengths_of os) (λ ms. Ok (m ∷ ms))))) ≡ Err f
-    at (Ok m) h = absurd cc
-    at (Err e) h = let is : e ≡ f = cc in ap Err is
-
 -- ---- integers
 
 abbrev pub before_integers : List ℤ → Result (List ℤ) Fault → Result (List ℤ) Fault
 before_integers done (Ok zs) = Ok (done ++ zs)
 before_integers done (Err f) = Err f
-
-pub none_before_integers : (r : Result (List ℤ) Fault) → r ≡ before_integers [] r
-none_before_integers (Ok zs) = refl
-none_before_integers (Err f) = refl
 
 pub one_integer : (o : Operand) (os : List Operand) (z : ℤ) (done : List ℤ) → integer_of o ≡ Ok z
     → before_integers done (integers_of (o ∷ os)) ≡ before_integers (done ++ z ∷ []) (integers_of os)
@@ -225,9 +220,6 @@ one_integer o os z done h = ap (λ r. before_integers done (refusing.◌>>=◌ r
     at : (r : Result (List ℤ) Fault) → before_integers done (refusing.◌>>=◌ r (λ ys. Ok (z ∷ ys))) ≡ before_integers (done ++ z ∷ []) r
     at (Ok ys) = ap Ok (sym (append_assoc done (z ∷ []) ys))
     at (Err f) = refl
-
-pub no_integer : (o : Operand) (os : List Operand) (f : Fault) (done : List ℤ) → integer_of o ≡ Err f → before_integers done (integers_of (o ∷ os)) ≡ Err f
-no_integer o os f done h = ap (λ r. before_integers done (refusing.◌>>=◌ r (λ y. refusing.◌>>=◌ (integers_of os) (λ ys. Ok (y ∷ ys))))) h
 
 -- ---- an array of zeros or ones over the limits
 

@@ -1,22 +1,26 @@
 -- Values that are numbers, one after the other, and the shapes of lists.
-use Rattle.std.proofs.Common.{◌≡◌, ℕ, ◌+◌, ◌*◌, ◌<◌, ℤ, get_or, take, add-one, Bool, true, false, ◌&&◌, List, [], ◌∷◌, ◌++◌, length, map, None, Some, Result, Ok, Err, Vec, Global, refl, sym, ap, ap₂, ◌∙◌, arith}
+use Rattle.std.proofs.Common.{◌≡◌, ℕ, ◌+◌, ◌*◌, ◌<◌, ℤ, get_or, take, add-one, Bool, true, false, ◌&&◌, List, [], ◌∷◌, ◌++◌, length, map, Option, None, Some, Result, Ok, Err, Vec, Global, refl, sym, ap, ap₂, ◌∙◌, arith}
 use Rattle.std.specs.Prelude.{◌==◌}
 use Rattle.std.specs.List.{list_all}
 use Rattle.std.proofs.lemmas.Bool.{eqb-true, eq-eqb, false≢true}
 use Rattle.std.proofs.Math.Seq.{take-suc}
 use Rattle.std.proofs.lemmas.List.{length-map, map-append}
-use Rattle.nd_model.specs.Arrays.Element.{Kind, wrap}
+use Rattle.nd_model.specs.Arrays.Element as arrays
+use Rattle.nd_model.specs.Arrays.Element.{Kind, size_of, wrap}
 use Rattle.nd_model.specs.Arrays.Content as content
 use Rattle.nd_model.specs.Arrays.Tuple.{count_up, elements_of}
-use Rattle.nd_model.specs.Arrays.View.{ElementType, item_size, contiguous}
+use Rattle.nd_model.specs.Arrays.View.{ElementType, One, item_size, contiguous}
+use Rattle.nd_model.specs.Arrays.Strides.{limit_fault}
+use Rattle.nd_model.specs.Arrays.Broadcast.{unless_fault}
+use Rattle.nd_model.specs.Grammar.Calls.{DType}
 use Rattle.nd_model.proofs.Tuples.{length-count_up}
 use Rattle.nd_model.specs.Cells.Fault.{Fault, Stmt, BadArgument, RaggedList}
 use Rattle.nd_model.specs.Cells.Refusing as refusing
 use Rattle.nd_model.specs.Grammar.Syntax as syntax
 use Rattle.nd_model.specs.Grammar.Syntax.{NoElement, AndElement, Single, Nested}
 use Rattle.nd_model.specs.Grammar.Cells as cells
-use Rattle.nd_model.specs.Making.Operand.{Number, number_of}
-use Rattle.nd_model.specs.Making.Creation.{element_count, shape_of_element, shape_of_first, has_shape, have_shape, even_shape, python_number, python_numbers, is_truth, misfit, first_misfit, converted_numbers}
+use Rattle.nd_model.specs.Making.Operand.{AnArray, Number, Operand, number_of}
+use Rattle.nd_model.specs.Making.Creation.{element_count, shape_of_element, shape_of_first, has_shape, have_shape, even_shape, python_number, python_numbers, is_truth, misfit, first_misfit, converted_numbers, unless_misfit, element_for_list, array_of_numbers, array_of_list}
 use Rattle.nd_types.specs.declared.num.Num.{Num}
 use Rattle.nd_types.specs.declared.num.Num.TheVariants as num
 use Rattle.nd_heap.specs.declared.value.Value.{Value}
@@ -26,6 +30,7 @@ use Rattle.nd_syntax.specs.declared.trees.tree.Element as element
 use Rattle.nd_syntax.specs.Trees.Syntax.{element_of}
 use Rattle.nd_syntax.proofs.trees.Chains.{nested_is}
 use Rattle.nd_operation.specs.Operators.Contents.{num_of, unused_of}
+use Rattle.nd_operation.proofs.operators.Creating.{over}
 use Rattle.nd_operation.specs.Operators.Listing.{is_python, list_of, number_count, number_counts, number_in, numbers_in}
 
 -- ---- Python numbers
@@ -243,3 +248,13 @@ contiguous_count t shape = length-map (count_up 0 (elements_of shape)) (λ k. k 
 pub numbers_count : (k : Kind) (vs : List Value) (zs : List ℤ) → map content.Num zs ≡ converted_numbers k (numbers_in vs) → length zs ≡ length vs
 numbers_count k vs zs same =
     sym (length-map zs content.Num) ∙ ap length same ∙ length-map (numbers_in vs) (λ n. content.Num (wrap k (number_of n))) ∙ length-map vs number_in
+
+-- ---- a list over the limits of arrays
+
+pub list_over : (x : syntax.Element) (d : Option DType) (os : List Operand) (ns : List Number) (shape : List ℕ) (e : arrays.Element) (f : Fault) → python_numbers os ≡ Ok ns → even_shape x ≡ Ok shape
+    → element_for_list d ns ≡ Ok e → unless_fault (limit_fault (size_of e.kind) shape) (Ok (tt {0})) ≡ Err f → array_of_list x d os ≡ Err f
+list_over x d os ns shape e f numbers even typed limits =
+    ap (λ r. refusing.◌>>=◌ r (λ ns. refusing.◌>>=◌ (even_shape x) (λ shape. refusing.◌>>=◌ (element_for_list d ns) (λ e. array_of_numbers e shape ns)))) numbers
+    ∙ ap (λ r. refusing.◌>>=◌ r (λ shape. refusing.◌>>=◌ (element_for_list d ns) (λ e. array_of_numbers e shape ns))) even
+    ∙ ap (λ r. refusing.◌>>=◌ r (λ e. array_of_numbers e shape ns)) typed
+    ∙ over (limit_fault (size_of e.kind) shape) (unless_misfit (first_misfit e.kind ns) (Ok (AnArray (One e) shape (content.content_in_order shape (converted_numbers e.kind ns))))) f limits

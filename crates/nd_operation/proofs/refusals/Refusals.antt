@@ -20,7 +20,13 @@ makes_refused {A} {Y} w m f o is h =
     let p : (x : Stop) × (o ≡ Err x) × (x ≡ Refused f) = err_from_is_err_and o is in
     subst (λ (o : Result Y Stop). Makes w o m) (sym (p.1 ∙ ap Err p.2)) h
 
--- the same of what takes no memory
+-- the exit by `?` where memory ran out
+pub makes_memory : {A Y : Type 0} (w : Y → A) (m : Result A Fault) (o : Result Y Stop) → IsErrAnd o (λ x. x ≡ Memory) → Makes w o m
+makes_memory {A} {Y} w m o is =
+    let p : (x : Stop) × (o ≡ Err x) × (x ≡ Memory) = err_from_is_err_and o is in
+    subst (λ (o : Result Y Stop). Makes w o m) (sym (p.1 ∙ ap Err p.2)) tt
+
+-- a refusal that is told, of what takes no memory
 pub says_refused : {B Y : Type 0} (w : Y → B) (m : Result B Fault) (e : StmtFault) (o : Result Y StmtFault) → IsErrAnd o (λ x. x ≡ e) → m ≡ Err (fault_of e) → Says w o m
 says_refused {B} {Y} w m e o is h =
     let p : (x : StmtFault) × (o ≡ Err x) × (x ≡ e) = err_from_is_err_and o is in

@@ -66,7 +66,7 @@ pub fn array_kind(number: Num) -> Result<Kind, StmtFault>
     }
 }
 
-/// Returns the integer that a number counts as.
+/// Returns the integer that a number counts as: 1 for `True`.
 pub fn whole_number(number: Num) -> i128
     ensures { result ≡ operand.number_of (num_of number) }
 {
@@ -312,6 +312,8 @@ pub(crate) fn copy_array(alloc: Global, operand: &Operand<'_>) -> Result<New, St
 
 /// Returns a new array of elements in C order, in another shape of as many. An array above the
 /// limits is refused.
+///
+/// This is what `.reshape` gives where strides allow no view, as of `x.T` of two axes.
 pub fn copy_reshaped(
     alloc: Global,
     elements: &BorrowedArray<'_>,

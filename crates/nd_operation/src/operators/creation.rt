@@ -86,7 +86,12 @@ fn filled_array(
     }
 }
 
-/// Returns `np.zeros` or `np.ones`. The lengths are values that are not noted as used.
+/// Returns `np.zeros` or `np.ones`. The lengths are values that are not noted as used. Without a
+/// dtype NumPy gives `float64`, so that is refused (`FloatResult`).
+///
+/// ```text
+/// np.ones(3, dtype='int8')    [1 1 1]
+/// ```
 pub fn make_filled(
     alloc: Global,
     fill: Fill,
@@ -101,6 +106,11 @@ pub fn make_filled(
 }
 
 /// Returns `np.full`, of lengths and an operand of shape ().
+///
+/// ```text
+/// np.full(2, 7)                   int64: [7 7]
+/// np.full(2, 7, dtype='uint8')    uint8: [7 7]
+/// ```
 pub fn make_full(
     alloc: Global,
     dtype: &Option<DType>,

@@ -92,6 +92,9 @@ pub(crate) fn map_one(alloc: Global, op: Single, operand: &Operand<'_>) -> Resul
 ///
 /// Refused in this order: `NotNumbers`, `FloatResult` or `BoolOp`, `IntOutOfRange`, `KindCast`,
 /// `ReadOnly`, `ShapeMismatch`, `NegativePower`.
+///
+/// For a `uint8` array `x += 1` is of `uint8`; `x += np.int8(1)` is refused, since no `int16` is
+/// stored as an unsigned number (`KindCast`).
 pub fn kind_in_place(
     alloc: Global,
     op: BinaryOp,

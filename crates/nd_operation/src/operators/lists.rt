@@ -272,6 +272,15 @@ fn list_array(alloc: Global, elem: Elem, shape: &[u64], values: &[Value]) -> Res
 }
 
 /// Returns the array of a list. `values` are those of its numbers from left to right.
+///
+/// Refused in this order: `BadArgument` for what is no Python number, `RaggedList`, the dtype, the
+/// limits of arrays, `IntOutOfRange`.
+///
+/// ```text
+/// np.array([[1, 2], [3, 4]])           int64, shape (2, 2)
+/// np.array([True, False])              bool, shape (2,)
+/// np.array([1, 300], dtype='uint8')    refused: 300 is out of range
+/// ```
 pub fn make_list(
     alloc: Global,
     elements: &[Element],

@@ -102,9 +102,9 @@ fn truths(op: BinaryOp, left: bool, right: bool) -> Result<Num, StmtFault>
     ensures { Says number_made result (operators.of_truths (binary_op op) left right) }
 {
     match op {
-        BinaryOp::BitAnd => Ok(Num::Bool(left && right)),
-        BinaryOp::BitXor => Ok(Num::Bool(if left { !right } else { right })),
-        BinaryOp::BitOr => Ok(Num::Bool(left || right)),
+        BinaryOp::BitwiseAnd => Ok(Num::Bool(left && right)),
+        BinaryOp::BitwiseXor => Ok(Num::Bool(if left { !right } else { right })),
+        BinaryOp::BitwiseOr => Ok(Num::Bool(left || right)),
         _ => arithmetic(op, i128::from(left), i128::from(right)),
     }
 }

@@ -55,6 +55,10 @@ fn push_text(alloc: Global, line: &mut String, operand: &Operand<'_>) -> Result<
 
 /// Returns the line that `print` makes: the operands' texts, separated by spaces, and a newline. It
 /// is refused as soon as it is too long (`TextTooLong`).
+///
+/// ```text
+/// print(7, np.arange(3))    7 [0 1 2]
+/// ```
 pub fn print_line(alloc: Global, operands: &[Operand<'_>]) -> Result<String, Stop>
     ensures { Makes string_bytes result
         (limit_line (printed_line (map operand_of operands.now))) }

@@ -130,9 +130,9 @@ pub(crate) fn arithmetic(op: BinaryOp, left: i128, right: i128) -> Result<Num, S
             }
             right_shift(left, right.unsigned_abs())
         }
-        BinaryOp::BitAnd => python_int(Some(left & right)),
-        BinaryOp::BitXor => python_int(Some(left ^ right)),
-        BinaryOp::BitOr => python_int(Some(left | right)),
+        BinaryOp::BitwiseAnd => python_int(Some(left & right)),
+        BinaryOp::BitwiseXor => python_int(Some(left ^ right)),
+        BinaryOp::BitwiseOr => python_int(Some(left | right)),
         BinaryOp::Less => Ok(Num::Bool(left < right)),
         BinaryOp::LessEqual => Ok(Num::Bool(left <= right)),
         BinaryOp::Greater => Ok(Num::Bool(left > right)),

@@ -95,6 +95,12 @@ fn range_array(alloc: Global, elem: Elem, bounds: Range) -> Result<New, Stop>
 
 /// Returns `np.arange`. A start that is left out is 0, a step 1. The bounds are values that are not
 /// noted as used.
+///
+/// ```text
+/// np.arange(3)           [0 1 2]
+/// np.arange(5, 11, 2)    [5 7 9]
+/// np.arange(3, 0, -1)    [3 2 1]
+/// ```
 pub fn make_range(
     alloc: Global,
     start: &Option<Value>,

@@ -1,5 +1,5 @@
 -- The bytes of the folds of columns, with a row more.
-use Rattle.std.proofs.Common.{◌≡◌, ℕ, zero, suc, ◌+◌, ◌-◌, ◌*◌, ◌<◌, ◌≤◌, ℤ, pos, Bool, true, false, not, List, [], ◌∷◌, ◌++◌, map, length, get_or, take, drop, replicate, refl, sym, ap, ◌∙◌, arith, append-nil, length-append, length-drop}
+use Rattle.std.proofs.Common.{◌≡◌, ℕ, zero, suc, ◌+◌, ◌-◌, ◌*◌, ◌<◌, ◌≤◌, ℤ, pos, Bool, true, false, not, Option, Some, None, List, [], ◌∷◌, ◌++◌, map, length, get_or, take, drop, replicate, refl, sym, ap, ◌∙◌, arith, append-nil, length-append, length-drop}
 use Rattle.std.specs.Prelude.{if◌then◌else◌}
 use Rattle.std.specs.List.{All}
 use Rattle.std.proofs.Math.Nat.{mul-le-mul_right}
@@ -18,7 +18,7 @@ use Rattle.nd_ufunc.specs.Loops.Sides.{number_on, numbers_on}
 use Rattle.nd_ufunc.specs.declared.loops.kernel.Side.{Side}
 use Rattle.nd_ufunc.proofs.loops.SideBySide.{behind}
 use Rattle.nd_reduce.specs.Folds.Lanes.{fold_bytes}
-use Rattle.nd_reduce.specs.Axes.Tables.{AreFolds, more_columns, row_columns, table_columns}
+use Rattle.nd_reduce.specs.Axes.Tables.{AreFolds, HasBest, HasBests, more_columns, row_columns, table_columns}
 use Rattle.nd_reduce.proofs.folds.Taken.{length-numbers, next_on}
 
 -- ---- columns
@@ -97,39 +97,56 @@ module _ (r : Reduction) (k : Kind) where
       ∙ ap (take (n * s)) (bytes-append (take n rest) (drop n rest))
       ∙ take_at (fold_bytes r k (take n rest)) (fold_bytes r k (drop n rest)) (n * s) some
 
-module _ (r : Reduction) (kind to : Kind) where
+-- what is kept beside a fold is read back
+pub read_best : (b : Option Reduction) (kind : Kind) (bytes : List ℕ) (xs : List (List ℤ)) (i : ℕ) → i < length xs → HasBests b kind bytes xs → HasBest b kind bytes i (get_or xs i [])
+read_best None kind bytes xs i lt is = tt
+read_best (Some b) kind bytes xs i lt is = ap (λ l. number_at (little kind) l (i * size_of kind)) is ∙ read_fold b kind xs i lt
+
+module _ (r : Reduction) (b : Option Reduction) (kind to : Kind) where
   -- of columns without numbers nothing is known
-  pub no_folds : (n : ℕ) (bytes : List ℕ) → AreFolds r kind to 0 bytes (replicate n [])
-  no_folds n bytes = record {
-    long = All-replicate (λ (zs : List ℤ). length zs ≡ 0) n [] refl;
-    values = All-replicate (λ (zs : List ℤ). All (λ z. IsValue kind z) zs) n [] (All-nil (λ z. IsValue kind z));
+  pub no_folds : (n : ℕ) (bytes bests : List ℕ) → AreFolds r b kind to 0 bytes bests (replicate n [])
+  no_folds n bytes bests = record {
+    all = record {
+      long = All-replicate (λ (zs : List ℤ). length zs ≡ 0) n [] refl;
+      values = All-replicate (λ (zs : List ℤ). All (λ z. IsValue kind z) zs) n [] (All-nil (λ z. IsValue kind z));
+    };
     written = λ some. absurd (omega arith);
+    beside = λ some. absurd (omega arith);
   }
 
   -- a part of the columns
-  pub part_folds : (taken : ℕ) (bytes part : List ℕ) (columns : List (List ℤ)) (d n : ℕ) → d + n ≤ length columns → part ≡ take (n * size_of to) (drop (d * size_of to) bytes)
-      → AreFolds r kind to taken bytes columns → AreFolds r kind to taken part (take n (drop d columns))
-  part_folds taken bytes part columns d n le is are = record {
-    long = All-take (λ (zs : List ℤ). length zs ≡ taken) n (drop d columns) (All-drop (λ (zs : List ℤ). length zs ≡ taken) d columns are.long);
-    values = All-take (λ (zs : List ℤ). All (λ z. IsValue kind z) zs) n (drop d columns) (All-drop (λ (zs : List ℤ). All (λ z. IsValue kind z) zs) d columns are.values);
+  pub part_folds : (taken : ℕ) (bytes bests part best_part : List ℕ) (columns : List (List ℤ)) (d n : ℕ) → d + n ≤ length columns → part ≡ take (n * size_of to) (drop (d * size_of to) bytes)
+      → (0 < taken → HasBests b kind best_part (take n (drop d columns)))
+      → AreFolds r b kind to taken bytes bests columns → AreFolds r b kind to taken part best_part (take n (drop d columns))
+  part_folds taken bytes bests part best_part columns d n le is beside are = record {
+    all = record {
+      long = All-take (λ (zs : List ℤ). length zs ≡ taken) n (drop d columns) (All-drop (λ (zs : List ℤ). length zs ≡ taken) d columns are.all.long);
+      values = All-take (λ (zs : List ℤ). All (λ z. IsValue kind z) zs) n (drop d columns) (All-drop (λ (zs : List ℤ). All (λ z. IsValue kind z) zs) d columns are.all.values);
+    };
     written = λ some. is ∙ ap (λ l. take (n * size_of to) (drop (d * size_of to) l)) (are.written some) ∙ part_bytes r to columns d n le;
+    beside = beside;
   }
 
   -- with a row more
-  pub more_folds : (taken : ℕ) (before bytes : List ℕ) (columns : List (List ℤ)) (row : List ℤ) → All (λ z. IsValue kind z) row → AreFolds r kind to taken before columns
-      → bytes ≡ fold_bytes r to (more_columns columns row) → AreFolds r kind to (taken + 1) bytes (more_columns columns row)
-  more_folds taken before bytes columns row valid are is = record {
-    long = all_long taken columns row are.long;
-    values = all_values kind columns row are.values valid;
+  pub more_folds : (taken : ℕ) (before best_before bytes bests : List ℕ) (columns : List (List ℤ)) (row : List ℤ) → All (λ z. IsValue kind z) row
+      → AreFolds r b kind to taken before best_before columns
+      → bytes ≡ fold_bytes r to (more_columns columns row) → HasBests b kind bests (more_columns columns row)
+      → AreFolds r b kind to (taken + 1) bytes bests (more_columns columns row)
+  more_folds taken before best_before bytes bests columns row valid are is beside = record {
+    all = record {
+      long = all_long taken columns row are.all.long;
+      values = all_values kind columns row are.all.values valid;
+    };
     written = λ some. is;
+    beside = λ some. beside;
   }
 
 -- ---- row by row, and table by table
 
 -- so many rows are taken, and with as many more as are left all is appended
-pub record AreRows (r : Reduction) (kind to : Kind) (each : Bool) (n taken rest : ℕ) (out bytes : List ℕ) (zs : List ℤ) (all : List ℕ) (columns : List (List ℤ)) : Type 0 where
+pub record AreRows (r : Reduction) (b : Option Reduction) (kind to : Kind) (each : Bool) (n taken rest : ℕ) (out bytes bests : List ℕ) (zs : List ℤ) (all : List ℕ) (columns : List (List ℤ)) : Type 0 where
   pub many : length columns ≡ n
-  pub are : AreFolds r kind to taken bytes columns
+  pub are : AreFolds r b kind to taken bytes bests columns
   pub more : out ++ fold_bytes r to (row_columns each n rest columns zs) ≡ all
 
 pub next_row : (each : Bool) (n rest : ℕ) (columns : List (List ℤ)) (zs : List ℤ) → 0 < rest → row_columns each n rest columns zs

@@ -1,5 +1,5 @@
 //! `accumulate`: NumPy's accumulations, such as `np.cumsum`, of an array.
-ghost use Rattle.std.specs.Prelude.{◌≡◌, ℕ, ◌*◌, ◌<◌, length, None, IfOk};
+ghost use Rattle.std.specs.Prelude.{◌≡◌, ℕ, ◌*◌, ◌<◌, length, None, Some, IfOk};
 ghost use Rattle.std.specs.List.{flat_map};
 ghost use Rattle.nd_model.specs.Arrays.Element.{size_of};
 ghost use Rattle.nd_model.specs.Making.Elementwise.{little};
@@ -14,7 +14,7 @@ ghost use Rattle.nd_element.specs.Elements.{AreHeld, numbers_at};
 ghost use Rattle.nd_reduce.specs.Axes.Axes.{HasAxis};
 ghost use Rattle.nd_reduce.specs.Axes.Faults.{Makes};
 ghost use Rattle.nd_reduce.specs.Folds.Lanes.{lanes_in, prefix_bytes};
-ghost use Rattle.nd_reduce.specs.Axes.LastAxis.{to_end};
+ghost use Rattle.nd_reduce.specs.Axes.LastAxis.{lanes_of, to_end};
 ghost use Rattle.nd_reduce.specs.Axes.Made.{array_of, array_operand, new_array};
 
 use crate::axes::axis::{axis_in, lane_count, lane_length, lanes_of, put_axis, row_width};
@@ -73,6 +73,28 @@ fn all_prefixes<F: FoldStep>(
     Ok(folds)
 }
 
+// The results, which lie lane by lane, in the C order of the array's shape. `by_lanes` is the view of
+// them.
+fn put_folds(
+    alloc: Global,
+    by_lanes: &View,
+    elem: Elem,
+    shape: &[u64],
+    axis: usize,
+    folds: &[u8],
+) -> Result<RawBlock, AllocError>
+    requires axis { axis < length shape.now }
+    requires one { by_lanes.now.element ≡ One elem }
+    requires lanes { by_lanes.now.shape ≡ to_end axis shape.now }
+    ensures { IfOk result (λ b. b ≡ converted_bytes elem elem folds.now
+        (rearranged_view by_lanes.now shape.now (to_end axis)).places) }
+{
+    let view = put_axis(alloc, by_lanes, shape, axis)?;
+    // proof: the number of elements is bounded, by the clause of count().
+    let _count = view.count();
+    convert_numbers(alloc, &view, elem, folds, elem)
+}
+
 // The results, which lie lane by lane, in the C order of the array's shape.
 fn order_folds(
     alloc: Global,
@@ -91,11 +113,39 @@ fn order_folds(
 {
     let elem = Elem::little(kind);
     let by_lanes = View::contiguous(alloc, ElemType::One(elem), lanes)?;
-    let view = put_axis(alloc, &by_lanes, shape, axis)?;
-    // proof: the number of elements is bounded, by the clause of count().
-    let _count = view.count();
-    let block = convert_numbers(alloc, &view, elem, folds, elem)?;
-    Ok(block)
+    put_folds(alloc, &by_lanes, elem, shape, axis, folds)
+}
+
+// The block with the accumulations along an axis of a view, in the view's C order. `lanes` is the
+// view with this axis last.
+fn ordered_prefixes<F: FoldStep>(
+    alloc: Global,
+    to: Kind,
+    view: &View,
+    axis: usize,
+    lanes: &View,
+    elem: Elem,
+    bytes: &[u8],
+) -> Result<RawBlock, AllocError>
+    requires to { kind_of to ≡ fold_kind F.reduction elem.kind }
+    requires one { view.now.element ≡ One elem }
+    requires lies { LiesIn (length bytes.now) view.now }
+    requires axis { axis < length view.now.shape }
+    requires lanes { lanes.now ≡ lanes_of view.now (Some axis) }
+    ensures { IfOk result (λ b. b ≡ (new_array (prefix_folds F.reduction (kind_of to) (Some axis)
+        (array_operand view.now bytes.now))).1) }
+{
+    let count = lane_length(view, Some(axis));
+    let many = lane_count(lanes.count(), count);
+    let folds = prefixes::<F>(alloc, to, lanes, elem, bytes, many, count)?;
+    order_folds(
+        alloc,
+        to,
+        lanes.shape(),
+        view.shape(),
+        axis,
+        folds.as_slice(),
+    )
 }
 
 // The block with the accumulations along an axis of a view, or of all its elements, worked out lane
@@ -119,18 +169,7 @@ fn lane_prefixes<F: FoldStep>(
         return all_prefixes::<F>(alloc, to, view, elem, bytes);
     };
     let lanes = lanes_of(alloc, view, axis)?;
-    let count = lane_length(view, axis);
-    let many = lane_count(lanes.count(), count);
-    let folds = prefixes::<F>(alloc, to, &lanes, elem, bytes, many, count)?;
-    let ordered = order_folds(
-        alloc,
-        to,
-        lanes.shape(),
-        view.shape(),
-        place,
-        folds.as_slice(),
-    )?;
-    Ok(ordered)
+    ordered_prefixes::<F>(alloc, to, view, place, &lanes, elem, bytes)
 }
 
 // The block with the accumulations along an axis, worked out row by row where the rows are wide and
@@ -188,8 +227,8 @@ fn view_prefixes(
         Reduction::Max => axis_prefixes::<fold::Max>(alloc, to, view, axis, elem, bytes),
         Reduction::Any => axis_prefixes::<fold::Any>(alloc, to, view, axis, elem, bytes),
         Reduction::All => axis_prefixes::<fold::All>(alloc, to, view, axis, elem, bytes),
-        Reduction::ArgMin => lane_prefixes::<fold::ArgMin>(alloc, to, view, axis, elem, bytes),
-        Reduction::ArgMax => lane_prefixes::<fold::ArgMax>(alloc, to, view, axis, elem, bytes),
+        Reduction::ArgMin => axis_prefixes::<fold::ArgMin>(alloc, to, view, axis, elem, bytes),
+        Reduction::ArgMax => axis_prefixes::<fold::ArgMax>(alloc, to, view, axis, elem, bytes),
     }
 }
 

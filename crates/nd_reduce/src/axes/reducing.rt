@@ -23,10 +23,9 @@ use crate::axes::axis::{
     axis_in, has_no_lanes, lane_count, lane_length, lanes_of, reduced_shape, row_width,
 };
 use crate::axes::fault::AxisFault;
-use crate::axes::place_tables::table_places;
 use crate::axes::tables::table_folds;
 use crate::folds::fold::sum_kind;
-use crate::folds::{PlaceFold, RowFold, RunFold, fold, fold_lanes, fold_number};
+use crate::folds::{RowFold, RunFold, fold, fold_lanes, fold_number};
 use nd_block::{Filling, RawBlock};
 use nd_syntax::trees::Reduction;
 use nd_types::{Elem, ElemType, Kind, Num};
@@ -184,37 +183,6 @@ fn axis_folds<F: RowFold>(
     }
 }
 
-// The block with the positions along an axis, worked out row by row where the rows are wide and
-// near enough.
-fn axis_places<F: PlaceFold>(
-    alloc: Global,
-    to: Kind,
-    view: &View,
-    axis: Option<usize>,
-    elem: Elem,
-    bytes: &[u8],
-    lanes: usize,
-    count: usize,
-) -> Result<RawBlock, AllocError>
-    requires to { kind_of to ≡ fold_kind F.reduction elem.kind }
-    requires one { view.now.element ≡ One elem }
-    requires lies { LiesIn (length bytes.now) view.now }
-    requires axis { HasAxis axis (length view.now.shape) }
-    requires lanes { lanes ≡ elements_of (reductions.reduced_shape axis false view.now.shape) }
-    requires count { count ≡ lane_length axis view.now.shape }
-    requires few { lanes ≤ 2 ^ 24 }
-    ensures { IfOk result (λ b. b ≡ fold_bytes F.reduction (kind_of to)
-        (lanes_in count lanes (numbers_at elem bytes.now (lanes_of view.now axis).places))) }
-{
-    match row_width(view, axis) {
-        Some(width) if lanes > 0 && count > 0 => {
-            let tables = lane_count(lanes, width);
-            table_places::<F>(alloc, to, view, elem, bytes, tables, count, width, lanes)
-        }
-        _ => lane_folds::<F>(alloc, to, view, axis, elem, bytes, lanes, count),
-    }
-}
-
 // The block with the results of a reduction: the code for each is chosen once.
 fn view_folds(
     alloc: Global,
@@ -246,10 +214,10 @@ fn view_folds(
         Reduction::Max => axis_folds::<fold::Max>(alloc, to, view, axis, elem, bytes, lanes, count),
         Reduction::Any => axis_folds::<fold::Any>(alloc, to, view, axis, elem, bytes, lanes, count),
         Reduction::All => axis_folds::<fold::All>(alloc, to, view, axis, elem, bytes, lanes, count),
-        Reduction::ArgMin => axis_places::<fold::ArgMin>(
+        Reduction::ArgMin => axis_folds::<fold::ArgMin>(
             alloc, to, view, axis, elem, bytes, lanes, count,
         ),
-        Reduction::ArgMax => axis_places::<fold::ArgMax>(
+        Reduction::ArgMax => axis_folds::<fold::ArgMax>(
             alloc, to, view, axis, elem, bytes, lanes, count,
         ),
     }
@@ -310,6 +278,9 @@ fn fold_of(reduction: Reduction, kind: Kind, number: i128) -> i128
 
 /// Returns the reduction of a NumPy scalar, which has no axes: 0 and -1 stand for all of it, any
 /// other axis is refused.
+///
+/// The sum of `np.int8(3)` is `np.int64(3)`, along no axis and along axis 0. Along axis 1 it is
+/// refused (`NoAxis`).
 pub fn reduce_number(
     reduction: Reduction,
     axis: Option<i128>,

@@ -1,27 +1,30 @@
 //! `table_folds`: reductions along another axis than the last one. Numbers are taken in the view's
 //! order, row by row, each by the fold of its column.
-ghost use Rattle.std.specs.Prelude.{◌≡◌, ℕ, ◌+◌, ◌*◌, ◌^◌, ◌<◌, ◌≤◌, List, ℤ, [], ◌++◌, length, take, drop, replicate, if◌then◌else◌, IfOk};
+ghost use Rattle.std.specs.Prelude.{◌≡◌, ℕ, ◌+◌, ◌*◌, ◌^◌, ◌<◌, ◌≤◌, Some, List, ℤ, [], ◌++◌, length, take, drop, replicate, if◌then◌else◌, IfOk};
 ghost use Rattle.std.specs.List.{All};
+ghost use Rattle.nd_model.specs.Grammar.Calls as calls;
 ghost use Rattle.nd_model.specs.Arrays.Element.{IsValue, size_of};
 ghost use Rattle.nd_model.specs.Making.Reductions.{fold_kind};
 ghost use Rattle.nd_types.specs.Kinds.{kind_of};
 ghost use Rattle.nd_element.specs.Elements.{AreHeld, numbers_at};
 ghost use Rattle.nd_ufunc.specs.Loops.Sides.{HasNumbers, numbers_on};
 ghost use Rattle.nd_reduce.specs.Folds.Lanes.{fold_bytes};
-ghost use Rattle.nd_reduce.specs.Axes.Tables.{AreFolds, more_columns, row_columns, rows_kept, table_columns};
+ghost use Rattle.nd_reduce.specs.Axes.Tables.{AreFolds, HasBests, best_size, more_columns, row_columns, rows_kept, table_columns};
 
 use crate::axes::columns::extend_columns;
-use crate::folds::RowFold;
+use crate::folds::fold::{Max, Min};
+use crate::folds::{Bests, RowFold};
 use nd_block::{Filling, RawBlock};
 use nd_types::{Elem, Kind};
 use nd_ufunc::loops::{CHUNK, Elements, Side, chunk_of};
 use nd_view::View;
 use std::alloc::{AllocError, Global};
 
-/// Takes one number of the operand more into the result of each column. `found` is room for the new
-/// results.
-pub(crate) fn extend_part<F: RowFold>(
+// Takes one number of the operand more into the result of each column, and into what is stored
+// beside it. `found` is room for the new ones of either.
+fn extend_part<F: RowFold>(
     part: &mut [u8],
+    bests: &mut [u8],
     found: &mut [u8],
     to: Kind,
     taken: usize,
@@ -32,21 +35,71 @@ pub(crate) fn extend_part<F: RowFold>(
     requires to { kind_of to ≡ fold_kind F.reduction (kind_of kind) }
     requires few { taken + 1 < 2 ^ 64 }
     requires part { length part.old ≡ count * size_of (kind_of to) }
+    requires bests { length bests.old ≡ count * best_size F.Best.kept (kind_of kind) }
     requires found { count * size_of (kind_of to) ≤ length found.old }
+    requires found_bests { count * best_size F.Best.kept (kind_of kind) ≤ length found.old }
     requires side { HasNumbers side count }
-    ensures { (columns : List (List ℤ)) → length columns ≡ count
-        → AreFolds F.reduction (kind_of kind) (kind_of to) taken part.old columns
+    ensures folds { (columns : List (List ℤ)) → length columns ≡ count
+        → AreFolds F.reduction F.Best.kept (kind_of kind) (kind_of to) taken part.old bests.old
+        columns
         → part.new ≡ fold_bytes F.reduction (kind_of to)
+        (more_columns columns (numbers_on side.entry count)) }
+    ensures bests { (columns : List (List ℤ)) → length columns ≡ count
+        → AreFolds F.reduction F.Best.kept (kind_of kind) (kind_of to) taken part.old bests.old
+        columns
+        → HasBests F.Best.kept (kind_of kind) bests.new
         (more_columns columns (numbers_on side.entry count)) }
 {
     let end = count * to.size() as usize;
-    extend_columns::<F>(&mut found[..end], to, taken, part, kind, side, count);
+    extend_columns::<F>(&mut found[..end], to, taken, part, bests, kind, side, count);
     part.copy_from_slice(&found[..end]);
+    F::Best::extend(bests, found, taken, kind, side, count);
+}
+
+impl Bests for Min {
+    ghost kept = { Some calls.Min };
+
+    #[inline(always)]
+    fn size(kind: Kind) -> usize {
+        kind.size() as usize
+    }
+
+    fn extend(
+        bests: &mut [u8],
+        found: &mut [u8],
+        taken: usize,
+        kind: Kind,
+        side: Side<'_>,
+        count: usize,
+    ) {
+        extend_part::<Min>(bests, &mut [], found, kind, taken, kind, side, count);
+    }
+}
+
+impl Bests for Max {
+    ghost kept = { Some calls.Max };
+
+    #[inline(always)]
+    fn size(kind: Kind) -> usize {
+        kind.size() as usize
+    }
+
+    fn extend(
+        bests: &mut [u8],
+        found: &mut [u8],
+        taken: usize,
+        kind: Kind,
+        side: Side<'_>,
+        count: usize,
+    ) {
+        extend_part::<Max>(bests, &mut [], found, kind, taken, kind, side, count);
+    }
 }
 
 // Takes the next row of numbers.
 fn extend_row<F: RowFold>(
     folds: &mut [u8],
+    bests: &mut [u8],
     found: &mut [u8],
     to: Kind,
     taken: usize,
@@ -58,6 +111,7 @@ fn extend_row<F: RowFold>(
     requires to { kind_of to ≡ fold_kind F.reduction (kind_of kind) }
     requires few { taken + 1 < 2 ^ 64 }
     requires folds { length folds.old ≡ width * size_of (kind_of to) }
+    requires bests { length bests.old ≡ width * best_size F.Best.kept (kind_of kind) }
     requires found { length found.old ≡ 8192 }
     requires buffer { length buffer.old ≡ 8192 }
     requires kind { numbers.old.kind ≡ kind_of kind }
@@ -65,19 +119,27 @@ fn extend_row<F: RowFold>(
     ensures left { numbers.new.numbers ≡ drop width numbers.old.numbers }
     ensures kind { numbers.new.kind ≡ numbers.old.kind }
     ensures folds { (columns : List (List ℤ)) → length columns ≡ width
-        → AreFolds F.reduction (kind_of kind) (kind_of to) taken folds.old columns
+        → AreFolds F.reduction F.Best.kept (kind_of kind) (kind_of to) taken folds.old bests.old
+        columns
         → folds.new ≡ fold_bytes F.reduction (kind_of to)
+        (more_columns columns (take width numbers.old.numbers)) }
+    ensures bests { (columns : List (List ℤ)) → length columns ≡ width
+        → AreFolds F.reduction F.Best.kept (kind_of kind) (kind_of to) taken folds.old bests.old
+        columns
+        → HasBests F.Best.kept (kind_of kind) bests.new
         (more_columns columns (take width numbers.old.numbers)) }
 {
     let size = to.size() as usize;
-    let chunk = chunk_of(size, numbers.size(), 1);
+    let best_size = F::Best::size(kind);
+    let chunk = chunk_of(size, numbers.size(), best_size.max(1));
     let mut done = 0;
     while done < width {
         let some = chunk.min(width - done);
         let end = done + some;
         let side = numbers.take(buffer, some);
         let part = &mut folds[done * size..end * size];
-        extend_part::<F>(part, found, to, taken, kind, side, some);
+        let best_part = &mut bests[done * best_size..end * best_size];
+        extend_part::<F>(part, best_part, found, to, taken, kind, side, some);
         done = end;
     }
 }
@@ -99,6 +161,7 @@ fn fold_rows<F: RowFold>(
     out: &mut Filling,
     each: bool,
     folds: &mut [u8],
+    bests: &mut [u8],
     found: &mut [u8],
     to: Kind,
     kind: Kind,
@@ -110,6 +173,7 @@ fn fold_rows<F: RowFold>(
     requires to { kind_of to ≡ fold_kind F.reduction (kind_of kind) }
     requires some { 0 < rows }
     requires folds { length folds.old ≡ width * size_of (kind_of to) }
+    requires bests { length bests.old ≡ width * best_size F.Best.kept (kind_of kind) }
     requires found { length found.old ≡ 8192 }
     requires buffer { length buffer.old ≡ 8192 }
     requires kind { numbers.old.kind ≡ kind_of kind }
@@ -124,7 +188,7 @@ fn fold_rows<F: RowFold>(
 {
     let mut taken = 0;
     while taken < rows {
-        extend_row::<F>(folds, found, to, taken, kind, numbers, buffer, width);
+        extend_row::<F>(folds, bests, found, to, taken, kind, numbers, buffer, width);
         append_if(out, each, folds);
         taken += 1;
     }
@@ -136,6 +200,7 @@ fn fold_tables<F: RowFold>(
     out: &mut Filling,
     each: bool,
     folds: &mut [u8],
+    bests: &mut [u8],
     to: Kind,
     kind: Kind,
     numbers: &mut Elements<'_>,
@@ -146,6 +211,7 @@ fn fold_tables<F: RowFold>(
     requires to { kind_of to ≡ fold_kind F.reduction (kind_of kind) }
     requires some { 0 < rows }
     requires folds { length folds.old ≡ width * size_of (kind_of to) }
+    requires bests { length bests.old ≡ width * best_size F.Best.kept (kind_of kind) }
     requires kind { numbers.old.kind ≡ kind_of kind }
     requires values { All (λ z. IsValue (kind_of kind) z) numbers.old.numbers }
     requires enough { length numbers.old.numbers ≡ tables * (rows * width) }
@@ -162,6 +228,7 @@ fn fold_tables<F: RowFold>(
             out,
             each,
             folds,
+            bests,
             &mut found,
             to,
             kind,
@@ -202,12 +269,14 @@ pub(crate) fn table_folds<F: RowFold>(
     let size = to.size() as usize;
     let kind = elem.kind();
     let mut out = Filling::with_room(alloc, count * size)?;
-    let mut folds = RawBlock::zeros(alloc, width * size)?;
+    let mut kept = RawBlock::zeros(alloc, width * (size + F::Best::size(kind)))?;
+    let (folds, bests) = kept.as_mut_slice().split_at_mut(width * size);
     let mut numbers = Elements::new(view, bytes, elem, kind);
     fold_tables::<F>(
         &mut out,
         each,
-        folds.as_mut_slice(),
+        folds,
+        bests,
         to,
         kind,
         &mut numbers,

@@ -13,7 +13,7 @@ abbrev pub AreAscii : List ℕ → Type 0
 AreAscii [] = Unit {0}
 AreAscii (b ∷ bs) = (b < 128) × AreAscii bs
 
--- the same as a test
+-- whether all bytes are ASCII, as a test
 abbrev pub are_ascii : List ℕ → Bool
 are_ascii [] = true
 are_ascii (b ∷ bs) = nat_lt b 128 && are_ascii bs

@@ -94,7 +94,7 @@ latin_characters (c ∷ cs) ok =
     let both = sym (past-append (encode_utf8 c) (encode_utf8_all cs)) ∙ ok in
     (latin_character c (left (is_past_latin (encode_utf8 c)) (is_past_latin (encode_utf8_all cs)) both), latin_characters cs (right (is_past_latin (encode_utf8 c)) (is_past_latin (encode_utf8_all cs)) both))
 
--- each of them is stored as one byte
+-- a character up to U+00FF is stored as one byte
 character_stored : (c : ℕ) → c < 256 → IsStored false (encode_utf8 c) (c ∷ [])
 unfolding encode_utf8
 character_stored c small rest = by (nat_lt c 128) refl (nat_lt c 2048) refl (nat_lt c 65536)
@@ -137,7 +137,7 @@ characters_stored : (cs : List ℕ) → AreLatin cs → IsStored false (encode_u
 characters_stored [] all = λ rest. refl
 characters_stored (c ∷ cs) all = both false (encode_utf8 c) (c ∷ []) (encode_utf8_all cs) cs (character_stored c all.0) (characters_stored cs all.1)
 
--- and read back
+-- a byte of Latin-1 is read back as its character
 character_back : (c : ℕ) → c < 256 → in_utf8 Latin1 c ≡ encode_utf8 c
 unfolding encode_utf8
 character_back c small = by (nat_lt c 128) (nat_lt c 2048) refl (nat_lt c 65536)

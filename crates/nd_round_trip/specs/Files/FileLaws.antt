@@ -34,7 +34,7 @@ FileAgain = (t : ElementType) (shape : List ℕ) (contents : List Content) (more
     → is_type t ≡ true → IsInLimits (item_size t) shape → length contents ≡ elements_of shape → AreContents t contents
     → read_npy (npy_bytes t shape contents ++ more) ≡ Ok (record { element = t; shape = shape; contents = contents })
 
--- ARRAY AGAIN: so is the file of any array, whose elements lie at these places of a block of bytes
+-- ARRAY AGAIN: the file of an array whose elements lie at these places of a block is read as the same type, shape and elements
 abbrev pub ArrayAgain : Type 0
 ArrayAgain = (t : ElementType) (shape places block more : List ℕ)
     → is_type t ≡ true → IsInLimits (item_size t) shape → length places ≡ elements_of shape → All (λ b. b < 256) block

@@ -34,7 +34,7 @@ fn mark_labels(alloc: Global, cells: &[Rc<LabelledCell>]) -> Result<Vec<bool>, A
     Ok(used)
 }
 
-/// Returns the least number that is the label of no cell.
+/// Returns the least number that is the label of no cell: beside the labels 0, 1 and 3 it is 2.
 pub fn fresh_label(alloc: Global, cells: &[Rc<LabelledCell>]) -> Result<u64, AllocError>
     ensures { IfOk result (λ label. label ≡ model.fresh_label (cells_of cells.now)) }
 {

@@ -200,6 +200,9 @@ impl<C: CellRunner> Schedule<C> {
     }
 
     /// Gives the cell at the place another text. It is refused for want of memory alone.
+    ///
+    /// Of `x = 1`, `y = x` and `print(2)`, another number in the first cell runs the first two, and
+    /// `x = 0 + 1` there runs it alone.
     pub fn edit(&mut self, meter: &mut Meter, at: usize, text: &str) -> Result<(), AllocError>
         requires { at < length self.old.cells }
         ensures ok { OnOk result (self.new ≡ edited_sheet (Change at text.now) self.old) }

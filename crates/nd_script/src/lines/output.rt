@@ -84,7 +84,7 @@ impl<W: Write> CountedWrite for ScriptWriter<W> {
 }
 
 /// Writes an answer, by as many calls as that takes. At a fault only its first bytes may be
-/// written.
+/// written: of `ok` and a newline, none, one, or two.
 pub fn write_answer<W: CountedWrite>(writer: &mut W, answer: &[u8]) -> Result<(), RunFault>
     ensures front { Wrote (W.contents writer.old) answer.now (is_ok result)
         (W.contents writer.new) }

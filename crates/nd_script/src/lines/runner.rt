@@ -16,6 +16,8 @@ use std::alloc::Global;
 
 /// Runs a script by at most `turns` reads. Each line's answer is written before the next one is
 /// carried out. At a fault the commands so far stand.
+///
+/// A script of the two lines `count`, over a notebook of no cells, writes `count 0` twice.
 pub fn run_lines<R: CountedRead, W: CountedWrite, A: Answerer>(
     alloc: Global,
     reader: &mut R,

@@ -13,7 +13,8 @@ use std::alloc::Global;
 // The most bytes of a line.
 const MOST_LINE: usize = 1 << 28;
 
-/// The state of a script between two of its bytes, apart from what its answerer knows.
+/// The state of a script between two of its bytes, apart from what its answerer knows. Behind `cou` it
+/// has the bytes of a line that has not ended.
 #[derive(Drop)]
 pub struct Script {
     /// The open line, without a newline.

@@ -22,7 +22,7 @@ pub fn push_number(out: &mut Vec<u8>, number: u64) -> Result<(), AllocError>
     out.extend_from_slice(buffer.format(number).as_bytes())
 }
 
-/// Appends an integer in decimal digits, behind a sign where it is negative.
+/// Appends an integer in decimal digits, behind a sign where it is negative: `-5`.
 pub fn push_integer(out: &mut Vec<u8>, integer: i128) -> Result<(), AllocError>
     ensures { OnOk result (out.new.items ≡ out.old.items ++ signed_decimal integer) }
 {
@@ -42,7 +42,8 @@ pub fn push_count_line(out: &mut Vec<u8>, word: &str, count: usize) -> Result<()
     Ok(())
 }
 
-/// Appends bytes as two lower-case hex digits each, or a dash where there are none.
+/// Appends bytes as two lower-case hex digits each, or a dash where there are none: the bytes 10 and
+/// 255 are `0aff`.
 pub fn push_hex(out: &mut Vec<u8>, bytes: &[u8]) -> Result<(), AllocError>
     ensures { OnOk result (out.new.items ≡ out.old.items ++ hex_text bytes.now) }
 {
@@ -58,7 +59,7 @@ pub fn push_hex(out: &mut Vec<u8>, bytes: &[u8]) -> Result<(), AllocError>
     Ok(())
 }
 
-/// Appends a shape, lengths separated by commas, or `()` where there are none.
+/// Appends a shape, lengths separated by commas, or `()` where there are none: `2,3`.
 pub fn push_shape(out: &mut Vec<u8>, shape: &[u64]) -> Result<(), AllocError>
     ensures { OnOk result (out.new.items ≡ out.old.items ++ shape_text shape.now) }
 {

@@ -269,7 +269,8 @@ fn index_field(alloc: Global, target: &Value, name: &str) -> Result<Chosen, Stop
     }
 }
 
-/// Returns whether an index is advanced: some item is an array.
+/// Returns whether an index is advanced: some item is an array. `x[0, 1:]` has none, and
+/// `x[[0, 1], 1:]` has one.
 pub fn is_advanced(index: &IndexValue<'_>) -> bool
     ensures { result ≡ model.has_array (operands_of index.now) }
 {
@@ -281,6 +282,9 @@ pub fn is_advanced(index: &IndexValue<'_>) -> bool
 
 /// Returns what an index selects of a value. It reads no byte of the value, and all elements of the
 /// arrays among the items, in the session's blocks.
+///
+/// In an array of shape (4, 5), `[1]` selects a view of shape (5,), and `[rows]`, where `rows` has the
+/// numbers 0 and 2, a selection of shape (2, 5).
 ///
 /// Refused in this order: `NotAnArray`; for a name `NoField`; for items `NotAnIndex` from left to
 /// right, then as `select` or `choose_places` refuses.

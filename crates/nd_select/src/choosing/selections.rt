@@ -123,7 +123,8 @@ pub(crate) fn select_elements(
     Ok(Selection { view, places })
 }
 
-/// Returns a copy, as a new array, of the elements that an advanced index selected in a block.
+/// Returns a copy, as a new array, of the elements that an advanced index selected in a block: it
+/// shares no byte with them.
 pub fn copy_selection(alloc: Global, selection: &Selection, block: &[u8]) -> Result<New, AllocError>
     requires { LiesIn (length block.now) (selected selection.now) }
     ensures { IfOk result (λ n. give (copy_of (selected selection.now) block.now) ≡ given n) }

@@ -40,7 +40,8 @@ fn order_axes(alloc: Global, view: &View, axes: &[i128]) -> Result<View, Stop>
     }
 }
 
-/// Returns the view of `.transpose(..)`, and without axes that of `.T`.
+/// Returns the view of `.transpose(..)`, and without axes that of `.T`: of shape (2, 3) with strides
+/// (24, 8), one of shape (3, 2) with strides (8, 24).
 ///
 /// Refused in this order: `BadArgument` for an axis that is no Python integer, `NotAnArray`,
 /// `BadAxes`.
@@ -96,6 +97,9 @@ fn reshape_view(alloc: Global, view: &View, lengths: &[i128]) -> Result<Reshaped
 /// Returns the array that a value is, and what `.reshape(..)` gives of it: a view where strides
 /// allow it, else the shape of a copy.
 ///
+/// A contiguous array of shape (2, 3) has a view of shape (3, 2) as its `.reshape(3, -1)`, and its
+/// transpose the shape of a copy as its `.reshape(6)`.
+///
 /// Refused in this order: `BadArgument` for a length that is no Python integer, `TooManyAxes`,
 /// `TooManyElements` for a length over 2^32, `NotAnArray`, `TwoUnknown`, `SizeMismatch`.
 pub fn reshape<'v>(
@@ -125,7 +129,8 @@ fn number_element(elem: &ElemType) -> Result<Elem, StmtFault>
     }
 }
 
-/// Returns the view of the same bytes that `.view(t)` gives.
+/// Returns the view of the same bytes that `.view(t)` gives: four contiguous `int16`s are two
+/// `int32`s, or eight `uint8`s.
 ///
 /// Refused in this order: `BadType`, `NotAnArray`, `NotNumbers` for structures on either side,
 /// `ItemSizes`, the limits of arrays.

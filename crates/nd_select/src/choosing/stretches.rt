@@ -31,7 +31,8 @@ fn stretch(alloc: Global, view: &View, shape: &[u64]) -> Result<View, Stop>
     }
 }
 
-/// Returns the view that `np.broadcast_to` gives of an array.
+/// Returns the view that `np.broadcast_to` gives of an array: of shape (3,) and stride 8, one of
+/// shape (2, 3) with strides (0, 8).
 ///
 /// Refused in this order: `BadArgument` for a length that is no Python integer or negative, the
 /// limits of arrays, `ShapeMismatch`.

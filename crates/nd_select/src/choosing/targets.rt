@@ -171,7 +171,8 @@ fn is_full_mask(target: &Value, index: &IndexValue<'_>) -> bool
     }
 }
 
-/// Returns what `target[index] = value` writes to.
+/// Returns what `target[index] = value` writes to: for `x[1:] = 0` a view, for `x[[0, 2]] = 0` a
+/// selection.
 ///
 /// Refused in this order: as the index is, `ReadOnly`, `NotNumbers`, `IntOutOfRange`,
 /// `ShapeMismatch`. Through one mask of all axes, a value of more than one axis is refused.

@@ -101,7 +101,8 @@ fn scatter_elements(
 /// these as written.
 ///
 /// The value is read before any write. Where an element is selected twice, the last value in C
-/// order stays. All memory is taken before anything is noted or written.
+/// order stays: `x[[0, 0]] = [5, 6]` sets `x[0]` to 6. All memory is taken before anything is noted
+/// or written.
 pub fn scatter(
     session: &mut Session,
     base: Base,
@@ -139,7 +140,8 @@ fn right_side<'v>(session: &'v Session, value: &'v Value) -> RightSide<'v>
 /// Applies an operator to the elements that an advanced index selects (`x[m] += y`), and notes
 /// these as written.
 ///
-/// The results are those of a copy: an element that is selected twice is updated once, as in NumPy.
+/// The results are those of a copy: an element that is selected twice is updated once, as in NumPy,
+/// so `x[[0, 0]] += 1` adds 1.
 /// All memory is taken before anything is noted or written.
 pub fn update_chosen(
     session: &mut Session,

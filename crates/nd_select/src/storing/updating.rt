@@ -96,8 +96,8 @@ fn update_by_elements(
 /// Applies an operator in place to the elements of an array and a value (`x += y`), and notes the
 /// array's elements as written.
 ///
-/// All elements are read as they were before, also where the value overlaps the array. All memory
-/// is taken before anything is noted or written.
+/// All elements are read as they were before, also where the value overlaps the array: of 1, 2, 3,
+/// `x[1:] += x[:-1]` makes 1, 3, 5. All memory is taken before anything is noted or written.
 pub fn update(
     session: &mut Session,
     op: BinaryOp,

@@ -1,8 +1,7 @@
 -- What was read stands as it was found.
-use Rattle.std.proofs.Common.{◌≡◌, ℕ, true, false, cond, List, length, slice_index, string_bytes, String, Global, Option, Some, None, option_map, Bor, refl, sym, ap, ◌∙◌, inl, inr}
+use Rattle.std.proofs.Common.{◌≡◌, ℕ, true, false, List, length, slice_index, string_bytes, String, Global, Option, Some, None, option_map, Bor, refl, sym, ap, ◌∙◌}
 use Rattle.std.specs.Prelude.{is_some, IsTrue}
 use Rattle.std.specs.declared.rc.Rc.{Rc}
-use Rattle.std.proofs.lemmas.Bool.{cases_Bool}
 use Rattle.nd_model.specs.Arrays.Value as model
 use Rattle.nd_model.specs.Cells.Session.{Names, Session, lookup, held_bytes}
 use Rattle.nd_model.specs.Cells.Running.{Key, Name, Input, Length, Byte, Inputs, Source}
@@ -12,13 +11,12 @@ use Rattle.nd_heap.specs.declared.value.Value.{Value}
 use Rattle.nd_session.specs.declared.inputs.input.Input as code
 use Rattle.nd_session.specs.declared.session.found.FoundBytes.{FoundBytes}
 use Rattle.nd_session.specs.Session.Found as places
-use Rattle.nd_session.specs.Session.Found.{bytes_of, found_at}
+use Rattle.nd_session.specs.Session.Found.{byte_at, bytes_of, found_at, lookup_base}
 use Rattle.std.specs.Option.{option_copied}
 use Rattle.nd_heap.specs.Values.{base_of, value_of}
 use Rattle.nd_session.specs.Inputs.Values.{source_of}
-use Rattle.nd_session.proofs.session.Reading.{some_same}
 use Rattle.nd_session.specs.Session.Reading.{value_at, source_at}
-use Rattle.nd_session.specs.Session.Reads.{ReadsData, lookup_base, byte_at, found_of, keys_of}
+use Rattle.nd_session.specs.Session.Reads.{ReadsData, found_of, keys_of}
 
 -- ---- at an entry
 

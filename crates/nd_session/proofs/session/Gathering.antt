@@ -1,5 +1,5 @@
 -- What is noted of what cells read: names among others, and labels.
-use Rattle.std.proofs.Common.{◌≡◌, ℕ, zero, suc, Bool, true, false, true≢false, not, ◌||◌, nat_eq, bytes_eq, cond, List, [], ◌∷◌, ◌++◌, map, slice_get, string_bytes, String, Global, Option, Some, None, eqb-true, refl, sym, ap, ap₂, subst, ◌∙◌, inl, inr, arith}
+use Rattle.std.proofs.Common.{◌≡◌, ℕ, zero, suc, Bool, true, false, true≢false, not, ◌||◌, nat_eq, bytes_eq, cond, List, [], ◌∷◌, ◌++◌, map, string_bytes, String, Global, Option, Some, None, eqb-true, refl, sym, ap, ap₂, subst, ◌∙◌, inl, inr, arith}
 use Rattle.std.specs.Prelude.{◌↔◌, Contains, IsTrue, is_some, string_eq}
 use Rattle.std.specs.Cmp.{IsEquivalence}
 use Rattle.std.specs.List.{list_any}

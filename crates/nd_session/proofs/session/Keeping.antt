@@ -7,7 +7,8 @@ use Rattle.nd_model.specs.Cells.Running.{Key, Name, Input, Length, Byte, Inputs}
 use Rattle.nd_model.specs.Cells.Footprint.{Bound, Given, Number}
 use Rattle.nd_heap.specs.Live.{is_base_among}
 use Rattle.nd_trace.specs.Marked.{is_among, is_marked}
-use Rattle.nd_session.specs.Session.Reads.{ReadsData, lookup_base, byte_at, found_in, found_of, keys_of}
+use Rattle.nd_session.specs.Session.Found.{byte_at, lookup_base}
+use Rattle.nd_session.specs.Session.Reads.{ReadsData, found_in, found_of, keys_of}
 use Rattle.nd_trace.specs.Seen.{Seen, is_read_in}
 
 mapped : {X Y : Type 0} (f : X → Y) (h : Bool) (x : X) → option_map f (cond h (Some x) None) ≡ cond h (Some (f x)) None

@@ -1,9 +1,8 @@
 -- One run of a cell in the place of another: bases with entries, and what was found.
-use Rattle.std.proofs.Common.{◌≡◌, ℕ, false, nat_eq, List, [], ◌∷◌, Option, Some, None, refl, ap, ◌∙◌, inl, inr}
+use Rattle.std.proofs.Common.{◌≡◌, ℕ, false, List, [], ◌∷◌, Option, Some, None, refl, sym, ap, ◌∙◌, inl, inr}
 use Rattle.std.specs.Prelude.{IsTrue, is_some, option_map}
 use Rattle.std.specs.List.{AllByRecursion}
 use Rattle.std.proofs.lemmas.Bool.{cases_Bool}
-use Rattle.nd_marks.specs.Marks.{Places}
 use Rattle.nd_model.specs.Arrays.Value as model
 use Rattle.nd_model.specs.Arrays.Value.{Truth}
 use Rattle.nd_model.specs.Cells.Session.{Names, bind}
@@ -13,26 +12,21 @@ use Rattle.nd_model.specs.Book.Overlay.{blanks}
 use Rattle.nd_heap.specs.declared.value.Base.{Base}
 use Rattle.nd_heap.specs.Values.{base_of}
 use Rattle.nd_heap.proofs.Same.{same_bases}
-use Rattle.nd_session.specs.Session.Changes.{ChangesData, writes_in}
-use Rattle.nd_trace.specs.Contents.{marks_of}
 use Rattle.nd_session.specs.Session.Intact.{AllLie}
-use Rattle.nd_trace.specs.Marked.{is_marked}
 use Rattle.nd_session.specs.Session.Found as places
-use Rattle.nd_session.specs.Session.Reads.{byte_at}
+use Rattle.nd_session.specs.Session.Found.{by_base, byte_at, lookup_base}
 use Rattle.nd_session.proofs.session.Intact.{with_binding}
 
--- ---- marks
+-- ---- entries
 
--- where no base of a label has an entry, none of its places is marked
-pub unmarked : (label : ℕ) (es : List (Base × Places)) → AllByRecursion (λ (e : Base × Places). ¬ (e.0.label ≡ label)) es → (b : model.Base) (p : ℕ) → b.label ≡ label → is_marked (marks_of es) b p ≡ false
-unmarked label [] h b p own = refl
-unmarked label (e ∷ es) h b p own = elim (cases_Bool (model.same_base (base_of e.0) b)) [
-  | inl same ↦ absurd (h.0 (ap (λ (c : model.Base). c.label) (same_bases (base_of e.0) b same) ∙ own))
-  | inr apart ↦ rw apart (unmarked label es h.1 b p own)
+-- where no base of a label has an entry, nothing stands by it
+pub unlisted : {V A : Type 0} (f : V → A) (label : ℕ) (es : List (Base × V)) → AllByRecursion (λ (e : Base × V). ¬ (e.0.label ≡ label)) es → (b : model.Base) → b.label ≡ label
+    → lookup_base b (by_base f es) ≡ None
+unlisted f label [] h b own = refl
+unlisted f label (e ∷ es) h b own = elim (cases_Bool (model.same_base b (base_of e.0))) [
+  | inl same ↦ absurd (h.0 (sym (ap (λ (c : model.Base). c.label) (same_bases b (base_of e.0) same)) ∙ own))
+  | inr apart ↦ rw apart (unlisted f label es h.1 b own)
 ]
-
-pub unwritten : (d : ChangesData) (b : model.Base) (p : ℕ) → is_marked d.written b p ≡ false → writes_in d b p ≡ None
-unwritten d b p free = elim (cases_Bool (nat_eq b.label d.label)) [ inl mine ↦ rw mine refl | inr other ↦ rw (other, free) refl ]
 
 -- ---- what was found
 

@@ -13,15 +13,15 @@ use Rattle.nd_heap.specs.Values.{base_of}
 use Rattle.nd_trace.specs.Contents.{marks_of}
 use Rattle.nd_heap.specs.Live.{is_base_among}
 use Rattle.nd_trace.specs.Marked.{is_among, is_marked}
-use Rattle.nd_session.specs.Session.Reading.{by_text, by_base}
+use Rattle.nd_session.specs.Session.Reading.{by_text}
 use Rattle.nd_session.specs.Session.Found as places
-use Rattle.nd_session.specs.Session.Reads.{lookup_base, byte_at}
+use Rattle.nd_session.specs.Session.Found.{by_base, byte_at, lookup_base}
 use Rattle.nd_heap.proofs.Same.{same_bases, same_bytes, bytes_same}
 use Rattle.nd_heap.proofs.Bases.{base_eq}
 use Rattle.nd_trace.proofs.Places.{found_marks, found_marked}
 use Rattle.nd_trace.proofs.Traces.{bytes_eq_sym, or_right}
 
-or_false : (x : Bool) → (x || false) ≡ x
+pub or_false : (x : Bool) → (x || false) ≡ x
 or_false true = refl
 or_false false = refl
 
@@ -29,7 +29,7 @@ either : (a b c : Bool) → (a || (b || c)) ≡ ((a || b) || c)
 either true b c = refl
 either false b c = refl
 
-same_base_sym : (a b : model.Base) → model.same_base a b ≡ model.same_base b a
+pub same_base_sym : (a b : model.Base) → model.same_base a b ≡ model.same_base b a
 same_base_sym a b = grind (arith, nat_tests)
 
 none_some : {E P : Type 0} (e : E) → None ≡ Some e → P
@@ -161,24 +161,24 @@ module _ {A : Type 0} where
 
 -- ---- the bytes of one more base
 
-abbrev pub marked_bases : List (Base × Places) → List model.Base
-marked_bases [] = []
-marked_bases (e ∷ es) = base_of e.0 ∷ marked_bases es
+abbrev pub entry_bases : {V : Type 0} → List (Base × V) → List model.Base
+entry_bases [] = []
+entry_bases (e ∷ es) = base_of e.0 ∷ entry_bases es
 
-marked_step : (es : List (Base × Places)) (i : ℕ) (e : Base × Places) (b : model.Base) → slice_get es i ≡ Some e
-    → is_base_among (marked_bases (take (suc i) es)) b ≡ (is_base_among (marked_bases (take i es)) b || model.same_base (base_of e.0) b)
-marked_step [] i e b at = none_some e at
-marked_step (d ∷ es) zero e b at = or_false (model.same_base (base_of d.0) b) ∙ ap (λ (d : Base × Places). model.same_base (base_of d.0) b) (some_same d e at)
-marked_step (d ∷ es) (suc i) e b at = ap (λ h. model.same_base (base_of d.0) b || h) (marked_step es i e b at)
-    ∙ either (model.same_base (base_of d.0) b) (is_base_among (marked_bases (take i es)) b) (model.same_base (base_of e.0) b)
+pub entry_step : {V : Type 0} (es : List (Base × V)) (i : ℕ) (e : Base × V) (b : model.Base) → slice_get es i ≡ Some e
+    → is_base_among (entry_bases (take (suc i) es)) b ≡ (is_base_among (entry_bases (take i es)) b || model.same_base (base_of e.0) b)
+entry_step [] i e b at = none_some e at
+entry_step {V = V} (d ∷ es) zero e b at = or_false (model.same_base (base_of d.0) b) ∙ ap (λ (d : Base × V). model.same_base (base_of d.0) b) (some_same d e at)
+entry_step (d ∷ es) (suc i) e b at = ap (λ h. model.same_base (base_of d.0) b || h) (entry_step es i e b at)
+    ∙ either (model.same_base (base_of d.0) b) (is_base_among (entry_bases (take i es)) b) (model.same_base (base_of e.0) b)
 
 pub bytes_noted : (bytes : model.Base → List ℕ) (old new : List (model.Base × places.Found)) (es : List (Base × Places)) (i : ℕ) (e : Base × Places) (b : model.Base) (p : ℕ)
     → slice_get es i ≡ Some e → find (base_eq e.0) es ≡ Some e.1
     → byte_at (lookup_base b new) p ≡ cond (model.same_base b (base_of e.0)) (cond (holds e.1 p) (Some (slice_index (bytes (base_of e.0)) p)) None) (byte_at (lookup_base b old) p)
-    → byte_at (lookup_base b old) p ≡ cond (is_base_among (marked_bases (take i es)) b && is_marked (marks_of es) b p) (Some (slice_index (bytes b) p)) None
-    → byte_at (lookup_base b new) p ≡ cond (is_base_among (marked_bases (take (suc i) es)) b && is_marked (marks_of es) b p) (Some (slice_index (bytes b) p)) None
+    → byte_at (lookup_base b old) p ≡ cond (is_base_among (entry_bases (take i es)) b && is_marked (marks_of es) b p) (Some (slice_index (bytes b) p)) None
+    → byte_at (lookup_base b new) p ≡ cond (is_base_among (entry_bases (take (suc i) es)) b && is_marked (marks_of es) b p) (Some (slice_index (bytes b) p)) None
 bytes_noted bytes old new es i e b p at found noted before =
-    let all = sym (ap (λ h. cond (h && is_marked (marks_of es) b p) (Some (slice_index (bytes b) p)) None) (marked_step es i e b at)) in
+    let all = sym (ap (λ h. cond (h && is_marked (marks_of es) b p) (Some (slice_index (bytes b) p)) None) (entry_step es i e b at)) in
     noted ∙ elim (cases_Bool (model.same_base b (base_of e.0))) [
       | inl same ↦
           let is : b ≡ base_of e.0 = same_bases b (base_of e.0) same in
@@ -186,15 +186,15 @@ bytes_noted bytes old new es i e b p at found noted before =
           let marked : holds e.1 p ≡ is_marked (marks_of es) b p = sym (ap (λ c. is_marked (marks_of es) c p) is ∙ found_marked e.0 es p ∙ ap (λ o. found_marks o p) found) in
           ap (λ h. cond h (cond (holds e.1 p) (Some (slice_index (bytes (base_of e.0)) p)) None) (byte_at (lookup_base b old) p)) same
           ∙ ap₂ (λ h c. cond h (Some (slice_index (bytes c) p)) None) marked (sym is)
-          ∙ sym (ap (λ h. cond (h && is_marked (marks_of es) b p) (Some (slice_index (bytes b) p)) None) (or_right (is_base_among (marked_bases (take i es)) b) _ here)) ∙ all
+          ∙ sym (ap (λ h. cond (h && is_marked (marks_of es) b p) (Some (slice_index (bytes b) p)) None) (or_right (is_base_among (entry_bases (take i es)) b) _ here)) ∙ all
       | inr apart ↦
           let here : model.same_base (base_of e.0) b ≡ false = same_base_sym (base_of e.0) b ∙ apart in
           ap (λ h. cond h (cond (holds e.1 p) (Some (slice_index (bytes (base_of e.0)) p)) None) (byte_at (lookup_base b old) p)) apart ∙ before
-          ∙ sym (ap (λ h. cond (h && is_marked (marks_of es) b p) (Some (slice_index (bytes b) p)) None) (ap (λ h. is_base_among (marked_bases (take i es)) b || h) here ∙ or_false _)) ∙ all
+          ∙ sym (ap (λ h. cond (h && is_marked (marks_of es) b p) (Some (slice_index (bytes b) p)) None) (ap (λ h. is_base_among (entry_bases (take i es)) b || h) here ∙ or_false _)) ∙ all
     ]
 
 pub all_marked : (es : List (Base × Places)) (i : ℕ) → length es ≤ i → (b : model.Base) (p : ℕ)
-    → (is_base_among (marked_bases (take i es)) b && is_marked (marks_of es) b p) ≡ is_marked (marks_of es) b p
+    → (is_base_among (entry_bases (take i es)) b && is_marked (marks_of es) b p) ≡ is_marked (marks_of es) b p
 all_marked [] zero long b p = refl
 all_marked [] (suc i) long b p = refl
 all_marked (e ∷ es) zero long b p = absurd (omega arith)

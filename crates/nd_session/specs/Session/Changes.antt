@@ -1,22 +1,21 @@
 -- What contracts see of the changes that a cell made: plain data, and the effects that they stand for.
-use Rattle.std.specs.Prelude.{ℕ, List, [], nat_eq, Option, Some, None, slice_index, if◌then◌else◌, Bool, is_some}
+use Rattle.std.specs.Prelude.{ℕ, List, [], nat_eq, Option, None, if◌then◌else◌, Bool, is_some}
 use Rattle.nd_model.specs.Arrays.Value.{Base}
 use Rattle.nd_model.specs.Cells.Session.{Names, Session, is_held, lookup}
 use Rattle.nd_model.specs.Cells.Fault.{Refusal}
 use Rattle.nd_model.specs.Cells.Cell.{Saved, Ended}
 use Rattle.nd_model.specs.Cells.Running.{Event, Running, start}
 use Rattle.nd_model.specs.Cells.Footprint.{Effects, replayed, with_effects}
-use Rattle.nd_marks.specs.Marks.{Places}
 use Rattle.nd_heap.specs.Live.{bytes_at}
-use Rattle.nd_trace.specs.Marked.{is_marked}
+use Rattle.nd_session.specs.Session.Found.{Found, byte_at, lookup_base}
 
 pub record ChangesData : Type 0 where
   -- the cell, and the number of its next base
   pub label : ℕ
   pub next : ℕ
   pub events : List Event
-  -- the bytes that are written, and the blocks that are kept
-  pub written : List (Base × Places)
+  -- the bytes that it wrote to bases of other cells, and the blocks that it made
+  pub written : List (Base × Found)
   pub blocks : List (Base × List ℕ)
 
 -- the names that it bound and unbound
@@ -31,13 +30,9 @@ is_bound n names = is_some (lookup n names)
 abbrev pub bases_in : ChangesData → Base → List ℕ
 bases_in c b = if nat_eq b.label c.label then (if is_held b (replayed c.events []) then bytes_at c.blocks b else []) else []
 
--- the bytes that are marked, in bases of other labels
-abbrev pub written_by : ℕ → List (Base × Places) → List (Base × List ℕ) → Base → ℕ → Option ℕ
-written_by label written blocks b p = if nat_eq b.label label then None else (if is_marked written b p then Some (slice_index (bytes_at blocks b) p) else None)
-
 -- the bytes that it wrote to other bases
 abbrev pub writes_in : ChangesData → Base → ℕ → Option ℕ
-writes_in c b p = written_by c.label c.written c.blocks b p
+writes_in c b p = byte_at (lookup_base b c.written) p
 
 -- a cell's effects, with what it gave
 abbrev pub effects_in : List ℕ → Option (ℕ × Refusal) → Saved → ChangesData → Effects

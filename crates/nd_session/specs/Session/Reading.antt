@@ -5,22 +5,17 @@ use Rattle.std.specs.declared.rc.Rc.{Rc}
 use Rattle.nd_model.specs.Arrays.Value as model
 use Rattle.nd_model.specs.Cells.Running.{Source}
 use Rattle.nd_session.specs.declared.inputs.input.Input.{Input}
-use Rattle.nd_heap.specs.declared.value.Base.{Base}
 use Rattle.nd_heap.specs.declared.value.Value.{Value}
 use Rattle.nd_session.specs.declared.session.reads.Reads.TheInside.{Inside}
-use Rattle.nd_session.specs.Session.Found.{bytes_of}
-use Rattle.nd_heap.specs.Values.{base_of, value_of}
+use Rattle.nd_session.specs.Session.Found.{by_base, bytes_of}
+use Rattle.nd_heap.specs.Values.{value_of}
 use Rattle.nd_session.specs.Inputs.Values.{source_of}
 use Rattle.nd_session.specs.Session.Reads.{ReadsData}
 
--- entries by their texts, and by their bases
+-- entries by their texts
 abbrev pub by_text : {V A : Type 0} → (V → A) → List (String Global × V) → List (List ℕ × A)
 by_text f [] = []
 by_text f (e ∷ es) = (string_bytes e.0, f e.1) ∷ by_text f es
-
-abbrev pub by_base : {V A : Type 0} → (V → A) → List (Base × V) → List (model.Base × A)
-by_base f [] = []
-by_base f (e ∷ es) = (base_of e.0, f e.1) ∷ by_base f es
 
 abbrev pub value_at : Option (Rc Value Global) → Option model.Value
 value_at o = option_map (λ v. value_of v.value) o

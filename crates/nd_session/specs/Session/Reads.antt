@@ -1,8 +1,8 @@
 -- What a cell read, with what it found there, as plain lists.
-use Rattle.std.specs.Prelude.{◌≡◌, ℕ, Bool, refl, if◌then◌else◌, List, [], ◌∷◌, length, slice_index, Option, Some, None, option_map, is_some}
-use Rattle.nd_session.specs.Session.Found.{found_at}
+use Rattle.std.specs.Prelude.{◌≡◌, ℕ, Bool, refl, List, length, slice_index, Option, option_map, is_some}
+use Rattle.nd_session.specs.Session.Found.{byte_at, lookup_base}
 use Rattle.nd_session.specs.Session.Found as places
-use Rattle.nd_model.specs.Arrays.Value.{Base, Value, same_base}
+use Rattle.nd_model.specs.Arrays.Value.{Base, Value}
 use Rattle.nd_model.specs.Cells.Session.{Session, lookup, collected}
 use Rattle.nd_model.specs.Cells.Running.{Key, Name, Input, Length, Byte, Inputs, Source}
 use Rattle.nd_model.specs.Cells.Footprint.{Found, Bound, Given, Number, found}
@@ -13,16 +13,6 @@ pub record ReadsData : Type 0 where
   pub inputs : List (List ℕ × Option Source)
   pub lengths : List (Base × ℕ)
   pub bytes : List (Base × places.Found)
-
--- what stands by a base
-abbrev pub lookup_base : {A : Type 0} → Base → List (Base × A) → Option A
-lookup_base b [] = None
-lookup_base b (e ∷ es) = if same_base b e.0 then Some e.1 else lookup_base b es
-
--- the byte, if the place was read
-abbrev pub byte_at : Option places.Found → ℕ → Option ℕ
-byte_at None p = None
-byte_at (Some e) p = found_at e p
 
 -- what was found at a key, and none where it was not read
 abbrev pub found_of : ReadsData → Key → Option Found

@@ -31,6 +31,8 @@ pub type Inputs = IndexMap<RcStr, Rc<Input>>;
 impl Input {
     /// Returns the bytes that count towards the limit: its own, those of its format, and 8 for each
     /// length and stride.
+    ///
+    /// A buffer of 10 bytes of format `B`, shape (10,) and strides (1,) counts as 27.
     pub fn size(&self) -> u128
         ensures { result ≡ size_of_input (source_of self.now) }
     {
@@ -152,6 +154,8 @@ pub fn has_input(inputs: &Inputs, name: &str) -> bool
 }
 
 /// Returns the inputs with this one under a name, in place of one that has it. No byte is copied.
+///
+/// Of `a` and `b`, with an input under `a`, they are still two.
 pub fn with_input(
     alloc: Global,
     inputs: &Inputs,

@@ -26,6 +26,8 @@ fn are_name_bytes(bytes: &[u8]) -> bool
 }
 
 /// Returns whether an input may have this name: 1 to 64 digits, letters, `-`, `.` and `_`.
+///
+/// `counts-1.npy` is such a name; `a b` and the empty name are not.
 pub fn is_input_name(name: &str) -> bool
     ensures { result ≡ is_input_name name.now }
 {

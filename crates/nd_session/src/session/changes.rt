@@ -1,21 +1,21 @@
 //! `Changes`: what a cell did to its session, kept for its replay.
 
-ghost use Rattle.std.specs.Prelude.{◌≡◌, ◌⊎◌, ℕ, ◌||◌, [], true, false, nat_eq, map, filter, IfOk, OnOk, IsTrue, None, unwrap_or};
+ghost use Rattle.std.specs.Prelude.{◌≡◌, ℕ, [], true, nat_eq, map, filter, if◌then◌else◌, slice_index, IfOk, IsTrue, None, Some, unwrap_or};
 ghost use Rattle.nd_model.specs.Cells.Footprint.{effects_of, replayed};
 ghost use Rattle.nd_model.specs.Cells.Session as model;
 ghost use Rattle.nd_model.specs.Arrays.Value as values;
 ghost use Rattle.nd_session.specs.Session.Changes.{bases_in, ended, events_in, is_bound, writes_in};
 ghost use Rattle.nd_session.specs.Session.Fields.{effects_over};
-ghost use Rattle.nd_heap.specs.Contents.{bases_of, blocks_of};
+ghost use Rattle.nd_session.specs.Session.Found.{byte_found};
+ghost use Rattle.nd_heap.specs.Contents.{bases_of};
 ghost use Rattle.nd_trace.specs.Contents.{marks_of};
 ghost use Rattle.nd_trace.specs.Events.{event_of};
-ghost use Rattle.nd_heap.specs.Live.{is_base_among};
+ghost use Rattle.nd_heap.specs.Live.{bytes_at, is_base_among};
 ghost use Rattle.nd_trace.specs.Marked.{is_marked};
 ghost use Rattle.nd_session.specs.Session.Live.{live};
-ghost use Rattle.nd_trace.specs.Patching.{has_marks};
-ghost use Rattle.nd_heap.specs.Values.{base_of};
 
-use crate::session::matching::{are_among, are_same_events, are_written_among};
+use crate::session::found::{FoundByBase, note_bytes};
+use crate::session::matching::{are_among, are_found_among, are_same_events};
 use crate::session::redo::replay;
 use crate::session::session::Session;
 use indexmap::IndexMap;
@@ -25,15 +25,19 @@ use std::alloc::Global;
 use std::marker::Model;
 
 /// What a cell did to its session: names bound and unbound, blocks that it made and a name still
-/// holds, and bytes written to other blocks.
+/// holds, and bytes written to blocks of other cells.
 ///
-/// Names, values and blocks are shared with the session.
+/// Names, values and its own blocks are shared with the session. So is a block of another cell,
+/// unless the bytes that were written to it are few: then they are kept alone.
+///
+/// Of `x[0] += 1`, `t = 2`, over an `x` of another cell with 100 elements, they are the bytes of one
+/// element, and `t`.
 #[derive(Drop)]
 pub struct Changes {
     pub(crate) label: u64,
     pub(crate) next: u64,
     pub(crate) events: Vec<Event>,
-    pub(crate) written: Footprint,
+    pub(crate) written: FoundByBase,
     pub(crate) blocks: Blocks,
 }
 
@@ -44,14 +48,14 @@ impl Model for Changes {
 
     ghost use Rattle.std.specs.Prelude.{map};
     ghost use Rattle.nd_heap.specs.Contents.{blocks_of};
-    ghost use Rattle.nd_trace.specs.Contents.{marks_of};
+    ghost use Rattle.nd_session.specs.Session.Found.{by_base, bytes_of};
     ghost use Rattle.nd_trace.specs.Events.{event_of};
 
     ghost view = { λ c. record {
       label = c.label;
       next = c.next;
       events = map event_of c.events.items;
-      written = marks_of c.written.entries;
+      written = by_base bytes_of c.written.entries;
       blocks = blocks_of c.blocks.entries;
     } };
 }
@@ -68,22 +72,6 @@ fn copy_events(alloc: Global, events: &[Event]) -> Result<Vec<Event>, OutOfMemor
     Ok(copy)
 }
 
-/// Returns equal marks with memory of their own.
-fn copy_marks(alloc: Global, marked: &Footprint) -> Result<Footprint, OutOfMemory>
-    ensures { IfOk result (λ m. (b : values.Base) (p : ℕ)
-        → is_marked (marks_of m.entries) b p ≡ is_marked (marks_of marked.now.entries) b p) }
-{
-    let mut copy = IndexMap::new(alloc);
-    for i in (0..marked.len()).rev() {
-        let Some((base, marks)) = marked.get_index(i) else {
-            unreachable!();
-        };
-        let same = marks.try_clone(alloc)?;
-        copy.insert(*base, same)?;
-    }
-    Ok(copy)
-}
-
 /// Keeps only the blocks of this label.
 fn retain_own(bases: &mut Bases, label: u64)
     ensures { bases.new.entries ≡ filter (λ e. nat_eq e.0.label label) bases.old.entries }
@@ -93,21 +81,6 @@ fn retain_own(bases: &mut Bases, label: u64)
             ensures { (result ≡ nat_eq base.now.label label) × (_unit.new ≡ _unit.old) }
         { base.label == label },
     );
-}
-
-/// Adds the blocks that have marks.
-fn note_marked(bases: &mut Bases, marked: &Footprint) -> Result<(), OutOfMemory>
-    ensures { OnOk result ((b : values.Base) → is_base_among (bases_of bases.new.entries) b
-        ≡ (is_base_among (bases_of bases.old.entries) b
-        || has_marks (marks_of marked.now.entries) b)) }
-{
-    for i in 0..marked.len() {
-        let Some((base, _)) = marked.get_index(i) else {
-            unreachable!();
-        };
-        bases.insert(*base, ())?;
-    }
-    Ok(())
 }
 
 /// The blocks of this label that some name holds after the events alone.
@@ -123,6 +96,31 @@ fn own_bases(alloc: Global, label: u64, events: &[Event]) -> Result<Bases, OutOf
     Ok(own)
 }
 
+/// The bytes that were written to blocks of other labels.
+fn find_written(
+    alloc: Global,
+    marked: &Footprint,
+    heap: &Heap,
+    label: u64,
+) -> Result<FoundByBase, OutOfMemory>
+    ensures { IfOk result (λ w. (b : values.Base) (p : ℕ)
+        → byte_found w.entries b p ≡ (if nat_eq b.label label then None
+        else (if is_marked (marks_of marked.now.entries) b p
+        then Some (slice_index (bytes_at heap.now.blocks b) p) else None))) }
+{
+    let mut written = IndexMap::new(alloc);
+    for i in 0..marked.len() {
+        let Some((base, marks)) = marked.get_index(i) else {
+            unreachable!();
+        };
+        if base.label != label {
+            let block = heap.share_block(*base)?;
+            note_bytes(alloc, &mut written, *base, marks, block)?;
+        }
+    }
+    Ok(written)
+}
+
 /// What a trace did over the blocks of a session.
 fn keep(alloc: Global, trace: &Trace, heap: &Heap, next: u64) -> Result<Changes, OutOfMemory>
     ensures label { IfOk result (λ c. c.label ≡ trace.now.label) }
@@ -135,35 +133,17 @@ fn keep(alloc: Global, trace: &Trace, heap: &Heap, next: u64) -> Result<Changes,
 {
     let label = trace.label();
     let done = trace.events();
-    let marked = trace.written_bytes();
-    let mut bases = own_bases(alloc, label, done)?;
-    note_marked(&mut bases, marked)?;
-    let kept = heap.pick_blocks(alloc, &bases)?;
+    let own = own_bases(alloc, label, done)?;
+    let blocks = heap.pick_blocks(alloc, &own)?;
+    let written = find_written(alloc, trace.written_bytes(), heap, label)?;
     let events = copy_events(alloc, done)?;
-    let written = copy_marks(alloc, marked)?;
     Ok(Changes {
         label,
         next,
         events,
         written,
-        blocks: kept,
+        blocks,
     })
-}
-
-/// Whether all marked blocks are of this label.
-pub(crate) fn are_own(marked: &Footprint, label: u64) -> bool
-    ensures { IsTrue result → (b : values.Base) → nat_eq b.label label ≡ false
-        → has_marks (marks_of marked.now.entries) b ≡ false }
-{
-    for i in 0..marked.len() {
-        let Some((base, _)) = marked.get_index(i) else {
-            unreachable!();
-        };
-        if base.label != label {
-            return false;
-        }
-    }
-    true
 }
 
 /// What the events last do to a name: true where they bind it, false where they unbind it, `None`
@@ -181,25 +161,9 @@ fn last_of(events: &[Event], name: &str) -> Option<bool>
     last
 }
 
-/// Whether each byte that one cell wrote to blocks of other labels was written by the other, too,
-/// with the same value.
-fn wrote_same(one: &Changes, other: &Changes) -> bool
-    requires { one.now.label ≡ other.now.label }
-    ensures { IsTrue result → (b : values.Base) → ((p : ℕ)
-        → writes_in one.now b p ≡ writes_in other.now b p) ⊎ ((p : ℕ)
-        → writes_in one.now b p ≡ None) }
-{
-    are_written_among(
-        &one.written,
-        &one.blocks,
-        &other.written,
-        &other.blocks,
-        one.label,
-    )
-}
-
 impl Changes {
-    /// Returns what the running cell did to a session so far. No byte of a block is copied.
+    /// Returns what the running cell did to a session so far. Of a block that another cell made, the
+    /// bytes that it wrote are copied where they are fewer than a quarter of it; no other byte is.
     pub fn new(alloc: Global, session: &Session) -> Result<Changes, OutOfMemory>
         ensures label { IfOk result (λ c. c.label ≡ (live session.now).label) }
         ensures next { IfOk result (λ c. c.next ≡ (live session.now).next) }
@@ -236,8 +200,9 @@ impl Changes {
         ensures writes { IsTrue result → (b : values.Base) (p : ℕ)
             → writes_in self.now b p ≡ None }
     {
-        self.events.is_empty() && are_own(&self.written, self.label)
+        self.events.is_empty() && self.written.is_empty()
     }
+
     /// Returns true only where two cells of one label had the same effects on their sessions,
     /// whatever they read and printed.
     pub fn is_same(&self, other: &Changes) -> bool
@@ -251,12 +216,13 @@ impl Changes {
         if !are_same_events(&self.events, &other.events) {
             return false;
         }
-        if !are_among(&self.blocks, &other.blocks, self.label) {
+        if !are_among(&self.blocks, &other.blocks) {
             return false;
         }
-        if !are_among(&other.blocks, &self.blocks, self.label) {
+        if !are_among(&other.blocks, &self.blocks) {
             return false;
         }
-        wrote_same(self, other) && wrote_same(other, self)
+        are_found_among(&self.written, &other.written)
+            && are_found_among(&other.written, &self.written)
     }
 }

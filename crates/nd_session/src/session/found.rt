@@ -1,12 +1,15 @@
-//! `FoundBytes`: what a cell found at marked byte offsets of a block: the bytes, or the block, shared.
+//! `FoundBytes`: the bytes at marked byte offsets of a block as it was, alone or with the block.
 
-ghost use Rattle.std.specs.Prelude.{◌≡◌, ◌↔◌, ℕ, IfOk, IsTrue, None, Some, if◌then◌else◌, slice_index};
+ghost use Rattle.std.specs.Prelude.{◌≡◌, ◌↔◌, ℕ, ◌<◌, List, IfOk, IsTrue, None, OnOk, Some, if◌then◌else◌, length, slice_index, unwrap_or};
 ghost use Rattle.nd_heap.specs.Contents.{bytes_in};
+ghost use Rattle.nd_heap.specs.Values.{base_of};
 ghost use Rattle.nd_marks.specs.Marks.{holds};
-ghost use Rattle.nd_session.specs.Session.Found.{bytes_of, found_at};
+ghost use Rattle.nd_model.specs.Arrays.Value as values;
+ghost use Rattle.nd_session.specs.Session.Found.{byte_found, bytes_of, found_at};
 
+use indexmap::IndexMap;
 use nd_block::RawBlock;
-use nd_heap::OutOfMemory;
+use nd_heap::{Base, BlockWriter, OutOfMemory};
 use nd_marks::{KeptBytes, Marks};
 use std::alloc::Global;
 use std::rc::Rc;
@@ -18,6 +21,9 @@ pub(crate) enum FoundBytes {
     Kept(KeptBytes),
     Shared(Marks, Option<Rc<RawBlock>>),
 }
+
+/// The bytes that were found, of several blocks.
+pub(crate) type FoundByBase = IndexMap<Base, FoundBytes>;
 
 /// The bytes of a block that is shared, none where there is none.
 fn shared_bytes(block: &Option<Rc<RawBlock>>) -> &[u8]
@@ -31,7 +37,7 @@ fn shared_bytes(block: &Option<Rc<RawBlock>>) -> &[u8]
 
 impl FoundBytes {
     /// Returns what stands at the marked byte offsets of a block.
-    pub(crate) fn new(
+    fn new(
         alloc: Global,
         marks: &Marks,
         block: Option<Rc<RawBlock>>,
@@ -58,4 +64,69 @@ impl FoundBytes {
             FoundBytes::Shared(marks, found) => marks.are_same(block, shared_bytes(found)),
         }
     }
+
+    /// Returns true only where both are the same bytes at the same byte offsets. It may be false
+    /// where these were marked in other pieces, or the blocks are of other lengths.
+    pub(crate) fn is_same(&self, other: &FoundBytes) -> bool
+        ensures { IsTrue result → (p : ℕ)
+            → found_at (bytes_of self.now) p ≡ found_at (bytes_of other.now) p }
+    {
+        match (self, other) {
+            (FoundBytes::Kept(kept), FoundBytes::Kept(others)) => kept.is_same(others),
+            (FoundBytes::Shared(marks, found), FoundBytes::Shared(other_marks, other_found)) => {
+                marks.is_same(other_marks)
+                    && marks.are_same(shared_bytes(found), shared_bytes(other_found))
+            }
+            _ => false,
+        }
+    }
+
+    /// Puts each byte into a block. Byte offsets past its end are passed over.
+    fn patch(&self, block: &mut [u8])
+        ensures len { length block.new ≡ length block.old }
+        ensures bytes { (p : ℕ) → p < length block.old → slice_index block.new p
+            ≡ unwrap_or (found_at (bytes_of self.now) p) (slice_index block.old p) }
+    {
+        match self {
+            FoundBytes::Kept(kept) => kept.patch(block),
+            FoundBytes::Shared(marks, found) => marks.patch(block, shared_bytes(found)),
+        }
+    }
+}
+
+/// Bytes that were found, to be put back into a block.
+#[derive(Drop)]
+pub(crate) struct FoundWriter<'f> {
+    pub(crate) found: &'f FoundBytes,
+}
+
+impl<'f> BlockWriter for FoundWriter<'f> {
+    ghost use Rattle.nd_model.specs.Cells.Footprint.{patched};
+    ghost use Rattle.nd_session.specs.Session.Found.{bytes_of, found_at, length-patched};
+
+    ghost written = { λ w bytes. patched (found_at (bytes_of w.found.now)) bytes };
+
+    fn write(self, block: &mut RawBlock) {
+        self.found.patch(block.as_mut_slice());
+    }
+
+    ghost keeps_length = { λ w bytes. length-patched (found_at (bytes_of w.found.now)) bytes };
+}
+
+/// Notes the bytes that stand at the marked byte offsets of a block.
+pub(crate) fn note_bytes(
+    alloc: Global,
+    found: &mut FoundByBase,
+    base: Base,
+    marks: &Marks,
+    block: Option<Rc<RawBlock>>,
+) -> Result<(), OutOfMemory>
+    ensures { OnOk result ((b : values.Base) (p : ℕ)
+        → byte_found found.new.entries b p ≡ (if values.same_base b (base_of base)
+        then (if holds marks.now p then Some (slice_index (bytes_in block) p) else None)
+        else byte_found found.old.entries b p)) }
+{
+    let bytes = FoundBytes::new(alloc, marks, block)?;
+    found.insert(base, bytes)?;
+    Ok(())
 }

@@ -11,7 +11,7 @@ ghost use Rattle.nd_heap.specs.Values.{value_of};
 ghost use Rattle.nd_session.specs.Session.Changes.{events_in, writes_in};
 ghost use Rattle.nd_trace.specs.Events.{event_of};
 
-use crate::session::changes::{Changes, are_own};
+use crate::session::changes::Changes;
 use indexmap::IndexMap;
 use nd_heap::{Base, Heap, OutOfMemory, Value};
 use nd_trace::Event;
@@ -169,7 +169,7 @@ impl Changes {
         ensures writes { IsTrue result → (b : values.Base) (p : ℕ)
             → writes_in self.now b p ≡ None }
     {
-        bind_own(&self.events, self.label) && are_own(&self.written, self.label)
+        bind_own(&self.events, self.label) && self.written.is_empty()
     }
 
     /// Returns true only where two cells bind the same names in the same order, each once. It takes

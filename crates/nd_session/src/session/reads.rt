@@ -3,7 +3,6 @@
 ghost use Rattle.std.specs.Prelude.{◌≡◌, ◌↔◌, ℕ, Contains, IfOk, IsFalse, IsTrue, List, None, OnOk, false, is_some};
 ghost use Rattle.std.specs.Prelude.{Option, Some, true, bytes_eq, if◌then◌else◌, length, map, slice_index, string_bytes};
 ghost use Rattle.std.specs.List.{All};
-ghost use Rattle.nd_marks.specs.Marks.{holds};
 ghost use Rattle.nd_model.specs.Cells.Footprint.{found};
 ghost use Rattle.nd_model.specs.Cells.Running as running;
 ghost use Rattle.nd_model.specs.Cells.Session as model;
@@ -16,23 +15,22 @@ ghost use Rattle.nd_heap.specs.Live.{is_base_among};
 ghost use Rattle.nd_trace.specs.Marked.{is_among, is_marked};
 ghost use Rattle.nd_session.specs.Session.Live.{live};
 ghost use Rattle.nd_session.specs.Session.Noted.{StaysNoted};
-ghost use Rattle.nd_session.specs.Session.Reading.{by_text, by_base, value_at, source_at, length_at};
-ghost use Rattle.nd_session.specs.Session.Found.{bytes_of, found_at, Found};
-ghost use Rattle.nd_session.specs.Session.Reads.{byte_at, found_in, found_of, keys_of, lookup_base};
+ghost use Rattle.nd_session.specs.Session.Reading.{by_text, value_at, source_at, length_at};
+ghost use Rattle.nd_session.specs.Session.Found.{by_base, byte_found, bytes_of, found_at, lookup_base, Found};
+ghost use Rattle.nd_session.specs.Session.Reads.{found_in, found_of, keys_of};
 ghost use Rattle.nd_trace.specs.Seen.{is_read_in};
 ghost use Rattle.nd_heap.specs.Values.{base_of};
 ghost use Rattle.nd_session.specs.Inputs.Values.{inputs_of};
 
 use crate::inputs::{Input, Inputs, are_same_inputs, find_input};
 use crate::session::changes::Changes;
-use crate::session::found::FoundBytes;
+use crate::session::found::{FoundByBase, note_bytes};
 use crate::session::overlay::{has_label, touches};
 use crate::session::readings::Readings;
 use crate::session::session::Session;
 use crate::session::version::Version;
 use indexmap::IndexMap;
 use nd_heap::{Base, OutOfMemory, Value, are_same_values};
-use nd_marks::Marks;
 use nd_trace::{Event, Footprint, Trace};
 use std::alloc::Global;
 use std::marker::Model;
@@ -47,9 +45,6 @@ type InputsRead = IndexMap<String, Option<Rc<Input>>>;
 /// The lengths of blocks.
 type LengthsRead = IndexMap<Base, usize>;
 
-/// The bytes that were read of blocks.
-type AllBytesRead = IndexMap<Base, FoundBytes>;
-
 /// What a cell read, with what it found there. Values and inputs are shared. So is a block, unless
 /// the bytes that were read of it are few: then they are kept alone.
 #[derive(Drop)]
@@ -57,7 +52,7 @@ pub struct Reads {
     names: NamesRead,
     inputs: InputsRead,
     lengths: LengthsRead,
-    bytes: AllBytesRead,
+    bytes: FoundByBase,
 }
 
 impl Model for Reads {
@@ -165,36 +160,10 @@ fn find_lengths(alloc: Global, bases: &[Base], before: &Version) -> Result<Lengt
     Ok(reads)
 }
 
-/// Notes the byte offsets that were read of a block.
-fn note_bytes(
-    alloc: Global,
-    reads: &mut AllBytesRead,
-    base: Base,
-    marks: &Marks,
-    before: &Version,
-) -> Result<(), OutOfMemory>
-    ensures { OnOk result ((b : values.Base) (p : ℕ)
-        → byte_at (lookup_base b (by_base bytes_of reads.new.entries)) p
-        ≡ (if values.same_base b (base_of base)
-        then (if holds marks.now p
-        then Some (slice_index ((version_of before.now).bytes (base_of base)) p) else None)
-        else byte_at (lookup_base b (by_base bytes_of reads.old.entries)) p)) }
-{
-    let block = before.share_block(base)?;
-    let found = FoundBytes::new(alloc, marks, block)?;
-    reads.insert(base, found)?;
-    Ok(())
-}
-
 /// The byte offsets that were read, with their blocks.
-fn find_bytes(
-    alloc: Global,
-    used: &Footprint,
-    before: &Version,
-) -> Result<AllBytesRead, OutOfMemory>
+fn find_bytes(alloc: Global, used: &Footprint, before: &Version) -> Result<FoundByBase, OutOfMemory>
     ensures { IfOk result (λ r. (b : values.Base) (p : ℕ)
-        → byte_at (lookup_base b (by_base bytes_of r.entries)) p
-        ≡ (if is_marked (marks_of used.now.entries) b p
+        → byte_found r.entries b p ≡ (if is_marked (marks_of used.now.entries) b p
         then Some (slice_index ((version_of before.now).bytes b) p) else None)) }
 {
     let mut reads = IndexMap::new(alloc);
@@ -202,7 +171,8 @@ fn find_bytes(
         let Some((base, marks)) = used.get_index(i) else {
             unreachable!();
         };
-        note_bytes(alloc, &mut reads, *base, marks, before)?;
+        let block = before.share_block(*base)?;
+        note_bytes(alloc, &mut reads, *base, marks, block)?;
     }
     Ok(reads)
 }
@@ -259,7 +229,7 @@ fn have_same_lengths(reads: &LengthsRead, session: &Session) -> bool
 }
 
 /// Whether each byte that was read has the value that was found.
-fn have_same_bytes(reads: &AllBytesRead, session: &Session) -> bool
+fn have_same_bytes(reads: &FoundByBase, session: &Session) -> bool
     ensures { IsTrue result ↔ ((b : values.Base) (e : Found)
         → lookup_base b (by_base bytes_of reads.now.entries) ≡ Some e
         → (p n : ℕ) → found_at e p ≡ Some n
@@ -371,6 +341,9 @@ impl Reads {
     }
 
     /// Returns whether a session and inputs still have what was read. It takes no memory.
+    ///
+    /// The reads of `print(x[0])` agree with the session behind `x[1] = 5`, and not with that behind
+    /// `x[0] = 5`, where `x[0]` was another number.
     pub fn agree(&self, session: &Session, inputs: &Inputs) -> bool
         ensures { IsTrue result ↔ ((k : running.Key) → IsTrue (keys_of self.now k)
             → found_of self.now k ≡ Some (found (running.session_of (live session.now))

@@ -6,18 +6,18 @@ ghost use Rattle.nd_model.specs.Cells.Running as running;
 ghost use Rattle.nd_model.specs.Cells.Session as session;
 ghost use Rattle.nd_model.specs.Arrays.Value as values;
 ghost use Rattle.nd_session.specs.Session.Changes.{changed};
+ghost use Rattle.nd_session.specs.Session.Found.{byte_found};
 ghost use Rattle.nd_heap.specs.Contents.{blocks_of};
-ghost use Rattle.nd_trace.specs.Contents.{marks_of};
 ghost use Rattle.nd_trace.specs.Events.{event_of};
 ghost use Rattle.nd_heap.specs.Live.{bytes_at};
-ghost use Rattle.nd_trace.specs.Patching.{writes_of};
 ghost use Rattle.nd_heap.specs.Loose.{session_in};
 ghost use Rattle.nd_heap.specs.Values.{base_of};
 
 use crate::session::changes::Changes;
+use crate::session::found::{FoundByBase, FoundWriter};
 use nd_block::RawBlock;
-use nd_heap::{Base, Blocks, Heap, OutOfMemory, bytes_of};
-use nd_trace::{Event, Footprint, MarkedBytes};
+use nd_heap::{Base, Blocks, Heap, OutOfMemory};
+use nd_trace::Event;
 use std::rc::Rc;
 
 /// Binds and unbinds names as the events do.
@@ -65,23 +65,17 @@ fn share_own(heap: &mut Heap, from: &Blocks, label: u64) -> Result<(), OutOfMemo
     Ok(())
 }
 
-/// Writes the marked bytes into blocks of other labels.
-fn patch(heap: &mut Heap, from: &Blocks, written: &Footprint, label: u64) -> Result<(), OutOfMemory>
+/// Puts bytes that were found back into their blocks. A block that is shared is copied first.
+fn put_back(heap: &mut Heap, written: &FoundByBase) -> Result<(), OutOfMemory>
     ensures names { heap.new.names ≡ heap.old.names }
     ensures ok { OnOk result ((b : values.Base) → bytes_at heap.new.blocks b
-        ≡ (if nat_eq b.label label then bytes_at heap.old.blocks b
-        else patched (writes_of (marks_of written.now.entries)
-        (bytes_at (blocks_of from.now.entries)) b)
-        (bytes_at heap.old.blocks b))) }
+        ≡ patched (byte_found written.now.entries b) (bytes_at heap.old.blocks b)) }
 {
     for i in 0..written.len() {
-        let Some((base, marks)) = written.get_index(i) else {
+        let Some((base, found)) = written.get_index(i) else {
             unreachable!();
         };
-        if base.label != label {
-            let source = bytes_of(from, *base);
-            heap.write(*base, MarkedBytes { marks, source })?;
-        }
+        heap.write(*base, FoundWriter { found })?;
     }
     Ok(())
 }
@@ -95,7 +89,7 @@ pub(crate) fn redo(heap: &mut Heap, changes: &Changes) -> Result<(), OutOfMemory
 {
     heap.collect()?;
     replay(heap, &changes.events)?;
+    put_back(heap, &changes.written)?;
     share_own(heap, &changes.blocks, changes.label)?;
-    patch(heap, &changes.blocks, &changes.written, changes.label)?;
     Ok(())
 }

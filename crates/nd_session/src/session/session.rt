@@ -133,7 +133,10 @@ impl Session {
         self.heap.is_label_held(label)
     }
 
-    /// Returns the value of a name, and notes that it was looked up.
+    /// Returns the value of a name, and notes that it was looked up, unless the cell itself bound or
+    /// unbound it before.
+    ///
+    /// After `x = 1` in the running cell, `lookup("x")` is the number 1, and nothing is noted.
     pub fn lookup(&mut self, name: &str) -> Result<Option<Value>, OutOfMemory>
         ensures value { IfOk result (λ o. option_map value_of o
             ≡ model.lookup name.now (live self.old).names) }
@@ -168,7 +171,7 @@ impl Session {
         Ok(())
     }
 
-    /// Notes that the element at byte offset `place` is read.
+    /// Notes that the element at byte offset `place` is read: of an `int32` at 8, the bytes 8 to 11.
     pub fn mark_element(
         &mut self,
         base: Base,
@@ -244,7 +247,7 @@ impl Session {
     /// `mark_written`, `mark_written_element` and `mark_written_elements` do.
     ///
     /// By the law `stores_by_parts` the two calls are one store, where the bytes written are those
-    /// noted.
+    /// noted. `x[1] = 5`, over `int64`s, notes the element at byte offset 8, and writes its bytes.
     #[tactic(auto, unfolding(crate::specs::Session::Live::live))]
     pub fn write<W: BlockWriter + Drop>(&mut self, base: Base, writer: W) -> Result<(), OutOfMemory>
         ensures { OnOk result (live self.new ≡ having_block (base_of base)
@@ -254,7 +257,8 @@ impl Session {
         Ok(())
     }
 
-    /// Adds a block, whose base is the running cell's label and the next number.
+    /// Adds a block, whose base is the running cell's label and the next number: the first two of the
+    /// cell of label 7 have the bases (7, 0) and (7, 1).
     #[tactic(auto, unfolding(crate::specs::Session::Live::live))]
     pub fn new_block(&mut self, block: RawBlock) -> Result<Base, OutOfMemory>
         requires { (live self.old).next + 1 < 2 ^ 64 }
@@ -270,7 +274,8 @@ impl Session {
         Ok(base)
     }
 
-    /// Binds a name: a bound one keeps its position, a new one goes last.
+    /// Binds a name: a bound one keeps its position, a new one goes last. After `bind` of `x`, of `y`
+    /// and of `x` again, the names are `x` and `y`, in this order.
     #[tactic(auto, unfolding(crate::specs::Session::Live::live))]
     pub fn bind(&mut self, name: String, value: Value) -> Result<(), OutOfMemory>
         requires { IsViewOf (IsHeldView (live self.old)) (value_of value) }
@@ -357,6 +362,9 @@ impl Session {
 
     /// Returns a snapshot of names and blocks, without blocks that no bound value lies in. No name
     /// and no byte is copied.
+    ///
+    /// What is bound and written afterwards is not in the snapshot, and `thaw` gives a session as
+    /// this one was.
     pub fn freeze(&self) -> Result<Version, OutOfMemory>
         ensures session { IfOk result (λ v. version_of v
             ≡ model.collected (running.session_of (live self.now))) }
@@ -403,6 +411,8 @@ impl Session {
 
     /// Makes the changes of a cell: its names, its blocks, which are shared, and the bytes that it
     /// wrote. The session then is that of the cell, which has read nothing.
+    ///
+    /// The changes of `x[0] = 5` set this element alone, whatever `x` has elsewhere.
     #[tactic(auto, unfolding(crate::specs::Session::Live::live))]
     pub fn redo(&mut self, changes: &Changes) -> Result<(), OutOfMemory>
         requires none { HasNone changes.now.label (running.session_of (live self.old)) }

@@ -20,7 +20,7 @@ suffixes_are : (n : _) (row : Row_of-Suffix n) → row_of_suffixes row ≡ map s
 suffixes_are n end_of-Suffix = refl
 suffixes_are n (more_of-Suffix x xs) = ap (λ l. suffix_of x ∷ l) (suffixes_are _ xs)
 
--- its suffixes, as the tree has them
+-- the suffixes of an expression, as the tree has them
 abbrev pub row_of : Expr → (n : Count) × Row_of-Suffix n
 row_of (Postfix' p e shape xs) = (_, xs)
 row_of _ = (_, end_of-Suffix)

@@ -20,7 +20,7 @@ Gives (Ok t) r = r ≡ Ok (type_of t)
 Gives (Err BadType) r = r ≡ Err (model.Stmt model.BadType)
 Gives (Err OutOfMemory) r = Unit {0}
 
--- the same of fields, with their bytes together
+-- the definition's fields with their bytes together, or its refusal, unless memory ran out
 abbrev pub GivesFields : Result (Vec Field Global × ℕ) TypeFault → Option (List view.Field) → Type 0
 GivesFields (Ok fs) o = (o ≡ Some (fields_of fs.0.items)) × (fs.1 ≡ fields_size (fields_of fs.0.items))
 GivesFields (Err BadType) o = o ≡ None

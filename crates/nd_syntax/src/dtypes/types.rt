@@ -76,10 +76,11 @@ fn structure_type(alloc: Global, types: &[FieldType]) -> Result<ElemType, TypeFa
 }
 
 /// Returns the dtype that a statement writes: a number by its kind or array-protocol type string,
-/// or a structure without pad bytes (NumPy user guide, "Structured arrays").
+/// or a structure without pad bytes.
 ///
-/// `'<i4'` and `[('a', np.int8), ('b', '<u2')]` are such. `BadType` for a text that names none,
-/// more than 256 fields, two of one name, or a name that no field may have.
+/// `'<i4'` has itemsize 4, and `[('a', np.int8), ('b', '<u2')]` has 3 (NumPy user guide,
+/// "Structured arrays"). `BadType` for a text that names none, more than 256 fields, two of one
+/// name, or a name that no field may have.
 pub fn element_type(alloc: Global, dtype: &DType) -> Result<ElemType, TypeFault>
     ensures { Gives result (model.element_type (dtype_of dtype.now)) }
 {

@@ -3,7 +3,7 @@
 
 use nd_types::Kind;
 
-/// A universal function with `reduce` and `accumulate`.
+/// A universal function with `reduce` and `accumulate`: `np.add` and the like.
 #[derive(Clone, Copy, Debug)]
 pub enum Ufunc {
     Add,
@@ -12,7 +12,7 @@ pub enum Ufunc {
     Maximum,
 }
 
-/// A method that reduces an array.
+/// A method that reduces an array: `x.sum()` and the like.
 #[derive(Clone, Copy, Debug)]
 pub enum Reduction {
     Sum,
@@ -25,14 +25,14 @@ pub enum Reduction {
     ArgMax,
 }
 
-/// A method that accumulates.
+/// A method that accumulates: `x.cumsum()`, `x.cumprod()`.
 #[derive(Clone, Copy, Debug)]
 pub enum Accumulation {
     CumSum,
     CumProd,
 }
 
-/// What a new array is filled with.
+/// What a new array is filled with: `np.zeros`, `np.ones`.
 #[derive(Clone, Copy, Debug)]
 pub enum Fill {
     Zeros,

@@ -2,14 +2,15 @@
 use crate::trees::calls::{Accumulation, DType, Fill, Reduction, Ufunc};
 use nd_types::Kind;
 
-/// An operator with one operand, by NumPy's name.
+/// An operator with one operand: `Negative` is `-`, `Invert` is `~`.
 #[derive(Clone, Copy, Debug)]
 pub enum UnaryOp {
     Negative,
     Invert,
 }
 
-/// An operator with two operands, by NumPy's name.
+/// An operator with two operands: `FloorDivide` is `//`, `Divide` is `/`, `Remainder` is `%`,
+/// `Power` is `**`.
 #[derive(Clone, Copy, Debug)]
 pub enum BinaryOp {
     Add,
@@ -21,9 +22,9 @@ pub enum BinaryOp {
     Power,
     LeftShift,
     RightShift,
-    BitAnd,
-    BitXor,
-    BitOr,
+    BitwiseAnd,
+    BitwiseXor,
+    BitwiseOr,
     Less,
     LessEqual,
     Greater,
@@ -41,11 +42,11 @@ pub enum Expr {
     Truth(bool),
     Unary(UnaryOp, Box<Expr>),
     /// An operand, and operators of one precedence with their right operands, from left to right.
-    /// There is one at least.
+    /// There is one at least: `a - b + c` is `a`, with `- b` and `+ c`.
     Chain(Box<Expr>, Vec<(BinaryOp, Expr)>),
     Call(Box<Call>),
     /// An operand, and its indexes and methods from left to right. There is one at least, and the
-    /// operand has none of its own, unless in parentheses.
+    /// operand has none of its own, unless in parentheses. `x[0].sum()` is `x` with two.
     Postfix(Box<Expr>, Vec<Suffix>),
 }
 

@@ -78,16 +78,16 @@ kind_facts op g y k e =
     }
 
 -- both sides are numbers, and the operator is no quotient
-left_some : (f : BinaryUfunc) (a b : Option Sort) (k : Kind) → binary_kind f a b ≡ Ok k → a ≢ None
+pub left_some : (f : BinaryUfunc) (a b : Option Sort) (k : Kind) → binary_kind f a b ≡ Ok k → a ≢ None
 left_some f None b k e = absurd (cc)
 left_some f (Some a) b k e = λ n. absurd (cc)
 
-right_some : (f : BinaryUfunc) (a b : Option Sort) (k : Kind) → binary_kind f a b ≡ Ok k → b ≢ None
+pub right_some : (f : BinaryUfunc) (a b : Option Sort) (k : Kind) → binary_kind f a b ≡ Ok k → b ≢ None
 right_some f None b k e = absurd (cc)
 right_some f (Some a) None k e = absurd (cc)
 right_some f (Some a) (Some b) k e = λ n. absurd (cc)
 
-no_quotient : (a b : Option Sort) (k : Kind) → binary_kind (Operator Divide) a b ≢ Ok k
+pub no_quotient : (a b : Option Sort) (k : Kind) → binary_kind (Operator Divide) a b ≢ Ok k
 no_quotient None b k = λ e. absurd (cc)
 no_quotient (Some a) None k = λ e. absurd (cc)
 no_quotient (Some a) (Some b) k = λ e. absurd (cc)

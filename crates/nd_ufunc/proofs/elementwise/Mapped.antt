@@ -1,5 +1,5 @@
 -- What a function of arrays comes to, step by step.
-use Rattle.std.proofs.Common.{◌≡◌, ℕ, ◌-◌, pos, true, false, eqb, List, [], ◌∷◌, map, length, replicate, drop, Option, Some, None, Ok, Err, refl, sym, ap, ◌∙◌, inl, inr, arith, eqb-true}
+use Rattle.std.proofs.Common.{◌≡◌, ◌≢◌, ℕ, ◌-◌, pos, Bool, true, false, eqb, List, [], ◌∷◌, map, length, replicate, drop, Option, Some, None, Ok, Err, refl, sym, ap, ◌∙◌, inl, inr, arith, eqb-true}
 use Rattle.std.specs.List.{list_any}
 use Rattle.std.proofs.lemmas.Bool.{cases_Bool}
 use Rattle.std.proofs.lemmas.List.{length-map}
@@ -7,9 +7,11 @@ use Rattle.nd_model.specs.Arrays.Broadcast.{broadcast, broadcasts_to, narrowed_a
 use Rattle.nd_model.specs.Arrays.Element.{Kind, size_of}
 use Rattle.nd_model.specs.Making.Elementwise.{little, operand_sort, number_beside, binary_kind, common_shape, has_power_below, binary_numbers, single_kind, single_number, single_numbers}
 use Rattle.nd_model.specs.Cells.Fault.{Ufunc, NegativePower}
+use Rattle.nd_model.specs.Cells.Refusing.{◌>>=◌}
 use Rattle.nd_model.specs.Arrays.Content.{number_in}
 use Rattle.nd_model.specs.Making.Operand.{Operand, shape_of, content_of}
-use Rattle.nd_model.specs.Making.Operators.{BinaryUfunc, Single, is_power_below}
+use Rattle.nd_model.specs.Grammar.Syntax.{Negative, Invert}
+use Rattle.nd_model.specs.Making.Operators.{BinaryUfunc, Single, Of, Absolute, Sort, is_power_below}
 use Rattle.nd_model.specs.Arrays.Strides.{limit_fault}
 use Rattle.nd_model.specs.Arrays.Tuple.{indices, elements_of}
 use Rattle.nd_model.specs.Arrays.View.{One, Geo, contiguous}
@@ -20,7 +22,7 @@ use Rattle.nd_view.specs.Indexes.{IsIndex}
 use Rattle.nd_view.proofs.Indexed.{same_indexes}
 use Rattle.nd_shape.proofs.Ordered.{length_index}
 use Rattle.nd_ufunc.specs.Elementwise.Arguments.{numbers_beside}
-use Rattle.nd_ufunc.specs.Elementwise.Made.{array_of}
+use Rattle.nd_ufunc.specs.Elementwise.Made.{array_of, bytes_unless_below}
 use Rattle.nd_ufunc.specs.Loops.Results.{binary_result, result_bytes}
 use Rattle.nd_ufunc.proofs.elementwise.Any.{any_of_map}
 use Rattle.nd_ufunc.proofs.elementwise.Common.{broadcast_fits}
@@ -63,7 +65,24 @@ module _ (f : BinaryUfunc) (x y : Operand) (k : Kind) (shape : List ℕ) (view :
       let made = array_of_results k (binary_result f k) shape (number_beside x) (number_beside y) in
       rw (kind_is, shape_is, within k shape view view_is, none) (λ i. Ok (viewed k shape view view_is i, sym (bytes ∙ made) i))
 
+  by_test : (t : Bool) → has_power_below f y shape ≡ t
+      → array_of (binary_numbers f x y) ≡ bytes_unless_below f k (numbers_beside x shape) (numbers_beside y shape) >>= (λ b. Ok (view, b))
+  by_test true e = let below : list_any (is_power_below f) (numbers_beside y shape) ≡ true = powers_below f y shape ∙ e in is_refused e ∙ sym (rw below refl)
+  by_test false e =
+      let below : list_any (is_power_below f) (numbers_beside y shape) ≡ false = powers_below f y shape ∙ e in
+      is_made e (result_bytes (little k) (binary_result f k) (numbers_beside x shape) (numbers_beside y shape)) refl ∙ sym (rw below refl)
+
+  -- the array is the view with its bytes
+  pub comes_to : array_of (binary_numbers f x y) ≡ bytes_unless_below f k (numbers_beside x shape) (numbers_beside y shape) >>= (λ b. Ok (view, b))
+  comes_to = by_test (has_power_below f y shape) refl
+
 -- ---- one argument
+
+pub single_some : (op : Single) (s : Option Sort) (k : Kind) → single_kind op s ≡ Ok k → s ≢ None
+single_some op (Some s) k e = λ n. absurd (cc)
+single_some (Of Negative) None k e = absurd (cc)
+single_some (Of Invert) None k e = absurd (cc)
+single_some Absolute None k e = absurd (cc)
 
 narrowed_itself : (s t : List ℕ) → IsIndex s t → narrowed_axes s t ≡ t
 narrowed_itself [] [] is = refl

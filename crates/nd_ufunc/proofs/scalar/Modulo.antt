@@ -1,7 +1,8 @@
 -- Numbers that 128 bits don't hold, and kinds that are no Boolean.
-use Rattle.std.proofs.Common.{◌≡◌, ◌≢◌, ℕ, zero, suc, ℤ, pos, negsuc, FitsSigned, refl, arith, rules}
+use Rattle.std.proofs.Common.{◌≡◌, ◌≢◌, zero, suc, ℤ, pos, negsuc, FitsSigned, refl, arith, rules}
 use Rattle.std.specs.Prelude.{◌==◌, false}
-use Rattle.std.specs.Int.{w128}
+use Rattle.std.specs.Int.{w128, int_wrap}
+use Rattle.std.proofs.lemmas.Int.{int_wrap_fits, SFits-int_wrap}
 use Rattle.std.proofs.lemmas.Bool.Decides.{nat_tests}
 use Rattle.nd_model.specs.Arrays.Element.{Boolean, wrap}
 use Rattle.nd_types.specs.Kinds.{kind_of}
@@ -24,3 +25,7 @@ no_boolean kind.U8 h = λ e. absurd cc
 no_boolean kind.U16 h = λ e. absurd cc
 no_boolean kind.U32 h = λ e. absurd cc
 no_boolean kind.U64 h = λ e. absurd cc
+
+-- the lowest bits are their own
+pub wrapped_again : (z : ℤ) → int_wrap w128 (int_wrap w128 z) ≡ int_wrap w128 z
+wrapped_again z = int_wrap_fits w128 (int_wrap w128 z) (SFits-int_wrap w128 z)

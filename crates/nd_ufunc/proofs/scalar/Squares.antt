@@ -110,6 +110,16 @@ odd_step w s p next more' n odd is by =
 by_one : (z : ℤ) → z *ℤ pos 1 ≡ z
 by_one z = omega (arith, ints)
 
+-- ---- small exponents
+
+pub int_pow-two : (z : ℤ) → int_pow z 2 ≡ z *ℤ z
+int_pow-two z = int_pow-suc z 1 ∙ ap (λ x. z *ℤ x) (int_pow-suc z 0 ∙ ap (λ x. z *ℤ x) (int_pow-zero z) ∙ by_one z)
+
+pub int_pow-three : (z : ℤ) → int_pow z 3 ≡ z *ℤ (z *ℤ z)
+int_pow-three z = int_pow-suc z 2 ∙ ap (λ x. z *ℤ x) (int_pow-two z)
+
+-- ---- bases that are wrapped
+
 -- of a power too
 pub wrap_alone : (w : Width) (x : ℤ) (m : ℕ) → int_wrap w (int_pow (int_wrap w x) m) ≡ int_wrap w (int_pow x m)
 wrap_alone w x m =

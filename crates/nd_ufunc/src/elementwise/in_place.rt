@@ -1,24 +1,38 @@
 //! `prepare_in_place`: augmented assignments such as `x += y`, prepared so that the write cannot
 //! fail.
-ghost use Rattle.std.specs.Prelude.{◌≡◌, Ok, false, length, IfOk};
+ghost use Rattle.std.specs.Prelude.{◌≡◌, ◌≢◌, ◌^◌, ◌≤◌, None, Ok, true, false, length, IfOk};
+ghost use Rattle.nd_model.specs.Arrays.Broadcast as broadcasting;
+ghost use Rattle.nd_model.specs.Arrays.Element as element;
+ghost use Rattle.nd_model.specs.Arrays.Strides.{IsInLimits};
+ghost use Rattle.nd_model.specs.Arrays.Tuple.{elements_of};
+ghost use Rattle.nd_model.specs.Arrays.View.{One, contiguous};
+ghost use Rattle.nd_model.specs.Grammar.Syntax as syntax;
 ghost use Rattle.nd_model.specs.Making.Augmenting as augmenting;
+ghost use Rattle.nd_model.specs.Making.Elementwise as elementwise;
+ghost use Rattle.nd_model.specs.Making.Elementwise.{little, operand_sort};
+ghost use Rattle.nd_model.specs.Making.Operand as operand;
+ghost use Rattle.nd_model.specs.Making.Operators.{Operator};
 ghost use Rattle.nd_model.specs.Cells.Sound.{LiesIn};
 ghost use Rattle.nd_assign.specs.Prepared.{written_by};
 ghost use Rattle.nd_syntax.specs.Trees.Syntax.{binary_op};
 ghost use Rattle.nd_types.specs.Kinds.{kind_of};
 ghost use Rattle.nd_types.specs.Types.{type_of};
+ghost use Rattle.nd_ufunc.specs.Scalar.Ufuncs.{ufunc_of};
 ghost use Rattle.nd_ufunc.specs.Elementwise.Arguments.{LiesInBlock, argument_of, contents_over};
+ghost use Rattle.nd_ufunc.specs.Elementwise.Arguments.{numbers_beside};
 ghost use Rattle.nd_ufunc.specs.Elementwise.Faults.{Makes};
 ghost use Rattle.nd_ufunc.specs.Elementwise.Prepared.{IsRightSide, right_operand, with_results};
 ghost use Rattle.nd_ufunc.specs.Elementwise.Prepared.{written_in_place};
 ghost use Rattle.nd_ufunc.specs.Elementwise.InPlaceResults.{AreResults};
+ghost use Rattle.nd_ufunc.specs.Elementwise.Stretched.{HasCount, IsHeld, stretched_numbers};
+ghost use Rattle.nd_ufunc.specs.Loops.Results.{binary_result, result_bytes};
 
 use crate::elementwise::argument::{Argument, argument_sort, binary_kind, element_sort, shape_of};
 use crate::elementwise::direct::{Direct, prepare_directly};
 use crate::elementwise::fault::MapFault;
 use crate::elementwise::powers::has_power_below;
 use crate::elementwise::results::binary_results;
-use crate::elementwise::stretched::stretch;
+use crate::elementwise::stretched::{Stretched, stretch};
 use crate::scalar::{BinaryUfunc, UfuncFault};
 use nd_assign::Assignment;
 use nd_block::RawBlock;
@@ -102,11 +116,34 @@ pub fn argument_beside<'b>(right: RightSide<'b>, block: &'b [u8]) -> Argument<'b
     }
 }
 
+// Whether the function is the power, and an exponent negative that stands beside an element of the
+// target.
+fn is_any_exponent_below(
+    alloc: Global,
+    ufunc: BinaryUfunc,
+    target: &View,
+    right: Argument<'_>,
+) -> Result<bool, AllocError>
+    requires lies { LiesInBlock right }
+    requires numbers { operand_sort (argument_of right) ≢ None }
+    requires fits { broadcasting.broadcasts_to (operand.shape_of (argument_of right))
+        target.now.shape ≡ true }
+    requires limits { (k : element.Kind) → IsInLimits (element.size_of k) target.now.shape }
+    ensures { IfOk result (λ below. below ≡ elementwise.has_power_below (ufunc_of ufunc)
+        (argument_of right.entry) target.now.shape) }
+{
+    let exponents = stretch(alloc, right, target.shape())?;
+    Ok(has_power_below(ufunc, &exponents, target.count()))
+}
+
 /// Returns the kind of the operation `target op= right`.
 ///
 /// Refused in this order: operands that the operator does not take; results that `same_kind`
 /// casting forbids (`KindCast`); a read-only target (`ReadOnly`); a right operand that does not
 /// broadcast to the target's shape (`ShapeMismatch`); a negative exponent (`NegativePower`).
+///
+/// For an `int8` target `x += True` is of kind `int8`, and `x += y` with `int64` elements `y` of kind
+/// `int64`, which is written back. An `uint8` target refuses these `y` (`KindCast`).
 pub fn in_place_kind(
     alloc: Global,
     op: BinaryOp,
@@ -128,16 +165,76 @@ pub fn in_place_kind(
     if !broadcasts_to(shape_of(right), target.shape()) {
         return Err(MapFault::Ufunc(UfuncFault::ShapeMismatch));
     }
-    let exponents = stretch(alloc, right, target.shape())?;
-    if has_power_below(ufunc, &exponents, target.count()) {
+    let below = is_any_exponent_below(alloc, ufunc, target, right)?;
+    if below {
         return Err(MapFault::Ufunc(UfuncFault::NegativePower));
     }
     Ok(kind)
 }
 
+// The array of the results for `count` numbers of both operands, in this shape.
+fn result_array(
+    alloc: Global,
+    op: BinaryOp,
+    kind: Kind,
+    left: &Stretched<'_>,
+    right: &Stretched<'_>,
+    shape: &[u64],
+    count: usize,
+) -> Result<(View, RawBlock), AllocError>
+    requires op { binary_op op ≢ syntax.Divide }
+    requires left { IsHeld left.now }
+    requires left_count { HasCount left.now count }
+    requires right { IsHeld right.now }
+    requires right_count { HasCount right.now count }
+    requires limits { (k : element.Kind) → IsInLimits (element.size_of k) shape.now }
+    requires count { count ≤ 2 ^ 24 }
+    ensures view { IfOk result (λ r. r.0 ≡ contiguous (One (little (kind_of kind))) shape.now) }
+    ensures results { IfOk result (λ r. r.1 ≡ result_bytes (little (kind_of kind))
+        (binary_result (Operator (binary_op op)) (kind_of kind)) (stretched_numbers left.now count)
+        (stretched_numbers right.now count)) }
+{
+    let results = binary_results(alloc, BinaryUfunc::Operator(op), kind, left, right, count)?;
+    let view = View::contiguous(alloc, ElemType::One(Elem::little(kind)), shape)?;
+    Ok((view, results))
+}
+
+// The array of the results for `count` numbers of the left operand and a right one that broadcasts to
+// this shape.
+fn result_beside(
+    alloc: Global,
+    op: BinaryOp,
+    kind: Kind,
+    left: &Stretched<'_>,
+    right: Argument<'_>,
+    shape: &[u64],
+    count: usize,
+) -> Result<(View, RawBlock), AllocError>
+    requires op { binary_op op ≢ syntax.Divide }
+    requires left { IsHeld left.now }
+    requires left_count { HasCount left.now count }
+    requires right { LiesInBlock right }
+    requires right_numbers { operand_sort (argument_of right) ≢ None }
+    requires right_fits { broadcasting.broadcasts_to (operand.shape_of (argument_of right))
+        shape.now ≡ true }
+    requires limits { (k : element.Kind) → IsInLimits (element.size_of k) shape.now }
+    requires elements { count ≡ elements_of shape.now }
+    requires count { count ≤ 2 ^ 24 }
+    ensures view { IfOk result (λ r. r.0 ≡ contiguous (One (little (kind_of kind))) shape.now) }
+    ensures results { IfOk result (λ r. r.1 ≡ result_bytes (little (kind_of kind))
+        (binary_result (Operator (binary_op op)) (kind_of kind)) (stretched_numbers left.now count)
+        (numbers_beside (argument_of right.entry) shape.now)) }
+{
+    let right = stretch(alloc, right, shape)?;
+    result_array(alloc, op, kind, left, &right, shape, count)
+}
+
 /// Returns the results of `target op= right` as a new array in the kind of the operation, and its
 /// block. `block` is the target's. Converted to the target's dtype, they are what the operator
 /// writes.
+///
+/// For `x *= y` with `int8` elements `x`, `[100 1]`, and `int64` elements `y`, `[2 3]`, they are the
+/// `int64` elements `[200 3]`.
 pub fn results_in_place(
     alloc: Global,
     op: BinaryOp,
@@ -155,11 +252,8 @@ pub fn results_in_place(
 {
     let (shape, count) = (target.shape(), target.count());
     let left = stretch(alloc, Argument::Elements(target, block), shape)?;
-    let right = stretch(alloc, argument_beside(right, block), shape)?;
-    let ufunc = BinaryUfunc::Operator(op);
-    let results = binary_results(alloc, ufunc, kind, &left, &right, count)?;
-    let view = View::contiguous(alloc, ElemType::One(Elem::little(kind)), shape)?;
-    Ok((view, results))
+    let right = argument_beside(right, block);
+    result_beside(alloc, op, kind, &left, right, shape, count)
 }
 
 // Works out all results before any is written.

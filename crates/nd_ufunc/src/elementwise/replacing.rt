@@ -91,6 +91,67 @@ where
     apply_sides::<O>(operands, out, results, xs, ys, count);
 }
 
+// How the numbers of a target are replaced: the kinds, and the byte offsets of contiguous results in
+// a buffer.
+#[derive(Clone, Copy)]
+struct Plan<'p> {
+    kinds: Kinds,
+    places: &'p Run,
+}
+
+// Replaces the numbers of a contiguous part of the target, which fit a chunk, by the results for
+// them and the next numbers of the right operand.
+fn replace_chunk<O: Operation>(
+    bytes: &mut [u8],
+    plan: &Plan<'_>,
+    part: &Run,
+    beside: &mut LeftBeside<'_>,
+    buffer: &mut [u8; CHUNK],
+    left_buffer: &mut [u8; CHUNK],
+    right_buffer: &mut [u8; CHUNK],
+)
+    requires held { AreHeld plan.now.kinds.elem bytes.old part.now }
+    requires room { slice_index part.now 0 + length part.now * size_of plan.now.kinds.elem.kind
+        ≤ length bytes.old }
+    requires enough { length part.now ≤ length (left_beside beside.old bytes.old) }
+    requires beside_held { HeldBeside beside.old (length bytes.old) }
+    requires keeps { Keeps plan.now.kinds.elem.kind (kind_of plan.now.kinds.own) }
+    requires wraps { Wraps (kind_of plan.now.kinds.results)
+        (O.gives (kind_of plan.now.kinds.results)) }
+    requires places { plan.now.places.now
+        ≡ side_by_side (size_of (kind_of plan.now.kinds.results)) 0 8192 }
+    requires results { length part.now * size_of (kind_of plan.now.kinds.results) ≤ 8192 }
+    requires left { length part.now * size_of (kind_of plan.now.kinds.own) ≤ 8192 }
+    requires right { length part.now * size_beside beside.old ≤ 8192 }
+    ensures bytes { bytes.new ≡ with_bytes bytes.old (slice_index part.now 0)
+        (replaced plan.now.kinds.elem (O.gives (kind_of plan.now.kinds.results))
+        (numbers_at plan.now.kinds.elem bytes.old part.now)
+        (take (length part.now) (left_beside beside.old bytes.old))) }
+    ensures further { (bytes : List ℕ) → left_beside beside.new bytes
+        ≡ drop (length part.now) (left_beside beside.old bytes) }
+    ensures size { size_beside beside.new ≡ size_beside beside.old }
+    ensures held { (len : ℕ) → HeldBeside beside.old len → HeldBeside beside.new len }
+    ensures stays { (first step at : ℕ) → StaysBeside beside.old first step at
+        → StaysBeside beside.new first step (at + length part.now) }
+{
+    let (elem, to) = (plan.kinds.elem, plan.kinds.results);
+    let count = part.count() as usize;
+    let len = count * to.size() as usize;
+    find_results::<O>(
+        &mut buffer[..len],
+        &plan.kinds,
+        bytes,
+        part,
+        beside,
+        left_buffer,
+        right_buffer,
+    );
+    let start = part.start() as usize;
+    let end = start + count * elem.size() as usize;
+    let places = plan.places.part(0, count as u64);
+    write_numbers(&mut bytes[start..end], elem, to, &buffer[..len], &places);
+}
+
 /// Replaces the numbers of a contiguous run by the results for them and the right operand. `places`
 /// are the byte offsets of contiguous results in a buffer.
 pub(crate) fn replace_numbers<O: Operation>(
@@ -116,8 +177,6 @@ pub(crate) fn replace_numbers<O: Operation>(
 {
     // proof: the number of bytes is bounded, by the clause of len().
     let _len = bytes.len();
-    let (size, width) = (to.size() as usize, elem.size() as usize);
-    let first = run.start() as usize;
     let own = side_kind(kind, elem.kind());
     let kinds = Kinds {
         elem,
@@ -125,30 +184,22 @@ pub(crate) fn replace_numbers<O: Operation>(
         operands: kind,
         results: to,
     };
-    let chunk = chunk_of(size, own.size() as usize, beside.size()) as u64;
+    let plan = Plan { kinds, places };
+    let chunk = chunk_of(to.size() as usize, own.size() as usize, beside.size()) as u64;
     let mut left_buffer = [0; CHUNK];
     let mut right_buffer = [0; CHUNK];
     let mut buffer = [0; CHUNK];
     let mut at = 0;
     while at < run.count() {
         let some = chunk.min(run.count() - at);
-        let count = some as usize;
-        find_results::<O>(
-            &mut buffer[..count * size],
-            &kinds,
+        replace_chunk::<O>(
             bytes,
+            &plan,
             &run.part(at, some),
             beside,
+            &mut buffer,
             &mut left_buffer,
             &mut right_buffer,
-        );
-        let start = first + at as usize * width;
-        write_numbers(
-            &mut bytes[start..start + count * width],
-            elem,
-            to,
-            &buffer[..count * size],
-            &places.part(0, some),
         );
         at += some;
     }

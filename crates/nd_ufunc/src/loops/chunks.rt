@@ -17,6 +17,8 @@ use nd_types::Kind;
 pub const CHUNK: usize = 8192;
 
 /// Returns how many numbers make a chunk, given the itemsizes of the result and both operands.
+///
+/// `chunk_of(1, 8, 4)` is 1024.
 pub fn chunk_of(size: usize, left: usize, right: usize) -> usize
     requires size { (0 < size) × (size ≤ 8) }
     requires left { (0 < left) × (left ≤ 8) }
@@ -31,6 +33,8 @@ pub fn chunk_of(size: usize, left: usize, right: usize) -> usize
 
 /// Appends the results for the next `count` pairs of numbers, and returns the filling block. `kind`
 /// is that of the operands, `to` that of the results.
+///
+/// `fill::<Add>` of the numbers 1, 2, 3 and the scalar 10 appends the bytes of 11, 12, 13.
 pub fn fill<O: Operation>(
     filling: Filling,
     to: Kind,

@@ -78,7 +78,8 @@ fn number_of<O: Operation>(side: Side<'_>, index: usize) -> i128
     }
 }
 
-// What is worked out once for a right operand that is a scalar.
+// What is worked out once for a right operand that is a scalar: the reciprocal of a divisor. No
+// result depends on it.
 #[inline(always)]
 fn hint_of<O: Operation>(right: Side<'_>) -> u64 {
     match right {

@@ -8,8 +8,9 @@ ghost use Rattle.nd_ufunc.specs.Loops.Sides.{HasNumbers, numbers_on};
 use crate::loops::kernel::Side;
 use crate::loops::parts::side_behind;
 use crate::loops::reading::lend;
+use nd_assign::gapless_run;
 use nd_types::{Elem, Kind};
-use nd_view::{Run, View};
+use nd_view::View;
 use std::marker::Model;
 
 /// What is left of contiguous numbers of the wanted kind. They need no buffer, so a chunk of any
@@ -31,19 +32,6 @@ impl<'v> Model for Lent<'v> {
     ghost invariant = { IsLent };
 }
 
-// The run of all elements of a view, if one run has them all.
-fn whole_run(view: &View) -> Option<Run>
-    ensures { IfSome result (λ run. run ≡ view.now.places) }
-{
-    let mut runs = view.runs();
-    let run = runs.next()?;
-    if run.count() as usize == view.count() {
-        Some(run)
-    } else {
-        None
-    }
-}
-
 impl<'v> Lent<'v> {
     /// Begins with all elements of a view, or returns `None` where they are not contiguous
     /// little-endian numbers of this kind.
@@ -51,7 +39,7 @@ impl<'v> Lent<'v> {
         requires { AreHeld elem bytes.now view.now.places }
         ensures { IfSome result (λ l. l ≡ numbers_at elem bytes.now view.now.places) }
     {
-        let run = whole_run(view)?;
+        let run = gapless_run(view, elem)?;
         let lent = lend(kind, bytes, elem, &run)?;
         Some(Lent {
             side: Side::Each(lent, kind),

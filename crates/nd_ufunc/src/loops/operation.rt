@@ -9,8 +9,8 @@ ghost use Rattle.nd_types.specs.Kinds.{kind_of};
 ghost use Rattle.nd_ufunc.specs.Loops.Results.{binary_result};
 
 use crate::scalar::{
-    Single, apply_single, difference, floor_quotient_by, floor_remainder_by, is_zero, left_shift,
-    power, product, reciprocal_of, right_shift, sum,
+    Single, add, apply_single, floor_divide, is_zero, left_shift, multiply, power, reciprocal_of,
+    remainder, right_shift, subtract,
 };
 use nd_syntax::trees::UnaryOp;
 use nd_types::{Kind, wrap};
@@ -52,7 +52,7 @@ impl Operation for Add {
 
     #[inline(always)]
     fn apply(kind: Kind, left: i128, right: i128, _hint: u64) -> i128 {
-        sum(kind, left, right)
+        add(kind, left, right)
     }
 }
 
@@ -68,7 +68,7 @@ impl Operation for Subtract {
 
     #[inline(always)]
     fn apply(kind: Kind, left: i128, right: i128, _hint: u64) -> i128 {
-        difference(kind, left, right)
+        subtract(kind, left, right)
     }
 }
 
@@ -84,7 +84,7 @@ impl Operation for Multiply {
 
     #[inline(always)]
     fn apply(kind: Kind, left: i128, right: i128, _hint: u64) -> i128 {
-        product(kind, left, right)
+        multiply(kind, left, right)
     }
 }
 
@@ -105,10 +105,7 @@ impl Operation for FloorDivide {
 
     #[inline(always)]
     fn apply(kind: Kind, left: i128, right: i128, hint: u64) -> i128 {
-        if is_zero(right) {
-            return wrap(kind, 0);
-        }
-        floor_quotient_by(kind, left, right, hint)
+        floor_divide(kind, left, right, hint)
     }
 }
 
@@ -129,10 +126,7 @@ impl Operation for Remainder {
 
     #[inline(always)]
     fn apply(kind: Kind, left: i128, right: i128, hint: u64) -> i128 {
-        if is_zero(right) {
-            return wrap(kind, 0);
-        }
-        floor_remainder_by(kind, left, right, hint)
+        remainder(kind, left, right, hint)
     }
 }
 
@@ -188,7 +182,7 @@ impl Operation for RightShift {
 pub struct BitwiseAnd;
 
 impl Operation for BitwiseAnd {
-    ghost gives = { binary_result (operators.Operator syntax.BitAnd) };
+    ghost gives = { binary_result (operators.Operator syntax.BitwiseAnd) };
 
     const IS_COMPARISON: bool = false;
 
@@ -204,7 +198,7 @@ impl Operation for BitwiseAnd {
 pub struct BitwiseXor;
 
 impl Operation for BitwiseXor {
-    ghost gives = { binary_result (operators.Operator syntax.BitXor) };
+    ghost gives = { binary_result (operators.Operator syntax.BitwiseXor) };
 
     const IS_COMPARISON: bool = false;
 
@@ -220,7 +214,7 @@ impl Operation for BitwiseXor {
 pub struct BitwiseOr;
 
 impl Operation for BitwiseOr {
-    ghost gives = { binary_result (operators.Operator syntax.BitOr) };
+    ghost gives = { binary_result (operators.Operator syntax.BitwiseOr) };
 
     const IS_COMPARISON: bool = false;
 

@@ -97,6 +97,8 @@ fn apply_kind<O: Operation, K: KnownKind>(
 
 /// Writes the results for the first `count` pairs, one after another, by a loop specialised for
 /// `kind` where both operands have it.
+///
+/// `apply_sides::<Less>` of the numbers 1, 5 and the scalar 3 writes the bytes 1, 0.
 pub fn apply_sides<O: Operation>(
     kind: Kind,
     out: &mut [u8],

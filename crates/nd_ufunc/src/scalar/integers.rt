@@ -71,6 +71,8 @@ pub(crate) fn power_of_two(count: u32) -> i128
 
 /// Returns whether a quotient that is rounded down is less than Euclid's: the divisor is negative
 /// and something is left.
+///
+/// Of 7 and -2 it is: Euclid's quotient is -3, and rounded down it is -4.
 #[inline]
 pub fn is_below(number: i128, divisor: i128) -> bool
     requires nonzero { divisor ≢ pos 0 }
@@ -85,7 +87,7 @@ pub fn is_below(number: i128, divisor: i128) -> bool
 
 /// Returns the lowest 128 bits of a sum.
 #[inline]
-pub(crate) fn wrapping_sum(left: i128, right: i128) -> i128
+pub(crate) fn wrapping_add(left: i128, right: i128) -> i128
     ensures { result ≡ int_wrap w128 (left +ℤ right) }
 {
     left.wrapping_add(right)
@@ -93,7 +95,7 @@ pub(crate) fn wrapping_sum(left: i128, right: i128) -> i128
 
 /// Returns the lowest 128 bits of a difference.
 #[inline]
-pub(crate) fn wrapping_difference(left: i128, right: i128) -> i128
+pub(crate) fn wrapping_subtract(left: i128, right: i128) -> i128
     ensures { result ≡ int_wrap w128 (left -ℤ right) }
 {
     left.wrapping_sub(right)
@@ -101,7 +103,7 @@ pub(crate) fn wrapping_difference(left: i128, right: i128) -> i128
 
 /// Returns the lowest 128 bits of a product.
 #[inline]
-pub(crate) fn wrapping_product(left: i128, right: i128) -> i128
+pub(crate) fn wrapping_multiply(left: i128, right: i128) -> i128
     ensures { result ≡ int_wrap w128 (left *ℤ right) }
 {
     left.wrapping_mul(right)
@@ -117,7 +119,7 @@ pub(crate) fn lowest_bits(number: i128) -> i64
 
 /// Returns the lowest 64 bits of a product.
 #[inline(always)]
-pub(crate) fn short_product(left: i64, right: i64) -> i64
+pub(crate) fn wrapping_multiply64(left: i64, right: i64) -> i64
     ensures { result ≡ int_wrap w64 (left *ℤ right) }
 {
     left.wrapping_mul(right)

@@ -40,6 +40,8 @@ pub fn is_power_below(ufunc: BinaryUfunc, right: i128) -> bool
 
 /// Returns the result for a NumPy scalar, in its kind. The negative of a Boolean is refused
 /// (`BoolOp`).
+///
+/// The negative of the `int8` -128 is -128 again.
 pub fn scalar1(op: Single, kind: Kind, number: i128) -> Result<Num, UfuncFault>
     ensures { Says number_made result
         (operators.of_scalar (single_of op) (kind_of kind) number) }
@@ -58,6 +60,8 @@ pub fn scalar1(op: Single, kind: Kind, number: i128) -> Result<Num, UfuncFault>
 ///
 /// Refused in this order: a result that is a float, or a function that Booleans do not have; an
 /// integer that does not fit; a negative exponent.
+///
+/// The `uint8` 200 and the Python integer 100 have the sum 44, an `uint8`.
 pub fn scalar2(ufunc: BinaryUfunc, left: Num, right: Num) -> Result<Num, UfuncFault>
     ensures { Says number_made result
         (operators.of_scalars (ufunc_of ufunc) (num_of left) (num_of right)) }

@@ -1,4 +1,4 @@
-//! `BinaryUfunc` and `Single`: the universal functions of two numbers and of one.
+//! The universal functions: `BinaryUfunc` of two numbers and `Single` of one.
 
 use nd_syntax::trees::{BinaryOp, UnaryOp};
 

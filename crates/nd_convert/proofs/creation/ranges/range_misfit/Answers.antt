@@ -1,20 +1,19 @@
-use Rattle.std.proofs.Common.{◌≡◌, ◌≢◌, ℕ, ◌<◌, ℤ, pos, FitsSigned, Some, false, to_z, of_z, sym, ap, ◌∙◌, arith, rules, below_more}
+use Rattle.std.proofs.Common.{◌≡◌, ◌<◌, Some, false, to_z, of_z, sym, ap, ◌∙◌, arith, rules, below_more}
 use Rattle.std.specs.Prelude.{not}
-use Rattle.std.specs.Int.{w128, int_wrap}
-use Rattle.std.proofs.lemmas.Int.{int_wrap_fits}
+use Rattle.std.specs.Int.{w128}
 use mir.Facts.{to_z-of_z}
 use Rattle.nd_model.specs.Arrays.Element.{fits}
 use Rattle.nd_model.specs.Making.Creation.{range_count, range_number}
 use Rattle.nd_types.specs.Kinds.{kind_of}
-use Rattle.nd_convert.specs.declared.creation.ranges.Range.{Range}
 use Rattle.nd_convert.specs.Creation.Ranges.{range_from}
-use Rattle.nd_convert.proofs.creation.Counting.{find-first, find-none, range_fits}
+use Rattle.nd_convert.proofs.creation.Counting.{find-first, find-none, looked_at}
 use Rattle.nd_convert.proofs.creation.ranges.range_misfit.Goals as goal
 
--- the number that was looked at
-looked_at : (r : Range) (number : ℤ) (k : ℕ) → FitsSigned w128 r.start → FitsSigned w128 r.stop → r.step ≢ pos 0 → k < range_count (range_from r)
-    → number ≡ int_wrap w128 (range_number (range_from r) k) → number ≡ range_number (range_from r) k
-looked_at r number k start stop some few is = is ∙ int_wrap_fits w128 (range_number (range_from r) k) (range_fits r.start r.stop r.step k start stop some few)
+pub returns-then-holds_ends : goal.returns-then-holds_ends
+returns-then-holds_ends c =
+    let r = c.args.range in let kind = kind_of c.args.kind in
+    sym (find-none (λ z. not (fits kind z)) (range_number (range_from r)) 0 (range_count (range_from r))
+    (λ j a b. ap not (c.holds_ends.ensures (search (rules, c.if-holds_ends.true)) j (omega (arith, b, c.requires.count)))))
 
 pub returns-then-not-fits : goal.returns-then-not-fits
 returns-then-not-fits c =

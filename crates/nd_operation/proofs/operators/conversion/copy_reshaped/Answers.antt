@@ -6,7 +6,7 @@ use Rattle.nd_model.specs.Arrays.Tuple.{elements_of}
 use Rattle.nd_model.specs.Arrays.View.{contiguous, item_size}
 use Rattle.nd_view.proofs.InOrder.{in_order}
 use Rattle.nd_operation.specs.Operators.Contents.{contents_over}
-use Rattle.nd_operation.proofs.operators.Creating.{gives_array, within}
+use Rattle.nd_operation.proofs.operators.Creating.{gives_array, new_memory, new_over, within}
 use Rattle.nd_operation.proofs.operators.conversion.copy_reshaped.Goals as goal
 
 pub returns : goal.returns
@@ -21,3 +21,20 @@ returns c =
     (c.in_ok-copy.ensures ∙ ap (λ t. contiguous t shape) (c.in_ok-try_clone.ensures ∙ c.elem-2.ensures))
     (c.in_ok-block.ensures ∙ in_order (element_bytes g.element) g.shape cs own ∙ sym (in_order (element_bytes g.element) shape cs (own ∙ sym c.requires))
     ∙ ap (λ cs. array_bytes g.element shape (content_in_order shape cs)) (sym c.soundness.ensures))
+
+pub returns-in_err-check_limits : goal.returns-in_err-check_limits
+returns-in_err-check_limits c =
+    let e = c.args.elements.now in
+    let g = e.view.now in
+    let shape = c.args.shape.now in
+    new_over g.element shape (content_in_order shape (contents_over g e.block.now)) c.in_err-check_limits.field-0.0 _ c.from_residual.ensures.1
+    (rw (c.size.ensures.value ∙ ap item_size c.elem.ensures) at c.in_err-check_limits.ensures)
+
+pub returns-in_err-block : goal.returns-in_err-block
+returns-in_err-block c = new_memory _ _ c.from_residual-in_err-block.ensures.1
+
+pub returns-in_err-try_clone : goal.returns-in_err-try_clone
+returns-in_err-try_clone c = new_memory _ _ c.from_residual-in_err-try_clone.ensures.1
+
+pub returns-in_err-copy : goal.returns-in_err-copy
+returns-in_err-copy c = new_memory _ _ c.from_residual-in_err-copy.ensures.1

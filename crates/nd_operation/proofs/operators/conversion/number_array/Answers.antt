@@ -13,7 +13,7 @@ use Rattle.nd_operation.specs.Operators.Contents.{num_of}
 use Rattle.nd_operation.specs.Refusals.Faults.{fault_of}
 use Rattle.nd_operation.specs.Operators.New.{MakesNew}
 use Rattle.nd_operation.proofs.operators.Creating.{new_refused, within}
-use Rattle.nd_operation.proofs.operators.Converting.{full_number, misfit_over, misfit_within}
+use Rattle.nd_operation.proofs.operators.Converting.{full_number, full_over, misfit_over, misfit_within}
 use Rattle.nd_operation.proofs.operators.conversion.number_array.Goals as goal
 
 pub returns-in_err-check_fit : goal.returns-in_err-check_fit
@@ -43,3 +43,9 @@ returns c =
     ∙ sym (full_number d shape n e c.in_ok-elem.ensures fine
     ∙ misfit_within (misfit e.kind n) (tt {0}) (tt {0}) (rw c.kind.ensures at c.in_ok-check_fit.ensures) (Ok (uniform (One e) shape (Num (wrap e.kind (number_of n)))))))
     c.copies.ensures
+
+pub returns-in_err-check_limits : goal.returns-in_err-check_limits
+returns-in_err-check_limits c =
+    let f = c.in_err-check_limits.field-0.0 in
+    new_refused _ f _ c.from_residual-in_err-check_limits.ensures.1
+    (full_over (option_map dtype_of c.args.dtype.now) c.args.shape.now (num_of c.args.number) c.in_ok-elem.elem (fault_of f) c.in_ok-elem.ensures (rw c.size.ensures.value at c.in_err-check_limits.ensures))

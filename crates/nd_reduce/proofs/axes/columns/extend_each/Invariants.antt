@@ -9,6 +9,6 @@ use Rattle.nd_reduce.proofs.axes.columns.extend_each.Given as goal
 abbrev pub invariant-loop-index : goal.invariant-loop-index
 invariant-loop-index g l = record {
   len : length l.out ≡ length l.fn.out;
-  done : (columns : List (List ℤ)) → length columns ≡ l.count → AreFolds g.F.FoldStep.reduction (kind_of l.kind) (kind_of l.to) l.taken l.folds columns
+  done : (columns : List (List ℤ)) → length columns ≡ l.count → AreFolds g.F.FoldStep.reduction g.F.Best.Bests.kept (kind_of l.kind) (kind_of l.to) l.taken l.folds l.bests columns
       → take (l.index * size_of (kind_of l.to)) l.out ≡ fold_bytes g.F.FoldStep.reduction (kind_of l.to) (more_columns (take l.index columns) (numbers_on l.side l.index));
 }

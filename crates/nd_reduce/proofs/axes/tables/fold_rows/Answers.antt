@@ -44,7 +44,7 @@ loop-taken-init g c =
         replicate w [],
         record {
           many = length-replicate {A = List ℤ} w [];
-          are = no_folds g.F.FoldStep.reduction (kind_of a.kind) k w a.folds.now;
+          are = no_folds g.F.FoldStep.reduction g.F.Best.Bests.kept (kind_of a.kind) k w a.folds.now a.bests.now;
           more = ap (λ m. a.out.now.0 ++ fold_bytes g.F.FoldStep.reduction k (row_columns a.each w m (replicate w []) a.numbers.now.numbers)) all;
         },
       );
@@ -76,7 +76,8 @@ loop-taken-preserved g c =
         more,
         record {
           many = length-columns columns (take w now) same ∙ are.many;
-          are = more_folds r kind k t c.loop-taken.folds folds columns (take w now) valid are.are written;
+          are = more_folds r g.F.Best.Bests.kept kind k t c.loop-taken.folds c.loop-taken.bests folds c.extend_row.new.bests columns (take w now) valid are.are written
+              (c.extend_row.ensures.bests columns are.many are.are);
           more = ap (λ l. l ++ fold_bytes r k others) (c.append_if.ensures.written ∙ ap (λ l. out.0 ++ l) (appended a.each r k folds more written))
               ∙ append_assoc out.0 (fold_bytes r k (if a.each then more else [])) (fold_bytes r k others)
               ∙ ap (λ l. out.0 ++ l) (sym (bytes-append r k (if a.each then more else []) others)

@@ -13,7 +13,7 @@ invariant-loop-taken g l = record {
   left : l.numbers.numbers ≡ drop (l.taken * l.width) l.fn.numbers.numbers;
   kind : l.numbers.kind ≡ l.fn.numbers.kind;
   room : l.out.1 + (if l.each then l.taken else 0) * (l.width * size_of (kind_of l.to)) ≡ l.fn.out.1;
-  folds : (columns : List (List ℤ)) × AreRows g.F.FoldStep.reduction (kind_of l.kind) (kind_of l.to) l.each l.width l.taken (l.rows - l.taken) l.out.0 l.folds l.numbers.numbers
+  folds : (columns : List (List ℤ)) × AreRows g.F.FoldStep.reduction g.F.Best.Bests.kept (kind_of l.kind) (kind_of l.to) l.each l.width l.taken (l.rows - l.taken) l.out.0 l.folds l.bests l.numbers.numbers
       (l.fn.out.0 ++ fold_bytes g.F.FoldStep.reduction (kind_of l.to) (row_columns l.each l.width l.rows (replicate l.width []) l.fn.numbers.numbers)) columns;
 }
 

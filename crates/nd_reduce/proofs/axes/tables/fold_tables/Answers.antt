@@ -1,3 +1,4 @@
+use Rattle.std.proofs.lemmas.Grind.{common_steps}
 use Rattle.std.proofs.Common.{◌≡◌, ℕ, ◌+◌, ◌-◌, ◌*◌, ◌≤◌, ℤ, List, [], ◌++◌, length, replicate, sym, ap, ◌∙◌, arith, append_assoc, length-drop, subst}
 use Rattle.std.specs.List.{All}
 use Rattle.std.proofs.Math.Nat.{mul-le-mul_right}
@@ -38,3 +39,20 @@ loop-rest-preserved g c =
           ∙ ap (fold_bytes r k) (ap (λ l. own ++ table_columns a.each w rows p l) c.fold_rows.ensures.left ∙ sym (next_table a.each w rows m now c.loop-rest-test.true)))
           ∙ is.written;
     }
+
+pub slice_bounds-fold_rows-end : goal.slice_bounds-fold_rows-end
+slice_bounds-fold_rows-end g c = grind (arith, common_steps)
+
+pub slice_bounds-fold_rows-end-in-loop-rest : goal.slice_bounds-fold_rows-end-in-loop-rest
+slice_bounds-fold_rows-end-in-loop-rest g c = grind (arith, common_steps)
+
+pub fold_rows-requires-clause-found : goal.fold_rows-requires-clause-found
+fold_rows-requires-clause-found g c = grind (arith, common_steps)
+
+pub fold_rows-requires-clause-buffer : goal.fold_rows-requires-clause-buffer
+fold_rows-requires-clause-buffer g c = grind (arith, common_steps)
+
+pub fold_rows-requires-clause-enough : goal.fold_rows-requires-clause-enough
+fold_rows-requires-clause-enough g c =
+    let each : ℕ = c.args.rows * c.args.width in let le : 1 * each ≤ c.loop-rest.rest * each = mul-le-mul_right each (omega (arith, c.loop-rest-test.true)) in
+    omega (arith, le, c.loop-rest.invariant.numbers)

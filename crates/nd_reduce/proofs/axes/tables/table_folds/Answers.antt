@@ -1,3 +1,4 @@
+use Rattle.std.proofs.lemmas.Grind.{common_steps}
 use Rattle.std.proofs.Common.{◌≡◌, ℕ, ℤ, ◌*◌, List, sym, ap, ◌∙◌, subst, arith}
 use Rattle.std.specs.Prelude.{slice_index_or}
 use Rattle.std.specs.List.{All}
@@ -23,3 +24,12 @@ fold_tables-requires-clause-room g c =
     let s = size_of (kind_of c.args.to) in let kept : ℕ = rows_kept c.args.each c.args.rows in
     let turned : c.args.tables * (kept * (c.args.width * s)) ≡ c.args.tables * (kept * c.args.width) * s = omega arith in
     turned ∙ ap (λ m. m * s) (sym c.requires.count) ∙ ap (λ m. c.args.count * m) (sym c.size-size.ensures.value) ∙ sym c.in_ok-out.ensures.1
+
+pub overflow_mul-count : goal.overflow_mul-count
+overflow_mul-count g c = grind (arith, common_steps)
+
+pub fold_tables-requires-clause-folds : goal.fold_tables-requires-clause-folds
+fold_tables-requires-clause-folds g c = grind (arith, common_steps)
+
+pub fold_tables-requires-clause-bests : goal.fold_tables-requires-clause-bests
+fold_tables-requires-clause-bests g c = grind (arith, common_steps)

@@ -1,3 +1,4 @@
+use Rattle.std.proofs.lemmas.Grind.{common_steps}
 use Rattle.std.proofs.Common.{◌≡◌, ℕ, ℤ, ◌+◌, ◌*◌, ◌<◌, ◌≤◌, ◌^◌, List, [], ◌++◌, length, take, drop, sym, ap, ◌∙◌, arith, append_assoc, length-take, subst}
 use Rattle.std.proofs.Math.Nat.{mul-le-mul_right}
 use Rattle.std.proofs.Math.Seq.{take-append_seam}
@@ -36,3 +37,24 @@ loop-done-preserved g c =
           ∙ append_assoc a.out.now.0 (prefix_bytes r to (take done zs)) (number_bytes to (prefix_folds r (take done zs) front))
           ∙ ap (λ l. a.out.now.0 ++ l) (sym (more_folds r to [] (take done zs) front) ∙ ap (prefix_bytes r to) joined);
     }
+
+pub overflow_mul-end : goal.overflow_mul-end
+overflow_mul-end g c = grind (arith, common_steps)
+
+pub slice_bounds-accumulate_side-end-in-loop-done : goal.slice_bounds-accumulate_side-end-in-loop-done
+slice_bounds-accumulate_side-end-in-loop-done g c = grind (arith, common_steps)
+
+pub slice_bounds-push-end : goal.slice_bounds-push-end
+slice_bounds-push-end g c = grind (arith, common_steps)
+
+pub slice_bounds-push-end-in-loop-done : goal.slice_bounds-push-end-in-loop-done
+slice_bounds-push-end-in-loop-done g c = grind (arith, common_steps)
+
+pub push-requires : goal.push-requires
+push-requires g c = grind (arith, common_steps)
+
+pub take-side-requires-clause-enough : goal.take-side-requires-clause-enough
+take-side-requires-clause-enough g c = grind (arith, common_steps)
+
+pub take-side-requires-clause-buffer : goal.take-side-requires-clause-buffer
+take-side-requires-clause-buffer g c = grind (arith, common_steps)

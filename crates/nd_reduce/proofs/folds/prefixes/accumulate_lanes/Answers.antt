@@ -1,4 +1,6 @@
-use Rattle.std.proofs.Common.{◌≡◌, ℕ, ℤ, ◌+◌, ◌-◌, ◌*◌, List, ◌∷◌, ◌++◌, length, take, sym, ap, ◌∙◌, arith, append_assoc, length-drop}
+use Rattle.std.proofs.lemmas.Grind.{common_steps}
+use Rattle.std.proofs.Common.{◌≡◌, ℕ, ℤ, ◌+◌, ◌-◌, ◌*◌, ◌≤◌, List, ◌∷◌, ◌++◌, length, take, sym, ap, ◌∙◌, arith, append_assoc, length-drop}
+use Rattle.std.proofs.Math.Nat.{mul-le-mul_right}
 use Rattle.std.specs.List.{flat_map}
 use Rattle.nd_model.specs.Grammar.Calls.{Reduction}
 use Rattle.nd_model.specs.Arrays.Element.{Kind, size_of}
@@ -26,3 +28,22 @@ loop-rest-preserved g c =
           ∙ ap (λ l. c.loop-rest.out.0 ++ flat_map (prefix_bytes r to) l) (sym (next_lane n m zs (omega (arith, c.loop-rest-test.true))))
           ∙ is.written;
     }
+
+pub accumulate_lane-requires-clause-enough : goal.accumulate_lane-requires-clause-enough
+accumulate_lane-requires-clause-enough g c =
+    let n = c.args.count in let le : 1 * n ≤ c.loop-rest.rest * n = mul-le-mul_right n (omega (arith, c.loop-rest-test.true)) in omega (arith, le, c.loop-rest.invariant.numbers)
+
+pub accumulate_lane-requires-clause-room : goal.accumulate_lane-requires-clause-room
+accumulate_lane-requires-clause-room g c =
+    let m = c.loop-rest.rest in let n = c.args.count in let s = size_of (kind_of c.args.to) in
+    let le : 1 * (n * s) ≤ m * (n * s) = mul-le-mul_right (n * s) (omega (arith, c.loop-rest-test.true)) in let turned : m * (n * s) ≡ m * n * s = omega arith in
+    omega (arith, le, turned, c.loop-rest.invariant.room)
+
+pub accumulate_lane-requires-clause-buffer : goal.accumulate_lane-requires-clause-buffer
+accumulate_lane-requires-clause-buffer g c = grind (arith, common_steps)
+
+pub accumulate_lane-requires-clause-folds : goal.accumulate_lane-requires-clause-folds
+accumulate_lane-requires-clause-folds g c = grind (arith, common_steps)
+
+pub slice_bounds-accumulate_lane-end-in-loop-rest : goal.slice_bounds-accumulate_lane-end-in-loop-rest
+slice_bounds-accumulate_lane-end-in-loop-rest g c = grind (arith, common_steps)

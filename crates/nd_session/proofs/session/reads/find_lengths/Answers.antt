@@ -1,8 +1,9 @@
 use Rattle.std.proofs.Common.{◌≡◌, length, add-one, get_or}
 use Rattle.std.proofs.lemmas.List.{get_or_default}
 use Rattle.nd_heap.specs.declared.value.Base.{Base}
+use Rattle.nd_session.specs.Session.Found.{by_base}
 use Rattle.nd_session.specs.Session.Kept.{version_of}
-use Rattle.nd_session.specs.Session.Reading.{by_base, length_at}
+use Rattle.nd_session.specs.Session.Reading.{length_at}
 use Rattle.nd_session.proofs.session.Reading.{base_noted}
 use Rattle.nd_session.proofs.session.reads.find_lengths.Goals as goal
 

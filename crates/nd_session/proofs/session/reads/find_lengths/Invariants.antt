@@ -1,9 +1,9 @@
 use Rattle.std.proofs.Common.{◌≡◌, cond, map, take, length, Some, None}
 use Rattle.nd_model.specs.Arrays.Value as values
+use Rattle.nd_session.specs.Session.Found.{by_base, lookup_base}
 use Rattle.nd_session.specs.Session.Kept.{version_of}
 use Rattle.nd_heap.specs.Live.{is_base_among}
-use Rattle.nd_session.specs.Session.Reading.{by_base, length_at}
-use Rattle.nd_session.specs.Session.Reads.{lookup_base}
+use Rattle.nd_session.specs.Session.Reading.{length_at}
 use Rattle.nd_heap.specs.Values.{base_of}
 use Rattle.nd_session.proofs.session.reads.find_lengths.Given as goal
 

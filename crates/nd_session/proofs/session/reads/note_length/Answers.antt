@@ -1,7 +1,7 @@
 use Rattle.std.proofs.Common.{◌∙◌, ap, cond, length, Some}
 use Rattle.nd_model.specs.Arrays.Value as values
-use Rattle.nd_session.specs.Session.Reading.{by_base, length_at}
-use Rattle.nd_session.specs.Session.Reads.{lookup_base}
+use Rattle.nd_session.specs.Session.Found.{by_base, lookup_base}
+use Rattle.nd_session.specs.Session.Reading.{length_at}
 use Rattle.nd_heap.specs.Values.{base_of}
 use Rattle.nd_session.proofs.session.Reading.{base_insert}
 use Rattle.nd_session.proofs.session.reads.note_length.Goals as goal

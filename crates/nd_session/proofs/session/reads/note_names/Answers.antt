@@ -1,4 +1,4 @@
-use Rattle.std.proofs.Common.{◌≡◌, ◌∙◌, ap, sym, subst, arith, string_bytes, String, Global, Option, List, ℕ}
+use Rattle.std.proofs.Common.{sym, subst, arith, string_bytes, String, Global, Option, List, ℕ}
 use Rattle.std.specs.Prelude.{Contains}
 use Rattle.std.specs.declared.rc.Rc.{Rc}
 use Rattle.nd_model.specs.Cells.Session.{lookup}

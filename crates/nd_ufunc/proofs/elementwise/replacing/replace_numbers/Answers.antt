@@ -1,23 +1,23 @@
-use Rattle.std.proofs.Common.{◌≡◌, ℕ, ℤ, ◌+◌, ◌-◌, ◌*◌, ◌<◌, ◌≤◌, List, ◌++◌, length, take, drop, get_or, sym, ap, ◌∙◌, subst, arith, append_assoc, take_all, length-append, length-drop}
-use Rattle.std.proofs.Math.Nat.{mul-le-mul_left, mul-le-mul_right}
-use Rattle.std.proofs.Math.Seq.{take-add, take-append_seam}
-use Rattle.std.proofs.lemmas.List.{take-append-drop, take-take, take_at, drop-drop, take-map, drop-map, length-map, length-take-le}
+use Rattle.std.proofs.Common.{◌≡◌, ℕ, ℤ, ◌+◌, ◌-◌, ◌*◌, ◌<◌, ◌≤◌, List, ◌++◌, length, take, drop, get_or, sym, ap, ◌∙◌, subst, arith, append_assoc, append-nil, take_all, refl, length-drop}
+use Rattle.std.specs.List.{All}
+use Rattle.std.proofs.Math.Nat.{mul-le-mul_right}
+use Rattle.std.proofs.Math.Seq.{take-add}
+use Rattle.std.proofs.lemmas.List.{get_or-drop, get_or-map, get_or-take, take-append-drop, take-take, take_at, drop-drop, take-map, drop-map, length-map, length-take-le}
+use borrow.Rule.Slice.PartMut.{put_mid}
 use Rattle.std.proofs.lemmas.Slice.{take-put_mid, drop-put_mid}
 use Rattle.nd_model.specs.Arrays.Content.{number_at}
-use Rattle.nd_model.specs.Arrays.Element.{Element, Kind, size_of, wrap}
-use Rattle.nd_model.specs.Making.Elementwise.{little}
+use Rattle.nd_model.specs.Arrays.Element.{Element, Kind, size_of, with_bytes, wrap}
 use Rattle.nd_model.specs.Arrays.Tuple.{count_up}
-use Rattle.nd_model.proofs.Puts.{take-count_up}
 use Rattle.nd_types.specs.Kinds.{kind_of}
 use Rattle.nd_assign.specs.SideBySide.{side_by_side}
-use Rattle.nd_assign.proofs.Bytewise.{end_held}
+use Rattle.nd_assign.proofs.Bytewise.{end_held, put_bytes}
 use Rattle.nd_convert.proofs.conversion.Pieces.{length-put_mid}
 use Rattle.nd_element.specs.Elements.{numbers_at}
-use Rattle.nd_view.proofs.Tuples.{length-count_up}
-use Rattle.nd_ufunc.specs.Elementwise.Beside.{StaysBeside, left_beside}
+use Rattle.nd_view.proofs.ByRuns.{in_run, behind_run}
+use Rattle.nd_view.proofs.Tuples.{length-count_up, get_or-count_up}
+use Rattle.nd_ufunc.specs.Elementwise.Beside.{HeldBeside, StaysBeside, left_beside, size_beside}
 use Rattle.nd_ufunc.specs.Elementwise.Replaced.{replaced}
-use Rattle.nd_ufunc.specs.Loops.Results.{result_bytes}
-use Rattle.nd_ufunc.proofs.elementwise.Given.{given, given_bytes, given_written, given_values, length-given}
+use Rattle.nd_ufunc.specs.Loops.Sides.{Keeps}
 use Rattle.nd_ufunc.proofs.elementwise.KeptOff.{same_beside, same_target}
 use Rattle.nd_ufunc.proofs.loops.Zipped.{result-append, length-result}
 use Rattle.nd_ufunc.proofs.elementwise.replacing.replace_numbers.Goals as goal
@@ -30,151 +30,165 @@ part_held at n all s first len le end =
     let far : (at + n) * s ≤ all * s = mul-le-mul_right s le in
     (most, omega (arith, more, far, end), more)
 
--- as many as a buffer has bytes
-in_buffer : (n chunk size : ℕ) → n ≤ chunk → chunk * size ≤ 8192 → 0 < size → n ≤ 8192
-in_buffer n chunk size le few some =
-    let most : chunk * 1 ≤ chunk * size = mul-le-mul_left chunk (omega (arith, some)) in
-    omega (arith, most, le, few)
-
 -- what stands before what is written
 in_front : (xs old rest : List ℕ) (first m : ℕ) → first ≤ m → first ≤ length old → take m xs ≡ take first old ++ rest → take first xs ≡ take first old
 in_front xs old rest first m le long is =
     sym (take-take first m xs le) ∙ ap (take first) is ∙ take_at (take first old) rest first (length-take-le first old long)
 
-pub overflow_mul-start : goal.overflow_mul-start
-overflow_mul-start g c =
-    let a = c.args in let run : List ℕ = a.run.now in let s = size_of a.elem.kind in let at = c.loop-at.at in let n = c.min-some.result in
+-- the elements of a part are held where all are
+held_part : (P : ℕ → Type 0) (at n : ℕ) (ps : List ℕ) → All P ps → All P (take n (drop at ps))
+held_part P at n ps held =
+    in_run P (take n (drop at ps)) (drop n (drop at ps)) (drop at ps) (sym (take-append-drop n (drop at ps)))
+    (behind_run P (take at ps) (drop at ps) ps (sym (take-append-drop at ps)) held)
+
+-- where a part begins
+part_start : (ps : List ℕ) (first s at n : ℕ) → ps ≡ side_by_side s first (length ps) → at < length ps → 0 < n → get_or (take n (drop at ps)) 0 0 ≡ first + at * s
+part_start ps first s at n gapless lt some =
+    let here : at + 0 ≡ at = omega arith in let none : 0 + at ≡ at = omega arith in
+    get_or-take n (drop at ps) 0 0 some ∙ get_or-drop at ps 0 0 ∙ ap (λ k. get_or ps k 0) here ∙ ap (λ l. get_or l at 0) gapless
+    ∙ get_or-map (λ k. first + k * s) (count_up 0 (length ps)) at 0 0 (omega (arith, length-count_up 0 (length ps), lt))
+    ∙ ap (λ j. first + j * s) (get_or-count_up 0 (length ps) at 0 lt ∙ none)
+
+pub loop-at-init : goal.loop-at-init
+loop-at-init g c =
+    let a = c.args in let first = get_or a.run.now 0 0 in
+    let none : first + 0 * size_of a.elem.kind ≡ first = omega arith in
+    record {
+      within = omega arith;
+      size = refl;
+      len = refl;
+      front = ap (λ m. take m a.bytes.now) none ∙ sym (append-nil (take first a.bytes.now));
+      behind = refl;
+      beside = refl;
+      held = c.requires.beside_held;
+      stays = c.requires.stays;
+    }
+
+pub part-requires-clause-inside : goal.part-requires-clause-inside
+part-requires-clause-inside g c = omega (arith, c.min-some.ensures, c.loop-at-test.true, c.count-in-loop-at.ensures.value)
+
+pub replace_chunk-requires-clause-held : goal.replace_chunk-requires-clause-held
+replace_chunk-requires-clause-held g c =
+    let a = c.args in let bytes : List ℕ = c.loop-at.bytes in let s = size_of a.elem.kind in
+    subst (All (λ p. p + s ≤ length bytes)) (sym c.part.ensures)
+    (subst (λ len. All (λ p. p + s ≤ len) (take c.min-some.result (drop c.loop-at.at a.run.now))) (sym c.loop-at.invariant.len)
+    (held_part (λ p. p + s ≤ length a.bytes.now) c.loop-at.at c.min-some.result a.run.now c.requires.held))
+
+pub replace_chunk-requires-clause-enough : goal.replace_chunk-requires-clause-enough
+replace_chunk-requires-clause-enough g c =
+    let a = c.args in let is = c.loop-at.invariant in let e : Element = a.elem in let s = size_of e.kind in let f : ℤ → ℤ → ℤ = g.O.Operation.gives (kind_of a.to) in
+    let old : List ℕ = a.bytes.now in let bytes : List ℕ = c.loop-at.bytes in let run : List ℕ = a.run.now in let first = get_or run 0 0 in
+    let at = c.loop-at.at in let n = c.min-some.result in
+    let X : List ℤ = numbers_at e old run in let Y : List ℤ = left_beside a.beside.now old in
     let few : at + n ≤ length run = omega (arith, c.min-some.ensures, c.loop-at-test.true, c.count-in-loop-at.ensures.value) in
     let some : 0 < length run = omega (arith, c.count-in-loop-at.ensures.value, c.count-in-loop-at.ensures.some) in
-    let end = end_held run s (get_or run 0 0) (length a.bytes.now) some c.requires.gapless c.requires.held in
-    let room = part_held at n (length run) s (get_or run 0 0) (length a.bytes.now) few end in
-    let width : at * c.size-2.result ≡ at * s = ap (λ w. at * w) c.size-2.ensures.value in
-    omega (arith, room.0, end, width)
+    let end = end_held run s first (length old) some c.requires.gapless c.requires.held in
+    let before : take first bytes ≡ take first old = in_front bytes old (replaced e f (take at X) (take at Y)) first (first + at * s) (omega arith) (omega (arith, end)) is.front in
+    let rights : left_beside c.loop-at.beside bytes ≡ drop at Y = same_beside c.loop-at.beside old bytes first s at before is.behind is.stays ∙ is.beside in
+    let counted : length c.part.result ≡ n = ap length c.part.ensures ∙ length-take-le n (drop at run) (omega (arith, length-drop at run, few)) in
+    omega (arith, counted, ap length rights, length-drop at Y, c.requires.beside, few)
 
-pub overflow_add-start : goal.overflow_add-start
-overflow_add-start g c =
-    let a = c.args in let run : List ℕ = a.run.now in let s = size_of a.elem.kind in let at = c.loop-at.at in let n = c.min-some.result in
+pub replace_chunk-requires-clause-beside_held : goal.replace_chunk-requires-clause-beside_held
+replace_chunk-requires-clause-beside_held g c = subst (HeldBeside c.loop-at.beside) (sym c.loop-at.invariant.len) c.loop-at.invariant.held
+
+pub replace_chunk-requires-clause-keeps : goal.replace_chunk-requires-clause-keeps
+replace_chunk-requires-clause-keeps g c = subst (λ (j : Kind). Keeps j (kind_of c.side_kind-own.result)) c.kind.ensures c.side_kind-own.ensures
+
+pub replace_chunk-requires-clause-results : goal.replace_chunk-requires-clause-results
+replace_chunk-requires-clause-results g c =
+    let a = c.args in let run : List ℕ = a.run.now in let at = c.loop-at.at in let n = c.min-some.result in
     let few : at + n ≤ length run = omega (arith, c.min-some.ensures, c.loop-at-test.true, c.count-in-loop-at.ensures.value) in
-    let some : 0 < length run = omega (arith, c.count-in-loop-at.ensures.value, c.count-in-loop-at.ensures.some) in
-    let end = end_held run s (get_or run 0 0) (length a.bytes.now) some c.requires.gapless c.requires.held in
-    let room = part_held at n (length run) s (get_or run 0 0) (length a.bytes.now) few end in
-    let width : at * c.size-2.result ≡ at * s = ap (λ w. at * w) c.size-2.ensures.value in
-    omega (arith, room.1, end, width, c.start-first.ensures)
+    let counted : length c.part.result ≡ n = ap length c.part.ensures ∙ length-take-le n (drop at run) (omega (arith, length-drop at run, few)) in
+    let w = c.size.result in
+    let most : n * w ≤ c.chunk_of-chunk.result * w = mul-le-mul_right w (omega (arith, c.min-some.ensures)) in
+    let bytes : length c.part.result * size_of (kind_of c.args.to) ≡ n * w = λ i. counted i * sym c.size.ensures.value i in
+    omega (arith, most, bytes, c.chunk_of-chunk.ensures.size)
 
-pub overflow_add-start-in-loop-at : goal.overflow_add-start-in-loop-at
-overflow_add-start-in-loop-at g c =
-    let a = c.args in let run : List ℕ = a.run.now in let s = size_of a.elem.kind in let at = c.loop-at.at in let n = c.min-some.result in
+pub replace_chunk-requires-clause-left : goal.replace_chunk-requires-clause-left
+replace_chunk-requires-clause-left g c =
+    let a = c.args in let run : List ℕ = a.run.now in let at = c.loop-at.at in let n = c.min-some.result in
     let few : at + n ≤ length run = omega (arith, c.min-some.ensures, c.loop-at-test.true, c.count-in-loop-at.ensures.value) in
-    let some : 0 < length run = omega (arith, c.count-in-loop-at.ensures.value, c.count-in-loop-at.ensures.some) in
-    let end = end_held run s (get_or run 0 0) (length a.bytes.now) some c.requires.gapless c.requires.held in
-    let room = part_held at n (length run) s (get_or run 0 0) (length a.bytes.now) few end in
-    let width : at * c.size-2.result ≡ at * s = ap (λ w. at * w) c.size-2.ensures.value in
-    let more : n * c.size-2.result ≡ n * s = ap (λ w. n * w) c.size-2.ensures.value in
-    omega (arith, room.1, end, width, more, c.start-first.ensures)
+    let counted : length c.part.result ≡ n = ap length c.part.ensures ∙ length-take-le n (drop at run) (omega (arith, length-drop at run, few)) in
+    let w = c.size-2.result in
+    let most : n * w ≤ c.chunk_of-chunk.result * w = mul-le-mul_right w (omega (arith, c.min-some.ensures)) in
+    let bytes : length c.part.result * size_of (kind_of c.side_kind-own.result) ≡ n * w = λ i. counted i * sym c.size-2.ensures.value i in
+    omega (arith, most, bytes, c.chunk_of-chunk.ensures.left)
 
-pub slice_bounds-write_numbers-end : goal.slice_bounds-write_numbers-end
-slice_bounds-write_numbers-end g c =
-    let a = c.args in let run : List ℕ = a.run.now in let s = size_of a.elem.kind in let at = c.loop-at.at in let n = c.min-some.result in
+pub replace_chunk-requires-clause-right : goal.replace_chunk-requires-clause-right
+replace_chunk-requires-clause-right g c =
+    let a = c.args in let run : List ℕ = a.run.now in let at = c.loop-at.at in let n = c.min-some.result in
     let few : at + n ≤ length run = omega (arith, c.min-some.ensures, c.loop-at-test.true, c.count-in-loop-at.ensures.value) in
+    let counted : length c.part.result ≡ n = ap length c.part.ensures ∙ length-take-le n (drop at run) (omega (arith, length-drop at run, few)) in
+    let w = c.size-3.result in
+    let most : n * w ≤ c.chunk_of-chunk.result * w = mul-le-mul_right w (omega (arith, c.min-some.ensures)) in
+    let bytes : length c.part.result * size_beside c.loop-at.beside ≡ n * w = λ i. counted i * (c.loop-at.invariant.size ∙ sym c.size-3.ensures.value) i in
+    omega (arith, most, bytes, c.chunk_of-chunk.ensures.right)
+
+pub replace_chunk-requires-clause-room : goal.replace_chunk-requires-clause-room
+replace_chunk-requires-clause-room g c =
+    let a = c.args in let run : List ℕ = a.run.now in let at = c.loop-at.at in let n = c.min-some.result in
+    let few : at + n ≤ length run = omega (arith, c.min-some.ensures, c.loop-at-test.true, c.count-in-loop-at.ensures.value) in
+    let counted : length c.part.result ≡ n = ap length c.part.ensures ∙ length-take-le n (drop at run) (omega (arith, length-drop at run, few)) in
+    let s = size_of a.elem.kind in let first = get_or run 0 0 in
     let some : 0 < length run = omega (arith, c.count-in-loop-at.ensures.value, c.count-in-loop-at.ensures.some) in
-    let end = end_held run s (get_or run 0 0) (length a.bytes.now) some c.requires.gapless c.requires.held in
-    let room = part_held at n (length run) s (get_or run 0 0) (length a.bytes.now) few end in
-    let width : at * c.size-2.result ≡ at * s = ap (λ w. at * w) c.size-2.ensures.value in
-    let more : n * c.size-2.result ≡ n * s = ap (λ w. n * w) c.size-2.ensures.value in
-    omega (arith, room.1, width, more, c.start-first.ensures, c.loop-at.invariant.len)
-
-pub write_numbers-requires-clause-places : goal.write_numbers-requires-clause-places
-write_numbers-requires-clause-places g c =
-    let s = size_of (kind_of c.args.to) in let n = c.min-some.result in
-    let chunk = c.chunk_of-chunk.result in
-    let few : n ≤ 8192 = in_buffer n chunk c.size.result (omega (arith, c.min-some.ensures)) c.chunk_of-chunk.ensures.size (omega (arith, c.size.ensures.range)) in
-    let is : c.part-in-loop-at.result ≡ side_by_side s 0 n
-    = c.part-in-loop-at.ensures ∙ ap (take n) c.requires.places ∙ take-count_up (λ k. 0 + k * s) 0 8192 n few in
-    let long : length c.part-in-loop-at.result ≡ n = ap length is ∙ length-map (count_up 0 n) (λ k. 0 + k * s) ∙ length-count_up 0 n in
-    is ∙ ap (side_by_side s 0) (sym long)
-
-pub write_numbers-requires-clause-results : goal.write_numbers-requires-clause-results
-write_numbers-requires-clause-results g c =
-    let a = c.args in let k : Kind = kind_of a.to in let n = c.min-some.result in let size = c.size.result in let chunk = c.chunk_of-chunk.result in
-    let buffer = c.loop-at.buffer in let results : List ℕ = c.find_results.new.out in
-    let fits : n ≤ 8192 = in_buffer n chunk size (omega (arith, c.min-some.ensures)) c.chunk_of-chunk.ensures.size (omega (arith, c.size.ensures.range)) in
-    let most : n * size ≤ chunk * size = mul-le-mul_right size (omega (arith, c.min-some.ensures)) in
-    let buffered : n * size ≤ length buffer = omega (arith, most, c.chunk_of-chunk.ensures.size, c.loop-at.invariant.buffer) in
-    let long : length results ≡ n * size = c.find_results.auto.out ∙ length-take-le (n * size) buffer buffered in
-    let all : length a.places.now ≡ 8192 = ap length c.requires.places ∙ length-map (count_up 0 8192) (λ j. 0 + j * size_of k) ∙ length-count_up 0 8192 in
-    let counted : length c.part-in-loop-at.result ≡ n = ap length c.part-in-loop-at.ensures ∙ length-take-le n (drop 0 a.places.now) (omega (arith, length-drop 0 a.places.now, all, fits)) in
-    length-take-le (n * size) (results ++ drop (n * size) buffer) (omega (arith, length-append results (drop (n * size) buffer), long))
-    ∙ (λ i. sym counted i * c.size.ensures.value i)
+    let end = end_held run s first (length a.bytes.now) some c.requires.gapless c.requires.held in
+    let room = part_held at n (length run) s first (length a.bytes.now) few end in
+    let next : 0 < n = omega (arith, c.min-some.ensures, c.loop-at-test.true, c.count-in-loop-at.ensures.value, c.chunk_of-chunk.ensures.some) in
+    let begin : get_or c.part.result 0 0 ≡ first + at * s = ap (λ l. get_or l 0 0) c.part.ensures ∙ part_start run first s at n c.requires.gapless (omega (arith, few, next)) next in
+    let wide : length c.part.result * s ≡ n * s = ap (λ j. j * s) counted in
+    omega (arith, begin, wide, room.1, c.loop-at.invariant.len)
 
 pub loop-at-preserved : goal.loop-at-preserved
 loop-at-preserved g c =
-    let a = c.args in let is = c.loop-at.invariant in let e : Element = a.elem in let s = size_of e.kind in let k : Kind = kind_of a.to in let f : ℤ → ℤ → ℤ = g.O.Operation.gives k in
+    let a = c.args in let is = c.loop-at.invariant in let e : Element = a.elem in let s = size_of e.kind in let k : Kind = kind_of a.to in
+    let f : ℤ → ℤ → ℤ = g.O.Operation.gives k in
     let old : List ℕ = a.bytes.now in let bytes : List ℕ = c.loop-at.bytes in let run : List ℕ = a.run.now in let first = get_or run 0 0 in
-    let at = c.loop-at.at in let n = c.min-some.result in let size = c.size.result in let buffer = c.loop-at.buffer in
+    let at = c.loop-at.at in let n = c.min-some.result in
     let X : List ℤ = numbers_at e old run in let Y : List ℤ = left_beside a.beside.now old in
     let few : at + n ≤ length run = omega (arith, c.min-some.ensures, c.loop-at-test.true, c.count-in-loop-at.ensures.value) in
-    let chunk = c.chunk_of-chunk.result in
-    let fits : n ≤ 8192 = in_buffer n chunk size (omega (arith, c.min-some.ensures)) c.chunk_of-chunk.ensures.size (omega (arith, c.size.ensures.range)) in
     let some : 0 < length run = omega (arith, c.count-in-loop-at.ensures.value, c.count-in-loop-at.ensures.some) in
     let end = end_held run s first (length old) some c.requires.gapless c.requires.held in
     let room = part_held at n (length run) s first (length old) few end in
-    let width : at * c.size-2.result ≡ at * s = ap (λ w. at * w) c.size-2.ensures.value in
-    let widths : n * c.size-2.result ≡ n * s = ap (λ w. n * w) c.size-2.ensures.value in
-    let start : ℕ = c.start-first.result + at * c.size-2.result in
-    let begin : start ≡ first + at * s = omega (arith, width, c.start-first.ensures) in
-    let m : ℕ = start + n * c.size-2.result - start in
-    let many : m ≡ n * s = omega (arith, widths) in
-    let inside : start + m ≤ length bytes = omega (arith, begin, many, room.1, is.len) in
+    let next_some : 0 < n = omega (arith, c.min-some.ensures, c.loop-at-test.true, c.count-in-loop-at.ensures.value, c.chunk_of-chunk.ensures.some) in
+    let start : ℕ = first + at * s in let m : ℕ = n * s in
+    let inside : start + m ≤ length bytes = omega (arith, room.1, is.len) in
     let part : List ℕ = c.part.result in
     let part_is : part ≡ take n (drop at run) = c.part.ensures in
+    let begin : get_or part 0 0 ≡ start = ap (λ l. get_or l 0 0) part_is ∙ part_start run first s at n c.requires.gapless (omega (arith, few, next_some)) next_some in
     let counted : length part ≡ n = ap length part_is ∙ length-take-le n (drop at run) (omega (arith, length-drop at run, few)) in
-    let front : take (first + at * s) bytes ≡ take first old ++ replaced e f (take at X) (take at Y) = is.front in
-    let before : take first bytes ≡ take first old = in_front bytes old (replaced e f (take at X) (take at Y)) first (first + at * s) (omega arith) (omega (arith, end)) front in
+    let front : take start bytes ≡ take first old ++ replaced e f (take at X) (take at Y) = is.front in
+    let before : take first bytes ≡ take first old = in_front bytes old (replaced e f (take at X) (take at Y)) first start (omega arith) (omega (arith, end)) front in
     let lefts : numbers_at e bytes (drop at run) ≡ drop at X
     = same_target e old bytes run first at c.requires.gapless before is.behind ∙ sym (drop-map (number_at e old) at run) in
     let left : numbers_at e bytes part ≡ take n (drop at X)
     = ap (numbers_at e bytes) part_is ∙ sym (take-map (number_at e bytes) n (drop at run)) ∙ ap (take n) lefts in
     let rights : left_beside c.loop-at.beside bytes ≡ drop at Y = same_beside c.loop-at.beside old bytes first s at before is.behind is.stays ∙ is.beside in
     let right : take (length part) (left_beside c.loop-at.beside bytes) ≡ take n (drop at Y) = (λ i. take (counted i) (rights i)) in
-    let results : List ℕ = c.find_results.new.out in let zs : List ℤ = given f (take n (drop at X)) (take n (drop at Y)) in
-    let found : results ≡ result_bytes (little k) f (take n (drop at X)) (take n (drop at Y))
-    = c.find_results.ensures.out ∙ (λ i. result_bytes (little k) f (left i) (right i)) in
     let all_X : length X ≡ length run = length-map run (number_at e old) in
     let some_X : length (take n (drop at X)) ≡ n = length-take-le n (drop at X) (omega (arith, length-drop at X, all_X, few)) in
     let some_Y : length (take n (drop at Y)) ≡ n = length-take-le n (drop at Y) (omega (arith, length-drop at Y, c.requires.beside, few)) in
-    let long : length results ≡ n * size
-    = ap length found ∙ length-result (little k) f (take n (drop at X)) (take n (drop at Y)) (some_X ∙ sym some_Y) ∙ ap (λ j. j * size_of k) some_X ∙ ap (λ w. n * w) (sym c.size.ensures.value) in
-    let most : n * size ≤ chunk * size = mul-le-mul_right size (omega (arith, c.min-some.ensures)) in
-    let buffered : n * size ≤ length buffer = omega (arith, most, c.chunk_of-chunk.ensures.size, is.buffer) in
-    let pushed : take (n * size) (results ++ drop (n * size) buffer) ≡ results = ap (λ j. take j (results ++ drop (n * size) buffer)) (sym long) ∙ take-append_seam results (drop (n * size) buffer) in
-    let places : length zs ≡ length c.part-in-loop-at.result
-    = length-given f (take n (drop at X)) (take n (drop at Y)) (some_X ∙ sym some_Y) ∙ some_X
-    ∙ sym (ap length c.part-in-loop-at.ensures ∙ length-take-le n (drop 0 a.places.now) (omega (arith, length-drop 0 a.places.now, ap length c.requires.places ∙ length-map (count_up 0 8192) (λ j. 0 + j * size_of k) ∙ length-count_up 0 8192, fits))) in
-    let W : List ℕ = c.write_numbers.new.out in
-    let W_is : W ≡ replaced e f (take n (drop at X)) (take n (drop at Y))
-    = c.write_numbers.ensures zs (given_values f k (take n (drop at X)) (take n (drop at Y)) c.requires.wraps) places (pushed ∙ found ∙ given_bytes f (little k) (take n (drop at X)) (take n (drop at Y)))
-    ∙ given_written f e (take n (drop at X)) (take n (drop at Y)) in
-    let W_long : length W ≡ n * s
-    = ap length W_is ∙ length-result e (λ x y. wrap e.kind (f x y)) (take n (drop at X)) (take n (drop at Y)) (some_X ∙ sym some_Y) ∙ ap (λ j. j * s) some_X in
-    let next : first + (at + n) * s ≡ start + length W = omega (arith, begin, W_long, room.2) in
+    let W : List ℕ = replaced e f (take n (drop at X)) (take n (drop at Y)) in
+    let W_long : length W ≡ m = length-result e (λ x y. wrap e.kind (f x y)) (take n (drop at X)) (take n (drop at Y)) (some_X ∙ sym some_Y) ∙ ap (λ j. j * s) some_X in
+    let made : c.replace_chunk.new.bytes ≡ put_mid start m bytes W
+    = c.replace_chunk.ensures.bytes ∙ (λ i. with_bytes bytes (begin i) (replaced e f (left i) (right i))) ∙ sym (put_bytes start m bytes W W_long) in
+    let next : first + (at + n) * s ≡ start + length W = omega (arith, W_long, room.2) in
     let X_long : length (take at X) ≡ at = length-take-le at X (omega (arith, all_X, few)) in
     let Y_long : length (take at Y) ≡ at = length-take-le at Y (omega (arith, c.requires.beside, few)) in
     record {
       within = few;
-      size = c.find_results.ensures.size ∙ is.size;
-      buffer = length-append results (drop (n * size) buffer) ∙ omega (arith, long, length-drop (n * size) buffer, buffered, is.buffer);
-      len = length-put_mid start m bytes W inside (W_long ∙ sym many) ∙ is.len;
-      front = take-put_mid start m bytes W (first + (at + n) * s) next (omega (arith, inside))
-          ∙ (λ i. (ap (λ j. take j bytes) begin ∙ front) i ++ W_is i)
-          ∙ append_assoc (take first old) (replaced e f (take at X) (take at Y)) (replaced e f (take n (drop at X)) (take n (drop at Y)))
+      size = c.replace_chunk.ensures.size ∙ is.size;
+      len = ap length made ∙ length-put_mid start m bytes W inside W_long ∙ is.len;
+      front = ap (take (first + (at + n) * s)) made ∙ take-put_mid start m bytes W (first + (at + n) * s) next (omega (arith, inside))
+          ∙ ap (λ l. l ++ W) front
+          ∙ append_assoc (take first old) (replaced e f (take at X) (take at Y)) W
           ∙ ap (λ l. take first old ++ l) (sym (result-append e (λ x y. wrap e.kind (f x y)) (take at X) (take at Y) (take n (drop at X)) (take n (drop at Y)) (X_long ∙ sym Y_long))
           ∙ (λ i. replaced e f (sym (take-add at n X) i) (sym (take-add at n Y) i)));
-      behind = drop-put_mid start m bytes W (first + (at + n) * s) (omega (arith, begin, many, room.2)) (omega (arith, inside)) (W_long ∙ sym many)
+      behind = ap (drop (first + (at + n) * s)) made ∙ drop-put_mid start m bytes W (first + (at + n) * s) (omega (arith, room.2)) (omega (arith, inside)) W_long
           ∙ (let far : first + (at + n) * s ≡ first + at * s + n * s = omega (arith, room.2) in
           ap (λ j. drop j bytes) far ∙ sym (drop-drop (n * s) (first + at * s) bytes) ∙ ap (drop (n * s)) is.behind ∙ drop-drop (n * s) (first + at * s) old ∙ ap (λ j. drop j old) (sym far));
-      beside = c.find_results.ensures.further old ∙ (λ i. drop (counted i) (is.beside i)) ∙ drop-drop n at Y;
-      held = c.find_results.ensures.held (length old) is.held;
-      stays = subst (λ j. StaysBeside c.find_results.new.beside first s (at + j)) counted (c.find_results.ensures.stays first s at is.stays);
+      beside = c.replace_chunk.ensures.further old ∙ (λ i. drop (counted i) (is.beside i)) ∙ drop-drop n at Y;
+      held = c.replace_chunk.ensures.held (length old) is.held;
+      stays = subst (λ j. StaysBeside c.replace_chunk.new.beside first s (at + j)) counted (c.replace_chunk.ensures.stays first s at is.stays);
     }
 
 pub returns : goal.returns

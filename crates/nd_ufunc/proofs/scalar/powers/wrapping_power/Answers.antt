@@ -1,33 +1,26 @@
-use Rattle.std.proofs.Common.{◌≡◌, ℤ, pos, ◌*ℤ◌, ◌/◌, to_z, of_z, sym, ap, ◌∙◌, arith, rules}
+use Rattle.std.proofs.Common.{◌≡◌, ℤ, ◌*ℤ◌, FitsSigned, sym, ap, ◌∙◌, rules}
 use Rattle.std.specs.Int.{w64, int_pow, int_wrap}
-use Rattle.std.proofs.lemmas.Int.{ints}
+use Rattle.std.proofs.lemmas.Int.{int_wrap_fits, int_wrap-mul_right, SFits-int_wrap}
 use mir.Facts.{to_z-of_z}
-use Rattle.nd_ufunc.proofs.scalar.Squares.{int_pow-zero, even_step, odd_step}
+use Rattle.nd_ufunc.proofs.scalar.Squares.{int_pow-two, int_pow-three}
 use Rattle.nd_ufunc.proofs.scalar.powers.wrapping_power.Goals as goal
-use Rattle.nd_ufunc.proofs.scalar.powers.wrapping_power.Goals.{then-left-eq1, else-left-eq1}
 
-one : (z : ℤ) → pos 1 *ℤ z ≡ z
-one z = omega (arith, ints)
+again : (z : ℤ) → int_wrap w64 (int_wrap w64 z) ≡ int_wrap w64 z
+again z = int_wrap_fits w64 (int_wrap w64 z) (SFits-int_wrap w64 z)
 
-pub loop-left-preserved : goal.loop-left-preserved
-loop-left-preserved c =
-    let square : ℤ = to_z w64 c.loop-left.square-bits in
-    let power : ℤ = to_z w64 c.loop-left.power-bits in
-    let next : ℤ = to_z w64 (of_z w64 c.short_product-square.result) in
-    let is : next ≡ int_wrap w64 (square *ℤ square) = to_z-of_z {w = w64} (search rules) ∙ c.short_product-square.ensures in
-    elim c.if-left-eq1.branch [
-      | then-left-eq1 w ↦
-          odd_step w64 square power next (to_z w64 c.if-left-eq1.power-bits) c.loop-left.left (omega (arith, w.if-left-eq1.true)) is
-          (w.power-is ∙ to_z-of_z {w = w64} (search rules) ∙ w.short_product-power.ensures) ∙ c.loop-left.invariant
-      | else-left-eq1 w ↦
-          ap (λ p. int_wrap w64 (int_pow next (c.loop-left.left / 2) *ℤ p)) w.power-is
-          ∙ even_step w64 square power next c.loop-left.left (grind (arith, w.if-left-eq1.false)) is ∙ c.loop-left.invariant
-    ]
+pub returns-then-exponent-eq2 : goal.returns-then-exponent-eq2
+returns-then-exponent-eq2 c =
+    let b : ℤ = c.args.base in let range = c.ranges.base in
+    let fits : FitsSigned w64 c.wrapping_multiply64.result = search rules in
+    let is : c.wrapping_multiply64.result ≡ int_wrap w64 (b *ℤ b) = simp to_z-of_z at c.wrapping_multiply64.ensures in
+    ap (int_wrap w64) (to_z-of_z fits ∙ is) ∙ again (b *ℤ b) ∙ ap (int_wrap w64) (sym (int_pow-two b)) ∙ ap (λ n. int_wrap w64 (int_pow b n)) (sym c.if-exponent-eq2.true)
 
-pub returns : goal.returns
-returns c =
-    let square : ℤ = to_z w64 c.loop-left.square-bits in
-    let power : ℤ = to_z w64 c.loop-left.power-bits in
-    let none : c.loop-left.left ≡ 0 = omega (arith, c.loop-left-test.false) in
-    sym (ap (int_wrap w64) (ap (λ p. p *ℤ power) (ap (int_pow square) none ∙ int_pow-zero square) ∙ one power))
-    ∙ c.loop-left.invariant ∙ ap (λ b. int_wrap w64 (int_pow b c.args.exponent)) (to_z-of_z c.ranges.base)
+pub returns-then-exponent-eq3 : goal.returns-then-exponent-eq3
+returns-then-exponent-eq3 c =
+    let b : ℤ = c.args.base in let range = c.ranges.base in
+    let fits : FitsSigned w64 c.wrapping_multiply64-then-exponent-eq3.result = search rules in
+    let fits_too : FitsSigned w64 c.wrapping_multiply64-then-exponent-eq3-2.result = search rules in
+    let square_is : c.wrapping_multiply64-then-exponent-eq3.result ≡ int_wrap w64 (b *ℤ b) = simp to_z-of_z at c.wrapping_multiply64-then-exponent-eq3.ensures in
+    let cube_is : c.wrapping_multiply64-then-exponent-eq3-2.result ≡ int_wrap w64 (b *ℤ c.wrapping_multiply64-then-exponent-eq3.result) = simp to_z-of_z at c.wrapping_multiply64-then-exponent-eq3-2.ensures in
+    ap (int_wrap w64) (to_z-of_z fits_too ∙ cube_is ∙ ap (λ z. int_wrap w64 (b *ℤ z)) square_is) ∙ again (b *ℤ int_wrap w64 (b *ℤ b)) ∙ int_wrap-mul_right w64 b (b *ℤ b)
+    ∙ ap (int_wrap w64) (sym (int_pow-three b)) ∙ ap (λ n. int_wrap w64 (int_pow b n)) (sym c.if-exponent-eq3.true)

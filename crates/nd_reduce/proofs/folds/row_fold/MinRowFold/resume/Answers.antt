@@ -10,7 +10,7 @@ use Rattle.nd_reduce.proofs.folds.Folded.{best_value}
 use Rattle.nd_reduce.proofs.folds.row_fold.MinRowFold.resume.Goals as goal
 
 pub returns : goal.returns
-returns c = λ zs some values is.
+returns c = λ zs some values long is beside.
     let ff : FitsSigned w128 c.args.fold = search rules in
     subst (λ (x : ℤ). IsBest int_lt true x zs) (sym (to_z-of_z ff)) (record {
       fits = ff;

@@ -8,6 +8,6 @@ use Rattle.nd_reduce.proofs.folds.Wrapped.{low_again}
 use Rattle.nd_reduce.proofs.folds.row_fold.SumRowFold.resume.Goals as goal
 
 pub returns : goal.returns
-returns c = λ zs some values is.
+returns c = λ zs some values long is beside.
     let ff : FitsSigned w128 c.args.fold = search rules in let fl : FitsSigned w64 c.low_bits.result = search rules in
     to_z-of_z fl ∙ c.low_bits.ensures ∙ ap (λ z. cast_signed w64 (residue w64 z)) (to_z-of_z ff ∙ is) ∙ low_again (kind_of c.args._kind) (fold (λ a b. a +ℤ b) (pos 0) zs)

@@ -5,10 +5,10 @@ use Rattle.nd_model.specs.Cells.Footprint.{Number}
 use Rattle.nd_model.specs.Cells.Running.{Length, Byte}
 use Rattle.nd_heap.specs.declared.value.Base.{Base}
 use Rattle.nd_session.specs.declared.session.found.FoundBytes.{FoundBytes}
-use Rattle.nd_session.specs.Session.Found.{bytes_of}
+use Rattle.nd_session.specs.Session.Found.{by_base, byte_at, bytes_of, lookup_base}
 use Rattle.nd_session.specs.Session.Changes.{ChangesData}
-use Rattle.nd_session.specs.Session.Reading.{by_base, length_at, reads_of}
-use Rattle.nd_session.specs.Session.Reads.{ReadsData, byte_at, keys_of, lookup_base}
+use Rattle.nd_session.specs.Session.Reading.{length_at, reads_of}
+use Rattle.nd_session.specs.Session.Reads.{ReadsData, keys_of}
 use Rattle.nd_session.proofs.session.Overlaying.{found_inside, read_there, something}
 use Rattle.nd_session.proofs.session.Reading.{base_all}
 use Rattle.nd_session.proofs.session.reads.Reads.miss.Goals as goal

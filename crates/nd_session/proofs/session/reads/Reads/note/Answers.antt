@@ -1,4 +1,4 @@
-use Rattle.std.proofs.Common.{◌≡◌, sym, subst, ℕ}
+use Rattle.std.proofs.Common.{sym, subst, ℕ}
 use Rattle.std.specs.Prelude.{Contains, IsTrue}
 use Rattle.std.proofs.lemmas.List.Elements.{recursion_from_All}
 use Rattle.nd_model.specs.Cells.Footprint.{Bound, Number}
@@ -6,9 +6,9 @@ use Rattle.nd_model.specs.Cells.Running.{Name, Length, Byte}
 use Rattle.nd_model.specs.Cells.Session.{lookup}
 use Rattle.nd_heap.specs.declared.value.Base.{Base}
 use Rattle.nd_session.specs.declared.session.found.FoundBytes.{FoundBytes}
-use Rattle.nd_session.specs.Session.Found.{bytes_of}
-use Rattle.nd_session.specs.Session.Reading.{by_base, by_text, length_at, reads_of, value_at}
-use Rattle.nd_session.specs.Session.Reads.{ReadsData, byte_at, keys_of, lookup_base}
+use Rattle.nd_session.specs.Session.Found.{by_base, byte_at, bytes_of, lookup_base}
+use Rattle.nd_session.specs.Session.Reading.{by_text, length_at, reads_of, value_at}
+use Rattle.nd_session.specs.Session.Reads.{ReadsData, keys_of}
 use Rattle.nd_session.proofs.session.Gathering.{stays_on}
 use Rattle.nd_session.proofs.session.Overlaying.{found_inside, read_there, something}
 use Rattle.nd_session.proofs.session.Reading.{base_all}

@@ -331,7 +331,7 @@ class Bench(unittest.TestCase):
 
     def test_notebooks_have_as_many_cells_and_other_texts(self):
         for shape in edits.shapes(200):
-            fixed = {"large": 51, "large sums": 51, "input": 100}
+            fixed = {"large": 51, "large sums": 51, "many names": 10, "input": 100}
             self.assertEqual((len(shape.cells), shape.is_fixed), (fixed.get(shape.name, 200), shape.name in fixed))
             for at in (0, len(shape.cells) // 2, len(shape.cells) - 1):
                 self.assertNotEqual(shape.other(at, 5), shape.cells[at])

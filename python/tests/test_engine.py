@@ -40,6 +40,7 @@ class Notebooks(unittest.TestCase):
 
     def test_the_allocator_is_told_how_to_keep_memory(self):
         told = os.environ.get('GLIBC_TUNABLES', ndnote.engine.TUNABLES)
+        self.book.insert(0, 'x = 1')    # its answer shows that the program has begun
         # The loader cuts the text into its parts where it stands, by zeros in the place of colons.
         words = Path(f'/proc/{self.book.process}/environ').read_bytes().replace(b'\0', b':')
         self.assertIn(f'GLIBC_TUNABLES={told}:'.encode(), words)

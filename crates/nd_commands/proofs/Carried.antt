@@ -1,15 +1,19 @@
 -- Commands that are carried out.
-use Rattle.std.proofs.Common.{◌≡◌, ℕ, true, false, List, [], ◌∷◌, refl}
-use Rattle.std.specs.Prelude.{IsUtf8, Ok, Err}
+use Rattle.std.proofs.Common.{◌≡◌, ℕ, true, false, List, [], ◌∷◌, refl, sym, ap, inl, inr}
+use Rattle.std.specs.Prelude.{IsUtf8, Ok, codes}
 use Rattle.std.specs.Str.{is_utf8}
-use Rattle.std.specs.declared.alloc.AllocError.{AllocError}
 use Rattle.std.proofs.lemmas.Bool.{false_from_ne_true}
 use Rattle.std.proofs.lemmas.Str.{IsUtf8-from_is_utf8, is_utf8-from_IsUtf8}
-use Rattle.nd_model.specs.Book.Script.{Edits, Bad, Answer, Opening, Line, Whole, Opens, Stage, Between, Within, step, read_line, is_dot, closed, source_of, with_source}
+use Rattle.nd_model.specs.Book.Script.{Command, Edits, Asks, ShowsValue, Bad, Opening, Line, Whole, Opens, Stage, Between, Within, step, read_line, is_dot, closed, source_of, with_source, query_answer, with_text, value_answer, refused_line, succeeds}
+use Rattle.nd_model.specs.Book.Book.{Book, value_at}
+use Rattle.nd_model.specs.Book.Renaming.{Shown}
 use Rattle.nd_script.specs.Lines.Counts.{Tally, CountsCommand}
-use Rattle.nd_script.specs.Lines.Run.{Done, DoneInPart}
+use Rattle.nd_script.specs.Lines.Answers.{AnswerState}
+use Rattle.nd_script.specs.Lines.Run.{Answered}
+use Rattle.nd_script.proofs.lines.Answers.{pushes_none}
 use Rattle.nd_script.proofs.lines.Progress.{one_answer}
 use Rattle.nd_commands.specs.Carry.{Carried, CarriedLine, CountsLine}
+use Rattle.nd_commands.specs.Value.{PushesValue}
 
 pub closed_text : (o : Opening) (ls : List (List ℕ)) (text : List ℕ) → text ≡ source_of ls → IsUtf8 (source_of ls) → closed o ls ≡ Edits (with_source o text)
 closed_text o ls text same utf8 = let yes : is_utf8 (source_of ls) ≡ true = is_utf8-from_IsUtf8 (source_of ls) utf8 in rw (yes, ← same) refl
@@ -21,33 +25,31 @@ closed_bytes o ls other =
 
 -- ---- the end of a source
 
-pub closed_done : (o : Opening) (before : List (List ℕ)) (line now : List ℕ) (old new : Tally) → is_dot line ≡ true → Carried (closed o before) old.book [] (Ok tt) now new.book
-    → CountsCommand (closed o before) old.book old.count new.count → Done (Within o before) line Between old now new
-closed_done o before line now old new dot given counts =
-    rw dot (refl, rw given.2 (one_answer (closed o before) old new given.0 (given.1, counts)))
+-- a line that completes one command
+answered_one : (s t : Stage) (c : Command) (line : List ℕ) (old new : Tally) (was now : AnswerState) → (step s line).0 ≡ c ∷ [] → t ≡ (step s line).1
+    → Carried c old.book was now new.book → CountsCommand c old.book old.count new.count → Answered s line t old was now new
+answered_one s t c line old new was now one stage given counts =
+    (given.0, (stage, rw one (one_answer c old new given.0 (given.1, counts))), given.2)
 
--- carried out, and not answered for want of memory
-pub closed_in_part : (o : Opening) (before : List (List ℕ)) (line : List ℕ) (old new : Tally) (text : List ℕ) → is_dot line ≡ true → Answer (closed o before) old.book text new.book
-    → CountsCommand (closed o before) old.book old.count new.count → DoneInPart (Within o before) line old new
-closed_in_part o before line old new text dot given counts =
-    (closed o before ∷ [], ([], rw dot refl), (text, one_answer (closed o before) old new text (given, counts)))
+pub closed_done : (o : Opening) (before : List (List ℕ)) (line : List ℕ) (old new : Tally) (was now : AnswerState) → is_dot line ≡ true → Carried (closed o before) old.book was now new.book
+    → CountsCommand (closed o before) old.book old.count new.count → Answered (Within o before) line Between old was now new
+closed_done o before line old new was now dot given counts =
+    answered_one (Within o before) Between (closed o before) line old new was now (rw dot refl) (rw dot refl) given counts
 
 -- ---- a line outside a source
 
-none_in_part : (s : Stage) (line : List ℕ) (old new : Tally) → new ≡ old → DoneInPart s line old new
-none_in_part s line old new same = ([], ((step s line).0, refl), ([], (refl, same)))
+pub done_whole : (l : Line) (line : List ℕ) (old new : Tally) (was now : AnswerState) → read_line line ≡ l → (opens : (o : Opening) → l ≡ Opens o → ⊥) → CarriedLine l old.book was now new.book
+    → CountsLine l old.book old.count new.count → Answered Between line Between old was now new
+done_whole (Whole c) line old new was now is opens given counts =
+    answered_one Between Between c line old new was now (rw is refl) (rw is refl) given counts
+done_whole (Opens o) line old new was now is opens given counts = absurd (opens o refl)
 
--- a notebook and a meter that stay
-same_tally : (old new : Tally) → new.book ≡ old.book → new.count ≡ old.count → new ≡ old
-same_tally old new book count = λ d. record { book = book d; count = count d }
+-- a line that completes no command is answered by nothing
+pub answered_none : (s t : Stage) (line : List ℕ) (old : Tally) (was : AnswerState) → (step s line).0 ≡ [] → t ≡ (step s line).1 → Answered s line t old was was old
+answered_none s t line old was none stage = ([], (stage, rw none (refl, refl)), pushes_none was)
 
-pub done_whole : (l : Line) (line now : List ℕ) (old new : Tally) → read_line line ≡ l → (opens : (o : Opening) → l ≡ Opens o → ⊥) → CarriedLine l old.book [] (Ok tt) now new.book
-    → CountsLine l old.book old.count new.count → Done Between line Between old now new
-done_whole (Whole c) line now old new is opens given counts =
-    rw is (refl, rw given.2 (one_answer c old new given.0 (given.1, counts)))
-done_whole (Opens o) line now old new is opens given counts = absurd (opens o refl)
+-- ---- values
 
-pub whole_in_part : (l : Line) (line was now : List ℕ) (old new : Tally) (e : AllocError) → read_line line ≡ l → CarriedLine l old.book was (Err e) now new.book
-    → CountsLine l old.book old.count new.count → DoneInPart Between line old new
-whole_in_part (Whole c) line was now old new e is given counts = (c ∷ [], ([], rw is refl), (given.0, one_answer c old new given.0 (given.1, counts)))
-whole_in_part (Opens o) line was now old new e is given counts = none_in_part Between line old new (same_tally old new given.0 counts)
+pub told_value : (b : Book) (at : ℕ) (name : List ℕ) (v : Shown) (was now : AnswerState) → value_at b at name ≡ Ok v → PushesValue v was now → Carried (Asks (ShowsValue at name)) b was now b
+told_value b at name v was now is (inl p) = (value_answer v, inl (sym (ap (λ r. query_answer (with_text value_answer r)) is), refl), p)
+told_value b at name v was now is (inr p) = (refused_line (codes "OutOfMemory"), inr (ap (λ r. succeeds (with_text value_answer r)) is, refl, refl), p)

@@ -1,13 +1,13 @@
 -- Edits that are carried out.
-use Rattle.std.proofs.Common.{◌≡◌, ℕ, List, ◌++◌, Option, Some, None, Result, Ok, Err, refl, sym, subst, ap, ◌∙◌, inl, inr}
-use Rattle.std.specs.Prelude.{OnOk, is_none}
-use Rattle.std.specs.declared.alloc.AllocError.{AllocError}
+use Rattle.std.proofs.Common.{◌≡◌, ℕ, List, Option, Some, None, Result, Ok, Err, refl, sym, subst, ap, ◌∙◌, inl, inr}
+use Rattle.std.specs.Prelude.{is_none}
 use Rattle.nd_model.specs.Book.Book.{Book, Edit, edited}
 use Rattle.nd_model.specs.Book.Book as model
 use Rattle.nd_model.specs.Book.Stale.{CountsStale}
 use Rattle.nd_model.specs.Book.Notebook.{Sheet, Answers, CountsRuns, book_of, edited_sheet}
 use Rattle.nd_model.specs.Book.Script.{Edits, Answer, edit_answer}
 use Rattle.nd_model.proofs.EditBooks.{edits_book}
+use Rattle.nd_script.specs.Lines.Answers.{AnswerState, Pushes}
 use Rattle.nd_script.specs.Lines.Counts.{CountsCommand, CountsUnlessRefused}
 use Rattle.nd_notebook.specs.declared.edit.EditFault.{EditFault}
 use Rattle.nd_notebook.specs.declared.edit.EditFault.TheVariants as edits
@@ -26,9 +26,9 @@ answered e old new (Err edits.InputTooLarge) h = inl (ap edit_answer (sym h.0), 
 answered e old new (Err edits.NoInputNamed) h = inl (ap edit_answer (sym h.0), rw h.0 (ap book_of h.1))
 answered e old new (Err edits.OutOfMemory) h = inr (ap is_none h.0, refl, ap book_of h.1)
 
-pub carried_edit : (e : Edit) (old new : Sheet) (r : Result (Unit {0}) EditFault) (was now : List ℕ) (pushed : Result (Unit {0}) AllocError)
-    → Answers e old (outcome_of e r) new → OnOk pushed (now ≡ was ++ edit_answer_of (name_in e) r) → Carried (Edits e) (book_of old) was pushed now (book_of new)
-carried_edit e old new r was now pushed h grown = (edit_answer_of (name_in e) r, answered e old new r h, grown)
+pub carried_edit : (e : Edit) (old new : Sheet) (r : Result (Unit {0}) EditFault) (was now : AnswerState)
+    → Answers e old (outcome_of e r) new → Pushes was (edit_answer_of (name_in e) r) now → Carried (Edits e) (book_of old) was now (book_of new)
+carried_edit e old new r was now h pushed = (edit_answer_of (name_in e) r, answered e old new r h, pushed)
 
 -- ---- what they count
 

@@ -1,6 +1,7 @@
+pub mod Arrays
+pub mod Beginnings
 pub mod Carried
+pub mod Edited
 pub mod Lines
 pub mod Openings
-pub mod Pieces
-pub mod Edited
-pub mod Beginnings
+pub mod Shown

@@ -2,3 +2,4 @@ pub mod Answer
 pub mod Carry
 pub mod Run
 pub mod Source
+pub mod Value

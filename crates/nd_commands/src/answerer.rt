@@ -6,7 +6,7 @@ ghost use Rattle.nd_commands.specs.Source.{stage_of};
 use crate::line::answer_line;
 use crate::source::OpenText;
 use nd_notebook::{Meter, Notebook};
-use nd_script::lines::Answerer;
+use nd_script::lines::{AnswerWrite, Answerer};
 use nd_script::words::push_text;
 use std::alloc::{AllocError, Global};
 
@@ -18,6 +18,8 @@ pub struct NotebookAnswerer<'a> {
     pub notebook: &'a mut Notebook,
     /// The source that is open, if any.
     pub source: &'a mut Option<OpenText>,
+    /// Room for the next source.
+    pub room: &'a mut Vec<u8>,
 }
 
 impl Answerer for NotebookAnswerer<'_> {
@@ -29,16 +31,23 @@ impl Answerer for NotebookAnswerer<'_> {
 
     ghost meter_reference = { λ s. s.meter.ghost_name };
 
-    fn answer_line(&mut self, line: &[u8], answer: &mut Vec<u8>) -> Result<(), AllocError> {
+    fn answer_line<O: AnswerWrite>(&mut self, line: &[u8], out: &mut O) -> Result<(), AllocError> {
         let source = self.source.take();
-        *self.source = answer_line(self.alloc, source, line, answer, self.meter, self.notebook)?;
+        *self.source = answer_line(
+            self.alloc,
+            source,
+            self.room,
+            line,
+            out,
+            self.meter,
+            self.notebook,
+        )?;
         Ok(())
     }
 
-    fn answer_end(&self, answer: &mut Vec<u8>) -> Result<(), AllocError> {
+    fn answer_end<O: AnswerWrite>(&self, out: &mut O) {
         if self.source.is_some() {
-            push_text(answer, "bad command\n")?;
+            push_text(out, "bad command\n");
         }
-        Ok(())
     }
 }

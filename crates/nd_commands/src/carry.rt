@@ -1,6 +1,6 @@
 //! `insert_cell` and the others: commands, carried out and answered.
 
-ghost use Rattle.std.specs.Prelude.{◌≡◌, ◌++◌, OnOk, codes, length};
+ghost use Rattle.std.specs.Prelude.{◌≡◌, codes, length};
 ghost use Rattle.nd_model.specs.Book.Book.{Insert, Change, Move, Remove, SetInput, DropInput};
 ghost use Rattle.nd_model.specs.Book.Script as script;
 ghost use Rattle.nd_model.specs.Book.Notebook.{book_of};
@@ -12,114 +12,115 @@ use crate::answer::{
     push_edit_answer, push_names_answer, push_query_refusal, push_result_answer, push_save_answer,
     push_source_answer,
 };
-use crate::value::push_value_answer;
+use crate::value::push_value;
 use nd_notebook::{Input, Meter, Notebook};
-use std::alloc::AllocError;
+use nd_script::lines::AnswerWrite;
+use std::alloc::Global;
 
 /// Inserts a cell.
-pub fn insert_cell(
-    out: &mut Vec<u8>,
+pub fn insert_cell<O: AnswerWrite>(
+    out: &mut O,
     meter: &mut Meter,
     notebook: &mut Notebook,
     at: usize,
     source: &str,
-) -> Result<(), AllocError>
+)
     ensures carried { Carried (script.Edits (Insert at source.now)) (book_of notebook.old)
-        out.old.items result out.new.items (book_of notebook.new) }
+        (O.state out.old) (O.state out.new) (book_of notebook.new) }
     ensures counts { CountsCommand (script.Edits (Insert at source.now))
         (book_of notebook.old) meter.old meter.new }
 {
     let done = notebook.insert(meter, at, source);
-    push_edit_answer(out, "", &done)
+    push_edit_answer(out, "", &done);
 }
 
 /// Replaces a cell's source.
-pub fn edit_cell(
-    out: &mut Vec<u8>,
+pub fn edit_cell<O: AnswerWrite>(
+    out: &mut O,
     meter: &mut Meter,
     notebook: &mut Notebook,
     at: usize,
     source: &str,
-) -> Result<(), AllocError>
+)
     ensures carried { Carried (script.Edits (Change at source.now)) (book_of notebook.old)
-        out.old.items result out.new.items (book_of notebook.new) }
+        (O.state out.old) (O.state out.new) (book_of notebook.new) }
     ensures counts { CountsCommand (script.Edits (Change at source.now))
         (book_of notebook.old) meter.old meter.new }
 {
     let done = notebook.edit(meter, at, source);
-    push_edit_answer(out, "", &done)
+    push_edit_answer(out, "", &done);
 }
 
 /// Moves a cell.
-pub fn move_cell(
-    out: &mut Vec<u8>,
+pub fn move_cell<O: AnswerWrite>(
+    out: &mut O,
     meter: &mut Meter,
     notebook: &mut Notebook,
     from: usize,
     to: usize,
-) -> Result<(), AllocError>
+)
     ensures carried { Carried (script.Edits (Move from to)) (book_of notebook.old)
-        out.old.items result out.new.items (book_of notebook.new) }
+        (O.state out.old) (O.state out.new) (book_of notebook.new) }
     ensures counts { CountsCommand (script.Edits (Move from to))
         (book_of notebook.old) meter.old meter.new }
 {
     let done = notebook.move_cell(meter, from, to);
-    push_edit_answer(out, "", &done)
+    push_edit_answer(out, "", &done);
 }
 
 /// Removes a cell.
-pub fn remove_cell(
-    out: &mut Vec<u8>,
+pub fn remove_cell<O: AnswerWrite>(
+    out: &mut O,
     meter: &mut Meter,
     notebook: &mut Notebook,
     at: usize,
-) -> Result<(), AllocError>
+)
     ensures carried { Carried (script.Edits (Remove at)) (book_of notebook.old)
-        out.old.items result out.new.items (book_of notebook.new) }
+        (O.state out.old) (O.state out.new) (book_of notebook.new) }
     ensures counts { CountsCommand (script.Edits (Remove at))
         (book_of notebook.old) meter.old meter.new }
 {
     let done = notebook.remove(meter, at);
-    push_edit_answer(out, "", &done)
+    push_edit_answer(out, "", &done);
 }
 
 /// Sets an input, which the notebook keeps.
-pub fn set_input(
-    out: &mut Vec<u8>,
+pub fn set_input<O: AnswerWrite>(
+    out: &mut O,
     meter: &mut Meter,
     notebook: &mut Notebook,
     name: &str,
     input: Input,
-) -> Result<(), AllocError>
+)
     ensures carried { Carried (script.Edits (SetInput name.now (source_of input)))
-        (book_of notebook.old) out.old.items result out.new.items (book_of notebook.new) }
+        (book_of notebook.old) (O.state out.old) (O.state out.new) (book_of notebook.new) }
     ensures counts { CountsCommand (script.Edits (SetInput name.now (source_of input)))
         (book_of notebook.old) meter.old meter.new }
 {
     let done = notebook.set_input(meter, name, input);
-    push_edit_answer(out, name, &done)
+    push_edit_answer(out, name, &done);
 }
 
 /// Drops an input.
-pub fn drop_input(
-    out: &mut Vec<u8>,
+pub fn drop_input<O: AnswerWrite>(
+    out: &mut O,
     meter: &mut Meter,
     notebook: &mut Notebook,
     name: &str,
-) -> Result<(), AllocError>
+)
     ensures carried { Carried (script.Edits (DropInput name.now)) (book_of notebook.old)
-        out.old.items result out.new.items (book_of notebook.new) }
+        (O.state out.old) (O.state out.new) (book_of notebook.new) }
     ensures counts { CountsCommand (script.Edits (DropInput name.now))
         (book_of notebook.old) meter.old meter.new }
 {
     let done = notebook.drop_input(meter, name);
-    push_edit_answer(out, name, &done)
+    push_edit_answer(out, name, &done);
 }
 
 /// Shows what a cell gives.
-pub fn show_result(out: &mut Vec<u8>, notebook: &Notebook, at: usize) -> Result<(), AllocError>
+pub fn show_result<O: AnswerWrite>(out: &mut O, notebook: &Notebook, at: usize)
     ensures { Carried (script.Asks (script.Shows at)) (book_of notebook.now)
-        out.old.items result out.new.items (book_of notebook.now) }
+        (O.state out.old) (O.state out.new) (book_of notebook.now) }
 {
     match notebook.result(at) {
         Ok(shown) => push_result_answer(out, shown),
@@ -128,9 +129,9 @@ pub fn show_result(out: &mut Vec<u8>, notebook: &Notebook, at: usize) -> Result<
 }
 
 /// Shows a cell's source.
-pub fn show_source(out: &mut Vec<u8>, notebook: &Notebook, at: usize) -> Result<(), AllocError>
+pub fn show_source<O: AnswerWrite>(out: &mut O, notebook: &Notebook, at: usize)
     ensures { Carried (script.Asks (script.ShowsSource at)) (book_of notebook.now)
-        out.old.items result out.new.items (book_of notebook.now) }
+        (O.state out.old) (O.state out.new) (book_of notebook.now) }
 {
     match notebook.source(at) {
         Ok(source) => push_source_answer(out, source),
@@ -139,9 +140,9 @@ pub fn show_source(out: &mut Vec<u8>, notebook: &Notebook, at: usize) -> Result<
 }
 
 /// Shows the names that are bound after a cell.
-pub fn show_names(out: &mut Vec<u8>, notebook: &Notebook, at: usize) -> Result<(), AllocError>
+pub fn show_names<O: AnswerWrite>(out: &mut O, notebook: &Notebook, at: usize)
     ensures { Carried (script.Asks (script.ShowsNames at)) (book_of notebook.now)
-        out.old.items result out.new.items (book_of notebook.now) }
+        (O.state out.old) (O.state out.new) (book_of notebook.now) }
 {
     match notebook.names(at) {
         Ok(names) => push_names_answer(out, &names),
@@ -149,31 +150,27 @@ pub fn show_names(out: &mut Vec<u8>, notebook: &Notebook, at: usize) -> Result<(
     }
 }
 
-/// Shows a name's value after a cell.
-pub fn show_value(
-    out: &mut Vec<u8>,
+/// Shows a name's value after a cell. Memory is taken for the text of its dtype and for an element.
+pub fn show_value<O: AnswerWrite>(
+    alloc: Global,
+    out: &mut O,
     notebook: &Notebook,
     at: usize,
     name: &str,
-) -> Result<(), AllocError>
+)
     ensures { Carried (script.Asks (script.ShowsValue at name.now)) (book_of notebook.now)
-        out.old.items result out.new.items (book_of notebook.now) }
+        (O.state out.old) (O.state out.new) (book_of notebook.now) }
 {
     match notebook.value(at, name) {
-        Ok(value) => push_value_answer(out, &value),
+        Ok(value) => push_value(alloc, out, &value),
         Err(fault) => push_query_refusal(out, name, fault),
     }
 }
 
 /// Shows a file that a cell saved.
-pub fn show_save(
-    out: &mut Vec<u8>,
-    notebook: &Notebook,
-    at: usize,
-    name: &str,
-) -> Result<(), AllocError>
+pub fn show_save<O: AnswerWrite>(out: &mut O, notebook: &Notebook, at: usize, name: &str)
     ensures { Carried (script.Asks (script.ShowsSave at name.now)) (book_of notebook.now)
-        out.old.items result out.new.items (book_of notebook.now) }
+        (O.state out.old) (O.state out.new) (book_of notebook.now) }
 {
     match notebook.file(at, name) {
         Ok(file) => push_save_answer(out, file),

@@ -4,6 +4,7 @@
 mod answer;
 mod answerer;
 mod carry;
+mod elements;
 mod fault;
 mod input;
 mod line;

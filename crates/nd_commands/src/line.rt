@@ -5,7 +5,7 @@ ghost use Rattle.nd_model.specs.Book.Script as script;
 ghost use Rattle.nd_model.specs.Book.Notebook.{book_of};
 ghost use Rattle.nd_script.specs.Words.Command.{line_of};
 ghost use Rattle.nd_script.specs.Lines.Counts.{CountsCommand};
-ghost use Rattle.nd_script.specs.Lines.Run.{Done, DoneInPart};
+ghost use Rattle.nd_script.specs.Lines.Run.{Answered};
 ghost use Rattle.nd_model.specs.Book.ScriptRuns.{IsInLine};
 ghost use Rattle.nd_commands.specs.Carry.{Carried, CarriedLine, CountsLine};
 ghost use Rattle.nd_commands.specs.Run.{tally_of};
@@ -18,132 +18,150 @@ use crate::carry::{
 use crate::input::input_of_line;
 use crate::source::{OpenText, Opening};
 use nd_notebook::{Meter, Notebook};
+use nd_script::lines::AnswerWrite;
 use nd_script::words::{LineCommand, command_of, is_end_of_source, push_count_line, push_text};
 use std::alloc::{AllocError, Global};
+use std::mem;
 
 /// Carries a line out, and appends its answer. The source that is open behind the line is returned.
-pub fn answer_line(
+/// Memory may be wanted for an input, or for a source that the room does not hold: then nothing is
+/// carried out.
+pub fn answer_line<O: AnswerWrite>(
     alloc: Global,
     source: Option<OpenText>,
+    room: &mut Vec<u8>,
     line: &[u8],
-    answer: &mut Vec<u8>,
+    out: &mut O,
     meter: &mut Meter,
     notebook: &mut Notebook,
 ) -> Result<Option<OpenText>, AllocError>
-    requires inside { IsInLine line.now }
-    requires empty { answer.old.items ≡ [] }
-    ensures done { IfOk result (λ t. Done (stage_of source) line.now (stage_of t)
-        (tally_of notebook.old meter.old) answer.new.items (tally_of notebook.new meter.new)) }
-    ensures part { OnErr result (DoneInPart (stage_of source) line.now
-        (tally_of notebook.old meter.old) (tally_of notebook.new meter.new)) }
+    requires { IsInLine line.now }
+    ensures done { IfOk result (λ t. Answered (stage_of source) line.now (stage_of t)
+        (tally_of notebook.old meter.old) (O.state out.old) (O.state out.new)
+        (tally_of notebook.new meter.new)) }
+    ensures unread { OnErr result (tally_of notebook.new meter.new
+        ≡ tally_of notebook.old meter.old) }
+    ensures unwritten { OnErr result (O.state out.new ≡ O.state out.old) }
 {
     match source {
-        None => answer_command(alloc, line, answer, meter, notebook),
-        Some(source) => continue_source(alloc, source, line, answer, meter, notebook),
+        None => answer_command(alloc, room, line, out, meter, notebook),
+        Some(source) => continue_source(source, room, line, out, meter, notebook),
     }
 }
 
 // A line of a source, or its end.
-fn continue_source(
-    alloc: Global,
+fn continue_source<O: AnswerWrite>(
     source: OpenText,
+    room: &mut Vec<u8>,
     line: &[u8],
-    answer: &mut Vec<u8>,
+    out: &mut O,
     meter: &mut Meter,
     notebook: &mut Notebook,
 ) -> Result<Option<OpenText>, AllocError>
-    requires inside { IsInLine line.now }
-    requires empty { answer.old.items ≡ [] }
-    ensures done { IfOk result (λ t. Done
+    requires { IsInLine line.now }
+    ensures done { IfOk result (λ t. Answered
         (script.Within (opening_of source.opening) (lines_so_far source)) line.now (stage_of t)
-        (tally_of notebook.old meter.old) answer.new.items (tally_of notebook.new meter.new)) }
-    ensures part { OnErr result (DoneInPart
-        (script.Within (opening_of source.opening) (lines_so_far source)) line.now
-        (tally_of notebook.old meter.old) (tally_of notebook.new meter.new)) }
+        (tally_of notebook.old meter.old) (O.state out.old) (O.state out.new)
+        (tally_of notebook.new meter.new)) }
+    ensures unread { OnErr result (tally_of notebook.new meter.new
+        ≡ tally_of notebook.old meter.old) }
+    ensures unwritten { OnErr result (O.state out.new ≡ O.state out.old) }
 {
     if is_end_of_source(line) {
-        close_source(&source, answer, meter, notebook)?;
+        close_source(&source, out, meter, notebook);
+        *room = source.text;
         Ok(None)
     } else {
-        let source = source.with_line(alloc, line)?;
+        let source = source.with_line(line)?;
         Ok(Some(source))
     }
 }
 
 // Carries out the edit of a whole source.
-fn close_source(
+fn close_source<O: AnswerWrite>(
     source: &OpenText,
-    answer: &mut Vec<u8>,
+    out: &mut O,
     meter: &mut Meter,
     notebook: &mut Notebook,
-) -> Result<(), AllocError>
+)
     ensures carried { Carried
         (script.closed (opening_of source.now.opening) (lines_so_far source.now))
-        (book_of notebook.old) answer.old.items result answer.new.items (book_of notebook.new) }
+        (book_of notebook.old) (O.state out.old) (O.state out.new) (book_of notebook.new) }
     ensures counts { CountsCommand
         (script.closed (opening_of source.now.opening) (lines_so_far source.now))
         (book_of notebook.old) meter.old meter.new }
 {
     match str::from_utf8(source.bytes()) {
         Ok(text) => match source.opening {
-            Opening::Insert(at) => insert_cell(answer, meter, notebook, at, text),
-            Opening::Edit(at) => edit_cell(answer, meter, notebook, at, text),
+            Opening::Insert(at) => insert_cell(out, meter, notebook, at, text),
+            Opening::Edit(at) => edit_cell(out, meter, notebook, at, text),
         },
-        Err(_) => push_text(answer, "bad command\n"),
+        Err(_) => push_text(out, "bad command\n"),
     }
 }
 
 // A line outside a source.
-fn answer_command(
+fn answer_command<O: AnswerWrite>(
     alloc: Global,
+    room: &mut Vec<u8>,
     line: &[u8],
-    answer: &mut Vec<u8>,
+    out: &mut O,
     meter: &mut Meter,
     notebook: &mut Notebook,
 ) -> Result<Option<OpenText>, AllocError>
-    requires { answer.old.items ≡ [] }
-    ensures done { IfOk result (λ t. Done script.Between line.now (stage_of t)
-        (tally_of notebook.old meter.old) answer.new.items (tally_of notebook.new meter.new)) }
-    ensures part { OnErr result (DoneInPart script.Between line.now
-        (tally_of notebook.old meter.old) (tally_of notebook.new meter.new)) }
+    ensures done { IfOk result (λ t. Answered script.Between line.now (stage_of t)
+        (tally_of notebook.old meter.old) (O.state out.old) (O.state out.new)
+        (tally_of notebook.new meter.new)) }
+    ensures unread { OnErr result (tally_of notebook.new meter.new
+        ≡ tally_of notebook.old meter.old) }
+    ensures unwritten { OnErr result (O.state out.new ≡ O.state out.old) }
 {
     let command = command_of(alloc, line)?;
     match command {
-        LineCommand::Insert(at) => Ok(Some(OpenText::new(Opening::Insert(at)))),
-        LineCommand::Edit(at) => Ok(Some(OpenText::new(Opening::Edit(at)))),
+        LineCommand::Insert(at) => Ok(Some(open_source(alloc, room, Opening::Insert(at)))),
+        LineCommand::Edit(at) => Ok(Some(open_source(alloc, room, Opening::Edit(at)))),
         _ => {
-            answer_whole(command, answer, meter, notebook)?;
+            answer_whole(alloc, command, out, meter, notebook);
             Ok(None)
         }
     }
 }
 
+// A source without lines, for which the room is taken.
+fn open_source(alloc: Global, room: &mut Vec<u8>, opening: Opening) -> OpenText
+    ensures opening { result.opening ≡ opening }
+    ensures lines { lines_so_far result ≡ [] }
+{
+    OpenText::new(opening, mem::replace(room, Vec::new(alloc)))
+}
+
 // Carries out a command of one line. One that opens a source has no answer yet.
-fn answer_whole(
+fn answer_whole<O: AnswerWrite>(
+    alloc: Global,
     command: LineCommand<'_>,
-    answer: &mut Vec<u8>,
+    out: &mut O,
     meter: &mut Meter,
     notebook: &mut Notebook,
-) -> Result<(), AllocError>
+)
     ensures carried { CarriedLine (line_of command.entry) (book_of notebook.old)
-        answer.old.items result answer.new.items (book_of notebook.new) }
+        (O.state out.old) (O.state out.new) (book_of notebook.new) }
     ensures counts { CountsLine (line_of command.entry) (book_of notebook.old)
         meter.old meter.new }
 {
     match command {
-        LineCommand::Remove(at) => remove_cell(answer, meter, notebook, at),
-        LineCommand::Move { from, to } => move_cell(answer, meter, notebook, from, to),
-        LineCommand::Show(at) => show_result(answer, notebook, at),
-        LineCommand::Source(at) => show_source(answer, notebook, at),
-        LineCommand::Names(at) => show_names(answer, notebook, at),
-        LineCommand::Value { at, name } => show_value(answer, notebook, at, name),
-        LineCommand::Saved { at, name } => show_save(answer, notebook, at, name),
+        LineCommand::Remove(at) => remove_cell(out, meter, notebook, at),
+        LineCommand::Move { from, to } => move_cell(out, meter, notebook, from, to),
+        LineCommand::Show(at) => show_result(out, notebook, at),
+        LineCommand::Source(at) => show_source(out, notebook, at),
+        LineCommand::Names(at) => show_names(out, notebook, at),
+        LineCommand::Value { at, name } => show_value(alloc, out, notebook, at, name),
+        LineCommand::Saved { at, name } => show_save(out, notebook, at, name),
         LineCommand::SetInput { name, input } => {
-            set_input(answer, meter, notebook, name, input_of_line(input))
+            set_input(out, meter, notebook, name, input_of_line(input))
         }
-        LineCommand::DropInput(name) => drop_input(answer, meter, notebook, name),
-        LineCommand::Count => push_count_line(answer, "count", notebook.count()),
-        LineCommand::Bad => push_text(answer, "bad command\n"),
-        LineCommand::Insert(_) | LineCommand::Edit(_) | LineCommand::Silent => Ok(()),
+        LineCommand::DropInput(name) => drop_input(out, meter, notebook, name),
+        LineCommand::Count => push_count_line(out, "count", notebook.count()),
+        LineCommand::Bad => push_text(out, "bad command\n"),
+        LineCommand::Insert(_) | LineCommand::Edit(_) | LineCommand::Silent => {}
     }
 }

@@ -13,11 +13,17 @@ use nd_notebook::{Meter, Notebook};
 use nd_script::lines::{CountedRead, CountedWrite, RunFault, run_lines};
 use std::alloc::Global;
 
+// The most bytes of a cell's text.
+const MOST_SOURCE: usize = 65_536;
+
 // The most reads of a run.
 const MOST_TURNS: u64 = 1 << 32;
 
 /// Runs a script on a notebook. Each command's answer is written before the next one is carried
 /// out, and the meter counts each run of a cell. At a fault the commands so far stand.
+///
+/// Want of memory stops a run only where a line is read, after whole answers. Where an answer itself
+/// wants memory, as that to an edit may, it is `refused OutOfMemory`.
 ///
 /// The script
 ///
@@ -106,6 +112,11 @@ pub fn run_script<R: CountedRead, W: CountedWrite>(
     run(alloc, reader, writer, meter, &mut notebook)
 }
 
+// Room for a source of any length that a cell may have. Without memory for it there is none yet.
+fn room_for_sources(alloc: Global) -> Vec<u8> {
+    Vec::with_capacity(alloc, MOST_SOURCE).unwrap_or(Vec::new(alloc))
+}
+
 /// Runs a script by at most `turns` reads.
 pub fn run_turns<R: CountedRead, W: CountedWrite>(
     alloc: Global,
@@ -139,11 +150,13 @@ pub fn run_turns<R: CountedRead, W: CountedWrite>(
     ensures writer_kept { OnOk result (W.failures writer.new ≡ W.failures writer.old) }
 {
     let mut source = None;
+    let mut room = room_for_sources(alloc);
     let mut answerer = NotebookAnswerer {
         alloc,
         meter,
         notebook,
         source: &mut source,
+        room: &mut room,
     };
     run_lines(alloc, reader, writer, &mut answerer, turns)
 }

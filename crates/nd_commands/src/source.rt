@@ -1,10 +1,10 @@
 //! `OpenText`: the text of a cell, collected from the lines of an edit.
 
-ghost use Rattle.std.specs.Prelude.{◌≡◌, [], ◌∷◌, ◌++◌, All, ◌≢◌, IfOk, IfErr};
+ghost use Rattle.std.specs.Prelude.{◌≡◌, [], ◌∷◌, ◌++◌, All, ◌≢◌, IfOk};
 ghost use Rattle.nd_model.specs.Book.Script.{source_of};
 ghost use Rattle.nd_commands.specs.Source.{lines_so_far, opening_of};
 
-use std::alloc::{AllocError, Global};
+use std::alloc::AllocError;
 
 /// The edit that a source is for, with its position.
 #[derive(Clone, Copy)]
@@ -18,38 +18,46 @@ pub enum Opening {
 pub struct OpenText {
     pub opening: Opening,
     /// The lines, separated by newlines.
-    pub text: Option<Vec<u8>>,
+    pub text: Vec<u8>,
+    /// Whether any line has come. Before the first one the text is without meaning.
+    pub has_lines: bool,
 }
 
 impl OpenText {
-    /// Returns a source without lines.
-    pub fn new(opening: Opening) -> OpenText
-        ensures { result ≡ record { opening = opening; text = None } }
+    /// Returns a source without lines. They will be kept in `room`, as far as it goes without more
+    /// memory.
+    pub fn new(opening: Opening, room: Vec<u8>) -> OpenText
+        ensures opening { result.opening ≡ opening }
+        ensures lines { lines_so_far result ≡ [] }
     {
         OpenText {
             opening,
-            text: None,
+            text: room,
+            has_lines: false,
         }
     }
 
     /// Adds a line.
-    pub fn with_line(self, alloc: Global, line: &[u8]) -> Result<OpenText, AllocError>
+    pub fn with_line(self, line: &[u8]) -> Result<OpenText, AllocError>
         requires { All (λ c. c ≢ 10) line.now }
         ensures lines { IfOk result (λ s. lines_so_far s ≡ lines_so_far self ++ line.now ∷ []) }
         ensures opening { IfOk result (λ s. s.opening ≡ self.opening) }
     {
-        let OpenText { opening, text } = self;
-        let text = match text {
-            None => Vec::from_slice(alloc, line)?,
-            Some(mut text) => {
-                text.push(b'\n')?;
-                text.extend_from_slice(line)?;
-                text
-            }
-        };
+        let OpenText {
+            opening,
+            mut text,
+            has_lines,
+        } = self;
+        if has_lines {
+            text.push(b'\n')?;
+        } else {
+            text.clear();
+        }
+        text.extend_from_slice(line)?;
         Ok(OpenText {
             opening,
-            text: Some(text),
+            text,
+            has_lines: true,
         })
     }
 
@@ -57,9 +65,10 @@ impl OpenText {
     pub fn bytes(&self) -> &[u8]
         ensures { result.now ≡ source_of (lines_so_far self.now) }
     {
-        match &self.text {
-            None => &[],
-            Some(text) => text.as_slice(),
+        if self.has_lines {
+            self.text.as_slice()
+        } else {
+            &[]
         }
     }
 }

@@ -1,5 +1,5 @@
 -- Edits answered one after another.
-use Rattle.std.proofs.Common.{◌≡◌, ℕ, zero, suc, ◌+◌, ◌<◌, List, [], ◌∷◌, ◌++◌, length, map, drop, get_or, Result, Ok, Err, refl, sym, ap, ap₂, subst, ◌∙◌, add-one, drop-cons, append_assoc, append-nil, ◌≤◌, arith}
+use Rattle.std.proofs.Common.{◌≡◌, ℕ, zero, suc, ◌+◌, ◌<◌, List, [], ◌∷◌, ◌++◌, length, map, drop, get_or, Result, refl, sym, ap, ap₂, subst, ◌∙◌, add-one, drop-cons, append_assoc, append-nil, ◌≤◌, arith}
 use Rattle.std.proofs.lemmas.List.{drop_all}
 use Rattle.nd_model.specs.Book.Book as model
 use Rattle.nd_notebook.specs.declared.edit.Edit.{Edit}

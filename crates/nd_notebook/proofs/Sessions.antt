@@ -1,10 +1,10 @@
 -- Sessions once blocks that no bound value lies in are given up.
 use Rattle.std.proofs.Common.{◌≡◌, ℕ, sym, ap, ◌∙◌}
 use mathlib.Core.Path.{fun_ext}
-use Rattle.nd_model.specs.Cells.Session.{Session, collected, held_bytes}
+use Rattle.nd_model.specs.Cells.Session.{Session, collected}
 use Rattle.nd_model.specs.Cells.Running.{Inputs, Running, session_of}
 use Rattle.nd_model.specs.Grammar.Syntax.{Parsed}
-use Rattle.nd_model.specs.Cells.Cell.{Ended, cell, session_after}
+use Rattle.nd_model.specs.Cells.Cell.{cell, session_after}
 use Rattle.nd_model.specs.Cells.Footprint.{HasNone}
 use Rattle.nd_model.specs.Book.Records.{Record, record_of}
 use Rattle.nd_model.proofs.Collected.{cell-collected, held_twice, record_of-collected}

@@ -15,4 +15,4 @@ pub use nd_cell::{
 pub use nd_session::session::{Input, OutOfMemory};
 pub use nd_types::{Elem, ElemType, Field, Kind, RecType};
 pub use notebook::Notebook;
-pub use query::{QueryFault, Shown};
+pub use query::{BoundValue, QueryFault, Shown, ShownElements};

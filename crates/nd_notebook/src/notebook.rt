@@ -8,7 +8,7 @@ ghost use Rattle.nd_notebook.specs.Edits.{IsRefusalOf, outcome_of};
 
 use crate::edit::{Edit, EditFault};
 use crate::kernel::SessionRunner;
-use crate::query::{QueryFault, Shown, names_of, what_shows};
+use crate::query::{BoundValue, QueryFault, names_of};
 use indexmap::IndexMap;
 use nd_cell::{CellResult, Meter};
 use nd_schedule::schedule::Schedule;
@@ -211,7 +211,7 @@ impl Notebook {
     ghost use Rattle.nd_model.specs.Book.Entries.{session_before};
     ghost use Rattle.nd_model.specs.Book.Notebook.{book_of, Tells};
     ghost use Rattle.nd_session.specs.Session.Kept.{version_of};
-    ghost use Rattle.nd_notebook.specs.Queries.{answer_of, result_of, shown_of};
+    ghost use Rattle.nd_notebook.specs.Queries.{answer_of, bound_of, result_of};
 
     /// Returns the text of the cell at a position. Refused where no cell has it (`NoCell`). It
     /// takes no memory.
@@ -276,12 +276,13 @@ impl Notebook {
         Ok(names_of(self.alloc, &version)?)
     }
 
-    /// Returns the value of a name after the cell at a position, as it is shown. After
-    /// `x = np.arange(3)`, `x` is an array of shape (3,) and `<i8`, with 24 bytes.
+    /// Returns the value of a name after the cell at a position. After `x = np.arange(3)`, `x` is
+    /// an array of shape (3,) and `<i8`, with 24 bytes.
     ///
-    /// Refused in this order: no such cell (`NoCell`), no such name (`NoName`), want of memory.
-    pub fn value(&self, at: usize, name: &str) -> Result<Shown, QueryFault>
-        ensures { Tells (answer_of name.now shown_of result)
+    /// Refused in this order: no such cell (`NoCell`), no such name (`NoName`), want of memory. No
+    /// byte of an array is copied.
+    pub fn value(&self, at: usize, name: &str) -> Result<BoundValue, QueryFault>
+        ensures { Tells (answer_of name.now bound_of result)
             (model.value_at (book_of self.now) at name.now) }
     {
         let count = self.schedule.count();
@@ -292,10 +293,11 @@ impl Notebook {
             return Err(QueryFault::NoName);
         }
         let version = self.version_before(at + 1)?;
-        match version.peek(name) {
-            Some(value) => Ok(what_shows(self.alloc, &version, value)?),
-            None => Err(QueryFault::NoName),
-        }
+        let value = match version.peek(name) {
+            Some(value) => value.try_clone()?,
+            None => return Err(QueryFault::NoName),
+        };
+        Ok(BoundValue { version, value })
     }
 }
 

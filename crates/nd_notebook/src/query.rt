@@ -1,15 +1,13 @@
-//! `Shown`: the answers to queries for names and values.
+//! `BoundValue`: the answers to queries for names and values.
 
 ghost use Rattle.std.specs.Prelude.{◌≡◌, IfOk, map, string_bytes};
-ghost use Rattle.nd_model.specs.Book.Renaming as model;
-ghost use Rattle.nd_heap.specs.Values.{value_of};
 ghost use Rattle.nd_session.specs.Session.Kept.{version_of};
-ghost use Rattle.nd_notebook.specs.Queries.{shown_of};
+ghost use Rattle.nd_notebook.specs.Queries.{bound_of, shown_of};
 ghost use Rattle.nd_notebook.specs.declared.query.QueryFault.TheVariants as faults;
 
-use nd_element::canonical_bytes;
 use nd_session::session::{OutOfMemory, Value, Version};
-use nd_types::{ElemType, Kind, Num};
+use nd_types::{Kind, Num};
+use nd_view::View;
 use std::alloc::{AllocError, Global};
 
 /// Why a query is refused.
@@ -25,22 +23,50 @@ pub enum QueryFault {
     OutOfMemory,
 }
 
-/// A value as it is shown. The elements of an array or a row are given by their bytes in C order,
-/// in its own dtype.
-#[derive(Drop)]
-pub enum Shown {
+/// The elements of an array or a row: a view, and the bytes of its block. They are shown in C
+/// order, in their own dtype, with Booleans 0 or 1 and pad bytes 0.
+#[derive(Clone, Copy)]
+pub struct ShownElements<'a> {
+    pub view: &'a View,
+    pub block: &'a [u8],
+}
+
+/// A value as it is shown.
+#[derive(Clone, Copy)]
+pub enum Shown<'a> {
     Int(i128),
     Bool(bool),
     Scalar(Kind, i128),
-    Array {
-        elem: ElemType,
-        shape: Vec<u64>,
-        bytes: Vec<u8>,
-    },
-    Row {
-        elem: ElemType,
-        bytes: Vec<u8>,
-    },
+    Array(ShownElements<'a>),
+    Row(ShownElements<'a>),
+}
+
+/// A value that is bound after a cell, in a snapshot of its own. No byte of a block is copied.
+#[derive(Drop)]
+pub struct BoundValue {
+    pub(crate) version: Version,
+    pub(crate) value: Value,
+}
+
+impl BoundValue {
+    /// Returns the value as it is shown. It takes no memory.
+    pub fn shown(&self) -> Shown<'_>
+        ensures { shown_of result ≡ bound_of self.now }
+    {
+        match &self.value {
+            Value::Number(Num::Int(n)) => Shown::Int(*n),
+            Value::Number(Num::Bool(b)) => Shown::Bool(*b),
+            Value::Number(Num::Scalar(kind, n)) => Shown::Scalar(*kind, *n),
+            Value::Array(array) => Shown::Array(ShownElements {
+                view: &array.view,
+                block: self.version.bytes(array.base),
+            }),
+            Value::Row(row) => Shown::Row(ShownElements {
+                view: &row.view,
+                block: self.version.bytes(row.base),
+            }),
+        }
+    }
 }
 
 impl From<OutOfMemory> for QueryFault {
@@ -71,27 +97,4 @@ pub fn names_of(alloc: Global, version: &Version) -> Result<Vec<String>, OutOfMe
         }
     }
     Ok(names)
-}
-
-/// Returns a value as it is shown.
-pub fn what_shows(alloc: Global, version: &Version, value: &Value) -> Result<Shown, OutOfMemory>
-    ensures { IfOk result (λ s. shown_of s ≡ model.shown (version_of version.now)
-        (value_of value.now)) }
-{
-    match value {
-        Value::Number(Num::Int(n)) => Ok(Shown::Int(*n)),
-        Value::Number(Num::Bool(b)) => Ok(Shown::Bool(*b)),
-        Value::Number(Num::Scalar(kind, n)) => Ok(Shown::Scalar(*kind, *n)),
-        Value::Array(array) => {
-            let elem = array.view.elem().try_clone()?;
-            let shape = Vec::from_slice(alloc, array.view.shape())?;
-            let bytes = canonical_bytes(alloc, &array.view, version.bytes(array.base))?;
-            Ok(Shown::Array { elem, shape, bytes })
-        }
-        Value::Row(row) => {
-            let elem = row.view.elem().try_clone()?;
-            let bytes = canonical_bytes(alloc, &row.view, version.bytes(row.base))?;
-            Ok(Shown::Row { elem, bytes })
-        }
-    }
 }

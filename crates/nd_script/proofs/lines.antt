@@ -1,3 +1,4 @@
+pub mod Answers
 pub mod Chunks
 pub mod Counts
 pub mod Ended

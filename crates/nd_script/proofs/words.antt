@@ -1,4 +1,5 @@
 pub mod Hex
+pub mod Loops
 pub mod Numbers
 pub mod Words
 pub mod HexWords

@@ -1,3 +1,5 @@
+pub mod Answers
 pub mod Counts
 pub mod Ends
 pub mod Run
+pub mod Writers

@@ -1,5 +1,6 @@
 //! The lines of a script, cut from what a reader gives: [`run_lines`] answers each before the next
 //! is read.
+mod answer_writer;
 mod answerer;
 mod input;
 mod output;
@@ -7,6 +8,7 @@ mod run_fault;
 mod runner;
 mod script;
 
+pub use answer_writer::{AnswerWrite, AnswerWriter};
 pub use answerer::Answerer;
 pub use input::{CountedRead, ScriptReader};
 pub use output::{CountedWrite, ScriptWriter};

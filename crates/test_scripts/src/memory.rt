@@ -2,7 +2,7 @@
 //! leaves all as it was, or is done. Run with one allocation refused at a time, this prints the
 //! same whichever that is.
 
-use nd_notebook::{Edit, EditFault, Meter, Notebook, QueryFault, Shown};
+use nd_notebook::{BoundValue, Edit, EditFault, Meter, Notebook, QueryFault, Shown};
 use std::io;
 
 /// A cell as it is to show: its source, the text that it prints, and the elements of the arrays
@@ -24,7 +24,7 @@ fn names_of(notebook: &Notebook, at: usize) -> Result<Vec<String>, QueryFault> {
 }
 
 /// The value of a name after a cell, asked for again where memory was wanted.
-fn value_of(notebook: &Notebook, at: usize, name: &str) -> Result<Shown, QueryFault> {
+fn value_of(notebook: &Notebook, at: usize, name: &str) -> Result<BoundValue, QueryFault> {
     match notebook.value(at, name) {
         Err(QueryFault::OutOfMemory) => notebook.value(at, name),
         answer => answer,
@@ -38,13 +38,21 @@ fn are_elements(bytes: &[u8], elements: [u8; 4]) -> bool {
             == u64::from(element).to_le_bytes().as_slice())
 }
 
+/// Whether the value is an array of these elements, which are its whole block.
+fn is_array_of(value: Shown<'_>, elements: [u8; 4]) -> bool {
+    match value {
+        Shown::Array(array) => {
+            array.view.shape() == [4].as_slice() && are_elements(array.block, elements)
+        }
+        _ => false,
+    }
+}
+
 /// Whether the value of the name after the cell is an array of these elements.
 fn is_array(notebook: &Notebook, at: usize, name: &str, elements: [u8; 4]) -> bool {
     match value_of(notebook, at, name) {
-        Ok(Shown::Array { shape, bytes, .. }) => {
-            shape.as_slice() == [4].as_slice() && are_elements(&bytes, elements)
-        }
-        _ => false,
+        Ok(value) => is_array_of(value.shown(), elements),
+        Err(_) => false,
     }
 }
 

@@ -173,6 +173,44 @@ fn print_long_dripping(rt: &HostRuntime) -> io::Result<()> {
     print_dripping(rt, "9,006 single bytes", long.as_bytes(), false)
 }
 
+/// A script: a cell of this text, and a question for its source.
+fn source_script(alloc: Global, text: &str) -> Result<String, AllocError> {
+    let mut script = String::from_str(alloc, "insert 0\n")?;
+    script.push_str(text)?;
+    script.push_str("\n.\nsource 0\n")?;
+    Ok(script)
+}
+
+/// The answers: a line for the edit, a line with the length, and the source.
+fn source_answers(alloc: Global, text: &str) -> Result<String, AllocError> {
+    let mut answers = format!(in alloc; "ok\nsource {}\n", text.len())?;
+    answers.push_str(text)?;
+    answers.push('\n')?;
+    Ok(answers)
+}
+
+/// An answer of one line and a source of `length` bytes, and whether it is right.
+fn print_length(rt: &HostRuntime, length: usize) -> io::Result<()> {
+    let text = "x".repeat(rt.alloc(), length)?;
+    let script = source_script(rt.alloc(), text.as_str())?;
+    let answers = source_answers(rt.alloc(), text.as_str())?;
+    let mut reader = ScriptReader::new(script.as_bytes());
+    let mut writer = ScriptWriter::new(Vec::new(rt.alloc()));
+    let ended = run_script(rt.alloc(), &mut reader, &mut writer, &mut Meter::new(rt));
+    let is_right = ended.is_ok() && writer.into_inner().as_slice() == answers.as_bytes();
+    let verdict = if is_right { "right" } else { "wrong" };
+    println!(rt; "{} bytes: {verdict}", answers.len().saturating_sub(3))
+}
+
+/// Answers of about 8 KiB, as long as the buffer through which they are written, and a longer one.
+fn print_lengths(rt: &HostRuntime) -> io::Result<()> {
+    println!(rt; "= lengths of answers")?;
+    print_length(rt, 8178)?;
+    print_length(rt, 8179)?;
+    print_length(rt, 8180)?;
+    print_length(rt, 20_000)
+}
+
 /// Runs each of them, and prints how it ended.
 pub(crate) fn print_runs(rt: &HostRuntime) -> io::Result<()> {
     print_dripping(rt, "single bytes", b"count\nfrob\ncount", false)?;
@@ -184,5 +222,6 @@ pub(crate) fn print_runs(rt: &HostRuntime) -> io::Result<()> {
     print_narrow(rt, "a writer that fails", 2, 12, true)?;
     print_narrow(rt, "a writer that takes nothing", 2, 0, false)?;
     print_narrow(rt, "a writer that takes three bytes", 2, 3, false)?;
-    print_narrow(rt, "a writer that takes one answer", 2, 8, false)
+    print_narrow(rt, "a writer that takes one answer", 2, 8, false)?;
+    print_lengths(rt)
 }

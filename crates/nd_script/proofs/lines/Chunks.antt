@@ -7,7 +7,7 @@ use Rattle.nd_model.specs.Book.Script.{Stage, Between}
 use Rattle.nd_script.specs.declared.lines.run_fault.RunFault.{RunFault}
 use Rattle.nd_script.specs.declared.lines.run_fault.RunFault.TheVariants.{ReadFault, WriteFault, LineTooLong, OutOfMemory}
 use Rattle.nd_model.specs.Book.ScriptRuns.{most_line, IsInLine}
-use Rattle.nd_script.specs.Lines.Run.{IsInAnswer, IsTooLong, FitsLine, LineRuns, LineStops, Runs, Stops}
+use Rattle.nd_script.specs.Lines.Run.{IsTooLong, FitsLine, LineRuns, Runs, Stops, StopsInLine}
 use Rattle.nd_script.proofs.lines.Lines.{newline_at, no_newline, in_line_append}
 use Rattle.nd_script.proofs.lines.Progress.{runs_none, runs_part, runs_line, stops_line, stops_long, stops_memory}
 
@@ -37,15 +37,22 @@ stops_extend f s line bytes t begun part rest all i old new was now found same i
     let within = in_line_extended rest begun part (begun ++ part) i found same inside refl in
     rw (cut_at rest bytes all i found whole, ← same) (extend_stops f s line bytes t begun part (10 ∷ drop (i + 1) rest) old new was now within long r)
 
--- the answer to a line stopped
+-- a run stopped in a line
+stops_in_line : (f : RunFault) (s : Stage) (line bytes : List ℕ) (t : Stage) (begun tail : List ℕ) (old mid new : Tally) (was now then_now : Option (List ℕ)) → IsInLine begun
+    → Runs s line bytes t begun old was now mid → StopsInLine f t begun mid now then_now new → Stops f s line (bytes ++ 10 ∷ tail) old was then_now new
+stops_in_line ReadFault s line bytes t begun tail old mid new was now then_now inside r l = absurd l
+stops_in_line WriteFault s line bytes t begun tail old mid new was now then_now inside r l = stops_line s line bytes t begun tail old mid new was now then_now inside r l
+stops_in_line LineTooLong s line bytes t begun tail old mid new was now then_now inside r l = absurd l
+stops_in_line OutOfMemory s line bytes t begun tail old mid new was now then_now inside r l = rw (l.0, l.1) (stops_memory s line bytes t begun (10 ∷ tail) old mid was now r)
+
 pub stops_end : (f : RunFault) (s : Stage) (line bytes : List ℕ) (t : Stage) (begun part grown rest all : List ℕ) (i : ℕ) (old mid new : Tally) (was now then_now : Option (List ℕ)) → position (λ c. c == 10) rest ≡ Some i → part ≡ take i rest → IsInLine begun
-    → all ≡ bytes ++ rest → Runs s line bytes t begun old was now mid → grown ≡ begun ++ part → LineStops t grown mid now then_now new → IsInAnswer f → Stops f s line all old was then_now new
-stops_end f s line bytes t begun part grown rest all i old mid new was now then_now found same inside whole r longer l h =
+    → all ≡ bytes ++ rest → Runs s line bytes t begun old was now mid → grown ≡ begun ++ part → StopsInLine f t grown mid now then_now new → Stops f s line all old was then_now new
+stops_end f s line bytes t begun part grown rest all i old mid new was now then_now found same inside whole r longer l =
     let within = in_line_extended rest begun part (begun ++ part) i found same inside refl in
     let l2 = rw longer at l in
     let gone = runs_part s line bytes t begun part old mid was now r in
     rw (cut_at rest bytes all i found whole, ← same, ← append_assoc bytes part (10 ∷ drop (i + 1) rest))
-    (stops_line f s line (bytes ++ part) t (begun ++ part) (drop (i + 1) rest) old mid new was now then_now h within gone l2)
+    (stops_in_line f s line (bytes ++ part) t (begun ++ part) (drop (i + 1) rest) old mid new was now then_now within gone l2)
 
 -- a line was answered
 pub line_more : (s : Stage) (line bytes : List ℕ) (t v : Stage) (begun part grown rest all next : List ℕ) (i : ℕ) (old mid new : Tally) (was now then_now : Option (List ℕ)) → position (λ c. c == 10) rest ≡ Some i → part ≡ take i rest → IsInLine begun

@@ -1,13 +1,14 @@
 -- What was counted was carried out and answered.
-use Rattle.std.proofs.Common.{ℕ, Bool, List, [], ◌∷◌, Option, Result, ap}
+use Rattle.std.proofs.Common.{◌≡◌, ℕ, Bool, true, false, List, [], ◌∷◌, ◌++◌, Option, Result, ap, ◌∙◌, append_assoc}
 use Rattle.std.specs.Prelude.{OnOk, IfErr}
 use Rattle.std.proofs.lemmas.Result.{IfErr-weaker, on_ok_weaker}
-use Rattle.nd_model.specs.Book.Script.{Command, Answers, CutAnswers}
+use Rattle.nd_model.specs.Book.Script.{Command, Answers, AreFirst, CutAnswers, completed}
 use Rattle.nd_model.specs.Book.ScriptRuns as model
 use Rattle.nd_model.specs.Book.ScriptRuns.{RanToEnd, RunsAt, StoppedAt}
 use Rattle.nd_script.specs.declared.lines.run_fault.RunFault.{RunFault}
 use Rattle.nd_script.specs.Lines.Counts.{Tally, CountedAnswers, CutCountedAnswers, CountedAt, CountedToEnd, CountedStop}
 use Rattle.nd_script.specs.Lines.Run.{run_fault_of}
+use Rattle.nd_script.proofs.lines.Progress.{cut_nowhere}
 
 plain_answers : (cs : List Command) (old new : Tally) (text : List ℕ) → CountedAnswers cs old text new → Answers cs old.book text new.book
 plain_answers [] old new text given = (given.0, ap (λ t. t.book) given.1)
@@ -28,11 +29,17 @@ plain_to_end unread left old was now new r = record {
   answers = plain_answers _ old new r.written r.answers;
 }
 
+-- the first commands of a front are those of more bytes
+first_of_more : (ended : Bool) (cs : List Command) (given front rest : List ℕ) → given ≡ front ++ rest → AreFirst cs false front → AreFirst cs ended given
+first_of_more true cs given front rest place first = λ script same. first script (rest, same ∙ place)
+first_of_more false cs given front rest place first = λ script more. first script (rest ++ more.0, more.1 ∙ ap (λ xs. xs ++ more.0) place ∙ append_assoc front rest more.0)
+
 plain_at : (f : model.RunFault) (ended : Bool) (given : List ℕ) (old : Tally) (written : List ℕ) (new : Tally) → CountedAt f ended given old written new → RunsAt f ended given old.book written new.book
 plain_at model.ReadFault ended given old written new a = (a.0, plain_answers _ old new written a.1)
 plain_at model.WriteFault ended given old written new a = (a.0, a.1, plain_cut a.0 old new written a.2)
 plain_at model.LineTooLong ended given old written new a = (a.0, a.1, (a.2.0, plain_answers _ old new written a.2.1))
-plain_at model.OutOfMemory ended given old written new a = (a.0, a.1, plain_cut a.0 old new written a.2)
+plain_at model.OutOfMemory ended given old written new a =
+    (completed a.0, first_of_more ended (completed a.0) given a.0 a.1 a.2 a.4.0, plain_cut (completed a.0) old new written (cut_nowhere (completed a.0) old new written a.4.1))
 
 pub plain_stop : (f : model.RunFault) (unread left : Option (List ℕ)) (old : Tally) (was now : Option (List ℕ)) (new : Tally) → CountedStop f unread left old was now new → StoppedAt f unread left old.book was now new.book
 plain_stop f unread left old was now new r = record {

@@ -1,17 +1,17 @@
 -- How the runs of lines and bytes make one run.
-use Rattle.std.proofs.Common.{◌≡◌, ℕ, ◌<◌, ◌≤◌, ◌+◌, Bool, true, false, cond, List, [], ◌∷◌, ◌++◌, Option, length, take, inl, inr, refl, sym, ap, ◌∙◌, append_assoc, append-nil, length-append, arith}
+use Rattle.std.proofs.Common.{◌≡◌, ℕ, ◌<◌, ◌≤◌, Bool, true, false, cond, List, [], ◌∷◌, ◌++◌, Option, length, take, inl, inr, refl, sym, ap, ◌∙◌, append_assoc, append-nil, subst, arith}
 use Rattle.std.specs.Prelude.{◌==◌, Result, Ok, Err, is_ok, OnOk, OnErr, IfErr}
 use Rattle.std.specs.Io.KnownBytes.{Consumes, ReadConsumes, IsAtEnd}
 use Rattle.std.specs.List.{slice_split}
 use Rattle.std.proofs.KnownBytes.{Appends-nil, Appends-trans, Consumes-kept, Consumes-trans}
 use Rattle.std.proofs.lemmas.Bool.{ne_eqb, false≢true}
 use Rattle.std.proofs.lemmas.List.Splits.{slice_split_at}
-use Rattle.nd_script.specs.Lines.Counts.{Tally, CountedAnswer, CountedAnswers, CutCountedAnswers, CountedCut, CountedAt, CountedToEnd, CountedStop}
-use Rattle.nd_model.specs.Book.Script.{Command, Bad, IsFront, AreFirst, Line, Whole, Opens, Stage, Between, Within, step, step_of_line, read_line, is_dot, closed, commands, commands_from, completed, completed_from, lines_of, ended_lines, last_line, left_open}
+use Rattle.nd_script.specs.Lines.Counts.{Tally, CountedAnswer, CountedAnswers, CutCountedAnswers, CountedAt, CountedBefore, CountedToEnd, CountedStop}
+use Rattle.nd_model.specs.Book.Script.{Command, Bad, AreFirst, Line, Whole, Opens, Stage, Between, Within, step, step_of_line, read_line, is_dot, closed, commands, commands_from, completed, completed_from, lines_of, ended_lines, last_line, left_open}
 use Rattle.nd_script.specs.declared.lines.run_fault.RunFault.{RunFault}
 use Rattle.nd_script.specs.declared.lines.run_fault.RunFault.TheVariants.{ReadFault, WriteFault, LineTooLong, OutOfMemory}
 use Rattle.nd_model.specs.Book.ScriptRuns.{most_line, AreWholeLines, IsInLine}
-use Rattle.nd_script.specs.Lines.Run.{open_answer, run_fault_of, IsInAnswer, stage_behind, DoneInPart, LineRuns, LineStops, Finishes, FinishStops, Runs, AnswersAt, Before, Stops, Wrote}
+use Rattle.nd_script.specs.Lines.Run.{open_answer, run_fault_of, stage_behind, LineRuns, LineStops, Finishes, FinishStops, Runs, AnswersAt, Before, Stops, StopsAtEnd, StopsInLine, Wrote}
 use Rattle.nd_script.proofs.lines.Lines.{one_line, parts_are_some}
 use Rattle.nd_script.proofs.lines.Ended.{whole-append, ended_lines-append, ended_lines-open, ended_lines-one, completed_from-append, stage_behind-append, commands_behind, completed_are_first}
 
@@ -77,10 +77,6 @@ pub few_from_step : (s : Stage) (l : List ℕ) → length (step s l).0 ≤ 1
 few_from_step Between l = few_from_line (read_line l)
 few_from_step (Within o before) l = few_from_dot (is_dot l) (closed o before) (Within o (before ++ l ∷ []))
 
-fewer_in_front : (xs ys : List Command) → IsFront xs ys → length ys ≤ 1 → length xs ≤ 1
-fewer_in_front xs ys front few =
-    let sizes : length ys ≡ length xs + length front.0 = ap length front.1 ∙ length-append xs front.0 in omega arith
-
 -- ---- lines that were run
 
 -- what was done, and then written
@@ -98,17 +94,6 @@ line_stops s line answer old new was now answers wrote = record {
   first = ([], sym (append-nil (step s line).0));
   appended = wrote.appended;
   answers = cut_few (step s line).0 old new answer wrote.front wrote.rest (few_from_step s line) answers wrote.cut;
-}
-
--- nothing was written
-pub line_unwritten : (s : Stage) (line : List ℕ) (old new : Tally) (was : Option (List ℕ)) (executed : List Command) (whole : List ℕ) → IsFront executed (step s line).0 → CountedAnswers executed old whole new
-    → LineStops s line old was was new
-line_unwritten s line old new was executed whole first answers = record {
-  executed = executed;
-  written = [];
-  first = first;
-  appended = Appends-nil was;
-  answers = cut_few executed old new whole [] whole (fewer_in_front executed (step s line).0 first (few_from_step s line)) answers refl;
 }
 
 -- ---- commands of some lines, and of more
@@ -200,22 +185,10 @@ splits {s} {t} {line} {bytes} {begun} r more =
 
 -- ---- runs that stop
 
-answers_at : (f : RunFault) (cs : List Command) (old new : Tally) (text : List ℕ) → IsInAnswer f → CutCountedAnswers cs old text new → AnswersAt f cs old text new
-answers_at ReadFault cs old new text h cut = absurd h
-answers_at WriteFault cs old new text h cut = cut
-answers_at LineTooLong cs old new text h cut = absurd h
-answers_at OutOfMemory cs old new text h cut = cut
-
-before_at : (f : RunFault) (s : Stage) (cs : List Command) (bytes : List ℕ) → IsInAnswer f → Before f s cs bytes
-before_at ReadFault s cs bytes h = absurd h
-before_at WriteFault s cs bytes h = tt
-before_at LineTooLong s cs bytes h = absurd h
-before_at OutOfMemory s cs bytes h = tt
-
 -- within the answer to a line
-pub stops_line : (f : RunFault) (s : Stage) (line bytes : List ℕ) (t : Stage) (begun tail : List ℕ) (old mid new : Tally) (was now then_now : Option (List ℕ)) → IsInAnswer f → IsInLine begun
-    → Runs s line bytes t begun old was now mid → LineStops t begun mid now then_now new → Stops f s line (bytes ++ 10 ∷ tail) old was then_now new
-stops_line f s line bytes t begun tail old mid new was now then_now h inside r l = record {
+pub stops_line : (s : Stage) (line bytes : List ℕ) (t : Stage) (begun tail : List ℕ) (old mid new : Tally) (was now then_now : Option (List ℕ)) → IsInLine begun
+    → Runs s line bytes t begun old was now mid → LineStops t begun mid now then_now new → Stops WriteFault s line (bytes ++ 10 ∷ tail) old was then_now new
+stops_line s line bytes t begun tail old mid new was now then_now inside r l = record {
   executed = r.executed ++ l.executed;
   written = r.written ++ l.written;
   first = λ more.
@@ -227,8 +200,8 @@ stops_line f s line bytes t begun tail old mid new was now then_now h inside r l
             ∙ ap (λ cs. r.executed ++ cs) (append_assoc l.executed l.first.0 after) ∙ sym (append_assoc r.executed l.executed (l.first.0 ++ after)),
       );
   appended = Appends-trans was now then_now r.written l.written r.appended l.appended;
-  answers = answers_at f (r.executed ++ l.executed) old new (r.written ++ l.written) h (CutCountedAnswers-append r.executed l.executed old mid new r.written l.written r.answers l.answers);
-  before = before_at f s (r.executed ++ l.executed) (line ++ (bytes ++ 10 ∷ tail)) h;
+  answers = CutCountedAnswers-append r.executed l.executed old mid new r.written l.written r.answers l.answers;
+  before = tt;
 }
 
 -- a line is too long
@@ -267,8 +240,8 @@ stops_memory s line bytes t begun tail old new was now r = record {
     ap (λ xs. commands_from s (lines_of (line ++ xs))) (append_assoc bytes tail more) ∙ splits r (tail ++ more),
   );
   appended = r.appended;
-  answers = cut_nowhere r.executed old new r.written r.answers;
-  before = tt;
+  answers = r.answers;
+  before = (r.whole, begun ++ tail, sym (append_assoc line bytes tail) ∙ ap (λ xs. xs ++ tail) r.place ∙ append_assoc r.whole begun tail, r.are_whole, r.done);
 }
 
 -- ---- one command
@@ -282,20 +255,12 @@ pub no_bytes : (xs : List ℕ) → length xs ≡ 0 → xs ≡ []
 no_bytes [] e = refl
 no_bytes (x ∷ xs) e = absurd (omega arith)
 
-pub if_err_both : {T E : Type 0} (r : Result T E) (A P : E → Type 0) (Q : Type 0) → IfErr r A → OnErr r Q → ((e : E) → A e → Q → P e) → IfErr r P
-if_err_both (Ok x) A P Q a q give = tt
-if_err_both (Err e) A P Q a q give = give e a q
-
-pub on_err_any : {T E P : Type 0} (r : Result T E) → P → OnErr r P
-on_err_any (Ok x) p = tt
-on_err_any (Err e) p = p
-
-pub line_unwritten_from : (s : Stage) (line : List ℕ) (old new : Tally) (was : Option (List ℕ)) → DoneInPart s line old new → LineStops s line old was was new
-line_unwritten_from s line old new was given = line_unwritten s line old new was given.0 given.2.0 given.1 given.2.1
-
-pub line_stopped : (r : Result (Unit {0}) RunFault) (s : Stage) (line answer : List ℕ) (old new : Tally) (was now : Option (List ℕ)) → CountedAnswers (step s line).0 old answer new → Wrote was answer (is_ok r) now → OnErr r (LineStops s line old was now new)
-line_stopped (Ok x) s line answer old new was now answers wrote = tt
-line_stopped (Err e) s line answer old new was now answers wrote = line_stops s line answer old new was now answers wrote
+-- the answer to a line could not be written
+pub line_stopped : (r : Result (Unit {0}) RunFault) (s : Stage) (line answer : List ℕ) (old new : Tally) (was now : Option (List ℕ)) → CountedAnswers (step s line).0 old answer new → Wrote was answer (is_ok r) now
+    → IfErr r (λ f. f ≡ WriteFault) → IfErr r (λ f. StopsInLine f s line old was now new)
+line_stopped (Ok x) s line answer old new was now answers wrote fault = tt
+line_stopped (Err e) s line answer old new was now answers wrote fault =
+    subst (λ f. StopsInLine f s line old was now new) (sym fault) (line_stops s line answer old new was now answers wrote)
 
 -- ---- the end of a script
 
@@ -357,9 +322,9 @@ finish_some (Err e) s t line old mid was now then_now inside some l wrote =
       },
     )
 
--- a line was open, and the run stopped in its answer
-pub finish_stopped : (s : Stage) (line : List ℕ) (old new : Tally) (was now : Option (List ℕ)) → IsInLine line → 0 < length line → LineStops s line old was now new → FinishStops s line old was now new
-finish_stopped s line old new was now inside some l = record {
+-- a line was open, and its answer was cut off
+finish_cut : (s : Stage) (line : List ℕ) (old new : Tally) (was now : Option (List ℕ)) → IsInLine line → 0 < length line → LineStops s line old was now new → FinishStops s line old was now new
+finish_cut s line old new was now inside some l = record {
   executed = l.executed;
   written = l.written;
   first = (
@@ -369,6 +334,19 @@ finish_stopped s line old new was now inside some l = record {
   appended = l.appended;
   answers = l.answers;
 }
+
+-- the end could not be written
+pub at_end : (r : Result (Unit {0}) RunFault) (s : Stage) (line : List ℕ) (old new : Tally) (was now : Option (List ℕ)) → IfErr r (λ f. f ≡ WriteFault) → OnErr r (FinishStops s line old was now new)
+    → IfErr r (λ f. StopsAtEnd f s line old was now new)
+at_end (Ok x) s line old new was now fault stops = tt
+at_end (Err e) s line old new was now fault stops = subst (λ f. StopsAtEnd f s line old was now new) (sym fault) stops
+
+-- a line was open, and the run stopped in it
+pub finish_stopped : (f : RunFault) (s : Stage) (line : List ℕ) (old new : Tally) (was now : Option (List ℕ)) → IsInLine line → 0 < length line → StopsInLine f s line old was now new → StopsAtEnd f s line old was now new
+finish_stopped ReadFault s line old new was now inside some l = l
+finish_stopped WriteFault s line old new was now inside some l = finish_cut s line old new was now inside some l
+finish_stopped LineTooLong s line old new was now inside some l = l
+finish_stopped OutOfMemory s line old new was now inside some l = l
 
 -- ---- whole runs
 
@@ -386,16 +364,10 @@ ran_to_end unread left given t begun old mid new was now then_now taken ended r 
       answers = rw all (CountedAnswers-append r.executed (commands_from t (lines_of begun)) old mid new r.written q.written r.answers q.answers);
     }
 
--- the run stopped at its end
-runs_cut_at : (f : RunFault) (ended : Bool) (given : List ℕ) (old new : Tally) (written : List ℕ) → IsInAnswer f → CountedCut ended given old written new → CountedAt (run_fault_of f) ended given old written new
-runs_cut_at ReadFault ended given old new written h cut = absurd h
-runs_cut_at WriteFault ended given old new written h cut = cut
-runs_cut_at LineTooLong ended given old new written h cut = absurd h
-runs_cut_at OutOfMemory ended given old new written h cut = cut
-
-pub stopped_at_end : (f : RunFault) (unread left : Option (List ℕ)) (given : List ℕ) (t : Stage) (begun : List ℕ) (old mid new : Tally) (was now then_now : Option (List ℕ)) → IsInAnswer f → Consumes unread left given → IsAtEnd left
-    → Runs Between [] given t begun old was now mid → FinishStops t begun mid now then_now new → CountedStop (run_fault_of f) unread left old was then_now new
-stopped_at_end f unread left given t begun old mid new was now then_now h taken ended r q =
+-- the answer to the end of a script could not be written
+cut_at_end : (unread left : Option (List ℕ)) (given : List ℕ) (t : Stage) (begun : List ℕ) (old mid new : Tally) (was now then_now : Option (List ℕ)) → Consumes unread left given → IsAtEnd left
+    → Runs Between [] given t begun old was now mid → FinishStops t begun mid now then_now new → CountedStop (run_fault_of WriteFault) unread left old was then_now new
+cut_at_end unread left given t begun old mid new was now then_now taken ended r q =
     let all : commands given ≡ r.executed ++ commands_from t (lines_of begun)
     = ap (λ xs. commands_from Between (lines_of xs)) (sym (append-nil given)) ∙ splits r [] ∙ ap (λ xs. r.executed ++ commands_from t (lines_of xs)) (append-nil begun) in
     let fronts : commands given ≡ (r.executed ++ q.executed) ++ q.first.0 = all ∙ ap (λ cs. r.executed ++ cs) q.first.1 ∙ sym (append_assoc r.executed q.executed q.first.0) in
@@ -406,12 +378,36 @@ stopped_at_end f unread left given t begun old mid new was now then_now h taken 
       taken = taken;
       at_end = λ e. ended;
       appended = Appends-trans was now then_now r.written q.written r.appended q.appended;
-      answers = runs_cut_at f true given old new (r.written ++ q.written) h (
+      answers = (
         r.executed ++ q.executed,
         λ script same. (q.first.0, ap commands same ∙ fronts),
         CutCountedAnswers-append r.executed q.executed old mid new r.written q.written r.answers q.answers,
       );
     }
+
+-- the commands of the whole lines that have come
+counted_before : {t : Stage} {given begun : List ℕ} {old new : Tally} {was now : Option (List ℕ)} (r : Runs Between [] given t begun old was now new) → CountedBefore given old r.written new
+counted_before {given = given} {begun = begun} r = (r.whole, begun, r.place, r.are_whole, (completed_are_first r.whole r.are_whole, rw (← r.done) r.answers))
+
+-- memory was wanted to read the last line
+unread_at_end : (unread left : Option (List ℕ)) (given : List ℕ) (t : Stage) (begun : List ℕ) (old new : Tally) (was now : Option (List ℕ)) → Consumes unread left given → IsAtEnd left
+    → Runs Between [] given t begun old was now new → CountedStop (run_fault_of OutOfMemory) unread left old was now new
+unread_at_end unread left given t begun old new was now taken ended r = record {
+  given = given;
+  written = r.written;
+  ended = true;
+  taken = taken;
+  at_end = λ e. ended;
+  appended = r.appended;
+  answers = counted_before r;
+}
+
+pub stopped_at_end : (f : RunFault) (unread left : Option (List ℕ)) (given : List ℕ) (t : Stage) (begun : List ℕ) (old mid new : Tally) (was now then_now : Option (List ℕ)) → Consumes unread left given → IsAtEnd left
+    → Runs Between [] given t begun old was now mid → StopsAtEnd f t begun mid now then_now new → CountedStop (run_fault_of f) unread left old was then_now new
+stopped_at_end ReadFault unread left given t begun old mid new was now then_now taken ended r q = absurd q
+stopped_at_end WriteFault unread left given t begun old mid new was now then_now taken ended r q = cut_at_end unread left given t begun old mid new was now then_now taken ended r q
+stopped_at_end LineTooLong unread left given t begun old mid new was now then_now taken ended r q = absurd q
+stopped_at_end OutOfMemory unread left given t begun old mid new was now then_now taken ended r q = rw (q.0, q.1) (unread_at_end unread left given t begun old mid was now taken ended r)
 
 -- a read failed, or the turns ran out
 pub stopped_in_reading : (unread left : Option (List ℕ)) (given : List ℕ) (t : Stage) (begun : List ℕ) (old new : Tally) (was now : Option (List ℕ)) → Consumes unread left given → IsInLine begun
@@ -439,13 +435,13 @@ runs_at : (f : RunFault) (given : List ℕ) (old new : Tally) (written : List �
 runs_at ReadFault given old new written executed other first answers before = absurd (other refl)
 runs_at WriteFault given old new written executed other first answers before = (executed, first, answers)
 runs_at LineTooLong given old new written executed other first answers before = (before.0, before.1, (completed_are_first before.0 before.1.are_whole, rw (sym before.2) answers))
-runs_at OutOfMemory given old new written executed other first answers before = (executed, first, answers)
+runs_at OutOfMemory given old new written executed other first answers before = (before.0, before.1, before.2, before.3, (completed_are_first before.0 before.3, rw (← before.4) answers))
 
 answers_before : (f : RunFault) (cs ds : List Command) (old mid new : Tally) (one two : List ℕ) → CountedAnswers cs old one mid → AnswersAt f ds mid two new → AnswersAt f (cs ++ ds) old (one ++ two) new
 answers_before ReadFault cs ds old mid new one two first second = CountedAnswers-append cs ds old mid new one two first second
 answers_before WriteFault cs ds old mid new one two first second = CutCountedAnswers-append cs ds old mid new one two first second
 answers_before LineTooLong cs ds old mid new one two first second = CountedAnswers-append cs ds old mid new one two first second
-answers_before OutOfMemory cs ds old mid new one two first second = CutCountedAnswers-append cs ds old mid new one two first second
+answers_before OutOfMemory cs ds old mid new one two first second = CountedAnswers-append cs ds old mid new one two first second
 
 before_later : (f : RunFault) (s t : Stage) (cs ds : List Command) (whole bytes all : List ℕ) → all ≡ whole ++ bytes → AreWholeLines whole → cs ≡ completed_from s (ended_lines whole) → t ≡ stage_behind s (ended_lines whole)
     → Before f t ds bytes → Before f s (cs ++ ds) all
@@ -464,7 +460,13 @@ before_later LineTooLong s t cs ds whole bytes all e w done stage before =
       },
       done_later s t cs ds (ended_lines whole) (ended_lines before.0) done stage before.2 ∙ sym (ap (completed_from s) (ended_lines-append whole before.0 w)),
     )
-before_later OutOfMemory s t cs ds whole bytes all e w done stage before = tt
+before_later OutOfMemory s t cs ds whole bytes all e w done stage before = (
+  whole ++ before.0,
+  before.1,
+  e ∙ ap (λ xs. whole ++ xs) before.2 ∙ sym (append_assoc whole before.0 before.1),
+  whole-append whole before.0 w before.3,
+  done_later s t cs ds (ended_lines whole) (ended_lines before.0) done stage before.4 ∙ sym (ap (completed_from s) (ended_lines-append whole before.0 w)),
+)
 
 pub stopped_in_bytes : (f : RunFault) (unread left : Option (List ℕ)) (given bytes : List ℕ) (t : Stage) (begun : List ℕ) (old mid new : Tally) (was now then_now : Option (List ℕ)) → (f ≡ ReadFault → ⊥) → Consumes unread left (given ++ bytes)
     → Runs Between [] given t begun old was now mid → Stops f t begun bytes mid now then_now new → CountedStop (run_fault_of f) unread left old was then_now new

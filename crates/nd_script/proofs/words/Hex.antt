@@ -1,10 +1,13 @@
--- Bytes in hex, one after another.
-use Rattle.std.proofs.Common.{◌≡◌, ℕ, ◌+◌, ◌<◌, List, [], ◌∷◌, ◌++◌, length, get_or, drop, sym, ap, ◌∙◌, append_assoc, add-one, drop-cons}
+-- Bytes in hex.
+use Rattle.std.proofs.Common.{◌≡◌, ℕ, ◌/◌, ◌%◌, List, [], ◌∷◌, ◌++◌, refl, ap}
 use Rattle.hex.specs.Hex.{encode_lower, encode_with}
-use Rattle.nd_model.specs.Book.Script.{hex_digits}
+use Rattle.nd_model.specs.Book.Script.{hex_digit, hex_digits}
 
-pub hex_more : (out new pair bytes all : List ℕ) (i : ℕ) → i < length bytes → new ≡ out ++ pair → pair ≡ encode_lower (get_or bytes i 0 ∷ []) → out ++ hex_digits (drop i bytes) ≡ all → new ++ hex_digits (drop (i + 1) bytes) ≡ all
+pub hex_encoded : (bytes : List ℕ) → encode_lower bytes ≡ hex_digits bytes
 unfolding encode_with
-hex_more out new pair bytes all i h grown is known =
-    let cut = ap (λ bs. out ++ hex_digits bs) (drop-cons bytes i 0 h) in
-    rw (grown, is, add-one, append_assoc) (sym cut ∙ known)
+hex_encoded [] = refl
+hex_encoded (b ∷ bs) = ap (λ l. hex_digit (b / 16) ∷ hex_digit (b % 16) ∷ l) (hex_encoded bs)
+
+pub hex_digits-append : (xs ys : List ℕ) → hex_digits (xs ++ ys) ≡ hex_digits xs ++ hex_digits ys
+hex_digits-append [] ys = refl
+hex_digits-append (x ∷ xs) ys = ap (λ l. hex_digit (x / 16) ∷ hex_digit (x % 16) ∷ l) (hex_digits-append xs ys)

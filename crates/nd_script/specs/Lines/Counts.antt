@@ -4,7 +4,7 @@ use Rattle.std.specs.Io.KnownBytes.{Appends, Consumes, IsAtEnd}
 use Rattle.nd_model.specs.Book.Book.{Book, EditFault, refusal, edited}
 use Rattle.nd_model.specs.Book.Stale.{CountsStale}
 use Rattle.nd_model.specs.Book.Script.{Command, Edits, Asks, Silent, Bad, Answer, IsFront, AreFirst, commands, completed}
-use Rattle.nd_model.specs.Book.ScriptRuns.{RunFault, ReadFault, WriteFault, LineTooLong, OutOfMemory, LongLineBehind}
+use Rattle.nd_model.specs.Book.ScriptRuns.{RunFault, ReadFault, WriteFault, LineTooLong, OutOfMemory, AreWholeLines, LongLineBehind}
 
 -- a notebook, and what its meter shows
 pub record Tally : Type 0 where
@@ -62,15 +62,20 @@ CountedCompleted given old written new = AreFirst (completed given) false given 
 abbrev pub CountedCut : (ended : Bool) → (given : List ℕ) → Tally → (written : List ℕ) → Tally → Type 0
 CountedCut ended given old written new = (executed : List Command) × AreFirst executed ended given × CutCountedAnswers executed old written new
 
+-- exactly the commands of some whole lines were carried out, answered and counted: memory was wanted to read what stands behind
+abbrev pub CountedBefore : (given : List ℕ) → Tally → (written : List ℕ) → Tally → Type 0
+CountedBefore given old written new =
+    (front : List ℕ) × (rest : List ℕ) × (given ≡ front ++ rest) × AreWholeLines front × CountedCompleted front old written new
+
 -- the commands that were carried out and counted, by the fault
 abbrev pub CountedAt : RunFault → (ended : Bool) → (given : List ℕ) → Tally → (written : List ℕ) → Tally → Type 0
 CountedAt ReadFault ended given old written new = CountedCompleted given old written new
 CountedAt WriteFault ended given old written new = CountedCut ended given old written new
 CountedAt LineTooLong ended given old written new = (front : List ℕ) × LongLineBehind front given × CountedCompleted front old written new
-CountedAt OutOfMemory ended given old written new = CountedCut ended given old written new
+CountedAt OutOfMemory ended given old written new = CountedBefore given old written new
 
 -- A RUN THAT STOPPED, COUNTED, after these bytes were given: the first commands of the script were carried out, answered and
--- counted, and what was written is their answers, the last one perhaps cut off.
+-- counted, and what was written is their answers, the last one perhaps cut off where a write failed.
 pub record CountedStop (f : RunFault) (unread left : Option (List ℕ)) (old : Tally) (was now : Option (List ℕ)) (new : Tally) : Type 0 where
   pub given : List ℕ
   pub written : List ℕ

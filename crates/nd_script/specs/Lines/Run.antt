@@ -1,6 +1,7 @@
 -- Runs of scripts, as far as they have come, with what their commands count on the meter.
 use Rattle.std.specs.Prelude.{◌≡◌, ℕ, ◌<◌, ◌≤◌, Bool, true, List, [], ◌∷◌, ◌++◌, length, codes, Option}
 use Rattle.std.specs.Io.KnownBytes.{Appends}
+use Rattle.nd_script.specs.Lines.Answers.{AnswerState, Pushes}
 use Rattle.nd_script.specs.Lines.Counts.{Tally, CountedAnswers, CutCountedAnswers}
 use Rattle.nd_model.specs.Book.Script.{Command, IsFront, Stage, Between, Within, step, commands_from, completed_from, lines_of, ended_lines}
 use Rattle.nd_model.specs.Book.ScriptRuns.{most_line, AreWholeLines, IsInLine, LongLineBehind}
@@ -41,9 +42,9 @@ pub record Wrote (was : Option (List ℕ)) (answer : List ℕ) (is_whole : Bool)
 abbrev pub Done : Stage → (line : List ℕ) → Stage → Tally → (answer : List ℕ) → Tally → Type 0
 Done s line t old answer new = (t ≡ (step s line).1) × CountedAnswers (step s line).0 old answer new
 
--- Memory was wanted for that: some of it was carried out and counted.
-abbrev pub DoneInPart : Stage → (line : List ℕ) → Tally → Tally → Type 0
-DoneInPart s line old new = (executed : List Command) × IsFront executed (step s line).0 × ((whole : List ℕ) × CountedAnswers executed old whole new)
+-- What a line says was carried out, and its answer was appended.
+abbrev pub Answered : Stage → (line : List ℕ) → Stage → Tally → (was now : AnswerState) → Tally → Type 0
+Answered s line t old was now new = (answer : List ℕ) × Done s line t old answer new × Pushes was answer now
 
 -- What a line says was carried out, and its answer was written.
 pub record LineRuns (s : Stage) (line : List ℕ) (t : Stage) (old : Tally) (was now : Option (List ℕ)) (new : Tally) : Type 0 where
@@ -77,12 +78,19 @@ pub record FinishStops (s : Stage) (line : List ℕ) (old : Tally) (was now : Op
   pub appended : Appends was now written
   pub answers : CutCountedAnswers executed old written new
 
--- faults of answers: one is made, or written
-abbrev pub IsInAnswer : RunFault → Type 0
-IsInAnswer ReadFault = ⊥
-IsInAnswer WriteFault = Unit {0}
-IsInAnswer LineTooLong = ⊥
-IsInAnswer OutOfMemory = Unit {0}
+-- where a line and the end of a script stop a run: its answer could not be written, or memory was wanted to read the line, and
+-- then nothing was carried out
+abbrev pub StopsInLine : RunFault → Stage → (line : List ℕ) → Tally → (was now : Option (List ℕ)) → Tally → Type 0
+StopsInLine ReadFault s line old was now new = ⊥
+StopsInLine WriteFault s line old was now new = LineStops s line old was now new
+StopsInLine LineTooLong s line old was now new = ⊥
+StopsInLine OutOfMemory s line old was now new = (new ≡ old) × (now ≡ was)
+
+abbrev pub StopsAtEnd : RunFault → Stage → (line : List ℕ) → Tally → (was now : Option (List ℕ)) → Tally → Type 0
+StopsAtEnd ReadFault s line old was now new = ⊥
+StopsAtEnd WriteFault s line old was now new = FinishStops s line old was now new
+StopsAtEnd LineTooLong s line old was now new = ⊥
+StopsAtEnd OutOfMemory s line old was now new = (new ≡ old) × (now ≡ was)
 
 -- ---- some bytes
 
@@ -104,19 +112,19 @@ pub record Runs (s : Stage) (line bytes : List ℕ) (t : Stage) (begun : List �
   pub appended : Appends was now written
   pub answers : CountedAnswers executed old written new
 
--- the answers to some commands, by the fault that stopped the run: where an answer was made or written the last may be cut
+-- the answers to some commands, by the fault that stopped the run: where an answer was written the last may be cut
 abbrev pub AnswersAt : RunFault → List Command → Tally → List ℕ → Tally → Type 0
 AnswersAt ReadFault cs old written new = CountedAnswers cs old written new
 AnswersAt WriteFault cs old written new = CutCountedAnswers cs old written new
 AnswersAt LineTooLong cs old written new = CountedAnswers cs old written new
-AnswersAt OutOfMemory cs old written new = CutCountedAnswers cs old written new
+AnswersAt OutOfMemory cs old written new = CountedAnswers cs old written new
 
--- what was carried out before the fault: at a line that is too long, the commands of the lines before it
+-- what was carried out before the fault: at a line that is too long or could not be read, the commands of the lines before it
 abbrev pub Before : RunFault → Stage → (executed : List Command) → (bytes : List ℕ) → Type 0
 Before ReadFault s executed bytes = Unit {0}
 Before WriteFault s executed bytes = Unit {0}
 Before LineTooLong s executed bytes = (front : List ℕ) × LongLineBehind front bytes × (executed ≡ completed_from s (ended_lines front))
-Before OutOfMemory s executed bytes = Unit {0}
+Before OutOfMemory s executed bytes = (front : List ℕ) × (rest : List ℕ) × (bytes ≡ front ++ rest) × AreWholeLines front × (executed ≡ completed_from s (ended_lines front))
 
 -- The run stopped within these bytes.
 pub record Stops (f : RunFault) (s : Stage) (line bytes : List ℕ) (old : Tally) (was now : Option (List ℕ)) (new : Tally) : Type 0 where

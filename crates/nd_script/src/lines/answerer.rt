@@ -1,12 +1,14 @@
 //! `Answerer`: what answers the lines of a script, one by one.
 
-ghost use Rattle.std.specs.Prelude.{◌≡◌, [], OnOk, OnErr};
+ghost use Rattle.std.specs.Prelude.{◌≡◌, OnOk, OnErr};
 ghost use Rattle.std.specs.Borrow.{GName};
 ghost use Rattle.nd_model.specs.Book.Script.{Stage};
 ghost use Rattle.nd_model.specs.Book.ScriptRuns.{IsInLine};
+ghost use Rattle.nd_script.specs.Lines.Answers.{Pushes};
 ghost use Rattle.nd_script.specs.Lines.Counts.{Tally};
-ghost use Rattle.nd_script.specs.Lines.Run.{open_answer, Done, DoneInPart};
+ghost use Rattle.nd_script.specs.Lines.Run.{open_answer, Answered};
 
+use crate::lines::answer_writer::AnswerWrite;
 use std::alloc::AllocError;
 
 /// Answers the lines of a script. It knows the notebook, and whether a source is open.
@@ -23,19 +25,18 @@ pub trait Answerer {
     /// The reference to the meter that it holds, which stays the same.
     ghost meter_reference: { Self → GName };
 
-    /// Carries a line out, and appends its answer.
-    fn answer_line(&mut self, line: &[u8], answer: &mut Vec<u8>) -> Result<(), AllocError>
-        requires inside { IsInLine line.now }
-        requires empty { answer.old.items ≡ [] }
-        ensures done { OnOk result (Done (stage self.old) line.now (stage self.new)
-            (tally self.old) answer.new.items (tally self.new)) }
-        ensures part { OnErr result (DoneInPart (stage self.old) line.now
-            (tally self.old) (tally self.new)) }
+    /// Carries a line out, and appends its answer. Memory may be wanted for reading the line alone:
+    /// then nothing is carried out.
+    fn answer_line<O: AnswerWrite>(&mut self, line: &[u8], out: &mut O) -> Result<(), AllocError>
+        requires { IsInLine line.now }
+        ensures done { OnOk result (Answered (stage self.old) line.now (stage self.new)
+            (tally self.old) (O.state out.old) (O.state out.new) (tally self.new)) }
+        ensures unread { OnErr result (tally self.new ≡ tally self.old) }
+        ensures unwritten { OnErr result (O.state out.new ≡ O.state out.old) }
         ensures same_reference { reference self.new ≡ reference self.old }
         ensures same_meter { meter_reference self.new ≡ meter_reference self.old };
 
     /// Appends the answer to the end of the script, where a source that is still open is refused.
-    fn answer_end(&self, answer: &mut Vec<u8>) -> Result<(), AllocError>
-        requires empty { answer.old.items ≡ [] }
-        ensures { OnOk result (answer.new.items ≡ open_answer (stage self.now)) };
+    fn answer_end<O: AnswerWrite>(&self, out: &mut O)
+        ensures { Pushes (O.state out.old) (open_answer (stage self.now)) (O.state out.new) };
 }

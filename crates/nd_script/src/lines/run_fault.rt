@@ -18,7 +18,8 @@ pub enum RunFault {
     /// A line has more than 2^28 bytes.
     #[error("a line of the script is too long")]
     LineTooLong,
-    /// Want of memory for a line, a source or an answer.
+    /// Want of memory to read a line: for its bytes, for a source or for an input. No answer takes
+    /// memory of its own size.
     #[error("out of memory")]
     OutOfMemory,
 }

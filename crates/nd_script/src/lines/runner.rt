@@ -64,9 +64,9 @@ pub fn run_lines<R: CountedRead, W: CountedWrite, A: Answerer>(
             return Err(RunFault::ReadFault);
         };
         if n == 0 {
-            return script.finish(alloc, answerer, writer);
+            return script.finish(answerer, writer);
         }
-        script.take_bytes(alloc, &chunk[..n], answerer, writer)?;
+        script.take_bytes(&chunk[..n], answerer, writer)?;
     }
     Err(RunFault::ReadFault)
 }

@@ -3,18 +3,19 @@
 ghost use Rattle.std.specs.Prelude.{◌≡◌, ◌≢◌, ◌==◌, ◌++◌, [], ◌≤◌, length, position, OnOk, OnErr, IfErr, is_ok};
 ghost use Rattle.nd_script.specs.Lines.Ends.{counted_on};
 ghost use Rattle.nd_model.specs.Book.ScriptRuns.{most_line, IsInLine};
-ghost use Rattle.nd_script.specs.Lines.Run.{open_answer, FinishStops, Finishes, FitsLine, IsInAnswer, IsTooLong, LineRuns, LineStops, Runs, Stops, Wrote};
+ghost use Rattle.nd_script.specs.Lines.Run.{open_answer, Finishes, FitsLine, IsTooLong, LineRuns, Runs, Stops, StopsAtEnd, StopsInLine, Wrote};
 
+use crate::lines::answer_writer::AnswerWriter;
 use crate::lines::answerer::Answerer;
-use crate::lines::output::{CountedWrite, write_answer};
+use crate::lines::output::CountedWrite;
 use crate::lines::run_fault::RunFault;
 use std::alloc::Global;
 
 // The most bytes of a line.
 const MOST_LINE: usize = 1 << 28;
 
-/// The state of a script between two of its bytes, apart from what its answerer knows. Behind `cou` it
-/// has the bytes of a line that has not ended.
+/// The state of a script between two of its bytes, apart from what its answerer knows. Behind
+/// `cou` it has the bytes of a line that has not ended.
 #[derive(Drop)]
 pub struct Script {
     /// The open line, without a newline.
@@ -29,21 +30,16 @@ fn newline_in(bytes: &[u8]) -> Option<usize>
 }
 
 // Answers the end of a script.
-fn answer_end<A: Answerer, W: CountedWrite>(
-    alloc: Global,
-    answerer: &A,
-    writer: &mut W,
-) -> Result<(), RunFault>
+fn answer_end<A: Answerer, W: CountedWrite>(answerer: &A, writer: &mut W) -> Result<(), RunFault>
     ensures answer { Wrote (W.contents writer.old) (open_answer (A.stage answerer.now))
         (is_ok result) (W.contents writer.new) }
-    ensures fault { IfErr result IsInAnswer }
+    ensures fault { IfErr result (λ f. f ≡ RunFault.WriteFault) }
     ensures kept { OnOk result (W.failures writer.new ≡ W.failures writer.old) }
-    ensures failed { IfErr result (λ f. f ≡ RunFault.WriteFault
-        → W.failures writer.new ≡ counted_on (W.failures writer.old) 1) }
+    ensures failed { OnErr result (W.failures writer.new ≡ counted_on (W.failures writer.old) 1) }
 {
-    let mut answer = Vec::new(alloc);
-    answerer.answer_end(&mut answer)?;
-    write_answer(writer, &answer)
+    let mut out = AnswerWriter::new(writer);
+    answerer.answer_end(&mut out);
+    out.finish()
 }
 
 impl Script {
@@ -73,7 +69,6 @@ impl Script {
     // Ends the open line: it is carried out and answered.
     fn end_line<A: Answerer, W: CountedWrite>(
         &mut self,
-        alloc: Global,
         answerer: &mut A,
         writer: &mut W,
     ) -> Result<(), RunFault>
@@ -83,26 +78,24 @@ impl Script {
             (A.tally answerer.old) (W.contents writer.old)
             (W.contents writer.new) (A.tally answerer.new)) }
         ensures line { OnOk result (self.new.line.items ≡ []) }
-        ensures err { OnErr result (LineStops (A.stage answerer.old) self.old.line.items
+        ensures err { IfErr result (λ f. StopsInLine f (A.stage answerer.old) self.old.line.items
             (A.tally answerer.old) (W.contents writer.old)
             (W.contents writer.new) (A.tally answerer.new)) }
-        ensures fault { IfErr result IsInAnswer }
         ensures kept { OnOk result (W.failures writer.new ≡ W.failures writer.old) }
         ensures failed { IfErr result (λ f. f ≡ RunFault.WriteFault
             → W.failures writer.new ≡ counted_on (W.failures writer.old) 1) }
         ensures same_reference { A.reference answerer.new ≡ A.reference answerer.old }
         ensures same_meter { A.meter_reference answerer.new ≡ A.meter_reference answerer.old }
     {
-        let mut answer = Vec::new(alloc);
-        answerer.answer_line(&self.line, &mut answer)?;
+        let mut out = AnswerWriter::new(writer);
+        answerer.answer_line(&self.line, &mut out)?;
         self.line.clear();
-        write_answer(writer, &answer)
+        out.finish()
     }
 
     /// Runs the next bytes of the script.
     pub fn take_bytes<A: Answerer, W: CountedWrite>(
         &mut self,
-        alloc: Global,
         bytes: &[u8],
         answerer: &mut A,
         writer: &mut W,
@@ -127,7 +120,7 @@ impl Script {
         let mut rest = bytes;
         while let Some(end) = newline_in(rest) {
             self.extend_line(&rest[..end])?;
-            self.end_line(alloc, answerer, writer)?;
+            self.end_line(answerer, writer)?;
             rest = &rest[end + 1..];
         }
         self.extend_line(rest)
@@ -136,7 +129,6 @@ impl Script {
     /// Runs what is left at the end of the script.
     pub fn finish<A: Answerer, W: CountedWrite>(
         &mut self,
-        alloc: Global,
         answerer: &mut A,
         writer: &mut W,
     ) -> Result<(), RunFault>
@@ -144,10 +136,9 @@ impl Script {
         ensures ok { OnOk result (Finishes (A.stage answerer.old) self.old.line.items
             (A.tally answerer.old) (W.contents writer.old)
             (W.contents writer.new) (A.tally answerer.new)) }
-        ensures err { OnErr result (FinishStops (A.stage answerer.old) self.old.line.items
+        ensures err { IfErr result (λ f. StopsAtEnd f (A.stage answerer.old) self.old.line.items
             (A.tally answerer.old) (W.contents writer.old)
             (W.contents writer.new) (A.tally answerer.new)) }
-        ensures fault { IfErr result IsInAnswer }
         ensures kept { OnOk result (W.failures writer.new ≡ W.failures writer.old) }
         ensures failed { IfErr result (λ f. f ≡ RunFault.WriteFault
             → W.failures writer.new ≡ counted_on (W.failures writer.old) 1) }
@@ -155,8 +146,8 @@ impl Script {
         ensures same_meter { A.meter_reference answerer.new ≡ A.meter_reference answerer.old }
     {
         if !self.line.is_empty() {
-            self.end_line(alloc, answerer, writer)?;
+            self.end_line(answerer, writer)?;
         }
-        answer_end(alloc, answerer, writer)
+        answer_end(answerer, writer)
     }
 }

@@ -1,87 +1,106 @@
-//! `push_text`, `push_number` and the others: the pieces of an answer, each appended to its bytes.
+//! `push_text`, `push_number` and the others: the pieces of an answer. None takes memory.
 
-ghost use Rattle.std.specs.Prelude.{◌≡◌, ◌++◌, codes, decimal, length, map, string_bytes, OnOk};
+ghost use Rattle.std.specs.Prelude.{◌≡◌, ◌++◌, codes, decimal, ◌≤◌, length, map, string_bytes};
 ghost use Rattle.std.specs.Fmt.{signed_decimal};
-ghost use Rattle.nd_model.specs.Book.Script.{hex_text, name_lines, shape_text};
+ghost use Rattle.nd_model.specs.Book.Script.{hex_digits, hex_text, name_lines, shape_text};
+ghost use Rattle.nd_script.specs.Lines.Answers.{Pushes};
 
+use crate::lines::AnswerWrite;
 use itoa::Buffer;
-use std::alloc::AllocError;
+
+// The bytes whose hex digits are made at once.
+const CHUNK: usize = 64;
 
 /// Appends a text.
-pub fn push_text(out: &mut Vec<u8>, text: &str) -> Result<(), AllocError>
-    ensures { OnOk result (out.new.items ≡ out.old.items ++ text.now) }
+pub fn push_text<O: AnswerWrite>(out: &mut O, text: &str)
+    ensures { Pushes (O.state out.old) text.now (O.state out.new) }
 {
-    out.extend_from_slice(text.as_bytes())
+    out.push_bytes(text.as_bytes());
 }
 
 /// Appends a number in decimal digits.
-pub fn push_number(out: &mut Vec<u8>, number: u64) -> Result<(), AllocError>
-    ensures { OnOk result (out.new.items ≡ out.old.items ++ decimal number) }
+pub fn push_number<O: AnswerWrite>(out: &mut O, number: u64)
+    ensures { Pushes (O.state out.old) (decimal number) (O.state out.new) }
 {
     let mut buffer = Buffer::new();
-    out.extend_from_slice(buffer.format(number).as_bytes())
+    out.push_bytes(buffer.format(number).as_bytes());
 }
 
 /// Appends an integer in decimal digits, behind a sign where it is negative: `-5`.
-pub fn push_integer(out: &mut Vec<u8>, integer: i128) -> Result<(), AllocError>
-    ensures { OnOk result (out.new.items ≡ out.old.items ++ signed_decimal integer) }
+pub fn push_integer<O: AnswerWrite>(out: &mut O, integer: i128)
+    ensures { Pushes (O.state out.old) (signed_decimal integer) (O.state out.new) }
 {
     let mut buffer = Buffer::new();
-    out.extend_from_slice(buffer.format(integer).as_bytes())
+    out.push_bytes(buffer.format(integer).as_bytes());
 }
 
 /// Appends a line of a word and a number, such as `count 3`.
-pub fn push_count_line(out: &mut Vec<u8>, word: &str, count: usize) -> Result<(), AllocError>
-    ensures { OnOk result (out.new.items
-        ≡ out.old.items ++ (word.now ++ codes " " ++ decimal count ++ codes "\n")) }
+pub fn push_count_line<O: AnswerWrite>(out: &mut O, word: &str, count: usize)
+    ensures { Pushes (O.state out.old) (word.now ++ codes " " ++ decimal count ++ codes "\n")
+        (O.state out.new) }
 {
-    out.extend_from_slice(word.as_bytes())?;
-    out.push(b' ')?;
-    push_number(out, count as u64)?;
-    out.push(b'\n')?;
-    Ok(())
+    push_text(out, word);
+    push_text(out, " ");
+    push_number(out, count as u64);
+    push_text(out, "\n");
+}
+
+/// Appends bytes as two lower-case hex digits each.
+pub fn push_hex_digits<O: AnswerWrite>(out: &mut O, bytes: &[u8])
+    ensures { Pushes (O.state out.old) (hex_digits bytes.now) (O.state out.new) }
+{
+    let mut rest = bytes;
+    while !rest.is_empty() {
+        let (chunk, behind) = rest.split_at(rest.len().min(CHUNK));
+        push_chunk(out, chunk);
+        rest = behind;
+    }
+}
+
+// Appends the hex digits of at most 64 bytes.
+fn push_chunk<O: AnswerWrite>(out: &mut O, chunk: &[u8])
+    requires { length chunk.now ≤ 64 }
+    ensures { Pushes (O.state out.old) (hex_digits chunk.now) (O.state out.new) }
+{
+    let mut digits = [0u8; 2 * CHUNK];
+    let digits = &mut digits[..2 * chunk.len()];
+    hex::encode_to_slice(chunk, digits).unwrap();
+    out.push_bytes(digits);
 }
 
 /// Appends bytes as two lower-case hex digits each, or a dash where there are none: the bytes 10 and
 /// 255 are `0aff`.
-pub fn push_hex(out: &mut Vec<u8>, bytes: &[u8]) -> Result<(), AllocError>
-    ensures { OnOk result (out.new.items ≡ out.old.items ++ hex_text bytes.now) }
+pub fn push_hex<O: AnswerWrite>(out: &mut O, bytes: &[u8])
+    ensures { Pushes (O.state out.old) (hex_text bytes.now) (O.state out.new) }
 {
     if bytes.is_empty() {
-        out.push(b'-')?;
-        return Ok(());
+        push_text(out, "-");
+    } else {
+        push_hex_digits(out, bytes);
     }
-    for byte in bytes {
-        let mut pair = [0u8; 2];
-        hex::encode_to_slice([*byte].as_slice(), &mut pair).unwrap();
-        out.extend_from_slice(&pair)?;
-    }
-    Ok(())
 }
 
 /// Appends a shape, lengths separated by commas, or `()` where there are none: `2,3`.
-pub fn push_shape(out: &mut Vec<u8>, shape: &[u64]) -> Result<(), AllocError>
-    ensures { OnOk result (out.new.items ≡ out.old.items ++ shape_text shape.now) }
+pub fn push_shape<O: AnswerWrite>(out: &mut O, shape: &[u64])
+    ensures { Pushes (O.state out.old) (shape_text shape.now) (O.state out.new) }
 {
     let [first, rest @ ..] = shape else {
-        return out.extend_from_slice(b"()");
+        return push_text(out, "()");
     };
-    push_number(out, *first)?;
+    push_number(out, *first);
     for n in rest {
-        out.push(b',')?;
-        push_number(out, *n)?;
+        push_text(out, ",");
+        push_number(out, *n);
     }
-    Ok(())
 }
 
 /// Appends a line for each name.
-pub fn push_names(out: &mut Vec<u8>, names: &[String]) -> Result<(), AllocError>
-    ensures { OnOk result (out.new.items ≡ out.old.items ++ name_lines
-        (map string_bytes names.now)) }
+pub fn push_names<O: AnswerWrite>(out: &mut O, names: &[String])
+    ensures { Pushes (O.state out.old) (name_lines (map string_bytes names.now))
+        (O.state out.new) }
 {
     for name in names {
-        out.extend_from_slice(name.as_bytes())?;
-        out.push(b'\n')?;
+        push_text(out, name.as_str());
+        push_text(out, "\n");
     }
-    Ok(())
 }

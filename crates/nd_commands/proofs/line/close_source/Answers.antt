@@ -5,7 +5,7 @@ use Rattle.nd_commands.proofs.Carried.{closed_text, closed_bytes}
 use Rattle.nd_commands.proofs.line.close_source.Goals as goal
 
 pub returns-in-Insert-clause-carried : goal.returns-in-Insert-clause-carried
-returns-in-Insert-clause-carried c =
+returns-in-Insert-clause-carried g c =
     let s = c.args.source.now in
     let utf8 = rw c.bytes.ensures at c.in-Ok.ensures.cases.1 in
     let is = closed_text (opening_of s.opening) (lines_so_far s) c.in-Ok.text.now (c.in-Ok.ensures.cases.0 ∙ c.bytes.ensures) utf8 in
@@ -13,7 +13,7 @@ returns-in-Insert-clause-carried c =
     rw (c.in-Insert.is, same) c.insert_cell.ensures.carried
 
 pub returns-in-Insert-clause-counts : goal.returns-in-Insert-clause-counts
-returns-in-Insert-clause-counts c =
+returns-in-Insert-clause-counts g c =
     let s = c.args.source.now in
     let utf8 = rw c.bytes.ensures at c.in-Ok.ensures.cases.1 in
     let is = closed_text (opening_of s.opening) (lines_so_far s) c.in-Ok.text.now (c.in-Ok.ensures.cases.0 ∙ c.bytes.ensures) utf8 in
@@ -21,7 +21,7 @@ returns-in-Insert-clause-counts c =
     rw (c.in-Insert.is, same) c.insert_cell.ensures.counts
 
 pub returns-in-Edit-clause-carried : goal.returns-in-Edit-clause-carried
-returns-in-Edit-clause-carried c =
+returns-in-Edit-clause-carried g c =
     let s = c.args.source.now in
     let utf8 = rw c.bytes.ensures at c.in-Ok.ensures.cases.1 in
     let is = closed_text (opening_of s.opening) (lines_so_far s) c.in-Ok.text.now (c.in-Ok.ensures.cases.0 ∙ c.bytes.ensures) utf8 in
@@ -29,7 +29,7 @@ returns-in-Edit-clause-carried c =
     rw (c.in-Edit.is, same) c.edit_cell.ensures.carried
 
 pub returns-in-Edit-clause-counts : goal.returns-in-Edit-clause-counts
-returns-in-Edit-clause-counts c =
+returns-in-Edit-clause-counts g c =
     let s = c.args.source.now in
     let utf8 = rw c.bytes.ensures at c.in-Ok.ensures.cases.1 in
     let is = closed_text (opening_of s.opening) (lines_so_far s) c.in-Ok.text.now (c.in-Ok.ensures.cases.0 ∙ c.bytes.ensures) utf8 in
@@ -37,13 +37,13 @@ returns-in-Edit-clause-counts c =
     rw (c.in-Edit.is, same) c.edit_cell.ensures.counts
 
 pub returns-in-Err-clause-carried : goal.returns-in-Err-clause-carried
-returns-in-Err-clause-carried c =
+returns-in-Err-clause-carried g c =
     let s = c.args.source.now in
     let other = rw c.bytes.ensures at c.in-Err.ensures.cases.0 in
     rw (closed_bytes (opening_of s.opening) (lines_so_far s) other) (codes "bad command\n", inl (refl, refl), c.push_text.ensures)
 
 pub returns-in-Err-clause-counts : goal.returns-in-Err-clause-counts
-returns-in-Err-clause-counts c =
+returns-in-Err-clause-counts g c =
     let s = c.args.source.now in
     let other = rw c.bytes.ensures at c.in-Err.ensures.cases.0 in
     rw (closed_bytes (opening_of s.opening) (lines_so_far s) other) refl

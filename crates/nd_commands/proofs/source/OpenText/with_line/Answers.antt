@@ -1,13 +1,21 @@
+use Rattle.std.proofs.Common.{◌++◌, ◌∙◌, ap}
+use Rattle.std.specs.Prelude.{◌==◌}
+use Rattle.std.specs.List.{slice_split}
 use Rattle.nd_script.proofs.lines.Lines.{one_line}
 use Rattle.nd_commands.proofs.Lines.{grown_lines}
 use Rattle.nd_commands.proofs.source.OpenText.with_line.Goals as goal
-use Rattle.nd_commands.proofs.source.OpenText.with_line.Goals.{in-None+in_ok-text-in-None, in-Some+in_ok-push-in-Some+in_ok-extend_from_slice-in-Some}
+use Rattle.nd_commands.proofs.source.OpenText.with_line.Goals.{then-has_lines+in_ok-push, else-has_lines}
 
 pub returns-clause-lines : goal.returns-clause-lines
 returns-clause-lines c =
-    elim c.match-text.branch [
-      | in-None+in_ok-text-in-None w ↦ rw (w.text-is, w.in_ok-text-in-None.ensures.items, w.in-None.is) (one_line c.args.line.now c.requires)
-      | in-Some+in_ok-push-in-Some+in_ok-extend_from_slice-in-Some w ↦ rw (w.text-is, w.in-Some.is) (
-          grown_lines w.in-Some.text.items w.push.new.self.items w.extend_from_slice.new.self.items c.args.line.now c.requires w.in_ok-push-in-Some.ensures.items w.in_ok-extend_from_slice-in-Some.ensures.items
+    let line = c.args.line.now in
+    let extended = c.in_ok-extend_from_slice.ensures.items in
+    elim c.if-has_lines.branch [
+      | then-has_lines+in_ok-push w ↦ rw w.if-has_lines.true (
+          grown_lines c.args.self.text.items w.push.new.self.items c.extend_from_slice.new.self.items line c.requires w.in_ok-push.ensures.items
+          (extended ∙ ap (λ v. v.items ++ line) w.text-is)
+          )
+      | else-has_lines w ↦ rw w.if-has_lines.false (
+          ap (slice_split (λ c. c == 10)) (extended ∙ ap (λ v. v.items ++ line) w.text-is ∙ ap (λ l. l ++ line) w.clear.ensures.items) ∙ one_line line c.requires
           )
     ]

@@ -3,7 +3,6 @@ use Rattle.nd_model.specs.Book.Renaming.{AreDistinct}
 use Rattle.nd_model.specs.Book.Book.{labels_of}
 use Rattle.nd_model.specs.Book.Notebook.{Sheet, book_of}
 use Rattle.nd_model.proofs.Books.{any_book_labels}
-use Rattle.nd_notebook.specs.Edits.{edit_of}
 use Rattle.nd_notebook.proofs.Answered.{leads_first, leads_to_end, leads_on}
 use Rattle.nd_notebook.proofs.notebook.Notebook.apply_all.Goals as goal
 

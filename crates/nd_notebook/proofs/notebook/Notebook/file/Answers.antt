@@ -1,7 +1,5 @@
-use Rattle.std.proofs.Common.{◌≡◌, ℕ, List, [], ap, sym, ◌∙◌}
 use Rattle.nd_model.specs.Book.Notebook.{book_of}
-use Rattle.nd_notebook.specs.Queries.{result_of}
-use Rattle.nd_notebook.proofs.Asked.{save_told, save_not_told}
+use Rattle.nd_notebook.proofs.Asked.{save_not_told}
 use Rattle.nd_notebook.proofs.notebook.Notebook.file.Goals as goal
 
 pub returns-in-Err : goal.returns-in-Err

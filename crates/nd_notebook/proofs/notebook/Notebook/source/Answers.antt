@@ -1,16 +1,9 @@
-use Rattle.std.proofs.Common.{◌≡◌, ℕ, List, [], Ok, map, length, string_bytes, ap, sym, ◌∙◌, ◌+◌, ◌<◌, ◌≤◌, arith, is_some, false, true}
+use Rattle.std.proofs.Common.{◌≡◌, length, ap, sym, ◌∙◌, arith}
 use Rattle.std.specs.Prelude.{slice_index_or}
-use Rattle.nd_model.specs.Cells.Session.{Session, lookup}
-use Rattle.nd_model.specs.Arrays.Value.{Value}
-use Rattle.nd_model.specs.Book.Entries.{session_before}
-use Rattle.nd_model.specs.Book.Renaming.{Told, Shown}
 use Rattle.nd_model.specs.Book.Book.{found_value}
 use Rattle.nd_model.specs.Book.Book as model
 use Rattle.nd_model.specs.Book.Notebook.{Sheet, book_of}
-use Rattle.nd_session.specs.Session.Kept.{version_of}
-use Rattle.nd_heap.specs.Values.{value_of}
-use Rattle.nd_notebook.specs.Queries.{shown_of}
-use Rattle.nd_notebook.proofs.Asked.{names_are_told, names_told, no_source, no_value, not_told, result_told, source_there, unbound_value, value_is_told, value_told, wants_memory}
+use Rattle.nd_notebook.proofs.Asked.{no_source, source_there}
 use Rattle.nd_notebook.proofs.notebook.Notebook.source.Goals as goal
 
 pub returns-then-count-at : goal.returns-then-count-at

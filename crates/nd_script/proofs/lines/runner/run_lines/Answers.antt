@@ -1,14 +1,13 @@
 use Rattle.std.proofs.Common.{◌<◌, [], ◌++◌, ◌∙◌, length, take, refl, ap, rules}
 use Rattle.std.proofs.KnownBytes.{Consumes-nil, Consumes-trans}
-use Rattle.std.proofs.lemmas.Result.{err_from_is_err_and, on_ok_weaker}
+use Rattle.std.proofs.lemmas.Result.{IfErr-weaker, err_from_is_err_and, on_ok_weaker}
 use Rattle.nd_model.specs.Book.Script.{Between}
 use Rattle.nd_model.specs.Book.ScriptRuns.{ReadFault}
 use Rattle.nd_script.specs.Lines.Ends.{counted_on}
-use Rattle.nd_script.specs.Lines.Run.{IsInAnswer}
 use Rattle.nd_script.proofs.lines.Chunks.{fits_none, runs_start}
 use Rattle.nd_script.proofs.lines.Counts.{counted_none, counted_more}
 use Rattle.nd_script.proofs.lines.Plain.{plain_fault, plain_result, plain_stop}
-use Rattle.nd_script.proofs.lines.Progress.{consumes_none, consumes_at_failure, if_err_both, ran_to_end, runs_runs, stopped_at_end, stopped_in_bytes, stopped_in_reading}
+use Rattle.nd_script.proofs.lines.Progress.{consumes_none, consumes_at_failure, ran_to_end, runs_runs, stopped_at_end, stopped_in_bytes, stopped_in_reading}
 use Rattle.nd_script.proofs.lines.runner.run_lines.Goals as goal
 
 pub loop-turn-init : goal.loop-turn-init
@@ -47,9 +46,10 @@ returns-then-n-eq0-clause-counted_stop g c =
     let unread = g.R.CountedRead.remaining c.args.reader.now in
     let left = g.R.CountedRead.remaining c.read_counted.new.self in
     let taken = consumes_none unread (g.R.CountedRead.remaining c.loop-turn.reader) left inv.0 c.read_counted.new.buffer c.in-Ok.n inv.1 read.0 c.if-n-eq0.true in
-    if_err_both c.finish.result IsInAnswer _ _ c.finish.ensures.fault c.finish.ensures.err
-    (λ f h q. stopped_at_end f unread left inv.0 (g.A.Answerer.stage c.loop-turn.answerer) c.loop-turn.script.line.items (g.A.Answerer.tally c.args.answerer.now) (g.A.Answerer.tally c.loop-turn.answerer) (g.A.Answerer.tally c.finish.new.answerer)
-    (g.W.CountedWrite.contents c.args.writer.now) (g.W.CountedWrite.contents c.loop-turn.writer) (g.W.CountedWrite.contents c.finish.new.writer) h taken (read.1 c.if-n-eq0.true room) inv.2 q)
+    IfErr-weaker c.finish.result _ _
+    (λ f q. stopped_at_end f unread left inv.0 (g.A.Answerer.stage c.loop-turn.answerer) c.loop-turn.script.line.items (g.A.Answerer.tally c.args.answerer.now) (g.A.Answerer.tally c.loop-turn.answerer) (g.A.Answerer.tally c.finish.new.answerer)
+    (g.W.CountedWrite.contents c.args.writer.now) (g.W.CountedWrite.contents c.loop-turn.writer) (g.W.CountedWrite.contents c.finish.new.writer) taken (read.1 c.if-n-eq0.true room) inv.2 q)
+    c.finish.ensures.err
 
 pub returns-in_err-take_bytes-clause-counted_stop : goal.returns-in_err-take_bytes-clause-counted_stop
 returns-in_err-take_bytes-clause-counted_stop g c =

@@ -1,13 +1,15 @@
 use Rattle.std.proofs.Common.{◌≡◌, ◌<◌, length, rules}
-use Rattle.nd_script.proofs.lines.Progress.{on_err_any, no_bytes, finish_none, finish_some, finish_stopped}
+use Rattle.std.proofs.lemmas.Result.{err_from_is_err_and}
+use Rattle.nd_script.proofs.lines.Progress.{at_end, no_bytes, finish_none, finish_some, finish_stopped}
 use Rattle.nd_script.proofs.lines.script.Script.finish.Goals as goal
 use Rattle.nd_script.proofs.lines.script.Script.finish.Goals.{then-not-is_empty+in_ok-end_line, else-not-is_empty}
 
 pub returns-in_err-end_line-clause-err : goal.returns-in_err-end_line-clause-err
 returns-in_err-end_line-clause-err g c =
     let some : 0 < length c.args.self.now.line.items = search rules in
-    on_err_any c.from_residual.result (
-    finish_stopped (g.A.Answerer.stage c.args.answerer.now) c.args.self.now.line.items (g.A.Answerer.tally c.args.answerer.now) (g.A.Answerer.tally c.end_line.new.answerer)
+    let p = err_from_is_err_and c.from_residual.result c.from_residual.ensures.1 in
+    rw (p.1, p.2) (
+    finish_stopped _ (g.A.Answerer.stage c.args.answerer.now) c.args.self.now.line.items (g.A.Answerer.tally c.args.answerer.now) (g.A.Answerer.tally c.end_line.new.answerer)
     (g.W.CountedWrite.contents c.args.writer.now) (g.W.CountedWrite.contents c.end_line.new.writer) c.requires some c.in_err-end_line.ensures.err
     )
 
@@ -34,13 +36,13 @@ returns-clause-err g c =
       | then-not-is_empty+in_ok-end_line w ↦
           let some : 0 < length c.args.self.now.line.items = search rules in
           let wrote = rw (w.answerer-is, w.writer-is) at c.answer_end.ensures.answer in
-          rw w.answerer-is (finish_some c.answer_end.result (g.A.Answerer.stage c.args.answerer.now) (g.A.Answerer.stage w.end_line.new.answerer) c.args.self.now.line.items (g.A.Answerer.tally c.args.answerer.now)
+          rw w.answerer-is (at_end c.answer_end.result _ _ _ _ _ _ c.answer_end.ensures.fault (finish_some c.answer_end.result (g.A.Answerer.stage c.args.answerer.now) (g.A.Answerer.stage w.end_line.new.answerer) c.args.self.now.line.items (g.A.Answerer.tally c.args.answerer.now)
           (g.A.Answerer.tally w.end_line.new.answerer) (g.W.CountedWrite.contents c.args.writer.now) (g.W.CountedWrite.contents w.end_line.new.writer) (g.W.CountedWrite.contents c.answer_end.new.writer)
-          c.requires some w.in_ok-end_line.ensures.ok wrote).1
+          c.requires some w.in_ok-end_line.ensures.ok wrote).1)
       | else-not-is_empty w ↦
           let zero : length c.args.self.now.line.items ≡ 0 = search rules in
           let none = no_bytes c.args.self.now.line.items zero in
           let wrote = rw (w.answerer-is, w.writer-is) at c.answer_end.ensures.answer in
-          rw w.answerer-is (finish_none c.answer_end.result (g.A.Answerer.stage c.args.answerer.now) c.args.self.now.line.items (g.A.Answerer.tally c.args.answerer.now)
-          (g.W.CountedWrite.contents c.args.writer.now) (g.W.CountedWrite.contents c.answer_end.new.writer) none wrote).1
+          rw w.answerer-is (at_end c.answer_end.result _ _ _ _ _ _ c.answer_end.ensures.fault (finish_none c.answer_end.result (g.A.Answerer.stage c.args.answerer.now) c.args.self.now.line.items (g.A.Answerer.tally c.args.answerer.now)
+          (g.W.CountedWrite.contents c.args.writer.now) (g.W.CountedWrite.contents c.answer_end.new.writer) none wrote).1)
     ]

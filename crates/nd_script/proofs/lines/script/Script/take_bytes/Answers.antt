@@ -38,7 +38,7 @@ returns-in_err-end_line-clause-err g c =
     stops_end _ (g.A.Answerer.stage c.args.answerer.now) c.args.self.now.line.items inv.so_far.0 (g.A.Answerer.stage c.loop-end.answerer) c.loop-end.self.line.items _
     c.extend_line.new.self.line.items c.loop-end.rest.now c.args.bytes.now c.in-Some.end (g.A.Answerer.tally c.args.answerer.now) (g.A.Answerer.tally c.loop-end.answerer) (g.A.Answerer.tally c.end_line.new.answerer)
     (g.W.CountedWrite.contents c.args.writer.now) (g.W.CountedWrite.contents c.loop-end.writer) (g.W.CountedWrite.contents c.end_line.new.writer) found refl inv.fits.in_line inv.so_far.1 inv.so_far.2
-    c.in_ok-extend_line.ensures.line c.in_err-end_line.ensures.err c.in_err-end_line.ensures.fault
+    c.in_ok-extend_line.ensures.line c.in_err-end_line.ensures.err
     )
 
 pub loop-end-preserved : goal.loop-end-preserved

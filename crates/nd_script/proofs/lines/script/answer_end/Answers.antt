@@ -1,0 +1,6 @@
+use Rattle.std.proofs.Common.{rules}
+use Rattle.nd_script.proofs.lines.Answers.{written, wrote_at}
+use Rattle.nd_script.proofs.lines.script.answer_end.Goals as goal
+
+pub returns-clause-answer : goal.returns-clause-answer
+returns-clause-answer g c = wrote_at c.finish.result (written c.new-out.ensures c.answer_end.ensures c.finish.ensures.ends) (search rules)

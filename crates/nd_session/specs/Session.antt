@@ -9,3 +9,6 @@ pub mod Reads
 pub mod Reading
 pub mod Changes
 pub mod Noted
+pub mod Filter
+pub mod Change
+pub mod Now

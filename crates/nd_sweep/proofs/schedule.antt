@@ -4,4 +4,6 @@ mod Kept
 mod Editing
 mod Removing
 mod Inserting
+mod Parting
+mod Standing
 mod Turning

@@ -3,6 +3,7 @@ mod moving;
 mod notebook;
 mod queries;
 mod runner;
+mod snapshots;
 mod sweep;
 
 pub use notebook::ChangeSchedule;

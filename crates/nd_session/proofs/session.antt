@@ -11,9 +11,3 @@ pub mod Keeping
 pub mod Last
 pub mod Overlaying
 pub mod Gathering
-pub mod Standing
-pub mod Covering
-pub mod Fitting
-pub mod Dropping
-pub mod Carrying
-pub mod Giving

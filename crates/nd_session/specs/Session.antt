@@ -9,6 +9,3 @@ pub mod Reads
 pub mod Reading
 pub mod Changes
 pub mod Noted
-pub mod Filter
-pub mod Change
-pub mod Now

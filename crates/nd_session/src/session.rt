@@ -3,7 +3,6 @@
 ghost use Rattle.nd_session.specs.Session.State.{State};
 ghost use Rattle.nd_session.specs.Session.Listed.{IsListed};
 
-mod change;
 mod changes;
 mod found;
 mod matching;
@@ -15,7 +14,6 @@ mod session;
 mod version;
 
 pub use crate::inputs::{Input, Inputs, has_input, is_input_name, with_input, without_input};
-pub use change::{Change, KeyFilter};
 pub use changes::Changes;
 pub use nd_heap::{Array, Base, BlockWriter, OutOfMemory, Value};
 pub use nd_trace::{Event, Trace};

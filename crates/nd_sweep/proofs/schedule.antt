@@ -4,6 +4,4 @@ mod Kept
 mod Editing
 mod Removing
 mod Inserting
-mod Parting
-mod Standing
 mod Turning

@@ -3,7 +3,6 @@ mod moving;
 mod notebook;
 mod queries;
 mod runner;
-mod snapshots;
 mod sweep;
 
 pub use notebook::ChangeSchedule;

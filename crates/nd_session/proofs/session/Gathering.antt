@@ -80,7 +80,7 @@ before_weaker P Q w (e ∷ es) (suc i) h = (w e h.0, before_weaker P Q w es i h.
 
 -- ---- events beside what is noted
 
-pub event_name : (n : List ℕ) (e : Event) → is_event_of n e ≡ bytes_eq n (name_of_event e)
+event_name : (n : List ℕ) (e : Event) → is_event_of n e ≡ bytes_eq n (name_of_event e)
 event_name n (Binds m v) = refl
 event_name n (Unbinds m) = refl
 

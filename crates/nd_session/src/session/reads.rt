@@ -37,22 +37,22 @@ use std::marker::Model;
 use std::rc::Rc;
 
 /// The values of names, `None` where a name was not bound.
-pub(crate) type NamesRead = IndexMap<String, Option<Rc<Value>>>;
+type NamesRead = IndexMap<String, Option<Rc<Value>>>;
 
 /// Inputs by name, `None` where there was no such input.
-pub(crate) type InputsRead = IndexMap<String, Option<Rc<Input>>>;
+type InputsRead = IndexMap<String, Option<Rc<Input>>>;
 
 /// The lengths of blocks.
-pub(crate) type LengthsRead = IndexMap<Base, usize>;
+type LengthsRead = IndexMap<Base, usize>;
 
 /// What a cell read, with what it found there. Values and inputs are shared. So is a block, unless
 /// the bytes that were read of it are few: then they are kept alone.
 #[derive(Drop)]
 pub struct Reads {
-    pub(crate) names: NamesRead,
-    pub(crate) inputs: InputsRead,
-    pub(crate) lengths: LengthsRead,
-    pub(crate) bytes: FoundByBase,
+    names: NamesRead,
+    inputs: InputsRead,
+    lengths: LengthsRead,
+    bytes: FoundByBase,
 }
 
 impl Model for Reads {
@@ -96,7 +96,7 @@ fn find_names(alloc: Global, names: &[String], before: &Version) -> Result<Names
 }
 
 /// An input, shared.
-pub(crate) fn share_input(inputs: &Inputs, name: &str) -> Result<Option<Rc<Input>>, OutOfMemory>
+fn share_input(inputs: &Inputs, name: &str) -> Result<Option<Rc<Input>>, OutOfMemory>
     ensures { IfOk result (λ o. source_at o ≡ inputs_of inputs.now.entries name.now) }
 {
     match find_input(inputs, name) {

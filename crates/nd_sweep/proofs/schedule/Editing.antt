@@ -27,10 +27,7 @@ use Rattle.nd_model.specs.Book.Overlay.{IsOnce}
 use Rattle.nd_model.proofs.Tracks.{effects_are_all}
 use Rattle.nd_model.proofs.Overlaying.{names_stand_once}
 use Rattle.nd_change.specs.Change.{Change, IsOver, did_by}
-use Rattle.nd_change.specs.Snapshots.{IsAlike}
 use Rattle.nd_change.specs.Steps.{Follows}
-use Rattle.nd_change.proofs.Snapshots.{alike_runs}
-use Rattle.nd_sweep.specs.ChangeSchedule.Snapshot.{IsBehind, StandsBefore}
 use Rattle.nd_sweep.specs.ChangeSchedule.Sweep.{IsRun, IsBeside, IsAt, IsFrame, CountsFront, Changes, AreChanged, AreWords, IsKept, changed}
 use Rattle.nd_sweep.proofs.schedule.Sweeping.{none_yet, alike_self, counts_run, past_swap, changed_none, changed_more}
 use Rattle.nd_sweep.proofs.schedule.Kept.{records_now}
@@ -74,21 +71,15 @@ module _ (s : Sheet) (at : ℕ) (c : Cell) (lt : at < length s.cells) (d : AreDi
       none_some : (f : Found) → None ≡ Some f → ⊥
       none_some f e = cc
 
-  module _ (h : Session) (here : StandsBefore old at h) where
-    now_here : IsAlike h (session_before new at)
-    now_here = subst (IsAlike h) (front.1 at (omega arith)) here.alike
-
-    none_now : HasNone c.label (session_before new at)
-    none_now = let P : Cell → Type 0 = λ c. HasNone c.label (session_before new at) in subst P entry_is (fresh_at new at less distinct_now)
-
-    same_run : HasNone c.label h × (record_of c.label (reading c.source) new.inputs h ≡ record_of c.label (reading c.source) new.inputs (session_before new at)) × IsAlike (session_after (cell c.label (reading c.source) new.inputs h)) (session_after (cell c.label (reading c.source) new.inputs (session_before new at)))
-    same_run = alike_runs c.label (reading c.source) h (session_before new at) new.inputs now_here here.once (names_stand_once new at distinct_now (omega (arith, less))) none_now
+  module _ (h : Session) (here : h ≡ session_before old at) where
+    now_here : h ≡ session_before new at
+    now_here = here ∙ front.1 at (omega arith)
 
     pub none_here : HasNone c.label h
-    none_here = same_run.0
+    none_here = subst (λ n. HasNone n h) (sym label) (let P : Session → Type 0 = λ t. HasNone (entry_at old at).cell.label t in subst P (sym here) (fresh_at old at lt d))
 
     pub run_record : record_of c.label (reading c.source) new.inputs h ≡ record_at new.inputs (entry_at new at)
-    run_record = same_run.1 ∙ ap (λ (x : Cell). record_of x.label (reading x.source) new.inputs (session_before new at)) (sym entry_is)
+    run_record = λ i. record_of (sym entry_is i).label (reading (sym entry_is i).source) new.inputs (now_here i)
 
     pub run_after : session_after (cell c.label (reading c.source) new.inputs h) ≡ did_by (Some (record_at new.inputs (entry_at new at))) h
     run_after = effects_are_all c.label (reading c.source) h new.inputs none_here ∙ ap (λ (q : Record). did_by (Some q) h) run_record
@@ -98,8 +89,9 @@ module _ (s : Sheet) (at : ℕ) (c : Cell) (lt : at < length s.cells) (d : AreDi
         → Follows e f x (record_of c.label (reading c.source) given h) after given → upto ≡ at + 1 → IsAt old new (at + 1) (at + 1) f after upto
     first_at e f x after given upto none is same then follows upto_is =
         let then' : after ≡ did_by (Some (record_at new.inputs (entry_at new at))) h = then ∙ ap (λ g. session_after (cell c.label (reading c.source) g h)) same ∙ run_after in
+        let once : IsOnce h.names = subst (λ u. IsOnce u.names) (sym now_here) (names_stand_once new at distinct_now (omega (arith, less))) in
         subst (IsAt old new (at + 1) (at + 1) f after) (sym upto_is)
-        (past_swap old new at at lt d less distinct_now e (starts e none) f h after now_here here.once then'
+        (past_swap old new at at lt d less distinct_now e (starts e none) f h after (alike_self h (session_before new at) now_here) once then'
         (subst (λ x. Follows e f x (record_at new.inputs (entry_at new at)) after new.inputs) is
         (subst (λ q. Follows e f x q after new.inputs) run_record
         (subst (λ g. Follows e f x (record_of c.label (reading c.source) g h) after g) same follows))))
@@ -176,21 +168,6 @@ kept_now covers s at c cs rs ss ws vs lt label kept changes long many put words 
     take_set [] (suc k) = refl
     take_set (x ∷ cs) (suc k) = ap (λ ys. x ∷ ys) (take_set cs k)
 
-pub behind_set : (s : Sheet) (at : ℕ) (c : Cell) → at < length s.cells → AreDistinct (labels_of s.cells) → c.label ≡ (get_or s.cells at no_cell).label → IsBehind (book_of s) (book_of (sheet (set s.cells at c) s.given)) at
-behind_set s at c lt d label = record {
-  same = same_front at (book_of s) (book_of (sheet (set s.cells at c) s.given)) refl (take_set s.cells at);
-  within = omega (arith, length-set s.cells at c);
-  distinct = let P : Cell → Type 0 = λ c. AreDistinct (labels_of (set s.cells at c)) in subst P (sym is_cell) (change_distinct s.cells at c.source d);
-}
-  where
-    is_cell : ◌≡◌ {A = Cell} c (record { label = (get_or s.cells at no_cell).label; source = c.source })
-    is_cell = λ i. record { label = label i; source = c.source }
-
-    take_set : (cs : List Cell) (k : ℕ) → take k cs ≡ take k (set cs k c)
-    take_set cs zero = refl
-    take_set [] (suc k) = refl
-    take_set (x ∷ cs) (suc k) = ap (λ ys. x ∷ ys) (take_set cs k)
-
 -- ---- other inputs
 
 module _ (s : Sheet) (given : List (List ℕ × running.Source)) (d : AreDistinct (labels_of s.cells)) where
@@ -214,12 +191,6 @@ module _ (s : Sheet) (given : List (List ℕ × running.Source)) (d : AreDistinc
     beside = record { within = omega arith; fits = omega arith; same = λ n less. refl; distinct = d };
     inputs = inputs;
   }
-
-pub behind_none : (s : Sheet) (given : List (List ℕ × running.Source)) → AreDistinct (labels_of s.cells) → IsBehind (book_of s) (book_of (sheet s.cells given)) 0
-behind_none s given d = record { same = (refl, first); within = omega arith; distinct = d }
-  where
-    first : (k : ℕ) → k ≤ 0 → session_before (book_of s) k ≡ session_before (book_of (sheet s.cells given)) k
-    first k le = let e : k ≡ 0 = omega arith in ap (session_before (book_of s)) e ∙ sym (ap (session_before (book_of (sheet s.cells given))) e)
 
 -- all that is kept, over other inputs
 pub kept_over : {W : Type 0} (covers : W → Key → Bool) (s : Sheet) (given : List (List ℕ × running.Source)) (cs : Changes) (rs ss : List Record) (ws vs : List W) → IsKept covers (book_of s) rs ws

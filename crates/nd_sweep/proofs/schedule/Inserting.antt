@@ -8,7 +8,7 @@ use Rattle.nd_model.specs.Cells.Session.{Session, no_session}
 use Rattle.nd_model.specs.Cells.Running.{Key, Inputs}
 use Rattle.nd_model.specs.Grammar.Reading.{reading}
 use Rattle.nd_model.specs.Cells.Cell.{cell, session_after}
-use Rattle.nd_model.specs.Cells.Footprint.{Found, HasNone}
+use Rattle.nd_model.specs.Cells.Footprint.{Found, HasNone, found}
 use Rattle.nd_model.specs.Book.Records.{Record, record_of, StillHolds}
 use Rattle.nd_model.specs.Book.Renaming.{AreDistinct}
 use Rattle.nd_model.specs.Book.Overlay.{IsOnce}
@@ -18,19 +18,14 @@ use Rattle.nd_model.specs.Book.Notebook.{Sheet, book_of}
 use Rattle.nd_model.specs.Book.Stale.{kept_of}
 use Rattle.nd_model.proofs.EditKept.{front_insert, kept_new}
 use Rattle.nd_model.proofs.EditLabels.{insert_distinct, fresh}
-use Rattle.nd_model.proofs.Entries.{fresh_at, get_or-records_of}
+use Rattle.nd_model.proofs.Entries.{fresh_at, get_or-records_of, session_before-next}
 use Rattle.nd_model.proofs.Lazy.{same_front, length-entries}
 use Rattle.nd_model.proofs.Overlaying.{names_stand_once}
 use Rattle.nd_sweep.specs.Cells.Source.{sheet}
-use Rattle.nd_model.proofs.Tracks.{effects_are_all}
-use Rattle.nd_change.specs.Change.{Change, IsOver, did_by}
-use Rattle.nd_change.specs.Snapshots.{IsAlike}
+use Rattle.nd_change.specs.Change.{Change, IsOver}
 use Rattle.nd_change.specs.Steps.{Comes, IsWordOf}
-use Rattle.nd_change.proofs.Changes.{run_over}
-use Rattle.nd_change.proofs.Snapshots.{alike_runs, over_alike}
-use Rattle.nd_sweep.specs.ChangeSchedule.Snapshot.{IsBehind, StandsBefore}
 use Rattle.nd_sweep.specs.ChangeSchedule.Sweep.{IsAt, IsFrame, CountsFront, Changes, changed, AreChanged, AreWords, IsKept}
-use Rattle.nd_sweep.proofs.schedule.Sweeping.{alike_self, alike_turned, counts_run, next_alike, none_yet, runs_over}
+use Rattle.nd_sweep.proofs.schedule.Sweeping.{alike_self, counts_run, none_yet, runs_over, leaves_next}
 
 module _ (s : Sheet) (at : ℕ) (c : Cell) (le : at ≤ length s.cells) (d : AreDistinct (labels_of s.cells)) (label : c.label ≡ fresh_label s.cells) where
   abbrev pub old : Book
@@ -57,51 +52,33 @@ module _ (s : Sheet) (at : ℕ) (c : Cell) (le : at ≤ length s.cells) (d : Are
   entry_is : (entry_at new at).cell ≡ c
   entry_is = get_or-insert_at s.cells at c no_cell le
 
-  pub is_behind : IsBehind old new at
-  is_behind = record { same = front; within = omega (arith, less); distinct = distinct_now }
-
-  module _ (h : Session) (here : StandsBefore old at h) where
-    now_here : IsAlike h (session_before new at)
-    now_here = subst (IsAlike h) (front.1 at (omega arith)) here.alike
-
-    none_now : HasNone c.label (session_before new at)
-    none_now = let P : Cell → Type 0 = λ c. HasNone c.label (session_before new at) in subst P entry_is (fresh_at new at less distinct_now)
-
-    same_run : HasNone c.label h × (record_of c.label (reading c.source) new.inputs h ≡ record_of c.label (reading c.source) new.inputs (session_before new at)) × IsAlike (session_after (cell c.label (reading c.source) new.inputs h)) (session_after (cell c.label (reading c.source) new.inputs (session_before new at)))
-    same_run = alike_runs c.label (reading c.source) h (session_before new at) new.inputs now_here here.once (names_stand_once new at distinct_now (omega (arith, less))) none_now
+  module _ (h : Session) (here : h ≡ session_before old at) where
+    now_here : h ≡ session_before new at
+    now_here = here ∙ front.1 at (omega arith)
 
     pub none_here : HasNone c.label h
-    none_here = same_run.0
+    none_here = let P : Cell → Session → Type 0 = λ c t. HasNone c.label t in subst (λ c. P c h) entry_is (subst (P (entry_at new at).cell) (sym now_here) (fresh_at new at less distinct_now))
 
     pub run_record : (given : Inputs) → given ≡ new.inputs → record_of c.label (reading c.source) given h ≡ record_at new.inputs (entry_at new at)
-    run_record given same = ap (λ g. record_of c.label (reading c.source) g h) same ∙ same_run.1 ∙ ap (λ (x : Cell). record_of x.label (reading x.source) new.inputs (session_before new at)) (sym entry_is)
+    run_record given same = λ i. record_of (sym entry_is i).label (reading (sym entry_is i).source) (same i) (now_here i)
 
-    abbrev now : Record
-    now = record_at new.inputs (entry_at new at)
-
-    run_after : (given : Inputs) → given ≡ new.inputs → session_after (cell c.label (reading c.source) given h) ≡ did_by (Some now) h
-    run_after given same = effects_are_all c.label (reading c.source) h given none_here ∙ ap (λ (q : Record). did_by (Some q) h) (run_record given same)
-
-    next : StillHolds now h new.inputs × IsAlike (did_by (Some now) h) (session_before new (at + 1)) × IsOnce (did_by (Some now) h).names
-    next = next_alike new at less distinct_now h now_here here.once
+    pub run_after : (given : Inputs) → given ≡ new.inputs → session_after (cell c.label (reading c.source) given h) ≡ session_before new (at + 1)
+    run_after given same = (λ i. session_after (cell (sym entry_is i).label (reading (sym entry_is i).source) (same i) (now_here i))) ∙ sym (session_before-next new at less)
 
     -- behind the new cell
     pub came_at : (e f : Change) (q : Record) (after : Session) (given : Inputs) → ((k : Key) → e k ≡ None) → given ≡ new.inputs → q ≡ record_of c.label (reading c.source) given h → after ≡ session_after (cell c.label (reading c.source) given h)
         → Comes e f q after → IsAt old new at (at + 1) f after at
     came_at e f q after given none same is then comes =
-        let q_is : q ≡ now = is ∙ run_record given same in
-        let then' : after ≡ did_by (Some now) h = then ∙ run_after given same in
-        let then_alike : IsAlike after (session_before new (at + 1)) = subst (λ u. IsAlike u (session_before new (at + 1))) (sym then') next.1 in
-        let s : Session = session_before old at in
+        let q_is : q ≡ record_at new.inputs (entry_at new at) = is ∙ run_record given same in
+        let then' : after ≡ session_before new (at + 1) = then ∙ run_after given same in
         record {
-          over = over_alike f s after s (session_before new (at + 1)) old.inputs new.inputs
-              (subst (λ q. Comes e f q after) q_is comes s h old.inputs new.inputs nothing_yet (run_over now (session_before new at) h new.inputs new.inputs (runs_over new at less distinct_now) next.0) then')
-              (alike_self s s refl) (alike_turned after (session_before new (at + 1)) then_alike);
+          over = subst (λ t. IsOver f (session_before old at) old.inputs t new.inputs) then'
+              (subst (λ q. Comes e f q after) q_is comes (session_before old at) (session_before new at) old.inputs new.inputs nothing_yet (runs_over new at less distinct_now) (then' ∙ sym (leaves_next new at less distinct_now)));
           hand = record {
             behind = omega arith;
             enough = omega arith;
-            session = subst (λ n. IsAlike after (session_before new n)) (stays at) then_alike;
-            once = subst (λ u. IsOnce u.names) (sym then') next.2;
+            session = alike_self after (session_before new (at + 1 - (at - at))) (then' ∙ ap (session_before new) (stays at));
+            once = subst (λ u. IsOnce u.names) (sym then') (names_stand_once new (at + 1) distinct_now (omega (arith, less)));
             kept = λ n lt. absurd (omega arith);
           };
         }
@@ -112,9 +89,11 @@ module _ (s : Sheet) (at : ℕ) (c : Cell) (le : at ≤ length s.cells) (d : Are
         none_some : (f : Found) → None ≡ Some f → ⊥
         none_some f e = cc
 
-        nothing_yet : IsOver e (session_before old at) old.inputs h new.inputs
-        nothing_yet = over_alike e (session_before old at) (session_before old at) (session_before old at) h old.inputs new.inputs
-            (record { now = λ k f is there. absurd (none_some f (sym (none k) ∙ is)); same = λ k out in_s in_t. refl }) (alike_self (session_before old at) (session_before old at) refl) here.alike
+        nothing_yet : IsOver e (session_before old at) old.inputs (session_before new at) new.inputs
+        nothing_yet = record {
+          now = λ k f is there. absurd (none_some f (sym (none k) ∙ is));
+          same = λ k out in_s in_t. ap (λ t. found t old.inputs k) (front.1 at (omega arith));
+        }
 
   fails : (t : Session) → IfSome (kept_of old (entry_at new at).cell) (λ r. ¬ StillHolds r t new.inputs)
   fails t = subst (λ o. IfSome o (λ r. ¬ StillHolds r t new.inputs)) (sym (ap (kept_of old) (entry_is ∙ is_cell) ∙ kept_new old (record { label = fresh_label s.cells; source = c.source }) (fresh s.cells))) tt

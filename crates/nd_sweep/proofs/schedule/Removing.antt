@@ -6,7 +6,7 @@ use Rattle.std.proofs.lemmas.List.{ext_get_or, get_or-take, length-map}
 use Rattle.std.proofs.lemmas.List.Edits.{length-remove, get_or-remove_below, get_or-remove_above}
 use Rattle.nd_model.specs.Cells.Session.{Session, no_session}
 use Rattle.nd_model.specs.Cells.Running.{Key, Inputs}
-use Rattle.nd_model.specs.Cells.Footprint.{Found}
+use Rattle.nd_model.specs.Cells.Footprint.{Found, found}
 use Rattle.nd_model.specs.Book.Records.{Record}
 use Rattle.nd_model.specs.Book.Renaming.{AreDistinct}
 use Rattle.nd_model.specs.Book.Book.{Book, Cell, no_cell, labels_of}
@@ -17,13 +17,12 @@ use Rattle.nd_model.proofs.EditLabels.{remove_distinct}
 use Rattle.nd_model.proofs.Entries.{get_or-records_of}
 use Rattle.nd_model.proofs.Lazy.{same_front, length-entries}
 use Rattle.nd_sweep.specs.Cells.Source.{sheet}
+use Rattle.nd_model.specs.Book.Overlay.{IsOnce}
+use Rattle.nd_model.proofs.Overlaying.{names_stand_once}
 use Rattle.nd_change.specs.Change.{Change, IsOver}
-use Rattle.nd_change.specs.Snapshots.{IsAlike}
 use Rattle.nd_change.specs.Steps.{Leaves, IsWordOf}
-use Rattle.nd_change.proofs.Snapshots.{over_alike}
-use Rattle.nd_sweep.specs.ChangeSchedule.Snapshot.{IsBehind, StandsBefore}
 use Rattle.nd_sweep.specs.ChangeSchedule.Sweep.{IsAt, IsFrame, Changes, changed, AreChanged, AreWords, IsKept}
-use Rattle.nd_sweep.proofs.schedule.Sweeping.{alike_self, alike_turned, runs_over, leaves_next}
+use Rattle.nd_sweep.proofs.schedule.Sweeping.{alike_self, runs_over, leaves_next}
 
 module _ (s : Sheet) (at : ℕ) (lt : at < length s.cells) (d : AreDistinct (labels_of s.cells)) where
   abbrev pub old : Book
@@ -38,27 +37,23 @@ module _ (s : Sheet) (at : ℕ) (lt : at < length s.cells) (d : AreDistinct (lab
   pub front : SharesFront at old new
   front = same_front at old new refl (front_remove s.cells at)
 
-  pub behind : IsBehind old new at
-  behind = record { same = front; within = omega (arith, many); distinct = remove_distinct s.cells at d }
-
   -- in the place of the cell, without what it did
-  pub went_at : (e f : Change) (x : Record) (h : Session) (upto : ℕ) → ((k : Key) → e k ≡ None) → x ≡ record_at old.inputs (entry_at old at) → StandsBefore old at h → Leaves e f x h → upto ≡ at + 1 → IsAt old new (at + 1) at f h upto
+  pub went_at : (e f : Change) (x : Record) (h : Session) (upto : ℕ) → ((k : Key) → e k ≡ None) → x ≡ record_at old.inputs (entry_at old at) → h ≡ session_before old at → Leaves e f x h → upto ≡ at + 1 → IsAt old new (at + 1) at f h upto
   went_at e f x h upto none is here leaves upto_is = subst (IsAt old new (at + 1) at f h) (sym upto_is) (record {
-    over = over_alike f (session_before old (at + 1)) h (session_before old (at + 1)) (session_before new at) old.inputs new.inputs
+    over = subst (λ t. IsOver f (session_before old (at + 1)) old.inputs t new.inputs) now_here
         (subst (λ s. IsOver f s old.inputs h new.inputs) (leaves_next old at lt d)
-        (subst (λ x. Leaves e f x h) is leaves (session_before old at) old.inputs new.inputs nothing_yet (runs_over old at lt d)))
-        (alike_self (session_before old (at + 1)) (session_before old (at + 1)) refl) (alike_turned h (session_before new at) now_here);
+        (subst (λ x. Leaves e f x h) is leaves (session_before old at) old.inputs new.inputs nothing_yet (runs_over old at lt d)));
     hand = record {
       behind = omega arith;
       enough = omega arith;
-      session = subst (λ n. IsAlike h (session_before new n)) (stays at) now_here;
-      once = here.once;
+      session = alike_self h (session_before new (at - (at + 1 - (at + 1)))) (now_here ∙ ap (session_before new) (stays at));
+      once = subst (λ u. IsOnce u.names) (sym here) (names_stand_once old at d (omega arith));
       kept = λ n less. absurd (omega arith);
     };
   })
     where
-      now_here : IsAlike h (session_before new at)
-      now_here = subst (IsAlike h) (front.1 at (omega arith)) here.alike
+      now_here : h ≡ session_before new at
+      now_here = here ∙ front.1 at (omega arith)
 
       stays : (at : ℕ) → at ≡ at - (at + 1 - (at + 1))
       stays at = omega arith
@@ -67,8 +62,10 @@ module _ (s : Sheet) (at : ℕ) (lt : at < length s.cells) (d : AreDistinct (lab
       none_some f e = cc
 
       nothing_yet : IsOver e (session_before old at) old.inputs h new.inputs
-      nothing_yet = over_alike e (session_before old at) (session_before old at) (session_before old at) h old.inputs new.inputs
-          (record { now = λ k f is there. absurd (none_some f (sym (none k) ∙ is)); same = λ k out in_s in_t. refl }) (alike_self (session_before old at) (session_before old at) refl) here.alike
+      nothing_yet = record {
+        now = λ k f is there. absurd (none_some f (sym (none k) ∙ is));
+        same = λ k out in_s in_t. ap (λ t. found t old.inputs k) (sym here);
+      }
 
   pub frame_behind : (cs : List Cell) (rs : List Record) (given : Inputs) (n : ℕ) → s.cells ≡ cs → rs ≡ records_of old → new.inputs ≡ given → n ≡ length s.cells → IsFrame old new (at + 1) at n cs rs given
   frame_behind cs rs given n cells records inputs whole = record {

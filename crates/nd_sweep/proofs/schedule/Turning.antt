@@ -30,7 +30,6 @@ use Rattle.nd_change.specs.Snapshots.{IsAlike}
 use Rattle.nd_change.specs.Steps.{Comes, IsWordOf, Leaves}
 use Rattle.nd_change.proofs.Changes.{run_over}
 use Rattle.nd_change.proofs.Snapshots.{alike_replays, alike_runs, over_alike}
-use Rattle.nd_sweep.specs.ChangeSchedule.Snapshot.{IsBehind, StandsBefore}
 use Rattle.nd_sweep.specs.ChangeSchedule.Sweep.{AreChanged, AreMoved, AreWords, Changes, changed, CountsFront, IsAt, IsComing, IsFrame, IsKept, IsMoving, IsPlace, IsRun}
 use Rattle.nd_sweep.proofs.schedule.Sweeping.{alike_self, alike_turned, counts_run, counts_same, kept_there, leaves_next, next_alike, runs_over}
 
@@ -46,7 +45,7 @@ pub made_there : {X : Type 0} (view : X → Record) (o : Option X) (r s x : Reco
 made_there view o r s x is h = subst (λ r. MatchOption o (r ≡ x) (λ n. view n ≡ x)) is h
 
 -- where an edit begins nothing is changed yet
-pub begins : (old new : Book) (at : ℕ) (e : Change) (h : Session) → AreDistinct (labels_of old.cells) → at ≤ length old.cells → ((k : Key) → e k ≡ None) → SharesFront at old new → old.inputs ≡ new.inputs → StandsBefore old at h → IsAt old new at at e h at
+pub begins : (old new : Book) (at : ℕ) (e : Change) (h : Session) → AreDistinct (labels_of old.cells) → at ≤ length old.cells → ((k : Key) → e k ≡ None) → SharesFront at old new → old.inputs ≡ new.inputs → h ≡ session_before old at → IsAt old new at at e h at
 begins old new at e h d le none front same here = record {
   over = record {
     now = λ k f is there. absurd (none_some f (sym (none k) ∙ is));
@@ -55,8 +54,8 @@ begins old new at e h d le none front same here = record {
   hand = record {
     behind = omega arith;
     enough = omega arith;
-    session = subst (IsAlike h) (front.1 at (omega arith) ∙ ap (session_before new) (stays at)) here.alike;
-    once = here.once;
+    session = alike_self h (session_before new (at - (at - at))) (here ∙ front.1 at (omega arith) ∙ ap (session_before new) (stays at));
+    once = subst (λ u. IsOnce u.names) (sym here) (names_stand_once old at d le);
     kept = λ n less. absurd (omega arith);
   };
 }
@@ -206,9 +205,6 @@ module _ (old new : Book) (from to : ℕ) (cs : List Cell) (rs : List Record) (g
 
   pub front : (k : ℕ) → k ≤ from → k ≤ to → SharesFront k old new
   front k a b = same_front k old new (m.before ∙ sym m.inputs) (front_move old.cells from to k a b m.stood m.goes ∙ ap (take k) (sym m.now))
-
-  pub behind : (k : ℕ) → k ≤ from → k ≤ to → IsBehind old new k
-  behind k a b = record { same = front k a b; within = omega (arith, many, m.stood); distinct = distinct_now }
 
   there : (k : ℕ) → get_or new.cells k no_cell ≡ get_or (insert (remove old.cells from) to c) k no_cell
   there k = ap (λ cs. get_or cs k no_cell) m.now

@@ -136,27 +136,6 @@ frame_at old new i j to cs rs given frame k le below = record {
   inputs = frame.inputs;
 }
 
--- a part of it
-pub frame_part : (old new : Book) (i j to : ℕ) (cs : List Cell) (rs : List Record) (given : Inputs) → IsFrame old new i j to cs rs given → (k n : ℕ) → i ≤ k → k ≤ n → n ≤ to → IsFrame old new k (j + (k - i)) n cs rs given
-frame_part old new i j to cs rs given frame k n le order below = record {
-  cells = frame.cells;
-  run = frame.run;
-  order = order;
-  beside = record {
-    within = omega (arith, frame.beside.within);
-    fits = omega (arith, frame.beside.fits);
-    same = λ m less.
-        let e : k + m ≡ i + (k - i + m) = omega arith in let f : j + (k - i + m) ≡ j + (k - i) + m = omega arith in
-        ap (λ p. get_or old.cells p no_cell) e ∙ frame.beside.same (k - i + m) (omega arith) ∙ ap (λ p. get_or new.cells p no_cell) f;
-    distinct = frame.beside.distinct;
-  };
-  inputs = frame.inputs;
-}
-
--- two parts behind one another
-pub both_parts : (i j k n : ℕ) → i ≤ k → k ≤ n → j + (k - i) + (n - k) ≡ j + (n - i)
-both_parts i j k n le order = omega arith
-
 nothing_more : (i j : ℕ) → j ≡ j + (i - i)
 nothing_more i j = omega arith
 

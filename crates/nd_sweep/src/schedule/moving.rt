@@ -2,7 +2,6 @@
 
 ghost use Rattle.std.specs.Prelude.{◌≡◌, ◌<◌, ◌≤◌, ◌+◌, ◌-◌, ◌^◌, ◌⊎◌, [], ℕ, IfOk, IfSome, MatchOption, OnOk, length, map, min};
 ghost use Rattle.std.specs.Prelude.{string_bytes};
-ghost use Rattle.std.specs.List.{All};
 ghost use Rattle.nd_model.specs.Grammar.Reading.{reading};
 ghost use Rattle.nd_model.specs.Cells.Cell.{cell, session_after};
 ghost use Rattle.nd_model.specs.Cells.Footprint.{HasNone};
@@ -15,7 +14,6 @@ ghost use Rattle.nd_model.specs.Book.Notebook.{inputs_in};
 ghost use Rattle.nd_change.specs.Steps.{Comes, IsWordOf, IsWordOfChange};
 ghost use Rattle.nd_sweep.specs.Cells.Source.{cell_of, cells_of};
 ghost use Rattle.nd_sweep.specs.Cells.Shared.{each_of};
-ghost use Rattle.nd_sweep.specs.ChangeSchedule.Snapshot.{IsChangeAt, IsSnapshot};
 ghost use Rattle.nd_sweep.specs.ChangeSchedule.Sweep.{
   AreFit,
   AreMoved,
@@ -32,7 +30,6 @@ ghost use Rattle.nd_sweep.specs.ChangeSchedule.Sweep.{
 
 use crate::cells::KeptCell;
 use crate::schedule::runner::ChangeRunner;
-use crate::schedule::snapshots::{Noted, Snapshot};
 use crate::schedule::sweep::{Changed, New, SweepState, catch_up, run_new, sweep};
 use nd_meter::Meter;
 use std::alloc::{AllocError, Global};
@@ -40,13 +37,12 @@ use std::mem::replace;
 use std::rc::Rc;
 
 /// What the sweeps around a cell that moves give: the record of that cell, where it was run, and the records that are others between
-/// its two places and behind them, and what was noted for the snapshots.
+/// its two places and behind them.
 #[derive(Drop)]
 pub(crate) struct Moved<C: ChangeRunner> {
     pub(crate) made: Option<New<C>>,
     pub(crate) between: Vec<Changed<C>>,
     pub(crate) behind: Vec<Changed<C>>,
-    pub(crate) noted: Vec<Noted<C>>,
 }
 
 /// Takes out what the cell at a place did, where a sweep stands.
@@ -183,7 +179,6 @@ pub(crate) fn move_down<C: ChangeRunner>(
     inputs: &C::Inputs,
     from: usize,
     to: usize,
-    snapshots: &[Snapshot<C>],
     state: &mut SweepState<C>,
 ) -> Result<Moved<C>, AllocError>
     requires down { from < to }
@@ -198,9 +193,6 @@ pub(crate) fn move_down<C: ChangeRunner>(
     requires words { AreWords C.covers words.now (each_of C.recorded records.now) }
     requires covered { IsWordOfChange C.covers state.old.word (C.change_of state.old.change) }
     requires changed { state.old.changed.items ≡ [] }
-    requires kept { (b : Book) → IsRun b (each_of C.recorded records.now)
-        → All (λ s. IsSnapshot b s.place (C.kept_session s.version)
-        (map C.change_of s.pending.items)) snapshots.now }
     ensures moved { IfOk result (λ m. (old new : Book)
         → IsMoving old new from to (cells_of cells.now) (each_of C.recorded records.now)
         (inputs_in (C.given inputs.now))
@@ -223,12 +215,6 @@ pub(crate) fn move_down<C: ChangeRunner>(
         (map (λ c. fit_at c.place (C.recorded c.record.value) c.word) m.between.items)) }
     ensures fit_behind { IfOk result (λ m. AreFit C.covers (length cells.now)
         (map (λ c. fit_at c.place (C.recorded c.record.value) c.word) m.behind.items)) }
-    ensures noted { IfOk result (λ m. (old new : Book)
-        → IsMoving old new from to (cells_of cells.now) (each_of C.recorded records.now)
-        (inputs_in (C.given inputs.now))
-        → IsAt old new from from (C.change_of state.old.change) (C.session_of state.old.session)
-        state.old.since
-        → All (λ n. IsChangeAt old new n.place n.now (C.change_of n.change)) m.noted.items) }
     ensures counts { (old new : Book)
         → IsMoving old new from to (cells_of cells.now) (each_of C.recorded records.now)
         (inputs_in (C.given inputs.now))
@@ -236,7 +222,6 @@ pub(crate) fn move_down<C: ChangeRunner>(
         state.old.since
         → CountsStale old new meter.old meter.new }
 {
-    let mut noted = Vec::new(alloc);
     leave::<C>(records, from, state)?;
     sweep::<C>(
         alloc,
@@ -247,10 +232,7 @@ pub(crate) fn move_down<C: ChangeRunner>(
         inputs,
         from + 1,
         to + 1,
-        from,
-        snapshots,
         state,
-        &mut noted,
     )?;
     let between = replace(&mut state.changed, Vec::new(alloc));
     let made = enter::<C>(
@@ -272,17 +254,13 @@ pub(crate) fn move_down<C: ChangeRunner>(
         inputs,
         to + 1,
         cells.len(),
-        to + 1,
-        snapshots,
         state,
-        &mut noted,
     )?;
     let behind = replace(&mut state.changed, Vec::new(alloc));
     Ok(Moved {
         made,
         between,
         behind,
-        noted,
     })
 }
 
@@ -296,7 +274,6 @@ pub(crate) fn move_up<C: ChangeRunner>(
     inputs: &C::Inputs,
     from: usize,
     to: usize,
-    snapshots: &[Snapshot<C>],
     state: &mut SweepState<C>,
 ) -> Result<Moved<C>, AllocError>
     requires up { to < from }
@@ -311,9 +288,6 @@ pub(crate) fn move_up<C: ChangeRunner>(
     requires words { AreWords C.covers words.now (each_of C.recorded records.now) }
     requires covered { IsWordOfChange C.covers state.old.word (C.change_of state.old.change) }
     requires changed { state.old.changed.items ≡ [] }
-    requires kept { (b : Book) → IsRun b (each_of C.recorded records.now)
-        → All (λ s. IsSnapshot b s.place (C.kept_session s.version)
-        (map C.change_of s.pending.items)) snapshots.now }
     ensures moved { IfOk result (λ m. (old new : Book)
         → IsMoving old new from to (cells_of cells.now) (each_of C.recorded records.now)
         (inputs_in (C.given inputs.now))
@@ -336,12 +310,6 @@ pub(crate) fn move_up<C: ChangeRunner>(
         (map (λ c. fit_at c.place (C.recorded c.record.value) c.word) m.between.items)) }
     ensures fit_behind { IfOk result (λ m. AreFit C.covers (length cells.now)
         (map (λ c. fit_at c.place (C.recorded c.record.value) c.word) m.behind.items)) }
-    ensures noted { IfOk result (λ m. (old new : Book)
-        → IsMoving old new from to (cells_of cells.now) (each_of C.recorded records.now)
-        (inputs_in (C.given inputs.now))
-        → IsAt old new to to (C.change_of state.old.change) (C.session_of state.old.session)
-        state.old.since
-        → All (λ n. IsChangeAt old new n.place n.now (C.change_of n.change)) m.noted.items) }
     ensures counts { (old new : Book)
         → IsMoving old new from to (cells_of cells.now) (each_of C.recorded records.now)
         (inputs_in (C.given inputs.now))
@@ -349,7 +317,6 @@ pub(crate) fn move_up<C: ChangeRunner>(
         state.old.since
         → CountsStale old new meter.old meter.new }
 {
-    let mut noted = Vec::new(alloc);
     let made = enter::<C>(
         alloc,
         meter,
@@ -360,20 +327,7 @@ pub(crate) fn move_up<C: ChangeRunner>(
         to,
         state,
     )?;
-    sweep::<C>(
-        alloc,
-        meter,
-        cells,
-        records,
-        words,
-        inputs,
-        to,
-        from,
-        to + 1,
-        snapshots,
-        state,
-        &mut noted,
-    )?;
+    sweep::<C>(alloc, meter, cells, records, words, inputs, to, from, state)?;
     let between = replace(&mut state.changed, Vec::new(alloc));
     leave::<C>(records, from, state)?;
     sweep::<C>(
@@ -385,16 +339,12 @@ pub(crate) fn move_up<C: ChangeRunner>(
         inputs,
         from + 1,
         cells.len(),
-        from + 1,
-        snapshots,
         state,
-        &mut noted,
     )?;
     let behind = replace(&mut state.changed, Vec::new(alloc));
     Ok(Moved {
         made,
         between,
         behind,
-        noted,
     })
 }

@@ -1,9 +1,8 @@
 //! The notebook: a list of cells, and what is kept of running them.
 
-ghost use Rattle.std.specs.Prelude.{◌≡◌, ◌<◌, ◌≤◌, ◌+◌, ◌^◌, ℕ, IfOk, IfSome, MatchOption, OnErr, OnOk, [], false, bytes_eq};
-ghost use Rattle.std.specs.List.{All};
+ghost use Rattle.std.specs.Prelude.{◌≡◌, ◌<◌, ◌≤◌, ◌+◌, ℕ, IfOk, IfSome, MatchOption, OnErr, OnOk, [], false, bytes_eq};
 ghost use Rattle.std.specs.Result.{IsOk};
-ghost use Rattle.std.specs.Prelude.{insert, length, map, min, remove, slice_index_or, slice_set, string_bytes};
+ghost use Rattle.std.specs.Prelude.{insert, length, map, remove, slice_index_or, slice_set, string_bytes};
 ghost use Rattle.std.specs.Vec.{vec_capacity};
 ghost use Rattle.nd_model.specs.Book.Records as kept;
 ghost use Rattle.nd_model.specs.Book.Book.{Book, no_cell, Change, Insert, Move, Remove};
@@ -14,7 +13,6 @@ ghost use Rattle.nd_model.specs.Book.Notebook.{Sheet, book_of, edited_sheet};
 ghost use Rattle.nd_change.specs.Steps.{IsWordOf, IsWordOfChange};
 ghost use Rattle.nd_sweep.specs.Cells.Source.{sheet, cell_of, cells_of};
 ghost use Rattle.nd_sweep.specs.Cells.Shared.{each_of};
-ghost use Rattle.nd_sweep.specs.ChangeSchedule.Snapshot.{IsChangeAt, IsSnapshot, StandsBefore};
 ghost use Rattle.nd_sweep.specs.ChangeSchedule.Sweep.{
   AreChanged,
   AreFit,
@@ -30,23 +28,19 @@ ghost use Rattle.nd_sweep.specs.ChangeSchedule.Sweep.{
 use crate::cells::{KeptCell, fresh_label, make_room, move_item};
 use crate::schedule::moving::{Moved, move_down, move_up};
 use crate::schedule::runner::ChangeRunner;
-use crate::schedule::snapshots::{
-    Noted, Snapshot, carry, nearest, order_before, replay_between, session_front,
-};
 use crate::schedule::sweep::{Changed, New, SweepState, run_again, run_new, sweep};
 use nd_meter::Meter;
 use std::alloc::{AllocError, Global};
 use std::marker::Model;
 use std::rc::Rc;
 
-/// A list of cells, the inputs, the record of each cell's run, beside it its word, and snapshots of some places.
+/// A list of cells, the inputs, the record of each cell's run, and beside it its word.
 #[derive(Drop)]
 pub struct ChangeSchedule<C: ChangeRunner> {
     pub(crate) cells: Vec<Rc<KeptCell>>,
     pub(crate) inputs: C::Inputs,
     pub(crate) records: Vec<Rc<C::Record>>,
     pub(crate) words: Vec<C::Word>,
-    pub(crate) snapshots: Vec<Snapshot<C>>,
     pub(crate) alloc: Global,
 }
 
@@ -57,10 +51,7 @@ impl<C: ChangeRunner> Model for ChangeSchedule<C> {
 
     ghost invariant = { λ n. IsKept C.covers
         (book_of (sheet (cells_of n.cells.items) (C.given n.inputs)))
-        (each_of C.recorded n.records.items) n.words.items
-        × All (λ s. IsSnapshot (book_of (sheet (cells_of n.cells.items) (C.given n.inputs)))
-        s.place (C.kept_session s.version) (map C.change_of s.pending.items))
-        n.snapshots.items };
+        (each_of C.recorded n.records.items) n.words.items };
 }
 
 /// Puts what is changed in its places. It takes no memory.
@@ -94,32 +85,11 @@ pub(crate) fn install<C: ChangeRunner>(
     }
 }
 
-/// What a sweep gives: the records that are others now, and what it noted for the snapshots.
-#[derive(Drop)]
-struct Swept<C: ChangeRunner> {
-    changed: Vec<Changed<C>>,
-    noted: Vec<Noted<C>>,
-}
-
-/// Where an edit begins: a session that is alike to the one there, and snapshots that were made on the way.
-#[derive(Drop)]
-struct Front<C: ChangeRunner> {
-    session: C::Session,
-    fresh: Vec<Snapshot<C>>,
-}
-
-/// What a sweep behind a cell that is gone gives.
-#[derive(Drop)]
-struct Away<C: ChangeRunner> {
-    swept: Swept<C>,
-    fresh: Vec<Snapshot<C>>,
-}
-
 /// What a sweep behind a new cell gives.
 #[derive(Drop)]
 struct Grown<C: ChangeRunner> {
     new: New<C>,
-    swept: Swept<C>,
+    state: SweepState<C>,
 }
 
 impl<C: ChangeRunner> ChangeSchedule<C> {
@@ -132,41 +102,20 @@ impl<C: ChangeRunner> ChangeSchedule<C> {
             inputs,
             records: Vec::new(alloc),
             words: Vec::new(alloc),
-            snapshots: Vec::new(alloc),
             alloc,
         }
     }
 
-    /// The session before the cell at a place, or after the last one: from the last snapshot in front of it, by the records behind
-    /// that. The order of names is that of the records.
+    /// The session before the cell at a place, or after the last one, from nothing.
     pub fn session_before(&self, at: usize) -> Result<C::Session, AllocError>
         requires { at ≤ length self.now.cells }
         ensures { IfOk result (λ s. C.session_of s ≡ session_before (book_of self.now) at) }
     {
-        let (from, mut session, _is_patched) = nearest::<C>(self.alloc, &self.snapshots, at)?;
-        replay_between::<C>(&self.records, &mut session, from, at)?;
-        let order = order_before::<C>(self.alloc, &self.records, at)?;
-        C::put_in_order(&mut session, &order)?;
+        let mut session = C::empty(self.alloc)?;
+        for k in 0..at {
+            C::replay(&self.records[k], &mut session)?;
+        }
         Ok(session)
-    }
-
-    /// A session that is alike to the one before a place, and the snapshots that were missing in front of it.
-    fn front_before(&self, at: usize) -> Result<Front<C>, AllocError>
-        requires { at ≤ length self.now.cells }
-        ensures session { IfOk result
-            (λ f. StandsBefore (book_of self.now) at (C.session_of f.session)) }
-        ensures fresh { IfOk result (λ f. All (λ s. IsSnapshot (book_of self.now) s.place
-            (C.kept_session s.version) (map C.change_of s.pending.items)) f.fresh.items) }
-    {
-        let mut fresh = Vec::new(self.alloc);
-        let session = session_front::<C>(
-            self.alloc,
-            &self.records,
-            &self.snapshots,
-            at,
-            &mut fresh,
-        )?;
-        Ok(Front { session, fresh })
     }
 
     /// Runs another cell in the place of one, and sweeps over those behind.
@@ -175,10 +124,8 @@ impl<C: ChangeRunner> ChangeSchedule<C> {
         meter: &mut Meter,
         at: usize,
         source: &KeptCell,
-        session: C::Session,
-    ) -> Result<Swept<C>, AllocError>
+    ) -> Result<SweepState<C>, AllocError>
         requires at { at < length self.now.cells }
-        requires session { StandsBefore (book_of self.now) at (C.session_of session) }
         requires label { source.now.label ≡ (slice_index_or self.now.cells at no_cell).label }
         requires other { bytes_eq (string_bytes source.now.text)
             (slice_index_or self.now.cells at no_cell).source ≡ false }
@@ -188,13 +135,11 @@ impl<C: ChangeRunner> ChangeSchedule<C> {
             (map (λ c. change_at c.place (C.recorded c.record.value)) s.changed.items)) }
         ensures fit { IfOk result (λ s. AreFit C.covers (length self.now.cells)
             (map (λ c. fit_at c.place (C.recorded c.record.value) c.word) s.changed.items)) }
-        ensures noted { IfOk result (λ s. All (λ n. IsChangeAt (book_of self.now)
-            (book_of (sheet (slice_set self.now.cells at (cell_of source.now)) self.now.given)) n.place n.now
-            (C.change_of n.change)) s.noted.items) }
         ensures counts { CountsStale (book_of self.now)
             (book_of (sheet (slice_set self.now.cells at (cell_of source.now)) self.now.given))
             meter.old meter.new }
     {
+        let session = self.session_before(at)?;
         let change = C::no_change(self.alloc);
         let word = C::change_word(&change);
         let mut state = SweepState {
@@ -204,7 +149,6 @@ impl<C: ChangeRunner> ChangeSchedule<C> {
             since: at,
             changed: Vec::new(self.alloc),
         };
-        let mut noted = Vec::new(self.alloc);
         run_again::<C>(
             self.alloc,
             meter,
@@ -223,15 +167,9 @@ impl<C: ChangeRunner> ChangeSchedule<C> {
             &self.inputs,
             at + 1,
             self.cells.len(),
-            at + 1,
-            &self.snapshots,
             &mut state,
-            &mut noted,
         )?;
-        Ok(Swept {
-            changed: state.changed,
-            noted,
-        })
+        Ok(state)
     }
 
     /// Gives the cell at the place another text. It is refused for want of memory alone.
@@ -248,24 +186,19 @@ impl<C: ChangeRunner> ChangeSchedule<C> {
         let label = self.cells[at].label;
         let text = String::from_str(self.alloc, text)?;
         let cell = Rc::new(self.alloc, KeptCell { label, text })?;
-        let Front { session, fresh } = self.front_before(at)?;
-        let Swept { changed, noted } = self.swept(meter, at, &cell, session)?;
+        let state = self.swept(meter, at, &cell)?;
         self.cells[at] = cell;
-        install::<C>(&mut self.records, &mut self.words, changed);
-        carry::<C>(self.alloc, &mut self.snapshots, fresh, noted, at);
+        install::<C>(&mut self.records, &mut self.words, state.changed);
         Ok(())
     }
 
     /// Sweeps over all cells, over other inputs.
-    fn swept_over(&self, meter: &mut Meter, inputs: &C::Inputs) -> Result<Swept<C>, AllocError>
+    fn swept_over(&self, meter: &mut Meter, inputs: &C::Inputs) -> Result<SweepState<C>, AllocError>
         ensures changed { IfOk result (λ s. AreChanged (book_of self.now)
             (book_of (sheet self.now.cells (C.given inputs.now))) 0 0 (length self.now.cells)
             (map (λ c. change_at c.place (C.recorded c.record.value)) s.changed.items)) }
         ensures fit { IfOk result (λ s. AreFit C.covers (length self.now.cells)
             (map (λ c. fit_at c.place (C.recorded c.record.value) c.word) s.changed.items)) }
-        ensures noted { IfOk result (λ s. All (λ n. IsChangeAt (book_of self.now)
-            (book_of (sheet self.now.cells (C.given inputs.now))) n.place n.now
-            (C.change_of n.change)) s.noted.items) }
         ensures counts { CountsStale (book_of self.now)
             (book_of (sheet self.now.cells (C.given inputs.now))) meter.old meter.new }
     {
@@ -279,7 +212,6 @@ impl<C: ChangeRunner> ChangeSchedule<C> {
             since: 0,
             changed: Vec::new(self.alloc),
         };
-        let mut noted = Vec::new(self.alloc);
         sweep::<C>(
             self.alloc,
             meter,
@@ -289,15 +221,9 @@ impl<C: ChangeRunner> ChangeSchedule<C> {
             inputs,
             0,
             self.cells.len(),
-            0,
-            &self.snapshots,
             &mut state,
-            &mut noted,
         )?;
-        Ok(Swept {
-            changed: state.changed,
-            noted,
-        })
+        Ok(state)
     }
 
     /// Takes these inputs in the place of the present ones. It is refused for want of memory alone.
@@ -307,35 +233,30 @@ impl<C: ChangeRunner> ChangeSchedule<C> {
         ensures counts { CountsStale (book_of self.old)
             (book_of (sheet self.old.cells (C.given inputs))) meter.old meter.new }
     {
-        let Swept { changed, noted } = self.swept_over(meter, &inputs)?;
-        install::<C>(&mut self.records, &mut self.words, changed);
-        let fresh = Vec::new(self.alloc);
-        carry::<C>(self.alloc, &mut self.snapshots, fresh, noted, 0);
+        let state = self.swept_over(meter, &inputs)?;
+        install::<C>(&mut self.records, &mut self.words, state.changed);
         self.inputs = inputs;
         Ok(())
     }
 
-    /// Sweeps over the cells behind one, without what that one did.
-    fn swept_without(
-        &self,
-        meter: &mut Meter,
-        at: usize,
-        session: C::Session,
-    ) -> Result<Swept<C>, AllocError>
-        requires at { at < length self.now.cells }
-        requires session { StandsBefore (book_of self.now) at (C.session_of session) }
+    /// Sweeps over the cells behind one, without what that one did: the records that are others then. Behind the last cell there is
+    /// nothing to do, and no memory is taken.
+    fn swept_without(&self, meter: &mut Meter, at: usize) -> Result<Vec<Changed<C>>, AllocError>
+        requires { at < length self.now.cells }
         ensures changed { IfOk result (λ v. AreChanged (book_of self.now)
             (book_of (sheet (remove self.now.cells at) self.now.given)) (at + 1) at
             (length self.now.cells)
-            (map (λ c. change_at c.place (C.recorded c.record.value)) v.changed.items)) }
+            (map (λ c. change_at c.place (C.recorded c.record.value)) v.items)) }
         ensures fit { IfOk result (λ v. AreFit C.covers (length self.now.cells)
-            (map (λ c. fit_at c.place (C.recorded c.record.value) c.word) v.changed.items)) }
-        ensures noted { IfOk result (λ s. All (λ n. IsChangeAt (book_of self.now)
-            (book_of (sheet (remove self.now.cells at) self.now.given)) n.place n.now
-            (C.change_of n.change)) s.noted.items) }
+            (map (λ c. fit_at c.place (C.recorded c.record.value) c.word) v.items)) }
+        ensures last { at + 1 ≡ length self.now.cells → IsOk result }
         ensures counts { CountsStale (book_of self.now)
             (book_of (sheet (remove self.now.cells at) self.now.given)) meter.old meter.new }
     {
+        if self.cells.len() == at + 1 {
+            return Ok(Vec::new(self.alloc));
+        }
+        let session = self.session_before(at)?;
         let mut change = C::no_change(self.alloc);
         C::went(&self.records[at], &session, &mut change)?;
         let word = C::change_word(&change);
@@ -346,7 +267,6 @@ impl<C: ChangeRunner> ChangeSchedule<C> {
             since: at + 1,
             changed: Vec::new(self.alloc),
         };
-        let mut noted = Vec::new(self.alloc);
         sweep::<C>(
             self.alloc,
             meter,
@@ -356,46 +276,9 @@ impl<C: ChangeRunner> ChangeSchedule<C> {
             &self.inputs,
             at + 1,
             self.cells.len(),
-            at,
-            &self.snapshots,
             &mut state,
-            &mut noted,
         )?;
-        Ok(Swept {
-            changed: state.changed,
-            noted,
-        })
-    }
-
-    /// Sweeps over the cells behind one, without what that one did. Behind the last cell there is nothing to do, and no memory is
-    /// taken.
-    fn swept_away(&self, meter: &mut Meter, at: usize) -> Result<Away<C>, AllocError>
-        requires { at < length self.now.cells }
-        ensures changed { IfOk result (λ v. AreChanged (book_of self.now)
-            (book_of (sheet (remove self.now.cells at) self.now.given)) (at + 1) at
-            (length self.now.cells)
-            (map (λ c. change_at c.place (C.recorded c.record.value)) v.swept.changed.items)) }
-        ensures fit { IfOk result (λ v. AreFit C.covers (length self.now.cells)
-            (map (λ c. fit_at c.place (C.recorded c.record.value) c.word) v.swept.changed.items)) }
-        ensures noted { IfOk result (λ s. All (λ n. IsChangeAt (book_of self.now)
-            (book_of (sheet (remove self.now.cells at) self.now.given)) n.place n.now
-            (C.change_of n.change)) s.swept.noted.items) }
-        ensures fresh { IfOk result (λ f. All (λ s. IsSnapshot (book_of self.now) s.place
-            (C.kept_session s.version) (map C.change_of s.pending.items)) f.fresh.items) }
-        ensures last { at + 1 ≡ length self.now.cells → IsOk result }
-        ensures counts { CountsStale (book_of self.now)
-            (book_of (sheet (remove self.now.cells at) self.now.given)) meter.old meter.new }
-    {
-        if self.cells.len() == at + 1 {
-            let changed = Vec::new(self.alloc);
-            let noted = Vec::new(self.alloc);
-            let fresh = Vec::new(self.alloc);
-            let swept = Swept { changed, noted };
-            return Ok(Away { swept, fresh });
-        }
-        let Front { session, fresh } = self.front_before(at)?;
-        let swept = self.swept_without(meter, at, session)?;
-        Ok(Away { swept, fresh })
+        Ok(state.changed)
     }
 
     /// Takes the cell at the place out. It is refused for want of memory alone, and at the last cell never.
@@ -407,13 +290,11 @@ impl<C: ChangeRunner> ChangeSchedule<C> {
         ensures counts { CountsStale (book_of self.old)
             (book_of (edited_sheet (Remove at) self.old)) meter.old meter.new }
     {
-        let Away { swept, fresh } = self.swept_away(meter, at)?;
-        let Swept { changed, noted } = swept;
-        install::<C>(&mut self.records, &mut self.words, changed);
+        let changes = self.swept_without(meter, at)?;
+        install::<C>(&mut self.records, &mut self.words, changes);
         let _cell = self.cells.remove(at);
         let _record = self.records.remove(at);
         let _word = self.words.remove(at);
-        carry::<C>(self.alloc, &mut self.snapshots, fresh, noted, at);
         Ok(())
     }
 
@@ -423,10 +304,8 @@ impl<C: ChangeRunner> ChangeSchedule<C> {
         meter: &mut Meter,
         at: usize,
         source: &KeptCell,
-        session: C::Session,
     ) -> Result<Grown<C>, AllocError>
         requires at { at ≤ length self.now.cells }
-        requires session { StandsBefore (book_of self.now) at (C.session_of session) }
         requires label { source.now.label ≡ books.fresh_label self.now.cells }
         ensures made { IfOk result (λ g. C.recorded g.new.record.value
             ≡ record_at (book_of self.now).inputs (entry_at
@@ -436,16 +315,14 @@ impl<C: ChangeRunner> ChangeSchedule<C> {
         ensures changed { IfOk result (λ g. AreChanged (book_of self.now)
             (book_of (sheet (insert self.now.cells at (cell_of source.now)) self.now.given)) at
             (at + 1) (length self.now.cells)
-            (map (λ c. change_at c.place (C.recorded c.record.value)) g.swept.changed.items)) }
+            (map (λ c. change_at c.place (C.recorded c.record.value)) g.state.changed.items)) }
         ensures fit { IfOk result (λ g. AreFit C.covers (length self.now.cells)
-            (map (λ c. fit_at c.place (C.recorded c.record.value) c.word) g.swept.changed.items)) }
-        ensures noted { IfOk result (λ g. All (λ n. IsChangeAt (book_of self.now)
-            (book_of (sheet (insert self.now.cells at (cell_of source.now)) self.now.given))
-            n.place n.now (C.change_of n.change)) g.swept.noted.items) }
+            (map (λ c. fit_at c.place (C.recorded c.record.value) c.word) g.state.changed.items)) }
         ensures counts { CountsStale (book_of self.now)
             (book_of (sheet (insert self.now.cells at (cell_of source.now)) self.now.given))
             meter.old meter.new }
     {
+        let session = self.session_before(at)?;
         let change = C::no_change(self.alloc);
         let word = C::change_word(&change);
         let mut state = SweepState {
@@ -455,7 +332,6 @@ impl<C: ChangeRunner> ChangeSchedule<C> {
             since: at,
             changed: Vec::new(self.alloc),
         };
-        let mut noted = Vec::new(self.alloc);
         let new = run_new::<C>(self.alloc, meter, source, &self.inputs, &mut state)?;
         sweep::<C>(
             self.alloc,
@@ -466,16 +342,9 @@ impl<C: ChangeRunner> ChangeSchedule<C> {
             &self.inputs,
             at,
             self.cells.len(),
-            at + 1,
-            &self.snapshots,
             &mut state,
-            &mut noted,
         )?;
-        let swept = Swept {
-            changed: state.changed,
-            noted,
-        };
-        Ok(Grown { new, swept })
+        Ok(Grown { new, state })
     }
 
     /// Puts a new cell at the place, which may be behind the last one. It is refused for want of memory alone.
@@ -489,18 +358,15 @@ impl<C: ChangeRunner> ChangeSchedule<C> {
         let label = fresh_label(self.alloc, &self.cells)?;
         let text = String::from_str(self.alloc, text)?;
         let cell = Rc::new(self.alloc, KeptCell { label, text })?;
-        let Front { session, fresh } = self.front_before(at)?;
-        let Grown { new, swept } = self.swept_new(meter, at, &cell, session)?;
+        let Grown { new, state } = self.swept_new(meter, at, &cell)?;
         let New { record, word } = new;
-        let Swept { changed, noted } = swept;
         make_room(&mut self.cells, at, at, 1)?;
         make_room(&mut self.records, at, at, 1)?;
         make_room(&mut self.words, at, at, 1)?;
-        install::<C>(&mut self.records, &mut self.words, changed);
+        install::<C>(&mut self.records, &mut self.words, state.changed);
         let _cell = self.cells.insert(at, cell);
         let _record = self.records.insert(at, record);
         let _word = self.words.insert(at, word);
-        carry::<C>(self.alloc, &mut self.snapshots, fresh, noted, at);
         Ok(())
     }
 }
@@ -535,39 +401,33 @@ fn put_made<C: ChangeRunner>(
 
 impl<C: ChangeRunner> ChangeSchedule<C> {
     /// A sweep that stands at a place, where nothing is changed yet.
-    fn begin(&self, at: usize, session: C::Session) -> SweepState<C>
-        requires at { at ≤ length self.now.cells }
-        requires session { StandsBefore (book_of self.now) at (C.session_of session) }
-        ensures at { (new : Book) → SharesFront at (book_of self.now) new
+    fn begin(&self, at: usize) -> Result<SweepState<C>, AllocError>
+        requires { at ≤ length self.now.cells }
+        ensures at { IfOk result (λ s. (new : Book) → SharesFront at (book_of self.now) new
             → (book_of self.now).inputs ≡ new.inputs
-            → IsAt (book_of self.now) new at at (C.change_of result.change)
-            (C.session_of result.session) result.since }
-        ensures covered { IsWordOfChange C.covers result.word (C.change_of result.change) }
-        ensures changed { result.changed.items ≡ [] }
+            → IsAt (book_of self.now) new at at (C.change_of s.change) (C.session_of s.session)
+            s.since) }
+        ensures covered { IfOk result
+            (λ s. IsWordOfChange C.covers s.word (C.change_of s.change)) }
+        ensures changed { IfOk result (λ s. s.changed.items ≡ []) }
     {
+        let session = self.session_before(at)?;
         let change = C::no_change(self.alloc);
         let word = C::change_word(&change);
-        SweepState {
+        Ok(SweepState {
             change,
             word,
             session,
             since: at,
             changed: Vec::new(self.alloc),
-        }
+        })
     }
 
     /// Sweeps over the cells around one that moves.
-    fn swept_moved(
-        &self,
-        meter: &mut Meter,
-        from: usize,
-        to: usize,
-        session: C::Session,
-    ) -> Result<Moved<C>, AllocError>
+    fn swept_moved(&self, meter: &mut Meter, from: usize, to: usize) -> Result<Moved<C>, AllocError>
         requires from { from < length self.now.cells }
         requires to { to < length self.now.cells }
         requires other { ¬ (from ≡ to) }
-        requires session { StandsBefore (book_of self.now) (min from to) (C.session_of session) }
         ensures moved { IfOk result (λ m. AreMoved (book_of self.now)
             (book_of (edited_sheet (Move from to) self.now)) from to
             (map (λ c. change_at c.place (C.recorded c.record.value)) m.between.items)
@@ -584,13 +444,10 @@ impl<C: ChangeRunner> ChangeSchedule<C> {
             (map (λ c. fit_at c.place (C.recorded c.record.value) c.word) m.between.items)) }
         ensures fit_behind { IfOk result (λ m. AreFit C.covers (length self.now.cells)
             (map (λ c. fit_at c.place (C.recorded c.record.value) c.word) m.behind.items)) }
-        ensures noted { IfOk result (λ m. All (λ n. IsChangeAt (book_of self.now)
-            (book_of (edited_sheet (Move from to) self.now)) n.place n.now
-            (C.change_of n.change)) m.noted.items) }
         ensures counts { CountsStale (book_of self.now)
             (book_of (edited_sheet (Move from to) self.now)) meter.old meter.new }
     {
-        let mut state = self.begin(from.min(to), session);
+        let mut state = self.begin(from.min(to))?;
         if from < to {
             return move_down::<C>(
                 self.alloc,
@@ -601,7 +458,6 @@ impl<C: ChangeRunner> ChangeSchedule<C> {
                 &self.inputs,
                 from,
                 to,
-                &self.snapshots,
                 &mut state,
             );
         }
@@ -614,7 +470,6 @@ impl<C: ChangeRunner> ChangeSchedule<C> {
             &self.inputs,
             from,
             to,
-            &self.snapshots,
             &mut state,
         )
     }
@@ -631,21 +486,17 @@ impl<C: ChangeRunner> ChangeSchedule<C> {
         if from == to {
             return Ok(());
         }
-        let first = from.min(to);
-        let Front { session, fresh } = self.front_before(first)?;
         let Moved {
             made,
             between,
             behind,
-            noted,
-        } = self.swept_moved(meter, from, to, session)?;
+        } = self.swept_moved(meter, from, to)?;
         install::<C>(&mut self.records, &mut self.words, between);
         install::<C>(&mut self.records, &mut self.words, behind);
         put_made::<C>(&mut self.records, &mut self.words, from, made);
         move_item(&mut self.cells, from, to);
         move_item(&mut self.records, from, to);
         move_item(&mut self.words, from, to);
-        carry::<C>(self.alloc, &mut self.snapshots, fresh, noted, first);
         Ok(())
     }
 }

@@ -1,6 +1,6 @@
 //! What runs cells: the contract that a sweep asks of the layer below it.
 
-ghost use Rattle.std.specs.Prelude.{◌≡◌, ℕ, Bool, List, ◌+◌, ◌-◌, ◌^◌, ◌↔◌, min, IfOk, IsTrue, OnOk, None, is_some, unwrap_or, []};
+ghost use Rattle.std.specs.Prelude.{◌≡◌, ℕ, Bool, List, ◌+◌, ◌-◌, ◌^◌, ◌↔◌, min, IfOk, IsTrue, OnOk, None, is_some, unwrap_or};
 ghost use Rattle.nd_model.specs.Cells.Session as sessions;
 ghost use Rattle.nd_model.specs.Cells.Session.{lookup};
 ghost use Rattle.nd_model.specs.Cells.Running as running;
@@ -12,10 +12,7 @@ ghost use Rattle.nd_model.specs.Book.Records as records;
 ghost use Rattle.nd_model.specs.Book.Notebook.{inputs_in};
 ghost use Rattle.nd_change.specs.Change as deltas;
 ghost use Rattle.nd_change.specs.Change.{Fits};
-ghost use Rattle.nd_change.specs.Snapshots.{IsAlike};
-ghost use Rattle.nd_change.specs.Steps.{Comes, Follows, IsPutOver, IsWordOf, IsWordOfChange, Keeps, Leaves};
-ghost use Rattle.nd_model.specs.Book.Overlay.{IsOnce};
-ghost use Rattle.nd_sweep.specs.ChangeSchedule.Snapshot.{names_in};
+ghost use Rattle.nd_change.specs.Steps.{Comes, Follows, IsWordOf, IsWordOfChange, Keeps, Leaves};
 
 use nd_meter::Meter;
 use std::alloc::{AllocError, Global};
@@ -32,10 +29,6 @@ pub trait ChangeRunner: Drop {
 
     type Word: Drop;
 
-    type Version: Drop;
-
-    type Order: Drop;
-
     // what they stand for in the definitions
     ghost session_of: { Self.Session → sessions.Session };
 
@@ -44,10 +37,6 @@ pub trait ChangeRunner: Drop {
     ghost given: { Self.Inputs → List (List ℕ × running.Source) };
 
     ghost change_of: { Self.Change → deltas.Change };
-
-    ghost kept_session: { Self.Version → sessions.Session };
-
-    ghost order_of: { Self.Order → List (List ℕ) };
 
     // the keys that a word covers
     ghost covers: { Self.Word → running.Key → Bool };
@@ -162,43 +151,4 @@ pub trait ChangeRunner: Drop {
         ensures { OnOk result
             (Comes (change_of change.old) (change_of change.new) (recorded made.now)
             (session_of session.now)) };
-
-    /// The session as it is now, to be kept.
-    fn freeze(session: &mut Self::Session) -> Result<Self::Version, AllocError>
-        ensures kept { IfOk result (λ v. kept_session v ≡ session_of session.old) }
-        ensures same { session_of session.new ≡ session_of session.old };
-
-    /// A session as it was kept.
-    fn thaw(alloc: Global, version: &Self::Version) -> Result<Self::Session, AllocError>
-        ensures { IfOk result (λ s. session_of s ≡ kept_session version.now) };
-
-    /// A copy of the change. The two may share what they hold until one of them changes.
-    fn share(change: &Self::Change) -> Result<Self::Change, AllocError>
-        ensures { IfOk result (λ c. change_of c ≡ change_of change.now) };
-
-    /// Puts a change over a session, and says whether it could. It may say no where a base comes in that is not whole in the change.
-    /// After a no, and after want of memory, the session is only fit to be dropped.
-    fn patched(change: &Self::Change, session: &mut Self::Session) -> Result<bool, AllocError>
-        ensures over { IfOk result (λ could. IsTrue could → IsPutOver (change_of change.now)
-            (session_of session.old) (session_of session.new)) }
-        ensures once { IfOk result
-            (λ could. IsTrue could → IsOnce (session_of session.new).names) };
-
-    /// The order of no names. It takes no memory.
-    fn no_order(alloc: Global) -> Self::Order
-        ensures { order_of result ≡ [] };
-
-    /// Adds to the order of names what a run binds and unbinds.
-    fn note_names(made: &Self::Record, order: &mut Self::Order) -> Result<(), AllocError>
-        ensures { OnOk result ((names : sessions.Names) → names_in names ≡ order_of order.old
-            → names_in (replayed (recorded made.now).effects.events names)
-            ≡ order_of order.new) };
-
-    /// Puts the names of a session in this order. After want of memory the session is only fit to be dropped.
-    fn put_in_order(session: &mut Self::Session, order: &Self::Order) -> Result<(), AllocError>
-        requires { (t : sessions.Session) × IsAlike (session_of session.old) t
-            × IsOnce t.names × (names_in t.names ≡ order_of order.now) }
-        ensures { OnOk result ((t : sessions.Session) → IsAlike (session_of session.old) t
-            → IsOnce t.names → names_in t.names ≡ order_of order.now
-            → session_of session.new ≡ sessions.collected t) };
 }

@@ -1,8 +1,7 @@
-//! `sweep`: carries a change over the cells behind an edit, runs those whose records do not fit it, and notes it for the snapshots.
+//! `sweep`: carries a change over the cells behind an edit, and runs those whose records do not fit it.
 
 ghost use Rattle.std.specs.Prelude.{◌≡◌, ◌<◌, ◌≤◌, ◌+◌, ◌-◌, ◌^◌, ◌++◌, ◌∷◌, [], ℕ, IfOk, OnOk, length, map, min};
 ghost use Rattle.std.specs.Prelude.{string_bytes};
-ghost use Rattle.std.specs.List.{All};
 ghost use Rattle.nd_model.specs.Grammar.Reading.{reading};
 ghost use Rattle.nd_model.specs.Cells.Cell.{cell, session_after};
 ghost use Rattle.nd_model.specs.Cells.Footprint.{HasNone};
@@ -13,12 +12,10 @@ ghost use Rattle.nd_model.specs.Book.Notebook.{inputs_in};
 ghost use Rattle.nd_sweep.specs.Cells.Source.{cells_of};
 ghost use Rattle.nd_sweep.specs.Cells.Shared.{each_of};
 ghost use Rattle.nd_change.specs.Steps.{Comes, Follows, IsWordOf, IsWordOfChange};
-ghost use Rattle.nd_sweep.specs.ChangeSchedule.Snapshot.{IsChangeAt, IsSnapshot};
 ghost use Rattle.nd_sweep.specs.ChangeSchedule.Sweep.{AreChanged, AreFit, AreWords, CountsFront, IsAt, IsAtHand, IsFrame, IsPlace, IsRun, change_at, fit_at};
 
 use crate::cells::KeptCell;
 use crate::schedule::runner::ChangeRunner;
-use crate::schedule::snapshots::{DISTANCE, Noted, Snapshot, note, thawed};
 use nd_meter::Meter;
 use std::alloc::{AllocError, Global};
 use std::rc::Rc;
@@ -226,8 +223,8 @@ pub(crate) fn visit<C: ChangeRunner>(
     run_again::<C>(alloc, meter, &cells[i], made, inputs, i, state)
 }
 
-/// Goes past the cells from a place up to another where no snapshot stands between.
-fn sweep_between<C: ChangeRunner>(
+/// Goes past the cells from a place up to another.
+pub(crate) fn sweep<C: ChangeRunner>(
     alloc: Global,
     meter: &mut Meter,
     cells: &[Rc<KeptCell>],
@@ -289,146 +286,4 @@ fn sweep_between<C: ChangeRunner>(
         visit::<C>(alloc, meter, cells, records, words, inputs, k, state)?;
     }
     Ok(())
-}
-
-/// Whether one of some cells meets the change, and perhaps does not fit it. No answer depends on it.
-fn may_run<C: ChangeRunner>(
-    records: &[Rc<C::Record>],
-    words: &[C::Word],
-    from: usize,
-    to: usize,
-    state: &SweepState<C>,
-) -> bool
-    requires records { to ≤ length records.now }
-    requires places { to ≤ length words.now }
-{
-    for k in from..to {
-        if !C::are_apart(&words[k], &state.word) && !C::fits(&records[k], &state.change) {
-            return true;
-        }
-    }
-    false
-}
-
-/// Takes a snapshot with the change put over it as the session at hand, where that is nearer. Where it cannot be patched, and for want of
-/// memory, the session at hand stays.
-fn take_nearer<C: ChangeRunner>(
-    alloc: Global,
-    snapshot: &Snapshot<C>,
-    is_due: bool,
-    state: &mut SweepState<C>,
-)
-    ensures at { (old new : Book) (j : ℕ) → IsPlace old new snapshot.now.place j
-        → IsSnapshot old snapshot.now.place (C.kept_session snapshot.now.version)
-        (map C.change_of snapshot.now.pending.items)
-        → IsAt old new snapshot.now.place j (C.change_of state.old.change)
-        (C.session_of state.old.session) state.old.since
-        → IsAt old new snapshot.now.place j (C.change_of state.new.change)
-        (C.session_of state.new.session) state.new.since }
-    ensures change { state.new.change ≡ state.old.change }
-    ensures word { state.new.word ≡ state.old.word }
-    ensures changed { state.new.changed.items ≡ state.old.changed.items }
-{
-    if !is_due || state.since >= snapshot.place {
-        return;
-    }
-    let Ok(Some(mut session)) = thawed::<C>(alloc, snapshot) else {
-        return;
-    };
-    let Ok(true) = C::patched(&state.change, &mut session) else {
-        return;
-    };
-    state.session = session;
-    state.since = snapshot.place;
-}
-
-/// Goes past the cells from a place up to another. Where a snapshot stands, the change there is noted with the place now.
-pub(crate) fn sweep<C: ChangeRunner>(
-    alloc: Global,
-    meter: &mut Meter,
-    cells: &[Rc<KeptCell>],
-    records: &[Rc<C::Record>],
-    words: &[C::Word],
-    inputs: &C::Inputs,
-    i: usize,
-    to: usize,
-    now: usize,
-    snapshots: &[Snapshot<C>],
-    state: &mut SweepState<C>,
-    noted: &mut Vec<Noted<C>>,
-) -> Result<(), AllocError>
-    requires order { i ≤ to }
-    requires fits { now + (to - i) < 2 ^ 64 }
-    requires cells { to ≤ length cells.now }
-    requires records { to ≤ length records.now }
-    requires places { to ≤ length words.now }
-    requires at { (old : Book) × (new : Book) × (j : ℕ)
-        × IsFrame old new i j to (cells_of cells.now) (each_of C.recorded records.now)
-        (inputs_in (C.given inputs.now))
-        × IsAt old new i j (C.change_of state.old.change) (C.session_of state.old.session)
-        state.old.since }
-    requires words { AreWords C.covers words.now (each_of C.recorded records.now) }
-    requires covered { IsWordOfChange C.covers state.old.word (C.change_of state.old.change) }
-    requires kept { (b : Book) → IsRun b (each_of C.recorded records.now)
-        → All (λ s. IsSnapshot b s.place (C.kept_session s.version)
-        (map C.change_of s.pending.items)) snapshots.now }
-    ensures at { OnOk result ((old new : Book) (j : ℕ)
-        → IsFrame old new i j to (cells_of cells.now) (each_of C.recorded records.now)
-        (inputs_in (C.given inputs.now))
-        → IsAt old new i j (C.change_of state.old.change) (C.session_of state.old.session)
-        state.old.since
-        → IsAt old new to (j + (to - i)) (C.change_of state.new.change)
-        (C.session_of state.new.session) state.new.since) }
-    ensures covered { OnOk result (IsWordOfChange C.covers state.new.word
-        (C.change_of state.new.change)) }
-    ensures changed { OnOk result ((old new : Book) (j from first : ℕ)
-        → IsFrame old new i j to (cells_of cells.now) (each_of C.recorded records.now)
-        (inputs_in (C.given inputs.now))
-        → IsAt old new i j (C.change_of state.old.change) (C.session_of state.old.session)
-        state.old.since → from ≤ i → j ≡ first + (i - from)
-        → AreChanged old new from first i
-        (map (λ c. change_at c.place (C.recorded c.record.value)) state.old.changed.items)
-        → AreChanged old new from first to
-        (map (λ c. change_at c.place (C.recorded c.record.value)) state.new.changed.items)) }
-    ensures fit { OnOk result ((n : ℕ) → to ≤ n → AreFit C.covers n
-        (map (λ c. fit_at c.place (C.recorded c.record.value) c.word) state.old.changed.items)
-        → AreFit C.covers n
-        (map (λ c. fit_at c.place (C.recorded c.record.value) c.word) state.new.changed.items)) }
-    ensures noted { OnOk result ((old new : Book)
-        → IsFrame old new i now to (cells_of cells.now) (each_of C.recorded records.now)
-        (inputs_in (C.given inputs.now))
-        → IsAt old new i now (C.change_of state.old.change) (C.session_of state.old.session)
-        state.old.since
-        → All (λ n. IsChangeAt old new n.place n.now (C.change_of n.change)) noted.old.items
-        → All (λ n. IsChangeAt old new n.place n.now (C.change_of n.change)) noted.new.items) }
-    ensures counted { OnOk result ((old new : Book) (j before : ℕ)
-        → IsFrame old new i j to (cells_of cells.now) (each_of C.recorded records.now)
-        (inputs_in (C.given inputs.now))
-        → IsAt old new i j (C.change_of state.old.change) (C.session_of state.old.session)
-        state.old.since
-        → CountsFront old new j before meter.old
-        → CountsFront old new (j + (to - i)) before meter.new) }
-    ensures counts { (old new : Book) (j before : ℕ)
-        → IsFrame old new i j to (cells_of cells.now) (each_of C.recorded records.now)
-        (inputs_in (C.given inputs.now))
-        → IsAt old new i j (C.change_of state.old.change) (C.session_of state.old.session)
-        state.old.since
-        → CountsFront old new j before meter.old → CountsStale old new before meter.new }
-{
-    let mut at = i;
-    for snapshot in snapshots {
-        let place = snapshot.place;
-        if place < at || to < place {
-            continue;
-        }
-        sweep_between::<C>(
-            alloc, meter, cells, records, words, inputs, at, place, state,
-        )?;
-        note::<C>(place, now + (place - i), &state.change, noted);
-        let next = to.min(place.saturating_add(DISTANCE));
-        let is_due = may_run::<C>(records, words, place, next, state);
-        take_nearer::<C>(alloc, snapshot, is_due, state);
-        at = place;
-    }
-    sweep_between::<C>(alloc, meter, cells, records, words, inputs, at, to, state)
 }

@@ -4,8 +4,6 @@ use Rattle.nd_model.specs.Book.Book.{Book}
 use Rattle.nd_model.specs.Book.Entries.{entry_at, record_at}
 use Rattle.nd_sweep.specs.Cells.Source.{cell_of}
 use Rattle.nd_sweep.specs.ChangeSchedule.Sweep.{AreChanged, AreFit, CountsFront, IsAt, IsComing, IsPlace, change_at, fit_at}
-use Rattle.nd_sweep.specs.ChangeSchedule.Snapshot.{IsChangeAt}
-use Rattle.nd_sweep.proofs.schedule.Standing.{All-none}
 use Rattle.nd_sweep.proofs.schedule.Sweeping.{changed_none, counts_stale, none_yet, record_there}
 use Rattle.nd_sweep.proofs.schedule.Turning.{coming, down_place, frame_down, frame_rest, made_there, moved_down, place_at, same_place}
 use Rattle.nd_sweep.proofs.schedule.Visiting.{cell_there}
@@ -185,27 +183,3 @@ returns-clause-fit_behind g c =
     subst (λ v. AreFit g.C.ChangeRunner.covers (length c.args.cells.now) (map (λ c'. fit_at c'.place (g.C.ChangeRunner.recorded c'.record.value) c'.word) v.items)) (sym c.replace-behind.ensures.value)
     (c.in_ok-sweep-2.ensures.fit (length c.args.cells.now) (omega arith)
     (subst (λ xs. AreFit g.C.ChangeRunner.covers (length c.args.cells.now) (map (λ c'. fit_at c'.place (g.C.ChangeRunner.recorded c'.record.value) c'.word) xs)) (sym (c.in_ok-made.ensures.changed ∙ ap (λ v. v.items) c.replace-between.ensures.after ∙ c.new.ensures.items)) tt))
-
-pub returns-clause-noted : goal.returns-clause-noted
-returns-clause-noted g c = λ old new moving at.
-    let long : length old.cells ≡ length c.args.cells.now = ap length moving.cells ∙ length-map c.args.cells.now (λ s. cell_of s.value) in
-    let place : IsPlace old new c.args.from c.args.from = place_at old new c.args.from c.args.to _ _ _ moving c.args.from c.args.from (omega (arith, moving.stood)) (omega (arith, moving.stood)) in
-    let left : IsAt old new (c.args.from + 1) c.args.from (g.C.ChangeRunner.change_of c.leave.new.state.change) (g.C.ChangeRunner.session_of c.leave.new.state.session) c.leave.new.state.since =
-    c.in_ok-leave.ensures.at old new c.args.from moving.run place at in
-    let frame = frame_down old new c.args.from c.args.to _ _ _ moving c.requires.down in
-    let there : IsAt old new (c.args.to + 1) c.args.to (g.C.ChangeRunner.change_of c.sweep.new.state.change) (g.C.ChangeRunner.session_of c.sweep.new.state.session) c.sweep.new.state.since =
-    subst (λ k. IsAt old new (c.args.to + 1) k (g.C.ChangeRunner.change_of c.sweep.new.state.change) (g.C.ChangeRunner.session_of c.sweep.new.state.session) c.sweep.new.state.since) (down_place c.args.from c.args.to c.requires.down)
-    (c.in_ok-sweep.ensures.at old new c.args.from frame left) in
-    let come : IsComing old new c.args.from (c.args.to + 1) c.args.to _ (cell_of c.deref.result.now) (g.C.ChangeRunner.recorded c.deref-2.result.now) _ =
-    coming old new c.args.from c.args.to _ _ _ moving (c.args.to + 1) (omega (arith, long, c.requires)) (cell_of c.deref.result.now) (g.C.ChangeRunner.recorded c.deref-2.result.now)
-    (cell_there c.args.cells.now c.args.from c.index-cells-from.result c.deref.result.now (omega (arith, long, moving.stood)) c.index-cells-from.is c.deref.ensures)
-    (ap g.C.ChangeRunner.recorded c.deref-2.ensures ∙ record_there (λ r. g.C.ChangeRunner.recorded r.value) old c.args.records.now c.index-records-from.result c.args.from moving.run.records moving.stood c.index-records-from.is) in
-    let come_in = c.in_ok-made.ensures.at old new c.args.from c.args.to come there in
-    let rest = frame_rest old new c.args.from c.args.to _ _ _ moving (c.args.to + 1) (length c.args.cells.now) (omega (arith, c.requires.down)) (omega arith) (omega (arith, c.requires.to)) (sym long) in
-    c.in_ok-sweep-2.ensures.noted old new rest come_in (c.in_ok-sweep.ensures.noted old new frame left (All-none (λ n. IsChangeAt old new n.place n.now (g.C.ChangeRunner.change_of n.change)) c.new-noted.result.items c.new-noted.ensures.items))
-
-pub leave-requires-clause-at : goal.leave-requires-clause-at
-leave-requires-clause-at g c =
-    let old : Book = c.requires.at.0 in
-    let new : Book = c.requires.at.1 in
-    (old, new, c.args.from, (c.requires.at.2).run, place_at old new c.args.from c.args.to _ _ _ c.requires.at.2 c.args.from c.args.from (omega (arith, (c.requires.at.2).stood)) (omega (arith, (c.requires.at.2).stood)), c.requires.at.3)

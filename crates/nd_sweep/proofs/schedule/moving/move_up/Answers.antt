@@ -4,8 +4,6 @@ use Rattle.nd_model.specs.Book.Book.{Book}
 use Rattle.nd_model.specs.Book.Entries.{entry_at, record_at}
 use Rattle.nd_sweep.specs.Cells.Source.{cell_of}
 use Rattle.nd_sweep.specs.ChangeSchedule.Sweep.{AreChanged, AreFit, CountsFront, IsAt, IsComing, IsPlace, change_at, fit_at}
-use Rattle.nd_sweep.specs.ChangeSchedule.Snapshot.{IsChangeAt}
-use Rattle.nd_sweep.proofs.schedule.Standing.{All-none}
 use Rattle.nd_sweep.proofs.schedule.Sweeping.{changed_none, counts_stale, none_yet, record_there}
 use Rattle.nd_sweep.proofs.schedule.Turning.{coming, frame_rest, frame_up, made_there, moved_up, place_at, same_place, up_place}
 use Rattle.nd_sweep.proofs.schedule.Visiting.{cell_there}
@@ -206,21 +204,3 @@ returns-clause-fit_behind g c =
     subst (λ v. AreFit g.C.ChangeRunner.covers (length c.args.cells.now) (map (λ c'. fit_at c'.place (g.C.ChangeRunner.recorded c'.record.value) c'.word) v.items)) (sym c.replace-behind.ensures.value)
     (c.in_ok-sweep-2.ensures.fit (length c.args.cells.now) (omega arith)
     (subst (λ xs. AreFit g.C.ChangeRunner.covers (length c.args.cells.now) (map (λ c'. fit_at c'.place (g.C.ChangeRunner.recorded c'.record.value) c'.word) xs)) (sym (c.in_ok-leave.ensures.changed ∙ ap (λ v. v.items) c.replace-between.ensures.after ∙ c.new.ensures.items)) tt))
-
-pub returns-clause-noted : goal.returns-clause-noted
-returns-clause-noted g c = λ old new moving at.
-    let long : length old.cells ≡ length c.args.cells.now = ap length moving.cells ∙ length-map c.args.cells.now (λ s. cell_of s.value) in
-    let come : IsComing old new c.args.from (c.args.to) c.args.to _ (cell_of c.deref.result.now) (g.C.ChangeRunner.recorded c.deref-2.result.now) _ =
-    coming old new c.args.from c.args.to _ _ _ moving (c.args.to) (omega (arith, long, c.requires)) (cell_of c.deref.result.now) (g.C.ChangeRunner.recorded c.deref-2.result.now)
-    (cell_there c.args.cells.now c.args.from c.index-cells-from.result c.deref.result.now (omega (arith, long, moving.stood)) c.index-cells-from.is c.deref.ensures)
-    (ap g.C.ChangeRunner.recorded c.deref-2.ensures ∙ record_there (λ r. g.C.ChangeRunner.recorded r.value) old c.args.records.now c.index-records-from.result c.args.from moving.run.records moving.stood c.index-records-from.is) in
-    let come_in : IsAt old new c.args.to (c.args.to + 1) (g.C.ChangeRunner.change_of c.enter.new.state.change) (g.C.ChangeRunner.session_of c.enter.new.state.session) c.enter.new.state.since =
-    c.in_ok-made.ensures.at old new c.args.from c.args.to come at in
-    let frame = frame_up old new c.args.from c.args.to _ _ _ moving c.requires.up in
-    let there : IsAt old new c.args.from (c.args.from + 1) (g.C.ChangeRunner.change_of c.sweep.new.state.change) (g.C.ChangeRunner.session_of c.sweep.new.state.session) c.sweep.new.state.since =
-    subst (λ k. IsAt old new c.args.from k (g.C.ChangeRunner.change_of c.sweep.new.state.change) (g.C.ChangeRunner.session_of c.sweep.new.state.session) c.sweep.new.state.since) (up_place c.args.from c.args.to c.requires.up)
-    (c.in_ok-sweep.ensures.at old new (c.args.to + 1) frame come_in) in
-    let place : IsPlace old new c.args.from (c.args.from + 1) = place_at old new c.args.from c.args.to _ _ _ moving c.args.from (c.args.from + 1) (omega (arith, moving.stood)) (omega (arith, moving.stood)) in
-    let left = c.in_ok-leave.ensures.at old new (c.args.from + 1) moving.run place there in
-    let rest = frame_rest old new c.args.from c.args.to _ _ _ moving (c.args.from + 1) (length c.args.cells.now) (omega arith) (omega (arith, c.requires.up)) (omega (arith, c.requires.from)) (sym long) in
-    c.in_ok-sweep-2.ensures.noted old new rest left (c.in_ok-sweep.ensures.noted old new frame come_in (All-none (λ n. IsChangeAt old new n.place n.now (g.C.ChangeRunner.change_of n.change)) c.new-noted.result.items c.new-noted.ensures.items))

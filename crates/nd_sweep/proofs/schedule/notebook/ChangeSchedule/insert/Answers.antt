@@ -8,8 +8,6 @@ use Rattle.nd_model.proofs.EditKept.{map-insert}
 use Rattle.nd_sweep.specs.declared.cells.source.KeptCell.{KeptCell}
 use Rattle.nd_sweep.specs.Cells.Source.{sheet, cell_of, cells_of}
 use Rattle.nd_sweep.specs.Cells.Shared.{each_of}
-use Rattle.std.specs.List.{All}
-use Rattle.nd_sweep.specs.ChangeSchedule.Snapshot.{IsSnapshot}
 use Rattle.nd_sweep.proofs.cells.Spliced.{went_in}
 use Rattle.nd_sweep.specs.ChangeSchedule.Sweep.{AreFit, AreWords, IsKept, fit_at}
 use Rattle.nd_sweep.proofs.schedule.Kept.{as_many}
@@ -20,17 +18,17 @@ use Rattle.nd_sweep.proofs.schedule.notebook.ChangeSchedule.insert.Goals as goal
 pub install-requires-clause-fit : goal.install-requires-clause-fit
 install-requires-clause-fit g c =
     let run : IsKept g.C.ChangeRunner.covers (book_of c.args.self.now) (each_of g.C.ChangeRunner.recorded c.self.inside.records.items) c.self.inside.words.items =
-    subst (λ (s : Sheet). IsKept g.C.ChangeRunner.covers (book_of s) (each_of g.C.ChangeRunner.recorded c.self.inside.records.items) c.self.inside.words.items) c.self.view_is (c.self.invariant).0 in
+    subst (λ (s : Sheet). IsKept g.C.ChangeRunner.covers (book_of s) (each_of g.C.ChangeRunner.recorded c.self.inside.records.items) c.self.inside.words.items) c.self.view_is c.self.invariant in
     let many : length c.self.inside.records.items ≡ length c.args.self.now.cells = as_many (λ r. g.C.ChangeRunner.recorded r.value) (book_of c.args.self.now) c.self.inside.records.items run.run.records in
     let same2 : length c.make_room-2.new.list.items ≡ length c.self.inside.records.items = ap length c.make_room-2.ensures.same in
     let same3 : length c.make_room-3.new.list.items ≡ length c.self.inside.words.items = ap length c.make_room-3.ensures.same in
     let viewed : length (each_of g.C.ChangeRunner.recorded c.self.inside.records.items) ≡ length c.self.inside.records.items = length-map c.self.inside.records.items (λ r. g.C.ChangeRunner.recorded r.value) in
-    subst (λ n. AreFit g.C.ChangeRunner.covers n (map (λ c'. fit_at c'.place (g.C.ChangeRunner.recorded c'.record.value) c'.word) c.in_ok-new.field-0.swept.changed.items)) (sym (same2 ∙ many)) c.in_ok-new.ensures.fit
+    subst (λ n. AreFit g.C.ChangeRunner.covers n (map (λ c'. fit_at c'.place (g.C.ChangeRunner.recorded c'.record.value) c'.word) c.in_ok-new.field-0.state.changed.items)) (sym (same2 ∙ many)) c.in_ok-new.ensures.fit
 
 pub insert-record-requires : goal.insert-record-requires
 insert-record-requires g c =
     let run : IsKept g.C.ChangeRunner.covers (book_of c.args.self.now) (each_of g.C.ChangeRunner.recorded c.self.inside.records.items) c.self.inside.words.items =
-    subst (λ (s : Sheet). IsKept g.C.ChangeRunner.covers (book_of s) (each_of g.C.ChangeRunner.recorded c.self.inside.records.items) c.self.inside.words.items) c.self.view_is (c.self.invariant).0 in
+    subst (λ (s : Sheet). IsKept g.C.ChangeRunner.covers (book_of s) (each_of g.C.ChangeRunner.recorded c.self.inside.records.items) c.self.inside.words.items) c.self.view_is c.self.invariant in
     let many : length c.self.inside.records.items ≡ length c.args.self.now.cells = as_many (λ r. g.C.ChangeRunner.recorded r.value) (book_of c.args.self.now) c.self.inside.records.items run.run.records in
     let same2 : length c.make_room-2.new.list.items ≡ length c.self.inside.records.items = ap length c.make_room-2.ensures.same in
     let same3 : length c.make_room-3.new.list.items ≡ length c.self.inside.words.items = ap length c.make_room-3.ensures.same in
@@ -40,7 +38,7 @@ insert-record-requires g c =
 pub insert-word-requires : goal.insert-word-requires
 insert-word-requires g c =
     let run : IsKept g.C.ChangeRunner.covers (book_of c.args.self.now) (each_of g.C.ChangeRunner.recorded c.self.inside.records.items) c.self.inside.words.items =
-    subst (λ (s : Sheet). IsKept g.C.ChangeRunner.covers (book_of s) (each_of g.C.ChangeRunner.recorded c.self.inside.records.items) c.self.inside.words.items) c.self.view_is (c.self.invariant).0 in
+    subst (λ (s : Sheet). IsKept g.C.ChangeRunner.covers (book_of s) (each_of g.C.ChangeRunner.recorded c.self.inside.records.items) c.self.inside.words.items) c.self.view_is c.self.invariant in
     let many : length c.self.inside.records.items ≡ length c.args.self.now.cells = as_many (λ r. g.C.ChangeRunner.recorded r.value) (book_of c.args.self.now) c.self.inside.records.items run.run.records in
     let same2 : length c.make_room-2.new.list.items ≡ length c.self.inside.records.items = ap length c.make_room-2.ensures.same in
     let same3 : length c.make_room-3.new.list.items ≡ length c.self.inside.words.items = ap length c.make_room-3.ensures.same in
@@ -60,7 +58,7 @@ returns-clause-ok g c =
 pub invariant_of-self-2 : goal.invariant_of-self-2
 invariant_of-self-2 g c =
     let run : IsKept g.C.ChangeRunner.covers (book_of c.args.self.now) (each_of g.C.ChangeRunner.recorded c.self.inside.records.items) c.self.inside.words.items =
-    subst (λ (s : Sheet). IsKept g.C.ChangeRunner.covers (book_of s) (each_of g.C.ChangeRunner.recorded c.self.inside.records.items) c.self.inside.words.items) c.self.view_is (c.self.invariant).0 in
+    subst (λ (s : Sheet). IsKept g.C.ChangeRunner.covers (book_of s) (each_of g.C.ChangeRunner.recorded c.self.inside.records.items) c.self.inside.words.items) c.self.view_is c.self.invariant in
     let many : length c.self.inside.records.items ≡ length c.args.self.now.cells = as_many (λ r. g.C.ChangeRunner.recorded r.value) (book_of c.args.self.now) c.self.inside.records.items run.run.records in
     let same2 : length c.make_room-2.new.list.items ≡ length c.self.inside.records.items = ap length c.make_room-2.ensures.same in
     let same3 : length c.make_room-3.new.list.items ≡ length c.self.inside.words.items = ap length c.make_room-3.ensures.same in
@@ -80,30 +78,10 @@ invariant_of-self-2 g c =
     length-map c.install.new.records.items (λ r. g.C.ChangeRunner.recorded r.value) ∙ c.install.ensures.count ∙ sym (length-map c.make_room-2.new.list.items (λ r. g.C.ChangeRunner.recorded r.value)) in
     let as_words : length c.install.new.words.items ≡ length (each_of g.C.ChangeRunner.recorded c.install.new.records.items) = c.install.ensures.many ∙ same3 ∙ run.many ∙ sym (ap length rooms) ∙ sym long in
     let words_now = c.install.ensures.words (subst (λ ws. AreWords g.C.ChangeRunner.covers ws (each_of g.C.ChangeRunner.recorded c.make_room-2.new.list.items)) (sym c.make_room-3.ensures.same) (subst (AreWords g.C.ChangeRunner.covers c.self.inside.words.items) (sym rooms) run.words)) in
-    let kept : All (λ x. IsSnapshot (book_of c.args.self.now) x.place (g.C.ChangeRunner.kept_session x.version) (map g.C.ChangeRunner.change_of x.pending.items)) c.self.inside.snapshots.items =
-    subst (λ (s : Sheet). All (λ x. IsSnapshot (book_of s) x.place (g.C.ChangeRunner.kept_session x.version) (map g.C.ChangeRunner.change_of x.pending.items)) c.self.inside.snapshots.items) c.self.view_is (c.self.invariant).1 in (
-      subst (λ (s : Sheet). IsKept g.C.ChangeRunner.covers (book_of s) (each_of g.C.ChangeRunner.recorded c.insert-record.new.self.items) c.insert-word.new.self.items)
-          (sym (ap₂ sheet (ap cells_of cell_in ∙ map-insert (λ s. cell_of s.value) c.self.inside.cells.items c.args.at c.in_ok-cell.cell ∙ ap₂ (λ (cs : List Cell) (x : Cell). insert cs c.args.at x) (ap (λ (s : Sheet). s.cells) c.self.view_is) (ap cell_of (sym c.deref-2.ensures))) (ap (λ (s : Sheet). s.given) c.self.view_is)))
-          (subst (λ rs. IsKept g.C.ChangeRunner.covers (book_of (sheet (insert c.args.self.now.cells c.args.at (cell_of c.deref-2.result.now)) c.args.self.now.given)) rs c.insert-word.new.self.items)
-          (sym (ap (each_of g.C.ChangeRunner.recorded) record_in ∙ map-insert (λ r. g.C.ChangeRunner.recorded r.value) c.install.new.records.items c.args.at c.in_ok-new.field-0.new.record))
-          (subst (λ ws. IsKept g.C.ChangeRunner.covers (book_of (sheet (insert c.args.self.now.cells c.args.at (cell_of c.deref-2.result.now)) c.args.self.now.given)) (insert (each_of g.C.ChangeRunner.recorded c.install.new.records.items) c.args.at (g.C.ChangeRunner.recorded c.in_ok-new.field-0.new.record.value)) ws) (sym word_in)
-          (Inserting.kept_with c.args.self.now c.args.at (cell_of c.deref-2.result.now) c.requires run.run.distinct label _ (each_of g.C.ChangeRunner.recorded c.make_room-2.new.list.items) (each_of g.C.ChangeRunner.recorded c.install.new.records.items) (g.C.ChangeRunner.recorded c.in_ok-new.field-0.new.record.value)
-          (rooms ∙ run.run.records) c.in_ok-new.ensures.changed long c.install.ensures.records c.in_ok-new.ensures.made g.C.ChangeRunner.covers c.install.new.words.items c.in_ok-new.field-0.new.word as_words words_now c.in_ok-new.ensures.worded))),
-      subst (λ (s : Sheet). All (λ x. IsSnapshot (book_of s) x.place (g.C.ChangeRunner.kept_session x.version) (map g.C.ChangeRunner.change_of x.pending.items)) c.carry.new.snapshots.items) (sym (ap₂ sheet (ap cells_of cell_in ∙ map-insert (λ s. cell_of s.value) c.self.inside.cells.items c.args.at c.in_ok-cell.cell ∙ ap₂ (λ (cs : List Cell) (x : Cell). insert cs c.args.at x) (ap (λ (s : Sheet). s.cells) c.self.view_is) (ap cell_of (sym c.deref-2.ensures))) (ap (λ (s : Sheet). s.given) c.self.view_is)))
-          (c.carry.ensures (book_of c.args.self.now) (book_of (sheet (insert c.args.self.now.cells c.args.at (cell_of c.deref-2.result.now)) c.args.self.now.given)) (Inserting.is_behind c.args.self.now c.args.at (cell_of c.deref-2.result.now) c.requires run.run.distinct label) c.in_ok-new.ensures.noted c.in_ok-session.ensures.fresh kept),
-    )
-
-pub invariant_of-self : goal.invariant_of-self
-invariant_of-self g c =
-    subst (λ xs. IsKept g.C.ChangeRunner.covers (book_of (sheet (cells_of xs) (g.C.ChangeRunner.given c.self.inside.inputs))) (each_of g.C.ChangeRunner.recorded c.self.inside.records.items) c.self.inside.words.items × All (λ x. IsSnapshot (book_of (sheet (cells_of xs) (g.C.ChangeRunner.given c.self.inside.inputs))) x.place (g.C.ChangeRunner.kept_session x.version) (map g.C.ChangeRunner.change_of x.pending.items)) c.self.inside.snapshots.items) (sym c.make_room.ensures.same) c.self.invariant
-
-pub invariant_of-self-in_err-make_room-2 : goal.invariant_of-self-in_err-make_room-2
-invariant_of-self-in_err-make_room-2 g c =
-    subst (λ rs. IsKept g.C.ChangeRunner.covers (book_of (sheet (cells_of c.make_room.new.list.items) (g.C.ChangeRunner.given c.self.inside.inputs))) (each_of g.C.ChangeRunner.recorded rs) c.self.inside.words.items × All (λ x. IsSnapshot (book_of (sheet (cells_of c.make_room.new.list.items) (g.C.ChangeRunner.given c.self.inside.inputs))) x.place (g.C.ChangeRunner.kept_session x.version) (map g.C.ChangeRunner.change_of x.pending.items)) c.self.inside.snapshots.items) (sym c.make_room-2.ensures.same)
-    (subst (λ xs. IsKept g.C.ChangeRunner.covers (book_of (sheet (cells_of xs) (g.C.ChangeRunner.given c.self.inside.inputs))) (each_of g.C.ChangeRunner.recorded c.self.inside.records.items) c.self.inside.words.items × All (λ x. IsSnapshot (book_of (sheet (cells_of xs) (g.C.ChangeRunner.given c.self.inside.inputs))) x.place (g.C.ChangeRunner.kept_session x.version) (map g.C.ChangeRunner.change_of x.pending.items)) c.self.inside.snapshots.items) (sym c.make_room.ensures.same) c.self.invariant)
-
-pub invariant_of-self-in_err-make_room-3 : goal.invariant_of-self-in_err-make_room-3
-invariant_of-self-in_err-make_room-3 g c =
-    subst (λ ws. IsKept g.C.ChangeRunner.covers (book_of (sheet (cells_of c.make_room.new.list.items) (g.C.ChangeRunner.given c.self.inside.inputs))) (each_of g.C.ChangeRunner.recorded c.make_room-2.new.list.items) ws × All (λ x. IsSnapshot (book_of (sheet (cells_of c.make_room.new.list.items) (g.C.ChangeRunner.given c.self.inside.inputs))) x.place (g.C.ChangeRunner.kept_session x.version) (map g.C.ChangeRunner.change_of x.pending.items)) c.self.inside.snapshots.items) (sym c.make_room-3.ensures.same)
-    (subst (λ rs. IsKept g.C.ChangeRunner.covers (book_of (sheet (cells_of c.make_room.new.list.items) (g.C.ChangeRunner.given c.self.inside.inputs))) (each_of g.C.ChangeRunner.recorded rs) c.self.inside.words.items × All (λ x. IsSnapshot (book_of (sheet (cells_of c.make_room.new.list.items) (g.C.ChangeRunner.given c.self.inside.inputs))) x.place (g.C.ChangeRunner.kept_session x.version) (map g.C.ChangeRunner.change_of x.pending.items)) c.self.inside.snapshots.items) (sym c.make_room-2.ensures.same)
-    (subst (λ xs. IsKept g.C.ChangeRunner.covers (book_of (sheet (cells_of xs) (g.C.ChangeRunner.given c.self.inside.inputs))) (each_of g.C.ChangeRunner.recorded c.self.inside.records.items) c.self.inside.words.items × All (λ x. IsSnapshot (book_of (sheet (cells_of xs) (g.C.ChangeRunner.given c.self.inside.inputs))) x.place (g.C.ChangeRunner.kept_session x.version) (map g.C.ChangeRunner.change_of x.pending.items)) c.self.inside.snapshots.items) (sym c.make_room.ensures.same) c.self.invariant))
+    subst (λ (s : Sheet). IsKept g.C.ChangeRunner.covers (book_of s) (each_of g.C.ChangeRunner.recorded c.insert-record.new.self.items) c.insert-word.new.self.items)
+    (sym (ap₂ sheet (ap cells_of cell_in ∙ map-insert (λ s. cell_of s.value) c.self.inside.cells.items c.args.at c.in_ok-cell.cell ∙ ap₂ (λ (cs : List Cell) (x : Cell). insert cs c.args.at x) (ap (λ (s : Sheet). s.cells) c.self.view_is) (ap cell_of (sym c.deref-2.ensures))) (ap (λ (s : Sheet). s.given) c.self.view_is)))
+    (subst (λ rs. IsKept g.C.ChangeRunner.covers (book_of (sheet (insert c.args.self.now.cells c.args.at (cell_of c.deref-2.result.now)) c.args.self.now.given)) rs c.insert-word.new.self.items)
+    (sym (ap (each_of g.C.ChangeRunner.recorded) record_in ∙ map-insert (λ r. g.C.ChangeRunner.recorded r.value) c.install.new.records.items c.args.at c.in_ok-new.field-0.new.record))
+    (subst (λ ws. IsKept g.C.ChangeRunner.covers (book_of (sheet (insert c.args.self.now.cells c.args.at (cell_of c.deref-2.result.now)) c.args.self.now.given)) (insert (each_of g.C.ChangeRunner.recorded c.install.new.records.items) c.args.at (g.C.ChangeRunner.recorded c.in_ok-new.field-0.new.record.value)) ws) (sym word_in)
+    (Inserting.kept_with c.args.self.now c.args.at (cell_of c.deref-2.result.now) c.requires run.run.distinct label _ (each_of g.C.ChangeRunner.recorded c.make_room-2.new.list.items) (each_of g.C.ChangeRunner.recorded c.install.new.records.items) (g.C.ChangeRunner.recorded c.in_ok-new.field-0.new.record.value)
+    (rooms ∙ run.run.records) c.in_ok-new.ensures.changed long c.install.ensures.records c.in_ok-new.ensures.made g.C.ChangeRunner.covers c.install.new.words.items c.in_ok-new.field-0.new.word as_words words_now c.in_ok-new.ensures.worded)))

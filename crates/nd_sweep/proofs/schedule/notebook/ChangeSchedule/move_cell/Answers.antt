@@ -9,10 +9,8 @@ use Rattle.nd_model.proofs.Entries.{get_or-records_of}
 use Rattle.nd_sweep.specs.Cells.Source.{sheet, cell_of, cells_of}
 use Rattle.nd_sweep.specs.Cells.Shared.{each_of}
 use Rattle.nd_sweep.specs.ChangeSchedule.Sweep.{AreFit, AreMoved, Changes, IsKept, IsMoving, change_at, changed, fit_at}
-use Rattle.std.specs.List.{All}
-use Rattle.nd_sweep.specs.ChangeSchedule.Snapshot.{IsSnapshot}
 use Rattle.nd_sweep.proofs.schedule.Kept.{as_many}
-use Rattle.nd_sweep.proofs.schedule.Turning.{behind, kept_turned, match_more, moving, turned_map}
+use Rattle.nd_sweep.proofs.schedule.Turning.{kept_turned, match_more, moving, turned_map}
 use Rattle.nd_sweep.proofs.schedule.notebook.ChangeSchedule.move_cell.Goals as goal
 
 -- the records of all other cells, once both lists of changes are in their places
@@ -27,42 +25,42 @@ module _ (old new : Book) (from to : ℕ) (es ds : Changes) (rs ss ts : List Rec
 pub install-requires-clause-fit : goal.install-requires-clause-fit
 install-requires-clause-fit g c =
     let run : IsKept g.C.ChangeRunner.covers (book_of c.args.self.now) (each_of g.C.ChangeRunner.recorded c.self.inside.records.items) c.self.inside.words.items =
-    subst (λ (s : Sheet). IsKept g.C.ChangeRunner.covers (book_of s) (each_of g.C.ChangeRunner.recorded c.self.inside.records.items) c.self.inside.words.items) c.self.view_is (c.self.invariant).0 in
+    subst (λ (s : Sheet). IsKept g.C.ChangeRunner.covers (book_of s) (each_of g.C.ChangeRunner.recorded c.self.inside.records.items) c.self.inside.words.items) c.self.view_is c.self.invariant in
     let many : length c.self.inside.records.items ≡ length c.args.self.now.cells = as_many (λ r. g.C.ChangeRunner.recorded r.value) (book_of c.args.self.now) c.self.inside.records.items run.run.records in
     subst (λ n. AreFit g.C.ChangeRunner.covers n (map (λ c'. fit_at c'.place (g.C.ChangeRunner.recorded c'.record.value) c'.word) c.in_ok-made.field-0.between.items)) (sym many) c.in_ok-made.ensures.fit_between
 
 pub install-requires-2-clause-fit : goal.install-requires-2-clause-fit
 install-requires-2-clause-fit g c =
     let run : IsKept g.C.ChangeRunner.covers (book_of c.args.self.now) (each_of g.C.ChangeRunner.recorded c.self.inside.records.items) c.self.inside.words.items =
-    subst (λ (s : Sheet). IsKept g.C.ChangeRunner.covers (book_of s) (each_of g.C.ChangeRunner.recorded c.self.inside.records.items) c.self.inside.words.items) c.self.view_is (c.self.invariant).0 in
+    subst (λ (s : Sheet). IsKept g.C.ChangeRunner.covers (book_of s) (each_of g.C.ChangeRunner.recorded c.self.inside.records.items) c.self.inside.words.items) c.self.view_is c.self.invariant in
     let many : length c.self.inside.records.items ≡ length c.args.self.now.cells = as_many (λ r. g.C.ChangeRunner.recorded r.value) (book_of c.args.self.now) c.self.inside.records.items run.run.records in
     subst (λ n. AreFit g.C.ChangeRunner.covers n (map (λ c'. fit_at c'.place (g.C.ChangeRunner.recorded c'.record.value) c'.word) c.in_ok-made.field-0.behind.items)) (sym (c.install.ensures.count ∙ many)) c.in_ok-made.ensures.fit_behind
 
 pub put_made-requires-clause-at : goal.put_made-requires-clause-at
 put_made-requires-clause-at g c =
     let run : IsKept g.C.ChangeRunner.covers (book_of c.args.self.now) (each_of g.C.ChangeRunner.recorded c.self.inside.records.items) c.self.inside.words.items =
-    subst (λ (s : Sheet). IsKept g.C.ChangeRunner.covers (book_of s) (each_of g.C.ChangeRunner.recorded c.self.inside.records.items) c.self.inside.words.items) c.self.view_is (c.self.invariant).0 in
+    subst (λ (s : Sheet). IsKept g.C.ChangeRunner.covers (book_of s) (each_of g.C.ChangeRunner.recorded c.self.inside.records.items) c.self.inside.words.items) c.self.view_is c.self.invariant in
     let many : length c.self.inside.records.items ≡ length c.args.self.now.cells = as_many (λ r. g.C.ChangeRunner.recorded r.value) (book_of c.args.self.now) c.self.inside.records.items run.run.records in
     omega (arith, many, c.install.ensures.count, c.install-2.ensures.count, c.requires.from)
 
 pub move_item-requires-2-clause-from : goal.move_item-requires-2-clause-from
 move_item-requires-2-clause-from g c =
     let run : IsKept g.C.ChangeRunner.covers (book_of c.args.self.now) (each_of g.C.ChangeRunner.recorded c.self.inside.records.items) c.self.inside.words.items =
-    subst (λ (s : Sheet). IsKept g.C.ChangeRunner.covers (book_of s) (each_of g.C.ChangeRunner.recorded c.self.inside.records.items) c.self.inside.words.items) c.self.view_is (c.self.invariant).0 in
+    subst (λ (s : Sheet). IsKept g.C.ChangeRunner.covers (book_of s) (each_of g.C.ChangeRunner.recorded c.self.inside.records.items) c.self.inside.words.items) c.self.view_is c.self.invariant in
     let many : length c.self.inside.records.items ≡ length c.args.self.now.cells = as_many (λ r. g.C.ChangeRunner.recorded r.value) (book_of c.args.self.now) c.self.inside.records.items run.run.records in
     omega (arith, many, c.install.ensures.count, c.install-2.ensures.count, c.put_made.ensures.count, c.requires.from)
 
 pub move_item-requires-2-clause-to : goal.move_item-requires-2-clause-to
 move_item-requires-2-clause-to g c =
     let run : IsKept g.C.ChangeRunner.covers (book_of c.args.self.now) (each_of g.C.ChangeRunner.recorded c.self.inside.records.items) c.self.inside.words.items =
-    subst (λ (s : Sheet). IsKept g.C.ChangeRunner.covers (book_of s) (each_of g.C.ChangeRunner.recorded c.self.inside.records.items) c.self.inside.words.items) c.self.view_is (c.self.invariant).0 in
+    subst (λ (s : Sheet). IsKept g.C.ChangeRunner.covers (book_of s) (each_of g.C.ChangeRunner.recorded c.self.inside.records.items) c.self.inside.words.items) c.self.view_is c.self.invariant in
     let many : length c.self.inside.records.items ≡ length c.args.self.now.cells = as_many (λ r. g.C.ChangeRunner.recorded r.value) (book_of c.args.self.now) c.self.inside.records.items run.run.records in
     omega (arith, many, c.install.ensures.count, c.install-2.ensures.count, c.put_made.ensures.count, c.requires.to)
 
 pub move_item-requires-3-clause-from : goal.move_item-requires-3-clause-from
 move_item-requires-3-clause-from g c =
     let run : IsKept g.C.ChangeRunner.covers (book_of c.args.self.now) (each_of g.C.ChangeRunner.recorded c.self.inside.records.items) c.self.inside.words.items =
-    subst (λ (s : Sheet). IsKept g.C.ChangeRunner.covers (book_of s) (each_of g.C.ChangeRunner.recorded c.self.inside.records.items) c.self.inside.words.items) c.self.view_is (c.self.invariant).0 in
+    subst (λ (s : Sheet). IsKept g.C.ChangeRunner.covers (book_of s) (each_of g.C.ChangeRunner.recorded c.self.inside.records.items) c.self.inside.words.items) c.self.view_is c.self.invariant in
     let many : length c.self.inside.records.items ≡ length c.args.self.now.cells = as_many (λ r. g.C.ChangeRunner.recorded r.value) (book_of c.args.self.now) c.self.inside.records.items run.run.records in
     let viewed : length (each_of g.C.ChangeRunner.recorded c.self.inside.records.items) ≡ length c.self.inside.records.items = length-map c.self.inside.records.items (λ r. g.C.ChangeRunner.recorded r.value) in
     omega (arith, many, viewed, run.many, c.install.ensures.many, c.install-2.ensures.many, c.put_made.ensures.many, c.requires.from)
@@ -70,7 +68,7 @@ move_item-requires-3-clause-from g c =
 pub move_item-requires-3-clause-to : goal.move_item-requires-3-clause-to
 move_item-requires-3-clause-to g c =
     let run : IsKept g.C.ChangeRunner.covers (book_of c.args.self.now) (each_of g.C.ChangeRunner.recorded c.self.inside.records.items) c.self.inside.words.items =
-    subst (λ (s : Sheet). IsKept g.C.ChangeRunner.covers (book_of s) (each_of g.C.ChangeRunner.recorded c.self.inside.records.items) c.self.inside.words.items) c.self.view_is (c.self.invariant).0 in
+    subst (λ (s : Sheet). IsKept g.C.ChangeRunner.covers (book_of s) (each_of g.C.ChangeRunner.recorded c.self.inside.records.items) c.self.inside.words.items) c.self.view_is c.self.invariant in
     let many : length c.self.inside.records.items ≡ length c.args.self.now.cells = as_many (λ r. g.C.ChangeRunner.recorded r.value) (book_of c.args.self.now) c.self.inside.records.items run.run.records in
     let viewed : length (each_of g.C.ChangeRunner.recorded c.self.inside.records.items) ≡ length c.self.inside.records.items = length-map c.self.inside.records.items (λ r. g.C.ChangeRunner.recorded r.value) in
     omega (arith, many, viewed, run.many, c.install.ensures.many, c.install-2.ensures.many, c.put_made.ensures.many, c.requires.to)
@@ -78,7 +76,7 @@ move_item-requires-3-clause-to g c =
 pub invariant_of-self : goal.invariant_of-self
 invariant_of-self g c =
     let run : IsKept g.C.ChangeRunner.covers (book_of c.args.self.now) (each_of g.C.ChangeRunner.recorded c.self.inside.records.items) c.self.inside.words.items =
-    subst (λ (s : Sheet). IsKept g.C.ChangeRunner.covers (book_of s) (each_of g.C.ChangeRunner.recorded c.self.inside.records.items) c.self.inside.words.items) c.self.view_is (c.self.invariant).0 in
+    subst (λ (s : Sheet). IsKept g.C.ChangeRunner.covers (book_of s) (each_of g.C.ChangeRunner.recorded c.self.inside.records.items) c.self.inside.words.items) c.self.view_is c.self.invariant in
     let many : length c.self.inside.records.items ≡ length c.args.self.now.cells = as_many (λ r. g.C.ChangeRunner.recorded r.value) (book_of c.args.self.now) c.self.inside.records.items run.run.records in
     let inside : length c.self.inside.cells.items ≡ length c.args.self.now.cells = sym (length-map c.self.inside.cells.items (λ s. cell_of s.value)) ∙ ap (λ (s : Sheet). length s.cells) c.self.view_is in
     let viewed : length (each_of g.C.ChangeRunner.recorded c.self.inside.records.items) ≡ length c.self.inside.records.items = length-map c.self.inside.records.items (λ r. g.C.ChangeRunner.recorded r.value) in
@@ -103,15 +101,10 @@ invariant_of-self g c =
     λ k r lt other. c.put_made.ensures.others k r other ∙ both old new c.args.from c.args.to es ds rs ss ts run.run.records c.in_ok-made.ensures.moved c.install.ensures.records c.install-2.ensures.records k r lt in
     let there : (r : Record) → get_or us c.args.from r ≡ x =
     λ r. c.put_made.ensures.there r x (stays_put old new c.args.from c.args.to es ds rs ss ts run.run.records c.in_ok-made.ensures.moved c.install.ensures.records c.install-2.ensures.records (λ n. g.C.ChangeRunner.recorded n.record.value ≡ x) c.in_ok-made.field-0.made r x c.requires.from c.in_ok-made.ensures.made) in
-    let kept : All (λ x. IsSnapshot (book_of c.args.self.now) x.place (g.C.ChangeRunner.kept_session x.version) (map g.C.ChangeRunner.change_of x.pending.items)) c.self.inside.snapshots.items =
-    subst (λ (s : Sheet). All (λ x. IsSnapshot (book_of s) x.place (g.C.ChangeRunner.kept_session x.version) (map g.C.ChangeRunner.change_of x.pending.items)) c.self.inside.snapshots.items) c.self.view_is (c.self.invariant).1 in (
-      subst (λ (s : Sheet). IsKept g.C.ChangeRunner.covers (book_of s) (each_of g.C.ChangeRunner.recorded c.move_item-2.new.list.items) c.move_item-3.new.list.items) (sym (ap₂ sheet cells (ap (λ (s : Sheet). s.given) c.self.view_is)))
-          (kept_turned g.C.ChangeRunner.covers old new c.args.from c.args.to _ _ _ way us es ds long c.in_ok-made.ensures.moved put there c.put_made.new.words.items c.move_item-3.new.list.items as_long
-          (c.put_made.ensures.words (c.install-2.ensures.words (c.install.ensures.words run.words))) c.move_item-3.ensures (each_of g.C.ChangeRunner.recorded c.move_item-2.new.list.items)
-          (turned_map (λ r. g.C.ChangeRunner.recorded r.value) c.put_made.new.records.items c.move_item-2.new.list.items c.args.from c.args.to d (omega (arith, many, c.install.ensures.count, c.install-2.ensures.count, c.put_made.ensures.count, c.requires.from)) c.move_item-2.ensures)),
-      subst (λ (s : Sheet). All (λ x. IsSnapshot (book_of s) x.place (g.C.ChangeRunner.kept_session x.version) (map g.C.ChangeRunner.change_of x.pending.items)) c.carry.new.snapshots.items) (sym (ap₂ sheet cells (ap (λ (s : Sheet). s.given) c.self.view_is)))
-          (c.carry.ensures old new (behind old new c.args.from c.args.to _ _ _ way c.min-first.result (omega (arith, c.min-first.ensures)) (omega (arith, c.min-first.ensures))) c.in_ok-made.ensures.noted c.in_ok-session.ensures.fresh kept),
-    )
+    subst (λ (s : Sheet). IsKept g.C.ChangeRunner.covers (book_of s) (each_of g.C.ChangeRunner.recorded c.move_item-2.new.list.items) c.move_item-3.new.list.items) (sym (ap₂ sheet cells (ap (λ (s : Sheet). s.given) c.self.view_is)))
+    (kept_turned g.C.ChangeRunner.covers old new c.args.from c.args.to _ _ _ way us es ds long c.in_ok-made.ensures.moved put there c.put_made.new.words.items c.move_item-3.new.list.items as_long
+    (c.put_made.ensures.words (c.install-2.ensures.words (c.install.ensures.words run.words))) c.move_item-3.ensures (each_of g.C.ChangeRunner.recorded c.move_item-2.new.list.items)
+    (turned_map (λ r. g.C.ChangeRunner.recorded r.value) c.put_made.new.records.items c.move_item-2.new.list.items c.args.from c.args.to d (omega (arith, many, c.install.ensures.count, c.install-2.ensures.count, c.put_made.ensures.count, c.requires.from)) c.move_item-2.ensures))
 
 pub returns-clause-ok : goal.returns-clause-ok
 returns-clause-ok g c =

@@ -4,32 +4,24 @@ use Rattle.nd_model.specs.Book.Notebook.{Sheet, book_of}
 use Rattle.nd_sweep.specs.Cells.Source.{sheet}
 use Rattle.nd_sweep.specs.Cells.Shared.{each_of}
 use Rattle.nd_sweep.specs.ChangeSchedule.Sweep.{AreFit, IsKept, fit_at}
-use Rattle.std.specs.List.{All}
-use Rattle.nd_sweep.specs.ChangeSchedule.Snapshot.{IsSnapshot}
-use Rattle.nd_sweep.proofs.schedule.Standing.{All-none}
 use Rattle.nd_sweep.proofs.schedule.Kept.{as_many}
-use Rattle.nd_sweep.proofs.schedule.Editing.{behind_none, kept_over}
+use Rattle.nd_sweep.proofs.schedule.Editing.{kept_over}
 use Rattle.nd_sweep.proofs.schedule.notebook.ChangeSchedule.set_inputs.Goals as goal
 
 pub install-requires-clause-fit : goal.install-requires-clause-fit
 install-requires-clause-fit g c =
     let run : IsKept g.C.ChangeRunner.covers (book_of c.args.self.now) (each_of g.C.ChangeRunner.recorded c.self.inside.records.items) c.self.inside.words.items =
-    subst (λ (s : Sheet). IsKept g.C.ChangeRunner.covers (book_of s) (each_of g.C.ChangeRunner.recorded c.self.inside.records.items) c.self.inside.words.items) c.self.view_is (c.self.invariant).0 in
+    subst (λ (s : Sheet). IsKept g.C.ChangeRunner.covers (book_of s) (each_of g.C.ChangeRunner.recorded c.self.inside.records.items) c.self.inside.words.items) c.self.view_is c.self.invariant in
     let many : length c.self.inside.records.items ≡ length c.args.self.now.cells = as_many (λ r. g.C.ChangeRunner.recorded r.value) (book_of c.args.self.now) c.self.inside.records.items run.run.records in
-    subst (λ n. AreFit g.C.ChangeRunner.covers n (map (λ c'. fit_at c'.place (g.C.ChangeRunner.recorded c'.record.value) c'.word) c.in_ok-changed.field-0.changed.items)) (sym many) c.in_ok-changed.ensures.fit
+    subst (λ n. AreFit g.C.ChangeRunner.covers n (map (λ c'. fit_at c'.place (g.C.ChangeRunner.recorded c'.record.value) c'.word) c.in_ok-state.state.changed.items)) (sym many) c.in_ok-state.ensures.fit
 
 pub invariant_of-self : goal.invariant_of-self
 invariant_of-self g c =
     let run : IsKept g.C.ChangeRunner.covers (book_of c.args.self.now) (each_of g.C.ChangeRunner.recorded c.self.inside.records.items) c.self.inside.words.items =
-    subst (λ (s : Sheet). IsKept g.C.ChangeRunner.covers (book_of s) (each_of g.C.ChangeRunner.recorded c.self.inside.records.items) c.self.inside.words.items) c.self.view_is (c.self.invariant).0 in
+    subst (λ (s : Sheet). IsKept g.C.ChangeRunner.covers (book_of s) (each_of g.C.ChangeRunner.recorded c.self.inside.records.items) c.self.inside.words.items) c.self.view_is c.self.invariant in
     let long : length (each_of g.C.ChangeRunner.recorded c.install.new.records.items) ≡ length (each_of g.C.ChangeRunner.recorded c.self.inside.records.items) =
     length-map c.install.new.records.items (λ r. g.C.ChangeRunner.recorded r.value) ∙ c.install.ensures.count ∙ sym (length-map c.self.inside.records.items (λ r. g.C.ChangeRunner.recorded r.value)) in
-    let kept : All (λ x. IsSnapshot (book_of c.args.self.now) x.place (g.C.ChangeRunner.kept_session x.version) (map g.C.ChangeRunner.change_of x.pending.items)) c.self.inside.snapshots.items =
-    subst (λ (s : Sheet). All (λ x. IsSnapshot (book_of s) x.place (g.C.ChangeRunner.kept_session x.version) (map g.C.ChangeRunner.change_of x.pending.items)) c.self.inside.snapshots.items) c.self.view_is (c.self.invariant).1 in (
-      subst (λ cs. IsKept g.C.ChangeRunner.covers (book_of (sheet cs (g.C.ChangeRunner.given c.args.inputs))) (each_of g.C.ChangeRunner.recorded c.install.new.records.items) c.install.new.words.items)
-          (sym (ap (λ (s : Sheet). s.cells) c.self.view_is))
-          (kept_over g.C.ChangeRunner.covers c.args.self.now (g.C.ChangeRunner.given c.args.inputs) _ (each_of g.C.ChangeRunner.recorded c.self.inside.records.items) (each_of g.C.ChangeRunner.recorded c.install.new.records.items) c.self.inside.words.items c.install.new.words.items run
-          c.in_ok-changed.ensures.changed long c.install.ensures.many c.install.ensures.records c.install.ensures.words),
-      subst (λ (s : Sheet). All (λ x. IsSnapshot (book_of s) x.place (g.C.ChangeRunner.kept_session x.version) (map g.C.ChangeRunner.change_of x.pending.items)) c.carry.new.snapshots.items) (sym (ap (λ (t : Sheet). sheet t.cells (g.C.ChangeRunner.given c.args.inputs)) c.self.view_is))
-          (c.carry.ensures (book_of c.args.self.now) (book_of (sheet c.args.self.now.cells (g.C.ChangeRunner.given c.args.inputs))) (behind_none c.args.self.now (g.C.ChangeRunner.given c.args.inputs) run.run.distinct) c.in_ok-changed.ensures.noted (All-none (λ x. IsSnapshot (book_of c.args.self.now) x.place (g.C.ChangeRunner.kept_session x.version) (map g.C.ChangeRunner.change_of x.pending.items)) c.new-fresh.result.items c.new-fresh.ensures.items) kept),
-    )
+    subst (λ cs. IsKept g.C.ChangeRunner.covers (book_of (sheet cs (g.C.ChangeRunner.given c.args.inputs))) (each_of g.C.ChangeRunner.recorded c.install.new.records.items) c.install.new.words.items)
+    (sym (ap (λ (s : Sheet). s.cells) c.self.view_is))
+    (kept_over g.C.ChangeRunner.covers c.args.self.now (g.C.ChangeRunner.given c.args.inputs) _ (each_of g.C.ChangeRunner.recorded c.self.inside.records.items) (each_of g.C.ChangeRunner.recorded c.install.new.records.items) c.self.inside.words.items c.install.new.words.items run
+    c.in_ok-state.ensures.changed long c.install.ensures.many c.install.ensures.records c.install.ensures.words)

@@ -6,9 +6,6 @@ use Rattle.nd_model.specs.Book.Notebook.{Sheet, book_of, inputs_in}
 use Rattle.nd_sweep.specs.Cells.Source.{sheet, cell_of, cells_of}
 use Rattle.nd_sweep.specs.Cells.Shared.{each_of}
 use Rattle.nd_sweep.specs.ChangeSchedule.Sweep.{AreChanged, AreFit, IsAt, IsFrame, IsKept, change_at, fit_at}
-use Rattle.nd_sweep.specs.ChangeSchedule.Snapshot.{IsChangeAt, IsSnapshot}
-use Rattle.std.specs.List.{All}
-use Rattle.nd_sweep.proofs.schedule.Standing.{All-none, kept_by_records, kept_lists}
 use Rattle.nd_sweep.proofs.schedule.Sweeping.{changed_none, counts_stale}
 use Rattle.nd_sweep.proofs.schedule.Kept.{as_many}
 use Rattle.nd_sweep.proofs.schedule.Visiting.{changed_to}
@@ -18,17 +15,17 @@ use Rattle.nd_sweep.proofs.schedule.notebook.ChangeSchedule.swept_new.Goals as g
 pub run_new-requires : goal.run_new-requires
 run_new-requires g c =
     let run : IsKept g.C.ChangeRunner.covers (book_of c.args.self.now) (each_of g.C.ChangeRunner.recorded c.self.inside.records.items) c.self.inside.words.items =
-    subst (λ (s : Sheet). IsKept g.C.ChangeRunner.covers (book_of s) (each_of g.C.ChangeRunner.recorded c.self.inside.records.items) c.self.inside.words.items) c.self.view_is (c.self.invariant).0 in
+    subst (λ (s : Sheet). IsKept g.C.ChangeRunner.covers (book_of s) (each_of g.C.ChangeRunner.recorded c.self.inside.records.items) c.self.inside.words.items) c.self.view_is c.self.invariant in
     let old : Book = book_of c.args.self.now in
     let new : Book = book_of (sheet (insert c.args.self.now.cells c.args.at (cell_of c.args.source.now)) c.args.self.now.given) in
     let same : inputs_in (g.C.ChangeRunner.given c.self.inside.inputs) ≡ new.inputs = ap (λ (s : Sheet). inputs_in s.given) c.self.view_is in
     let many : length c.self.inside.records.items ≡ length c.args.self.now.cells = as_many (λ r. g.C.ChangeRunner.recorded r.value) old c.self.inside.records.items run.run.records in
-    record { none = Inserting.none_here c.args.self.now c.args.at (cell_of c.args.source.now) c.requires.at run.run.distinct c.requires.label (g.C.ChangeRunner.session_of c.args.session) c.requires.session }
+    record { none = Inserting.none_here c.args.self.now c.args.at (cell_of c.args.source.now) c.requires.at run.run.distinct c.requires.label (g.C.ChangeRunner.session_of c.in_ok-session.session) c.in_ok-session.ensures }
 
 pub returns-in_err-new-clause-counts : goal.returns-in_err-new-clause-counts
 returns-in_err-new-clause-counts g c =
     let run : IsKept g.C.ChangeRunner.covers (book_of c.args.self.now) (each_of g.C.ChangeRunner.recorded c.self.inside.records.items) c.self.inside.words.items =
-    subst (λ (s : Sheet). IsKept g.C.ChangeRunner.covers (book_of s) (each_of g.C.ChangeRunner.recorded c.self.inside.records.items) c.self.inside.words.items) c.self.view_is (c.self.invariant).0 in
+    subst (λ (s : Sheet). IsKept g.C.ChangeRunner.covers (book_of s) (each_of g.C.ChangeRunner.recorded c.self.inside.records.items) c.self.inside.words.items) c.self.view_is c.self.invariant in
     let old : Book = book_of c.args.self.now in
     let new : Book = book_of (sheet (insert c.args.self.now.cells c.args.at (cell_of c.args.source.now)) c.args.self.now.given) in
     let same : inputs_in (g.C.ChangeRunner.given c.self.inside.inputs) ≡ new.inputs = ap (λ (s : Sheet). inputs_in s.given) c.self.view_is in
@@ -38,7 +35,7 @@ returns-in_err-new-clause-counts g c =
 pub sweep-requires-clause-records : goal.sweep-requires-clause-records
 sweep-requires-clause-records g c =
     let run : IsKept g.C.ChangeRunner.covers (book_of c.args.self.now) (each_of g.C.ChangeRunner.recorded c.self.inside.records.items) c.self.inside.words.items =
-    subst (λ (s : Sheet). IsKept g.C.ChangeRunner.covers (book_of s) (each_of g.C.ChangeRunner.recorded c.self.inside.records.items) c.self.inside.words.items) c.self.view_is (c.self.invariant).0 in
+    subst (λ (s : Sheet). IsKept g.C.ChangeRunner.covers (book_of s) (each_of g.C.ChangeRunner.recorded c.self.inside.records.items) c.self.inside.words.items) c.self.view_is c.self.invariant in
     let old : Book = book_of c.args.self.now in
     let new : Book = book_of (sheet (insert c.args.self.now.cells c.args.at (cell_of c.args.source.now)) c.args.self.now.given) in
     let same : inputs_in (g.C.ChangeRunner.given c.self.inside.inputs) ≡ new.inputs = ap (λ (s : Sheet). inputs_in s.given) c.self.view_is in
@@ -50,7 +47,7 @@ sweep-requires-clause-records g c =
 pub sweep-requires-clause-places : goal.sweep-requires-clause-places
 sweep-requires-clause-places g c =
     let run : IsKept g.C.ChangeRunner.covers (book_of c.args.self.now) (each_of g.C.ChangeRunner.recorded c.self.inside.records.items) c.self.inside.words.items =
-    subst (λ (s : Sheet). IsKept g.C.ChangeRunner.covers (book_of s) (each_of g.C.ChangeRunner.recorded c.self.inside.records.items) c.self.inside.words.items) c.self.view_is (c.self.invariant).0 in
+    subst (λ (s : Sheet). IsKept g.C.ChangeRunner.covers (book_of s) (each_of g.C.ChangeRunner.recorded c.self.inside.records.items) c.self.inside.words.items) c.self.view_is c.self.invariant in
     let old : Book = book_of c.args.self.now in
     let new : Book = book_of (sheet (insert c.args.self.now.cells c.args.at (cell_of c.args.source.now)) c.args.self.now.given) in
     let same : inputs_in (g.C.ChangeRunner.given c.self.inside.inputs) ≡ new.inputs = ap (λ (s : Sheet). inputs_in s.given) c.self.view_is in
@@ -63,7 +60,7 @@ sweep-requires-clause-places g c =
 pub sweep-requires-clause-at : goal.sweep-requires-clause-at
 sweep-requires-clause-at g c =
     let run : IsKept g.C.ChangeRunner.covers (book_of c.args.self.now) (each_of g.C.ChangeRunner.recorded c.self.inside.records.items) c.self.inside.words.items =
-    subst (λ (s : Sheet). IsKept g.C.ChangeRunner.covers (book_of s) (each_of g.C.ChangeRunner.recorded c.self.inside.records.items) c.self.inside.words.items) c.self.view_is (c.self.invariant).0 in
+    subst (λ (s : Sheet). IsKept g.C.ChangeRunner.covers (book_of s) (each_of g.C.ChangeRunner.recorded c.self.inside.records.items) c.self.inside.words.items) c.self.view_is c.self.invariant in
     let old : Book = book_of c.args.self.now in
     let new : Book = book_of (sheet (insert c.args.self.now.cells c.args.at (cell_of c.args.source.now)) c.args.self.now.given) in
     let same : inputs_in (g.C.ChangeRunner.given c.self.inside.inputs) ≡ new.inputs = ap (λ (s : Sheet). inputs_in s.given) c.self.view_is in
@@ -74,7 +71,7 @@ sweep-requires-clause-at g c =
     Inserting.frame_behind c.args.self.now c.args.at (cell_of c.args.source.now) c.requires.at run.run.distinct c.requires.label _ _ _ c.len.result
     (sym (ap cells_of c.deref.ensures.value ∙ ap (λ (s : Sheet). s.cells) c.self.view_is)) (ap (each_of g.C.ChangeRunner.recorded) c.deref-2.ensures.value ∙ run.run.records) (sym same) whole in
     let at : IsAt old new c.args.at (c.args.at + 1) (g.C.ChangeRunner.change_of c.run_new.new.state.change) (g.C.ChangeRunner.session_of c.run_new.new.state.session) c.args.at =
-    Inserting.came_at c.args.self.now c.args.at (cell_of c.args.source.now) c.requires.at run.run.distinct c.requires.label (g.C.ChangeRunner.session_of c.args.session) c.requires.session (g.C.ChangeRunner.change_of c.no_change-change.result) _ (g.C.ChangeRunner.recorded c.in_ok-new.new.record.value) _ _
+    Inserting.came_at c.args.self.now c.args.at (cell_of c.args.source.now) c.requires.at run.run.distinct c.requires.label (g.C.ChangeRunner.session_of c.in_ok-session.session) c.in_ok-session.ensures (g.C.ChangeRunner.change_of c.no_change-change.result) _ (g.C.ChangeRunner.recorded c.in_ok-new.new.record.value) _ _
     c.no_change-change.ensures same c.in_ok-new.ensures.made c.in_ok-new.ensures.after c.in_ok-new.ensures.comes in
     let at' : IsAt old new c.args.at (c.args.at + 1) (g.C.ChangeRunner.change_of c.run_new.new.state.change) (g.C.ChangeRunner.session_of c.run_new.new.state.session) c.run_new.new.state.since =
     subst (IsAt old new c.args.at (c.args.at + 1) (g.C.ChangeRunner.change_of c.run_new.new.state.change) (g.C.ChangeRunner.session_of c.run_new.new.state.session)) (sym c.in_ok-new.ensures.since) at in
@@ -83,7 +80,7 @@ sweep-requires-clause-at g c =
 pub returns-in_err-sweep-clause-counts : goal.returns-in_err-sweep-clause-counts
 returns-in_err-sweep-clause-counts g c =
     let run : IsKept g.C.ChangeRunner.covers (book_of c.args.self.now) (each_of g.C.ChangeRunner.recorded c.self.inside.records.items) c.self.inside.words.items =
-    subst (λ (s : Sheet). IsKept g.C.ChangeRunner.covers (book_of s) (each_of g.C.ChangeRunner.recorded c.self.inside.records.items) c.self.inside.words.items) c.self.view_is (c.self.invariant).0 in
+    subst (λ (s : Sheet). IsKept g.C.ChangeRunner.covers (book_of s) (each_of g.C.ChangeRunner.recorded c.self.inside.records.items) c.self.inside.words.items) c.self.view_is c.self.invariant in
     let old : Book = book_of c.args.self.now in
     let new : Book = book_of (sheet (insert c.args.self.now.cells c.args.at (cell_of c.args.source.now)) c.args.self.now.given) in
     let same : inputs_in (g.C.ChangeRunner.given c.self.inside.inputs) ≡ new.inputs = ap (λ (s : Sheet). inputs_in s.given) c.self.view_is in
@@ -94,7 +91,7 @@ returns-in_err-sweep-clause-counts g c =
     Inserting.frame_behind c.args.self.now c.args.at (cell_of c.args.source.now) c.requires.at run.run.distinct c.requires.label _ _ _ c.len.result
     (sym (ap cells_of c.deref.ensures.value ∙ ap (λ (s : Sheet). s.cells) c.self.view_is)) (ap (each_of g.C.ChangeRunner.recorded) c.deref-2.ensures.value ∙ run.run.records) (sym same) whole in
     let at : IsAt old new c.args.at (c.args.at + 1) (g.C.ChangeRunner.change_of c.run_new.new.state.change) (g.C.ChangeRunner.session_of c.run_new.new.state.session) c.args.at =
-    Inserting.came_at c.args.self.now c.args.at (cell_of c.args.source.now) c.requires.at run.run.distinct c.requires.label (g.C.ChangeRunner.session_of c.args.session) c.requires.session (g.C.ChangeRunner.change_of c.no_change-change.result) _ (g.C.ChangeRunner.recorded c.in_ok-new.new.record.value) _ _
+    Inserting.came_at c.args.self.now c.args.at (cell_of c.args.source.now) c.requires.at run.run.distinct c.requires.label (g.C.ChangeRunner.session_of c.in_ok-session.session) c.in_ok-session.ensures (g.C.ChangeRunner.change_of c.no_change-change.result) _ (g.C.ChangeRunner.recorded c.in_ok-new.new.record.value) _ _
     c.no_change-change.ensures same c.in_ok-new.ensures.made c.in_ok-new.ensures.after c.in_ok-new.ensures.comes in
     let at' : IsAt old new c.args.at (c.args.at + 1) (g.C.ChangeRunner.change_of c.run_new.new.state.change) (g.C.ChangeRunner.session_of c.run_new.new.state.session) c.run_new.new.state.since =
     subst (IsAt old new c.args.at (c.args.at + 1) (g.C.ChangeRunner.change_of c.run_new.new.state.change) (g.C.ChangeRunner.session_of c.run_new.new.state.session)) (sym c.in_ok-new.ensures.since) at in
@@ -103,7 +100,7 @@ returns-in_err-sweep-clause-counts g c =
 pub returns-clause-counts : goal.returns-clause-counts
 returns-clause-counts g c =
     let run : IsKept g.C.ChangeRunner.covers (book_of c.args.self.now) (each_of g.C.ChangeRunner.recorded c.self.inside.records.items) c.self.inside.words.items =
-    subst (λ (s : Sheet). IsKept g.C.ChangeRunner.covers (book_of s) (each_of g.C.ChangeRunner.recorded c.self.inside.records.items) c.self.inside.words.items) c.self.view_is (c.self.invariant).0 in
+    subst (λ (s : Sheet). IsKept g.C.ChangeRunner.covers (book_of s) (each_of g.C.ChangeRunner.recorded c.self.inside.records.items) c.self.inside.words.items) c.self.view_is c.self.invariant in
     let old : Book = book_of c.args.self.now in
     let new : Book = book_of (sheet (insert c.args.self.now.cells c.args.at (cell_of c.args.source.now)) c.args.self.now.given) in
     let same : inputs_in (g.C.ChangeRunner.given c.self.inside.inputs) ≡ new.inputs = ap (λ (s : Sheet). inputs_in s.given) c.self.view_is in
@@ -114,7 +111,7 @@ returns-clause-counts g c =
     Inserting.frame_behind c.args.self.now c.args.at (cell_of c.args.source.now) c.requires.at run.run.distinct c.requires.label _ _ _ c.len.result
     (sym (ap cells_of c.deref.ensures.value ∙ ap (λ (s : Sheet). s.cells) c.self.view_is)) (ap (each_of g.C.ChangeRunner.recorded) c.deref-2.ensures.value ∙ run.run.records) (sym same) whole in
     let at : IsAt old new c.args.at (c.args.at + 1) (g.C.ChangeRunner.change_of c.run_new.new.state.change) (g.C.ChangeRunner.session_of c.run_new.new.state.session) c.args.at =
-    Inserting.came_at c.args.self.now c.args.at (cell_of c.args.source.now) c.requires.at run.run.distinct c.requires.label (g.C.ChangeRunner.session_of c.args.session) c.requires.session (g.C.ChangeRunner.change_of c.no_change-change.result) _ (g.C.ChangeRunner.recorded c.in_ok-new.new.record.value) _ _
+    Inserting.came_at c.args.self.now c.args.at (cell_of c.args.source.now) c.requires.at run.run.distinct c.requires.label (g.C.ChangeRunner.session_of c.in_ok-session.session) c.in_ok-session.ensures (g.C.ChangeRunner.change_of c.no_change-change.result) _ (g.C.ChangeRunner.recorded c.in_ok-new.new.record.value) _ _
     c.no_change-change.ensures same c.in_ok-new.ensures.made c.in_ok-new.ensures.after c.in_ok-new.ensures.comes in
     let at' : IsAt old new c.args.at (c.args.at + 1) (g.C.ChangeRunner.change_of c.run_new.new.state.change) (g.C.ChangeRunner.session_of c.run_new.new.state.session) c.run_new.new.state.since =
     subst (IsAt old new c.args.at (c.args.at + 1) (g.C.ChangeRunner.change_of c.run_new.new.state.change) (g.C.ChangeRunner.session_of c.run_new.new.state.session)) (sym c.in_ok-new.ensures.since) at in
@@ -123,7 +120,7 @@ returns-clause-counts g c =
 pub returns-clause-changed : goal.returns-clause-changed
 returns-clause-changed g c =
     let run : IsKept g.C.ChangeRunner.covers (book_of c.args.self.now) (each_of g.C.ChangeRunner.recorded c.self.inside.records.items) c.self.inside.words.items =
-    subst (λ (s : Sheet). IsKept g.C.ChangeRunner.covers (book_of s) (each_of g.C.ChangeRunner.recorded c.self.inside.records.items) c.self.inside.words.items) c.self.view_is (c.self.invariant).0 in
+    subst (λ (s : Sheet). IsKept g.C.ChangeRunner.covers (book_of s) (each_of g.C.ChangeRunner.recorded c.self.inside.records.items) c.self.inside.words.items) c.self.view_is c.self.invariant in
     let old : Book = book_of c.args.self.now in
     let new : Book = book_of (sheet (insert c.args.self.now.cells c.args.at (cell_of c.args.source.now)) c.args.self.now.given) in
     let same : inputs_in (g.C.ChangeRunner.given c.self.inside.inputs) ≡ new.inputs = ap (λ (s : Sheet). inputs_in s.given) c.self.view_is in
@@ -134,7 +131,7 @@ returns-clause-changed g c =
     Inserting.frame_behind c.args.self.now c.args.at (cell_of c.args.source.now) c.requires.at run.run.distinct c.requires.label _ _ _ c.len.result
     (sym (ap cells_of c.deref.ensures.value ∙ ap (λ (s : Sheet). s.cells) c.self.view_is)) (ap (each_of g.C.ChangeRunner.recorded) c.deref-2.ensures.value ∙ run.run.records) (sym same) whole in
     let at : IsAt old new c.args.at (c.args.at + 1) (g.C.ChangeRunner.change_of c.run_new.new.state.change) (g.C.ChangeRunner.session_of c.run_new.new.state.session) c.args.at =
-    Inserting.came_at c.args.self.now c.args.at (cell_of c.args.source.now) c.requires.at run.run.distinct c.requires.label (g.C.ChangeRunner.session_of c.args.session) c.requires.session (g.C.ChangeRunner.change_of c.no_change-change.result) _ (g.C.ChangeRunner.recorded c.in_ok-new.new.record.value) _ _
+    Inserting.came_at c.args.self.now c.args.at (cell_of c.args.source.now) c.requires.at run.run.distinct c.requires.label (g.C.ChangeRunner.session_of c.in_ok-session.session) c.in_ok-session.ensures (g.C.ChangeRunner.change_of c.no_change-change.result) _ (g.C.ChangeRunner.recorded c.in_ok-new.new.record.value) _ _
     c.no_change-change.ensures same c.in_ok-new.ensures.made c.in_ok-new.ensures.after c.in_ok-new.ensures.comes in
     let at' : IsAt old new c.args.at (c.args.at + 1) (g.C.ChangeRunner.change_of c.run_new.new.state.change) (g.C.ChangeRunner.session_of c.run_new.new.state.session) c.run_new.new.state.since =
     subst (IsAt old new c.args.at (c.args.at + 1) (g.C.ChangeRunner.change_of c.run_new.new.state.change) (g.C.ChangeRunner.session_of c.run_new.new.state.session)) (sym c.in_ok-new.ensures.since) at in
@@ -146,7 +143,7 @@ returns-clause-changed g c =
 pub returns-clause-fit : goal.returns-clause-fit
 returns-clause-fit g c =
     let run : IsKept g.C.ChangeRunner.covers (book_of c.args.self.now) (each_of g.C.ChangeRunner.recorded c.self.inside.records.items) c.self.inside.words.items =
-    subst (λ (s : Sheet). IsKept g.C.ChangeRunner.covers (book_of s) (each_of g.C.ChangeRunner.recorded c.self.inside.records.items) c.self.inside.words.items) c.self.view_is (c.self.invariant).0 in
+    subst (λ (s : Sheet). IsKept g.C.ChangeRunner.covers (book_of s) (each_of g.C.ChangeRunner.recorded c.self.inside.records.items) c.self.inside.words.items) c.self.view_is c.self.invariant in
     let old : Book = book_of c.args.self.now in
     let new : Book = book_of (sheet (insert c.args.self.now.cells c.args.at (cell_of c.args.source.now)) c.args.self.now.given) in
     let same : inputs_in (g.C.ChangeRunner.given c.self.inside.inputs) ≡ new.inputs = ap (λ (s : Sheet). inputs_in s.given) c.self.view_is in
@@ -159,39 +156,9 @@ returns-clause-fit g c =
 pub returns-clause-made : goal.returns-clause-made
 returns-clause-made g c =
     let run : IsKept g.C.ChangeRunner.covers (book_of c.args.self.now) (each_of g.C.ChangeRunner.recorded c.self.inside.records.items) c.self.inside.words.items =
-    subst (λ (s : Sheet). IsKept g.C.ChangeRunner.covers (book_of s) (each_of g.C.ChangeRunner.recorded c.self.inside.records.items) c.self.inside.words.items) c.self.view_is (c.self.invariant).0 in
+    subst (λ (s : Sheet). IsKept g.C.ChangeRunner.covers (book_of s) (each_of g.C.ChangeRunner.recorded c.self.inside.records.items) c.self.inside.words.items) c.self.view_is c.self.invariant in
     let old : Book = book_of c.args.self.now in
     let new : Book = book_of (sheet (insert c.args.self.now.cells c.args.at (cell_of c.args.source.now)) c.args.self.now.given) in
     let same : inputs_in (g.C.ChangeRunner.given c.self.inside.inputs) ≡ new.inputs = ap (λ (s : Sheet). inputs_in s.given) c.self.view_is in
     let many : length c.self.inside.records.items ≡ length c.args.self.now.cells = as_many (λ r. g.C.ChangeRunner.recorded r.value) old c.self.inside.records.items run.run.records in
-    c.in_ok-new.ensures.made ∙ Inserting.run_record c.args.self.now c.args.at (cell_of c.args.source.now) c.requires.at run.run.distinct c.requires.label (g.C.ChangeRunner.session_of c.args.session) c.requires.session _ same
-
-pub returns-clause-noted : goal.returns-clause-noted
-returns-clause-noted g c =
-    let run : IsKept g.C.ChangeRunner.covers (book_of c.args.self.now) (each_of g.C.ChangeRunner.recorded c.self.inside.records.items) c.self.inside.words.items =
-    subst (λ (s : Sheet). IsKept g.C.ChangeRunner.covers (book_of s) (each_of g.C.ChangeRunner.recorded c.self.inside.records.items) c.self.inside.words.items) c.self.view_is (c.self.invariant).0 in
-    let old : Book = book_of c.args.self.now in
-    let new : Book = book_of (sheet (insert c.args.self.now.cells c.args.at (cell_of c.args.source.now)) c.args.self.now.given) in
-    let same : inputs_in (g.C.ChangeRunner.given c.self.inside.inputs) ≡ new.inputs = ap (λ (s : Sheet). inputs_in s.given) c.self.view_is in
-    let many : length c.self.inside.records.items ≡ length c.args.self.now.cells = as_many (λ r. g.C.ChangeRunner.recorded r.value) old c.self.inside.records.items run.run.records in
-    let inside : length c.self.inside.cells.items ≡ length c.args.self.now.cells = sym (length-map c.self.inside.cells.items (λ s. cell_of s.value)) ∙ ap (λ (s : Sheet). length s.cells) c.self.view_is in
-    let whole : c.len.result ≡ length c.args.self.now.cells = omega arith in
-    let frame : IsFrame old new c.args.at (c.args.at + 1) c.len.result (cells_of c.deref.result.now) (each_of g.C.ChangeRunner.recorded c.deref-2.result.now) (inputs_in (g.C.ChangeRunner.given c.self.inside.inputs)) =
-    Inserting.frame_behind c.args.self.now c.args.at (cell_of c.args.source.now) c.requires.at run.run.distinct c.requires.label _ _ _ c.len.result
-    (sym (ap cells_of c.deref.ensures.value ∙ ap (λ (s : Sheet). s.cells) c.self.view_is)) (ap (each_of g.C.ChangeRunner.recorded) c.deref-2.ensures.value ∙ run.run.records) (sym same) whole in
-    let at : IsAt old new c.args.at (c.args.at + 1) (g.C.ChangeRunner.change_of c.run_new.new.state.change) (g.C.ChangeRunner.session_of c.run_new.new.state.session) c.args.at =
-    Inserting.came_at c.args.self.now c.args.at (cell_of c.args.source.now) c.requires.at run.run.distinct c.requires.label (g.C.ChangeRunner.session_of c.args.session) c.requires.session (g.C.ChangeRunner.change_of c.no_change-change.result) _ (g.C.ChangeRunner.recorded c.in_ok-new.new.record.value) _ _
-    c.no_change-change.ensures same c.in_ok-new.ensures.made c.in_ok-new.ensures.after c.in_ok-new.ensures.comes in
-    let at' : IsAt old new c.args.at (c.args.at + 1) (g.C.ChangeRunner.change_of c.run_new.new.state.change) (g.C.ChangeRunner.session_of c.run_new.new.state.session) c.run_new.new.state.since =
-    subst (IsAt old new c.args.at (c.args.at + 1) (g.C.ChangeRunner.change_of c.run_new.new.state.change) (g.C.ChangeRunner.session_of c.run_new.new.state.session)) (sym c.in_ok-new.ensures.since) at in
-    c.in_ok-sweep.ensures.noted old new frame at' (All-none (λ n. IsChangeAt old new n.place n.now (g.C.ChangeRunner.change_of n.change)) c.new-noted.result.items c.new-noted.ensures.items)
-
-pub sweep-requires-clause-kept : goal.sweep-requires-clause-kept
-sweep-requires-clause-kept g c = λ b there.
-    let old : Book = book_of c.args.self.now in
-    let run : IsKept g.C.ChangeRunner.covers (book_of c.args.self.now) (each_of g.C.ChangeRunner.recorded c.self.inside.records.items) c.self.inside.words.items =
-    subst (λ (s : Sheet). IsKept g.C.ChangeRunner.covers (book_of s) (each_of g.C.ChangeRunner.recorded c.self.inside.records.items) c.self.inside.words.items) c.self.view_is (c.self.invariant).0 in
-    let kept : All (λ x. IsSnapshot (book_of c.args.self.now) x.place (g.C.ChangeRunner.kept_session x.version) (map g.C.ChangeRunner.change_of x.pending.items)) c.self.inside.snapshots.items =
-    subst (λ (s : Sheet). All (λ x. IsSnapshot (book_of s) x.place (g.C.ChangeRunner.kept_session x.version) (map g.C.ChangeRunner.change_of x.pending.items)) c.self.inside.snapshots.items) c.self.view_is (c.self.invariant).1 in
-    kept_lists (λ x. IsSnapshot old x.place (g.C.ChangeRunner.kept_session x.version) (map g.C.ChangeRunner.change_of x.pending.items)) (λ x. IsSnapshot b x.place (g.C.ChangeRunner.kept_session x.version) (map g.C.ChangeRunner.change_of x.pending.items)) _ _ c.deref-4.ensures.value
-    (λ x h. kept_by_records old b _ run.run (record { records = ap (each_of g.C.ChangeRunner.recorded) (sym c.deref-2.ensures.value) ∙ there.records; distinct = there.distinct }) _ _ _ h) kept
+    c.in_ok-new.ensures.made ∙ Inserting.run_record c.args.self.now c.args.at (cell_of c.args.source.now) c.requires.at run.run.distinct c.requires.label (g.C.ChangeRunner.session_of c.in_ok-session.session) c.in_ok-session.ensures _ same

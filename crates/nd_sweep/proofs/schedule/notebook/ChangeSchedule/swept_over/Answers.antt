@@ -7,9 +7,6 @@ use Rattle.nd_sweep.specs.Cells.Source.{sheet, cell_of, cells_of}
 use Rattle.nd_sweep.specs.Cells.Shared.{each_of}
 use Rattle.nd_change.specs.Change.{IsOver}
 use Rattle.nd_sweep.specs.ChangeSchedule.Sweep.{AreChanged, AreFit, IsAt, IsFrame, IsKept, change_at, fit_at}
-use Rattle.nd_sweep.specs.ChangeSchedule.Snapshot.{IsChangeAt, IsSnapshot}
-use Rattle.std.specs.List.{All}
-use Rattle.nd_sweep.proofs.schedule.Standing.{All-none, kept_by_records, kept_lists}
 use Rattle.nd_sweep.proofs.schedule.Sweeping.{changed_none, none_yet}
 use Rattle.nd_sweep.proofs.schedule.Kept.{as_many}
 use Rattle.nd_sweep.proofs.schedule.Visiting.{changed_to}
@@ -19,7 +16,7 @@ use Rattle.nd_sweep.proofs.schedule.notebook.ChangeSchedule.swept_over.Goals as 
 pub sweep-requires-clause-records : goal.sweep-requires-clause-records
 sweep-requires-clause-records g c =
     let run : IsKept g.C.ChangeRunner.covers (book_of c.args.self.now) (each_of g.C.ChangeRunner.recorded c.self.inside.records.items) c.self.inside.words.items =
-    subst (λ (s : Sheet). IsKept g.C.ChangeRunner.covers (book_of s) (each_of g.C.ChangeRunner.recorded c.self.inside.records.items) c.self.inside.words.items) c.self.view_is (c.self.invariant).0 in
+    subst (λ (s : Sheet). IsKept g.C.ChangeRunner.covers (book_of s) (each_of g.C.ChangeRunner.recorded c.self.inside.records.items) c.self.inside.words.items) c.self.view_is c.self.invariant in
     let old : Book = book_of c.args.self.now in
     let new : Book = book_of (sheet c.args.self.now.cells (g.C.ChangeRunner.given c.args.inputs.now)) in
     let many : length c.self.inside.records.items ≡ length c.args.self.now.cells = as_many (λ r. g.C.ChangeRunner.recorded r.value) old c.self.inside.records.items run.run.records in
@@ -30,7 +27,7 @@ sweep-requires-clause-records g c =
 pub sweep-requires-clause-places : goal.sweep-requires-clause-places
 sweep-requires-clause-places g c =
     let run : IsKept g.C.ChangeRunner.covers (book_of c.args.self.now) (each_of g.C.ChangeRunner.recorded c.self.inside.records.items) c.self.inside.words.items =
-    subst (λ (s : Sheet). IsKept g.C.ChangeRunner.covers (book_of s) (each_of g.C.ChangeRunner.recorded c.self.inside.records.items) c.self.inside.words.items) c.self.view_is (c.self.invariant).0 in
+    subst (λ (s : Sheet). IsKept g.C.ChangeRunner.covers (book_of s) (each_of g.C.ChangeRunner.recorded c.self.inside.records.items) c.self.inside.words.items) c.self.view_is c.self.invariant in
     let old : Book = book_of c.args.self.now in
     let new : Book = book_of (sheet c.args.self.now.cells (g.C.ChangeRunner.given c.args.inputs.now)) in
     let many : length c.self.inside.records.items ≡ length c.args.self.now.cells = as_many (λ r. g.C.ChangeRunner.recorded r.value) old c.self.inside.records.items run.run.records in
@@ -42,7 +39,7 @@ sweep-requires-clause-places g c =
 pub sweep-requires-clause-at : goal.sweep-requires-clause-at
 sweep-requires-clause-at g c =
     let run : IsKept g.C.ChangeRunner.covers (book_of c.args.self.now) (each_of g.C.ChangeRunner.recorded c.self.inside.records.items) c.self.inside.words.items =
-    subst (λ (s : Sheet). IsKept g.C.ChangeRunner.covers (book_of s) (each_of g.C.ChangeRunner.recorded c.self.inside.records.items) c.self.inside.words.items) c.self.view_is (c.self.invariant).0 in
+    subst (λ (s : Sheet). IsKept g.C.ChangeRunner.covers (book_of s) (each_of g.C.ChangeRunner.recorded c.self.inside.records.items) c.self.inside.words.items) c.self.view_is c.self.invariant in
     let old : Book = book_of c.args.self.now in
     let new : Book = book_of (sheet c.args.self.now.cells (g.C.ChangeRunner.given c.args.inputs.now)) in
     let many : length c.self.inside.records.items ≡ length c.args.self.now.cells = as_many (λ r. g.C.ChangeRunner.recorded r.value) old c.self.inside.records.items run.run.records in
@@ -59,7 +56,7 @@ sweep-requires-clause-at g c =
 pub returns-in_err-sweep-clause-counts : goal.returns-in_err-sweep-clause-counts
 returns-in_err-sweep-clause-counts g c =
     let run : IsKept g.C.ChangeRunner.covers (book_of c.args.self.now) (each_of g.C.ChangeRunner.recorded c.self.inside.records.items) c.self.inside.words.items =
-    subst (λ (s : Sheet). IsKept g.C.ChangeRunner.covers (book_of s) (each_of g.C.ChangeRunner.recorded c.self.inside.records.items) c.self.inside.words.items) c.self.view_is (c.self.invariant).0 in
+    subst (λ (s : Sheet). IsKept g.C.ChangeRunner.covers (book_of s) (each_of g.C.ChangeRunner.recorded c.self.inside.records.items) c.self.inside.words.items) c.self.view_is c.self.invariant in
     let old : Book = book_of c.args.self.now in
     let new : Book = book_of (sheet c.args.self.now.cells (g.C.ChangeRunner.given c.args.inputs.now)) in
     let many : length c.self.inside.records.items ≡ length c.args.self.now.cells = as_many (λ r. g.C.ChangeRunner.recorded r.value) old c.self.inside.records.items run.run.records in
@@ -76,7 +73,7 @@ returns-in_err-sweep-clause-counts g c =
 pub returns-clause-counts : goal.returns-clause-counts
 returns-clause-counts g c =
     let run : IsKept g.C.ChangeRunner.covers (book_of c.args.self.now) (each_of g.C.ChangeRunner.recorded c.self.inside.records.items) c.self.inside.words.items =
-    subst (λ (s : Sheet). IsKept g.C.ChangeRunner.covers (book_of s) (each_of g.C.ChangeRunner.recorded c.self.inside.records.items) c.self.inside.words.items) c.self.view_is (c.self.invariant).0 in
+    subst (λ (s : Sheet). IsKept g.C.ChangeRunner.covers (book_of s) (each_of g.C.ChangeRunner.recorded c.self.inside.records.items) c.self.inside.words.items) c.self.view_is c.self.invariant in
     let old : Book = book_of c.args.self.now in
     let new : Book = book_of (sheet c.args.self.now.cells (g.C.ChangeRunner.given c.args.inputs.now)) in
     let many : length c.self.inside.records.items ≡ length c.args.self.now.cells = as_many (λ r. g.C.ChangeRunner.recorded r.value) old c.self.inside.records.items run.run.records in
@@ -93,7 +90,7 @@ returns-clause-counts g c =
 pub returns-clause-changed : goal.returns-clause-changed
 returns-clause-changed g c =
     let run : IsKept g.C.ChangeRunner.covers (book_of c.args.self.now) (each_of g.C.ChangeRunner.recorded c.self.inside.records.items) c.self.inside.words.items =
-    subst (λ (s : Sheet). IsKept g.C.ChangeRunner.covers (book_of s) (each_of g.C.ChangeRunner.recorded c.self.inside.records.items) c.self.inside.words.items) c.self.view_is (c.self.invariant).0 in
+    subst (λ (s : Sheet). IsKept g.C.ChangeRunner.covers (book_of s) (each_of g.C.ChangeRunner.recorded c.self.inside.records.items) c.self.inside.words.items) c.self.view_is c.self.invariant in
     let old : Book = book_of c.args.self.now in
     let new : Book = book_of (sheet c.args.self.now.cells (g.C.ChangeRunner.given c.args.inputs.now)) in
     let many : length c.self.inside.records.items ≡ length c.args.self.now.cells = as_many (λ r. g.C.ChangeRunner.recorded r.value) old c.self.inside.records.items run.run.records in
@@ -113,7 +110,7 @@ returns-clause-changed g c =
 pub returns-clause-fit : goal.returns-clause-fit
 returns-clause-fit g c =
     let run : IsKept g.C.ChangeRunner.covers (book_of c.args.self.now) (each_of g.C.ChangeRunner.recorded c.self.inside.records.items) c.self.inside.words.items =
-    subst (λ (s : Sheet). IsKept g.C.ChangeRunner.covers (book_of s) (each_of g.C.ChangeRunner.recorded c.self.inside.records.items) c.self.inside.words.items) c.self.view_is (c.self.invariant).0 in
+    subst (λ (s : Sheet). IsKept g.C.ChangeRunner.covers (book_of s) (each_of g.C.ChangeRunner.recorded c.self.inside.records.items) c.self.inside.words.items) c.self.view_is c.self.invariant in
     let old : Book = book_of c.args.self.now in
     let new : Book = book_of (sheet c.args.self.now.cells (g.C.ChangeRunner.given c.args.inputs.now)) in
     let many : length c.self.inside.records.items ≡ length c.args.self.now.cells = as_many (λ r. g.C.ChangeRunner.recorded r.value) old c.self.inside.records.items run.run.records in
@@ -121,30 +118,3 @@ returns-clause-fit g c =
     let whole : c.len.result ≡ length c.args.self.now.cells = omega arith in
     c.in_ok-sweep.ensures.fit (length c.args.self.now.cells) (omega (arith, whole))
     (subst (λ xs. AreFit g.C.ChangeRunner.covers (length c.args.self.now.cells) (map (λ c'. fit_at c'.place (g.C.ChangeRunner.recorded c'.record.value) c'.word) xs)) (sym c.new.ensures.items) tt)
-
-pub returns-clause-noted : goal.returns-clause-noted
-returns-clause-noted g c =
-    let run : IsKept g.C.ChangeRunner.covers (book_of c.args.self.now) (each_of g.C.ChangeRunner.recorded c.self.inside.records.items) c.self.inside.words.items =
-    subst (λ (s : Sheet). IsKept g.C.ChangeRunner.covers (book_of s) (each_of g.C.ChangeRunner.recorded c.self.inside.records.items) c.self.inside.words.items) c.self.view_is (c.self.invariant).0 in
-    let old : Book = book_of c.args.self.now in
-    let new : Book = book_of (sheet c.args.self.now.cells (g.C.ChangeRunner.given c.args.inputs.now)) in
-    let many : length c.self.inside.records.items ≡ length c.args.self.now.cells = as_many (λ r. g.C.ChangeRunner.recorded r.value) old c.self.inside.records.items run.run.records in
-    let inside : length c.self.inside.cells.items ≡ length c.args.self.now.cells = sym (length-map c.self.inside.cells.items (λ s. cell_of s.value)) ∙ ap (λ (s : Sheet). length s.cells) c.self.view_is in
-    let whole : c.len.result ≡ length c.args.self.now.cells = omega arith in
-    let frame : IsFrame old new 0 0 c.len.result (cells_of c.deref.result.now) (each_of g.C.ChangeRunner.recorded c.deref-2.result.now) (inputs_in (g.C.ChangeRunner.given c.args.inputs.now)) =
-    Editing.frame_whole c.args.self.now (g.C.ChangeRunner.given c.args.inputs.now) run.run.distinct _ _ _ c.len.result
-    (sym (ap cells_of c.deref.ensures.value ∙ ap (λ (s : Sheet). s.cells) c.self.view_is)) (ap (each_of g.C.ChangeRunner.recorded) c.deref-2.ensures.value ∙ run.run.records) refl whole in
-    let at : IsAt old new 0 0 (g.C.ChangeRunner.change_of c.in_ok-change.change) (g.C.ChangeRunner.session_of c.in_ok-session.session) 0 =
-    Editing.inputs_at c.args.self.now (g.C.ChangeRunner.given c.args.inputs.now) run.run.distinct (g.C.ChangeRunner.change_of c.in_ok-change.change) _
-    (λ t. subst (λ (i : Inputs). IsOver (g.C.ChangeRunner.change_of c.in_ok-change.change) t i t new.inputs) (ap (λ (s : Sheet). inputs_in s.given) c.self.view_is) (c.in_ok-change.ensures t)) c.in_ok-session.ensures in
-    c.in_ok-sweep.ensures.noted old new frame at (All-none (λ n. IsChangeAt old new n.place n.now (g.C.ChangeRunner.change_of n.change)) c.new-noted.result.items c.new-noted.ensures.items)
-
-pub sweep-requires-clause-kept : goal.sweep-requires-clause-kept
-sweep-requires-clause-kept g c = λ b there.
-    let old : Book = book_of c.args.self.now in
-    let run : IsKept g.C.ChangeRunner.covers (book_of c.args.self.now) (each_of g.C.ChangeRunner.recorded c.self.inside.records.items) c.self.inside.words.items =
-    subst (λ (s : Sheet). IsKept g.C.ChangeRunner.covers (book_of s) (each_of g.C.ChangeRunner.recorded c.self.inside.records.items) c.self.inside.words.items) c.self.view_is (c.self.invariant).0 in
-    let kept : All (λ x. IsSnapshot (book_of c.args.self.now) x.place (g.C.ChangeRunner.kept_session x.version) (map g.C.ChangeRunner.change_of x.pending.items)) c.self.inside.snapshots.items =
-    subst (λ (s : Sheet). All (λ x. IsSnapshot (book_of s) x.place (g.C.ChangeRunner.kept_session x.version) (map g.C.ChangeRunner.change_of x.pending.items)) c.self.inside.snapshots.items) c.self.view_is (c.self.invariant).1 in
-    kept_lists (λ x. IsSnapshot old x.place (g.C.ChangeRunner.kept_session x.version) (map g.C.ChangeRunner.change_of x.pending.items)) (λ x. IsSnapshot b x.place (g.C.ChangeRunner.kept_session x.version) (map g.C.ChangeRunner.change_of x.pending.items)) _ _ c.deref-4.ensures.value
-    (λ x h. kept_by_records old b _ run.run (record { records = ap (each_of g.C.ChangeRunner.recorded) (sym c.deref-2.ensures.value) ∙ there.records; distinct = there.distinct }) _ _ _ h) kept

@@ -2,7 +2,6 @@
 #![tactic(auto)]
 
 mod augment;
-mod discard;
 mod effect;
 mod eval;
 mod evaluator;

@@ -26,10 +26,8 @@ pub type Bases = IndexMap<Base, ()>;
 /// How many bases at most are looked for one by one among the names.
 const FEW: usize = 8;
 
-/// Returns the bytes of a block, none where there is no such block.
-///
-/// Of a block that is not there they are `[]`.
-pub fn bytes_of(blocks: &Blocks, base: Base) -> &[u8]
+/// Returns the bytes of a block, and `[]` where there is no such block.
+pub(crate) fn bytes_of(blocks: &Blocks, base: Base) -> &[u8]
     ensures { result.now ≡ bytes_at (blocks_of blocks.now.entries) (base_of base) }
 {
     match blocks.get(&base) {

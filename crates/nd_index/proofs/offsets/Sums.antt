@@ -114,7 +114,7 @@ widened_at lengths strides axis lt lt' =
 abs_sum : (a b : ℤ) → unsigned_abs (a +ℤ b) ≤ unsigned_abs a + unsigned_abs b
 abs_sum a b = omega (arith, ints)
 
-abs_product : (i : ℕ) (s : ℤ) → i ≤ 2 ^ 32 → unsigned_abs s < 2 ^ 64 → unsigned_abs (pos i *ℤ s) ≤ 2 ^ 96
+pub abs_product : (i : ℕ) (s : ℤ) → i ≤ 2 ^ 32 → unsigned_abs s < 2 ^ 64 → unsigned_abs (pos i *ℤ s) ≤ 2 ^ 96
 abs_product i s few range =
     let below : unsigned_abs s ≤ 2 ^ 64 = omega (arith, range) in
     let product : i * unsigned_abs s ≤ 2 ^ 32 * 2 ^ 64 = mul-le-mul few below in
@@ -147,7 +147,7 @@ zero_way (n ∷ shape) (s ∷ ss) =
     let parts = zero_parts (elements_of shape) in
     rw (parts.0, parts.1) (first_step s (way_to (unravelled shape 0) ss) ∙ zero_way shape ss)
 
-quotient_few : (k e : ℕ) → k / e ≤ k
+pub quotient_few : (k e : ℕ) → k / e ≤ k
 quotient_few k zero = omega arith
 quotient_few k (suc e) = omega arith
 

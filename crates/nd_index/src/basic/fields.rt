@@ -23,8 +23,8 @@ fn find<'f>(name: &str, fields: &'f [Field]) -> Option<&'f Field>
 /// Returns the view of a field (`x['name']`), or `None` where the elements are no structures or
 /// have no such field.
 ///
-/// Of a table of `[('id', '<i4'), ('level', 'u1')]`, the field `level` begins at byte offset 4 and
-/// has the table's strides, of 5 bytes.
+/// In a table of `[('id', '<i4'), ('level', 'u1')]`, the field `level` begins at byte offset 4
+/// and has the table's strides, of 5 bytes.
 pub fn field(alloc: Global, view: &View, name: &str) -> Result<Option<View>, AllocError>
     ensures { IfOk result (λ found. found ≡ field_view name.now view.now) }
 {

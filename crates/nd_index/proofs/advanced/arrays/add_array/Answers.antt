@@ -1,6 +1,8 @@
-use Rattle.std.proofs.Common.{◌≡◌, ◌+◌, ◌-◌, ℕ, List, Vec, Global, map, length, take, drop, sym, ap, ◌∙◌, arith}
-use Rattle.std.specs.Prelude.{ℤ, ◌+ℤ◌, pos}
-use Rattle.std.proofs.lemmas.List.{length-map}
+use Rattle.std.proofs.Common.{◌≡◌, ◌+◌, ◌-◌, ◌^◌, ◌<◌, ◌≤◌, ℕ, List, Vec, Global, map, length, take, drop, sym, ap, subst, ◌∙◌, arith, length-take}
+use Rattle.std.specs.List.{All}
+use Rattle.std.specs.Prelude.{ℤ, ◌+ℤ◌, pos, unsigned_abs}
+use Rattle.std.proofs.lemmas.List.{length-drop, length-map}
+use Rattle.std.proofs.lemmas.List.Elements.{All-drop, All-take}
 use Rattle.nd_model.specs.Indexing.Advanced.{unravelled}
 use Rattle.nd_model.specs.Arrays.Broadcast.{own_tuple}
 use Rattle.nd_model.specs.Arrays.Strides.{way_to}
@@ -15,6 +17,24 @@ use Rattle.nd_index.proofs.offsets.Numbers.{some_of}
 use Rattle.nd_index.proofs.offsets.Pushed.{ok_then}
 use Rattle.nd_index.proofs.advanced.Spreads.{array_led, led_near}
 use Rattle.nd_index.proofs.advanced.arrays.add_array.Goals as goal
+
+pub ways_to-requires-clause-numbers : goal.ways_to-requires-clause-numbers
+ways_to-requires-clause-numbers c = subst (All (λ k. k ≤ 2 ^ 32)) (sym (c.as_slice.ensures.value ∙ c.in_ok-chosen.ensures)) c.args.spread.now.near
+
+pub ways_to-requires-clause-axes : goal.ways_to-requires-clause-axes
+ways_to-requires-clause-axes c =
+    let axis = c.args.axis in let axes = axis + c.args.spread.now.axes - axis in let sizes = c.args.sizes.now in let strides = c.args.strides.now in
+    omega (arith, length-take axes (drop axis strides), length-take axes (drop axis sizes), length-drop axis strides, length-drop axis sizes, c.requires.axes)
+
+pub ways_to-requires-clause-most : goal.ways_to-requires-clause-most
+ways_to-requires-clause-most c =
+    let axis = c.args.axis in let sizes = c.args.sizes.now in
+    omega (arith, length-take (axis + c.args.spread.now.axes - axis) (drop axis sizes), length-drop axis sizes, c.requires.most)
+
+pub ways_to-requires-clause-range : goal.ways_to-requires-clause-range
+ways_to-requires-clause-range c =
+    let axis = c.args.axis in let strides = c.args.strides.now in
+    All-take (λ s. unsigned_abs s < 2 ^ 64) (axis + c.args.spread.now.axes - axis) (drop axis strides) (All-drop (λ s. unsigned_abs s < 2 ^ 64) axis strides c.requires.range)
 
 pub ways_to-requires-clause-some : goal.ways_to-requires-clause-some
 ways_to-requires-clause-some c = (some_of c.args.axis (c.args.axis + c.args.spread.now.axes - c.args.axis) c.args.sizes.now c.requires.some).0

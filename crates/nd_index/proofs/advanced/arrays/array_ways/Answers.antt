@@ -1,14 +1,27 @@
-use Rattle.std.proofs.Common.{◌≡◌, ◌+◌, ◌<◌, ◌≤◌, length, take, replicate, pos, refl, sym, ap, subst, ◌∙◌, arith, rules}
-use Rattle.std.proofs.lemmas.List.{length-map}
+use Rattle.std.proofs.Common.{◌≡◌, ◌+◌, ◌^◌, ◌<◌, ◌≤◌, length, map, take, replicate, pos, refl, sym, ap, subst, ◌∙◌, arith, rules}
+use Rattle.std.proofs.lemmas.List.{length-map, length-replicate, take_all}
+use Rattle.std.specs.List.{All}
+use Rattle.std.specs.Prelude.{unsigned_abs}
 use Rattle.nd_model.specs.Arrays.Strides.{way_to}
 use Rattle.nd_model.specs.Arrays.Tuple.{indices}
 use Rattle.nd_view.proofs.Indexed.{length-indices}
 use Rattle.nd_view.proofs.Tuples.{map_same}
 use Rattle.nd_index.specs.Advanced.Takes.{axes_taken, axes_taken_by, take_of, takes_of}
+use Rattle.nd_index.specs.Advanced.TakenWays.{way_taken}
 use Rattle.nd_index.specs.Offsets.Ways.{AreNear, ways}
 use Rattle.nd_index.proofs.advanced.Spreads.{arrays_near, axes_again, code_few, take_again}
-use Rattle.nd_index.proofs.offsets.Sums.{still}
+use Rattle.nd_index.proofs.offsets.Sums.{none_range, still}
 use Rattle.nd_index.proofs.advanced.arrays.array_ways.Goals as goal
+
+pub ways_of-requires-clause-axes : goal.ways_of-requires-clause-axes
+ways_of-requires-clause-axes c =
+    let zeros : c.in_ok-none.none.items ≡ replicate (length c.args.many.now) (pos 0) = search rules in
+    ap length (c.as_slice.ensures ∙ zeros) ∙ length-replicate (length c.args.many.now) (pos 0)
+
+pub ways_of-requires-clause-range : goal.ways_of-requires-clause-range
+ways_of-requires-clause-range c =
+    let zeros : c.in_ok-none.none.items ≡ replicate (length c.args.many.now) (pos 0) = search rules in
+    subst (All (λ s. unsigned_abs s < 2 ^ 64)) (sym (c.as_slice.ensures ∙ zeros)) (none_range (length c.args.many.now))
 
 pub loop-take-init : goal.loop-take-init
 loop-take-init c =
@@ -54,3 +67,8 @@ loop-take-preserved c =
           c.loop-take.invariant.axes c.in_ok-ways-2.ensures c.loop-take.invariant.done;
       axes = (axes_again takes k c.take-item.result c.loop-take.axis c.axes-axis.result lt c.take-item.is c.loop-take.invariant.axes c.axes-axis.ensures).0;
     }
+
+pub returns : goal.returns
+returns c =
+    c.loop-take.invariant.done
+    ∙ ap (λ ts. map (way_taken (takes_of ts) c.args.sizes.now c.args.strides.now) (indices c.args.many.now)) (take_all c.loop-take.take-index c.args.takes.now (omega (arith, c.loop-take-test.false)))

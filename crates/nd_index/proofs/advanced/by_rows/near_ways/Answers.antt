@@ -1,11 +1,16 @@
 use Rattle.std.proofs.Common.{◌≡◌, ◌<◌, ◌++◌, [], ◌∷◌, length, get_or, pos, to_z, of_z, refl, sym, subst, ap, ◌∙◌, arith, rules}
 use Rattle.std.specs.Int.{w64, w128}
 use Rattle.std.specs.Int.RustNames.{FitsSigned}
-use Rattle.std.proofs.lemmas.Int.{ints, to_z-of_z}
+use Rattle.std.proofs.lemmas.Int.{ints, fits_signed_from_abs, to_z-of_z}
 use Rattle.std.proofs.lemmas.List.{take_more}
 use Rattle.nd_places.specs.Near.{IsNear}
 use Rattle.nd_index.proofs.advanced.Forms.{near_pushed}
 use Rattle.nd_index.proofs.advanced.by_rows.near_ways.Goals as goal
+
+pub overflow_cast-way : goal.overflow_cast-way
+overflow_cast-way c =
+    let near : IsNear (to_z w128 (of_z w128 (get_or c.args.ways.now c.loop-way.way-index (pos 0)))) = c.if-not-is_near.ensures.0 refl in
+    fits_signed_from_abs w64 _ (omega (arith, ints, near))
 
 pub loop-way-preserved : goal.loop-way-preserved
 loop-way-preserved c =

@@ -1,12 +1,15 @@
 use Rattle.std.proofs.Common.{◌≡◌, ◌<◌, ◌++◌, [], ◌∷◌, map, length, to_z, of_z, refl, ap, ◌∙◌, arith, take_all}
 use Rattle.std.specs.Prelude.{◌+ℤ◌}
 use Rattle.std.specs.Int.{w64, w128}
-use Rattle.std.proofs.lemmas.Int.{ints, to_z-of_z}
+use Rattle.std.proofs.lemmas.Int.{ints, fits_signed_from_abs, to_z-of_z}
 use Rattle.nd_index.specs.Offsets.RowPlaces.{way_on}
 use Rattle.nd_places.specs.Near.{IsNear}
 use Rattle.nd_index.proofs.advanced.Forms.{near_pushed}
 use Rattle.nd_index.proofs.offsets.Pushed.{mapped_again}
 use Rattle.nd_index.proofs.advanced.by_rows.push_starts.Goals as goal
+
+pub overflow_add-way : goal.overflow_add-way
+overflow_add-way c = fits_signed_from_abs w128 _ (omega (arith, ints, c.requires.start, c.way.ensures.near))
 
 pub loop-number-preserved : goal.loop-number-preserved
 loop-number-preserved c =

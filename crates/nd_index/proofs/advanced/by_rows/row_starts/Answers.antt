@@ -1,10 +1,21 @@
 use Rattle.std.proofs.Common.{◌<◌, [], map, length, pos, ap, arith}
 use Rattle.std.specs.Prelude.{◌+ℤ◌}
-use Rattle.std.proofs.lemmas.Int.{ints}
+use Rattle.std.specs.Int.{w128}
+use Rattle.std.proofs.lemmas.Int.{ints, fits_signed_from_abs}
 use Rattle.nd_index.specs.Offsets.RowPlaces.{way_on}
 use Rattle.nd_index.proofs.offsets.Pushed.{joined_again}
 use Rattle.nd_index.proofs.offsets.Rows.{near_at}
 use Rattle.nd_index.proofs.advanced.by_rows.row_starts.Goals as goal
+
+pub overflow_add-from : goal.overflow_add-from
+overflow_add-from c =
+    let kept = c.args.kept.now in
+    fits_signed_from_abs w128 _ (omega (arith, ints, near_at kept.before.now c.loop-way.way-index kept.first, c.from.ensures))
+
+pub push_starts-requires-clause-start : goal.push_starts-requires-clause-start
+push_starts-requires-clause-start c =
+    let kept = c.args.kept.now in
+    omega (arith, ints, near_at kept.before.now c.loop-way.way-index kept.first, c.from.ensures)
 
 pub loop-way-preserved : goal.loop-way-preserved
 loop-way-preserved c =

@@ -1,14 +1,16 @@
-use Rattle.std.proofs.Common.{◌≡◌, ◌+◌, ◌<◌, ◌≤◌, ◌^◌, ℕ, List, map, length, take, drop, get_or, pos, replicate, sym, ap, subst, ◌∙◌, arith, rules}
+use Rattle.std.proofs.Common.{◌≡◌, ◌+◌, ◌-◌, ◌<◌, ◌≤◌, ◌^◌, ℕ, List, map, length, take, drop, get_or, pos, replicate, sym, ap, subst, ◌∙◌, arith, rules}
 use Rattle.std.specs.List.{All, flat_map}
 use Rattle.std.specs.Prelude.{◌+ℤ◌}
 use Rattle.std.specs.Result.{IfOk}
 use Rattle.std.proofs.lemmas.List.{length-take-le, length-drop, length-take}
 use Rattle.std.proofs.lemmas.List.Elements.{All-drop, All-take}
 use Rattle.nd_model.specs.Indexing.Advanced.{chosen_source}
+use Rattle.nd_model.specs.Arrays.Strides.{IsInLimits}
 use Rattle.nd_model.specs.Arrays.Tuple.{elements_of, indices}
 use Rattle.nd_model.specs.Arrays.View.{item_size, place_of}
 use Rattle.nd_view.proofs.Counts.{none, some}
 use Rattle.nd_view.proofs.Limits.{limits_of}
+use Rattle.nd_view.proofs.Made.{axes}
 use Rattle.nd_view.proofs.Steps.{number-below, zeros}
 use Rattle.nd_view.proofs.Tuples.{no_tuples}
 use Rattle.nd_types.specs.Types.{type_of}
@@ -21,6 +23,9 @@ use Rattle.nd_index.proofs.offsets.Pushed.{ok_then, rest_of}
 use Rattle.nd_index.proofs.advanced.Spreads.{cut, in_range, kept_range, length-kept_strides}
 use Rattle.nd_index.proofs.offsets.Sums.{few_lengths, ways_near}
 use Rattle.nd_index.proofs.advanced.choosing.all_places.Goals as goal
+
+few : (size : ℕ) (shape : List ℕ) → IsInLimits size shape → All (λ n. n ≤ 2 ^ 32) shape
+few size shape limits = few_lengths shape (limits_of size shape limits).lengths
 
 pub returns-then-contains-clause-value : goal.returns-then-contains-clause-value
 returns-then-contains-clause-value c =
@@ -41,10 +46,48 @@ pub ways_of-requires-clause-axes : goal.ways_of-requires-clause-axes
 ways_of-requires-clause-axes c =
     omega (arith, length-take c.args.at c.as_slice.result.now, length-take c.args.at c.args.shape.now, length-kept c, c.requires.at, c.requires.kept)
 
+pub element_count-count-requires : goal.element_count-count-requires
+element_count-count-requires c = (limits_of (item_size c.args.view.now.element) c.args.shape.now c.requires.limits).elements
+
+pub ways_of-requires-clause-most : goal.ways_of-requires-clause-most
+ways_of-requires-clause-most c =
+    omega (arith, length-take c.args.at c.args.shape.now, (limits_of (item_size c.args.view.now.element) c.args.shape.now c.requires.limits).axes)
+
+pub ways_of-requires-clause-lengths : goal.ways_of-requires-clause-lengths
+ways_of-requires-clause-lengths c = All-take (λ n. n ≤ 2 ^ 32) c.args.at c.args.shape.now (few (item_size c.args.view.now.element) c.args.shape.now c.requires.limits)
+
 pub ways_of-requires-clause-range : goal.ways_of-requires-clause-range
 ways_of-requires-clause-range c =
     All-take in_range c.args.at c.as_slice.result.now
     (subst (All in_range) (sym (kept_is c)) (kept_range (takes_of c.args.takes.now) c.held_strides-strides.result.now c.held_strides-strides.ensures.range))
+
+pub array_places-requires-clause-taken : goal.array_places-requires-clause-taken
+array_places-requires-clause-taken c = omega (arith, c.requires.taken, ap length c.shape-sizes.ensures.value)
+
+pub array_places-requires-clause-axes : goal.array_places-requires-clause-axes
+array_places-requires-clause-axes c =
+    let h = c.args.view.now in
+    axes (item_size h.element) h.shape c.held_strides-strides.result.now (get_or h.places 0 0) (2 ^ 64) c.held_strides-strides.ensures.held ∙ ap length (sym c.shape-sizes.ensures.value)
+
+pub array_places-requires-clause-most : goal.array_places-requires-clause-most
+array_places-requires-clause-most c =
+    let h = c.args.view.now in
+    omega (arith, (limits_of (item_size h.element) h.shape c.shape-sizes.ensures.limits).axes, ap length c.shape-sizes.ensures.value)
+
+pub array_places-requires-clause-few : goal.array_places-requires-clause-few
+array_places-requires-clause-few c =
+    let h = c.args.view.now in
+    omega (arith, (limits_of (item_size h.element) h.shape c.shape-sizes.ensures.limits).elements, ap elements_of c.shape-sizes.ensures.value)
+
+pub array_places-requires-clause-many : goal.array_places-requires-clause-many
+array_places-requires-clause-many c =
+    let at = c.args.at in let shape = c.args.shape.now in
+    omega (arith, length-take (at + c.args.axes - at) (drop at shape), length-drop at shape, (limits_of (item_size c.args.view.now.element) shape c.requires.limits).axes)
+
+pub array_places-requires-clause-limits : goal.array_places-requires-clause-limits
+array_places-requires-clause-limits c =
+    let at = c.args.at in let shape = c.args.shape.now in
+    All-take (λ n. n ≤ 2 ^ 32) (at + c.args.axes - at) (drop at shape) (All-drop (λ n. n ≤ 2 ^ 32) at shape (few (item_size c.args.view.now.element) shape c.requires.limits))
 
 pub array_places-requires-clause-some : goal.array_places-requires-clause-some
 array_places-requires-clause-some c =
@@ -71,6 +114,16 @@ ways_of-requires-2-clause-axes c =
     ap length (rest_of c.args.at c.as_slice-2.result.now)
     ∙ omega (arith, length-drop c.args.at c.as_slice-2.result.now, length-drop end c.args.shape.now, kept, c.requires.kept, c.requires.at)
     ∙ sym (ap length (rest_of end c.args.shape.now))
+
+pub ways_of-requires-2-clause-most : goal.ways_of-requires-2-clause-most
+ways_of-requires-2-clause-most c =
+    let end = c.args.at + c.args.axes in
+    omega (arith, ap length (rest_of end c.args.shape.now), length-drop end c.args.shape.now, (limits_of (item_size c.args.view.now.element) c.args.shape.now c.requires.limits).axes)
+
+pub ways_of-requires-2-clause-lengths : goal.ways_of-requires-2-clause-lengths
+ways_of-requires-2-clause-lengths c =
+    let end = c.args.at + c.args.axes in let shape = c.args.shape.now in
+    subst (All (λ n. n ≤ 2 ^ 32)) (sym (rest_of end shape)) (All-drop (λ n. n ≤ 2 ^ 32) end shape (few (item_size c.args.view.now.element) shape c.requires.limits))
 
 pub ways_of-requires-2-clause-range : goal.ways_of-requires-2-clause-range
 ways_of-requires-2-clause-range c =

@@ -1,6 +1,8 @@
-use Rattle.std.proofs.Common.{◌≡◌, ◌+◌, ◌-◌, map, pos, sym, ap, subst, ◌∙◌, arith}
+use Rattle.std.proofs.Common.{◌≡◌, ◌+◌, ◌-◌, map, drop, pos, sym, ap, subst, ◌∙◌, arith, length-take}
 use Rattle.std.specs.List.{flat_map}
 use Rattle.std.specs.Prelude.{◌+ℤ◌}
+use Rattle.std.proofs.lemmas.List.{length-drop}
+use Rattle.std.proofs.lemmas.List.Elements.{All-drop, All-take}
 use Rattle.std.specs.Result.{IfOk}
 use Rattle.nd_model.specs.Indexing.Advanced.{unravelled}
 use Rattle.nd_model.specs.Arrays.Strides.{way_to}
@@ -13,8 +15,23 @@ use Rattle.nd_index.specs.Offsets.Ways.{AreNear}
 use Rattle.nd_places.specs.Near.{place_on}
 use Rattle.nd_index.proofs.offsets.Numbers.{some_of}
 use Rattle.nd_index.proofs.advanced.SoleArrays.{direct_same}
-use Rattle.nd_index.proofs.advanced.Spreads.{arrays_near, code_few, cut}
+use Rattle.nd_index.proofs.advanced.Spreads.{arrays_near, code_few, cut, in_range}
 use Rattle.nd_index.proofs.advanced.choosing.array_places.Goals as goal
+
+pub new-axes-requires-clause-axes : goal.new-axes-requires-clause-axes
+new-axes-requires-clause-axes c =
+    let s = c.in-Some.sole in let n = s.axis + s.spread.now.axes - s.axis in let sizes = c.args.sizes.now in let strides = c.args.strides.now in
+    omega (arith, length-take n (drop s.axis strides), length-take n (drop s.axis sizes), length-drop s.axis strides, length-drop s.axis sizes, c.requires.axes)
+
+pub new-axes-requires-clause-most : goal.new-axes-requires-clause-most
+new-axes-requires-clause-most c =
+    let s = c.in-Some.sole in let sizes = c.args.sizes.now in
+    omega (arith, length-take (s.axis + s.spread.now.axes - s.axis) (drop s.axis sizes), length-drop s.axis sizes, c.requires.most)
+
+pub new-axes-requires-clause-range : goal.new-axes-requires-clause-range
+new-axes-requires-clause-range c =
+    let s = c.in-Some.sole in let strides = c.args.strides.now in
+    All-take in_range (s.axis + s.spread.now.axes - s.axis) (drop s.axis strides) (All-drop in_range s.axis strides c.requires.range)
 
 pub new-axes-requires-clause-some : goal.new-axes-requires-clause-some
 new-axes-requires-clause-some c = let s = c.in-Some.sole in (some_of s.axis (s.axis + s.spread.now.axes - s.axis) c.args.sizes.now c.requires.some).0

@@ -1,11 +1,28 @@
-use Rattle.std.proofs.Common.{◌<◌, length, to_z, of_z, ◌∙◌, arith, rules}
+use Rattle.std.proofs.Common.{◌<◌, length, get_or, to_z, of_z, sym, ap, ◌∙◌, arith, rules}
 use Rattle.std.specs.Int.{w128}
 use Rattle.std.specs.Int.RustNames.{FitsSigned}
 use Rattle.std.proofs.lemmas.Int.{to_z-of_z}
+use Rattle.nd_model.specs.Indexing.Selecting.{has_zero_step, whole_slice}
 use Rattle.nd_index.specs.Basic.FullIndexes.{items_in}
 use Rattle.nd_index.specs.Basic.Items.{item_of}
-use Rattle.nd_index.proofs.basic.Steps.{step_next, axes_laid, inside_laid, lengths_laid, strides_laid, way_laid}
+use Rattle.nd_index.proofs.basic.Steps.{inside_of, outside_next, step_next, axes_laid, inside_laid, lengths_laid, strides_laid, way_laid}
 use Rattle.nd_index.proofs.basic.layout.lay_out.Goals as goal
+
+pub add-requires-clause-step : goal.add-requires-clause-step
+add-requires-clause-step c =
+    let fs = items_in c.args.index.now in let k = c.loop-number.number in
+    let lt : k < length fs = omega (arith, c.loop-number-test.true, c.len-number-end.ensures) in
+    ap has_zero_step c.item-item.ensures ∙ (step_next fs c.args.shape.now k c.loop-number.axis lt c.loop-number.invariant.steps).0
+
+pub add-requires-clause-inside : goal.add-requires-clause-inside
+add-requires-clause-inside c =
+    let fs = items_in c.args.index.now in let k = c.loop-number.number in let axis = c.loop-number.axis in let shape = c.args.shape.now in
+    let lt : k < length fs = omega (arith, c.loop-number-test.true, c.len-number-end.ensures) in
+    let inside = inside_of axis (get_or shape axis 0) (get_or fs k whole_slice) _ (sym (outside_next fs shape k axis lt) ∙ c.loop-number.invariant.inside) in
+    rw (c.length_of.ensures, c.item-item.ensures) inside.0
+
+pub add-requires-clause-offset : goal.add-requires-clause-offset
+add-requires-clause-offset c = omega (arith, c.loop-number.invariant.near, c.loop-number.invariant.axes, c.requires.most)
 
 pub loop-number-preserved : goal.loop-number-preserved
 loop-number-preserved c =

@@ -1,13 +1,16 @@
 use Rattle.std.proofs.Common.{◌≡◌, [], ◌∷◌, get_or, pos, to_z, of_z, refl, sym, ap, ◌∙◌, arith}
 use Rattle.std.specs.Prelude.{◌+ℤ◌, ◌*ℤ◌}
 use Rattle.std.specs.Int.{w64, w128}
-use Rattle.std.proofs.lemmas.Int.{ints}
+use Rattle.std.proofs.lemmas.Int.{ints, fits_signed_from_abs}
 use Rattle.nd_index.specs.Offsets.RowPlaces.{way_on}
 use Rattle.nd_places.specs.Near.{IsNear}
 use Rattle.nd_places.specs.Near.{place_on}
 use Rattle.nd_index.proofs.offsets.NearWays.{joined}
 use Rattle.nd_index.proofs.offsets.Rows.{near_at, alone}
 use Rattle.nd_index.proofs.offsets.near.line_of.Goals as goal
+
+pub overflow_add-start : goal.overflow_add-start
+overflow_add-start c = fits_signed_from_abs w128 _ (omega (arith, ints, near_at c.args.row.now.ways.now 0 c.args.row.now.each, c.args.row.now.start_near))
 
 pub invariant_of-result : goal.invariant_of-result
 invariant_of-result c =

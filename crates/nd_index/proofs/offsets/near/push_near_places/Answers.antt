@@ -1,10 +1,20 @@
 use Rattle.std.proofs.Common.{◌≡◌, ◌<◌, ◌++◌, map, length, get_or, pos, to_z, of_z, ◌∙◌, arith, take_all}
 use Rattle.std.specs.Prelude.{◌+ℤ◌}
 use Rattle.std.specs.Int.{w64, w128}
-use Rattle.std.proofs.lemmas.Int.{ints, to_z-of_z}
+use Rattle.std.proofs.lemmas.Int.{ints, fits_signed_from_abs, to_z-of_z}
 use Rattle.nd_places.specs.Near.{place_on}
 use Rattle.nd_index.proofs.offsets.Rows.{place_again}
 use Rattle.nd_index.proofs.offsets.near.push_near_places.Goals as goal
+
+pub overflow_cast-way : goal.overflow_cast-way
+overflow_cast-way c =
+    let near = c.requires.near c.loop-way.way-index (pos 0) (omega (arith, c.loop-way-test.true)) in
+    fits_signed_from_abs w64 _ (omega (arith, ints, near))
+
+pub overflow_add-start : goal.overflow_add-start
+overflow_add-start c =
+    let near = c.requires.near c.loop-way.way-index (pos 0) (omega (arith, c.loop-way-test.true)) in
+    fits_signed_from_abs w64 _ (omega (arith, ints, near, c.requires.start))
 
 pub loop-way-preserved : goal.loop-way-preserved
 loop-way-preserved c =

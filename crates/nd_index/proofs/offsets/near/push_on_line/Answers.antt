@@ -1,11 +1,33 @@
 use Rattle.std.proofs.Common.{◌≡◌, ℕ, ◌<◌, ◌≤◌, ◌^◌, ◌++◌, map, length, get_or, pos, to_z, of_z, ap, ◌∙◌, arith, take_all}
-use Rattle.std.specs.Prelude.{◌+ℤ◌, ◌*ℤ◌}
+use Rattle.std.specs.Prelude.{ℤ, ◌+ℤ◌, ◌*ℤ◌, unsigned_abs}
 use Rattle.std.specs.Int.{w64}
-use Rattle.std.proofs.lemmas.Int.{ints}
+use Rattle.std.proofs.lemmas.Int.{ints, fits_signed_from_abs}
 use Rattle.nd_places.specs.Near.{place_on}
 use Rattle.nd_places.proofs.Found.{near_product}
 use Rattle.nd_index.proofs.offsets.Pushed.{mapped_again}
 use Rattle.nd_index.proofs.offsets.near.push_on_line.Goals as goal
+
+-- the product of a step and a number, as the code has both
+product : (n : ℕ) (step : ℤ) → n ≤ 2 ^ 32 → unsigned_abs step ≤ 2 ^ 29 → to_z w64 n *ℤ to_z w64 (of_z w64 step) ≡ pos n *ℤ step
+product n step few near =
+    let whole : to_z w64 n ≡ pos n = omega (arith, ints, few) in
+    let same : to_z w64 (of_z w64 step) ≡ step = omega (arith, ints, near) in
+    λ i. whole i *ℤ same i
+
+held : (n : ℕ) (step : ℤ) → n ≤ 2 ^ 32 → unsigned_abs step ≤ 2 ^ 29 → to_z w64 (of_z w64 (to_z w64 n *ℤ to_z w64 (of_z w64 step))) ≡ pos n *ℤ step
+held n step few near = omega (arith, ints, product n step few near, near_product n step few near)
+
+pub overflow_mul-number : goal.overflow_mul-number
+overflow_mul-number c =
+    let line = c.args.line in let n : ℕ = get_or c.args.numbers.now c.loop-number.number-index 0 in
+    let few : n ≤ 2 ^ 32 = c.requires c.loop-number.number-index 0 (omega (arith, c.loop-number-test.true)) in
+    rw (product n line.step few line.step_near) (fits_signed_from_abs w64 (pos n *ℤ line.step) (omega (arith, near_product n line.step few line.step_near)))
+
+pub overflow_add-line : goal.overflow_add-line
+overflow_add-line c =
+    let line = c.args.line in let n : ℕ = get_or c.args.numbers.now c.loop-number.number-index 0 in
+    let few : n ≤ 2 ^ 32 = c.requires c.loop-number.number-index 0 (omega (arith, c.loop-number-test.true)) in
+    fits_signed_from_abs w64 _ (omega (arith, ints, held n line.step few line.step_near, near_product n line.step few line.step_near, line.start_near))
 
 pub loop-number-preserved : goal.loop-number-preserved
 loop-number-preserved c =
@@ -13,12 +35,8 @@ loop-number-preserved c =
     let lt : k < length numbers = omega (arith, c.loop-number-test.true) in
     let n : ℕ = get_or numbers k 0 in
     let few : n ≤ 2 ^ 32 = c.requires k 0 lt in
-    let step : to_z w64 (of_z w64 line.step) ≡ line.step = omega (arith, ints, line.step_near) in
-    let way : to_z w64 (of_z w64 (to_z w64 n *ℤ to_z w64 (of_z w64 line.step))) ≡ pos n *ℤ line.step
-    = (let whole : to_z w64 n ≡ pos n = omega (arith, ints, few) in let same : to_z w64 n *ℤ to_z w64 (of_z w64 line.step) ≡ pos n *ℤ line.step = (λ i. whole i *ℤ step i) in
-    omega (arith, ints, same, near_product n line.step few line.step_near)) in
     let sum : to_z w64 (of_z w64 (to_z w64 (of_z w64 line.start) +ℤ to_z w64 (of_z w64 (to_z w64 n *ℤ to_z w64 (of_z w64 line.step))))) ≡ line.start +ℤ (pos n *ℤ line.step)
-    = omega (arith, ints, way, near_product n line.step few line.step_near, line.start_near) in
+    = omega (arith, ints, held n line.step few line.step_near, near_product n line.step few line.step_near, line.start_near) in
     mapped_again (λ n. place_on (line.start +ℤ (pos n *ℤ line.step))) numbers k 0 c.args.places.now.items c.loop-number.places.items c.push.new.self.items _ lt c.in_ok-push.ensures.items
     (c.near_place.ensures ∙ ap place_on sum) c.loop-number.invariant
 

@@ -1,11 +1,18 @@
 use Rattle.std.proofs.Common.{◌<◌, map, length, pos, ap, ◌∙◌, arith}
 use Rattle.std.specs.List.{flat_map}
 use Rattle.std.specs.Prelude.{◌+ℤ◌}
-use Rattle.std.proofs.lemmas.Int.{ints}
+use Rattle.std.specs.Int.{w128}
+use Rattle.std.proofs.lemmas.Int.{ints, fits_signed_from_abs}
 use Rattle.std.proofs.lemmas.List.{take_all}
 use Rattle.nd_places.specs.Near.{place_on}
 use Rattle.nd_index.proofs.offsets.Rows.{block_again, near_at}
 use Rattle.nd_index.proofs.offsets.placing.places_on.Goals as goal
+
+pub overflow_add-from : goal.overflow_add-from
+overflow_add-from c = fits_signed_from_abs w128 _ (omega (arith, ints, near_at c.args.before.now c.loop-way.way-index c.requires.near.0, c.from.ensures, c.ranges.offset))
+
+pub push_rows-requires-clause-start : goal.push_rows-requires-clause-start
+push_rows-requires-clause-start c = omega (arith, ints, near_at c.args.before.now c.loop-way.way-index c.requires.near.0, c.from.ensures, c.ranges.offset)
 
 pub loop-way-preserved : goal.loop-way-preserved
 loop-way-preserved c =

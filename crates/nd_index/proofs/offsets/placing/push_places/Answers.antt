@@ -1,11 +1,14 @@
 use Rattle.std.proofs.Common.{◌≡◌, ◌<◌, ◌++◌, map, length, get_or, pos, to_z, of_z, ◌∙◌, arith}
 use Rattle.std.specs.Int.{w128}
 use Rattle.std.specs.Prelude.{◌+ℤ◌}
-use Rattle.std.proofs.lemmas.Int.{ints, to_z-of_z}
+use Rattle.std.proofs.lemmas.Int.{ints, fits_signed_from_abs, to_z-of_z}
 use Rattle.std.proofs.lemmas.List.{take_all}
 use Rattle.nd_places.specs.Near.{place_on}
 use Rattle.nd_index.proofs.offsets.Rows.{place_again, near_at}
 use Rattle.nd_index.proofs.offsets.placing.push_places.Goals as goal
+
+pub overflow_add-start : goal.overflow_add-start
+overflow_add-start c = fits_signed_from_abs w128 _ (omega (arith, ints, near_at c.args.ways.now c.loop-way.way-index c.requires.near, c.requires.start))
 
 pub loop-way-preserved : goal.loop-way-preserved
 loop-way-preserved c =

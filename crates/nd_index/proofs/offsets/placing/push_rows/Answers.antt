@@ -2,11 +2,17 @@ use Rattle.std.proofs.Common.{◌<◌, ◌++◌, map, length, to_z, of_z, ◌∙
 use Rattle.std.specs.Int.{w128}
 use Rattle.std.specs.List.{flat_map}
 use Rattle.std.specs.Prelude.{◌+ℤ◌}
-use Rattle.std.proofs.lemmas.Int.{ints, to_z-of_z}
+use Rattle.std.proofs.lemmas.Int.{ints, fits_signed_from_abs, to_z-of_z}
 use Rattle.std.proofs.lemmas.List.{take_all}
 use Rattle.nd_places.specs.Near.{place_on}
 use Rattle.nd_index.proofs.offsets.Rows.{row_again, near_at}
 use Rattle.nd_index.proofs.offsets.placing.push_rows.Goals as goal
+
+pub overflow_add-start : goal.overflow_add-start
+overflow_add-start c = fits_signed_from_abs w128 _ (omega (arith, ints, near_at c.args.arrays.now c.loop-array.array-index c.requires.near.0, c.requires.start))
+
+pub push_places-requires-clause-start : goal.push_places-requires-clause-start
+push_places-requires-clause-start c = omega (arith, ints, near_at c.args.arrays.now c.loop-array.array-index c.requires.near.0, c.requires.start)
 
 pub loop-array-preserved : goal.loop-array-preserved
 loop-array-preserved c =

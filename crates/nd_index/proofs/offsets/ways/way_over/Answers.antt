@@ -2,13 +2,25 @@ use Rattle.std.proofs.Common.{◌≡◌, ◌+◌, ◌/◌, ◌%◌, ◌<◌, len
 use Rattle.std.specs.Int.{w128}
 use Rattle.std.specs.Int.RustNames.{FitsSigned}
 use Rattle.std.specs.Prelude.{pos, ◌+ℤ◌, ◌*ℤ◌}
-use Rattle.std.proofs.lemmas.Int.{ints, to_z-of_z}
+use Rattle.std.proofs.lemmas.Int.{ints, fits_signed_from_abs, to_z-of_z}
 use Rattle.nd_model.specs.Indexing.Advanced.{unravelled}
 use Rattle.nd_model.specs.Arrays.Strides.{way_to}
 use Rattle.nd_model.specs.Arrays.Tuple.{elements_of}
 use Rattle.nd_index.proofs.offsets.Numbers.{each_next, way_next, way_onward}
-use Rattle.nd_index.proofs.offsets.Sums.{rest_few}
+use Rattle.nd_index.proofs.offsets.Sums.{quotient_few, rest_few}
 use Rattle.nd_index.proofs.offsets.ways.way_over.Goals as goal
+
+pub scale-way-requires-clause-by : goal.scale-way-requires-clause-by
+scale-way-requires-clause-by c = omega (arith, quotient_few c.loop-axis.left (c.loop-axis.each / get_or c.args.lengths.now c.loop-axis.axis 0), c.loop-axis.invariant.few)
+
+pub scale-way-requires-clause-stride : goal.scale-way-requires-clause-stride
+scale-way-requires-clause-stride c =
+    let strides = c.args.strides.now in let k = c.loop-axis.axis in
+    let fits : FitsSigned w128 (get_or strides k (pos 0)) = search rules in
+    rw (to_z-of_z w128 (get_or strides k (pos 0)) fits) (c.requires.range k (pos 0) (omega (arith, c.loop-axis-test.true, c.requires.axes)))
+
+pub overflow_add-way : goal.overflow_add-way
+overflow_add-way c = fits_signed_from_abs w128 _ (omega (arith, ints, c.scale-way.ensures.limit, c.loop-axis.invariant.near, c.loop-axis-test.true, c.requires.most))
 
 pub loop-axis-preserved : goal.loop-axis-preserved
 loop-axis-preserved c =

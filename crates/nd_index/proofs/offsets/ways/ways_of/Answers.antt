@@ -11,6 +11,9 @@ use Rattle.nd_index.specs.Offsets.Ways.{AreNear, ways}
 use Rattle.nd_index.proofs.offsets.Sums.{ways_near, widened_at}
 use Rattle.nd_index.proofs.offsets.ways.ways_of.Goals as goal
 
+pub widen-requires-clause-length : goal.widen-requires-clause-length
+widen-requires-clause-length c = c.requires.lengths (c.loop-axis.axis - 1) 0 (omega (arith, c.loop-axis-test.true, c.loop-axis.invariant.within))
+
 pub widen-requires-clause-near : goal.widen-requires-clause-near
 widen-requires-clause-near c =
     let k = c.loop-axis.axis in let lengths = c.args.lengths.now in let strides = c.args.strides.now in

@@ -6,6 +6,11 @@ use Rattle.std.proofs.lemmas.Int.{to_z-of_z}
 use Rattle.nd_index.proofs.offsets.Pushed.{counted_again}
 use Rattle.nd_index.proofs.offsets.ways.widen.Goals as goal
 
+pub push_further-requires-clause-by : goal.push_further-requires-clause-by
+push_further-requires-clause-by c =
+    let fits : FitsSigned w128 c.scale.result = search rules in
+    rw (to_z-of_z w128 c.scale.result fits) c.scale.ensures.limit
+
 pub loop-index-preserved : goal.loop-index-preserved
 loop-index-preserved c =
     let fits : FitsSigned w128 c.scale.result = search rules in

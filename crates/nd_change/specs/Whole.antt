@@ -6,7 +6,7 @@ use Rattle.nd_model.specs.Cells.Session.{Session, lookup, is_held, held_bytes}
 use Rattle.nd_model.specs.Cells.Running.{Event, Binds, Unbinds, Name, Input, Length, Byte, Source, Inputs, is_touched}
 use Rattle.nd_model.specs.Cells.Footprint.{Bound, Given, Number, patched}
 use Rattle.nd_model.specs.Book.Records.{Record}
-use Rattle.nd_model.specs.Book.Sessions.{IsOnce}
+use Rattle.nd_model.specs.Book.Overlay.{IsOnce}
 use Rattle.nd_change.specs.Change.{Change}
 use Rattle.nd_change.specs.Steps.{Keeps, Follows, Leaves, Comes, IsPutOver}
 

@@ -25,6 +25,7 @@ ghost use Rattle.nd_operation.specs.Operators.OfTwo.{made_of_two};
 ghost use Rattle.nd_syntax.specs.Trees.Calls.{dtype_of, fill_of, ufunc_of};
 ghost use Rattle.nd_fold.specs.Folds.{made_of_fold};
 
+use crate::discard::discard_chosen;
 use crate::evaluator::Evaluator;
 use crate::operation::{mark_index, mark_operand, mark_operands, operand_in};
 use crate::views::ViewMethod;
@@ -76,7 +77,7 @@ impl Evaluator<'_> {
             Expr::Postfix(operand, suffixes) => {
                 let mut found = self.value(operand)?;
                 for suffix in suffixes {
-                    found = self.suffix_value(found, suffix)?;
+                    found = self.suffix_value(&found, suffix)?;
                 }
                 Ok(found)
             }
@@ -96,33 +97,23 @@ impl Evaluator<'_> {
         self.session.soundness();
         let mut found = self.value(operand)?;
         for other in others {
-            found = self.binary_value(BinaryCall::Operator(other.0), found, &other.1)?;
+            found = self.binary_value(BinaryCall::Operator(other.0), &found, &other.1)?;
         }
         Ok(found)
     }
 
     /// The result of an operator or a function of NumPy, for a value and the expression behind it.
     #[cycle(value)]
-    fn binary_value(&mut self, call: BinaryCall, left: Value, right: &Expr) -> Result<Value, Stop>
-        requires held { IsHeld (session_of self.old) left }
+    fn binary_value(&mut self, call: BinaryCall, left: &Value, right: &Expr) -> Result<Value, Stop>
+        requires held { IsHeld (session_of self.old) left.now }
         requires room { (session_of self.old).next + tokens_of (expr_of right.now) + 1 < 2 ^ 64 }
         ensures { Evaluates value_of result self.old
-            (parts.binary_value (made_of_two call) (value_of left) (expr_of right.now))
+            (parts.binary_value (made_of_two call) (value_of left.now) (expr_of right.now))
             self.new }
     {
         self.session.soundness();
-        match self.value(right) {
-            Ok(right) => {
-                let made = self.operate(call, &left, &right);
-                drop(left);
-                drop(right);
-                made
-            }
-            Err(stop) => {
-                drop(left);
-                Err(stop)
-            }
-        }
+        let right = self.value(right)?;
+        self.operate(call, left, &right)
     }
 
     /// Returns the result of an operator or a function of NumPy, for two values.
@@ -158,7 +149,7 @@ impl Evaluator<'_> {
     {
         self.session.soundness();
         let left = self.value(left)?;
-        self.binary_value(call, left, right)
+        self.binary_value(call, &left, right)
     }
 
     /// The result of a call or an operator, for one expression.
@@ -170,9 +161,7 @@ impl Evaluator<'_> {
     {
         self.session.soundness();
         let operand = self.value(operand)?;
-        let made = self.make_value(call, &operand);
-        drop(operand);
-        made
+        self.make_value(call, &operand)
     }
 
     /// The result of a call or an operator, for one value.
@@ -204,9 +193,7 @@ impl Evaluator<'_> {
             self.new }
     {
         let others = self.values(exprs)?;
-        let made = self.view_value(method, found, &others);
-        drop(others);
-        made
+        self.view_value(method, found, &others)
     }
 
     /// `np.broadcast_to`
@@ -219,9 +206,7 @@ impl Evaluator<'_> {
     {
         self.session.soundness();
         let found = self.value(operand)?;
-        let made = self.stretch_by(&found, shape);
-        drop(found);
-        made
+        self.stretch_by(&found, shape)
     }
 
     /// `np.broadcast_to` of a value, by the expressions of the lengths.
@@ -234,9 +219,7 @@ impl Evaluator<'_> {
             (parts.stretch_by (value_of found.now) (map expr_of shape.now)) self.new }
     {
         let shape = self.values(shape)?;
-        let made = self.stretch_value(found, &shape);
-        drop(shape);
-        made
+        self.stretch_value(found, &shape)
     }
 
     /// The result of a method, for a value.
@@ -274,9 +257,7 @@ impl Evaluator<'_> {
     {
         self.session.soundness();
         let axis = self.value(axis)?;
-        let made = self.fold_along(folding, found, &axis);
-        drop(axis);
-        made
+        self.fold_along(folding, found, &axis)
     }
 
     /// The reduction of a value along an axis; where none is written, along `otherwise` or of all
@@ -334,16 +315,12 @@ impl Evaluator<'_> {
             Fold::Reduce(operand, axis, keepdims) => {
                 let found = self.value(operand)?;
                 let folding = Folding::ReduceCall(ufunc, *keepdims);
-                let made = self.reduction_value(folding, Some(0), axis, &found);
-                drop(found);
-                made
+                self.reduction_value(folding, Some(0), axis, &found)
             }
             Fold::Accumulate(operand, axis) => {
                 let found = self.value(operand)?;
                 let folding = Folding::AccumulateCall(ufunc);
-                let made = self.accumulation_value(folding, Some(0), axis, &found);
-                drop(found);
-                made
+                self.accumulation_value(folding, Some(0), axis, &found)
             }
         }
     }
@@ -364,16 +341,8 @@ impl Evaluator<'_> {
     {
         let alloc = self.session.allocator();
         let shape = self.values(shape)?;
-        match make_filled(alloc, fill, dtype, &shape) {
-            Ok(new) => {
-                drop(shape);
-                self.give(new)
-            }
-            Err(stop) => {
-                drop(shape);
-                Err(stop)
-            }
-        }
+        let new = make_filled(alloc, fill, dtype, &shape)?;
+        self.give(new)
     }
 
     /// `np.full`
@@ -392,9 +361,7 @@ impl Evaluator<'_> {
     {
         self.session.soundness();
         let shape = self.values(shape)?;
-        let made = self.full_of_shape(&shape, value, dtype);
-        drop(shape);
-        made
+        self.full_of_shape(&shape, value, dtype)
     }
 
     /// `np.full`, by the values of the lengths.
@@ -412,9 +379,7 @@ impl Evaluator<'_> {
     {
         self.session.soundness();
         let value = self.value(value)?;
-        let made = self.full_array(shape, &value, dtype);
-        drop(value);
-        made
+        self.full_array(shape, &value, dtype)
     }
 
     /// `np.full` of values.
@@ -467,9 +432,7 @@ impl Evaluator<'_> {
             (option_map dtype_of dtype.now)) self.new }
     {
         let start = self.bound_value(start)?;
-        let made = self.range_from(&start, stop, step, dtype);
-        drop(start);
-        made
+        self.range_from(&start, stop, step, dtype)
     }
 
     /// `np.arange`, by the value of its start.
@@ -488,9 +451,7 @@ impl Evaluator<'_> {
             (bound_of step.now) (option_map dtype_of dtype.now)) self.new }
     {
         let stop = self.value(stop)?;
-        let made = self.range_to(start, &stop, step, dtype);
-        drop(stop);
-        made
+        self.range_to(start, &stop, step, dtype)
     }
 
     /// `np.arange`, by the values of its start and its stop.
@@ -508,9 +469,7 @@ impl Evaluator<'_> {
             (bound_of step.now) (option_map dtype_of dtype.now)) self.new }
     {
         let step = self.bound_value(step)?;
-        let made = self.range_array(start, stop, &step, dtype);
-        drop(step);
-        made
+        self.range_array(start, stop, &step, dtype)
     }
 
     /// `np.arange` of values.
@@ -633,24 +592,16 @@ impl Evaluator<'_> {
 
     /// The result of an index or a method, for a value.
     #[cycle(value)]
-    fn suffix_value(&mut self, found: Value, suffix: &Suffix) -> Result<Value, Stop>
-        requires held { IsHeld (session_of self.old) found }
+    fn suffix_value(&mut self, found: &Value, suffix: &Suffix) -> Result<Value, Stop>
+        requires held { IsHeld (session_of self.old) found.now }
         requires room { (session_of self.old).next + suffix_tokens (suffix_of suffix.now)
             < 2 ^ 64 }
         ensures { Evaluates value_of result self.old
-            (parts.suffix_value (suffix_of suffix.now) (value_of found)) self.new }
+            (parts.suffix_value (suffix_of suffix.now) (value_of found.now)) self.new }
     {
         match suffix {
-            Suffix::Index(index) => {
-                let made = self.index_into(&found, index);
-                drop(found);
-                made
-            }
-            Suffix::Method(method) => {
-                let made = self.method_value(&found, method);
-                drop(found);
-                made
-            }
+            Suffix::Index(index) => self.index_into(found, index),
+            Suffix::Method(method) => self.method_value(found, method),
         }
     }
 
@@ -665,9 +616,7 @@ impl Evaluator<'_> {
             (parts.choose_value (value_of found.now))) self.new }
     {
         let index = self.index_value(index)?;
-        let made = self.choose_value(found, &index);
-        drop(index);
-        made
+        self.choose_value(found, &index)
     }
 
     /// Returns an index with the values of its expressions.
@@ -730,13 +679,8 @@ impl Evaluator<'_> {
         ensures { Evaluates contents.item_of result self.old (parts.slice_from (is_some start)
             (option_values start) (bound_of stop.now) (bound_of step.now)) self.new }
     {
-        match self.bound_value(stop) {
-            Ok(stop) => self.slice_to(start, stop, step),
-            Err(fault) => {
-                drop(start);
-                Err(fault)
-            }
-        }
+        let stop = self.bound_value(stop)?;
+        self.slice_to(start, stop, step)
     }
 
     /// A slice, by the values of its start and its stop.
@@ -752,14 +696,8 @@ impl Evaluator<'_> {
             (parts.slice_to (is_some start) (is_some stop) (option_values start)
             (option_values stop) (bound_of step.now)) self.new }
     {
-        match self.bound_value(step) {
-            Ok(step) => Ok(ItemValue::Slice { start, stop, step }),
-            Err(fault) => {
-                drop(start);
-                drop(stop);
-                Err(fault)
-            }
-        }
+        let step = self.bound_value(step)?;
+        Ok(ItemValue::Slice { start, stop, step })
     }
 
     /// An item of an index with the values of its expressions.
@@ -801,7 +739,7 @@ impl Evaluator<'_> {
         let chosen = choose(self.session, target, index)?;
         match target {
             Value::Number(_) => {
-                drop(chosen);
+                discard_chosen(chosen);
                 Err(Stop::Refused(StmtFault::Stmt(StmtError::NotAnArray)))
             }
             Value::Array(array) => self.chosen_value(array, chosen),

@@ -2,6 +2,7 @@
 #![tactic(auto)]
 
 mod augment;
+mod discard;
 mod effect;
 mod eval;
 mod evaluator;

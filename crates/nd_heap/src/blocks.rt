@@ -27,7 +27,7 @@ pub type Bases = IndexMap<Base, ()>;
 const FEW: usize = 8;
 
 /// Returns the bytes of a block, and `[]` where there is no such block.
-pub(crate) fn bytes_of(blocks: &Blocks, base: Base) -> &[u8]
+pub fn bytes_of(blocks: &Blocks, base: Base) -> &[u8]
     ensures { result.now ≡ bytes_at (blocks_of blocks.now.entries) (base_of base) }
 {
     match blocks.get(&base) {

@@ -10,7 +10,7 @@ mod names;
 mod value;
 mod writer;
 
-pub use blocks::{Bases, Blocks};
+pub use blocks::{Bases, Blocks, bytes_of};
 pub use heap::Heap;
 pub use memory::OutOfMemory;
 pub use value::{Array, Base, Value, are_same_values};

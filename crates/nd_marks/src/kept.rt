@@ -162,4 +162,12 @@ impl KeptBytes {
             rest = behind;
         }
     }
+
+    /// Returns true only where both keep the same bytes. Those that were marked in other pieces may
+    /// be the same where this says no.
+    pub fn is_same(&self, other: &KeptBytes) -> bool
+        ensures { IsTrue result → (p : ℕ) → kept_at self.now p ≡ kept_at other.now p }
+    {
+        self.marks.is_same(&other.marks) && self.bytes.as_slice() == other.bytes.as_slice()
+    }
 }

@@ -51,6 +51,21 @@ impl Event {
         matches!(self, Event::Binds(_, _))
     }
 
+    /// Returns true only where both bind, or both unbind, the same name, to the same value.
+    pub fn is_same(&self, other: &Event) -> bool
+        ensures { IsTrue result → event_of self.now ≡ event_of other.now }
+    {
+        match (self, other) {
+            (Event::Binds(name, value), Event::Binds(other_name, other_value)) => {
+                name.as_str() == other_name.as_str() && value.as_ref().is_same(other_value.as_ref())
+            }
+            (Event::Unbinds(name), Event::Unbinds(other_name)) => {
+                name.as_str() == other_name.as_str()
+            }
+            _ => false,
+        }
+    }
+
     /// Returns an equal event, which shares the name and the value.
     pub fn try_clone(&self) -> Result<Event, OutOfMemory>
         ensures { IfOk result (λ e. event_of e ≡ event_of self.now) }

@@ -5,7 +5,7 @@ ghost use Rattle.nd_model.specs.Book.Book.{is_label};
 ghost use Rattle.nd_model.specs.Book.Book as model;
 ghost use Rattle.nd_schedule.specs.Cells.Source.{cells_of};
 
-use crate::cells::source::KeptCell;
+use crate::cells::source::LabelledCell;
 use std::alloc::{AllocError, Global};
 use std::rc::Rc;
 
@@ -21,7 +21,7 @@ fn mark_label(used: &mut Vec<bool>, label: u64)
 }
 
 /// For each number below the number of cells, whether it is the label of some cell.
-fn mark_labels(alloc: Global, cells: &[Rc<KeptCell>]) -> Result<Vec<bool>, AllocError>
+fn mark_labels(alloc: Global, cells: &[Rc<LabelledCell>]) -> Result<Vec<bool>, AllocError>
     ensures count { IfOk result (λ v. length v.items ≡ length cells.now) }
     ensures marks { IfOk result (λ v. (n : ℕ) → n < length cells.now
         → slice_index_or v.items n false ≡ is_label n (cells_of cells.now)) }
@@ -34,8 +34,8 @@ fn mark_labels(alloc: Global, cells: &[Rc<KeptCell>]) -> Result<Vec<bool>, Alloc
     Ok(used)
 }
 
-/// Returns the least number that is the label of no cell.
-pub fn fresh_label(alloc: Global, cells: &[Rc<KeptCell>]) -> Result<u64, AllocError>
+/// Returns the least number that is the label of no cell: beside the labels 0, 1 and 3 it is 2.
+pub fn fresh_label(alloc: Global, cells: &[Rc<LabelledCell>]) -> Result<u64, AllocError>
     ensures { IfOk result (λ label. label ≡ model.fresh_label (cells_of cells.now)) }
 {
     let used = mark_labels(alloc, cells)?;

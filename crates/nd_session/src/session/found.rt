@@ -26,7 +26,7 @@ pub(crate) enum FoundBytes {
 pub(crate) type FoundByBase = IndexMap<Base, FoundBytes>;
 
 /// The bytes of a block that is shared, none where there is none.
-pub(crate) fn shared_bytes(block: &Option<Rc<RawBlock>>) -> &[u8]
+fn shared_bytes(block: &Option<Rc<RawBlock>>) -> &[u8]
     ensures { result.now ≡ bytes_in block.now }
 {
     match block {
@@ -62,6 +62,22 @@ impl FoundBytes {
         match self {
             FoundBytes::Kept(kept) => kept.is_found_in(block),
             FoundBytes::Shared(marks, found) => marks.are_same(block, shared_bytes(found)),
+        }
+    }
+
+    /// Returns true only where both are the same bytes at the same byte offsets. It may be false
+    /// where these were marked in other pieces, or the blocks are of other lengths.
+    pub(crate) fn is_same(&self, other: &FoundBytes) -> bool
+        ensures { IsTrue result → (p : ℕ)
+            → found_at (bytes_of self.now) p ≡ found_at (bytes_of other.now) p }
+    {
+        match (self, other) {
+            (FoundBytes::Kept(kept), FoundBytes::Kept(others)) => kept.is_same(others),
+            (FoundBytes::Shared(marks, found), FoundBytes::Shared(other_marks, other_found)) => {
+                marks.is_same(other_marks)
+                    && marks.are_same(shared_bytes(found), shared_bytes(other_found))
+            }
+            _ => false,
         }
     }
 

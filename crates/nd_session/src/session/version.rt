@@ -5,6 +5,7 @@ ghost use Rattle.nd_model.specs.Cells.Session as model;
 ghost use Rattle.nd_heap.specs.Values.{base_of, value_of};
 ghost use Rattle.nd_heap.specs.Contents.{bytes_in};
 ghost use Rattle.nd_session.specs.Session.Kept.{version_of};
+ghost use Rattle.nd_session.specs.Session.Changes.{is_bound};
 
 use nd_block::RawBlock;
 use nd_heap::{Base, Heap, OutOfMemory, Value};
@@ -72,6 +73,13 @@ impl Version {
             ≡ model.lookup name.now (version_of self.now).names }
     {
         self.heap.find(name)
+    }
+
+    /// Returns whether a name is bound.
+    pub fn has_name(&self, name: &str) -> bool
+        ensures { result ≡ is_bound name.now (version_of self.now).names }
+    {
+        self.peek(name).is_some()
     }
 
     /// Returns the bytes of a block, none where no bound value lies in it.

@@ -1,7 +1,7 @@
 use Rattle.std.proofs.Common.{◌≡◌, ◌∙◌, ◌<◌, length, false, sym, arith, Global}
 use Rattle.std.proofs.lemmas.List.{get_or_default, length-map}
 use Rattle.std.specs.declared.rc.Rc.{Rc}
-use Rattle.nd_schedule.specs.declared.cells.source.KeptCell.{KeptCell}
+use Rattle.nd_schedule.specs.declared.cells.source.LabelledCell.{LabelledCell}
 use Rattle.nd_schedule.specs.Cells.Source.{cell_of, cells_of}
 use Rattle.nd_schedule.proofs.cells.Free.{next_start, next_more, next_free, next_last}
 use Rattle.nd_schedule.proofs.cells.labels.fresh_label.Goals as goal
@@ -26,5 +26,5 @@ returns-then-not-index c =
 pub returns : goal.returns
 returns c =
     let last : c.loop-label.label ≡ c.len.result = omega (arith, c.loop-label-test.false, c.loop-label.auto.label-end, c.len.ensures, c.len-label-end.ensures) in
-    let many : length (cells_of c.args.cells.now) ≡ length c.args.cells.now = length-map c.args.cells.now (λ (s : Rc KeptCell Global). cell_of s.value) in
+    let many : length (cells_of c.args.cells.now) ≡ length c.args.cells.now = length-map c.args.cells.now (λ (s : Rc LabelledCell Global). cell_of s.value) in
     sym last ∙ next_last c.loop-label.label (cells_of c.args.cells.now) c.loop-label.invariant (omega (arith, many, c.in_ok-used.ensures.count, c.len.ensures, last))

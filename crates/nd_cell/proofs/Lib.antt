@@ -1,2 +1,4 @@
 pub mod Lines
 pub mod Recording
+pub mod Overlaying
+pub mod Gathering

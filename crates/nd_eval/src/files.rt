@@ -63,8 +63,6 @@ impl Evaluator<'_> {
     {
         self.session.soundness();
         let saved = self.value(expr)?;
-        let made = self.save(name, &saved);
-        drop(saved);
-        made
+        self.save(name, &saved)
     }
 }

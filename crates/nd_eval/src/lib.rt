@@ -2,6 +2,7 @@
 #![tactic(auto)]
 
 mod augment;
+mod discard;
 mod effect;
 mod eval;
 mod evaluator;
@@ -9,7 +10,6 @@ mod exec;
 mod files;
 mod folds;
 mod operation;
-mod subscripts;
 mod views;
 
 pub use exec::{Output, run_stmt};

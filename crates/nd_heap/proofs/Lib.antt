@@ -8,3 +8,4 @@ pub mod Loosening
 pub mod Layering
 pub mod Picking
 pub mod Stacking
+pub mod Comparing

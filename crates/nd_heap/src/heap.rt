@@ -5,7 +5,6 @@ ghost use Rattle.std.specs.Rc.{rc_str_bytes};
 ghost use Rattle.nd_model.specs.Arrays.Value as values;
 ghost use Rattle.nd_model.specs.Cells.Session as model;
 ghost use Rattle.nd_model.specs.Cells.Running as running;
-ghost use Rattle.nd_model.specs.Book.Sessions.{IsOnce};
 ghost use Rattle.nd_heap.specs.Values.{base_of, value_of};
 ghost use Rattle.nd_heap.specs.Contents.{bases_of, blocks_of, bytes_in};
 ghost use Rattle.nd_heap.specs.Live.{bytes_at, is_base_among};
@@ -71,6 +70,27 @@ fn loosen(loose: &mut Bases, names: &NameTable, name: &str) -> Result<(), OutOfM
     Ok(())
 }
 
+/// Whether each base that one of the names holds has the same bytes among others. Where one has not, `first` is the place of a
+/// name that holds it from then on.
+fn have_same_bytes(
+    names: &NameTable,
+    blocks: &BlockTable,
+    others: &BlockTable,
+    first: &mut usize,
+) -> bool
+    ensures { IsTrue result → (b : values.Base) → model.is_held b names.now ≡ true
+        → bytes_at blocks.now b ≡ bytes_at others.now b }
+{
+    for i in 0..names.len() {
+        let (_, value) = names.entry(i);
+        if !blocks.has_same_bytes(others, value.as_ref()) {
+            *first = i;
+            return false;
+        }
+    }
+    true
+}
+
 impl Heap {
     /// No names and no blocks.
     pub fn new(alloc: Global) -> Result<Heap, OutOfMemory>
@@ -108,18 +128,18 @@ impl Heap {
         self.names.len()
     }
 
-    /// Returns the value of the name at a place in the order of the names, none past the last.
+    /// Returns the name at a place in the order of the names, none past the last.
     ///
-    /// After `bind` of `x`, of `y` and of `x` again, that of `x` is at place 0 and that of `y` at 1.
-    pub fn value_at(&self, place: usize) -> Option<&Value>
-        ensures { option_map (λ v. value_of v.now) result
-            ≡ option_map (λ e. e.1) (slice_get self.now.names place) }
+    /// After `bind` of `x`, of `y` and of `x` again, the names are `x` at place 0 and `y` at 1.
+    pub fn name_at(&self, place: usize) -> Option<&str>
+        ensures { option_map (λ n. n.now) result
+            ≡ option_map (λ e. e.0) (slice_get self.now.names place) }
     {
         if place >= self.names.len() {
             return None;
         }
-        let (_, value) = self.names.entry(place);
-        Some(value.as_ref())
+        let (name, _) = self.names.entry(place);
+        Some(name.as_str())
     }
 
     /// Returns the value of a name, none where it is not bound.
@@ -187,21 +207,34 @@ impl Heap {
         self.blocks.bytes(base)
     }
 
-    /// Whether some bound value lies in the base.
-    pub fn is_held(&self, base: Base) -> bool
-        ensures { result ≡ model.is_held (base_of base) self.now.names }
+    /// Whether the names at a place are the same, with the same value, and the same bytes where it lies in a base.
+    fn is_same_at(&self, other: &Heap, place: usize) -> bool
+        requires here { place < length self.now.names }
+        requires there { place < length other.now.names }
+        ensures { IsTrue result
+            → slice_get self.now.names place ≡ slice_get other.now.names place }
     {
-        if !self.held_bytes(base).is_empty() {
-            return true;
-        }
-        self.names.is_held(base)
+        let (_, value) = self.names.entry(place);
+        self.names.is_same_at(&other.names, place)
+            && self.blocks.has_same_bytes(&other.blocks, value.as_ref())
     }
 
-    /// proof: no name stands twice.
-    pub fn distinctness(&self)
-        ensures { IsOnce self.now.names }
+    /// Whether names are the same in the same order, with the same values, and the same bytes in each base that they hold. The two
+    /// are compared at `first` before all else, and it becomes a place at which they differ, so that asking again where they still
+    /// do takes one comparison. It takes no memory.
+    pub fn is_same(&self, other: &Heap, first: &mut usize) -> bool
+        ensures names { IsTrue result → self.now.names ≡ other.now.names }
+        ensures bytes { IsTrue result → (b : values.Base) → model.is_held b self.now.names ≡ true
+            → bytes_at self.now.blocks b ≡ bytes_at other.now.blocks b }
     {
-        self.names.distinctness();
+        if self.count() != other.count() {
+            return false;
+        }
+        if *first < self.count() && !self.is_same_at(other, *first) {
+            return false;
+        }
+        self.names.is_same(&other.names, first)
+            && have_same_bytes(&self.names, &self.blocks, &other.blocks, first)
     }
 
     /// Whether some bound value lies in a base of the label.
@@ -286,9 +319,6 @@ impl Heap {
         self.loose.clear();
         Ok(())
     }
-
-    /// proof: drops the heap, apart from a caller whose proof would be long.
-    pub fn discard(self) {}
 
     /// Gives up the blocks that no bound value lies in. Only those of loose bases are looked at.
     ///

@@ -5,6 +5,8 @@ pub mod Book
 pub mod Script
 pub mod Entries
 pub mod Stale
+pub mod CutOff
 pub mod Notebook
 pub mod ScriptRuns
-pub mod Sessions
+pub mod Overlay
+pub mod Beside

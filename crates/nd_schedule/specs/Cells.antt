@@ -1,3 +1,2 @@
-pub mod Labels
 pub mod Shared
 pub mod Source

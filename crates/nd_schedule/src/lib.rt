@@ -1,4 +1,4 @@
-//! The schedule: after an edit, which cells of a notebook run, and whose records are kept, by what the edit changed.
+//! The schedule: which cells of a notebook run after an edit, and which are replayed from their records.
 #![tactic(auto)]
 
 pub mod cells;

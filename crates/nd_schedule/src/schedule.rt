@@ -1,11 +1,12 @@
 //! The scheduler of a notebook, over what runs cells.
-mod ending;
-mod moving;
+mod beside;
+mod cells;
+mod front;
 mod notebook;
-mod queries;
-mod runner;
-mod snapshots;
-mod sweep;
+mod outcome;
+mod pass;
+mod step;
+mod versions;
 
+pub use cells::CellRunner;
 pub use notebook::Schedule;
-pub use runner::CellRunner;

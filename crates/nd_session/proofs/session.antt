@@ -1,3 +1,4 @@
+pub mod Alike
 pub mod Listed
 pub mod Sessions
 pub mod Intact
@@ -8,17 +9,5 @@ pub mod Redoing
 pub mod Retaining
 pub mod Keeping
 pub mod Last
-pub mod Present
+pub mod Overlaying
 pub mod Gathering
-pub mod Standing
-pub mod Covering
-pub mod Fitting
-pub mod Dropping
-pub mod Carrying
-pub mod Matching
-pub mod Giving
-pub mod Naming
-pub mod Ordering
-pub mod Putting
-pub mod Copying
-pub mod Weighing

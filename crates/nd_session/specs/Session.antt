@@ -8,8 +8,4 @@ pub mod Found
 pub mod Reads
 pub mod Reading
 pub mod Changes
-pub mod Filter
-pub mod Change
-pub mod Now
-pub mod Order
-pub mod Patch
+pub mod Noted

@@ -24,4 +24,3 @@ pub mod Unravelled
 pub mod ByRuns
 pub mod InOrder
 pub mod Ranges
-pub mod Within

@@ -1,8 +1,8 @@
-//! `KeptCell`: the text of a cell of a notebook, and its label.
+//! `LabelledCell`: the text of a cell of a notebook, and its label.
 
 /// A cell: its text, and its label, which no answer shows.
 #[derive(Drop)]
-pub struct KeptCell {
+pub struct LabelledCell {
     pub label: u64,
     pub text: String,
 }

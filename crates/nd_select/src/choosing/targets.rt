@@ -196,11 +196,6 @@ pub fn assignment_target(
 {
     let found = Target::new(choose(session, target, index)?);
     found.soundness();
-    match check_value(&found, value, is_full_mask(target, index)) {
-        Ok(()) => Ok(found),
-        Err(fault) => {
-            drop(found);
-            Err(Stop::Refused(fault))
-        }
-    }
+    check_value(&found, value, is_full_mask(target, index))?;
+    Ok(found)
 }

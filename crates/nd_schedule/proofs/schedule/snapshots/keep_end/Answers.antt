@@ -1,4 +1,0 @@
-use Rattle.nd_schedule.proofs.schedule.snapshots.keep_end.Goals as goal
-
-pub returns-then-cost-gt0 : goal.returns-then-cost-gt0
-returns-then-cost-gt0 g c = λ b many stands all. c.thin.ensures b (c.keep_at.ensures.snapshots b many stands all)

@@ -1,0 +1,7 @@
+pub mod Sweeping
+mod Visiting
+mod Kept
+mod Editing
+mod Removing
+mod Inserting
+mod Turning

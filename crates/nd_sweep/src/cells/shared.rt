@@ -1,0 +1,33 @@
+//! Lists: `move_item` moves a value without taking memory.
+
+ghost use Rattle.std.specs.Prelude.{◌≡◌, ◌<◌, ◌≤◌, ◌+◌, ◌-◌, OnOk, insert, length, remove, slice_index_or};
+ghost use Rattle.std.specs.Vec.{vec_capacity};
+
+use std::alloc::AllocError;
+
+/// Makes room for `count` values in place of those at `from..to`.
+pub fn make_room<T: Drop>(
+    list: &mut Vec<T>,
+    from: usize,
+    to: usize,
+    count: usize,
+) -> Result<(), AllocError>
+    requires { from ≤ to }
+    ensures same { list.new.items ≡ list.old.items }
+    ensures room { OnOk result
+        (length list.old.items + count ≤ vec_capacity list.new + (to - from)) }
+{
+    list.reserve(count.saturating_sub(to - from))
+}
+
+/// Moves the value at `from`, so that it is at `to` afterwards. It takes no memory.
+pub fn move_item<T: Drop>(list: &mut Vec<T>, from: usize, to: usize)
+    requires from { from < length list.old.items }
+    requires to { to < length list.old.items }
+    ensures { (x : T) → list.new.items
+        ≡ insert (remove list.old.items from) to (slice_index_or list.old.items from x) }
+{
+    let one = list.remove(from);
+    // never fails, since there is room
+    let _room = list.insert(to, one);
+}

@@ -1,7 +1,8 @@
 #!/usr/bin/env python3
 """tests/random_edits.py [--seconds S] [--seed N]: edited notebooks answer as fresh notebooks of the same cells do.
 
-A trial is a notebook under fifty random edits, refused ones among them. After each edit the program is asked for all:
+A trial is a notebook under fifty random edits, refused ones among them. One trial of eight begins with 40 to 100 cells,
+so that edits go past several snapshots, and has twenty edits. After each edit the program is asked for all:
 the sources, texts, refusals and saved files of all cells, the names after each, and the value of every name. The same
 questions go to a run of the program that is given the inputs and cells as they are by then, from nothing, and the
 answers must be the same. Where the program has the command `runs`, no edit may run more cells than it makes stale, as
@@ -27,6 +28,8 @@ ROOT = os.path.dirname(os.path.dirname(os.path.abspath(__file__)))
 PROGRAM = os.environ.get("NDNOTE_PROGRAM", os.path.join(ROOT, "crates/ndnote/out/ndnote"))
 MOST_CELLS = 12
 EDITS = 50
+LONG_CELLS = (40, 100)
+LONG_EDITS = 20
 MARK = "bad command"
 
 ARRAYS = ["x = np.arange(4)", "y = np.arange(3)", "z = np.arange(6)", "x = np.arange(2)"]
@@ -176,6 +179,9 @@ class Drawer:
         self.random = random.Random(seed)
         self.pool = self.random.choice(list(POOLS.values()))
         self.most = max(self.random.randint(0, MOST_CELLS), self.random.randint(0, MOST_CELLS))
+        self.is_long = self.random.randrange(8) == 0
+        if self.is_long:
+            self.most = self.random.randint(*LONG_CELLS)
 
     def text(self, book: Book) -> str:
         draw = self.random
@@ -186,6 +192,11 @@ class Drawer:
         if draw.randrange(30) == 0:
             return ""
         return "\n".join(draw.choice(draw.choice(self.pool)) for _ in range(draw.randint(1, 4)))
+
+    def opening(self, book: Book) -> List[Edit]:
+        """The insertions, each behind the last cell, with which a long notebook begins."""
+        count = len(book.cells)
+        return [Edit("insert", count, text=self.text(book))] if self.is_long and count < self.most else []
 
     def refused(self, count: int) -> Edit:
         behind, inside = count + self.random.randrange(3), self.random.randrange(count) if count else 0
@@ -258,12 +269,13 @@ class Step:
 
 
 def steps_of(edits: List[Edit], has_runs: bool, every: bool) -> Tuple[List[str], List[Step]]:
-    """A script of the edits with all questions after each, or after the last alone, and what is expected there."""
+    """A script of the edits with all questions after each of the last fifty, or after the last alone, and what is
+    expected there."""
     book, script, steps = Book(), [], []
     for number, edit in enumerate(edits):
         wanted = book.make(edit)
         script += edit.lines()
-        if every or number == len(edits) - 1:
+        if every and number >= len(edits) - EDITS or number == len(edits) - 1:
             script += ["mark", *(["runs"] if has_runs else []), "mark", *book.questions(), "mark"]
             fresh = [*book.lines(), "mark", *book.questions()]
             steps.append(Step(number, wanted, fresh, list(book.cells), dict(book.inputs)))
@@ -276,7 +288,7 @@ def wrong_answers(told: List[str], steps: List[Step], every: bool) -> Optional[F
         fresh = list(pool.map(lambda step: answers(step.fresh)[-1], steps))
     for at, step in enumerate(steps):
         answer, found = told[3 * at], told[3 * at + 2]
-        if every and answer != step.wanted + "\n":
+        if every and answer.split("\n")[-2:] != [step.wanted, ""]:
             return Fault(step.number, f"edit {step.number} is answered {answer!r} in place of {step.wanted!r}")
         if found != fresh[at]:
             return Fault(step.number, f"after edit {step.number} " + first_difference(found, fresh[at]))
@@ -290,7 +302,7 @@ def wrong_runs(told: List[str], steps: List[Step]) -> Optional[Fault]:
         now = int(told[3 * at + 1].split()[1])
         following = last.then(step.cells, step.inputs, is_read) if step.wanted == "ok" else last
         most = following.stale if step.wanted == "ok" else 0
-        if now - runs > most:
+        if now - runs > most and (at or not step.number):
             return Fault(step.number, f"edit {step.number} ran {now - runs} cells, where {most} were stale")
         runs, last = now, following
     return None
@@ -323,7 +335,10 @@ def shortened(edits: List[Edit], fault: Fault, has_runs: bool, until: float) -> 
 
 def drawn_edits(seed: int) -> List[Edit]:
     drawer, book, edits = Drawer(seed), Book(), []
-    for _ in range(EDITS):
+    while first := drawer.opening(book):
+        edits += first
+        book.make(first[0])
+    for _ in range(LONG_EDITS if drawer.is_long else EDITS):
         edits.append(drawer.edit(book))
         book.make(edits[-1])
     return edits

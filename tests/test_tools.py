@@ -329,6 +329,24 @@ class Bench(unittest.TestCase):
                          ["| Statement | ours, ms | NumPy, ms | ratio |", "|---|---:|---:|---:|",
                           "| `x \\| y` | 1.000 | 2.000 | 2.00 |"])
 
+    def test_the_short_table_has_the_medians_and_the_means(self):
+        def costs(shape: str, mean: float) -> edits.Costs:
+            found = [edits.Cost(f"another value in the {it} cell", 0.001, mean, 0.9) for it in ("middle", "first")]
+            return edits.Costs(shape, 10_000, whole=1.5, bytes_each=5, edits=found, peak=7)
+
+        one = statements.Statement("g", "x")
+        measured = [statements.Measured(one, 1.0, it) for it in (2.0, 1.0, 0.2)]
+        measured.append(statements.Measured(one, refusal="E"))
+        figures = bench.Figures(["Commit `c`; a machine."], {1000: measured},
+                                {10: [], 10_000: [costs("independent", 0.0002), costs("star", 0.25)]}, [])
+        lines = bench.short_report(figures)
+        self.assertTrue(lines[0].startswith("Commit `c`; a machine."))
+        self.assertEqual(lines[4:], [
+            "| NumPy's time by ours, the median of 3 statements of 1,000 elements | 1.00 |",
+            "| how many of them have a ratio below 0.3 | 1 |",
+            "| another value in one of 10,000 cells, which no other reads | 0.200 ms; inserting all takes 1,500 ms |",
+            "| another value in one of 10,000 cells, which all others read | 250.0 ms; inserting all takes 1,500 ms |"])
+
     def test_notebooks_have_as_many_cells_and_other_texts(self):
         for shape in edits.shapes(200):
             fixed = {"large": 51, "large sums": 51, "many names": 10, "input": 100}

@@ -10,6 +10,8 @@ IMAGES = 50
 LARGE = 1 << 24
 READERS, SUMS = 50, 50
 MOST_CELLS = 10_000
+# Edits of the middle cell of which the mean and the most are told: more than snapshots let wait.
+MANY = 20
 
 
 @dataclass
@@ -81,10 +83,12 @@ def npy(numbers: list[int]) -> bytes:
 
 @dataclass
 class Cost:
-    """What a kind of edit took: processor seconds, the least of its turns."""
+    """What a kind of edit took: processor seconds, the least, the mean and the most of its turns."""
 
     what: str
     seconds: float
+    mean: float
+    most: float
 
 
 @dataclass
@@ -112,14 +116,19 @@ def measure(path: str, shape: Shape, turns: int) -> Costs:
             raise ValueError(f"{shape.name}: an edit is answered {answer}")
         return seconds
 
-    def least(what: str, call: Callable[[int], float]) -> Cost:
-        return Cost(what, min(call(turn) for turn in range(turns)))
+    def cost(what: str, call: Callable[[int], float], count: int = turns) -> Cost:
+        values = [call(turn) for turn in range(count)]
+        return Cost(what, min(values), sum(values) / count, max(values))
 
     def edited(k: int, text: str) -> float:
         """Seconds of an edit, behind which the cell is put back."""
         seconds = checked(*program.edit(k, text))
         checked(*program.edit(k, cells[k]))
         return seconds
+
+    def changed(k: int, turn: int) -> float:
+        """Seconds of another value, of which each turn gives one that was not there before."""
+        return checked(*program.edit(k, shape.other(k, 5 + turn)))
 
     def removed(k: int) -> float:
         seconds = checked(*program.remove(k))
@@ -149,15 +158,16 @@ def measure(path: str, shape: Shape, turns: int) -> Costs:
         whole = program.load(cells)
         each = (program.memory()[0] - alone) // count
         edits = []
-        for place, k in (("last", count - 1), ("middle", count // 2), ("first", 0)):
-            edits.append(least(f"another value in the {place} cell", lambda turn: edited(k, shape.other(k, 5 + turn))))
-            edits.append(least(f"blanks in the {place} cell", lambda turn: edited(k, cells[k] + " " * (turn + 1))))
-            edits.append(least(f"the {place} cell is removed", lambda turn: removed(k)))
-        edits.append(least("the middle cell moves one place down", lambda turn: moved(count // 2, count // 2 + 1)))
-        edits.append(least("the last cell moves to place 1", lambda turn: moved(count - 1, 1)))
-        edits.append(least("a new name in the middle", lambda turn: inserted(count // 2, f"zz{turn} = np.arange(3)")))
+        for place, k, many in (("last", count - 1, MANY), ("middle", count // 2, MANY), ("first", 0, turns)):
+            edits.append(cost(f"another value in the {place} cell", lambda turn: changed(k, turn), many))
+            checked(*program.edit(k, cells[k]))
+            edits.append(cost(f"blanks in the {place} cell", lambda turn: edited(k, cells[k] + " " * (turn + 1))))
+            edits.append(cost(f"the {place} cell is removed", lambda turn: removed(k)))
+        edits.append(cost("the middle cell moves one place down", lambda turn: moved(count // 2, count // 2 + 1)))
+        edits.append(cost("the last cell moves to place 1", lambda turn: moved(count - 1, 1)))
+        edits.append(cost("a new name in the middle", lambda turn: inserted(count // 2, f"zz{turn} = np.arange(3)")))
         if shape.input:
-            edits.append(least("the input is replaced", lambda turn: set_input(turn + 1)))
+            edits.append(cost("the input is replaced", lambda turn: set_input(turn + 1)))
         return Costs(shape.name, count, whole, each, edits, program.memory()[1])
     finally:
         program.close()

@@ -1,4 +1,2 @@
 pub mod Lines
 pub mod Recording
-pub mod Overlaying
-pub mod Gathering

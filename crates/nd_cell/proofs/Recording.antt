@@ -7,7 +7,6 @@ use Rattle.nd_model.specs.Cells.Session.{Session, collected, held_bytes, is_held
 use Rattle.nd_model.specs.Cells.Running.{Key, Name, Input, Length, Byte, Inputs, Running, session_of, start}
 use Rattle.nd_model.specs.Grammar.Syntax.{Parsed}
 use Rattle.nd_model.specs.Cells.Cell.{Ended, cell}
-use Rattle.nd_model.specs.Book.CutOff.{SameOnSession}
 use Rattle.nd_model.specs.Cells.Footprint.{Agree, Effects, Found, HasNone, effects_of, found, reads_of, with_effects}
 use Rattle.nd_model.specs.Book.Records.{Record, StillHolds, record_of}
 use Rattle.nd_model.specs.Cells.Sound.{IsHeldView, IsSound, IsSoundSession, LiesIn}
@@ -21,6 +20,7 @@ use Rattle.nd_session.specs.Session.Live.{live}
 use Rattle.nd_trace.specs.Seen.{Seen, is_read_in}
 use Rattle.nd_session.specs.Session.Listed.{seen_of}
 use Rattle.nd_session.specs.Session.Reads.{found_in, found_of, found_when_collected, keys_of}
+use Rattle.nd_session.specs.Session.Change.{HasDone}
 use Rattle.nd_session.specs.Session.Changes.{bases_in, going_on, writes_in}
 use Rattle.nd_session.proofs.session.Listed.{listed}
 use Rattle.nd_cell.specs.Records.{EndsRun, IsOfRun, RecordData, recorded, record_at_end}
@@ -131,11 +131,8 @@ redo_sound r t j run holds sound =
     subst (λ n. IsSound (record (start l (with_effects l (recorded r).effects t)) { next = n })) (sym run.next)
     (subst (λ (x : Effects). IsSound (record (start l (with_effects l x t)) { next = e.running.next })) (sym (ap (λ (x : Record). x.effects) run.same)) after)
 
--- ---- two records
+-- ---- changes
 
--- two runs did the same to their sessions
-pub same_on_session : (r s t u : RecordData) → r ≡ s → t ≡ u → r.changes.label ≡ t.changes.label → r.changes.events ≡ t.changes.events
-    → ((b : Base) → bases_in r.changes b ≡ bases_in t.changes b) → ((b : Base) (p : ℕ) → writes_in r.changes b p ≡ writes_in t.changes b p) → SameOnSession (recorded s) (recorded u)
-same_on_session r s t u one other label events bases writes =
-    subst (λ (s : RecordData). SameOnSession (recorded s) (recorded u)) one (subst (λ (u : RecordData). SameOnSession (recorded r) (recorded u)) other
-    (label, events, fun_ext bases, fun_ext (λ b. fun_ext (writes b))))
+-- what the run did is what is kept of it
+pub done_of : (r s : RecordData) → r ≡ s → HasDone r.changes (recorded s)
+done_of r s same = subst (λ (s : RecordData). HasDone r.changes (recorded s)) same (record { label = refl; events = refl; bases = λ b. refl; writes = λ b p. refl })

@@ -1,24 +1,26 @@
 //! `Record`: what a run of a cell read, did and gave.
 
-ghost use Rattle.std.specs.Prelude.{◌≡◌, ◌↔◌, ℕ, IfOk, IsFalse, IsTrue, List, OnOk, option_map, string_bytes, unwrap_or};
-ghost use Rattle.nd_model.specs.Book.Beside.{HasNoName, IsNoted};
-ghost use Rattle.nd_model.specs.Book.CutOff.{IsQuiet, SameOnSession};
+ghost use Rattle.std.specs.Prelude.{◌≡◌, ◌↔◌, IfOk, IsTrue, OnOk, is_some, option_map, string_bytes, unwrap_or};
+ghost use Rattle.nd_change.specs.Change.{Fits};
+ghost use Rattle.nd_change.specs.Steps.{Comes, Follows, IsWordOf, Keeps, Leaves};
 ghost use Rattle.nd_model.specs.Cells.Footprint.{HasNone, replayed, with_effects};
-ghost use Rattle.nd_model.specs.Book.Overlay.{IsApart, IsOnce, IsOverlay, IsUnder, Misses, Replaces, did};
-ghost use Rattle.nd_model.specs.Book.Records as records;
 ghost use Rattle.nd_model.specs.Book.Records.{StillHolds};
 ghost use Rattle.nd_model.specs.Cells.Running as running;
 ghost use Rattle.nd_model.specs.Cells.Session.{Names, collected};
-ghost use Rattle.nd_model.specs.Cells.Sound.{IsSoundSession};
+ghost use Rattle.nd_session.specs.Session.Change.{change_of};
 ghost use Rattle.nd_session.specs.Session.Changes.{is_bound};
+ghost use Rattle.nd_session.specs.Session.Filter.{covers};
 ghost use Rattle.nd_session.specs.Session.Kept.{version_of};
 ghost use Rattle.nd_session.specs.Session.Live.{live};
+ghost use Rattle.nd_session.specs.Session.Order.{names_in};
 ghost use Rattle.nd_session.specs.Inputs.Values.{inputs_of};
 ghost use Rattle.nd_cell.specs.Records.{EndsRun, ended_in, record_at_end, recorded};
 ghost use Rattle.nd_cell.specs.Results.{ended_of, refusal_of, saves_of};
 
 use crate::result::CellResult;
-use nd_session::session::{Changes, Inputs, OutOfMemory, Readings, Reads, Session, Version};
+use nd_session::session::{
+    Change, Changes, Inputs, KeyFilter, NameOrder, OutOfMemory, Reads, Session, Version,
+};
 use std::marker::Model;
 use std::rc::Rc;
 
@@ -117,15 +119,6 @@ impl Record {
         self.reads.agree(session, inputs)
     }
 
-    /// Returns whether an input that the run read differs in the new inputs. It takes no memory.
-    pub fn have_inputs_changed(&self, old: &Inputs, new: &Inputs) -> bool
-        ensures { IsFalse result ↔ ((n : List ℕ)
-            → IsTrue ((recorded self.now).read (running.Input n))
-            → inputs_of old.now.entries n ≡ inputs_of new.now.entries n) }
-    {
-        self.reads.have_inputs_changed(old, new)
-    }
-
     /// Returns what the run last did to a name: true where it bound it, false where it unbound it,
     /// `None` where it did neither. After `x = 1` and `del x` it is false for `x`. It takes no
     /// memory.
@@ -135,25 +128,6 @@ impl Record {
             ≡ unwrap_or result (is_bound name.now names) }
     {
         self.changes.last_of(name)
-    }
-
-    /// Returns true only where the run bound and unbound no name and wrote to no block of another
-    /// cell, as a run of `print(1)`.
-    pub fn is_quiet(&self) -> bool
-        ensures { IsTrue result → IsQuiet (recorded self.now) }
-    {
-        self.changes.is_quiet()
-    }
-
-    /// Returns true only where two runs of a cell had the same effects on their sessions, whatever
-    /// they read and printed.
-    pub fn have_same_effects(&self, other: &Record) -> bool
-        ensures { IsTrue result → SameOnSession (recorded self.now) (recorded other.now) }
-    {
-        if self.changes.label() != other.changes.label() {
-            return false;
-        }
-        self.changes.is_same(&other.changes)
     }
 
     /// Does to a session what the run did to its own, where the record still holds. The session
@@ -173,94 +147,89 @@ impl Record {
         Ok(())
     }
 
-    /// Returns true only where this run replaces another of the same cell. Both bind the same names
-    /// in the same order, each once, to values in the cell's own blocks or in none, and do nothing
-    /// else.
+    /// Returns a filter of all keys that the run read, and of those at which it did something. It
+    /// takes no memory.
+    pub fn filter(&self) -> KeyFilter
+        ensures { IsWordOf covers result (recorded self.now) }
+    {
+        KeyFilter::of_run(&self.reads, &self.changes)
+    }
+
+    /// Returns whether each key that the run read is outside of a change, or is now what the run
+    /// found there. No session is asked, and no memory is taken.
     ///
-    /// The runs of `x = np.zeros(2)` and of `x = np.ones(3)` are such. It takes no memory, and may
-    /// be false where this holds.
-    pub fn replaces(&self, old: &Record) -> bool
-        ensures { IsTrue result → Replaces (recorded old.now) (recorded self.now) }
+    /// A run of `print(x[0])` fits a change of `x[1]` alone.
+    pub fn fits(&self, change: &Change) -> bool
+        ensures { IsTrue result ↔ Fits (change_of change.now) (recorded self.now) }
     {
-        if self.changes.label() != old.changes.label() {
-            return false;
-        }
-        if !old.changes.is_overlay() {
-            return false;
-        }
-        if !self.changes.is_overlay() {
-            return false;
-        }
-        old.changes.binds_same(&self.changes)
+        change.fits(&self.reads)
     }
 
-    /// Returns true only where the run read none of the names that another bound and of the blocks
-    /// that it made. It takes no memory, and may be false where this holds.
-    pub fn misses(&self, over: &Record) -> bool
-        ensures { IsTrue result → Misses (recorded over.now) (recorded self.now) }
+    /// Takes from a change what the run overwrites, where it is in both notebooks. After want of
+    /// memory the change may only be dropped.
+    pub fn keep(&self, change: &mut Change) -> Result<(), OutOfMemory>
+        ensures keeps { OnOk result
+            (Keeps (change_of change.old) (change_of change.new) (recorded self.now)) }
+        ensures fewer { OnOk result ((k : running.Key)
+            → IsTrue (is_some (change_of change.new k))
+            → IsTrue (is_some (change_of change.old k))) }
     {
-        self.reads.miss(&over.changes)
-    }
-
-    /// Returns true only where the run left the names and blocks of another as they are, and bound
-    /// no name to a value in these. It takes no memory, and may be false where this holds.
-    pub fn is_apart(&self, over: &Record) -> bool
-        ensures { IsTrue result → IsApart (recorded over.now) (recorded self.now) }
-    {
-        self.changes.is_apart(&over.changes)
-    }
-
-    /// Notes the names that the run read, and the labels of the blocks. Earlier notes stay, also
-    /// for want of memory.
-    pub fn note(&self, readings: &mut Readings) -> Result<(), OutOfMemory>
-        ensures noted { OnOk result (IsNoted (recorded self.now) readings.new) }
-        ensures stays { (r : records.Record) → IsNoted r readings.old → IsNoted r readings.new }
-    {
-        self.reads.note(readings)?;
+        change.keep(&self.changes)?;
         Ok(())
     }
 
-    /// Returns true only where no noted run read a name or a block of this one. It takes no memory,
-    /// and may be false where this holds.
-    pub fn are_unread(&self, readings: &Readings) -> bool
-        ensures { IsTrue result → (r : records.Record) → IsNoted r readings.now
-            → Misses (recorded self.now) r }
+    /// Adds to a change what this run did and another run of the cell did before it. The session is
+    /// the one behind this run. After want of memory the change may only be dropped.
+    pub fn follow(
+        &self,
+        before: &Record,
+        session: &Session,
+        change: &mut Change,
+    ) -> Result<(), OutOfMemory>
+        ensures { OnOk result ((inputs : running.Inputs) → Follows (change_of change.old)
+            (change_of change.new) (recorded before.now) (recorded self.now)
+            (collected (running.session_of (live session.now))) inputs) }
     {
-        self.changes.are_unread(readings)
-    }
-
-    /// Returns true only where the run did nothing but bind names to values in the cell's own
-    /// blocks, or in none. It takes no memory, and may be false where this holds.
-    pub fn is_overlay(&self) -> bool
-        ensures { IsTrue result → IsOverlay (recorded self.now) }
-    {
-        self.changes.is_overlay()
-    }
-
-    /// Returns whether a snapshot binds none of the names that the run bound and unbound. It takes
-    /// no memory.
-    pub fn has_no_name(&self, before: &Version) -> bool
-        ensures { IsTrue result ↔ HasNoName (recorded self.now) (version_of before.now) }
-    {
-        self.changes.has_no_name(before)
-    }
-
-    /// Puts this run in place of another run of the cell in a session. Its names get the values of
-    /// this one, and the blocks of the other go.
-    ///
-    /// No byte of a block is copied. After want of memory the session may only be dropped.
-    pub fn overlay(&self, session: &mut Session) -> Result<(), OutOfMemory>
-        requires own { IsOverlay (recorded self.now) }
-        requires under { IsUnder (recorded self.now) (running.session_of (live session.old)) }
-        requires once { IsOnce (live session.old).names }
-        requires sound { IsSoundSession
-            (did (recorded self.now) (running.session_of (live session.old))) }
-        ensures { OnOk result (collected (running.session_of (live session.new))
-            ≡ did (recorded self.now) (running.session_of (live session.old))) }
-    {
-        let changes = &self.changes;
-        session.blank(changes)?;
-        session.redo(changes)?;
+        change.follow(&before.changes, &self.changes, session)?;
         Ok(())
+    }
+
+    /// Adds to a change what the run did, whose cell is gone. The session is the one in its place.
+    /// After want of memory the change may only be dropped.
+    pub fn leave(&self, session: &Session, change: &mut Change) -> Result<(), OutOfMemory>
+        ensures { OnOk result
+            (Leaves (change_of change.old) (change_of change.new) (recorded self.now)
+            (collected (running.session_of (live session.now)))) }
+    {
+        change.leave(&self.changes, session)?;
+        Ok(())
+    }
+
+    /// Adds to a change what the run did, whose cell is new. The session is the one behind it.
+    /// After want of memory the change may only be dropped.
+    pub fn come(&self, session: &Session, change: &mut Change) -> Result<(), OutOfMemory>
+        ensures { OnOk result
+            (Comes (change_of change.old) (change_of change.new) (recorded self.now)
+            (collected (running.session_of (live session.now)))) }
+    {
+        change.come(&self.changes, session)?;
+        Ok(())
+    }
+
+    /// Adds to an order of names what the run bound and unbound. After want of memory the order may
+    /// only be dropped.
+    pub fn note_names(&self, order: &mut NameOrder) -> Result<(), OutOfMemory>
+        ensures { OnOk result ((names : Names) → names_in names ≡ order.old
+            → names_in (replayed (recorded self.now).effects.events names) ≡ order.new) }
+    {
+        order.note(&self.changes)?;
+        Ok(())
+    }
+
+    /// Returns what the run did to its session.
+    pub fn changes(&self) -> &Changes
+        ensures { result.now ≡ self.now.changes }
+    {
+        &self.changes
     }
 }

@@ -10,7 +10,7 @@ use Rattle.nd_model.specs.Cells.Footprint.{Found, Bound, Number, found, HasNone,
 use Rattle.nd_model.specs.Book.Records.{Record, StillHolds}
 use Rattle.nd_model.proofs.Lists.{not_both}
 use Rattle.nd_model.proofs.Tracks.{effects_are_all}
-use Rattle.nd_model.proofs.Overlaying.{untouched_lookup}
+use Rattle.nd_model.proofs.Sessions.{untouched_lookup}
 use Rattle.nd_model.proofs.Passing.{stands}
 use Rattle.nd_change.proofs.Touched.{touched_lookup}
 use Rattle.nd_change.proofs.Named.{by_name}

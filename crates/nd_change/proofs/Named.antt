@@ -29,7 +29,7 @@ use Rattle.nd_model.proofs.Lists.{not_both}
 use Rattle.nd_model.proofs.Frames.{either_end}
 use Rattle.nd_model.proofs.Growing.{Grows, stays, grows_on, grows_after}
 use Rattle.nd_model.proofs.Soundness.{views_map, IfFound, IfGiven, bind_views, unbind_views}
-use Rattle.nd_model.proofs.Overlaying.{untouched_lookup}
+use Rattle.nd_model.proofs.Sessions.{untouched_lookup}
 use Rattle.nd_change.specs.Change.{IsNamed, BindsNamed, ByName}
 use Rattle.nd_change.proofs.Touched.{touched_lookup}
 

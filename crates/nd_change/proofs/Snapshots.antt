@@ -9,10 +9,10 @@ use Rattle.nd_model.specs.Cells.Running.{Event, Binds, Unbinds, Key, Name, Input
 use Rattle.nd_model.specs.Cells.Cell.{cell, session_after}
 use Rattle.nd_model.specs.Cells.Footprint.{Found, Bound, Number, found, HasNone, replayed, patched, with_effects}
 use Rattle.nd_model.specs.Book.Records.{Record, record_of, StillHolds}
-use Rattle.nd_model.specs.Book.Overlay.{IsOnce}
+use Rattle.nd_model.specs.Book.Sessions.{IsOnce}
 use Rattle.nd_model.proofs.Lists.{same_bytes, bytes_eq_self, not_both, lookup-bind, lookup-unbind}
 use Rattle.nd_model.proofs.Passing.{stands}
-use Rattle.nd_model.proofs.Overlaying.{once_replayed}
+use Rattle.nd_model.proofs.Sessions.{once_replayed}
 use Rattle.nd_model.proofs.Tracks.{effects_are_all}
 use Rattle.nd_change.specs.Change.{IsThere, did_by}
 use Rattle.nd_change.specs.Snapshots.{IsAlike, NothingLeft, AlikeRuns, AlikeReplays, Patches, OverAlike}

@@ -7,7 +7,7 @@ use Rattle.nd_model.specs.Cells.Session.{Names, lookup, bind, unbind}
 use Rattle.nd_model.specs.Cells.Running.{Event, Binds, Unbinds, is_touched}
 use Rattle.nd_model.specs.Cells.Footprint.{replayed}
 use Rattle.nd_model.proofs.Lists.{not_both, lookup-bind, lookup-unbind}
-use Rattle.nd_model.proofs.Overlaying.{untouched_lookup}
+use Rattle.nd_model.proofs.Sessions.{untouched_lookup}
 
 bound_now : (n m : List ℕ) (v : Value) (ns : Names) → bytes_eq n m ≡ true → lookup n (bind m v ns) ≡ Some v
 bound_now n m v ns is = lookup-bind n m v ns ∙ rw is refl

@@ -1,16 +1,16 @@
 -- Changes that have bases whole are carried on.
 use Rattle.std.proofs.Common.{◌≡◌, ℕ, ◌<◌, IsTrue, Bool, true, false, cond, ◌||◌, eqb, List, [], ◌∷◌, length, get_or, slice_index, Option, Some, None, IfSome, option_map, unwrap_or, refl, sym, ap, subst, ◌∙◌, inl, inr}
 use Rattle.std.specs.Prelude.{◌⊎◌, IsSome, nat_eq}
-use Rattle.std.proofs.lemmas.Bool.{cases_Bool, or_left, or_right, or_cases}
+use Rattle.std.proofs.lemmas.Bool.{cases_Bool, or_left, or_right}
 use Rattle.std.proofs.lemmas.List.{ext_get_or}
-use Rattle.nd_model.specs.Arrays.Value.{Base, Value, lies_in}
+use Rattle.nd_model.specs.Arrays.Value.{Base, Value}
 use Rattle.nd_model.specs.Cells.Session.{Names, lookup, bind, unbind, is_held, Session, held_bytes}
-use Rattle.nd_model.specs.Cells.Running.{Event, Binds, Unbinds, Key, Name, Input, Length, Byte, Source, Inputs, is_touched}
-use Rattle.nd_model.specs.Cells.Footprint.{Found, Bound, Given, Number, found, HasNone, replayed, patched, with_effects}
+use Rattle.nd_model.specs.Cells.Running.{Event, Binds, Unbinds, Key, Name, Input, Length, Byte, Inputs, is_touched}
+use Rattle.nd_model.specs.Cells.Footprint.{Found, Bound, Given, Number, found, HasNone, replayed, patched}
 use Rattle.nd_model.specs.Book.Records.{Record}
 use Rattle.nd_model.proofs.Lists.{not_both}
-use Rattle.nd_change.specs.Change.{Change, IsThere, IsOver, puts, puts_by, did_by, IsRunOver, IsStep}
-use Rattle.nd_change.specs.Whole.{Whole, whole_of, binds_in, IsWithout, KeepsWhole, LeavesName, LeavesBase, HasBase, IsWith, FollowsWhole, LeavesWhole, ComesWhole, IsPut, PutsWhole}
+use Rattle.nd_change.specs.Change.{IsThere, IsOver, puts, puts_by, did_by, IsRunOver, IsStep}
+use Rattle.nd_change.specs.Whole.{Whole, whole_of, binds_in, IsWithout, KeepsWhole, LeavesName, LeavesBase, HasBase, LosesBase, IsWithBoth, IsWith, FollowsWhole, LeavesWhole, ComesWhole, PutsWhole}
 use Rattle.nd_change.proofs.Changes.{goes_on, undone, held-bind, held-unbind}
 use Rattle.nd_change.proofs.Snapshots.{patches}
 
@@ -180,10 +180,83 @@ module _ (r q : Option Record) (s t : Session) (i j : Inputs) (c e : Whole) (old
       rest (Length b) out in_s in_t none = sym (ap (option_map (λ bs. Number (length bs))) (out_base b (none_of (λ bs. Number (length bs)) (e.blocks b) out)).0) ∙ out
       rest (Byte b p) out in_s in_t none = sym (ap (option_map (λ bs. Number (slice_index bs p))) (out_base b (none_of (λ bs. Number (slice_index bs p)) (e.blocks b) out)).0) ∙ out
 
+-- ---- behind two runs of a cell
+
+module _ (r q : Record) (s t : Session) (i j : Inputs) (c e : Whole) (old : IsRunOver r s i) (new : IsRunOver q t j) (has : IsWithBoth r q (did_by (Some q) t) c e) where
+  -- the length or a byte of a base that is in it as it is in the session, or as it was
+  base_here : {A : Type 0} (f : List ℕ → A) (b : Base) (a : A) → HasBase e (did_by (Some q) t) b → option_map f (e.blocks b) ≡ Some a → is_held b (did_by (Some q) t).names ≡ true → f (held_bytes (did_by (Some q) t) b) ≡ a
+  base_here f b a here is there = same_some _ _ (sym (ap (option_map f) (here.1 ∙ ap (λ bs. Some bs) (here.2 there))) ∙ is)
+
+  base_lost : {X P : Type 0} (f : List ℕ → X) (b : Base) (x : X) → LosesBase r q c e b → option_map f (e.blocks b) ≡ Some x → P
+  base_lost f b x lost is = none_some x (sym (ap (option_map f) lost.out) ∙ is)
+
+  out_name : (n : List ℕ) → whole_of e (Name n) ≡ None → (puts r (Name n) ≡ puts q (Name n)) × (puts r (Name n) ≡ None → whole_of c (Name n) ≡ None)
+  out_name n out = elim (has.names n) [
+    | inl here ↦ none_some (Bound (lookup n (did_by (Some q) t).names)) (sym out ∙ ap (option_map Bound) here)
+    | inr other ↦ elim other [
+      | inl left ↦ (name_left (Some r) n left.1 ∙ sym (name_left (Some q) n left.2), λ none. sym (ap (option_map Bound) left.0) ∙ out)
+      | inr lost ↦ (lost.1.same, lost.1.rest)
+    ]
+  ]
+
+  out_base : (b : Base) → e.blocks b ≡ None → is_held b (did_by (Some r) s).names ≡ true → is_held b (did_by (Some q) t).names ≡ true
+      → ((puts r (Length b) ≡ puts q (Length b)) × (puts r (Length b) ≡ None → whole_of c (Length b) ≡ None))
+      × ((p : ℕ) → (puts r (Byte b p) ≡ puts q (Byte b p)) × (puts r (Byte b p) ≡ None → whole_of c (Byte b p) ≡ None))
+  out_base b out in_s in_t = elim (has.blocks b) [
+    | inl here ↦ none_some here.0 (sym out ∙ here.1)
+    | inr other ↦ elim other [
+      | inl left ↦
+          let before : (puts r (Length b) ≡ None) × ((p : ℕ) → puts r (Byte b p) ≡ None) = base_left (Some r) s i b old left.1 in_s in
+          let now : (puts q (Length b) ≡ None) × ((p : ℕ) → puts q (Byte b p) ≡ None) = base_left (Some q) t j b new left.2 in_t in
+          let gone : c.blocks b ≡ None = sym left.0 ∙ out in
+          ((before.0 ∙ sym now.0, λ none. ap (option_map (λ bs. Number (length bs))) gone), λ p. (before.1 p ∙ sym (now.1 p), λ none. ap (option_map (λ bs. Number (slice_index bs p))) gone))
+      | inr lost ↦ ((lost.length.same, lost.length.rest), λ p. ((lost.bytes p).same, (lost.bytes p).rest))
+    ]
+  ]
+
+  both_step : IsStep (whole_of c) (Some r) (Some q) (did_by (Some r) s) (did_by (Some q) t) j (whole_of e)
+  both_step = record { now = now; same = same; rest = rest }
+    where
+      now : (k : Key) (f : Found) → whole_of e k ≡ Some f → IsThere (did_by (Some q) t) k → (found (did_by (Some q) t) j k ≡ f) ⊎ ((whole_of c k ≡ Some f) × (puts q k ≡ None))
+      now (Name n) f is there = elim (has.names n) [
+        | inl here ↦ inl (same_some _ _ (sym (ap (option_map Bound) here) ∙ is))
+        | inr other ↦ elim other [
+          | inl left ↦ inr (sym (ap (option_map Bound) left.0) ∙ is, name_left (Some q) n left.2)
+          | inr lost ↦ none_some f (sym (ap (option_map Bound) lost.0) ∙ is)
+        ]
+      ]
+      now (Input n) f is there = inr (sym (ap (option_map Given) (has.inputs n)) ∙ is, refl)
+      now (Length b) f is there = elim (has.blocks b) [
+        | inl here ↦ inl (base_here (λ bs. Number (length bs)) b f here is there)
+        | inr other ↦ elim other [
+          | inl left ↦ inr (sym (ap (option_map (λ bs. Number (length bs))) left.0) ∙ is, (base_left (Some q) t j b new left.2 there).0)
+          | inr lost ↦ base_lost (λ bs. Number (length bs)) b f lost is
+        ]
+      ]
+      now (Byte b p) f is there = elim (has.blocks b) [
+        | inl here ↦ inl (base_here (λ bs. Number (slice_index bs p)) b f here is there)
+        | inr other ↦ elim other [
+          | inl left ↦ inr (sym (ap (option_map (λ bs. Number (slice_index bs p))) left.0) ∙ is, (base_left (Some q) t j b new left.2 there).1 p)
+          | inr lost ↦ base_lost (λ bs. Number (slice_index bs p)) b f lost is
+        ]
+      ]
+
+      same : (k : Key) → whole_of e k ≡ None → IsThere (did_by (Some r) s) k → IsThere (did_by (Some q) t) k → puts r k ≡ puts q k
+      same (Name n) out in_s in_t = (out_name n out).0
+      same (Input n) out in_s in_t = refl
+      same (Length b) out in_s in_t = (out_base b (none_of (λ bs. Number (length bs)) (e.blocks b) out) in_s in_t).0.0
+      same (Byte b p) out in_s in_t = ((out_base b (none_of (λ bs. Number (slice_index bs p)) (e.blocks b) out) in_s in_t).1 p).0
+
+      rest : (k : Key) → whole_of e k ≡ None → IsThere (did_by (Some r) s) k → IsThere (did_by (Some q) t) k → puts r k ≡ None → whole_of c k ≡ None
+      rest (Name n) out in_s in_t none = (out_name n out).1 none
+      rest (Input n) out in_s in_t none = sym (ap (option_map Given) (has.inputs n)) ∙ out
+      rest (Length b) out in_s in_t none = (out_base b (none_of (λ bs. Number (length bs)) (e.blocks b) out) in_s in_t).0.1 none
+      rest (Byte b p) out in_s in_t none = ((out_base b (none_of (λ bs. Number (slice_index bs p)) (e.blocks b) out) in_s in_t).1 p).1 none
+
 pub follows_whole : FollowsWhole
 follows_whole r q after j c e has s t i over old new is =
     subst (λ u. IsOver (whole_of e) (did_by (Some r) s) i u j) (sym is)
-    (goes_on (whole_of c) (whole_of e) (Some r) (Some q) s t i j over old new (with_step (Some r) (Some q) s t i j c e old new (subst (λ u. IsWith (Some r) (Some q) u c e) is has)))
+    (goes_on (whole_of c) (whole_of e) (Some r) (Some q) s t i j over old new (both_step r q s t i j c e old new (subst (λ u. IsWithBoth r q u c e) is has)))
 
 pub leaves_whole : LeavesWhole
 leaves_whole r t c e has s i j over old = goes_on (whole_of c) (whole_of e) (Some r) None s t i j over old tt (with_step (Some r) None s t i j c e old tt has)

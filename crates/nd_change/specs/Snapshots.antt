@@ -7,7 +7,7 @@ use Rattle.nd_model.specs.Grammar.Syntax.{Parsed}
 use Rattle.nd_model.specs.Cells.Cell.{cell, session_after}
 use Rattle.nd_model.specs.Cells.Footprint.{Found, HasNone, found}
 use Rattle.nd_model.specs.Book.Records.{Record, record_of, StillHolds}
-use Rattle.nd_model.specs.Book.Overlay.{IsOnce}
+use Rattle.nd_model.specs.Book.Sessions.{IsOnce}
 use Rattle.nd_change.specs.Change.{Change, nothing, IsOver, IsThere, did_by}
 
 -- ALIKE: the same names with the same values, and the same bytes in the same bases. The order of names may be another.

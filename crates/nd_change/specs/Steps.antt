@@ -3,7 +3,7 @@ use Rattle.std.specs.Prelude.{◌≡◌, IsTrue, Bool, Some, is_some}
 use Rattle.nd_model.specs.Cells.Session.{Session}
 use Rattle.nd_model.specs.Cells.Running.{Key, Inputs}
 use Rattle.nd_model.specs.Book.Records.{Record}
-use Rattle.nd_model.specs.Book.Overlay.{IsOnce}
+use Rattle.nd_model.specs.Book.Sessions.{IsOnce}
 use Rattle.nd_change.specs.Change.{Change, IsOver, IsRunOver, did_by, puts}
 use Rattle.nd_change.specs.Snapshots.{IsAlike}
 

@@ -3,11 +3,11 @@
 use Rattle.std.specs.Prelude.{◌≡◌, ◌⊎◌, ℕ, Bool, true, false, ◌||◌, IsSome, List, [], ◌∷◌, length, slice_index, Option, Some, None, option_map, unwrap_or, nat_eq, if◌then◌else◌, ⊤}
 use Rattle.nd_model.specs.Arrays.Value.{Base, Value, lies_in}
 use Rattle.nd_model.specs.Cells.Session.{Session, lookup, is_held, held_bytes}
-use Rattle.nd_model.specs.Cells.Running.{Event, Binds, Unbinds, Name, Input, Length, Byte, Source, Inputs, is_touched}
+use Rattle.nd_model.specs.Cells.Running.{Event, Binds, Unbinds, Key, Name, Input, Length, Byte, Source, Inputs, is_touched}
 use Rattle.nd_model.specs.Cells.Footprint.{Bound, Given, Number, patched}
 use Rattle.nd_model.specs.Book.Records.{Record}
-use Rattle.nd_model.specs.Book.Overlay.{IsOnce}
-use Rattle.nd_change.specs.Change.{Change}
+use Rattle.nd_model.specs.Book.Sessions.{IsOnce}
+use Rattle.nd_change.specs.Change.{Change, puts}
 use Rattle.nd_change.specs.Steps.{Keeps, Follows, Leaves, Comes, IsPutOver}
 
 -- what is there now of names and inputs, none where nothing is bound or given, and of whole bases
@@ -41,7 +41,7 @@ pub record IsWithout (r : Record) (c e : Whole) : Type 0 where
 abbrev pub KeepsWhole : Type 0
 KeepsWhole = (r : Record) (c e : Whole) → IsWithout r c e → Keeps (whole_of c) (whole_of e) r
 
--- ---- behind runs that are in one
+-- ---- names and bases that a run leaves
 
 abbrev pub LeavesName : Option Record → List ℕ → Type 0
 LeavesName None n = ⊤
@@ -56,14 +56,35 @@ LeavesBase (Some r) b = (b.label ≡ r.label → binds_in b r.effects.events ≡
 abbrev pub HasBase : Whole → Session → Base → Type 0
 HasBase e t b = (bytes : List ℕ) × (e.blocks b ≡ Some bytes) × (is_held b t.names ≡ true → bytes ≡ held_bytes t b)
 
--- Each name and base is in it as it is in the session, or is as it was, and both runs leave it.
+-- ---- behind two runs of a cell
+
+-- A key may be out of the change: both runs do the same there, and something where the change before had something.
+pub record IsOut (r q : Record) (c : Whole) (k : Key) : Type 0 where
+  pub same : puts r k ≡ puts q k
+  pub rest : puts r k ≡ None → whole_of c k ≡ None
+
+-- the base is out of the change, and so may all of it be
+pub record LosesBase (r q : Record) (c e : Whole) (b : Base) : Type 0 where
+  pub out : e.blocks b ≡ None
+  pub length : IsOut r q c (Length b)
+  pub bytes : (p : ℕ) → IsOut r q c (Byte b p)
+
+-- Each name and base is in it as it is in the session, or is as it was, and both runs leave it, or may be out of it.
+pub record IsWithBoth (r q : Record) (t : Session) (c e : Whole) : Type 0 where
+  pub names : (n : List ℕ) → (e.names n ≡ Some (lookup n t.names)) ⊎ (((e.names n ≡ c.names n) × LeavesName (Some r) n × LeavesName (Some q) n) ⊎ ((e.names n ≡ None) × IsOut r q c (Name n)))
+  pub inputs : (n : List ℕ) → e.inputs n ≡ c.inputs n
+  pub blocks : (b : Base) → HasBase e t b ⊎ (((e.blocks b ≡ c.blocks b) × LeavesBase (Some r) b × LeavesBase (Some q) b) ⊎ LosesBase r q c e b)
+
+abbrev pub FollowsWhole : Type 0
+FollowsWhole = (r q : Record) (t : Session) (j : Inputs) (c e : Whole) → IsWithBoth r q t c e → Follows (whole_of c) (whole_of e) r q t j
+
+-- ---- behind runs that are in one
+
+-- Each name and base is in it as it is in the session, or is as it was, and the run leaves it.
 pub record IsWith (r q : Option Record) (t : Session) (c e : Whole) : Type 0 where
   pub names : (n : List ℕ) → (e.names n ≡ Some (lookup n t.names)) ⊎ ((e.names n ≡ c.names n) × LeavesName r n × LeavesName q n)
   pub inputs : (n : List ℕ) → e.inputs n ≡ c.inputs n
   pub blocks : (b : Base) → HasBase e t b ⊎ ((e.blocks b ≡ c.blocks b) × LeavesBase r b × LeavesBase q b)
-
-abbrev pub FollowsWhole : Type 0
-FollowsWhole = (r q : Record) (t : Session) (j : Inputs) (c e : Whole) → IsWith (Some r) (Some q) t c e → Follows (whole_of c) (whole_of e) r q t j
 
 abbrev pub LeavesWhole : Type 0
 LeavesWhole = (r : Record) (t : Session) (c e : Whole) → IsWith (Some r) None t c e → Leaves (whole_of c) (whole_of e) r t

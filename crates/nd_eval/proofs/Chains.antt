@@ -12,7 +12,8 @@ use Rattle.nd_operation.specs.declared.refusals.stop.Stop.TheVariants.{Memory, R
 use Rattle.nd_operation.specs.Refusals.Ends.{Says, Makes}
 use Rattle.nd_eval.specs.Ends.{Ends}
 
-stops : {A B X Y : Type 0} (v : X → A) (w : Y → B) (i : Inputs) (t : Eval A) (f : A → Eval B) (r s : Running) (e : Stop)
+-- a refusal of the first part, given on
+pub stops : {A B X Y : Type 0} (v : X → A) (w : Y → B) (i : Inputs) (t : Eval A) (f : A → Eval B) (r s : Running) (e : Stop)
     → Ends v (Err e) s (run i t r) → Ends w (Err e) s (run i (t >>= f) r)
 stops v w i t f r s Memory h = tt
 stops v w i t f r s (Refused e) h = run_bind i t f r ∙ ap (λ m. goes_on i m f) h
@@ -23,6 +24,11 @@ pub exits : {A B X Y : Type 0} (v : X → A) (w : Y → B) (i : Inputs) (t : Eva
 exits {A} {B} {X} {Y} v w i t f r s e o is h =
     let p : (x : Stop) × (o ≡ Err x) × (x ≡ e) = err_from_is_err_and o is in
     subst (λ (o : Result Y Stop). Ends w o s (run i (t >>= f) r)) (sym (p.1 ∙ ap Err p.2)) (stops v w i t f r s e h)
+
+-- a refusal is the same however an answer would be seen
+pub refused_alike : {B X Y : Type 0} (v : X → B) (w : Y → B) (e : Stop) (s : Running) (m : Result B Fault × Running) → Ends v (Err e) s m → Ends w (Err e) s m
+refused_alike v w Memory s m h = tt
+refused_alike v w (Refused f) s m h = h
 
 -- what comes after an answer
 pub follows : {A B X Y : Type 0} (v : X → A) (w : Y → B) (i : Inputs) (t : Eval A) (f : A → Eval B) (r s u : Running) (x : X) (o : Result Y Stop)

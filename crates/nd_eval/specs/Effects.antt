@@ -6,9 +6,11 @@ use Rattle.nd_model.specs.Cells.Running.{Running}
 use Rattle.nd_model.specs.Cells.Evaluation.{Eval}
 use Rattle.nd_heap.specs.Values.{base_of, geo_of, value_of}
 use Rattle.nd_select.specs.Choosing.Selections.{selected}
-use Rattle.nd_select.specs.Choosing.Targets.{writes_to}
+use Rattle.nd_select.specs.Choosing.Targets.{geo_in, writes_to}
 use Rattle.nd_operation.specs.declared.refusals.stop.Stop.{Stop}
 use Rattle.nd_eval.specs.declared.evaluator.Evaluator.{Evaluator}
+use Rattle.nd_heap.specs.declared.value.Value.{Value}
+use Rattle.nd_eval.specs.declared.exec.Place.{Place}
 use Rattle.nd_eval.specs.declared.effect.Effect.{Effect}
 use Rattle.nd_eval.specs.declared.effect.Effect.TheVariants.{Nothing, Print, Save, Bind, Unbind, Store, Scatter, Update, UpdateChosen}
 use Rattle.nd_eval.specs.Ends.{Evaluates, EvaluatesInLimit, session_of}
@@ -41,6 +43,13 @@ IsReady r (Store target v) = IsStorable r target v
 IsReady r (Scatter b s v) = IsStorableIn r (base_of b) (selected s) v
 IsReady r (Update kind op target v) = IsUpdatable (kind_of kind) (binary_op op) r target v
 IsReady r (UpdateChosen kind op b s copy v) = IsCopyUpdatable (kind_of kind) (binary_op op) r (base_of b) (selected s) copy v
+
+-- a value that is stored at a place, its elements as they are in these blocks, and that it may be
+abbrev pub stored_at : (model.Base → List ℕ) → Value → Place → running.Effect
+stored_at bytes v p = running.Storing (base_of p.base) (writes_to (geo_in p.target) (operand_over bytes v))
+
+abbrev pub MayStore : Running → Value → Place → Type 0
+MayStore r v p = IsStorableIn r (base_of p.base) (geo_in p.target) v
 
 -- an effect of an evaluation, over the blocks as they are after it
 abbrev pub EvaluatesEffect : Result Effect Stop → Evaluator → Eval running.Effect → Evaluator → Type 0

@@ -21,8 +21,8 @@ use Rattle.nd_model.specs.Cells.Evaluation.{Eval, Gives, ◌>>=◌}
 use Rattle.nd_model.specs.Making.Operand.{Operand, Usage, Whole, ArraysOnly, RowsOnly, Unused, Made}
 use Rattle.nd_model.specs.Indexing.Index.{Form, AtForm, SliceForm, EllipsisForm, NewAxisForm, EmptyForm}
 use Rattle.nd_model.specs.Indexing.Viewing.{Viewing, Indexed, Fielded, Transposed, Reshaped, BroadcastTo, ViewedAs}
-use Rattle.nd_model.specs.Cells.Operation.{Computes, Views, perform, act_on, give, store_in}
-use Rattle.nd_model.specs.Cells.Meaning.{is_given, is_empty_list, one, two, along, value, assignment_deed}
+use Rattle.nd_model.specs.Cells.Operation.{Computes, Views, perform, act_on, evaluate_all, give, store_in}
+use Rattle.nd_model.specs.Cells.Meaning.{is_given, is_empty_list, one, two, along, value, assignment_deed, index_plans, viewing_of}
 
 -- what is computed of one value
 abbrev pub make_value : (Operand → Result Made Fault) → Value → Eval Value
@@ -192,6 +192,10 @@ assignment v t x = act_on (assignment_deed x.0) ((Whole, v) ∷ (Unused, t) ∷ 
 -- `t[..] = v` by the expressions of the index
 abbrev pub index_assignment : Value → Value → Index → Eval Effect
 index_assignment v t x = index_parts x >>= assignment v t
+
+-- `t[..] = v` by the expressions of the target and the index
+abbrev pub target_assignment : Value → Expr → Index → Eval Effect
+target_assignment v e x = value e >>= λ t. evaluate_all (index_plans x) (λ vs. act_on (assignment_deed (viewing_of x)) ((Whole, v) ∷ (Unused, t) ∷ vs))
 
 -- bytes that are stored where a value lies
 abbrev pub stored_in : List (ℕ × ℕ) → Value → Result Effect Fault

@@ -23,7 +23,6 @@ ghost use Rattle.nd_eval.specs.Ends.{session_of};
 ghost use Rattle.nd_eval.specs.Parts as parts;
 ghost use Rattle.nd_eval.specs.Uses.{HasTypeOf, IsHeld, IsNoArray, index_marked, marked, operand_over};
 
-use crate::discard::{discard, discard_target};
 use crate::effect::Effect;
 use crate::evaluator::Evaluator;
 use crate::exec::store_effect;
@@ -71,8 +70,14 @@ fn update_effect(
     ensures ready { IfOk result (IsReady (live session.now)) }
 {
     let operand = operand_in(session, &value);
-    let kind = kind_in_place(session.allocator(), op, &array.view, &operand)?;
-    Ok(Effect::Update(kind, op, array, value))
+    match kind_in_place(session.allocator(), op, &array.view, &operand) {
+        Ok(kind) => Ok(Effect::Update(kind, op, array, value)),
+        Err(stop) => {
+            drop(array);
+            drop(value);
+            Err(stop)
+        }
+    }
 }
 
 /// The kind of an operator on a copy of the elements that an advanced index selects, and what it
@@ -109,18 +114,20 @@ fn copy_update(
     });
     let found = assignment_target(session, &copied, target, index)?;
     let Value::Array(array) = target else {
-        discard_target(found);
+        drop(found);
         return Err(Stop::Refused(not_an_array()));
     };
-    let Target::Elements(selection) = found else {
-        return Err(Stop::Refused(not_an_array()));
-    };
-    let base = array.base;
-    Ok(CopyUpdate {
-        kind,
-        base,
-        selection,
-    })
+    match found {
+        Target::Elements(selection) => Ok(CopyUpdate {
+            kind,
+            base: array.base,
+            selection,
+        }),
+        Target::View(view) => {
+            drop(view);
+            Err(Stop::Refused(not_an_array()))
+        }
+    }
 }
 
 /// The effect of an operator on the elements that an advanced index selects, once all elements are
@@ -145,8 +152,34 @@ fn copy_update_effect(
         (unused_of target.now) (index_operands (live session.now).bytes index.now)) }
     ensures ready { IfOk result (IsReady (live session.now)) }
 {
-    let found = copy_update(session, op, &copy, &value, target, index)?;
-    Ok(Effect::UpdateChosen(found.kind, op, found.base, found.selection, copy, value))
+    match copy_update(session, op, &copy, &value, target, index) {
+        Ok(found) => Ok(Effect::UpdateChosen(
+            found.kind,
+            op,
+            found.base,
+            found.selection,
+            copy,
+            value,
+        )),
+        Err(stop) => {
+            drop(copy);
+            drop(value);
+            Err(stop)
+        }
+    }
+}
+
+/// Notes that all elements of an array and of a value are used.
+fn mark_array_and_value(
+    session: &mut Session,
+    array: &Array,
+    value: &Value,
+) -> Result<(), OutOfMemory>
+    ensures { OnOk result (live session.new
+        ≡ marked value.now (marked (values.Array array.now) (live session.old))) }
+{
+    session.mark_used(array)?;
+    mark_operand(session, value)
 }
 
 /// Notes that all elements of two values are used, and what an index uses.
@@ -183,8 +216,13 @@ impl Evaluator<'_> {
         ensures ready { IfOk result (IsReady (session_of self.new)) }
     {
         let bound = self.operate(BinaryCall::Operator(op), found, value)?;
-        let name = String::from_str(self.session.allocator(), name)?;
-        Ok(Effect::Bind(name, bound))
+        match String::from_str(self.session.allocator(), name) {
+            Ok(name) => Ok(Effect::Bind(name, bound)),
+            Err(_) => {
+                drop(bound);
+                Err(Stop::Memory)
+            }
+        }
     }
 
     /// The effect of `name op= value`, for the name's value and the operand.
@@ -204,14 +242,17 @@ impl Evaluator<'_> {
     {
         match array_of(found) {
             Ok(array) => {
-                self.session.mark_used(&array)?;
-                mark_operand(self.session, &value)?;
+                let Ok(()) = mark_array_and_value(self.session, &array, &value) else {
+                    drop(array);
+                    drop(value);
+                    return Err(Stop::Memory);
+                };
                 update_effect(self.session, op, array, value)
             }
             Err(found) => {
                 let bound = self.rebind(name, op, &found, &value);
-                discard(found);
-                discard(value);
+                drop(found);
+                drop(value);
                 bound
             }
         }
@@ -232,8 +273,13 @@ impl Evaluator<'_> {
     {
         self.session.soundness();
         let found = self.look_up(name)?;
-        let value = self.value(expr)?;
-        self.augment(name, op, found, value)
+        match self.value(expr) {
+            Ok(value) => self.augment(name, op, found, value),
+            Err(stop) => {
+                drop(found);
+                Err(stop)
+            }
+        }
     }
 
     /// The effect of `target[index] op= value` where the item is no array, once all operands are
@@ -262,16 +308,26 @@ impl Evaluator<'_> {
         let left = operand_in(self.session, found);
         let right = operand_in(self.session, value);
         let new = make_of_two(alloc, BinaryCall::Operator(op), &left, &right)?;
-        let elements = assignment_target(self.session, &new.operand(), target, index)?;
-        let made = self.give(new)?;
-        match target {
-            Value::Number(_) => {
-                discard_target(elements);
-                discard(made);
-                Err(Stop::Refused(not_an_array()))
+        match assignment_target(self.session, &new.operand(), target, index) {
+            Ok(elements) => match self.give(new) {
+                Ok(made) => match target {
+                    Value::Number(_) => {
+                        drop(elements);
+                        drop(made);
+                        Err(Stop::Refused(not_an_array()))
+                    }
+                    Value::Array(array) => Ok(store_effect(array.base, elements, made)),
+                    Value::Row(row) => Ok(store_effect(row.base, elements, made)),
+                },
+                Err(stop) => {
+                    drop(elements);
+                    Err(stop)
+                }
+            },
+            Err(stop) => {
+                drop(new);
+                Err(stop)
             }
-            Value::Array(array) => Ok(store_effect(array.base, elements, made)),
-            Value::Row(row) => Ok(store_effect(row.base, elements, made)),
         }
     }
 
@@ -295,7 +351,11 @@ impl Evaluator<'_> {
             (contents.index_of index.now)) self.new }
         ensures ready { IfOk result (IsReady (session_of self.new)) }
     {
-        mark_item_operands(self.session, &value, &found, index)?;
+        let Ok(()) = mark_item_operands(self.session, &value, &found, index) else {
+            drop(found);
+            drop(value);
+            return Err(Stop::Memory);
+        };
         match array_of(found) {
             Ok(array) => {
                 if is_advanced(index) {
@@ -305,8 +365,8 @@ impl Evaluator<'_> {
             }
             Err(found) => {
                 let made = self.assign_made(op, &value, &found, target, index);
-                discard(found);
-                discard(value);
+                drop(found);
+                drop(value);
                 made
             }
         }
@@ -330,7 +390,9 @@ impl Evaluator<'_> {
     {
         self.session.soundness();
         let target = self.value(target)?;
-        self.augment_index(&target, index, op, expr)
+        let made = self.augment_index(&target, index, op, expr);
+        drop(target);
+        made
     }
 
     /// The effect of `target[index] op= expr`, for the target's value.
@@ -350,8 +412,23 @@ impl Evaluator<'_> {
     {
         self.session.soundness();
         let index = self.index_value(index)?;
-        let found = self.choose_value(target, &index)?;
-        let value = self.value(expr)?;
-        self.augment_item(op, value, found, target, &index)
+        match self.choose_value(target, &index) {
+            Ok(found) => match self.value(expr) {
+                Ok(value) => {
+                    let made = self.augment_item(op, value, found, target, &index);
+                    drop(index);
+                    made
+                }
+                Err(stop) => {
+                    drop(found);
+                    drop(index);
+                    Err(stop)
+                }
+            },
+            Err(stop) => {
+                drop(index);
+                Err(stop)
+            }
+        }
     }
 }

@@ -1,23 +1,19 @@
 //! Expressions of the running cell, evaluated: names, operators, calls, subscripts.
 
 ghost use Rattle.std.specs.Prelude.{◌≡◌, ◌+◌, ◌<◌, ◌^◌, IfOk, is_some, map, option_map};
-ghost use Rattle.nd_model.specs.Grammar.Cells.{chained, elements_of, items_of};
-ghost use Rattle.nd_model.specs.Cells.Evaluation as evaluation;
+ghost use Rattle.nd_model.specs.Grammar.Cells.{chained, elements_of};
 ghost use Rattle.nd_model.specs.Cells.Meaning as meaning;
 ghost use Rattle.nd_model.specs.Cells.Meaning.{along, is_given};
 ghost use Rattle.nd_model.specs.Cells.Operation as operation;
-ghost use Rattle.nd_model.specs.Grammar.Syntax.{Called, Items, Listed, Nested, NewArray};
-ghost use Rattle.nd_model.specs.Grammar.Tokens.{tokens_of, tokens_of_elements, tokens_of_call, tokens_of_fold, tokens_of_index, tokens_of_item, tokens_of_all, tokens_of_bound, tokens_of_element, tokens_of_method};
+ghost use Rattle.nd_model.specs.Grammar.Syntax.{Called, Nested, NewArray};
+ghost use Rattle.nd_model.specs.Grammar.Tokens.{tokens_of, tokens_of_elements, tokens_of_call, tokens_of_fold, tokens_of_all, tokens_of_bound, tokens_of_element, tokens_of_method};
 ghost use Rattle.nd_syntax.specs.Trees.Lists.{operation_of};
-ghost use Rattle.nd_syntax.specs.Trees.Syntax.{axis_of, bound_of, expr_of, call_of, element_of, fold_of, index_of, item_of, method_of, suffix_of};
+ghost use Rattle.nd_syntax.specs.Trees.Syntax.{axis_of, bound_of, expr_of, call_of, element_of, fold_of, method_of, suffix_of};
 ghost use Rattle.nd_heap.specs.Values.{value_of};
 ghost use Rattle.nd_eval.specs.Contents as contents;
 ghost use Rattle.nd_eval.specs.Contents.{option_values, values_of};
 ghost use Rattle.nd_eval.specs.Ends.{Evaluates, session_of};
-ghost use Rattle.nd_eval.specs.Uses.{HasTypeOf, IsHeld};
-ghost use Rattle.nd_model.specs.Indexing.Index.{has_array};
-ghost use Rattle.nd_select.specs.Choosing.Indexing.{operands_of};
-ghost use Rattle.nd_operation.specs.Operators.Contents.{unused_of};
+ghost use Rattle.nd_eval.specs.Uses.{IsHeld};
 ghost use Rattle.nd_eval.specs.Parts as parts;
 ghost use Rattle.nd_eval.specs.Suffixes.{axis_tokens, suffix_tokens};
 ghost use Rattle.nd_operation.specs.Operators.New.{made_of_one};
@@ -25,21 +21,18 @@ ghost use Rattle.nd_operation.specs.Operators.OfTwo.{made_of_two};
 ghost use Rattle.nd_syntax.specs.Trees.Calls.{dtype_of, fill_of, ufunc_of};
 ghost use Rattle.nd_fold.specs.Folds.{made_of_fold};
 
-use crate::discard::discard_chosen;
 use crate::evaluator::Evaluator;
-use crate::operation::{mark_index, mark_operand, mark_operands, operand_in};
+use crate::operation::{mark_operand, mark_operands, operand_in};
 use crate::views::ViewMethod;
 use nd_files::InputSort;
 use nd_fold::Folding;
 use nd_operation::operators::{
-    BinaryCall, UnaryCall, is_empty_list, make_filled, make_full, make_list, make_of_one,
-    make_of_two, make_range,
+    BinaryCall, UnaryCall, make_filled, make_full, make_list, make_of_one, make_of_two, make_range,
 };
 use nd_operation::refusals::{StmtError, StmtFault, Stop};
-use nd_select::choosing::{IndexValue, ItemValue, choose};
 use nd_session::session::Value;
 use nd_syntax::trees::{
-    Axis, BinaryOp, Call, DType, Element, Expr, Fill, Fold, Index, IndexItem, Method, Suffix, Ufunc,
+    Axis, BinaryOp, Call, DType, Element, Expr, Fill, Fold, Index, Method, Suffix, Ufunc,
 };
 use nd_types::Num;
 use nd_ufunc::scalar::{BinaryUfunc, Single};
@@ -77,7 +70,7 @@ impl Evaluator<'_> {
             Expr::Postfix(operand, suffixes) => {
                 let mut found = self.value(operand)?;
                 for suffix in suffixes {
-                    found = self.suffix_value(&found, suffix)?;
+                    found = self.suffix_value(found, suffix)?;
                 }
                 Ok(found)
             }
@@ -97,23 +90,33 @@ impl Evaluator<'_> {
         self.session.soundness();
         let mut found = self.value(operand)?;
         for other in others {
-            found = self.binary_value(BinaryCall::Operator(other.0), &found, &other.1)?;
+            found = self.binary_value(BinaryCall::Operator(other.0), found, &other.1)?;
         }
         Ok(found)
     }
 
     /// The result of an operator or a function of NumPy, for a value and the expression behind it.
     #[cycle(value)]
-    fn binary_value(&mut self, call: BinaryCall, left: &Value, right: &Expr) -> Result<Value, Stop>
-        requires held { IsHeld (session_of self.old) left.now }
+    fn binary_value(&mut self, call: BinaryCall, left: Value, right: &Expr) -> Result<Value, Stop>
+        requires held { IsHeld (session_of self.old) left }
         requires room { (session_of self.old).next + tokens_of (expr_of right.now) + 1 < 2 ^ 64 }
         ensures { Evaluates value_of result self.old
-            (parts.binary_value (made_of_two call) (value_of left.now) (expr_of right.now))
+            (parts.binary_value (made_of_two call) (value_of left) (expr_of right.now))
             self.new }
     {
         self.session.soundness();
-        let right = self.value(right)?;
-        self.operate(call, left, &right)
+        match self.value(right) {
+            Ok(right) => {
+                let made = self.operate(call, &left, &right);
+                drop(left);
+                drop(right);
+                made
+            }
+            Err(stop) => {
+                drop(left);
+                Err(stop)
+            }
+        }
     }
 
     /// Returns the result of an operator or a function of NumPy, for two values.
@@ -149,7 +152,7 @@ impl Evaluator<'_> {
     {
         self.session.soundness();
         let left = self.value(left)?;
-        self.binary_value(call, &left, right)
+        self.binary_value(call, left, right)
     }
 
     /// The result of a call or an operator, for one expression.
@@ -161,7 +164,9 @@ impl Evaluator<'_> {
     {
         self.session.soundness();
         let operand = self.value(operand)?;
-        self.make_value(call, &operand)
+        let made = self.make_value(call, &operand);
+        drop(operand);
+        made
     }
 
     /// The result of a call or an operator, for one value.
@@ -193,7 +198,9 @@ impl Evaluator<'_> {
             self.new }
     {
         let others = self.values(exprs)?;
-        self.view_value(method, found, &others)
+        let made = self.view_value(method, found, &others);
+        drop(others);
+        made
     }
 
     /// `np.broadcast_to`
@@ -206,7 +213,9 @@ impl Evaluator<'_> {
     {
         self.session.soundness();
         let found = self.value(operand)?;
-        self.stretch_by(&found, shape)
+        let made = self.stretch_by(&found, shape);
+        drop(found);
+        made
     }
 
     /// `np.broadcast_to` of a value, by the expressions of the lengths.
@@ -219,7 +228,9 @@ impl Evaluator<'_> {
             (parts.stretch_by (value_of found.now) (map expr_of shape.now)) self.new }
     {
         let shape = self.values(shape)?;
-        self.stretch_value(found, &shape)
+        let made = self.stretch_value(found, &shape);
+        drop(shape);
+        made
     }
 
     /// The result of a method, for a value.
@@ -257,7 +268,9 @@ impl Evaluator<'_> {
     {
         self.session.soundness();
         let axis = self.value(axis)?;
-        self.fold_along(folding, found, &axis)
+        let made = self.fold_along(folding, found, &axis);
+        drop(axis);
+        made
     }
 
     /// The reduction of a value along an axis; where none is written, along `otherwise` or of all
@@ -315,12 +328,16 @@ impl Evaluator<'_> {
             Fold::Reduce(operand, axis, keepdims) => {
                 let found = self.value(operand)?;
                 let folding = Folding::ReduceCall(ufunc, *keepdims);
-                self.reduction_value(folding, Some(0), axis, &found)
+                let made = self.reduction_value(folding, Some(0), axis, &found);
+                drop(found);
+                made
             }
             Fold::Accumulate(operand, axis) => {
                 let found = self.value(operand)?;
                 let folding = Folding::AccumulateCall(ufunc);
-                self.accumulation_value(folding, Some(0), axis, &found)
+                let made = self.accumulation_value(folding, Some(0), axis, &found);
+                drop(found);
+                made
             }
         }
     }
@@ -341,8 +358,16 @@ impl Evaluator<'_> {
     {
         let alloc = self.session.allocator();
         let shape = self.values(shape)?;
-        let new = make_filled(alloc, fill, dtype, &shape)?;
-        self.give(new)
+        match make_filled(alloc, fill, dtype, &shape) {
+            Ok(new) => {
+                drop(shape);
+                self.give(new)
+            }
+            Err(stop) => {
+                drop(shape);
+                Err(stop)
+            }
+        }
     }
 
     /// `np.full`
@@ -361,7 +386,9 @@ impl Evaluator<'_> {
     {
         self.session.soundness();
         let shape = self.values(shape)?;
-        self.full_of_shape(&shape, value, dtype)
+        let made = self.full_of_shape(&shape, value, dtype);
+        drop(shape);
+        made
     }
 
     /// `np.full`, by the values of the lengths.
@@ -379,7 +406,9 @@ impl Evaluator<'_> {
     {
         self.session.soundness();
         let value = self.value(value)?;
-        self.full_array(shape, &value, dtype)
+        let made = self.full_array(shape, &value, dtype);
+        drop(value);
+        made
     }
 
     /// `np.full` of values.
@@ -402,9 +431,9 @@ impl Evaluator<'_> {
         self.give(new)
     }
 
-    /// The value of an expression that may be left out.
+    /// Returns the value of an expression that may be left out.
     #[cycle(value)]
-    fn bound_value(&mut self, bound: &Option<Expr>) -> Result<Option<Value>, Stop>
+    pub(crate) fn bound_value(&mut self, bound: &Option<Expr>) -> Result<Option<Value>, Stop>
         requires { (session_of self.old).next + tokens_of_bound (bound_of bound.now) < 2 ^ 64 }
         ensures value { Evaluates option_values result self.old
             (parts.values (parts.bound_exprs (bound_of bound.now))) self.new }
@@ -432,7 +461,9 @@ impl Evaluator<'_> {
             (option_map dtype_of dtype.now)) self.new }
     {
         let start = self.bound_value(start)?;
-        self.range_from(&start, stop, step, dtype)
+        let made = self.range_from(&start, stop, step, dtype);
+        drop(start);
+        made
     }
 
     /// `np.arange`, by the value of its start.
@@ -451,7 +482,9 @@ impl Evaluator<'_> {
             (bound_of step.now) (option_map dtype_of dtype.now)) self.new }
     {
         let stop = self.value(stop)?;
-        self.range_to(start, &stop, step, dtype)
+        let made = self.range_to(start, &stop, step, dtype);
+        drop(stop);
+        made
     }
 
     /// `np.arange`, by the values of its start and its stop.
@@ -469,7 +502,9 @@ impl Evaluator<'_> {
             (bound_of step.now) (option_map dtype_of dtype.now)) self.new }
     {
         let step = self.bound_value(step)?;
-        self.range_array(start, stop, &step, dtype)
+        let made = self.range_array(start, stop, &step, dtype);
+        drop(step);
+        made
     }
 
     /// `np.arange` of values.
@@ -525,9 +560,13 @@ impl Evaluator<'_> {
         Ok(())
     }
 
-    /// The array of a list, of the dtype that is written or else of its own.
+    /// Returns the array of a list, of the dtype that is written or else of its own.
     #[cycle(value)]
-    fn list_value(&mut self, elements: &[Element], dtype: &Option<DType>) -> Result<Value, Stop>
+    pub(crate) fn list_value(
+        &mut self,
+        elements: &[Element],
+        dtype: &Option<DType>,
+    ) -> Result<Value, Stop>
         requires { (session_of self.old).next
             + tokens_of_elements (elements_of (map element_of elements.now)) + 1 < 2 ^ 64 }
         ensures { Evaluates value_of result self.old (parts.list_value
@@ -592,158 +631,24 @@ impl Evaluator<'_> {
 
     /// The result of an index or a method, for a value.
     #[cycle(value)]
-    fn suffix_value(&mut self, found: &Value, suffix: &Suffix) -> Result<Value, Stop>
-        requires held { IsHeld (session_of self.old) found.now }
+    fn suffix_value(&mut self, found: Value, suffix: &Suffix) -> Result<Value, Stop>
+        requires held { IsHeld (session_of self.old) found }
         requires room { (session_of self.old).next + suffix_tokens (suffix_of suffix.now)
             < 2 ^ 64 }
         ensures { Evaluates value_of result self.old
-            (parts.suffix_value (suffix_of suffix.now) (value_of found.now)) self.new }
+            (parts.suffix_value (suffix_of suffix.now) (value_of found)) self.new }
     {
         match suffix {
-            Suffix::Index(index) => self.index_into(found, index),
-            Suffix::Method(method) => self.method_value(found, method),
-        }
-    }
-
-    /// The result of an index, for a value.
-    #[cycle(value)]
-    fn index_into(&mut self, found: &Value, index: &Index) -> Result<Value, Stop>
-        requires held { IsHeld (session_of self.old) found.now }
-        requires room { (session_of self.old).next + tokens_of_index (index_of index.now) + 1
-            < 2 ^ 64 }
-        ensures { Evaluates value_of result self.old
-            (evaluation.◌>>=◌ (parts.index_parts (index_of index.now))
-            (parts.choose_value (value_of found.now))) self.new }
-    {
-        let index = self.index_value(index)?;
-        self.choose_value(found, &index)
-    }
-
-    /// Returns an index with the values of its expressions.
-    #[cycle(value)]
-    pub(crate) fn index_value<'n>(&mut self, index: &'n Index) -> Result<IndexValue<'n>, Stop>
-        requires { (session_of self.old).next + tokens_of_index (index_of index.now) < 2 ^ 64 }
-        ensures { Evaluates contents.index_of result self.old
-            (parts.index_parts (index_of index.now)) self.new }
-    {
-        match index {
-            Index::Field(name) => Ok(IndexValue::Field(name.as_str())),
-            Index::Items(items) => {
-                let items = self.item_values(items)?;
-                Ok(IndexValue::Items(items))
+            Suffix::Index(index) => {
+                let made = self.index_into(&found, index);
+                drop(found);
+                made
             }
-        }
-    }
-
-    /// Items of an index with the values of their expressions, from left to right.
-    #[cycle(value)]
-    fn item_values(&mut self, items: &[IndexItem]) -> Result<Vec<ItemValue>, Stop>
-        requires { (session_of self.old).next
-            + tokens_of_index (Items (items_of (map item_of items.now))) < 2 ^ 64 }
-        ensures { Evaluates contents.items_of result self.old
-            (parts.items_parts (items_of (map item_of items.now))) self.new }
-    {
-        let mut values = Vec::new(self.session.allocator());
-        for item in items {
-            let found = self.item_value(item)?;
-            values.push(found)?;
-        }
-        Ok(values)
-    }
-
-    /// A list as an item of an index: an array, unless the list is empty.
-    #[cycle(value)]
-    fn list_item(&mut self, elements: &[Element]) -> Result<ItemValue, Stop>
-        requires { (session_of self.old).next
-            + tokens_of_elements (elements_of (map element_of elements.now)) + 1 < 2 ^ 64 }
-        ensures { Evaluates contents.item_of result self.old
-            (parts.item_parts (Listed (elements_of (map element_of elements.now)))) self.new }
-    {
-        if is_empty_list(elements) {
-            return Ok(ItemValue::Empty);
-        }
-        let value = self.list_value(elements, &None)?;
-        Ok(ItemValue::At(value))
-    }
-
-    /// A slice, by the value of its start.
-    #[cycle(value)]
-    fn slice_from(
-        &mut self,
-        start: Option<Value>,
-        stop: &Option<Expr>,
-        step: &Option<Expr>,
-    ) -> Result<ItemValue, Stop>
-        requires { (session_of self.old).next + tokens_of_bound (bound_of stop.now)
-            + tokens_of_bound (bound_of step.now) < 2 ^ 64 }
-        ensures { Evaluates contents.item_of result self.old (parts.slice_from (is_some start)
-            (option_values start) (bound_of stop.now) (bound_of step.now)) self.new }
-    {
-        let stop = self.bound_value(stop)?;
-        self.slice_to(start, stop, step)
-    }
-
-    /// A slice, by the values of its start and its stop.
-    #[cycle(value)]
-    fn slice_to(
-        &mut self,
-        start: Option<Value>,
-        stop: Option<Value>,
-        step: &Option<Expr>,
-    ) -> Result<ItemValue, Stop>
-        requires { (session_of self.old).next + tokens_of_bound (bound_of step.now) < 2 ^ 64 }
-        ensures { Evaluates contents.item_of result self.old
-            (parts.slice_to (is_some start) (is_some stop) (option_values start)
-            (option_values stop) (bound_of step.now)) self.new }
-    {
-        let step = self.bound_value(step)?;
-        Ok(ItemValue::Slice { start, stop, step })
-    }
-
-    /// An item of an index with the values of its expressions.
-    #[cycle(value)]
-    fn item_value(&mut self, item: &IndexItem) -> Result<ItemValue, Stop>
-        requires { (session_of self.old).next + tokens_of_item (item_of item.now) < 2 ^ 64 }
-        ensures { Evaluates contents.item_of result self.old
-            (parts.item_parts (item_of item.now)) self.new }
-    {
-        match item {
-            IndexItem::At(expr) => {
-                let value = self.value(expr)?;
-                Ok(ItemValue::At(value))
+            Suffix::Method(method) => {
+                let made = self.method_value(&found, method);
+                drop(found);
+                made
             }
-            IndexItem::Slice(start, stop, step) => {
-                let start = self.bound_value(start)?;
-                self.slice_from(start, stop, step)
-            }
-            IndexItem::Ellipsis => Ok(ItemValue::Ellipsis),
-            IndexItem::NewAxis => Ok(ItemValue::NewAxis),
-            IndexItem::List(elements) => self.list_item(elements),
-        }
-    }
-
-    /// Returns what an index selects of a value.
-    pub(crate) fn choose_value(
-        &mut self,
-        target: &Value,
-        index: &IndexValue<'_>,
-    ) -> Result<Value, Stop>
-        requires held { IsHeld (session_of self.old) target.now }
-        requires room { (session_of self.old).next + 1 < 2 ^ 64 }
-        ensures value { Evaluates value_of result self.old
-            (parts.choose_value (value_of target.now) (contents.index_of index.now)) self.new }
-        ensures types { IfOk result (HasTypeOf (has_array (operands_of index.now))
-            (unused_of target.now)) }
-    {
-        mark_index(self.session, index)?;
-        let chosen = choose(self.session, target, index)?;
-        match target {
-            Value::Number(_) => {
-                discard_chosen(chosen);
-                Err(Stop::Refused(StmtFault::Stmt(StmtError::NotAnArray)))
-            }
-            Value::Array(array) => self.chosen_value(array, chosen),
-            Value::Row(row) => self.chosen_value(row, chosen),
         }
     }
 

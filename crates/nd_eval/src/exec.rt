@@ -12,9 +12,9 @@ ghost use Rattle.nd_syntax.specs.Trees.Syntax.{expr_of, index_of, stmt_of};
 ghost use Rattle.nd_heap.specs.Values.{base_of, value_of};
 ghost use Rattle.nd_session.specs.Inputs.Values.{inputs_of};
 ghost use Rattle.nd_session.specs.Session.Live.{live};
-ghost use Rattle.nd_eval.specs.Ends.{Ends, session_of};
+ghost use Rattle.nd_eval.specs.Ends.{Ends, Evaluates, session_of};
 ghost use Rattle.nd_eval.specs.Contents as contents;
-ghost use Rattle.nd_eval.specs.Effects.{EvaluatesEffect, EvaluatesEffectInLimit, IsReady, effect_of};
+ghost use Rattle.nd_eval.specs.Effects.{EvaluatesEffect, EvaluatesEffectInLimit, IsReady, MayStore, effect_of, stored_at};
 ghost use Rattle.nd_eval.specs.Done.{output_of, outcome_of};
 ghost use Rattle.nd_model.specs.Cells.Cell.{limit_text};
 ghost use Rattle.nd_eval.specs.Uses.{IsHeld, operand_over};
@@ -24,7 +24,6 @@ ghost use Rattle.nd_eval.specs.Parts as parts;
 ghost use Rattle.nd_eval.specs.Lines.{limit_effect};
 ghost use Rattle.nd_model.specs.Cells.Evaluation.{run};
 
-use crate::discard::{discard, discard_array, discard_selection, discard_target, discard_text};
 use crate::effect::Effect;
 use crate::evaluator::Evaluator;
 use crate::operation::{mark_index, mark_operand, mark_operands, operand_in, operands_in};
@@ -42,6 +41,13 @@ use std::alloc::Global;
 pub struct Output {
     pub text: String,
     pub save: Option<(String, Vec<u8>)>,
+}
+
+/// Where an assignment stores its value: the block, and what of it.
+#[derive(Drop)]
+struct Place {
+    base: Base,
+    target: Target,
 }
 
 /// Returns the effect of assigning a value to elements of a block.
@@ -67,50 +73,81 @@ impl Evaluator<'_> {
     {
         self.session.soundness();
         let bound = self.value(expr)?;
-        let name = String::from_str(self.session.allocator(), name)?;
-        Ok(Effect::Bind(name, bound))
-    }
-
-    /// The effect of an assignment, for the values of its parts.
-    fn assign(
-        &mut self,
-        value: Value,
-        target: &Value,
-        index: &IndexValue<'_>,
-    ) -> Result<Effect, Stop>
-        requires value { IsHeld (session_of self.old) value }
-        requires target { IsHeld (session_of self.old) target.now }
-        ensures effect { EvaluatesEffect result self.old (parts.assignment (value_of value)
-            (value_of target.now) (contents.index_of index.now)) self.new }
-        ensures ready { IfOk result (IsReady (session_of self.new)) }
-    {
-        mark_operand(self.session, &value)?;
-        mark_index(self.session, index)?;
-        let operand = operand_in(self.session, &value);
-        let found = assignment_target(self.session, &operand, target, index)?;
-        match target {
-            Value::Number(_) => {
-                discard_target(found);
-                discard(value);
-                Err(Stop::Refused(not_an_array()))
+        match String::from_str(self.session.allocator(), name) {
+            Ok(name) => Ok(Effect::Bind(name, bound)),
+            Err(_) => {
+                drop(bound);
+                Err(Stop::Memory)
             }
-            Value::Array(array) => Ok(store_effect(array.base, found, value)),
-            Value::Row(row) => Ok(store_effect(row.base, found, value)),
         }
     }
 
-    /// The effect of an assignment, for the values of its right side and its target.
-    fn assign_at(&mut self, value: Value, target: &Value, index: &Index) -> Result<Effect, Stop>
-        requires value { IsHeld (session_of self.old) value }
+    /// Where an assignment stores its value, for the values of its parts.
+    fn assign(
+        &mut self,
+        value: &Value,
+        target: &Value,
+        index: &IndexValue<'_>,
+    ) -> Result<Place, Stop>
+        requires value { IsHeld (session_of self.old) value.now }
+        requires target { IsHeld (session_of self.old) target.now }
+        ensures effect { Evaluates (stored_at (session_of self.new).bytes value.now) result
+            self.old (parts.assignment (value_of value.now) (value_of target.now)
+            (contents.index_of index.now)) self.new }
+        ensures ready { IfOk result (MayStore (session_of self.new) value.now) }
+    {
+        mark_operand(self.session, value)?;
+        mark_index(self.session, index)?;
+        let operand = operand_in(self.session, value);
+        let found = assignment_target(self.session, &operand, target, index)?;
+        match target {
+            Value::Number(_) => {
+                drop(found);
+                Err(Stop::Refused(not_an_array()))
+            }
+            Value::Array(array) => Ok(Place {
+                base: array.base,
+                target: found,
+            }),
+            Value::Row(row) => Ok(Place {
+                base: row.base,
+                target: found,
+            }),
+        }
+    }
+
+    /// Where an assignment stores its value, for the value and that of its target.
+    fn assign_at(&mut self, value: &Value, target: &Value, index: &Index) -> Result<Place, Stop>
+        requires value { IsHeld (session_of self.old) value.now }
         requires target { IsHeld (session_of self.old) target.now }
         requires room { (session_of self.old).next + tokens_of_index (index_of index.now)
             < 2 ^ 64 }
-        ensures effect { EvaluatesEffect result self.old (parts.index_assignment (value_of value)
-            (value_of target.now) (index_of index.now)) self.new }
-        ensures ready { IfOk result (IsReady (session_of self.new)) }
+        ensures effect { Evaluates (stored_at (session_of self.new).bytes value.now) result
+            self.old (parts.index_assignment (value_of value.now) (value_of target.now)
+            (index_of index.now)) self.new }
+        ensures ready { IfOk result (MayStore (session_of self.new) value.now) }
     {
         let index = self.index_value(index)?;
-        self.assign(value, target, &index)
+        let place = self.assign(value, target, &index);
+        drop(index);
+        place
+    }
+
+    /// Where an assignment stores its value, for the value.
+    fn place_of(&mut self, value: &Value, target: &Expr, index: &Index) -> Result<Place, Stop>
+        requires value { IsHeld (session_of self.old) value.now }
+        requires room { (session_of self.old).next + tokens_of (expr_of target.now)
+            + tokens_of_index (index_of index.now) < 2 ^ 64 }
+        ensures effect { Evaluates (stored_at (session_of self.new).bytes value.now) result
+            self.old (parts.target_assignment (value_of value.now) (expr_of target.now)
+            (index_of index.now)) self.new }
+        ensures ready { IfOk result (MayStore (session_of self.new) value.now) }
+    {
+        self.session.soundness();
+        let target = self.value(target)?;
+        let place = self.assign_at(value, &target, index);
+        drop(target);
+        place
     }
 
     /// The effect of an assignment. Value, target and index are evaluated in this order.
@@ -129,8 +166,13 @@ impl Evaluator<'_> {
     {
         self.session.soundness();
         let written = self.value(expr)?;
-        let target = self.value(target)?;
-        self.assign_at(written, &target, index)
+        match self.place_of(&written, target, index) {
+            Ok(place) => Ok(store_effect(place.base, place.target, written)),
+            Err(stop) => {
+                drop(written);
+                Err(stop)
+            }
+        }
     }
 
     /// The effect of a deletion.
@@ -141,7 +183,7 @@ impl Evaluator<'_> {
     {
         // the name must be bound, and is noted as looked up
         let bound = self.look_up(name)?;
-        discard(bound);
+        drop(bound);
         let name = String::from_str(self.session.allocator(), name)?;
         Ok(Effect::Unbind(name))
     }
@@ -205,36 +247,36 @@ fn do_effect(session: &mut Session, effect: Effect) -> Result<Output, OutOfMemor
         }
         Effect::Unbind(name) => {
             let done = session.unbind(name.as_str());
-            discard_text(name);
+            drop(name);
             done?;
             Ok(no_output(alloc))
         }
         Effect::Store(target, value) => {
             let done = store(session, &target, &value);
-            discard_array(target);
-            discard(value);
+            drop(target);
+            drop(value);
             done?;
             Ok(no_output(alloc))
         }
         Effect::Scatter(base, selection, value) => {
             let done = scatter(session, base, &selection, &value);
-            discard_selection(selection);
-            discard(value);
+            drop(selection);
+            drop(value);
             done?;
             Ok(no_output(alloc))
         }
         Effect::Update(kind, op, target, value) => {
             let done = update(session, op, kind, &target, &value);
-            discard_array(target);
-            discard(value);
+            drop(target);
+            drop(value);
             done?;
             Ok(no_output(alloc))
         }
         Effect::UpdateChosen(kind, op, base, selection, copy, value) => {
             let done = update_chosen(session, op, kind, base, &selection, &copy, &value);
-            discard_selection(selection);
-            discard_array(copy);
-            discard(value);
+            drop(selection);
+            drop(copy);
+            drop(value);
             done?;
             Ok(no_output(alloc))
         }

@@ -63,6 +63,8 @@ impl Evaluator<'_> {
     {
         self.session.soundness();
         let saved = self.value(expr)?;
-        self.save(name, &saved)
+        let made = self.save(name, &saved);
+        drop(saved);
+        made
     }
 }

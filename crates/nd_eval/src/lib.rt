@@ -2,7 +2,6 @@
 #![tactic(auto)]
 
 mod augment;
-mod discard;
 mod effect;
 mod eval;
 mod evaluator;
@@ -10,6 +9,7 @@ mod exec;
 mod files;
 mod folds;
 mod operation;
+mod subscripts;
 mod views;
 
 pub use exec::{Output, run_stmt};

@@ -127,10 +127,13 @@ impl Evaluator<'_> {
     {
         match new {
             New::Number(number) => Ok(Value::Number(number)),
-            New::Array(view, block) => {
-                let base = self.session.new_block(block)?;
-                Ok(Value::Array(Array { base, view }))
-            }
+            New::Array(view, block) => match self.session.new_block(block) {
+                Ok(base) => Ok(Value::Array(Array { base, view })),
+                Err(_) => {
+                    drop(view);
+                    Err(Stop::Memory)
+                }
+            },
         }
     }
 
@@ -149,6 +152,7 @@ impl Evaluator<'_> {
             ElemType::One(elem) => {
                 let elem = *elem;
                 let place = view.place_of(0);
+                drop(view);
                 self.session
                     .mark_element(base, place, &ElemType::One(elem))?;
                 let number = number_in(self.session.bytes(base), place, elem);
@@ -194,7 +198,11 @@ impl Evaluator<'_> {
                 let _shape = view.shape();
                 Ok(Value::Array(Array { base, view }))
             }
-            Chosen::Copy(selection) => self.copy_chosen(base, &selection),
+            Chosen::Copy(selection) => {
+                let copied = self.copy_chosen(base, &selection);
+                drop(selection);
+                copied
+            }
         }
     }
 }

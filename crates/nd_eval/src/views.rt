@@ -43,7 +43,10 @@ impl Evaluator<'_> {
         // proof: the shape is within the limits of arrays, by the clause of shape().
         let _shape = view.shape();
         match found {
-            Value::Number(_) => Err(Stop::Refused(not_an_array())),
+            Value::Number(_) => {
+                drop(view);
+                Err(Stop::Refused(not_an_array()))
+            }
             Value::Array(array) | Value::Row(array) => {
                 let base = array.base;
                 Ok(Value::Array(Array { base, view }))

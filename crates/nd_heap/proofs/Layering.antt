@@ -3,6 +3,7 @@ use Rattle.std.proofs.Common.{◌≡◌, ℕ, zero, suc, ◌+◌, ◌-◌, ◌�
 use Rattle.std.proofs.lemmas.Bool.{cases_Bool, or_parts, or_from}
 use Rattle.nd_model.specs.Arrays.Value as model
 use Rattle.nd_model.specs.Cells.Session.{Names, lookup, bind, unbind, is_held}
+use Rattle.nd_model.specs.Book.Sessions.{IsOnce}
 use Rattle.nd_model.proofs.Lists.{lookup-bind, lookup-unbind, bytes_eq_same}
 use Rattle.nd_heap.specs.Layers.{overridden, AreDistinctNames}
 use Rattle.nd_heap.specs.Loose.{lies_in_found, LosesHolder}
@@ -20,6 +21,12 @@ eq_sym m n = elim (cases_Bool (bytes_eq m n)) [
     | inr apart ↦ other ∙ sym apart
   ]
 ]
+
+-- ---- distinct names
+
+pub once_of : (es : Names) → AreDistinctNames es → IsOnce es
+once_of [] h = tt
+once_of (e ∷ es) h = (h.0, once_of es h.1)
 
 -- ---- look-ups
 

@@ -8,4 +8,3 @@ pub mod Loosening
 pub mod Layering
 pub mod Picking
 pub mod Stacking
-pub mod Comparing

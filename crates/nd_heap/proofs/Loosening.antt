@@ -72,22 +72,47 @@ lost_loose n names after blocks old new loose loses h = λ b free unheld.
     let parts = or_parts _ _ (sym (loose b) ∙ free) in
     h b parts.0 (loses b unheld parts.1)
 
--- a block is put under a base that is loose
+-- a base that is not loose any more was not loose
+pub more_free : (old new : List model.Base) → ((b : model.Base) → is_base_among old b ≡ true → is_base_among new b ≡ true)
+    → (b : model.Base) → is_base_among new b ≡ false → is_base_among old b ≡ false
+more_free old new more b free = elim (cases_Bool (is_base_among old b)) [
+  | inl was ↦ false_true (sym free ∙ more b was)
+  | inr never ↦ never
+]
+
+-- the value that a name is bound to holds its base
+pub held_bound : (b : model.Base) (n : List ℕ) (v : model.Value) (es : Names) → is_held b (bind n v es) ≡ false → model.lies_in b v ≡ false
+held_bound b n v [] h = (or_parts (model.lies_in b v) _ h).0
+held_bound b n v (e ∷ es) h = elim (cases_Bool (bytes_eq n e.0)) [
+  | inl is ↦ (or_parts (model.lies_in b v) _ (sym (ap (λ t. is_held b (cond t ((e.0, v) ∷ es) (e ∷ bind n v es))) is) ∙ h)).0
+  | inr other ↦ held_bound b n v es (or_parts (model.lies_in b e.1) _ (sym (ap (λ t. is_held b (cond t ((e.0, v) ∷ es) (e ∷ bind n v es))) other) ∙ h)).1
+]
+
+-- a name gets another value: the base of the one before is loose, or the other lies in it
+pub bound_loose : (n : List ℕ) (v : model.Value) (names after : Names) (blocks : List (model.Base × List ℕ)) (old new : List model.Base) → after ≡ bind n v names
+    → ((b : model.Base) → is_base_among old b ≡ true → is_base_among new b ≡ true)
+    → ((b : model.Base) → lies_in_found b (lookup n names) ≡ true → (is_base_among new b || model.lies_in b v) ≡ true)
+    → AreLoose (record { names = names; blocks = blocks; loose = old }) → AreLoose (record { names = after; blocks = blocks; loose = new })
+bound_loose n v names after blocks old new is more lost h = λ b free unheld.
+    let bound : is_held b (bind n v names) ≡ false = sym (ap (is_held b) is) ∙ unheld in
+    let apart : lies_in_found b (lookup n names) ≡ false = elim (cases_Bool (lies_in_found b (lookup n names))) [
+      | inl lay ↦ false_true (sym (or_from _ _ free (held_bound b n v names bound)) ∙ lost b lay)
+      | inr other ↦ other
+    ] in
+    h b (more_free old new more b free) (held_bind b n v names bound apart)
+
+-- a block is put under a base that is loose, or held
 pub put_loose : (base : model.Base) (block : List ℕ) (names : Names) (blocks after : List (model.Base × List ℕ)) (old new : List model.Base)
-    → ((c : model.Base) → is_base_among new c ≡ (is_base_among old c || model.same_base c base)) → bytes_at after ≡ running.with_base base block (bytes_at blocks)
+    → ((c : model.Base) → is_base_among old c ≡ true → is_base_among new c ≡ true)
+    → (bytes_at blocks base ≡ [] → is_base_among new base ≡ true) → bytes_at after ≡ running.with_base base block (bytes_at blocks)
     → AreLoose (record { names = names; blocks = blocks; loose = old }) → AreLoose (record { names = names; blocks = after; loose = new })
-put_loose base block names blocks after old new loose put h = λ b free unheld.
-    let parts = or_parts _ _ (sym (loose b) ∙ free) in
-    let apart : model.same_base base b ≡ false = same_sym base b ∙ parts.1 in
-    ap (λ (f : model.Base → List ℕ). f b) put ∙ rw apart (h b parts.0 unheld)
-  where
-    same_sym : (a b : model.Base) → model.same_base a b ≡ model.same_base b a
-    same_sym a b = elim (cases_Bool (model.same_base a b)) [
-      | inl same ↦ same ∙ sym (ap (λ c. model.same_base b c) (same_bases a b same) ∙ sym (ap (λ c. model.same_base c b) (same_bases a b same)) ∙ same)
-      | inr apart ↦ elim (cases_Bool (model.same_base b a)) [
-        | inl same ↦ let is : model.same_base a b ≡ true = ap (λ c. model.same_base a c) (same_bases b a same) ∙ sym (ap (λ c. model.same_base c a) (same_bases b a same)) ∙ same in false_true (sym apart ∙ is)
-        | inr other ↦ apart ∙ sym other
-      ]
+put_loose base block names blocks after old new more empty put h = λ b free unheld.
+    let lacks : bytes_at blocks b ≡ [] = h b (more_free old new more b free) unheld in
+    ap (λ (f : model.Base → List ℕ). f b) put ∙ elim (cases_Bool (model.same_base base b)) [
+      | inl is ↦
+          let same = same_bases base b is in
+          false_true (sym free ∙ sym (ap (is_base_among new) same) ∙ empty (ap (bytes_at blocks) same ∙ lacks))
+      | inr apart ↦ rw apart lacks
     ]
 
 -- a block is written, which stays as long as it was

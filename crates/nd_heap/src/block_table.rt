@@ -76,19 +76,6 @@ impl BlockTable {
         }
     }
 
-    /// Whether the base that the value lies in, if it lies in one, has the same bytes among others.
-    pub(crate) fn has_same_bytes(&self, others: &BlockTable, value: &Value) -> bool
-        ensures { IsTrue result → (b : values.Base) → values.lies_in b (value_of value.now) ≡ true
-            → bytes_at self.now b ≡ bytes_at others.now b }
-    {
-        match value {
-            Value::Number(_) => true,
-            Value::Array(array) | Value::Row(array) => {
-                self.bytes(array.base) == others.bytes(array.base)
-            }
-        }
-    }
-
     /// The block of a base, shared.
     pub(crate) fn share(&self, base: Base) -> Result<Option<Rc<RawBlock>>, OutOfMemory>
         ensures { IfOk result (λ o. bytes_in o ≡ bytes_at self.now (base_of base)) }

@@ -5,6 +5,7 @@ ghost use Rattle.std.specs.Rc.{rc_str_bytes};
 ghost use Rattle.nd_model.specs.Arrays.Value as values;
 ghost use Rattle.nd_model.specs.Cells.Session as model;
 ghost use Rattle.nd_model.specs.Cells.Running as running;
+ghost use Rattle.nd_model.specs.Book.Sessions.{IsOnce};
 ghost use Rattle.nd_heap.specs.Values.{base_of, value_of};
 ghost use Rattle.nd_heap.specs.Contents.{bases_of, blocks_of, bytes_in};
 ghost use Rattle.nd_heap.specs.Live.{bytes_at, is_base_among};
@@ -14,6 +15,7 @@ use crate::block_table::{BlockTable, pick_blocks};
 use crate::blocks::{Bases, Blocks, has_base, note_base, retain_unheld};
 use crate::memory::OutOfMemory;
 use crate::name_table::NameTable;
+use crate::names::lies_in;
 use crate::value::{Base, Value};
 use crate::writer::BlockWriter;
 use indexmap::IndexMap;
@@ -23,8 +25,8 @@ use std::marker::Model;
 use std::rc::{Rc, RcStr};
 
 /// Names and blocks, of which copies share most. A base is loose from when it is made, and from
-/// when a name that lay in it gets another value, until blocks are collected: only loose bases are
-/// asked whether a name still lies in them.
+/// when a name that lay in it gets a value that does not, until blocks are collected: only loose
+/// bases are asked whether a name still lies in them.
 ///
 /// Where `x` and `y` are views of one base, `unbind("x")` leaves the block, and after `unbind("y")`
 /// the next `collect` gives it up.
@@ -70,25 +72,52 @@ fn loosen(loose: &mut Bases, names: &NameTable, name: &str) -> Result<(), OutOfM
     Ok(())
 }
 
-/// Whether each base that one of the names holds has the same bytes among others. Where one has not, `first` is the place of a
-/// name that holds it from then on.
-fn have_same_bytes(
-    names: &NameTable,
-    blocks: &BlockTable,
-    others: &BlockTable,
-    first: &mut usize,
-) -> bool
-    ensures { IsTrue result → (b : values.Base) → model.is_held b names.now ≡ true
-        → bytes_at blocks.now b ≡ bytes_at others.now b }
+/// Whether the value lies in the base of another, or lies in none.
+fn lies_beside(value: &Value, next: &Value) -> bool
+    ensures { IsTrue result → (b : values.Base) → IsTrue (values.lies_in b (value_of value.now))
+        → IsTrue (values.lies_in b (value_of next.now)) }
 {
-    for i in 0..names.len() {
-        let (_, value) = names.entry(i);
-        if !blocks.has_same_bytes(others, value.as_ref()) {
-            *first = i;
-            return false;
-        }
+    match value {
+        Value::Number(_) => true,
+        Value::Array(array) | Value::Row(array) => lies_in(next, array.base),
     }
-    true
+}
+
+/// Puts the base that the value of a name lies in among the others, unless its next value lies there too.
+fn loosen_bound(
+    loose: &mut Bases,
+    names: &NameTable,
+    name: &str,
+    next: &Value,
+) -> Result<(), OutOfMemory>
+    ensures more { (b : values.Base) → IsTrue (is_base_among (bases_of loose.old.entries) b)
+        → IsTrue (is_base_among (bases_of loose.new.entries) b) }
+    ensures lost { OnOk result ((b : values.Base)
+        → IsTrue (lies_in_found b (model.lookup name.now names.now))
+        → IsTrue (is_base_among (bases_of loose.new.entries) b
+        || values.lies_in b (value_of next.now))) }
+{
+    let Some(value) = names.find(name) else {
+        return Ok(());
+    };
+    if lies_beside(value.as_ref(), next) {
+        return Ok(());
+    }
+    note_base(loose, value.as_ref())?;
+    Ok(())
+}
+
+/// Puts a base without bytes among the others. One that has bytes is among them, or some value lies in it.
+fn loosen_empty(loose: &mut Bases, blocks: &BlockTable, base: Base) -> Result<(), OutOfMemory>
+    ensures more { (b : values.Base) → IsTrue (is_base_among (bases_of loose.old.entries) b)
+        → IsTrue (is_base_among (bases_of loose.new.entries) b) }
+    ensures empty { OnOk result (bytes_at blocks.now (base_of base) ≡ []
+        → IsTrue (is_base_among (bases_of loose.new.entries) (base_of base))) }
+{
+    if blocks.bytes(base).is_empty() {
+        loose.insert(base, ())?;
+    }
+    Ok(())
 }
 
 impl Heap {
@@ -128,18 +157,18 @@ impl Heap {
         self.names.len()
     }
 
-    /// Returns the name at a place in the order of the names, none past the last.
+    /// Returns the value of the name at a place in the order of the names, none past the last.
     ///
-    /// After `bind` of `x`, of `y` and of `x` again, the names are `x` at place 0 and `y` at 1.
-    pub fn name_at(&self, place: usize) -> Option<&str>
-        ensures { option_map (λ n. n.now) result
-            ≡ option_map (λ e. e.0) (slice_get self.now.names place) }
+    /// After `bind` of `x`, of `y` and of `x` again, that of `x` is at place 0 and that of `y` at 1.
+    pub fn value_at(&self, place: usize) -> Option<&Value>
+        ensures { option_map (λ v. value_of v.now) result
+            ≡ option_map (λ e. e.1) (slice_get self.now.names place) }
     {
         if place >= self.names.len() {
             return None;
         }
-        let (name, _) = self.names.entry(place);
-        Some(name.as_str())
+        let (_, value) = self.names.entry(place);
+        Some(value.as_ref())
     }
 
     /// Returns the value of a name, none where it is not bound.
@@ -207,34 +236,21 @@ impl Heap {
         self.blocks.bytes(base)
     }
 
-    /// Whether the names at a place are the same, with the same value, and the same bytes where it lies in a base.
-    fn is_same_at(&self, other: &Heap, place: usize) -> bool
-        requires here { place < length self.now.names }
-        requires there { place < length other.now.names }
-        ensures { IsTrue result
-            → slice_get self.now.names place ≡ slice_get other.now.names place }
+    /// Whether some bound value lies in the base.
+    pub fn is_held(&self, base: Base) -> bool
+        ensures { result ≡ model.is_held (base_of base) self.now.names }
     {
-        let (_, value) = self.names.entry(place);
-        self.names.is_same_at(&other.names, place)
-            && self.blocks.has_same_bytes(&other.blocks, value.as_ref())
+        if !self.held_bytes(base).is_empty() {
+            return true;
+        }
+        self.names.is_held(base)
     }
 
-    /// Whether names are the same in the same order, with the same values, and the same bytes in each base that they hold. The two
-    /// are compared at `first` before all else, and it becomes a place at which they differ, so that asking again where they still
-    /// do takes one comparison. It takes no memory.
-    pub fn is_same(&self, other: &Heap, first: &mut usize) -> bool
-        ensures names { IsTrue result → self.now.names ≡ other.now.names }
-        ensures bytes { IsTrue result → (b : values.Base) → model.is_held b self.now.names ≡ true
-            → bytes_at self.now.blocks b ≡ bytes_at other.now.blocks b }
+    /// proof: no name stands twice.
+    pub fn distinctness(&self)
+        ensures { IsOnce self.now.names }
     {
-        if self.count() != other.count() {
-            return false;
-        }
-        if *first < self.count() && !self.is_same_at(other, *first) {
-            return false;
-        }
-        self.names.is_same(&other.names, first)
-            && have_same_bytes(&self.names, &self.blocks, &other.blocks, first)
+        self.names.distinctness();
     }
 
     /// Whether some bound value lies in a base of the label.
@@ -253,7 +269,7 @@ impl Heap {
         ensures err { OnErr result (self.new.names ≡ self.old.names) }
         ensures blocks { self.new.blocks ≡ self.old.blocks }
     {
-        loosen(&mut self.loose, &self.names, name.as_str())?;
+        loosen_bound(&mut self.loose, &self.names, name.as_str(), value.as_ref())?;
         self.names.bind(name, value)?;
         Ok(())
     }
@@ -269,14 +285,14 @@ impl Heap {
         Ok(())
     }
 
-    /// Sets a block. Its base is loose from then on.
+    /// Sets a block. The base of one that had no bytes is loose from then on.
     pub fn put_block(&mut self, base: Base, block: Rc<RawBlock>) -> Result<(), OutOfMemory>
         ensures names { self.new.names ≡ self.old.names }
         ensures ok { OnOk result (bytes_at self.new.blocks
             ≡ running.with_base (base_of base) block.value (bytes_at self.old.blocks)) }
         ensures err { OnErr result (bytes_at self.new.blocks ≡ bytes_at self.old.blocks) }
     {
-        self.loose.insert(base, ())?;
+        loosen_empty(&mut self.loose, &self.blocks, base)?;
         self.blocks.put_block(base, block)?;
         Ok(())
     }
@@ -319,6 +335,9 @@ impl Heap {
         self.loose.clear();
         Ok(())
     }
+
+    /// proof: drops the heap, apart from a caller whose proof would be long.
+    pub fn discard(self) {}
 
     /// Gives up the blocks that no bound value lies in. Only those of loose bases are looked at.
     ///

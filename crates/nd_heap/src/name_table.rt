@@ -3,6 +3,7 @@
 ghost use Rattle.std.specs.Prelude.{◌≡◌, ◌<◌, ◌↔◌, ◌&&◌, not, [], Some, IfOk, IsFalse, IsTrue, false, OnErr, OnOk, length, option_map, slice_get};
 ghost use Rattle.std.specs.Rc.{rc_str_bytes};
 ghost use Rattle.nd_model.specs.Cells.Session as model;
+ghost use Rattle.nd_model.specs.Book.Sessions.{IsOnce};
 ghost use Rattle.nd_model.specs.Arrays.Value as values;
 ghost use Rattle.nd_heap.specs.Contents.{bases_of};
 ghost use Rattle.nd_heap.specs.Layers.{AreDistinctNames};
@@ -77,6 +78,13 @@ impl NameTable {
         })
     }
 
+    /// proof: no name stands twice.
+    pub(crate) fn distinctness(&self)
+        ensures { IsOnce self.now }
+    {
+        let _ = &self.alloc;
+    }
+
     /// How many names there are.
     pub(crate) fn len(&self) -> usize
         ensures { result ≡ length self.now }
@@ -117,34 +125,6 @@ impl NameTable {
             Some(newer) => (name, newer),
             None => (name, value),
         }
-    }
-
-    /// Whether the names at a place are the same, with the same value.
-    pub(crate) fn is_same_at(&self, other: &NameTable, place: usize) -> bool
-        requires here { place < length self.now }
-        requires there { place < length other.now }
-        ensures { IsTrue result → slice_get self.now place ≡ slice_get other.now place }
-    {
-        let (name, value) = self.entry(place);
-        let (other_name, other_value) = other.entry(place);
-        name.as_str() == other_name.as_str() && value.as_ref().is_same(other_value.as_ref())
-    }
-
-    /// Whether all names are the same in the same order, with the same values. Where as many differ, `first` is a place at which
-    /// they do from then on.
-    pub(crate) fn is_same(&self, other: &NameTable, first: &mut usize) -> bool
-        ensures { IsTrue result → self.now ≡ other.now }
-    {
-        if self.len() != other.len() {
-            return false;
-        }
-        for i in 0..self.len() {
-            if !self.is_same_at(other, i) {
-                *first = i;
-                return false;
-            }
-        }
-        true
     }
 
     /// Binds a name: one that is bound keeps its place, another goes last.

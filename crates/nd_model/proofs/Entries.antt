@@ -11,7 +11,7 @@ use Rattle.nd_model.specs.Book.Records.{Record, StillHolds}
 use Rattle.nd_model.specs.Book.Scheduler.{IsOfRun, told_of}
 use Rattle.nd_model.specs.Book.Renaming.{AreDistinct, told}
 use Rattle.nd_model.specs.Book.Book.{Cell, Book, labels_of, no_cell, read_cells}
-use Rattle.nd_model.specs.Book.Entries.{Entry, entry_at, ToldByRecords, SharesFront, SameFrontReads, ended, record_at, entries, after_cells, entries_of, records_of, session_before}
+use Rattle.nd_model.specs.Book.Entries.{Entry, entry_at, ToldByRecords, SharesFront, ended, record_at, entries, after_cells, entries_of, records_of, session_before}
 use Rattle.nd_model.specs.Book.Stale.{IsStale, AtLeast, entry_before, kept_of}
 use Rattle.nd_model.proofs.Tracks.{effects_are_all}
 use Rattle.nd_model.proofs.Keeping.{kept}
@@ -101,49 +101,3 @@ told_at (c ∷ cs) i s (suc at) h = told_at cs i (session_after (ended i (record
 
 pub told_by_records : ToldByRecords
 told_by_records b at h = told_at b.cells b.inputs no_session at h ∙ ap (λ n. Some (told_of (record_at b.inputs (entry_at b at)) (session_before b n))) (sym (add-one at))
-
--- ---- inputs that are not read
-
--- over other inputs that agree on what it reads a cell has the same record and the same session after it
-pub same_run : (i j : Inputs) (e : Entry) → Fresh e → Agree (reads_of (ended i e)) e.session i e.session j → (record_at i e ≡ record_at j e) × (session_after (ended i e) ≡ session_after (ended j e))
-same_run i j e none agree =
-    let both : (record_at j e ≡ record_at i e) × (session_after (ended j e) ≡ with_effects e.cell.label (record_at i e).effects e.session) =
-    kept e.cell.label (reading e.cell.source) e.session e.session i j none (still_holds i j e e.session none agree) in
-    (sym both.0, sym (replays_there i e none) ∙ sym both.1)
-
-reads_front : (at : ℕ) (cs : List Cell) (i j : Inputs) (s : Session) → AreDistinct (labels_of cs) → NoneOf cs s
-    → ((k : ℕ) → k < at → k < length cs → Agree (reads_of (ended i (record { cell = get_or cs k no_cell; session = after_cells (take k cs) i s }))) (after_cells (take k cs) i s) i (after_cells (take k cs) i s) j)
-    → (take at (map (record_at i) (entries cs i s)) ≡ take at (map (record_at j) (entries cs j s))) × ((k : ℕ) → k ≤ at → after_cells (take k cs) i s ≡ after_cells (take k cs) j s)
-reads_front zero cs i j s d none h = (refl, λ k le. let first : k ≡ 0 = omega arith in ap (λ n. after_cells (take n cs) i s) first ∙ sym (ap (λ n. after_cells (take n cs) j s) first))
-reads_front (suc at) [] i j s d none h = (refl, λ k le. nothing k)
-  where
-    nothing : (k : ℕ) → after_cells (take k []) i s ≡ after_cells (take k []) j s
-    nothing zero = refl
-    nothing (suc k) = refl
-reads_front (suc at) (c ∷ cs) i j s d none h =
-    let e : Entry = record { cell = c; session = s } in
-    let both : (record_at i e ≡ record_at j e) × (session_after (ended i e) ≡ session_after (ended j e)) = same_run i j e none.0 (h 0 (omega arith) (omega arith)) in
-    let rest : (take at (map (record_at i) (entries cs i (session_after (ended i e)))) ≡ take at (map (record_at j) (entries cs j (session_after (ended i e)))))
-    × ((k : ℕ) → k ≤ at → after_cells (take k cs) i (session_after (ended i e)) ≡ after_cells (take k cs) j (session_after (ended i e))) =
-    reads_front at cs i j (session_after (ended i e)) d.1 (none_behind c cs i s d none.1) (λ k lt in_list. h (suc k) (omega arith) (omega arith)) in
-    (ap₂ (λ (r : Record) (rs : List Record). r ∷ rs) both.0 (rest.0 ∙ ap (λ t. take at (map (record_at j) (entries cs j t))) both.1), next_session both.1 rest.1)
-  where
-    next_session : session_after (ended i (record { cell = c; session = s })) ≡ session_after (ended j (record { cell = c; session = s }))
-        → ((k : ℕ) → k ≤ at → after_cells (take k cs) i (session_after (ended i (record { cell = c; session = s }))) ≡ after_cells (take k cs) j (session_after (ended i (record { cell = c; session = s }))))
-        → (k : ℕ) → k ≤ suc at → after_cells (take k (c ∷ cs)) i s ≡ after_cells (take k (c ∷ cs)) j s
-    next_session same rest zero le = refl
-    next_session same rest (suc k) le = rest k (omega arith) ∙ ap (λ t. after_cells (take k cs) j t) same
-
--- sessions are the same to a cell that reads no input that is another
-pub same_inputs : (keys : Key → Bool) (s : Session) (i j : Inputs) → ((name : List ℕ) → IsTrue (keys (Input name)) → i name ≡ j name) → Agree keys s i s j
-same_inputs keys s i j h (Name n) read = refl
-same_inputs keys s i j h (Input n) read = ap Given (h n read)
-same_inputs keys s i j h (Length b) read = refl
-same_inputs keys s i j h (Byte b p) read = refl
-
-pub same_front_reads : SameFrontReads
-same_front_reads at old new d cells reads =
-    let mid : Book = record { cells = old.cells; inputs = new.inputs } in
-    let first : SharesFront at old mid = reads_front at old.cells old.inputs new.inputs no_session d (none_of_nothing old.cells) (λ k lt there. same_inputs _ _ old.inputs new.inputs (reads k lt there)) in
-    let second : SharesFront at mid new = same_front at mid new refl cells in
-    (first.0 ∙ second.0, λ k le. first.1 k le ∙ second.1 k le)

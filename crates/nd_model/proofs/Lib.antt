@@ -14,7 +14,6 @@ pub mod Lazy
 pub mod Entries
 pub mod EditKept
 pub mod Collected
-pub mod CutOff
 pub mod Renamed
 pub mod Labels
 pub mod Steps
@@ -42,9 +41,9 @@ pub mod Bases
 pub mod Noted
 pub mod Storing
 mod Rows
-pub mod Overlaying
+pub mod Sessions
+pub mod Patched
 pub mod Dividing
-pub mod Adding
 pub mod LowestBits
 pub mod Selected
 pub mod Orders

@@ -10,9 +10,8 @@ use Rattle.nd_model.specs.Grammar.Syntax.{Stmt, Line, Parsed}
 use Rattle.nd_model.specs.Cells.Evaluation.{Eval, Gives, Refuses, Asks, run}
 use Rattle.nd_model.specs.Cells.Meaning.{meaning, work}
 use Rattle.nd_model.specs.Cells.Cell.{Saved, Ended, had, statement, most_text, with_save, and_then, statements, ran, cell}
-use Rattle.nd_model.specs.Cells.Footprint.{effects_of, replayed, with_effects}
+use Rattle.nd_model.specs.Cells.Footprint.{HasNone, effects_of, replayed, with_effects}
 use Rattle.nd_model.specs.Cells.Sound.{LiesIn, IsViewOf, AreViewsOf, IsHeldView, IsSound, IsSoundSession, ReplaysSound}
-use Rattle.nd_model.specs.Book.Overlay.{OverlaySound}
 use Rattle.nd_model.proofs.Lists.{not_both}
 use Rattle.nd_model.proofs.Frames.{either_end}
 use Rattle.nd_model.proofs.Growing.{Grows, grows_run}
@@ -112,8 +111,10 @@ both_views P Q R f (e ∷ es) p q = (one e.1 p.0 q.0, both_views P Q R f es p.1 
     one (Array b g) p q = f b g p q
     one (Row b g) p q = f b g p q
 
-pub overlay_sound : OverlaySound
-overlay_sound label p s t i none sound none' lies =
+-- a cell may go on in a sound session that its effects made
+goes_on_sound : (label : ℕ) (p : Parsed) (s t : Session) (i : Inputs) → HasNone label s → IsSoundSession s → HasNone label t → IsSoundSession (with_effects label (effects_of (cell label p i s)) t)
+    → IsSound (record (start label (with_effects label (effects_of (cell label p i s)) t)) { next = (cell label p i s).running.next })
+goes_on_sound label p s t i none sound none' lies =
     let ended : Ended = cell label p i s in
     let then : Session = with_effects label (effects_of ended) t in
     let is_labelled : ended.running.label ≡ label = (tracks_cell label p s i).labelled in
@@ -141,4 +142,4 @@ overlay_sound label p s t i none sound none' lies =
 
 pub replays_sound : ReplaysSound
 replays_sound label p s t i j none none' sound sound' agree =
-    overlay_sound label p s t i none sound none' (subst IsSoundSession (replay label p s t i j none none' agree) (stays_sound.cell label p j t none' sound'))
+    goes_on_sound label p s t i none sound none' (subst IsSoundSession (replay label p s t i j none none' agree) (stays_sound.cell label p j t none' sound'))

@@ -5,8 +5,6 @@ pub mod Book
 pub mod Script
 pub mod Entries
 pub mod Stale
-pub mod CutOff
 pub mod Notebook
 pub mod ScriptRuns
-pub mod Overlay
-pub mod Beside
+pub mod Sessions

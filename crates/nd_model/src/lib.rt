@@ -3,23 +3,13 @@
 #![tactic(auto)]
 
 ghost use Rattle.nd_model.specs.Cells.Bases.{FewBases};
-ghost use Rattle.nd_model.specs.Book.Beside.{BesideBegins, BesideHolds, BesideStays};
 ghost use Rattle.nd_model.specs.Book.Book.{LabelsStayDistinct, AnyLabels as AnyBookLabels};
-ghost use Rattle.nd_model.specs.Book.CutOff.{CutOff, CutOffReads, MeetsAfter, QuietLeaves};
 ghost use Rattle.nd_model.specs.Arrays.Element.{BytesRoundTrip, OneWrap, RoundTrip};
-ghost use Rattle.nd_model.specs.Book.Entries.{SameFront, SameFrontReads, ToldByRecords};
+ghost use Rattle.nd_model.specs.Book.Entries.{SameFront, ToldByRecords};
 ghost use Rattle.nd_model.specs.Cells.Footprint.{Frame, EffectsAreAll, Replay};
 ghost use Rattle.nd_model.specs.Book.Notebook.{EditsBook};
 ghost use Rattle.nd_model.specs.Cells.Noting.{WritesReadNoMore};
-ghost use Rattle.nd_model.specs.Book.Overlay.{
-  NamesStandOnce,
-  OverlayBegins,
-  OverlayBlanks,
-  OverlayHolds,
-  OverlaySound,
-  OverlayStays,
-  SessionsAreSound,
-};
+ghost use Rattle.nd_model.specs.Book.Sessions.{NamesStandOnce, SessionsAreSound};
 ghost use Rattle.nd_model.specs.Making.Operators.{FloorDivision};
 ghost use Rattle.nd_model.specs.Arrays.Promotion.{PromotionTable};
 ghost use Rattle.nd_model.specs.Book.Records.{Kept};
@@ -166,11 +156,6 @@ pub fn same_front()
     ensures { SameFront }
 {}
 
-/// What front cells read is unchanged, too, where inputs differ that none of them read.
-pub fn same_front_reads()
-    ensures { SameFrontReads }
-{}
-
 /// All that a notebook answers of a cell is in the record of its run and the session after it.
 pub fn told_by_records()
     ensures { ToldByRecords }
@@ -180,27 +165,6 @@ pub fn told_by_records()
 /// changes nothing makes none stale.
 pub fn front_is_not_stale()
     ensures { FrontIsNotStale }
-{}
-
-/// The early cut-off: where cells and inputs are equal from two positions on, and the sessions
-/// there are, all behind is equal.
-pub fn cut_off()
-    ensures { CutOff }
-{}
-
-/// The early cut-off holds, too, where inputs differ that none of the cells behind read.
-pub fn cut_off_reads()
-    ensures { CutOffReads }
-{}
-
-/// Two cells whose records have the same effects leave the same session, begun from the same one.
-pub fn meets_after()
-    ensures { MeetsAfter }
-{}
-
-/// A quiet cell, which binds and unbinds no name and writes nothing, leaves the session as it was.
-pub fn quiet_leaves()
-    ensures { QuietLeaves }
 {}
 
 /// No answer of a notebook depends on the labels of its cells.
@@ -260,49 +224,7 @@ pub fn names_stand_once()
     ensures { NamesStandOnce }
 {}
 
-/// After a cell that ran anew and bound the same names, the session is that of the old run, with
-/// the new effects over it.
-pub fn overlay_begins()
-    ensures { OverlayBegins }
-{}
-
-/// A record that read nothing of a run holds, too, in a session over which that run is put.
-pub fn overlay_holds()
-    ensures { OverlayHolds }
-{}
-
-/// After a run that is apart from another, the other is still to be put over the session.
-pub fn overlay_stays()
-    ensures { OverlayStays }
-{}
-
-/// A session in which a cell ran, without what it bound, is one over which it may run.
-pub fn overlay_blanks()
-    ensures { OverlayBlanks }
-{}
-
 /// In the session before a cell each array and each row lies in its block.
 pub fn sessions_are_sound()
     ensures { SessionsAreSound }
-{}
-
-/// A cell may go on in a sound session in which it ran.
-pub fn overlay_sound()
-    ensures { OverlaySound }
-{}
-
-/// A cell that does nothing but bind new names to its own values leaves a session beside the one
-/// without it.
-pub fn beside_begins()
-    ensures { BesideBegins }
-{}
-
-/// A record that read nothing of a run holds, too, in the session beside it.
-pub fn beside_holds()
-    ensures { BesideHolds }
-{}
-
-/// Two sessions that stand beside one another do so after effects that are the same for both.
-pub fn beside_stays()
-    ensures { BesideStays }
 {}

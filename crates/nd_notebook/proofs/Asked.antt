@@ -1,19 +1,22 @@
 -- What is told of the cell at a place.
-use Rattle.std.proofs.Common.{◌≡◌, ℕ, zero, suc, ◌+◌, ◌<◌, ◌≤◌, get_or, add-one, arith, String, string_bytes, Global, List, [], ◌∷◌, ◌++◌, map, length, take, Option, Some, None, option_map, is_some, Result, Ok, Err, bytes_eq, refl, sym, ap, ap₂, ◌∙◌, inl, inr, slice_get, is_ok, true, false, IsErrAnd, subst}
+use Rattle.std.proofs.Common.{◌≡◌, ℕ, zero, suc, ◌+◌, ◌<◌, ◌≤◌, get_or, add-one, arith, String, string_bytes, Global, List, [], ◌∷◌, ◌++◌, map, length, take, Option, Some, None, option_map, is_some, Result, Ok, Err, bytes_eq, refl, sym, ap, ap₂, ◌∙◌, inl, inr, slice_get, is_ok, true, false, IsErrAnd, subst, eq-eqb}
 use Rattle.std.proofs.lemmas.List.{map-append}
-use Rattle.std.proofs.lemmas.Bool.{cases_Bool}
-use Rattle.nd_model.specs.Arrays.Value.{Value}
-use Rattle.nd_model.specs.Cells.Session.{Session, Names, lookup, no_session}
+use Rattle.std.proofs.lemmas.Bool.{and_from, cases_Bool}
+use Rattle.std.specs.List.{flat_map}
+use Rattle.nd_model.specs.Arrays.Value.{Base, Value, Int, Truth, Scalar, Array, Row, same_base}
+use Rattle.nd_model.specs.Cells.Session.{Session, Names, is_held, lookup, no_session}
 use Rattle.nd_model.specs.Cells.Running.{Inputs}
 use Rattle.nd_model.specs.Grammar.Reading.{reading}
 use Rattle.nd_model.specs.Cells.Cell.{cell, notebook, session_after}
 use Rattle.nd_model.specs.Book.Entries.{session_before}
-use Rattle.nd_model.specs.Book.Renaming.{Told, Shown, shown, shown_names, told}
+use Rattle.nd_model.specs.Book.Renaming.{Told, Shown, ShownArray, ShownRow, shown, shown_element, shown_names, told}
 use Rattle.nd_model.specs.Book.Book.{Book, Cell, QueryFault, ask_cell, ask_told, count_of, found_value, names_at, no_cell, read_cells, result_at, saved_at, source_at, told_book, value_at, found_file}
 use Rattle.nd_model.specs.Book.Book as model
 use Rattle.nd_model.specs.Book.Notebook.{Sheet, Tells, book_of}
 use Rattle.nd_model.specs.Book.Scheduler.{told_of}
 use Rattle.nd_model.proofs.Entries.{told_by_records}
+use Rattle.nd_change.specs.Snapshots.{IsAlike}
+use Rattle.nd_change.proofs.Changes.{held_by_name}
 use Rattle.nd_notebook.specs.declared.query.QueryFault as declared
 use Rattle.nd_notebook.specs.declared.query.QueryFault.TheVariants as faults
 use Rattle.nd_notebook.specs.Queries.{answer_of, query_fault_of, result_of}
@@ -69,63 +72,72 @@ lookup-shown n s (e ∷ es) = elim (cases_Bool (bytes_eq n e.0)) [ inl is ↦ rw
 
 -- ---- names, one after another
 
-pub names_more : (names new : List (String Global)) (s : String Global) (n : List ℕ) (es : Names) (i : ℕ)
-    → map string_bytes names ≡ map (λ (e : List ℕ × Value). e.0) (take i es) → new ≡ names ++ s ∷ [] → string_bytes s ≡ n
-    → Some n ≡ option_map (λ (e : List ℕ × Value). e.0) (slice_get es i)
-    → map string_bytes new ≡ map (λ (e : List ℕ × Value). e.0) (take (i + 1) es)
-names_more names new s n es i so_far is named at =
+pub names_more : (names new : List (String Global)) (s : String Global) (n : List ℕ) (order : List (List ℕ)) (i : ℕ)
+    → map string_bytes names ≡ take i order → new ≡ names ++ s ∷ [] → string_bytes s ≡ n → slice_get order i ≡ Some n
+    → map string_bytes new ≡ take (i + 1) order
+names_more names new s n order i so_far is named at =
     ap (map string_bytes) is ∙ map-append string_bytes names (s ∷ [])
     ∙ ap₂ (λ l m. l ++ m ∷ []) so_far named
-    ∙ sym (ap (λ k. map (λ (e : List ℕ × Value). e.0) (take k es)) (add-one i) ∙ grows es i n at)
+    ∙ sym (ap (λ k. take k order) (add-one i) ∙ grows order i n at)
   where
-    grows : (es : Names) (i : ℕ) (n : List ℕ) → Some n ≡ option_map (λ (e : List ℕ × Value). e.0) (slice_get es i)
-        → map (λ (e : List ℕ × Value). e.0) (take (suc i) es) ≡ map (λ (e : List ℕ × Value). e.0) (take i es) ++ n ∷ []
+    grows : (es : List (List ℕ)) (i : ℕ) (n : List ℕ) → slice_get es i ≡ Some n → take (suc i) es ≡ take i es ++ n ∷ []
     grows [] i n at = absurd (cc)
-    grows (e ∷ es) zero n at = ap (λ m. m ∷ []) (let same : n ≡ e.0 = cc in sym same)
-    grows (e ∷ es) (suc i) n at = ap (λ l. e.0 ∷ l) (grows es i n at)
+    grows (e ∷ es) zero n at = ap (λ m. m ∷ []) (let same : e ≡ n = cc in same)
+    grows (e ∷ es) (suc i) n at = ap (λ l. e ∷ l) (grows es i n at)
 
-pub names_end : (es : Names) (i : ℕ) → None ≡ option_map (λ (e : List ℕ × Value). e.0) (slice_get es i) → take (i + 1) es ≡ take i es
-names_end es i at = ap (λ k. take k es) (add-one i) ∙ ends es i at
-  where
-    ends : (es : Names) (i : ℕ) → None ≡ option_map (λ (e : List ℕ × Value). e.0) (slice_get es i) → take (suc i) es ≡ take i es
-    ends [] zero at = refl
-    ends [] (suc i) at = refl
-    ends (e ∷ es) zero at = absurd (cc)
-    ends (e ∷ es) (suc i) at = ap (λ l. e ∷ l) (ends es i at)
+-- ---- sessions that are alike
+
+same_base_self : (b : Base) → same_base b b ≡ true
+same_base_self b = and_from _ _ (eq-eqb b.label b.label refl) (eq-eqb b.number b.number refl)
+
+-- a base that some value lies in has the same bytes in both
+same_bytes_there : (s t : Session) (b : Base) → IsAlike s t → is_held b s.names ≡ true → s.bytes b ≡ t.bytes b
+same_bytes_there s t b a held = let there : is_held b t.names ≡ true = sym (a.held b) ∙ held in
+    sym (rw held refl) ∙ a.bytes b ∙ rw there refl
 
 -- ---- what is told of the session behind a cell
 
-pub names_told : (b : Book) (at : ℕ) (s : Session) (names : List (List ℕ)) → at < length b.cells → s ≡ session_before b (at + 1) → names ≡ map (λ (e : List ℕ × Value). e.0) s.names → names_at b at ≡ Ok names
-names_told b at s names lt is told =
+pub names_told : (b : Book) (at : ℕ) (names : List (List ℕ)) → at < length b.cells → names ≡ map (λ (e : List ℕ × Value). e.0) (session_before b (at + 1)).names → names_at b at ≡ Ok names
+names_told b at names lt told =
     ap (λ (o : Option Told). ask_cell at (count_of b) o (λ (t : Told). Ok (map (λ (e : List ℕ × Shown). e.0) t.names))) (told_by_records b at lt)
-    ∙ ap (λ (s : Session). Ok (map (λ (e : List ℕ × Shown). e.0) (shown_names s s.names))) (sym is)
-    ∙ ap Ok (names_shown s s.names names told)
+    ∙ ap Ok (names_shown (session_before b (at + 1)) (session_before b (at + 1)).names names told)
 
 pub names_are_told : (b : Book) (at : ℕ) → at < length b.cells → is_ok (names_at b at) ≡ true
-names_are_told b at lt = ap is_ok (names_told b at (session_before b (at + 1)) (map (λ (e : List ℕ × Value). e.0) (session_before b (at + 1)).names) lt refl refl)
+names_are_told b at lt = ap is_ok (names_told b at (map (λ (e : List ℕ × Value). e.0) (session_before b (at + 1)).names) lt refl)
 
-value_at_is : (b : Book) (at : ℕ) (n : List ℕ) (s : Session) → at < length b.cells → s ≡ session_before b (at + 1) → value_at b at n ≡ found_value n (option_map (shown s) (lookup n s.names))
-value_at_is b at n s lt is =
+value_at_is : (b : Book) (at : ℕ) (n : List ℕ) → at < length b.cells → value_at b at n ≡ found_value n (option_map (shown (session_before b (at + 1))) (lookup n (session_before b (at + 1)).names))
+value_at_is b at n lt =
     ap (λ (o : Option Told). ask_cell at (count_of b) o (λ (t : Told). found_value n (lookup n t.names))) (told_by_records b at lt)
-    ∙ ap (λ (s : Session). found_value n (lookup n (shown_names s s.names))) (sym is)
-    ∙ ap (found_value n) (lookup-shown n s s.names)
+    ∙ ap (found_value n) (lookup-shown n (session_before b (at + 1)) (session_before b (at + 1)).names)
 
-pub value_told : (b : Book) (at : ℕ) (n : List ℕ) (s : Session) (v : Value) (x : Shown) → at < length b.cells → s ≡ session_before b (at + 1) → Some v ≡ lookup n s.names → x ≡ shown s v → value_at b at n ≡ Ok x
-value_told b at n s v x lt is found shows = value_at_is b at n s lt is ∙ ap (λ o. found_value n (option_map (shown s) o)) (sym found) ∙ ap Ok (sym shows)
+-- what is found under a name is shown in the same way in sessions that are alike
+shown_alike : (s t : Session) (n : List ℕ) (v : Value) → IsAlike s t → lookup n s.names ≡ Some v → shown s v ≡ shown t v
+shown_alike s t n (Int z) a found = refl
+shown_alike s t n (Truth z) a found = refl
+shown_alike s t n (Scalar k z) a found = refl
+shown_alike s t n (Array b g) a found = ap (λ bytes. ShownArray g.element g.shape (flat_map (shown_element g.element bytes) g.places)) (same_bytes_there s t b a (held_by_name b n (Array b g) s.names found (same_base_self b)))
+shown_alike s t n (Row b g) a found = ap (λ bytes. ShownRow g.element (flat_map (shown_element g.element bytes) g.places)) (same_bytes_there s t b a (held_by_name b n (Row b g) s.names found (same_base_self b)))
 
-pub no_value : (b : Book) (at : ℕ) (n : List ℕ) (s : Session) → at < length b.cells → s ≡ session_before b (at + 1) → None ≡ lookup n s.names → value_at b at n ≡ Err (QueryFault.NoName n)
-no_value b at n s lt is found = value_at_is b at n s lt is ∙ ap (λ o. found_value n (option_map (shown s) o)) (sym found)
+pub value_told : (b : Book) (at : ℕ) (n : List ℕ) (s : Session) (v : Value) (x : Shown) → at < length b.cells → IsAlike s (session_before b (at + 1)) → Some v ≡ lookup n s.names → x ≡ shown s v → value_at b at n ≡ Ok x
+value_told b at n s v x lt a found shows =
+    value_at_is b at n lt ∙ ap (λ o. found_value n (option_map (shown (session_before b (at + 1))) o)) (sym (found ∙ a.names n)) ∙ ap Ok (sym (shows ∙ shown_alike s (session_before b (at + 1)) n v a (sym found)))
+
+no_value_there : (b : Book) (at : ℕ) (n : List ℕ) → at < length b.cells → None ≡ lookup n (session_before b (at + 1)).names → value_at b at n ≡ Err (QueryFault.NoName n)
+no_value_there b at n lt found = value_at_is b at n lt ∙ ap (λ o. found_value n (option_map (shown (session_before b (at + 1))) o)) (sym found)
+
+pub no_value : (b : Book) (at : ℕ) (n : List ℕ) (s : Session) → at < length b.cells → IsAlike s (session_before b (at + 1)) → None ≡ lookup n s.names → value_at b at n ≡ Err (QueryFault.NoName n)
+no_value b at n s lt a found = no_value_there b at n lt (found ∙ a.names n)
 
 -- by whether the name is bound
 pub unbound_value : (b : Book) (at : ℕ) (n : List ℕ) → at < length b.cells → is_some (lookup n (session_before b (at + 1)).names) ≡ false → value_at b at n ≡ Err (QueryFault.NoName n)
-unbound_value b at n lt is = no_value b at n (session_before b (at + 1)) lt refl (none (lookup n (session_before b (at + 1)).names) is)
+unbound_value b at n lt is = no_value_there b at n lt (none (lookup n (session_before b (at + 1)).names) is)
   where
     none : (o : Option Value) → is_some o ≡ false → None ≡ o
     none None h = refl
     none (Some v) h = absurd (cc)
 
 pub value_is_told : (b : Book) (at : ℕ) (n : List ℕ) → at < length b.cells → is_some (lookup n (session_before b (at + 1)).names) ≡ true → is_ok (value_at b at n) ≡ true
-value_is_told b at n lt is = ap is_ok (value_at_is b at n (session_before b (at + 1)) lt refl) ∙ some (session_before b (at + 1)) (lookup n (session_before b (at + 1)).names) is
+value_is_told b at n lt is = ap is_ok (value_at_is b at n lt) ∙ some (session_before b (at + 1)) (lookup n (session_before b (at + 1)).names) is
   where
     some : (s : Session) (o : Option Value) → is_some o ≡ true → is_ok (found_value n (option_map (shown s) o)) ≡ true
     some s None h = absurd (cc)

@@ -2,6 +2,8 @@
 
 ghost use Rattle.nd_model.specs.Cells.Session.{collected};
 ghost use Rattle.nd_model.specs.Cells.Running as running;
+ghost use Rattle.nd_session.specs.Session.Change.{change_of};
+ghost use Rattle.nd_session.specs.Session.Filter as filters;
 ghost use Rattle.nd_session.specs.Session.Kept.{version_of};
 ghost use Rattle.nd_session.specs.Session.Live.{live};
 ghost use Rattle.nd_session.specs.Inputs.Values.{given_of};
@@ -9,8 +11,35 @@ ghost use Rattle.nd_cell.specs.Records.{recorded};
 
 use nd_cell::{Meter, Record, run_cell};
 use nd_schedule::schedule::CellRunner;
-use nd_session::session::{Inputs, OutOfMemory, Readings, Session, Version};
+use nd_session::session::{
+    Base, Change, Inputs, KeyFilter, NameOrder, OutOfMemory, Session, Version,
+};
 use std::alloc::{AllocError, Global};
+use std::rc::Rc;
+
+/// Whether one of some runs wrote to a block of another cell.
+fn is_written_by(runs: &[Rc<Record>], base: Base) -> bool {
+    for run in runs {
+        if run.changes().writes_to(base) {
+            return true;
+        }
+    }
+    false
+}
+
+/// How many bytes the blocks of other cells have to which a run wrote, and none of some earlier runs
+/// did.
+fn written_bytes(made: &Record, earlier: &[Rc<Record>], session: &Session) -> u64 {
+    let changes = made.changes();
+    let mut bytes: u64 = 0;
+    for place in 0..changes.written_count() {
+        let base = changes.written_at(place);
+        if !is_written_by(earlier, base) {
+            bytes = bytes.saturating_add(session.bytes(base).len() as u64);
+        }
+    }
+    bytes
+}
 
 /// Runs cells over sessions of shared blocks. Two sessions count as equal where they are so up to
 /// unreachable blocks.
@@ -20,23 +49,31 @@ pub struct SessionRunner;
 impl CellRunner for SessionRunner {
     type Session = Session;
 
-    type Version = Version;
-
     type Record = Record;
 
     type Inputs = Inputs;
 
-    type Readings = Readings;
+    type Change = Change;
+
+    type Word = KeyFilter;
+
+    type Version = Version;
+
+    type Order = NameOrder;
 
     ghost session_of = { λ s. collected (running.session_of (live s)) };
-
-    ghost kept_session = { λ v. collected (version_of v) };
 
     ghost recorded = { λ r. recorded r };
 
     ghost given = { λ i. given_of i.entries };
 
-    ghost readings_of = { λ r. r };
+    ghost change_of = { λ c. change_of c };
+
+    ghost kept_session = { λ v. collected (version_of v) };
+
+    ghost order_of = { λ o. o };
+
+    ghost covers = { λ w k. filters.covers w k };
 
     fn empty(alloc: Global) -> Result<Session, AllocError> {
         match Session::new(alloc) {
@@ -69,59 +106,66 @@ impl CellRunner for SessionRunner {
         }
     }
 
-    fn reads_changed(made: &Record, old: &Inputs, new: &Inputs) -> bool {
-        made.have_inputs_changed(old, new)
-    }
-
     fn last_of(made: &Record, name: &str) -> Option<bool> {
         made.last_of(name)
     }
 
-    fn same_effects(one: &Record, other: &Record) -> bool {
-        one.have_same_effects(other)
+    fn no_change(alloc: Global) -> Change {
+        Change::new(alloc)
     }
 
-    fn is_quiet(made: &Record) -> bool {
-        made.is_quiet()
+    fn input_change(alloc: Global, old: &Inputs, new: &Inputs) -> Result<Change, AllocError> {
+        match Change::of_inputs(alloc, old, new) {
+            Ok(change) => Ok(change),
+            Err(OutOfMemory) => Err(AllocError),
+        }
     }
 
-    fn replaces(old: &Record, new: &Record) -> bool {
-        new.replaces(old)
+    fn word(made: &Record) -> KeyFilter {
+        made.filter()
     }
 
-    fn misses(over: &Record, made: &Record) -> bool {
-        made.misses(over)
+    fn change_word(change: &Change) -> KeyFilter {
+        change.filter()
     }
 
-    fn is_apart(over: &Record, made: &Record) -> bool {
-        made.is_apart(over)
+    fn are_apart(one: &KeyFilter, other: &KeyFilter) -> bool {
+        one.is_apart(other)
     }
 
-    fn no_readings(alloc: Global) -> Readings {
-        Readings::new(alloc)
+    fn fits(made: &Record, change: &Change) -> bool {
+        made.fits(change)
     }
 
-    fn note(made: &Record, readings: &mut Readings) -> Result<(), AllocError> {
-        match made.note(readings) {
+    fn keep(made: &Record, change: &mut Change) -> Result<(), AllocError> {
+        match made.keep(change) {
             Ok(()) => Ok(()),
             Err(OutOfMemory) => Err(AllocError),
         }
     }
 
-    fn are_unread(over: &Record, readings: &Readings) -> bool {
-        over.are_unread(readings)
+    fn rerun(
+        before: &Record,
+        made: &Record,
+        session: &Session,
+        _inputs: &Inputs,
+        change: &mut Change,
+    ) -> Result<(), AllocError> {
+        match made.follow(before, session, change) {
+            Ok(()) => Ok(()),
+            Err(OutOfMemory) => Err(AllocError),
+        }
     }
 
-    fn is_overlay(made: &Record) -> bool {
-        made.is_overlay()
+    fn went(before: &Record, session: &Session, change: &mut Change) -> Result<(), AllocError> {
+        match before.leave(session, change) {
+            Ok(()) => Ok(()),
+            Err(OutOfMemory) => Err(AllocError),
+        }
     }
 
-    fn has_no_name(made: &Record, before: &Version) -> bool {
-        made.has_no_name(before)
-    }
-
-    fn overlay(over: &Record, session: &mut Session) -> Result<(), AllocError> {
-        match over.overlay(session) {
+    fn came(made: &Record, session: &Session, change: &mut Change) -> Result<(), AllocError> {
+        match made.come(session, change) {
             Ok(()) => Ok(()),
             Err(OutOfMemory) => Err(AllocError),
         }
@@ -134,17 +178,54 @@ impl CellRunner for SessionRunner {
         }
     }
 
-    fn is_at(session: &Session, version: &Version, first: &mut usize) -> bool {
-        session.is_at(version, first)
-    }
-
-    fn has_name(version: &Version, name: &str) -> bool {
-        version.has_name(name)
-    }
-
     fn thaw(alloc: Global, version: &Version) -> Result<Session, AllocError> {
         match Session::thaw(alloc, version) {
             Ok(session) => Ok(session),
+            Err(OutOfMemory) => Err(AllocError),
+        }
+    }
+
+    fn is_empty(change: &Change) -> bool {
+        change.is_empty()
+    }
+
+    fn change_count(change: &Change) -> usize {
+        change.count()
+    }
+
+    fn change_size(change: &Change) -> u64 {
+        change.weight()
+    }
+
+    fn written_size(records: &[Rc<Record>], session: &Session) -> u64 {
+        let mut size: u64 = 0;
+        for k in 0..records.len() {
+            size = size.saturating_add(written_bytes(&records[k], &records[..k], session));
+        }
+        size
+    }
+
+    fn share(change: &Change) -> Result<Change, AllocError> {
+        match change.try_clone() {
+            Ok(change) => Ok(change),
+            Err(OutOfMemory) => Err(AllocError),
+        }
+    }
+
+    fn patch(change: &Change, session: &mut Session) -> Result<bool, AllocError> {
+        match change.patch(session) {
+            Ok(could) => Ok(could),
+            Err(OutOfMemory) => Err(AllocError),
+        }
+    }
+
+    fn no_order(alloc: Global) -> NameOrder {
+        NameOrder::new(alloc)
+    }
+
+    fn note_names(made: &Record, order: &mut NameOrder) -> Result<(), AllocError> {
+        match made.note_names(order) {
+            Ok(()) => Ok(()),
             Err(OutOfMemory) => Err(AllocError),
         }
     }

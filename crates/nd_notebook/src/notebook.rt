@@ -208,6 +208,7 @@ impl Notebook {
 
 impl Notebook {
     ghost use Rattle.std.specs.Prelude.{◌+◌, ◌<◌, ◌≤◌, [], map, string_bytes};
+    ghost use Rattle.nd_change.specs.Snapshots.{IsAlike};
     ghost use Rattle.nd_model.specs.Book.Entries.{session_before};
     ghost use Rattle.nd_model.specs.Book.Notebook.{book_of, Tells};
     ghost use Rattle.nd_session.specs.Session.Kept.{version_of};
@@ -250,12 +251,14 @@ impl Notebook {
         }
     }
 
-    /// The snapshot before the cell at a position, or after the last one.
-    fn version_before(&self, at: usize) -> Result<Version, OutOfMemory>
+    /// A snapshot with the names, values and bytes before the cell at a position, or after the last
+    /// one. Its names may stand in another order.
+    fn version_like(&self, at: usize) -> Result<Version, OutOfMemory>
         requires { at ≤ length self.now.cells }
-        ensures { IfOk result (λ v. version_of v ≡ session_before (book_of self.now) at) }
+        ensures { IfOk result
+            (λ v. IsAlike (version_of v) (session_before (book_of self.now) at)) }
     {
-        let session = self.schedule.session_before(at)?;
+        let session = self.schedule.session_like(at)?;
         let version = session.freeze()?;
         Ok(version)
     }
@@ -272,8 +275,8 @@ impl Notebook {
         if count <= at {
             return Err(QueryFault::NoCell(at, count));
         }
-        let version = self.version_before(at + 1)?;
-        Ok(names_of(self.alloc, &version)?)
+        let order = self.schedule.names_before(at + 1)?;
+        Ok(names_of(self.alloc, &order)?)
     }
 
     /// Returns the value of a name after the cell at a position. After `x = np.arange(3)`, `x` is
@@ -292,7 +295,7 @@ impl Notebook {
         if !self.schedule.is_bound(at + 1, name) {
             return Err(QueryFault::NoName);
         }
-        let version = self.version_before(at + 1)?;
+        let version = self.version_like(at + 1)?;
         let value = match version.peek(name) {
             Some(value) => value.try_clone()?,
             None => return Err(QueryFault::NoName),

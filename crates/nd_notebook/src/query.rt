@@ -1,11 +1,10 @@
 //! `BoundValue`: the answers to queries for names and values.
 
 ghost use Rattle.std.specs.Prelude.{◌≡◌, IfOk, map, string_bytes};
-ghost use Rattle.nd_session.specs.Session.Kept.{version_of};
 ghost use Rattle.nd_notebook.specs.Queries.{bound_of, shown_of};
 ghost use Rattle.nd_notebook.specs.declared.query.QueryFault.TheVariants as faults;
 
-use nd_session::session::{OutOfMemory, Value, Version};
+use nd_session::session::{NameOrder, OutOfMemory, Value, Version};
 use nd_types::{Kind, Num};
 use nd_view::View;
 use std::alloc::{AllocError, Global};
@@ -85,16 +84,13 @@ impl From<AllocError> for QueryFault {
     }
 }
 
-/// Returns the names of a snapshot, in order.
-pub fn names_of(alloc: Global, version: &Version) -> Result<Vec<String>, OutOfMemory>
-    ensures { IfOk result (λ v. map string_bytes v.items
-        ≡ map (λ e. e.0) (version_of version.now).names) }
+/// Returns the names of an order.
+pub fn names_of(alloc: Global, order: &NameOrder) -> Result<Vec<String>, OutOfMemory>
+    ensures { IfOk result (λ v. map string_bytes v.items ≡ order.now) }
 {
     let mut names = Vec::new(alloc);
-    for i in 0..version.count() {
-        if let Some(name) = version.name_at(i) {
-            names.push(String::from_str(alloc, name)?)?;
-        }
+    for place in 0..order.len() {
+        names.push(String::from_str(alloc, order.name_at(place))?)?;
     }
     Ok(names)
 }

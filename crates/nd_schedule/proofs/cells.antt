@@ -1,2 +1,3 @@
 pub mod Free
 pub mod Spliced
+pub mod Used

@@ -1,10 +1,9 @@
-pub mod Steps
-pub mod Kept
-pub mod Passes
-pub mod Over
-pub mod Cut
-pub mod Edits
-mod Added
-mod Known
-mod Again
-mod First
+pub mod Sweeping
+mod Visiting
+mod Kept
+mod Editing
+mod Removing
+mod Inserting
+mod Parting
+mod Standing
+mod Turning

@@ -1,2 +1,3 @@
+pub mod Labels
 pub mod Shared
 pub mod Source

@@ -1,4 +1,4 @@
-//! The schedule: which cells of a notebook run after an edit, and which are replayed from their records.
+//! The schedule: after an edit, which cells of a notebook run, and whose records are kept, by what the edit changed.
 #![tactic(auto)]
 
 pub mod cells;

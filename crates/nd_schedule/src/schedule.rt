@@ -1,12 +1,11 @@
 //! The scheduler of a notebook, over what runs cells.
-mod beside;
-mod cells;
-mod front;
+mod ending;
+mod moving;
 mod notebook;
-mod outcome;
-mod pass;
-mod step;
-mod versions;
+mod queries;
+mod runner;
+mod snapshots;
+mod sweep;
 
-pub use cells::CellRunner;
 pub use notebook::Schedule;
+pub use runner::CellRunner;

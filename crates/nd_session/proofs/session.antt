@@ -1,4 +1,3 @@
-pub mod Alike
 pub mod Listed
 pub mod Sessions
 pub mod Intact
@@ -9,5 +8,17 @@ pub mod Redoing
 pub mod Retaining
 pub mod Keeping
 pub mod Last
-pub mod Overlaying
+pub mod Present
 pub mod Gathering
+pub mod Standing
+pub mod Covering
+pub mod Fitting
+pub mod Dropping
+pub mod Carrying
+pub mod Matching
+pub mod Giving
+pub mod Naming
+pub mod Ordering
+pub mod Putting
+pub mod Copying
+pub mod Weighing

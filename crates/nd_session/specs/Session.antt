@@ -8,4 +8,8 @@ pub mod Found
 pub mod Reads
 pub mod Reading
 pub mod Changes
-pub mod Noted
+pub mod Filter
+pub mod Change
+pub mod Now
+pub mod Order
+pub mod Patch

@@ -3,21 +3,21 @@
 ghost use Rattle.nd_session.specs.Session.State.{State};
 ghost use Rattle.nd_session.specs.Session.Listed.{IsListed};
 
+mod change;
 mod changes;
 mod found;
-mod matching;
-mod overlay;
-mod readings;
+mod order;
 mod reads;
 mod redo;
 mod session;
 mod version;
 
 pub use crate::inputs::{Input, Inputs, has_input, is_input_name, with_input, without_input};
+pub use change::{Change, KeyFilter};
 pub use changes::Changes;
 pub use nd_heap::{Array, Base, BlockWriter, OutOfMemory, Value};
 pub use nd_trace::{Event, Trace};
-pub use readings::Readings;
+pub use order::NameOrder;
 pub use reads::Reads;
 pub use session::Session;
 pub use version::Version;

@@ -24,3 +24,4 @@ pub mod Unravelled
 pub mod ByRuns
 pub mod InOrder
 pub mod Ranges
+pub mod Within

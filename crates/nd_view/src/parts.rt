@@ -64,6 +64,33 @@ fn extent_of(shape: &[u64], strides: &[i64]) -> Extent
     extent
 }
 
+// The distance from the first element of an axis up to the last one, of a stride in 128 bits.
+fn reach(length: u64, stride: i128) -> u128
+    requires some { 0 < length }
+    requires limit { strides.behind length stride < 2 ^ 64 }
+    ensures { result ≡ strides.behind length stride }
+{
+    if stride < 0 {
+        0
+    } else {
+        u128::from(length - 1) * stride.unsigned_abs()
+    }
+}
+
+/// Returns the distance in bytes from the first element of a view up to its highest one.
+pub(crate) fn reach_of(shape: &[u64], strides: &[i128]) -> u128
+    requires axes { length shape.now ≡ length strides.now }
+    requires some { 0 < elements_of shape.now }
+    requires limit { behind_of shape.now strides.now < 2 ^ 64 }
+    ensures { result ≡ behind_of shape.now strides.now }
+{
+    let mut all = 0;
+    for (axis, length) in shape.iter().enumerate() {
+        all += reach(*length, strides[axis]);
+    }
+    all
+}
+
 // Whether all bytes of all elements lie in a block of `block_len` bytes.
 fn are_held(size: u64, shape: &[u64], strides: &[i64], offset: u64, block_len: u64) -> bool
     requires axes { length shape.now ≡ length strides.now }

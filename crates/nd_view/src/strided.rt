@@ -6,6 +6,7 @@ ghost use Rattle.nd_model.specs.Arrays.Strides as model;
 ghost use Rattle.nd_model.specs.Arrays.Strides.{IsInLimits, places_by};
 ghost use Rattle.nd_model.specs.Arrays.Tuple.{elements_of, number};
 ghost use Rattle.nd_model.specs.Arrays.View.{Geo, item_size, byte_places, contiguous};
+ghost use Rattle.nd_model.specs.Cells.Sound.{LiesIn};
 ghost use Rattle.nd_types.specs.Types.{type_of};
 ghost use Rattle.nd_view.specs.Faults.{view_given};
 ghost use Rattle.nd_view.specs.Indexes.{IsIndex};
@@ -14,7 +15,7 @@ ghost use Rattle.nd_view.specs.Strides.{kept_all};
 use crate::elements::push_element;
 use crate::fault::ViewFault;
 use crate::inner_loop::{last_axis, widest_loop};
-use crate::parts::{kept_offset, kept_steps, kept_strides, parts_fault};
+use crate::parts::{kept_offset, kept_steps, kept_strides, parts_fault, reach_of};
 use crate::runs::Runs;
 use crate::shapes::{element_count, steps};
 use crate::walk::{advance, place_by, shift_place};
@@ -215,6 +216,21 @@ impl View {
         ensures { result ≡ self.now.writable }
     {
         self.writable
+    }
+
+    /// Returns whether every byte of every element lies in a block of `length` bytes. No element is
+    /// looked at.
+    ///
+    /// A view of three `int64`s with stride 16 lies within 40 bytes, and not within 39.
+    pub fn lies_within(&self, length: u64) -> bool
+        ensures { IsTrue result ↔ LiesIn length self.now }
+    {
+        let shape = self.shape.as_slice();
+        if element_count(shape) == 0 {
+            return true;
+        }
+        let reach = reach_of(shape, self.strides.as_slice());
+        u128::from(self.offset) + reach + u128::from(self.elem.size()) <= u128::from(length)
     }
 
     /// Returns the number of elements.

@@ -1,4 +1,4 @@
-use Rattle.nd_model.proofs.Overlaying.{names_stand_once}
+use Rattle.nd_model.proofs.Sessions.{names_stand_once}
 use Rattle.nd_model.proofs.names_stand_once.Goals as goal
 
 pub returns : goal.returns

@@ -1,4 +1,4 @@
-use Rattle.nd_model.proofs.Overlaying.{sessions_are_sound}
+use Rattle.nd_model.proofs.Sessions.{sessions_are_sound}
 use Rattle.nd_model.proofs.sessions_are_sound.Goals as goal
 
 pub returns : goal.returns

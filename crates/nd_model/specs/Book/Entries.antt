@@ -62,12 +62,3 @@ SharesFront at old new = (take at (records_of old) ≡ take at (records_of new))
 -- Where the first cells and the inputs are the same, so are their records and the sessions before and after them.
 abbrev pub SameFront : Type 0
 SameFront = (at : ℕ) (old new : Book) → old.inputs ≡ new.inputs → take at old.cells ≡ take at new.cells → SharesFront at old new
-
--- the cell at a place read no input that is another among these
-abbrev pub ReadsNoOther : Book → Inputs → ℕ → Type 0
-ReadsNoOther b i at = (name : List ℕ) → IsTrue (reads_of (ended b.inputs (entry_at b at)) (Input name)) → b.inputs name ≡ i name
-
--- The same where inputs differ that none of these cells read.
-abbrev pub SameFrontReads : Type 0
-SameFrontReads = (at : ℕ) (old new : Book) → AreDistinct (labels_of old.cells) → take at old.cells ≡ take at new.cells
-    → ((k : ℕ) → k < at → k < length old.cells → ReadsNoOther old new.inputs k) → SharesFront at old new

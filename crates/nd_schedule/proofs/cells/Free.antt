@@ -6,13 +6,13 @@ use Rattle.std.proofs.lemmas.Bool.{cases_Bool}
 use Rattle.std.specs.declared.rc.Rc.{Rc}
 use Rattle.nd_model.specs.Book.Book.{Cell, is_label, above_labels, first_free, fresh_label}
 use Rattle.nd_model.proofs.EditLabels.{fresh_small, labelled, free_step}
-use Rattle.nd_schedule.specs.declared.cells.source.LabelledCell.{LabelledCell}
+use Rattle.nd_schedule.specs.declared.cells.source.KeptCell.{KeptCell}
 use Rattle.nd_schedule.specs.Cells.Source.{cells_of}
 
-label_next : (n k : ℕ) (xs : List (Rc LabelledCell Global)) (x : Rc LabelledCell Global) → k < length xs → x ≡ get_or xs k x
+label_next : (n k : ℕ) (xs : List (Rc KeptCell Global)) (x : Rc KeptCell Global) → k < length xs → x ≡ get_or xs k x
     → is_label n (cells_of (take (suc k) xs)) ≡ (is_label n (cells_of (take k xs)) || eqb n x.value.label)
 label_next n k [] x lt is = absurd (omega arith)
-label_next n zero (y ∷ ys) x lt is = or_false (eqb n y.value.label) ∙ ap (λ (z : Rc LabelledCell Global). eqb n z.value.label) (sym is)
+label_next n zero (y ∷ ys) x lt is = or_false (eqb n y.value.label) ∙ ap (λ (z : Rc KeptCell Global). eqb n z.value.label) (sym is)
   where
     or_false : (b : Bool) → (b || false) ≡ b
     or_false true = refl
@@ -24,10 +24,10 @@ label_next n (suc k) (y ∷ ys) x lt is = ap (λ b. eqb n y.value.label || b) (l
     assoc false b c = refl
 
 -- the labels of the first cells are marked, and now that of one more
-pub marked_more : (n k : ℕ) (xs : List (Rc LabelledCell Global)) (x : Rc LabelledCell Global) (src : LabelledCell) (old new : Bool) → k < length xs → x ≡ get_or xs k x → src ≡ x.value
+pub marked_more : (n k : ℕ) (xs : List (Rc KeptCell Global)) (x : Rc KeptCell Global) (src : KeptCell) (old new : Bool) → k < length xs → x ≡ get_or xs k x → src ≡ x.value
     → new ≡ (old || eqb n src.label) → old ≡ is_label n (cells_of (take k xs)) → new ≡ is_label n (cells_of (take (k + 1) xs))
 marked_more n k xs x src old new lt is value one before =
-    one ∙ ap (λ b. b || eqb n src.label) before ∙ ap (λ (s : LabelledCell). is_label n (cells_of (take k xs)) || eqb n s.label) value
+    one ∙ ap (λ b. b || eqb n src.label) before ∙ ap (λ (s : KeptCell). is_label n (cells_of (take k xs)) || eqb n s.label) value
     ∙ sym (label_next n k xs x lt is) ∙ ap (λ m. is_label n (cells_of (take m xs))) (sym (add-one k))
 
 -- a mark is set

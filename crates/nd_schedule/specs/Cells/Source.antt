@@ -5,12 +5,12 @@ use Rattle.std.specs.declared.rc.Rc.{Rc}
 use Rattle.nd_model.specs.Book.Book as model
 use Rattle.nd_model.specs.Book.Notebook.{Sheet}
 use Rattle.nd_model.specs.Cells.Running as running
-use Rattle.nd_schedule.specs.declared.cells.source.LabelledCell.{LabelledCell}
+use Rattle.nd_schedule.specs.declared.cells.source.KeptCell.{KeptCell}
 
-abbrev pub cell_of : LabelledCell → model.Cell
+abbrev pub cell_of : KeptCell → model.Cell
 cell_of s = record { label = s.label; source = string_bytes s.text }
 
-abbrev pub cells_of : List (Rc LabelledCell Global) → List model.Cell
+abbrev pub cells_of : List (Rc KeptCell Global) → List model.Cell
 cells_of ss = map (λ s. cell_of s.value) ss
 
 -- a notebook of these cells and inputs

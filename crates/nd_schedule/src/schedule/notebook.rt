@@ -1,56 +1,56 @@
-//! `Schedule`: the cells, the inputs, and what is kept of the runs, with the edits that keep it up to date.
+//! The notebook: a list of cells, and what is kept of running them.
 
-ghost use Rattle.std.specs.Prelude.{◌≡◌, ◌<◌, ◌≤◌, ◌+◌, ◌-◌, ◌^◌, ◌⊎◌, ◌++◌, [], Some, IfOk};
-ghost use Rattle.std.specs.Prelude.{IfSome, IsTrue, MatchOption, ℕ, OnErr, OnOk, drop, is_some};
-ghost use Rattle.std.specs.Prelude.{length, map, slice_get, slice_index_or, take, unwrap_or};
-ghost use Rattle.std.specs.List.{splice};
-ghost use Rattle.nd_model.specs.Cells.Session.{lookup};
-ghost use Rattle.nd_model.specs.Book.Renaming.{AreDistinct};
-ghost use Rattle.nd_model.specs.Book.Book.{labels_of, no_cell, told_book, Insert, Change, Move, Remove};
-ghost use Rattle.nd_model.specs.Book.Entries.{ReadsNoOther, entry_at, record_at, session_before, SharesFront};
-ghost use Rattle.nd_model.specs.Book.Scheduler.{told_of};
-ghost use Rattle.nd_model.specs.Book.Stale.{kept_of, CountsStale};
-ghost use Rattle.nd_model.specs.Book.CutOff.{SameOnSession};
-ghost use Rattle.nd_model.specs.Book.Overlay.{did, IsApart, Misses, Replaces};
-ghost use Rattle.nd_model.specs.Book.Notebook.{Sheet, inputs_in, book_of, edited_sheet};
+ghost use Rattle.std.specs.Prelude.{◌≡◌, ◌<◌, ◌≤◌, ◌+◌, ◌^◌, ℕ, IfOk, IfSome, MatchOption, OnErr, OnOk, [], false, bytes_eq};
+ghost use Rattle.std.specs.List.{All};
+ghost use Rattle.std.specs.Result.{IsOk};
+ghost use Rattle.std.specs.Prelude.{insert, length, map, min, remove, slice_index_or, slice_set, string_bytes};
+ghost use Rattle.std.specs.Vec.{vec_capacity};
+ghost use Rattle.nd_model.specs.Book.Records as kept;
+ghost use Rattle.nd_model.specs.Book.Book.{Book, no_cell, Change, Insert, Move, Remove};
+ghost use Rattle.nd_model.specs.Book.Book as books;
+ghost use Rattle.nd_model.specs.Book.Entries.{entry_at, record_at, session_before, SharesFront};
+ghost use Rattle.nd_model.specs.Book.Stale.{CountsStale};
+ghost use Rattle.nd_model.specs.Book.Notebook.{Sheet, book_of, edited_sheet};
+ghost use Rattle.nd_change.specs.Snapshots.{IsAlike};
+ghost use Rattle.nd_change.specs.Steps.{IsWordOf, IsWordOfChange};
+ghost use Rattle.nd_schedule.specs.Cells.Labels.{AreUsed};
 ghost use Rattle.nd_schedule.specs.Cells.Source.{sheet, cell_of, cells_of};
-ghost use Rattle.nd_schedule.specs.Cells.Shared.{each_of, each_some, some_of};
-ghost use Rattle.nd_schedule.specs.Schedule.Runs.{
-  AreRecords,
-  CountsFront,
-  IsEdit,
-  IsEnd,
-  IsFront,
+ghost use Rattle.nd_schedule.specs.Cells.Shared.{each_of};
+ghost use Rattle.nd_schedule.specs.Schedule.Snapshot.{IsChangeAt, IsSnapshot, StandsBefore, names_in};
+ghost use Rattle.nd_schedule.specs.Schedule.Sweep.{
+  AreChanged,
+  AreFit,
+  AreMoved,
+  AreWords,
+  IsAt,
   IsKept,
-  IsLaid,
-  IsMeeting,
-  IsMet,
-  IsMiddle,
-  IsSameAgain,
-  LiesOver,
-  with_part,
+  change_at,
+  changed,
+  fit_at,
 };
 
-use crate::cells::{LabelledCell, fresh_label, make_room, part_of, put_between, records_between};
-use crate::schedule::cells::CellRunner;
-use crate::schedule::outcome::{put_runs, reserve};
-use crate::schedule::pass::Part;
-use crate::schedule::versions::{make_versions, session_from};
+use crate::cells::{FreeLabel, KeptCell, fresh_label, make_room, move_item};
+use crate::schedule::moving::{Moved, move_down, move_up};
+use crate::schedule::runner::CellRunner;
+use crate::schedule::snapshots::{
+    Noted, Snapshot, carry, nearest, order_before, replay_between, session_front,
+};
+use crate::schedule::sweep::{Changed, New, SweepState, run_again, run_new, sweep};
 use nd_meter::Meter;
 use std::alloc::{AllocError, Global};
 use std::marker::Model;
 use std::rc::Rc;
 
-/// A list of cells, the inputs, and what is kept of running all cells in order from nothing: the record of each, beside some of the
-/// first the session before it, the session behind the last one, if it is there, and what the runs read.
+/// A list of cells, the inputs, the record of each cell's run, beside it its word, and snapshots of some places.
 #[derive(Drop)]
 pub struct Schedule<C: CellRunner> {
-    pub(crate) cells: Vec<Rc<LabelledCell>>,
-    inputs: C::Inputs,
+    pub(crate) cells: Vec<Rc<KeptCell>>,
+    pub(crate) inputs: C::Inputs,
     pub(crate) records: Vec<Rc<C::Record>>,
-    pub(crate) versions: Vec<Option<Rc<C::Version>>>,
-    pub(crate) last: Option<Rc<C::Version>>,
-    pub(crate) readings: C::Readings,
+    pub(crate) words: Vec<C::Word>,
+    pub(crate) snapshots: Vec<Snapshot<C>>,
+    // each number below it is the label of some cell
+    pub(crate) least: usize,
     pub(crate) alloc: Global,
 }
 
@@ -59,9 +59,71 @@ impl<C: CellRunner> Model for Schedule<C> {
 
     ghost view = { λ n. sheet (cells_of n.cells.items) (C.given n.inputs) };
 
-    ghost invariant = { λ n. IsKept (book_of (sheet (cells_of n.cells.items) (C.given n.inputs)))
-        (each_of C.recorded n.records.items) (each_some C.kept_session n.versions.items)
-        (some_of C.kept_session n.last) (C.readings_of n.readings) };
+    ghost invariant = { λ n. IsKept C.covers
+        (book_of (sheet (cells_of n.cells.items) (C.given n.inputs)))
+        (each_of C.recorded n.records.items) n.words.items
+        × All (λ s. IsSnapshot (book_of (sheet (cells_of n.cells.items) (C.given n.inputs)))
+        s.place (C.kept_session s.version) (map C.change_of s.pending.items))
+        n.snapshots.items × AreUsed n.least (cells_of n.cells.items) };
+}
+
+/// Puts what is changed in its places. It takes no memory.
+pub(crate) fn install<C: CellRunner>(
+    records: &mut Vec<Rc<C::Record>>,
+    words: &mut Vec<C::Word>,
+    changes: Vec<Changed<C>>,
+)
+    requires many { length words.old.items ≡ length records.old.items }
+    requires fit { AreFit C.covers (length records.old.items)
+        (map (λ c. fit_at c.place (C.recorded c.record.value) c.word) changes.items) }
+    ensures records { (k : ℕ) (r : kept.Record)
+        → slice_index_or (each_of C.recorded records.new.items) k r
+        ≡ changed (map (λ c. change_at c.place (C.recorded c.record.value)) changes.items) k
+        (slice_index_or (each_of C.recorded records.old.items) k r) }
+    ensures words { AreWords C.covers words.old.items (each_of C.recorded records.old.items)
+        → AreWords C.covers words.new.items (each_of C.recorded records.new.items) }
+    ensures records_room { vec_capacity records.new ≡ vec_capacity records.old }
+    ensures words_room { vec_capacity words.new ≡ vec_capacity words.old }
+    ensures count { length records.new.items ≡ length records.old.items }
+    ensures many { length words.new.items ≡ length words.old.items }
+{
+    for change in changes {
+        let Changed {
+            place,
+            record,
+            word,
+        } = change;
+        records[place] = record;
+        words[place] = word;
+    }
+}
+
+/// What a sweep gives: the records that are others now, and what it noted for the snapshots.
+#[derive(Drop)]
+struct Swept<C: CellRunner> {
+    changed: Vec<Changed<C>>,
+    noted: Vec<Noted<C>>,
+}
+
+/// Where an edit begins: a session that is alike to the one there, and snapshots that were made on the way.
+#[derive(Drop)]
+pub(crate) struct Front<C: CellRunner> {
+    pub(crate) session: C::Session,
+    pub(crate) fresh: Vec<Snapshot<C>>,
+}
+
+/// What a sweep behind a cell that is gone gives.
+#[derive(Drop)]
+struct Away<C: CellRunner> {
+    swept: Swept<C>,
+    fresh: Vec<Snapshot<C>>,
+}
+
+/// What a sweep behind a new cell gives.
+#[derive(Drop)]
+struct Grown<C: CellRunner> {
+    new: New<C>,
+    swept: Swept<C>,
 }
 
 impl<C: CellRunner> Schedule<C> {
@@ -73,136 +135,121 @@ impl<C: CellRunner> Schedule<C> {
             cells: Vec::new(alloc),
             inputs,
             records: Vec::new(alloc),
-            versions: Vec::new(alloc),
-            last: None,
-            readings: C::no_readings(alloc),
+            words: Vec::new(alloc),
+            snapshots: Vec::new(alloc),
+            least: 0,
             alloc,
         }
     }
 
-    /// How many cells there are.
-    pub fn count(&self) -> usize
-        ensures { result ≡ length self.now.cells }
-    {
-        self.cells.len()
-    }
-
-    /// The last place up to this one that has a version, or 0, and the session before it. Behind the last cell that is the place
-    /// itself, where the session there is kept.
-    fn nearest(&self, at: usize) -> Result<(usize, C::Session), AllocError>
-        ensures { IfOk result
-            (λ r. (r.0 ≤ at) × (C.session_of r.1 ≡ session_before (book_of self.now) r.0)) }
-    {
-        if at == self.cells.len() {
-            if let Some(version) = &self.last {
-                let session = C::thaw(self.alloc, version)?;
-                return Ok((at, session));
-            }
-        }
-        session_from::<C>(self.alloc, &self.versions, at)
-    }
-
-    /// The session before the cell at a place, or after the last one: from the last version before it, by the records behind
-    /// that.
-    pub fn session_before(&self, at: usize) -> Result<C::Session, AllocError>
+    /// A session that is alike to the one before the cell at a place, or after the last one: from the last snapshot in front of it, by
+    /// the records behind that. Its names may stand in another order.
+    pub fn session_like(&self, at: usize) -> Result<C::Session, AllocError>
         requires { at ≤ length self.now.cells }
-        ensures { IfOk result (λ s. C.session_of s ≡ session_before (book_of self.now) at) }
+        ensures { IfOk result
+            (λ s. IsAlike (C.session_of s) (session_before (book_of self.now) at)) }
     {
-        let (from, mut session) = self.nearest(at)?;
-        for k in from..at {
-            C::replay(&self.records[k], &mut session)?;
-        }
+        let (from, mut session, _is_patched) = nearest::<C>(self.alloc, &self.snapshots, at)?;
+        replay_between::<C>(&self.records, &mut session, from, at)?;
         Ok(session)
     }
 
-    /// Puts these cells in the place of the present ones between two places. Where it is refused nothing changes.
-    fn replace(&mut self, meter: &mut Meter, part: Part<C>) -> Result<(), AllocError>
-        requires order { part.at ≤ part.behind }
-        requires behind { part.behind ≤ length self.old.cells }
-        requires kept { map (some_of C.recorded) part.kept.items
-            ≡ map (kept_of (book_of self.old)) (cells_of part.cells.items) }
-        requires distinct { AreDistinct (labels_of (splice self.old.cells part.at part.behind
-            (cells_of part.cells.items))) }
-        ensures ok { OnOk result (self.new ≡ sheet (splice self.old.cells part.at part.behind
-            (cells_of part.cells.items)) self.old.given) }
-        ensures err { OnErr result (self.new ≡ self.old) }
-        ensures counts { CountsStale (book_of self.old)
-            (book_of (sheet (splice self.old.cells part.at part.behind
-            (cells_of part.cells.items)) self.old.given)) meter.old meter.new }
+    /// The names that are bound before the cell at a place, or after the last one, in the order in which they were bound first. The
+    /// records tell it.
+    pub fn names_before(&self, at: usize) -> Result<C::Order, AllocError>
+        requires { at ≤ length self.now.cells }
+        ensures { IfOk result
+            (λ o. C.order_of o ≡ names_in (session_before (book_of self.now) at).names) }
     {
-        make_versions::<C>(self.alloc, &self.records, &mut self.versions, part.at)?;
-        let runs = self.pass(meter, &self.inputs, &part)?;
-        reserve::<C>(
-            &runs,
-            part.at,
-            &mut self.records,
-            &mut self.versions,
-            &mut self.readings,
+        let order = order_before::<C>(self.alloc, &self.records, at)?;
+        Ok(order)
+    }
+
+    /// A session that is alike to the one before a place, and the snapshots that were missing in front of it.
+    pub(crate) fn front_before(&self, at: usize) -> Result<Front<C>, AllocError>
+        requires { at ≤ length self.now.cells }
+        ensures session { IfOk result
+            (λ f. StandsBefore (book_of self.now) at (C.session_of f.session)) }
+        ensures fresh { IfOk result (λ f. All (λ s. IsSnapshot (book_of self.now) s.place
+            (C.kept_session s.version) (map C.change_of s.pending.items)) f.fresh.items) }
+    {
+        let mut fresh = Vec::new(self.alloc);
+        let session = session_front::<C>(
+            self.alloc,
+            &self.records,
+            &self.snapshots,
+            at,
+            &mut fresh,
         )?;
-        make_room(&mut self.cells, part.at, part.behind, part.cells.len())?;
-        let Part {
-            at,
-            behind,
-            cells,
-            kept: _kept,
-        } = part;
-        put_between(&mut self.cells, at, behind, cells);
-        put_runs(
-            runs,
-            at,
-            &mut self.records,
-            &mut self.versions,
-            &mut self.last,
-        );
-        Ok(())
+        Ok(Front { session, fresh })
     }
 
-    /// The present cells from one place up to another, each with its record.
-    fn part(&self, at: usize, behind: usize) -> Result<Part<C>, AllocError>
-        requires order { at ≤ behind }
-        requires behind { behind ≤ length self.now.cells }
-        ensures at { IfOk result (λ l. l.at ≡ at) }
-        ensures behind { IfOk result (λ l. l.behind ≡ behind) }
-        ensures cells { IfOk result
-            (λ l. cells_of l.cells.items ≡ take (behind - at) (drop at self.now.cells)) }
-        ensures kept { IfOk result
-            (λ l. map (some_of C.recorded) l.kept.items
-            ≡ map (kept_of (book_of self.now)) (take (behind - at) (drop at self.now.cells))) }
-        ensures distinct { AreDistinct (labels_of self.now.cells) }
+    /// Runs another cell in the place of one, and sweeps over those behind.
+    fn swept(
+        &self,
+        meter: &mut Meter,
+        at: usize,
+        source: &KeptCell,
+        session: C::Session,
+    ) -> Result<Swept<C>, AllocError>
+        requires at { at < length self.now.cells }
+        requires session { StandsBefore (book_of self.now) at (C.session_of session) }
+        requires label { source.now.label ≡ (slice_index_or self.now.cells at no_cell).label }
+        requires other { bytes_eq (string_bytes source.now.text)
+            (slice_index_or self.now.cells at no_cell).source ≡ false }
+        ensures changed { IfOk result (λ s. AreChanged (book_of self.now)
+            (book_of (sheet (slice_set self.now.cells at (cell_of source.now)) self.now.given)) at at
+            (length self.now.cells)
+            (map (λ c. change_at c.place (C.recorded c.record.value)) s.changed.items)) }
+        ensures fit { IfOk result (λ s. AreFit C.covers (length self.now.cells)
+            (map (λ c. fit_at c.place (C.recorded c.record.value) c.word) s.changed.items)) }
+        ensures noted { IfOk result (λ s. All (λ n. IsChangeAt (book_of self.now)
+            (book_of (sheet (slice_set self.now.cells at (cell_of source.now)) self.now.given)) n.place n.now
+            (C.change_of n.change)) s.noted.items) }
+        ensures counts { CountsStale (book_of self.now)
+            (book_of (sheet (slice_set self.now.cells at (cell_of source.now)) self.now.given))
+            meter.old meter.new }
     {
-        let cells = part_of(self.alloc, &self.cells, at, behind)?;
-        let kept = records_between(self.alloc, &self.records, at, behind)?;
-        Ok(Part {
+        let change = C::no_change(self.alloc);
+        let word = C::change_word(&change);
+        let mut state = SweepState {
+            change,
+            word,
+            session,
+            since: at,
+            changed: Vec::new(self.alloc),
+        };
+        let mut noted = Vec::new(self.alloc);
+        run_again::<C>(
+            self.alloc,
+            meter,
+            source,
+            &self.records[at],
+            &self.inputs,
             at,
-            behind,
-            cells,
-            kept,
+            &mut state,
+        )?;
+        sweep::<C>(
+            self.alloc,
+            meter,
+            &self.cells,
+            &self.records,
+            &self.words,
+            &self.inputs,
+            at + 1,
+            self.cells.len(),
+            at + 1,
+            &self.snapshots,
+            &mut state,
+            &mut noted,
+        )?;
+        Ok(Swept {
+            changed: state.changed,
+            noted,
         })
-    }
-}
-
-impl<C: CellRunner> Schedule<C> {
-    /// Puts a new cell at the place, which may be behind the last one. It is refused for want of memory alone.
-    pub fn insert(&mut self, meter: &mut Meter, at: usize, text: &str) -> Result<(), AllocError>
-        requires { at ≤ length self.old.cells }
-        ensures ok { OnOk result (self.new ≡ edited_sheet (Insert at text.now) self.old) }
-        ensures err { OnErr result (self.new ≡ self.old) }
-        ensures counts { CountsStale (book_of self.old)
-            (book_of (edited_sheet (Insert at text.now) self.old)) meter.old meter.new }
-    {
-        let label = fresh_label(self.alloc, &self.cells)?;
-        let text = String::from_str(self.alloc, text)?;
-        let cell = Rc::new(self.alloc, LabelledCell { label, text })?;
-        let mut part = self.part(at, at)?;
-        part.cells.push(cell)?;
-        part.kept.push(None)?;
-        self.replace(meter, part)
     }
 
     /// Gives the cell at the place another text. It is refused for want of memory alone.
-    ///
-    /// Of `x = 1`, `y = x` and `print(2)`, another number in the first cell runs the first two, and
-    /// `x = 0 + 1` there runs it alone.
     pub fn edit(&mut self, meter: &mut Meter, at: usize, text: &str) -> Result<(), AllocError>
         requires { at < length self.old.cells }
         ensures ok { OnOk result (self.new ≡ edited_sheet (Change at text.now) self.old) }
@@ -215,11 +262,381 @@ impl<C: CellRunner> Schedule<C> {
         }
         let label = self.cells[at].label;
         let text = String::from_str(self.alloc, text)?;
-        let cell = Rc::new(self.alloc, LabelledCell { label, text })?;
-        let mut part = self.part(at, at + 1)?;
-        part.cells[0] = cell;
-        part.kept[0] = None;
-        self.replace(meter, part)
+        let cell = Rc::new(self.alloc, KeptCell { label, text })?;
+        let Front { session, fresh } = self.front_before(at)?;
+        let Swept { changed, noted } = self.swept(meter, at, &cell, session)?;
+        self.cells[at] = cell;
+        install::<C>(&mut self.records, &mut self.words, changed);
+        carry::<C>(self.alloc, &mut self.snapshots, fresh, noted, at);
+        Ok(())
+    }
+
+    /// Sweeps over all cells, over other inputs.
+    fn swept_over(&self, meter: &mut Meter, inputs: &C::Inputs) -> Result<Swept<C>, AllocError>
+        ensures changed { IfOk result (λ s. AreChanged (book_of self.now)
+            (book_of (sheet self.now.cells (C.given inputs.now))) 0 0 (length self.now.cells)
+            (map (λ c. change_at c.place (C.recorded c.record.value)) s.changed.items)) }
+        ensures fit { IfOk result (λ s. AreFit C.covers (length self.now.cells)
+            (map (λ c. fit_at c.place (C.recorded c.record.value) c.word) s.changed.items)) }
+        ensures noted { IfOk result (λ s. All (λ n. IsChangeAt (book_of self.now)
+            (book_of (sheet self.now.cells (C.given inputs.now))) n.place n.now
+            (C.change_of n.change)) s.noted.items) }
+        ensures counts { CountsStale (book_of self.now)
+            (book_of (sheet self.now.cells (C.given inputs.now))) meter.old meter.new }
+    {
+        let session = C::empty(self.alloc)?;
+        let change = C::input_change(self.alloc, &self.inputs, inputs)?;
+        let word = C::change_word(&change);
+        let mut state = SweepState {
+            change,
+            word,
+            session,
+            since: 0,
+            changed: Vec::new(self.alloc),
+        };
+        let mut noted = Vec::new(self.alloc);
+        sweep::<C>(
+            self.alloc,
+            meter,
+            &self.cells,
+            &self.records,
+            &self.words,
+            inputs,
+            0,
+            self.cells.len(),
+            0,
+            &self.snapshots,
+            &mut state,
+            &mut noted,
+        )?;
+        Ok(Swept {
+            changed: state.changed,
+            noted,
+        })
+    }
+
+    /// Takes these inputs in the place of the present ones. It is refused for want of memory alone.
+    pub fn set_inputs(&mut self, meter: &mut Meter, inputs: C::Inputs) -> Result<(), AllocError>
+        ensures ok { OnOk result (self.new ≡ sheet self.old.cells (C.given inputs)) }
+        ensures err { OnErr result (self.new ≡ self.old) }
+        ensures counts { CountsStale (book_of self.old)
+            (book_of (sheet self.old.cells (C.given inputs))) meter.old meter.new }
+    {
+        let Swept { changed, noted } = self.swept_over(meter, &inputs)?;
+        install::<C>(&mut self.records, &mut self.words, changed);
+        let fresh = Vec::new(self.alloc);
+        carry::<C>(self.alloc, &mut self.snapshots, fresh, noted, 0);
+        self.inputs = inputs;
+        Ok(())
+    }
+
+    /// Sweeps over the cells behind one, without what that one did.
+    fn swept_without(
+        &self,
+        meter: &mut Meter,
+        at: usize,
+        session: C::Session,
+    ) -> Result<Swept<C>, AllocError>
+        requires at { at < length self.now.cells }
+        requires session { StandsBefore (book_of self.now) at (C.session_of session) }
+        ensures changed { IfOk result (λ v. AreChanged (book_of self.now)
+            (book_of (sheet (remove self.now.cells at) self.now.given)) (at + 1) at
+            (length self.now.cells)
+            (map (λ c. change_at c.place (C.recorded c.record.value)) v.changed.items)) }
+        ensures fit { IfOk result (λ v. AreFit C.covers (length self.now.cells)
+            (map (λ c. fit_at c.place (C.recorded c.record.value) c.word) v.changed.items)) }
+        ensures noted { IfOk result (λ s. All (λ n. IsChangeAt (book_of self.now)
+            (book_of (sheet (remove self.now.cells at) self.now.given)) n.place n.now
+            (C.change_of n.change)) s.noted.items) }
+        ensures counts { CountsStale (book_of self.now)
+            (book_of (sheet (remove self.now.cells at) self.now.given)) meter.old meter.new }
+    {
+        let mut change = C::no_change(self.alloc);
+        C::went(&self.records[at], &session, &mut change)?;
+        let word = C::change_word(&change);
+        let mut state = SweepState {
+            change,
+            word,
+            session,
+            since: at + 1,
+            changed: Vec::new(self.alloc),
+        };
+        let mut noted = Vec::new(self.alloc);
+        sweep::<C>(
+            self.alloc,
+            meter,
+            &self.cells,
+            &self.records,
+            &self.words,
+            &self.inputs,
+            at + 1,
+            self.cells.len(),
+            at,
+            &self.snapshots,
+            &mut state,
+            &mut noted,
+        )?;
+        Ok(Swept {
+            changed: state.changed,
+            noted,
+        })
+    }
+
+    /// Sweeps over the cells behind one, without what that one did. Behind the last cell there is nothing to do, and no memory is
+    /// taken.
+    fn swept_away(&self, meter: &mut Meter, at: usize) -> Result<Away<C>, AllocError>
+        requires { at < length self.now.cells }
+        ensures changed { IfOk result (λ v. AreChanged (book_of self.now)
+            (book_of (sheet (remove self.now.cells at) self.now.given)) (at + 1) at
+            (length self.now.cells)
+            (map (λ c. change_at c.place (C.recorded c.record.value)) v.swept.changed.items)) }
+        ensures fit { IfOk result (λ v. AreFit C.covers (length self.now.cells)
+            (map (λ c. fit_at c.place (C.recorded c.record.value) c.word) v.swept.changed.items)) }
+        ensures noted { IfOk result (λ s. All (λ n. IsChangeAt (book_of self.now)
+            (book_of (sheet (remove self.now.cells at) self.now.given)) n.place n.now
+            (C.change_of n.change)) s.swept.noted.items) }
+        ensures fresh { IfOk result (λ f. All (λ s. IsSnapshot (book_of self.now) s.place
+            (C.kept_session s.version) (map C.change_of s.pending.items)) f.fresh.items) }
+        ensures last { at + 1 ≡ length self.now.cells → IsOk result }
+        ensures counts { CountsStale (book_of self.now)
+            (book_of (sheet (remove self.now.cells at) self.now.given)) meter.old meter.new }
+    {
+        if self.cells.len() == at + 1 {
+            let changed = Vec::new(self.alloc);
+            let noted = Vec::new(self.alloc);
+            let fresh = Vec::new(self.alloc);
+            let swept = Swept { changed, noted };
+            return Ok(Away { swept, fresh });
+        }
+        let Front { session, fresh } = self.front_before(at)?;
+        let swept = self.swept_without(meter, at, session)?;
+        Ok(Away { swept, fresh })
+    }
+
+    /// Takes the cell at the place out. It is refused for want of memory alone, and at the last cell never.
+    pub fn remove(&mut self, meter: &mut Meter, at: usize) -> Result<(), AllocError>
+        requires { at < length self.old.cells }
+        ensures ok { OnOk result (self.new ≡ edited_sheet (Remove at) self.old) }
+        ensures err { OnErr result (self.new ≡ self.old) }
+        ensures last { at + 1 ≡ length self.old.cells → IsOk result }
+        ensures counts { CountsStale (book_of self.old)
+            (book_of (edited_sheet (Remove at) self.old)) meter.old meter.new }
+    {
+        let Away { swept, fresh } = self.swept_away(meter, at)?;
+        let Swept { changed, noted } = swept;
+        install::<C>(&mut self.records, &mut self.words, changed);
+        self.least = self.least.min(self.cells[at].label as usize);
+        let _cell = self.cells.remove(at);
+        let _record = self.records.remove(at);
+        let _word = self.words.remove(at);
+        carry::<C>(self.alloc, &mut self.snapshots, fresh, noted, at);
+        Ok(())
+    }
+
+    /// Runs a new cell before the one at a place, and sweeps over those from there on.
+    fn swept_new(
+        &self,
+        meter: &mut Meter,
+        at: usize,
+        source: &KeptCell,
+        session: C::Session,
+    ) -> Result<Grown<C>, AllocError>
+        requires at { at ≤ length self.now.cells }
+        requires session { StandsBefore (book_of self.now) at (C.session_of session) }
+        requires label { source.now.label ≡ books.fresh_label self.now.cells }
+        ensures made { IfOk result (λ g. C.recorded g.new.record.value
+            ≡ record_at (book_of self.now).inputs (entry_at
+            (book_of (sheet (insert self.now.cells at (cell_of source.now)) self.now.given)) at)) }
+        ensures worded { IfOk result
+            (λ g. IsWordOf C.covers g.new.word (C.recorded g.new.record.value)) }
+        ensures changed { IfOk result (λ g. AreChanged (book_of self.now)
+            (book_of (sheet (insert self.now.cells at (cell_of source.now)) self.now.given)) at
+            (at + 1) (length self.now.cells)
+            (map (λ c. change_at c.place (C.recorded c.record.value)) g.swept.changed.items)) }
+        ensures fit { IfOk result (λ g. AreFit C.covers (length self.now.cells)
+            (map (λ c. fit_at c.place (C.recorded c.record.value) c.word) g.swept.changed.items)) }
+        ensures noted { IfOk result (λ g. All (λ n. IsChangeAt (book_of self.now)
+            (book_of (sheet (insert self.now.cells at (cell_of source.now)) self.now.given))
+            n.place n.now (C.change_of n.change)) g.swept.noted.items) }
+        ensures counts { CountsStale (book_of self.now)
+            (book_of (sheet (insert self.now.cells at (cell_of source.now)) self.now.given))
+            meter.old meter.new }
+    {
+        let change = C::no_change(self.alloc);
+        let word = C::change_word(&change);
+        let mut state = SweepState {
+            change,
+            word,
+            session,
+            since: at,
+            changed: Vec::new(self.alloc),
+        };
+        let mut noted = Vec::new(self.alloc);
+        let new = run_new::<C>(self.alloc, meter, source, &self.inputs, &mut state)?;
+        sweep::<C>(
+            self.alloc,
+            meter,
+            &self.cells,
+            &self.records,
+            &self.words,
+            &self.inputs,
+            at,
+            self.cells.len(),
+            at + 1,
+            &self.snapshots,
+            &mut state,
+            &mut noted,
+        )?;
+        let swept = Swept {
+            changed: state.changed,
+            noted,
+        };
+        Ok(Grown { new, swept })
+    }
+
+    /// Puts a new cell at the place, which may be behind the last one. It is refused for want of memory alone.
+    pub fn insert(&mut self, meter: &mut Meter, at: usize, text: &str) -> Result<(), AllocError>
+        requires { at ≤ length self.old.cells }
+        ensures ok { OnOk result (self.new ≡ edited_sheet (Insert at text.now) self.old) }
+        ensures err { OnErr result (self.new ≡ self.old) }
+        ensures counts { CountsStale (book_of self.old)
+            (book_of (edited_sheet (Insert at text.now) self.old)) meter.old meter.new }
+    {
+        let FreeLabel { label, next } = fresh_label(self.alloc, &self.cells, self.least)?;
+        let text = String::from_str(self.alloc, text)?;
+        let cell = Rc::new(self.alloc, KeptCell { label, text })?;
+        if at == self.cells.len() {
+            return self.append(meter, cell, next);
+        }
+        let Front { session, fresh } = self.front_before(at)?;
+        let Grown { new, swept } = self.swept_new(meter, at, &cell, session)?;
+        let New { record, word } = new;
+        let Swept { changed, noted } = swept;
+        make_room(&mut self.cells, at, at, 1)?;
+        make_room(&mut self.records, at, at, 1)?;
+        make_room(&mut self.words, at, at, 1)?;
+        install::<C>(&mut self.records, &mut self.words, changed);
+        let _cell = self.cells.insert(at, cell);
+        let _record = self.records.insert(at, record);
+        let _word = self.words.insert(at, word);
+        self.least = next;
+        carry::<C>(self.alloc, &mut self.snapshots, fresh, noted, at);
+        Ok(())
+    }
+}
+
+/// Puts the record of a cell that was run in its place, if there is one. It takes no memory.
+fn put_made<C: CellRunner>(
+    records: &mut Vec<Rc<C::Record>>,
+    words: &mut Vec<C::Word>,
+    at: usize,
+    made: Option<New<C>>,
+)
+    requires at { at < length records.old.items }
+    requires many { length words.old.items ≡ length records.old.items }
+    requires worded { IfSome made (λ n. IsWordOf C.covers n.word (C.recorded n.record.value)) }
+    ensures there { (r x : kept.Record)
+        → MatchOption made (slice_index_or (each_of C.recorded records.old.items) at r ≡ x)
+        (λ n. C.recorded n.record.value ≡ x)
+        → slice_index_or (each_of C.recorded records.new.items) at r ≡ x }
+    ensures others { (k : ℕ) (r : kept.Record) → ¬ (k ≡ at)
+        → slice_index_or (each_of C.recorded records.new.items) k r
+        ≡ slice_index_or (each_of C.recorded records.old.items) k r }
+    ensures words { AreWords C.covers words.old.items (each_of C.recorded records.old.items)
+        → AreWords C.covers words.new.items (each_of C.recorded records.new.items) }
+    ensures count { length records.new.items ≡ length records.old.items }
+    ensures many { length words.new.items ≡ length words.old.items }
+{
+    if let Some(New { record, word }) = made {
+        records[at] = record;
+        words[at] = word;
+    }
+}
+
+impl<C: CellRunner> Schedule<C> {
+    /// A sweep that stands at a place, where nothing is changed yet.
+    fn begin(&self, at: usize, session: C::Session) -> SweepState<C>
+        requires at { at ≤ length self.now.cells }
+        requires session { StandsBefore (book_of self.now) at (C.session_of session) }
+        ensures at { (new : Book) → SharesFront at (book_of self.now) new
+            → (book_of self.now).inputs ≡ new.inputs
+            → IsAt (book_of self.now) new at at (C.change_of result.change)
+            (C.session_of result.session) result.since }
+        ensures covered { IsWordOfChange C.covers result.word (C.change_of result.change) }
+        ensures changed { result.changed.items ≡ [] }
+    {
+        let change = C::no_change(self.alloc);
+        let word = C::change_word(&change);
+        SweepState {
+            change,
+            word,
+            session,
+            since: at,
+            changed: Vec::new(self.alloc),
+        }
+    }
+
+    /// Sweeps over the cells around one that moves.
+    fn swept_moved(
+        &self,
+        meter: &mut Meter,
+        from: usize,
+        to: usize,
+        session: C::Session,
+    ) -> Result<Moved<C>, AllocError>
+        requires from { from < length self.now.cells }
+        requires to { to < length self.now.cells }
+        requires other { ¬ (from ≡ to) }
+        requires session { StandsBefore (book_of self.now) (min from to) (C.session_of session) }
+        ensures moved { IfOk result (λ m. AreMoved (book_of self.now)
+            (book_of (edited_sheet (Move from to) self.now)) from to
+            (map (λ c. change_at c.place (C.recorded c.record.value)) m.between.items)
+            (map (λ c. change_at c.place (C.recorded c.record.value)) m.behind.items)) }
+        ensures made { IfOk result (λ m. MatchOption m.made
+            (record_at (book_of self.now).inputs (entry_at (book_of self.now) from)
+            ≡ record_at (book_of self.now).inputs
+            (entry_at (book_of (edited_sheet (Move from to) self.now)) to))
+            (λ n. C.recorded n.record.value ≡ record_at (book_of self.now).inputs
+            (entry_at (book_of (edited_sheet (Move from to) self.now)) to))) }
+        ensures worded { IfOk result (λ m. IfSome m.made
+            (λ n. IsWordOf C.covers n.word (C.recorded n.record.value))) }
+        ensures fit_between { IfOk result (λ m. AreFit C.covers (length self.now.cells)
+            (map (λ c. fit_at c.place (C.recorded c.record.value) c.word) m.between.items)) }
+        ensures fit_behind { IfOk result (λ m. AreFit C.covers (length self.now.cells)
+            (map (λ c. fit_at c.place (C.recorded c.record.value) c.word) m.behind.items)) }
+        ensures noted { IfOk result (λ m. All (λ n. IsChangeAt (book_of self.now)
+            (book_of (edited_sheet (Move from to) self.now)) n.place n.now
+            (C.change_of n.change)) m.noted.items) }
+        ensures counts { CountsStale (book_of self.now)
+            (book_of (edited_sheet (Move from to) self.now)) meter.old meter.new }
+    {
+        let mut state = self.begin(from.min(to), session);
+        if from < to {
+            return move_down::<C>(
+                self.alloc,
+                meter,
+                &self.cells,
+                &self.records,
+                &self.words,
+                &self.inputs,
+                from,
+                to,
+                &self.snapshots,
+                &mut state,
+            );
+        }
+        move_up::<C>(
+            self.alloc,
+            meter,
+            &self.cells,
+            &self.records,
+            &self.words,
+            &self.inputs,
+            from,
+            to,
+            &self.snapshots,
+            &mut state,
+        )
     }
 
     /// Moves the cell at the first place, so that it stands at the second afterwards. It is refused for want of memory alone.
@@ -231,164 +648,24 @@ impl<C: CellRunner> Schedule<C> {
         ensures counts { CountsStale (book_of self.old)
             (book_of (edited_sheet (Move from to) self.old)) meter.old meter.new }
     {
+        if from == to {
+            return Ok(());
+        }
         let first = from.min(to);
-        let last = from.max(to);
-        prove!(last < self.count());
-        let mut part = self.part(first, last + 1)?;
-        let cell = part.cells.remove(from - first);
-        let kept = part.kept.remove(from - first);
-        part.cells.insert(to - first, cell)?;
-        part.kept.insert(to - first, kept)?;
-        self.replace(meter, part)
-    }
-
-    /// Takes the cell at the place out. It is refused for want of memory alone.
-    pub fn remove(&mut self, meter: &mut Meter, at: usize) -> Result<(), AllocError>
-        requires { at < length self.old.cells }
-        ensures ok { OnOk result (self.new ≡ edited_sheet (Remove at) self.old) }
-        ensures err { OnErr result (self.new ≡ self.old) }
-        ensures counts { CountsStale (book_of self.old)
-            (book_of (edited_sheet (Remove at) self.old)) meter.old meter.new }
-    {
-        prove!(at < self.count());
-        let mut part = self.part(at, at + 1)?;
-        let _cell = part.cells.remove(0);
-        let _kept = part.kept.remove(0);
-        self.replace(meter, part)
-    }
-
-    /// The place of the first cell that read an input that is changed, or behind the last one.
-    fn first_reader(&self, inputs: &C::Inputs) -> usize
-        ensures within { result ≤ length self.now.cells }
-        ensures front { SharesFront result (book_of self.now)
-            (book_of (sheet self.now.cells (C.given inputs.now))) }
-    {
-        for (at, made) in self.records.iter().enumerate() {
-            if C::reads_changed(made, &self.inputs, inputs) {
-                return at;
-            }
-        }
-        self.records.len()
-    }
-
-    /// The place behind the last cell that read an input that is changed.
-    fn unread_from(&self, inputs: &C::Inputs) -> usize
-        ensures within { result ≤ length self.now.cells }
-        ensures unread { (k : ℕ) → result ≤ k → k < length self.now.cells
-            → ReadsNoOther (book_of self.now) (inputs_in (C.given inputs.now)) k }
-    {
-        for back in 0..self.records.len() {
-            let k = self.records.len() - 1 - back;
-            if C::reads_changed(&self.records[k], &self.inputs, inputs) {
-                return k + 1;
-            }
-        }
-        0
-    }
-
-    /// Takes these inputs in the place of the present ones. It is refused for want of memory alone.
-    pub fn set_inputs(&mut self, meter: &mut Meter, inputs: C::Inputs) -> Result<(), AllocError>
-        ensures ok { OnOk result (self.new ≡ sheet self.old.cells (C.given inputs)) }
-        ensures err { OnErr result (self.new ≡ self.old) }
-        ensures counts { CountsStale (book_of self.old)
-            (book_of (sheet self.old.cells (C.given inputs))) meter.old meter.new }
-    {
-        let from = self.first_reader(&inputs);
-        let behind = self.unread_from(&inputs).max(from);
-        let part = self.part(from, behind)?;
-        make_versions::<C>(self.alloc, &self.records, &mut self.versions, part.at)?;
-        let runs = self.pass(meter, &inputs, &part)?;
-        reserve::<C>(
-            &runs,
-            part.at,
-            &mut self.records,
-            &mut self.versions,
-            &mut self.readings,
-        )?;
-        put_runs(
-            runs,
-            part.at,
-            &mut self.records,
-            &mut self.versions,
-            &mut self.last,
-        );
-        self.inputs = inputs;
+        let Front { session, fresh } = self.front_before(first)?;
+        let Moved {
+            made,
+            between,
+            behind,
+            noted,
+        } = self.swept_moved(meter, from, to, session)?;
+        install::<C>(&mut self.records, &mut self.words, between);
+        install::<C>(&mut self.records, &mut self.words, behind);
+        put_made::<C>(&mut self.records, &mut self.words, from, made);
+        move_item(&mut self.cells, from, to);
+        move_item(&mut self.records, from, to);
+        move_item(&mut self.words, from, to);
+        carry::<C>(self.alloc, &mut self.snapshots, fresh, noted, first);
         Ok(())
-    }
-}
-
-impl<C: CellRunner> Schedule<C> {
-    /// The inputs.
-    pub fn inputs(&self) -> &C::Inputs
-        ensures { C.given result.now ≡ self.now.given }
-    {
-        &self.inputs
-    }
-
-    /// The text of the cell at the place.
-    pub fn text(&self, at: usize) -> &str
-        requires { at < length self.now.cells }
-        ensures { result.now ≡ (slice_index_or self.now.cells at no_cell).source }
-    {
-        self.cells[at].text.as_str()
-    }
-
-    /// The label of the cell at the place.
-    pub fn label(&self, at: usize) -> u64
-        requires { at < length self.now.cells }
-        ensures { result ≡ (slice_index_or self.now.cells at no_cell).label }
-    {
-        self.cells[at].label
-    }
-
-    /// A fact, and no work: no two cells have the same label.
-    pub fn distinctness(&self)
-        ensures { AreDistinct (labels_of self.now.cells) }
-    {
-        let _ = &self.records;
-    }
-
-    /// What the run of the cell at the place gave. It takes no memory.
-    pub fn record_at(&self, at: usize) -> &C::Record
-        requires { at < length self.now.cells }
-        ensures { slice_get (told_book (book_of self.now)) at
-            ≡ Some (told_of (C.recorded result.now) (session_before (book_of self.now) (at + 1))) }
-    {
-        &self.records[at]
-    }
-
-    /// Whether a name is bound after the cell at the place, where its record or the version before it tells it.
-    fn bound_by(&self, at: usize, name: &str) -> Option<bool>
-        requires { at < length self.now.cells }
-        ensures { is_some (lookup name.now (session_before (book_of self.now) (at + 1)).names)
-            ≡ unwrap_or result
-            (is_some (lookup name.now (session_before (book_of self.now) at).names)) }
-    {
-        match C::last_of(&self.records[at], name) {
-            Some(bound) => Some(bound),
-            None => {
-                if at >= self.versions.len() {
-                    return None;
-                }
-                match &self.versions[at] {
-                    Some(version) => Some(C::has_name(version, name)),
-                    None => None,
-                }
-            }
-        }
-    }
-
-    /// Whether a name is bound in the session before the cell at a place, or after the last one. It takes no memory.
-    pub fn is_bound(&self, at: usize, name: &str) -> bool
-        requires { at ≤ length self.now.cells }
-        ensures { result
-            ≡ is_some (lookup name.now (session_before (book_of self.now) at).names) }
-    {
-        for back in 0..at {
-            if let Some(bound) = self.bound_by(at - 1 - back, name) {
-                return bound;
-            }
-        }
-        false
     }
 }

@@ -115,12 +115,22 @@ pub(crate) fn select_elements(
     ensures lies { IfOk result (λ s. (len : ℕ) → LiesIn len view.now → LiesIn len (selected s)) }
 {
     let items = items_in(session, items)?;
-    let places = match choose_places(session.allocator(), view, &items) {
-        Ok(places) => places,
-        Err(fault) => return Err(stop_of(fault)),
-    };
-    let view = view.try_clone()?;
-    Ok(Selection { view, places })
+    match choose_places(session.allocator(), view, &items) {
+        Ok(places) => {
+            drop(items);
+            match view.try_clone() {
+                Ok(view) => Ok(Selection { view, places }),
+                Err(_) => {
+                    drop(places);
+                    Err(Stop::Memory)
+                }
+            }
+        }
+        Err(fault) => {
+            drop(items);
+            Err(stop_of(fault))
+        }
+    }
 }
 
 /// Returns a copy, as a new array, of the elements that an advanced index selected in a block: it

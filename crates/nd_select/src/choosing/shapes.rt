@@ -50,8 +50,17 @@ pub fn transpose(alloc: Global, target: &Value, axes: &[Value]) -> Result<View, 
         (model.transpose_array (unused_of target.now) (map unused_of axes.now)) }
 {
     let axes = integers_of(alloc, axes)?;
-    let array = array_of(target)?;
-    order_axes(alloc, &array.view, &axes)
+    match array_of(target) {
+        Ok(array) => {
+            let found = order_axes(alloc, &array.view, &axes);
+            drop(axes);
+            found
+        }
+        Err(fault) => {
+            drop(axes);
+            Err(Stop::Refused(fault))
+        }
+    }
 }
 
 /// Whether a length is longer than each axis of an array may be.

@@ -52,9 +52,23 @@ fn stretch_number(alloc: Global, number: Num, shape: &[u64]) -> Result<New, Stop
     let elem = Elem::little(array_kind(number)?);
     check_limits(elem.size(), shape)?;
     let element = View::contiguous(alloc, ElemType::One(elem), &[])?;
-    let block = full(alloc, &element, elem, whole_number(number))?;
-    let view = stretch(alloc, &element, shape)?;
-    Ok(New::Array(view, block))
+    match full(alloc, &element, elem, whole_number(number)) {
+        Ok(block) => match stretch(alloc, &element, shape) {
+            Ok(view) => {
+                drop(element);
+                Ok(New::Array(view, block))
+            }
+            Err(stop) => {
+                drop(element);
+                drop(block);
+                Err(stop)
+            }
+        },
+        Err(_) => {
+            drop(element);
+            Err(Stop::Memory)
+        }
+    }
 }
 
 /// A new array of one structure, broadcast to a shape.
@@ -68,9 +82,23 @@ fn stretch_row(alloc: Global, row: &BorrowedArray<'_>, shape: &[u64]) -> Result<
     check_limits(row.view.elem().size(), shape)?;
     row.soundness();
     let element = View::contiguous(alloc, row.view.elem().try_clone()?, &[])?;
-    let block = copy_elements(alloc, row.view, row.block)?;
-    let view = stretch(alloc, &element, shape)?;
-    Ok(New::Array(view, block))
+    match copy_elements(alloc, row.view, row.block) {
+        Ok(block) => match stretch(alloc, &element, shape) {
+            Ok(view) => {
+                drop(element);
+                Ok(New::Array(view, block))
+            }
+            Err(stop) => {
+                drop(element);
+                drop(block);
+                Err(stop)
+            }
+        },
+        Err(_) => {
+            drop(element);
+            Err(Stop::Memory)
+        }
+    }
 }
 
 /// Returns the view that `np.broadcast_to` gives over a new array of one number or row.

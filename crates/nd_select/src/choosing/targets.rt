@@ -196,6 +196,11 @@ pub fn assignment_target(
 {
     let found = Target::new(choose(session, target, index)?);
     found.soundness();
-    check_value(&found, value, is_full_mask(target, index))?;
-    Ok(found)
+    match check_value(&found, value, is_full_mask(target, index)) {
+        Ok(()) => Ok(found),
+        Err(fault) => {
+            drop(found);
+            Err(Stop::Refused(fault))
+        }
+    }
 }

@@ -164,6 +164,14 @@ pub fn update_chosen(
     let (array, values) = results_in_place(alloc, op, kind, &copy.view, read, right)?;
     let block = session.bytes(base);
     let (view, places) = (&selection.view, &selection.places);
-    let scatter = prepare_results(alloc, view, places, block, &array, values)?;
-    write_scattered(session, base, selection, scatter)
+    match prepare_results(alloc, view, places, block, &array, values) {
+        Ok(scatter) => {
+            drop(array);
+            write_scattered(session, base, selection, scatter)
+        }
+        Err(_) => {
+            drop(array);
+            Err(OutOfMemory)
+        }
+    }
 }

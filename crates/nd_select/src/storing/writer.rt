@@ -30,6 +30,7 @@ impl<'v> BlockWriter for AssignedBytes<'v> {
 
     fn write(self, block: &mut RawBlock) {
         self.assignment.write(block);
+        drop(self);
     }
 
     ghost keeps_length = { λ w bytes. length-written_by w.assignment bytes };
@@ -46,6 +47,7 @@ impl<'v> BlockWriter for ResultBytes<'v> {
 
     fn write(self, block: &mut RawBlock) {
         self.results.write(block);
+        drop(self);
     }
 
     ghost keeps_length = { λ w bytes. length-written_in_place w.results bytes };
@@ -62,6 +64,7 @@ impl<'v> BlockWriter for ScatteredBytes<'v> {
 
     fn write(self, block: &mut RawBlock) {
         self.scatter.write(block);
+        drop(self);
     }
 
     ghost keeps_length = { λ w bytes. length-scattered_by w.scatter bytes };

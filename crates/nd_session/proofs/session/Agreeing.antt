@@ -36,9 +36,6 @@ AreBytesFound s e = AreSameBytes s (base_of e.0) (bytes_of e.1)
 abbrev pub IsInputFound : Inputs → String Global × Option (Rc code.Input Global) → Type 0
 IsInputFound inputs e = source_at e.1 ≡ inputs (string_bytes e.0)
 
-abbrev pub IsUnchanged : Inputs → Inputs → String Global × Option (Rc code.Input Global) → Type 0
-IsUnchanged old new e = old (string_bytes e.0) ≡ new (string_bytes e.0)
-
 pub lent_value : (r : Option (Bor (Rc Value Global))) → option_map (λ (v : Bor (Rc Value Global)). value_of v.now.value) r ≡ value_at (option_copied r)
 lent_value None = refl
 lent_value (Some v) = refl

@@ -10,7 +10,7 @@ use Rattle.nd_session.specs.Session.Changes.{is_bound}
 use Rattle.nd_trace.specs.Events.{binds, event_of, name_of_event}
 use Rattle.nd_trace.specs.declared.trace.Event as code
 
-replayed-more : (es : List Event) (e : Event) (names : Names) → replayed (es ++ e ∷ []) names ≡ replayed (e ∷ []) (replayed es names)
+pub replayed-more : (es : List Event) (e : Event) (names : Names) → replayed (es ++ e ∷ []) names ≡ replayed (e ∷ []) (replayed es names)
 replayed-more [] e names = refl
 replayed-more (Binds n v ∷ es) e names = replayed-more es e (bind n v names)
 replayed-more (Unbinds n ∷ es) e names = replayed-more es e (unbind n names)

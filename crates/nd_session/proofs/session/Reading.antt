@@ -1,5 +1,6 @@
 -- What is kept of what a cell read, by texts and by bases.
 use Rattle.std.proofs.Common.{◌≡◌, ◌<◌, ◌≤◌, ℕ, zero, suc, Bool, true, false, cond, ◌&&◌, ◌||◌, bytes_eq, List, [], ◌∷◌, map, take, length, slice_get, slice_index, get_or, string_bytes, String, Global, Option, Some, None, option_map, refl, sym, ap, ap₂, subst, ◌∙◌, inl, inr, arith}
+use Rattle.std.specs.Prelude.{is_some}
 use Rattle.std.specs.Map.{lookup as find}
 use Rattle.std.specs.List.{AllByRecursion}
 use Rattle.indexmap.specs.IndexMap.{insert_entry}
@@ -105,6 +106,25 @@ module _ {V A : Type 0} (f : V → A) where
         subst (λ k. Q k a) (sym (same_bases b (base_of e.0) is)) (subst (Q (base_of e.0)) (some_same (f e.1) a here) h.0)
     | inr other ↦ let rest : lookup_base b (by_base f es) ≡ Some a = rw other at at in base_all Q es h.1 b a rest
   ]
+
+-- ---- entries by their place
+
+pub length-by_base : {V A : Type 0} (f : V → A) (es : List (Base × V)) → length (by_base f es) ≡ length es
+length-by_base f [] = refl
+length-by_base f (e ∷ es) = ap suc (length-by_base f es)
+
+pub base_at : {V A : Type 0} (f : V → A) (es : List (Base × V)) (i : ℕ) (e : Base × V) → slice_get es i ≡ Some e → slice_get (by_base f es) i ≡ Some (base_of e.0, f e.1)
+base_at f [] i e at = none_some e at
+base_at {V} f (d ∷ es) zero e at = ap (λ (d : Base × V). Some (base_of d.0, f d.1)) (some_same d e at)
+base_at f (d ∷ es) (suc i) e at = base_at f es i e at
+
+-- nothing stands by a base that has no entry
+pub base_lacks : {V A : Type 0} (f : V → A) (b : Base) (es : List (Base × V)) → is_some (find (base_eq b) es) ≡ false → lookup_base (base_of b) (by_base f es) ≡ None
+base_lacks f b es out = base_found f b es ∙ ap (option_map f) (gone (find (base_eq b) es) out)
+  where
+    gone : {V : Type 0} (o : Option V) → is_some o ≡ false → o ≡ None
+    gone None h = refl
+    gone (Some v) h = cc
 
 -- ---- one more text or base
 

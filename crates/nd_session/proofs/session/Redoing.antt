@@ -7,7 +7,7 @@ use Rattle.std.proofs.lemmas.List.{take_all}
 use Rattle.nd_model.specs.Arrays.Value as model
 use Rattle.nd_model.specs.Cells.Session as session
 use Rattle.nd_model.specs.Cells.Footprint.{patched, replayed, HasNone}
-use Rattle.nd_model.proofs.CutOff.{patched_none}
+use Rattle.nd_model.proofs.Patched.{patched_none}
 use Rattle.nd_model.proofs.Held.{held_by_own}
 use mathlib.Core.Path.{fun_ext}
 use Rattle.nd_heap.specs.declared.value.Base.{Base}
@@ -58,7 +58,7 @@ module _ (label : ℕ) (es : List (Base × Shared)) (i : ℕ) (e : Base × Share
 
 -- ---- bytes that are put back
 
-patched_twice : (w : ℕ → Option ℕ) (xs : List ℕ) → patched w (patched w xs) ≡ patched w xs
+pub patched_twice : (w : ℕ → Option ℕ) (xs : List ℕ) → patched w (patched w xs) ≡ patched w xs
 patched_twice w [] = refl
 patched_twice w (x ∷ xs) = ap₂ (λ y ys. y ∷ ys) (go (w 0) x) (patched_twice (λ p. w (suc p)) xs)
   where
@@ -66,7 +66,7 @@ patched_twice w (x ∷ xs) = ap₂ (λ y ys. y ∷ ys) (go (w 0) x) (patched_twi
     go None x = refl
     go (Some y) x = refl
 
-patched_same : (v w : ℕ → Option ℕ) (xs : List ℕ) → ((p : ℕ) → v p ≡ w p) → patched v xs ≡ patched w xs
+pub patched_same : (v w : ℕ → Option ℕ) (xs : List ℕ) → ((p : ℕ) → v p ≡ w p) → patched v xs ≡ patched w xs
 patched_same v w [] h = refl
 patched_same v w (x ∷ xs) h = ap₂ (λ y ys. y ∷ ys) (ap (λ o. unwrap_or o x) (h 0)) (patched_same (λ p. v (suc p)) (λ p. w (suc p)) xs (λ p. h (suc p)))
 

@@ -1,7 +1,6 @@
 -- What is noted, under names and blocks.
-use Rattle.std.proofs.Common.{◌≡◌, ℕ, Bool, true, false, not, ◌&&◌, ◌||◌, List, [], ◌∷◌, ◌++◌, refl, sym, ap, ap₂, ◌∙◌, Option, inl, inr}
+use Rattle.std.proofs.Common.{◌≡◌, ℕ, Bool, true, false, not, ◌&&◌, ◌||◌, List, [], ◌∷◌, ◌++◌, refl, sym, ap, ap₂, ◌∙◌, Option}
 use mathlib.Core.Path.{fun_ext}
-use Rattle.std.proofs.lemmas.Bool.{cases_Bool}
 use Rattle.nd_model.specs.Arrays.Value.{Base, Value}
 use Rattle.nd_model.specs.Cells.Session as model
 use Rattle.nd_model.specs.Cells.Running.{Key}
@@ -64,13 +63,3 @@ pub begun : (label : ℕ) (t : running.Running) (names : model.Names) (bytes : B
 begun label t names bytes s fresh same held =
     let all : bytes ≡ model.held_bytes s = fun_ext held in
     λ i. record (fresh i) { names = same i; bytes = all i; next = 0 }
-
--- sessions of the same names, with the same bytes in the bases that these hold
-pub same_collected : (s t : model.Session) → s.names ≡ t.names → ((b : Base) → model.is_held b s.names ≡ true → s.bytes b ≡ t.bytes b) → model.collected s ≡ model.collected t
-same_collected s t names bytes = λ i. record { names = names i; bytes = fun_ext here i }
-  where
-    here : (b : Base) → model.held_bytes s b ≡ model.held_bytes t b
-    here b = elim (cases_Bool (model.is_held b s.names)) [
-      | inl held ↦ let there : model.is_held b t.names ≡ true = ap (model.is_held b) (sym names) ∙ held in rw (held, there) (bytes b held)
-      | inr free ↦ let there : model.is_held b t.names ≡ false = ap (model.is_held b) (sym names) ∙ free in rw (free, there) refl
-    ]

@@ -1,6 +1,6 @@
 //! `Changes`: what a cell did to its session, kept for its replay.
 
-ghost use Rattle.std.specs.Prelude.{◌≡◌, ℕ, [], true, nat_eq, map, filter, if◌then◌else◌, slice_index, IfOk, IsTrue, None, Some, unwrap_or};
+ghost use Rattle.std.specs.Prelude.{◌≡◌, ℕ, [], true, nat_eq, map, filter, if◌then◌else◌, slice_index, IfOk, IsTrue, None, Some, unwrap_or, ◌<◌, IsFalse, length, slice_get, option_map};
 ghost use Rattle.nd_model.specs.Cells.Footprint.{effects_of, replayed};
 ghost use Rattle.nd_model.specs.Cells.Session as model;
 ghost use Rattle.nd_model.specs.Arrays.Value as values;
@@ -8,6 +8,7 @@ ghost use Rattle.nd_session.specs.Session.Changes.{bases_in, ended, events_in, i
 ghost use Rattle.nd_session.specs.Session.Fields.{effects_over};
 ghost use Rattle.nd_session.specs.Session.Found.{byte_found};
 ghost use Rattle.nd_heap.specs.Contents.{bases_of};
+ghost use Rattle.nd_heap.specs.Values.{base_of};
 ghost use Rattle.nd_trace.specs.Contents.{marks_of};
 ghost use Rattle.nd_trace.specs.Events.{event_of};
 ghost use Rattle.nd_heap.specs.Live.{bytes_at, is_base_among};
@@ -15,7 +16,6 @@ ghost use Rattle.nd_trace.specs.Marked.{is_marked};
 ghost use Rattle.nd_session.specs.Session.Live.{live};
 
 use crate::session::found::{FoundByBase, note_bytes};
-use crate::session::matching::{are_among, are_found_among, are_same_events};
 use crate::session::redo::replay;
 use crate::session::session::Session;
 use indexmap::IndexMap;
@@ -193,36 +193,29 @@ impl Changes {
         last_of(&self.events, name)
     }
 
-    /// Returns true only where the cell bound and unbound no name and wrote to no block of another
-    /// cell.
-    pub fn is_quiet(&self) -> bool
-        ensures events { IsTrue result → events_in self.now ≡ [] }
-        ensures writes { IsTrue result → (b : values.Base) (p : ℕ)
-            → writes_in self.now b p ≡ None }
+    /// Returns whether the cell wrote to a block that another cell made.
+    pub fn writes_to(&self, base: Base) -> bool
+        ensures { IsFalse result → (p : ℕ) → writes_in self.now (base_of base) p ≡ None }
     {
-        self.events.is_empty() && self.written.is_empty()
+        self.written.contains_key(&base)
     }
 
-    /// Returns true only where two cells of one label had the same effects on their sessions,
-    /// whatever they read and printed.
-    pub fn is_same(&self, other: &Changes) -> bool
-        requires { self.now.label ≡ other.now.label }
-        ensures events { IsTrue result → events_in self.now ≡ events_in other.now }
-        ensures bases { IsTrue result → (b : values.Base)
-            → bases_in self.now b ≡ bases_in other.now b }
-        ensures writes { IsTrue result → (b : values.Base) (p : ℕ)
-            → writes_in self.now b p ≡ writes_in other.now b p }
+    /// Returns how many blocks of other cells the cell wrote to.
+    pub fn written_count(&self) -> usize
+        ensures { result ≡ length self.now.written }
     {
-        if !are_same_events(&self.events, &other.events) {
-            return false;
-        }
-        if !are_among(&self.blocks, &other.blocks) {
-            return false;
-        }
-        if !are_among(&other.blocks, &self.blocks) {
-            return false;
-        }
-        are_found_among(&self.written, &other.written)
-            && are_found_among(&other.written, &self.written)
+        self.written.len()
+    }
+
+    /// Returns one of the blocks of other cells to which the cell wrote, in the order of their first
+    /// writes.
+    pub fn written_at(&self, place: usize) -> Base
+        requires { place < length self.now.written }
+        ensures { option_map (λ e. e.0) (slice_get self.now.written place) ≡ Some (base_of result) }
+    {
+        let Some((base, _)) = self.written.get_index(place) else {
+            unreachable!();
+        };
+        *base
     }
 }

@@ -26,7 +26,7 @@ pub(crate) enum FoundBytes {
 pub(crate) type FoundByBase = IndexMap<Base, FoundBytes>;
 
 /// The bytes of a block that is shared, none where there is none.
-fn shared_bytes(block: &Option<Rc<RawBlock>>) -> &[u8]
+pub(crate) fn shared_bytes(block: &Option<Rc<RawBlock>>) -> &[u8]
     ensures { result.now ≡ bytes_in block.now }
 {
     match block {

@@ -2,19 +2,15 @@
 
 ghost use Rattle.std.specs.Prelude.{◌≡◌, ◌↔◌, ℕ, Contains, IfOk, IsFalse, IsTrue, List, None, OnOk, false, is_some};
 ghost use Rattle.std.specs.Prelude.{Option, Some, true, bytes_eq, if◌then◌else◌, length, map, slice_index, string_bytes};
-ghost use Rattle.std.specs.List.{All};
 ghost use Rattle.nd_model.specs.Cells.Footprint.{found};
 ghost use Rattle.nd_model.specs.Cells.Running as running;
 ghost use Rattle.nd_model.specs.Cells.Session as model;
 ghost use Rattle.nd_model.specs.Arrays.Value as values;
-ghost use Rattle.nd_session.specs.Session.Changes.{events_in};
 ghost use Rattle.nd_trace.specs.Contents.{marks_of};
-ghost use Rattle.nd_trace.specs.Events.{event_of};
 ghost use Rattle.nd_session.specs.Session.Kept.{version_of};
 ghost use Rattle.nd_heap.specs.Live.{is_base_among};
 ghost use Rattle.nd_trace.specs.Marked.{is_among, is_marked};
 ghost use Rattle.nd_session.specs.Session.Live.{live};
-ghost use Rattle.nd_session.specs.Session.Noted.{StaysNoted};
 ghost use Rattle.nd_session.specs.Session.Reading.{by_text, value_at, source_at, length_at};
 ghost use Rattle.nd_session.specs.Session.Found.{by_base, byte_found, bytes_of, found_at, lookup_base, Found};
 ghost use Rattle.nd_session.specs.Session.Reads.{found_in, found_of, keys_of};
@@ -23,36 +19,33 @@ ghost use Rattle.nd_heap.specs.Values.{base_of};
 ghost use Rattle.nd_session.specs.Inputs.Values.{inputs_of};
 
 use crate::inputs::{Input, Inputs, are_same_inputs, find_input};
-use crate::session::changes::Changes;
 use crate::session::found::{FoundByBase, note_bytes};
-use crate::session::overlay::{has_label, touches};
-use crate::session::readings::Readings;
 use crate::session::session::Session;
 use crate::session::version::Version;
 use indexmap::IndexMap;
 use nd_heap::{Base, OutOfMemory, Value, are_same_values};
-use nd_trace::{Event, Footprint, Trace};
+use nd_trace::{Footprint, Trace};
 use std::alloc::Global;
 use std::marker::Model;
 use std::rc::Rc;
 
 /// The values of names, `None` where a name was not bound.
-type NamesRead = IndexMap<String, Option<Rc<Value>>>;
+pub(crate) type NamesRead = IndexMap<String, Option<Rc<Value>>>;
 
 /// Inputs by name, `None` where there was no such input.
-type InputsRead = IndexMap<String, Option<Rc<Input>>>;
+pub(crate) type InputsRead = IndexMap<String, Option<Rc<Input>>>;
 
 /// The lengths of blocks.
-type LengthsRead = IndexMap<Base, usize>;
+pub(crate) type LengthsRead = IndexMap<Base, usize>;
 
 /// What a cell read, with what it found there. Values and inputs are shared. So is a block, unless
 /// the bytes that were read of it are few: then they are kept alone.
 #[derive(Drop)]
 pub struct Reads {
-    names: NamesRead,
-    inputs: InputsRead,
-    lengths: LengthsRead,
-    bytes: FoundByBase,
+    pub(crate) names: NamesRead,
+    pub(crate) inputs: InputsRead,
+    pub(crate) lengths: LengthsRead,
+    pub(crate) bytes: FoundByBase,
 }
 
 impl Model for Reads {
@@ -96,7 +89,7 @@ fn find_names(alloc: Global, names: &[String], before: &Version) -> Result<Names
 }
 
 /// An input, shared.
-fn share_input(inputs: &Inputs, name: &str) -> Result<Option<Rc<Input>>, OutOfMemory>
+pub(crate) fn share_input(inputs: &Inputs, name: &str) -> Result<Option<Rc<Input>>, OutOfMemory>
     ensures { IfOk result (λ o. source_at o ≡ inputs_of inputs.now.entries name.now) }
 {
     match find_input(inputs, name) {
@@ -246,74 +239,6 @@ fn have_same_bytes(reads: &FoundByBase, session: &Session) -> bool
     true
 }
 
-/// Whether the inputs that were read are equal in both.
-fn are_unchanged(reads: &InputsRead, old: &Inputs, new: &Inputs) -> bool
-    ensures { IsTrue result ↔ ((n : List ℕ) (x : Option running.Source)
-        → model.lookup n (by_text source_at reads.now.entries) ≡ Some x
-        → inputs_of old.now.entries n ≡ inputs_of new.now.entries n) }
-{
-    for i in 0..reads.len() {
-        let Some((name, _)) = reads.get_index(i) else {
-            unreachable!();
-        };
-        if !are_same_inputs(
-            find_input(old, name.as_str()),
-            find_input(new, name.as_str()),
-        ) {
-            return false;
-        }
-    }
-    true
-}
-
-/// True only where no name that was read is one of the events'.
-fn names_miss(reads: &NamesRead, events: &[Event]) -> bool
-    ensures { IsTrue result → (n : List ℕ)
-        → IsTrue (is_some (model.lookup n (by_text value_at reads.now.entries)))
-        → running.is_touched n (map event_of events.now) ≡ false }
-{
-    for i in 0..reads.len() {
-        let Some((name, _)) = reads.get_index(i) else {
-            unreachable!();
-        };
-        if touches(events, name.as_str()) {
-            return false;
-        }
-    }
-    true
-}
-
-/// Notes the names.
-fn note_names(names: &NamesRead, readings: &mut Readings) -> Result<(), OutOfMemory>
-    ensures noted { OnOk result ((n : List ℕ)
-        → IsTrue (is_some (model.lookup n (by_text value_at names.now.entries)))
-        → Contains readings.new.names n) }
-    ensures stays { StaysNoted readings.old readings.new }
-{
-    for i in 0..names.len() {
-        let Some((name, _)) = names.get_index(i) else {
-            unreachable!();
-        };
-        readings.note_name(name.as_str())?;
-    }
-    Ok(())
-}
-
-/// Notes the labels of the blocks.
-fn note_labels<V>(bases: &IndexMap<Base, V>, readings: &mut Readings) -> Result<(), OutOfMemory>
-    ensures noted { OnOk result
-        (All (λ e. Contains readings.new.labels e.0.label) bases.now.entries) }
-    ensures stays { StaysNoted readings.old readings.new }
-{
-    for i in 0..bases.len() {
-        let Some((base, _)) = bases.get_index(i) else {
-            unreachable!();
-        };
-        readings.note_label(base.label)?;
-    }
-    Ok(())
-}
-
 impl Reads {
     /// Returns what a cell read that began with a snapshot and these inputs.
     pub fn new(
@@ -359,51 +284,5 @@ impl Reads {
             return false;
         }
         have_same_bytes(&self.bytes, session)
-    }
-
-    /// Returns whether an input that was read differs in the new inputs.
-    pub fn have_inputs_changed(&self, old: &Inputs, new: &Inputs) -> bool
-        ensures { IsFalse result ↔ ((n : List ℕ) → IsTrue (keys_of self.now (running.Input n))
-            → inputs_of old.now.entries n ≡ inputs_of new.now.entries n) }
-    {
-        !are_unchanged(&self.inputs, old, new)
-    }
-
-    /// Notes the names that were read, and the labels of the blocks of which a length or a byte was
-    /// read. Earlier notes stay, also for want of memory.
-    pub fn note(&self, readings: &mut Readings) -> Result<(), OutOfMemory>
-        ensures names { OnOk result ((n : List ℕ) → IsTrue (keys_of self.now (running.Name n))
-            → Contains readings.new.names n) }
-        ensures lengths { OnOk result ((b : values.Base)
-            → IsTrue (keys_of self.now (running.Length b))
-            → Contains readings.new.labels b.label) }
-        ensures bytes { OnOk result ((b : values.Base) (p : ℕ)
-            → IsTrue (keys_of self.now (running.Byte b p))
-            → Contains readings.new.labels b.label) }
-        ensures stays { StaysNoted readings.old readings.new }
-    {
-        note_names(&self.names, readings)?;
-        note_labels(&self.lengths, readings)?;
-        note_labels(&self.bytes, readings)?;
-        Ok(())
-    }
-
-    /// Returns true only where nothing was read of the names that another cell bound and of the
-    /// blocks that it made. It takes no memory.
-    pub fn miss(&self, over: &Changes) -> bool
-        ensures names { IsTrue result → (n : List ℕ) → IsTrue (keys_of self.now (running.Name n))
-            → running.is_touched n (events_in over.now) ≡ false }
-        ensures lengths { IsTrue result → (b : values.Base)
-            → IsTrue (keys_of self.now (running.Length b)) → ¬ (b.label ≡ over.now.label) }
-        ensures bytes { IsTrue result → (b : values.Base) (p : ℕ)
-            → IsTrue (keys_of self.now (running.Byte b p)) → ¬ (b.label ≡ over.now.label) }
-    {
-        if has_label(&self.lengths, over.label) {
-            return false;
-        }
-        if has_label(&self.bytes, over.label) {
-            return false;
-        }
-        names_miss(&self.names, &over.events)
     }
 }

@@ -5,7 +5,9 @@ ghost use Rattle.std.specs.List.{All, flat_map};
 ghost use Rattle.nd_model.specs.Cells.Session as model;
 ghost use Rattle.nd_model.specs.Cells.Running as running;
 ghost use Rattle.nd_model.specs.Cells.Footprint.{HasNone, replayed};
-ghost use Rattle.nd_model.specs.Book.Overlay.{blanks};
+ghost use Rattle.nd_model.specs.Book.Sessions.{IsOnce};
+ghost use Rattle.nd_change.specs.Whole.{IsPut};
+ghost use Rattle.nd_session.specs.Session.Change.{whole_in};
 ghost use Rattle.nd_session.specs.Session.Changes.{changed, going_on};
 ghost use Rattle.nd_model.specs.Cells.Sound.{IsHeldView, IsSound, IsViewOf};
 ghost use Rattle.nd_model.specs.Arrays.View.{item_size, byte_places, element_places};
@@ -13,12 +15,13 @@ ghost use Rattle.nd_types.specs.Types.{type_of};
 ghost use Rattle.nd_heap.specs.Contents.{bytes_in};
 ghost use Rattle.nd_heap.specs.Values.{base_of, geo_of, value_of};
 ghost use Rattle.nd_session.specs.Session.Live.{live};
+ghost use Rattle.std.proofs.Common.{Global as Allocator};
 ghost use Rattle.nd_session.specs.Session.Kept.{thawed, version_of};
 ghost use Rattle.nd_session.specs.Session.Listed.{seen_of};
 ghost use Rattle.nd_model.specs.Cells.Storing.{having_written, having_block};
 
+use crate::session::change::{Change, is_done, next_now, put_over};
 use crate::session::changes::Changes;
-use crate::session::overlay::blank;
 use crate::session::redo::redo;
 use crate::session::version::Version;
 use nd_block::RawBlock;
@@ -72,7 +75,9 @@ impl Session {
     }
 
     /// Returns the allocator of the session. To a clause all values of `Global` are one.
-    pub fn allocator(&self) -> Global {
+    pub fn allocator(&self) -> Global
+        ensures { (alloc : Allocator) → result ≡ alloc }
+    {
         self.alloc
     }
 
@@ -381,32 +386,37 @@ impl Session {
         })
     }
 
-    /// Returns true only where session and snapshot are equal up to unreachable blocks. It takes no
-    /// memory.
-    ///
-    /// `first` is the position of the name at which they last differed: it is compared first, and
-    /// set anew, so that asking again is fast.
+    /// proof: no name stands twice.
     #[tactic(auto, unfolding(crate::specs::Session::Live::live))]
-    pub fn is_at(&self, version: &Version, first: &mut usize) -> bool
-        ensures { IsTrue result → model.collected (running.session_of (live self.now))
-            ≡ model.collected (version_of version.now) }
+    pub fn distinctness(&self)
+        ensures { IsOnce (live self.now).names }
     {
-        self.heap.is_same(&version.heap, first)
+        self.heap.distinctness();
     }
 
-    /// Binds each name that a cell bound to a value without a block, so that nothing the cell made
-    /// is left. Then `redo` may take another run of it. It notes nothing.
+    /// Puts names and blocks of a change over those of the session, and returns whether it could. It
+    /// notes nothing.
     #[tactic(auto, unfolding(crate::specs::Session::Live::live))]
-    pub fn blank(&mut self, changes: &Changes) -> Result<(), OutOfMemory>
-        ensures { OnOk result (live self.new ≡ record (live self.old) {
-          names = replayed (blanks changes.now.events) (live self.old).names;
-        }) }
+    pub(crate) fn put_over(&mut self, change: &Change) -> Result<bool, OutOfMemory>
+        ensures put { IfOk result (λ could. IsTrue could → IsPut (whole_in change.now)
+            (model.collected (running.session_of (live self.old)))
+            (model.collected (running.session_of (live self.new)))) }
+        ensures once { IfOk result (λ could. IsTrue could → IsOnce (live self.new).names) }
     {
         let nothing = Heap::new(self.alloc)?;
         let mut heap = replace(&mut self.heap, nothing);
-        blank(self.alloc, &mut heap, &changes.events)?;
-        self.heap = heap;
-        Ok(())
+        let label = self.trace.label();
+        let next = next_now(&change.names, label, self.next);
+        let done = put_over(self.alloc, &mut heap, change, label, self.next, next);
+        if !is_done(&done) {
+            heap.discard();
+            return done;
+        }
+        heap.distinctness();
+        self.next = next;
+        let nothing = replace(&mut self.heap, heap);
+        nothing.discard();
+        Ok(true)
     }
 
     /// Makes the changes of a cell: its names, its blocks, which are shared, and the bytes that it

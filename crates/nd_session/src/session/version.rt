@@ -1,11 +1,10 @@
 //! `Version`: a snapshot of a session, which shares its names and blocks.
 
-ghost use Rattle.std.specs.Prelude.{◌≡◌, IfOk, length, option_map, slice_get};
+ghost use Rattle.std.specs.Prelude.{◌≡◌, IfOk, option_map};
 ghost use Rattle.nd_model.specs.Cells.Session as model;
 ghost use Rattle.nd_heap.specs.Values.{base_of, value_of};
 ghost use Rattle.nd_heap.specs.Contents.{bytes_in};
 ghost use Rattle.nd_session.specs.Session.Kept.{version_of};
-ghost use Rattle.nd_session.specs.Session.Changes.{is_bound};
 
 use nd_block::RawBlock;
 use nd_heap::{Base, Heap, OutOfMemory, Value};
@@ -52,34 +51,12 @@ impl Version {
         })
     }
 
-    /// Returns the number of bound names.
-    pub fn count(&self) -> usize
-        ensures { result ≡ length (version_of self.now).names }
-    {
-        self.heap.count()
-    }
-
-    /// Returns the name at a position in the order of the names, `None` past the last.
-    pub fn name_at(&self, place: usize) -> Option<&str>
-        ensures { option_map (λ n. n.now) result
-            ≡ option_map (λ e. e.0) (slice_get (version_of self.now).names place) }
-    {
-        self.heap.name_at(place)
-    }
-
     /// Returns the value of a name.
     pub fn peek(&self, name: &str) -> Option<&Value>
         ensures { option_map (λ v. value_of v.now) result
             ≡ model.lookup name.now (version_of self.now).names }
     {
         self.heap.find(name)
-    }
-
-    /// Returns whether a name is bound.
-    pub fn has_name(&self, name: &str) -> bool
-        ensures { result ≡ is_bound name.now (version_of self.now).names }
-    {
-        self.peek(name).is_some()
     }
 
     /// Returns the bytes of a block, none where no bound value lies in it.

@@ -1,9 +1,9 @@
 -- Quotients by numbers above zero, from those of magnitudes.
 use Rattle.std.specs.Prelude.{ℕ, ◌+◌, ◌-◌, ◌*◌, ◌<◌, ◌≤◌, ℤ, pos, negsuc}
 
--- so many parts of a whole are nearly one by the divisor, and not above it
-abbrev pub IsReciprocal : (whole divisor parts : ℕ) → Type 0
-IsReciprocal w d m = (m * d < w) × (w ≤ m * d + d)
+-- a whole and so many parts of it, times the divisor, make twice the power of wholes or a little more
+abbrev pub IsReciprocal : (whole power divisor parts : ℕ) → Type 0
+IsReciprocal w h d m = (2 * h * w ≤ (w + m) * d) × ((w + m) * d ≤ 2 * h * w + 2 * h)
 
 -- how far a number is from zero, or from -1 where it is below zero
 abbrev pub magnitude : ℤ → ℕ

@@ -1,9 +1,11 @@
 //! `floor_divide` and `remainder`, sped up by the reciprocal of a divisor of many numbers. No result
 //! depends on the reciprocal.
 mod long;
+mod reciprocal;
 mod short;
+mod small;
 
-ghost use Rattle.std.specs.Prelude.{◌≡◌, ◌≢◌, ℕ, ◌-◌, ◌/◌, ◌^◌, ◌<◌, pos, IfSome};
+ghost use Rattle.std.specs.Prelude.{◌≡◌, ◌≢◌, ◌<◌, pos, IfSome};
 ghost use Rattle.nd_model.specs.Arrays.Element.{wrap};
 ghost use Rattle.nd_model.specs.Grammar.Syntax.{FloorDivide, Remainder};
 ghost use Rattle.nd_model.specs.Making.Operators as operators;
@@ -12,23 +14,11 @@ ghost use Rattle.nd_ufunc.specs.Scalar.Division.{magnitude, quotient_like, remai
 
 use crate::scalar::arithmetic::{add, negative, subtract};
 use crate::scalar::division::long::divide64;
+pub(crate) use crate::scalar::division::reciprocal::reciprocal_of;
 use crate::scalar::division::short::divide32;
+use crate::scalar::division::small::divide16;
 use crate::scalar::integers::{euclid_quotient, euclid_remainder, is_below, is_zero};
 use nd_types::{Kind, wrap};
-
-/// Returns the reciprocal of a number above zero, in units of 2 to the power of -64. It is 0 for a
-/// number that 64 bits do not hold.
-///
-/// `reciprocal_of(4)` is 2^62 - 1.
-pub(crate) fn reciprocal_of(divisor: i128) -> u64
-    ensures { (by : ℕ) → divisor ≡ pos by → 0 < by → by < 2 ^ 64
-        → result ≡ (2 ^ 64 - 1) / by }
-{
-    match u64::try_from(divisor) {
-        Ok(by) if by > 0 => u64::MAX / by,
-        _ => 0,
-    }
-}
 
 // The distance of a number from zero, or from -1 where it is negative.
 #[inline(always)]
@@ -46,6 +36,15 @@ fn magnitude32(number: i32) -> u32
 {
     let magnitude = if number < 0 { -1 - number } else { number };
     magnitude as u32
+}
+
+// The distance of a number from zero, or from -1 where it is negative.
+#[inline(always)]
+fn magnitude16(number: i16) -> u16
+    ensures { result ≡ magnitude number }
+{
+    let magnitude = if number < 0 { -1 - number } else { number };
+    magnitude as u16
 }
 
 // The quotient of a number, from that of its magnitude.
@@ -91,7 +90,7 @@ fn divide_long(number: i128, divisor: u64, reciprocal: u64, unsigned: bool) -> O
 // The quotient and the remainder, rounded down, of a number of 32 bits by a positive divisor.
 // `None` where it has more bits.
 #[inline(always)]
-fn divide_short(number: i128, divisor: u32, reciprocal: u32, unsigned: bool) -> Option<(i128, i128)>
+fn divide_short(number: i128, divisor: u32, reciprocal: u64, unsigned: bool) -> Option<(i128, i128)>
     requires { 0 < divisor }
     ensures quotient { IfSome result (λ r. r.0 ≡ operators.floor_quotient number (pos divisor)) }
     ensures remainder { IfSome result (λ r. r.1
@@ -108,28 +107,47 @@ fn divide_short(number: i128, divisor: u32, reciprocal: u32, unsigned: bool) -> 
     Some((quotient_of(few, quotient), remainder_of(few, by, rest)))
 }
 
+// The quotient and the remainder, rounded down, of a number of 16 bits by a positive divisor.
+// `None` where it has more bits.
+#[inline(always)]
+fn divide_small(number: i128, divisor: u16, reciprocal: u64, unsigned: bool) -> Option<(i128, i128)>
+    requires { 0 < divisor }
+    ensures quotient { IfSome result (λ r. r.0 ≡ operators.floor_quotient number (pos divisor)) }
+    ensures remainder { IfSome result (λ r. r.1
+        ≡ operators.floor_remainder number (pos divisor)) }
+{
+    if let (true, Ok(few)) = (unsigned, u16::try_from(number)) {
+        let (quotient, rest) = divide16(few, divisor, reciprocal);
+        return Some((i128::from(quotient), i128::from(rest)));
+    }
+    let few = i16::try_from(number).ok()?;
+    let (quotient, rest) = divide16(magnitude16(few), divisor, reciprocal);
+    let (few, by) = (i64::from(few), u64::from(divisor));
+    let (quotient, rest) = (u64::from(quotient), u64::from(rest));
+    Some((quotient_of(few, quotient), remainder_of(few, by, rest)))
+}
+
 // The quotient and the remainder, rounded down, in the kind's width: kinds of at most 32 bits are
-// divided in 32 bits, which is vectorised. `None` where the number or the divisor has more bits, or
-// the divisor is negative.
+// divided in 16 or 32 bits, which is vectorised. `None` where the number or the divisor has more
+// bits, or the divisor is negative.
 #[inline(always)]
 fn divide_fast(number: i128, divisor: i128, reciprocal: u64, kind: Kind) -> Option<(i128, i128)>
     ensures quotient { IfSome result (λ r. r.0 ≡ operators.floor_quotient number divisor) }
     ensures remainder { IfSome result (λ r. r.1 ≡ operators.floor_remainder number divisor) }
 {
-    if kind.size() <= 4 {
-        return match u32::try_from(divisor) {
-            Ok(by) if by > 0 => divide_short(
-                number,
-                by,
-                (reciprocal >> 32) as u32,
-                kind == Kind::U32,
-            ),
+    match kind.size() {
+        1 | 2 => match u16::try_from(divisor) {
+            Ok(by) if by > 0 => divide_small(number, by, reciprocal, kind == Kind::U16),
             _ => None,
-        };
-    }
-    match u64::try_from(divisor) {
-        Ok(by) if by > 0 => divide_long(number, by, reciprocal, kind == Kind::U64),
-        _ => None,
+        },
+        4 => match u32::try_from(divisor) {
+            Ok(by) if by > 0 => divide_short(number, by, reciprocal, kind == Kind::U32),
+            _ => None,
+        },
+        _ => match u64::try_from(divisor) {
+            Ok(by) if by > 0 => divide_long(number, by, reciprocal, kind == Kind::U64),
+            _ => None,
+        },
     }
 }
 

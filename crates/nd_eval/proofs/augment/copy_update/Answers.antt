@@ -47,8 +47,8 @@ returns-in_default c =
     absurd (only_of_an_array x c.args.target.now (model.Elements false g (contents_over g (r.bytes (base_of c.args.copy.now.base)))) (index_operands r.bytes x) (geo_in c.in_ok-found.found)
     c.requires.advanced c.in_ok-found.ensures.target c.in_default.not-Array)
 
-pub returns-clause-effect : goal.returns-clause-effect
-returns-clause-effect c =
+pub returns-in-Elements-clause-effect : goal.returns-in-Elements-clause-effect
+returns-in-Elements-clause-effect c =
     let r = live c.args.session.now in
     let op = binary_op c.args.op in
     let g = geo_of c.args.copy.now in
@@ -60,8 +60,8 @@ returns-clause-effect c =
     goes_left op g cs y (viewing_of c.args.index.now) (value_of t) (unused_of t) (index_operands r.bytes c.args.index.now) k kind c.in_ok-found.found c.in_ok-found.ensures.target
     ∙ (λ j. stored_in (writes_to (geo_in (c.in-Elements.is j)) (model.Elements false g (map (content_in_place k op g cs y) (indices g.shape)))) (value_of (c.in-Array.is j)))
 
-pub returns-clause-ready : goal.returns-clause-ready
-returns-clause-ready c =
+pub returns-in-Elements-clause-ready : goal.returns-in-Elements-clause-ready
+returns-in-Elements-clause-ready c =
     let r = live c.args.session.now in
     let op = binary_op c.args.op in
     let g = geo_of c.args.copy.now in

@@ -1,51 +1,57 @@
 //! `divide64`: quotients and remainders of numbers of 64 bits, by a product with the divisor's
 //! reciprocal.
-ghost use Rattle.std.specs.Prelude.{◌≡◌, ◌+◌, ◌*◌, ◌/◌, ◌%◌, ◌^◌, ◌<◌, IsTrue};
+ghost use Rattle.std.specs.Prelude.{◌≡◌, ◌*◌, ◌/◌, ◌%◌, ◌^◌, ◌<◌, ◌≤◌};
 ghost use Rattle.nd_ufunc.specs.Scalar.Division.{IsReciprocal};
 
-// One step of a division: the next quotient where enough is left for it.
+use crate::scalar::division::reciprocal::is_reciprocal;
+
+// The exponent of the greatest power of two below a divisor, 0 for 1.
 #[inline(always)]
-fn step64(quotient: u64, rest: u64, divisor: u64) -> (u64, u64)
-    requires divisor { 0 < divisor }
-    requires few { quotient * divisor + rest < 2 ^ 64 }
-    ensures whole { result.0 * divisor + result.1 ≡ quotient * divisor + rest }
-    ensures less { rest < 2 * divisor → result.1 < divisor }
+fn shift64(divisor: u64) -> u32
+    ensures { result < 64 }
 {
-    if rest >= divisor {
-        (quotient + 1, rest - divisor)
+    if divisor > 1 {
+        (divisor - 1).ilog2()
     } else {
-        (quotient, rest)
+        0
     }
 }
 
-// Whether it is the reciprocal of this divisor. A loop over many numbers finds this out once.
+// The highest 64 bits of a product.
 #[inline(always)]
-fn is_reciprocal64(divisor: u64, reciprocal: u64) -> bool
-    ensures { IsTrue result → IsReciprocal (2 ^ 64) divisor reciprocal }
+fn high64(number: u64, parts: u64) -> u64
+    ensures value { result ≡ number * parts / 2 ^ 64 }
+    ensures less { result ≤ number }
 {
-    let whole = u128::from(reciprocal) * u128::from(divisor);
-    whole < 1 << 64 && whole + u128::from(divisor) >= 1 << 64
+    ((u128::from(number) * u128::from(parts)) >> 64) as u64
 }
 
-// The quotient or the number before it.
+// The quotient, which is that of 2 to the power of `shift + 1` by the number and the highest bits.
 #[inline(always)]
-fn near_quotient64(number: u64, reciprocal: u64) -> u64
-    ensures { result ≡ number * reciprocal / 2 ^ 64 }
+fn quotient64(number: u64, divisor: u64, parts: u64, shift: u32) -> u64
+    requires divisor { 0 < divisor }
+    requires shift { shift < 64 }
+    requires reciprocal { IsReciprocal (2 ^ 64) (2 ^ shift) divisor parts }
+    ensures { result ≡ number / divisor }
 {
-    ((u128::from(number) * u128::from(reciprocal)) >> 64) as u64
+    // proof: `divisor` stands in the clauses alone.
+    let _divisor = divisor;
+    let high = high64(number, parts);
+    // The sum of both is halved before it is formed, since it may have 65 bits.
+    (((number - high) >> 1) + high) >> shift
 }
 
-/// Returns the quotient and the remainder. Any `reciprocal` will do, that of the divisor in units
-/// of 2 to the power of -64 is fast.
+/// Returns the quotient and the remainder. Any `reciprocal` will do, that of the divisor is fast.
 #[inline(always)]
 pub(super) fn divide64(number: u64, divisor: u64, reciprocal: u64) -> (u64, u64)
     requires { 0 < divisor }
     ensures quotient { result.0 ≡ number / divisor }
     ensures remainder { result.1 ≡ number % divisor }
 {
-    if is_reciprocal64(divisor, reciprocal) {
-        let near = near_quotient64(number, reciprocal);
-        return step64(near, number - near * divisor, divisor);
+    let shift = shift64(divisor);
+    if reciprocal > 0 && is_reciprocal(1 << 64, divisor, reciprocal, shift) {
+        let quotient = quotient64(number, divisor, reciprocal, shift);
+        return (quotient, number - quotient * divisor);
     }
     (number / divisor, number % divisor)
 }

@@ -1,51 +1,65 @@
 //! `divide32`: quotients and remainders of numbers of 32 bits, by a product with the divisor's
 //! reciprocal.
-ghost use Rattle.std.specs.Prelude.{◌≡◌, ◌+◌, ◌*◌, ◌/◌, ◌%◌, ◌^◌, ◌<◌, IsTrue};
+ghost use Rattle.std.specs.Prelude.{◌≡◌, ◌*◌, ◌/◌, ◌%◌, ◌^◌, ◌<◌, ◌≤◌};
 ghost use Rattle.nd_ufunc.specs.Scalar.Division.{IsReciprocal};
 
-// One step of a division: the next quotient where enough is left for it.
+use crate::scalar::division::reciprocal::is_reciprocal;
+
+// The exponent of the greatest power of two below a divisor, 0 for 1.
 #[inline(always)]
-fn step32(quotient: u32, rest: u32, divisor: u32) -> (u32, u32)
-    requires divisor { 0 < divisor }
-    requires few { quotient * divisor + rest < 2 ^ 32 }
-    ensures whole { result.0 * divisor + result.1 ≡ quotient * divisor + rest }
-    ensures less { rest < 2 * divisor → result.1 < divisor }
+fn shift32(divisor: u32) -> u32
+    ensures { result < 32 }
 {
-    if rest >= divisor {
-        (quotient + 1, rest - divisor)
+    if divisor > 1 {
+        (divisor - 1).ilog2()
     } else {
-        (quotient, rest)
+        0
     }
 }
 
-// Whether it is the reciprocal of this divisor. A loop over many numbers finds this out once.
+// The reciprocal in units of 2 to the power of -32, rounded up.
 #[inline(always)]
-fn is_reciprocal32(divisor: u32, reciprocal: u32) -> bool
-    ensures { IsTrue result → IsReciprocal (2 ^ 32) divisor reciprocal }
-{
-    let whole = u64::from(reciprocal) * u64::from(divisor);
-    whole < 1 << 32 && whole + u64::from(divisor) >= 1 << 32
+fn parts32(reciprocal: u64) -> u32 {
+    ((reciprocal >> 32) as u32).wrapping_add(1)
 }
 
-// The quotient or the number before it.
+// The highest 32 bits of a product.
 #[inline(always)]
-fn near_quotient32(number: u32, reciprocal: u32) -> u32
-    ensures { result ≡ number * reciprocal / 2 ^ 32 }
+fn high32(number: u32, parts: u32) -> u32
+    ensures value { result ≡ number * parts / 2 ^ 32 }
+    ensures less { result ≤ number }
 {
-    ((u64::from(number) * u64::from(reciprocal)) >> 32) as u32
+    ((u64::from(number) * u64::from(parts)) >> 32) as u32
+}
+
+// The quotient, which is that of 2 to the power of `shift + 1` by the number and the highest bits.
+#[inline(always)]
+fn quotient32(number: u32, divisor: u32, parts: u32, shift: u32) -> u32
+    requires divisor { 0 < divisor }
+    requires shift { shift < 32 }
+    requires reciprocal { IsReciprocal (2 ^ 32) (2 ^ shift) divisor parts }
+    ensures { result ≡ number / divisor }
+{
+    // proof: `divisor` stands in the clauses alone.
+    let _divisor = divisor;
+    let high = high32(number, parts);
+    // The sum of both is halved before it is formed, since it may have 33 bits.
+    (((number - high) >> 1) + high) >> shift
 }
 
 /// Returns the quotient and the remainder. Any `reciprocal` will do, that of the divisor in units
-/// of 2 to the power of -32 is fast.
+/// of 2 to the power of -64 is fast.
 #[inline(always)]
-pub(super) fn divide32(number: u32, divisor: u32, reciprocal: u32) -> (u32, u32)
+pub(super) fn divide32(number: u32, divisor: u32, reciprocal: u64) -> (u32, u32)
     requires { 0 < divisor }
     ensures quotient { result.0 ≡ number / divisor }
     ensures remainder { result.1 ≡ number % divisor }
 {
-    if is_reciprocal32(divisor, reciprocal) {
-        let near = near_quotient32(number, reciprocal);
-        return step32(near, number - near * divisor, divisor);
+    let (shift, parts) = (shift32(divisor), parts32(reciprocal));
+    let (by, more) = (u64::from(divisor), u64::from(parts));
+    if reciprocal > 0 && is_reciprocal(1 << 32, by, more, shift) {
+        let quotient = quotient32(number, divisor, parts, shift);
+        return (quotient, number - quotient * divisor);
     }
     (number / divisor, number % divisor)
 }

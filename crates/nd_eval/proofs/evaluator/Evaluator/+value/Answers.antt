@@ -1,5 +1,6 @@
+use Rattle.nd_operation.specs.Operators.OfTwo.{made_of_two}
 use Rattle.std.specs.Prelude.{is_some}
-use Rattle.std.proofs.Common.{Ok, None, append-nil, ◌+◌, List, [], ◌∷◌, ◌++◌, refl, map, option_map, take, drop, ap, sym, ◌∙◌, arith}
+use Rattle.std.proofs.Common.{Ok, None, append-nil, ◌+◌, List, [], ◌∷◌, ◌++◌, refl, map, option_map, take, drop, ap, sym, ◌∙◌, arith, Err}
 use Rattle.std.proofs.lemmas.List.{drop_all, length-map}
 use Rattle.nd_model.specs.Indexing.Index.{AtForm, SliceForm}
 use Rattle.nd_model.specs.Making.Operand.{ArraysOnly}
@@ -10,7 +11,7 @@ use Rattle.nd_model.specs.Grammar.Cells.{chained, elements_of, items_of}
 use Rattle.nd_model.specs.Making.Elementwise.{binary}
 use Rattle.nd_model.specs.Cells.Meaning.{is_given}
 use Rattle.nd_eval.proofs.Ranging.{range_first, range_is}
-use Rattle.nd_model.specs.Cells.Operation.{give}
+use Rattle.nd_model.specs.Cells.Operation.{give, Computes, perform}
 use Rattle.nd_model.specs.Grammar.Tokens.{tokens_of, tokens_of_call, tokens_of_fold, tokens_of_method}
 use Rattle.nd_syntax.specs.Trees.Lists.{operation_of}
 use Rattle.nd_syntax.specs.Trees.Syntax.{axis_of, bound_of, element_of, expr_of, call_of, fold_of, suffix_of, index_of, item_of, method_of}
@@ -27,12 +28,12 @@ use Rattle.nd_model.specs.Making.Creation.{array_of_list, filled}
 use Rattle.nd_operation.specs.Operators.Contents.{unused_of}
 use Rattle.nd_eval.specs.Contents as contents
 use Rattle.nd_eval.specs.Contents.{option_values, values_of}
-use Rattle.nd_eval.specs.Parts.{list_parts as as_item}
+use Rattle.nd_eval.specs.Parts.{list_parts as as_item, operate, slice_to}
 use Rattle.nd_eval.specs.Parts.{bound_exprs, fold_call, exprs_in, exprs_of_element, index_parts, item_parts, items_parts, items_then, parts_of_items, unused, ItemParts, suffix_value, list_value, binary_value, values_behind, values_then, values, method_value, viewed_value}
 use Rattle.nd_model.specs.Arrays.Value as model
 use Rattle.nd_syntax.specs.declared.trees.tree.Expr.{Expr}
 use Rattle.nd_eval.proofs.Creating.{exits_new, follows_new}
-use Rattle.nd_eval.proofs.Chains.{exits, follows, goes, ends_as, ends_alike}
+use Rattle.nd_eval.proofs.Chains.{exits, follows, goes, ends_as, ends_alike, stops}
 use Rattle.nd_model.specs.Grammar.Syntax.{Called, Nested, NewArray}
 use Rattle.nd_syntax.proofs.trees.Nodes.{filled_is, full_is, broadcast_is, reshape_is, transpose_is}
 use Rattle.nd_eval.proofs.Operating.{chain_step, chain_rest, exits_chain, exits_later, fewer_tokens}
@@ -59,20 +60,20 @@ value_of_one-returns-in_err-operand t c = (
   c.in_err-operand.ensures.1,
 )
 
-pub value_of_one-make_value-requires-clause-held : goal.value_of_one-make_value-requires-clause-held
-value_of_one-make_value-requires-clause-held t c =
+pub value_of_one-make_value-made-requires-clause-held : goal.value_of_one-make_value-made-requires-clause-held
+value_of_one-make_value-made-requires-clause-held t c =
     value_held (inputs_of c.args.self.now.inputs.now.entries) (expr_of c.args.operand.now) _ _ c.in_ok-operand.operand c.in_ok-operand.ensures.0 c.soundness.ensures
 
-pub value_of_one-make_value-requires-clause-room : goal.value_of_one-make_value-requires-clause-room
-value_of_one-make_value-requires-clause-room t c =
+pub value_of_one-make_value-made-requires-clause-room : goal.value_of_one-make_value-made-requires-clause-room
+value_of_one-make_value-made-requires-clause-room t c =
     let made = next_value (inputs_of c.args.self.now.inputs.now.entries) (expr_of c.args.operand.now) _ _ _ c.in_ok-operand.ensures.0 in
     omega arith
 
 pub value_of_one-returns : goal.value_of_one-returns
 value_of_one-returns t c = (
   follows value_of value_of (inputs_of c.args.self.now.inputs.now.entries) (meaning.value (expr_of c.args.operand.now)) _ _ _ _
-      c.in_ok-operand.operand _ c.in_ok-operand.ensures.0 (rw c.in_ok-operand.ensures.1.1 at c.make_value.ensures.0),
-  stays_on c.in_ok-operand.ensures.1 c.make_value.ensures.1,
+      c.in_ok-operand.operand _ c.in_ok-operand.ensures.0 (rw c.in_ok-operand.ensures.1.1 at c.make_value-made.ensures.0),
+  stays_on c.in_ok-operand.ensures.1 c.make_value-made.ensures.1,
 )
 
 pub value-value-requires : goal.value-value-requires
@@ -412,8 +413,8 @@ range_value-returns-in_err-start t c = (
   c.in_err-start.ensures.value.1,
 )
 
-pub range_value-range_from-requires : goal.range_value-range_from-requires
-range_value-range_from-requires t c =
+pub range_value-range_from-made-requires : goal.range_value-range_from-made-requires
+range_value-range_from-made-requires t c =
     let below = c.decreases in
     let room = c.requires in
     let made = next_bound (inputs_of c.args.self.now.inputs.now.entries) (bound_of c.args.start.now) _ _ _ c.in_ok-start.ensures.value.0 in
@@ -422,8 +423,8 @@ range_value-range_from-requires t c =
 pub range_value-returns : goal.range_value-returns
 range_value-returns t c = (
   follows option_values value_of (inputs_of c.args.self.now.inputs.now.entries) (values (bound_exprs (bound_of c.args.start.now))) _ _ _ _ c.in_ok-start.start _ c.in_ok-start.ensures.value.0
-      (rw (c.in_ok-start.ensures.value.1.1, c.in_ok-start.ensures.given) at c.range_from.ensures.0),
-  stays_on c.in_ok-start.ensures.value.1 c.range_from.ensures.1,
+      (rw (c.in_ok-start.ensures.value.1.1, c.in_ok-start.ensures.given) at c.range_from-made.ensures.0),
+  stays_on c.in_ok-start.ensures.value.1 c.range_from-made.ensures.1,
 )
 
 pub range_from-returns-in_err-stop : goal.range_from-returns-in_err-stop
@@ -433,8 +434,8 @@ range_from-returns-in_err-stop t c = (
   c.in_err-stop.ensures.1,
 )
 
-pub range_from-range_to-requires : goal.range_from-range_to-requires
-range_from-range_to-requires t c =
+pub range_from-range_to-made-requires : goal.range_from-range_to-made-requires
+range_from-range_to-made-requires t c =
     let below = c.decreases in
     let room = c.requires in
     let made = next_value (inputs_of c.args.self.now.inputs.now.entries) (expr_of c.args.stop.now) _ _ _ c.in_ok-stop.ensures.0 in
@@ -443,8 +444,8 @@ range_from-range_to-requires t c =
 pub range_from-returns : goal.range_from-returns
 range_from-returns t c = (
   follows value_of value_of (inputs_of c.args.self.now.inputs.now.entries) (meaning.value (expr_of c.args.stop.now)) _ _ _ _ c.in_ok-stop.stop _ c.in_ok-stop.ensures.0
-      (rw c.in_ok-stop.ensures.1.1 at c.range_to.ensures.0),
-  stays_on c.in_ok-stop.ensures.1 c.range_to.ensures.1,
+      (rw c.in_ok-stop.ensures.1.1 at c.range_to-made.ensures.0),
+  stays_on c.in_ok-stop.ensures.1 c.range_to-made.ensures.1,
 )
 
 pub range_to-returns-in_err-step : goal.range_to-returns-in_err-step
@@ -454,8 +455,8 @@ range_to-returns-in_err-step t c = (
   c.in_err-step.ensures.value.1,
 )
 
-pub range_to-range_array-requires : goal.range_to-range_array-requires
-range_to-range_array-requires t c =
+pub range_to-range_array-made-requires : goal.range_to-range_array-made-requires
+range_to-range_array-made-requires t c =
     let room = c.requires in
     let made = next_bound (inputs_of c.args.self.now.inputs.now.entries) (bound_of c.args.step.now) _ _ _ c.in_ok-step.ensures.value.0 in
     omega arith
@@ -463,8 +464,8 @@ range_to-range_array-requires t c =
 pub range_to-returns : goal.range_to-returns
 range_to-returns t c = (
   follows option_values value_of (inputs_of c.args.self.now.inputs.now.entries) (values (bound_exprs (bound_of c.args.step.now))) _ _ _ _ c.in_ok-step.step _ c.in_ok-step.ensures.value.0
-      (rw (c.in_ok-step.ensures.value.1.1, c.in_ok-step.ensures.given) at c.range_array.ensures.0),
-  stays_on c.in_ok-step.ensures.value.1 c.range_array.ensures.1,
+      (rw (c.in_ok-step.ensures.value.1.1, c.in_ok-step.ensures.given) at c.range_array-made.ensures.0),
+  stays_on c.in_ok-step.ensures.value.1 c.range_array-made.ensures.1,
 )
 
 pub filled_value-values-requires : goal.filled_value-values-requires
@@ -480,14 +481,15 @@ filled_value-returns-in_err-shape t c = (
   c.in_err-shape.ensures.1,
 )
 
-pub filled_value-returns-in_err-new : goal.filled_value-returns-in_err-new
-filled_value-returns-in_err-new t c =
+pub filled_value-returns-in-Err : goal.filled_value-returns-in-Err
+filled_value-returns-in-Err t c =
     let i = inputs_of c.args.self.now.inputs.now.entries in
     let f = fill_of c.args.fill in
     let d = option_map dtype_of c.args.dtype.now in
+    let s = live c.values.new.self.session.now in
     let vs = c.in_ok-shape.shape.items in (
-      follows values_of value_of i (values (map expr_of c.args.shape.now)) _ _ _ _ c.in_ok-shape.shape _ c.in_ok-shape.ensures.0
-          (ends_as value_of i _ _ _ (filled_parts f d vs) (exits_new i (filled f d (map unused_of vs)) _ _ _ c.from_residual-in_err-new.ensures.1 (rw c.deref.ensures.value at c.in_err-new.ensures))),
+      follows values_of value_of i (values (map expr_of c.args.shape.now)) (λ vs. perform (Computes (filled f d)) (unused vs)) (live c.args.self.now.session.now) s s c.in_ok-shape.shape (Err c.in-Err.stop) c.in_ok-shape.ensures.0
+          (ends_as value_of i s s (Err c.in-Err.stop) (filled_parts f d vs) (exits_new i (filled f d (map unused_of vs)) s c.in-Err.stop (Err c.in-Err.stop) refl (rw c.deref.ensures.value at c.in-Err.ensures))),
       c.in_ok-shape.ensures.1,
     )
 
@@ -497,15 +499,15 @@ filled_value-give-requires t c =
     let room = c.requires in
     omega arith
 
-pub filled_value-returns : goal.filled_value-returns
-filled_value-returns t c =
+pub filled_value-returns-in-Ok : goal.filled_value-returns-in-Ok
+filled_value-returns-in-Ok t c =
     let i = inputs_of c.args.self.now.inputs.now.entries in
     let f = fill_of c.args.fill in
     let d = option_map dtype_of c.args.dtype.now in
     let vs = c.in_ok-shape.shape.items in (
       follows values_of value_of i (values (map expr_of c.args.shape.now)) _ _ _ _ c.in_ok-shape.shape _ c.in_ok-shape.ensures.0
           (ends_as value_of i _ _ _ (filled_parts f d vs)
-          (follows_new i (filled f d (map unused_of vs)) _ _ c.in_ok-new.new _ (rw c.deref.ensures.value at c.in_ok-new.ensures) (rw c.in_ok-shape.ensures.1.1 at c.give.ensures.0))),
+          (follows_new i (filled f d (map unused_of vs)) _ _ c.in-Ok.new _ (rw c.deref.ensures.value at c.in-Ok.ensures) (rw c.in_ok-shape.ensures.1.1 at c.give.ensures.0))),
       stays_on c.in_ok-shape.ensures.1 c.give.ensures.1,
     )
 
@@ -522,8 +524,8 @@ full_value-returns-in_err-shape t c = (
   c.in_err-shape.ensures.1,
 )
 
-pub full_value-full_of_shape-requires : goal.full_value-full_of_shape-requires
-full_value-full_of_shape-requires t c =
+pub full_value-full_of_shape-made-requires : goal.full_value-full_of_shape-made-requires
+full_value-full_of_shape-made-requires t c =
     let below = c.decreases in
     let room = c.requires in
     let made = next_values (inputs_of c.args.self.now.inputs.now.entries) (map expr_of c.args.shape.now) _ _ _ c.in_ok-shape.ensures.0 in
@@ -532,8 +534,8 @@ full_value-full_of_shape-requires t c =
 pub full_value-returns : goal.full_value-returns
 full_value-returns t c = (
   follows values_of value_of (inputs_of c.args.self.now.inputs.now.entries) (values (map expr_of c.args.shape.now)) _ _ _ _ c.in_ok-shape.shape _ c.in_ok-shape.ensures.0
-      (rw (c.in_ok-shape.ensures.1.1, c.deref.ensures.value) at c.full_of_shape.ensures.0),
-  stays_on c.in_ok-shape.ensures.1 c.full_of_shape.ensures.1,
+      (rw (c.in_ok-shape.ensures.1.1, c.deref.ensures.value) at c.full_of_shape-made.ensures.0),
+  stays_on c.in_ok-shape.ensures.1 c.full_of_shape-made.ensures.1,
 )
 
 pub full_of_shape-returns-in_err-value : goal.full_of_shape-returns-in_err-value
@@ -543,20 +545,20 @@ full_of_shape-returns-in_err-value t c = (
   c.in_err-value.ensures.1,
 )
 
-pub full_of_shape-full_array-requires-clause-held : goal.full_of_shape-full_array-requires-clause-held
-full_of_shape-full_array-requires-clause-held t c =
+pub full_of_shape-full_array-made-requires-clause-held : goal.full_of_shape-full_array-made-requires-clause-held
+full_of_shape-full_array-made-requires-clause-held t c =
     value_held (inputs_of c.args.self.now.inputs.now.entries) (expr_of c.args.value.now) _ _ c.in_ok-value.value c.in_ok-value.ensures.0 c.soundness.ensures
 
-pub full_of_shape-full_array-requires-clause-room : goal.full_of_shape-full_array-requires-clause-room
-full_of_shape-full_array-requires-clause-room t c =
+pub full_of_shape-full_array-made-requires-clause-room : goal.full_of_shape-full_array-made-requires-clause-room
+full_of_shape-full_array-made-requires-clause-room t c =
     let made = next_value (inputs_of c.args.self.now.inputs.now.entries) (expr_of c.args.value.now) _ _ _ c.in_ok-value.ensures.0 in
     omega arith
 
 pub full_of_shape-returns : goal.full_of_shape-returns
 full_of_shape-returns t c = (
   follows value_of value_of (inputs_of c.args.self.now.inputs.now.entries) (meaning.value (expr_of c.args.value.now)) _ _ _ _
-      c.in_ok-value.value _ c.in_ok-value.ensures.0 (rw c.in_ok-value.ensures.1.1 at c.full_array.ensures.0),
-  stays_on c.in_ok-value.ensures.1 c.full_array.ensures.1,
+      c.in_ok-value.value _ c.in_ok-value.ensures.0 (rw c.in_ok-value.ensures.1.1 at c.full_array-made.ensures.0),
+  stays_on c.in_ok-value.ensures.1 c.full_array-made.ensures.1,
 )
 
 -- ---- expressions from left to right
@@ -617,31 +619,31 @@ value-returns-in-Unary t c = rw (c.in-Unary.is, ← c.deref.ensures) c.value_of_
 
 -- ---- operators
 
-pub binary_value-returns-in_err-right : goal.binary_value-returns-in_err-right
-binary_value-returns-in_err-right t c = (
-  exits value_of value_of (inputs_of c.args.self.now.inputs.now.entries) (meaning.value (expr_of c.args.right.now)) _ _ _ _ _
-      c.from_residual.ensures.1 c.in_err-right.ensures.0,
-  c.in_err-right.ensures.1,
+pub binary_value-returns-in-Err : goal.binary_value-returns-in-Err
+binary_value-returns-in-Err t c = (
+  stops value_of value_of (inputs_of c.args.self.now.inputs.now.entries) (meaning.value (expr_of c.args.right.now)) (operate (made_of_two c.args.call) (value_of c.args.left))
+      (live c.args.self.now.session.now) (live c.value.new.self.session.now) c.in-Err.stop c.in-Err.ensures.0,
+  c.in-Err.ensures.1,
 )
 
-pub binary_value-operate-requires-clause-left : goal.binary_value-operate-requires-clause-left
-binary_value-operate-requires-clause-left t c =
-    held_after (inputs_of c.args.self.now.inputs.now.entries) (meaning.value (expr_of c.args.right.now)) _ _ _ c.args.left.now c.in_ok-right.ensures.0 c.requires.held
+pub binary_value-operate-made-requires-clause-left : goal.binary_value-operate-made-requires-clause-left
+binary_value-operate-made-requires-clause-left t c =
+    held_after (inputs_of c.args.self.now.inputs.now.entries) (meaning.value (expr_of c.args.right.now)) _ _ _ c.args.left c.in-Ok.ensures.0 c.requires.held
 
-pub binary_value-operate-requires-clause-right : goal.binary_value-operate-requires-clause-right
-binary_value-operate-requires-clause-right t c =
-    value_held (inputs_of c.args.self.now.inputs.now.entries) (expr_of c.args.right.now) _ _ c.in_ok-right.right c.in_ok-right.ensures.0 c.soundness.ensures
+pub binary_value-operate-made-requires-clause-right : goal.binary_value-operate-made-requires-clause-right
+binary_value-operate-made-requires-clause-right t c =
+    value_held (inputs_of c.args.self.now.inputs.now.entries) (expr_of c.args.right.now) _ _ c.in-Ok.right c.in-Ok.ensures.0 c.soundness.ensures
 
-pub binary_value-operate-requires-clause-room : goal.binary_value-operate-requires-clause-room
-binary_value-operate-requires-clause-room t c =
-    let made = next_value (inputs_of c.args.self.now.inputs.now.entries) (expr_of c.args.right.now) _ _ _ c.in_ok-right.ensures.0 in
+pub binary_value-operate-made-requires-clause-room : goal.binary_value-operate-made-requires-clause-room
+binary_value-operate-made-requires-clause-room t c =
+    let made = next_value (inputs_of c.args.self.now.inputs.now.entries) (expr_of c.args.right.now) _ _ _ c.in-Ok.ensures.0 in
     omega arith
 
-pub binary_value-returns : goal.binary_value-returns
-binary_value-returns t c = (
+pub binary_value-returns-in-Ok : goal.binary_value-returns-in-Ok
+binary_value-returns-in-Ok t c = (
   follows value_of value_of (inputs_of c.args.self.now.inputs.now.entries) (meaning.value (expr_of c.args.right.now)) _ _ _ _
-      c.in_ok-right.right _ c.in_ok-right.ensures.0 (rw c.in_ok-right.ensures.1.1 at c.operate.ensures.0),
-  stays_on c.in_ok-right.ensures.1 c.operate.ensures.1,
+      c.in-Ok.right _ c.in-Ok.ensures.0 (rw c.in-Ok.ensures.1.1 at c.operate-made.ensures.0),
+  stays_on c.in-Ok.ensures.1 c.operate-made.ensures.1,
 )
 
 pub value_of_two-returns-in_err-left : goal.value_of_two-returns-in_err-left
@@ -734,12 +736,12 @@ index_into-returns-in_err-index t c = (
   c.in_err-index.ensures.1,
 )
 
-pub index_into-choose_value-requires-clause-held : goal.index_into-choose_value-requires-clause-held
-index_into-choose_value-requires-clause-held t c =
+pub index_into-choose_value-made-requires-clause-held : goal.index_into-choose_value-made-requires-clause-held
+index_into-choose_value-made-requires-clause-held t c =
     held_after (inputs_of c.args.self.now.inputs.now.entries) (index_parts (index_of c.args.index.now)) _ _ _ c.args.found.now c.in_ok-index.ensures.0 c.requires.held
 
-pub index_into-choose_value-requires-clause-room : goal.index_into-choose_value-requires-clause-room
-index_into-choose_value-requires-clause-room t c =
+pub index_into-choose_value-made-requires-clause-room : goal.index_into-choose_value-made-requires-clause-room
+index_into-choose_value-made-requires-clause-room t c =
     let room = c.requires.room in
     let made = next_index (inputs_of c.args.self.now.inputs.now.entries) (index_of c.args.index.now) _ _ _ c.in_ok-index.ensures.0 in
     omega arith
@@ -747,8 +749,8 @@ index_into-choose_value-requires-clause-room t c =
 pub index_into-returns : goal.index_into-returns
 index_into-returns t c = (
   follows contents.index_of value_of (inputs_of c.args.self.now.inputs.now.entries) (index_parts (index_of c.args.index.now)) _ _ _ _
-      c.in_ok-index.index _ c.in_ok-index.ensures.0 (rw c.in_ok-index.ensures.1.1 at c.choose_value.ensures.value.0),
-  stays_on c.in_ok-index.ensures.1 c.choose_value.ensures.value.1,
+      c.in_ok-index.index _ c.in_ok-index.ensures.0 (rw c.in_ok-index.ensures.1.1 at c.choose_value-made.ensures.value.0),
+  stays_on c.in_ok-index.ensures.1 c.choose_value-made.ensures.value.1,
 )
 
 -- ---- the items of an index
@@ -903,43 +905,48 @@ item_value-returns-in_ok-start-in-Slice t c =
       stays_on first.ensures.value.1 c.slice_from.ensures.1,
     )
 
-pub slice_from-returns-in_err-stop : goal.slice_from-returns-in_err-stop
-slice_from-returns-in_err-stop t c = (
-  exits option_values contents.item_of (inputs_of c.args.self.now.inputs.now.entries) (values (bound_exprs (bound_of c.args.stop.now))) _ _ _ _ _
-      c.from_residual.ensures.1 c.in_err-stop.ensures.value.0,
-  c.in_err-stop.ensures.value.1,
-)
+pub slice_from-returns-in-Err : goal.slice_from-returns-in-Err
+slice_from-returns-in-Err t c =
+    let a = c.args.start in
+    let b = bound_of c.args.stop.now in (
+      stops option_values contents.item_of (inputs_of c.args.self.now.inputs.now.entries) (values (bound_exprs b)) (λ ys. slice_to (is_some a) (is_given b) (option_values a) ys (bound_of c.args.step.now))
+          (live c.args.self.now.session.now) (live c.bound_value.new.self.session.now) c.in-Err.fault c.in-Err.ensures.value.0,
+      c.in-Err.ensures.value.1,
+    )
 
 pub slice_from-slice_to-requires : goal.slice_from-slice_to-requires
 slice_from-slice_to-requires t c =
     let below = c.decreases in
     let room = c.requires in
-    let made = next_bound (inputs_of c.args.self.now.inputs.now.entries) (bound_of c.args.stop.now) _ _ _ c.in_ok-stop.ensures.value.0 in
+    let made = next_bound (inputs_of c.args.self.now.inputs.now.entries) (bound_of c.args.stop.now) _ _ _ c.in-Ok.ensures.value.0 in
     (omega arith, omega arith)
 
-pub slice_from-returns : goal.slice_from-returns
-slice_from-returns t c = (
-  follows option_values contents.item_of (inputs_of c.args.self.now.inputs.now.entries) (values (bound_exprs (bound_of c.args.stop.now))) _ _ _ _ c.in_ok-stop.stop _ c.in_ok-stop.ensures.value.0
-      (rw (c.in_ok-stop.ensures.value.1.1, c.in_ok-stop.ensures.given) at c.slice_to.ensures.0),
-  stays_on c.in_ok-stop.ensures.value.1 c.slice_to.ensures.1,
+pub slice_from-returns-in-Ok : goal.slice_from-returns-in-Ok
+slice_from-returns-in-Ok t c = (
+  follows option_values contents.item_of (inputs_of c.args.self.now.inputs.now.entries) (values (bound_exprs (bound_of c.args.stop.now))) _ _ _ _ c.in-Ok.stop _ c.in-Ok.ensures.value.0
+      (rw (c.in-Ok.ensures.value.1.1, c.in-Ok.ensures.given) at c.slice_to.ensures.0),
+  stays_on c.in-Ok.ensures.value.1 c.slice_to.ensures.1,
 )
 
-pub slice_to-returns-in_err-step : goal.slice_to-returns-in_err-step
-slice_to-returns-in_err-step t c = (
-  exits option_values contents.item_of (inputs_of c.args.self.now.inputs.now.entries) (values (bound_exprs (bound_of c.args.step.now))) _ _ _ _ _
-      c.from_residual.ensures.1 c.in_err-step.ensures.value.0,
-  c.in_err-step.ensures.value.1,
-)
+pub slice_to-returns-in-Err : goal.slice_to-returns-in-Err
+slice_to-returns-in-Err t c =
+    let a = c.args.start in
+    let b = c.args.stop in
+    let e = bound_of c.args.step.now in (
+      stops option_values contents.item_of (inputs_of c.args.self.now.inputs.now.entries) (values (bound_exprs e)) (λ zs. Gives (SliceForm (is_some a) (is_some b) (is_given e), unused (option_values a ++ option_values b ++ zs)))
+          (live c.args.self.now.session.now) (live c.bound_value.new.self.session.now) c.in-Err.fault c.in-Err.ensures.value.0,
+      c.in-Err.ensures.value.1,
+    )
 
-pub slice_to-returns : goal.slice_to-returns
-slice_to-returns t c =
+pub slice_to-returns-in-Ok : goal.slice_to-returns-in-Ok
+slice_to-returns-in-Ok t c =
     let a = c.args.start in
     let b = c.args.stop in
     let e = bound_of c.args.step.now in (
       goes option_values (inputs_of c.args.self.now.inputs.now.entries) (values (bound_exprs e)) (λ zs. Gives (SliceForm (is_some a) (is_some b) (is_given e), unused (option_values a ++ option_values b ++ zs))) _ _
-          c.in_ok-step.step c.in_ok-step.ensures.value.0
-          ∙ slice_seen _ _ _ _ a b c.in_ok-step.step refl refl c.in_ok-step.ensures.given,
-      c.in_ok-step.ensures.value.1,
+          c.in-Ok.step c.in-Ok.ensures.value.0
+          ∙ slice_seen _ _ _ _ a b c.in-Ok.step refl refl c.in-Ok.ensures.given,
+      c.in-Ok.ensures.value.1,
     )
 
 -- ---- methods that give a view, and `np.broadcast_to`
@@ -977,8 +984,8 @@ stretched_value-returns-in_err-found t c = (
   c.in_err-found.ensures.1,
 )
 
-pub stretched_value-stretch_by-requires : goal.stretched_value-stretch_by-requires
-stretched_value-stretch_by-requires t c =
+pub stretched_value-stretch_by-made-requires : goal.stretched_value-stretch_by-made-requires
+stretched_value-stretch_by-made-requires t c =
     let i = inputs_of c.args.self.now.inputs.now.entries in
     let e = expr_of c.args.operand.now in
     let below = c.decreases in
@@ -989,8 +996,8 @@ stretched_value-stretch_by-requires t c =
 pub stretched_value-returns : goal.stretched_value-returns
 stretched_value-returns t c = (
   follows value_of value_of (inputs_of c.args.self.now.inputs.now.entries) (meaning.value (expr_of c.args.operand.now)) _ _ _ _ c.in_ok-found.found _ c.in_ok-found.ensures.0
-      (rw c.in_ok-found.ensures.1.1 at c.stretch_by.ensures.0),
-  stays_on c.in_ok-found.ensures.1 c.stretch_by.ensures.1,
+      (rw c.in_ok-found.ensures.1.1 at c.stretch_by-made.ensures.0),
+  stays_on c.in_ok-found.ensures.1 c.stretch_by-made.ensures.1,
 )
 
 pub stretch_by-values-requires : goal.stretch_by-values-requires
@@ -1006,12 +1013,12 @@ stretch_by-returns-in_err-shape t c = (
   c.in_err-shape.ensures.1,
 )
 
-pub stretch_by-stretch_value-requires-clause-held : goal.stretch_by-stretch_value-requires-clause-held
-stretch_by-stretch_value-requires-clause-held t c =
+pub stretch_by-stretch_value-made-requires-clause-held : goal.stretch_by-stretch_value-made-requires-clause-held
+stretch_by-stretch_value-made-requires-clause-held t c =
     held_after (inputs_of c.args.self.now.inputs.now.entries) (values (map expr_of c.args.shape.now)) _ _ _ c.args.found.now c.in_ok-shape.ensures.0 c.requires.held
 
-pub stretch_by-stretch_value-requires-clause-room : goal.stretch_by-stretch_value-requires-clause-room
-stretch_by-stretch_value-requires-clause-room t c =
+pub stretch_by-stretch_value-made-requires-clause-room : goal.stretch_by-stretch_value-made-requires-clause-room
+stretch_by-stretch_value-made-requires-clause-room t c =
     let room = c.requires.room in
     let made = next_values (inputs_of c.args.self.now.inputs.now.entries) (map expr_of c.args.shape.now) _ _ _ c.in_ok-shape.ensures.0 in
     omega arith
@@ -1019,12 +1026,12 @@ stretch_by-stretch_value-requires-clause-room t c =
 pub stretch_by-returns : goal.stretch_by-returns
 stretch_by-returns t c = (
   follows values_of value_of (inputs_of c.args.self.now.inputs.now.entries) (values (map expr_of c.args.shape.now)) _ _ _ _ c.in_ok-shape.shape _ c.in_ok-shape.ensures.0
-      (rw (c.in_ok-shape.ensures.1.1, c.deref.ensures.value) at c.stretch_value.ensures.0),
-  stays_on c.in_ok-shape.ensures.1 c.stretch_value.ensures.1,
+      (rw (c.in_ok-shape.ensures.1.1, c.deref.ensures.value) at c.stretch_value-made.ensures.0),
+  stays_on c.in_ok-shape.ensures.1 c.stretch_value-made.ensures.1,
 )
 
-pub suffix_value-method_value-requires : goal.suffix_value-method_value-requires
-suffix_value-method_value-requires t c =
+pub suffix_value-method_value-made-requires : goal.suffix_value-method_value-made-requires
+suffix_value-method_value-made-requires t c =
     let held = c.requires.held in
     let room = rw c.in-Method.is at c.requires.room in
     let below = rw c.in-Method.is at c.decreases in
@@ -1087,12 +1094,12 @@ viewed_value-returns-in_err-others t c = (
   c.in_err-others.ensures.1,
 )
 
-pub viewed_value-view_value-requires-clause-held : goal.viewed_value-view_value-requires-clause-held
-viewed_value-view_value-requires-clause-held t c =
+pub viewed_value-view_value-made-requires-clause-held : goal.viewed_value-view_value-made-requires-clause-held
+viewed_value-view_value-made-requires-clause-held t c =
     held_after (inputs_of c.args.self.now.inputs.now.entries) (values (map expr_of c.args.exprs.now)) _ _ _ c.args.found.now c.in_ok-others.ensures.0 c.requires.held
 
-pub viewed_value-view_value-requires-clause-room : goal.viewed_value-view_value-requires-clause-room
-viewed_value-view_value-requires-clause-room t c =
+pub viewed_value-view_value-made-requires-clause-room : goal.viewed_value-view_value-made-requires-clause-room
+viewed_value-view_value-made-requires-clause-room t c =
     let room = c.requires.room in
     let made = next_values (inputs_of c.args.self.now.inputs.now.entries) (map expr_of c.args.exprs.now) _ _ _ c.in_ok-others.ensures.0 in
     omega arith
@@ -1100,8 +1107,8 @@ viewed_value-view_value-requires-clause-room t c =
 pub viewed_value-returns : goal.viewed_value-returns
 viewed_value-returns t c = (
   follows values_of value_of (inputs_of c.args.self.now.inputs.now.entries) (values (map expr_of c.args.exprs.now)) _ _ _ _ c.in_ok-others.others _ c.in_ok-others.ensures.0
-      (rw (c.in_ok-others.ensures.1.1, c.deref.ensures.value) at c.view_value.ensures.0),
-  stays_on c.in_ok-others.ensures.1 c.view_value.ensures.1,
+      (rw (c.in_ok-others.ensures.1.1, c.deref.ensures.value) at c.view_value-made.ensures.0),
+  stays_on c.in_ok-others.ensures.1 c.view_value-made.ensures.1,
 )
 
 -- ---- folds
@@ -1113,24 +1120,24 @@ fold_at-returns-in_err-axis t c = (
   c.in_err-axis.ensures.1,
 )
 
-pub fold_at-fold_along-requires-clause-found : goal.fold_at-fold_along-requires-clause-found
-fold_at-fold_along-requires-clause-found t c =
+pub fold_at-fold_along-made-requires-clause-found : goal.fold_at-fold_along-made-requires-clause-found
+fold_at-fold_along-made-requires-clause-found t c =
     held_after (inputs_of c.args.self.now.inputs.now.entries) (meaning.value (expr_of c.args.axis.now)) _ _ _ c.args.found.now c.in_ok-axis.ensures.0 c.requires.held
 
-pub fold_at-fold_along-requires-clause-axis : goal.fold_at-fold_along-requires-clause-axis
-fold_at-fold_along-requires-clause-axis t c =
+pub fold_at-fold_along-made-requires-clause-axis : goal.fold_at-fold_along-made-requires-clause-axis
+fold_at-fold_along-made-requires-clause-axis t c =
     value_held (inputs_of c.args.self.now.inputs.now.entries) (expr_of c.args.axis.now) _ _ c.in_ok-axis.axis c.in_ok-axis.ensures.0 c.soundness.ensures
 
-pub fold_at-fold_along-requires-clause-room : goal.fold_at-fold_along-requires-clause-room
-fold_at-fold_along-requires-clause-room t c =
+pub fold_at-fold_along-made-requires-clause-room : goal.fold_at-fold_along-made-requires-clause-room
+fold_at-fold_along-made-requires-clause-room t c =
     let made = next_value (inputs_of c.args.self.now.inputs.now.entries) (expr_of c.args.axis.now) _ _ _ c.in_ok-axis.ensures.0 in
     omega arith
 
 pub fold_at-returns : goal.fold_at-returns
 fold_at-returns t c = (
   follows value_of value_of (inputs_of c.args.self.now.inputs.now.entries) (meaning.value (expr_of c.args.axis.now)) _ _ _ _
-      c.in_ok-axis.axis _ c.in_ok-axis.ensures.0 (rw c.in_ok-axis.ensures.1.1 at c.fold_along.ensures.0),
-  stays_on c.in_ok-axis.ensures.1 c.fold_along.ensures.1,
+      c.in_ok-axis.axis _ c.in_ok-axis.ensures.0 (rw c.in_ok-axis.ensures.1.1 at c.fold_along-made.ensures.0),
+  stays_on c.in_ok-axis.ensures.1 c.fold_along-made.ensures.1,
 )
 
 pub call_value-returns-in-Fold : goal.call_value-returns-in-Fold
@@ -1152,8 +1159,8 @@ fold_call-returns-in_err-found-in-Reduce t c =
       c.in_err-found-in-Reduce.ensures.1,
     )
 
-pub fold_call-reduction_value-requires : goal.fold_call-reduction_value-requires
-fold_call-reduction_value-requires t c =
+pub fold_call-reduction_value-made-requires : goal.fold_call-reduction_value-made-requires
+fold_call-reduction_value-made-requires t c =
     let a = c.in-Reduce in
     let i = inputs_of c.args.self.now.inputs.now.entries in
     let e = expr_of a.operand in
@@ -1170,8 +1177,8 @@ fold_call-returns-in_ok-found-in-Reduce t c =
     let found = c.in_ok-found-in-Reduce in
     let same = ap (λ x. run i (fold_call (ufunc_of c.args.ufunc) (fold_of x)) (live c.args.self.now.session.now)) c.in-Reduce.is in (
       ends_alike value_of _ _ same (follows value_of value_of i (meaning.value (expr_of c.in-Reduce.operand)) _ _ _ _
-          found.found _ found.ensures.0 (rw found.ensures.1.1 at c.reduction_value.ensures.0)),
-      stays_on found.ensures.1 c.reduction_value.ensures.1,
+          found.found _ found.ensures.0 (rw found.ensures.1.1 at c.reduction_value-made.ensures.0)),
+      stays_on found.ensures.1 c.reduction_value-made.ensures.1,
     )
 
 pub fold_call-returns-in_err-found-in-Accumulate : goal.fold_call-returns-in_err-found-in-Accumulate
@@ -1184,8 +1191,8 @@ fold_call-returns-in_err-found-in-Accumulate t c =
       c.in_err-found-in-Accumulate.ensures.1,
     )
 
-pub fold_call-accumulation_value-requires : goal.fold_call-accumulation_value-requires
-fold_call-accumulation_value-requires t c =
+pub fold_call-accumulation_value-made-requires : goal.fold_call-accumulation_value-made-requires
+fold_call-accumulation_value-made-requires t c =
     let a = c.in-Accumulate in
     let i = inputs_of c.args.self.now.inputs.now.entries in
     let e = expr_of a.operand in
@@ -1204,8 +1211,8 @@ fold_call-returns-in_ok-found-in-Accumulate t c =
     let found = c.in_ok-found-in-Accumulate in
     let same = ap (λ x. run i (fold_call (ufunc_of c.args.ufunc) x) (live c.args.self.now.session.now)) (ap fold_of a.is ∙ accumulate_is a.operand a.axis) in (
       ends_alike value_of _ _ same (follows value_of value_of i (meaning.value (expr_of a.operand)) _ _ _ _
-          found.found _ found.ensures.0 (rw found.ensures.1.1 at c.accumulation_value.ensures.0)),
-      stays_on found.ensures.1 c.accumulation_value.ensures.1,
+          found.found _ found.ensures.0 (rw found.ensures.1.1 at c.accumulation_value-made.ensures.0)),
+      stays_on found.ensures.1 c.accumulation_value-made.ensures.1,
     )
 
 pub method_value-accumulation_value-requires : goal.method_value-accumulation_value-requires

@@ -26,14 +26,14 @@ use Rattle.nd_eval.proofs.evaluator.Evaluator.assign.Goals as goal
 
 pub operand_in-operand-requires : goal.operand_in-operand-requires
 operand_in-operand-requires c =
-    let v = c.args.value in
+    let v = c.args.value.now in
     held_index_marked c.args.index.now v (live c.mark_operand.new.session) (live c.mark_index.new.session) c.in_ok-mark_index.ensures
     (held_marked v v (live c.args.self.now.session.now) (live c.mark_operand.new.session) c.in_ok-mark_operand.ensures c.requires.value)
 
 pub returns-in_err-found-clause-effect : goal.returns-in_err-found-clause-effect
 returns-in_err-found-clause-effect c =
     let i = inputs_of c.args.self.now.inputs.now.entries in
-    let v = c.args.value in
+    let v = c.args.value.now in
     let t = c.args.target.now in
     let x = c.args.index.now in
     let vs = (Whole, value_of v) ∷ (Unused, value_of t) ∷ (contents.index_of x).1 in
@@ -54,7 +54,7 @@ returns-in_err-found-clause-effect c =
 pub returns-in-Array-clause-effect : goal.returns-in-Array-clause-effect
 returns-in-Array-clause-effect c =
     let i = inputs_of c.args.self.now.inputs.now.entries in
-    let v = c.args.value in
+    let v = c.args.value.now in
     let t = c.args.target.now in
     let x = c.args.index.now in
     let s = live c.mark_index.new.session in
@@ -71,15 +71,14 @@ returns-in-Array-clause-effect c =
           ∙ decided_later i m (λ ws. Writes 1 ws) (do_deed vs) s
           ∙ goes_making (λ (y : Target). writes_to (geo_in y) o) i m (λ ws. do_deed vs (Writes 1 ws)) s found (writes_made (viewing_of x) o (unused_of t) os (Ok found) c.in_ok-found.ensures.target)
           ∙ ap (λ t. run i (store_in (writes_to g o) (value_of t)) s) c.in-Array.is
-          ∙ ap (λ o. (Ok (Storing (base_of c.in-Array.array.base) (writes_to g o)), s)) c.operand_in-operand.ensures
-          ∙ ap (λ e. (Ok e, s)) (sym (c.store_effect.ensures.effect s.bytes)),
+          ∙ ap (λ o. (Ok (Storing (base_of c.in-Array.array.base) (writes_to g o)), s)) c.operand_in-operand.ensures,
       (refl, refl),
     )
 
 pub returns-in-Row-clause-effect : goal.returns-in-Row-clause-effect
 returns-in-Row-clause-effect c =
     let i = inputs_of c.args.self.now.inputs.now.entries in
-    let v = c.args.value in
+    let v = c.args.value.now in
     let t = c.args.target.now in
     let x = c.args.index.now in
     let s = live c.mark_index.new.session in
@@ -96,8 +95,7 @@ returns-in-Row-clause-effect c =
           ∙ decided_later i m (λ ws. Writes 1 ws) (do_deed vs) s
           ∙ goes_making (λ (y : Target). writes_to (geo_in y) o) i m (λ ws. do_deed vs (Writes 1 ws)) s found (writes_made (viewing_of x) o (unused_of t) os (Ok found) c.in_ok-found.ensures.target)
           ∙ ap (λ t. run i (store_in (writes_to g o) (value_of t)) s) c.in-Row.is
-          ∙ ap (λ o. (Ok (Storing (base_of c.in-Row.row.base) (writes_to g o)), s)) c.operand_in-operand.ensures
-          ∙ ap (λ e. (Ok e, s)) (sym (c.store_effect-in-Row.ensures.effect s.bytes)),
+          ∙ ap (λ o. (Ok (Storing (base_of c.in-Row.row.base) (writes_to g o)), s)) c.operand_in-operand.ensures,
       (refl, refl),
     )
 
@@ -109,32 +107,32 @@ returns-in-Number-clause-effect c =
 
 pub returns-in-Array-clause-ready : goal.returns-in-Array-clause-ready
 returns-in-Array-clause-ready c =
-    let v = c.args.value in
+    let v = c.args.value.now in
     let t = c.args.target.now in
     let x = c.args.index.now in
     let s = live c.mark_index.new.session in
     let held : (w : Value) → IsHeld (live c.args.self.now.session.now) w → IsHeld s w = λ w h. held_index_marked x w (live c.mark_operand.new.session) s c.in_ok-mark_index.ensures (held_marked v w (live c.args.self.now.session.now) (live c.mark_operand.new.session) c.in_ok-mark_operand.ensures h) in
     let own = subst (IsHeld s) c.in-Array.is (held t c.requires.target) in
     let len = length (s.bytes (base_of c.in-Array.array.base)) in
-    c.store_effect.ensures.ready s (record {
+    record {
       target = c.in_ok-found.ensures.lies len (subst (λ t. Lies len (unused_of t)) (sym c.in-Array.is) own.lies);
       value = held v c.requires.value;
       types = ap (λ o. operand_converts o (geo_in c.in_ok-found.found).element) (sym c.operand_in-operand.ensures) ∙ c.in_ok-found.ensures.types;
       shapes = ap (λ o. fits_into (shape_of o) (geo_in c.in_ok-found.found).shape) (sym c.operand_in-operand.ensures) ∙ c.in_ok-found.ensures.shapes;
-    })
+    }
 
 pub returns-in-Row-clause-ready : goal.returns-in-Row-clause-ready
 returns-in-Row-clause-ready c =
-    let v = c.args.value in
+    let v = c.args.value.now in
     let t = c.args.target.now in
     let x = c.args.index.now in
     let s = live c.mark_index.new.session in
     let held : (w : Value) → IsHeld (live c.args.self.now.session.now) w → IsHeld s w = λ w h. held_index_marked x w (live c.mark_operand.new.session) s c.in_ok-mark_index.ensures (held_marked v w (live c.args.self.now.session.now) (live c.mark_operand.new.session) c.in_ok-mark_operand.ensures h) in
     let own = subst (IsHeld s) c.in-Row.is (held t c.requires.target) in
     let len = length (s.bytes (base_of c.in-Row.row.base)) in
-    c.store_effect-in-Row.ensures.ready s (record {
+    record {
       target = c.in_ok-found.ensures.lies len (subst (λ t. Lies len (unused_of t)) (sym c.in-Row.is) own.lies);
       value = held v c.requires.value;
       types = ap (λ o. operand_converts o (geo_in c.in_ok-found.found).element) (sym c.operand_in-operand.ensures) ∙ c.in_ok-found.ensures.types;
       shapes = ap (λ o. fits_into (shape_of o) (geo_in c.in_ok-found.found).shape) (sym c.operand_in-operand.ensures) ∙ c.in_ok-found.ensures.shapes;
-    })
+    }

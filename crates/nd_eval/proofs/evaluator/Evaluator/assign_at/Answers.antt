@@ -14,17 +14,17 @@ returns-in_err-index-clause-effect c = (
   c.in_err-index.ensures.1,
 )
 
-pub assign-requires-clause-value : goal.assign-requires-clause-value
-assign-requires-clause-value c =
-    held_after (inputs_of c.args.self.now.inputs.now.entries) (index_parts (index_of c.args.index.now)) _ _ _ c.args.value c.in_ok-index.ensures.0 c.requires.value
+pub assign-place-requires-clause-value : goal.assign-place-requires-clause-value
+assign-place-requires-clause-value c =
+    held_after (inputs_of c.args.self.now.inputs.now.entries) (index_parts (index_of c.args.index.now)) _ _ _ c.args.value.now c.in_ok-index.ensures.0 c.requires.value
 
-pub assign-requires-clause-target : goal.assign-requires-clause-target
-assign-requires-clause-target c =
+pub assign-place-requires-clause-target : goal.assign-place-requires-clause-target
+assign-place-requires-clause-target c =
     held_after (inputs_of c.args.self.now.inputs.now.entries) (index_parts (index_of c.args.index.now)) _ _ _ c.args.target.now c.in_ok-index.ensures.0 c.requires.target
 
 pub returns-clause-effect : goal.returns-clause-effect
 returns-clause-effect c = (
   follows contents.index_of _ (inputs_of c.args.self.now.inputs.now.entries) (index_parts (index_of c.args.index.now)) _ _ _ _ c.in_ok-index.index _ c.in_ok-index.ensures.0
-      (rw c.in_ok-index.ensures.1.1 at c.assign.ensures.effect.0),
-  stays_on c.in_ok-index.ensures.1 c.assign.ensures.effect.1,
+      (rw c.in_ok-index.ensures.1.1 at c.assign-place.ensures.effect.0),
+  stays_on c.in_ok-index.ensures.1 c.assign-place.ensures.effect.1,
 )

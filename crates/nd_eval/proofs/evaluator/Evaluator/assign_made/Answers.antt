@@ -1,3 +1,4 @@
+use Rattle.nd_eval.specs.Effects.{effect_of}
 use Rattle.std.proofs.Common.{◌≡◌, refl, sym, ap, subst, ◌∙◌, Ok, Err, length}
 use Rattle.nd_model.specs.Making.Assigning.{fits_into}
 use Rattle.nd_model.specs.Making.Creation.{operand_converts}
@@ -18,7 +19,7 @@ use Rattle.nd_select.specs.Choosing.Targets.{Lies, geo_in, writes_to}
 use Rattle.nd_select.proofs.choosing.Lying.{writes_made}
 use Rattle.nd_eval.specs.Uses.{IsHeld, operand_over}
 use Rattle.nd_eval.proofs.Augmented.{exits_assigned, exits_made, given_held, given_operand, goes_made}
-use Rattle.nd_eval.proofs.Chains.{ends_alike, exits, goes}
+use Rattle.nd_eval.proofs.Chains.{ends_alike, goes, stops}
 use Rattle.nd_eval.proofs.Held.{held_after}
 use Rattle.nd_eval.proofs.Uses.{nothing_written}
 use Rattle.nd_eval.proofs.evaluator.Evaluator.assign_made.Goals as goal
@@ -35,36 +36,37 @@ returns-in_err-new-clause-effect c =
       (refl, refl),
     )
 
-pub returns-in_err-elements-clause-effect : goal.returns-in_err-elements-clause-effect
-returns-in_err-elements-clause-effect c =
+pub returns-in-Err-clause-effect : goal.returns-in-Err-clause-effect
+returns-in-Err-clause-effect c =
     let i = inputs_of c.args.self.now.inputs.now.entries in
     let op = binary_op c.args.op in
     let n = c.in_ok-new.new in
     let r = live c.args.self.now.session.now in
     let same : binary op (operand_of c.operand_in-left.result) (operand_of c.operand_in-right.result) ≡ binary op (operand_over r.bytes c.args.found.now) (operand_over r.bytes c.args.value.now)
     = λ j. binary op (c.operand_in-left.ensures j) (c.operand_in-right.ensures j) in (
-      exits_assigned _ i (value_of c.args.target.now) _ op _ _ (viewing_of c.args.index.now) (unused_of c.args.target.now) (index_operands (live c.args.self.now.session.now).bytes c.args.index.now) n (operand_of c.operand.result)
-          (subst (StandsFor (Ok n)) same c.in_ok-new.ensures.operand) (subst (MakesNew (Ok n)) same c.in_ok-new.ensures.new) c.operand.ensures _ _ c.from_residual-in_err-elements.ensures.1
-          (writes_made (viewing_of c.args.index.now) (operand_of c.operand.result) (unused_of c.args.target.now) (index_operands (live c.args.self.now.session.now).bytes c.args.index.now) (Err c.in_err-elements.field-0.0) c.in_err-elements.ensures.target),
+      exits_assigned (effect_of r.bytes) i (value_of c.args.target.now) r op _ _ (viewing_of c.args.index.now) (unused_of c.args.target.now) (index_operands (live c.args.self.now.session.now).bytes c.args.index.now) n (operand_of c.operand.result)
+          (subst (StandsFor (Ok n)) same c.in_ok-new.ensures.operand) (subst (MakesNew (Ok n)) same c.in_ok-new.ensures.new) c.operand.ensures c.in-Err.stop (Err c.in-Err.stop) refl
+          (writes_made (viewing_of c.args.index.now) (operand_of c.operand.result) (unused_of c.args.target.now) (index_operands (live c.args.self.now.session.now).bytes c.args.index.now) (Err c.in-Err.stop) c.in-Err.ensures.target),
       (refl, refl),
     )
 
-pub returns-in_err-made-clause-effect : goal.returns-in_err-made-clause-effect
-returns-in_err-made-clause-effect c =
+pub returns-in-Err-give-clause-effect : goal.returns-in-Err-give-clause-effect
+returns-in-Err-give-clause-effect c =
     let i = inputs_of c.args.self.now.inputs.now.entries in
     let op = binary_op c.args.op in
     let n = c.in_ok-new.new in
     let o = operand_of c.operand.result in
-    let found = c.in_ok-elements.elements in
+    let found = c.in-Ok.elements in
     let g = geo_in found in
     let t = value_of c.args.target.now in
     let r = live c.args.self.now.session.now in
+    let s = live c.give.new.self.session.now in
     let same : binary op (operand_of c.operand_in-left.result) (operand_of c.operand_in-right.result) ≡ binary op (operand_over r.bytes c.args.found.now) (operand_over r.bytes c.args.value.now)
     = λ j. binary op (c.operand_in-left.ensures j) (c.operand_in-right.ensures j) in (
-      ends_alike _ _ _ (goes_made (λ e. e) i t _ op _ _ (viewing_of c.args.index.now) (unused_of c.args.target.now) (index_operands (live c.args.self.now.session.now).bytes c.args.index.now) n o
-          (subst (StandsFor (Ok n)) same c.in_ok-new.ensures.operand) (subst (MakesNew (Ok n)) same c.in_ok-new.ensures.new) c.operand.ensures g (writes_made (viewing_of c.args.index.now) o (unused_of c.args.target.now) (index_operands (live c.args.self.now.session.now).bytes c.args.index.now) (Ok found) c.in_ok-elements.ensures.target))
-          (exits value_of _ i (given n) (λ v. store_in (writes_to g o) t) _ _ _ _ c.from_residual-in_err-made.ensures.1 c.in_err-made.ensures.0),
-      c.in_err-made.ensures.1,
+      ends_alike (effect_of s.bytes) (Err c.in-Err-give.stop) s (goes_made (λ e. e) i t r op _ _ (viewing_of c.args.index.now) (unused_of c.args.target.now) (index_operands (live c.args.self.now.session.now).bytes c.args.index.now) n o
+          (subst (StandsFor (Ok n)) same c.in_ok-new.ensures.operand) (subst (MakesNew (Ok n)) same c.in_ok-new.ensures.new) c.operand.ensures g (writes_made (viewing_of c.args.index.now) o (unused_of c.args.target.now) (index_operands (live c.args.self.now.session.now).bytes c.args.index.now) (Ok found) c.in-Ok.ensures.target))
+          (stops value_of (effect_of s.bytes) i (given n) (λ v. store_in (writes_to g o) t) r s c.in-Err-give.stop c.in-Err-give.ensures.0),
+      c.in-Err-give.ensures.1,
     )
 
 pub returns-in-Array-clause-effect : goal.returns-in-Array-clause-effect
@@ -73,7 +75,7 @@ returns-in-Array-clause-effect c =
     let op = binary_op c.args.op in
     let n = c.in_ok-new.new in
     let o = operand_of c.operand.result in
-    let found = c.in_ok-elements.elements in
+    let found = c.in-Ok.elements in
     let g = geo_in found in
     let t = value_of c.args.target.now in
     let s = live c.give.new.self.session.now in
@@ -81,12 +83,12 @@ returns-in-Array-clause-effect c =
     let same : binary op (operand_of c.operand_in-left.result) (operand_of c.operand_in-right.result) ≡ binary op (operand_over r.bytes c.args.found.now) (operand_over r.bytes c.args.value.now)
     = λ j. binary op (c.operand_in-left.ensures j) (c.operand_in-right.ensures j) in (
       goes_made (λ e. e) i t _ op _ _ (viewing_of c.args.index.now) (unused_of c.args.target.now) (index_operands (live c.args.self.now.session.now).bytes c.args.index.now) n o
-          (subst (StandsFor (Ok n)) same c.in_ok-new.ensures.operand) (subst (MakesNew (Ok n)) same c.in_ok-new.ensures.new) c.operand.ensures g (writes_made (viewing_of c.args.index.now) o (unused_of c.args.target.now) (index_operands (live c.args.self.now.session.now).bytes c.args.index.now) (Ok found) c.in_ok-elements.ensures.target)
-          ∙ goes value_of i (given n) (λ v. store_in (writes_to g o) t) _ s c.in_ok-made.made c.in_ok-made.ensures.0
+          (subst (StandsFor (Ok n)) same c.in_ok-new.ensures.operand) (subst (MakesNew (Ok n)) same c.in_ok-new.ensures.new) c.operand.ensures g (writes_made (viewing_of c.args.index.now) o (unused_of c.args.target.now) (index_operands (live c.args.self.now.session.now).bytes c.args.index.now) (Ok found) c.in-Ok.ensures.target)
+          ∙ goes value_of i (given n) (λ v. store_in (writes_to g o) t) _ s c.in-Ok-give.made c.in-Ok-give.ensures.0
           ∙ ap (λ t. run i (store_in (writes_to g o) (value_of t)) s) c.in-Array.is
-          ∙ ap (λ o. (Ok (Storing (base_of c.in-Array.array.base) (writes_to g o)), s)) (c.operand.ensures ∙ sym (given_operand i _ s c.in_ok-made.made n c.in_ok-made.ensures.0))
+          ∙ ap (λ o. (Ok (Storing (base_of c.in-Array.array.base) (writes_to g o)), s)) (c.operand.ensures ∙ sym (given_operand i _ s c.in-Ok-give.made n c.in-Ok-give.ensures.0))
           ∙ ap (λ e. (Ok e, s)) (sym (c.store_effect.ensures.effect s.bytes)),
-      c.in_ok-made.ensures.1,
+      c.in-Ok-give.ensures.1,
     )
 
 pub returns-in-Row-clause-effect : goal.returns-in-Row-clause-effect
@@ -95,7 +97,7 @@ returns-in-Row-clause-effect c =
     let op = binary_op c.args.op in
     let n = c.in_ok-new.new in
     let o = operand_of c.operand.result in
-    let found = c.in_ok-elements.elements in
+    let found = c.in-Ok.elements in
     let g = geo_in found in
     let t = value_of c.args.target.now in
     let s = live c.give.new.self.session.now in
@@ -103,12 +105,12 @@ returns-in-Row-clause-effect c =
     let same : binary op (operand_of c.operand_in-left.result) (operand_of c.operand_in-right.result) ≡ binary op (operand_over r.bytes c.args.found.now) (operand_over r.bytes c.args.value.now)
     = λ j. binary op (c.operand_in-left.ensures j) (c.operand_in-right.ensures j) in (
       goes_made (λ e. e) i t _ op _ _ (viewing_of c.args.index.now) (unused_of c.args.target.now) (index_operands (live c.args.self.now.session.now).bytes c.args.index.now) n o
-          (subst (StandsFor (Ok n)) same c.in_ok-new.ensures.operand) (subst (MakesNew (Ok n)) same c.in_ok-new.ensures.new) c.operand.ensures g (writes_made (viewing_of c.args.index.now) o (unused_of c.args.target.now) (index_operands (live c.args.self.now.session.now).bytes c.args.index.now) (Ok found) c.in_ok-elements.ensures.target)
-          ∙ goes value_of i (given n) (λ v. store_in (writes_to g o) t) _ s c.in_ok-made.made c.in_ok-made.ensures.0
+          (subst (StandsFor (Ok n)) same c.in_ok-new.ensures.operand) (subst (MakesNew (Ok n)) same c.in_ok-new.ensures.new) c.operand.ensures g (writes_made (viewing_of c.args.index.now) o (unused_of c.args.target.now) (index_operands (live c.args.self.now.session.now).bytes c.args.index.now) (Ok found) c.in-Ok.ensures.target)
+          ∙ goes value_of i (given n) (λ v. store_in (writes_to g o) t) _ s c.in-Ok-give.made c.in-Ok-give.ensures.0
           ∙ ap (λ t. run i (store_in (writes_to g o) (value_of t)) s) c.in-Row.is
-          ∙ ap (λ o. (Ok (Storing (base_of c.in-Row.row.base) (writes_to g o)), s)) (c.operand.ensures ∙ sym (given_operand i _ s c.in_ok-made.made n c.in_ok-made.ensures.0))
+          ∙ ap (λ o. (Ok (Storing (base_of c.in-Row.row.base) (writes_to g o)), s)) (c.operand.ensures ∙ sym (given_operand i _ s c.in-Ok-give.made n c.in-Ok-give.ensures.0))
           ∙ ap (λ e. (Ok e, s)) (sym (c.store_effect-in-Row.ensures.effect s.bytes)),
-      c.in_ok-made.ensures.1,
+      c.in-Ok-give.ensures.1,
     )
 
 pub returns-in-Number-clause-effect : goal.returns-in-Number-clause-effect
@@ -116,23 +118,23 @@ returns-in-Number-clause-effect c =
     let x = c.args.index.now in
     let os = index_operands (live c.args.self.now.session.now).bytes x in
     absurd (nothing_written c.in-Number.field-0 x (operand_of c.operand.result) os _
-    (writes_made (viewing_of x) (operand_of c.operand.result) (unused_of (Number c.in-Number.field-0)) os (Ok c.in_ok-elements.elements) (rw c.in-Number.is at c.in_ok-elements.ensures.target)))
+    (writes_made (viewing_of x) (operand_of c.operand.result) (unused_of (Number c.in-Number.field-0)) os (Ok c.in-Ok.elements) (rw c.in-Number.is at c.in-Ok.ensures.target)))
 
 pub returns-in-Array-clause-ready : goal.returns-in-Array-clause-ready
 returns-in-Array-clause-ready c =
     let i = inputs_of c.args.self.now.inputs.now.entries in
     let n = c.in_ok-new.new in
     let t = c.args.target.now in
-    let v = c.in_ok-made.made in
+    let v = c.in-Ok-give.made in
     let s = live c.give.new.self.session.now in
-    let own = subst (IsHeld s) c.in-Array.is (held_after i (given n) _ s _ t c.in_ok-made.ensures.0 c.requires.target) in
+    let own = subst (IsHeld s) c.in-Array.is (held_after i (given n) _ s _ t c.in-Ok-give.ensures.0 c.requires.target) in
     let len = length (s.bytes (base_of c.in-Array.array.base)) in
-    let is = given_operand i _ s v n c.in_ok-made.ensures.0 ∙ sym c.operand.ensures in
+    let is = given_operand i _ s v n c.in-Ok-give.ensures.0 ∙ sym c.operand.ensures in
     c.store_effect.ensures.ready s (record {
-      target = c.in_ok-elements.ensures.lies len (subst (λ t. Lies len (unused_of t)) (sym c.in-Array.is) own.lies);
-      value = given_held i _ s v n c.in_ok-made.ensures.0 c.in_ok-new.ensures.lies;
-      types = ap (λ o. operand_converts o (geo_in c.in_ok-elements.elements).element) is ∙ c.in_ok-elements.ensures.types;
-      shapes = ap (λ o. fits_into (shape_of o) (geo_in c.in_ok-elements.elements).shape) is ∙ c.in_ok-elements.ensures.shapes;
+      target = c.in-Ok.ensures.lies len (subst (λ t. Lies len (unused_of t)) (sym c.in-Array.is) own.lies);
+      value = given_held i _ s v n c.in-Ok-give.ensures.0 c.in_ok-new.ensures.lies;
+      types = ap (λ o. operand_converts o (geo_in c.in-Ok.elements).element) is ∙ c.in-Ok.ensures.types;
+      shapes = ap (λ o. fits_into (shape_of o) (geo_in c.in-Ok.elements).shape) is ∙ c.in-Ok.ensures.shapes;
     })
 
 pub returns-in-Row-clause-ready : goal.returns-in-Row-clause-ready
@@ -140,14 +142,14 @@ returns-in-Row-clause-ready c =
     let i = inputs_of c.args.self.now.inputs.now.entries in
     let n = c.in_ok-new.new in
     let t = c.args.target.now in
-    let v = c.in_ok-made.made in
+    let v = c.in-Ok-give.made in
     let s = live c.give.new.self.session.now in
-    let own = subst (IsHeld s) c.in-Row.is (held_after i (given n) _ s _ t c.in_ok-made.ensures.0 c.requires.target) in
+    let own = subst (IsHeld s) c.in-Row.is (held_after i (given n) _ s _ t c.in-Ok-give.ensures.0 c.requires.target) in
     let len = length (s.bytes (base_of c.in-Row.row.base)) in
-    let is = given_operand i _ s v n c.in_ok-made.ensures.0 ∙ sym c.operand.ensures in
+    let is = given_operand i _ s v n c.in-Ok-give.ensures.0 ∙ sym c.operand.ensures in
     c.store_effect-in-Row.ensures.ready s (record {
-      target = c.in_ok-elements.ensures.lies len (subst (λ t. Lies len (unused_of t)) (sym c.in-Row.is) own.lies);
-      value = given_held i _ s v n c.in_ok-made.ensures.0 c.in_ok-new.ensures.lies;
-      types = ap (λ o. operand_converts o (geo_in c.in_ok-elements.elements).element) is ∙ c.in_ok-elements.ensures.types;
-      shapes = ap (λ o. fits_into (shape_of o) (geo_in c.in_ok-elements.elements).shape) is ∙ c.in_ok-elements.ensures.shapes;
+      target = c.in-Ok.ensures.lies len (subst (λ t. Lies len (unused_of t)) (sym c.in-Row.is) own.lies);
+      value = given_held i _ s v n c.in-Ok-give.ensures.0 c.in_ok-new.ensures.lies;
+      types = ap (λ o. operand_converts o (geo_in c.in-Ok.elements).element) is ∙ c.in-Ok.ensures.types;
+      shapes = ap (λ o. fits_into (shape_of o) (geo_in c.in-Ok.elements).shape) is ∙ c.in-Ok.ensures.shapes;
     })

@@ -1,15 +1,16 @@
-use Rattle.std.proofs.Common.{arith, ◌∷◌}
+use Rattle.nd_eval.specs.Parts.{target_assignment}
+use Rattle.nd_model.specs.Cells.Evaluation.{run}
+use Rattle.std.proofs.Common.{arith, ap, sym, ◌∙◌, Ok, Err}
 use Rattle.nd_model.specs.Cells.Meaning as meaning
-use Rattle.nd_model.specs.Making.Operand.{Whole, Unused}
-use Rattle.nd_model.specs.Cells.Operation.{act_on}
 use Rattle.nd_syntax.specs.Trees.Syntax.{expr_of, index_of}
 use Rattle.nd_heap.specs.Values.{value_of}
 use Rattle.nd_session.specs.Inputs.Values.{inputs_of}
+use Rattle.nd_session.specs.Session.Live.{live}
+use Rattle.nd_eval.specs.Effects.{effect_of, stored_at}
 use Rattle.nd_eval.proofs.Bounds.{next_value}
-use Rattle.nd_eval.proofs.Chains.{exits, follows, ends_alike}
+use Rattle.nd_eval.proofs.Chains.{exits, follows, goes, refused_alike}
 use Rattle.nd_eval.proofs.Turns.{stays_on}
-use Rattle.nd_eval.proofs.IndexPlans.{index_all}
-use Rattle.nd_eval.proofs.Held.{held_after, sound_after, value_held}
+use Rattle.nd_eval.proofs.Held.{value_held}
 use Rattle.nd_eval.proofs.evaluator.Evaluator.assignment_effect.Goals as goal
 
 pub returns-in_err-written-clause-effect : goal.returns-in_err-written-clause-effect
@@ -19,50 +20,40 @@ returns-in_err-written-clause-effect c = (
   c.in_err-written.ensures.1,
 )
 
-pub value-requires-2 : goal.value-requires-2
-value-requires-2 c =
+pub place_of-requires-clause-value : goal.place_of-requires-clause-value
+place_of-requires-clause-value c =
+    value_held (inputs_of c.args.self.now.inputs.now.entries) (expr_of c.args.expr.now) _ _ c.in_ok-written.written c.in_ok-written.ensures.0 c.soundness.ensures
+
+pub place_of-requires-clause-room : goal.place_of-requires-clause-room
+place_of-requires-clause-room c =
+    let room = c.requires in
     let made = next_value (inputs_of c.args.self.now.inputs.now.entries) (expr_of c.args.expr.now) _ _ _ c.in_ok-written.ensures.0 in
     omega arith
 
-pub returns-in_err-target-clause-effect : goal.returns-in_err-target-clause-effect
-returns-in_err-target-clause-effect c = (
-  follows value_of _ (inputs_of c.args.self.now.inputs.now.entries) (meaning.value (expr_of c.args.expr.now)) _ _ _ _
-      c.in_ok-written.written _ c.in_ok-written.ensures.0
-      (exits value_of _ (inputs_of c.args.self.now.inputs.now.entries) (meaning.value (expr_of c.args.target.now)) _ _ _ _ _
-      c.from_residual-in_err-target.ensures.1 (rw c.in_ok-written.ensures.1.1 at c.in_err-target.ensures.0)),
-  stays_on c.in_ok-written.ensures.1 c.in_err-target.ensures.1,
-)
-
-pub assign_at-requires-clause-value : goal.assign_at-requires-clause-value
-assign_at-requires-clause-value c =
+pub returns-in-Err-clause-effect : goal.returns-in-Err-clause-effect
+returns-in-Err-clause-effect c =
     let i = inputs_of c.args.self.now.inputs.now.entries in
+    let e = expr_of c.args.target.now in
+    let x = index_of c.args.index.now in
     let v = c.in_ok-written.written in
-    held_after i (meaning.value (expr_of c.args.target.now)) _ _ _ v (rw c.in_ok-written.ensures.1.1 at c.in_ok-target.ensures.0)
-    (value_held i (expr_of c.args.expr.now) _ _ v c.in_ok-written.ensures.0 c.soundness.ensures)
-
-pub assign_at-requires-clause-target : goal.assign_at-requires-clause-target
-assign_at-requires-clause-target c =
-    let i = inputs_of c.args.self.now.inputs.now.entries in
-    value_held i (expr_of c.args.target.now) _ _ c.in_ok-target.target (rw c.in_ok-written.ensures.1.1 at c.in_ok-target.ensures.0)
-    (sound_after i (meaning.value (expr_of c.args.expr.now)) _ _ _ c.in_ok-written.ensures.0 c.soundness.ensures)
-
-pub assign_at-requires-clause-room : goal.assign_at-requires-clause-room
-assign_at-requires-clause-room c =
-    let i = inputs_of c.args.self.now.inputs.now.entries in
-    let room = c.requires in
-    let made = next_value i (expr_of c.args.expr.now) _ _ _ c.in_ok-written.ensures.0 in
-    let more = next_value i (expr_of c.args.target.now) _ _ _ (rw c.in_ok-written.ensures.1.1 at c.in_ok-target.ensures.0) in
-    omega arith
-
-pub returns-clause-effect : goal.returns-clause-effect
-returns-clause-effect c =
-    let i = inputs_of c.args.self.now.inputs.now.entries in
-    let v = value_of c.in_ok-written.written in
-    let t = value_of c.in_ok-target.target in
-    let stays = stays_on c.in_ok-written.ensures.1 c.in_ok-target.ensures.1 in (
-      follows value_of _ i (meaning.value (expr_of c.args.expr.now)) _ _ _ _ c.in_ok-written.written _ c.in_ok-written.ensures.0
-          (follows value_of _ i (meaning.value (expr_of c.args.target.now)) _ _ _ _ c.in_ok-target.target _ (rw c.in_ok-written.ensures.1.1 at c.in_ok-target.ensures.0)
-          (ends_alike _ _ _ (index_all i (index_of c.args.index.now) (λ w vs. act_on (meaning.assignment_deed w) ((Whole, v) ∷ (Unused, t) ∷ vs)) _)
-          (rw stays.1 at c.assign_at.ensures.effect.0))),
-      stays_on stays c.assign_at.ensures.effect.1,
+    let s = live c.value.new.self.session.now in
+    let u = live c.place_of.new.self.session.now in (
+      follows value_of (effect_of u.bytes) i (meaning.value (expr_of c.args.expr.now)) (λ v. target_assignment v e x) (live c.args.self.now.session.now) s u v (Err c.in-Err.stop) c.in_ok-written.ensures.0
+          (refused_alike (stored_at u.bytes v) (effect_of u.bytes) c.in-Err.stop u (run i (target_assignment (value_of v) e x) s) (rw c.in_ok-written.ensures.1.1 at c.in-Err.ensures.effect.0)),
+      stays_on c.in_ok-written.ensures.1 c.in-Err.ensures.effect.1,
     )
+
+pub returns-in-Ok-clause-effect : goal.returns-in-Ok-clause-effect
+returns-in-Ok-clause-effect c =
+    let i = inputs_of c.args.self.now.inputs.now.entries in
+    let e = expr_of c.args.target.now in
+    let x = index_of c.args.index.now in
+    let u = live c.place_of.new.self.session.now in (
+      goes value_of i (meaning.value (expr_of c.args.expr.now)) (λ v. target_assignment v e x) (live c.args.self.now.session.now) (live c.value.new.self.session.now) c.in_ok-written.written c.in_ok-written.ensures.0
+          ∙ (rw c.in_ok-written.ensures.1.1 at c.in-Ok.ensures.effect.0)
+          ∙ ap (λ e. (Ok e, u)) (sym (c.store_effect.ensures.effect u.bytes)),
+      stays_on c.in_ok-written.ensures.1 c.in-Ok.ensures.effect.1,
+    )
+
+pub returns-in-Ok-clause-ready : goal.returns-in-Ok-clause-ready
+returns-in-Ok-clause-ready c = c.store_effect.ensures.ready (live c.place_of.new.self.session.now) c.in-Ok.ensures.ready

@@ -7,7 +7,7 @@ use Rattle.nd_session.specs.Inputs.Values.{inputs_of}
 use Rattle.nd_session.specs.Session.Live.{live}
 use Rattle.nd_eval.specs.Effects.{effect_of}
 use Rattle.nd_eval.specs.Parts.{augmentation}
-use Rattle.nd_eval.specs.Uses.{IsHeld}
+use Rattle.nd_eval.specs.Uses.{IsHeld, marked}
 use Rattle.nd_eval.proofs.Augmented.{array_augmented, makes_ends}
 use Rattle.nd_eval.proofs.Chains.{ends_alike}
 use Rattle.nd_eval.proofs.Held.{held_marked}
@@ -16,29 +16,27 @@ use Rattle.nd_eval.proofs.evaluator.Evaluator.augment.Goals as goal
 pub update_effect-requires-clause-array : goal.update_effect-requires-clause-array
 update_effect-requires-clause-array c =
     let r = live c.args.self.now.session.now in
-    let s = live c.mark_used.new.self in
-    let t = live c.mark_operand.new.session in
     let a = Array c.in-Ok.array in
-    held_marked c.args.value a s t c.in_ok-mark_operand-in-Ok.ensures (held_marked a a r s c.in_ok-mark_used-in-Ok.ensures (subst (IsHeld r) c.in-Ok.ensures c.requires.found))
+    let t = live c.mark_array_and_value.new.session in
+    held_marked c.args.value a (marked a r) t c.in-Ok-mark_array_and_value.ensures (held_marked a a r (marked a r) refl (subst (IsHeld r) c.in-Ok.ensures c.requires.found))
 
 pub update_effect-requires-clause-value : goal.update_effect-requires-clause-value
 update_effect-requires-clause-value c =
     let r = live c.args.self.now.session.now in
-    let s = live c.mark_used.new.self in
-    let t = live c.mark_operand.new.session in
+    let a = Array c.in-Ok.array in
+    let t = live c.mark_array_and_value.new.session in
     let v = c.args.value in
-    held_marked v v s t c.in_ok-mark_operand-in-Ok.ensures (held_marked (Array c.in-Ok.array) v r s c.in_ok-mark_used-in-Ok.ensures c.requires.value)
+    held_marked v v (marked a r) t c.in-Ok-mark_array_and_value.ensures (held_marked a v r (marked a r) refl c.requires.value)
 
-pub returns-in_ok-mark_operand-in-Ok-clause-effect : goal.returns-in_ok-mark_operand-in-Ok-clause-effect
-returns-in_ok-mark_operand-in-Ok-clause-effect c =
+pub returns-in-Ok-mark_array_and_value-clause-effect : goal.returns-in-Ok-mark_array_and_value-clause-effect
+returns-in-Ok-mark_array_and_value-clause-effect c =
     let i = inputs_of c.args.self.now.inputs.now.entries in
     let op = binary_op c.args.op in
     let n = c.args.name.now in
     let v = c.args.value in
     let r = live c.args.self.now.session.now in
-    let s = live c.mark_used.new.self in
-    let t = live c.mark_operand.new.session in (
-      ends_alike _ _ _ (ap (λ f. run i (augmentation n op (value_of f) (value_of v)) r) c.in-Ok.ensures ∙ array_augmented i op c.in-Ok.array v n r s t c.in_ok-mark_used-in-Ok.ensures c.in_ok-mark_operand-in-Ok.ensures)
+    let t = live c.mark_array_and_value.new.session in (
+      ends_alike _ _ _ (ap (λ f. run i (augmentation n op (value_of f) (value_of v)) r) c.in-Ok.ensures ∙ array_augmented i op c.in-Ok.array v n r (marked (Array c.in-Ok.array) r) t refl c.in-Ok-mark_array_and_value.ensures)
           (makes_ends (effect_of t.bytes) i t _ _ c.update_effect.ensures.effect),
       (refl, refl),
     )

@@ -25,7 +25,7 @@ update_effect-requires-clause-array c =
     let q = marked c.args.found s in
     let u = live c.mark_item_operands.new.session in
     let f = c.args.found in
-    subst (IsHeld u) c.in-Ok.ensures (held_index_marked c.args.index.now f q u c.in_ok-mark_item_operands.ensures
+    subst (IsHeld u) c.in-Ok-array_of.ensures (held_index_marked c.args.index.now f q u c.in-Ok.ensures
     (held_marked f f s q refl (held_marked c.args.value f r s refl c.requires.found)))
 
 pub update_effect-requires-clause-value : goal.update_effect-requires-clause-value
@@ -35,7 +35,7 @@ update_effect-requires-clause-value c =
     let q = marked c.args.found s in
     let u = live c.mark_item_operands.new.session in
     let v = c.args.value in
-    held_index_marked c.args.index.now v q u c.in_ok-mark_item_operands.ensures
+    held_index_marked c.args.index.now v q u c.in-Ok.ensures
     (held_marked c.args.found v s q refl (held_marked v v r s refl c.requires.value))
 
 pub assign_made-made-requires-clause-value : goal.assign_made-made-requires-clause-value
@@ -45,7 +45,7 @@ assign_made-made-requires-clause-value c =
     let q = marked c.args.found s in
     let u = live c.mark_item_operands.new.session in
     let v = c.args.value in
-    held_index_marked c.args.index.now v q u c.in_ok-mark_item_operands.ensures
+    held_index_marked c.args.index.now v q u c.in-Ok.ensures
     (held_marked c.args.found v s q refl (held_marked v v r s refl c.requires.value))
 
 pub assign_made-made-requires-clause-found : goal.assign_made-made-requires-clause-found
@@ -55,7 +55,7 @@ assign_made-made-requires-clause-found c =
     let q = marked c.args.found s in
     let u = live c.mark_item_operands.new.session in
     let f = c.args.found in
-    subst (IsHeld u) (sym c.in-Err.ensures.0) (held_index_marked c.args.index.now f q u c.in_ok-mark_item_operands.ensures
+    subst (IsHeld u) (sym c.in-Err.ensures.0) (held_index_marked c.args.index.now f q u c.in-Ok.ensures
     (held_marked f f s q refl (held_marked c.args.value f r s refl c.requires.found)))
 
 pub assign_made-made-requires-clause-target : goal.assign_made-made-requires-clause-target
@@ -65,7 +65,7 @@ assign_made-made-requires-clause-target c =
     let q = marked c.args.found s in
     let u = live c.mark_item_operands.new.session in
     let t = c.args.target.now in
-    held_index_marked c.args.index.now t q u c.in_ok-mark_item_operands.ensures
+    held_index_marked c.args.index.now t q u c.in-Ok.ensures
     (held_marked c.args.found t s q refl (held_marked c.args.value t r s refl c.requires.target))
 
 pub assign_made-made-requires-clause-room : goal.assign_made-made-requires-clause-room
@@ -73,7 +73,7 @@ assign_made-made-requires-clause-room c =
     let r = live c.args.self.now.session.now in
     let once = kept_next c.args.value r (marked c.args.value r) refl in
     let again = kept_next c.args.found (marked c.args.value r) (marked c.args.found (marked c.args.value r)) refl in
-    let last = index_next c.args.index.now _ _ c.in_ok-mark_item_operands.ensures in
+    let last = index_next c.args.index.now _ _ c.in-Ok.ensures in
     rw (last, again, once) c.requires.room
 
 pub returns-in-Err-clause-effect : goal.returns-in-Err-clause-effect
@@ -89,7 +89,7 @@ returns-in-Err-clause-effect c =
     let q = marked c.args.found s in
     let u = live c.mark_item_operands.new.session in (
       ends_alike _ _ _ (ap (λ f. run i (item_augmentation op (value_of v) (value_of f) (value_of t) (contents.index_of x)) r) (sym c.in-Err.ensures.0)
-          ∙ made_assigned i op v f t x r s q u c.in-Err.ensures.1 refl (ap (λ f. marked f s) (sym c.in-Err.ensures.0)) c.in_ok-mark_item_operands.ensures)
+          ∙ made_assigned i op v f t x r s q u c.in-Err.ensures.1 refl (ap (λ f. marked f s) (sym c.in-Err.ensures.0)) c.in-Ok.ensures)
           c.assign_made-made.ensures.effect.0,
       c.assign_made-made.ensures.effect.1,
     )
@@ -101,7 +101,7 @@ copy_update_effect-requires-clause-copy c =
     let q = marked c.args.found s in
     let u = live c.mark_item_operands.new.session in
     let f = c.args.found in
-    subst (IsHeld u) c.in-Ok.ensures (held_index_marked c.args.index.now f q u c.in_ok-mark_item_operands.ensures
+    subst (IsHeld u) c.in-Ok-array_of.ensures (held_index_marked c.args.index.now f q u c.in-Ok.ensures
     (held_marked f f s q refl (held_marked c.args.value f r s refl c.requires.found)))
 
 pub copy_update_effect-requires-clause-value : goal.copy_update_effect-requires-clause-value
@@ -111,7 +111,7 @@ copy_update_effect-requires-clause-value c =
     let q = marked c.args.found s in
     let u = live c.mark_item_operands.new.session in
     let v = c.args.value in
-    held_index_marked c.args.index.now v q u c.in_ok-mark_item_operands.ensures
+    held_index_marked c.args.index.now v q u c.in-Ok.ensures
     (held_marked c.args.found v s q refl (held_marked v v r s refl c.requires.value))
 
 pub copy_update_effect-requires-clause-target : goal.copy_update_effect-requires-clause-target
@@ -121,7 +121,7 @@ copy_update_effect-requires-clause-target c =
     let q = marked c.args.found s in
     let u = live c.mark_item_operands.new.session in
     let t = c.args.target.now in
-    held_index_marked c.args.index.now t q u c.in_ok-mark_item_operands.ensures
+    held_index_marked c.args.index.now t q u c.in-Ok.ensures
     (held_marked c.args.found t s q refl (held_marked c.args.value t r s refl c.requires.target))
 
 pub copy_update_effect-requires-clause-advanced : goal.copy_update_effect-requires-clause-advanced
@@ -132,7 +132,7 @@ copy_update_effect-requires-clause-types c =
     let x = c.args.index.now in
     let t = c.args.target.now in
     let advanced : has_array (operands_of x) ≡ true = sym c.is_advanced.ensures ∙ c.if-is_advanced.true in
-    subst (λ b. HasTypeOf b (unused_of t) (Array c.in-Ok.array)) advanced (subst (HasTypeOf (has_array (operands_of x)) (unused_of t)) c.in-Ok.ensures c.requires.types)
+    subst (λ b. HasTypeOf b (unused_of t) (Array c.in-Ok-array_of.array)) advanced (subst (HasTypeOf (has_array (operands_of x)) (unused_of t)) c.in-Ok-array_of.ensures c.requires.types)
 
 pub returns-then-is_advanced-clause-effect : goal.returns-then-is_advanced-clause-effect
 returns-then-is_advanced-clause-effect c =
@@ -145,8 +145,8 @@ returns-then-is_advanced-clause-effect c =
     let s = marked c.args.value r in
     let q = marked c.args.found s in
     let u = live c.mark_item_operands.new.session in (
-      ends_alike _ _ _ (ap (λ f. run i (item_augmentation op (value_of v) (value_of f) (value_of t) (contents.index_of x)) r) c.in-Ok.ensures
-          ∙ copy_item_augmented i op c.in-Ok.array v t x r s q u refl (ap (λ f. marked f s) c.in-Ok.ensures) c.in_ok-mark_item_operands.ensures
+      ends_alike _ _ _ (ap (λ f. run i (item_augmentation op (value_of v) (value_of f) (value_of t) (contents.index_of x)) r) c.in-Ok-array_of.ensures
+          ∙ copy_item_augmented i op c.in-Ok-array_of.array v t x r s q u refl (ap (λ f. marked f s) c.in-Ok-array_of.ensures) c.in-Ok.ensures
           (sym c.is_advanced.ensures ∙ c.if-is_advanced.true))
           (makes_ends (effect_of u.bytes) i u _ _ c.copy_update_effect.ensures.effect),
       (refl, refl),
@@ -163,8 +163,8 @@ returns-else-is_advanced-clause-effect c =
     let s = marked c.args.value r in
     let q = marked c.args.found s in
     let u = live c.mark_item_operands.new.session in (
-      ends_alike _ _ _ (ap (λ f. run i (item_augmentation op (value_of v) (value_of f) (value_of t) (contents.index_of x)) r) c.in-Ok.ensures
-          ∙ array_item_augmented i op c.in-Ok.array v t x r s q u refl (ap (λ f. marked f s) c.in-Ok.ensures) c.in_ok-mark_item_operands.ensures
+      ends_alike _ _ _ (ap (λ f. run i (item_augmentation op (value_of v) (value_of f) (value_of t) (contents.index_of x)) r) c.in-Ok-array_of.ensures
+          ∙ array_item_augmented i op c.in-Ok-array_of.array v t x r s q u refl (ap (λ f. marked f s) c.in-Ok-array_of.ensures) c.in-Ok.ensures
           (sym c.is_advanced.ensures ∙ c.if-is_advanced.false))
           (makes_ends (effect_of u.bytes) i u _ _ c.update_effect.ensures.effect),
       (refl, refl),

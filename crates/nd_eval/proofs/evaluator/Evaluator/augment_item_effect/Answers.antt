@@ -21,12 +21,12 @@ returns-in_err-target-clause-effect c = (
   c.in_err-target.ensures.1,
 )
 
-pub augment_index-requires-clause-held : goal.augment_index-requires-clause-held
-augment_index-requires-clause-held c =
+pub augment_index-made-requires-clause-held : goal.augment_index-made-requires-clause-held
+augment_index-made-requires-clause-held c =
     value_held (inputs_of c.args.self.now.inputs.now.entries) (expr_of c.args.target.now) _ _ c.in_ok-target.target c.in_ok-target.ensures.0 c.soundness.ensures
 
-pub augment_index-requires-clause-room : goal.augment_index-requires-clause-room
-augment_index-requires-clause-room c =
+pub augment_index-made-requires-clause-room : goal.augment_index-made-requires-clause-room
+augment_index-made-requires-clause-room c =
     let room = c.requires in
     let made = next_value (inputs_of c.args.self.now.inputs.now.entries) (expr_of c.args.target.now) _ _ _ c.in_ok-target.ensures.0 in
     omega arith
@@ -40,6 +40,6 @@ returns-clause-effect c =
     let x = index_of c.args.index.now in (
       follows value_of _ i (meaning.value (expr_of c.args.target.now)) _ _ _ _ c.in_ok-target.target _ c.in_ok-target.ensures.0
           (ends_alike _ _ _ (index_all i x (λ w vs. perform (Views w) ((Unused, t) ∷ vs) >>= λ v. meaning.value e >>= λ y. act_on (augment_item op w) ((Whole, y) ∷ (Whole, v) ∷ (Unused, t) ∷ vs)) _)
-          (rw c.in_ok-target.ensures.1.1 at c.augment_index.ensures.effect.0)),
-      stays_on c.in_ok-target.ensures.1 c.augment_index.ensures.effect.1,
+          (rw c.in_ok-target.ensures.1.1 at c.augment_index-made.ensures.effect.0)),
+      stays_on c.in_ok-target.ensures.1 c.augment_index-made.ensures.effect.1,
     )

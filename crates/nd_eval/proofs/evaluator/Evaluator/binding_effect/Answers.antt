@@ -20,16 +20,16 @@ returns-in_err-bound-clause-effect c = (
   c.in_err-bound.ensures.1,
 )
 
-pub returns-clause-effect : goal.returns-clause-effect
-returns-clause-effect c =
+pub returns-in-Ok-clause-effect : goal.returns-in-Ok-clause-effect
+returns-in-Ok-clause-effect c =
     let i = inputs_of c.args.self.now.inputs.now.entries in
     let v = value_of c.in_ok-bound.bound in (
       goes value_of i (meaning.value (expr_of c.args.expr.now)) (λ v. act_on (λ os. Ok (BindsFirst c.args.name.now)) ((Unused, v) ∷ [])) _ _ c.in_ok-bound.bound c.in_ok-bound.ensures.0
           ∙ ap (λ t. run i t (live c.value.new.self.session.now)) (binding_parts c.args.name.now v)
-          ∙ ap (λ n. (Ok (running.Binding n v), live c.value.new.self.session.now)) (sym c.in_ok-name.ensures.ok),
+          ∙ ap (λ n. (Ok (running.Binding n v), live c.value.new.self.session.now)) (sym c.in-Ok.ensures.ok),
       c.in_ok-bound.ensures.1,
     )
 
-pub returns-clause-ready : goal.returns-clause-ready
-returns-clause-ready c =
+pub returns-in-Ok-clause-ready : goal.returns-in-Ok-clause-ready
+returns-in-Ok-clause-ready c =
     value_held (inputs_of c.args.self.now.inputs.now.entries) (expr_of c.args.expr.now) _ _ c.in_ok-bound.bound c.in_ok-bound.ensures.0 c.soundness.ensures

@@ -8,5 +8,5 @@ use Rattle.nd_eval.proofs.evaluator.Evaluator.chosen_value.Goals as goal
 pub returns-in-Copy-clause-value : goal.returns-in-Copy-clause-value
 returns-in-Copy-clause-value c =
     let a = c.args.array.now in
-    subst (λ x. Evaluates value_of c.copy_chosen.result c.args.self.now (choose_in (base_of a.base) (geo_of a) (chosen_of x)) c.copy_chosen.new.self)
-    (sym c.in-Copy.is) (c.copy_chosen.ensures.value (geo_of a))
+    subst (λ x. Evaluates value_of c.copy_chosen-copied.result c.args.self.now (choose_in (base_of a.base) (geo_of a) (chosen_of x)) c.copy_chosen-copied.new.self)
+    (sym c.in-Copy.is) (c.copy_chosen-copied.ensures.value (geo_of a))

@@ -22,8 +22,8 @@ returns-in_err-bound-clause-effect c =
       c.in_err-bound.ensures.1,
     )
 
-pub returns-clause-effect : goal.returns-clause-effect
-returns-clause-effect c =
+pub returns-in-Ok-clause-effect : goal.returns-in-Ok-clause-effect
+returns-in-Ok-clause-effect c =
     let i = inputs_of c.args.self.now.inputs.now.entries in
     let n = c.args.name.now in
     let op = binary_op c.args.op in
@@ -32,11 +32,11 @@ returns-clause-effect c =
     let x = value_of c.in_ok-bound.bound in (
       made_bound i n op v w _ c.requires.none
           ∙ goes value_of i (operate (binary op) (value_of v) (value_of w)) (λ x. Gives (running.Binding n x)) _ _ c.in_ok-bound.bound c.in_ok-bound.ensures.0
-          ∙ ap (λ n. (Ok (running.Binding n x), live c.operate.new.self.session.now)) (sym c.in_ok-name.ensures.ok),
+          ∙ ap (λ n. (Ok (running.Binding n x), live c.operate.new.self.session.now)) (sym c.in-Ok.ensures.ok),
       c.in_ok-bound.ensures.1,
     )
 
-pub returns-clause-ready : goal.returns-clause-ready
-returns-clause-ready c =
+pub returns-in-Ok-clause-ready : goal.returns-in-Ok-clause-ready
+returns-in-Ok-clause-ready c =
     operate_held (inputs_of c.args.self.now.inputs.now.entries) (binary (binary_op c.args.op)) c.args.found.now c.args.value.now _ _ c.in_ok-bound.bound c.in_ok-bound.ensures.0
     c.requires.found c.requires.value

@@ -14,12 +14,12 @@ returns-in_err-saved-clause-effect c = (
   c.in_err-saved.ensures.1,
 )
 
-pub save-requires : goal.save-requires
-save-requires c = value_held (inputs_of c.args.self.now.inputs.now.entries) (expr_of c.args.expr.now) _ _ c.in_ok-saved.saved c.in_ok-saved.ensures.0 c.soundness.ensures
+pub save-made-requires : goal.save-made-requires
+save-made-requires c = value_held (inputs_of c.args.self.now.inputs.now.entries) (expr_of c.args.expr.now) _ _ c.in_ok-saved.saved c.in_ok-saved.ensures.0 c.soundness.ensures
 
 pub returns-clause-effect : goal.returns-clause-effect
 returns-clause-effect c = (
   follows value_of _ (inputs_of c.args.self.now.inputs.now.entries) (meaning.value (expr_of c.args.expr.now)) _ _ _ _
-      c.in_ok-saved.saved _ c.in_ok-saved.ensures.0 (rw c.in_ok-saved.ensures.1.1 at c.save.ensures.effect.0),
-  stays_on c.in_ok-saved.ensures.1 c.save.ensures.effect.1,
+      c.in_ok-saved.saved _ c.in_ok-saved.ensures.0 (rw c.in_ok-saved.ensures.1.1 at c.save-made.ensures.effect.0),
+  stays_on c.in_ok-saved.ensures.1 c.save-made.ensures.effect.1,
 )

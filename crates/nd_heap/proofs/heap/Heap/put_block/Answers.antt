@@ -1,11 +1,8 @@
-use Rattle.std.proofs.Common.{◌∙◌, ap, refl, sym}
-use Rattle.std.proofs.lemmas.Bool.{or_parts}
+use Rattle.std.proofs.Common.{refl}
 use Rattle.nd_heap.specs.Contents.{bases_of}
-use Rattle.nd_heap.specs.Live.{is_base_among}
 use Rattle.nd_heap.specs.Values.{base_of}
 use Rattle.nd_heap.proofs.Bases.{at_err}
-use Rattle.nd_heap.proofs.Held.{base-insert}
-use Rattle.nd_heap.proofs.Loosening.{more_loose, put_loose, same_loose}
+use Rattle.nd_heap.proofs.Loosening.{more_free, more_loose, put_loose, same_loose}
 use Rattle.nd_heap.proofs.heap.Heap.put_block.Goals as goal
 
 pub invariant_of-self-in_err-put_block : goal.invariant_of-self-in_err-put_block
@@ -13,13 +10,12 @@ invariant_of-self-in_err-put_block c =
     let names = c.self.inside.names in
     let old = c.self.inside.blocks in
     let was = bases_of c.self.inside.loose.entries in
-    let loose = bases_of c.insert.new.self.entries in
+    let loose = bases_of c.loosen_empty.new.loose.entries in
     same_loose names names old c.put_block.new.self loose refl (at_err _ _ c.in_err-put_block.was c.put_block.ensures.err)
-    (more_loose names old was loose (λ b free. (or_parts _ _ (sym (ap (λ es. is_base_among (bases_of es) b) c.in_ok-insert.ensures.entries ∙ base-insert c.args.base c.self.inside.loose.entries b) ∙ free)).0) c.self.invariant)
+    (more_loose names old was loose (more_free was loose c.loosen_empty.ensures.more) c.self.invariant)
 
 pub invariant_of-self-2 : goal.invariant_of-self-2
 invariant_of-self-2 c =
     put_loose (base_of c.args.base) c.args.block.value c.self.inside.names c.self.inside.blocks c.put_block.new.self
-    (bases_of c.self.inside.loose.entries) (bases_of c.insert.new.self.entries)
-    (λ b. ap (λ es. is_base_among (bases_of es) b) c.in_ok-insert.ensures.entries ∙ base-insert c.args.base c.self.inside.loose.entries b)
-    c.in_ok-put_block.ensures.ok c.self.invariant
+    (bases_of c.self.inside.loose.entries) (bases_of c.loosen_empty.new.loose.entries)
+    c.loosen_empty.ensures.more c.in_ok-loosen_empty.ensures.empty c.in_ok-put_block.ensures.ok c.self.invariant

@@ -1,4 +1,4 @@
-use Rattle.std.proofs.Common.{◌∙◌, ◌&&◌, ◌||◌, not, take, sym, ap, arith}
+use Rattle.std.proofs.Common.{◌∙◌, ◌&&◌, not, take, sym, ap, arith}
 use Rattle.std.proofs.lemmas.List.{take_all}
 use Rattle.std.specs.Rc.{rc_str_bytes}
 use Rattle.nd_model.specs.Cells.Session as model

@@ -30,12 +30,12 @@ returns-in_err-check_limits c =
     ∙ over (limit_fault (size_of (kind_of c.in_ok-array_kind.field-0)) shape) (Ok (Stretched (One (little (kind_of c.in_ok-array_kind.field-0))) (Num (number_of n)) shape)) (fault_of f)
     (rw (c.size.ensures.value, c.little-elem.ensures) at c.in_err-check_limits.ensures))
 
-pub returns : goal.returns
-returns c =
+pub returns-in-Ok-stretch : goal.returns-in-Ok-stretch
+returns-in-Ok-stretch c =
     let e = c.little-elem.result in
     let fits : SFits w128 c.whole_number.result = search rules in
-    number_stretched (num_of c.args.number) (kind_of c.in_ok-array_kind.field-0) e c.args.shape.now c.in_ok-element.element c.in_ok-view.view c.in_ok-block.block
+    number_stretched (num_of c.args.number) (kind_of c.in_ok-array_kind.field-0) e c.args.shape.now c.in_ok-element.element c.in-Ok-stretch.view c.in-Ok.block
     c.in_ok-array_kind.ensures c.little-elem.ensures
     (within (limit_fault _ c.args.shape.now) (rw c.size.ensures.value at c.in_ok-check_limits.ensures))
     (alone_in_limits _ (omega (arith, c.size.ensures.value, c.size.ensures.range)))
-    c.in_ok-element.ensures (c.in_ok-block.ensures ∙ ap (λ z. array_bytes (One e) c.in_ok-element.element.shape (λ t. Num z)) (to_z-of_z w128 c.whole_number.result fits ∙ c.whole_number.ensures)) c.in_ok-view.ensures
+    c.in_ok-element.ensures (c.in-Ok.ensures ∙ ap (λ z. array_bytes (One e) c.in_ok-element.element.shape (λ t. Num z)) (to_z-of_z w128 c.whole_number.result fits ∙ c.whole_number.ensures)) c.in-Ok-stretch.ensures

@@ -20,16 +20,16 @@ returns-in_err-check_limits c =
     stretched_refused (stretch_operand (elements_operand row) shape) f _ c.from_residual.ensures.1
     (row_over row.is_row g (contents_over g row.block.now) shape (fault_of f) c.requires none (rw (c.size.ensures.value ∙ ap item_size c.elem.ensures) at c.in_err-check_limits.ensures))
 
-pub returns : goal.returns
-returns c =
+pub returns-in-Ok-stretch : goal.returns-in-Ok-stretch
+returns-in-Ok-stretch c =
     let row = c.args.row.now in
     let g = row.view.now in
     let shape = c.args.shape.now in
     let size = c.size.ensures.value ∙ ap item_size c.elem.ensures in
     let none = no_axes g.shape c.is_empty.result (c.is_empty.ensures ∙ ap (λ (s : List ℕ). length s == 0) c.shape.ensures.value) c.if-not-is_empty.false in
-    row_stretched row.is_row g (contents_over g row.block.now) shape c.in_ok-element.element c.in_ok-view.view c.in_ok-block.block c.requires none
+    row_stretched row.is_row g (contents_over g row.block.now) shape c.in_ok-element.element c.in-Ok-stretch.view c.in-Ok.block c.requires none
     (within (limit_fault (item_size g.element) shape) (rw size at c.in_ok-check_limits.ensures))
     (alone_in_limits (item_size g.element) (omega (arith, size, c.size.ensures.range)))
     (c.in_ok-element.ensures ∙ ap (λ t. contiguous t []) (c.in_ok-try_clone.ensures ∙ c.elem-2.ensures))
-    (c.in_ok-block.ensures ∙ ap (λ cs. array_bytes g.element g.shape (content_in_order g.shape cs)) (sym c.soundness.ensures))
-    c.in_ok-view.ensures
+    (c.in-Ok.ensures ∙ ap (λ cs. array_bytes g.element g.shape (content_in_order g.shape cs)) (sym c.soundness.ensures))
+    c.in-Ok-stretch.ensures

@@ -41,8 +41,8 @@ prepare_results-requires-clause-source c =
       shapes = ap (λ (g : Geo). fits_into g.shape h.shape) are.view ∙ c.requires.shapes;
     }
 
-pub returns : goal.returns
-returns c =
+pub returns-in-Ok : goal.returns-in-Ok
+returns-in-Ok c =
     let r = live c.args.session.now in
     let b = base_of c.args.base in
     let k = kind_of c.args.kind in
@@ -52,7 +52,7 @@ returns c =
     let y = as_array (operand_over r.bytes c.args.value.now) in
     let view = c.in_ok-array.array in
     let bytes : List ℕ = c.in_ok-array.values in
-    let a = c.in_ok-scatter.scatter in
+    let a = c.in-Ok.scatter in
     let beside : AreResults k op g (contents_over g c.bytes-read.result.now) y view bytes =
     subst (λ o. AreResults k op g (contents_over g c.bytes-read.result.now) o view bytes) (c.right_side-right.ensures.operand c.bytes-read.result.now) c.in_ok-array.ensures in
     let are : AreResults k op g (contents_over g (r.bytes (base_of c.args.copy.now.base))) y view bytes =
@@ -60,6 +60,6 @@ returns c =
     let types = ap (λ (g : Geo). converts g.element h.element) are.view ∙ results_convert op g (operand_over r.bytes c.args.value.now) k h.element c.requires.kind c.requires.types in
     let shapes = ap (λ (g : Geo). fits_into g.shape h.shape) are.view ∙ c.requires.shapes in
     let written : written_by a (r.bytes b) ≡ with_elements h view bytes (r.bytes b) =
-    subst (λ (block : List ℕ). written_by a block ≡ with_elements h view bytes block) c.bytes-block.ensures c.in_ok-scatter.ensures.written in
+    subst (λ (block : List ℕ). written_by a block ≡ with_elements h view bytes block) c.bytes-block.ensures c.in-Ok.ensures.written in
     subst (λ (s : Running). OnOk c.write_scattered.result (live c.write_scattered.new.session ≡ s))
     (copy_stored k op r b h c.args.copy.now c.args.value.now c.requires view bytes (written_by a (r.bytes b)) are types shapes written) c.write_scattered.ensures

@@ -1,11 +1,18 @@
-use Rattle.std.proofs.Common.{◌≡◌, ◌+◌, ◌-◌, length, refl, sym, ap, ◌∙◌, arith}
-use Rattle.std.proofs.lemmas.Grind.{common_steps}
-use Rattle.nd_model.proofs.EditLabels.{change_distinct}
-use Rattle.nd_model.specs.Book.Book.{Cell}
+use Rattle.std.proofs.Common.{◌≡◌, length, map, sym, ap, ap₂, subst, ◌∙◌}
+use Rattle.std.specs.Prelude.{slice_index_or, slice_set}
+use Rattle.std.proofs.lemmas.List.{length-map}
+use Rattle.nd_model.specs.Book.Book.{Cell, no_cell}
 use Rattle.nd_model.specs.Book.Notebook.{Sheet, book_of}
-use Rattle.nd_schedule.specs.declared.cells.source.LabelledCell.{LabelledCell}
-use Rattle.nd_schedule.specs.Cells.Source.{cell_of}
-use Rattle.nd_schedule.proofs.schedule.Edits.{same_distinct, same_counts, same_sheet, label_at, another, unchanged, is_changed, kept_changed_to, kept_long}
+use Rattle.nd_schedule.specs.declared.cells.source.KeptCell.{KeptCell}
+use Rattle.nd_schedule.specs.Cells.Labels.{AreUsed}
+use Rattle.nd_schedule.specs.Cells.Source.{sheet, cell_of}
+use Rattle.nd_schedule.specs.Cells.Shared.{each_of}
+use Rattle.nd_schedule.specs.Schedule.Sweep.{AreFit, IsKept, fit_at}
+use Rattle.std.specs.List.{All}
+use Rattle.nd_schedule.specs.Schedule.Snapshot.{IsSnapshot}
+use Rattle.nd_schedule.proofs.schedule.Kept.{as_many}
+use Rattle.nd_schedule.proofs.schedule.Editing.{behind_set, label_at, unchanged, cell_now, cells_now, kept_now}
+use Rattle.nd_schedule.proofs.cells.Used.{used_set}
 use Rattle.nd_schedule.proofs.schedule.notebook.Schedule.edit.Goals as goal
 
 pub returns-then-eq-clause-ok : goal.returns-then-eq-clause-ok
@@ -13,49 +20,40 @@ returns-then-eq-clause-ok g c =
     unchanged c.args.text.now c.as_str.result.now c.args.self.now c.args.at c.deref.result.now c.requires (sym c.if-eq.ensures) c.as_str.ensures.value
     (ap cell_of c.deref.ensures ∙ label_at c.args.self.now.cells c.self.inside.cells.items c.index.result.now c.args.at (ap (λ (s : Sheet). s.cells) c.self.view_is) c.requires c.index.ensures)
 
-pub index_mut-requires-2 : goal.index_mut-requires-2
-index_mut-requires-2 g c =
-    let many : length c.in_ok-part.part.kept.items ≡ c.args.at + 1 - c.args.at =
-    kept_long (λ r. g.C.CellRunner.recorded r.value) (book_of c.args.self.now) c.in_ok-part.part.kept.items c.in_ok-part.part.cells.items c.args.at (c.args.at + 1) c.in_ok-part.ensures.kept c.in_ok-part.ensures.cells (omega arith) (omega (arith, c.requires)) in omega arith
+pub install-requires-clause-fit : goal.install-requires-clause-fit
+install-requires-clause-fit g c =
+    let run : IsKept g.C.CellRunner.covers (book_of c.args.self.now) (each_of g.C.CellRunner.recorded c.self.inside.records.items) c.self.inside.words.items =
+    subst (λ (s : Sheet). IsKept g.C.CellRunner.covers (book_of s) (each_of g.C.CellRunner.recorded c.self.inside.records.items) c.self.inside.words.items) c.self.view_is (c.self.invariant).0 in
+    let many : length c.self.inside.records.items ≡ length c.args.self.now.cells = as_many (λ r. g.C.CellRunner.recorded r.value) (book_of c.args.self.now) c.self.inside.records.items run.run.records in
+    subst (λ n. AreFit g.C.CellRunner.covers n (map (λ c'. fit_at c'.place (g.C.CellRunner.recorded c'.record.value) c'.word) c.in_ok-changed.field-0.changed.items)) (sym many) c.in_ok-changed.ensures.fit
 
-pub replace-requires-clause-kept : goal.replace-requires-clause-kept
-replace-requires-clause-kept g c =
-    kept_changed_to (λ r. g.C.CellRunner.recorded r.value) (book_of c.args.self.now) c.in_ok-part.part.kept.items c.in_ok-part.part.cells.items c.args.at (c.args.at + 1) c.in_ok-part.ensures.kept c.in_ok-part.ensures.cells (omega arith) (omega (arith, c.requires)) c.in_ok-part.ensures.distinct _ _ c.in_ok-cell.cell _
-    c.args.text.now c.requires
-    (another c.args.text.now c.as_str.result.now c.args.self.now.cells c.args.at c.deref.result.now (sym c.if-eq.ensures) c.as_str.ensures.value
-    (ap cell_of c.deref.ensures ∙ label_at c.args.self.now.cells c.self.inside.cells.items c.index.result.now c.args.at (ap (λ (s : Sheet). s.cells) c.self.view_is) c.requires c.index.ensures))
-    c.in_ok-cell.ensures.ok (ap (λ (s : LabelledCell). s.label) c.deref-2.ensures ∙ ap (λ (x : Cell). x.label) (label_at c.args.self.now.cells c.self.inside.cells.items c.index-2.result.now c.args.at (ap (λ (s : Sheet). s.cells) c.self.view_is) c.requires c.index-2.ensures)) c.in_ok-text.ensures.ok refl refl
-
-pub replace-requires-clause-distinct : goal.replace-requires-clause-distinct
-replace-requires-clause-distinct g c =
-    same_distinct _ _ (is_changed c.args.self.now.cells c.in_ok-part.part.cells.items _ c.in_ok-cell.cell _ c.in_ok-part.part.at c.in_ok-part.part.behind c.args.at c.args.text.now c.in_ok-part.ensures.cells c.in_ok-part.ensures.at c.in_ok-part.ensures.behind c.requires refl
-    c.in_ok-cell.ensures.ok (ap (λ (s : LabelledCell). s.label) c.deref-2.ensures ∙ ap (λ (x : Cell). x.label) (label_at c.args.self.now.cells c.self.inside.cells.items c.index-2.result.now c.args.at (ap (λ (s : Sheet). s.cells) c.self.view_is) c.requires c.index-2.ensures)) c.in_ok-text.ensures.ok)
-    (change_distinct c.args.self.now.cells c.args.at c.args.text.now c.in_ok-part.ensures.distinct)
+pub invariant_of-self : goal.invariant_of-self
+invariant_of-self g c =
+    let run : IsKept g.C.CellRunner.covers (book_of c.args.self.now) (each_of g.C.CellRunner.recorded c.self.inside.records.items) c.self.inside.words.items =
+    subst (λ (s : Sheet). IsKept g.C.CellRunner.covers (book_of s) (each_of g.C.CellRunner.recorded c.self.inside.records.items) c.self.inside.words.items) c.self.view_is (c.self.invariant).0 in
+    let is : cell_of c.in_ok-cell.cell.value ≡ cell_of c.deref-3.result.now = ap cell_of (sym c.deref-3.ensures) in
+    let label : c.deref-3.result.now.label ≡ (slice_index_or c.args.self.now.cells c.args.at no_cell).label =
+    ap (λ (s : KeptCell). s.label) (c.deref-3.ensures ∙ c.in_ok-cell.ensures.ok) ∙ ap (λ (s : KeptCell). s.label) c.deref-2.ensures
+    ∙ ap (λ (x : Cell). x.label) (label_at c.args.self.now.cells c.self.inside.cells.items c.index-2.result.now c.args.at (ap (λ (s : Sheet). s.cells) c.self.view_is) c.requires c.index-2.ensures) in
+    let long : length (each_of g.C.CellRunner.recorded c.install.new.records.items) ≡ length (each_of g.C.CellRunner.recorded c.self.inside.records.items) =
+    length-map c.install.new.records.items (λ r. g.C.CellRunner.recorded r.value) ∙ c.install.ensures.count ∙ sym (length-map c.self.inside.records.items (λ r. g.C.CellRunner.recorded r.value)) in
+    let used : AreUsed c.self.inside.least c.args.self.now.cells = subst (λ (s : Sheet). AreUsed c.self.inside.least s.cells) c.self.view_is (c.self.invariant).2 in
+    let kept : All (λ x. IsSnapshot (book_of c.args.self.now) x.place (g.C.CellRunner.kept_session x.version) (map g.C.CellRunner.change_of x.pending.items)) c.self.inside.snapshots.items =
+    subst (λ (s : Sheet). All (λ x. IsSnapshot (book_of s) x.place (g.C.CellRunner.kept_session x.version) (map g.C.CellRunner.change_of x.pending.items)) c.self.inside.snapshots.items) c.self.view_is (c.self.invariant).1 in (
+      subst (λ (s : Sheet). IsKept g.C.CellRunner.covers (book_of s) (each_of g.C.CellRunner.recorded c.install.new.records.items) c.install.new.words.items)
+          (sym (ap₂ sheet (cells_now c.self.inside.cells.items c.args.self.now.cells c.args.at c.in_ok-cell.cell (cell_of c.deref-3.result.now) (ap (λ (s : Sheet). s.cells) c.self.view_is) is) (ap (λ (s : Sheet). s.given) c.self.view_is)))
+          (kept_now g.C.CellRunner.covers c.args.self.now c.args.at (cell_of c.deref-3.result.now) _ (each_of g.C.CellRunner.recorded c.self.inside.records.items) (each_of g.C.CellRunner.recorded c.install.new.records.items) c.self.inside.words.items c.install.new.words.items c.requires label run
+          c.in_ok-changed.ensures.changed long c.install.ensures.many c.install.ensures.records c.install.ensures.words),
+      subst (λ (s : Sheet). All (λ x. IsSnapshot (book_of s) x.place (g.C.CellRunner.kept_session x.version) (map g.C.CellRunner.change_of x.pending.items)) c.carry.new.snapshots.items) (sym (ap₂ sheet (cells_now c.self.inside.cells.items c.args.self.now.cells c.args.at c.in_ok-cell.cell (cell_of c.deref-3.result.now) (ap (λ (s : Sheet). s.cells) c.self.view_is) is) (ap (λ (s : Sheet). s.given) c.self.view_is)))
+          (c.carry.ensures (book_of c.args.self.now) (book_of (sheet (slice_set c.args.self.now.cells c.args.at (cell_of c.deref-3.result.now)) c.args.self.now.given)) (behind_set c.args.self.now c.args.at (cell_of c.deref-3.result.now) c.requires run.run.distinct label) c.in_ok-changed.ensures.noted c.in_ok-session.ensures.fresh kept),
+      subst (AreUsed c.self.inside.least) (sym (cells_now c.self.inside.cells.items c.args.self.now.cells c.args.at c.in_ok-cell.cell (cell_of c.deref-3.result.now) (ap (λ (s : Sheet). s.cells) c.self.view_is) is))
+          (used_set c.self.inside.least c.args.self.now.cells c.args.at (cell_of c.deref-3.result.now) label used),
+    )
 
 pub returns-clause-ok : goal.returns-clause-ok
 returns-clause-ok g c =
-    same_sheet c.replace.result _ _ _ _ (is_changed c.args.self.now.cells c.in_ok-part.part.cells.items _ c.in_ok-cell.cell _ c.in_ok-part.part.at c.in_ok-part.part.behind c.args.at c.args.text.now c.in_ok-part.ensures.cells c.in_ok-part.ensures.at c.in_ok-part.ensures.behind c.requires refl
-    c.in_ok-cell.ensures.ok (ap (λ (s : LabelledCell). s.label) c.deref-2.ensures ∙ ap (λ (x : Cell). x.label) (label_at c.args.self.now.cells c.self.inside.cells.items c.index-2.result.now c.args.at (ap (λ (s : Sheet). s.cells) c.self.view_is) c.requires c.index-2.ensures)) c.in_ok-text.ensures.ok) c.replace.ensures.ok
-
-pub returns-clause-counts : goal.returns-clause-counts
-returns-clause-counts g c =
-    same_counts (book_of c.args.self.now) _ _ c.args.self.now.given _ _ (is_changed c.args.self.now.cells c.in_ok-part.part.cells.items _ c.in_ok-cell.cell _ c.in_ok-part.part.at c.in_ok-part.part.behind c.args.at c.args.text.now c.in_ok-part.ensures.cells c.in_ok-part.ensures.at c.in_ok-part.ensures.behind c.requires refl
-    c.in_ok-cell.ensures.ok (ap (λ (s : LabelledCell). s.label) c.deref-2.ensures ∙ ap (λ (x : Cell). x.label) (label_at c.args.self.now.cells c.self.inside.cells.items c.index-2.result.now c.args.at (ap (λ (s : Sheet). s.cells) c.self.view_is) c.requires c.index-2.ensures)) c.in_ok-text.ensures.ok) c.replace.ensures.counts
-
-pub index-requires-2 : goal.index-requires-2
-index-requires-2 g c = grind (arith, common_steps)
-
-pub overflow_add-at : goal.overflow_add-at
-overflow_add-at g c = grind (arith, common_steps)
-
-pub part-requires-clause-behind : goal.part-requires-clause-behind
-part-requires-clause-behind g c = grind (arith, common_steps)
-
-pub part-requires-clause-order : goal.part-requires-clause-order
-part-requires-clause-order g c = grind (arith, common_steps)
-
-pub replace-requires-clause-behind : goal.replace-requires-clause-behind
-replace-requires-clause-behind g c = grind (arith, common_steps)
-
-pub replace-requires-clause-order : goal.replace-requires-clause-order
-replace-requires-clause-order g c = grind (arith, common_steps)
+    let new : ◌≡◌ {A = Cell} (cell_of c.in_ok-cell.cell.value) (record { label = (slice_index_or c.args.self.now.cells c.args.at no_cell).label; source = c.args.text.now }) =
+    cell_now c.in_ok-cell.cell _ _ _ c.in_ok-cell.ensures.ok
+    (ap (λ (s : KeptCell). s.label) c.deref-2.ensures ∙ ap (λ (x : Cell). x.label) (label_at c.args.self.now.cells c.self.inside.cells.items c.index-2.result.now c.args.at (ap (λ (s : Sheet). s.cells) c.self.view_is) c.requires c.index-2.ensures))
+    c.in_ok-text.ensures.ok in
+    ap₂ sheet (cells_now c.self.inside.cells.items c.args.self.now.cells c.args.at c.in_ok-cell.cell _ (ap (λ (s : Sheet). s.cells) c.self.view_is) new) (ap (λ (s : Sheet). s.given) c.self.view_is)

@@ -1,70 +1,126 @@
-use Rattle.std.proofs.Common.{◌≡◌, ◌+◌, ◌-◌, length, ap, ◌∙◌, arith}
-use Rattle.std.proofs.lemmas.Grind.{common_steps}
-use Rattle.std.proofs.lemmas.List.Edits.{length-remove}
-use Rattle.nd_model.proofs.EditLabels.{move_distinct}
-use Rattle.nd_model.specs.Book.Notebook.{book_of}
-use Rattle.nd_schedule.proofs.schedule.Edits.{same_distinct, same_counts, same_sheet, is_moved, kept_moved, kept_long, part_long}
+use Rattle.std.proofs.Common.{◌≡◌, ℕ, ◌<◌, List, length, map, get_or, Option, refl, sym, ap, ap₂, subst, ◌∙◌, arith}
+use Rattle.std.specs.Prelude.{insert, remove, MatchOption}
+use Rattle.std.proofs.lemmas.List.{length-map}
+use Rattle.nd_model.specs.Book.Records.{Record}
+use Rattle.nd_model.specs.Book.Book.{Book, Move, no_cell}
+use Rattle.nd_model.specs.Book.Entries.{entry_at, record_at, records_of}
+use Rattle.nd_model.specs.Book.Notebook.{Sheet, book_of, edited_sheet, inputs_in}
+use Rattle.nd_model.proofs.Entries.{get_or-records_of}
+use Rattle.nd_schedule.specs.Cells.Labels.{AreUsed}
+use Rattle.nd_schedule.specs.Cells.Source.{sheet, cell_of, cells_of}
+use Rattle.nd_schedule.specs.Cells.Shared.{each_of}
+use Rattle.nd_schedule.specs.Schedule.Sweep.{AreFit, AreMoved, Changes, IsKept, IsMoving, change_at, changed, fit_at}
+use Rattle.std.specs.List.{All}
+use Rattle.nd_schedule.specs.Schedule.Snapshot.{IsSnapshot}
+use Rattle.nd_schedule.proofs.schedule.Kept.{as_many}
+use Rattle.nd_schedule.proofs.schedule.Turning.{behind, kept_turned, match_more, moving, turned_map}
+use Rattle.nd_schedule.proofs.cells.Used.{used_moved}
 use Rattle.nd_schedule.proofs.schedule.notebook.Schedule.move_cell.Goals as goal
 
-pub insert-requires : goal.insert-requires
-insert-requires g c =
-    let long : length c.in_ok-part.part.cells.items ≡ c.max-last.result + 1 - c.min-first.result = part_long c.args.self.now.cells c.in_ok-part.part.cells.items c.min-first.result (c.max-last.result + 1) c.in_ok-part.ensures.cells (omega arith) (omega (arith, c.requires.from, c.requires.to)) in
-    let less : length c.remove-cell.new.self.items + 1 ≡ length c.in_ok-part.part.cells.items = ap (λ xs. length xs + 1) c.remove-cell.ensures.items ∙ length-remove c.in_ok-part.part.cells.items (c.args.from - c.min-first.result) (omega arith) in
-    omega arith
+-- the records of all other cells, once both lists of changes are in their places
+module _ (old new : Book) (from to : ℕ) (es ds : Changes) (rs ss ts : List Record) (all : rs ≡ records_of old) (moved : AreMoved old new from to es ds) (first : (k : ℕ) (r : Record) → get_or ss k r ≡ changed es k (get_or rs k r))
+    (second : (k : ℕ) (r : Record) → get_or ts k r ≡ changed ds k (get_or ss k r)) where
+  both : (k : ℕ) (r : Record) → k < length old.cells → get_or ts k r ≡ changed ds k (changed es k (record_at old.inputs (entry_at old k)))
+  both k r lt = second k r ∙ ap (changed ds k) (first k r ∙ ap (changed es k) (ap (λ rs. get_or rs k r) all ∙ get_or-records_of old k r lt))
 
-pub insert-requires-2 : goal.insert-requires-2
-insert-requires-2 g c =
-    let long : length c.in_ok-part.part.kept.items ≡ c.max-last.result + 1 - c.min-first.result =
-    kept_long (λ r. g.C.CellRunner.recorded r.value) (book_of c.args.self.now) c.in_ok-part.part.kept.items c.in_ok-part.part.cells.items c.min-first.result (c.max-last.result + 1) c.in_ok-part.ensures.kept c.in_ok-part.ensures.cells (omega arith) (omega (arith, c.requires.from, c.requires.to)) in
-    let less : length c.remove-kept.new.self.items + 1 ≡ length c.in_ok-part.part.kept.items = ap (λ xs. length xs + 1) c.remove-kept.ensures.items ∙ length-remove c.in_ok-part.part.kept.items (c.args.from - c.min-first.result) (omega arith) in
-    omega arith
+  stays_put : {X : Type 0} (P : X → Type 0) (o : Option X) (r x : Record) → from < length old.cells → MatchOption o (record_at old.inputs (entry_at old from) ≡ x) P → MatchOption o (get_or ts from r ≡ x) P
+  stays_put P o r x lt h = match_more o h (λ e. both from r lt ∙ moved.stays (record_at old.inputs (entry_at old from)) ∙ e) (λ n p. p)
 
-pub replace-requires-clause-kept : goal.replace-requires-clause-kept
-replace-requires-clause-kept g c =
-    let long : length c.in_ok-part.part.cells.items ≡ c.max-last.result + 1 - c.min-first.result = part_long c.args.self.now.cells c.in_ok-part.part.cells.items c.min-first.result (c.max-last.result + 1) c.in_ok-part.ensures.cells (omega arith) (omega (arith, c.requires.from, c.requires.to)) in
-    kept_moved (λ r. g.C.CellRunner.recorded r.value) (book_of c.args.self.now) c.in_ok-part.part.kept.items c.in_ok-part.part.cells.items c.min-first.result (c.max-last.result + 1) c.in_ok-part.ensures.kept c.in_ok-part.ensures.cells (omega arith) (omega (arith, c.requires.from, c.requires.to))
-    c.remove-kept.new.self.items _ c.remove-cell.new.self.items _ c.remove-kept.result c.remove-cell.result (c.args.from - c.min-first.result) (c.args.to - c.min-first.result) (omega arith) c.remove-kept.ensures.value c.remove-cell.ensures.value c.remove-kept.ensures.items c.remove-cell.ensures.items
-    c.in_ok-insert-2.ensures.items c.in_ok-insert.ensures.items
+pub install-requires-clause-fit : goal.install-requires-clause-fit
+install-requires-clause-fit g c =
+    let run : IsKept g.C.CellRunner.covers (book_of c.args.self.now) (each_of g.C.CellRunner.recorded c.self.inside.records.items) c.self.inside.words.items =
+    subst (λ (s : Sheet). IsKept g.C.CellRunner.covers (book_of s) (each_of g.C.CellRunner.recorded c.self.inside.records.items) c.self.inside.words.items) c.self.view_is (c.self.invariant).0 in
+    let many : length c.self.inside.records.items ≡ length c.args.self.now.cells = as_many (λ r. g.C.CellRunner.recorded r.value) (book_of c.args.self.now) c.self.inside.records.items run.run.records in
+    subst (λ n. AreFit g.C.CellRunner.covers n (map (λ c'. fit_at c'.place (g.C.CellRunner.recorded c'.record.value) c'.word) c.in_ok-made.field-0.between.items)) (sym many) c.in_ok-made.ensures.fit_between
 
-pub replace-requires-clause-distinct : goal.replace-requires-clause-distinct
-replace-requires-clause-distinct g c =
-    same_distinct _ _ (is_moved c.args.self.now.cells c.in_ok-part.part.cells.items c.remove-cell.new.self.items c.insert.new.self.items c.remove-cell.result c.in_ok-part.part.at c.in_ok-part.part.behind c.min-first.result (c.max-last.result + 1) c.args.from c.args.to c.in_ok-part.ensures.cells c.in_ok-part.ensures.at c.in_ok-part.ensures.behind (omega (arith, c.requires.from, c.requires.to))
-    (omega arith) (omega arith) (omega arith) (omega arith) c.remove-cell.ensures.value c.remove-cell.ensures.items c.in_ok-insert.ensures.items)
-    (move_distinct c.args.self.now.cells c.args.from c.args.to c.in_ok-part.ensures.distinct c.requires.from)
+pub install-requires-2-clause-fit : goal.install-requires-2-clause-fit
+install-requires-2-clause-fit g c =
+    let run : IsKept g.C.CellRunner.covers (book_of c.args.self.now) (each_of g.C.CellRunner.recorded c.self.inside.records.items) c.self.inside.words.items =
+    subst (λ (s : Sheet). IsKept g.C.CellRunner.covers (book_of s) (each_of g.C.CellRunner.recorded c.self.inside.records.items) c.self.inside.words.items) c.self.view_is (c.self.invariant).0 in
+    let many : length c.self.inside.records.items ≡ length c.args.self.now.cells = as_many (λ r. g.C.CellRunner.recorded r.value) (book_of c.args.self.now) c.self.inside.records.items run.run.records in
+    subst (λ n. AreFit g.C.CellRunner.covers n (map (λ c'. fit_at c'.place (g.C.CellRunner.recorded c'.record.value) c'.word) c.in_ok-made.field-0.behind.items)) (sym (c.install.ensures.count ∙ many)) c.in_ok-made.ensures.fit_behind
+
+pub put_made-requires-clause-at : goal.put_made-requires-clause-at
+put_made-requires-clause-at g c =
+    let run : IsKept g.C.CellRunner.covers (book_of c.args.self.now) (each_of g.C.CellRunner.recorded c.self.inside.records.items) c.self.inside.words.items =
+    subst (λ (s : Sheet). IsKept g.C.CellRunner.covers (book_of s) (each_of g.C.CellRunner.recorded c.self.inside.records.items) c.self.inside.words.items) c.self.view_is (c.self.invariant).0 in
+    let many : length c.self.inside.records.items ≡ length c.args.self.now.cells = as_many (λ r. g.C.CellRunner.recorded r.value) (book_of c.args.self.now) c.self.inside.records.items run.run.records in
+    omega (arith, many, c.install.ensures.count, c.install-2.ensures.count, c.requires.from)
+
+pub move_item-requires-2-clause-from : goal.move_item-requires-2-clause-from
+move_item-requires-2-clause-from g c =
+    let run : IsKept g.C.CellRunner.covers (book_of c.args.self.now) (each_of g.C.CellRunner.recorded c.self.inside.records.items) c.self.inside.words.items =
+    subst (λ (s : Sheet). IsKept g.C.CellRunner.covers (book_of s) (each_of g.C.CellRunner.recorded c.self.inside.records.items) c.self.inside.words.items) c.self.view_is (c.self.invariant).0 in
+    let many : length c.self.inside.records.items ≡ length c.args.self.now.cells = as_many (λ r. g.C.CellRunner.recorded r.value) (book_of c.args.self.now) c.self.inside.records.items run.run.records in
+    omega (arith, many, c.install.ensures.count, c.install-2.ensures.count, c.put_made.ensures.count, c.requires.from)
+
+pub move_item-requires-2-clause-to : goal.move_item-requires-2-clause-to
+move_item-requires-2-clause-to g c =
+    let run : IsKept g.C.CellRunner.covers (book_of c.args.self.now) (each_of g.C.CellRunner.recorded c.self.inside.records.items) c.self.inside.words.items =
+    subst (λ (s : Sheet). IsKept g.C.CellRunner.covers (book_of s) (each_of g.C.CellRunner.recorded c.self.inside.records.items) c.self.inside.words.items) c.self.view_is (c.self.invariant).0 in
+    let many : length c.self.inside.records.items ≡ length c.args.self.now.cells = as_many (λ r. g.C.CellRunner.recorded r.value) (book_of c.args.self.now) c.self.inside.records.items run.run.records in
+    omega (arith, many, c.install.ensures.count, c.install-2.ensures.count, c.put_made.ensures.count, c.requires.to)
+
+pub move_item-requires-3-clause-from : goal.move_item-requires-3-clause-from
+move_item-requires-3-clause-from g c =
+    let run : IsKept g.C.CellRunner.covers (book_of c.args.self.now) (each_of g.C.CellRunner.recorded c.self.inside.records.items) c.self.inside.words.items =
+    subst (λ (s : Sheet). IsKept g.C.CellRunner.covers (book_of s) (each_of g.C.CellRunner.recorded c.self.inside.records.items) c.self.inside.words.items) c.self.view_is (c.self.invariant).0 in
+    let many : length c.self.inside.records.items ≡ length c.args.self.now.cells = as_many (λ r. g.C.CellRunner.recorded r.value) (book_of c.args.self.now) c.self.inside.records.items run.run.records in
+    let viewed : length (each_of g.C.CellRunner.recorded c.self.inside.records.items) ≡ length c.self.inside.records.items = length-map c.self.inside.records.items (λ r. g.C.CellRunner.recorded r.value) in
+    omega (arith, many, viewed, run.many, c.install.ensures.many, c.install-2.ensures.many, c.put_made.ensures.many, c.requires.from)
+
+pub move_item-requires-3-clause-to : goal.move_item-requires-3-clause-to
+move_item-requires-3-clause-to g c =
+    let run : IsKept g.C.CellRunner.covers (book_of c.args.self.now) (each_of g.C.CellRunner.recorded c.self.inside.records.items) c.self.inside.words.items =
+    subst (λ (s : Sheet). IsKept g.C.CellRunner.covers (book_of s) (each_of g.C.CellRunner.recorded c.self.inside.records.items) c.self.inside.words.items) c.self.view_is (c.self.invariant).0 in
+    let many : length c.self.inside.records.items ≡ length c.args.self.now.cells = as_many (λ r. g.C.CellRunner.recorded r.value) (book_of c.args.self.now) c.self.inside.records.items run.run.records in
+    let viewed : length (each_of g.C.CellRunner.recorded c.self.inside.records.items) ≡ length c.self.inside.records.items = length-map c.self.inside.records.items (λ r. g.C.CellRunner.recorded r.value) in
+    omega (arith, many, viewed, run.many, c.install.ensures.many, c.install-2.ensures.many, c.put_made.ensures.many, c.requires.to)
+
+pub invariant_of-self : goal.invariant_of-self
+invariant_of-self g c =
+    let run : IsKept g.C.CellRunner.covers (book_of c.args.self.now) (each_of g.C.CellRunner.recorded c.self.inside.records.items) c.self.inside.words.items =
+    subst (λ (s : Sheet). IsKept g.C.CellRunner.covers (book_of s) (each_of g.C.CellRunner.recorded c.self.inside.records.items) c.self.inside.words.items) c.self.view_is (c.self.invariant).0 in
+    let many : length c.self.inside.records.items ≡ length c.args.self.now.cells = as_many (λ r. g.C.CellRunner.recorded r.value) (book_of c.args.self.now) c.self.inside.records.items run.run.records in
+    let inside : length c.self.inside.cells.items ≡ length c.args.self.now.cells = sym (length-map c.self.inside.cells.items (λ s. cell_of s.value)) ∙ ap (λ (s : Sheet). length s.cells) c.self.view_is in
+    let viewed : length (each_of g.C.CellRunner.recorded c.self.inside.records.items) ≡ length c.self.inside.records.items = length-map c.self.inside.records.items (λ r. g.C.CellRunner.recorded r.value) in
+    let cells : cells_of c.move_item.new.list.items ≡ insert (remove c.args.self.now.cells c.args.from) c.args.to (get_or c.args.self.now.cells c.args.from no_cell) =
+    turned_map (λ s. cell_of s.value) c.self.inside.cells.items c.move_item.new.list.items c.args.from c.args.to no_cell (omega (arith, inside, c.requires.from)) c.move_item.ensures
+    ∙ ap (λ cs. insert (remove cs c.args.from) c.args.to (get_or cs c.args.from no_cell)) (ap (λ (s : Sheet). s.cells) c.self.view_is) in
+    let old : Book = book_of c.args.self.now in
+    let new : Book = book_of (edited_sheet (Move c.args.from c.args.to) c.args.self.now) in
+    let d : Record = record_at old.inputs (entry_at old c.args.from) in
+    let x : Record = record_at new.inputs (entry_at new c.args.to) in
+    let way : IsMoving old new c.args.from c.args.to c.args.self.now.cells (records_of old) (inputs_in c.args.self.now.given) =
+    moving c.args.self.now c.args.from c.args.to _ _ _ refl (record { records = refl; distinct = run.run.distinct }) refl c.requires.from c.requires.to in
+    let us : List Record = each_of g.C.CellRunner.recorded c.put_made.new.records.items in
+    let ts : List Record = each_of g.C.CellRunner.recorded c.install-2.new.records.items in
+    let ss : List Record = each_of g.C.CellRunner.recorded c.install.new.records.items in
+    let rs : List Record = each_of g.C.CellRunner.recorded c.self.inside.records.items in
+    let long : length us ≡ length old.cells = length-map c.put_made.new.records.items (λ r. g.C.CellRunner.recorded r.value) ∙ c.put_made.ensures.count ∙ c.install-2.ensures.count ∙ c.install.ensures.count ∙ many in
+    let as_long : length c.put_made.new.words.items ≡ length us = c.put_made.ensures.many ∙ c.install-2.ensures.many ∙ c.install.ensures.many ∙ run.many ∙ viewed ∙ many ∙ sym long in
+    let es : Changes = (map (λ c'. change_at c'.place (g.C.CellRunner.recorded c'.record.value)) c.in_ok-made.field-0.between.items) in
+    let ds : Changes = (map (λ c'. change_at c'.place (g.C.CellRunner.recorded c'.record.value)) c.in_ok-made.field-0.behind.items) in
+    let put : (k : ℕ) (r : Record) → k < length old.cells → ¬ (k ≡ c.args.from) → get_or us k r ≡ changed ds k (changed es k (record_at old.inputs (entry_at old k))) =
+    λ k r lt other. c.put_made.ensures.others k r other ∙ both old new c.args.from c.args.to es ds rs ss ts run.run.records c.in_ok-made.ensures.moved c.install.ensures.records c.install-2.ensures.records k r lt in
+    let there : (r : Record) → get_or us c.args.from r ≡ x =
+    λ r. c.put_made.ensures.there r x (stays_put old new c.args.from c.args.to es ds rs ss ts run.run.records c.in_ok-made.ensures.moved c.install.ensures.records c.install-2.ensures.records (λ n. g.C.CellRunner.recorded n.record.value ≡ x) c.in_ok-made.field-0.made r x c.requires.from c.in_ok-made.ensures.made) in
+    let used : AreUsed c.self.inside.least c.args.self.now.cells = subst (λ (s : Sheet). AreUsed c.self.inside.least s.cells) c.self.view_is (c.self.invariant).2 in
+    let kept : All (λ x. IsSnapshot (book_of c.args.self.now) x.place (g.C.CellRunner.kept_session x.version) (map g.C.CellRunner.change_of x.pending.items)) c.self.inside.snapshots.items =
+    subst (λ (s : Sheet). All (λ x. IsSnapshot (book_of s) x.place (g.C.CellRunner.kept_session x.version) (map g.C.CellRunner.change_of x.pending.items)) c.self.inside.snapshots.items) c.self.view_is (c.self.invariant).1 in (
+      subst (λ (s : Sheet). IsKept g.C.CellRunner.covers (book_of s) (each_of g.C.CellRunner.recorded c.move_item-2.new.list.items) c.move_item-3.new.list.items) (sym (ap₂ sheet cells (ap (λ (s : Sheet). s.given) c.self.view_is)))
+          (kept_turned g.C.CellRunner.covers old new c.args.from c.args.to _ _ _ way us es ds long c.in_ok-made.ensures.moved put there c.put_made.new.words.items c.move_item-3.new.list.items as_long
+          (c.put_made.ensures.words (c.install-2.ensures.words (c.install.ensures.words run.words))) c.move_item-3.ensures (each_of g.C.CellRunner.recorded c.move_item-2.new.list.items)
+          (turned_map (λ r. g.C.CellRunner.recorded r.value) c.put_made.new.records.items c.move_item-2.new.list.items c.args.from c.args.to d (omega (arith, many, c.install.ensures.count, c.install-2.ensures.count, c.put_made.ensures.count, c.requires.from)) c.move_item-2.ensures)),
+      subst (λ (s : Sheet). All (λ x. IsSnapshot (book_of s) x.place (g.C.CellRunner.kept_session x.version) (map g.C.CellRunner.change_of x.pending.items)) c.carry.new.snapshots.items) (sym (ap₂ sheet cells (ap (λ (s : Sheet). s.given) c.self.view_is)))
+          (c.carry.ensures old new (behind old new c.args.from c.args.to _ _ _ way c.min-first.result (omega (arith, c.min-first.ensures)) (omega (arith, c.min-first.ensures))) c.in_ok-made.ensures.noted c.in_ok-session.ensures.fresh kept),
+      subst (AreUsed c.self.inside.least) (sym cells) (used_moved c.self.inside.least c.args.self.now.cells c.args.from c.args.to used),
+    )
 
 pub returns-clause-ok : goal.returns-clause-ok
 returns-clause-ok g c =
-    same_sheet c.replace.result _ _ _ _ (is_moved c.args.self.now.cells c.in_ok-part.part.cells.items c.remove-cell.new.self.items c.insert.new.self.items c.remove-cell.result c.in_ok-part.part.at c.in_ok-part.part.behind c.min-first.result (c.max-last.result + 1) c.args.from c.args.to c.in_ok-part.ensures.cells c.in_ok-part.ensures.at c.in_ok-part.ensures.behind (omega (arith, c.requires.from, c.requires.to))
-    (omega arith) (omega arith) (omega arith) (omega arith) c.remove-cell.ensures.value c.remove-cell.ensures.items c.in_ok-insert.ensures.items) c.replace.ensures.ok
-
-pub returns-clause-counts : goal.returns-clause-counts
-returns-clause-counts g c =
-    same_counts (book_of c.args.self.now) _ _ c.args.self.now.given _ _ (is_moved c.args.self.now.cells c.in_ok-part.part.cells.items c.remove-cell.new.self.items c.insert.new.self.items c.remove-cell.result c.in_ok-part.part.at c.in_ok-part.part.behind c.min-first.result (c.max-last.result + 1) c.args.from c.args.to c.in_ok-part.ensures.cells c.in_ok-part.ensures.at c.in_ok-part.ensures.behind (omega (arith, c.requires.from, c.requires.to))
-    (omega arith) (omega arith) (omega arith) (omega arith) c.remove-cell.ensures.value c.remove-cell.ensures.items c.in_ok-insert.ensures.items) c.replace.ensures.counts
-
-pub overflow_add-last : goal.overflow_add-last
-overflow_add-last g c = grind (arith, common_steps)
-
-pub overflow_sub-from : goal.overflow_sub-from
-overflow_sub-from g c = grind (arith, common_steps)
-
-pub overflow_sub-from-2 : goal.overflow_sub-from-2
-overflow_sub-from-2 g c = grind (arith, common_steps)
-
-pub overflow_sub-to : goal.overflow_sub-to
-overflow_sub-to g c = grind (arith, common_steps)
-
-pub overflow_sub-to-2 : goal.overflow_sub-to-2
-overflow_sub-to-2 g c = grind (arith, common_steps)
-
-pub part-requires-clause-behind : goal.part-requires-clause-behind
-part-requires-clause-behind g c = grind (arith, common_steps)
-
-pub part-requires-clause-order : goal.part-requires-clause-order
-part-requires-clause-order g c = grind (arith, common_steps)
-
-pub replace-requires-clause-behind : goal.replace-requires-clause-behind
-replace-requires-clause-behind g c = grind (arith, common_steps)
-
-pub replace-requires-clause-order : goal.replace-requires-clause-order
-replace-requires-clause-order g c = grind (arith, common_steps)
+    let inside : length c.self.inside.cells.items ≡ length c.args.self.now.cells = sym (length-map c.self.inside.cells.items (λ s. cell_of s.value)) ∙ ap (λ (s : Sheet). length s.cells) c.self.view_is in
+    let cells : cells_of c.move_item.new.list.items ≡ insert (remove c.args.self.now.cells c.args.from) c.args.to (get_or c.args.self.now.cells c.args.from no_cell) =
+    turned_map (λ s. cell_of s.value) c.self.inside.cells.items c.move_item.new.list.items c.args.from c.args.to no_cell (omega (arith, inside, c.requires.from)) c.move_item.ensures
+    ∙ ap (λ cs. insert (remove cs c.args.from) c.args.to (get_or cs c.args.from no_cell)) (ap (λ (s : Sheet). s.cells) c.self.view_is) in
+    ap₂ sheet cells (ap (λ (s : Sheet). s.given) c.self.view_is)

@@ -1,20 +1,18 @@
 use Rattle.std.proofs.Common.{◌≡◌, length, refl, ap, subst, arith}
 use Rattle.nd_model.specs.Book.Notebook.{Sheet, book_of}
-use Rattle.nd_schedule.specs.Cells.Shared.{each_of, each_some}
-use Rattle.nd_schedule.specs.Schedule.Runs.{IsRun}
+use Rattle.nd_schedule.specs.Cells.Shared.{each_of}
+use Rattle.nd_schedule.specs.Schedule.Sweep.{IsRun}
 use Rattle.nd_schedule.proofs.schedule.Kept.{as_many, told_there}
 use Rattle.nd_schedule.proofs.schedule.notebook.Schedule.record_at.Goals as goal
 
 pub index-requires : goal.index-requires
 index-requires g c =
-    let all : IsRun (book_of c.args.self.now) (each_of g.C.CellRunner.recorded c.self.inside.records.items) (each_some g.C.CellRunner.kept_session c.self.inside.versions.items) =
-    subst (λ (s : Sheet). IsRun (book_of s) (each_of g.C.CellRunner.recorded c.self.inside.records.items) (each_some g.C.CellRunner.kept_session c.self.inside.versions.items)) c.self.view_is c.self.invariant.run in
+    let all : IsRun (book_of c.args.self.now) (each_of g.C.CellRunner.recorded c.self.inside.records.items) = subst (λ (s : Sheet). IsRun (book_of s) (each_of g.C.CellRunner.recorded c.self.inside.records.items)) c.self.view_is (c.self.invariant.0).run in
     let many : length c.self.inside.records.items ≡ length c.args.self.now.cells = as_many (λ r. g.C.CellRunner.recorded r.value) (book_of c.args.self.now) c.self.inside.records.items all.records in
-    omega arith
+    omega (arith, many, c.requires)
 
 pub returns : goal.returns
 returns g c =
-    let all : IsRun (book_of c.args.self.now) (each_of g.C.CellRunner.recorded c.self.inside.records.items) (each_some g.C.CellRunner.kept_session c.self.inside.versions.items) =
-    subst (λ (s : Sheet). IsRun (book_of s) (each_of g.C.CellRunner.recorded c.self.inside.records.items) (each_some g.C.CellRunner.kept_session c.self.inside.versions.items)) c.self.view_is c.self.invariant.run in
+    let all : IsRun (book_of c.args.self.now) (each_of g.C.CellRunner.recorded c.self.inside.records.items) = subst (λ (s : Sheet). IsRun (book_of s) (each_of g.C.CellRunner.recorded c.self.inside.records.items)) c.self.view_is (c.self.invariant.0).run in
     told_there (λ r. g.C.CellRunner.recorded r.value) (book_of c.args.self.now) c.self.inside.records.items c.index.result.now c.args.at _ _ all.records c.requires c.index.ensures
     (ap g.C.CellRunner.recorded c.deref.ensures) refl

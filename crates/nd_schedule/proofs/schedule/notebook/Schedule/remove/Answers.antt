@@ -1,39 +1,64 @@
-use Rattle.std.proofs.Common.{◌+◌, arith}
-use Rattle.std.proofs.lemmas.Grind.{common_steps}
-use Rattle.nd_model.proofs.EditLabels.{remove_distinct}
-use Rattle.nd_model.specs.Book.Notebook.{book_of}
-use Rattle.nd_schedule.proofs.schedule.Edits.{same_distinct, same_counts, same_sheet, is_removed, kept_removed}
+use Rattle.std.proofs.Common.{◌≡◌, length, map, sym, ap, ap₂, subst, ◌∙◌, arith}
+use Rattle.std.specs.Prelude.{remove, slice_index_or}
+use Rattle.std.proofs.lemmas.List.{length-map}
+use Rattle.nd_model.specs.Book.Book.{Cell, no_cell}
+use Rattle.nd_model.specs.Book.Notebook.{Sheet, book_of}
+use Rattle.nd_model.proofs.EditKept.{map-remove}
+use Rattle.nd_schedule.specs.Cells.Labels.{AreUsed}
+use Rattle.nd_schedule.specs.declared.cells.source.KeptCell.{KeptCell}
+use Rattle.nd_schedule.specs.Cells.Source.{sheet, cell_of, cells_of}
+use Rattle.nd_schedule.specs.Cells.Shared.{each_of}
+use Rattle.nd_schedule.specs.Schedule.Sweep.{AreFit, IsKept, fit_at}
+use Rattle.std.specs.List.{All}
+use Rattle.nd_schedule.specs.Schedule.Snapshot.{IsSnapshot}
+use Rattle.nd_schedule.proofs.schedule.Kept.{as_many}
+use Rattle.nd_schedule.proofs.schedule.Editing.{label_at}
+use Rattle.nd_schedule.proofs.schedule.Removing
+use Rattle.nd_schedule.proofs.cells.Used.{used_remove}
 use Rattle.nd_schedule.proofs.schedule.notebook.Schedule.remove.Goals as goal
 
-pub replace-requires-clause-kept : goal.replace-requires-clause-kept
-replace-requires-clause-kept g c =
-    kept_removed (λ r. g.C.CellRunner.recorded r.value) (book_of c.args.self.now) c.in_ok-part.part.kept.items c.in_ok-part.part.cells.items c.args.at (c.args.at + 1) c.in_ok-part.ensures.kept c.in_ok-part.ensures.cells (omega arith) (omega (arith, c.requires)) _ _
-    c.remove-cell.ensures.items c.remove-kept.ensures.items
+pub install-requires-clause-fit : goal.install-requires-clause-fit
+install-requires-clause-fit g c =
+    let run : IsKept g.C.CellRunner.covers (book_of c.args.self.now) (each_of g.C.CellRunner.recorded c.self.inside.records.items) c.self.inside.words.items =
+    subst (λ (s : Sheet). IsKept g.C.CellRunner.covers (book_of s) (each_of g.C.CellRunner.recorded c.self.inside.records.items) c.self.inside.words.items) c.self.view_is (c.self.invariant).0 in
+    let many : length c.self.inside.records.items ≡ length c.args.self.now.cells = as_many (λ r. g.C.CellRunner.recorded r.value) (book_of c.args.self.now) c.self.inside.records.items run.run.records in
+    subst (λ n. AreFit g.C.CellRunner.covers n (map (λ c'. fit_at c'.place (g.C.CellRunner.recorded c'.record.value) c'.word) c.in_ok-swept.field-0.swept.changed.items)) (sym many) c.in_ok-swept.ensures.fit
 
-pub replace-requires-clause-distinct : goal.replace-requires-clause-distinct
-replace-requires-clause-distinct g c =
-    same_distinct _ _ (is_removed c.args.self.now.cells c.in_ok-part.part.cells.items c.remove-cell.new.self.items c.in_ok-part.part.at c.in_ok-part.part.behind c.args.at c.in_ok-part.ensures.cells c.in_ok-part.ensures.at c.in_ok-part.ensures.behind c.requires c.remove-cell.ensures.items)
-    (remove_distinct c.args.self.now.cells c.args.at c.in_ok-part.ensures.distinct)
+pub remove-record-requires : goal.remove-record-requires
+remove-record-requires g c =
+    let run : IsKept g.C.CellRunner.covers (book_of c.args.self.now) (each_of g.C.CellRunner.recorded c.self.inside.records.items) c.self.inside.words.items =
+    subst (λ (s : Sheet). IsKept g.C.CellRunner.covers (book_of s) (each_of g.C.CellRunner.recorded c.self.inside.records.items) c.self.inside.words.items) c.self.view_is (c.self.invariant).0 in
+    let many : length c.self.inside.records.items ≡ length c.args.self.now.cells = as_many (λ r. g.C.CellRunner.recorded r.value) (book_of c.args.self.now) c.self.inside.records.items run.run.records in
+    omega (arith, many, c.install.ensures.count, c.requires)
+
+pub invariant_of-self : goal.invariant_of-self
+invariant_of-self g c =
+    let run : IsKept g.C.CellRunner.covers (book_of c.args.self.now) (each_of g.C.CellRunner.recorded c.self.inside.records.items) c.self.inside.words.items =
+    subst (λ (s : Sheet). IsKept g.C.CellRunner.covers (book_of s) (each_of g.C.CellRunner.recorded c.self.inside.records.items) c.self.inside.words.items) c.self.view_is (c.self.invariant).0 in
+    let long : length (each_of g.C.CellRunner.recorded c.install.new.records.items) ≡ length (each_of g.C.CellRunner.recorded c.self.inside.records.items) =
+    length-map c.install.new.records.items (λ r. g.C.CellRunner.recorded r.value) ∙ c.install.ensures.count ∙ sym (length-map c.self.inside.records.items (λ r. g.C.CellRunner.recorded r.value)) in
+    let cells : cells_of c.remove-cell.new.self.items ≡ remove c.args.self.now.cells c.args.at =
+    ap cells_of c.remove-cell.ensures.items ∙ map-remove (λ s. cell_of s.value) c.self.inside.cells.items c.args.at ∙ ap (λ cs. remove cs c.args.at) (ap (λ (s : Sheet). s.cells) c.self.view_is) in
+    let records : each_of g.C.CellRunner.recorded c.remove-record.new.self.items ≡ remove (each_of g.C.CellRunner.recorded c.install.new.records.items) c.args.at =
+    ap (each_of g.C.CellRunner.recorded) c.remove-record.ensures.items ∙ map-remove (λ r. g.C.CellRunner.recorded r.value) c.install.new.records.items c.args.at in
+    let label : c.deref.result.now.label ≡ (slice_index_or c.args.self.now.cells c.args.at no_cell).label =
+    ap (λ (x : KeptCell). x.label) c.deref.ensures ∙ ap (λ (x : Cell). x.label) (label_at c.args.self.now.cells c.self.inside.cells.items c.index.result.now c.args.at (ap (λ (s : Sheet). s.cells) c.self.view_is) c.requires c.index.ensures) in
+    let used : AreUsed c.self.inside.least c.args.self.now.cells = subst (λ (s : Sheet). AreUsed c.self.inside.least s.cells) c.self.view_is (c.self.invariant).2 in
+    let kept : All (λ x. IsSnapshot (book_of c.args.self.now) x.place (g.C.CellRunner.kept_session x.version) (map g.C.CellRunner.change_of x.pending.items)) c.self.inside.snapshots.items =
+    subst (λ (s : Sheet). All (λ x. IsSnapshot (book_of s) x.place (g.C.CellRunner.kept_session x.version) (map g.C.CellRunner.change_of x.pending.items)) c.self.inside.snapshots.items) c.self.view_is (c.self.invariant).1 in (
+      subst (λ (s : Sheet). IsKept g.C.CellRunner.covers (book_of s) (each_of g.C.CellRunner.recorded c.remove-record.new.self.items) c.remove-word.new.self.items)
+          (sym (ap₂ sheet cells (ap (λ (s : Sheet). s.given) c.self.view_is)))
+          (subst (λ rs. IsKept g.C.CellRunner.covers (book_of (sheet (remove c.args.self.now.cells c.args.at) c.args.self.now.given)) rs c.remove-word.new.self.items) (sym records)
+          (subst (λ ws. IsKept g.C.CellRunner.covers (book_of (sheet (remove c.args.self.now.cells c.args.at) c.args.self.now.given)) (remove (each_of g.C.CellRunner.recorded c.install.new.records.items) c.args.at) ws) (sym c.remove-word.ensures.items)
+          (Removing.kept_without g.C.CellRunner.covers c.args.self.now c.args.at _ (each_of g.C.CellRunner.recorded c.self.inside.records.items) (each_of g.C.CellRunner.recorded c.install.new.records.items) c.self.inside.words.items c.install.new.words.items c.requires run
+          c.in_ok-swept.ensures.changed long c.install.ensures.many c.install.ensures.records c.install.ensures.words))),
+      subst (λ (s : Sheet). All (λ x. IsSnapshot (book_of s) x.place (g.C.CellRunner.kept_session x.version) (map g.C.CellRunner.change_of x.pending.items)) c.carry.new.snapshots.items) (sym (ap₂ sheet cells (ap (λ (s : Sheet). s.given) c.self.view_is)))
+          (c.carry.ensures (book_of c.args.self.now) (book_of (sheet (remove c.args.self.now.cells c.args.at) c.args.self.now.given)) (Removing.behind c.args.self.now c.args.at c.requires run.run.distinct) c.in_ok-swept.ensures.noted c.in_ok-swept.ensures.fresh kept),
+      subst (AreUsed c.min-self-inside.result) (sym cells) (used_remove c.self.inside.least c.min-self-inside.result c.args.self.now.cells c.args.at (omega (arith, c.min-self-inside.ensures)) (omega (arith, c.min-self-inside.ensures, label)) used),
+    )
 
 pub returns-clause-ok : goal.returns-clause-ok
 returns-clause-ok g c =
-    same_sheet c.replace.result _ _ _ _ (is_removed c.args.self.now.cells c.in_ok-part.part.cells.items c.remove-cell.new.self.items c.in_ok-part.part.at c.in_ok-part.part.behind c.args.at c.in_ok-part.ensures.cells c.in_ok-part.ensures.at c.in_ok-part.ensures.behind c.requires c.remove-cell.ensures.items) c.replace.ensures.ok
-
-pub returns-clause-counts : goal.returns-clause-counts
-returns-clause-counts g c =
-    same_counts (book_of c.args.self.now) _ _ c.args.self.now.given _ _ (is_removed c.args.self.now.cells c.in_ok-part.part.cells.items c.remove-cell.new.self.items c.in_ok-part.part.at c.in_ok-part.part.behind c.args.at c.in_ok-part.ensures.cells c.in_ok-part.ensures.at c.in_ok-part.ensures.behind c.requires c.remove-cell.ensures.items) c.replace.ensures.counts
-
-pub overflow_add-at : goal.overflow_add-at
-overflow_add-at g c = grind (arith, common_steps)
-
-pub part-requires-clause-behind : goal.part-requires-clause-behind
-part-requires-clause-behind g c = grind (arith, common_steps)
-
-pub part-requires-clause-order : goal.part-requires-clause-order
-part-requires-clause-order g c = grind (arith, common_steps)
-
-pub replace-requires-clause-behind : goal.replace-requires-clause-behind
-replace-requires-clause-behind g c = grind (arith, common_steps)
-
-pub replace-requires-clause-order : goal.replace-requires-clause-order
-replace-requires-clause-order g c = grind (arith, common_steps)
+    let cells : cells_of c.remove-cell.new.self.items ≡ remove c.args.self.now.cells c.args.at =
+    ap cells_of c.remove-cell.ensures.items ∙ map-remove (λ s. cell_of s.value) c.self.inside.cells.items c.args.at ∙ ap (λ cs. remove cs c.args.at) (ap (λ (s : Sheet). s.cells) c.self.view_is) in
+    ap₂ sheet cells (ap (λ (s : Sheet). s.given) c.self.view_is)

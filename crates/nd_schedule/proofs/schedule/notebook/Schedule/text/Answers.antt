@@ -2,7 +2,7 @@ use Rattle.std.proofs.Common.{ap, ◌∙◌}
 use Rattle.nd_model.specs.Book.Book.{Cell}
 use Rattle.nd_model.specs.Book.Notebook.{Sheet}
 use Rattle.nd_schedule.specs.Cells.Source.{cell_of}
-use Rattle.nd_schedule.proofs.schedule.Edits.{label_at}
+use Rattle.nd_schedule.proofs.schedule.Editing.{label_at}
 use Rattle.nd_schedule.proofs.schedule.notebook.Schedule.text.Goals as goal
 
 pub returns : goal.returns

@@ -1,0 +1,226 @@
+use Rattle.std.proofs.Common.{◌≡◌, ◌+◌, length, map, sym, ap, subst, ◌∙◌, arith}
+use Rattle.std.proofs.lemmas.List.{length-map}
+use Rattle.nd_model.specs.Book.Book.{Book}
+use Rattle.nd_model.specs.Book.Entries.{entry_at, record_at}
+use Rattle.nd_schedule.specs.Cells.Source.{cell_of}
+use Rattle.nd_schedule.specs.Schedule.Sweep.{AreChanged, AreFit, CountsFront, IsAt, IsComing, IsPlace, change_at, fit_at}
+use Rattle.nd_schedule.specs.Schedule.Snapshot.{IsChangeAt}
+use Rattle.nd_schedule.proofs.schedule.Standing.{All-none}
+use Rattle.nd_schedule.proofs.schedule.Sweeping.{changed_none, counts_stale, none_yet, record_there}
+use Rattle.nd_schedule.proofs.schedule.Turning.{coming, frame_rest, frame_up, made_there, moved_up, place_at, same_place, up_place}
+use Rattle.nd_schedule.proofs.schedule.Visiting.{cell_there}
+use Rattle.nd_schedule.proofs.schedule.moving.move_up.Goals as goal
+
+pub enter-requires-clause-at : goal.enter-requires-clause-at
+enter-requires-clause-at g c =
+    let old : Book = c.requires.at.0 in
+    let new : Book = c.requires.at.1 in
+    let moving = c.requires.at.2 in
+    let at = c.requires.at.3 in
+    let long : length old.cells ≡ length c.args.cells.now = ap length moving.cells ∙ length-map c.args.cells.now (λ s. cell_of s.value) in
+    let come : IsComing old new c.args.from (c.args.to) c.args.to _ (cell_of c.deref.result.now) (g.C.CellRunner.recorded c.deref-2.result.now) _ =
+    coming old new c.args.from c.args.to _ _ _ moving (c.args.to) (omega (arith, long, c.requires)) (cell_of c.deref.result.now) (g.C.CellRunner.recorded c.deref-2.result.now)
+    (cell_there c.args.cells.now c.args.from c.index-cells-from.result c.deref.result.now (omega (arith, long, moving.stood)) c.index-cells-from.is c.deref.ensures)
+    (ap g.C.CellRunner.recorded c.deref-2.ensures ∙ record_there (λ r. g.C.CellRunner.recorded r.value) old c.args.records.now c.index-records-from.result c.args.from moving.run.records moving.stood c.index-records-from.is) in
+    (old, new, c.args.from, c.args.to, come, at)
+
+pub returns-in_err-made-clause-counts : goal.returns-in_err-made-clause-counts
+returns-in_err-made-clause-counts g c = λ old new moving at.
+    let long : length old.cells ≡ length c.args.cells.now = ap length moving.cells ∙ length-map c.args.cells.now (λ s. cell_of s.value) in
+    let come : IsComing old new c.args.from (c.args.to) c.args.to _ (cell_of c.deref.result.now) (g.C.CellRunner.recorded c.deref-2.result.now) _ =
+    coming old new c.args.from c.args.to _ _ _ moving (c.args.to) (omega (arith, long, c.requires)) (cell_of c.deref.result.now) (g.C.CellRunner.recorded c.deref-2.result.now)
+    (cell_there c.args.cells.now c.args.from c.index-cells-from.result c.deref.result.now (omega (arith, long, moving.stood)) c.index-cells-from.is c.deref.ensures)
+    (ap g.C.CellRunner.recorded c.deref-2.ensures ∙ record_there (λ r. g.C.CellRunner.recorded r.value) old c.args.records.now c.index-records-from.result c.args.from moving.run.records moving.stood c.index-records-from.is) in
+    let with_it = c.enter.ensures.counts old new c.args.from c.args.to c.args.meter.now come at (none_yet old new c.args.to c.args.meter.now) in
+    counts_stale old new (c.args.to + 1) _ _ with_it
+
+pub sweep-requires-clause-at : goal.sweep-requires-clause-at
+sweep-requires-clause-at g c =
+    let old : Book = c.requires.at.0 in
+    let new : Book = c.requires.at.1 in
+    let moving = c.requires.at.2 in
+    let at = c.requires.at.3 in
+    let long : length old.cells ≡ length c.args.cells.now = ap length moving.cells ∙ length-map c.args.cells.now (λ s. cell_of s.value) in
+    let come : IsComing old new c.args.from (c.args.to) c.args.to _ (cell_of c.deref.result.now) (g.C.CellRunner.recorded c.deref-2.result.now) _ =
+    coming old new c.args.from c.args.to _ _ _ moving (c.args.to) (omega (arith, long, c.requires)) (cell_of c.deref.result.now) (g.C.CellRunner.recorded c.deref-2.result.now)
+    (cell_there c.args.cells.now c.args.from c.index-cells-from.result c.deref.result.now (omega (arith, long, moving.stood)) c.index-cells-from.is c.deref.ensures)
+    (ap g.C.CellRunner.recorded c.deref-2.ensures ∙ record_there (λ r. g.C.CellRunner.recorded r.value) old c.args.records.now c.index-records-from.result c.args.from moving.run.records moving.stood c.index-records-from.is) in
+    let come_in : IsAt old new c.args.to (c.args.to + 1) (g.C.CellRunner.change_of c.enter.new.state.change) (g.C.CellRunner.session_of c.enter.new.state.session) c.enter.new.state.since =
+    c.in_ok-made.ensures.at old new c.args.from c.args.to come at in
+    let frame = frame_up old new c.args.from c.args.to _ _ _ moving c.requires.up in
+    (old, new, c.args.to + 1, frame, come_in)
+
+pub returns-in_err-sweep-clause-counts : goal.returns-in_err-sweep-clause-counts
+returns-in_err-sweep-clause-counts g c = λ old new moving at.
+    let long : length old.cells ≡ length c.args.cells.now = ap length moving.cells ∙ length-map c.args.cells.now (λ s. cell_of s.value) in
+    let come : IsComing old new c.args.from (c.args.to) c.args.to _ (cell_of c.deref.result.now) (g.C.CellRunner.recorded c.deref-2.result.now) _ =
+    coming old new c.args.from c.args.to _ _ _ moving (c.args.to) (omega (arith, long, c.requires)) (cell_of c.deref.result.now) (g.C.CellRunner.recorded c.deref-2.result.now)
+    (cell_there c.args.cells.now c.args.from c.index-cells-from.result c.deref.result.now (omega (arith, long, moving.stood)) c.index-cells-from.is c.deref.ensures)
+    (ap g.C.CellRunner.recorded c.deref-2.ensures ∙ record_there (λ r. g.C.CellRunner.recorded r.value) old c.args.records.now c.index-records-from.result c.args.from moving.run.records moving.stood c.index-records-from.is) in
+    let come_in : IsAt old new c.args.to (c.args.to + 1) (g.C.CellRunner.change_of c.enter.new.state.change) (g.C.CellRunner.session_of c.enter.new.state.session) c.enter.new.state.since =
+    c.in_ok-made.ensures.at old new c.args.from c.args.to come at in
+    let frame = frame_up old new c.args.from c.args.to _ _ _ moving c.requires.up in
+    let with_it = c.enter.ensures.counts old new c.args.from c.args.to c.args.meter.now come at (none_yet old new c.args.to c.args.meter.now) in
+    c.sweep.ensures.counts old new (c.args.to + 1) _ frame come_in with_it
+
+pub leave-requires-clause-at : goal.leave-requires-clause-at
+leave-requires-clause-at g c =
+    let old : Book = c.requires.at.0 in
+    let new : Book = c.requires.at.1 in
+    let moving = c.requires.at.2 in
+    let at = c.requires.at.3 in
+    let long : length old.cells ≡ length c.args.cells.now = ap length moving.cells ∙ length-map c.args.cells.now (λ s. cell_of s.value) in
+    let come : IsComing old new c.args.from (c.args.to) c.args.to _ (cell_of c.deref.result.now) (g.C.CellRunner.recorded c.deref-2.result.now) _ =
+    coming old new c.args.from c.args.to _ _ _ moving (c.args.to) (omega (arith, long, c.requires)) (cell_of c.deref.result.now) (g.C.CellRunner.recorded c.deref-2.result.now)
+    (cell_there c.args.cells.now c.args.from c.index-cells-from.result c.deref.result.now (omega (arith, long, moving.stood)) c.index-cells-from.is c.deref.ensures)
+    (ap g.C.CellRunner.recorded c.deref-2.ensures ∙ record_there (λ r. g.C.CellRunner.recorded r.value) old c.args.records.now c.index-records-from.result c.args.from moving.run.records moving.stood c.index-records-from.is) in
+    let come_in : IsAt old new c.args.to (c.args.to + 1) (g.C.CellRunner.change_of c.enter.new.state.change) (g.C.CellRunner.session_of c.enter.new.state.session) c.enter.new.state.since =
+    c.in_ok-made.ensures.at old new c.args.from c.args.to come at in
+    let frame = frame_up old new c.args.from c.args.to _ _ _ moving c.requires.up in
+    let there : IsAt old new c.args.from (c.args.from + 1) (g.C.CellRunner.change_of c.sweep.new.state.change) (g.C.CellRunner.session_of c.sweep.new.state.session) c.sweep.new.state.since =
+    subst (λ k. IsAt old new c.args.from k (g.C.CellRunner.change_of c.sweep.new.state.change) (g.C.CellRunner.session_of c.sweep.new.state.session) c.sweep.new.state.since) (up_place c.args.from c.args.to c.requires.up)
+    (c.in_ok-sweep.ensures.at old new (c.args.to + 1) frame come_in) in
+    let place : IsPlace old new c.args.from (c.args.from + 1) = place_at old new c.args.from c.args.to _ _ _ moving c.args.from (c.args.from + 1) (omega (arith, moving.stood)) (omega (arith, moving.stood)) in
+    (old, new, c.args.from + 1, moving.run, place, there)
+
+pub returns-in_err-leave-clause-counts : goal.returns-in_err-leave-clause-counts
+returns-in_err-leave-clause-counts g c = λ old new moving at.
+    let long : length old.cells ≡ length c.args.cells.now = ap length moving.cells ∙ length-map c.args.cells.now (λ s. cell_of s.value) in
+    let come : IsComing old new c.args.from (c.args.to) c.args.to _ (cell_of c.deref.result.now) (g.C.CellRunner.recorded c.deref-2.result.now) _ =
+    coming old new c.args.from c.args.to _ _ _ moving (c.args.to) (omega (arith, long, c.requires)) (cell_of c.deref.result.now) (g.C.CellRunner.recorded c.deref-2.result.now)
+    (cell_there c.args.cells.now c.args.from c.index-cells-from.result c.deref.result.now (omega (arith, long, moving.stood)) c.index-cells-from.is c.deref.ensures)
+    (ap g.C.CellRunner.recorded c.deref-2.ensures ∙ record_there (λ r. g.C.CellRunner.recorded r.value) old c.args.records.now c.index-records-from.result c.args.from moving.run.records moving.stood c.index-records-from.is) in
+    let come_in : IsAt old new c.args.to (c.args.to + 1) (g.C.CellRunner.change_of c.enter.new.state.change) (g.C.CellRunner.session_of c.enter.new.state.session) c.enter.new.state.since =
+    c.in_ok-made.ensures.at old new c.args.from c.args.to come at in
+    let frame = frame_up old new c.args.from c.args.to _ _ _ moving c.requires.up in
+    let with_it = c.enter.ensures.counts old new c.args.from c.args.to c.args.meter.now come at (none_yet old new c.args.to c.args.meter.now) in
+    let so_far = subst (λ k. CountsFront old new k c.args.meter.now c.sweep.new.meter) (up_place c.args.from c.args.to c.requires.up) (c.in_ok-sweep.ensures.counted old new (c.args.to + 1) c.args.meter.now frame come_in with_it) in
+    counts_stale old new (c.args.from + 1) _ _ so_far
+
+pub sweep-requires-2-clause-at : goal.sweep-requires-2-clause-at
+sweep-requires-2-clause-at g c =
+    let old : Book = c.requires.at.0 in
+    let new : Book = c.requires.at.1 in
+    let moving = c.requires.at.2 in
+    let at = c.requires.at.3 in
+    let long : length old.cells ≡ length c.args.cells.now = ap length moving.cells ∙ length-map c.args.cells.now (λ s. cell_of s.value) in
+    let come : IsComing old new c.args.from (c.args.to) c.args.to _ (cell_of c.deref.result.now) (g.C.CellRunner.recorded c.deref-2.result.now) _ =
+    coming old new c.args.from c.args.to _ _ _ moving (c.args.to) (omega (arith, long, c.requires)) (cell_of c.deref.result.now) (g.C.CellRunner.recorded c.deref-2.result.now)
+    (cell_there c.args.cells.now c.args.from c.index-cells-from.result c.deref.result.now (omega (arith, long, moving.stood)) c.index-cells-from.is c.deref.ensures)
+    (ap g.C.CellRunner.recorded c.deref-2.ensures ∙ record_there (λ r. g.C.CellRunner.recorded r.value) old c.args.records.now c.index-records-from.result c.args.from moving.run.records moving.stood c.index-records-from.is) in
+    let come_in : IsAt old new c.args.to (c.args.to + 1) (g.C.CellRunner.change_of c.enter.new.state.change) (g.C.CellRunner.session_of c.enter.new.state.session) c.enter.new.state.since =
+    c.in_ok-made.ensures.at old new c.args.from c.args.to come at in
+    let frame = frame_up old new c.args.from c.args.to _ _ _ moving c.requires.up in
+    let there : IsAt old new c.args.from (c.args.from + 1) (g.C.CellRunner.change_of c.sweep.new.state.change) (g.C.CellRunner.session_of c.sweep.new.state.session) c.sweep.new.state.since =
+    subst (λ k. IsAt old new c.args.from k (g.C.CellRunner.change_of c.sweep.new.state.change) (g.C.CellRunner.session_of c.sweep.new.state.session) c.sweep.new.state.since) (up_place c.args.from c.args.to c.requires.up)
+    (c.in_ok-sweep.ensures.at old new (c.args.to + 1) frame come_in) in
+    let place : IsPlace old new c.args.from (c.args.from + 1) = place_at old new c.args.from c.args.to _ _ _ moving c.args.from (c.args.from + 1) (omega (arith, moving.stood)) (omega (arith, moving.stood)) in
+    let left = c.in_ok-leave.ensures.at old new (c.args.from + 1) moving.run place there in
+    let rest = frame_rest old new c.args.from c.args.to _ _ _ moving (c.args.from + 1) (length c.args.cells.now) (omega arith) (omega (arith, c.requires.up)) (omega (arith, c.requires.from)) (sym long) in
+    (old, new, c.args.from + 1, rest, left)
+
+pub returns-in_err-sweep-2-clause-counts : goal.returns-in_err-sweep-2-clause-counts
+returns-in_err-sweep-2-clause-counts g c = λ old new moving at.
+    let long : length old.cells ≡ length c.args.cells.now = ap length moving.cells ∙ length-map c.args.cells.now (λ s. cell_of s.value) in
+    let come : IsComing old new c.args.from (c.args.to) c.args.to _ (cell_of c.deref.result.now) (g.C.CellRunner.recorded c.deref-2.result.now) _ =
+    coming old new c.args.from c.args.to _ _ _ moving (c.args.to) (omega (arith, long, c.requires)) (cell_of c.deref.result.now) (g.C.CellRunner.recorded c.deref-2.result.now)
+    (cell_there c.args.cells.now c.args.from c.index-cells-from.result c.deref.result.now (omega (arith, long, moving.stood)) c.index-cells-from.is c.deref.ensures)
+    (ap g.C.CellRunner.recorded c.deref-2.ensures ∙ record_there (λ r. g.C.CellRunner.recorded r.value) old c.args.records.now c.index-records-from.result c.args.from moving.run.records moving.stood c.index-records-from.is) in
+    let come_in : IsAt old new c.args.to (c.args.to + 1) (g.C.CellRunner.change_of c.enter.new.state.change) (g.C.CellRunner.session_of c.enter.new.state.session) c.enter.new.state.since =
+    c.in_ok-made.ensures.at old new c.args.from c.args.to come at in
+    let frame = frame_up old new c.args.from c.args.to _ _ _ moving c.requires.up in
+    let there : IsAt old new c.args.from (c.args.from + 1) (g.C.CellRunner.change_of c.sweep.new.state.change) (g.C.CellRunner.session_of c.sweep.new.state.session) c.sweep.new.state.since =
+    subst (λ k. IsAt old new c.args.from k (g.C.CellRunner.change_of c.sweep.new.state.change) (g.C.CellRunner.session_of c.sweep.new.state.session) c.sweep.new.state.since) (up_place c.args.from c.args.to c.requires.up)
+    (c.in_ok-sweep.ensures.at old new (c.args.to + 1) frame come_in) in
+    let place : IsPlace old new c.args.from (c.args.from + 1) = place_at old new c.args.from c.args.to _ _ _ moving c.args.from (c.args.from + 1) (omega (arith, moving.stood)) (omega (arith, moving.stood)) in
+    let left = c.in_ok-leave.ensures.at old new (c.args.from + 1) moving.run place there in
+    let rest = frame_rest old new c.args.from c.args.to _ _ _ moving (c.args.from + 1) (length c.args.cells.now) (omega arith) (omega (arith, c.requires.up)) (omega (arith, c.requires.from)) (sym long) in
+    let with_it = c.enter.ensures.counts old new c.args.from c.args.to c.args.meter.now come at (none_yet old new c.args.to c.args.meter.now) in
+    let so_far = subst (λ k. CountsFront old new k c.args.meter.now c.sweep.new.meter) (up_place c.args.from c.args.to c.requires.up) (c.in_ok-sweep.ensures.counted old new (c.args.to + 1) c.args.meter.now frame come_in with_it) in
+    c.sweep-2.ensures.counts old new (c.args.from + 1) _ rest left so_far
+
+pub returns-clause-counts : goal.returns-clause-counts
+returns-clause-counts g c = λ old new moving at.
+    let long : length old.cells ≡ length c.args.cells.now = ap length moving.cells ∙ length-map c.args.cells.now (λ s. cell_of s.value) in
+    let come : IsComing old new c.args.from (c.args.to) c.args.to _ (cell_of c.deref.result.now) (g.C.CellRunner.recorded c.deref-2.result.now) _ =
+    coming old new c.args.from c.args.to _ _ _ moving (c.args.to) (omega (arith, long, c.requires)) (cell_of c.deref.result.now) (g.C.CellRunner.recorded c.deref-2.result.now)
+    (cell_there c.args.cells.now c.args.from c.index-cells-from.result c.deref.result.now (omega (arith, long, moving.stood)) c.index-cells-from.is c.deref.ensures)
+    (ap g.C.CellRunner.recorded c.deref-2.ensures ∙ record_there (λ r. g.C.CellRunner.recorded r.value) old c.args.records.now c.index-records-from.result c.args.from moving.run.records moving.stood c.index-records-from.is) in
+    let come_in : IsAt old new c.args.to (c.args.to + 1) (g.C.CellRunner.change_of c.enter.new.state.change) (g.C.CellRunner.session_of c.enter.new.state.session) c.enter.new.state.since =
+    c.in_ok-made.ensures.at old new c.args.from c.args.to come at in
+    let frame = frame_up old new c.args.from c.args.to _ _ _ moving c.requires.up in
+    let there : IsAt old new c.args.from (c.args.from + 1) (g.C.CellRunner.change_of c.sweep.new.state.change) (g.C.CellRunner.session_of c.sweep.new.state.session) c.sweep.new.state.since =
+    subst (λ k. IsAt old new c.args.from k (g.C.CellRunner.change_of c.sweep.new.state.change) (g.C.CellRunner.session_of c.sweep.new.state.session) c.sweep.new.state.since) (up_place c.args.from c.args.to c.requires.up)
+    (c.in_ok-sweep.ensures.at old new (c.args.to + 1) frame come_in) in
+    let place : IsPlace old new c.args.from (c.args.from + 1) = place_at old new c.args.from c.args.to _ _ _ moving c.args.from (c.args.from + 1) (omega (arith, moving.stood)) (omega (arith, moving.stood)) in
+    let left = c.in_ok-leave.ensures.at old new (c.args.from + 1) moving.run place there in
+    let rest = frame_rest old new c.args.from c.args.to _ _ _ moving (c.args.from + 1) (length c.args.cells.now) (omega arith) (omega (arith, c.requires.up)) (omega (arith, c.requires.from)) (sym long) in
+    let with_it = c.enter.ensures.counts old new c.args.from c.args.to c.args.meter.now come at (none_yet old new c.args.to c.args.meter.now) in
+    let so_far = subst (λ k. CountsFront old new k c.args.meter.now c.sweep.new.meter) (up_place c.args.from c.args.to c.requires.up) (c.in_ok-sweep.ensures.counted old new (c.args.to + 1) c.args.meter.now frame come_in with_it) in
+    c.sweep-2.ensures.counts old new (c.args.from + 1) _ rest left so_far
+
+pub returns-clause-moved : goal.returns-clause-moved
+returns-clause-moved g c = λ old new moving at.
+    let long : length old.cells ≡ length c.args.cells.now = ap length moving.cells ∙ length-map c.args.cells.now (λ s. cell_of s.value) in
+    let come : IsComing old new c.args.from (c.args.to) c.args.to _ (cell_of c.deref.result.now) (g.C.CellRunner.recorded c.deref-2.result.now) _ =
+    coming old new c.args.from c.args.to _ _ _ moving (c.args.to) (omega (arith, long, c.requires)) (cell_of c.deref.result.now) (g.C.CellRunner.recorded c.deref-2.result.now)
+    (cell_there c.args.cells.now c.args.from c.index-cells-from.result c.deref.result.now (omega (arith, long, moving.stood)) c.index-cells-from.is c.deref.ensures)
+    (ap g.C.CellRunner.recorded c.deref-2.ensures ∙ record_there (λ r. g.C.CellRunner.recorded r.value) old c.args.records.now c.index-records-from.result c.args.from moving.run.records moving.stood c.index-records-from.is) in
+    let come_in : IsAt old new c.args.to (c.args.to + 1) (g.C.CellRunner.change_of c.enter.new.state.change) (g.C.CellRunner.session_of c.enter.new.state.session) c.enter.new.state.since =
+    c.in_ok-made.ensures.at old new c.args.from c.args.to come at in
+    let frame = frame_up old new c.args.from c.args.to _ _ _ moving c.requires.up in
+    let there : IsAt old new c.args.from (c.args.from + 1) (g.C.CellRunner.change_of c.sweep.new.state.change) (g.C.CellRunner.session_of c.sweep.new.state.session) c.sweep.new.state.since =
+    subst (λ k. IsAt old new c.args.from k (g.C.CellRunner.change_of c.sweep.new.state.change) (g.C.CellRunner.session_of c.sweep.new.state.session) c.sweep.new.state.since) (up_place c.args.from c.args.to c.requires.up)
+    (c.in_ok-sweep.ensures.at old new (c.args.to + 1) frame come_in) in
+    let place : IsPlace old new c.args.from (c.args.from + 1) = place_at old new c.args.from c.args.to _ _ _ moving c.args.from (c.args.from + 1) (omega (arith, moving.stood)) (omega (arith, moving.stood)) in
+    let left = c.in_ok-leave.ensures.at old new (c.args.from + 1) moving.run place there in
+    let rest = frame_rest old new c.args.from c.args.to _ _ _ moving (c.args.from + 1) (length c.args.cells.now) (omega arith) (omega (arith, c.requires.up)) (omega (arith, c.requires.from)) (sym long) in
+    let first : AreChanged old new c.args.to (c.args.to + 1) c.args.from (map (λ c'. change_at c'.place (g.C.CellRunner.recorded c'.record.value)) c.sweep.new.state.changed.items) =
+    c.in_ok-sweep.ensures.changed old new (c.args.to + 1) c.args.to (c.args.to + 1) frame come_in (omega arith) (same_place c.args.to (c.args.to + 1))
+    (subst (λ xs. AreChanged old new c.args.to (c.args.to + 1) c.args.to (map (λ c'. change_at c'.place (g.C.CellRunner.recorded c'.record.value)) xs)) (sym (c.in_ok-made.ensures.changed ∙ c.requires.changed)) (changed_none old new c.args.to (c.args.to + 1))) in
+    let second : AreChanged old new (c.args.from + 1) (c.args.from + 1) (length c.args.cells.now) (map (λ c'. change_at c'.place (g.C.CellRunner.recorded c'.record.value)) c.sweep-2.new.state.changed.items) =
+    c.in_ok-sweep-2.ensures.changed old new (c.args.from + 1) (c.args.from + 1) (c.args.from + 1) rest left (omega arith) (same_place (c.args.from + 1) (c.args.from + 1))
+    (subst (λ xs. AreChanged old new (c.args.from + 1) (c.args.from + 1) (c.args.from + 1) (map (λ c'. change_at c'.place (g.C.CellRunner.recorded c'.record.value)) xs)) (sym (c.in_ok-leave.ensures.changed ∙ ap (λ v. v.items) c.replace-between.ensures.after ∙ c.new.ensures.items)) (changed_none old new (c.args.from + 1) (c.args.from + 1))) in
+    moved_up old new c.args.from c.args.to _ _ _ moving (map (λ c'. change_at c'.place (g.C.CellRunner.recorded c'.record.value)) c.replace-between.result.items) (map (λ c'. change_at c'.place (g.C.CellRunner.recorded c'.record.value)) c.replace-behind.result.items) c.requires.up
+    (subst (λ v. AreChanged old new c.args.to (c.args.to + 1) c.args.from (map (λ c'. change_at c'.place (g.C.CellRunner.recorded c'.record.value)) v.items)) (sym c.replace-between.ensures.value) first)
+    (subst (λ n. AreChanged old new (c.args.from + 1) (c.args.from + 1) n (map (λ c'. change_at c'.place (g.C.CellRunner.recorded c'.record.value)) c.replace-behind.result.items)) (sym long) (subst (λ v. AreChanged old new (c.args.from + 1) (c.args.from + 1) (length c.args.cells.now) (map (λ c'. change_at c'.place (g.C.CellRunner.recorded c'.record.value)) v.items)) (sym c.replace-behind.ensures.value) second))
+
+pub returns-clause-made : goal.returns-clause-made
+returns-clause-made g c = λ old new moving at.
+    let long : length old.cells ≡ length c.args.cells.now = ap length moving.cells ∙ length-map c.args.cells.now (λ s. cell_of s.value) in
+    let come : IsComing old new c.args.from (c.args.to) c.args.to _ (cell_of c.deref.result.now) (g.C.CellRunner.recorded c.deref-2.result.now) _ =
+    coming old new c.args.from c.args.to _ _ _ moving (c.args.to) (omega (arith, long, c.requires)) (cell_of c.deref.result.now) (g.C.CellRunner.recorded c.deref-2.result.now)
+    (cell_there c.args.cells.now c.args.from c.index-cells-from.result c.deref.result.now (omega (arith, long, moving.stood)) c.index-cells-from.is c.deref.ensures)
+    (ap g.C.CellRunner.recorded c.deref-2.ensures ∙ record_there (λ r. g.C.CellRunner.recorded r.value) old c.args.records.now c.index-records-from.result c.args.from moving.run.records moving.stood c.index-records-from.is) in
+    made_there (λ n. g.C.CellRunner.recorded n.record.value) c.in_ok-made.made (g.C.CellRunner.recorded c.deref-2.result.now) (record_at old.inputs (entry_at old c.args.from)) (record_at new.inputs (entry_at new c.args.to)) come.made
+    (c.in_ok-made.ensures.made old new c.args.from c.args.to come at)
+
+pub returns-clause-fit_between : goal.returns-clause-fit_between
+returns-clause-fit_between g c =
+    subst (λ v. AreFit g.C.CellRunner.covers (length c.args.cells.now) (map (λ c'. fit_at c'.place (g.C.CellRunner.recorded c'.record.value) c'.word) v.items)) (sym c.replace-between.ensures.value)
+    (c.in_ok-sweep.ensures.fit (length c.args.cells.now) (omega (arith, c.requires.from))
+    (subst (λ xs. AreFit g.C.CellRunner.covers (length c.args.cells.now) (map (λ c'. fit_at c'.place (g.C.CellRunner.recorded c'.record.value) c'.word) xs)) (sym (c.in_ok-made.ensures.changed ∙ c.requires.changed)) tt))
+
+pub returns-clause-fit_behind : goal.returns-clause-fit_behind
+returns-clause-fit_behind g c =
+    subst (λ v. AreFit g.C.CellRunner.covers (length c.args.cells.now) (map (λ c'. fit_at c'.place (g.C.CellRunner.recorded c'.record.value) c'.word) v.items)) (sym c.replace-behind.ensures.value)
+    (c.in_ok-sweep-2.ensures.fit (length c.args.cells.now) (omega arith)
+    (subst (λ xs. AreFit g.C.CellRunner.covers (length c.args.cells.now) (map (λ c'. fit_at c'.place (g.C.CellRunner.recorded c'.record.value) c'.word) xs)) (sym (c.in_ok-leave.ensures.changed ∙ ap (λ v. v.items) c.replace-between.ensures.after ∙ c.new.ensures.items)) tt))
+
+pub returns-clause-noted : goal.returns-clause-noted
+returns-clause-noted g c = λ old new moving at.
+    let long : length old.cells ≡ length c.args.cells.now = ap length moving.cells ∙ length-map c.args.cells.now (λ s. cell_of s.value) in
+    let come : IsComing old new c.args.from (c.args.to) c.args.to _ (cell_of c.deref.result.now) (g.C.CellRunner.recorded c.deref-2.result.now) _ =
+    coming old new c.args.from c.args.to _ _ _ moving (c.args.to) (omega (arith, long, c.requires)) (cell_of c.deref.result.now) (g.C.CellRunner.recorded c.deref-2.result.now)
+    (cell_there c.args.cells.now c.args.from c.index-cells-from.result c.deref.result.now (omega (arith, long, moving.stood)) c.index-cells-from.is c.deref.ensures)
+    (ap g.C.CellRunner.recorded c.deref-2.ensures ∙ record_there (λ r. g.C.CellRunner.recorded r.value) old c.args.records.now c.index-records-from.result c.args.from moving.run.records moving.stood c.index-records-from.is) in
+    let come_in : IsAt old new c.args.to (c.args.to + 1) (g.C.CellRunner.change_of c.enter.new.state.change) (g.C.CellRunner.session_of c.enter.new.state.session) c.enter.new.state.since =
+    c.in_ok-made.ensures.at old new c.args.from c.args.to come at in
+    let frame = frame_up old new c.args.from c.args.to _ _ _ moving c.requires.up in
+    let there : IsAt old new c.args.from (c.args.from + 1) (g.C.CellRunner.change_of c.sweep.new.state.change) (g.C.CellRunner.session_of c.sweep.new.state.session) c.sweep.new.state.since =
+    subst (λ k. IsAt old new c.args.from k (g.C.CellRunner.change_of c.sweep.new.state.change) (g.C.CellRunner.session_of c.sweep.new.state.session) c.sweep.new.state.since) (up_place c.args.from c.args.to c.requires.up)
+    (c.in_ok-sweep.ensures.at old new (c.args.to + 1) frame come_in) in
+    let place : IsPlace old new c.args.from (c.args.from + 1) = place_at old new c.args.from c.args.to _ _ _ moving c.args.from (c.args.from + 1) (omega (arith, moving.stood)) (omega (arith, moving.stood)) in
+    let left = c.in_ok-leave.ensures.at old new (c.args.from + 1) moving.run place there in
+    let rest = frame_rest old new c.args.from c.args.to _ _ _ moving (c.args.from + 1) (length c.args.cells.now) (omega arith) (omega (arith, c.requires.up)) (omega (arith, c.requires.from)) (sym long) in
+    c.in_ok-sweep-2.ensures.noted old new rest left (c.in_ok-sweep.ensures.noted old new frame come_in (All-none (λ n. IsChangeAt old new n.place n.now (g.C.CellRunner.change_of n.change)) c.new-noted.result.items c.new-noted.ensures.items))

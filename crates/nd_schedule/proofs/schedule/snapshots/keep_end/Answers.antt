@@ -1,0 +1,4 @@
+use Rattle.nd_schedule.proofs.schedule.snapshots.keep_end.Goals as goal
+
+pub returns : goal.returns
+returns g c = λ b many stands all. c.thin.ensures b (c.keep_at.ensures.snapshots b many stands all)

@@ -1,0 +1,26 @@
+use Rattle.std.proofs.Common.{◌≡◌, ◌<◌, length, refl, ap, subst, ◌∙◌, arith}
+use Rattle.nd_model.specs.Book.Book.{Book}
+use Rattle.nd_schedule.specs.Schedule.Sweep.{IsAtHand, IsPlace}
+use Rattle.nd_schedule.proofs.schedule.Sweeping.{record_there, holds_at_hand, further_on}
+use Rattle.nd_schedule.proofs.schedule.sweep.catch_up.Goals as goal
+
+pub replay-requires : goal.replay-requires
+replay-requires g c =
+    let old : Book = c.requires.at.0 in
+    let new : Book = c.requires.at.1 in
+    let place : IsPlace old new c.args.to c.requires.at.2 = c.requires.at.4 in
+    let lt : c.loop-k.k < length old.cells = omega (arith, place.before) in (
+      new.inputs,
+      holds_at_hand old new c.args.to c.requires.at.2 (g.C.CellRunner.session_of c.loop-k.session) c.loop-k.k (c.loop-k.invariant old new c.requires.at.2 c.requires.at.3 place c.requires.at.5) (omega arith) place (g.C.CellRunner.recorded c.deref.result.now) (g.C.CellRunner.session_of c.loop-k.session)
+          (ap g.C.CellRunner.recorded c.deref.ensures ∙ record_there (λ r. g.C.CellRunner.recorded r.value) old c.args.records.now c.index-records-k.result c.loop-k.k (c.requires.at.3).records lt c.index-records-k.is) refl,
+    )
+
+pub loop-k-preserved : goal.loop-k-preserved
+loop-k-preserved g c = λ old new j run place hand.
+    let lt : c.loop-k.k < length old.cells = omega (arith, place.before) in
+    further_on old new c.args.to j (g.C.CellRunner.session_of c.loop-k.session) c.loop-k.k (c.loop-k.invariant old new j run place hand) (omega arith) place (g.C.CellRunner.recorded c.deref.result.now) (g.C.CellRunner.session_of c.replay.new.session)
+    (ap g.C.CellRunner.recorded c.deref.ensures ∙ record_there (λ r. g.C.CellRunner.recorded r.value) old c.args.records.now c.index-records-k.result c.loop-k.k run.records lt c.index-records-k.is) c.in_ok-replay.ensures
+
+pub returns : goal.returns
+returns g c = λ old new j run place hand. let e : c.loop-k.k ≡ c.args.to = omega arith in
+    subst (IsAtHand old new c.args.to j (g.C.CellRunner.session_of c.loop-k.session)) e (c.loop-k.invariant old new j run place hand)

@@ -1,0 +1,138 @@
+//! `append`: puts a new cell behind the last one, where the session is kept and no record is replayed.
+
+ghost use Rattle.std.specs.Prelude.{◌≡◌, ◌<◌, ◌≤◌, ◌+◌, ◌||◌, ℕ, IfOk, IsTrue, OnErr, OnOk, insert, length, map, nat_eq, string_bytes};
+ghost use Rattle.std.specs.List.{All};
+ghost use Rattle.nd_model.specs.Book.Book as books;
+ghost use Rattle.nd_model.specs.Book.Book.{is_label};
+ghost use Rattle.nd_model.specs.Book.Entries.{entry_at, record_at};
+ghost use Rattle.nd_model.specs.Book.Stale.{CountsStale};
+ghost use Rattle.nd_model.specs.Book.Notebook.{book_of};
+ghost use Rattle.nd_change.specs.Steps.{IsWordOf};
+ghost use Rattle.nd_schedule.specs.Cells.Source.{sheet, cell_of};
+ghost use Rattle.nd_schedule.specs.Schedule.Snapshot.{IsSnapshot, StandsBefore};
+
+use crate::cells::KeptCell;
+use crate::schedule::notebook::{Front, Schedule};
+use crate::schedule::runner::CellRunner;
+use crate::schedule::snapshots::{keep_end, put_fresh, take_end};
+use crate::schedule::sweep::New;
+use nd_meter::Meter;
+use std::alloc::AllocError;
+use std::rc::Rc;
+
+/// Puts a new cell at a place, with its record and its word. For want of memory all stay as they are.
+fn put_new<C: CellRunner>(
+    cells: &mut Vec<Rc<KeptCell>>,
+    records: &mut Vec<Rc<C::Record>>,
+    words: &mut Vec<C::Word>,
+    at: usize,
+    cell: Rc<KeptCell>,
+    new: New<C>,
+) -> Result<(), AllocError>
+    requires cells { at ≤ length cells.old.items }
+    requires records { at ≤ length records.old.items }
+    requires words { at ≤ length words.old.items }
+    ensures cells { OnOk result (cells.new.items ≡ insert cells.old.items at cell) }
+    ensures records { OnOk result
+        (records.new.items ≡ insert records.old.items at new.record) }
+    ensures words { OnOk result (words.new.items ≡ insert words.old.items at new.word) }
+    ensures same_cells { OnErr result (cells.new.items ≡ cells.old.items) }
+    ensures same_records { OnErr result (records.new.items ≡ records.old.items) }
+    ensures same_words { OnErr result (words.new.items ≡ words.old.items) }
+{
+    cells.reserve(1)?;
+    records.reserve(1)?;
+    words.reserve(1)?;
+    let New { record, word } = new;
+    // never fails, since there is room
+    let _cell = cells.insert(at, cell);
+    let _record = records.insert(at, record);
+    let _word = words.insert(at, word);
+    Ok(())
+}
+
+impl<C: CellRunner> Schedule<C> {
+    /// A session that is alike to the one behind the last cell, and the snapshots that were missing in front of it.
+    fn front_end(&mut self) -> Result<Front<C>, AllocError>
+        ensures same { self.new ≡ self.old }
+        ensures session { IfOk result (λ f. StandsBefore (book_of self.old)
+            (length self.old.cells) (C.session_of f.session)) }
+        ensures fresh { IfOk result (λ f. All (λ s. IsSnapshot (book_of self.old) s.place
+            (C.kept_session s.version) (map C.change_of s.pending.items)) f.fresh.items) }
+    {
+        let at = self.cells.len();
+        let taken = take_end::<C>(self.alloc, &mut self.snapshots, at)?;
+        let Some(session) = taken else {
+            return self.front_before(at);
+        };
+        let fresh = Vec::new(self.alloc);
+        Ok(Front { session, fresh })
+    }
+
+    /// Runs a new cell behind the last one.
+    fn run_end(
+        &self,
+        meter: &mut Meter,
+        source: &KeptCell,
+        session: &mut C::Session,
+    ) -> Result<New<C>, AllocError>
+        requires session { StandsBefore (book_of self.now) (length self.now.cells)
+            (C.session_of session.old) }
+        requires label { source.now.label ≡ books.fresh_label self.now.cells }
+        ensures made { IfOk result (λ n. C.recorded n.record.value
+            ≡ record_at (book_of self.now).inputs (entry_at (book_of (sheet (insert
+            self.now.cells (length self.now.cells) (cell_of source.now)) self.now.given))
+            (length self.now.cells))) }
+        ensures worded { IfOk result
+            (λ n. IsWordOf C.covers n.word (C.recorded n.record.value)) }
+        ensures session { OnOk result (StandsBefore (book_of (sheet (insert self.now.cells
+            (length self.now.cells) (cell_of source.now)) self.now.given))
+            (length self.now.cells + 1) (C.session_of session.new)) }
+        ensures counts { CountsStale (book_of self.now) (book_of (sheet (insert self.now.cells
+            (length self.now.cells) (cell_of source.now)) self.now.given)) meter.old meter.new }
+    {
+        let made = C::run(
+            meter,
+            session,
+            &self.inputs,
+            source.label,
+            source.text.as_str(),
+        )?;
+        let word = C::word(&made);
+        let record = Rc::new(self.alloc, made)?;
+        Ok(New { record, word })
+    }
+
+    /// Puts a new cell behind the last one. It is refused for want of memory alone.
+    pub(crate) fn append(
+        &mut self,
+        meter: &mut Meter,
+        cell: Rc<KeptCell>,
+        next: usize,
+    ) -> Result<(), AllocError>
+        requires label { cell.value.label ≡ books.fresh_label self.old.cells }
+        requires next { (n : ℕ) → n < next
+            → IsTrue (is_label n self.old.cells || nat_eq n cell.value.label) }
+        ensures ok { OnOk result (self.new ≡ sheet (insert self.old.cells
+            (length self.old.cells) (cell_of cell.value)) self.old.given) }
+        ensures err { OnErr result (self.new ≡ self.old) }
+        ensures counts { CountsStale (book_of self.old) (book_of (sheet (insert self.old.cells
+            (length self.old.cells) (cell_of cell.value)) self.old.given)) meter.old meter.new }
+    {
+        let at = self.cells.len();
+        let Front { mut session, fresh } = self.front_end()?;
+        let new = self.run_end(meter, &cell, &mut session)?;
+        put_new::<C>(
+            &mut self.cells,
+            &mut self.records,
+            &mut self.words,
+            at,
+            cell,
+            new,
+        )?;
+        self.least = next;
+        put_fresh::<C>(&mut self.snapshots, fresh, at);
+        keep_end::<C>(self.alloc, &mut self.snapshots, &self.records, &mut session);
+        Ok(())
+    }
+}

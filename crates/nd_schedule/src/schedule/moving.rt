@@ -1,0 +1,400 @@
+//! `move_down` and `move_up`: the sweeps around a cell that moves.
+
+ghost use Rattle.std.specs.Prelude.{◌≡◌, ◌<◌, ◌≤◌, ◌+◌, ◌-◌, ◌^◌, ◌⊎◌, [], ℕ, IfOk, IfSome, MatchOption, OnOk, length, map, min};
+ghost use Rattle.std.specs.Prelude.{string_bytes};
+ghost use Rattle.std.specs.List.{All};
+ghost use Rattle.nd_model.specs.Grammar.Reading.{reading};
+ghost use Rattle.nd_model.specs.Cells.Cell.{cell, session_after};
+ghost use Rattle.nd_model.specs.Cells.Footprint.{HasNone};
+ghost use Rattle.nd_model.specs.Book.Records.{record_of, StillHolds};
+ghost use Rattle.nd_model.specs.Book.Scheduler.{IsOfRun};
+ghost use Rattle.nd_model.specs.Book.Stale.{CountsStale};
+ghost use Rattle.nd_model.specs.Book.Book.{Book};
+ghost use Rattle.nd_model.specs.Book.Entries.{entry_at, record_at};
+ghost use Rattle.nd_model.specs.Book.Notebook.{inputs_in};
+ghost use Rattle.nd_change.specs.Steps.{Comes, IsWordOf, IsWordOfChange};
+ghost use Rattle.nd_schedule.specs.Cells.Source.{cell_of, cells_of};
+ghost use Rattle.nd_schedule.specs.Cells.Shared.{each_of};
+ghost use Rattle.nd_schedule.specs.Schedule.Snapshot.{IsChangeAt, IsSnapshot};
+ghost use Rattle.nd_schedule.specs.Schedule.Sweep.{
+  AreFit,
+  AreMoved,
+  AreWords,
+  CountsFront,
+  IsAt,
+  IsComing,
+  IsMoving,
+  IsPlace,
+  IsRun,
+  change_at,
+  fit_at,
+};
+
+use crate::cells::KeptCell;
+use crate::schedule::runner::CellRunner;
+use crate::schedule::snapshots::{Noted, Snapshot};
+use crate::schedule::sweep::{Changed, New, SweepState, catch_up, run_new, sweep};
+use nd_meter::Meter;
+use std::alloc::{AllocError, Global};
+use std::mem::replace;
+use std::rc::Rc;
+
+/// What the sweeps around a cell that moves give: the record of that cell, where it was run, and the records that are others between
+/// its two places and behind them, and what was noted for the snapshots.
+#[derive(Drop)]
+pub(crate) struct Moved<C: CellRunner> {
+    pub(crate) made: Option<New<C>>,
+    pub(crate) between: Vec<Changed<C>>,
+    pub(crate) behind: Vec<Changed<C>>,
+    pub(crate) noted: Vec<Noted<C>>,
+}
+
+/// Takes out what the cell at a place did, where a sweep stands.
+pub(crate) fn leave<C: CellRunner>(
+    records: &[Rc<C::Record>],
+    i: usize,
+    state: &mut SweepState<C>,
+) -> Result<(), AllocError>
+    requires record { i < length records.now }
+    requires fits { i + 1 < 2 ^ 64 }
+    requires at { (old : Book) × (new : Book) × (j : ℕ)
+        × IsRun old (each_of C.recorded records.now) × IsPlace old new i j
+        × IsAt old new i j (C.change_of state.old.change) (C.session_of state.old.session)
+        state.old.since }
+    ensures at { OnOk result ((old new : Book) (j : ℕ)
+        → IsRun old (each_of C.recorded records.now) → IsPlace old new i j
+        → IsAt old new i j (C.change_of state.old.change) (C.session_of state.old.session)
+        state.old.since
+        → IsAt old new (i + 1) j (C.change_of state.new.change)
+        (C.session_of state.new.session) state.new.since) }
+    ensures covered { OnOk result (IsWordOfChange C.covers state.new.word
+        (C.change_of state.new.change)) }
+    ensures changed { OnOk result (state.new.changed.items ≡ state.old.changed.items) }
+{
+    catch_up::<C>(records, &mut state.session, state.since, i)?;
+    C::went(&records[i], &state.session, &mut state.change)?;
+    state.word = C::change_word(&state.change);
+    state.since = i + 1;
+    Ok(())
+}
+
+/// Puts a cell in over the session at hand: its record is replayed where it still holds, else the cell is run.
+fn put_in<C: CellRunner>(
+    alloc: Global,
+    meter: &mut Meter,
+    source: &KeptCell,
+    made: &C::Record,
+    inputs: &C::Inputs,
+    state: &mut SweepState<C>,
+) -> Result<Option<New<C>>, AllocError>
+    requires none { HasNone source.now.label (C.session_of state.old.session) }
+    requires of_run { IsOfRun source.now.label (reading (string_bytes source.now.text))
+        (C.recorded made.now) }
+    ensures after { OnOk result (C.session_of state.new.session
+        ≡ session_after (cell source.now.label (reading (string_bytes source.now.text))
+        (inputs_in (C.given inputs.now)) (C.session_of state.old.session))) }
+    ensures comes { OnOk result (Comes (C.change_of state.old.change)
+        (C.change_of state.new.change)
+        (record_of source.now.label (reading (string_bytes source.now.text))
+        (inputs_in (C.given inputs.now)) (C.session_of state.old.session))
+        (C.session_of state.new.session)) }
+    ensures made { IfOk result (λ o. MatchOption o
+        (C.recorded made.now ≡ record_of source.now.label (reading (string_bytes source.now.text))
+        (inputs_in (C.given inputs.now)) (C.session_of state.old.session))
+        (λ n. C.recorded n.record.value
+        ≡ record_of source.now.label (reading (string_bytes source.now.text))
+        (inputs_in (C.given inputs.now)) (C.session_of state.old.session))) }
+    ensures worded { IfOk result (λ o. IfSome o
+        (λ n. IsWordOf C.covers n.word (C.recorded n.record.value))) }
+    ensures covered { OnOk result (IsWordOfChange C.covers state.new.word
+        (C.change_of state.new.change)) }
+    ensures since { OnOk result (state.new.since ≡ state.old.since) }
+    ensures changed { OnOk result (state.new.changed.items ≡ state.old.changed.items) }
+    ensures counts { (meter.new ≡ meter.old)
+        ⊎ ((meter.new ≡ min (meter.old + 1) (2 ^ 64 - 1))
+        × (¬ StillHolds (C.recorded made.now) (C.session_of state.old.session)
+        (inputs_in (C.given inputs.now)))) }
+{
+    if C::still_holds(made, &state.session, inputs) {
+        C::replay(made, &mut state.session)?;
+        C::came(made, &state.session, &mut state.change)?;
+        state.word = C::change_word(&state.change);
+        return Ok(None);
+    }
+    let new = run_new::<C>(alloc, meter, source, inputs, state)?;
+    Ok(Some(new))
+}
+
+/// Puts a cell that stood elsewhere before in front of the place where a sweep stands.
+pub(crate) fn enter<C: CellRunner>(
+    alloc: Global,
+    meter: &mut Meter,
+    records: &[Rc<C::Record>],
+    source: &KeptCell,
+    made: &C::Record,
+    inputs: &C::Inputs,
+    i: usize,
+    state: &mut SweepState<C>,
+) -> Result<Option<New<C>>, AllocError>
+    requires within { i ≤ length records.now }
+    requires at { (old : Book) × (new : Book) × (from : ℕ) × (j : ℕ)
+        × IsComing old new from i j (each_of C.recorded records.now) (cell_of source.now)
+        (C.recorded made.now) (inputs_in (C.given inputs.now))
+        × IsAt old new i j (C.change_of state.old.change) (C.session_of state.old.session)
+        state.old.since }
+    ensures at { OnOk result ((old new : Book) (from j : ℕ)
+        → IsComing old new from i j (each_of C.recorded records.now) (cell_of source.now)
+        (C.recorded made.now) (inputs_in (C.given inputs.now))
+        → IsAt old new i j (C.change_of state.old.change) (C.session_of state.old.session)
+        state.old.since
+        → IsAt old new i (j + 1) (C.change_of state.new.change)
+        (C.session_of state.new.session) state.new.since) }
+    ensures made { IfOk result (λ o. (old new : Book) (from j : ℕ)
+        → IsComing old new from i j (each_of C.recorded records.now) (cell_of source.now)
+        (C.recorded made.now) (inputs_in (C.given inputs.now))
+        → IsAt old new i j (C.change_of state.old.change) (C.session_of state.old.session)
+        state.old.since
+        → MatchOption o (C.recorded made.now ≡ record_at new.inputs (entry_at new j))
+        (λ n. C.recorded n.record.value ≡ record_at new.inputs (entry_at new j))) }
+    ensures worded { IfOk result (λ o. IfSome o
+        (λ n. IsWordOf C.covers n.word (C.recorded n.record.value))) }
+    ensures covered { OnOk result (IsWordOfChange C.covers state.new.word
+        (C.change_of state.new.change)) }
+    ensures changed { OnOk result (state.new.changed.items ≡ state.old.changed.items) }
+    ensures counts { (old new : Book) (from j before : ℕ)
+        → IsComing old new from i j (each_of C.recorded records.now) (cell_of source.now)
+        (C.recorded made.now) (inputs_in (C.given inputs.now))
+        → IsAt old new i j (C.change_of state.old.change) (C.session_of state.old.session)
+        state.old.since
+        → CountsFront old new j before meter.old → CountsFront old new (j + 1) before meter.new }
+{
+    catch_up::<C>(records, &mut state.session, state.since, i)?;
+    state.since = i;
+    put_in::<C>(alloc, meter, source, made, inputs, state)
+}
+
+/// Sweeps over all cells behind one that moves to a later place.
+pub(crate) fn move_down<C: CellRunner>(
+    alloc: Global,
+    meter: &mut Meter,
+    cells: &[Rc<KeptCell>],
+    records: &[Rc<C::Record>],
+    words: &[C::Word],
+    inputs: &C::Inputs,
+    from: usize,
+    to: usize,
+    snapshots: &[Snapshot<C>],
+    state: &mut SweepState<C>,
+) -> Result<Moved<C>, AllocError>
+    requires down { from < to }
+    requires to { to < length cells.now }
+    requires records { length records.now ≡ length cells.now }
+    requires places { length words.now ≡ length cells.now }
+    requires at { (old : Book) × (new : Book)
+        × IsMoving old new from to (cells_of cells.now) (each_of C.recorded records.now)
+        (inputs_in (C.given inputs.now))
+        × IsAt old new from from (C.change_of state.old.change) (C.session_of state.old.session)
+        state.old.since }
+    requires words { AreWords C.covers words.now (each_of C.recorded records.now) }
+    requires covered { IsWordOfChange C.covers state.old.word (C.change_of state.old.change) }
+    requires changed { state.old.changed.items ≡ [] }
+    requires kept { (b : Book) → IsRun b (each_of C.recorded records.now)
+        → All (λ s. IsSnapshot b s.place (C.kept_session s.version)
+        (map C.change_of s.pending.items)) snapshots.now }
+    ensures moved { IfOk result (λ m. (old new : Book)
+        → IsMoving old new from to (cells_of cells.now) (each_of C.recorded records.now)
+        (inputs_in (C.given inputs.now))
+        → IsAt old new from from (C.change_of state.old.change) (C.session_of state.old.session)
+        state.old.since
+        → AreMoved old new from to
+        (map (λ c. change_at c.place (C.recorded c.record.value)) m.between.items)
+        (map (λ c. change_at c.place (C.recorded c.record.value)) m.behind.items)) }
+    ensures made { IfOk result (λ m. (old new : Book)
+        → IsMoving old new from to (cells_of cells.now) (each_of C.recorded records.now)
+        (inputs_in (C.given inputs.now))
+        → IsAt old new from from (C.change_of state.old.change) (C.session_of state.old.session)
+        state.old.since
+        → MatchOption m.made
+        (record_at old.inputs (entry_at old from) ≡ record_at new.inputs (entry_at new to))
+        (λ n. C.recorded n.record.value ≡ record_at new.inputs (entry_at new to))) }
+    ensures worded { IfOk result (λ m. IfSome m.made
+        (λ n. IsWordOf C.covers n.word (C.recorded n.record.value))) }
+    ensures fit_between { IfOk result (λ m. AreFit C.covers (length cells.now)
+        (map (λ c. fit_at c.place (C.recorded c.record.value) c.word) m.between.items)) }
+    ensures fit_behind { IfOk result (λ m. AreFit C.covers (length cells.now)
+        (map (λ c. fit_at c.place (C.recorded c.record.value) c.word) m.behind.items)) }
+    ensures noted { IfOk result (λ m. (old new : Book)
+        → IsMoving old new from to (cells_of cells.now) (each_of C.recorded records.now)
+        (inputs_in (C.given inputs.now))
+        → IsAt old new from from (C.change_of state.old.change) (C.session_of state.old.session)
+        state.old.since
+        → All (λ n. IsChangeAt old new n.place n.now (C.change_of n.change)) m.noted.items) }
+    ensures counts { (old new : Book)
+        → IsMoving old new from to (cells_of cells.now) (each_of C.recorded records.now)
+        (inputs_in (C.given inputs.now))
+        → IsAt old new from from (C.change_of state.old.change) (C.session_of state.old.session)
+        state.old.since
+        → CountsStale old new meter.old meter.new }
+{
+    let mut noted = Vec::new(alloc);
+    leave::<C>(records, from, state)?;
+    sweep::<C>(
+        alloc,
+        meter,
+        cells,
+        records,
+        words,
+        inputs,
+        from + 1,
+        to + 1,
+        from,
+        snapshots,
+        state,
+        &mut noted,
+    )?;
+    let between = replace(&mut state.changed, Vec::new(alloc));
+    let made = enter::<C>(
+        alloc,
+        meter,
+        records,
+        &cells[from],
+        &records[from],
+        inputs,
+        to + 1,
+        state,
+    )?;
+    sweep::<C>(
+        alloc,
+        meter,
+        cells,
+        records,
+        words,
+        inputs,
+        to + 1,
+        cells.len(),
+        to + 1,
+        snapshots,
+        state,
+        &mut noted,
+    )?;
+    let behind = replace(&mut state.changed, Vec::new(alloc));
+    Ok(Moved {
+        made,
+        between,
+        behind,
+        noted,
+    })
+}
+
+/// Sweeps over all cells from the earlier place on to which one moves.
+pub(crate) fn move_up<C: CellRunner>(
+    alloc: Global,
+    meter: &mut Meter,
+    cells: &[Rc<KeptCell>],
+    records: &[Rc<C::Record>],
+    words: &[C::Word],
+    inputs: &C::Inputs,
+    from: usize,
+    to: usize,
+    snapshots: &[Snapshot<C>],
+    state: &mut SweepState<C>,
+) -> Result<Moved<C>, AllocError>
+    requires up { to < from }
+    requires from { from < length cells.now }
+    requires records { length records.now ≡ length cells.now }
+    requires places { length words.now ≡ length cells.now }
+    requires at { (old : Book) × (new : Book)
+        × IsMoving old new from to (cells_of cells.now) (each_of C.recorded records.now)
+        (inputs_in (C.given inputs.now))
+        × IsAt old new to to (C.change_of state.old.change) (C.session_of state.old.session)
+        state.old.since }
+    requires words { AreWords C.covers words.now (each_of C.recorded records.now) }
+    requires covered { IsWordOfChange C.covers state.old.word (C.change_of state.old.change) }
+    requires changed { state.old.changed.items ≡ [] }
+    requires kept { (b : Book) → IsRun b (each_of C.recorded records.now)
+        → All (λ s. IsSnapshot b s.place (C.kept_session s.version)
+        (map C.change_of s.pending.items)) snapshots.now }
+    ensures moved { IfOk result (λ m. (old new : Book)
+        → IsMoving old new from to (cells_of cells.now) (each_of C.recorded records.now)
+        (inputs_in (C.given inputs.now))
+        → IsAt old new to to (C.change_of state.old.change) (C.session_of state.old.session)
+        state.old.since
+        → AreMoved old new from to
+        (map (λ c. change_at c.place (C.recorded c.record.value)) m.between.items)
+        (map (λ c. change_at c.place (C.recorded c.record.value)) m.behind.items)) }
+    ensures made { IfOk result (λ m. (old new : Book)
+        → IsMoving old new from to (cells_of cells.now) (each_of C.recorded records.now)
+        (inputs_in (C.given inputs.now))
+        → IsAt old new to to (C.change_of state.old.change) (C.session_of state.old.session)
+        state.old.since
+        → MatchOption m.made
+        (record_at old.inputs (entry_at old from) ≡ record_at new.inputs (entry_at new to))
+        (λ n. C.recorded n.record.value ≡ record_at new.inputs (entry_at new to))) }
+    ensures worded { IfOk result (λ m. IfSome m.made
+        (λ n. IsWordOf C.covers n.word (C.recorded n.record.value))) }
+    ensures fit_between { IfOk result (λ m. AreFit C.covers (length cells.now)
+        (map (λ c. fit_at c.place (C.recorded c.record.value) c.word) m.between.items)) }
+    ensures fit_behind { IfOk result (λ m. AreFit C.covers (length cells.now)
+        (map (λ c. fit_at c.place (C.recorded c.record.value) c.word) m.behind.items)) }
+    ensures noted { IfOk result (λ m. (old new : Book)
+        → IsMoving old new from to (cells_of cells.now) (each_of C.recorded records.now)
+        (inputs_in (C.given inputs.now))
+        → IsAt old new to to (C.change_of state.old.change) (C.session_of state.old.session)
+        state.old.since
+        → All (λ n. IsChangeAt old new n.place n.now (C.change_of n.change)) m.noted.items) }
+    ensures counts { (old new : Book)
+        → IsMoving old new from to (cells_of cells.now) (each_of C.recorded records.now)
+        (inputs_in (C.given inputs.now))
+        → IsAt old new to to (C.change_of state.old.change) (C.session_of state.old.session)
+        state.old.since
+        → CountsStale old new meter.old meter.new }
+{
+    let mut noted = Vec::new(alloc);
+    let made = enter::<C>(
+        alloc,
+        meter,
+        records,
+        &cells[from],
+        &records[from],
+        inputs,
+        to,
+        state,
+    )?;
+    sweep::<C>(
+        alloc,
+        meter,
+        cells,
+        records,
+        words,
+        inputs,
+        to,
+        from,
+        to + 1,
+        snapshots,
+        state,
+        &mut noted,
+    )?;
+    let between = replace(&mut state.changed, Vec::new(alloc));
+    leave::<C>(records, from, state)?;
+    sweep::<C>(
+        alloc,
+        meter,
+        cells,
+        records,
+        words,
+        inputs,
+        from + 1,
+        cells.len(),
+        from + 1,
+        snapshots,
+        state,
+        &mut noted,
+    )?;
+    let behind = replace(&mut state.changed, Vec::new(alloc));
+    Ok(Moved {
+        made,
+        between,
+        behind,
+        noted,
+    })
+}

@@ -1,0 +1,37 @@
+use Rattle.std.proofs.Common.{subst, ℕ, List, Global, Option}
+use Rattle.std.specs.Prelude.{IsTrue}
+use Rattle.std.specs.Rc.{rc_str_bytes}
+use Rattle.std.specs.declared.rc.Rc.{Rc}
+use Rattle.std.specs.declared.rc.RcStr.{RcStr}
+use Rattle.std.proofs.lemmas.List.Elements.{recursion_from_All}
+use Rattle.nd_session.specs.Session.Change.{ChangeData, change_of}
+use Rattle.nd_change.specs.Steps.{IsWordOfChange}
+use Rattle.nd_heap.specs.declared.value.Base.{Base}
+use Rattle.nd_heap.specs.declared.value.Value.{Value}
+use Rattle.nd_model.specs.Cells.Running as running
+use Rattle.nd_session.specs.declared.inputs.input.Input.{Input}
+use Rattle.nd_session.specs.Session.Filter.{CoversLabel, covers}
+use Rattle.nd_session.proofs.session.Covering.{changed_covered, rec_weaker, stays_on}
+use Rattle.nd_session.proofs.session.change.change.Change.filter.Goals as goal
+
+abbrev IsName : List ℕ → RcStr Global × Option (Rc Value Global) → Type 0
+IsName ws e = IsTrue (covers ws (running.Name (rc_str_bytes e.0)))
+
+abbrev IsInput : List ℕ → RcStr Global × Option (Rc Input Global) → Type 0
+IsInput ws e = IsTrue (covers ws (running.Input (rc_str_bytes e.0)))
+
+abbrev IsBlock : List ℕ → Base × Option (Rc (List ℕ) Global) → Type 0
+IsBlock ws e = CoversLabel ws e.0.label
+
+pub returns : goal.returns
+returns c =
+    let i = c.self.inside in
+    let one = c.add_changed_names.new.filter in
+    let two = c.add_changed_inputs.new.filter in
+    let three = c.add_labels.new.filter in
+    let last = c.add_labels.ensures.stays in
+    let one_on = stays_on one two three c.add_changed_inputs.ensures.stays last in
+    subst (λ (d : ChangeData). IsWordOfChange covers three (change_of d)) c.self.view_is (changed_covered i three
+    (rec_weaker (IsName one) (IsName three) (λ e h. one_on (running.Name (rc_str_bytes e.0)) h) i.names.entries (recursion_from_All (IsName one) i.names.entries c.add_changed_names.ensures.added))
+    (rec_weaker (IsInput two) (IsInput three) (λ e h. last (running.Input (rc_str_bytes e.0)) h) i.inputs.entries (recursion_from_All (IsInput two) i.inputs.entries c.add_changed_inputs.ensures.added))
+    (recursion_from_All (IsBlock three) i.blocks.entries c.add_labels.ensures.added))

@@ -1,0 +1,9 @@
+use Rattle.std.specs.Prelude.{IsTrue}
+use Rattle.std.specs.Rc.{rc_str_bytes}
+use Rattle.nd_model.specs.Cells.Running.{Input}
+use Rattle.nd_heap.proofs.Entries.{AllBefore}
+use Rattle.nd_session.specs.Session.Filter.{StaysCovered, covers}
+use Rattle.nd_session.proofs.session.change.covering.add_changed_inputs.Given as goal
+
+abbrev pub invariant-loop-i : goal.invariant-loop-i
+invariant-loop-i g l = AllBefore (λ e. IsTrue (covers l.filter (Input (rc_str_bytes e.0)))) l.names.entries l.i × StaysCovered l.initial.filter l.filter

@@ -1,0 +1,42 @@
+use Rattle.std.proofs.Common.{sym, subst, string_bytes, ℕ, List, String, Global, Option}
+use Rattle.std.specs.Prelude.{IsTrue}
+use Rattle.std.specs.declared.rc.Rc.{Rc}
+use Rattle.std.proofs.lemmas.List.Elements.{recursion_from_All}
+use Rattle.nd_heap.specs.declared.value.Base.{Base}
+use Rattle.nd_heap.specs.declared.value.Value.{Value}
+use Rattle.nd_model.specs.Cells.Running as running
+use Rattle.nd_session.specs.declared.inputs.input.Input.{Input}
+use Rattle.nd_session.specs.declared.session.found.FoundBytes.{FoundBytes}
+use Rattle.nd_session.specs.Session.Filter.{CoversLabel, covers}
+use Rattle.nd_session.specs.Session.Reads.{ReadsData, keys_of}
+use Rattle.nd_session.proofs.session.Covering.{label_stays, read_covered, rec_weaker, stays_on}
+use Rattle.nd_session.proofs.session.change.covering.add_reads.Goals as goal
+
+abbrev IsName : List ℕ → String Global × Option (Rc Value Global) → Type 0
+IsName ws e = IsTrue (covers ws (running.Name (string_bytes e.0)))
+
+abbrev IsInput : List ℕ → String Global × Option (Rc Input Global) → Type 0
+IsInput ws e = IsTrue (covers ws (running.Input (string_bytes e.0)))
+
+abbrev IsLength : List ℕ → Base × ℕ → Type 0
+IsLength ws e = CoversLabel ws e.0.label
+
+abbrev IsByte : List ℕ → Base × FoundBytes → Type 0
+IsByte ws e = CoversLabel ws e.0.label
+
+pub returns-clause-added : goal.returns-clause-added
+returns-clause-added c = λ k there.
+    let i = c.reads.inside in
+    let one = c.add_names.new.filter in
+    let two = c.add_inputs.new.filter in
+    let three = c.add_labels.new.filter in
+    let four = c.add_labels-2.new.filter in
+    let last = c.add_labels-2.ensures.stays in
+    let two_on = stays_on two three four c.add_labels.ensures.stays last in
+    let one_on = stays_on one two four c.add_inputs.ensures.stays two_on in
+    read_covered i four
+    (rec_weaker (IsName one) (IsName four) (λ e h. one_on (running.Name (string_bytes e.0)) h) i.names.entries (recursion_from_All (IsName one) i.names.entries c.add_names.ensures.added))
+    (rec_weaker (IsInput two) (IsInput four) (λ e h. two_on (running.Input (string_bytes e.0)) h) i.inputs.entries (recursion_from_All (IsInput two) i.inputs.entries c.add_inputs.ensures.added))
+    (rec_weaker (IsLength three) (IsLength four) (λ e h. label_stays three four e.0.label last h) i.lengths.entries (recursion_from_All (IsLength three) i.lengths.entries c.add_labels.ensures.added))
+    (recursion_from_All (IsByte four) i.bytes.entries c.add_labels-2.ensures.added) k
+    (subst (λ (r : ReadsData). IsTrue (keys_of r k)) (sym c.reads.view_is) there)

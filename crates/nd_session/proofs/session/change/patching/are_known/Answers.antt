@@ -1,0 +1,16 @@
+use Rattle.std.proofs.Common.{sym, arith}
+use Rattle.nd_heap.proofs.Entries.{all_more, all_of}
+use Rattle.nd_session.specs.Session.Now.{block_now}
+use Rattle.nd_session.specs.Session.Patch.{LiesInKnown}
+use Rattle.nd_session.proofs.session.Putting.{IsBoundTo, all_bound}
+use Rattle.nd_session.proofs.session.change.patching.are_known.Goals as goal
+
+pub loop-i-preserved : goal.loop-i-preserved
+loop-i-preserved c =
+    let P = LiesInKnown c.args.heap.now.names (block_now c.args.blocks.now.entries) in
+    all_more (IsBoundTo P) c.args.names.now.entries c.loop-i.i (c.in-Some.field-0-0.now, c.in-Some.value.now) (sym c.in-Some.ensures.entry) (c.is_known_now.ensures c.if-not-is_known_now.false) c.loop-i.invariant
+
+pub returns : goal.returns
+returns c =
+    let P = LiesInKnown c.args.heap.now.names (block_now c.args.blocks.now.entries) in
+    λ _. all_bound P c.args.names.now.entries (all_of (IsBoundTo P) c.args.names.now.entries c.loop-i.i (omega (arith, c.loop-i-test.false, c.len-i-end.ensures.len)) c.loop-i.invariant)

@@ -1,7 +1,0 @@
-use Rattle.std.proofs.Common.{map, drop}
-use Rattle.nd_model.specs.Book.Overlay.{BindsOwn}
-use Rattle.nd_trace.specs.Events.{event_of}
-use Rattle.nd_session.proofs.session.overlay.bind_own.Given as goal
-
-abbrev pub invariant-loop-event : goal.invariant-loop-event
-invariant-loop-event l = BindsOwn l.label (map event_of (drop l.event-index l.events)) → BindsOwn l.label (map event_of l.events)

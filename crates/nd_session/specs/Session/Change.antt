@@ -1,0 +1,70 @@
+-- What contracts see of a change, and of the runs that it goes past.
+use Rattle.std.specs.Prelude.{◌≡◌, ◌⊎◌, ℕ, Bool, false, List, [], Option, Some, None, option_map, slice_index}
+use Rattle.nd_model.specs.Arrays.Value.{Base, Value, lies_in}
+use Rattle.nd_model.specs.Cells.Session.{lookup}
+use Rattle.nd_model.specs.Cells.Running.{Event, Binds, Unbinds, Source}
+use Rattle.nd_model.specs.Book.Records.{Record}
+use Rattle.nd_change.specs.Change.{Change}
+use Rattle.nd_change.specs.Whole.{Whole, binds_in, whole_of}
+use Rattle.nd_session.specs.Session.Changes.{ChangesData, bases_in, effects_in, events_in, writes_in}
+use Rattle.nd_session.specs.Session.Found.{Found, found_at, lookup_base}
+use Rattle.nd_session.specs.Session.Reads.{ReadsData, found_of, keys_of}
+
+-- what stands now: the values of names and the inputs, none where nothing is bound or given, and the bytes of bases
+pub record ChangeData : Type 0 where
+  pub names : List (List ℕ × Option Value)
+  pub inputs : List (List ℕ × Option Source)
+  pub blocks : List (Base × List ℕ)
+
+abbrev pub whole_in : ChangeData → Whole
+whole_in c = record { names = λ n. lookup n c.names; inputs = λ n. lookup n c.inputs; blocks = λ b. lookup_base b c.blocks }
+
+-- the change that it is
+abbrev pub change_of : ChangeData → Change
+change_of c = whole_of (whole_in c)
+
+-- At each key there stands what is there now, or what stood there before.
+abbrev pub IsNoted : {K A : Type 0} → (K → A) → (old new : K → Option A) → Type 0
+IsNoted {K} now old new = (k : K) → (new k ≡ Some (now k)) ⊎ (new k ≡ old k)
+
+-- ---- runs
+
+-- a run that reads this, and does this
+abbrev pub run_in : ReadsData → ChangesData → Record
+run_in r c = record { label = c.label; read = keys_of r; values = found_of r; effects = effects_in [] None [] c }
+
+-- a run that reads this, and does nothing
+abbrev pub reader_in : ReadsData → Record
+reader_in r = run_in r (record { label = 0; next = 0; events = []; written = []; blocks = [] })
+
+-- The run did this to its session.
+pub record HasDone (c : ChangesData) (r : Record) : Type 0 where
+  pub label : r.label ≡ c.label
+  pub events : r.effects.events ≡ events_in c
+  pub bases : (b : Base) → r.effects.bases b ≡ bases_in c b
+  pub writes : (b : Base) (p : ℕ) → r.effects.writes b p ≡ writes_in c b p
+
+-- ---- what was found
+
+-- a key is outside of the change, or is now what was found there
+abbrev pub FitsAt : {A : Type 0} → Option A → A → Type 0
+FitsAt o a = (o ≡ None) ⊎ (o ≡ Some a)
+
+-- So it is with the bytes of a base that were found.
+abbrev pub HasFound : Option (List ℕ) → Found → Type 0
+HasFound o e = (p n : ℕ) → found_at e p ≡ Some n → FitsAt (option_map (λ bytes. slice_index bytes p) o) n
+
+-- ---- what a cell did to blocks
+
+-- the event binds a value in the base
+abbrev pub is_bound_in : Base → Event → Bool
+is_bound_in b (Binds n v) = lies_in b v
+is_bound_in b (Unbinds n) = false
+
+-- the cell binds no value in the base, if it is its own, and writes no byte of it
+abbrev pub LeavesBlock : ChangesData → Base → Type 0
+LeavesBlock c b = (b.label ≡ c.label → binds_in b (events_in c) ≡ false) × ((p : ℕ) → writes_in c b p ≡ None)
+
+-- a base is in the change as it was, or is out of it: it is of the label, and has the same bytes in both
+abbrev pub LosesSame : (label : ℕ) (one other : Base → List ℕ) (old new : Base → Option (List ℕ)) → Base → Type 0
+LosesSame label one other old new b = (new b ≡ old b) ⊎ ((new b ≡ None) × (b.label ≡ label) × (one b ≡ other b))

@@ -1,0 +1,113 @@
+//! `Change`: what stands now at each key where a session may differ from the one before an edit.
+
+ghost use Rattle.std.specs.Prelude.{◌≡◌, ◌+◌, ◌-◌, ◌^◌, IfOk, IsTrue, None, length, map, min, sum};
+ghost use Rattle.nd_heap.specs.Contents.{bytes_in};
+ghost use Rattle.nd_model.specs.Cells.Running.{Key};
+ghost use Rattle.nd_session.specs.Session.Change.{change_of};
+
+use crate::inputs::Input;
+use crate::session::found::shared_bytes;
+use indexmap::IndexMap;
+use nd_block::RawBlock;
+use nd_heap::{Base, OutOfMemory, Value};
+use std::alloc::Global;
+use std::marker::Model;
+use std::rc::{Rc, RcStr};
+
+/// The values of names, `None` where a name is not bound now.
+pub(crate) type NamesNow = IndexMap<RcStr, Option<Rc<Value>>>;
+
+/// Inputs by name, `None` where there is no such input now.
+pub(crate) type InputsNow = IndexMap<RcStr, Option<Rc<Input>>>;
+
+/// The blocks of bases, `None` where a base has no bytes now.
+pub(crate) type BlocksNow = IndexMap<Base, Option<Rc<RawBlock>>>;
+
+/// What stands now at each key where a session may differ from the one before an edit: names, inputs
+/// and blocks. A key that is not in it has the same in both.
+///
+/// It may have keys that are the same in both. Values and blocks are shared with the session.
+///
+/// Behind an edit of `x = 1` to `x = 2` it has `x` with the value 2. A cell that reads `x` does not
+/// fit it, and behind a cell that binds `x` it has nothing.
+#[derive(Drop)]
+pub struct Change {
+    pub(crate) names: NamesNow,
+    pub(crate) inputs: InputsNow,
+    pub(crate) blocks: BlocksNow,
+}
+
+impl Model for Change {
+    ghost use Rattle.nd_session.specs.Session.Change.{ChangeData};
+
+    ghost Value = { ChangeData };
+
+    ghost use Rattle.nd_session.specs.Session.Now.{data_in};
+
+    ghost view = { data_in };
+}
+
+/// The number of bytes of some blocks in all.
+fn weigh(blocks: &BlocksNow) -> u64
+    ensures { result ≡ min (sum (map (λ e. length (bytes_in e.1)) blocks.now.entries))
+        (2 ^ 64 - 1) }
+{
+    let mut bytes: u64 = 0;
+    for i in 0..blocks.len() {
+        let Some((_, block)) = blocks.get_index(i) else {
+            unreachable!();
+        };
+        bytes = bytes.saturating_add(shared_bytes(block).len() as u64);
+    }
+    bytes
+}
+
+impl Change {
+    /// Returns a change with nothing in it, which takes no memory.
+    pub fn new(alloc: Global) -> Change
+        ensures { (k : Key) → change_of result k ≡ None }
+    {
+        Change {
+            names: IndexMap::new(alloc),
+            inputs: IndexMap::new(alloc),
+            blocks: IndexMap::new(alloc),
+        }
+    }
+
+    /// Returns an equal change. Values, inputs and blocks are shared: no byte is copied.
+    pub fn try_clone(&self) -> Result<Change, OutOfMemory>
+        ensures { IfOk result (λ c. change_of c ≡ change_of self.now) }
+    {
+        let names = self.names.clone()?;
+        let inputs = self.inputs.clone()?;
+        let blocks = self.blocks.clone()?;
+        Ok(Change {
+            names,
+            inputs,
+            blocks,
+        })
+    }
+
+    /// Returns whether the change has nothing in it.
+    pub fn is_empty(&self) -> bool
+        ensures { IsTrue result → (k : Key) → change_of self.now k ≡ None }
+    {
+        self.names.is_empty() && self.inputs.is_empty() && self.blocks.is_empty()
+    }
+
+    /// Returns the number of names, inputs and blocks of the change.
+    pub fn count(&self) -> usize
+        ensures { result ≡ min (length self.now.names + length self.now.inputs
+            + length self.now.blocks) (2 ^ 64 - 1) }
+    {
+        let texts = self.names.len().saturating_add(self.inputs.len());
+        texts.saturating_add(self.blocks.len())
+    }
+
+    /// Returns the number of bytes that the blocks of the change have in all.
+    pub fn weight(&self) -> u64
+        ensures { result ≡ min (sum (map (λ e. length e.1) self.now.blocks)) (2 ^ 64 - 1) }
+    {
+        weigh(&self.blocks)
+    }
+}

@@ -1,0 +1,147 @@
+//! `KeyFilter::of_run` and `Change::filter`: the filters of what a cell read and did, and of a change.
+
+ghost use Rattle.std.specs.Prelude.{IsTrue, string_bytes};
+ghost use Rattle.std.specs.List.{All};
+ghost use Rattle.std.specs.Rc.{rc_str_bytes};
+ghost use Rattle.nd_change.specs.Steps.{IsWordOf, IsWordOfChange};
+ghost use Rattle.nd_model.specs.Cells.Running.{Input, Key, Name};
+ghost use Rattle.nd_session.specs.Session.Change.{change_of, run_in};
+ghost use Rattle.nd_session.specs.Session.Filter.{CoversLabel, StaysCovered, covers};
+ghost use Rattle.nd_session.specs.Session.Reads.{keys_of};
+ghost use Rattle.nd_trace.specs.Events.{event_of, name_of_event};
+
+use crate::session::change::change::Change;
+use crate::session::change::filter::KeyFilter;
+use crate::session::changes::Changes;
+use crate::session::reads::Reads;
+use indexmap::IndexMap;
+use nd_heap::Base;
+use nd_trace::Event;
+use std::rc::RcStr;
+
+/// Of how many keys at most a change has a filter of its own: those of more leave few bits free.
+const MOST_KEYS: usize = 64;
+
+/// Adds the names that were read.
+fn add_names<V>(names: &IndexMap<String, V>, filter: &mut KeyFilter)
+    ensures added { All (λ e. IsTrue (covers filter.new (Name (string_bytes e.0))))
+        names.now.entries }
+    ensures stays { StaysCovered filter.old filter.new }
+{
+    for i in 0..names.len() {
+        let Some((name, _)) = names.get_index(i) else {
+            unreachable!();
+        };
+        filter.add_name(name.as_str());
+    }
+}
+
+/// Adds the inputs that were read.
+fn add_inputs<V>(names: &IndexMap<String, V>, filter: &mut KeyFilter)
+    ensures added { All (λ e. IsTrue (covers filter.new (Input (string_bytes e.0))))
+        names.now.entries }
+    ensures stays { StaysCovered filter.old filter.new }
+{
+    for i in 0..names.len() {
+        let Some((name, _)) = names.get_index(i) else {
+            unreachable!();
+        };
+        filter.add_input(name.as_str());
+    }
+}
+
+/// Adds the names of a change.
+fn add_changed_names<V>(names: &IndexMap<RcStr, V>, filter: &mut KeyFilter)
+    ensures added { All (λ e. IsTrue (covers filter.new (Name (rc_str_bytes e.0))))
+        names.now.entries }
+    ensures stays { StaysCovered filter.old filter.new }
+{
+    for i in 0..names.len() {
+        let Some((name, _)) = names.get_index(i) else {
+            unreachable!();
+        };
+        filter.add_name(name.as_str());
+    }
+}
+
+/// Adds the inputs of a change.
+fn add_changed_inputs<V>(names: &IndexMap<RcStr, V>, filter: &mut KeyFilter)
+    ensures added { All (λ e. IsTrue (covers filter.new (Input (rc_str_bytes e.0))))
+        names.now.entries }
+    ensures stays { StaysCovered filter.old filter.new }
+{
+    for i in 0..names.len() {
+        let Some((name, _)) = names.get_index(i) else {
+            unreachable!();
+        };
+        filter.add_input(name.as_str());
+    }
+}
+
+/// Adds the labels of blocks.
+fn add_labels<V>(bases: &IndexMap<Base, V>, filter: &mut KeyFilter)
+    ensures added { All (λ e. CoversLabel filter.new e.0.label) bases.now.entries }
+    ensures stays { StaysCovered filter.old filter.new }
+{
+    for i in 0..bases.len() {
+        let Some((base, _)) = bases.get_index(i) else {
+            unreachable!();
+        };
+        filter.add_label(base.label);
+    }
+}
+
+/// Adds the names of events.
+fn add_events(events: &[Event], filter: &mut KeyFilter)
+    ensures added { All (λ e. IsTrue (covers filter.new (Name (name_of_event (event_of e)))))
+        events.now }
+    ensures stays { StaysCovered filter.old filter.new }
+{
+    for event in events {
+        filter.add_name(event.name().as_str());
+    }
+}
+
+/// Adds all that a cell read.
+fn add_reads(reads: &Reads, filter: &mut KeyFilter)
+    ensures added { (k : Key) → IsTrue (keys_of reads.now k) → IsTrue (covers filter.new k) }
+    ensures stays { StaysCovered filter.old filter.new }
+{
+    add_names(&reads.names, filter);
+    add_inputs(&reads.inputs, filter);
+    add_labels(&reads.lengths, filter);
+    add_labels(&reads.bytes, filter);
+}
+
+impl KeyFilter {
+    /// Returns a filter of all that a cell read and did. It has the bit of the cell's own label.
+    ///
+    /// That of `y = x` has `x`, `y` and the label of the cell that made the block of `x`.
+    pub fn of_run(reads: &Reads, changes: &Changes) -> KeyFilter
+        ensures { IsWordOf covers result (run_in reads.now changes.now) }
+    {
+        let mut filter = KeyFilter::new();
+        add_reads(reads, &mut filter);
+        filter.add_label(changes.label);
+        add_events(&changes.events, &mut filter);
+        add_labels(&changes.written, &mut filter);
+        filter
+    }
+}
+
+impl Change {
+    /// Returns a filter of all keys of the change. That of more than 64 keys holds every key, so it
+    /// takes the same time for each change.
+    pub fn filter(&self) -> KeyFilter
+        ensures { IsWordOfChange covers result (change_of self.now) }
+    {
+        if self.count() > MOST_KEYS {
+            return KeyFilter::of_all();
+        }
+        let mut filter = KeyFilter::new();
+        add_changed_names(&self.names, &mut filter);
+        add_changed_inputs(&self.inputs, &mut filter);
+        add_labels(&self.blocks, &mut filter);
+        filter
+    }
+}

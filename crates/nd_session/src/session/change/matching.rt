@@ -1,0 +1,176 @@
+//! `Change::follow_alike`: what a change becomes behind two runs that bind the same names to the
+//! same values.
+
+ghost use Rattle.std.specs.Prelude.{◌≡◌, ◌⊎◌, ℕ, IsTrue, None, OnOk, Some, false, map, nat_eq};
+ghost use Rattle.std.specs.List.{All};
+ghost use Rattle.nd_change.specs.Steps.{Follows};
+ghost use Rattle.nd_heap.specs.Contents.{blocks_of};
+ghost use Rattle.nd_heap.specs.Live.{bytes_at};
+ghost use Rattle.nd_heap.specs.Values.{base_of};
+ghost use Rattle.nd_model.specs.Arrays.Value as values;
+ghost use Rattle.nd_model.specs.Book.Records.{Record};
+ghost use Rattle.nd_model.specs.Cells.Running as running;
+ghost use Rattle.nd_model.specs.Cells.Session as model;
+ghost use Rattle.nd_session.specs.Session.Change.{HasDone, IsNoted, LosesSame, change_of};
+ghost use Rattle.nd_session.specs.Session.Changes.{events_in};
+ghost use Rattle.nd_session.specs.Session.Found.{byte_found, bytes_of as found_in, found_at};
+ghost use Rattle.nd_session.specs.Session.Live.{live};
+ghost use Rattle.nd_session.specs.Session.Now.{block_now};
+ghost use Rattle.nd_trace.specs.Events.{event_of};
+
+use crate::session::change::change::{BlocksNow, Change};
+use crate::session::change::following::{note_base, note_own};
+use crate::session::change::keeping::remove_names;
+use crate::session::changes::Changes;
+use crate::session::found::{FoundByBase, FoundBytes};
+use crate::session::session::Session;
+use nd_heap::{Base, Blocks, OutOfMemory, Value, bytes_of};
+use nd_trace::Event;
+
+/// Returns whether the events are equal, in the same order.
+pub(crate) fn are_same_events(one: &[Event], other: &[Event]) -> bool
+    ensures { IsTrue result → map event_of one.now ≡ map event_of other.now }
+{
+    if one.len() != other.len() {
+        return false;
+    }
+    for i in 0..one.len() {
+        if !one[i].is_same(&other[i]) {
+            return false;
+        }
+    }
+    true
+}
+
+/// Takes out a block, if it is of the label, and has the same bytes in both.
+fn remove_same_base(blocks: &mut BlocksNow, base: Base, label: u64, one: &Blocks, other: &Blocks)
+    ensures { (b : values.Base) → LosesSame label (bytes_at (blocks_of one.now.entries))
+        (bytes_at (blocks_of other.now.entries)) (block_now blocks.old.entries)
+        (block_now blocks.new.entries) b }
+{
+    if base.label == label && bytes_of(one, base) == bytes_of(other, base) {
+        blocks.swap_remove(&base);
+    }
+}
+
+/// Takes out the block that a value lies in, if it is of the label, and has the same bytes in both.
+fn remove_same_value(
+    blocks: &mut BlocksNow,
+    value: &Value,
+    label: u64,
+    one: &Blocks,
+    other: &Blocks,
+)
+    ensures { (b : values.Base) → LosesSame label (bytes_at (blocks_of one.now.entries))
+        (bytes_at (blocks_of other.now.entries)) (block_now blocks.old.entries)
+        (block_now blocks.new.entries) b }
+{
+    match value {
+        Value::Number(_) => {}
+        Value::Array(array) | Value::Row(array) => {
+            remove_same_base(blocks, array.base, label, one, other);
+        }
+    }
+}
+
+/// Takes out the blocks of the label in which the events bind a value, and which have the same bytes
+/// in both.
+fn remove_same(blocks: &mut BlocksNow, events: &[Event], label: u64, one: &Blocks, other: &Blocks)
+    ensures { (b : values.Base) → LosesSame label (bytes_at (blocks_of one.now.entries))
+        (bytes_at (blocks_of other.now.entries)) (block_now blocks.old.entries)
+        (block_now blocks.new.entries) b }
+{
+    for event in events {
+        if let Event::Binds(_, value) = event {
+            remove_same_value(blocks, value.as_ref(), label, one, other);
+        }
+    }
+}
+
+/// Whether the bytes of a block are among the others, at the same byte offsets.
+fn is_found_among(base: Base, found: &FoundBytes, others: &FoundByBase) -> bool
+    ensures { IsTrue result → (p : ℕ) → found_at (found_in found.now) p
+        ≡ byte_found others.now.entries (base_of base) p }
+{
+    match others.get(&base) {
+        Some(other) => found.is_same(other),
+        None => false,
+    }
+}
+
+/// Notes the blocks of other cells to which one run wrote other bytes than another run did, or which
+/// the change has already.
+fn note_unlike(
+    blocks: &mut BlocksNow,
+    written: &FoundByBase,
+    others: &FoundByBase,
+    label: u64,
+    session: &Session,
+) -> Result<(), OutOfMemory>
+    ensures noted { OnOk result (IsNoted (live session.now).bytes
+        (block_now blocks.old.entries) (block_now blocks.new.entries)) }
+    ensures all { OnOk result (All (λ e.
+        (block_now blocks.new.entries (base_of e.0) ≡ Some ((live session.now).bytes (base_of e.0)))
+        ⊎ ((block_now blocks.old.entries (base_of e.0) ≡ None) × (nat_eq e.0.label label ≡ false)
+        × ((p : ℕ) → found_at (found_in e.1) p ≡ byte_found others.now.entries (base_of e.0) p)))
+        written.now.entries) }
+{
+    for i in 0..written.len() {
+        let Some((base, found)) = written.get_index(i) else {
+            unreachable!();
+        };
+        if base.label != label
+            && !blocks.contains_key(base)
+            && is_found_among(*base, found, others)
+        {
+            continue;
+        }
+        note_base(blocks, *base, session)?;
+    }
+    Ok(())
+}
+
+impl Change {
+    /// Goes past a cell that was run again, where both runs bound the same names to the same values:
+    /// these names leave the change. So do the blocks that both made with the same bytes.
+    ///
+    /// Behind `x = np.arange(3)` that became `x = np.arange(3) + 1` the change has the block of `x`,
+    /// and not the name.
+    pub(crate) fn follow_alike(
+        &mut self,
+        old: &Changes,
+        new: &Changes,
+        session: &Session,
+    ) -> Result<(), OutOfMemory>
+        requires label { old.now.label ≡ new.now.label }
+        requires events { events_in old.now ≡ events_in new.now }
+        ensures { OnOk result ((r q : Record) (j : running.Inputs) → HasDone old.now r
+            → HasDone new.now q → Follows (change_of self.old) (change_of self.new) r q
+            (model.collected (running.session_of (live session.now))) j) }
+    {
+        remove_names(&mut self.names, &new.events);
+        note_own(&mut self.blocks, &new.events, new.label, session)?;
+        remove_same(
+            &mut self.blocks,
+            &new.events,
+            new.label,
+            &old.blocks,
+            &new.blocks,
+        );
+        note_unlike(
+            &mut self.blocks,
+            &old.written,
+            &new.written,
+            new.label,
+            session,
+        )?;
+        note_unlike(
+            &mut self.blocks,
+            &new.written,
+            &old.written,
+            new.label,
+            session,
+        )?;
+        Ok(())
+    }
+}

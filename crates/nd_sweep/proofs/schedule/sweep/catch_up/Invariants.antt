@@ -1,9 +1,0 @@
-use Rattle.std.proofs.Common.{ℕ}
-use Rattle.nd_model.specs.Book.Book.{Book}
-use Rattle.nd_sweep.specs.Cells.Shared.{each_of}
-use Rattle.nd_sweep.specs.ChangeSchedule.Sweep.{IsAtHand, IsPlace, IsRun}
-use Rattle.nd_sweep.proofs.schedule.sweep.catch_up.Given as goal
-
-abbrev pub invariant-loop-k : goal.invariant-loop-k
-invariant-loop-k g l = (old new : Book) (j : ℕ) → IsRun old (each_of g.C.ChangeRunner.recorded l.records) → IsPlace old new l.to j → IsAtHand old new l.to j (g.C.ChangeRunner.session_of l.fn.session) l.since
-    → IsAtHand old new l.to j (g.C.ChangeRunner.session_of l.session) l.k

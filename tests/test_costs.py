@@ -1,0 +1,80 @@
+"""What edits allocate in a long notebook and in a short one: no contract speaks of it."""
+from __future__ import annotations
+
+import os
+import sys
+import tempfile
+import unittest
+from pathlib import Path
+from typing import Optional
+
+TOP = Path(__file__).resolve().parents[1]
+sys.path.insert(0, str(TOP / 'tools'))
+
+import refusals  # noqa: E402
+
+SHORT, LONG = 64, 1_024
+# More snapshots are in the long notebook, and each may keep a change.
+SNAPSHOTS = (LONG - SHORT) // 32
+
+
+def real_program() -> Optional[str]:
+    """The program that $NDNOTE_PROGRAM names, or the one that is built here."""
+    for path in (os.environ.get('NDNOTE_PROGRAM', ''), str(TOP / 'crates/ndnote/out/ndnote')):
+        if path and os.access(path, os.X_OK):
+            return path
+    return None
+
+
+def arrays(count: int) -> list[str]:
+    """Cells of which none reads what another made."""
+    return [f'v{k} = np.arange(4)' for k in range(count)]
+
+
+@unittest.skipUnless(real_program(), 'no program: NDNOTE_PROGRAM, or crates/ndnote/out/ndnote')
+class Costs(unittest.TestCase):
+    """Allocations are counted, which are the same in each run, and not times."""
+
+    @classmethod
+    def setUpClass(cls) -> None:
+        cls.folder = tempfile.TemporaryDirectory()
+        cls.shim = refusals.build(cls.folder.name)
+
+    @classmethod
+    def tearDownClass(cls) -> None:
+        cls.folder.cleanup()
+
+    def counted(self, commands: list[str]) -> int:
+        ran = refusals.run([real_program()], '\n'.join([*commands, '']).encode(), self.shim)
+        self.assertEqual(ran.status, 0, ran.errors)
+        return ran.allocations
+
+    def cost(self, cells: list[str], *edit: str) -> int:
+        """How many allocations an edit takes once the cells are inserted."""
+        before = [line for at, text in enumerate(cells) for line in (f'insert {at}', text, '.')]
+        return self.counted([*before, *edit]) - self.counted(before)
+
+    def test_a_cell_that_does_what_it_did_is_noted_nowhere(self) -> None:
+        short, long = (self.cost(arrays(count), 'edit 10', 'v10 = np.arange(4) ', '.') for count in (SHORT, LONG))
+        self.assertLess(long - short, 4 * SNAPSHOTS)
+
+    def test_an_appended_cell_replays_none(self) -> None:
+        short, long = (self.cost(arrays(count), f'insert {count}', 'w = 1', '.') for count in (SHORT, LONG))
+        self.assertLess(long - short, SNAPSHOTS)
+
+    def test_a_reader_far_behind_runs_over_a_snapshot_with_the_change(self) -> None:
+        short, long = (self.cost([*arrays(count - 1), 'w = v0 + 1'], 'edit 0', 'v0 = np.arange(4) + 1', '.')
+                       for count in (SHORT, LONG))
+        self.assertLess(long - short, 12 * SNAPSHOTS)
+
+    def test_a_replay_takes_no_allocation_for_each_statement(self) -> None:
+        """Behind the cell that is edited, one of 1,000 statements that each make an array is replayed, not run."""
+        read = 'y = np.arange(2)\n' + '\n'.join(['y += np.arange(2)'] * 999)
+        inserting = self.cost(['z = 1'], 'insert 1', read, '.')
+        editing = self.cost(['z = 1', read, 'w = z + y'], 'edit 0', 'z = 2', '.')
+        self.assertGreater(inserting, 900)
+        self.assertLess(editing, 900)
+
+
+if __name__ == '__main__':
+    unittest.main()

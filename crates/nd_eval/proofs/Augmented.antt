@@ -38,14 +38,14 @@ use Rattle.nd_operation.specs.declared.operators.operand.New.TheVariants as new
 use Rattle.nd_operation.specs.declared.refusals.stop.Stop.{Stop}
 use Rattle.nd_operation.specs.declared.refusals.stop.Stop.TheVariants.{Memory, Refused}
 use Rattle.nd_operation.specs.Refusals.Ends.{Makes}
-use Rattle.nd_select.specs.Choosing.Indexing.{index_operands, operands_of, viewing_of}
-use Rattle.nd_select.proofs.choosing.Indexing.{same_index_arrays}
+use Rattle.nd_eval.specs.Choosing.Indexing.{index_operands, operands_of, viewing_of}
+use Rattle.nd_eval.proofs.choosing.Indexing.{same_index_arrays}
 use Rattle.nd_model.specs.Indexing.Index.{has_array}
-use Rattle.nd_select.specs.Choosing.Targets.{geo_in, target_by, writes_to}
-use Rattle.nd_select.specs.declared.choosing.targets.Target.{Target}
-use Rattle.nd_select.specs.declared.choosing.indexes.IndexValue.{IndexValue}
-use Rattle.nd_select.specs.declared.choosing.indexes.IndexValue.TheVariants as index
-use Rattle.nd_select.proofs.choosing.Lying.{writes_made}
+use Rattle.nd_eval.specs.Choosing.Targets.{geo_in, target_by, writes_to}
+use Rattle.nd_eval.specs.declared.choosing.targets.Target.{Target}
+use Rattle.nd_eval.specs.declared.choosing.indexes.IndexValue.{IndexValue}
+use Rattle.nd_eval.specs.declared.choosing.indexes.IndexValue.TheVariants as index
+use Rattle.nd_eval.proofs.choosing.Lying.{writes_made}
 use Rattle.nd_eval.specs.Contents as contents
 use Rattle.nd_eval.specs.Ends.{Ends}
 use Rattle.nd_eval.specs.Parts.{augmentation, copy_update, item_augmentation, made_assignment, operate, store_made, stored_in, update}

@@ -12,7 +12,7 @@ use Rattle.nd_heap.specs.declared.value.Value.{Value}
 use Rattle.nd_heap.specs.declared.value.Value.TheVariants.{Number, Array, Row}
 use Rattle.nd_heap.specs.Values.{geo_of, value_of}
 use Rattle.nd_operation.specs.declared.refusals.stop.Stop.{Stop}
-use Rattle.nd_select.specs.Choosing.Selections.{copy_of}
+use Rattle.nd_eval.specs.Choosing.Selections.{copy_of}
 use Rattle.nd_eval.specs.Ends.{Ends}
 use Rattle.nd_eval.specs.Uses.{IsOfType}
 

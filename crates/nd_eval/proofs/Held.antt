@@ -28,10 +28,10 @@ use Rattle.nd_model.proofs.Soundness.{AllV as AreHeldValues, Safe, safe_bind, sa
 use Rattle.nd_heap.specs.declared.value.Value.{Value}
 use Rattle.nd_heap.specs.declared.value.Value.TheVariants.{Number, Array, Row}
 use Rattle.nd_heap.specs.Values.{base_of, geo_of, value_of}
-use Rattle.nd_select.specs.declared.choosing.indexes.ItemValue.{ItemValue}
-use Rattle.nd_select.specs.declared.choosing.indexes.ItemValue.TheVariants as item
-use Rattle.nd_select.specs.declared.choosing.indexes.IndexValue.{IndexValue}
-use Rattle.nd_select.specs.declared.choosing.indexes.IndexValue.TheVariants as index
+use Rattle.nd_eval.specs.declared.choosing.indexes.ItemValue.{ItemValue}
+use Rattle.nd_eval.specs.declared.choosing.indexes.ItemValue.TheVariants as item
+use Rattle.nd_eval.specs.declared.choosing.indexes.IndexValue.{IndexValue}
+use Rattle.nd_eval.specs.declared.choosing.indexes.IndexValue.TheVariants as index
 use Rattle.nd_eval.specs.Parts.{accumulation_value, binary_value, reduction_value, bound_exprs, choose_value, exprs_in, index_parts, item_parts, items_parts, items_then, list_parts, list_value, listed, method_value, suffix_value, unused, values, values_then, view_value, viewed_value, wholes, IndexParts, ItemParts}
 use Rattle.nd_eval.specs.Uses.{IsHeld, AreHeld, marked, item_marked, items_marked, index_marked, all_marked}
 use Rattle.nd_eval.proofs.Parts.{binding_parts}

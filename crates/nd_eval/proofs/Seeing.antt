@@ -29,7 +29,7 @@ use Rattle.nd_operation.specs.declared.refusals.stop.Stop.{Stop}
 use Rattle.nd_operation.specs.declared.refusals.stop.Stop.TheVariants.{Memory, Refused}
 use Rattle.nd_operation.specs.Operators.Contents.{num_of, operand_of, unused_of}
 use Rattle.nd_operation.specs.Operators.New.{given}
-use Rattle.nd_select.specs.Choosing.Shapes.{IsAlone, MakesStretched}
+use Rattle.nd_eval.specs.Choosing.Shapes.{IsAlone, MakesStretched}
 use Rattle.nd_eval.specs.Ends.{Ends}
 use Rattle.nd_eval.specs.Parts.{stretch, unused}
 use Rattle.nd_eval.specs.Uses.{IsNoArray, marked, operand_over}

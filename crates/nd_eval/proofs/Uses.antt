@@ -20,15 +20,15 @@ use Rattle.nd_types.specs.declared.num.Num.TheVariants as num
 use Rattle.nd_heap.specs.declared.value.Value.{Value}
 use Rattle.nd_heap.specs.declared.value.Value.TheVariants.{Number, Array, Row}
 use Rattle.nd_heap.specs.Values.{value_of}
-use Rattle.nd_select.specs.declared.choosing.indexes.ItemValue.{ItemValue}
-use Rattle.nd_select.specs.declared.choosing.indexes.ItemValue.TheVariants as item
-use Rattle.nd_select.specs.declared.choosing.indexes.IndexValue.{IndexValue}
-use Rattle.nd_select.specs.declared.choosing.indexes.IndexValue.TheVariants as index
+use Rattle.nd_eval.specs.declared.choosing.indexes.ItemValue.{ItemValue}
+use Rattle.nd_eval.specs.declared.choosing.indexes.ItemValue.TheVariants as item
+use Rattle.nd_eval.specs.declared.choosing.indexes.IndexValue.{IndexValue}
+use Rattle.nd_eval.specs.declared.choosing.indexes.IndexValue.TheVariants as index
 use Rattle.nd_operation.specs.declared.operators.operand.Operand.{Operand}
 use Rattle.nd_operation.specs.declared.refusals.stop.Stop.{Stop}
 use Rattle.nd_operation.specs.Operators.Contents.{elements_over, operand_of, unused_of}
 use Rattle.nd_operation.specs.Operators.New.{option_list}
-use Rattle.nd_select.specs.Choosing.Indexing.{form_of, forms_of, index_operand, item_operands, items_operands, index_operands, viewing_of}
+use Rattle.nd_eval.specs.Choosing.Indexing.{form_of, forms_of, index_operand, item_operands, items_operands, index_operands, viewing_of}
 use Rattle.nd_eval.specs.Ends.{Ends}
 use Rattle.nd_eval.specs.Contents as contents
 use Rattle.nd_eval.specs.Contents.{option_values}

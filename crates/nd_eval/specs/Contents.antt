@@ -8,12 +8,12 @@ use Rattle.nd_syntax.specs.Trees.Calls.{dtype_of}
 use Rattle.nd_heap.specs.declared.value.Value.{Value}
 use Rattle.nd_heap.specs.Values.{value_of}
 use Rattle.nd_operation.specs.declared.operators.operand.Operand.{Operand}
-use Rattle.nd_select.specs.declared.choosing.indexes.ItemValue.{ItemValue}
-use Rattle.nd_select.specs.declared.choosing.indexes.ItemValue.TheVariants as item
-use Rattle.nd_select.specs.declared.choosing.indexes.IndexValue.{IndexValue}
-use Rattle.nd_select.specs.declared.choosing.indexes.IndexValue.TheVariants as index
+use Rattle.nd_eval.specs.declared.choosing.indexes.ItemValue.{ItemValue}
+use Rattle.nd_eval.specs.declared.choosing.indexes.ItemValue.TheVariants as item
+use Rattle.nd_eval.specs.declared.choosing.indexes.IndexValue.{IndexValue}
+use Rattle.nd_eval.specs.declared.choosing.indexes.IndexValue.TheVariants as index
 use Rattle.nd_operation.specs.Operators.Contents.{operand_of}
-use Rattle.nd_select.specs.Choosing.Indexing.{form_of}
+use Rattle.nd_eval.specs.Choosing.Indexing.{form_of}
 use Rattle.nd_eval.specs.Parts.{ItemParts, IndexParts, parts_of_items, unused}
 use Rattle.nd_eval.specs.declared.views.ViewMethod.{ViewMethod}
 use Rattle.nd_eval.specs.declared.views.ViewMethod.TheVariants.{Transpose, Reshape, ViewAs}

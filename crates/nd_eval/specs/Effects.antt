@@ -5,8 +5,8 @@ use Rattle.nd_model.specs.Cells.Running as running
 use Rattle.nd_model.specs.Cells.Running.{Running}
 use Rattle.nd_model.specs.Cells.Evaluation.{Eval}
 use Rattle.nd_heap.specs.Values.{base_of, geo_of, value_of}
-use Rattle.nd_select.specs.Choosing.Selections.{selected}
-use Rattle.nd_select.specs.Choosing.Targets.{geo_in, writes_to}
+use Rattle.nd_eval.specs.Choosing.Selections.{selected}
+use Rattle.nd_eval.specs.Choosing.Targets.{geo_in, writes_to}
 use Rattle.nd_operation.specs.declared.refusals.stop.Stop.{Stop}
 use Rattle.nd_eval.specs.declared.evaluator.Evaluator.{Evaluator}
 use Rattle.nd_heap.specs.declared.value.Value.{Value}
@@ -15,8 +15,8 @@ use Rattle.nd_eval.specs.declared.effect.Effect.{Effect}
 use Rattle.nd_eval.specs.declared.effect.Effect.TheVariants.{Nothing, Print, Save, Bind, Unbind, Store, Scatter, Update, UpdateChosen}
 use Rattle.nd_eval.specs.Ends.{Evaluates, EvaluatesInLimit, session_of}
 use Rattle.nd_eval.specs.Uses.{IsHeld, operand_over}
-use Rattle.nd_select.specs.Storing.Storable.{IsCopyUpdatable, IsStorable, IsStorableIn, copy_updates}
-use Rattle.nd_select.specs.Storing.Updatable.{IsUpdatable, updates}
+use Rattle.nd_eval.specs.Storing.Storable.{IsCopyUpdatable, IsStorable, IsStorableIn, copy_updates}
+use Rattle.nd_eval.specs.Storing.Updatable.{IsUpdatable, updates}
 use Rattle.nd_syntax.specs.Trees.Syntax.{binary_op}
 use Rattle.nd_types.specs.Kinds.{kind_of}
 

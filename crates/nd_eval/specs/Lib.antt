@@ -7,3 +7,7 @@ pub mod Suffixes
 pub mod Done
 pub use Rattle.nd_operation.specs.Refusals.Faults
 pub mod Effects
+pub mod Choosing
+pub mod Loading
+pub mod Reducing
+pub mod Storing

@@ -6,11 +6,11 @@ use Rattle.nd_model.specs.Cells.Running.{Running, Use, after}
 use Rattle.nd_heap.specs.declared.value.Value.{Value}
 use Rattle.nd_heap.specs.declared.value.Value.TheVariants.{Number, Array, Row}
 use Rattle.nd_heap.specs.Values.{base_of, geo_of}
-use Rattle.nd_select.specs.declared.choosing.indexes.ItemValue.{ItemValue}
-use Rattle.nd_select.specs.declared.choosing.indexes.ItemValue.TheVariants as item
-use Rattle.nd_select.specs.declared.choosing.indexes.IndexValue.{IndexValue}
-use Rattle.nd_select.specs.declared.choosing.indexes.IndexValue.TheVariants as index
-pub use Rattle.nd_select.specs.Storing.Operands.{IsHeld, AreHeld, operand_over, operands_over}
+use Rattle.nd_eval.specs.declared.choosing.indexes.ItemValue.{ItemValue}
+use Rattle.nd_eval.specs.declared.choosing.indexes.ItemValue.TheVariants as item
+use Rattle.nd_eval.specs.declared.choosing.indexes.IndexValue.{IndexValue}
+use Rattle.nd_eval.specs.declared.choosing.indexes.IndexValue.TheVariants as index
+pub use Rattle.nd_eval.specs.Storing.Operands.{IsHeld, AreHeld, operand_over, operands_over}
 
 -- the session once all elements of the value are noted as used
 abbrev pub marked : Value → Running → Running

@@ -14,7 +14,7 @@ ghost use Rattle.nd_heap.specs.declared.value.Value.TheVariants as values;
 ghost use Rattle.nd_session.specs.Session.Live.{live};
 ghost use Rattle.nd_operation.specs.Operators.Contents.{contents_over, unused_of};
 ghost use Rattle.nd_operation.specs.Refusals.Ends.{Makes};
-ghost use Rattle.nd_select.specs.Choosing.Indexing.{index_operands, operands_of, viewing_of};
+ghost use Rattle.nd_eval.specs.Choosing.Indexing.{index_operands, operands_of, viewing_of};
 ghost use Rattle.nd_eval.specs.Contents as contents;
 ghost use Rattle.nd_eval.specs.Effects.{EvaluatesEffect, IsReady, effect_of};
 ghost use Rattle.nd_eval.specs.declared.augment.CopyUpdate.{CopyUpdate};
@@ -23,6 +23,7 @@ ghost use Rattle.nd_eval.specs.Ends.{session_of};
 ghost use Rattle.nd_eval.specs.Parts as parts;
 ghost use Rattle.nd_eval.specs.Uses.{HasTypeOf, IsHeld, IsNoArray, index_marked, marked, operand_over};
 
+use crate::choosing::{IndexValue, Selection, Target, assignment_target, is_advanced};
 use crate::effect::Effect;
 use crate::evaluator::Evaluator;
 use crate::exec::store_effect;
@@ -31,7 +32,6 @@ use nd_operation::operators::{
     BinaryCall, BorrowedArray, Operand, kind_in_place, make_of_two, not_an_array,
 };
 use nd_operation::refusals::Stop;
-use nd_select::choosing::{IndexValue, Selection, Target, assignment_target, is_advanced};
 use nd_session::session::{Array, Base, OutOfMemory, Session, Value};
 use nd_syntax::trees::{BinaryOp, Expr, Index};
 use nd_types::Kind;

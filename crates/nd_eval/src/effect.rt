@@ -1,7 +1,7 @@
 //! `Effect`: what a statement will do once all of it is evaluated. At most one effect, carried out
 //! last: so a refused statement changes nothing.
 
-use nd_select::choosing::Selection;
+use crate::choosing::Selection;
 use nd_session::session::{Array, Base, Value};
 use nd_syntax::trees::BinaryOp;
 use nd_types::Kind;

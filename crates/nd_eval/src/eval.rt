@@ -19,13 +19,13 @@ ghost use Rattle.nd_eval.specs.Suffixes.{axis_tokens, suffix_tokens};
 ghost use Rattle.nd_operation.specs.Operators.New.{made_of_one};
 ghost use Rattle.nd_operation.specs.Operators.OfTwo.{made_of_two};
 ghost use Rattle.nd_syntax.specs.Trees.Calls.{dtype_of, fill_of, ufunc_of};
-ghost use Rattle.nd_fold.specs.Folds.{made_of_fold};
+ghost use Rattle.nd_eval.specs.Reducing.Folds.{made_of_fold};
 
 use crate::evaluator::Evaluator;
+use crate::loading::InputSort;
 use crate::operation::{mark_operand, mark_operands, operand_in};
+use crate::reducing::Folding;
 use crate::views::ViewMethod;
-use nd_files::InputSort;
-use nd_fold::Folding;
 use nd_operation::operators::{
     BinaryCall, UnaryCall, make_filled, make_full, make_list, make_of_one, make_of_two, make_range,
 };

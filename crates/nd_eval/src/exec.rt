@@ -18,19 +18,19 @@ ghost use Rattle.nd_eval.specs.Effects.{EvaluatesEffect, EvaluatesEffectInLimit,
 ghost use Rattle.nd_eval.specs.Done.{output_of, outcome_of};
 ghost use Rattle.nd_model.specs.Cells.Cell.{limit_text};
 ghost use Rattle.nd_eval.specs.Uses.{IsHeld, operand_over};
-ghost use Rattle.nd_select.specs.Choosing.Targets.{geo_in, writes_to};
-ghost use Rattle.nd_select.specs.Storing.Storable.{IsStorableIn};
+ghost use Rattle.nd_eval.specs.Choosing.Targets.{geo_in, writes_to};
+ghost use Rattle.nd_eval.specs.Storing.Storable.{IsStorableIn};
 ghost use Rattle.nd_eval.specs.Parts as parts;
 ghost use Rattle.nd_eval.specs.Lines.{limit_effect};
 ghost use Rattle.nd_model.specs.Cells.Evaluation.{run};
 
+use crate::choosing::{IndexValue, Target, assignment_target};
 use crate::effect::Effect;
 use crate::evaluator::Evaluator;
 use crate::operation::{mark_index, mark_operand, mark_operands, operand_in, operands_in};
+use crate::storing::{scatter, store, update, update_chosen};
 use nd_operation::operators::{not_an_array, print_line};
 use nd_operation::refusals::{StmtFault, Stop};
-use nd_select::choosing::{IndexValue, Target, assignment_target};
-use nd_select::storing::{scatter, store, update, update_chosen};
 use nd_session::session::{Array, Base, Inputs, OutOfMemory, Session, Value};
 use nd_syntax::trees::{Expr, Index, Stmt};
 use std::alloc::Global;

@@ -7,7 +7,7 @@ ghost use Rattle.nd_model.specs.Grammar.Syntax.{Save};
 ghost use Rattle.nd_model.specs.Grammar.Tokens.{tokens_of};
 ghost use Rattle.nd_syntax.specs.Trees.Syntax.{expr_of};
 ghost use Rattle.nd_heap.specs.Values.{value_of};
-ghost use Rattle.nd_files.specs.Loads.{load_by};
+ghost use Rattle.nd_eval.specs.Loading.Loads.{load_by};
 ghost use Rattle.nd_eval.specs.Effects.{EvaluatesEffect, IsReady};
 ghost use Rattle.nd_eval.specs.Ends.{Evaluates, session_of};
 ghost use Rattle.nd_eval.specs.Parts as parts;
@@ -15,8 +15,8 @@ ghost use Rattle.nd_eval.specs.Uses.{IsHeld};
 
 use crate::effect::Effect;
 use crate::evaluator::Evaluator;
+use crate::loading::{InputSort, load, save_file};
 use crate::operation::{mark_operand, operand_in};
-use nd_files::{InputSort, load, save_file};
 use nd_operation::operators::bad_argument;
 use nd_operation::refusals::Stop;
 use nd_session::inputs::find_input;

@@ -3,14 +3,14 @@
 ghost use Rattle.std.specs.Prelude.{◌+◌, ◌<◌, ◌^◌};
 ghost use Rattle.nd_model.specs.Cells.Meaning.{along};
 ghost use Rattle.nd_heap.specs.Values.{value_of};
-ghost use Rattle.nd_fold.specs.Folds.{made_of_fold};
+ghost use Rattle.nd_eval.specs.Reducing.Folds.{made_of_fold};
 ghost use Rattle.nd_eval.specs.Ends.{Evaluates, session_of};
 ghost use Rattle.nd_eval.specs.Parts as parts;
 ghost use Rattle.nd_eval.specs.Uses.{IsHeld};
 
 use crate::evaluator::Evaluator;
 use crate::operation::{mark_operand, operand_in};
-use nd_fold::{Folding, make_fold, make_fold_along};
+use crate::reducing::{Folding, make_fold, make_fold_along};
 use nd_operation::refusals::Stop;
 use nd_session::session::Value;
 

@@ -2,13 +2,17 @@
 #![tactic(auto)]
 
 mod augment;
+mod choosing;
 mod effect;
 mod eval;
 mod evaluator;
 mod exec;
 mod files;
 mod folds;
+mod loading;
 mod operation;
+mod reducing;
+mod storing;
 mod subscripts;
 mod views;
 

@@ -12,15 +12,15 @@ ghost use Rattle.nd_eval.specs.Contents.{option_values};
 ghost use Rattle.nd_eval.specs.Ends.{Evaluates, session_of};
 ghost use Rattle.nd_eval.specs.Uses.{HasTypeOf, IsHeld};
 ghost use Rattle.nd_model.specs.Indexing.Index.{has_array};
-ghost use Rattle.nd_select.specs.Choosing.Indexing.{operands_of};
+ghost use Rattle.nd_eval.specs.Choosing.Indexing.{operands_of};
 ghost use Rattle.nd_operation.specs.Operators.Contents.{unused_of};
 ghost use Rattle.nd_eval.specs.Parts as parts;
 
+use crate::choosing::{IndexValue, ItemValue, choose};
 use crate::evaluator::Evaluator;
 use crate::operation::mark_index;
 use nd_operation::operators::is_empty_list;
 use nd_operation::refusals::{StmtError, StmtFault, Stop};
-use nd_select::choosing::{IndexValue, ItemValue, choose};
 use nd_session::session::Value;
 use nd_syntax::trees::{Element, Expr, Index, IndexItem};
 

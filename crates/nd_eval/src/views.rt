@@ -14,11 +14,11 @@ ghost use Rattle.nd_eval.specs.Parts as parts;
 ghost use Rattle.nd_heap.specs.declared.value.Value.TheVariants as values;
 ghost use Rattle.nd_eval.specs.Uses.{IsHeld, IsNoArray};
 
+use crate::choosing::{Reshaped, reshape, stretch_element, stretch_view, transpose, view_as};
 use crate::evaluator::Evaluator;
 use crate::operation::{mark_operand, operand_in};
 use nd_operation::operators::{BorrowedArray, copy_reshaped, not_an_array};
 use nd_operation::refusals::Stop;
-use nd_select::choosing::{Reshaped, reshape, stretch_element, stretch_view, transpose, view_as};
 use nd_session::session::{Array, Value};
 use nd_syntax::trees::DType;
 use nd_view::View;

@@ -211,19 +211,9 @@ held-append : (b : model.Base) (xs ys : Names) → is_held b (xs ++ ys) ≡ (is_
 held-append b [] ys = refl
 held-append b (x ∷ xs) ys = ap (λ t. model.lies_in b x.1 || t) (held-append b xs ys) ∙ or_assoc (model.lies_in b x.1) _ _
 
-found_unheld : (b : model.Base) (n : List ℕ) (v : model.Value) (es : Names) → is_held b es ≡ false → model.lies_in b v ≡ false → model.lies_in b (unwrap_or (lookup n es) v) ≡ false
-found_unheld b n v [] h f = f
-found_unheld b n v (e ∷ es) h f =
-    let parts = or_parts (model.lies_in b e.1) _ h in
-    elim (cases_Bool (bytes_eq n e.0)) [ inl is ↦ rw is parts.0 | inr other ↦ rw other (found_unheld b n v es parts.1 f) ]
-
-unheld_old : (b : model.Base) (newer old : Names) → is_held b newer ≡ false → is_held b old ≡ false → is_held b (overridden newer old) ≡ false
-unheld_old b newer [] h f = refl
-unheld_old b newer (e ∷ es) h f = let parts = or_parts (model.lies_in b e.1) _ f in or_from _ _ (found_unheld b e.0 e.1 newer h parts.0) (unheld_old b newer es h parts.1)
-
--- where no layer holds it
-pub unheld_layers : (b : model.Base) (newer old added : Names) → is_held b newer ≡ false → is_held b old ≡ false → is_held b added ≡ false → is_held b (overridden newer old ++ added) ≡ false
-unheld_layers b newer old added h f g = held-append b (overridden newer old) added ∙ or_from _ _ (unheld_old b newer old h f) g
+-- where the names that were added do not hold it
+pub unheld_added : (b : model.Base) (newer old added : Names) → is_held b added ≡ false → is_held b (overridden newer old ++ added) ≡ is_held b (overridden newer old)
+unheld_added b newer old added h = held-append b (overridden newer old) added ∙ rw h (or_false (is_held b (overridden newer old)))
 
 pub held_added : (b : model.Base) (newer old added : Names) → is_held b added ≡ true → is_held b (overridden newer old ++ added) ≡ true
 held_added b newer old added h = held-append b (overridden newer old) added ∙ rw h (or_true (is_held b (overridden newer old)))

@@ -6,5 +6,6 @@ pub mod Entries
 pub mod Held
 pub mod Loosening
 pub mod Layering
+pub mod Below
 pub mod Picking
 pub mod Stacking

@@ -72,7 +72,7 @@ fn loosen(loose: &mut Bases, names: &NameTable, name: &str) -> Result<(), OutOfM
     Ok(())
 }
 
-/// Whether the value lies in the base of another, or lies in none.
+/// Whether each base that a value lies in is one that the next value lies in: numbers lie in none.
 fn lies_beside(value: &Value, next: &Value) -> bool
     ensures { IsTrue result → (b : values.Base) → IsTrue (values.lies_in b (value_of value.now))
         → IsTrue (values.lies_in b (value_of next.now)) }

@@ -13,7 +13,9 @@ ghost use Rattle.nd_heap.specs.Values.{base_of, value_of, names_of};
 
 use crate::blocks::{Bases, drop_base, note_base};
 use crate::memory::OutOfMemory;
-use crate::names::{Names, find, insert, is_held, lies_in, lies_in_label, remove, unbind};
+use crate::names::{
+    Names, find, insert, is_held, is_held_below, lies_in, lies_in_label, remove, unbind,
+};
 use crate::value::{Base, Value};
 use indexmap::IndexMap;
 use std::alloc::Global;
@@ -205,6 +207,23 @@ impl NameTable {
         self.hold(flat)
     }
 
+    /// Returns true only where a name of the newer layer has a value in the base.
+    fn has_newer_holder(&self, base: Base) -> bool
+        ensures { IsTrue result → IsTrue (model.is_held (base_of base) self.now) }
+    {
+        for i in 0..self.newer.len() {
+            let Some((name, _)) = self.newer.get_index(i) else {
+                unreachable!();
+            };
+            if let Some(value) = self.find(name.as_str()) {
+                if lies_in(value.as_ref(), base) {
+                    return true;
+                }
+            }
+        }
+        false
+    }
+
     /// Whether some bound value lies in the base, name by name.
     fn has_holder(&self, base: Base) -> bool
         ensures { result ≡ model.is_held (base_of base) self.now }
@@ -218,7 +237,7 @@ impl NameTable {
         false
     }
 
-    /// Whether some bound value lies in the base. It takes no look-up of a name where no layer has such a value, or the last has.
+    /// Whether some bound value lies in the base. A name is looked up where a value of an older layer lies in it, or one of the newer.
     pub(crate) fn is_held(&self, base: Base) -> bool
         ensures { result ≡ model.is_held (base_of base) self.now }
     {
@@ -226,12 +245,9 @@ impl NameTable {
             return true;
         }
         if is_held(&self.newer, base) {
-            return self.has_holder(base);
+            return self.has_newer_holder(base) || self.has_holder(base);
         }
-        if is_held(self.shared.as_ref(), base) {
-            return self.has_holder(base);
-        }
-        false
+        is_held_below(self.shared.as_ref(), &self.newer, base)
     }
 
     /// Whether some bound value lies in a base of the label.

@@ -4,6 +4,7 @@ ghost use Rattle.std.specs.Prelude.{◌≡◌, ◌↔◌, IsFalse, OnErr, OnOk, 
 ghost use Rattle.std.specs.Rc.{rc_str_bytes};
 ghost use Rattle.nd_model.specs.Cells.Session as model;
 ghost use Rattle.nd_model.specs.Arrays.Value as values;
+ghost use Rattle.nd_heap.specs.Layers.{overridden};
 ghost use Rattle.nd_heap.specs.Values.{base_of, value_of, names_of};
 
 use crate::memory::OutOfMemory;
@@ -72,6 +73,26 @@ pub(crate) fn is_held(names: &Names, base: Base) -> bool
         };
         if lies_in(value.as_ref(), base) {
             return true;
+        }
+    }
+    false
+}
+
+/// Whether some value lies in the base whose name has no newer one, where no newer value lies in it.
+/// Only the names of such values are looked up.
+pub(crate) fn is_held_below(older: &Names, newer: &Names, base: Base) -> bool
+    requires { model.is_held (base_of base) (names_of newer.now.entries) ≡ false }
+    ensures { result ≡ model.is_held (base_of base)
+        (overridden (names_of newer.now.entries) (names_of older.now.entries)) }
+{
+    for i in (0..older.len()).rev() {
+        let Some((name, value)) = older.get_index(i) else {
+            unreachable!();
+        };
+        if lies_in(value.as_ref(), base) {
+            if find(newer, name.as_str()).is_none() {
+                return true;
+            }
         }
     }
     false

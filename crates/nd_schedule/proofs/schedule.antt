@@ -1,5 +1,6 @@
 pub mod Sweeping
 mod Visiting
+mod Passing
 mod Kept
 mod Editing
 mod Removing

@@ -4,5 +4,5 @@
 use std::process::ExitCode;
 
 fn main(rt: HostRuntime) -> ExitCode {
-    nd_program::status(&rt)
+    nd_commands::status(&rt)
 }

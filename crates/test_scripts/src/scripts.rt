@@ -1,8 +1,7 @@
 //! `run_row` and `run_program`: run scripts, and command lines of the program.
 
-use nd_commands::{ScriptReader, ScriptWriter, run_script};
+use nd_commands::{ScriptReader, ScriptWriter, run_script, status_of};
 use nd_notebook::Meter;
-use nd_program::status_of;
 use std::alloc::{AllocError, Global};
 use std::io::{self, Write};
 use std::process::ExitCode;

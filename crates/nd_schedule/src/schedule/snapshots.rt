@@ -30,13 +30,16 @@ const MOST_SNAPSHOTS: usize = 64;
 const MOST_ASKED: usize = 256;
 
 /// How many changes a snapshot keeps that are not put over it yet.
-const MOST_PENDING: usize = 8;
+const MOST_PENDING: usize = 32;
 
 /// How many names, inputs and blocks a change has at most that is put over a session. Of more, to replay records is cheaper.
 pub(crate) const MOST_KEYS: usize = 64;
 
 /// How many bytes all snapshots of a notebook may take for themselves.
-const MOST_BYTES: u64 = 1 << 27;
+const MOST_BYTES: u64 = 1 << 26;
+
+/// How many bytes a change has at most that is put over a snapshot in the middle. To copy more takes longer than to replay records.
+const MOST_PUT_BYTES: u64 = 1 << 22;
 
 /// How many bytes a pending change may have until it is put over its snapshot.
 const MOST_PENDING_BYTES: u64 = 1 << 16;
@@ -244,6 +247,19 @@ fn cost_between<C: CellRunner>(
     C::written_size(&records[first..to], session)
 }
 
+/// Whether a snapshot next in front of a place saves more than replays. It does not where its cost is large and lies in blocks to which
+/// the cell at the place writes: that one copies them whether there is a snapshot or not.
+fn is_worth<C: CellRunner>(
+    records: &[Rc<C::Record>],
+    session: &C::Session,
+    cost: u64,
+    at: usize,
+) -> bool {
+    let first = at.min(records.len());
+    let end = at.saturating_add(1).min(records.len());
+    cost <= MOST_PUT_BYTES || cost > C::written_size(&records[first..end], session)
+}
+
 /// The place in front of an edit where a snapshot is made, if the last one is far: else the place of that.
 fn stop_before(from: usize, at: usize) -> usize
     requires { from ≤ at }
@@ -286,7 +302,8 @@ pub(crate) fn session_front<C: CellRunner>(
     let stop = stop_before(from, at);
     replay_between::<C>(records, &mut session, from, stop)?;
     let cost = cost_between::<C>(records, &session, from, stop);
-    keep_at::<C>(alloc, fresh, &mut session, stop, cost, from < stop);
+    let is_due = from < stop && is_worth::<C>(records, &session, cost, at);
+    keep_at::<C>(alloc, fresh, &mut session, stop, cost, is_due);
     replay_between::<C>(records, &mut session, stop, at)?;
     Ok(session)
 }
@@ -308,10 +325,12 @@ pub(crate) fn order_before<C: CellRunner>(
     Ok(order)
 }
 
-/// Notes the change where a snapshot is kept. One of many keys is not noted, nor is any where memory is wanting: the snapshot is dropped.
+/// Notes the change where a snapshot is kept. One of many keys is not noted, nor is one of many bytes but at the end, nor is any where
+/// memory is wanting: the snapshot is dropped.
 pub(crate) fn note<C: CellRunner>(
     place: usize,
     now: usize,
+    is_end: bool,
     change: &C::Change,
     noted: &mut Vec<Noted<C>>,
 )
@@ -320,6 +339,9 @@ pub(crate) fn note<C: CellRunner>(
         → All (λ n. IsChangeAt old new n.place n.now (C.change_of n.change)) noted.new.items }
 {
     if C::change_count(change) > MOST_KEYS {
+        return;
+    }
+    if !is_end && C::change_size(change) > MOST_PUT_BYTES {
         return;
     }
     let Ok(change) = C::share(change) else {

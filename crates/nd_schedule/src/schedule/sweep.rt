@@ -226,7 +226,7 @@ pub(crate) fn visit<C: CellRunner>(
     run_again::<C>(alloc, meter, &cells[i], made, inputs, i, state)
 }
 
-/// Goes past the cells from a place up to another where no snapshot stands between.
+/// Goes past the cells from a place up to another where no snapshot stands between. Once the change has nothing left, no cell is looked at.
 fn sweep_between<C: CellRunner>(
     alloc: Global,
     meter: &mut Meter,
@@ -286,13 +286,16 @@ fn sweep_between<C: CellRunner>(
         → CountsFront old new j before meter.old → CountsStale old new before meter.new }
 {
     for k in i..to {
+        if C::is_empty(&state.change) {
+            return Ok(());
+        }
         visit::<C>(alloc, meter, cells, records, words, inputs, k, state)?;
     }
     Ok(())
 }
 
-/// Whether one of some cells meets the change, and perhaps does not fit it, so that a session nearer to it is of use. For a change that is
-/// put over no session, and where the session at hand is near, none is looked at. No answer depends on it.
+/// Whether one of some cells meets the change, and perhaps does not fit it, so that a session nearer to it is of use. None is looked at
+/// where the change has nothing left, or too much to be put over a session, and where the session at hand is near. No answer depends on it.
 fn may_run<C: CellRunner>(
     records: &[Rc<C::Record>],
     words: &[C::Word],
@@ -303,6 +306,9 @@ fn may_run<C: CellRunner>(
     requires records { to ≤ length records.now }
     requires places { to ≤ length words.now }
 {
+    if C::is_empty(&state.change) {
+        return false;
+    }
     if state.since >= from || C::change_count(&state.change) > MOST_KEYS {
         return false;
     }
@@ -428,7 +434,8 @@ pub(crate) fn sweep<C: CellRunner>(
         sweep_between::<C>(
             alloc, meter, cells, records, words, inputs, at, place, state,
         )?;
-        note::<C>(place, now + (place - i), &state.change, noted);
+        let is_end = place == records.len();
+        note::<C>(place, now + (place - i), is_end, &state.change, noted);
         let next = to.min(place.saturating_add(distance(to)));
         let is_due = may_run::<C>(records, words, place, next, state);
         take_nearer::<C>(alloc, snapshot, is_due, state);

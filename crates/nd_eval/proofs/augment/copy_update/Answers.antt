@@ -12,10 +12,10 @@ use Rattle.nd_heap.specs.Values.{base_of, geo_of, value_of}
 use Rattle.nd_session.specs.Session.Live.{live}
 use Rattle.nd_operation.specs.Operators.Contents.{contents_over, unused_of}
 use Rattle.nd_operation.specs.Refusals.Ends.{Makes}
-use Rattle.nd_select.specs.Choosing.Indexing.{index_operands, operands_of, viewing_of}
+use Rattle.nd_eval.specs.Choosing.Indexing.{index_operands, operands_of, viewing_of}
 use Rattle.nd_model.specs.Indexing.Index.{has_array}
-use Rattle.nd_select.specs.declared.choosing.targets.Target.TheVariants.{Elements}
-use Rattle.nd_select.specs.Choosing.Targets.{IsChosenOf, Lies, geo_in, writes_to}
+use Rattle.nd_eval.specs.declared.choosing.targets.Target.TheVariants.{Elements}
+use Rattle.nd_eval.specs.Choosing.Targets.{IsChosenOf, Lies, geo_in, writes_to}
 use Rattle.nd_eval.specs.Parts.{stored_in}
 use Rattle.nd_eval.specs.Uses.{HasTypeOf, IsHeld, operand_over}
 use Rattle.nd_eval.proofs.Augmented.{exits_copy, exits_left, goes_left, only_of_an_array}

@@ -19,7 +19,7 @@ use nd_heap::Base;
 use nd_trace::Event;
 use std::rc::RcStr;
 
-/// Of how many keys at most a change has a filter of its own: those of more leave few bits free.
+/// The most keys of which a change has a filter of its own: to make one takes a look at each key.
 const MOST_KEYS: usize = 64;
 
 /// Adds the names that were read.

@@ -13,10 +13,10 @@ use Rattle.nd_heap.specs.Values.{base_of, value_of}
 use Rattle.nd_session.specs.Inputs.Values.{inputs_of}
 use Rattle.nd_session.specs.Session.Live.{live}
 use Rattle.nd_operation.specs.Operators.Contents.{operand_of, unused_of}
-use Rattle.nd_select.specs.Choosing.Indexing.{index_operands, viewing_of}
-use Rattle.nd_select.specs.Choosing.Targets.{Lies, geo_in, writes_to}
-use Rattle.nd_select.specs.declared.choosing.targets.Target.{Target}
-use Rattle.nd_select.proofs.choosing.Lying.{writes_made}
+use Rattle.nd_eval.specs.Choosing.Indexing.{index_operands, viewing_of}
+use Rattle.nd_eval.specs.Choosing.Targets.{Lies, geo_in, writes_to}
+use Rattle.nd_eval.specs.declared.choosing.targets.Target.{Target}
+use Rattle.nd_eval.proofs.choosing.Lying.{writes_made}
 use Rattle.nd_eval.specs.Contents as contents
 use Rattle.nd_eval.specs.Uses.{IsHeld}
 use Rattle.nd_eval.proofs.Chains.{decided_later, ends_alike, exits_making, goes_making}

@@ -14,9 +14,9 @@ use Rattle.nd_session.specs.Session.Live.{live}
 use Rattle.nd_syntax.specs.Trees.Syntax.{binary_op}
 use Rattle.nd_operation.specs.Operators.Contents.{operand_of, unused_of}
 use Rattle.nd_operation.specs.Operators.New.{given, MakesNew, StandsFor}
-use Rattle.nd_select.specs.Choosing.Indexing.{index_operands, viewing_of}
-use Rattle.nd_select.specs.Choosing.Targets.{Lies, geo_in, writes_to}
-use Rattle.nd_select.proofs.choosing.Lying.{writes_made}
+use Rattle.nd_eval.specs.Choosing.Indexing.{index_operands, viewing_of}
+use Rattle.nd_eval.specs.Choosing.Targets.{Lies, geo_in, writes_to}
+use Rattle.nd_eval.proofs.choosing.Lying.{writes_made}
 use Rattle.nd_eval.specs.Uses.{IsHeld, operand_over}
 use Rattle.nd_eval.proofs.Augmented.{exits_assigned, exits_made, given_held, given_operand, goes_made}
 use Rattle.nd_eval.proofs.Chains.{ends_alike, goes, stops}

@@ -7,7 +7,7 @@ use Rattle.nd_heap.specs.Values.{value_of}
 use Rattle.nd_session.specs.Inputs.Values.{inputs_of}
 use Rattle.nd_session.specs.Session.Live.{live}
 use Rattle.nd_operation.specs.Operators.Contents.{unused_of}
-use Rattle.nd_select.specs.Choosing.Indexing.{operands_of}
+use Rattle.nd_eval.specs.Choosing.Indexing.{operands_of}
 use Rattle.nd_eval.specs.Contents as contents
 use Rattle.nd_eval.specs.Effects.{effect_of}
 use Rattle.nd_eval.specs.Parts.{item_augmentation}

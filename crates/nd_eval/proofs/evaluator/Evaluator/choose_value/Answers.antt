@@ -7,8 +7,8 @@ use Rattle.nd_heap.specs.Values.{base_of, value_of}
 use Rattle.nd_session.specs.Inputs.Values.{inputs_of}
 use Rattle.nd_session.specs.Session.Live.{live}
 use Rattle.nd_operation.specs.Operators.Contents.{unused_of}
-use Rattle.nd_select.specs.Choosing.Indexing.{chosen_of, index_operands, viewing_of}
-use Rattle.nd_select.specs.Choosing.Targets.{Lies}
+use Rattle.nd_eval.specs.Choosing.Indexing.{chosen_of, index_operands, viewing_of}
+use Rattle.nd_eval.specs.Choosing.Targets.{Lies}
 use Rattle.nd_eval.specs.Contents as contents
 use Rattle.nd_eval.specs.Uses.{IsHeld}
 use Rattle.nd_eval.proofs.Held.{held_index_marked}

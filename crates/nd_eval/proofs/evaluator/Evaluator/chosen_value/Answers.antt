@@ -1,7 +1,7 @@
 use Rattle.std.proofs.Common.{sym, subst}
 use Rattle.nd_model.specs.Cells.Operation.{choose_in}
 use Rattle.nd_heap.specs.Values.{base_of, geo_of, value_of}
-use Rattle.nd_select.specs.Choosing.Indexing.{chosen_of}
+use Rattle.nd_eval.specs.Choosing.Indexing.{chosen_of}
 use Rattle.nd_eval.specs.Ends.{Evaluates}
 use Rattle.nd_eval.proofs.evaluator.Evaluator.chosen_value.Goals as goal
 

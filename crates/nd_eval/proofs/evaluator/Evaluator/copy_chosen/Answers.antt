@@ -8,7 +8,7 @@ use Rattle.nd_model.specs.Arrays.View.{element_places}
 use Rattle.nd_heap.specs.Values.{base_of, value_of}
 use Rattle.nd_session.specs.Inputs.Values.{inputs_of}
 use Rattle.nd_session.specs.Session.Live.{live}
-use Rattle.nd_select.specs.Choosing.Selections.{copy_of, selected}
+use Rattle.nd_eval.specs.Choosing.Selections.{copy_of, selected}
 use Rattle.nd_eval.proofs.Chains.{ends_alike}
 use Rattle.nd_eval.proofs.Copying.{copied_type}
 use Rattle.nd_eval.proofs.evaluator.Evaluator.copy_chosen.Goals as goal

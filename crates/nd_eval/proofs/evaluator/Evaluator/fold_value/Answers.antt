@@ -5,7 +5,7 @@ use Rattle.nd_model.specs.Cells.Operation.{give}
 use Rattle.nd_heap.specs.Values.{value_of}
 use Rattle.nd_session.specs.Inputs.Values.{inputs_of}
 use Rattle.nd_operation.specs.Operators.Contents.{operand_of}
-use Rattle.nd_fold.specs.Folds.{made_of_fold}
+use Rattle.nd_eval.specs.Reducing.Folds.{made_of_fold}
 use Rattle.nd_eval.proofs.Creating.{exits_new, follows_new}
 use Rattle.nd_eval.proofs.Uses.{kept_bytes, kept_next, follows_use}
 use Rattle.nd_eval.proofs.evaluator.Evaluator.fold_value.Goals as goal

@@ -8,7 +8,7 @@ use Rattle.nd_heap.specs.Values.{geo_of, value_of}
 use Rattle.nd_session.specs.Inputs.Values.{inputs_of}
 use Rattle.nd_session.specs.Session.Live.{live}
 use Rattle.nd_operation.specs.Operators.Contents.{unused_of}
-use Rattle.nd_select.specs.Choosing.Shapes.{choice_of}
+use Rattle.nd_eval.specs.Choosing.Shapes.{choice_of}
 use Rattle.nd_eval.proofs.Calls.{view_parts}
 use Rattle.nd_eval.proofs.Chains.{ends_alike, exits_making, goes_making}
 use Rattle.nd_eval.proofs.evaluator.Evaluator.reshape_value.Goals as goal

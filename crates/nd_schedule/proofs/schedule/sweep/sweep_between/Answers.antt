@@ -1,6 +1,7 @@
-use Rattle.std.proofs.Common.{◌≡◌, ◌+◌, ◌-◌, ℕ, subst, arith}
+use Rattle.std.proofs.Common.{◌≡◌, ◌+◌, ◌-◌, ℕ, refl, subst, arith}
 use Rattle.nd_model.specs.Book.Book.{Book}
 use Rattle.nd_schedule.specs.Schedule.Sweep.{IsAt, CountsFront}
+use Rattle.nd_schedule.proofs.schedule.Passing.{ends_at, ends_changed, ends_counts}
 use Rattle.nd_schedule.proofs.schedule.Sweeping.{counts_stale}
 use Rattle.nd_schedule.proofs.schedule.Visiting.{frame_at, start_at, start_counts, next_at, next_counts, next_changed, changed_to}
 use Rattle.nd_schedule.proofs.schedule.sweep.sweep_between.Goals as goal
@@ -13,6 +14,21 @@ loop-k-init g c = record {
   fit = λ n le h. h;
   counts = λ old new j before frame at h. start_counts old new c.args.i j before _ h;
 }
+
+pub returns-then-is_empty-clause-at : goal.returns-then-is_empty-clause-at
+returns-then-is_empty-clause-at g c = λ old new j frame at.
+    ends_at old new c.args.i j c.args.to _ _ _ frame _ _ _ (c.if-is_empty.ensures refl) c.loop-k.k (omega arith) (omega arith) (c.loop-k.invariant.at old new j frame at)
+
+pub returns-then-is_empty-clause-changed : goal.returns-then-is_empty-clause-changed
+returns-then-is_empty-clause-changed g c = λ old new j from first frame at le is all.
+    ends_changed old new c.args.i j c.args.to _ _ _ frame _ _ _ (c.if-is_empty.ensures refl) c.loop-k.k from first _ (omega arith) (omega arith) le is (c.loop-k.invariant.at old new j frame at) (c.loop-k.invariant.changed old new j from first frame at le is all)
+
+pub returns-then-is_empty-clause-counted : goal.returns-then-is_empty-clause-counted
+returns-then-is_empty-clause-counted g c = λ old new j before frame at h.
+    ends_counts old new c.args.i j c.args.to _ _ _ frame _ _ _ (c.if-is_empty.ensures refl) c.loop-k.k before _ (omega arith) (omega arith) (c.loop-k.invariant.at old new j frame at) (c.loop-k.invariant.counts old new j before frame at h)
+
+pub returns-then-is_empty-clause-counts : goal.returns-then-is_empty-clause-counts
+returns-then-is_empty-clause-counts g c = λ old new j before frame at h. counts_stale old new (j + (c.loop-k.k - c.args.i)) before _ (c.loop-k.invariant.counts old new j before frame at h)
 
 pub visit-requires-clause-at : goal.visit-requires-clause-at
 visit-requires-clause-at g c =

@@ -1,8 +1,0 @@
-//! Reductions and accumulations as statements call them, [`make_fold`] (NumPy reference,
-//! `ndarray.sum` and the like, `ufunc.reduce`, `ufunc.accumulate`).
-#![tactic(auto)]
-
-mod folding;
-mod numbers;
-
-pub use folding::{Folding, make_fold, make_fold_along};

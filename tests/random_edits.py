@@ -1,12 +1,12 @@
 #!/usr/bin/env python3
 """tests/random_edits.py [--seconds S] [--seed N]: edited notebooks answer as fresh notebooks of the same cells do.
 
-A trial is a notebook under fifty random edits, refused ones among them. One trial of eight begins with 40 to 100 cells,
-so that edits go past several snapshots, and has twenty edits. After each edit the program is asked for all:
-the sources, texts, refusals and saved files of all cells, the names after each, and the value of every name. The same
-questions go to a run of the program that is given the inputs and cells as they are by then, from nothing, and the
-answers must be the same. Where the program has the command `runs`, no edit may run more cells than it makes stale, as
-`stale_cells` counts them, and a refused edit runs none.
+A trial is a notebook under fifty random edits, refused ones and changes of the rule among them. One trial of eight
+begins with 40 to 100 cells, so that edits go past several snapshots, and has twenty edits. After each edit the program
+is asked for all: the sources, texts, refusals and saved files of all cells, the names after each, and the value of
+every name. The same questions go to a run of the program that is given the rule, the inputs and the cells as they are
+by then, from nothing, and the answers must be the same. Where the program has the command `runs`, no edit may run more
+cells than it makes stale, as `stale_cells` counts them, and a refused edit runs none.
 
 The program is that of NDNOTE_PROGRAM, else the one built in crates/ndnote. Exit status 1: a trial failed; its script
 is printed, made short.
@@ -63,7 +63,9 @@ POOLS: Dict[str, List[List[str]]] = {
 OPENING = "x = np.arange(4)\ny = np.arange(3)\nz = x\na = 1\nb = True"
 NAMES = ["x", "y", "z", "a", "b", "w", "q"]
 SAVES = ["s", "t"]
-CHOICES = ["insert"] * 5 + ["change"] * 4 + ["keep"] + ["move"] * 3 + ["remove"] * 2 + ["input", "drop", "refused"]
+RULES = ["python", "atomic"]
+CHOICES = ["insert"] * 5 + ["change"] * 4 + ["keep"] + ["move"] * 3 + ["remove"] * 2 + ["rule"] * 2
+CHOICES += ["input", "drop", "refused"]
 
 
 @dataclass(frozen=True)
@@ -92,7 +94,7 @@ INPUTS += [Input("buffer", f"buffer b 1 2 1 0 {data.hex() or '-'}", tuple(data[:
 
 @dataclass(frozen=True)
 class Edit:
-    """An edit: its word, its places or the name of an input, and the text or input that it brings."""
+    """An edit: its word, its places or the name of an input or a rule, and the text or input that it brings."""
     word: str
     at: int = 0
     to: int = 0
@@ -107,6 +109,8 @@ class Edit:
             return [f"move {self.at} {self.to}"]
         if self.word == "remove":
             return [f"remove {self.at}"]
+        if self.word == "rule":
+            return [f"rule {self.name}"]
         return [f"input {self.name} {self.input.words}" if self.input else f"drop {self.name}"]
 
 
@@ -118,11 +122,12 @@ class Cell:
 
 
 class Book:
-    """The cells and inputs that edits leave."""
+    """The cells, the inputs and the rule that edits leave."""
 
     def __init__(self) -> None:
         self.cells: List[Cell] = []
         self.inputs: Dict[str, Input] = {}
+        self.rule = RULES[0]
 
     def refusal(self, edit: Edit) -> Optional[str]:
         count = len(self.cells)
@@ -130,6 +135,8 @@ class Book:
             if "/" in edit.name:
                 return "refused BadInputName"
             return f"refused NoInputNamed {edit.name}" if edit.word == "drop" and edit.name not in self.inputs else None
+        if edit.word == "rule":
+            return None
         most = count if edit.word == "insert" else count - 1
         for at in (edit.at, edit.to if edit.word == "move" else 0):
             if at > most and (at or edit.word != "insert"):
@@ -153,13 +160,16 @@ class Book:
             del self.cells[edit.at]
         elif edit.word == "input":
             self.inputs[edit.name] = edit.input
+        elif edit.word == "rule":
+            self.rule = edit.name
         else:
             del self.inputs[edit.name]
         return "ok"
 
     def lines(self) -> List[str]:
-        """A script that makes these cells and inputs from nothing."""
-        edits = [Edit("input", name=name, input=value) for name, value in self.inputs.items()]
+        """A script that makes these cells and inputs from nothing, under the rule."""
+        edits = [Edit("rule", name=self.rule)] if self.rule != RULES[0] else []
+        edits += [Edit("input", name=name, input=value) for name, value in self.inputs.items()]
         edits += [Edit("insert", at, text=cell.text) for at, cell in enumerate(self.cells)]
         return [line for edit in edits for line in edit.lines()]
 
@@ -223,6 +233,8 @@ class Drawer:
             return Edit("remove", at)
         if choice == "refused":
             return self.refused(count)
+        if choice == "rule":
+            return Edit("rule", name=draw.choice(RULES))
         name = draw.choice(["f", "g", "b"])
         return Edit("input", name=name, input=draw.choice(INPUTS)) if choice == "input" else Edit("drop", name=name)
 
@@ -266,6 +278,7 @@ class Step:
     fresh: List[str]
     cells: List[Cell]
     inputs: Dict[str, Input]
+    rule: str
 
 
 def steps_of(edits: List[Edit], has_runs: bool, every: bool) -> Tuple[List[str], List[Step]]:
@@ -278,7 +291,7 @@ def steps_of(edits: List[Edit], has_runs: bool, every: bool) -> Tuple[List[str],
         if every and number >= len(edits) - EDITS or number == len(edits) - 1:
             script += ["mark", *(["runs"] if has_runs else []), "mark", *book.questions(), "mark"]
             fresh = [*book.lines(), "mark", *book.questions()]
-            steps.append(Step(number, wanted, fresh, list(book.cells), dict(book.inputs)))
+            steps.append(Step(number, wanted, fresh, list(book.cells), dict(book.inputs), book.rule))
     return script, steps
 
 
@@ -300,7 +313,7 @@ def wrong_runs(told: List[str], steps: List[Step]) -> Optional[Fault]:
     runs, last = 0, Pass()
     for at, step in enumerate(steps):
         now = int(told[3 * at + 1].split()[1])
-        following = last.then(step.cells, step.inputs, is_read) if step.wanted == "ok" else last
+        following = last.then(step.cells, step.inputs, is_read, step.rule) if step.wanted == "ok" else last
         most = following.stale if step.wanted == "ok" else 0
         if now - runs > most and (at or not step.number):
             return Fault(step.number, f"edit {step.number} ran {now - runs} cells, where {most} were stale")

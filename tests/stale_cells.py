@@ -1,9 +1,9 @@
 """Counts the cells that an edit makes stale, for notebooks whose cells have the statements of `random_edits`.
 
 A cell is stale where it is new, has another text, or where its last run read something that is another now: what a
-name is bound to, an element of an array that the cell did not make or write itself, or an input. All cells are run here
-from nothing over arrays with one axis; a run keeps what it read. Texts are read as Python's own syntax tree; a call or
-an index of another form raises NotImplementedError.
+name is bound to, an element of an array that the cell did not make or write itself, or an input. A cell that was
+refused is stale where the rule is another. All cells are run here from nothing over arrays with one axis; a run keeps
+what it read. Texts are read as Python's own syntax tree; a call or an index of another form raises NotImplementedError.
 """
 import ast
 import operator
@@ -58,6 +58,9 @@ class Session:
     names: Dict[str, Value] = field(default_factory=dict)
     bases: Dict[BaseKey, List[int]] = field(default_factory=dict)
 
+    def copy(self) -> "Session":
+        return Session(dict(self.names), {base: list(numbers) for base, numbers in self.bases.items()})
+
 
 @dataclass
 class Reads:
@@ -84,16 +87,17 @@ class Run:
         self.session, self.label, self.inputs = session, label, inputs
         self.reads, self.own, self.made = Reads(), set(), 0
         self.bound: set = set()
+        self.is_refused = False
 
-    def run(self, text: str, is_read: bool) -> Reads:
+    def run(self, text: str, is_read: bool) -> None:
         """Runs a text, none of which is run where it is no cell."""
+        self.is_refused = not is_read
         if is_read:
             try:
                 for statement in ast.parse(text).body:
                     self.statement(statement)
             except Refused:
-                pass
-        return self.reads
+                self.is_refused = True
 
     def name(self, name: str) -> Value:
         value = self.session.names.get(name)
@@ -296,18 +300,35 @@ def fitted(number: int, kind: str) -> int:
 
 
 @dataclass
+class Ran:
+    """A run that is kept: the label and the text of its cell, what it read, and whether it was refused."""
+    label: int
+    text: str
+    reads: Reads
+    is_refused: bool
+
+
+@dataclass
 class Pass:
-    """The runs of all cells of a notebook, by their labels and texts."""
-    runs: List[Tuple[int, str, Reads]] = field(default_factory=list)
+    """The runs of all cells of a notebook under a rule."""
+    rule: str = "python"
+    runs: List[Ran] = field(default_factory=list)
     stale: int = 0
 
-    def then(self, cells: List[Any], inputs: Dict[str, Any], is_read: Any) -> "Pass":
-        """Runs all cells anew, and counts those for which no run of this pass stands."""
-        session, following = Session(), Pass()
+    def stands(self, ran: Ran, cell: Any, rule: str) -> bool:
+        """Whether a run of this pass is one of the cell's present text, and no other rule may change what it left."""
+        return (ran.label, ran.text) == (cell.label, cell.text) and (rule == self.rule or not ran.is_refused)
+
+    def then(self, cells: List[Any], inputs: Dict[str, Any], is_read: Any, rule: str = "python") -> "Pass":
+        """Runs all cells anew under a rule, and counts those for which no run of this pass stands."""
+        session, following = Session(), Pass(rule)
         for cell in cells:
-            stands = any(label == cell.label and text == cell.text and reads.agree(session, inputs)
-                         for label, text, reads in self.runs)
-            following.stale += not stands
-            reads = Run(session, cell.label, inputs).run(cell.text, is_read(cell.text))
-            following.runs.append((cell.label, cell.text, reads))
+            following.stale += not any(self.stands(ran, cell, rule) and ran.reads.agree(session, inputs)
+                                       for ran in self.runs)
+            before = session.copy()
+            run = Run(session, cell.label, inputs)
+            run.run(cell.text, is_read(cell.text))
+            if rule == "atomic" and run.is_refused:
+                session = before
+            following.runs.append(Ran(cell.label, cell.text, run.reads, run.is_refused))
         return following

@@ -8,14 +8,15 @@ from random_edits import Book, Edit, is_read  # noqa: E402
 from stale_cells import Pass  # noqa: E402
 
 
-def stale_after(texts: List[str], edit: Edit) -> int:
-    """How many cells an edit makes stale in a notebook of these texts."""
+def stale_after(texts: List[str], edit: Edit, rule: str = "python") -> int:
+    """How many cells an edit makes stale in a notebook of these texts under a rule."""
     book = Book()
+    book.make(Edit("rule", name=rule))
     for at, text in enumerate(texts):
         book.make(Edit("insert", at, text=text))
-    before = Pass().then(book.cells, book.inputs, is_read)
+    before = Pass().then(book.cells, book.inputs, is_read, book.rule)
     book.make(edit)
-    return before.then(book.cells, book.inputs, is_read).stale
+    return before.then(book.cells, book.inputs, is_read, book.rule).stale
 
 
 class StaleCells(unittest.TestCase):
@@ -41,6 +42,32 @@ class StaleCells(unittest.TestCase):
     def test_a_text_that_is_no_cell_reads_nothing(self) -> None:
         texts = ["x = np.arange(3)", "print(x)\nx = 1 +"]
         self.assertEqual(stale_after(texts, Edit("edit", 0, text="x = np.arange(2)")), 1)
+
+    def test_a_refused_cell_and_its_reader_where_the_rule_changes(self) -> None:
+        texts = ["x = np.arange(3)", "x[0] = 5\nnp.save('a', x)\nprint(x[0])\nprint(q)", "print(x)", "print(x[1:])"]
+        for rule, other in (("python", "atomic"), ("atomic", "python")):
+            self.assertEqual(stale_after(texts, Edit("rule", name=other), rule), 2)
+
+    def test_the_present_rule_is_set(self) -> None:
+        for rule in ("python", "atomic"):
+            self.assertEqual(stale_after(["x = np.arange(3)", "x[0] = 5\nprint(q)"], Edit("rule", name=rule), rule), 0)
+
+    def test_cells_that_are_not_refused_where_the_rule_changes(self) -> None:
+        texts = ["x = np.arange(6)", "y = x[1:4]", "y += 10", "print(x)"]
+        self.assertEqual(stale_after(texts, Edit("rule", name="atomic")), 0)
+
+    def test_a_text_that_is_no_cell_where_the_rule_changes(self) -> None:
+        self.assertEqual(stale_after(["x = 1 +", "x = 1"], Edit("rule", name="atomic")), 1)
+
+    def test_a_cell_is_refused_and_what_it_wrote_is_undone(self) -> None:
+        texts = ["x = np.arange(3)", "x[0] = 5", "print(x)"]
+        edit = Edit("edit", 1, text="x[0] = 5\nprint(q)")
+        self.assertEqual([stale_after(texts, edit, rule) for rule in ("python", "atomic")], [1, 2])
+
+    def test_a_refused_cell_runs_again_and_leaves_nothing_again(self) -> None:
+        texts = ["x = np.arange(3)", "x[0] = x[2]\nprint(q)", "print(x[:2])"]
+        edit = Edit("edit", 0, text="x = np.arange(3)\nx[2] = 9")
+        self.assertEqual([stale_after(texts, edit, rule) for rule in ("python", "atomic")], [3, 2])
 
 
 if __name__ == "__main__":

@@ -74,6 +74,7 @@ class Lines:
             lambda: [f'{pick(["remove", "show", "show", "source", "names"])} {self.at()}'],
             lambda: [f'{pick(["value", "value", "saved"])} {self.at()} {pick(["x", "y", "n", "f", "a/b"])}'],
             lambda: [pick(['count', 'drop f', 'drop x', '', '# a remark', 'frob', 'show  0', 'count '])],
+            lambda: [f'rule {pick(["python", "atomic", "atomic", "other"])}'],
             lambda: [self.source_line()]])()
 
     def script(self) -> bytes:

@@ -1,8 +1,8 @@
 -- Records of runs as the definitions have them.
-use Rattle.std.specs.Prelude.{◌≡◌, ℕ, List, Option, Some, None, if◌then◌else◌}
+use Rattle.std.specs.Prelude.{◌≡◌, ℕ, Bool, List, Option, Some, None, if◌then◌else◌}
 use Rattle.nd_model.specs.Cells.Fault.{Refusal}
 use Rattle.nd_model.specs.Cells.Session.{Session, collected}
-use Rattle.nd_model.specs.Cells.Running.{Inputs, Running}
+use Rattle.nd_model.specs.Cells.Running.{Key, Running, World}
 use Rattle.nd_model.specs.Grammar.Syntax.{Parsed}
 use Rattle.nd_model.specs.Cells.Cell.{Saved, Ended, cell}
 use Rattle.nd_model.specs.Cells.Footprint.{HasNone, reads_of, effects_of}
@@ -28,12 +28,12 @@ recorded r = record {
   effects = effects_in r.text r.refusal r.saves r.changes;
 }
 
--- how the run ended, with the session at its end
-abbrev pub ended_in : RecordData → Running → Ended
-ended_in r x = record { text = r.text; refusal = r.refusal; saves = r.saves; running = x }
+-- the same end, where these keys count as read
+abbrev pub with_reads : (Key → Bool) → Ended → Ended
+with_reads keys e = record e { running = record e.running { read = keys } }
 
 -- the record of a run that began with a session and ended so
-abbrev pub record_at_end : Session → Inputs → Ended → records.Record
+abbrev pub record_at_end : Session → World → Ended → records.Record
 record_at_end s i e = record {
   label = e.running.label;
   read = reads_of e;
@@ -42,7 +42,7 @@ record_at_end s i e = record {
 }
 
 -- A cell ended so that began with a sound session, without a base of its label, of which this was kept.
-pub record EndsRun (kept : Session) (i : Inputs) (e : Ended) : Type 0 where
+pub record EndsRun (kept : Session) (i : World) (e : Ended) : Type 0 where
   pub parsed : Parsed
   pub before : Session
   pub is : kept ≡ collected before
@@ -53,9 +53,9 @@ pub record EndsRun (kept : Session) (i : Inputs) (e : Ended) : Type 0 where
 -- what every record keeps true: it is that of such a run
 pub record IsOfRun (r : RecordData) : Type 0 where
   pub parsed : Parsed
-  pub inputs : Inputs
+  pub world : World
   pub before : Session
   pub none : HasNone r.changes.label before
   pub sound : IsSoundSession before
-  pub same : recorded r ≡ records.record_of r.changes.label parsed inputs before
-  pub next : r.changes.next ≡ (cell r.changes.label parsed inputs before).running.next
+  pub same : recorded r ≡ records.record_of r.changes.label parsed world before
+  pub next : r.changes.next ≡ (cell r.changes.label parsed world before).running.next

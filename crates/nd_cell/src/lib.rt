@@ -11,6 +11,7 @@ pub use nd_eval::{
 };
 pub use nd_meter::Meter;
 pub use nd_parse::cells::ParseKind;
+pub use nd_session::session::CellRule;
 pub use record::Record;
 pub use result::{CellFault, CellResult, Refusal};
 pub use run::run_cell;

@@ -7,19 +7,21 @@ ghost use Rattle.nd_model.specs.Cells.Footprint.{HasNone, replayed, with_effects
 ghost use Rattle.nd_model.specs.Book.Records.{StillHolds};
 ghost use Rattle.nd_model.specs.Cells.Running as running;
 ghost use Rattle.nd_model.specs.Cells.Session.{Names, collected};
+ghost use Rattle.nd_model.specs.Cells.Cell.{ended_under, session_after};
 ghost use Rattle.nd_session.specs.Session.Change.{change_of};
 ghost use Rattle.nd_session.specs.Session.Changes.{is_bound};
 ghost use Rattle.nd_session.specs.Session.Filter.{covers};
-ghost use Rattle.nd_session.specs.Session.Kept.{version_of};
+ghost use Rattle.nd_session.specs.Session.Kept.{thawed, version_of};
 ghost use Rattle.nd_session.specs.Session.Live.{live};
 ghost use Rattle.nd_session.specs.Session.Order.{names_in};
-ghost use Rattle.nd_session.specs.Inputs.Values.{inputs_of};
-ghost use Rattle.nd_cell.specs.Records.{EndsRun, ended_in, record_at_end, recorded};
+ghost use Rattle.nd_session.specs.Inputs.Values.{inputs_of, rule_of, world_of};
+ghost use Rattle.nd_cell.specs.Records.{EndsRun, record_at_end, recorded, with_reads};
 ghost use Rattle.nd_cell.specs.Results.{ended_of, refusal_of, saves_of};
 
 use crate::result::CellResult;
+use indexmap::IndexMap;
 use nd_session::session::{
-    Change, Changes, Inputs, KeyFilter, NameOrder, OutOfMemory, Reads, Session, Version,
+    CellRule, Change, Changes, Inputs, KeyFilter, NameOrder, OutOfMemory, Reads, Session, Version,
 };
 use std::marker::Model;
 use std::rc::Rc;
@@ -63,27 +65,54 @@ impl Model for Record {
     }) };
 }
 
+/// Ends a run that began with a snapshot. A refused one under `Atomic` saves nothing, and its
+/// session is that of the snapshot again.
+fn end_by(rule: CellRule, session: &mut Session, before: Version, gives: CellResult) -> CellResult
+    ensures { ended_of result (live session.new) ≡ with_reads (live session.new).read
+        (ended_under (rule_of rule) (thawed before) (ended_of gives (live session.old))) }
+{
+    if gives.refusal.is_none() {
+        return gives;
+    }
+    match rule {
+        CellRule::Python => gives,
+        CellRule::Atomic => {
+            let alloc = session.allocator();
+            *session = Session::resume(alloc, before);
+            CellResult {
+                text: gives.text,
+                refusal: gives.refusal,
+                saves: IndexMap::new(alloc),
+            }
+        }
+    }
+}
+
 impl Record {
-    /// Returns the record of a run that began with a snapshot, ended with a session, and gave
-    /// this result.
+    /// Returns the record of a run that began with a snapshot, came to a session, and gave this
+    /// result. The session then is the one that the rule leaves.
     pub(crate) fn of_run(
-        session: &Session,
-        before: &Version,
+        session: &mut Session,
+        before: Version,
         inputs: &Inputs,
+        rule: CellRule,
         gives: CellResult,
     ) -> Result<Record, OutOfMemory>
-        requires { EndsRun (version_of before.now) (inputs_of inputs.now.entries)
-            (ended_of gives (live session.now)) }
+        requires { EndsRun (version_of before) (world_of (inputs_of inputs.now.entries) rule)
+            (ended_under (rule_of rule) (thawed before) (ended_of gives (live session.old))) }
         ensures recorded { IfOk result (λ r. recorded r
-            ≡ record_at_end (version_of before.now) (inputs_of inputs.now.entries)
-            (ended_of gives (live session.now))) }
-        ensures ended { IfOk result
-            (λ r. ended_in r (live session.now) ≡ ended_of gives (live session.now)) }
+            ≡ record_at_end (version_of before) (world_of (inputs_of inputs.now.entries) rule)
+            (ended_under (rule_of rule) (thawed before) (ended_of gives (live session.old)))) }
+        ensures after { OnOk result (collected (running.session_of (live session.new))
+            ≡ session_after (ended_under (rule_of rule) (thawed before)
+            (ended_of gives (live session.old)))) }
     {
         let alloc = session.allocator();
-        let result = Rc::new(alloc, gives)?;
-        let reads = Reads::new(alloc, session.seen(), before, inputs)?;
+        let is_refused = gives.refusal.is_some();
+        let reads = Reads::new(alloc, session.seen(), &before, inputs, rule, is_refused)?;
+        let gives = end_by(rule, session, before, gives);
         let changes = Changes::new(alloc, session)?;
+        let result = Rc::new(alloc, gives)?;
         Ok(Record {
             reads,
             changes,
@@ -100,23 +129,25 @@ impl Record {
         self.result.as_ref()
     }
 
-    /// Returns whether the record may stand for a run of its cell over a session and these
-    /// inputs: all that it read is unchanged. It takes no memory.
-    pub fn still_holds(&self, session: &Session, inputs: &Inputs) -> bool
+    /// Returns whether the record may stand for a run of its cell over a session, by these inputs
+    /// and this rule: all that it read is unchanged. It takes no memory.
+    pub fn still_holds(&self, session: &Session, inputs: &Inputs, rule: CellRule) -> bool
         ensures { IsTrue result ↔ StillHolds (recorded self.now)
-            (running.session_of (live session.now)) (inputs_of inputs.now.entries) }
+            (running.session_of (live session.now))
+            (world_of (inputs_of inputs.now.entries) rule) }
     {
-        !session.has_label(self.changes.label()) && self.reads.agree(session, inputs)
+        !session.has_label(self.changes.label()) && self.reads.agree(session, inputs, rule)
     }
 
     /// Returns whether the record still holds, where no bound value lies in a block of the cell's
     /// label.
-    pub fn agrees(&self, session: &Session, inputs: &Inputs) -> bool
+    pub fn agrees(&self, session: &Session, inputs: &Inputs, rule: CellRule) -> bool
         requires { HasNone (recorded self.now).label (running.session_of (live session.now)) }
         ensures { IsTrue result ↔ StillHolds (recorded self.now)
-            (running.session_of (live session.now)) (inputs_of inputs.now.entries) }
+            (running.session_of (live session.now))
+            (world_of (inputs_of inputs.now.entries) rule) }
     {
-        self.reads.agree(session, inputs)
+        self.reads.agree(session, inputs, rule)
     }
 
     /// Returns what the run last did to a name: true where it bound it, false where it unbound it,
@@ -136,7 +167,7 @@ impl Record {
     /// No byte of a block is copied, except those that were written. After want of memory the
     /// session may only be dropped.
     pub fn replay(&self, session: &mut Session) -> Result<(), OutOfMemory>
-        requires { (i : running.Inputs)
+        requires { (i : running.World)
             × StillHolds (recorded self.now) (running.session_of (live session.old)) i }
         ensures { OnOk result (collected (running.session_of (live session.new))
             ≡ with_effects (recorded self.now).label (recorded self.now).effects
@@ -186,9 +217,9 @@ impl Record {
         session: &Session,
         change: &mut Change,
     ) -> Result<(), OutOfMemory>
-        ensures { OnOk result ((inputs : running.Inputs) → Follows (change_of change.old)
+        ensures { OnOk result ((world : running.World) → Follows (change_of change.old)
             (change_of change.new) (recorded before.now) (recorded self.now)
-            (collected (running.session_of (live session.now))) inputs) }
+            (collected (running.session_of (live session.now))) world) }
     {
         change.follow(&before.changes, &self.changes, session)?;
         Ok(())

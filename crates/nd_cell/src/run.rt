@@ -4,16 +4,17 @@ ghost use Rattle.std.specs.Prelude.{◌≡◌, ◌+◌, ◌-◌, ◌<◌, ◌≤
 ghost use Rattle.nd_model.specs.Cells.Fault as refusals;
 ghost use Rattle.nd_model.specs.Cells.Running as running;
 ghost use Rattle.nd_model.specs.Cells.Running.{Running};
-ghost use Rattle.nd_model.specs.Cells.Cell.{Ended, Saved, and_then, cell, ran, statement, statements, with_save};
+ghost use Rattle.nd_model.specs.Cells.Cell.{Ended, Saved, and_then, cell, ran, session_after, statement, statements, with_save};
 ghost use Rattle.nd_model.specs.Cells.Footprint.{HasNone};
 ghost use Rattle.nd_model.specs.Grammar.Tokens.{tokens_of_lines, tokens_of_stmt};
 ghost use Rattle.nd_model.specs.Grammar.Reading.{reading};
 ghost use Rattle.nd_model.specs.Book.Records.{record_of};
 ghost use Rattle.nd_syntax.specs.Trees.Syntax.{kind_of, lines_of, stmt_of};
-ghost use Rattle.nd_session.specs.Inputs.Values.{inputs_of};
+ghost use Rattle.nd_model.specs.Cells.Session.{collected};
+ghost use Rattle.nd_session.specs.Inputs.Values.{inputs_of, world_of};
 ghost use Rattle.nd_session.specs.Session.Live.{live};
 ghost use Rattle.nd_eval.specs.Done.{output_of};
-ghost use Rattle.nd_cell.specs.Records.{ended_in, recorded};
+ghost use Rattle.nd_cell.specs.Records.{recorded};
 ghost use Rattle.nd_cell.specs.Results.{after_line, ended_of, refusal_of, saved_of, saves_of};
 
 use crate::record::Record;
@@ -22,7 +23,7 @@ use indexmap::IndexMap;
 use nd_eval::{Output, StmtError, StmtFault, run_stmt};
 use nd_meter::Meter;
 use nd_parse::cells::{Line, ParseFault, parse_cell};
-use nd_session::session::{Inputs, OutOfMemory, Session};
+use nd_session::session::{CellRule, Inputs, OutOfMemory, Session};
 use std::alloc::Global;
 
 /// The most bytes of a cell's text.
@@ -156,25 +157,27 @@ fn run_text(session: &mut Session, inputs: &Inputs, text: &str) -> Result<CellRe
 }
 
 /// Runs a cell of this label over a session, counts the run, and returns its record, with the
-/// result. After want of memory the session may only be dropped.
+/// result. Where it is refused, the rule says what stands of it. After want of memory the session
+/// may only be dropped.
 ///
 /// The text `x = 1`, `print(x)`, `print(y)`, in three lines, gives the text `1` and a newline, and
-/// the refusal `NoName y` at line 3. It binds `x`, and has read that there is no `y`.
+/// the refusal `NoName y` at line 3. It has read that there is no `y`, and the rule: under `Python`
+/// it binds `x`, under `Atomic` it binds nothing.
 pub fn run_cell(
     meter: &mut Meter,
     session: &mut Session,
     inputs: &Inputs,
+    rule: CellRule,
     label: u64,
     text: &str,
 ) -> Result<Record, OutOfMemory>
     requires { HasNone label (running.session_of (live session.old)) }
     ensures recorded { IfOk result (λ r. recorded r
-        ≡ record_of label (reading text.now) (inputs_of inputs.now.entries)
+        ≡ record_of label (reading text.now) (world_of (inputs_of inputs.now.entries) rule)
         (running.session_of (live session.old))) }
-    ensures ended { IfOk result (λ r.
-        cell label (reading text.now) (inputs_of inputs.now.entries)
-        (running.session_of (live session.old))
-        ≡ ended_in r (live session.new)) }
+    ensures after { OnOk result (collected (running.session_of (live session.new))
+        ≡ session_after (cell label (reading text.now)
+        (world_of (inputs_of inputs.now.entries) rule) (running.session_of (live session.old)))) }
     ensures counted { meter.new ≡ min (meter.old + 1) (2 ^ 64 - 1) }
 {
     meter.advance();
@@ -182,6 +185,6 @@ pub fn run_cell(
     session.start(label)?;
     let before = session.freeze()?;
     let gives = run_text(session, inputs, text)?;
-    let made = Record::of_run(session, &before, inputs, gives)?;
+    let made = Record::of_run(session, before, inputs, rule, gives)?;
     Ok(made)
 }

@@ -4,7 +4,7 @@ use Rattle.std.specs.Prelude.{bytes_eq, ◌⊎◌, is_none}
 use Rattle.std.proofs.lemmas.Bool.{cases_Bool, or_left, or_right, or_cases}
 use Rattle.nd_model.specs.Arrays.Value.{Base, Value, lies_in}
 use Rattle.nd_model.specs.Cells.Session.{Names, lookup, bind, unbind, is_held, Session, held_bytes}
-use Rattle.nd_model.specs.Cells.Running.{Event, Binds, Unbinds, Key, Name, Input, Length, Byte, Inputs, is_touched}
+use Rattle.nd_model.specs.Cells.Running.{Event, Binds, Unbinds, Key, Name, Input, Length, Byte, OfRule, World, is_touched}
 use Rattle.nd_model.specs.Cells.Cell.{Ended, cell, session_after}
 use Rattle.nd_model.specs.Cells.Footprint.{Found, Bound, Number, found, HasNone, reads_of, replayed, patched, with_effects}
 use Rattle.nd_model.specs.Book.Records.{Record, StillHolds}
@@ -74,23 +74,23 @@ held_from r b (Unbinds n ∷ es) ns other named h = elim (held_from r b es (unbi
 ]
 
 -- the base of a name that was read is there where the record holds
-named_there : (r : Record) (s : Session) (i : Inputs) (b : Base) → StillHolds r s i → IsNamed r b → is_held b s.names ≡ true
+named_there : (r : Record) (s : Session) (i : World) (b : Base) → StillHolds r s i → IsNamed r b → is_held b s.names ≡ true
 named_there r s i b h by =
     held_by_name b by.name by.value s.names (same_bound _ _ (same_some _ _ (sym (h.same (Name by.name) by.read) ∙ by.found))) by.lies
 
 -- ---- a run over a session
 
-run_names : (r : Record) (s : Session) (i : Inputs) → IsRunOver r s i → IsByName r
+run_names : (r : Record) (s : Session) (i : World) → IsRunOver r s i → IsByName r
 run_names r s i run = subst IsByName (sym run.run) (by_name r.label run.parsed s i)
 
-holds_here : (r : Record) (s : Session) (i : Inputs) → IsRunOver r s i → StillHolds r s i
+holds_here : (r : Record) (s : Session) (i : World) → IsRunOver r s i → StillHolds r s i
 holds_here r s i run = record { none = run.none; same = λ k read. ap (λ (x : Record). x.values k) run.run ∙ found_read k (ap (λ (x : Record). x.read k) (sym run.run) ∙ read) }
   where
     found_read : (k : Key) → reads_of (cell r.label run.parsed i s) k ≡ true → cond (reads_of (cell r.label run.parsed i s) k) (Some (found s i k)) None ≡ Some (found s i k)
     found_read k read = rw read refl
 
 -- where it does nothing, what is there behind it was there before
-pub undone : (r : Record) (s : Session) (i : Inputs) (k : Key) → IsRunOver r s i → puts r k ≡ None → IsThere (with_effects r.label r.effects s) k
+pub undone : (r : Record) (s : Session) (i : World) (k : Key) → IsRunOver r s i → puts r k ≡ None → IsThere (with_effects r.label r.effects s) k
     → IsThere s k × (found (with_effects r.label r.effects s) i k ≡ found s i k)
 undone r s i (Name n) run none there = (tt, ap Bound (untouched_lookup n r.effects.events s.names (untouched (is_touched n r.effects.events) none)))
   where
@@ -98,6 +98,7 @@ undone r s i (Name n) run none there = (tt, ap Bound (untouched_lookup n r.effec
     untouched true e = absurd (none_some _ (sym e))
     untouched false e = refl
 undone r s i (Input n) run none there = (tt, refl)
+undone r s i OfRule run none there = (tt, refl)
 undone r s i (Length b) run none there =
     let other : eqb b.label r.label ≡ false = foreign (eqb b.label r.label) none in
     let before : is_held b s.names ≡ true = elim (held_from r b r.effects.events s.names other (run_names r s i run).events there) [ inl held ↦ held | inr by ↦ named_there r s i b (holds_here r s i run) by ] in
@@ -126,7 +127,7 @@ undone r s i (Byte b p) run none there =
     get_or-patched w (x ∷ xs) (suc p) h = get_or-patched (λ p. w (suc p)) xs p h
 
 -- where it does something, that is there behind it
-pub done_there : (r : Record) (s : Session) (i : Inputs) (k : Key) (f : Found) → IsRunOver r s i → puts r k ≡ Some f → IsThere (with_effects r.label r.effects s) k
+pub done_there : (r : Record) (s : Session) (i : World) (k : Key) (f : Found) → IsRunOver r s i → puts r k ≡ Some f → IsThere (with_effects r.label r.effects s) k
     → found (with_effects r.label r.effects s) i k ≡ f
 done_there r s i (Name n) f run is there =
     let parts : (is_touched n r.effects.events ≡ true) × (Bound (lookup n (replayed r.effects.events [])) ≡ f) = touched (is_touched n r.effects.events) is in
@@ -136,6 +137,7 @@ done_there r s i (Name n) f run is there =
     touched true e = (refl, same_some _ _ e)
     touched false e = absurd (none_some _ e)
 done_there r s i (Input n) f run is there = absurd (none_some _ is)
+done_there r s i OfRule f run is there = absurd (none_some _ is)
 done_there r s i (Length b) f run is there =
     let parts : (eqb b.label r.label ≡ true) × (Number (length (r.effects.bases b)) ≡ f) = own (eqb b.label r.label) is in
     rw (there, parts.0) parts.1
@@ -175,18 +177,18 @@ either : (d : Change) (k : Key) → (d k ≡ None) ⊎ ((f : Found) × (d k ≡ 
 either d k = elim (d k) as (λ o. (o ≡ None) ⊎ ((f : Found) × (o ≡ Some f))) [ None ↦ inl refl | Some f ↦ inr (f, refl) ]
 
 -- where a key fits, it is now what the run found
-fits_found : (d : Change) (r : Record) (s t : Session) (i j : Inputs) (k : Key) → IsOver d s i t j → StillHolds r s i → IsTrue (r.read k) → IsThere s k → IsThere t k → (d k ≡ None) ⊎ (d k ≡ r.values k)
+fits_found : (d : Change) (r : Record) (s t : Session) (i j : World) (k : Key) → IsOver d s i t j → StillHolds r s i → IsTrue (r.read k) → IsThere s k → IsThere t k → (d k ≡ None) ⊎ (d k ≡ r.values k)
     → r.values k ≡ Some (found t j k)
 fits_found d r s t i j k over h read in_s in_t (inl out) = h.same k read ∙ ap Some (over.same k out in_s in_t)
 fits_found d r s t i j k over h read in_s in_t (inr is) = h.same k read ∙ ap Some (sym (over.now k (found s i k) (is ∙ h.same k read) in_t))
 
 -- and the base of a name that was read is there too
-named_now : (d : Change) (r : Record) (s t : Session) (i j : Inputs) (b : Base) → IsOver d s i t j → StillHolds r s i → Fits d r → IsNamed r b → is_held b t.names ≡ true
+named_now : (d : Change) (r : Record) (s t : Session) (i j : World) (b : Base) → IsOver d s i t j → StillHolds r s i → Fits d r → IsNamed r b → is_held b t.names ≡ true
 named_now d r s t i j b over h fits by =
     held_by_name b by.name by.value t.names
     (same_bound _ _ (same_some _ _ (sym (fits_found d r s t i j (Name by.name) over h by.read tt tt (fits (Name by.name) by.read)) ∙ by.found))) by.lies
 
-pub fits_holds : (d : Change) (r : Record) (s t : Session) (i j : Inputs) → IsOver d s i t j → IsRunOver r s i → HasNone r.label t → Fits d r → StillHolds r t j
+pub fits_holds : (d : Change) (r : Record) (s t : Session) (i j : World) → IsOver d s i t j → IsRunOver r s i → HasNone r.label t → Fits d r → StillHolds r t j
 fits_holds d r s t i j over run none fits = record { none = none; same = same }
   where
     h : StillHolds r s i
@@ -195,12 +197,13 @@ fits_holds d r s t i j over run none fits = record { none = none; same = same }
     same : (k : Key) → IsTrue (r.read k) → r.values k ≡ Some (found t j k)
     same (Name n) read = fits_found d r s t i j (Name n) over h read tt tt (fits (Name n) read)
     same (Input n) read = fits_found d r s t i j (Input n) over h read tt tt (fits (Input n) read)
+    same OfRule read = fits_found d r s t i j OfRule over h read tt tt (fits OfRule read)
     same (Length b) read = let by : IsNamed r b = (run_names r s i run).lengths b read in
         fits_found d r s t i j (Length b) over h read (named_there r s i b h by) (named_now d r s t i j b over h fits by) (fits (Length b) read)
     same (Byte b p) read = let by : IsNamed r b = (run_names r s i run).bytes b p read in
         fits_found d r s t i j (Byte b p) over h read (named_there r s i b h by) (named_now d r s t i j b over h fits by) (fits (Byte b p) read)
 
-holds_fits : (d : Change) (r : Record) (s t : Session) (i j : Inputs) → IsOver d s i t j → IsByName r → StillHolds r t j → Fits d r
+holds_fits : (d : Change) (r : Record) (s t : Session) (i j : World) → IsOver d s i t j → IsByName r → StillHolds r t j → Fits d r
 holds_fits d r s t i j over names h k read = elim (either d k) [
   | inl out ↦ inl out
   | inr is ↦ inr (is.1 ∙ ap Some (sym (over.now k is.0 is.1 (there k read))) ∙ sym (h.same k read))
@@ -209,6 +212,7 @@ holds_fits d r s t i j over names h k read = elim (either d k) [
     there : (k : Key) → IsTrue (r.read k) → IsThere t k
     there (Name n) read = tt
     there (Input n) read = tt
+    there OfRule read = tt
     there (Length b) read = named_there r t j b h (names.lengths b read)
     there (Byte b p) read = named_there r t j b h (names.bytes b p read)
 
@@ -216,11 +220,11 @@ pub holds_over : HoldsOver
 holds_over d r s t i j over run none = (holds_fits d r s t i j over (run_names r s i run), fits_holds d r s t i j over run none)
 
 -- what is there behind a run, or behind none, where that does something, and where it does not
-done_by : (r : Option Record) (s : Session) (i : Inputs) (k : Key) (f : Found) → IfSome r (λ r. IsRunOver r s i) → puts_by r k ≡ Some f → IsThere (did_by r s) k → found (did_by r s) i k ≡ f
+done_by : (r : Option Record) (s : Session) (i : World) (k : Key) (f : Found) → IfSome r (λ r. IsRunOver r s i) → puts_by r k ≡ Some f → IsThere (did_by r s) k → found (did_by r s) i k ≡ f
 done_by None s i k f run is there = absurd (none_some _ is)
 done_by (Some r) s i k f run is there = done_there r s i k f run is there
 
-undone_by : (r : Option Record) (s : Session) (i : Inputs) (k : Key) → IfSome r (λ r. IsRunOver r s i) → puts_by r k ≡ None → IsThere (did_by r s) k → IsThere s k × (found (did_by r s) i k ≡ found s i k)
+undone_by : (r : Option Record) (s : Session) (i : World) (k : Key) → IfSome r (λ r. IsRunOver r s i) → puts_by r k ≡ None → IsThere (did_by r s) k → IsThere s k × (found (did_by r s) i k ≡ found s i k)
 undone_by None s i k run none there = (there, refl)
 undone_by (Some r) s i k run none there = undone r s i k run none there
 
@@ -243,11 +247,11 @@ goes_on d e r q s t i j over old new step = record { now = now; same = same }
     ]
 
 -- the record of a run stands for one over each session that it holds over
-pub run_over : (r : Record) (s t : Session) (i j : Inputs) → IsRunOver r s i → StillHolds r t j → IsRunOver r t j
+pub run_over : (r : Record) (s t : Session) (i j : World) → IsRunOver r s i → StillHolds r t j → IsRunOver r t j
 run_over r s t i j run h = record { parsed = run.parsed; none = h.none; run = (stands r.label run.parsed r t j (i, s, run.none, run.run) h).0 }
 
 -- the change without what the run overwrites is a step behind it
-pub without_step : (d : Change) (r : Record) (u t : Session) (j : Inputs) → IsStep d (Some r) (Some r) u t j (without r d)
+pub without_step : (d : Change) (r : Record) (u t : Session) (j : World) → IsStep d (Some r) (Some r) u t j (without r d)
 without_step d r u t j = record {
   now = λ k f is there. let parts : (puts r k ≡ None) × (d k ≡ Some f) = left (puts r k) (d k) f is in inr (parts.1, parts.0);
   same = λ k out in_u in_t. refl;

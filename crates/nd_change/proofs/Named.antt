@@ -9,8 +9,8 @@ use Rattle.nd_model.specs.Arrays.Value.{Base, same_base, Value, Int, Truth, Scal
 use Rattle.nd_model.specs.Arrays.Strides.{limit_fault, from_parts}
 use Rattle.nd_model.specs.Cells.Session.{Names, lookup, bind, unbind, is_in, Session}
 use Rattle.nd_model.specs.Arrays.Content.{Content, array_bytes}
-use Rattle.nd_model.specs.Cells.Running.{Source, Event, Binds, Unbinds, Inputs, Key, Name, Length, Byte, Running, start, Act, Lookup, Ask, Use, Make, reply, after, is_name, is_length_of, is_byte, is_touched, is_own, Effect, Nothing, Prints, Saves, Binding, Unbinding, Storing, done, Output}
-use Rattle.nd_model.specs.Cells.Fault.{Fault, ViewFault, BadArgument}
+use Rattle.nd_model.specs.Cells.Running.{Source, Event, Binds, Unbinds, Inputs, Rule, Python, Atomic, World, Key, Name, Length, Byte, Running, start, Act, Lookup, Ask, Use, Make, reply, after, is_name, is_length_of, is_byte, is_touched, is_own, Effect, Nothing, Prints, Saves, Binding, Unbinding, Storing, done, Output}
+use Rattle.nd_model.specs.Cells.Fault.{Fault, Refusal, ViewFault, BadArgument}
 use Rattle.nd_model.specs.Cells.Fault as fault
 use Rattle.nd_model.specs.Cells.InputName.{is_input_name}
 use Rattle.nd_model.specs.Grammar.Syntax.{Stmt, Line, Parsed}
@@ -21,7 +21,7 @@ use Rattle.nd_model.specs.Indexing.Viewing.{choose}
 use Rattle.nd_model.specs.Cells.Operation
 use Rattle.nd_model.specs.Cells.Operation.{operands, Operation, Computes, Views, perform, Plan, Named, FromInput, Does, Plans, Done, And, evaluate, with_values, evaluate_all, Work, Acts, ActsOn}
 use Rattle.nd_model.specs.Cells.Meaning
-use Rattle.nd_model.specs.Cells.Cell.{Saved, Ended, had, statement, most_text, with_save, and_then, statements, ran, cell}
+use Rattle.nd_model.specs.Cells.Cell.{Saved, Ended, had, statement, most_text, with_save, and_then, statements, ran, ruled, under, cell}
 use Rattle.nd_model.specs.Cells.Footprint.{Bound, found, replayed}
 use Rattle.nd_model.specs.Book.Records.{record_of}
 use Rattle.nd_model.specs.Cells.Sound.{IsViewOf, AreViewsOf}
@@ -486,10 +486,35 @@ module _ (s : Session) where
   j_start : (label : ℕ) → J (start label s)
   j_start label = record { names = refl; bound = tt; lengths = λ b is. absurd (let f : false ≡ true = is in cc); bytes = λ b p is. absurd (let f : false ≡ true = is in cc) }
 
-  same_label : (i : Inputs) (p : Parsed) (label : ℕ) → (cell label p i s).running.label ≡ label
+  no_more : (a : Bool) → (a || false) ≡ true → a ≡ true
+  no_more true h = refl
+  no_more false h = h
+
+  known_still : (a b : Bool) → (a || b) ≡ true → (a || (b || false)) ≡ true
+  known_still true b h = refl
+  known_still false b h = or_left _ _ h
+
+  j_under : (label : ℕ) (rule : Rule) (o : Option (ℕ × Refusal)) (e : Ended) → J e.running → J (under rule (start label s) o e).running
+  j_under label rule None e j = j
+  j_under label Python (Some f) e j = record {
+    names = j.names;
+    bound = bound_grow e.running (ruled e.running) (λ b h. known_still (nat_eq b.label e.running.label) (e.running.read (Length b)) h) e.running.events j.bound;
+    lengths = λ b read. came_on e.running (ruled e.running) (λ k h. or_left _ _ h) b (j.lengths b (no_more _ read));
+    bytes = λ b p read. came_on e.running (ruled e.running) (λ k h. or_left _ _ h) b (j.bytes b p (no_more _ read));
+  }
+  j_under label Atomic (Some f) e j =
+      let end : Running = record (start label s) { read = (ruled e.running).read } in
+      record {
+        names = refl;
+        bound = tt;
+        lengths = λ b read. came_on e.running end (λ k h. or_left _ _ h) b (j.lengths b (no_more _ read));
+        bytes = λ b p read. came_on e.running end (λ k h. or_left _ _ h) b (j.bytes b p (no_more _ read));
+      }
+
+  same_label : (i : World) (p : Parsed) (label : ℕ) → (cell label p i s).running.label ≡ label
   same_label i p label = (Rattle.nd_model.proofs.Tracks.tracks_cell label p s i).labelled
 
-  named : (label : ℕ) (p : Parsed) (i : Inputs) (b : Base) → Came (cell label p i s).running b → IsNamed (record_of label p i s) b
+  named : (label : ℕ) (p : Parsed) (i : World) (b : Base) → Came (cell label p i s).running b → IsNamed (record_of label p i s) b
   named label p i b c = record {
     name = c.name;
     value = c.value;
@@ -498,7 +523,7 @@ module _ (s : Session) where
     lies = c.lies;
   }
 
-  binds_named : (label : ℕ) (p : Parsed) (i : Inputs) (es : List Event) → J (cell label p i s).running → AreBound (cell label p i s).running es → BindsNamed (record_of label p i s) es
+  binds_named : (label : ℕ) (p : Parsed) (i : World) (es : List Event) → J (cell label p i s).running → AreBound (cell label p i s).running es → BindsNamed (record_of label p i s) es
   binds_named label p i [] j h = tt
   binds_named label p i (Binds n v ∷ es) j h = (one, binds_named label p i es j h.1)
     where
@@ -514,7 +539,8 @@ module _ (s : Session) where
 
 pub by_name : ByName
 by_name label p s i =
-    let j : J s (cell label p i s).running = j_ran s i p (start label s) (j_start s label) in
+    let e : Ended = ran i.inputs p (start label s) in
+    let j : J s (cell label p i s).running = j_under s label i.rule e.refusal e (j_ran s i.inputs p (start label s) (j_start s label)) in
     record {
       lengths = λ b read. named s label p i b (j.lengths b read);
       bytes = λ b at read. named s label p i b (j.bytes b at read);

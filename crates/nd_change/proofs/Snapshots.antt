@@ -5,7 +5,7 @@ use Rattle.std.proofs.lemmas.Bool.{cases_Bool, or_cases}
 use Rattle.std.proofs.lemmas.List.{ext_get_or}
 use Rattle.nd_model.specs.Arrays.Value.{Base, Value, lies_in}
 use Rattle.nd_model.specs.Cells.Session.{Names, lookup, bind, unbind, is_held, Session, held_bytes}
-use Rattle.nd_model.specs.Cells.Running.{Event, Binds, Unbinds, Key, Name, Input, Length, Byte, Inputs}
+use Rattle.nd_model.specs.Cells.Running.{Event, Binds, Unbinds, Key, Name, Input, Length, Byte, OfRule, World}
 use Rattle.nd_model.specs.Cells.Cell.{cell, session_after}
 use Rattle.nd_model.specs.Cells.Footprint.{Found, Bound, Number, found, HasNone, replayed, patched, with_effects}
 use Rattle.nd_model.specs.Book.Records.{Record, record_of, StillHolds}
@@ -56,7 +56,7 @@ held_same b es ds once once' same = elim (cases_Bool (is_held b es)) [
 ]
 
 -- sessions in which the same names are bound, and the same is found in each base
-alike_from : (s t : Session) (i j : Inputs) → IsOnce s.names → IsOnce t.names → ((n : List ℕ) → lookup n s.names ≡ lookup n t.names)
+alike_from : (s t : Session) (i j : World) → IsOnce s.names → IsOnce t.names → ((n : List ℕ) → lookup n s.names ≡ lookup n t.names)
     → ((k : Key) → IsThere s k → IsThere t k → found s i k ≡ found t j k) → IsAlike s t
 alike_from s t i j once once' names same = record { names = names; held = held; bytes = bytes }
   where
@@ -96,14 +96,16 @@ patches d s t u i j over once patch = alike_from u t j j patch.once once names s
     same : (k : Key) → IsThere u k → IsThere t k → found u j k ≡ found t j k
     same (Name n) in_u in_t = at (Name n) (λ out. tt) tt tt
     same (Input n) in_u in_t = at (Input n) (λ out. tt) tt tt
+    same OfRule in_u in_t = at OfRule (λ out. tt) tt tt
     same (Length b) in_u in_t = at (Length b) (λ out. elim (patch.known b in_u) [ inl held ↦ held | inr whole ↦ absurd (none_is (d (Length b)) out whole.length) ]) in_u in_t
     same (Byte b p) in_u in_t = at (Byte b p) (λ out. elim (patch.known b in_u) [ inl held ↦ held | inr whole ↦ absurd (none_is (d (Byte b p)) out (whole.bytes p)) ]) in_u in_t
 
 -- ---- runs over alike sessions
 
-alike_found : (s t : Session) (i : Inputs) → IsAlike s t → (k : Key) → found s i k ≡ found t i k
+alike_found : (s t : Session) (i : World) → IsAlike s t → (k : Key) → found s i k ≡ found t i k
 alike_found s t i alike (Name n) = ap Bound (alike.names n)
 alike_found s t i alike (Input n) = refl
+alike_found s t i alike OfRule = refl
 alike_found s t i alike (Length b) = ap (λ l. Number (length l)) (alike.bytes b)
 alike_found s t i alike (Byte b p) = ap (λ l. Number (get_or l p 0)) (alike.bytes b)
 
@@ -113,12 +115,13 @@ alike_sym s t a = record { names = λ n. sym (a.names n); held = λ b. sym (a.he
 none_alike : (label : ℕ) (s t : Session) → IsAlike s t → HasNone label t → HasNone label s
 none_alike label s t a none = record { none = λ b is. a.held b ∙ none.none b is }
 
-holds_alike : (r : Record) (s t : Session) (i : Inputs) → IsAlike s t → StillHolds r t i → StillHolds r s i
+holds_alike : (r : Record) (s t : Session) (i : World) → IsAlike s t → StillHolds r t i → StillHolds r s i
 holds_alike r s t i a h = record { none = none_alike r.label s t a h.none; same = λ k read. h.same k read ∙ ap Some (sym (alike_found s t i a k)) }
 
 there_alike : (s t : Session) → IsAlike s t → (k : Key) → IsThere s k → IsThere t k
 there_alike s t a (Name n) h = tt
 there_alike s t a (Input n) h = tt
+there_alike s t a OfRule h = tt
 there_alike s t a (Length b) h = sym (a.held b) ∙ h
 there_alike s t a (Byte b p) h = sym (a.held b) ∙ h
 

@@ -5,8 +5,8 @@ use Rattle.std.proofs.lemmas.Bool.{cases_Bool, or_left, or_right}
 use Rattle.std.proofs.lemmas.List.{ext_get_or}
 use Rattle.nd_model.specs.Arrays.Value.{Base, Value}
 use Rattle.nd_model.specs.Cells.Session.{Names, lookup, bind, unbind, is_held, Session, held_bytes}
-use Rattle.nd_model.specs.Cells.Running.{Event, Binds, Unbinds, Key, Name, Input, Length, Byte, Inputs, is_touched}
-use Rattle.nd_model.specs.Cells.Footprint.{Found, Bound, Given, Number, found, HasNone, replayed, patched}
+use Rattle.nd_model.specs.Cells.Running.{Event, Binds, Unbinds, Key, Name, Input, Length, Byte, OfRule, World, is_touched}
+use Rattle.nd_model.specs.Cells.Footprint.{Found, Bound, Given, Number, Ruled, found, HasNone, replayed, patched}
 use Rattle.nd_model.specs.Book.Records.{Record}
 use Rattle.nd_model.proofs.Lists.{not_both}
 use Rattle.nd_change.specs.Change.{IsThere, IsOver, puts, puts_by, did_by, IsRunOver, IsStep}
@@ -40,7 +40,7 @@ same_label b label is = Rattle.std.proofs.Common.eqb-true b.label label is
 -- ---- behind a run that is in both
 
 -- what is in the change is there
-has_block : (c : Whole) (s t : Session) (i j : Inputs) (b : Base) (bytes : List ℕ) → IsOver (whole_of c) s i t j → c.blocks b ≡ Some bytes → is_held b t.names ≡ true → held_bytes t b ≡ bytes
+has_block : (c : Whole) (s t : Session) (i j : World) (b : Base) (bytes : List ℕ) → IsOver (whole_of c) s i t j → c.blocks b ≡ Some bytes → is_held b t.names ≡ true → held_bytes t b ≡ bytes
 has_block c s t i j b bytes over is there =
     ext_get_or 0 (held_bytes t b) bytes (number _ _ (over.now (Length b) (Number (length bytes)) (ap (option_map (λ bs. Number (length bs))) is) there))
     (λ p _. number _ _ (over.now (Byte b p) (Number (slice_index bytes p)) (ap (option_map (λ bs. Number (slice_index bs p))) is) there))
@@ -56,7 +56,7 @@ none_of : {X Y : Type 0} (f : X → Y) (o : Option X) → option_map f o ≡ Non
 none_of f None e = refl
 none_of f (Some x) e = none_some (f x) (sym e)
 
-module _ (r : Record) (c e : Whole) (less : IsWithout r c e) (s t : Session) (i j : Inputs) (over : IsOver (whole_of c) s i t j) (old : IsRunOver r s i) (new : IsRunOver r t j) where
+module _ (r : Record) (c e : Whole) (less : IsWithout r c e) (s t : Session) (i j : World) (over : IsOver (whole_of c) s i t j) (old : IsRunOver r s i) (new : IsRunOver r t j) where
   abbrev w : List ℕ → Base → List ℕ
   w bytes b = patched (r.effects.writes b) bytes
 
@@ -80,6 +80,7 @@ module _ (r : Record) (c e : Whole) (less : IsWithout r c e) (s t : Session) (i 
         | inr not ↦ inr (sym (ap (option_map Bound) (less.names n ∙ ap (λ x. cond x None (c.names n)) not)) ∙ is, rw not refl)
       ]
       now (Input n) f is there = inr (sym (ap (option_map Given) (less.inputs n)) ∙ is, refl)
+      now OfRule f is there = inr (sym (ap (option_map Ruled) less.rule) ∙ is, refl)
       now (Length b) f is there =
           let has : (bytes : List ℕ) × (e.blocks b ≡ Some bytes) × (Number (length bytes) ≡ f) = some_of (λ bs. Number (length bs)) (e.blocks b) f is in
           elim (cases_Bool (nat_eq b.label r.label)) [
@@ -102,6 +103,7 @@ module _ (r : Record) (c e : Whole) (less : IsWithout r c e) (s t : Session) (i 
         | inr not ↦ sym (ap (option_map Bound) (less.names n ∙ ap (λ x. cond x None (c.names n)) not)) ∙ out
       ]
       rest (Input n) out in_s in_t none = sym (ap (option_map Given) (less.inputs n)) ∙ out
+      rest OfRule out in_s in_t none = sym (ap (option_map Ruled) less.rule) ∙ out
       rest (Length b) out in_s in_t none = elim (cases_Bool (nat_eq b.label r.label)) [
         | inl own ↦ let put : Some (Number (length (r.effects.bases b))) ≡ None = rw own at none in none_some _ (sym put)
         | inr other ↦ ap (option_map (λ bs. Number (length bs))) (gone b other (none_of (λ bs. Number (length bs)) (e.blocks b) out))
@@ -121,8 +123,13 @@ name_left : (o : Option Record) (n : List ℕ) → LeavesName o n → puts_by o 
 name_left None n h = refl
 name_left (Some r) n h = rw h refl
 
+-- nor is the rule
+no_rule : (o : Option Record) → puts_by o OfRule ≡ None
+no_rule None = refl
+no_rule (Some r) = refl
+
 -- nor is a base, where it is there behind it
-base_left : (o : Option Record) (s : Session) (i : Inputs) (b : Base) → IfSome o (λ r. IsRunOver r s i) → LeavesBase o b → is_held b (did_by o s).names ≡ true
+base_left : (o : Option Record) (s : Session) (i : World) (b : Base) → IfSome o (λ r. IsRunOver r s i) → LeavesBase o b → is_held b (did_by o s).names ≡ true
     → (puts_by o (Length b) ≡ None) × ((p : ℕ) → puts_by o (Byte b p) ≡ None)
 base_left None s i b run h there = (refl, λ p. refl)
 base_left (Some r) s i b run h there = elim (cases_Bool (nat_eq b.label r.label)) [
@@ -130,7 +137,7 @@ base_left (Some r) s i b run h there = elim (cases_Bool (nat_eq b.label r.label)
   | inr other ↦ (rw other refl, λ p. rw (other, h.1 p) refl)
 ]
 
-module _ (r q : Option Record) (s t : Session) (i j : Inputs) (c e : Whole) (old : IfSome r (λ r. IsRunOver r s i)) (new : IfSome q (λ q. IsRunOver q t j)) (has : IsWith r q (did_by q t) c e) where
+module _ (r q : Option Record) (s t : Session) (i j : World) (c e : Whole) (old : IfSome r (λ r. IsRunOver r s i)) (new : IfSome q (λ q. IsRunOver q t j)) (has : IsWith r q (did_by q t) c e) where
   with_step : IsStep (whole_of c) r q (did_by r s) (did_by q t) j (whole_of e)
   with_step = record { now = now; same = same; rest = rest }
     where
@@ -144,6 +151,7 @@ module _ (r q : Option Record) (s t : Session) (i j : Inputs) (c e : Whole) (old
           input : (o : Option Record) → puts_by o (Input n) ≡ None
           input None = refl
           input (Some r) = refl
+      now OfRule f is there = inr (sym (ap (option_map Ruled) has.rule) ∙ is, no_rule q)
       now (Length b) f is there = elim (has.blocks b) [
         | inl here ↦ inl (same_some _ _ (sym (ap (option_map (λ bs. Number (length bs))) (here.1 ∙ ap (λ bs. Some bs) (here.2 there))) ∙ is))
         | inr left ↦ inr (sym (ap (option_map (λ bs. Number (length bs))) left.0) ∙ is, (base_left q t j b new left.2 there).0)
@@ -167,6 +175,7 @@ module _ (r q : Option Record) (s t : Session) (i j : Inputs) (c e : Whole) (old
           input : (o : Option Record) → puts_by o (Input n) ≡ None
           input None = refl
           input (Some r) = refl
+      same OfRule out in_s in_t = no_rule r ∙ sym (no_rule q)
       same (Length b) out in_s in_t =
           let left : (e.blocks b ≡ c.blocks b) × LeavesBase r b × LeavesBase q b = out_base b (none_of (λ bs. Number (length bs)) (e.blocks b) out) in
           (base_left r s i b old left.1 in_s).0 ∙ sym (base_left q t j b new left.2 in_t).0
@@ -177,12 +186,13 @@ module _ (r q : Option Record) (s t : Session) (i j : Inputs) (c e : Whole) (old
       rest : (k : Key) → whole_of e k ≡ None → IsThere (did_by r s) k → IsThere (did_by q t) k → puts_by r k ≡ None → whole_of c k ≡ None
       rest (Name n) out in_s in_t none = sym (ap (option_map Bound) (out_name n out).0) ∙ out
       rest (Input n) out in_s in_t none = sym (ap (option_map Given) (has.inputs n)) ∙ out
+      rest OfRule out in_s in_t none = sym (ap (option_map Ruled) has.rule) ∙ out
       rest (Length b) out in_s in_t none = sym (ap (option_map (λ bs. Number (length bs))) (out_base b (none_of (λ bs. Number (length bs)) (e.blocks b) out)).0) ∙ out
       rest (Byte b p) out in_s in_t none = sym (ap (option_map (λ bs. Number (slice_index bs p))) (out_base b (none_of (λ bs. Number (slice_index bs p)) (e.blocks b) out)).0) ∙ out
 
 -- ---- behind two runs of a cell
 
-module _ (r q : Record) (s t : Session) (i j : Inputs) (c e : Whole) (old : IsRunOver r s i) (new : IsRunOver q t j) (has : IsWithBoth r q (did_by (Some q) t) c e) where
+module _ (r q : Record) (s t : Session) (i j : World) (c e : Whole) (old : IsRunOver r s i) (new : IsRunOver q t j) (has : IsWithBoth r q (did_by (Some q) t) c e) where
   -- the length or a byte of a base that is in it as it is in the session, or as it was
   base_here : {A : Type 0} (f : List ℕ → A) (b : Base) (a : A) → HasBase e (did_by (Some q) t) b → option_map f (e.blocks b) ≡ Some a → is_held b (did_by (Some q) t).names ≡ true → f (held_bytes (did_by (Some q) t) b) ≡ a
   base_here f b a here is there = same_some _ _ (sym (ap (option_map f) (here.1 ∙ ap (λ bs. Some bs) (here.2 there))) ∙ is)
@@ -226,6 +236,7 @@ module _ (r q : Record) (s t : Session) (i j : Inputs) (c e : Whole) (old : IsRu
         ]
       ]
       now (Input n) f is there = inr (sym (ap (option_map Given) (has.inputs n)) ∙ is, refl)
+      now OfRule f is there = inr (sym (ap (option_map Ruled) has.rule) ∙ is, refl)
       now (Length b) f is there = elim (has.blocks b) [
         | inl here ↦ inl (base_here (λ bs. Number (length bs)) b f here is there)
         | inr other ↦ elim other [
@@ -244,12 +255,14 @@ module _ (r q : Record) (s t : Session) (i j : Inputs) (c e : Whole) (old : IsRu
       same : (k : Key) → whole_of e k ≡ None → IsThere (did_by (Some r) s) k → IsThere (did_by (Some q) t) k → puts r k ≡ puts q k
       same (Name n) out in_s in_t = (out_name n out).0
       same (Input n) out in_s in_t = refl
+      same OfRule out in_s in_t = refl
       same (Length b) out in_s in_t = (out_base b (none_of (λ bs. Number (length bs)) (e.blocks b) out) in_s in_t).0.0
       same (Byte b p) out in_s in_t = ((out_base b (none_of (λ bs. Number (slice_index bs p)) (e.blocks b) out) in_s in_t).1 p).0
 
       rest : (k : Key) → whole_of e k ≡ None → IsThere (did_by (Some r) s) k → IsThere (did_by (Some q) t) k → puts r k ≡ None → whole_of c k ≡ None
       rest (Name n) out in_s in_t none = (out_name n out).1 none
       rest (Input n) out in_s in_t none = sym (ap (option_map Given) (has.inputs n)) ∙ out
+      rest OfRule out in_s in_t none = sym (ap (option_map Ruled) has.rule) ∙ out
       rest (Length b) out in_s in_t none = (out_base b (none_of (λ bs. Number (length bs)) (e.blocks b) out) in_s in_t).0.1 none
       rest (Byte b p) out in_s in_t none = ((out_base b (none_of (λ bs. Number (slice_index bs p)) (e.blocks b) out) in_s in_t).1 p).1 none
 
@@ -275,6 +288,7 @@ puts_whole c s u put t i j over once = patches (whole_of c) s t u i j over once 
     now (Name n) f is there = let has : (v : Option Value) × (c.names n ≡ Some v) × (Bound v ≡ f) = some_of Bound (c.names n) f is in
         ap Bound (put.names n ∙ ap (λ o. unwrap_or o (lookup n s.names)) has.1) ∙ has.2
     now (Input n) f is there = over.now (Input n) f is tt
+    now OfRule f is there = over.now OfRule f is tt
     now (Length b) f is there = let has : (bytes : List ℕ) × (c.blocks b ≡ Some bytes) × (Number (length bytes) ≡ f) = some_of (λ bs. Number (length bs)) (c.blocks b) f is in
         ap (λ bs. Number (length bs)) (put.blocks b there ∙ ap (λ o. unwrap_or o (held_bytes s b)) has.1) ∙ has.2
     now (Byte b p) f is there = let has : (bytes : List ℕ) × (c.blocks b ≡ Some bytes) × (Number (slice_index bytes p) ≡ f) = some_of (λ bs. Number (slice_index bs p)) (c.blocks b) f is in
@@ -283,6 +297,7 @@ puts_whole c s u put t i j over once = patches (whole_of c) s t u i j over once 
     same : (k : Key) → whole_of c k ≡ None → IsThere u k → found u j k ≡ found s i k
     same (Name n) out there = ap Bound (put.names n ∙ ap (λ o. unwrap_or o (lookup n s.names)) (none_of Bound (c.names n) out))
     same (Input n) out there = sym (over.same (Input n) out tt tt)
+    same OfRule out there = sym (over.same OfRule out tt tt)
     same (Length b) out there = ap (λ bs. Number (length bs)) (put.blocks b there ∙ ap (λ o. unwrap_or o (held_bytes s b)) (none_of (λ bs. Number (length bs)) (c.blocks b) out))
     same (Byte b p) out there = ap (λ bs. Number (slice_index bs p)) (put.blocks b there ∙ ap (λ o. unwrap_or o (held_bytes s b)) (none_of (λ bs. Number (slice_index bs p)) (c.blocks b) out))
 

@@ -2,7 +2,7 @@
 use Rattle.std.specs.Prelude.{◌≡◌, ◌⊎◌, ℕ, IsTrue, IsSome, List, Some, None}
 use Rattle.nd_model.specs.Arrays.Value.{Base}
 use Rattle.nd_model.specs.Cells.Session.{Session, lookup, is_held, held_bytes}
-use Rattle.nd_model.specs.Cells.Running.{Key, Length, Byte, Inputs}
+use Rattle.nd_model.specs.Cells.Running.{Key, Length, Byte, World}
 use Rattle.nd_model.specs.Grammar.Syntax.{Parsed}
 use Rattle.nd_model.specs.Cells.Cell.{cell, session_after}
 use Rattle.nd_model.specs.Cells.Footprint.{Found, HasNone, found}
@@ -18,20 +18,20 @@ pub record IsAlike (s t : Session) : Type 0 where
 
 -- WHERE A CHANGE HAS NOTHING MORE, the two sessions are alike.
 abbrev pub NothingLeft : Type 0
-NothingLeft = (s t : Session) (i j : Inputs) → IsOver nothing s i t j → IsOnce s.names → IsOnce t.names → IsAlike s t
+NothingLeft = (s t : Session) (i j : World) → IsOver nothing s i t j → IsOnce s.names → IsOnce t.names → IsAlike s t
 
 -- Over alike sessions a run has the same record, and leaves alike sessions.
 abbrev pub AlikeRuns : Type 0
-AlikeRuns = (label : ℕ) (p : Parsed) (s t : Session) (i : Inputs) → IsAlike s t → IsOnce s.names → IsOnce t.names → HasNone label t
+AlikeRuns = (label : ℕ) (p : Parsed) (s t : Session) (i : World) → IsAlike s t → IsOnce s.names → IsOnce t.names → HasNone label t
     → HasNone label s × (record_of label p i s ≡ record_of label p i t) × IsAlike (session_after (cell label p i s)) (session_after (cell label p i t))
 
 -- A record that holds over the one holds over the other, and does the same.
 abbrev pub AlikeReplays : Type 0
-AlikeReplays = (r : Record) (s t : Session) (i : Inputs) → IsAlike s t → IsOnce s.names → IsOnce t.names → StillHolds r t i → StillHolds r s i × IsAlike (did_by (Some r) s) (did_by (Some r) t)
+AlikeReplays = (r : Record) (s t : Session) (i : World) → IsAlike s t → IsOnce s.names → IsOnce t.names → StillHolds r t i → StillHolds r s i × IsAlike (did_by (Some r) s) (did_by (Some r) t)
 
 -- A CHANGE IS OVER ALIKE SESSIONS where it is over one of them, on either side.
 abbrev pub OverAlike : Type 0
-OverAlike = (d : Change) (s t u v : Session) (i j : Inputs) → IsOver d s i t j → IsAlike u s → IsAlike v t → IsOver d u i v j
+OverAlike = (d : Change) (s t u v : Session) (i j : World) → IsOver d s i t j → IsAlike u s → IsAlike v t → IsOver d u i v j
 
 -- all bytes of the base are in the change, and how many they are
 pub record IsWhole (d : Change) (b : Base) : Type 0 where
@@ -40,7 +40,7 @@ pub record IsWhole (d : Change) (b : Base) : Type 0 where
 
 -- A SNAPSHOT WITH THE CHANGE PUT OVER IT: where the change has something that is there, and elsewhere what was there. Each base in it was
 -- there before, or is in the change as a whole.
-pub record IsPatched (d : Change) (s : Session) (i : Inputs) (u : Session) (j : Inputs) : Type 0 where
+pub record IsPatched (d : Change) (s : Session) (i : World) (u : Session) (j : World) : Type 0 where
   pub now : (k : Key) (f : Found) → d k ≡ Some f → IsThere u k → found u j k ≡ f
   pub same : (k : Key) → d k ≡ None → IsThere u k → found u j k ≡ found s i k
   pub known : (b : Base) → IsTrue (is_held b u.names) → IsTrue (is_held b s.names) ⊎ IsWhole d b
@@ -48,4 +48,4 @@ pub record IsPatched (d : Change) (s : Session) (i : Inputs) (u : Session) (j : 
 
 -- THE SNAPSHOT OF THE RUN NOW is that of the run before with the change put over it.
 abbrev pub Patches : Type 0
-Patches = (d : Change) (s t u : Session) (i j : Inputs) → IsOver d s i t j → IsOnce t.names → IsPatched d s i u j → IsAlike u t
+Patches = (d : Change) (s t u : Session) (i j : World) → IsOver d s i t j → IsOnce t.names → IsPatched d s i u j → IsAlike u t

@@ -3,18 +3,19 @@
 use Rattle.std.specs.Prelude.{◌≡◌, ◌⊎◌, ℕ, Bool, true, false, ◌||◌, IsSome, List, [], ◌∷◌, length, slice_index, Option, Some, None, option_map, unwrap_or, nat_eq, if◌then◌else◌, ⊤}
 use Rattle.nd_model.specs.Arrays.Value.{Base, Value, lies_in}
 use Rattle.nd_model.specs.Cells.Session.{Session, lookup, is_held, held_bytes}
-use Rattle.nd_model.specs.Cells.Running.{Event, Binds, Unbinds, Key, Name, Input, Length, Byte, Source, Inputs, is_touched}
-use Rattle.nd_model.specs.Cells.Footprint.{Bound, Given, Number, patched}
+use Rattle.nd_model.specs.Cells.Running.{Event, Binds, Unbinds, Key, Name, Input, Length, Byte, OfRule, Source, Rule, World, is_touched}
+use Rattle.nd_model.specs.Cells.Footprint.{Bound, Given, Number, Ruled, patched}
 use Rattle.nd_model.specs.Book.Records.{Record}
 use Rattle.nd_model.specs.Book.Sessions.{IsOnce}
 use Rattle.nd_change.specs.Change.{Change, puts}
 use Rattle.nd_change.specs.Steps.{Keeps, Follows, Leaves, Comes, IsPutOver}
 
--- what is there now of names and inputs, none where nothing is bound or given, and of whole bases
+-- what is there now of names and inputs, none where nothing is bound or given, of whole bases, and the rule
 pub record Whole : Type 0 where
   pub names : List ℕ → Option (Option Value)
   pub inputs : List ℕ → Option (Option Source)
   pub blocks : Base → Option (List ℕ)
+  pub rule : Option Rule
 
 -- a base that is in it is in it with its length and the byte at each place
 abbrev pub whole_of : Whole → Change
@@ -22,6 +23,7 @@ whole_of c (Name n) = option_map Bound (c.names n)
 whole_of c (Input n) = option_map Given (c.inputs n)
 whole_of c (Length b) = option_map (λ bytes. Number (length bytes)) (c.blocks b)
 whole_of c (Byte b p) = option_map (λ bytes. Number (slice_index bytes p)) (c.blocks b)
+whole_of c OfRule = option_map Ruled c.rule
 
 -- some event binds a value in the base
 abbrev pub binds_in : Base → List Event → Bool
@@ -35,6 +37,7 @@ binds_in b (Unbinds n ∷ es) = binds_in b es
 pub record IsWithout (r : Record) (c e : Whole) : Type 0 where
   pub names : (n : List ℕ) → e.names n ≡ (if is_touched n r.effects.events then None else c.names n)
   pub inputs : (n : List ℕ) → e.inputs n ≡ c.inputs n
+  pub rule : e.rule ≡ c.rule
   pub own : (b : Base) → b.label ≡ r.label → binds_in b r.effects.events ≡ true → e.blocks b ≡ None
   pub blocks : (b : Base) → nat_eq b.label r.label ≡ false → e.blocks b ≡ option_map (patched (r.effects.writes b)) (c.blocks b)
 
@@ -73,10 +76,11 @@ pub record LosesBase (r q : Record) (c e : Whole) (b : Base) : Type 0 where
 pub record IsWithBoth (r q : Record) (t : Session) (c e : Whole) : Type 0 where
   pub names : (n : List ℕ) → (e.names n ≡ Some (lookup n t.names)) ⊎ (((e.names n ≡ c.names n) × LeavesName (Some r) n × LeavesName (Some q) n) ⊎ ((e.names n ≡ None) × IsOut r q c (Name n)))
   pub inputs : (n : List ℕ) → e.inputs n ≡ c.inputs n
+  pub rule : e.rule ≡ c.rule
   pub blocks : (b : Base) → HasBase e t b ⊎ (((e.blocks b ≡ c.blocks b) × LeavesBase (Some r) b × LeavesBase (Some q) b) ⊎ LosesBase r q c e b)
 
 abbrev pub FollowsWhole : Type 0
-FollowsWhole = (r q : Record) (t : Session) (j : Inputs) (c e : Whole) → IsWithBoth r q t c e → Follows (whole_of c) (whole_of e) r q t j
+FollowsWhole = (r q : Record) (t : Session) (j : World) (c e : Whole) → IsWithBoth r q t c e → Follows (whole_of c) (whole_of e) r q t j
 
 -- ---- behind runs that are in one
 
@@ -84,6 +88,7 @@ FollowsWhole = (r q : Record) (t : Session) (j : Inputs) (c e : Whole) → IsWit
 pub record IsWith (r q : Option Record) (t : Session) (c e : Whole) : Type 0 where
   pub names : (n : List ℕ) → (e.names n ≡ Some (lookup n t.names)) ⊎ ((e.names n ≡ c.names n) × LeavesName r n × LeavesName q n)
   pub inputs : (n : List ℕ) → e.inputs n ≡ c.inputs n
+  pub rule : e.rule ≡ c.rule
   pub blocks : (b : Base) → HasBase e t b ⊎ ((e.blocks b ≡ c.blocks b) × LeavesBase r b × LeavesBase q b)
 
 abbrev pub LeavesWhole : Type 0

@@ -1,11 +1,11 @@
 //! `insert_cell` and the others: commands, carried out and answered.
 
 ghost use Rattle.std.specs.Prelude.{◌≡◌, codes, length};
-ghost use Rattle.nd_model.specs.Book.Book.{Insert, Change, Move, Remove, SetInput, DropInput};
+ghost use Rattle.nd_model.specs.Book.Book.{Insert, Change, Move, Remove, SetInput, DropInput, SetRule};
 ghost use Rattle.nd_model.specs.Book.Script as script;
 ghost use Rattle.nd_model.specs.Book.Notebook.{book_of};
 ghost use Rattle.nd_script.specs.Lines.Counts.{CountsCommand};
-ghost use Rattle.nd_notebook.specs.Values.{source_of};
+ghost use Rattle.nd_notebook.specs.Values.{rule_of, source_of};
 ghost use Rattle.nd_commands.specs.Carry.{Carried};
 
 use crate::answer::{
@@ -13,7 +13,7 @@ use crate::answer::{
     push_source_answer,
 };
 use crate::value::push_value;
-use nd_notebook::{Input, Meter, Notebook};
+use nd_notebook::{CellRule, Input, Meter, Notebook};
 use nd_script::lines::AnswerWrite;
 use std::alloc::Global;
 
@@ -115,6 +115,22 @@ pub fn drop_input<O: AnswerWrite>(
 {
     let done = notebook.drop_input(meter, name);
     push_edit_answer(out, name, &done);
+}
+
+/// Sets the rule.
+pub fn set_rule<O: AnswerWrite>(
+    out: &mut O,
+    meter: &mut Meter,
+    notebook: &mut Notebook,
+    rule: CellRule,
+)
+    ensures carried { Carried (script.Edits (SetRule (rule_of rule))) (book_of notebook.old)
+        (O.state out.old) (O.state out.new) (book_of notebook.new) }
+    ensures counts { CountsCommand (script.Edits (SetRule (rule_of rule)))
+        (book_of notebook.old) meter.old meter.new }
+{
+    let done = notebook.set_rule(meter, rule);
+    push_edit_answer(out, "", &done);
 }
 
 /// Shows what a cell gives.

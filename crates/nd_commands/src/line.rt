@@ -12,12 +12,12 @@ ghost use Rattle.nd_commands.specs.Run.{tally_of};
 ghost use Rattle.nd_commands.specs.Source.{lines_so_far, opening_of, stage_of};
 
 use crate::carry::{
-    drop_input, edit_cell, insert_cell, move_cell, remove_cell, set_input, show_names, show_result,
-    show_save, show_source, show_value,
+    drop_input, edit_cell, insert_cell, move_cell, remove_cell, set_input, set_rule, show_names,
+    show_result, show_save, show_source, show_value,
 };
 use crate::input::input_of_line;
 use crate::source::{OpenText, Opening};
-use nd_notebook::{Meter, Notebook};
+use nd_notebook::{CellRule, Meter, Notebook};
 use nd_script::lines::AnswerWrite;
 use nd_script::words::{LineCommand, command_of, is_end_of_source, push_count_line, push_text};
 use std::alloc::{AllocError, Global};
@@ -160,6 +160,8 @@ fn answer_whole<O: AnswerWrite>(
             set_input(out, meter, notebook, name, input_of_line(input))
         }
         LineCommand::DropInput(name) => drop_input(out, meter, notebook, name),
+        LineCommand::PythonRule => set_rule(out, meter, notebook, CellRule::Python),
+        LineCommand::AtomicRule => set_rule(out, meter, notebook, CellRule::Atomic),
         LineCommand::Count => push_count_line(out, "count", notebook.count()),
         LineCommand::Bad => push_text(out, "bad command\n"),
         LineCommand::Insert(_) | LineCommand::Edit(_) | LineCommand::Silent => {}

@@ -23,7 +23,7 @@ parsed-relabelled (n ∷ ns) (c ∷ cs) = ap (λ l. reading c.source ∷ l) (par
 
 pub any_book_labels : AnyLabels
 any_book_labels b d ns dn long =
-    any_labels (read_cells b.cells) (read_cells (relabelled ns b.cells)) b.inputs
+    any_labels (read_cells b.cells) (read_cells (relabelled ns b.cells)) b.world
     (subst AreDistinct (sym (labels-read b.cells)) d)
     (subst AreDistinct (sym (labels-read (relabelled ns b.cells) ∙ labels-relabelled ns b.cells long)) dn)
     (parsed-relabelled ns b.cells)

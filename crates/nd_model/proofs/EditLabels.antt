@@ -5,7 +5,7 @@ use Rattle.std.proofs.lemmas.Bool.Decides.{nat_tests}
 use Rattle.std.specs.Prelude.{insert, remove, slice_set, slice_index_or}
 use Rattle.nd_model.specs.Cells.Session.{is_in}
 use Rattle.nd_model.specs.Book.Renaming.{AreDistinct}
-use Rattle.nd_model.specs.Book.Book.{Cell, Book, count_of, Insert, Change, Move, Remove, SetInput, DropInput, refusal, edited_cells, edited, is_label, above_labels, first_free, fresh_label, no_cell, labels_of, LabelsStayDistinct, EditFault, unless_refused}
+use Rattle.nd_model.specs.Book.Book.{Cell, Book, count_of, Insert, Change, Move, Remove, SetInput, DropInput, SetRule, refusal, edited_cells, edited, is_label, above_labels, first_free, fresh_label, no_cell, labels_of, LabelsStayDistinct, EditFault, unless_refused}
 
 -- ---- lists of labels
 
@@ -148,6 +148,7 @@ labels_stay_distinct (Remove at) b d = unless (refusal (Remove at) b) (edited (R
 labels_stay_distinct (SetInput name input) b d =
     unless (refusal (SetInput name input) b) (edited (SetInput name input) b) b d d
 labels_stay_distinct (DropInput name) b d = unless (refusal (DropInput name) b) (edited (DropInput name) b) b d d
+labels_stay_distinct (SetRule rule) b d = d
 labels_stay_distinct (Move from to) b d = elim (cases_Bool (ltb from (count_of b))) [
   | inl lt ↦ unless (refusal (Move from to) b) (edited (Move from to) b) b (move_distinct b.cells from to d (let below : from < length b.cells = grind (arith, nat_tests) in below)) d
   | inr past ↦ rw past d

@@ -1,5 +1,6 @@
 -- Notebooks that compute.
 use Rattle.std.proofs.Common.{◌≡◌, ℕ, List, [], ◌∷◌, Option, Some, None, Ok, Err, refl, map, codes}
+use Rattle.nd_model.specs.Cells.Running.{Python}
 use Rattle.nd_model.specs.Cells.Session.{Session, no_session}
 use Rattle.nd_model.specs.Cells.Fault.{ParseFault, BadToken, Refusal, Parse, Statement, OutOfBounds, NoName}
 use Rattle.nd_model.specs.Cells.Fault as fault
@@ -29,7 +30,7 @@ program = (7, Ok (at 1 (Bind x (Called (Arange Omitted (Integer 4) Omitted None)
     ∷ []
 
 texts : List (Option (ℕ × Refusal) × List ℕ)
-texts = map (λ (e : Ended × Session). (e.0.refusal, e.0.text)) (notebook program (λ n. None) no_session)
+texts = map (λ (e : Ended × Session). (e.0.refusal, e.0.text)) (notebook program (record { inputs = λ n. None; rule = Python }) no_session)
 
 as_wanted : texts
     ≡ (None, [])

@@ -3,7 +3,7 @@ use Rattle.std.proofs.Common.{◌≡◌, ℕ, cond, Some, None, refl, sym, ap, �
 use mathlib.Core.Path.{fun_ext}
 use Rattle.std.proofs.lemmas.Bool.{cases_Bool}
 use Rattle.nd_model.specs.Cells.Session.{Session}
-use Rattle.nd_model.specs.Cells.Running.{Key, Inputs}
+use Rattle.nd_model.specs.Cells.Running.{Key, World}
 use Rattle.nd_model.specs.Grammar.Syntax.{Parsed}
 use Rattle.nd_model.specs.Cells.Cell.{cell}
 use Rattle.nd_model.specs.Cells.Footprint.{Found, found, Agree, reads_of, effects_of}
@@ -14,7 +14,7 @@ use Rattle.nd_model.proofs.Tracks.{replay}
 same_some : (x y : Found) → Some x ≡ Some y → x ≡ y
 same_some x y e = cc
 
-pub found_at : (label : ℕ) (p : Parsed) (s t : Session) (i j : Inputs) → StillHolds (record_of label p i s) t j → Agree (reads_of (cell label p i s)) s i t j
+pub found_at : (label : ℕ) (p : Parsed) (s t : Session) (i j : World) → StillHolds (record_of label p i s) t j → Agree (reads_of (cell label p i s)) s i t j
 found_at label p s t i j h k read = same_some _ _ (rw read at (h.same k read))
 
 pub kept : Kept

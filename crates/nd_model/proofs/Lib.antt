@@ -6,6 +6,7 @@ pub mod Pieces
 pub mod Lists
 pub mod Twins
 pub mod Frames
+pub mod RuleReading
 pub mod Held
 pub mod Tracks
 pub mod Keeping

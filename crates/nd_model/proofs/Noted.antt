@@ -9,7 +9,7 @@ use Rattle.nd_model.specs.Arrays.Value.{Base, same_base, Value, Int, Truth, Scal
 use Rattle.nd_model.specs.Arrays.Strides.{limit_fault}
 use Rattle.nd_model.specs.Cells.Session.{lookup}
 use Rattle.nd_model.specs.Arrays.Content.{Content, array_bytes}
-use Rattle.nd_model.specs.Cells.Running.{Inputs, Key, Name, Input, Length, Byte, Running, Lookup, Use, Make, after, is_name, is_length_of, is_own, Effect, Storing, done}
+use Rattle.nd_model.specs.Cells.Running.{Inputs, Key, Name, Input, Length, Byte, OfRule, Running, Lookup, Use, Make, after, is_name, is_length_of, is_own, Effect, Storing, done}
 use Rattle.nd_model.specs.Cells.Fault.{Fault, ViewFault}
 use Rattle.nd_model.specs.Cells.Evaluation.{Eval, run}
 use Rattle.nd_model.specs.Making.Operand as operand
@@ -221,6 +221,7 @@ is_same b c e = ap₂ (λ l n. record { label = l; number = n }) (eqb-true b.lab
 same_read : (r : Running) (b : Base) (ws : List (ℕ × ℕ)) → IsKnown r b → (k : Key) → (done (Storing b ws) r).read k ≡ r.read k
 same_read r b ws h (Name n) = nothing_more (r.read (Name n)) (not (is_own r (Name n)))
 same_read r b ws h (Input n) = nothing_more (r.read (Input n)) (not (is_own r (Input n)))
+same_read r b ws h OfRule = nothing_more (r.read OfRule) (not (is_own r OfRule))
 same_read r b ws h (Byte c p) = nothing_more (r.read (Byte c p)) (not (is_own r (Byte c p)))
 same_read r b ws h (Length c) = elim (cases_Bool (same_base b c)) [
   | inl same ↦ known_already (r.read (Length c)) (same_base b c) (nat_eq c.label r.label) (subst (λ d. IsKnown r d) (is_same b c same) h)

@@ -7,8 +7,8 @@ use Rattle.nd_model.specs.Arrays.View.{ElementType, One, Structure, Geo, item_si
 use Rattle.nd_model.specs.Arrays.Value.{Base, same_base, Value, lies_in}
 use Rattle.nd_model.specs.Cells.Session.{Names, lookup, bind, unbind, is_held, Session, no_session, put}
 use Rattle.nd_model.specs.Arrays.Content.{Content, contents_in, content_in_order}
-use Rattle.nd_model.specs.Cells.Running.{Key, Source, Inputs, Running, start, having_read, Lookup, Ask, Use, Make, reply, made, after, Effect, Nothing, Prints, Saves, Binding, Unbinding, Storing, done, Output, output}
-use Rattle.nd_model.specs.Cells.Fault.{Fault, ViewFault, BadArgument}
+use Rattle.nd_model.specs.Cells.Running.{Key, Source, Inputs, Rule, Python, Atomic, World, Running, start, having_read, Lookup, Ask, Use, Make, reply, made, after, Effect, Nothing, Prints, Saves, Binding, Unbinding, Storing, done, Output, output}
+use Rattle.nd_model.specs.Cells.Fault.{Fault, Refusal, ViewFault, BadArgument}
 use Rattle.nd_model.specs.Cells.Fault as fault
 use Rattle.nd_model.specs.Cells.InputName.{is_input_name}
 use Rattle.nd_model.specs.Arrays.Strides.{limit_fault}
@@ -20,7 +20,7 @@ use Rattle.nd_model.specs.Indexing.Viewing.{choose}
 use Rattle.nd_model.specs.Cells.Operation
 use Rattle.nd_model.specs.Cells.Operation.{operands, Operation, Computes, Views, perform, Plan, Named, FromInput, Does, Plans, Done, And, evaluate, with_values, evaluate_all, Work, Acts, ActsOn}
 use Rattle.nd_model.specs.Cells.Meaning
-use Rattle.nd_model.specs.Cells.Cell.{Saved, Ended, had, statement, most_text, with_save, and_then, statements, ran, cell, session_after, notebook}
+use Rattle.nd_model.specs.Cells.Cell.{Saved, Ended, had, statement, most_text, with_save, and_then, statements, ran, under, cell, session_after, notebook}
 use Rattle.nd_model.specs.Book.Renaming
 use Rattle.nd_model.specs.Book.Renaming.{IsOneToOne, AreRelabelled, SameBase, SameValue, int, truth, scalar, array, row, SameNames, no_name, entry, LikeSessions, Like, LikeEnds, Shown, shown_element, shown, shown_names, Told, told, Rename}
 
@@ -319,6 +319,21 @@ module _ (r : ℕ → ℕ → Bool) where
     same_ran i (Ok ls) x y h = same_statements i ls [] [] x y h
     same_ran i (Err f) x y h = record { text = refl; refusal = refl; saves = refl; running = h }
 
+    like_reading : (x y : Running) (f g : Key → Bool) → Like r x y → Like r (record x { read = f }) (record y { read = g })
+    like_reading x y f g h = record { names = h.names; bytes = h.bytes; label = h.label; next = h.next }
+
+    same_under : (rule : Rule) (o : Option (ℕ × Refusal)) (began beginning : Running) (x y : Ended) → Like r began beginning → LikeEnds r x y → LikeEnds r (under rule began o x) (under rule beginning o y)
+    same_under rule None began beginning x y first h = h
+    same_under Python (Some f) began beginning x y first h = record { text = h.text; refusal = h.refusal; saves = h.saves; running = like_reading x.running y.running _ _ h.running }
+    same_under Atomic (Some f) began beginning x y first h = record { text = h.text; refusal = h.refusal; saves = refl; running = like_reading began beginning _ _ first }
+
+    pub same_cell : (i : World) (p : Parsed) (l m : ℕ) (s t : Session) → Like r (start l s) (start m t) → LikeEnds r (cell l p i s) (cell m p i t)
+    same_cell i p l m s t first =
+        let x : Ended = ran i.inputs p (start l s) in
+        let y : Ended = ran i.inputs p (start m t) in
+        let ends : LikeEnds r x y = same_ran i.inputs p (start l s) (start m t) first in
+        subst (λ o. LikeEnds r (cell l p i s) (under i.rule (start m t) o y)) (sym ends.refusal) (same_under i.rule x.refusal (start l s) (start m t) x y first ends)
+
     -- NOTEBOOKS
     same_lies : (b c : Base) (v w : Value) → SameBase r b c → (SameValue r) v w → lies_in b v ≡ lies_in c w
     same_lies b c _ _ s (int z) = refl
@@ -356,12 +371,12 @@ module _ (r : ℕ → ℕ → Bool) where
     same_shown_names s t h _ _ no_name = refl
     same_shown_names s t h _ _ (entry n v w es ds e f) = ap₂ (λ v r. (n, v) ∷ r) (same_shown s t h v w e) (same_shown_names s t h es ds f)
 
-    same_notebook : (cs ds : List (ℕ × Parsed)) (i : Inputs) (s t : Session) → AreRelabelled r cs ds → LikeSessions r s t → told (notebook ds i t) ≡ told (notebook cs i s)
+    same_notebook : (cs ds : List (ℕ × Parsed)) (i : World) (s t : Session) → AreRelabelled r cs ds → LikeSessions r s t → told (notebook ds i t) ≡ told (notebook cs i s)
     same_notebook [] [] i s t are h = refl
     same_notebook [] (d ∷ ds) i s t are h = elim are [ ]
     same_notebook (c ∷ cs) [] i s t are h = elim are [ ]
     same_notebook (c ∷ cs) (d ∷ ds) i s t are h =
-        let ends : LikeEnds r (cell c.0 c.1 i s) (cell d.0 d.1 i t) = subst (λ p. LikeEnds r (cell c.0 c.1 i s) (cell d.0 p i t)) are.1 (same_ran i c.1 (start c.0 s) (start d.0 t) (like_start c.0 d.0 s t are.0 h)) in
+        let ends : LikeEnds r (cell c.0 c.1 i s) (cell d.0 d.1 i t) = subst (λ p. LikeEnds r (cell c.0 c.1 i s) (cell d.0 p i t)) are.1 (same_cell i c.1 c.0 d.0 s t (like_start c.0 d.0 s t are.0 h)) in
         let next : LikeSessions r (session_after (cell c.0 c.1 i s)) (session_after (cell d.0 d.1 i t)) = like_after _ _ ends in
         let shows : shown_names (session_after (cell d.0 d.1 i t)) (session_after (cell d.0 d.1 i t)).names ≡ shown_names (session_after (cell c.0 c.1 i s)) (session_after (cell c.0 c.1 i s)).names =
         same_shown_names _ _ next (session_after (cell c.0 c.1 i s)).names (session_after (cell d.0 d.1 i t)).names next.names in
@@ -374,6 +389,6 @@ alike_nothing r = record { names = no_name; bytes = λ b c e. refl }
 pub rename : Rename
 rename r one = record {
   statement = same_statement r one;
-  cell = λ i p l m s t e h. let ends : LikeEnds r (cell l p i s) (cell m p i t) = same_ran r one i p (start l s) (start m t) (like_start r one l m s t e h) in (ends, like_after r one _ _ ends);
+  cell = λ i p l m s t e h. let ends : LikeEnds r (cell l p i s) (cell m p i t) = same_cell r one i p l m s t (like_start r one l m s t e h) in (ends, like_after r one _ _ ends);
   notebook = λ i cells others s t are h. same_notebook r one cells others i s t are h;
 }

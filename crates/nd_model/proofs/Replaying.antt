@@ -1,15 +1,15 @@
 -- The effects of a cell, put on another session, leave it sound: what a cell binds has its own bases below the next one.
-use Rattle.std.proofs.Common.{◌≡◌, ℕ, ◌<◌, leb, List, [], ◌∷◌, ◌++◌, length, Result, Ok, Err, refl, sym, subst, ◌∙◌, eq-eqb, true, false, arith}
+use Rattle.std.proofs.Common.{◌≡◌, ℕ, ◌<◌, leb, List, [], ◌∷◌, ◌++◌, length, Option, Some, None, Result, Ok, Err, refl, sym, subst, ◌∙◌, eq-eqb, true, false, arith}
 use Rattle.std.proofs.lemmas.Bool.{or_parts, and_from}
 use Rattle.nd_model.specs.Arrays.View.{Geo}
 use Rattle.nd_model.specs.Arrays.Value.{Base, same_base, Value, Int, Truth, Scalar, Array, Row, lies_in}
 use Rattle.nd_model.specs.Cells.Session.{Names, bind, unbind, is_held, Session, held_bytes}
-use Rattle.nd_model.specs.Cells.Running.{Event, Binds, Unbinds, Inputs, Running, start, Act, Lookup, Ask, Use, Make, reply, after, Effect, Nothing, Prints, Saves, Binding, Unbinding, Storing, done, Output}
-use Rattle.nd_model.specs.Cells.Fault.{Fault}
+use Rattle.nd_model.specs.Cells.Running.{Event, Binds, Unbinds, Inputs, Rule, Python, Atomic, World, Running, start, Act, Lookup, Ask, Use, Make, reply, after, Effect, Nothing, Prints, Saves, Binding, Unbinding, Storing, done, Output}
+use Rattle.nd_model.specs.Cells.Fault.{Fault, Refusal}
 use Rattle.nd_model.specs.Grammar.Syntax.{Stmt, Line, Parsed}
 use Rattle.nd_model.specs.Cells.Evaluation.{Eval, Gives, Refuses, Asks, run}
 use Rattle.nd_model.specs.Cells.Meaning.{meaning, work}
-use Rattle.nd_model.specs.Cells.Cell.{Saved, Ended, had, statement, most_text, with_save, and_then, statements, ran, cell}
+use Rattle.nd_model.specs.Cells.Cell.{Saved, Ended, had, statement, most_text, with_save, and_then, statements, ran, under, cell}
 use Rattle.nd_model.specs.Cells.Footprint.{HasNone, effects_of, replayed, with_effects}
 use Rattle.nd_model.specs.Cells.Sound.{LiesIn, IsViewOf, AreViewsOf, IsHeldView, IsSound, IsSoundSession, ReplaysSound}
 use Rattle.nd_model.proofs.Lists.{not_both}
@@ -98,6 +98,12 @@ both_ran : (i : Inputs) (p : Parsed) (r : Running) → Both r → Both (ran i p 
 both_ran i (Ok ls) r h = both_all i ls [] [] r h
 both_ran i (Err f) r h = h
 
+-- what a cell has bound at its end, under the rule
+numbered_under : (label : ℕ) (s : Session) (rule : Rule) (o : Option (ℕ × Refusal)) (e : Ended) → BindsNumbered e.running → BindsNumbered (under rule (start label s) o e).running
+numbered_under label s rule None e h = h
+numbered_under label s Python (Some f) e h = bound_map (IsNumbered e.running) _ (λ b g n. n) e.running.events h
+numbered_under label s Atomic (Some f) e h = tt
+
 -- ---- replay
 
 both_views : (P Q R : Base → Geo → Type 0) → ((b : Base) (g : Geo) → P b g → Q b g → R b g) → (es : Names) → AreViewsOf P es → AreViewsOf Q es → AreViewsOf R es
@@ -112,13 +118,14 @@ both_views P Q R f (e ∷ es) p q = (one e.1 p.0 q.0, both_views P Q R f es p.1 
     one (Row b g) p q = f b g p q
 
 -- a cell may go on in a sound session that its effects made
-goes_on_sound : (label : ℕ) (p : Parsed) (s t : Session) (i : Inputs) → HasNone label s → IsSoundSession s → HasNone label t → IsSoundSession (with_effects label (effects_of (cell label p i s)) t)
+goes_on_sound : (label : ℕ) (p : Parsed) (s t : Session) (i : World) → HasNone label s → IsSoundSession s → HasNone label t → IsSoundSession (with_effects label (effects_of (cell label p i s)) t)
     → IsSound (record (start label (with_effects label (effects_of (cell label p i s)) t)) { next = (cell label p i s).running.next })
 goes_on_sound label p s t i none sound none' lies =
     let ended : Ended = cell label p i s in
     let then : Session = with_effects label (effects_of ended) t in
     let is_labelled : ended.running.label ≡ label = (tracks_cell label p s i).labelled in
-    let bound : BindsNumbered ended.running = (both_ran i p (start label s) (start_sound label s none sound, tt)).1 in
+    let e : Ended = ran i.inputs p (start label s) in
+    let bound : BindsNumbered ended.running = numbered_under label s i.rule e.refusal e (both_ran i.inputs p (start label s) (start_sound label s none sound, tt)).1 in
     let numbered : AreViewsOf (λ b g. b.label ≡ label → b.number < ended.running.next) then.names
     = views_replayed (λ b g. b.label ≡ label → b.number < ended.running.next) ended.running.events t.names
     (bound_map (IsNumbered ended.running) (λ b g. b.label ≡ label → b.number < ended.running.next) (λ b g h e. h (e ∙ sym is_labelled)) ended.running.events bound)

@@ -4,7 +4,7 @@ use Rattle.std.specs.Fmt.{digits}
 use Rattle.nd_model.specs.Cells.Session.{no_session}
 use Rattle.nd_model.specs.Cells.Fault.{Refusal}
 use Rattle.nd_model.specs.Cells.Cell.{Ended, Saved, cell as cell_of}
-use Rattle.nd_model.specs.Cells.Running.{Source, Npy, Buffer}
+use Rattle.nd_model.specs.Cells.Running.{Source, Npy, Buffer, Python}
 use Rattle.nd_model.specs.Formats.RuleReading.{reading as rule_reading}
 use Rattle.nd_model.specs.Formats.FormatGrammar.{format}
 use Rattle.nd_model.specs.Formats.FormatReading.{read_format}
@@ -28,7 +28,7 @@ outcome e = (e.text, refused e.refusal)
 
 -- what a cell prints, and how it ends
 abbrev gives : List ℕ → List ℕ × List ℕ
-gives text = outcome (cell_of 7 (reading text) (λ n. None) no_session)
+gives text = outcome (cell_of 7 (reading text) (record { inputs = λ n. None; rule = Python }) no_session)
 
 a_view_shares : gives (codes "x = np.arange(4)\ny = x\ny[0] = 9\nprint(x)") ≡ (codes "[9 1 2 3]\n", codes "ok")
 unfolding digits reading tokens tokens_from piece_at word_at keywords symbols cell lines line stmt bind assign target groups group place imports module_name delete print printed save saved value expr comparison bor bxor band shift sum term unary signed power exponent under postfix suffix operand function call arange second third filled full new_array broadcast_to two fold reduce accumulate comma_options options first_axis named_axis numbered_axis comma_keepdims only_keepdims named_keepdims comma_typing only_typing typing dtype fields pair type_name kind_name shape tuple no_lengths quoted exprs method attribute axes lengths empty type_argument reduction reduction_options accumulation index contents nothing item part list elements newaxis slice step_in bound_in grouped name has keyword_kinds name_kinds
@@ -150,11 +150,11 @@ structures_are_assigned = refl
 
 -- the same over one input
 abbrev gives_of : Source → List ℕ → List ℕ × List ℕ
-gives_of source text = outcome (cell_of 7 (reading text) (λ n. Some source) no_session)
+gives_of source text = outcome (cell_of 7 (reading text) (record { inputs = λ n. Some source; rule = Python }) no_session)
 
 -- the files that a cell saves
 abbrev saves : List ℕ → Saved
-saves text = (cell_of 7 (reading text) (λ n. None) no_session).saves
+saves text = (cell_of 7 (reading text) (record { inputs = λ n. None; rule = Python }) no_session).saves
 
 buffer_in_place : gives_of (Buffer (codes ">h") 2 (3 ∷ []) (pos 0 ∷ []) 0 (0 ∷ 5 ∷ [])) (codes "v = buffer('b')\nv += 1\nprint(v)") ≡ (codes "[6 6 6]\n", codes "ok")
 unfolding digits reading tokens tokens_from piece_at word_at keywords symbols cell lines line stmt bind assign target groups group place imports module_name delete print printed save saved value expr comparison bor bxor band shift sum term unary signed power exponent under postfix suffix operand function call arange second third filled full new_array broadcast_to two fold reduce accumulate comma_options options first_axis named_axis numbered_axis comma_keepdims only_keepdims named_keepdims comma_typing only_typing typing dtype fields pair type_name kind_name shape tuple no_lengths quoted exprs method attribute axes lengths empty type_argument reduction reduction_options accumulation index contents nothing item part list elements newaxis slice step_in bound_in grouped name has keyword_kinds name_kinds format header read_format read_npy header_in header_of elements_in npy_front rule_reading

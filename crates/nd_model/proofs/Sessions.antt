@@ -49,14 +49,14 @@ once_replayed (Unbinds n ∷ es) ns h = once_replayed es (unbind n ns) (once-unb
 
 -- what the record of a cell does gives the session after it
 pub does : (b : Book) (k : ℕ) → AreDistinct (labels_of b.cells) → k < length b.cells
-    → with_effects (entry_at b k).cell.label (record_at b.inputs (entry_at b k)).effects (session_before b k) ≡ session_before b (k + 1)
-does b k d lt = replays_there b.inputs (entry_at b k) (fresh_at b k lt d) ∙ sym (session_before-next b k lt)
+    → with_effects (entry_at b k).cell.label (record_at b.world (entry_at b k)).effects (session_before b k) ≡ session_before b (k + 1)
+does b k d lt = replays_there b.world (entry_at b k) (fresh_at b k lt d) ∙ sym (session_before-next b k lt)
 
 pub names_stand_once : NamesStandOnce
 names_stand_once b zero d le = tt
 names_stand_once b (suc k) d le =
     subst (λ (t : Session). IsOnce t.names) (does b k d (omega arith) ∙ ap (session_before b) (let e : k + 1 ≡ suc k = omega arith in e))
-    (once_replayed (record_at b.inputs (entry_at b k)).effects.events (session_before b k).names (names_stand_once b k d (omega arith)))
+    (once_replayed (record_at b.world (entry_at b k)).effects.events (session_before b k).names (names_stand_once b k d (omega arith)))
 
 pub sessions_are_sound : SessionsAreSound
 sessions_are_sound b zero d le = tt
@@ -64,4 +64,4 @@ sessions_are_sound b (suc k) d le =
     let lt : k < length b.cells = omega arith in
     let e : Entry = entry_at b k in
     subst IsSoundSession (sym (session_before-next b k lt) ∙ ap (session_before b) (let e : k + 1 ≡ suc k = omega arith in e))
-    (stays_sound.cell e.cell.label (reading e.cell.source) b.inputs e.session (fresh_at b k lt d) (sessions_are_sound b k d (omega arith)))
+    (stays_sound.cell e.cell.label (reading e.cell.source) b.world e.session (fresh_at b k lt d) (sessions_are_sound b k d (omega arith)))

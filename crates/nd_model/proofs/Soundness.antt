@@ -13,8 +13,8 @@ use Rattle.nd_model.specs.Arrays.Strides.{limit_fault, from_parts}
 use Rattle.nd_model.proofs.Parts.{parts_lie}
 use Rattle.nd_model.specs.Cells.Session.{Names, lookup, bind, unbind, is_held, Session, held_bytes, put}
 use Rattle.nd_model.specs.Arrays.Content.{Content, element_bytes, writes, array_bytes}
-use Rattle.nd_model.specs.Cells.Running.{Source, Inputs, Running, start, Lookup, Ask, Use, Make, reply, with_base, after, Effect, Nothing, Prints, Saves, Binding, Unbinding, Storing, done, Output}
-use Rattle.nd_model.specs.Cells.Fault.{Fault, ViewFault, BadArgument}
+use Rattle.nd_model.specs.Cells.Running.{Key, Source, Inputs, Rule, Python, Atomic, Running, start, Lookup, Ask, Use, Make, reply, with_base, after, Effect, Nothing, Prints, Saves, Binding, Unbinding, Storing, done, Output}
+use Rattle.nd_model.specs.Cells.Fault.{Fault, Refusal, ViewFault, BadArgument}
 use Rattle.nd_model.specs.Cells.Fault as fault
 use Rattle.nd_model.specs.Cells.InputName.{is_input_name}
 use Rattle.nd_model.specs.Grammar.Syntax.{Stmt, Line, Parsed}
@@ -26,7 +26,7 @@ use Rattle.nd_model.specs.Arrays.Broadcast.{broadcast_view}
 use Rattle.nd_model.specs.Cells.Operation
 use Rattle.nd_model.specs.Cells.Operation.{operands, Operation, Computes, Views, perform, Plan, Named, FromInput, Does, Plans, Done, And, evaluate, with_values, evaluate_all, Work, Acts, ActsOn}
 use Rattle.nd_model.specs.Cells.Meaning
-use Rattle.nd_model.specs.Cells.Cell.{Saved, Ended, had, statement, most_text, with_save, and_then, statements, ran, cell, session_after}
+use Rattle.nd_model.specs.Cells.Cell.{Saved, Ended, had, statement, most_text, with_save, and_then, statements, ran, ruled, under, cell, session_after}
 use Rattle.nd_model.specs.Cells.Footprint.{HasNone}
 use Rattle.nd_model.specs.Cells.Sound.{LiesIn, IsViewOf, AreViewsOf, IsHeldView, IsSound, IsSoundSession, StaysSound}
 use Rattle.nd_model.proofs.Lists.{not_both, length-put}
@@ -417,9 +417,21 @@ after_sound e h =
     twice : (b : Base) → is_held b e.running.names ≡ true → held_bytes (session_after e) b ≡ e.running.bytes b
     twice b held = rw held refl
 
+-- a session that has read more is as sound
+sound_read : (r : Running) (read : Key → Bool) → IsSound r → IsSound (record r { read = read })
+sound_read r read h = all_views_map (IsHeldView r) (IsHeldView (record r { read = read })) (λ b g view. record { lies = view.lies; old = view.old }) r.names h
+
+under_sound : (rule : Rule) (began : Running) (o : Option (ℕ × Refusal)) (e : Ended) → IsSound began → IsSound e.running → IsSound (under rule began o e).running
+under_sound rule began None e first last = last
+under_sound Python began (Some f) e first last = sound_read e.running (ruled e.running).read last
+under_sound Atomic began (Some f) e first last = sound_read began (ruled e.running).read first
+
 pub stays_sound : StaysSound
 stays_sound = record {
   start = start_sound;
   statement = statement_sound;
-  cell = λ label p i s none h. after_sound (cell label p i s) (ran_sound i p (start label s) (start_sound label s none h));
+  cell = λ label p i s none h.
+      let began : IsSound (start label s) = start_sound label s none h in
+      let e : Ended = ran i.inputs p (start label s) in
+      after_sound (cell label p i s) (under_sound i.rule (start label s) e.refusal e began (ran_sound i.inputs p (start label s) began));
 }

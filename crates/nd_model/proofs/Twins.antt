@@ -6,16 +6,17 @@ use Rattle.std.proofs.lemmas.Bool.Decides.{nat_tests}
 use Rattle.std.specs.Prelude.{bytes_eq}
 use Rattle.nd_model.specs.Arrays.Value.{Base, same_base, Value}
 use Rattle.nd_model.specs.Cells.Session.{lookup, put, is_place, is_in}
-use Rattle.nd_model.specs.Cells.Running.{Key, Name, Input, Length, Byte, Event, Binds, Unbinds, Inputs, Running, is_event_of, is_touched, is_own, is_doing_of, having_read, is_name, is_length, is_length_of, Act, Lookup, Ask, Use, Make, asked, reply, with_base, made, after, Source, Effect, Nothing, Prints, Saves, Binding, Unbinding, Storing, done}
-use Rattle.nd_model.specs.Cells.Footprint.{Found, Bound, Given, Number}
+use Rattle.nd_model.specs.Cells.Running.{Key, Name, Input, Length, Byte, OfRule, Python, Event, Binds, Unbinds, Inputs, Running, is_event_of, is_touched, is_own, is_doing_of, having_read, is_name, is_length, is_length_of, Act, Lookup, Ask, Use, Make, asked, reply, with_base, made, after, Source, Effect, Nothing, Prints, Saves, Binding, Unbinding, Storing, done}
+use Rattle.nd_model.specs.Cells.Footprint.{Found, Bound, Given, Number, Ruled}
 use Rattle.nd_model.proofs.Lists.{bytes_eq_self, not_both, lookup-bind, lookup-unbind, length-put, same_put}
 
--- what stands at a key now
+-- what stands at a key now; no statement asks for the rule
 abbrev pub at : Inputs → Running → Key → Found
 at i r (Name n) = Bound (lookup n r.names)
 at i r (Input n) = Given (i n)
 at i r (Length b) = Number (length (r.bytes b))
 at i r (Byte b p) = Number (get_or (r.bytes b) p 0)
+at i r OfRule = Ruled Python
 
 -- They have done and read the same, and have the same wherever the cell did it itself or will have read it.
 pub record Twin (seen : Key → Bool) (i j : Inputs) (x y : Running) : Type 0 where
@@ -104,6 +105,7 @@ twin_made bytes seen i j x y t = record {
         ∙ ap₂ (λ l n. Number (length (with_base (record { label = l; number = n }) bytes y.bytes c))) t.label t.next
     | Byte c p ↦ λ h. same_with (record { label = x.label; number = x.next }) c bytes _ _ (λ l. get_or l p 0) (λ _. t.same (Byte c p) h)
         ∙ ap₂ (λ l n. Number (get_or (with_base (record { label = l; number = n }) bytes y.bytes c) p 0)) t.label t.next
+    | OfRule ↦ λ h. refl
   ];
 }
 
@@ -152,6 +154,7 @@ twin_done (Binding n v) seen i j x y t within = record {
     | Input m ↦ t.same (Input m)
     | Length c ↦ t.same (Length c)
     | Byte c p ↦ t.same (Byte c p)
+    | OfRule ↦ t.same OfRule
   ];
 }
 twin_done (Unbinding n) seen i j x y t within = record {
@@ -166,6 +169,7 @@ twin_done (Unbinding n) seen i j x y t within = record {
     | Input m ↦ t.same (Input m)
     | Length c ↦ t.same (Length c)
     | Byte c p ↦ t.same (Byte c p)
+    | OfRule ↦ t.same OfRule
   ];
 }
 twin_done (Storing b ws) seen i j x y t within = record {
@@ -184,6 +188,7 @@ twin_done (Storing b ws) seen i j x y t within = record {
           (λ elsewhere. same_number _ _ (t.same (Byte c p) (still_own (eqb c.label x.label) (x.written c p) (same_base b c) (is_place p ws) (seen (Byte c p)) (λ _. elsewhere) h)))))
       | inr other ↦ rw other (t.same (Byte c p) (still_own (eqb c.label x.label) (x.written c p) (same_base b c) (is_place p ws) (seen (Byte c p)) (λ e. absurd (not_both _ other e)) h))
     ]
+    | OfRule ↦ t.same OfRule
   ];
 }
   where

@@ -6,7 +6,7 @@ ghost use Rattle.nd_model.specs.Cells.Bases.{FewBases};
 ghost use Rattle.nd_model.specs.Book.Book.{LabelsStayDistinct, AnyLabels as AnyBookLabels};
 ghost use Rattle.nd_model.specs.Arrays.Element.{BytesRoundTrip, OneWrap, RoundTrip};
 ghost use Rattle.nd_model.specs.Book.Entries.{SameFront, ToldByRecords};
-ghost use Rattle.nd_model.specs.Cells.Footprint.{Frame, EffectsAreAll, Replay};
+ghost use Rattle.nd_model.specs.Cells.Footprint.{Frame, EffectsAreAll, Replay, RuleIsRead};
 ghost use Rattle.nd_model.specs.Book.Notebook.{EditsBook};
 ghost use Rattle.nd_model.specs.Cells.Noting.{WritesReadNoMore};
 ghost use Rattle.nd_model.specs.Book.Sessions.{NamesStandOnce, SessionsAreSound};
@@ -110,10 +110,16 @@ pub fn recast_lies()
     ensures { RecastLies }
 {}
 
-/// Sessions and inputs that agree on what a cell reads in the first give it the same reads and
-/// effects.
+/// Sessions, inputs and rules that agree on what a cell reads in the first give it the same reads
+/// and effects.
 pub fn frame()
     ensures { Frame }
+{}
+
+/// A cell has read the rule exactly where it is refused. So no other cell runs again where the rule
+/// changes, unless something else that it read changes with it.
+pub fn rule_is_read()
+    ensures { RuleIsRead }
 {}
 
 /// The session after a cell is the one before it with the cell's effects.
@@ -150,8 +156,8 @@ pub fn at_most_is_at_most()
     ensures { AtMostIsAtMost }
 {}
 
-/// Where the first cells and the inputs of two notebooks are equal, so are the records of these
-/// cells and the sessions around them.
+/// Where the first cells, the inputs and the rule of two notebooks are equal, so are the records of
+/// these cells and the sessions around them.
 pub fn same_front()
     ensures { SameFront }
 {}

@@ -5,7 +5,7 @@ use Rattle.std.proofs.lemmas.Bool.{and_from, cases_Bool}
 use Rattle.std.specs.List.{flat_map}
 use Rattle.nd_model.specs.Arrays.Value.{Base, Value, Int, Truth, Scalar, Array, Row, same_base}
 use Rattle.nd_model.specs.Cells.Session.{Session, Names, is_held, lookup, no_session}
-use Rattle.nd_model.specs.Cells.Running.{Inputs}
+use Rattle.nd_model.specs.Cells.Running.{World}
 use Rattle.nd_model.specs.Grammar.Reading.{reading}
 use Rattle.nd_model.specs.Cells.Cell.{cell, notebook, session_after}
 use Rattle.nd_model.specs.Book.Entries.{session_before}
@@ -25,14 +25,14 @@ use Rattle.nd_cell.specs.Records.{RecordData, recorded}
 use Rattle.nd_cell.specs.Results.{refusal_of, saves_of}
 
 -- where no cell stands
-told_past : (cs : List Cell) (i : Inputs) (s : Session) (at : ℕ) → length cs ≤ at → slice_get (told (notebook (read_cells cs) i s)) at ≡ None
+told_past : (cs : List Cell) (i : World) (s : Session) (at : ℕ) → length cs ≤ at → slice_get (told (notebook (read_cells cs) i s)) at ≡ None
 told_past [] i s at h = refl
 told_past (c ∷ cs) i s zero h = absurd (omega arith)
 told_past (c ∷ cs) i s (suc at) h = told_past cs i (session_after (cell c.label (reading c.source) i s)) at (omega arith)
 
 pub not_told : {X : Type 0} (answer : Told → Result X QueryFault) (b : Book) (at count : ℕ) → length b.cells ≤ at → count ≡ length b.cells → ask_told answer b at ≡ Err (QueryFault.NoCell at count)
 not_told answer b at count past is =
-    ap (λ (o : Option Told). ask_cell at (count_of b) o answer) (told_past b.cells b.inputs no_session at past) ∙ ap (λ n. Err (QueryFault.NoCell at n)) (sym is)
+    ap (λ (o : Option Told). ask_cell at (count_of b) o answer) (told_past b.cells b.world no_session at past) ∙ ap (λ n. Err (QueryFault.NoCell at n)) (sym is)
 
 cell_past : (cs : List Cell) (at : ℕ) → length cs ≤ at → slice_get cs at ≡ None
 cell_past [] at h = refl

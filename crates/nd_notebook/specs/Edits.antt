@@ -2,9 +2,9 @@
 use Rattle.std.specs.Prelude.{◌≡◌, ℕ, List, [], ◌∷◌, None, Result, Ok, Err}
 use Rattle.nd_model.specs.Book.Book as model
 use Rattle.nd_model.specs.Book.Notebook.{Sheet, Answers, CountsRuns, book_of}
-use Rattle.nd_session.specs.Inputs.Values.{source_of}
+use Rattle.nd_session.specs.Inputs.Values.{rule_of, source_of}
 use Rattle.nd_notebook.specs.declared.edit.Edit.{Edit}
-use Rattle.nd_notebook.specs.declared.edit.Edit.TheVariants.{Insert, Change, Move, Remove, SetInput, DropInput}
+use Rattle.nd_notebook.specs.declared.edit.Edit.TheVariants.{Insert, Change, Move, Remove, SetInput, DropInput, SetRule}
 use Rattle.nd_notebook.specs.declared.edit.EditFault.{EditFault}
 use Rattle.nd_notebook.specs.declared.edit.EditFault.TheVariants as edits
 
@@ -15,6 +15,7 @@ edit_of (Move from to) = model.Move from to
 edit_of (Remove at) = model.Remove at
 edit_of (SetInput name input) = model.SetInput name.now (source_of input.now)
 edit_of (DropInput name) = model.DropInput name.now
+edit_of (SetRule rule) = model.SetRule (rule_of rule)
 
 -- the name of the input that an edit is of
 abbrev pub name_in : model.Edit → List ℕ
@@ -24,6 +25,7 @@ name_in (model.Move from to) = []
 name_in (model.Remove at) = []
 name_in (model.SetInput name input) = name
 name_in (model.DropInput name) = name
+name_in (model.SetRule rule) = []
 
 -- why an edit of this name is not done
 abbrev pub edit_fault_of : List ℕ → EditFault → model.EditFault

@@ -3,7 +3,7 @@
 ghost use Rattle.std.specs.Prelude.{◌≡◌};
 ghost use Rattle.nd_notebook.specs.declared.edit.EditFault.TheVariants as edits;
 
-use nd_session::session::{Input, OutOfMemory};
+use nd_session::session::{CellRule, Input, OutOfMemory};
 use std::alloc::AllocError;
 
 /// An edit of a notebook. Positions count from 0.
@@ -20,6 +20,8 @@ pub enum Edit<'a> {
     SetInput(&'a str, &'a Input),
     /// The input of the name is dropped.
     DropInput(&'a str),
+    /// What stands of a cell that is refused.
+    SetRule(CellRule),
 }
 
 /// Why an edit is refused. The first reason that holds is answered, and want of memory last.

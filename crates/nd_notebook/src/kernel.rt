@@ -6,14 +6,13 @@ ghost use Rattle.nd_session.specs.Session.Change.{change_of};
 ghost use Rattle.nd_session.specs.Session.Filter as filters;
 ghost use Rattle.nd_session.specs.Session.Kept.{version_of};
 ghost use Rattle.nd_session.specs.Session.Live.{live};
-ghost use Rattle.nd_session.specs.Inputs.Values.{given_of};
+ghost use Rattle.nd_session.specs.Inputs.Values.{given_of, rule_of};
 ghost use Rattle.nd_cell.specs.Records.{recorded};
 
+use crate::world::World;
 use nd_cell::{Meter, Record, run_cell};
 use nd_schedule::schedule::CellRunner;
-use nd_session::session::{
-    Base, Change, Inputs, KeyFilter, NameOrder, OutOfMemory, Session, Version,
-};
+use nd_session::session::{Base, Change, KeyFilter, NameOrder, OutOfMemory, Session, Version};
 use std::alloc::{AllocError, Global};
 use std::rc::Rc;
 
@@ -51,7 +50,7 @@ impl CellRunner for SessionRunner {
 
     type Record = Record;
 
-    type Inputs = Inputs;
+    type World = World;
 
     type Change = Change;
 
@@ -65,7 +64,7 @@ impl CellRunner for SessionRunner {
 
     ghost recorded = { λ r. recorded r };
 
-    ghost given = { λ i. given_of i.entries };
+    ghost given = { λ w. record { inputs = given_of w.inputs.entries; rule = rule_of w.rule } };
 
     ghost change_of = { λ c. change_of c };
 
@@ -85,18 +84,18 @@ impl CellRunner for SessionRunner {
     fn run(
         meter: &mut Meter,
         session: &mut Session,
-        inputs: &Inputs,
+        world: &World,
         label: u64,
         text: &str,
     ) -> Result<Record, AllocError> {
-        match run_cell(meter, session, inputs, label, text) {
+        match run_cell(meter, session, &world.inputs, world.rule, label, text) {
             Ok(made) => Ok(made),
             Err(OutOfMemory) => Err(AllocError),
         }
     }
 
-    fn still_holds(made: &Record, session: &Session, inputs: &Inputs) -> bool {
-        made.agrees(session, inputs)
+    fn still_holds(made: &Record, session: &Session, world: &World) -> bool {
+        made.agrees(session, &world.inputs, world.rule)
     }
 
     fn replay(made: &Record, session: &mut Session) -> Result<(), AllocError> {
@@ -114,8 +113,8 @@ impl CellRunner for SessionRunner {
         Change::new(alloc)
     }
 
-    fn input_change(alloc: Global, old: &Inputs, new: &Inputs) -> Result<Change, AllocError> {
-        match Change::of_inputs(alloc, old, new) {
+    fn world_change(alloc: Global, old: &World, new: &World) -> Result<Change, AllocError> {
+        match Change::of_world(alloc, &old.inputs, old.rule, &new.inputs, new.rule) {
             Ok(change) => Ok(change),
             Err(OutOfMemory) => Err(AllocError),
         }
@@ -148,7 +147,7 @@ impl CellRunner for SessionRunner {
         before: &Record,
         made: &Record,
         session: &Session,
-        _inputs: &Inputs,
+        _world: &World,
         change: &mut Change,
     ) -> Result<(), AllocError> {
         match made.follow(before, session, change) {

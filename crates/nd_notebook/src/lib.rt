@@ -6,13 +6,14 @@ mod edit;
 mod kernel;
 mod notebook;
 mod query;
+mod world;
 
 pub use edit::{Edit, EditFault};
 pub use nd_cell::{
     CellFault, CellResult, FormatFault, IndexFault, Meter, NpyFault, ParseKind, ReduceFault,
     Refusal, ShapeFault, StmtError, StmtFault, UfuncFault, ViewFault,
 };
-pub use nd_session::session::{Input, OutOfMemory};
+pub use nd_session::session::{CellRule, Input, OutOfMemory};
 pub use nd_types::{Elem, ElemType, Field, Kind, RecType};
 pub use notebook::Notebook;
 pub use query::{BoundValue, QueryFault, Shown, ShownElements};

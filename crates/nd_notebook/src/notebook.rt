@@ -3,17 +3,18 @@
 ghost use Rattle.std.specs.Prelude.{◌≡◌, IfOk, OnErr, OnOk, length};
 ghost use Rattle.nd_model.specs.Book.Book as model;
 ghost use Rattle.nd_model.specs.Book.Notebook.{Answers, CountsRuns, no_sheet};
-ghost use Rattle.nd_session.specs.Inputs.Values.{source_of};
+ghost use Rattle.nd_session.specs.Inputs.Values.{rule_of, source_of};
 ghost use Rattle.nd_notebook.specs.Edits.{IsRefusalOf, outcome_of};
 
 use crate::edit::{Edit, EditFault};
 use crate::kernel::SessionRunner;
 use crate::query::{BoundValue, QueryFault, names_of};
+use crate::world::World;
 use indexmap::IndexMap;
 use nd_cell::{CellResult, Meter};
 use nd_schedule::schedule::Schedule;
 use nd_session::session::{
-    Input, OutOfMemory, Version, has_input, is_input_name, with_input, without_input,
+    CellRule, Input, OutOfMemory, Version, has_input, is_input_name, with_input, without_input,
 };
 use std::alloc::Global;
 use std::marker::Model;
@@ -40,8 +41,8 @@ fn check_input(name: &str, input: &Input) -> Result<(), EditFault>
     Ok(())
 }
 
-/// A list of cells and inputs under edits, whose answers are those of running all cells in order
-/// from nothing. Positions count from 0.
+/// A list of cells under edits, with inputs and a rule, whose answers are those of running all cells
+/// in order from nothing. Positions count from 0.
 ///
 /// With the cells `x = np.arange(3)` and `print(x + 1)` the second one gives the text `[1 2 3]`.
 /// After an edit of the first to `x = np.arange(2)` it gives `[1 2]`.
@@ -60,11 +61,15 @@ impl Model for Notebook {
 }
 
 impl Notebook {
-    /// Returns a notebook without cells and inputs. It takes no memory.
+    /// Returns a notebook without cells and inputs, under the rule `Python`. It takes no memory.
     pub fn new(alloc: Global) -> Notebook
         ensures { result ≡ no_sheet }
     {
-        let schedule = Schedule::new(alloc, IndexMap::new(alloc));
+        let world = World {
+            inputs: IndexMap::new(alloc),
+            rule: CellRule::Python,
+        };
+        let schedule = Schedule::new(alloc, world);
         Notebook { schedule, alloc }
     }
 
@@ -179,8 +184,10 @@ impl Notebook {
         if let Err(fault) = check_input(name, &input) {
             return Err(fault);
         }
-        let inputs = with_input(self.alloc, self.schedule.inputs(), name, input)?;
-        self.schedule.set_inputs(meter, inputs)?;
+        let world = self.schedule.world();
+        let inputs = with_input(self.alloc, &world.inputs, name, input)?;
+        let rule = world.rule;
+        self.schedule.set_world(meter, World { inputs, rule })?;
         Ok(())
     }
 
@@ -197,11 +204,28 @@ impl Notebook {
         if !is_input_name(name) {
             return Err(EditFault::BadInputName);
         }
-        if !has_input(self.schedule.inputs(), name) {
+        let world = self.schedule.world();
+        if !has_input(&world.inputs, name) {
             return Err(EditFault::NoInputNamed);
         }
-        let inputs = without_input(self.schedule.inputs(), name)?;
-        self.schedule.set_inputs(meter, inputs)?;
+        let inputs = without_input(&world.inputs, name)?;
+        let rule = world.rule;
+        self.schedule.set_world(meter, World { inputs, rule })?;
+        Ok(())
+    }
+
+    /// Sets what stands of a cell that is refused. Where the rule is another one, the cells that are
+    /// refused run again, and those that read what they did. Where it is the present one, none does.
+    ///
+    /// Refused for want of memory alone.
+    pub fn set_rule(&mut self, meter: &mut Meter, rule: CellRule) -> Result<(), EditFault>
+        ensures answered { Answers (model.SetRule (rule_of rule)) self.old
+            (outcome_of (model.SetRule (rule_of rule)) result) self.new }
+        ensures counts { CountsRuns (model.SetRule (rule_of rule)) self.old
+            (outcome_of (model.SetRule (rule_of rule)) result) meter.old meter.new }
+    {
+        let inputs = self.schedule.world().inputs.clone()?;
+        self.schedule.set_world(meter, World { inputs, rule })?;
         Ok(())
     }
 }
@@ -339,6 +363,7 @@ impl Notebook {
             Edit::Remove(at) => self.remove(meter, at),
             Edit::SetInput(name, input) => self.set_copy(meter, name, input),
             Edit::DropInput(name) => self.drop_input(meter, name),
+            Edit::SetRule(rule) => self.set_rule(meter, rule),
         }
     }
 
@@ -347,7 +372,7 @@ impl Notebook {
     ///
     /// On a notebook without cells, `Insert(0, "x = 1")` and `Remove(7)` are answered `Ok` and
     /// `NoCell(7, 1)`. Afterwards all queries answer what running all present cells in order from
-    /// nothing over the present inputs gives, whatever distinct labels the cells have.
+    /// nothing, over the present inputs and under the present rule, gives, whatever distinct labels the cells have.
     pub fn apply_all(
         &mut self,
         meter: &mut Meter,

@@ -1,7 +1,9 @@
 //! Inputs: what a cell may load by name. [`Input`] is one, [`is_input_name`] says which names are
-//! allowed.
+//! allowed. Beside them stands the [`CellRule`] by which cells are run.
 mod input;
 mod input_name;
+mod rule;
 
 pub use input::{Input, Inputs, are_same_inputs, find_input, has_input, with_input, without_input};
 pub use input_name::is_input_name;
+pub use rule::CellRule;

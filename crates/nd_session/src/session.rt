@@ -12,7 +12,9 @@ mod redo;
 mod session;
 mod version;
 
-pub use crate::inputs::{Input, Inputs, has_input, is_input_name, with_input, without_input};
+pub use crate::inputs::{
+    CellRule, Input, Inputs, has_input, is_input_name, with_input, without_input,
+};
 pub use change::{Change, KeyFilter};
 pub use changes::Changes;
 pub use nd_heap::{Array, Base, BlockWriter, OutOfMemory, Value};

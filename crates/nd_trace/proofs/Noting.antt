@@ -5,7 +5,7 @@ use Rattle.std.proofs.lemmas.Bool.{cases_Bool}
 use Rattle.std.proofs.lemmas.Bool.Decides.{nat_tests}
 use Rattle.nd_model.specs.Arrays.Value.{Base, same_base}
 use Rattle.nd_model.specs.Cells.Session as model
-use Rattle.nd_model.specs.Cells.Running.{Key, Name, Input, Length, Byte}
+use Rattle.nd_model.specs.Cells.Running.{Key, Name, Input, Length, Byte, OfRule}
 use Rattle.nd_model.specs.Cells.Running as running
 use Rattle.nd_marks.specs.Marks.{Places}
 use Rattle.nd_model.specs.Cells.Storing.{having_written}
@@ -47,36 +47,42 @@ module _ (looked asked : List (List ℕ)) (lengths : List Base) (used : List (Ba
   name_more n h (Input m) = or_false _
   name_more n h (Length b) = or_false _
   name_more n h (Byte b p) = or_false _
+  name_more n h OfRule = refl
 
   pub name_there : (n : List ℕ) → (own (Name n) || is_among looked n) ≡ true → (k : Key) → is_read looked asked lengths used k ≡ (is_read looked asked lengths used k || (running.is_name n k && not (own k)))
   name_there n h (Name m) = there (is_among looked m) (bytes_eq n m) (own (Name m)) (λ e. ap (λ m. own (Name m) || is_among looked m) (sym (same_bytes n m e)) ∙ h)
   name_there n h (Input m) = or_false _
   name_there n h (Length b) = or_false _
   name_there n h (Byte b p) = or_false _
+  name_there n h OfRule = refl
 
   pub input_more : (n : List ℕ) → ((m : List ℕ) → own (Input m) ≡ false) → (k : Key) → is_read looked (asked ++ n ∷ []) lengths used k ≡ (is_read looked asked lengths used k || (running.is_input n k && not (own k)))
   input_more n h (Name m) = or_false _
   input_more n h (Input m) = is_among-append asked n m ∙ more (is_among asked m) (bytes_eq n m) (own (Input m)) (λ e. h m)
   input_more n h (Length b) = or_false _
   input_more n h (Byte b p) = or_false _
+  input_more n h OfRule = refl
 
   pub input_there : (n : List ℕ) → (own (Input n) || is_among asked n) ≡ true → (k : Key) → is_read looked asked lengths used k ≡ (is_read looked asked lengths used k || (running.is_input n k && not (own k)))
   input_there n h (Name m) = or_false _
   input_there n h (Input m) = there (is_among asked m) (bytes_eq n m) (own (Input m)) (λ e. ap (λ m. own (Input m) || is_among asked m) (sym (same_bytes n m e)) ∙ h)
   input_there n h (Length b) = or_false _
   input_there n h (Byte b p) = or_false _
+  input_there n h OfRule = refl
 
   pub length_more : (b : Base) → own (Length b) ≡ false → (k : Key) → is_read looked asked (lengths ++ b ∷ []) used k ≡ (is_read looked asked lengths used k || (running.is_length b k && not (own k)))
   length_more b h (Name m) = or_false _
   length_more b h (Input m) = or_false _
   length_more b h (Length c) = is_base-append lengths b c ∙ more (is_base_among lengths c) (same_base b c) (own (Length c)) (λ e. ap (λ c. own (Length c)) (sym (same_bases b c e)) ∙ h)
   length_more b h (Byte c p) = or_false _
+  length_more b h OfRule = refl
 
   pub length_there : (b : Base) → (own (Length b) || is_base_among lengths b) ≡ true → (k : Key) → is_read looked asked lengths used k ≡ (is_read looked asked lengths used k || (running.is_length b k && not (own k)))
   length_there b h (Name m) = or_false _
   length_there b h (Input m) = or_false _
   length_there b h (Length c) = there (is_base_among lengths c) (same_base b c) (own (Length c)) (λ e. ap (λ c. own (Length c) || is_base_among lengths c) (sym (same_bases b c e)) ∙ h)
   length_there b h (Byte c p) = or_false _
+  length_there b h OfRule = refl
 
   -- bytes of another base, but for those that the cell has written
   pub bytes_more : (b : Base) (ps : List ℕ) (used' : List (Base × Places)) (except : ℕ → Bool) → ((p : ℕ) → own (Byte b p) ≡ except p)
@@ -85,6 +91,7 @@ module _ (looked asked : List (List ℕ)) (lengths : List Base) (used : List (Ba
   bytes_more b ps used' except h marked (Name m) = or_false _
   bytes_more b ps used' except h marked (Input m) = or_false _
   bytes_more b ps used' except h marked (Length c) = or_false _
+  bytes_more b ps used' except h marked OfRule = refl
   bytes_more b ps used' except h marked (Byte c p) = marked c p ∙ ap (λ t. is_marked used c p || t) (elim (cases_Bool (same_base b c)) [
     | inl same ↦ rw same (ap (λ o. model.is_in p ps && not o) (sym (h p) ∙ ap (λ c. own (Byte c p)) (same_bases b c same)))
     | inr apart ↦ rw apart refl

@@ -11,7 +11,7 @@ use Rattle.nd_marks.specs.Marks.{Places}
 use Rattle.nd_model.specs.Cells.Session.{is_in}
 use Rattle.nd_model.specs.Cells.Session as session
 use Rattle.nd_model.specs.Arrays.Value as model
-use Rattle.nd_model.specs.Cells.Running.{Key, Name, Input, Length, Byte}
+use Rattle.nd_model.specs.Cells.Running.{Key, Name, Input, Length, Byte, OfRule}
 use Rattle.nd_model.specs.Cells.Running as running
 use Rattle.nd_heap.specs.declared.value.Base.{Base}
 use Rattle.nd_heap.specs.Values.{base_of}
@@ -66,6 +66,7 @@ reads_none (Name n) = refl
 reads_none (Input n) = refl
 reads_none (Length b) = refl
 reads_none (Byte b p) = refl
+reads_none OfRule = refl
 
 pub nothing_seen : (t : Seen) → t.events ≡ [] → t.written ≡ [] → t.looked ≡ [] → t.asked ≡ [] → t.lengths ≡ [] → t.used ≡ [] → trace_of t ≡ running.start t.label session.no_session
 nothing_seen t events written looked asked lengths used =

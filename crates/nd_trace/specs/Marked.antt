@@ -1,7 +1,7 @@
 -- What is marked in several bases, and which keys are read.
 use Rattle.std.specs.Prelude.{ℕ, Bool, false, ◌||◌, bytes_eq, List, [], ◌∷◌, if◌then◌else◌}
 use Rattle.nd_model.specs.Arrays.Value.{Base, same_base}
-use Rattle.nd_model.specs.Cells.Running.{Key, Name, Input, Length, Byte}
+use Rattle.nd_model.specs.Cells.Running.{Key, Name, Input, Length, Byte, OfRule}
 use Rattle.nd_marks.specs.Marks.{Places, holds}
 use Rattle.nd_heap.specs.Live.{is_base_among}
 
@@ -19,3 +19,4 @@ is_read looked asked lengths used (Name n) = is_among looked n
 is_read looked asked lengths used (Input n) = is_among asked n
 is_read looked asked lengths used (Length b) = is_base_among lengths b
 is_read looked asked lengths used (Byte b p) = is_marked used b p
+is_read looked asked lengths used OfRule = false

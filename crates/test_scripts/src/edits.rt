@@ -1,6 +1,6 @@
 //! `run_row`: makes a list of edits on a notebook without cells, with the meter.
 
-use nd_notebook::{Edit, EditFault, Input, Meter, Notebook};
+use nd_notebook::{CellRule, Edit, EditFault, Input, Meter, Notebook};
 use nd_script::words::{LineCommand, LineInput, command_of};
 use std::alloc::Global;
 use std::io;
@@ -13,13 +13,23 @@ fn words_of(line: &str) -> Option<(&str, &str, &str)> {
     Some((word, which, behind))
 }
 
+/// The edit that sets the rule of this word.
+fn rule_of<'a>(word: &str) -> Option<Edit<'a>> {
+    match word {
+        "python" => Some(Edit::SetRule(CellRule::Python)),
+        "atomic" => Some(Edit::SetRule(CellRule::Atomic)),
+        _ => None,
+    }
+}
+
 /// The edit that a line says: `insert AT SOURCE`, `change AT SOURCE`, `move FROM TO`, `remove AT`,
-/// `input NAME ..` or `drop NAME`. The input that it sets stands beside it.
+/// `input NAME ..`, `drop NAME`, `rule python` or `rule atomic`. The input that it sets stands beside it.
 fn edit_of<'a>(line: &'a str, input: &'a Input) -> Option<Edit<'a>> {
     let (word, which, behind) = words_of(line)?;
     match word {
         "input" => return Some(Edit::SetInput(which, input)),
         "drop" => return Some(Edit::DropInput(which)),
+        "rule" => return rule_of(which),
         _ => {}
     }
     let at = which.parse().ok()?;

@@ -1,7 +1,7 @@
 -- Notebooks under edits, and what they answer.
 use Rattle.std.specs.Prelude.{◌≡◌, ℕ, zero, suc, ◌+◌, ◌*◌, ◌^◌, max, Bool, false, ◌||◌, nat_eq, nat_lt, nat_le, bytes_eq, is_none, if◌then◌else◌, List, [], ◌∷◌, length, map, insert, remove, slice_get, slice_index_or, slice_set, Option, Some, None, Result, Ok, Err}
 use Rattle.nd_model.specs.Cells.Session.{Session, no_session, lookup}
-use Rattle.nd_model.specs.Cells.Running.{Inputs, Source, Npy, Buffer}
+use Rattle.nd_model.specs.Cells.Running.{Inputs, Source, Npy, Buffer, Rule, Python, World}
 use Rattle.nd_model.specs.Cells.InputName.{is_input_name}
 use Rattle.nd_model.specs.Cells.Fault.{Refusal}
 use Rattle.nd_model.specs.Grammar.Syntax.{Parsed}
@@ -14,23 +14,24 @@ pub record Cell : Type 0 where
   pub label : ℕ
   pub source : List ℕ
 
--- a notebook: its cells in order, and the inputs
+-- a notebook: its cells in order, with the inputs and the rule by which they are run
 pub record Book : Type 0 where
   pub cells : List Cell
-  pub inputs : Inputs
+  pub world : World
 
 abbrev pub no_inputs : Inputs
 no_inputs name = None
 
 abbrev pub no_book : Book
-no_book = record { cells = []; inputs = no_inputs }
+no_book = record { cells = []; world = record { inputs = no_inputs; rule = Python } }
 
 abbrev pub count_of : Book → ℕ
 count_of b = length b.cells
 
 -- ---- edits
 
--- Places count from 0. A cell that is moved stands at `to` afterwards. An input is set in the place of one of its name.
+-- Places count from 0. A cell that is moved stands at `to` afterwards. An input is set in the place of one of its name. The rule
+-- is never refused.
 pub data Edit : Type 0 where
   Insert : (at : ℕ) → (source : List ℕ) → Edit
   Change : (at : ℕ) → (source : List ℕ) → Edit
@@ -38,6 +39,7 @@ pub data Edit : Type 0 where
   Remove : (at : ℕ) → Edit
   SetInput : (name : List ℕ) → (input : Source) → Edit
   DropInput : (name : List ℕ) → Edit
+  SetRule : Rule → Edit
 
 -- The first that holds is the refusal; that memory is wanted comes last, and no definition here says when.
 pub data EditFault : Type 0 where
@@ -99,7 +101,8 @@ refusal (Change at source) b = in_place at (count_of b) (fit_source source)
 refusal (Move from to) b = in_place from (count_of b) (in_place to (count_of b) None)
 refusal (Remove at) b = in_place at (count_of b) None
 refusal (SetInput name input) b = under_name name (fit_input input)
-refusal (DropInput name) b = under_name name (if is_none (b.inputs name) then Some (NoInputNamed name) else None)
+refusal (DropInput name) b = under_name name (if is_none (b.world.inputs name) then Some (NoInputNamed name) else None)
+refusal (SetRule rule) b = None
 
 abbrev pub is_label : ℕ → List Cell → Bool
 is_label n [] = false
@@ -130,6 +133,7 @@ edited_cells (Move from to) cells = insert (remove cells from) to (slice_index_o
 edited_cells (Remove at) cells = remove cells at
 edited_cells (SetInput name input) cells = cells
 edited_cells (DropInput name) cells = cells
+edited_cells (SetRule rule) cells = cells
 
 abbrev pub edited_inputs : Edit → Inputs → Inputs
 edited_inputs (Insert at source) inputs = inputs
@@ -138,10 +142,23 @@ edited_inputs (Move from to) inputs = inputs
 edited_inputs (Remove at) inputs = inputs
 edited_inputs (SetInput name input) inputs = with_input name (Some input) inputs
 edited_inputs (DropInput name) inputs = with_input name None inputs
+edited_inputs (SetRule rule) inputs = inputs
+
+abbrev pub edited_rule : Edit → Rule → Rule
+edited_rule (Insert at source) old = old
+edited_rule (Change at source) old = old
+edited_rule (Move from to) old = old
+edited_rule (Remove at) old = old
+edited_rule (SetInput name input) old = old
+edited_rule (DropInput name) old = old
+edited_rule (SetRule rule) old = rule
+
+abbrev pub edited_world : Edit → World → World
+edited_world e w = record { inputs = edited_inputs e w.inputs; rule = edited_rule e w.rule }
 
 -- THE NOTEBOOK AFTER AN EDIT that is not refused
 abbrev pub edited : Edit → Book → Book
-edited e b = record { cells = edited_cells e b.cells; inputs = edited_inputs e b.inputs }
+edited e b = record { cells = edited_cells e b.cells; world = edited_world e b.world }
 
 -- a refused edit changes nothing
 abbrev pub unless_refused : Option EditFault → Book → Book → Book
@@ -164,7 +181,7 @@ read_cells (c ∷ cs) = (c.label, reading c.source) ∷ read_cells cs
 
 -- how each cell ends, and the session after it
 abbrev pub ended_cells : Book → List (Ended × Session)
-ended_cells b = notebook (read_cells b.cells) b.inputs no_session
+ended_cells b = notebook (read_cells b.cells) b.world no_session
 
 abbrev pub told_book : Book → List Told
 told_book b = told (ended_cells b)
@@ -231,7 +248,7 @@ relabelled [] (c ∷ cs) = c ∷ cs
 relabelled (n ∷ ns) (c ∷ cs) = record { label = n; source = c.source } ∷ relabelled ns cs
 
 abbrev pub relabelled_book : List ℕ → Book → Book
-relabelled_book ns b = record { cells = relabelled ns b.cells; inputs = b.inputs }
+relabelled_book ns b = record { cells = relabelled ns b.cells; world = b.world }
 
 -- any distinct labels, one for each cell, make the book tell the same
 abbrev pub AnswersUnderAnyLabels : Book → Type 0

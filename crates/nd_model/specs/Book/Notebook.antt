@@ -1,36 +1,45 @@
 -- What a notebook answers to edits and queries, with the one choice: that memory is wanted.
 use Rattle.std.specs.Prelude.{◌≡◌, ℕ, IsTrue, is_ok, List, [], ◌∷◌, Some, None, Result, Ok, Err}
 use Rattle.nd_model.specs.Cells.Session.{lookup, bind, unbind}
-use Rattle.nd_model.specs.Cells.Running.{Inputs, Source}
-use Rattle.nd_model.specs.Book.Book.{Book, Cell, Edit, Insert, Change, Move, Remove, SetInput, DropInput, EditFault, TooManyCells, CellTooLong, BadInputName, InputTooLarge, NoInputNamed, refusal, edited, edited_cells, QueryFault}
+use Rattle.nd_model.specs.Cells.Running.{Inputs, Source, Rule, Python, World}
+use Rattle.nd_model.specs.Book.Book.{Book, Cell, Edit, Insert, Change, Move, Remove, SetInput, DropInput, SetRule, EditFault, TooManyCells, CellTooLong, BadInputName, InputTooLarge, NoInputNamed, refusal, edited, edited_cells, QueryFault}
 use Rattle.nd_model.specs.Book.Stale.{CountsStale}
 
 -- ---- notebooks as contracts see them: plain data
 
--- the cells in order, and the inputs with their names
+-- what all cells are run by: the inputs with their names, and the rule
+pub record Setting : Type 0 where
+  pub inputs : List (List ℕ × Source)
+  pub rule : Rule
+
+-- the cells in order, and what they are run by
 pub record Sheet : Type 0 where
   pub cells : List Cell
-  pub given : List (List ℕ × Source)
+  pub given : Setting
 
 abbrev pub no_sheet : Sheet
-no_sheet = record { cells = []; given = [] }
+no_sheet = record { cells = []; given = record { inputs = []; rule = Python } }
 
 -- the inputs by name
 abbrev pub inputs_in : List (List ℕ × Source) → Inputs
 inputs_in given name = lookup name given
 
+abbrev pub world_in : Setting → World
+world_in s = record { inputs = inputs_in s.inputs; rule = s.rule }
+
 abbrev pub book_of : Sheet → Book
-book_of s = record { cells = s.cells; inputs = inputs_in s.given }
+book_of s = record { cells = s.cells; world = world_in s.given }
 
 -- ---- edits
 
-abbrev pub edited_given : Edit → List (List ℕ × Source) → List (List ℕ × Source)
+abbrev pub edited_given : Edit → Setting → Setting
 edited_given (Insert at source) given = given
 edited_given (Change at source) given = given
 edited_given (Move from to) given = given
 edited_given (Remove at) given = given
-edited_given (SetInput name input) given = bind name input given
-edited_given (DropInput name) given = unbind name given
+edited_given (SetInput name input) given = record given { inputs = bind name input given.inputs }
+edited_given (DropInput name) given = record given { inputs = unbind name given.inputs }
+edited_given (SetRule rule) given = record given { rule = rule }
 
 -- after an edit that is not refused: its book is the edited one
 abbrev pub edited_sheet : Edit → Sheet → Sheet

@@ -6,7 +6,7 @@ use Rattle.nd_model.specs.Arrays.View.{ElementType, Geo}
 use Rattle.nd_model.specs.Arrays.Value.{Base, Value, Int, Truth, Scalar, Array, Row}
 use Rattle.nd_model.specs.Cells.Session.{Names, Session, no_session, is_in}
 use Rattle.nd_model.specs.Arrays.Content.{content_at, element_bytes}
-use Rattle.nd_model.specs.Cells.Running.{Inputs, Running}
+use Rattle.nd_model.specs.Cells.Running.{Inputs, Running, World}
 use Rattle.nd_model.specs.Cells.Fault.{Refusal}
 use Rattle.nd_model.specs.Grammar.Syntax.{Stmt, Parsed}
 use Rattle.nd_model.specs.Cells.Cell.{Saved, Ended, statement, cell, session_after, notebook}
@@ -100,9 +100,9 @@ told (r ∷ rs) = record { text = r.0.text; refusal = r.0.refusal; saves = r.0.s
 -- notebook, from any two sessions that are the same but for labels. Nothing that is told depends on the labels.
 pub record Commutes (r : ℕ → ℕ → Bool) : Type 0 where
   pub statement : (i : Inputs) (s : Stmt) (x y : Running) → Like r x y → ((statement i s x).0 ≡ (statement i s y).0) × Like r (statement i s x).1 (statement i s y).1
-  pub cell : (i : Inputs) (p : Parsed) (l m : ℕ) (s t : Session) → IsTrue (r l m) → LikeSessions r s t
+  pub cell : (i : World) (p : Parsed) (l m : ℕ) (s t : Session) → IsTrue (r l m) → LikeSessions r s t
       → LikeEnds r (cell l p i s) (cell m p i t) × LikeSessions r (session_after (cell l p i s)) (session_after (cell m p i t))
-  pub notebook : (i : Inputs) (cells others : List (ℕ × Parsed)) (s t : Session) → AreRelabelled r cells others → LikeSessions r s t
+  pub notebook : (i : World) (cells others : List (ℕ × Parsed)) (s t : Session) → AreRelabelled r cells others → LikeSessions r s t
       → told (notebook others i t) ≡ told (notebook cells i s)
 
 abbrev pub Rename : Type 0
@@ -121,5 +121,5 @@ parsed_of cells = map (λ (c : ℕ × Parsed). c.1) cells
 
 -- ANY LABELS that tell the cells apart give the same as any others
 abbrev pub AnyLabels : Type 0
-AnyLabels = (cells others : List (ℕ × Parsed)) (inputs : Inputs) → AreDistinct (labels_of cells) → AreDistinct (labels_of others) → parsed_of cells ≡ parsed_of others
-    → told (notebook others inputs no_session) ≡ told (notebook cells inputs no_session)
+AnyLabels = (cells others : List (ℕ × Parsed)) (w : World) → AreDistinct (labels_of cells) → AreDistinct (labels_of others) → parsed_of cells ≡ parsed_of others
+    → told (notebook others w no_session) ≡ told (notebook cells w no_session)

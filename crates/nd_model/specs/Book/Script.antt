@@ -4,7 +4,7 @@ use Rattle.std.specs.Fmt.{signed_decimal}
 use Rattle.std.specs.Str.{is_utf8}
 use Rattle.std.specs.Str.Parse.{digits_value}
 use Rattle.std.specs.List.{slice_split, join_with_byte, flat_map}
-use Rattle.nd_model.specs.Cells.Running.{Source, Npy, Buffer}
+use Rattle.nd_model.specs.Cells.Running.{Source, Npy, Buffer, Python, Atomic}
 use Rattle.nd_model.specs.Arrays.View.{item_size}
 use Rattle.nd_model.specs.Text.Text.{truth_text, joined}
 use Rattle.nd_model.specs.Cells.Cell.{Saved}
@@ -12,7 +12,7 @@ use Rattle.nd_model.specs.Cells.Fault.{Refusal}
 use Rattle.nd_model.specs.Text.FaultText.{edit_fault_text, query_fault_text, refusal_text}
 use Rattle.nd_model.specs.Formats.Format.{format_text, kind_text}
 use Rattle.nd_model.specs.Book.Renaming.{Shown, ShownInt, ShownTruth, ShownScalar, ShownArray, ShownRow}
-use Rattle.nd_model.specs.Book.Book.{Book, count_of, Edit, Insert, Change, Move, Remove, SetInput, DropInput, EditFault, refusal, after_edit, QueryFault, CellResult, source_at, result_at, names_at, value_at, saved_at}
+use Rattle.nd_model.specs.Book.Book.{Book, count_of, Edit, Insert, Change, Move, Remove, SetInput, DropInput, SetRule, EditFault, refusal, after_edit, QueryFault, CellResult, source_at, result_at, names_at, value_at, saved_at}
 
 -- ---- lines and words
 
@@ -168,11 +168,19 @@ input_line [] input = Whole Bad
 input_line (c ∷ cs) None = Whole Bad
 input_line (c ∷ cs) (Some input) = Whole (Edits (SetInput (c ∷ cs) input))
 
+abbrev pub rule_line : List ℕ → Line
+rule_line rule =
+    if bytes_eq rule (codes "python") then Whole (Edits (SetRule Python))
+    else if bytes_eq rule (codes "atomic") then Whole (Edits (SetRule Atomic))
+    else Whole Bad
+
 abbrev pub line_of_words : List (List ℕ) → Line
 line_of_words [] = Whole Bad
 line_of_words (word ∷ []) = if bytes_eq word (codes "count") then Whole (Asks Counts) else Whole Bad
 line_of_words (word ∷ a ∷ []) =
-    if bytes_eq word (codes "drop") then drop_line a else with_number (number_word a) (placed_line word)
+    if bytes_eq word (codes "drop") then drop_line a
+    else if bytes_eq word (codes "rule") then rule_line a
+    else with_number (number_word a) (placed_line word)
 line_of_words (word ∷ a ∷ b ∷ []) =
     if bytes_eq word (codes "move") then with_number (number_word a) (λ from. with_number (number_word b) (move_line from))
     else if bytes_eq word (codes "value") then with_number (number_word a) (value_line b)

@@ -1,7 +1,7 @@
 -- Which cells an edit makes stale, how many they are, and what a pass over the new list runs.
 use Rattle.std.specs.Prelude.{◌≡◌, ℕ, zero, suc, ◌+◌, ◌-◌, ◌^◌, ◌≤◌, min, Bool, true, false, IsTrue, ◌&&◌, nat_eq, bytes_eq, List, [], ◌∷◌, length, map, take, find, Option, IfSome, option_map, ⊤, ◌⊎◌}
 use Rattle.nd_model.specs.Cells.Session.{Session, no_session}
-use Rattle.nd_model.specs.Cells.Running.{Inputs}
+use Rattle.nd_model.specs.Cells.Running.{World}
 use Rattle.nd_model.specs.Grammar.Reading.{reading}
 use Rattle.nd_model.specs.Cells.Cell.{cell, session_after}
 use Rattle.nd_model.specs.Book.Entries.{Entry, ended, record_at, entries_of, records_of}
@@ -22,10 +22,10 @@ abbrev pub entry_before : Book → Cell → Option Entry
 entry_before old c = find (λ (e : Entry). is_same c e.cell) (entries_of old)
 
 -- STALE when the new book is run after the old one: it is new in the list, or its text is another, or something that it read in the
--- run before has another value at its entry now.
+-- run before has another value at its entry now. A cell that was refused has read the rule.
 abbrev pub IsStale : Book → Book → Entry → Type 0
 IsStale old new now =
-    IfSome (entry_before old now.cell) (λ was. ¬ Agree (reads_of (ended old.inputs was)) was.session old.inputs now.session new.inputs)
+    IfSome (entry_before old now.cell) (λ was. ¬ Agree (reads_of (ended old.world was)) was.session old.world now.session new.world)
 
 -- Of these, at least n are P: n is at most their number.
 abbrev pub AtLeast : {X : Type 0} → ℕ → (X → Type 0) → List X → Type 0
@@ -50,13 +50,13 @@ CountsStale old new before after = (runs : ℕ) × AtMostStale old new runs × (
 
 -- what is kept of a cell: the record of its run before
 abbrev pub kept_of : Book → Cell → Option Record
-kept_of old c = option_map (record_at old.inputs) (entry_before old c)
+kept_of old c = option_map (record_at old.world) (entry_before old c)
 
 abbrev pub slot_of : Book → Cell → Slot
 slot_of old c = record { label = c.label; parsed = reading c.source; kept = kept_of old c }
 
 -- A cell with a flag was run only for want of a record that still holds.
-abbrev pub RunsAtNeed : Inputs → Session → List Slot → List Bool → Type 0
+abbrev pub RunsAtNeed : World → Session → List Slot → List Bool → Type 0
 RunsAtNeed i s [] [] = ⊤
 RunsAtNeed i s (c ∷ cs) (f ∷ fs) = (IsTrue f → IfSome c.kept (λ r. ¬ StillHolds r s i)) × RunsAtNeed i (session_after (cell c.label c.parsed i s)) cs fs
 RunsAtNeed i s [] (f ∷ fs) = ⊥
@@ -79,7 +79,7 @@ MarksOnly P (x ∷ xs) [] = ⊥
 -- running all cells in order from nothing, runs stale cells only, and so no more than are stale.
 abbrev pub FewRuns : Type 0
 FewRuns = (old new : Book) (fs : List Bool) (rs : List Record) → AreDistinct (labels_of old.cells) → AreDistinct (labels_of new.cells)
-    → Passes new.inputs no_session (map (slot_of old) new.cells) fs rs → RunsAtNeed new.inputs no_session (map (slot_of old) new.cells) fs
+    → Passes new.world no_session (map (slot_of old) new.cells) fs rs → RunsAtNeed new.world no_session (map (slot_of old) new.cells) fs
     → (rs ≡ records_of new) × MarksOnly (IsStale old new) (entries_of new) fs × AtMostStale old new (runs_in fs)
 
 -- whatever flags each stale cell has at least as many flags
@@ -93,7 +93,7 @@ AtMostIsAtMost = (old new : Book) (n : ℕ) (fs : List Bool) → AtMostStale old
 
 -- ---- the cells in front
 
--- Where the first cells and the inputs are the same, none of these cells is stale.
+-- Where the first cells are the same, with the same inputs and rule, none of these cells is stale.
 abbrev pub FrontIsNotStale : Type 0
-FrontIsNotStale = (at n : ℕ) (old new : Book) → AreDistinct (labels_of old.cells) → old.inputs ≡ new.inputs → take at old.cells ≡ take at new.cells
+FrontIsNotStale = (at n : ℕ) (old new : Book) → AreDistinct (labels_of old.cells) → old.world ≡ new.world → take at old.cells ≡ take at new.cells
     → AtMostStale old new n → n ≤ length new.cells - at

@@ -1,7 +1,7 @@
 -- Cells, and notebooks run from nothing.
-use Rattle.std.specs.Prelude.{ℕ, ◌^◌, nat_le, if◌then◌else◌, List, [], ◌∷◌, ◌++◌, length, Option, Some, None, Result, Ok, Err}
+use Rattle.std.specs.Prelude.{ℕ, ◌||◌, ◌^◌, nat_le, if◌then◌else◌, List, [], ◌∷◌, ◌++◌, length, Option, Some, None, Result, Ok, Err}
 use Rattle.nd_model.specs.Cells.Session.{Session, collected, bind}
-use Rattle.nd_model.specs.Cells.Running.{Running, Inputs, start, session_of, Effect, done, Output, output}
+use Rattle.nd_model.specs.Cells.Running.{Running, Inputs, Rule, Python, Atomic, World, is_rule, start, session_of, Effect, done, Output, output}
 use Rattle.nd_model.specs.Cells.Fault.{Fault, TextTooLong, ParseFault, Refusal, Parse, Statement}
 use Rattle.nd_model.specs.Cells.Fault as fault
 use Rattle.nd_model.specs.Grammar.Syntax.{Stmt, Line, Parsed}
@@ -59,15 +59,29 @@ abbrev pub ran : Inputs → Parsed → Running → Ended
 ran inputs (Ok ls) r = statements inputs ls [] [] r
 ran inputs (Err f) r = record { text = []; refusal = Some (f.line, Parse f.kind f.column); saves = []; running = r }
 
--- A CELL of this label over a session and the inputs
-abbrev pub cell : ℕ → Parsed → Inputs → Session → Ended
-cell label p inputs s = ran inputs p (start label s)
+-- what a refused cell has read: the rule too
+abbrev pub ruled : Running → Running
+ruled r = record r { read = λ k. r.read k || is_rule k }
+
+-- The end of a cell that began with this session, under the rule. A refused one keeps its text and its refusal. Under the rule
+-- `Atomic` it saves nothing, and its session is the one that it began with.
+abbrev pub under : Rule → Running → Option (ℕ × Refusal) → Ended → Ended
+under rule began None e = e
+under Python began (Some f) e = record e { running = ruled e.running }
+under Atomic began (Some f) e = record e { saves = []; running = record began { read = (ruled e.running).read } }
+
+abbrev pub ended_under : Rule → Running → Ended → Ended
+ended_under rule began e = under rule began e.refusal e
+
+-- A CELL of this label over a session, by the inputs and the rule
+abbrev pub cell : ℕ → Parsed → World → Session → Ended
+cell label p w s = ended_under w.rule (start label s) (ran w.inputs p (start label s))
 
 abbrev pub session_after : Ended → Session
 session_after e = collected (session_of e.running)
 
 -- THE CELLS IN ORDER, from a session: what each gives, and the session after it
-abbrev pub notebook : List (ℕ × Parsed) → Inputs → Session → List (Ended × Session)
-notebook [] inputs s = []
-notebook (c ∷ cs) inputs s =
-    let e = cell c.0 c.1 inputs s in (e, session_after e) ∷ notebook cs inputs (session_after e)
+abbrev pub notebook : List (ℕ × Parsed) → World → Session → List (Ended × Session)
+notebook [] w s = []
+notebook (c ∷ cs) w s =
+    let e = cell c.0 c.1 w s in (e, session_after e) ∷ notebook cs w (session_after e)

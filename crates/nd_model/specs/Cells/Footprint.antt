@@ -1,8 +1,8 @@
 -- What a cell reads and does, and the laws of it.
-use Rattle.std.specs.Prelude.{◌≡◌, ℕ, suc, Bool, false, IsTrue, nat_eq, if◌then◌else◌, List, [], ◌∷◌, length, slice_index, Option, Some, None, unwrap_or}
+use Rattle.std.specs.Prelude.{◌≡◌, ℕ, suc, Bool, false, IsTrue, nat_eq, if◌then◌else◌, List, [], ◌∷◌, length, slice_index, Option, Some, None, is_some, unwrap_or}
 use Rattle.nd_model.specs.Arrays.Value.{Base, Value}
 use Rattle.nd_model.specs.Cells.Session.{Names, lookup, bind, unbind, is_held, Session, held_bytes}
-use Rattle.nd_model.specs.Cells.Running.{Key, Name, Input, Length, Byte, Event, Binds, Unbinds, Inputs, Source}
+use Rattle.nd_model.specs.Cells.Running.{Key, Name, Input, Length, Byte, OfRule, Event, Binds, Unbinds, Source, Rule, World}
 use Rattle.nd_model.specs.Cells.Fault.{Refusal}
 use Rattle.nd_model.specs.Grammar.Syntax.{Parsed}
 use Rattle.nd_model.specs.Cells.Cell.{Saved, Ended, cell, session_after}
@@ -12,15 +12,17 @@ pub data Found : Type 0 where
   Bound : Option Value → Found
   Given : Option Source → Found
   Number : ℕ → Found
+  Ruled : Rule → Found
 
-abbrev pub found : Session → Inputs → Key → Found
-found s inputs (Name n) = Bound (lookup n s.names)
-found s inputs (Input n) = Given (inputs n)
-found s inputs (Length b) = Number (length (held_bytes s b))
-found s inputs (Byte b p) = Number (slice_index (held_bytes s b) p)
+abbrev pub found : Session → World → Key → Found
+found s w (Name n) = Bound (lookup n s.names)
+found s w (Input n) = Given (w.inputs n)
+found s w (Length b) = Number (length (held_bytes s b))
+found s w (Byte b p) = Number (slice_index (held_bytes s b) p)
+found s w OfRule = Ruled w.rule
 
 -- both have the same at each of the keys
-abbrev pub Agree : (Key → Bool) → Session → Inputs → Session → Inputs → Type 0
+abbrev pub Agree : (Key → Bool) → Session → World → Session → World → Type 0
 Agree keys s i t j = (k : Key) → IsTrue (keys k) → found s i k ≡ found t j k
 
 -- no base of the label is in the session
@@ -72,17 +74,21 @@ with_effects label e s =
 
 -- FRAME: sessions and inputs that agree on what the cell reads in the first give it the same reads and effects
 abbrev pub Frame : Type 0
-Frame = (label : ℕ) (p : Parsed) (s t : Session) (i j : Inputs) → HasNone label s → HasNone label t
+Frame = (label : ℕ) (p : Parsed) (s t : Session) (i j : World) → HasNone label s → HasNone label t
     → Agree (reads_of (cell label p i s)) s i t j
     → (reads_of (cell label p i s) ≡ reads_of (cell label p j t)) × (effects_of (cell label p i s) ≡ effects_of (cell label p j t))
 
+-- THE RULE IS READ by a cell that is refused, and by no other.
+abbrev pub RuleIsRead : Type 0
+RuleIsRead = (label : ℕ) (p : Parsed) (s : Session) (w : World) → reads_of (cell label p w s) OfRule ≡ is_some (cell label p w s).refusal
+
 -- the session after a cell is the one before it with the cell's effects
 abbrev pub EffectsAreAll : Type 0
-EffectsAreAll = (label : ℕ) (p : Parsed) (s : Session) (i : Inputs) → HasNone label s
+EffectsAreAll = (label : ℕ) (p : Parsed) (s : Session) (i : World) → HasNone label s
     → session_after (cell label p i s) ≡ with_effects label (effects_of (cell label p i s)) s
 
 -- REPLAY: the effects of a run on one session give the session after a run on the other
 abbrev pub Replay : Type 0
-Replay = (label : ℕ) (p : Parsed) (s t : Session) (i j : Inputs) → HasNone label s → HasNone label t
+Replay = (label : ℕ) (p : Parsed) (s t : Session) (i j : World) → HasNone label s → HasNone label t
     → Agree (reads_of (cell label p i s)) s i t j
     → session_after (cell label p j t) ≡ with_effects label (effects_of (cell label p i s)) t

@@ -1,15 +1,16 @@
 -- A session while a cell runs, with what the cell has read and done so far. This file says what it is to read, and what
 -- a cell may ask and do; what the statements mean is said in Meaning without a word on it.
-use Rattle.std.specs.Prelude.{ℕ, ◌+◌, ℤ, Bool, false, not, ◌&&◌, ◌||◌, nat_eq, bytes_eq, if◌then◌else◌, List, [], ◌∷◌, ◌++◌, map, slice_index, Option, Some, None}
+use Rattle.std.specs.Prelude.{ℕ, ◌+◌, ℤ, Bool, true, false, not, ◌&&◌, ◌||◌, nat_eq, bytes_eq, if◌then◌else◌, List, [], ◌∷◌, ◌++◌, map, slice_index, Option, Some, None}
 use Rattle.nd_model.specs.Arrays.Value.{Base, same_base, Value, Int, Truth, Scalar, Array, Row}
 use Rattle.nd_model.specs.Cells.Session.{Names, lookup, bind, unbind, Session, held_bytes, put, is_place, is_in}
 
--- what a cell can read: a name, an input, the length of a base, and a byte of it
+-- what a cell can read: a name, an input, the length of a base, a byte of it, and the rule
 pub data Key : Type 0 where
   Name : List ℕ → Key
   Input : List ℕ → Key
   Length : Base → Key
   Byte : Base → ℕ → Key
+  OfRule : Key
 
 pub data Event : Type 0 where
   Binds : List ℕ → Value → Event
@@ -23,6 +24,16 @@ pub data Source : Type 0 where
 -- the inputs by name
 abbrev pub Inputs : Type 0
 Inputs = List ℕ → Option Source
+
+-- What stands of a cell that is refused: all that came before its refusal, as in Python, or nothing.
+pub data Rule : Type 0 where
+  Python : Rule
+  Atomic : Rule
+
+-- what all cells of a notebook are run by
+pub record World : Type 0 where
+  pub inputs : Inputs
+  pub rule : Rule
 
 pub record Running : Type 0 where
   -- the session as it is now
@@ -65,6 +76,7 @@ is_doing_of label events written (Name n) = is_touched n events
 is_doing_of label events written (Input n) = false
 is_doing_of label events written (Length b) = nat_eq b.label label
 is_doing_of label events written (Byte b p) = nat_eq b.label label || written b p
+is_doing_of label events written OfRule = false
 
 abbrev pub is_own : Running → Key → Bool
 is_own r k = is_doing_of r.label r.events r.written k
@@ -78,24 +90,35 @@ is_name n (Name m) = bytes_eq n m
 is_name n (Input m) = false
 is_name n (Length b) = false
 is_name n (Byte b p) = false
+is_name n OfRule = false
 
 abbrev pub is_input : List ℕ → Key → Bool
 is_input n (Name m) = false
 is_input n (Input m) = bytes_eq n m
 is_input n (Length b) = false
 is_input n (Byte b p) = false
+is_input n OfRule = false
 
 abbrev pub is_length : Base → Key → Bool
 is_length b (Name m) = false
 is_length b (Input m) = false
 is_length b (Length c) = same_base b c
 is_length b (Byte c p) = false
+is_length b OfRule = false
 
 abbrev pub is_byte : Base → List ℕ → Key → Bool
 is_byte b ps (Name m) = false
 is_byte b ps (Input m) = false
 is_byte b ps (Length c) = false
 is_byte b ps (Byte c p) = same_base b c && is_in p ps
+is_byte b ps OfRule = false
+
+abbrev pub is_rule : Key → Bool
+is_rule (Name n) = false
+is_rule (Input n) = false
+is_rule (Length b) = false
+is_rule (Byte b p) = false
+is_rule OfRule = true
 
 -- the length of the base that the value lies in, if it lies in one
 abbrev pub is_length_of : Option Value → Key → Bool

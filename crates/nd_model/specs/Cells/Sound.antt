@@ -6,7 +6,7 @@ use Rattle.nd_model.specs.Arrays.View.{Geo, item_size}
 use Rattle.nd_model.specs.Arrays.Value.{Base, Value, Int, Truth, Scalar, Array, Row}
 use Rattle.nd_model.specs.Arrays.Strides.{IsInLimits}
 use Rattle.nd_model.specs.Cells.Session.{Names, Session, held_bytes}
-use Rattle.nd_model.specs.Cells.Running.{Inputs, Running, start}
+use Rattle.nd_model.specs.Cells.Running.{Inputs, Running, World, start}
 use Rattle.nd_model.specs.Grammar.Syntax.{Stmt, Parsed}
 use Rattle.nd_model.specs.Cells.Cell.{statement, cell, session_after}
 use Rattle.nd_model.specs.Cells.Footprint.{HasNone, Agree, reads_of, effects_of, with_effects}
@@ -45,11 +45,11 @@ IsSoundSession s = AreViewsOf (λ b g. LiesIn (length (held_bytes s b)) g) s.nam
 pub record StaysSound : Type 0 where
   pub start : (label : ℕ) (s : Session) → HasNone label s → IsSoundSession s → IsSound (start label s)
   pub statement : (i : Inputs) (s : Stmt) (r : Running) → IsSound r → IsSound (statement i s r).1
-  pub cell : (label : ℕ) (p : Parsed) (i : Inputs) (s : Session) → HasNone label s → IsSoundSession s → IsSoundSession (session_after (cell label p i s))
+  pub cell : (label : ℕ) (p : Parsed) (i : World) (s : Session) → HasNone label s → IsSoundSession s → IsSoundSession (session_after (cell label p i s))
 
 -- SOUND AGAIN: the effects of a run over one sound session, put on another that agrees with what was read, give a session in which
 -- the cell goes on from the number of its next base.
 abbrev pub ReplaysSound : Type 0
-ReplaysSound = (label : ℕ) (p : Parsed) (s t : Session) (i j : Inputs) → HasNone label s → HasNone label t → IsSoundSession s → IsSoundSession t
+ReplaysSound = (label : ℕ) (p : Parsed) (s t : Session) (i j : World) → HasNone label s → HasNone label t → IsSoundSession s → IsSoundSession t
     → Agree (reads_of (cell label p i s)) s i t j
     → IsSound (record (start label (with_effects label (effects_of (cell label p i s)) t)) { next = (cell label p i s).running.next })

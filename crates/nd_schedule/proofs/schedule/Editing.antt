@@ -5,8 +5,7 @@ use Rattle.std.specs.declared.rc.Rc.{Rc}
 use Rattle.nd_schedule.specs.declared.cells.source.KeptCell.{KeptCell}
 use Rattle.std.proofs.lemmas.List.{get_or-set_same, get_or-set_other, get_or-map, length-map}
 use Rattle.nd_model.specs.Cells.Session.{Session, no_session}
-use Rattle.nd_model.specs.Cells.Running.{Key, Inputs}
-use Rattle.nd_model.specs.Cells.Running as running
+use Rattle.nd_model.specs.Cells.Running.{Key, World}
 use Rattle.nd_model.specs.Grammar.Reading.{reading}
 use Rattle.nd_model.specs.Cells.Cell.{cell, session_after}
 use Rattle.nd_model.specs.Cells.Footprint.{Found, HasNone, found}
@@ -15,7 +14,7 @@ use Rattle.nd_model.specs.Book.Renaming.{AreDistinct}
 use Rattle.nd_model.specs.Book.Book.{Book, Cell, no_cell, labels_of}
 use Rattle.nd_model.specs.Book.Book as book
 use Rattle.nd_model.specs.Book.Entries.{entry_at, record_at, session_before, records_of, SharesFront}
-use Rattle.nd_model.specs.Book.Notebook.{Sheet, book_of, edited_sheet}
+use Rattle.nd_model.specs.Book.Notebook.{Setting, Sheet, book_of, edited_sheet}
 use Rattle.nd_model.specs.Book.Stale.{kept_of}
 use Rattle.nd_model.proofs.Entries.{fresh_at}
 use Rattle.nd_model.proofs.EditKept.{kept_changed, same_change, map-slice_set}
@@ -65,10 +64,10 @@ module _ (s : Sheet) (at : ℕ) (c : Cell) (lt : at < length s.cells) (d : AreDi
   pub front : SharesFront at old new
   front = same_front at old new refl (take_set s.cells at)
 
-  pub starts : (e : Change) → ((k : Key) → e k ≡ None) → IsOver e (session_before old at) old.inputs (session_before new at) new.inputs
+  pub starts : (e : Change) → ((k : Key) → e k ≡ None) → IsOver e (session_before old at) old.world (session_before new at) new.world
   starts e none = record {
     now = λ k f is there. absurd (none_some f (sym (none k) ∙ is));
-    same = λ k out in_s in_t. ap (λ t. found t old.inputs k) (front.1 at (omega arith));
+    same = λ k out in_s in_t. ap (λ t. found t old.world k) (front.1 at (omega arith));
   }
     where
       none_some : (f : Found) → None ≡ Some f → ⊥
@@ -81,43 +80,43 @@ module _ (s : Sheet) (at : ℕ) (c : Cell) (lt : at < length s.cells) (d : AreDi
     none_now : HasNone c.label (session_before new at)
     none_now = let P : Cell → Type 0 = λ c. HasNone c.label (session_before new at) in subst P entry_is (fresh_at new at less distinct_now)
 
-    same_run : HasNone c.label h × (record_of c.label (reading c.source) new.inputs h ≡ record_of c.label (reading c.source) new.inputs (session_before new at)) × IsAlike (session_after (cell c.label (reading c.source) new.inputs h)) (session_after (cell c.label (reading c.source) new.inputs (session_before new at)))
-    same_run = alike_runs c.label (reading c.source) h (session_before new at) new.inputs now_here here.once (names_stand_once new at distinct_now (omega (arith, less))) none_now
+    same_run : HasNone c.label h × (record_of c.label (reading c.source) new.world h ≡ record_of c.label (reading c.source) new.world (session_before new at)) × IsAlike (session_after (cell c.label (reading c.source) new.world h)) (session_after (cell c.label (reading c.source) new.world (session_before new at)))
+    same_run = alike_runs c.label (reading c.source) h (session_before new at) new.world now_here here.once (names_stand_once new at distinct_now (omega (arith, less))) none_now
 
     pub none_here : HasNone c.label h
     none_here = same_run.0
 
-    pub run_record : record_of c.label (reading c.source) new.inputs h ≡ record_at new.inputs (entry_at new at)
-    run_record = same_run.1 ∙ ap (λ (x : Cell). record_of x.label (reading x.source) new.inputs (session_before new at)) (sym entry_is)
+    pub run_record : record_of c.label (reading c.source) new.world h ≡ record_at new.world (entry_at new at)
+    run_record = same_run.1 ∙ ap (λ (x : Cell). record_of x.label (reading x.source) new.world (session_before new at)) (sym entry_is)
 
-    pub run_after : session_after (cell c.label (reading c.source) new.inputs h) ≡ did_by (Some (record_at new.inputs (entry_at new at))) h
-    run_after = effects_are_all c.label (reading c.source) h new.inputs none_here ∙ ap (λ (q : Record). did_by (Some q) h) run_record
+    pub run_after : session_after (cell c.label (reading c.source) new.world h) ≡ did_by (Some (record_at new.world (entry_at new at))) h
+    run_after = effects_are_all c.label (reading c.source) h new.world none_here ∙ ap (λ (q : Record). did_by (Some q) h) run_record
 
     -- behind the cell that is run
-    pub first_at : (e f : Change) (x : Record) (after : Session) (given : Inputs) (upto : ℕ) → ((k : Key) → e k ≡ None) → x ≡ record_at old.inputs (entry_at old at) → given ≡ new.inputs → after ≡ session_after (cell c.label (reading c.source) given h)
+    pub first_at : (e f : Change) (x : Record) (after : Session) (given : World) (upto : ℕ) → ((k : Key) → e k ≡ None) → x ≡ record_at old.world (entry_at old at) → given ≡ new.world → after ≡ session_after (cell c.label (reading c.source) given h)
         → Follows e f x (record_of c.label (reading c.source) given h) after given → upto ≡ at + 1 → IsAt old new (at + 1) (at + 1) f after upto
     first_at e f x after given upto none is same then follows upto_is =
-        let then' : after ≡ did_by (Some (record_at new.inputs (entry_at new at))) h = then ∙ ap (λ g. session_after (cell c.label (reading c.source) g h)) same ∙ run_after in
+        let then' : after ≡ did_by (Some (record_at new.world (entry_at new at))) h = then ∙ ap (λ g. session_after (cell c.label (reading c.source) g h)) same ∙ run_after in
         subst (IsAt old new (at + 1) (at + 1) f after) (sym upto_is)
         (past_swap old new at at lt d less distinct_now e (starts e none) f h after now_here here.once then'
-        (subst (λ x. Follows e f x (record_at new.inputs (entry_at new at)) after new.inputs) is
-        (subst (λ q. Follows e f x q after new.inputs) run_record
+        (subst (λ x. Follows e f x (record_at new.world (entry_at new at)) after new.world) is
+        (subst (λ q. Follows e f x q after new.world) run_record
         (subst (λ g. Follows e f x (record_of c.label (reading c.source) g h) after g) same follows))))
 
-    pub first_changed : (cs ds : Changes) (given : Inputs) → given ≡ new.inputs → cs ≡ [] → ds ≡ cs ++ (at, record_of c.label (reading c.source) given h) ∷ [] → AreChanged old new at at (at + 1) ds
+    pub first_changed : (cs ds : Changes) (given : World) → given ≡ new.world → cs ≡ [] → ds ≡ cs ++ (at, record_of c.label (reading c.source) given h) ∷ [] → AreChanged old new at at (at + 1) ds
     first_changed cs ds given same none grown =
         let e : at ≡ at + (at - at) = omega arith in
         changed_more old new at at at cs (subst (AreChanged old new at at at) (sym none) (changed_none old new at at)) (omega arith) ds (record_of c.label (reading c.source) given h) grown
-        (ap (λ g. record_of c.label (reading c.source) g h) same ∙ run_record ∙ ap (λ k. record_at new.inputs (entry_at new k)) e)
+        (ap (λ g. record_of c.label (reading c.source) g h) same ∙ run_record ∙ ap (λ k. record_at new.world (entry_at new k)) e)
 
-  fails : (t : Session) → IfSome (kept_of old (entry_at new at).cell) (λ r. ¬ StillHolds r t new.inputs)
-  fails t = subst (λ o. IfSome o (λ r. ¬ StillHolds r t new.inputs)) (sym (ap (kept_of old) (entry_is ∙ is_cell) ∙ kept_changed old at c.source d lt other)) tt
+  fails : (t : Session) → IfSome (kept_of old (entry_at new at).cell) (λ r. ¬ StillHolds r t new.world)
+  fails t = subst (λ o. IfSome o (λ r. ¬ StillHolds r t new.world)) (sym (ap (kept_of old) (entry_is ∙ is_cell) ∙ kept_changed old at c.source d lt other)) tt
 
   pub first_counts : (before after : ℕ) → after ≡ min (before + 1) (2 ^ 64 - 1) → CountsFront old new (at + 1) before after
   first_counts before after more = counts_run old new at before before after less d distinct_now (fails (session_before new at)) (none_yet old new at before) more
 
-  pub frame_behind : (cs : List Cell) (rs : List Record) (given : Inputs) (n : ℕ) → s.cells ≡ cs → rs ≡ records_of old → new.inputs ≡ given → n ≡ length s.cells → IsFrame old new (at + 1) (at + 1) n cs rs given
-  frame_behind cs rs given n cells records inputs whole = record {
+  pub frame_behind : (cs : List Cell) (rs : List Record) (given : World) (n : ℕ) → s.cells ≡ cs → rs ≡ records_of old → new.world ≡ given → n ≡ length s.cells → IsFrame old new (at + 1) (at + 1) n cs rs given
+  frame_behind cs rs given n cells records world whole = record {
     cells = cells;
     run = record { records = records; distinct = d };
     order = omega arith;
@@ -127,7 +126,7 @@ module _ (s : Sheet) (at : ℕ) (c : Cell) (lt : at < length s.cells) (d : AreDi
       same = λ n less. sym (get_or-set_other s.cells at (at + 1 + n) c no_cell (λ e. absurd (omega arith)));
       distinct = distinct_now;
     };
-    inputs = inputs;
+    world = world;
   }
 
   pub all_records : (cs : Changes) (rs ss : List Record) → rs ≡ records_of old → AreChanged old new at at (length s.cells) cs → length ss ≡ length rs → ((k : ℕ) (r : Record) → get_or ss k r ≡ Rattle.nd_schedule.specs.Schedule.Sweep.changed cs k (get_or rs k r)) → ss ≡ records_of new
@@ -192,38 +191,38 @@ behind_set s at c lt d label = record {
     take_set [] (suc k) = refl
     take_set (x ∷ cs) (suc k) = ap (λ ys. x ∷ ys) (take_set cs k)
 
--- ---- other inputs
+-- ---- other inputs, and another rule
 
-module _ (s : Sheet) (given : List (List ℕ × running.Source)) (d : AreDistinct (labels_of s.cells)) where
+module _ (s : Sheet) (given : Setting) (d : AreDistinct (labels_of s.cells)) where
   abbrev pub before : Book
   before = book_of s
 
   abbrev pub after : Book
   after = book_of (sheet s.cells given)
 
-  pub inputs_at : (e : Change) (h : Session) → ((t : Session) → IsOver e t before.inputs t after.inputs) → h ≡ no_session → IsAt before after 0 0 e h 0
+  pub inputs_at : (e : Change) (h : Session) → ((t : Session) → IsOver e t before.world t after.world) → h ≡ no_session → IsAt before after 0 0 e h 0
   inputs_at e h over empty = record {
     over = over no_session;
     hand = record { behind = omega arith; enough = omega arith; session = alike_self h no_session empty; once = subst (λ u. IsOnce u.names) (sym empty) tt; kept = λ n lt. absurd (omega arith) };
   }
 
-  pub frame_whole : (cs : List Cell) (rs : List Record) (i : Inputs) (n : ℕ) → s.cells ≡ cs → rs ≡ records_of before → after.inputs ≡ i → n ≡ length s.cells → IsFrame before after 0 0 n cs rs i
-  frame_whole cs rs i n cells records inputs whole = record {
+  pub frame_whole : (cs : List Cell) (rs : List Record) (i : World) (n : ℕ) → s.cells ≡ cs → rs ≡ records_of before → after.world ≡ i → n ≡ length s.cells → IsFrame before after 0 0 n cs rs i
+  frame_whole cs rs i n cells records world whole = record {
     cells = cells;
     run = record { records = records; distinct = d };
     order = omega arith;
     beside = record { within = omega arith; fits = omega arith; same = λ n less. refl; distinct = d };
-    inputs = inputs;
+    world = world;
   }
 
-pub behind_none : (s : Sheet) (given : List (List ℕ × running.Source)) → AreDistinct (labels_of s.cells) → IsBehind (book_of s) (book_of (sheet s.cells given)) 0
+pub behind_none : (s : Sheet) (given : Setting) → AreDistinct (labels_of s.cells) → IsBehind (book_of s) (book_of (sheet s.cells given)) 0
 behind_none s given d = record { same = (refl, first); within = omega arith; before = d; distinct = d }
   where
     first : (k : ℕ) → k ≤ 0 → session_before (book_of s) k ≡ session_before (book_of (sheet s.cells given)) k
     first k le = let e : k ≡ 0 = omega arith in ap (session_before (book_of s)) e ∙ sym (ap (session_before (book_of (sheet s.cells given))) e)
 
--- all that is kept, over other inputs
-pub kept_over : {W : Type 0} (covers : W → Key → Bool) (s : Sheet) (given : List (List ℕ × running.Source)) (cs : Changes) (rs ss : List Record) (ws vs : List W) → IsKept covers (book_of s) rs ws
+-- all that is kept, by other inputs and another rule
+pub kept_over : {W : Type 0} (covers : W → Key → Bool) (s : Sheet) (given : Setting) (cs : Changes) (rs ss : List Record) (ws vs : List W) → IsKept covers (book_of s) rs ws
     → AreChanged (book_of s) (book_of (sheet s.cells given)) 0 0 (length s.cells) cs → length ss ≡ length rs → length vs ≡ length ws → ((k : ℕ) (r : Record) → get_or ss k r ≡ changed cs k (get_or rs k r))
     → (AreWords covers ws rs → AreWords covers vs ss) → IsKept covers (book_of (sheet s.cells given)) ss vs
 kept_over covers s given cs rs ss ws vs kept changes long many put words = record {

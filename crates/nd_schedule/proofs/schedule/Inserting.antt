@@ -5,7 +5,7 @@ use Rattle.std.proofs.lemmas.Bool.{cases_lt}
 use Rattle.std.proofs.lemmas.List.{ext_get_or, get_or-take, length-map}
 use Rattle.std.proofs.lemmas.List.Edits.{length-insert, get_or-insert_at, get_or-insert_below, get_or-insert_above}
 use Rattle.nd_model.specs.Cells.Session.{Session, no_session}
-use Rattle.nd_model.specs.Cells.Running.{Key, Inputs}
+use Rattle.nd_model.specs.Cells.Running.{Key, World}
 use Rattle.nd_model.specs.Grammar.Reading.{reading}
 use Rattle.nd_model.specs.Cells.Cell.{cell, session_after}
 use Rattle.nd_model.specs.Cells.Footprint.{Found, HasNone}
@@ -67,26 +67,26 @@ module _ (s : Sheet) (at : ℕ) (c : Cell) (le : at ≤ length s.cells) (d : Are
     none_now : HasNone c.label (session_before new at)
     none_now = let P : Cell → Type 0 = λ c. HasNone c.label (session_before new at) in subst P entry_is (fresh_at new at less distinct_now)
 
-    same_run : HasNone c.label h × (record_of c.label (reading c.source) new.inputs h ≡ record_of c.label (reading c.source) new.inputs (session_before new at)) × IsAlike (session_after (cell c.label (reading c.source) new.inputs h)) (session_after (cell c.label (reading c.source) new.inputs (session_before new at)))
-    same_run = alike_runs c.label (reading c.source) h (session_before new at) new.inputs now_here here.once (names_stand_once new at distinct_now (omega (arith, less))) none_now
+    same_run : HasNone c.label h × (record_of c.label (reading c.source) new.world h ≡ record_of c.label (reading c.source) new.world (session_before new at)) × IsAlike (session_after (cell c.label (reading c.source) new.world h)) (session_after (cell c.label (reading c.source) new.world (session_before new at)))
+    same_run = alike_runs c.label (reading c.source) h (session_before new at) new.world now_here here.once (names_stand_once new at distinct_now (omega (arith, less))) none_now
 
     pub none_here : HasNone c.label h
     none_here = same_run.0
 
-    pub run_record : (given : Inputs) → given ≡ new.inputs → record_of c.label (reading c.source) given h ≡ record_at new.inputs (entry_at new at)
-    run_record given same = ap (λ g. record_of c.label (reading c.source) g h) same ∙ same_run.1 ∙ ap (λ (x : Cell). record_of x.label (reading x.source) new.inputs (session_before new at)) (sym entry_is)
+    pub run_record : (given : World) → given ≡ new.world → record_of c.label (reading c.source) given h ≡ record_at new.world (entry_at new at)
+    run_record given same = ap (λ g. record_of c.label (reading c.source) g h) same ∙ same_run.1 ∙ ap (λ (x : Cell). record_of x.label (reading x.source) new.world (session_before new at)) (sym entry_is)
 
     abbrev now : Record
-    now = record_at new.inputs (entry_at new at)
+    now = record_at new.world (entry_at new at)
 
-    run_after : (given : Inputs) → given ≡ new.inputs → session_after (cell c.label (reading c.source) given h) ≡ did_by (Some now) h
+    run_after : (given : World) → given ≡ new.world → session_after (cell c.label (reading c.source) given h) ≡ did_by (Some now) h
     run_after given same = effects_are_all c.label (reading c.source) h given none_here ∙ ap (λ (q : Record). did_by (Some q) h) (run_record given same)
 
-    next : StillHolds now h new.inputs × IsAlike (did_by (Some now) h) (session_before new (at + 1)) × IsOnce (did_by (Some now) h).names
+    next : StillHolds now h new.world × IsAlike (did_by (Some now) h) (session_before new (at + 1)) × IsOnce (did_by (Some now) h).names
     next = next_alike new at less distinct_now h now_here here.once
 
     -- behind the new cell
-    pub came_at : (e f : Change) (q : Record) (after : Session) (given : Inputs) → ((k : Key) → e k ≡ None) → given ≡ new.inputs → q ≡ record_of c.label (reading c.source) given h → after ≡ session_after (cell c.label (reading c.source) given h)
+    pub came_at : (e f : Change) (q : Record) (after : Session) (given : World) → ((k : Key) → e k ≡ None) → given ≡ new.world → q ≡ record_of c.label (reading c.source) given h → after ≡ session_after (cell c.label (reading c.source) given h)
         → Comes e f q after → IsAt old new at (at + 1) f after at
     came_at e f q after given none same is then comes =
         let q_is : q ≡ now = is ∙ run_record given same in
@@ -94,8 +94,8 @@ module _ (s : Sheet) (at : ℕ) (c : Cell) (le : at ≤ length s.cells) (d : Are
         let then_alike : IsAlike after (session_before new (at + 1)) = subst (λ u. IsAlike u (session_before new (at + 1))) (sym then') next.1 in
         let s : Session = session_before old at in
         record {
-          over = over_alike f s after s (session_before new (at + 1)) old.inputs new.inputs
-              (subst (λ q. Comes e f q after) q_is comes s h old.inputs new.inputs nothing_yet (run_over now (session_before new at) h new.inputs new.inputs (runs_over new at less distinct_now) next.0) then')
+          over = over_alike f s after s (session_before new (at + 1)) old.world new.world
+              (subst (λ q. Comes e f q after) q_is comes s h old.world new.world nothing_yet (run_over now (session_before new at) h new.world new.world (runs_over new at less distinct_now) next.0) then')
               (alike_self s s refl) (alike_turned after (session_before new (at + 1)) then_alike);
           hand = record {
             behind = omega arith;
@@ -112,24 +112,24 @@ module _ (s : Sheet) (at : ℕ) (c : Cell) (le : at ≤ length s.cells) (d : Are
         none_some : (f : Found) → None ≡ Some f → ⊥
         none_some f e = cc
 
-        nothing_yet : IsOver e (session_before old at) old.inputs h new.inputs
-        nothing_yet = over_alike e (session_before old at) (session_before old at) (session_before old at) h old.inputs new.inputs
+        nothing_yet : IsOver e (session_before old at) old.world h new.world
+        nothing_yet = over_alike e (session_before old at) (session_before old at) (session_before old at) h old.world new.world
             (record { now = λ k f is there. absurd (none_some f (sym (none k) ∙ is)); same = λ k out in_s in_t. refl }) (alike_self (session_before old at) (session_before old at) refl) here.alike
 
     -- the session there
-    pub stands_behind : (after : Session) (given : Inputs) → given ≡ new.inputs → after ≡ session_after (cell c.label (reading c.source) given h) → StandsBefore new (at + 1) after
+    pub stands_behind : (after : Session) (given : World) → given ≡ new.world → after ≡ session_after (cell c.label (reading c.source) given h) → StandsBefore new (at + 1) after
     stands_behind after given same then =
         let done : after ≡ did_by (Some now) h = then ∙ run_after given same in
         record { alike = subst (λ u. IsAlike u (session_before new (at + 1))) (sym done) next.1; once = subst (λ u. IsOnce u.names) (sym done) next.2 }
 
-  fails : (t : Session) → IfSome (kept_of old (entry_at new at).cell) (λ r. ¬ StillHolds r t new.inputs)
-  fails t = subst (λ o. IfSome o (λ r. ¬ StillHolds r t new.inputs)) (sym (ap (kept_of old) (entry_is ∙ is_cell) ∙ kept_new old (record { label = fresh_label s.cells; source = c.source }) (fresh s.cells))) tt
+  fails : (t : Session) → IfSome (kept_of old (entry_at new at).cell) (λ r. ¬ StillHolds r t new.world)
+  fails t = subst (λ o. IfSome o (λ r. ¬ StillHolds r t new.world)) (sym (ap (kept_of old) (entry_is ∙ is_cell) ∙ kept_new old (record { label = fresh_label s.cells; source = c.source }) (fresh s.cells))) tt
 
   pub first_counts : (before after : ℕ) → after ≡ min (before + 1) (2 ^ 64 - 1) → CountsFront old new (at + 1) before after
   first_counts before after more = counts_run old new at before before after less d distinct_now (fails (session_before new at)) (none_yet old new at before) more
 
-  pub frame_behind : (cs : List Cell) (rs : List Record) (given : Inputs) (n : ℕ) → s.cells ≡ cs → rs ≡ records_of old → new.inputs ≡ given → n ≡ length s.cells → IsFrame old new at (at + 1) n cs rs given
-  frame_behind cs rs given n cells records inputs whole = record {
+  pub frame_behind : (cs : List Cell) (rs : List Record) (given : World) (n : ℕ) → s.cells ≡ cs → rs ≡ records_of old → new.world ≡ given → n ≡ length s.cells → IsFrame old new at (at + 1) n cs rs given
+  frame_behind cs rs given n cells records world whole = record {
     cells = cells;
     run = record { records = records; distinct = d };
     order = omega arith;
@@ -140,16 +140,16 @@ module _ (s : Sheet) (at : ℕ) (c : Cell) (le : at ≤ length s.cells) (d : Are
           sym (ap (λ k. get_or (insert s.cells at c) k no_cell) (sym e) ∙ get_or-insert_above s.cells at c no_cell (at + n) (omega arith) le);
       distinct = distinct_now;
     };
-    inputs = inputs;
+    world = world;
   }
 
   length-records : (b : Book) → length (records_of b) ≡ length b.cells
-  length-records b = length-map (entries_of b) (record_at b.inputs) ∙ length-entries b.cells b.inputs no_session
+  length-records b = length-map (entries_of b) (record_at b.world) ∙ length-entries b.cells b.world no_session
 
   module _ (cs : Changes) (rs ss : List Record) (x : Record) (all : rs ≡ records_of old) (changes : AreChanged old new at (at + 1) (length s.cells) cs) (long : length ss ≡ length rs)
-      (put : (k : ℕ) (r : Record) → get_or ss k r ≡ changed cs k (get_or rs k r)) (x_is : x ≡ record_at new.inputs (entry_at new at)) where
+      (put : (k : ℕ) (r : Record) → get_or ss k r ≡ changed cs k (get_or rs k r)) (x_is : x ≡ record_at new.world (entry_at new at)) where
     y : Record
-    y = record_at new.inputs (entry_at new 0)
+    y = record_at new.world (entry_at new 0)
 
     pub whole : length ss ≡ length s.cells
     whole = long ∙ ap length all ∙ length-records old
@@ -161,7 +161,7 @@ module _ (s : Sheet) (at : ℕ) (c : Cell) (le : at ≤ length s.cells) (d : Are
     behind m past lt =
         let e : at + (m - at) ≡ m = omega arith in let f : at + 1 + (m - at) ≡ m + 1 = omega arith in
         get_or-insert_above ss at x y m past (omega (arith, whole)) ∙ put m y ∙ ap (changed cs m) (ap (λ rs. get_or rs m y) all ∙ get_or-records_of old m y lt)
-        ∙ ap (λ k. changed cs k (record_at old.inputs (entry_at old k))) (sym e) ∙ changes.now (m - at) (omega arith) ∙ ap (λ k. record_at new.inputs (entry_at new k)) f ∙ sym (get_or-records_of new (m + 1) y (omega (arith, many)))
+        ∙ ap (λ k. changed cs k (record_at old.world (entry_at old k))) (sym e) ∙ changes.now (m - at) (omega arith) ∙ ap (λ k. record_at new.world (entry_at new k)) f ∙ sym (get_or-records_of new (m + 1) y (omega (arith, many)))
 
     each : (k : ℕ) → (k < at) ⊎ (at ≤ k) → (at < k) ⊎ (k ≤ at) → k < length new.cells → get_or (insert ss at x) k y ≡ get_or (records_of new) k y
     each k (inl front_of) later lt =

@@ -20,19 +20,19 @@ use Rattle.nd_schedule.proofs.schedule.Sweeping.{record_there}
 use Rattle.nd_schedule.specs.Schedule.Sweep.{Changes, changed, AreChanged, AreFit, AreWords}
 
 pub as_many : {X : Type 0} (view : X → Record) (b : Book) (xs : List X) → map view xs ≡ records_of b → length xs ≡ length b.cells
-as_many view b xs e = sym (length-map xs view) ∙ ap length e ∙ length-map (entries_of b) (record_at b.inputs) ∙ length-entries b.cells b.inputs no_session
+as_many view b xs e = sym (length-map xs view) ∙ ap length e ∙ length-map (entries_of b) (record_at b.world) ∙ length-entries b.cells b.world no_session
 
-module _ (b : Book) (d : AreDistinct (labels_of b.cells)) (k : ℕ) (lt : k < length b.cells) (r : Record) (s : Session) (is : r ≡ record_at b.inputs (entry_at b k)) (here : s ≡ session_before b k) where
-  pub holds_before : StillHolds r s b.inputs
-  holds_before = let P : Record → Session → Type 0 = λ r s. StillHolds r s b.inputs in
-      subst (λ r. P r s) (sym is) (subst (λ s. P (record_at b.inputs (entry_at b k)) s) (sym here) (holds_there b.inputs (entry_at b k) (fresh_at b k lt d)))
+module _ (b : Book) (d : AreDistinct (labels_of b.cells)) (k : ℕ) (lt : k < length b.cells) (r : Record) (s : Session) (is : r ≡ record_at b.world (entry_at b k)) (here : s ≡ session_before b k) where
+  pub holds_before : StillHolds r s b.world
+  holds_before = let P : Record → Session → Type 0 = λ r s. StillHolds r s b.world in
+      subst (λ r. P r s) (sym is) (subst (λ s. P (record_at b.world (entry_at b k)) s) (sym here) (holds_there b.world (entry_at b k) (fresh_at b k lt d)))
 
   pub after_replay : with_effects r.label r.effects s ≡ session_before b (k + 1)
-  after_replay = ap (λ (r : Record). with_effects r.label r.effects s) is ∙ ap (with_effects (entry_at b k).cell.label (record_at b.inputs (entry_at b k)).effects) here
-      ∙ replays_there b.inputs (entry_at b k) (fresh_at b k lt d) ∙ sym (session_before-next b k lt)
+  after_replay = ap (λ (r : Record). with_effects r.label r.effects s) is ∙ ap (with_effects (entry_at b k).cell.label (record_at b.world (entry_at b k)).effects) here
+      ∙ replays_there b.world (entry_at b k) (fresh_at b k lt d) ∙ sym (session_before-next b k lt)
 
 length-records : (b : Book) → length (records_of b) ≡ length b.cells
-length-records b = length-map (entries_of b) (record_at b.inputs) ∙ length-entries b.cells b.inputs no_session
+length-records b = length-map (entries_of b) (record_at b.world) ∙ length-entries b.cells b.world no_session
 
 -- with the changes in their places the records of the one book are those of the other
 pub records_now : (old new : Book) (at : ℕ) (cs : Changes) (rs ss : List Record) → rs ≡ records_of old → length new.cells ≡ length old.cells → SharesFront at old new → AreChanged old new at at (length old.cells) cs
@@ -40,7 +40,7 @@ pub records_now : (old new : Book) (at : ℕ) (cs : Changes) (rs ss : List Recor
 records_now old new at cs rs ss all many front changes long put = ext_get_or d ss (records_of new) same_length (λ k lt. each k (cases_lt k at) (omega (arith, same_length, length-records new)))
   where
     d : Record
-    d = record_at new.inputs (entry_at new 0)
+    d = record_at new.world (entry_at new 0)
 
     same_length : length ss ≡ length (records_of new)
     same_length = let e : length rs ≡ length (records_of old) = ap length all in let f : length (records_of old) ≡ length old.cells = length-records old in let g : length (records_of new) ≡ length new.cells = length-records new in omega arith
@@ -50,8 +50,8 @@ records_now old new at cs rs ss all many front changes long put = ext_get_or d s
         put k d ∙ changes.before k (get_or rs k d) front_of ∙ ap (λ rs. get_or rs k d) all ∙ sym (get_or-take at (records_of old) k d front_of) ∙ ap (λ rs. get_or rs k d) front.0 ∙ get_or-take at (records_of new) k d front_of
     each k (inr behind) lt =
         let e : at + (k - at) ≡ k = omega arith in
-        put k d ∙ ap (changed cs k) (ap (λ rs. get_or rs k d) all ∙ get_or-records_of old k d (omega arith)) ∙ ap (λ m. changed cs m (record_at old.inputs (entry_at old m))) (sym e) ∙ changes.now (k - at) (omega arith)
-        ∙ ap (λ m. record_at new.inputs (entry_at new m)) e ∙ sym (get_or-records_of new k d lt)
+        put k d ∙ ap (changed cs k) (ap (λ rs. get_or rs k d) all ∙ get_or-records_of old k d (omega arith)) ∙ ap (λ m. changed cs m (record_at old.world (entry_at old m))) (sym e) ∙ changes.now (k - at) (omega arith)
+        ∙ ap (λ m. record_at new.world (entry_at new m)) e ∙ sym (get_or-records_of new k d lt)
 
 -- ---- changes that are put in their places
 
@@ -99,7 +99,7 @@ told_there view b xs x at r s all lt is made after =
     told_by_records b at lt ∙ ap₂ (λ (r : Record) (s : Session). Some (told_of r s)) (sym (made ∙ record_there view b xs x at all lt is)) (sym after)
 
 -- whether a name is bound after a cell, by what the cell did to it at last
-pub bound_next : (b : Book) (d : AreDistinct (labels_of b.cells)) (k : ℕ) (r : Record) (n : List ℕ) (last : Option Bool) → k < length b.cells → r ≡ record_at b.inputs (entry_at b k)
+pub bound_next : (b : Book) (d : AreDistinct (labels_of b.cells)) (k : ℕ) (r : Record) (n : List ℕ) (last : Option Bool) → k < length b.cells → r ≡ record_at b.world (entry_at b k)
     → ((names : Names) → is_some (lookup n (replayed r.effects.events names)) ≡ unwrap_or last (is_some (lookup n names)))
     → is_some (lookup n (session_before b (k + 1)).names) ≡ unwrap_or last (is_some (lookup n (session_before b k).names))
 bound_next b d k r n last lt is h = ap (λ (s : Session). is_some (lookup n s.names)) (sym (after_replay b d k lt r (session_before b k) is refl)) ∙ h (session_before b k).names

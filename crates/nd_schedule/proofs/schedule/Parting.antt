@@ -1,7 +1,7 @@
 -- A sweep in parts, from one snapshot to the next.
 use Rattle.std.proofs.Common.{ℕ, ◌+◌, ◌-◌, ◌≤◌, List, subst, arith}
 use Rattle.nd_model.specs.Cells.Session.{Session}
-use Rattle.nd_model.specs.Cells.Running.{Inputs}
+use Rattle.nd_model.specs.Cells.Running.{World}
 use Rattle.nd_model.specs.Book.Records.{Record}
 use Rattle.nd_model.specs.Book.Book.{Book, Cell}
 use Rattle.nd_change.specs.Change.{Change}
@@ -9,7 +9,7 @@ use Rattle.nd_schedule.specs.Schedule.Snapshot.{IsChangeAt}
 use Rattle.nd_schedule.specs.Schedule.Sweep.{CountsFront, IsAt, IsFrame, IsPlace}
 use Rattle.nd_schedule.proofs.schedule.Visiting.{both_parts, frame_part}
 
-module _ (old new : Book) (i j to : ℕ) (cs : List Cell) (rs : List Record) (given : Inputs) (frame : IsFrame old new i j to cs rs given) (k n : ℕ) (le : i ≤ k) (order : k ≤ n) (below : n ≤ to) where
+module _ (old new : Book) (i j to : ℕ) (cs : List Cell) (rs : List Record) (given : World) (frame : IsFrame old new i j to cs rs given) (k n : ℕ) (le : i ≤ k) (order : k ≤ n) (below : n ≤ to) where
   pub part : IsFrame old new k (j + (k - i)) n cs rs given
   part = frame_part old new i j to cs rs given frame k n le order below
 

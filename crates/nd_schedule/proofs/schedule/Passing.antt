@@ -1,14 +1,14 @@
 -- A sweep whose change has nothing left: it goes past all cells that are behind.
 use Rattle.std.proofs.Common.{◌≡◌, ℕ, zero, suc, ◌+◌, ◌-◌, ◌≤◌, List, None, subst, arith, inr}
 use Rattle.nd_model.specs.Cells.Session.{Session}
-use Rattle.nd_model.specs.Cells.Running.{Key, Inputs}
+use Rattle.nd_model.specs.Cells.Running.{Key, World}
 use Rattle.nd_model.specs.Book.Records.{Record}
 use Rattle.nd_model.specs.Book.Book.{Book, Cell}
 use Rattle.nd_change.specs.Change.{Change, IsDisjoint}
 use Rattle.nd_schedule.specs.Schedule.Sweep.{IsAt, IsFrame, CountsFront, Changes, AreChanged}
 use Rattle.nd_schedule.proofs.schedule.Visiting.{apart_at, apart_holds, frame_at, next_at, next_changed, next_counts, no_more, same_more}
 
-module _ (old new : Book) (i j to : ℕ) (cs : List Cell) (rs : List Record) (given : Inputs) (frame : IsFrame old new i j to cs rs given) (c : Change) (s : Session) (since : ℕ) (none : (k : Key) → c k ≡ None) where
+module _ (old new : Book) (i j to : ℕ) (cs : List Cell) (rs : List Record) (given : World) (frame : IsFrame old new i j to cs rs given) (c : Change) (s : Session) (since : ℕ) (none : (k : Key) → c k ≡ None) where
   disjoint : (r : Record) → IsDisjoint c r
   disjoint r = record { reads = λ k read. none k; does = λ k. inr (none k) }
 

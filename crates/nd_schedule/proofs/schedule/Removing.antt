@@ -5,7 +5,7 @@ use Rattle.std.proofs.lemmas.Bool.{cases_lt}
 use Rattle.std.proofs.lemmas.List.{ext_get_or, get_or-take, length-map}
 use Rattle.std.proofs.lemmas.List.Edits.{length-remove, get_or-remove_below, get_or-remove_above}
 use Rattle.nd_model.specs.Cells.Session.{Session, no_session}
-use Rattle.nd_model.specs.Cells.Running.{Key, Inputs}
+use Rattle.nd_model.specs.Cells.Running.{Key, World}
 use Rattle.nd_model.specs.Cells.Footprint.{Found}
 use Rattle.nd_model.specs.Book.Records.{Record}
 use Rattle.nd_model.specs.Book.Renaming.{AreDistinct}
@@ -42,11 +42,11 @@ module _ (s : Sheet) (at : ℕ) (lt : at < length s.cells) (d : AreDistinct (lab
   behind = record { same = front; within = omega (arith, many); before = d; distinct = remove_distinct s.cells at d }
 
   -- in the place of the cell, without what it did
-  pub went_at : (e f : Change) (x : Record) (h : Session) (upto : ℕ) → ((k : Key) → e k ≡ None) → x ≡ record_at old.inputs (entry_at old at) → StandsBefore old at h → Leaves e f x h → upto ≡ at + 1 → IsAt old new (at + 1) at f h upto
+  pub went_at : (e f : Change) (x : Record) (h : Session) (upto : ℕ) → ((k : Key) → e k ≡ None) → x ≡ record_at old.world (entry_at old at) → StandsBefore old at h → Leaves e f x h → upto ≡ at + 1 → IsAt old new (at + 1) at f h upto
   went_at e f x h upto none is here leaves upto_is = subst (IsAt old new (at + 1) at f h) (sym upto_is) (record {
-    over = over_alike f (session_before old (at + 1)) h (session_before old (at + 1)) (session_before new at) old.inputs new.inputs
-        (subst (λ s. IsOver f s old.inputs h new.inputs) (leaves_next old at lt d)
-        (subst (λ x. Leaves e f x h) is leaves (session_before old at) old.inputs new.inputs nothing_yet (runs_over old at lt d)))
+    over = over_alike f (session_before old (at + 1)) h (session_before old (at + 1)) (session_before new at) old.world new.world
+        (subst (λ s. IsOver f s old.world h new.world) (leaves_next old at lt d)
+        (subst (λ x. Leaves e f x h) is leaves (session_before old at) old.world new.world nothing_yet (runs_over old at lt d)))
         (alike_self (session_before old (at + 1)) (session_before old (at + 1)) refl) (alike_turned h (session_before new at) now_here);
     hand = record {
       behind = omega arith;
@@ -66,12 +66,12 @@ module _ (s : Sheet) (at : ℕ) (lt : at < length s.cells) (d : AreDistinct (lab
       none_some : (f : Found) → None ≡ Some f → ⊥
       none_some f e = cc
 
-      nothing_yet : IsOver e (session_before old at) old.inputs h new.inputs
-      nothing_yet = over_alike e (session_before old at) (session_before old at) (session_before old at) h old.inputs new.inputs
+      nothing_yet : IsOver e (session_before old at) old.world h new.world
+      nothing_yet = over_alike e (session_before old at) (session_before old at) (session_before old at) h old.world new.world
           (record { now = λ k f is there. absurd (none_some f (sym (none k) ∙ is)); same = λ k out in_s in_t. refl }) (alike_self (session_before old at) (session_before old at) refl) here.alike
 
-  pub frame_behind : (cs : List Cell) (rs : List Record) (given : Inputs) (n : ℕ) → s.cells ≡ cs → rs ≡ records_of old → new.inputs ≡ given → n ≡ length s.cells → IsFrame old new (at + 1) at n cs rs given
-  frame_behind cs rs given n cells records inputs whole = record {
+  pub frame_behind : (cs : List Cell) (rs : List Record) (given : World) (n : ℕ) → s.cells ≡ cs → rs ≡ records_of old → new.world ≡ given → n ≡ length s.cells → IsFrame old new (at + 1) at n cs rs given
+  frame_behind cs rs given n cells records world whole = record {
     cells = cells;
     run = record { records = records; distinct = d };
     order = omega arith;
@@ -82,17 +82,17 @@ module _ (s : Sheet) (at : ℕ) (lt : at < length s.cells) (d : AreDistinct (lab
           sym (get_or-remove_above s.cells at no_cell (at + n) (omega arith) lt ∙ ap (λ k. get_or s.cells k no_cell) e);
       distinct = remove_distinct s.cells at d;
     };
-    inputs = inputs;
+    world = world;
   }
 
   length-records : (b : Book) → length (records_of b) ≡ length b.cells
-  length-records b = length-map (entries_of b) (record_at b.inputs) ∙ length-entries b.cells b.inputs no_session
+  length-records b = length-map (entries_of b) (record_at b.world) ∙ length-entries b.cells b.world no_session
 
   pub records_without : (cs : Changes) (rs ss : List Record) → rs ≡ records_of old → AreChanged old new (at + 1) at (length s.cells) cs → length ss ≡ length rs → ((k : ℕ) (r : Record) → get_or ss k r ≡ changed cs k (get_or rs k r)) → remove ss at ≡ records_of new
   records_without cs rs ss all changes long put = ext_get_or x (remove ss at) (records_of new) same_length (λ k less. each k (cases_lt k at) (omega (arith, same_length, length-records new)))
     where
       x : Record
-      x = record_at new.inputs (entry_at new 0)
+      x = record_at new.world (entry_at new 0)
 
       whole : length ss ≡ length s.cells
       whole = long ∙ ap length all ∙ length-records old
@@ -107,7 +107,7 @@ module _ (s : Sheet) (at : ℕ) (lt : at < length s.cells) (d : AreDistinct (lab
       each k (inr behind) less =
           let e : at + 1 + (k - at) ≡ k + 1 = omega arith in let f : at + (k - at) ≡ k = omega arith in
           get_or-remove_above ss at x k behind (omega (arith, whole)) ∙ put (k + 1) x ∙ ap (changed cs (k + 1)) (ap (λ rs. get_or rs (k + 1) x) all ∙ get_or-records_of old (k + 1) x (omega (arith, many)))
-          ∙ ap (λ m. changed cs m (record_at old.inputs (entry_at old m))) (sym e) ∙ changes.now (k - at) (omega (arith, many)) ∙ ap (λ m. record_at new.inputs (entry_at new m)) f ∙ sym (get_or-records_of new k x less)
+          ∙ ap (λ m. changed cs m (record_at old.world (entry_at old m))) (sym e) ∙ changes.now (k - at) (omega (arith, many)) ∙ ap (λ m. record_at new.world (entry_at new m)) f ∙ sym (get_or-records_of new k x less)
 
 -- all that is kept, without the cell
 pub kept_without : {W : Type 0} (covers : W → Key → Bool) (s : Sheet) (at : ℕ) (cs : Changes) (rs ss : List Record) (ws vs : List W) → at < length s.cells → IsKept covers (book_of s) rs ws

@@ -7,7 +7,7 @@ use Rattle.std.proofs.lemmas.List.{length-map, map-append}
 use Rattle.std.proofs.lemmas.List.Elements.{All-append, All-cons, All-drop, All-nil, All-push, All-take, All-weaker}
 use mathlib.Core.Path.{fun_ext}
 use Rattle.nd_model.specs.Cells.Session.{Names, Session, no_session}
-use Rattle.nd_model.specs.Cells.Running.{Inputs, Key}
+use Rattle.nd_model.specs.Cells.Running.{World, Key}
 use Rattle.nd_model.specs.Cells.Footprint.{replayed, with_effects}
 use Rattle.nd_model.specs.Book.Sessions.{IsOnce}
 use Rattle.nd_model.specs.Book.Records.{Record, StillHolds}
@@ -34,7 +34,7 @@ leads_from : (ds : List Change) (u s t : Session) → IsAlike u s → Leads ds s
 leads_from [] u s t a h = alike_more u s t a h
 leads_from (d ∷ ds) u s t a h = (h.0, h.1, h.2, over_alike d s h.0 u h.0 h.1 h.2 h.3 a (alike_self h.0 h.0 refl), h.4, h.5)
 
-pub leads_on : (ds : List Change) (d : Change) (s t u : Session) (i j : Inputs) → Leads ds s t → IsOver d t i u j → IsOnce u.names → Leads (ds ++ d ∷ []) s u
+pub leads_on : (ds : List Change) (d : Change) (s t u : Session) (i j : World) → Leads ds s t → IsOver d t i u j → IsOnce u.names → Leads (ds ++ d ∷ []) s u
 leads_on [] d s t u i j h over once = (u, i, j, over_alike d t u s u i j over h (alike_self u u refl), once, alike_self u u refl)
 leads_on (e ∷ ds) d s t u i j h over once = (h.0, h.1, h.2, h.3, h.4, leads_on ds d h.0 t u i j h.5 over once)
 
@@ -87,7 +87,7 @@ noted_on view old new place now s xs ys x d noted grown h = record {
   within = noted.within;
   once = h.once;
   leads = subst (λ ds. Leads ds s (session_before new now)) (sym (ap (map view) grown ∙ map-append view xs (x ∷ [])))
-      (leads_on (map view xs) (view x) s (session_before old place) (session_before new now) old.inputs new.inputs h.leads noted.over (names_stand_once new now d noted.within));
+      (leads_on (map view xs) (view x) s (session_before old place) (session_before new now) old.world new.world h.leads noted.over (names_stand_once new now d noted.within));
 }
 
 leads_alike : (ds : List Change) (s t u : Session) → IsAlike t u → Leads ds s t → Leads ds s u
@@ -103,7 +103,7 @@ still_on d old new place now s ds none before distinct noted h = record {
 }
   where
     alike : IsAlike (session_before old place) (session_before new now)
-    alike = nothing_left (session_before old place) (session_before new now) old.inputs new.inputs (subst (λ e. IsOver e (session_before old place) old.inputs (session_before new now) new.inputs) (fun_ext none) noted.over)
+    alike = nothing_left (session_before old place) (session_before new now) old.world new.world (subst (λ e. IsOver e (session_before old place) old.world (session_before new now) new.world) (fun_ext none) noted.over)
         (names_stand_once old place before h.within) (names_stand_once new now distinct noted.within)
 
 -- ---- lists of them
@@ -144,15 +144,15 @@ kept_lists P Q xs ys same more all = subst (All Q) (sym same) (All-weaker P Q mo
 
 -- ---- records from there on
 
-module _ (b : Book) (d : AreDistinct (labels_of b.cells)) (k : ℕ) (lt : k < length b.cells) (r : Record) (h : Session) (is : r ≡ record_at b.inputs (entry_at b k)) (stands : StandsBefore b k h) where
+module _ (b : Book) (d : AreDistinct (labels_of b.cells)) (k : ℕ) (lt : k < length b.cells) (r : Record) (h : Session) (is : r ≡ record_at b.world (entry_at b k)) (stands : StandsBefore b k h) where
   abbrev q : Record
-  q = record_at b.inputs (entry_at b k)
+  q = record_at b.world (entry_at b k)
 
-  next : StillHolds q h b.inputs × IsAlike (did_by (Some q) h) (session_before b (k + 1)) × IsOnce (did_by (Some q) h).names
+  next : StillHolds q h b.world × IsAlike (did_by (Some q) h) (session_before b (k + 1)) × IsOnce (did_by (Some q) h).names
   next = next_alike b k lt d h stands.alike stands.once
 
-  pub holds_near : StillHolds r h b.inputs
-  holds_near = subst (λ x. StillHolds x h b.inputs) (sym is) next.0
+  pub holds_near : StillHolds r h b.world
+  holds_near = subst (λ x. StillHolds x h b.world) (sym is) next.0
 
   pub next_near : (after : Session) → after ≡ with_effects r.label r.effects h → StandsBefore b (k + 1) after
   next_near after done_is =
@@ -164,7 +164,7 @@ at_first b s is = record { alike = alike_self s no_session is; once = subst (λ 
 
 -- ---- the order of names
 
-pub names_next : (b : Book) (d : AreDistinct (labels_of b.cells)) (k : ℕ) (lt : k < length b.cells) (r : Record) (o p : List (List ℕ)) → r ≡ record_at b.inputs (entry_at b k) → names_in (session_before b k).names ≡ o
+pub names_next : (b : Book) (d : AreDistinct (labels_of b.cells)) (k : ℕ) (lt : k < length b.cells) (r : Record) (o p : List (List ℕ)) → r ≡ record_at b.world (entry_at b k) → names_in (session_before b k).names ≡ o
     → ((names : Names) → names_in names ≡ o → names_in (replayed r.effects.events names) ≡ p) → names_in (session_before b (k + 1)).names ≡ p
 names_next b d k lt r o p is here step =
     ap (λ (s : Session). names_in s.names) (sym (leaves_next b k lt d)) ∙ ap (λ (x : Record). names_in (replayed x.effects.events (session_before b k).names)) (sym is) ∙ step (session_before b k).names here
@@ -174,15 +174,15 @@ names_next b d k lt r o p is here step =
 pub same_sessions : (a b : Book) → AreDistinct (labels_of a.cells) → AreDistinct (labels_of b.cells) → records_of a ≡ records_of b → (k : ℕ) → k ≤ length a.cells → k ≤ length b.cells → session_before a k ≡ session_before b k
 same_sessions a b d e same zero le le' = refl
 same_sessions a b d e same (suc k) le le' =
-    let x : Record = record_at a.inputs (entry_at a k) in
+    let x : Record = record_at a.world (entry_at a k) in
     let here : session_before a k ≡ session_before b k = same_sessions a b d e same k (omega arith) (omega arith) in
-    let made : record_at a.inputs (entry_at a k) ≡ record_at b.inputs (entry_at b k) = sym (get_or-records_of a k x (omega arith)) ∙ ap (λ rs. get_or rs k x) same ∙ get_or-records_of b k x (omega arith) in
+    let made : record_at a.world (entry_at a k) ≡ record_at b.world (entry_at b k) = sym (get_or-records_of a k x (omega arith)) ∙ ap (λ rs. get_or rs k x) same ∙ get_or-records_of b k x (omega arith) in
     let next : k + 1 ≡ suc k = omega arith in
     ap (session_before a) (sym next) ∙ sym (leaves_next a k (omega arith) d) ∙ ap (λ (q : Record). did_by (Some q) (session_before a k)) made
-    ∙ ap (did_by (Some (record_at b.inputs (entry_at b k)))) here ∙ leaves_next b k (omega arith) e ∙ ap (session_before b) next
+    ∙ ap (did_by (Some (record_at b.world (entry_at b k)))) here ∙ leaves_next b k (omega arith) e ∙ ap (session_before b) next
 
 length-records : (b : Book) → length (records_of b) ≡ length b.cells
-length-records b = length-map (entries_of b) (record_at b.inputs) ∙ length-entries b.cells b.inputs no_session
+length-records b = length-map (entries_of b) (record_at b.world) ∙ length-entries b.cells b.world no_session
 
 pub kept_by_records : (a b : Book) (rs : List Record) → IsRun a rs → IsRun b rs → (place : ℕ) (s : Session) (ds : List Change) → IsSnapshot a place s ds → IsSnapshot b place s ds
 kept_by_records a b rs run run' place s ds h =
@@ -199,8 +199,8 @@ kept_by_records a b rs run run' place s ds h =
 pub taken : (old new : Book) (place j : ℕ) (d : Change) (h s u : Session) (since upto : ℕ) → IsPlace old new place j → IsAt old new place j d s since → StandsBefore old place h → IsPutOver d h u → IsOnce u.names → upto ≡ place → IsAt old new place j d u upto
 taken old new place j d h s u since upto there at stands put once is =
     let t : Session = session_before new j in
-    let over : IsOver d h old.inputs t new.inputs = over_alike d (session_before old place) t h t old.inputs new.inputs at.over stands.alike (alike_self t t refl) in
-    let alike : IsAlike u t = put t old.inputs new.inputs over (names_stand_once new j there.distinct there.now) in
+    let over : IsOver d h old.world t new.world = over_alike d (session_before old place) t h t old.world new.world at.over stands.alike (alike_self t t refl) in
+    let alike : IsAlike u t = put t old.world new.world over (names_stand_once new j there.distinct there.now) in
     subst (IsAt old new place j d u) (sym is) (record {
       over = at.over;
       hand = record {

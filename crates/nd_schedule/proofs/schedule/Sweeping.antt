@@ -40,7 +40,7 @@ module _ (old new : Book) where
 
   -- one cell more was run, for want of a record that holds
   pub counts_run : (k before mid after : ℕ) → k < length new.cells → AreDistinct (labels_of old.cells) → AreDistinct (labels_of new.cells)
-      → IfSome (kept_of old (entry_at new k).cell) (λ r. ¬ StillHolds r (session_before new k) new.inputs) → CountsFront old new k before mid → after ≡ min (mid + 1) (2 ^ 64 - 1) → CountsFront old new (k + 1) before after
+      → IfSome (kept_of old (entry_at new k).cell) (λ r. ¬ StillHolds r (session_before new k) new.world) → CountsFront old new k before mid → after ≡ min (mid + 1) (2 ^ 64 - 1) → CountsFront old new (k + 1) before after
   counts_run k before mid after lt d e fails h more =
       let stale : IsStale old new (entry_at new k) = stale_now old new d (entry_at new k).cell (session_before new k) (fresh_at new k lt e) fails in (
         suc h.0,
@@ -49,12 +49,12 @@ module _ (old new : Book) where
       )
 
 -- the record of a cell is that of a run over the session before it
-pub runs_over : (b : Book) (k : ℕ) → k < length b.cells → AreDistinct (labels_of b.cells) → IsRunOver (record_at b.inputs (entry_at b k)) (session_before b k) b.inputs
+pub runs_over : (b : Book) (k : ℕ) → k < length b.cells → AreDistinct (labels_of b.cells) → IsRunOver (record_at b.world (entry_at b k)) (session_before b k) b.world
 runs_over b k lt d = record { parsed = reading (entry_at b k).cell.source; none = fresh_at b k lt d; run = refl }
 
 -- and leaves the next one
-pub leaves_next : (b : Book) (k : ℕ) → k < length b.cells → AreDistinct (labels_of b.cells) → did_by (Some (record_at b.inputs (entry_at b k))) (session_before b k) ≡ session_before b (k + 1)
-leaves_next b k lt d = replays_there b.inputs (entry_at b k) (fresh_at b k lt d) ∙ sym (session_before-next b k lt)
+pub leaves_next : (b : Book) (k : ℕ) → k < length b.cells → AreDistinct (labels_of b.cells) → did_by (Some (record_at b.world (entry_at b k))) (session_before b k) ≡ session_before b (k + 1)
+leaves_next b k lt d = replays_there b.world (entry_at b k) (fresh_at b k lt d) ∙ sym (session_before-next b k lt)
 
 pub alike_self : (s t : Session) → s ≡ t → IsAlike s t
 alike_self s t e = record { names = λ n. ap (λ s. Rattle.nd_model.specs.Cells.Session.lookup n s.names) e; held = λ b. ap (λ s. Rattle.nd_model.specs.Cells.Session.is_held b s.names) e; bytes = λ b. ap (λ s. Rattle.nd_model.specs.Cells.Session.held_bytes s b) e }
@@ -64,38 +64,38 @@ alike_turned s t a = record { names = λ n. sym (a.names n); held = λ b. sym (a
 
 -- from a session that is alike to the one before a cell, what the cell's run does leads to one alike to the next
 pub next_alike : (b : Book) (k : ℕ) → k < length b.cells → AreDistinct (labels_of b.cells) → (h : Session) → IsAlike h (session_before b k) → IsOnce h.names
-    → StillHolds (record_at b.inputs (entry_at b k)) h b.inputs × IsAlike (did_by (Some (record_at b.inputs (entry_at b k))) h) (session_before b (k + 1)) × IsOnce (did_by (Some (record_at b.inputs (entry_at b k))) h).names
+    → StillHolds (record_at b.world (entry_at b k)) h b.world × IsAlike (did_by (Some (record_at b.world (entry_at b k))) h) (session_before b (k + 1)) × IsOnce (did_by (Some (record_at b.world (entry_at b k))) h).names
 next_alike b k lt d h alike once =
-    let q : Record = record_at b.inputs (entry_at b k) in
-    let both : StillHolds q h b.inputs × IsAlike (did_by (Some q) h) (did_by (Some q) (session_before b k)) =
-    alike_replays q h (session_before b k) b.inputs alike once (names_stand_once b k d (omega arith)) (holds_there b.inputs (entry_at b k) (fresh_at b k lt d)) in
+    let q : Record = record_at b.world (entry_at b k) in
+    let both : StillHolds q h b.world × IsAlike (did_by (Some q) h) (did_by (Some q) (session_before b k)) =
+    alike_replays q h (session_before b k) b.world alike once (names_stand_once b k d (omega arith)) (holds_there b.world (entry_at b k) (fresh_at b k lt d)) in
     (both.0, subst (IsAlike (did_by (Some q) h)) (leaves_next b k lt d) both.1, once_replayed q.effects.events h.names once)
 
 -- what is kept of a cell that was there before
-pub kept_there : (b : Book) (k : ℕ) → k < length b.cells → AreDistinct (labels_of b.cells) → kept_of b (entry_at b k).cell ≡ Some (record_at b.inputs (entry_at b k))
+pub kept_there : (b : Book) (k : ℕ) → k < length b.cells → AreDistinct (labels_of b.cells) → kept_of b (entry_at b k).cell ≡ Some (record_at b.world (entry_at b k))
 kept_there b k lt d =
-    sym (get_or-map' (kept_of b) b.cells k no_cell None lt) ∙ ap (λ os. get_or os k None) (kept_all b d) ∙ get_or-map' (λ r. Some r) (records_of b) k (record_at b.inputs (entry_at b k)) None (omega (arith, length-records))
-    ∙ ap (λ r. Some r) (get_or-records_of b k (record_at b.inputs (entry_at b k)) lt)
+    sym (get_or-map' (kept_of b) b.cells k no_cell None lt) ∙ ap (λ os. get_or os k None) (kept_all b d) ∙ get_or-map' (λ r. Some r) (records_of b) k (record_at b.world (entry_at b k)) None (omega (arith, length-records))
+    ∙ ap (λ r. Some r) (get_or-records_of b k (record_at b.world (entry_at b k)) lt)
   where
     get_or-map' : {X Y : Type 0} (f : X → Y) (xs : List X) (k : ℕ) (x : X) (y : Y) → k < length xs → get_or (map f xs) k y ≡ f (get_or xs k x)
     get_or-map' f xs k x y lt = Rattle.std.proofs.lemmas.List.get_or-map f xs k x y lt
 
     length-records : length (records_of b) ≡ length b.cells
-    length-records = Rattle.std.proofs.lemmas.List.length-map (entries_of b) (record_at b.inputs) ∙ length-entries b.cells b.inputs Rattle.nd_model.specs.Cells.Session.no_session
+    length-records = Rattle.std.proofs.lemmas.List.length-map (entries_of b) (record_at b.world) ∙ length-entries b.cells b.world Rattle.nd_model.specs.Cells.Session.no_session
 
 -- behind a cell that is run where another run stood
-pub past_swap : (old new : Book) (i j : ℕ) (lt : i < length old.cells) (d : AreDistinct (labels_of old.cells)) (less : j < length new.cells) (d' : AreDistinct (labels_of new.cells)) (c : Change) → IsOver c (session_before old i) old.inputs (session_before new j) new.inputs
-    → (e : Change) (h after : Session) → IsAlike h (session_before new j) → IsOnce h.names → after ≡ did_by (Some (record_at new.inputs (entry_at new j))) h → Follows c e (record_at old.inputs (entry_at old i)) (record_at new.inputs (entry_at new j)) after new.inputs
+pub past_swap : (old new : Book) (i j : ℕ) (lt : i < length old.cells) (d : AreDistinct (labels_of old.cells)) (less : j < length new.cells) (d' : AreDistinct (labels_of new.cells)) (c : Change) → IsOver c (session_before old i) old.world (session_before new j) new.world
+    → (e : Change) (h after : Session) → IsAlike h (session_before new j) → IsOnce h.names → after ≡ did_by (Some (record_at new.world (entry_at new j))) h → Follows c e (record_at old.world (entry_at old i)) (record_at new.world (entry_at new j)) after new.world
     → IsAt old new (i + 1) (j + 1) e after (i + 1)
 past_swap old new i j lt d less d' c over e h after alike once then follows =
-    let q : Record = record_at new.inputs (entry_at new j) in
-    let next : StillHolds q h new.inputs × IsAlike (did_by (Some q) h) (session_before new (j + 1)) × IsOnce (did_by (Some q) h).names = next_alike new j less d' h alike once in
+    let q : Record = record_at new.world (entry_at new j) in
+    let next : StillHolds q h new.world × IsAlike (did_by (Some q) h) (session_before new (j + 1)) × IsOnce (did_by (Some q) h).names = next_alike new j less d' h alike once in
     let then_alike : IsAlike after (session_before new (j + 1)) = subst (λ u. IsAlike u (session_before new (j + 1))) (sym then) next.1 in
-    let here : IsOver c (session_before old i) old.inputs h new.inputs = over_alike c (session_before old i) (session_before new j) (session_before old i) h old.inputs new.inputs over (alike_self (session_before old i) (session_before old i) refl) alike in
-    let behind : IsOver e (session_before old (i + 1)) old.inputs after new.inputs = subst (λ s. IsOver e s old.inputs after new.inputs) (leaves_next old i lt d)
-    (follows (session_before old i) h old.inputs here (runs_over old i lt d) (run_over q (session_before new j) h new.inputs new.inputs (runs_over new j less d') next.0) then) in
+    let here : IsOver c (session_before old i) old.world h new.world = over_alike c (session_before old i) (session_before new j) (session_before old i) h old.world new.world over (alike_self (session_before old i) (session_before old i) refl) alike in
+    let behind : IsOver e (session_before old (i + 1)) old.world after new.world = subst (λ s. IsOver e s old.world after new.world) (leaves_next old i lt d)
+    (follows (session_before old i) h old.world here (runs_over old i lt d) (run_over q (session_before new j) h new.world new.world (runs_over new j less d') next.0) then) in
     record {
-      over = over_alike e (session_before old (i + 1)) after (session_before old (i + 1)) (session_before new (j + 1)) old.inputs new.inputs behind (alike_self (session_before old (i + 1)) (session_before old (i + 1)) refl) (alike_turned after (session_before new (j + 1)) then_alike);
+      over = over_alike e (session_before old (i + 1)) after (session_before old (i + 1)) (session_before new (j + 1)) old.world new.world behind (alike_self (session_before old (i + 1)) (session_before old (i + 1)) refl) (alike_turned after (session_before new (j + 1)) then_alike);
       hand = record {
         behind = omega arith;
         enough = omega arith;
@@ -110,7 +110,7 @@ past_swap old new i j lt d less d' c over e h after alike once then follows =
 
 module _ (old new : Book) (i j : ℕ) (lt : i < length old.cells) (d : AreDistinct (labels_of old.cells)) (beside : IsBeside old new i j (i + 1)) where
   abbrev pub r : Record
-  r = record_at old.inputs (entry_at old i)
+  r = record_at old.world (entry_at old i)
 
   abbrev pub s : Session
   s = session_before old i
@@ -131,30 +131,30 @@ module _ (old new : Book) (i j : ℕ) (lt : i < length old.cells) (d : AreDistin
   none_new = subst (λ (c : Cell). HasNone c.label t) (sym cell_is) (fresh_at new j lt_new beside.distinct)
 
   -- a record that holds is that of the cell now
-  pub same_record : StillHolds r t new.inputs → r ≡ record_at new.inputs (entry_at new j)
+  pub same_record : StillHolds r t new.world → r ≡ record_at new.world (entry_at new j)
   same_record h =
-      (stands (entry_at old i).cell.label (reading (entry_at old i).cell.source) r t new.inputs (old.inputs, s, fresh_at old i lt d, refl) h).0
-      ∙ ap (λ (c : Cell). record_of c.label (reading c.source) new.inputs t) cell_is
+      (stands (entry_at old i).cell.label (reading (entry_at old i).cell.source) r t new.world (old.world, s, fresh_at old i lt d, refl) h).0
+      ∙ ap (λ (c : Cell). record_of c.label (reading c.source) new.world t) cell_is
 
-  after_kept : StillHolds r t new.inputs → did_by (Some r) t ≡ session_before new (j + 1)
+  after_kept : StillHolds r t new.world → did_by (Some r) t ≡ session_before new (j + 1)
   after_kept h = ap (λ q. did_by (Some q) t) (same_record h) ∙ leaves_next new j lt_new beside.distinct
 
   -- where it does not, the cell is stale
-  pub fails_now : ¬ StillHolds r t new.inputs → IfSome (kept_of old (entry_at new j).cell) (λ r. ¬ StillHolds r t new.inputs)
-  fails_now h = subst (λ o. IfSome o (λ r. ¬ StillHolds r t new.inputs)) (sym (ap (kept_of old) (sym cell_is) ∙ kept_there old i lt d)) h
+  pub fails_now : ¬ StillHolds r t new.world → IfSome (kept_of old (entry_at new j).cell) (λ r. ¬ StillHolds r t new.world)
+  fails_now h = subst (λ o. IfSome o (λ r. ¬ StillHolds r t new.world)) (sym (ap (kept_of old) (sym cell_is) ∙ kept_there old i lt d)) h
 
   module _ (c : Change) (at_hand : Session) (since : ℕ) (at : IsAt old new i j c at_hand since) where
-    pub fits_now : Fits c r → StillHolds r t new.inputs
-    fits_now fits = fits_holds c r s t old.inputs new.inputs at.over (runs_over old i lt d) none_new fits
+    pub fits_now : Fits c r → StillHolds r t new.world
+    fits_now fits = fits_holds c r s t old.world new.world at.over (runs_over old i lt d) none_new fits
 
-    pub not_fits : ¬ Fits c r → ¬ StillHolds r t new.inputs
-    not_fits out h = out ((holds_over c r s t old.inputs new.inputs at.over (runs_over old i lt d) none_new).0 h)
+    pub not_fits : ¬ Fits c r → ¬ StillHolds r t new.world
+    not_fits out h = out ((holds_over c r s t old.world new.world at.over (runs_over old i lt d) none_new).0 h)
 
     -- past a cell whose record holds
-    goes_past : (e : Change) → StillHolds r t new.inputs → IsOver e (did_by (Some r) s) old.inputs (did_by (Some r) t) new.inputs → IsAt old new (i + 1) (j + 1) e at_hand since
+    goes_past : (e : Change) → StillHolds r t new.world → IsOver e (did_by (Some r) s) old.world (did_by (Some r) t) new.world → IsAt old new (i + 1) (j + 1) e at_hand since
     goes_past e h over = record {
       over = let f : did_by (Some r) s ≡ session_before old (i + 1) = leaves_next old i lt d in
-          subst (λ t. IsOver e (session_before old (i + 1)) old.inputs t new.inputs) (after_kept h) (subst (λ s. IsOver e s old.inputs (did_by (Some r) t) new.inputs) f over);
+          subst (λ t. IsOver e (session_before old (i + 1)) old.world t new.world) (after_kept h) (subst (λ s. IsOver e s old.world (did_by (Some r) t) new.world) f over);
       hand = record {
         behind = omega (arith, at.hand.behind);
         enough = omega (arith, at.hand.behind, at.hand.enough);
@@ -167,25 +167,25 @@ module _ (old new : Book) (i j : ℕ) (lt : i < length old.cells) (d : AreDistin
         gap : j - (i - since) ≡ j + 1 - (i + 1 - since)
         gap = omega (arith, at.hand.behind, at.hand.enough)
 
-        more : (n : ℕ) → (since + n < i) ⊎ (i ≤ since + n) → since + n < i + 1 → record_at old.inputs (entry_at old (since + n)) ≡ record_at new.inputs (entry_at new (j + 1 - (i + 1 - since) + n))
-        more n (inl before) less = at.hand.kept n before ∙ ap (λ m. record_at new.inputs (entry_at new (m + n))) gap
+        more : (n : ℕ) → (since + n < i) ⊎ (i ≤ since + n) → since + n < i + 1 → record_at old.world (entry_at old (since + n)) ≡ record_at new.world (entry_at new (j + 1 - (i + 1 - since) + n))
+        more n (inl before) less = at.hand.kept n before ∙ ap (λ m. record_at new.world (entry_at new (m + n))) gap
         more n (inr past) less =
             let here : since + n ≡ i = omega arith in
             let now : j ≡ j + 1 - (i + 1 - since) + n = omega (arith, at.hand.behind, at.hand.enough) in
-            ap (λ m. record_at old.inputs (entry_at old m)) here ∙ same_record h ∙ ap (λ m. record_at new.inputs (entry_at new m)) now
+            ap (λ m. record_at old.world (entry_at old m)) here ∙ same_record h ∙ ap (λ m. record_at new.world (entry_at new m)) now
 
-    pub past_kept : (e : Change) → Keeps c e r → StillHolds r t new.inputs → IsAt old new (i + 1) (j + 1) e at_hand since
-    past_kept e keeps h = goes_past e h (keeps s t old.inputs new.inputs at.over (runs_over old i lt d) (run_over r s t old.inputs new.inputs (runs_over old i lt d) h))
+    pub past_kept : (e : Change) → Keeps c e r → StillHolds r t new.world → IsAt old new (i + 1) (j + 1) e at_hand since
+    past_kept e keeps h = goes_past e h (keeps s t old.world new.world at.over (runs_over old i lt d) (run_over r s t old.world new.world (runs_over old i lt d) h))
 
     pub past_apart : IsDisjoint c r → IsAt old new (i + 1) (j + 1) c at_hand since
-    past_apart apart = let both : StillHolds r t new.inputs × IsOver c (did_by (Some r) s) old.inputs (did_by (Some r) t) new.inputs = passes c r s t old.inputs new.inputs at.over (runs_over old i lt d) none_new apart in
+    past_apart apart = let both : StillHolds r t new.world × IsOver c (did_by (Some r) s) old.world (did_by (Some r) t) new.world = passes c r s t old.world new.world at.over (runs_over old i lt d) none_new apart in
         goes_past c both.0 both.1
 
-    pub holds_apart : IsDisjoint c r → StillHolds r t new.inputs
-    holds_apart apart = (passes c r s t old.inputs new.inputs at.over (runs_over old i lt d) none_new apart).0
+    pub holds_apart : IsDisjoint c r → StillHolds r t new.world
+    holds_apart apart = (passes c r s t old.world new.world at.over (runs_over old i lt d) none_new apart).0
 
     -- behind a cell that is run
-    pub past_run : (e : Change) (h after : Session) → IsAlike h t → IsOnce h.names → after ≡ did_by (Some (record_at new.inputs (entry_at new j))) h → Follows c e r (record_at new.inputs (entry_at new j)) after new.inputs → IsAt old new (i + 1) (j + 1) e after (i + 1)
+    pub past_run : (e : Change) (h after : Session) → IsAlike h t → IsOnce h.names → after ≡ did_by (Some (record_at new.world (entry_at new j))) h → Follows c e r (record_at new.world (entry_at new j)) after new.world → IsAt old new (i + 1) (j + 1) e after (i + 1)
     past_run e h after alike once then follows = past_swap old new i j lt d lt_new beside.distinct c at.over e h after alike once then follows
 
 -- words that are apart
@@ -209,35 +209,35 @@ module _ (old new : Book) (i j : ℕ) (at_hand : Session) (since : ℕ) (hand : 
   abbrev pub k : ℕ
   k = j - (i - since)
 
-  is_there : record_at old.inputs (entry_at old since) ≡ record_at new.inputs (entry_at new k)
+  is_there : record_at old.world (entry_at old since) ≡ record_at new.world (entry_at new k)
   is_there = let e : since + 0 ≡ since = omega arith in let f : k + 0 ≡ k = omega arith in
-      ap (λ n. record_at old.inputs (entry_at old n)) (sym e) ∙ hand.kept 0 (omega arith) ∙ ap (λ n. record_at new.inputs (entry_at new n)) f
+      ap (λ n. record_at old.world (entry_at old n)) (sym e) ∙ hand.kept 0 (omega arith) ∙ ap (λ n. record_at new.world (entry_at new n)) f
 
   below : k < length new.cells
   below = omega (arith, hand.enough, hand.behind, place.now)
 
-  next : StillHolds (record_at new.inputs (entry_at new k)) at_hand new.inputs × IsAlike (did_by (Some (record_at new.inputs (entry_at new k))) at_hand) (session_before new (k + 1)) × IsOnce (did_by (Some (record_at new.inputs (entry_at new k))) at_hand).names
+  next : StillHolds (record_at new.world (entry_at new k)) at_hand new.world × IsAlike (did_by (Some (record_at new.world (entry_at new k))) at_hand) (session_before new (k + 1)) × IsOnce (did_by (Some (record_at new.world (entry_at new k))) at_hand).names
   next = next_alike new k below place.distinct at_hand hand.session hand.once
 
-  pub holds_at_hand : (x : Record) (h : Session) → x ≡ record_at old.inputs (entry_at old since) → h ≡ at_hand → StillHolds x h new.inputs
+  pub holds_at_hand : (x : Record) (h : Session) → x ≡ record_at old.world (entry_at old since) → h ≡ at_hand → StillHolds x h new.world
   holds_at_hand x h is same =
-      subst (λ x. StillHolds x h new.inputs) (sym (is ∙ is_there))
-      (subst (λ h. StillHolds (record_at new.inputs (entry_at new k)) h new.inputs) (sym same) next.0)
+      subst (λ x. StillHolds x h new.world) (sym (is ∙ is_there))
+      (subst (λ h. StillHolds (record_at new.world (entry_at new k)) h new.world) (sym same) next.0)
 
-  pub further_on : (x : Record) (h : Session) → x ≡ record_at old.inputs (entry_at old since) → h ≡ with_effects x.label x.effects at_hand → IsAtHand old new i j h (since + 1)
+  pub further_on : (x : Record) (h : Session) → x ≡ record_at old.world (entry_at old since) → h ≡ with_effects x.label x.effects at_hand → IsAtHand old new i j h (since + 1)
   further_on x h is after = record {
     behind = omega (arith, hand.behind);
     enough = omega (arith, hand.behind, hand.enough);
     session = subst (λ n. IsAlike h (session_before new n)) one_on (subst (λ u. IsAlike u (session_before new (k + 1))) (sym done) next.1);
     once = subst (λ u. IsOnce u.names) (sym done) next.2;
     kept = λ n lt. let e : since + 1 + n ≡ since + (n + 1) = omega arith in let f : k + (n + 1) ≡ j - (i - (since + 1)) + n = omega (arith, one_on) in
-        ap (λ m. record_at old.inputs (entry_at old m)) e ∙ hand.kept (n + 1) (omega arith) ∙ ap (λ m. record_at new.inputs (entry_at new m)) f;
+        ap (λ m. record_at old.world (entry_at old m)) e ∙ hand.kept (n + 1) (omega arith) ∙ ap (λ m. record_at new.world (entry_at new m)) f;
   }
     where
       one_on : k + 1 ≡ j - (i - (since + 1))
       one_on = omega (arith, hand.behind, hand.enough)
 
-      done : h ≡ did_by (Some (record_at new.inputs (entry_at new k))) at_hand
+      done : h ≡ did_by (Some (record_at new.world (entry_at new k))) at_hand
       done = after ∙ ap (λ x. did_by (Some x) at_hand) (is ∙ is_there)
 
 -- ---- what is changed of the records
@@ -248,41 +248,41 @@ changed_push (b ∷ cs) c k x = changed_push cs c k (Rattle.std.proofs.Common.co
 
 module _ (old new : Book) (i j to : ℕ) (cs : Changes) (all : AreChanged old new i j to cs) (within : i ≤ to) where
   -- one cell more that is as it was
-  pub changed_same : record_at old.inputs (entry_at old to) ≡ record_at new.inputs (entry_at new (j + (to - i))) → AreChanged old new i j (to + 1) cs
+  pub changed_same : record_at old.world (entry_at old to) ≡ record_at new.world (entry_at new (j + (to - i))) → AreChanged old new i j (to + 1) cs
   changed_same same = record {
     now = λ n less. more n (Rattle.std.proofs.lemmas.Bool.cases_lt (i + n) to) less;
     before = all.before;
     past = λ k x le. all.past k x (omega arith);
   }
     where
-      more : (n : ℕ) → (i + n < to) ⊎ (to ≤ i + n) → i + n < to + 1 → changed cs (i + n) (record_at old.inputs (entry_at old (i + n))) ≡ record_at new.inputs (entry_at new (j + n))
+      more : (n : ℕ) → (i + n < to) ⊎ (to ≤ i + n) → i + n < to + 1 → changed cs (i + n) (record_at old.world (entry_at old (i + n))) ≡ record_at new.world (entry_at new (j + n))
       more n (inl before) less = all.now n before
       more n (inr past) less =
           let here : to ≡ i + n = omega arith in let there : j + (to - i) ≡ j + n = omega arith in
-          all.past (i + n) (record_at old.inputs (entry_at old (i + n))) past ∙ ap (λ k. record_at old.inputs (entry_at old k)) (sym here) ∙ same ∙ ap (λ k. record_at new.inputs (entry_at new k)) there
+          all.past (i + n) (record_at old.world (entry_at old (i + n))) past ∙ ap (λ k. record_at old.world (entry_at old k)) (sym here) ∙ same ∙ ap (λ k. record_at new.world (entry_at new k)) there
 
   -- one that is another
-  pub changed_more : (ds : Changes) (x : Record) → ds ≡ cs ++ (to, x) ∷ [] → x ≡ record_at new.inputs (entry_at new (j + (to - i))) → AreChanged old new i j (to + 1) ds
+  pub changed_more : (ds : Changes) (x : Record) → ds ≡ cs ++ (to, x) ∷ [] → x ≡ record_at new.world (entry_at new (j + (to - i))) → AreChanged old new i j (to + 1) ds
   changed_more ds x grown is = subst (AreChanged old new i j (to + 1)) (sym grown) (record {
     now = λ n less. more n (Rattle.std.proofs.lemmas.Bool.cases_lt (i + n) to) less;
     before = λ k x' less. changed_push cs (to, x) k x' ∙ ap (λ t. Rattle.std.proofs.Common.cond t x (changed cs k x')) (Rattle.std.proofs.Common.ne_eqb k to (λ e. absurd (omega arith))) ∙ all.before k x' less;
     past = λ k x' le. changed_push cs (to, x) k x' ∙ ap (λ t. Rattle.std.proofs.Common.cond t x (changed cs k x')) (Rattle.std.proofs.Common.ne_eqb k to (λ e. absurd (omega arith))) ∙ all.past k x' (omega arith);
   })
     where
-      more : (n : ℕ) → (i + n < to) ⊎ (to ≤ i + n) → i + n < to + 1 → changed (cs ++ (to, x) ∷ []) (i + n) (record_at old.inputs (entry_at old (i + n))) ≡ record_at new.inputs (entry_at new (j + n))
+      more : (n : ℕ) → (i + n < to) ⊎ (to ≤ i + n) → i + n < to + 1 → changed (cs ++ (to, x) ∷ []) (i + n) (record_at old.world (entry_at old (i + n))) ≡ record_at new.world (entry_at new (j + n))
       more n (inl before) less =
-          changed_push cs (to, x) (i + n) (record_at old.inputs (entry_at old (i + n)))
-          ∙ ap (λ t. Rattle.std.proofs.Common.cond t x (changed cs (i + n) (record_at old.inputs (entry_at old (i + n))))) (Rattle.std.proofs.Common.ne_eqb (i + n) to (λ e. absurd (omega arith))) ∙ all.now n before
+          changed_push cs (to, x) (i + n) (record_at old.world (entry_at old (i + n)))
+          ∙ ap (λ t. Rattle.std.proofs.Common.cond t x (changed cs (i + n) (record_at old.world (entry_at old (i + n))))) (Rattle.std.proofs.Common.ne_eqb (i + n) to (λ e. absurd (omega arith))) ∙ all.now n before
       more n (inr past) less =
           let here : i + n ≡ to = omega arith in let there : j + (to - i) ≡ j + n = omega arith in
-          changed_push cs (to, x) (i + n) (record_at old.inputs (entry_at old (i + n)))
-          ∙ ap (λ t. Rattle.std.proofs.Common.cond t x (changed cs (i + n) (record_at old.inputs (entry_at old (i + n))))) (Rattle.std.proofs.Common.eq-eqb (i + n) to here) ∙ is ∙ ap (λ k. record_at new.inputs (entry_at new k)) there
+          changed_push cs (to, x) (i + n) (record_at old.world (entry_at old (i + n)))
+          ∙ ap (λ t. Rattle.std.proofs.Common.cond t x (changed cs (i + n) (record_at old.world (entry_at old (i + n))))) (Rattle.std.proofs.Common.eq-eqb (i + n) to here) ∙ is ∙ ap (λ k. record_at new.world (entry_at new k)) there
 
 -- the record that is kept of a cell
 pub record_there : {X : Type 0} (view : X → Record) (b : Book) (xs : List X) (x : X) (k : ℕ) → map view xs ≡ records_of b → k < length b.cells → x ≡ get_or xs k x
-    → view x ≡ record_at b.inputs (entry_at b k)
+    → view x ≡ record_at b.world (entry_at b k)
 record_there view b xs x k all lt is =
-    let many : length xs ≡ length b.cells = sym (Rattle.std.proofs.lemmas.List.length-map xs view) ∙ ap length all ∙ Rattle.std.proofs.lemmas.List.length-map (entries_of b) (record_at b.inputs) ∙ length-entries b.cells b.inputs Rattle.nd_model.specs.Cells.Session.no_session in
+    let many : length xs ≡ length b.cells = sym (Rattle.std.proofs.lemmas.List.length-map xs view) ∙ ap length all ∙ Rattle.std.proofs.lemmas.List.length-map (entries_of b) (record_at b.world) ∙ length-entries b.cells b.world Rattle.nd_model.specs.Cells.Session.no_session in
     ap view is ∙ sym (Rattle.std.proofs.lemmas.List.get_or-map view xs k x (view x) (omega arith)) ∙ ap (λ rs. get_or rs k (view x)) all ∙ get_or-records_of b k (view x) lt
 
 -- nothing is changed yet

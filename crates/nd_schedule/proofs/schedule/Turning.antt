@@ -1,11 +1,11 @@
 -- A cell that moves, and the sweeps around it.
-use Rattle.std.proofs.Common.{◌≡◌, ℕ, Bool, ◌+◌, ◌-◌, ◌^◌, ◌<◌, ◌≤◌, ◌⊎◌, min, List, [], ◌∷◌, zero, suc, length, map, take, get_or, Option, Some, None, Result, Ok, Err, IfOk, IfSome, refl, sym, ap, ap₂, subst, ◌∙◌, inl, inr, arith}
-use Rattle.std.specs.Prelude.{insert, remove, MatchOption}
+use Rattle.std.proofs.Common.{◌≡◌, ℕ, Bool, ◌+◌, ◌-◌, ◌^◌, ◌<◌, ◌≤◌, ◌⊎◌, min, List, [], ◌∷◌, zero, suc, length, map, take, get_or, Option, Some, None, Result, Ok, Err, IfOk, IfSome, refl, sym, ap, ap₂, subst, ◌∙◌, inl, inr, arith, true}
+use Rattle.std.specs.Prelude.{insert, remove, is_ok, MatchOption}
 use Rattle.std.proofs.lemmas.Bool.{cases_lt}
 use Rattle.std.proofs.lemmas.List.{ext_get_or, get_or-map, get_or-take, length-map}
 use Rattle.std.proofs.lemmas.List.Edits.{length-insert, length-remove, get_or-insert_at, get_or-insert_below, get_or-insert_above, get_or-remove_below, get_or-remove_above}
 use Rattle.nd_model.specs.Cells.Session.{Session, no_session}
-use Rattle.nd_model.specs.Cells.Running.{Key, Inputs}
+use Rattle.nd_model.specs.Cells.Running.{Key, World}
 use Rattle.nd_model.specs.Grammar.Reading.{reading}
 use Rattle.nd_model.specs.Grammar.Syntax.{Parsed}
 use Rattle.nd_model.specs.Cells.Cell.{cell, session_after}
@@ -14,7 +14,7 @@ use Rattle.nd_model.specs.Book.Records.{Record, record_of, StillHolds}
 use Rattle.nd_model.specs.Book.Renaming.{AreDistinct}
 use Rattle.nd_model.specs.Book.Sessions.{IsOnce}
 use Rattle.nd_model.specs.Book.Book.{Book, Cell, no_cell, labels_of, Move}
-use Rattle.nd_model.specs.Book.Notebook.{Sheet, book_of, edited_sheet, inputs_in}
+use Rattle.nd_model.specs.Book.Notebook.{Sheet, book_of, edited_sheet, world_in}
 use Rattle.nd_model.specs.Book.Entries.{entry_at, entries_of, record_at, records_of, session_before, SharesFront}
 use Rattle.nd_model.specs.Book.Scheduler.{IsOfRun}
 use Rattle.nd_model.specs.Book.Stale.{kept_of}
@@ -38,6 +38,11 @@ pub if_ok_more : {X E : Type 0} {P Q : X → Type 0} (res : Result X E) → IfOk
 if_ok_more (Ok x) p f = f x p
 if_ok_more (Err e) p f = tt
 
+-- what holds where there is a value, of a result that is one
+pub ended : {X E : Type 0} {P : Type 0} (res : Result X E) → IfOk res (λ _. P) → is_ok res ≡ true → P
+ended (Ok x) p ok = p
+ended (Err e) p ok = absurd (cc)
+
 pub match_more : {X : Type 0} {A B : Type 0} {P Q : X → Type 0} (o : Option X) → MatchOption o A P → (A → B) → ((x : X) → P x → Q x) → MatchOption o B Q
 match_more None h f g = f h
 match_more (Some x) h f g = g x h
@@ -46,7 +51,7 @@ pub made_there : {X : Type 0} (view : X → Record) (o : Option X) (r s x : Reco
 made_there view o r s x is h = subst (λ r. MatchOption o (r ≡ x) (λ n. view n ≡ x)) is h
 
 -- where an edit begins nothing is changed yet
-pub begins : (old new : Book) (at : ℕ) (e : Change) (h : Session) → AreDistinct (labels_of old.cells) → at ≤ length old.cells → ((k : Key) → e k ≡ None) → SharesFront at old new → old.inputs ≡ new.inputs → StandsBefore old at h → IsAt old new at at e h at
+pub begins : (old new : Book) (at : ℕ) (e : Change) (h : Session) → AreDistinct (labels_of old.cells) → at ≤ length old.cells → ((k : Key) → e k ≡ None) → SharesFront at old new → old.world ≡ new.world → StandsBefore old at h → IsAt old new at at e h at
 begins old new at e h d le none front same here = record {
   over = record {
     now = λ k f is there. absurd (none_some f (sym (none k) ∙ is));
@@ -71,18 +76,18 @@ pub at_hand : (new : Book) (i j : ℕ) (h : Session) → IsAlike h (session_befo
 at_hand new i j h alike = let e : j - (i - i) ≡ j = omega arith in subst (λ n. IsAlike h (session_before new n)) e alike
 
 -- behind a cell that is gone
-pub left_at : (old new : Book) (i j : ℕ) → i < length old.cells → AreDistinct (labels_of old.cells) → (c e : Change) (h : Session) → IsAt old new i j c h i → (x : Record) → x ≡ record_at old.inputs (entry_at old i) → Leaves c e x h → (upto : ℕ) → upto ≡ i + 1
+pub left_at : (old new : Book) (i j : ℕ) → i < length old.cells → AreDistinct (labels_of old.cells) → (c e : Change) (h : Session) → IsAt old new i j c h i → (x : Record) → x ≡ record_at old.world (entry_at old i) → Leaves c e x h → (upto : ℕ) → upto ≡ i + 1
     → IsAt old new (i + 1) j e h upto
 left_at old new i j lt d c e h at x is leaves upto upto_is =
     let s : Session = session_before old i in
     let next : Session = session_before old (i + 1) in
     let t : Session = session_before new j in
     let alike : IsAlike h t = at_hand new i j h at.hand.session in
-    let here : IsOver c s old.inputs h new.inputs = over_alike c s t s h old.inputs new.inputs at.over (alike_self s s refl) alike in
-    let behind : IsOver e next old.inputs h new.inputs = subst (λ s. IsOver e s old.inputs h new.inputs) (leaves_next old i lt d)
-    (subst (λ x. Leaves c e x h) is leaves s old.inputs new.inputs here (runs_over old i lt d)) in
+    let here : IsOver c s old.world h new.world = over_alike c s t s h old.world new.world at.over (alike_self s s refl) alike in
+    let behind : IsOver e next old.world h new.world = subst (λ s. IsOver e s old.world h new.world) (leaves_next old i lt d)
+    (subst (λ x. Leaves c e x h) is leaves s old.world new.world here (runs_over old i lt d)) in
     subst (IsAt old new (i + 1) j e h) (sym upto_is) (record {
-      over = over_alike e next h next t old.inputs new.inputs behind (alike_self next next refl) (alike_turned h t alike);
+      over = over_alike e next h next t old.world new.world behind (alike_self next next refl) (alike_turned h t alike);
       hand = record {
         behind = omega arith;
         enough = omega arith;
@@ -96,12 +101,12 @@ left_at old new i j lt d c e h at x is leaves upto upto_is =
     stays j i = omega arith
 
 -- a cell that comes in from elsewhere
-module _ (old new : Book) (from i j : ℕ) (rs : List Record) (c : Cell) (r : Record) (given : Inputs) (coming : IsComing old new from i j rs c r given) (d : Change) (h : Session) (at : IsAt old new i j d h i) where
+module _ (old new : Book) (from i j : ℕ) (rs : List Record) (c : Cell) (r : Record) (given : World) (coming : IsComing old new from i j rs c r given) (d : Change) (h : Session) (at : IsAt old new i j d h i) where
   abbrev pub t : Session
   t = session_before new j
 
   abbrev pub q : Record
-  q = record_at new.inputs (entry_at new j)
+  q = record_at new.world (entry_at new j)
 
   here : IsAlike h t
   here = at_hand new i j h at.hand.session
@@ -112,30 +117,30 @@ module _ (old new : Book) (from i j : ℕ) (rs : List Record) (c : Cell) (r : Re
   none_now : HasNone c.label t
   none_now = subst (λ (c : Cell). HasNone c.label t) coming.cell (fresh_at new j coming.there coming.place.distinct)
 
-  same_run : HasNone c.label h × (record_of c.label (reading c.source) new.inputs h ≡ record_of c.label (reading c.source) new.inputs t) × IsAlike (session_after (cell c.label (reading c.source) new.inputs h)) (session_after (cell c.label (reading c.source) new.inputs t))
-  same_run = alike_runs c.label (reading c.source) h t new.inputs here at.hand.once once_there none_now
+  same_run : HasNone c.label h × (record_of c.label (reading c.source) new.world h ≡ record_of c.label (reading c.source) new.world t) × IsAlike (session_after (cell c.label (reading c.source) new.world h)) (session_after (cell c.label (reading c.source) new.world t))
+  same_run = alike_runs c.label (reading c.source) h t new.world here at.hand.once once_there none_now
 
   pub enter_none : HasNone c.label h
   enter_none = same_run.0
 
   pub enter_record : record_of c.label (reading c.source) given h ≡ q
-  enter_record = ap (λ g. record_of c.label (reading c.source) g h) (sym coming.inputs) ∙ same_run.1 ∙ ap (λ (c : Cell). record_of c.label (reading c.source) new.inputs t) (sym coming.cell)
+  enter_record = ap (λ g. record_of c.label (reading c.source) g h) (sym coming.world) ∙ same_run.1 ∙ ap (λ (c : Cell). record_of c.label (reading c.source) new.world t) (sym coming.cell)
 
   pub enter_of_run : IsOfRun c.label (reading c.source) r
   enter_of_run = let P : Cell → Type 0 = λ x. IsOfRun x.label (reading x.source) r in
-      subst P coming.was (old.inputs, session_before old from, fresh_at old from coming.stood coming.run.distinct, coming.made)
+      subst P coming.was (old.world, session_before old from, fresh_at old from coming.stood coming.run.distinct, coming.made)
 
   pub enter_at : (e : Change) (after : Session) → after ≡ session_after (cell c.label (reading c.source) given h) → Comes d e (record_of c.label (reading c.source) given h) after → (upto : ℕ) → upto ≡ i → IsAt old new i (j + 1) e after upto
   enter_at e after then comes upto upto_is =
       let s : Session = session_before old i in
       let t' : Session = session_before new (j + 1) in
       let then' : after ≡ did_by (Some q) h = then ∙ effects_are_all c.label (reading c.source) h given enter_none ∙ ap (λ (q : Record). did_by (Some q) h) enter_record in
-      let next : StillHolds q h new.inputs × IsAlike (did_by (Some q) h) t' × IsOnce (did_by (Some q) h).names = next_alike new j coming.there coming.place.distinct h here at.hand.once in
+      let next : StillHolds q h new.world × IsAlike (did_by (Some q) h) t' × IsOnce (did_by (Some q) h).names = next_alike new j coming.there coming.place.distinct h here at.hand.once in
       let then_alike : IsAlike after t' = subst (λ u. IsAlike u t') (sym then') next.1 in
-      let over_here : IsOver d s old.inputs h new.inputs = over_alike d s t s h old.inputs new.inputs at.over (alike_self s s refl) here in
-      let behind : IsOver e s old.inputs after new.inputs = subst (λ q. Comes d e q after) enter_record comes s h old.inputs new.inputs over_here (run_over q t h new.inputs new.inputs (runs_over new j coming.there coming.place.distinct) next.0) then' in
+      let over_here : IsOver d s old.world h new.world = over_alike d s t s h old.world new.world at.over (alike_self s s refl) here in
+      let behind : IsOver e s old.world after new.world = subst (λ q. Comes d e q after) enter_record comes s h old.world new.world over_here (run_over q t h new.world new.world (runs_over new j coming.there coming.place.distinct) next.0) then' in
       subst (IsAt old new i (j + 1) e after) (sym upto_is) (record {
-        over = over_alike e s after s t' old.inputs new.inputs behind (alike_self s s refl) (alike_turned after t' then_alike);
+        over = over_alike e s after s t' old.world new.world behind (alike_self s s refl) (alike_turned after t' then_alike);
         hand = record {
           behind = omega arith;
           enough = omega arith;
@@ -148,11 +153,11 @@ module _ (old new : Book) (from i j : ℕ) (rs : List Record) (c : Cell) (r : Re
       stays : (j i : ℕ) → j + 1 ≡ j + 1 - (i - i)
       stays j i = omega arith
 
-  enter_fails : ¬ StillHolds r h given → IfSome (kept_of old (entry_at new j).cell) (λ r. ¬ StillHolds r t new.inputs)
+  enter_fails : ¬ StillHolds r h given → IfSome (kept_of old (entry_at new j).cell) (λ r. ¬ StillHolds r t new.world)
   enter_fails out =
-      subst (λ o. IfSome o (λ r. ¬ StillHolds r t new.inputs)) (sym (ap (kept_of old) (coming.cell ∙ sym coming.was) ∙ kept_there old from coming.stood coming.run.distinct))
-      (λ holds. out (subst (StillHolds r h) coming.inputs (let P : Record → Type 0 = λ x. StillHolds x h new.inputs in
-      subst P (sym coming.made) (alike_replays (record_at old.inputs (entry_at old from)) h t new.inputs here at.hand.once once_there holds).0)))
+      subst (λ o. IfSome o (λ r. ¬ StillHolds r t new.world)) (sym (ap (kept_of old) (coming.cell ∙ sym coming.was) ∙ kept_there old from coming.stood coming.run.distinct))
+      (λ holds. out (subst (StillHolds r h) coming.world (let P : Record → Type 0 = λ x. StillHolds x h new.world in
+      subst P (sym coming.made) (alike_replays (record_at old.world (entry_at old from)) h t new.world here at.hand.once once_there holds).0)))
 
   pub enter_counts : (before mid after : ℕ) → (after ≡ mid) ⊎ ((after ≡ min (mid + 1) (2 ^ 64 - 1)) × (¬ StillHolds r h given)) → CountsFront old new j before mid → CountsFront old new (j + 1) before after
   enter_counts before mid after (inl same) so_far = subst (CountsFront old new (j + 1) before) (sym same) (counts_same old new j before mid coming.there so_far)
@@ -189,12 +194,12 @@ module _ {X : Type 0} (xs : List X) (from to : ℕ) (lt : from < length xs) (les
 
 -- ---- the notebook in which a cell has moved
 
-pub same_in_front : (old new : Book) (at : ℕ) → SharesFront at old new → (k : ℕ) → k < at → k < length old.cells → k < length new.cells → record_at old.inputs (entry_at old k) ≡ record_at new.inputs (entry_at new k)
+pub same_in_front : (old new : Book) (at : ℕ) → SharesFront at old new → (k : ℕ) → k < at → k < length old.cells → k < length new.cells → record_at old.world (entry_at old k) ≡ record_at new.world (entry_at new k)
 same_in_front old new at front k lt less less' =
-    let d : Record = record_at old.inputs (entry_at old k) in
+    let d : Record = record_at old.world (entry_at old k) in
     sym (get_or-records_of old k d less) ∙ sym (get_or-take at (records_of old) k d lt) ∙ ap (λ rs. get_or rs k d) front.0 ∙ get_or-take at (records_of new) k d lt ∙ get_or-records_of new k d less'
 
-module _ (old new : Book) (from to : ℕ) (cs : List Cell) (rs : List Record) (given : Inputs) (m : IsMoving old new from to cs rs given) where
+module _ (old new : Book) (from to : ℕ) (cs : List Cell) (rs : List Record) (given : World) (m : IsMoving old new from to cs rs given) where
   abbrev pub c : Cell
   c = get_or old.cells from no_cell
 
@@ -205,7 +210,7 @@ module _ (old new : Book) (from to : ℕ) (cs : List Cell) (rs : List Record) (g
   distinct_now = subst (λ cs. AreDistinct (labels_of cs)) (sym m.now) (move_distinct old.cells from to m.run.distinct m.stood)
 
   pub front : (k : ℕ) → k ≤ from → k ≤ to → SharesFront k old new
-  front k a b = same_front k old new (m.before ∙ sym m.inputs) (front_move old.cells from to k a b m.stood m.goes ∙ ap (take k) (sym m.now))
+  front k a b = same_front k old new (m.before ∙ sym m.world) (front_move old.cells from to k a b m.stood m.goes ∙ ap (take k) (sym m.now))
 
   pub behind : (k : ℕ) → k ≤ from → k ≤ to → IsBehind old new k
   behind k a b = record { same = front k a b; within = omega (arith, many, m.stood); before = m.run.distinct; distinct = distinct_now }
@@ -225,7 +230,7 @@ module _ (old new : Book) (from to : ℕ) (cs : List Cell) (rs : List Record) (g
           sym (there (from + n) ∙ turned_down old.cells from to m.stood m.goes c no_cell (from + n) (omega arith) (omega arith) ∙ ap (λ k. get_or old.cells k no_cell) e);
       distinct = distinct_now;
     };
-    inputs = m.inputs;
+    world = m.world;
   }
 
   pub frame_up : to < from → IsFrame old new to (to + 1) from cs rs given
@@ -240,7 +245,7 @@ module _ (old new : Book) (from to : ℕ) (cs : List Cell) (rs : List Record) (g
           sym (ap (λ k. get_or new.cells k no_cell) (sym e) ∙ there (to + n + 1) ∙ turned_up old.cells from to m.stood m.goes c no_cell (to + n) (omega arith) (omega arith));
       distinct = distinct_now;
     };
-    inputs = m.inputs;
+    world = m.world;
   }
 
   pub frame_rest : (at n : ℕ) → from < at → to < at → at ≤ n → n ≡ length old.cells → IsFrame old new at at n cs rs given
@@ -254,13 +259,13 @@ module _ (old new : Book) (from to : ℕ) (cs : List Cell) (rs : List Record) (g
       same = λ n less. sym (there (at + n) ∙ turned_behind old.cells from to m.stood m.goes c no_cell (at + n) (omega arith) (omega arith));
       distinct = distinct_now;
     };
-    inputs = m.inputs;
+    world = m.world;
   }
 
   pub place_at : (i j : ℕ) → i ≤ length old.cells → j ≤ length old.cells → IsPlace old new i j
   place_at i j le le' = record { before = le; now = omega (arith, many); distinct = distinct_now }
 
-  pub coming : (i : ℕ) → i ≤ length old.cells → (x : Cell) (r : Record) → x ≡ get_or cs from no_cell → r ≡ record_at old.inputs (entry_at old from) → IsComing old new from i to rs x r given
+  pub coming : (i : ℕ) → i ≤ length old.cells → (x : Cell) (r : Record) → x ≡ get_or cs from no_cell → r ≡ record_at old.world (entry_at old from) → IsComing old new from i to rs x r given
   coming i le x r x_is r_is =
       let was : (entry_at old from).cell ≡ x = ap (λ cs. get_or cs from no_cell) m.cells ∙ sym x_is in
       record {
@@ -271,40 +276,40 @@ module _ (old new : Book) (from to : ℕ) (cs : List Cell) (rs : List Record) (g
         made = r_is;
         there = omega (arith, many, m.goes);
         cell = there to ∙ turned_there old.cells from to m.stood m.goes c no_cell ∙ was;
-        inputs = m.inputs;
+        world = m.world;
       }
 
-  same_before : (k : ℕ) → k < from → k < to → record_at old.inputs (entry_at old k) ≡ record_at new.inputs (entry_at new k)
+  same_before : (k : ℕ) → k < from → k < to → record_at old.world (entry_at old k) ≡ record_at new.world (entry_at new k)
   same_before k a b = same_in_front old new (k + 1) (front (k + 1) (omega arith) (omega arith)) k (omega arith) (omega (arith, m.stood)) (omega (arith, m.stood, many))
 
   module _ (es ds : Changes) where
     pub moved_down : from < to → AreChanged old new (from + 1) from (to + 1) es → AreChanged old new (to + 1) (to + 1) (length old.cells) ds → AreMoved old new from to es ds
     moved_down down first second = record {
-      front = λ k a b. second.before k (changed es k (record_at old.inputs (entry_at old k))) (omega arith) ∙ first.before k (record_at old.inputs (entry_at old k)) (omega arith) ∙ same_before k a b;
+      front = λ k a b. second.before k (changed es k (record_at old.world (entry_at old k))) (omega arith) ∙ first.before k (record_at old.world (entry_at old k)) (omega arith) ∙ same_before k a b;
       down = λ k a b.
-          let x : Record = record_at old.inputs (entry_at old (k + 1)) in
+          let x : Record = record_at old.world (entry_at old (k + 1)) in
           let e : from + 1 + (k - from) ≡ k + 1 = omega arith in let f : from + (k - from) ≡ k = omega arith in
-          second.before (k + 1) (changed es (k + 1) x) (omega arith) ∙ ap (λ n. changed es n (record_at old.inputs (entry_at old n))) (sym e) ∙ first.now (k - from) (omega arith) ∙ ap (λ n. record_at new.inputs (entry_at new n)) f;
+          second.before (k + 1) (changed es (k + 1) x) (omega arith) ∙ ap (λ n. changed es n (record_at old.world (entry_at old n))) (sym e) ∙ first.now (k - from) (omega arith) ∙ ap (λ n. record_at new.world (entry_at new n)) f;
       up = λ k a b. absurd (omega arith);
       behind = λ k a b lt.
-          let x : Record = record_at old.inputs (entry_at old k) in
+          let x : Record = record_at old.world (entry_at old k) in
           let e : to + 1 + (k - (to + 1)) ≡ k = omega arith in
-          ap (changed ds k) (first.past k x (omega arith)) ∙ ap (λ n. changed ds n (record_at old.inputs (entry_at old n))) (sym e) ∙ second.now (k - (to + 1)) (omega arith) ∙ ap (λ n. record_at new.inputs (entry_at new n)) e;
+          ap (changed ds k) (first.past k x (omega arith)) ∙ ap (λ n. changed ds n (record_at old.world (entry_at old n))) (sym e) ∙ second.now (k - (to + 1)) (omega arith) ∙ ap (λ n. record_at new.world (entry_at new n)) e;
       stays = λ r. second.before from (changed es from r) (omega arith) ∙ first.before from r (omega arith);
     }
 
     pub moved_up : to < from → AreChanged old new to (to + 1) from es → AreChanged old new (from + 1) (from + 1) (length old.cells) ds → AreMoved old new from to es ds
     moved_up up first second = record {
-      front = λ k a b. second.before k (changed es k (record_at old.inputs (entry_at old k))) (omega arith) ∙ first.before k (record_at old.inputs (entry_at old k)) (omega arith) ∙ same_before k a b;
+      front = λ k a b. second.before k (changed es k (record_at old.world (entry_at old k))) (omega arith) ∙ first.before k (record_at old.world (entry_at old k)) (omega arith) ∙ same_before k a b;
       down = λ k a b. absurd (omega arith);
       up = λ k a b.
-          let x : Record = record_at old.inputs (entry_at old k) in
+          let x : Record = record_at old.world (entry_at old k) in
           let e : to + (k - to) ≡ k = omega arith in let f : to + 1 + (k - to) ≡ k + 1 = omega arith in
-          second.before k (changed es k x) (omega arith) ∙ ap (λ n. changed es n (record_at old.inputs (entry_at old n))) (sym e) ∙ first.now (k - to) (omega arith) ∙ ap (λ n. record_at new.inputs (entry_at new n)) f;
+          second.before k (changed es k x) (omega arith) ∙ ap (λ n. changed es n (record_at old.world (entry_at old n))) (sym e) ∙ first.now (k - to) (omega arith) ∙ ap (λ n. record_at new.world (entry_at new n)) f;
       behind = λ k a b lt.
-          let x : Record = record_at old.inputs (entry_at old k) in
+          let x : Record = record_at old.world (entry_at old k) in
           let e : from + 1 + (k - (from + 1)) ≡ k = omega arith in
-          ap (changed ds k) (first.past k x (omega arith)) ∙ ap (λ n. changed ds n (record_at old.inputs (entry_at old n))) (sym e) ∙ second.now (k - (from + 1)) (omega arith) ∙ ap (λ n. record_at new.inputs (entry_at new n)) e;
+          ap (changed ds k) (first.past k x (omega arith)) ∙ ap (λ n. changed ds n (record_at old.world (entry_at old n))) (sym e) ∙ second.now (k - (from + 1)) (omega arith) ∙ ap (λ n. record_at new.world (entry_at new n)) e;
       stays = λ r. second.before from (changed es from r) (omega arith) ∙ first.past from r (omega arith);
     }
 
@@ -313,20 +318,20 @@ module _ (old new : Book) (from to : ℕ) (cs : List Cell) (rs : List Record) (g
   module _ (us : List Record) (long : length us ≡ length old.cells) (x : Record) where
     moved_length : length (insert (remove us from) to x) ≡ length (records_of new)
     moved_length =
-        turned_many us from to (omega (arith, m.stood)) (omega (arith, m.goes)) x x ∙ long ∙ sym many ∙ sym (length-map (entries_of new) (record_at new.inputs) ∙ length-entries new.cells new.inputs no_session)
+        turned_many us from to (omega (arith, m.stood)) (omega (arith, m.goes)) x x ∙ long ∙ sym many ∙ sym (length-map (entries_of new) (record_at new.world) ∙ length-entries new.cells new.world no_session)
 
-    module _ (es ds : Changes) (moved : AreMoved old new from to es ds) (put : (k : ℕ) (r : Record) → k < length old.cells → ¬ (k ≡ from) → get_or us k r ≡ changed ds k (changed es k (record_at old.inputs (entry_at old k)))) (is : x ≡ record_at new.inputs (entry_at new to)) where
-      each : (k : ℕ) → (k < to) ⊎ (to ≤ k) → (k < from) ⊎ (from ≤ k) → (to < k) ⊎ (k ≤ to) → (k - 1 < from) ⊎ (from ≤ k - 1) → k < length old.cells → get_or (insert (remove us from) to x) k x ≡ record_at new.inputs (entry_at new k)
+    module _ (es ds : Changes) (moved : AreMoved old new from to es ds) (put : (k : ℕ) (r : Record) → k < length old.cells → ¬ (k ≡ from) → get_or us k r ≡ changed ds k (changed es k (record_at old.world (entry_at old k)))) (is : x ≡ record_at new.world (entry_at new to)) where
+      each : (k : ℕ) → (k < to) ⊎ (to ≤ k) → (k < from) ⊎ (from ≤ k) → (to < k) ⊎ (k ≤ to) → (k - 1 < from) ⊎ (from ≤ k - 1) → k < length old.cells → get_or (insert (remove us from) to x) k x ≡ record_at new.world (entry_at new k)
       each k (inl b) (inl a) any other lt = turned_front us from to (omega (arith, m.stood)) (omega (arith, m.goes)) x x k a b ∙ put k x lt (λ e. absurd (omega arith)) ∙ moved.front k a b
       each k (inl b) (inr a) any other lt = turned_down us from to (omega (arith, m.stood)) (omega (arith, m.goes)) x x k a b ∙ put (k + 1) x (omega (arith, m.goes)) (λ e. absurd (omega arith)) ∙ moved.down k a b
       each k (inr b) a (inl past) (inl less) lt =
           let e : k - 1 + 1 ≡ k = omega arith in
           ap (λ n. get_or (insert (remove us from) to x) n x) (sym e) ∙ turned_up us from to (omega (arith, m.stood)) (omega (arith, m.goes)) x x (k - 1) (omega arith) less ∙ put (k - 1) x (omega arith) (λ e. absurd (omega arith)) ∙ moved.up (k - 1) (omega arith) less
-          ∙ ap (λ n. record_at new.inputs (entry_at new n)) e
+          ∙ ap (λ n. record_at new.world (entry_at new n)) e
       each k (inr b) a (inl past) (inr more) lt = turned_behind us from to (omega (arith, m.stood)) (omega (arith, m.goes)) x x k (omega arith) past ∙ put k x lt (λ e. absurd (omega arith)) ∙ moved.behind k (omega arith) past lt
       each k (inr b) a (inr same) other lt =
           let e : k ≡ to = omega arith in
-          ap (λ n. get_or (insert (remove us from) to x) n x) e ∙ turned_there us from to (omega (arith, m.stood)) (omega (arith, m.goes)) x x ∙ is ∙ ap (λ n. record_at new.inputs (entry_at new n)) (sym e)
+          ap (λ n. get_or (insert (remove us from) to x) n x) e ∙ turned_there us from to (omega (arith, m.stood)) (omega (arith, m.goes)) x x ∙ is ∙ ap (λ n. record_at new.world (entry_at new n)) (sym e)
 
       pub records_moved : insert (remove us from) to x ≡ records_of new
       records_moved = ext_get_or x (insert (remove us from) to x) (records_of new) moved_length (λ k lt.
@@ -376,12 +381,12 @@ pub same_place : (i j : ℕ) → j ≡ j + (i - i)
 same_place i j = omega arith
 
 -- of an edited notebook
-pub moving : (s : Sheet) (from to : ℕ) (cs : List Cell) (rs : List Record) (given : Inputs) → s.cells ≡ cs → IsRun (book_of s) rs → inputs_in s.given ≡ given → from < length s.cells → to < length s.cells
+pub moving : (s : Sheet) (from to : ℕ) (cs : List Cell) (rs : List Record) (given : World) → s.cells ≡ cs → IsRun (book_of s) rs → world_in s.given ≡ given → from < length s.cells → to < length s.cells
     → IsMoving (book_of s) (book_of (edited_sheet (Move from to) s)) from to cs rs given
-moving s from to cs rs given cells run inputs lt less = record { cells = cells; run = run; stood = lt; goes = less; now = refl; before = inputs; inputs = inputs }
+moving s from to cs rs given cells run world lt less = record { cells = cells; run = run; stood = lt; goes = less; now = refl; before = world; world = world }
 
 -- what a replay leaves, where the record still holds
-pub replayed_there : (label : ℕ) (p : Parsed) (r : Record) (t : Session) (j : Inputs) → IsOfRun label p r → StillHolds r t j
+pub replayed_there : (label : ℕ) (p : Parsed) (r : Record) (t : Session) (j : World) → IsOfRun label p r → StillHolds r t j
     → with_effects r.label r.effects t ≡ session_after (cell label p j t)
 replayed_there label p r t j of h = ap (λ n. with_effects n r.effects t) (ap (λ (x : Record). x.label) of.3) ∙ (stands label p r t j of h).1
 
@@ -398,11 +403,11 @@ turned_map {X} {Y} f xs ys from to d lt turns =
     ap (map f) (turns x) ∙ map-insert f (remove xs from) to (get_or xs from x) ∙ ap₂ (λ (us : List Y) (y : Y). insert us to y) (map-remove f xs from) (sym (get_or-map f xs from x d lt))
 
 -- all that is kept, with the cell in its new place
-pub kept_turned : {W : Type 0} (covers : W → Key → Bool) (old new : Book) (from to : ℕ) (cs : List Cell) (rs : List Record) (given : Inputs) → IsMoving old new from to cs rs given → (us : List Record) (es ds : Changes) → length us ≡ length old.cells
-    → AreMoved old new from to es ds → ((k : ℕ) (r : Record) → k < length old.cells → ¬ (k ≡ from) → get_or us k r ≡ changed ds k (changed es k (record_at old.inputs (entry_at old k)))) → ((r : Record) → get_or us from r ≡ record_at new.inputs (entry_at new to))
-    → (vs ws : List W) → length vs ≡ length us → AreWords covers vs us → ((w : W) → ws ≡ insert (remove vs from) to (get_or vs from w)) → (ts : List Record) → ts ≡ insert (remove us from) to (get_or us from (record_at old.inputs (entry_at old from))) → IsKept covers new ts ws
+pub kept_turned : {W : Type 0} (covers : W → Key → Bool) (old new : Book) (from to : ℕ) (cs : List Cell) (rs : List Record) (given : World) → IsMoving old new from to cs rs given → (us : List Record) (es ds : Changes) → length us ≡ length old.cells
+    → AreMoved old new from to es ds → ((k : ℕ) (r : Record) → k < length old.cells → ¬ (k ≡ from) → get_or us k r ≡ changed ds k (changed es k (record_at old.world (entry_at old k)))) → ((r : Record) → get_or us from r ≡ record_at new.world (entry_at new to))
+    → (vs ws : List W) → length vs ≡ length us → AreWords covers vs us → ((w : W) → ws ≡ insert (remove vs from) to (get_or vs from w)) → (ts : List Record) → ts ≡ insert (remove us from) to (get_or us from (record_at old.world (entry_at old from))) → IsKept covers new ts ws
 kept_turned {W} covers old new from to cs rs given m us es ds long moved put there vs ws as_many words turns ts turned_is =
-    let d : Record = record_at old.inputs (entry_at old from) in
+    let d : Record = record_at old.world (entry_at old from) in
     let x : Record = get_or us from d in
     let w : W = pick vs from (omega (arith, m.stood, as_many, long)) in
     subst (λ ts. IsKept covers new ts ws) (sym turned_is) (subst (λ ws. IsKept covers new (insert (remove us from) to x) ws) (sym (turns w))

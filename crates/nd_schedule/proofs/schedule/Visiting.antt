@@ -3,7 +3,7 @@ use Rattle.std.proofs.Common.{◌≡◌, ℕ, ◌+◌, ◌-◌, ◌^◌, ◌<◌
 use Rattle.std.proofs.lemmas.List.{get_or-map, length-map}
 use Rattle.std.specs.declared.rc.Rc.{Rc}
 use Rattle.nd_model.specs.Cells.Session.{Session, no_session}
-use Rattle.nd_model.specs.Cells.Running.{Key, Inputs}
+use Rattle.nd_model.specs.Cells.Running.{Key, World}
 use Rattle.nd_model.specs.Grammar.Reading.{reading}
 use Rattle.nd_model.specs.Cells.Cell.{cell, session_after}
 use Rattle.nd_model.specs.Cells.Footprint.{HasNone}
@@ -38,12 +38,12 @@ on_three (Err e) p q r f = tt
 pub cell_there : (cells : List (Rc KeptCell Global)) (k : ℕ) (x : Rc KeptCell Global) (src : KeptCell) → k < length cells → x ≡ get_or cells k x → src ≡ x.value → cell_of src ≡ get_or (cells_of cells) k no_cell
 cell_there cells k x src lt is value = ap cell_of (value ∙ ap (λ (y : Rc KeptCell Global). y.value) is) ∙ sym (get_or-map (λ (s : Rc KeptCell Global). cell_of s.value) cells k x no_cell lt)
 
-module _ (old new : Book) (i j : ℕ) (cs : List Cell) (rs : List Record) (given : Inputs) (frame : IsFrame old new i j (i + 1) cs rs given) (c : Change) (s : Session) (since : ℕ) (at : IsAt old new i j c s since) where
+module _ (old new : Book) (i j : ℕ) (cs : List Cell) (rs : List Record) (given : World) (frame : IsFrame old new i j (i + 1) cs rs given) (c : Change) (s : Session) (since : ℕ) (at : IsAt old new i j c s since) where
   pub lt : i < length old.cells
   lt = omega (arith, frame.beside.within)
 
   abbrev pub was : Record
-  was = record_at old.inputs (entry_at old i)
+  was = record_at old.world (entry_at old i)
 
   pub place : IsPlace old new i j
   place = record { before = omega (arith, frame.beside.within); now = omega (arith, frame.beside.fits); distinct = frame.beside.distinct }
@@ -53,7 +53,7 @@ module _ (old new : Book) (i j : ℕ) (cs : List Cell) (rs : List Record) (given
 
   word_there : {W : Type 0} (covers : W → Key → Bool) (ws : List W) (w : W) → AreWords covers ws rs → IsWordOf covers (get_or ws i w) was
   word_there covers ws w words =
-      let long : length rs ≡ length old.cells = ap length frame.run.records ∙ length-map (entries_of old) (record_at old.inputs) ∙ length-entries old.cells old.inputs no_session in
+      let long : length rs ≡ length old.cells = ap length frame.run.records ∙ length-map (entries_of old) (record_at old.world) ∙ length-entries old.cells old.world no_session in
       subst (IsWordOf covers (get_or ws i w)) (ap (λ xs. get_or xs i was) frame.run.records ∙ get_or-records_of old i was lt) (words i w was (omega (arith, lt)))
 
   pub is_apart : {W : Type 0} (covers : W → Key → Bool) (ws : List W) (w v : W) → AreWords covers ws rs → IsWordOfChange covers v c → ((k : Key) → IsTrue (covers (get_or ws i w) k) → ¬ IsTrue (covers v k)) → IsDisjoint c was
@@ -62,17 +62,17 @@ module _ (old new : Book) (i j : ℕ) (cs : List Cell) (rs : List Record) (given
   pub apart_at : IsDisjoint c was → IsAt old new (i + 1) (j + 1) c s since
   apart_at apart = Sweeping.past_apart old new i j lt frame.run.distinct frame.beside c s since at apart
 
-  pub apart_holds : IsDisjoint c was → StillHolds was (session_before new j) new.inputs
+  pub apart_holds : IsDisjoint c was → StillHolds was (session_before new j) new.world
   apart_holds apart = Sweeping.holds_apart old new i j lt frame.run.distinct frame.beside c s since at apart
 
   pub no_more : (before meter : ℕ) → CountsFront old new j before meter → CountsFront old new (j + 1) before meter
   no_more before meter h = Sweeping.counts_same old new j before meter less h
 
-  pub same_more : (from first : ℕ) (ds : Changes) → from ≤ i → j ≡ first + (i - from) → StillHolds was (session_before new j) new.inputs → AreChanged old new from first i ds → AreChanged old new from first (i + 1) ds
+  pub same_more : (from first : ℕ) (ds : Changes) → from ≤ i → j ≡ first + (i - from) → StillHolds was (session_before new j) new.world → AreChanged old new from first i ds → AreChanged old new from first (i + 1) ds
   same_more from first ds le is h all =
-      Sweeping.changed_same old new from first i ds all le (Sweeping.same_record old new i j lt frame.run.distinct frame.beside h ∙ ap (λ k. record_at new.inputs (entry_at new k)) is)
+      Sweeping.changed_same old new from first i ds all le (Sweeping.same_record old new i j lt frame.run.distinct frame.beside h ∙ ap (λ k. record_at new.world (entry_at new k)) is)
 
-  pub fits_holds : (x : Record) → x ≡ was → Fits c x → StillHolds was (session_before new j) new.inputs
+  pub fits_holds : (x : Record) → x ≡ was → Fits c x → StillHolds was (session_before new j) new.world
   fits_holds x is fits = Sweeping.fits_now old new i j lt frame.run.distinct frame.beside c s since at (subst (Fits c) is fits)
 
   pub fits_at : (x : Record) (e : Change) → x ≡ was → Fits c x → Keeps c e x → IsAt old new (i + 1) (j + 1) e s since
@@ -89,16 +89,16 @@ module _ (old new : Book) (i j : ℕ) (cs : List Cell) (rs : List Record) (given
     none_now : HasNone src.label (session_before new j)
     none_now = subst (λ (c : Cell). HasNone c.label (session_before new j)) (sym is_cell) (fresh_at new j less frame.beside.distinct)
 
-    same_run : HasNone src.label h × (record_of src.label (reading src.source) new.inputs h ≡ record_of src.label (reading src.source) new.inputs (session_before new j)) × IsAlike (session_after (cell src.label (reading src.source) new.inputs h)) (session_after (cell src.label (reading src.source) new.inputs (session_before new j)))
-    same_run = alike_runs src.label (reading src.source) h (session_before new j) new.inputs here hand.once (names_stand_once new j frame.beside.distinct (omega (arith, less))) none_now
+    same_run : HasNone src.label h × (record_of src.label (reading src.source) new.world h ≡ record_of src.label (reading src.source) new.world (session_before new j)) × IsAlike (session_after (cell src.label (reading src.source) new.world h)) (session_after (cell src.label (reading src.source) new.world (session_before new j)))
+    same_run = alike_runs src.label (reading src.source) h (session_before new j) new.world here hand.once (names_stand_once new j frame.beside.distinct (omega (arith, less))) none_now
 
     pub none_here : HasNone src.label h
     none_here = same_run.0
 
-    pub run_record : record_of src.label (reading src.source) given h ≡ record_at new.inputs (entry_at new j)
-    run_record = ap (λ g. record_of src.label (reading src.source) g h) (sym frame.inputs) ∙ same_run.1 ∙ ap (λ (c : Cell). record_of c.label (reading c.source) new.inputs (session_before new j)) is_cell
+    pub run_record : record_of src.label (reading src.source) given h ≡ record_at new.world (entry_at new j)
+    run_record = ap (λ g. record_of src.label (reading src.source) g h) (sym frame.world) ∙ same_run.1 ∙ ap (λ (c : Cell). record_of c.label (reading c.source) new.world (session_before new j)) is_cell
 
-    pub run_after : session_after (cell src.label (reading src.source) given h) ≡ did_by (Some (record_at new.inputs (entry_at new j))) h
+    pub run_after : session_after (cell src.label (reading src.source) given h) ≡ did_by (Some (record_at new.world (entry_at new j))) h
     run_after = effects_are_all src.label (reading src.source) h given none_here ∙ ap (λ (q : Record). did_by (Some q) h) run_record
 
     pub run_at : (x : Record) (e : Change) (after : Session) (upto : ℕ) → x ≡ was → after ≡ session_after (cell src.label (reading src.source) given h) → Follows c e x (record_of src.label (reading src.source) given h) after given → upto ≡ i + 1
@@ -106,11 +106,11 @@ module _ (old new : Book) (i j : ℕ) (cs : List Cell) (rs : List Record) (given
     run_at x e after upto is then follows since_is =
         subst (IsAt old new (i + 1) (j + 1) e after) (sym since_is)
         (Sweeping.past_run old new i j lt frame.run.distinct frame.beside c s since at e h after here hand.once (then ∙ run_after)
-        (subst (λ g. Follows c e was (record_at new.inputs (entry_at new j)) after g) (sym frame.inputs) (subst (λ q. Follows c e was q after given) run_record (subst (λ x. Follows c e x (record_of src.label (reading src.source) given h) after given) is follows))))
+        (subst (λ g. Follows c e was (record_at new.world (entry_at new j)) after g) (sym frame.world) (subst (λ q. Follows c e was q after given) run_record (subst (λ x. Follows c e x (record_of src.label (reading src.source) given h) after given) is follows))))
 
     pub run_changed : (from first : ℕ) (ds es : Changes) → from ≤ i → j ≡ first + (i - from) → es ≡ ds ++ (i, record_of src.label (reading src.source) given h) ∷ [] → AreChanged old new from first i ds → AreChanged old new from first (i + 1) es
     run_changed from first ds es le is grown all =
-        Sweeping.changed_more old new from first i ds all le es (record_of src.label (reading src.source) given h) grown (run_record ∙ ap (λ k. record_at new.inputs (entry_at new k)) is)
+        Sweeping.changed_more old new from first i ds all le es (record_of src.label (reading src.source) given h) grown (run_record ∙ ap (λ k. record_at new.world (entry_at new k)) is)
 
   pub one_more : (x : Record) (before mid after : ℕ) → x ≡ was → ¬ Fits c x → CountsFront old new j before mid → after ≡ min (mid + 1) (2 ^ 64 - 1) → CountsFront old new (j + 1) before after
   one_more x before mid after is out h more =
@@ -120,7 +120,7 @@ module _ (old new : Book) (i j : ℕ) (cs : List Cell) (rs : List Record) (given
 
 -- ---- the sweep
 
-pub frame_at : (old new : Book) (i j to : ℕ) (cs : List Cell) (rs : List Record) (given : Inputs) → IsFrame old new i j to cs rs given → (k : ℕ) → i ≤ k → k < to → IsFrame old new k (j + (k - i)) (k + 1) cs rs given
+pub frame_at : (old new : Book) (i j to : ℕ) (cs : List Cell) (rs : List Record) (given : World) → IsFrame old new i j to cs rs given → (k : ℕ) → i ≤ k → k < to → IsFrame old new k (j + (k - i)) (k + 1) cs rs given
 frame_at old new i j to cs rs given frame k le below = record {
   cells = frame.cells;
   run = frame.run;
@@ -133,11 +133,11 @@ frame_at old new i j to cs rs given frame k le below = record {
         ap (λ m. get_or old.cells m no_cell) e ∙ frame.beside.same (k - i + n) (omega arith) ∙ ap (λ m. get_or new.cells m no_cell) f;
     distinct = frame.beside.distinct;
   };
-  inputs = frame.inputs;
+  world = frame.world;
 }
 
 -- a part of it
-pub frame_part : (old new : Book) (i j to : ℕ) (cs : List Cell) (rs : List Record) (given : Inputs) → IsFrame old new i j to cs rs given → (k n : ℕ) → i ≤ k → k ≤ n → n ≤ to → IsFrame old new k (j + (k - i)) n cs rs given
+pub frame_part : (old new : Book) (i j to : ℕ) (cs : List Cell) (rs : List Record) (given : World) → IsFrame old new i j to cs rs given → (k n : ℕ) → i ≤ k → k ≤ n → n ≤ to → IsFrame old new k (j + (k - i)) n cs rs given
 frame_part old new i j to cs rs given frame k n le order below = record {
   cells = frame.cells;
   run = frame.run;
@@ -150,7 +150,7 @@ frame_part old new i j to cs rs given frame k n le order below = record {
         ap (λ p. get_or old.cells p no_cell) e ∙ frame.beside.same (k - i + m) (omega arith) ∙ ap (λ p. get_or new.cells p no_cell) f;
     distinct = frame.beside.distinct;
   };
-  inputs = frame.inputs;
+  world = frame.world;
 }
 
 -- two parts behind one another

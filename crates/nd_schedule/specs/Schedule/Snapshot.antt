@@ -1,7 +1,7 @@
 -- Snapshots: sessions that are kept of a run, with the changes that are still to be put over them.
 use Rattle.std.specs.Prelude.{ℕ, ◌≤◌, List, [], ◌∷◌, length, map}
 use Rattle.nd_model.specs.Cells.Session.{Names, Session}
-use Rattle.nd_model.specs.Cells.Running.{Inputs}
+use Rattle.nd_model.specs.Cells.Running.{World}
 use Rattle.nd_model.specs.Book.Sessions.{IsOnce}
 use Rattle.nd_model.specs.Book.Renaming.{AreDistinct}
 use Rattle.nd_model.specs.Book.Book.{Book, labels_of}
@@ -12,7 +12,7 @@ use Rattle.nd_change.specs.Snapshots.{IsAlike}
 -- THE CHANGES LEAD from the one session to the other: put over it in order, they give one that is alike.
 abbrev pub Leads : List Change → Session → Session → Type 0
 Leads [] s t = IsAlike s t
-Leads (d ∷ ds) s t = (m : Session) × (i : Inputs) × (j : Inputs) × IsOver d s i m j × IsOnce m.names × Leads ds m t
+Leads (d ∷ ds) s t = (m : Session) × (i : World) × (j : World) × IsOver d s i m j × IsOnce m.names × Leads ds m t
 
 -- A SNAPSHOT of a place: its pending changes lead from it to the session before that place.
 pub record IsSnapshot (b : Book) (place : ℕ) (s : Session) (ds : List Change) : Type 0 where
@@ -28,7 +28,7 @@ pub record StandsBefore (b : Book) (place : ℕ) (s : Session) : Type 0 where
 -- WHAT A SWEEP NOTES where a snapshot is kept: the place now, and the change there.
 pub record IsChangeAt (old new : Book) (place now : ℕ) (d : Change) : Type 0 where
   pub within : now ≤ length new.cells
-  pub over : IsOver d (session_before old place) old.inputs (session_before new now) new.inputs
+  pub over : IsOver d (session_before old place) old.world (session_before new now) new.world
 
 -- an edit behind the first cells
 pub record IsBehind (old new : Book) (front : ℕ) : Type 0 where

@@ -1,7 +1,7 @@
 -- A sweep over the cells behind an edit, with the change that it has made.
 use Rattle.std.specs.Prelude.{◌≡◌, ℕ, ◌+◌, ◌-◌, ◌<◌, ◌≤◌, Bool, List, [], ◌∷◌, length, take, slice_index_or, insert, remove, nat_eq, ⊤, if◌then◌else◌}
 use Rattle.nd_model.specs.Cells.Session.{Session}
-use Rattle.nd_model.specs.Cells.Running.{Key, Inputs}
+use Rattle.nd_model.specs.Cells.Running.{Key, World}
 use Rattle.nd_model.specs.Book.Records.{Record}
 use Rattle.nd_model.specs.Book.Renaming.{AreDistinct}
 use Rattle.nd_model.specs.Book.Book.{Book, Cell, no_cell, labels_of}
@@ -44,12 +44,12 @@ pub record IsAtHand (old new : Book) (i j : ℕ) (s : Session) (since : ℕ) : T
   pub enough : i - since ≤ j
   pub session : IsAlike s (session_before new (j - (i - since)))
   pub once : IsOnce s.names
-  pub kept : (n : ℕ) → since + n < i → record_at old.inputs (entry_at old (since + n)) ≡ record_at new.inputs (entry_at new (j - (i - since) + n))
+  pub kept : (n : ℕ) → since + n < i → record_at old.world (entry_at old (since + n)) ≡ record_at new.world (entry_at new (j - (i - since) + n))
 
 -- THE SWEEP STANDS before the cell at i of those before, and at j of those now: the session now is the one before with the change
 -- over it.
 pub record IsAt (old new : Book) (i j : ℕ) (d : Change) (s : Session) (since : ℕ) : Type 0 where
-  pub over : IsOver d (session_before old i) old.inputs (session_before new j) new.inputs
+  pub over : IsOver d (session_before old i) old.world (session_before new j) new.world
   pub hand : IsAtHand old new i j s since
 
 -- of the first cells, no more were run than are stale
@@ -70,7 +70,7 @@ changed (c ∷ cs) k r = changed cs k (if nat_eq k c.0 then c.1 else r)
 
 -- With the changes, the records from the place i on up to another are those of the book now from j on. Nothing behind is changed.
 pub record AreChanged (old new : Book) (i j to : ℕ) (cs : Changes) : Type 0 where
-  pub now : (n : ℕ) → i + n < to → changed cs (i + n) (record_at old.inputs (entry_at old (i + n))) ≡ record_at new.inputs (entry_at new (j + n))
+  pub now : (n : ℕ) → i + n < to → changed cs (i + n) (record_at old.world (entry_at old (i + n))) ≡ record_at new.world (entry_at new (j + n))
   pub before : (k : ℕ) (r : Record) → k < i → changed cs k r ≡ r
   pub past : (k : ℕ) (r : Record) → to ≤ k → changed cs k r ≡ r
 
@@ -88,41 +88,41 @@ pub record IsKept {W : Type 0} (covers : W → Key → Bool) (b : Book) (rs : Li
   pub words : AreWords covers ws rs
   pub many : length ws ≡ length rs
 
--- what a sweep from a place to another goes over: cells, each with the record of its run before, and the inputs now
-pub record IsFrame (old new : Book) (i j to : ℕ) (cs : List Cell) (rs : List Record) (given : Inputs) : Type 0 where
+-- what a sweep from a place to another goes over: cells, each with the record of its run before, and what they are run by now
+pub record IsFrame (old new : Book) (i j to : ℕ) (cs : List Cell) (rs : List Record) (given : World) : Type 0 where
   pub cells : old.cells ≡ cs
   pub run : IsRun old rs
   pub order : i ≤ to
   pub beside : IsBeside old new i j to
-  pub inputs : new.inputs ≡ given
+  pub world : new.world ≡ given
 
 -- ---- a cell that moves
 
 -- A cell that stands at one place before comes in now at another: its record is that of its run before.
-pub record IsComing (old new : Book) (from i j : ℕ) (rs : List Record) (c : Cell) (r : Record) (given : Inputs) : Type 0 where
+pub record IsComing (old new : Book) (from i j : ℕ) (rs : List Record) (c : Cell) (r : Record) (given : World) : Type 0 where
   pub run : IsRun old rs
   pub place : IsPlace old new i j
   pub stood : from < length old.cells
   pub was : (entry_at old from).cell ≡ c
-  pub made : r ≡ record_at old.inputs (entry_at old from)
+  pub made : r ≡ record_at old.world (entry_at old from)
   pub there : j < length new.cells
   pub cell : (entry_at new j).cell ≡ c
-  pub inputs : new.inputs ≡ given
+  pub world : new.world ≡ given
 
 -- what the sweeps around a cell that moves go over
-pub record IsMoving (old new : Book) (from to : ℕ) (cs : List Cell) (rs : List Record) (given : Inputs) : Type 0 where
+pub record IsMoving (old new : Book) (from to : ℕ) (cs : List Cell) (rs : List Record) (given : World) : Type 0 where
   pub cells : old.cells ≡ cs
   pub run : IsRun old rs
   pub stood : from < length old.cells
   pub goes : to < length old.cells
   pub now : new.cells ≡ insert (remove old.cells from) to (slice_index_or old.cells from no_cell)
-  pub before : old.inputs ≡ given
-  pub inputs : new.inputs ≡ given
+  pub before : old.world ≡ given
+  pub world : new.world ≡ given
 
 -- With two lists of changes the records of all other cells are those of the book now, each at the place to which its cell moves.
 pub record AreMoved (old new : Book) (from to : ℕ) (cs ds : Changes) : Type 0 where
-  pub front : (k : ℕ) → k < from → k < to → changed ds k (changed cs k (record_at old.inputs (entry_at old k))) ≡ record_at new.inputs (entry_at new k)
-  pub down : (k : ℕ) → from ≤ k → k < to → changed ds (k + 1) (changed cs (k + 1) (record_at old.inputs (entry_at old (k + 1)))) ≡ record_at new.inputs (entry_at new k)
-  pub up : (k : ℕ) → to ≤ k → k < from → changed ds k (changed cs k (record_at old.inputs (entry_at old k))) ≡ record_at new.inputs (entry_at new (k + 1))
-  pub behind : (k : ℕ) → from < k → to < k → k < length old.cells → changed ds k (changed cs k (record_at old.inputs (entry_at old k))) ≡ record_at new.inputs (entry_at new k)
+  pub front : (k : ℕ) → k < from → k < to → changed ds k (changed cs k (record_at old.world (entry_at old k))) ≡ record_at new.world (entry_at new k)
+  pub down : (k : ℕ) → from ≤ k → k < to → changed ds (k + 1) (changed cs (k + 1) (record_at old.world (entry_at old (k + 1)))) ≡ record_at new.world (entry_at new k)
+  pub up : (k : ℕ) → to ≤ k → k < from → changed ds k (changed cs k (record_at old.world (entry_at old k))) ≡ record_at new.world (entry_at new (k + 1))
+  pub behind : (k : ℕ) → from < k → to < k → k < length old.cells → changed ds k (changed cs k (record_at old.world (entry_at old k))) ≡ record_at new.world (entry_at new k)
   pub stays : (r : Record) → changed ds from (changed cs from r) ≡ r

@@ -2,6 +2,7 @@
 
 ghost use Rattle.std.specs.Prelude.{◌≡◌, ◌<◌, ◌≤◌, ◌+◌, ◌||◌, ℕ, IfOk, IsTrue, OnErr, OnOk, insert, length, map, nat_eq, string_bytes};
 ghost use Rattle.std.specs.List.{All};
+ghost use Rattle.std.specs.Vec.{vec_capacity};
 ghost use Rattle.nd_model.specs.Book.Book as books;
 ghost use Rattle.nd_model.specs.Book.Book.{is_label};
 ghost use Rattle.nd_model.specs.Book.Entries.{entry_at, record_at};
@@ -11,7 +12,7 @@ ghost use Rattle.nd_change.specs.Steps.{IsWordOf};
 ghost use Rattle.nd_schedule.specs.Cells.Source.{sheet, cell_of};
 ghost use Rattle.nd_schedule.specs.Schedule.Snapshot.{IsSnapshot, StandsBefore};
 
-use crate::cells::KeptCell;
+use crate::cells::{KeptCell, make_room};
 use crate::schedule::notebook::{Front, Schedule};
 use crate::schedule::runner::CellRunner;
 use crate::schedule::snapshots::{keep_end, put_fresh, take_end};
@@ -19,6 +20,51 @@ use crate::schedule::sweep::New;
 use nd_meter::Meter;
 use std::alloc::AllocError;
 use std::rc::Rc;
+
+/// Makes room for a new cell at a place, with its record and its word.
+pub(crate) fn make_rooms<C: CellRunner>(
+    cells: &mut Vec<Rc<KeptCell>>,
+    records: &mut Vec<Rc<C::Record>>,
+    words: &mut Vec<C::Word>,
+    at: usize,
+) -> Result<(), AllocError>
+    ensures same_cells { cells.new.items ≡ cells.old.items }
+    ensures same_records { records.new.items ≡ records.old.items }
+    ensures same_words { words.new.items ≡ words.old.items }
+    ensures cells { OnOk result (length cells.old.items + 1 ≤ vec_capacity cells.new) }
+    ensures records { OnOk result (length records.old.items + 1 ≤ vec_capacity records.new) }
+    ensures words { OnOk result (length words.old.items + 1 ≤ vec_capacity words.new) }
+{
+    make_room(cells, at, at, 1)?;
+    make_room(records, at, at, 1)?;
+    make_room(words, at, at, 1)
+}
+
+/// Puts a new cell at a place, with its record and its word, where there is room. It takes no memory.
+pub(crate) fn put_one<C: CellRunner>(
+    cells: &mut Vec<Rc<KeptCell>>,
+    records: &mut Vec<Rc<C::Record>>,
+    words: &mut Vec<C::Word>,
+    at: usize,
+    cell: Rc<KeptCell>,
+    new: New<C>,
+)
+    requires at_cell { at ≤ length cells.old.items }
+    requires at_record { at ≤ length records.old.items }
+    requires at_word { at ≤ length words.old.items }
+    requires cells { length cells.old.items + 1 ≤ vec_capacity cells.old }
+    requires records { length records.old.items + 1 ≤ vec_capacity records.old }
+    requires words { length words.old.items + 1 ≤ vec_capacity words.old }
+    ensures cells { cells.new.items ≡ insert cells.old.items at cell }
+    ensures records { records.new.items ≡ insert records.old.items at new.record }
+    ensures words { words.new.items ≡ insert words.old.items at new.word }
+{
+    let New { record, word } = new;
+    // never fails, since there is room
+    let _cell = cells.insert(at, cell);
+    let _record = records.insert(at, record);
+    let _word = words.insert(at, word);
+}
 
 /// Puts a new cell at a place, with its record and its word. For want of memory all stay as they are.
 fn put_new<C: CellRunner>(
@@ -40,14 +86,8 @@ fn put_new<C: CellRunner>(
     ensures same_records { OnErr result (records.new.items ≡ records.old.items) }
     ensures same_words { OnErr result (words.new.items ≡ words.old.items) }
 {
-    cells.reserve(1)?;
-    records.reserve(1)?;
-    words.reserve(1)?;
-    let New { record, word } = new;
-    // never fails, since there is room
-    let _cell = cells.insert(at, cell);
-    let _record = records.insert(at, record);
-    let _word = words.insert(at, word);
+    make_rooms::<C>(cells, records, words, at)?;
+    put_one::<C>(cells, records, words, at, cell, new);
     Ok(())
 }
 
@@ -80,7 +120,7 @@ impl<C: CellRunner> Schedule<C> {
             (C.session_of session.old) }
         requires label { source.now.label ≡ books.fresh_label self.now.cells }
         ensures made { IfOk result (λ n. C.recorded n.record.value
-            ≡ record_at (book_of self.now).inputs (entry_at (book_of (sheet (insert
+            ≡ record_at (book_of self.now).world (entry_at (book_of (sheet (insert
             self.now.cells (length self.now.cells) (cell_of source.now)) self.now.given))
             (length self.now.cells))) }
         ensures worded { IfOk result
@@ -94,7 +134,7 @@ impl<C: CellRunner> Schedule<C> {
         let made = C::run(
             meter,
             session,
-            &self.inputs,
+            &self.world,
             source.label,
             source.text.as_str(),
         )?;

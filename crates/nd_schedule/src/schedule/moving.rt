@@ -11,7 +11,7 @@ ghost use Rattle.nd_model.specs.Book.Scheduler.{IsOfRun};
 ghost use Rattle.nd_model.specs.Book.Stale.{CountsStale};
 ghost use Rattle.nd_model.specs.Book.Book.{Book};
 ghost use Rattle.nd_model.specs.Book.Entries.{entry_at, record_at};
-ghost use Rattle.nd_model.specs.Book.Notebook.{inputs_in};
+ghost use Rattle.nd_model.specs.Book.Notebook.{world_in};
 ghost use Rattle.nd_change.specs.Steps.{Comes, IsWordOf, IsWordOfChange};
 ghost use Rattle.nd_schedule.specs.Cells.Source.{cell_of, cells_of};
 ghost use Rattle.nd_schedule.specs.Cells.Shared.{each_of};
@@ -84,7 +84,7 @@ fn put_in<C: CellRunner>(
     meter: &mut Meter,
     source: &KeptCell,
     made: &C::Record,
-    inputs: &C::Inputs,
+    world: &C::World,
     state: &mut SweepState<C>,
 ) -> Result<Option<New<C>>, AllocError>
     requires none { HasNone source.now.label (C.session_of state.old.session) }
@@ -92,18 +92,18 @@ fn put_in<C: CellRunner>(
         (C.recorded made.now) }
     ensures after { OnOk result (C.session_of state.new.session
         ≡ session_after (cell source.now.label (reading (string_bytes source.now.text))
-        (inputs_in (C.given inputs.now)) (C.session_of state.old.session))) }
+        (world_in (C.given world.now)) (C.session_of state.old.session))) }
     ensures comes { OnOk result (Comes (C.change_of state.old.change)
         (C.change_of state.new.change)
         (record_of source.now.label (reading (string_bytes source.now.text))
-        (inputs_in (C.given inputs.now)) (C.session_of state.old.session))
+        (world_in (C.given world.now)) (C.session_of state.old.session))
         (C.session_of state.new.session)) }
     ensures made { IfOk result (λ o. MatchOption o
         (C.recorded made.now ≡ record_of source.now.label (reading (string_bytes source.now.text))
-        (inputs_in (C.given inputs.now)) (C.session_of state.old.session))
+        (world_in (C.given world.now)) (C.session_of state.old.session))
         (λ n. C.recorded n.record.value
         ≡ record_of source.now.label (reading (string_bytes source.now.text))
-        (inputs_in (C.given inputs.now)) (C.session_of state.old.session))) }
+        (world_in (C.given world.now)) (C.session_of state.old.session))) }
     ensures worded { IfOk result (λ o. IfSome o
         (λ n. IsWordOf C.covers n.word (C.recorded n.record.value))) }
     ensures covered { OnOk result (IsWordOfChange C.covers state.new.word
@@ -113,15 +113,15 @@ fn put_in<C: CellRunner>(
     ensures counts { (meter.new ≡ meter.old)
         ⊎ ((meter.new ≡ min (meter.old + 1) (2 ^ 64 - 1))
         × (¬ StillHolds (C.recorded made.now) (C.session_of state.old.session)
-        (inputs_in (C.given inputs.now)))) }
+        (world_in (C.given world.now)))) }
 {
-    if C::still_holds(made, &state.session, inputs) {
+    if C::still_holds(made, &state.session, world) {
         C::replay(made, &mut state.session)?;
         C::came(made, &state.session, &mut state.change)?;
         state.word = C::change_word(&state.change);
         return Ok(None);
     }
-    let new = run_new::<C>(alloc, meter, source, inputs, state)?;
+    let new = run_new::<C>(alloc, meter, source, world, state)?;
     Ok(Some(new))
 }
 
@@ -132,30 +132,30 @@ pub(crate) fn enter<C: CellRunner>(
     records: &[Rc<C::Record>],
     source: &KeptCell,
     made: &C::Record,
-    inputs: &C::Inputs,
+    world: &C::World,
     i: usize,
     state: &mut SweepState<C>,
 ) -> Result<Option<New<C>>, AllocError>
     requires within { i ≤ length records.now }
     requires at { (old : Book) × (new : Book) × (from : ℕ) × (j : ℕ)
         × IsComing old new from i j (each_of C.recorded records.now) (cell_of source.now)
-        (C.recorded made.now) (inputs_in (C.given inputs.now))
+        (C.recorded made.now) (world_in (C.given world.now))
         × IsAt old new i j (C.change_of state.old.change) (C.session_of state.old.session)
         state.old.since }
     ensures at { OnOk result ((old new : Book) (from j : ℕ)
         → IsComing old new from i j (each_of C.recorded records.now) (cell_of source.now)
-        (C.recorded made.now) (inputs_in (C.given inputs.now))
+        (C.recorded made.now) (world_in (C.given world.now))
         → IsAt old new i j (C.change_of state.old.change) (C.session_of state.old.session)
         state.old.since
         → IsAt old new i (j + 1) (C.change_of state.new.change)
         (C.session_of state.new.session) state.new.since) }
     ensures made { IfOk result (λ o. (old new : Book) (from j : ℕ)
         → IsComing old new from i j (each_of C.recorded records.now) (cell_of source.now)
-        (C.recorded made.now) (inputs_in (C.given inputs.now))
+        (C.recorded made.now) (world_in (C.given world.now))
         → IsAt old new i j (C.change_of state.old.change) (C.session_of state.old.session)
         state.old.since
-        → MatchOption o (C.recorded made.now ≡ record_at new.inputs (entry_at new j))
-        (λ n. C.recorded n.record.value ≡ record_at new.inputs (entry_at new j))) }
+        → MatchOption o (C.recorded made.now ≡ record_at new.world (entry_at new j))
+        (λ n. C.recorded n.record.value ≡ record_at new.world (entry_at new j))) }
     ensures worded { IfOk result (λ o. IfSome o
         (λ n. IsWordOf C.covers n.word (C.recorded n.record.value))) }
     ensures covered { OnOk result (IsWordOfChange C.covers state.new.word
@@ -163,14 +163,14 @@ pub(crate) fn enter<C: CellRunner>(
     ensures changed { OnOk result (state.new.changed.items ≡ state.old.changed.items) }
     ensures counts { (old new : Book) (from j before : ℕ)
         → IsComing old new from i j (each_of C.recorded records.now) (cell_of source.now)
-        (C.recorded made.now) (inputs_in (C.given inputs.now))
+        (C.recorded made.now) (world_in (C.given world.now))
         → IsAt old new i j (C.change_of state.old.change) (C.session_of state.old.session)
         state.old.since
         → CountsFront old new j before meter.old → CountsFront old new (j + 1) before meter.new }
 {
     catch_up::<C>(records, &mut state.session, state.since, i)?;
     state.since = i;
-    put_in::<C>(alloc, meter, source, made, inputs, state)
+    put_in::<C>(alloc, meter, source, made, world, state)
 }
 
 /// Sweeps over all cells behind one that moves to a later place.
@@ -180,7 +180,7 @@ pub(crate) fn move_down<C: CellRunner>(
     cells: &[Rc<KeptCell>],
     records: &[Rc<C::Record>],
     words: &[C::Word],
-    inputs: &C::Inputs,
+    world: &C::World,
     from: usize,
     to: usize,
     snapshots: &[Snapshot<C>],
@@ -192,7 +192,7 @@ pub(crate) fn move_down<C: CellRunner>(
     requires places { length words.now ≡ length cells.now }
     requires at { (old : Book) × (new : Book)
         × IsMoving old new from to (cells_of cells.now) (each_of C.recorded records.now)
-        (inputs_in (C.given inputs.now))
+        (world_in (C.given world.now))
         × IsAt old new from from (C.change_of state.old.change) (C.session_of state.old.session)
         state.old.since }
     requires words { AreWords C.covers words.now (each_of C.recorded records.now) }
@@ -203,7 +203,7 @@ pub(crate) fn move_down<C: CellRunner>(
         (map C.change_of s.pending.items)) snapshots.now }
     ensures moved { IfOk result (λ m. (old new : Book)
         → IsMoving old new from to (cells_of cells.now) (each_of C.recorded records.now)
-        (inputs_in (C.given inputs.now))
+        (world_in (C.given world.now))
         → IsAt old new from from (C.change_of state.old.change) (C.session_of state.old.session)
         state.old.since
         → AreMoved old new from to
@@ -211,12 +211,12 @@ pub(crate) fn move_down<C: CellRunner>(
         (map (λ c. change_at c.place (C.recorded c.record.value)) m.behind.items)) }
     ensures made { IfOk result (λ m. (old new : Book)
         → IsMoving old new from to (cells_of cells.now) (each_of C.recorded records.now)
-        (inputs_in (C.given inputs.now))
+        (world_in (C.given world.now))
         → IsAt old new from from (C.change_of state.old.change) (C.session_of state.old.session)
         state.old.since
         → MatchOption m.made
-        (record_at old.inputs (entry_at old from) ≡ record_at new.inputs (entry_at new to))
-        (λ n. C.recorded n.record.value ≡ record_at new.inputs (entry_at new to))) }
+        (record_at old.world (entry_at old from) ≡ record_at new.world (entry_at new to))
+        (λ n. C.recorded n.record.value ≡ record_at new.world (entry_at new to))) }
     ensures worded { IfOk result (λ m. IfSome m.made
         (λ n. IsWordOf C.covers n.word (C.recorded n.record.value))) }
     ensures fit_between { IfOk result (λ m. AreFit C.covers (length cells.now)
@@ -225,13 +225,13 @@ pub(crate) fn move_down<C: CellRunner>(
         (map (λ c. fit_at c.place (C.recorded c.record.value) c.word) m.behind.items)) }
     ensures noted { IfOk result (λ m. (old new : Book)
         → IsMoving old new from to (cells_of cells.now) (each_of C.recorded records.now)
-        (inputs_in (C.given inputs.now))
+        (world_in (C.given world.now))
         → IsAt old new from from (C.change_of state.old.change) (C.session_of state.old.session)
         state.old.since
         → All (λ n. IsChangeAt old new n.place n.now (C.change_of n.change)) m.noted.items) }
     ensures counts { (old new : Book)
         → IsMoving old new from to (cells_of cells.now) (each_of C.recorded records.now)
-        (inputs_in (C.given inputs.now))
+        (world_in (C.given world.now))
         → IsAt old new from from (C.change_of state.old.change) (C.session_of state.old.session)
         state.old.since
         → CountsStale old new meter.old meter.new }
@@ -244,7 +244,7 @@ pub(crate) fn move_down<C: CellRunner>(
         cells,
         records,
         words,
-        inputs,
+        world,
         from + 1,
         to + 1,
         from,
@@ -259,7 +259,7 @@ pub(crate) fn move_down<C: CellRunner>(
         records,
         &cells[from],
         &records[from],
-        inputs,
+        world,
         to + 1,
         state,
     )?;
@@ -269,7 +269,7 @@ pub(crate) fn move_down<C: CellRunner>(
         cells,
         records,
         words,
-        inputs,
+        world,
         to + 1,
         cells.len(),
         to + 1,
@@ -293,7 +293,7 @@ pub(crate) fn move_up<C: CellRunner>(
     cells: &[Rc<KeptCell>],
     records: &[Rc<C::Record>],
     words: &[C::Word],
-    inputs: &C::Inputs,
+    world: &C::World,
     from: usize,
     to: usize,
     snapshots: &[Snapshot<C>],
@@ -305,7 +305,7 @@ pub(crate) fn move_up<C: CellRunner>(
     requires places { length words.now ≡ length cells.now }
     requires at { (old : Book) × (new : Book)
         × IsMoving old new from to (cells_of cells.now) (each_of C.recorded records.now)
-        (inputs_in (C.given inputs.now))
+        (world_in (C.given world.now))
         × IsAt old new to to (C.change_of state.old.change) (C.session_of state.old.session)
         state.old.since }
     requires words { AreWords C.covers words.now (each_of C.recorded records.now) }
@@ -316,7 +316,7 @@ pub(crate) fn move_up<C: CellRunner>(
         (map C.change_of s.pending.items)) snapshots.now }
     ensures moved { IfOk result (λ m. (old new : Book)
         → IsMoving old new from to (cells_of cells.now) (each_of C.recorded records.now)
-        (inputs_in (C.given inputs.now))
+        (world_in (C.given world.now))
         → IsAt old new to to (C.change_of state.old.change) (C.session_of state.old.session)
         state.old.since
         → AreMoved old new from to
@@ -324,12 +324,12 @@ pub(crate) fn move_up<C: CellRunner>(
         (map (λ c. change_at c.place (C.recorded c.record.value)) m.behind.items)) }
     ensures made { IfOk result (λ m. (old new : Book)
         → IsMoving old new from to (cells_of cells.now) (each_of C.recorded records.now)
-        (inputs_in (C.given inputs.now))
+        (world_in (C.given world.now))
         → IsAt old new to to (C.change_of state.old.change) (C.session_of state.old.session)
         state.old.since
         → MatchOption m.made
-        (record_at old.inputs (entry_at old from) ≡ record_at new.inputs (entry_at new to))
-        (λ n. C.recorded n.record.value ≡ record_at new.inputs (entry_at new to))) }
+        (record_at old.world (entry_at old from) ≡ record_at new.world (entry_at new to))
+        (λ n. C.recorded n.record.value ≡ record_at new.world (entry_at new to))) }
     ensures worded { IfOk result (λ m. IfSome m.made
         (λ n. IsWordOf C.covers n.word (C.recorded n.record.value))) }
     ensures fit_between { IfOk result (λ m. AreFit C.covers (length cells.now)
@@ -338,13 +338,13 @@ pub(crate) fn move_up<C: CellRunner>(
         (map (λ c. fit_at c.place (C.recorded c.record.value) c.word) m.behind.items)) }
     ensures noted { IfOk result (λ m. (old new : Book)
         → IsMoving old new from to (cells_of cells.now) (each_of C.recorded records.now)
-        (inputs_in (C.given inputs.now))
+        (world_in (C.given world.now))
         → IsAt old new to to (C.change_of state.old.change) (C.session_of state.old.session)
         state.old.since
         → All (λ n. IsChangeAt old new n.place n.now (C.change_of n.change)) m.noted.items) }
     ensures counts { (old new : Book)
         → IsMoving old new from to (cells_of cells.now) (each_of C.recorded records.now)
-        (inputs_in (C.given inputs.now))
+        (world_in (C.given world.now))
         → IsAt old new to to (C.change_of state.old.change) (C.session_of state.old.session)
         state.old.since
         → CountsStale old new meter.old meter.new }
@@ -356,7 +356,7 @@ pub(crate) fn move_up<C: CellRunner>(
         records,
         &cells[from],
         &records[from],
-        inputs,
+        world,
         to,
         state,
     )?;
@@ -366,7 +366,7 @@ pub(crate) fn move_up<C: CellRunner>(
         cells,
         records,
         words,
-        inputs,
+        world,
         to,
         from,
         to + 1,
@@ -382,7 +382,7 @@ pub(crate) fn move_up<C: CellRunner>(
         cells,
         records,
         words,
-        inputs,
+        world,
         from + 1,
         cells.len(),
         from + 1,

@@ -1,12 +1,13 @@
 //! The notebook: a list of cells, and what is kept of running them.
 
-ghost use Rattle.std.specs.Prelude.{◌≡◌, ◌<◌, ◌≤◌, ◌+◌, ◌^◌, ℕ, IfOk, IfSome, MatchOption, OnErr, OnOk, [], false, bytes_eq};
+ghost use Rattle.std.specs.Prelude.{◌≡◌, ◌<◌, ◌≤◌, ◌+◌, ◌^◌, ◌||◌, ℕ, IfOk, IfSome, IsTrue, MatchOption, OnErr, OnOk, None, [], false, bytes_eq, nat_eq};
 ghost use Rattle.std.specs.List.{All};
 ghost use Rattle.std.specs.Result.{IsOk};
 ghost use Rattle.std.specs.Prelude.{insert, length, map, min, remove, slice_index_or, slice_set, string_bytes};
 ghost use Rattle.std.specs.Vec.{vec_capacity};
+ghost use Rattle.nd_model.specs.Cells.Running as running;
 ghost use Rattle.nd_model.specs.Book.Records as kept;
-ghost use Rattle.nd_model.specs.Book.Book.{Book, no_cell, Change, Insert, Move, Remove};
+ghost use Rattle.nd_model.specs.Book.Book.{Book, is_label, no_cell, Change, Insert, Move, Remove};
 ghost use Rattle.nd_model.specs.Book.Book as books;
 ghost use Rattle.nd_model.specs.Book.Entries.{entry_at, record_at, session_before, SharesFront};
 ghost use Rattle.nd_model.specs.Book.Stale.{CountsStale};
@@ -17,19 +18,10 @@ ghost use Rattle.nd_schedule.specs.Cells.Labels.{AreUsed};
 ghost use Rattle.nd_schedule.specs.Cells.Source.{sheet, cell_of, cells_of};
 ghost use Rattle.nd_schedule.specs.Cells.Shared.{each_of};
 ghost use Rattle.nd_schedule.specs.Schedule.Snapshot.{IsChangeAt, IsSnapshot, StandsBefore, names_in};
-ghost use Rattle.nd_schedule.specs.Schedule.Sweep.{
-  AreChanged,
-  AreFit,
-  AreMoved,
-  AreWords,
-  IsAt,
-  IsKept,
-  change_at,
-  changed,
-  fit_at,
-};
+ghost use Rattle.nd_schedule.specs.Schedule.Sweep.{AreChanged, AreFit, AreMoved, AreWords, IsAt, IsKept, change_at, changed, fit_at};
 
-use crate::cells::{FreeLabel, KeptCell, fresh_label, make_room, move_item};
+use crate::cells::{FreeLabel, KeptCell, fresh_label, move_item};
+use crate::schedule::ending::{make_rooms, put_one};
 use crate::schedule::moving::{Moved, move_down, move_up};
 use crate::schedule::runner::CellRunner;
 use crate::schedule::snapshots::{
@@ -41,11 +33,11 @@ use std::alloc::{AllocError, Global};
 use std::marker::Model;
 use std::rc::Rc;
 
-/// A list of cells, the inputs, the record of each cell's run, beside it its word, and snapshots of some places.
+/// A list of cells, what they are run by, the record of each cell's run, beside it its word, and snapshots of some places.
 #[derive(Drop)]
 pub struct Schedule<C: CellRunner> {
     pub(crate) cells: Vec<Rc<KeptCell>>,
-    pub(crate) inputs: C::Inputs,
+    pub(crate) world: C::World,
     pub(crate) records: Vec<Rc<C::Record>>,
     pub(crate) words: Vec<C::Word>,
     pub(crate) snapshots: Vec<Snapshot<C>>,
@@ -57,12 +49,12 @@ pub struct Schedule<C: CellRunner> {
 impl<C: CellRunner> Model for Schedule<C> {
     ghost Value = { Sheet };
 
-    ghost view = { λ n. sheet (cells_of n.cells.items) (C.given n.inputs) };
+    ghost view = { λ n. sheet (cells_of n.cells.items) (C.given n.world) };
 
     ghost invariant = { λ n. IsKept C.covers
-        (book_of (sheet (cells_of n.cells.items) (C.given n.inputs)))
+        (book_of (sheet (cells_of n.cells.items) (C.given n.world)))
         (each_of C.recorded n.records.items) n.words.items
-        × All (λ s. IsSnapshot (book_of (sheet (cells_of n.cells.items) (C.given n.inputs)))
+        × All (λ s. IsSnapshot (book_of (sheet (cells_of n.cells.items) (C.given n.world)))
         s.place (C.kept_session s.version) (map C.change_of s.pending.items))
         n.snapshots.items × AreUsed n.least (cells_of n.cells.items) };
 }
@@ -112,9 +104,9 @@ pub(crate) struct Front<C: CellRunner> {
     pub(crate) fresh: Vec<Snapshot<C>>,
 }
 
-/// What a sweep behind a cell that is gone gives.
+/// What an edit takes: the sweep behind its cell, and the snapshots that were made on the way to it.
 #[derive(Drop)]
-struct Away<C: CellRunner> {
+struct Edited<C: CellRunner> {
     swept: Swept<C>,
     fresh: Vec<Snapshot<C>>,
 }
@@ -126,14 +118,58 @@ struct Grown<C: CellRunner> {
     swept: Swept<C>,
 }
 
+/// What a sweep behind a new cell gives, and the snapshots that were made on the way.
+#[derive(Drop)]
+struct Added<C: CellRunner> {
+    grown: Grown<C>,
+    fresh: Vec<Snapshot<C>>,
+}
+
+/// A cell that stands nowhere yet, and a number below which each is the label of some cell, or its own.
+#[derive(Drop)]
+struct NewCell {
+    cell: Rc<KeptCell>,
+    next: usize,
+}
+
+/// What a sweep gathered, where it came to its end. The rest of its state is dropped.
+fn gathered<C: CellRunner>(
+    done: Result<(), AllocError>,
+    state: SweepState<C>,
+    noted: Vec<Noted<C>>,
+) -> Result<Swept<C>, AllocError>
+    ensures { IfOk result (λ s. IsOk done × (s.changed.items ≡ state.changed.items)
+        × (s.noted.items ≡ noted.items)) }
+{
+    done?;
+    Ok(Swept {
+        changed: state.changed,
+        noted,
+    })
+}
+
+/// What an edit takes behind which there is no cell. It takes no memory.
+fn no_sweep<C: CellRunner>(alloc: Global) -> Edited<C>
+    ensures changed { result.swept.changed.items ≡ [] }
+    ensures noted { result.swept.noted.items ≡ [] }
+    ensures fresh { result.fresh.items ≡ [] }
+{
+    let swept = Swept {
+        changed: Vec::new(alloc),
+        noted: Vec::new(alloc),
+    };
+    let fresh = Vec::new(alloc);
+    Edited { swept, fresh }
+}
+
 impl<C: CellRunner> Schedule<C> {
     /// A notebook without cells. It takes no memory.
-    pub fn new(alloc: Global, inputs: C::Inputs) -> Schedule<C>
-        ensures { result ≡ sheet [] (C.given inputs) }
+    pub fn new(alloc: Global, world: C::World) -> Schedule<C>
+        ensures { result ≡ sheet [] (C.given world) }
     {
         Schedule {
             cells: Vec::new(alloc),
-            inputs,
+            world,
             records: Vec::new(alloc),
             words: Vec::new(alloc),
             snapshots: Vec::new(alloc),
@@ -210,43 +246,79 @@ impl<C: CellRunner> Schedule<C> {
             (book_of (sheet (slice_set self.now.cells at (cell_of source.now)) self.now.given))
             meter.old meter.new }
     {
-        let change = C::no_change(self.alloc);
-        let word = C::change_word(&change);
-        let mut state = SweepState {
-            change,
-            word,
-            session,
-            since: at,
-            changed: Vec::new(self.alloc),
-        };
-        let mut noted = Vec::new(self.alloc);
-        run_again::<C>(
+        let mut state = self.begin(at, session);
+        let Ok(()) = run_again::<C>(
             self.alloc,
             meter,
             source,
             &self.records[at],
-            &self.inputs,
+            &self.world,
             at,
             &mut state,
-        )?;
-        sweep::<C>(
+        ) else {
+            drop(state);
+            return Err(AllocError);
+        };
+        let mut noted = Vec::new(self.alloc);
+        let done = sweep::<C>(
             self.alloc,
             meter,
             &self.cells,
             &self.records,
             &self.words,
-            &self.inputs,
+            &self.world,
             at + 1,
             self.cells.len(),
             at + 1,
             &self.snapshots,
             &mut state,
             &mut noted,
-        )?;
-        Ok(Swept {
-            changed: state.changed,
-            noted,
-        })
+        );
+        gathered::<C>(done, state, noted)
+    }
+
+    /// A cell of another text, with the label of the one at the place.
+    fn cell_with(&self, at: usize, text: &str) -> Result<Rc<KeptCell>, AllocError>
+        requires { at < length self.now.cells }
+        ensures label { IfOk result
+            (λ c. c.value.label ≡ (slice_index_or self.now.cells at no_cell).label) }
+        ensures text { IfOk result (λ c. string_bytes c.value.text ≡ text.now) }
+    {
+        let label = self.cells[at].label;
+        let text = String::from_str(self.alloc, text)?;
+        let cell = Rc::new(self.alloc, KeptCell { label, text })?;
+        Ok(cell)
+    }
+
+    /// Makes a session for the place, runs another cell over it, and sweeps over those behind.
+    fn swept_with(
+        &self,
+        meter: &mut Meter,
+        at: usize,
+        source: &KeptCell,
+    ) -> Result<Edited<C>, AllocError>
+        requires at { at < length self.now.cells }
+        requires label { source.now.label ≡ (slice_index_or self.now.cells at no_cell).label }
+        requires other { bytes_eq (string_bytes source.now.text)
+            (slice_index_or self.now.cells at no_cell).source ≡ false }
+        ensures changed { IfOk result (λ e. AreChanged (book_of self.now)
+            (book_of (sheet (slice_set self.now.cells at (cell_of source.now)) self.now.given))
+            at at (length self.now.cells)
+            (map (λ c. change_at c.place (C.recorded c.record.value)) e.swept.changed.items)) }
+        ensures fit { IfOk result (λ e. AreFit C.covers (length self.now.cells)
+            (map (λ c. fit_at c.place (C.recorded c.record.value) c.word) e.swept.changed.items)) }
+        ensures noted { IfOk result (λ e. All (λ n. IsChangeAt (book_of self.now)
+            (book_of (sheet (slice_set self.now.cells at (cell_of source.now)) self.now.given))
+            n.place n.now (C.change_of n.change)) e.swept.noted.items) }
+        ensures fresh { IfOk result (λ e. All (λ s. IsSnapshot (book_of self.now) s.place
+            (C.kept_session s.version) (map C.change_of s.pending.items)) e.fresh.items) }
+        ensures counts { CountsStale (book_of self.now)
+            (book_of (sheet (slice_set self.now.cells at (cell_of source.now)) self.now.given))
+            meter.old meter.new }
+    {
+        let Front { session, fresh } = self.front_before(at)?;
+        let swept = self.swept(meter, at, source, session)?;
+        Ok(Edited { swept, fresh })
     }
 
     /// Gives the cell at the place another text. It is refused for want of memory alone.
@@ -260,32 +332,29 @@ impl<C: CellRunner> Schedule<C> {
         if text == self.cells[at].text.as_str() {
             return Ok(());
         }
-        let label = self.cells[at].label;
-        let text = String::from_str(self.alloc, text)?;
-        let cell = Rc::new(self.alloc, KeptCell { label, text })?;
-        let Front { session, fresh } = self.front_before(at)?;
-        let Swept { changed, noted } = self.swept(meter, at, &cell, session)?;
+        let cell = self.cell_with(at, text)?;
+        let Edited { swept, fresh } = self.swept_with(meter, at, &cell)?;
         self.cells[at] = cell;
-        install::<C>(&mut self.records, &mut self.words, changed);
-        carry::<C>(self.alloc, &mut self.snapshots, fresh, noted, at);
+        install::<C>(&mut self.records, &mut self.words, swept.changed);
+        carry::<C>(self.alloc, &mut self.snapshots, fresh, swept.noted, at);
         Ok(())
     }
 
-    /// Sweeps over all cells, over other inputs.
-    fn swept_over(&self, meter: &mut Meter, inputs: &C::Inputs) -> Result<Swept<C>, AllocError>
+    /// Sweeps over all cells, by other inputs or another rule.
+    fn swept_over(&self, meter: &mut Meter, world: &C::World) -> Result<Swept<C>, AllocError>
         ensures changed { IfOk result (λ s. AreChanged (book_of self.now)
-            (book_of (sheet self.now.cells (C.given inputs.now))) 0 0 (length self.now.cells)
+            (book_of (sheet self.now.cells (C.given world.now))) 0 0 (length self.now.cells)
             (map (λ c. change_at c.place (C.recorded c.record.value)) s.changed.items)) }
         ensures fit { IfOk result (λ s. AreFit C.covers (length self.now.cells)
             (map (λ c. fit_at c.place (C.recorded c.record.value) c.word) s.changed.items)) }
         ensures noted { IfOk result (λ s. All (λ n. IsChangeAt (book_of self.now)
-            (book_of (sheet self.now.cells (C.given inputs.now))) n.place n.now
+            (book_of (sheet self.now.cells (C.given world.now))) n.place n.now
             (C.change_of n.change)) s.noted.items) }
         ensures counts { CountsStale (book_of self.now)
-            (book_of (sheet self.now.cells (C.given inputs.now))) meter.old meter.new }
+            (book_of (sheet self.now.cells (C.given world.now))) meter.old meter.new }
     {
         let session = C::empty(self.alloc)?;
-        let change = C::input_change(self.alloc, &self.inputs, inputs)?;
+        let change = C::world_change(self.alloc, &self.world, world)?;
         let word = C::change_word(&change);
         let mut state = SweepState {
             change,
@@ -295,38 +364,35 @@ impl<C: CellRunner> Schedule<C> {
             changed: Vec::new(self.alloc),
         };
         let mut noted = Vec::new(self.alloc);
-        sweep::<C>(
+        let done = sweep::<C>(
             self.alloc,
             meter,
             &self.cells,
             &self.records,
             &self.words,
-            inputs,
+            world,
             0,
             self.cells.len(),
             0,
             &self.snapshots,
             &mut state,
             &mut noted,
-        )?;
-        Ok(Swept {
-            changed: state.changed,
-            noted,
-        })
+        );
+        gathered::<C>(done, state, noted)
     }
 
-    /// Takes these inputs in the place of the present ones. It is refused for want of memory alone.
-    pub fn set_inputs(&mut self, meter: &mut Meter, inputs: C::Inputs) -> Result<(), AllocError>
-        ensures ok { OnOk result (self.new ≡ sheet self.old.cells (C.given inputs)) }
+    /// Takes these inputs and this rule in the place of the present ones. It is refused for want of memory alone.
+    pub fn set_world(&mut self, meter: &mut Meter, world: C::World) -> Result<(), AllocError>
+        ensures ok { OnOk result (self.new ≡ sheet self.old.cells (C.given world)) }
         ensures err { OnErr result (self.new ≡ self.old) }
         ensures counts { CountsStale (book_of self.old)
-            (book_of (sheet self.old.cells (C.given inputs))) meter.old meter.new }
+            (book_of (sheet self.old.cells (C.given world))) meter.old meter.new }
     {
-        let Swept { changed, noted } = self.swept_over(meter, &inputs)?;
+        let Swept { changed, noted } = self.swept_over(meter, &world)?;
         install::<C>(&mut self.records, &mut self.words, changed);
         let fresh = Vec::new(self.alloc);
         carry::<C>(self.alloc, &mut self.snapshots, fresh, noted, 0);
-        self.inputs = inputs;
+        self.world = world;
         Ok(())
     }
 
@@ -362,29 +428,26 @@ impl<C: CellRunner> Schedule<C> {
             changed: Vec::new(self.alloc),
         };
         let mut noted = Vec::new(self.alloc);
-        sweep::<C>(
+        let done = sweep::<C>(
             self.alloc,
             meter,
             &self.cells,
             &self.records,
             &self.words,
-            &self.inputs,
+            &self.world,
             at + 1,
             self.cells.len(),
             at,
             &self.snapshots,
             &mut state,
             &mut noted,
-        )?;
-        Ok(Swept {
-            changed: state.changed,
-            noted,
-        })
+        );
+        gathered::<C>(done, state, noted)
     }
 
     /// Sweeps over the cells behind one, without what that one did. Behind the last cell there is nothing to do, and no memory is
     /// taken.
-    fn swept_away(&self, meter: &mut Meter, at: usize) -> Result<Away<C>, AllocError>
+    fn swept_away(&self, meter: &mut Meter, at: usize) -> Result<Edited<C>, AllocError>
         requires { at < length self.now.cells }
         ensures changed { IfOk result (λ v. AreChanged (book_of self.now)
             (book_of (sheet (remove self.now.cells at) self.now.given)) (at + 1) at
@@ -402,15 +465,11 @@ impl<C: CellRunner> Schedule<C> {
             (book_of (sheet (remove self.now.cells at) self.now.given)) meter.old meter.new }
     {
         if self.cells.len() == at + 1 {
-            let changed = Vec::new(self.alloc);
-            let noted = Vec::new(self.alloc);
-            let fresh = Vec::new(self.alloc);
-            let swept = Swept { changed, noted };
-            return Ok(Away { swept, fresh });
+            return Ok(no_sweep::<C>(self.alloc));
         }
         let Front { session, fresh } = self.front_before(at)?;
         let swept = self.swept_without(meter, at, session)?;
-        Ok(Away { swept, fresh })
+        Ok(Edited { swept, fresh })
     }
 
     /// Takes the cell at the place out. It is refused for want of memory alone, and at the last cell never.
@@ -422,14 +481,13 @@ impl<C: CellRunner> Schedule<C> {
         ensures counts { CountsStale (book_of self.old)
             (book_of (edited_sheet (Remove at) self.old)) meter.old meter.new }
     {
-        let Away { swept, fresh } = self.swept_away(meter, at)?;
-        let Swept { changed, noted } = swept;
-        install::<C>(&mut self.records, &mut self.words, changed);
+        let Edited { swept, fresh } = self.swept_away(meter, at)?;
+        install::<C>(&mut self.records, &mut self.words, swept.changed);
         self.least = self.least.min(self.cells[at].label as usize);
         let _cell = self.cells.remove(at);
         let _record = self.records.remove(at);
         let _word = self.words.remove(at);
-        carry::<C>(self.alloc, &mut self.snapshots, fresh, noted, at);
+        carry::<C>(self.alloc, &mut self.snapshots, fresh, swept.noted, at);
         Ok(())
     }
 
@@ -445,7 +503,7 @@ impl<C: CellRunner> Schedule<C> {
         requires session { StandsBefore (book_of self.now) at (C.session_of session) }
         requires label { source.now.label ≡ books.fresh_label self.now.cells }
         ensures made { IfOk result (λ g. C.recorded g.new.record.value
-            ≡ record_at (book_of self.now).inputs (entry_at
+            ≡ record_at (book_of self.now).world (entry_at
             (book_of (sheet (insert self.now.cells at (cell_of source.now)) self.now.given)) at)) }
         ensures worded { IfOk result
             (λ g. IsWordOf C.covers g.new.word (C.recorded g.new.record.value)) }
@@ -462,36 +520,119 @@ impl<C: CellRunner> Schedule<C> {
             (book_of (sheet (insert self.now.cells at (cell_of source.now)) self.now.given))
             meter.old meter.new }
     {
-        let change = C::no_change(self.alloc);
-        let word = C::change_word(&change);
-        let mut state = SweepState {
-            change,
-            word,
-            session,
-            since: at,
-            changed: Vec::new(self.alloc),
+        let mut state = self.begin(at, session);
+        let Ok(new) = run_new::<C>(self.alloc, meter, source, &self.world, &mut state) else {
+            drop(state);
+            return Err(AllocError);
         };
         let mut noted = Vec::new(self.alloc);
-        let new = run_new::<C>(self.alloc, meter, source, &self.inputs, &mut state)?;
-        sweep::<C>(
+        let done = sweep::<C>(
             self.alloc,
             meter,
             &self.cells,
             &self.records,
             &self.words,
-            &self.inputs,
+            &self.world,
             at,
             self.cells.len(),
             at + 1,
             &self.snapshots,
             &mut state,
             &mut noted,
-        )?;
-        let swept = Swept {
-            changed: state.changed,
-            noted,
-        };
+        );
+        let swept = gathered::<C>(done, state, noted)?;
         Ok(Grown { new, swept })
+    }
+
+    /// Makes a session for the place, runs a new cell over it, and sweeps over the cells from there on.
+    fn run_between(
+        &self,
+        meter: &mut Meter,
+        at: usize,
+        source: &KeptCell,
+    ) -> Result<Added<C>, AllocError>
+        requires at { at ≤ length self.now.cells }
+        requires label { source.now.label ≡ books.fresh_label self.now.cells }
+        ensures made { IfOk result (λ a. C.recorded a.grown.new.record.value
+            ≡ record_at (book_of self.now).world (entry_at
+            (book_of (sheet (insert self.now.cells at (cell_of source.now)) self.now.given)) at)) }
+        ensures worded { IfOk result
+            (λ a. IsWordOf C.covers a.grown.new.word (C.recorded a.grown.new.record.value)) }
+        ensures changed { IfOk result (λ a. AreChanged (book_of self.now)
+            (book_of (sheet (insert self.now.cells at (cell_of source.now)) self.now.given)) at
+            (at + 1) (length self.now.cells)
+            (map (λ c. change_at c.place (C.recorded c.record.value))
+            a.grown.swept.changed.items)) }
+        ensures fit { IfOk result (λ a. AreFit C.covers (length self.now.cells)
+            (map (λ c. fit_at c.place (C.recorded c.record.value) c.word)
+            a.grown.swept.changed.items)) }
+        ensures noted { IfOk result (λ a. All (λ n. IsChangeAt (book_of self.now)
+            (book_of (sheet (insert self.now.cells at (cell_of source.now)) self.now.given))
+            n.place n.now (C.change_of n.change)) a.grown.swept.noted.items) }
+        ensures fresh { IfOk result (λ a. All (λ s. IsSnapshot (book_of self.now) s.place
+            (C.kept_session s.version) (map C.change_of s.pending.items)) a.fresh.items) }
+        ensures counts { CountsStale (book_of self.now)
+            (book_of (sheet (insert self.now.cells at (cell_of source.now)) self.now.given))
+            meter.old meter.new }
+    {
+        let Front { session, fresh } = self.front_before(at)?;
+        let grown = self.swept_new(meter, at, source, session)?;
+        Ok(Added { grown, fresh })
+    }
+
+    /// Puts a new cell in front of the one at the place. It is refused for want of memory alone.
+    fn insert_between(
+        &mut self,
+        meter: &mut Meter,
+        at: usize,
+        cell: Rc<KeptCell>,
+        next: usize,
+    ) -> Result<(), AllocError>
+        requires at { at ≤ length self.old.cells }
+        requires label { cell.value.label ≡ books.fresh_label self.old.cells }
+        requires next { (n : ℕ) → n < next
+            → IsTrue (is_label n self.old.cells || nat_eq n cell.value.label) }
+        ensures ok { OnOk result (self.new ≡ sheet (insert self.old.cells at (cell_of cell.value))
+            self.old.given) }
+        ensures err { OnErr result (self.new ≡ self.old) }
+        ensures counts { CountsStale (book_of self.old)
+            (book_of (sheet (insert self.old.cells at (cell_of cell.value)) self.old.given))
+            meter.old meter.new }
+    {
+        let added = self.run_between(meter, at, &cell)?;
+        let Ok(()) = make_rooms::<C>(&mut self.cells, &mut self.records, &mut self.words, at) else {
+            drop(added);
+            drop(cell);
+            return Err(AllocError);
+        };
+        let Added { grown, fresh } = added;
+        let Grown { new, swept } = grown;
+        install::<C>(&mut self.records, &mut self.words, swept.changed);
+        put_one::<C>(
+            &mut self.cells,
+            &mut self.records,
+            &mut self.words,
+            at,
+            cell,
+            new,
+        );
+        self.least = next;
+        carry::<C>(self.alloc, &mut self.snapshots, fresh, swept.noted, at);
+        Ok(())
+    }
+
+    /// A cell of a text, with a label that no other has.
+    fn new_cell(&self, text: &str) -> Result<NewCell, AllocError>
+        ensures label { IfOk result
+            (λ v. v.cell.value.label ≡ books.fresh_label self.now.cells) }
+        ensures text { IfOk result (λ v. string_bytes v.cell.value.text ≡ text.now) }
+        ensures next { IfOk result (λ v. (n : ℕ) → n < v.next
+            → IsTrue (is_label n self.now.cells || nat_eq n v.cell.value.label)) }
+    {
+        let FreeLabel { label, next } = fresh_label(self.alloc, &self.cells, self.least)?;
+        let text = String::from_str(self.alloc, text)?;
+        let cell = Rc::new(self.alloc, KeptCell { label, text })?;
+        Ok(NewCell { cell, next })
     }
 
     /// Puts a new cell at the place, which may be behind the last one. It is refused for want of memory alone.
@@ -502,26 +643,11 @@ impl<C: CellRunner> Schedule<C> {
         ensures counts { CountsStale (book_of self.old)
             (book_of (edited_sheet (Insert at text.now) self.old)) meter.old meter.new }
     {
-        let FreeLabel { label, next } = fresh_label(self.alloc, &self.cells, self.least)?;
-        let text = String::from_str(self.alloc, text)?;
-        let cell = Rc::new(self.alloc, KeptCell { label, text })?;
+        let NewCell { cell, next } = self.new_cell(text)?;
         if at == self.cells.len() {
             return self.append(meter, cell, next);
         }
-        let Front { session, fresh } = self.front_before(at)?;
-        let Grown { new, swept } = self.swept_new(meter, at, &cell, session)?;
-        let New { record, word } = new;
-        let Swept { changed, noted } = swept;
-        make_room(&mut self.cells, at, at, 1)?;
-        make_room(&mut self.records, at, at, 1)?;
-        make_room(&mut self.words, at, at, 1)?;
-        install::<C>(&mut self.records, &mut self.words, changed);
-        let _cell = self.cells.insert(at, cell);
-        let _record = self.records.insert(at, record);
-        let _word = self.words.insert(at, word);
-        self.least = next;
-        carry::<C>(self.alloc, &mut self.snapshots, fresh, noted, at);
-        Ok(())
+        self.insert_between(meter, at, cell, next)
     }
 }
 
@@ -559,11 +685,14 @@ impl<C: CellRunner> Schedule<C> {
         requires at { at ≤ length self.now.cells }
         requires session { StandsBefore (book_of self.now) at (C.session_of session) }
         ensures at { (new : Book) → SharesFront at (book_of self.now) new
-            → (book_of self.now).inputs ≡ new.inputs
+            → (book_of self.now).world ≡ new.world
             → IsAt (book_of self.now) new at at (C.change_of result.change)
             (C.session_of result.session) result.since }
         ensures covered { IsWordOfChange C.covers result.word (C.change_of result.change) }
         ensures changed { result.changed.items ≡ [] }
+        ensures none { (k : running.Key) → C.change_of result.change k ≡ None }
+        ensures stands { StandsBefore (book_of self.now) at (C.session_of result.session) }
+        ensures since { result.since ≡ at }
     {
         let change = C::no_change(self.alloc);
         let word = C::change_word(&change);
@@ -593,10 +722,10 @@ impl<C: CellRunner> Schedule<C> {
             (map (λ c. change_at c.place (C.recorded c.record.value)) m.between.items)
             (map (λ c. change_at c.place (C.recorded c.record.value)) m.behind.items)) }
         ensures made { IfOk result (λ m. MatchOption m.made
-            (record_at (book_of self.now).inputs (entry_at (book_of self.now) from)
-            ≡ record_at (book_of self.now).inputs
+            (record_at (book_of self.now).world (entry_at (book_of self.now) from)
+            ≡ record_at (book_of self.now).world
             (entry_at (book_of (edited_sheet (Move from to) self.now)) to))
-            (λ n. C.recorded n.record.value ≡ record_at (book_of self.now).inputs
+            (λ n. C.recorded n.record.value ≡ record_at (book_of self.now).world
             (entry_at (book_of (edited_sheet (Move from to) self.now)) to))) }
         ensures worded { IfOk result (λ m. IfSome m.made
             (λ n. IsWordOf C.covers n.word (C.recorded n.record.value))) }
@@ -618,7 +747,7 @@ impl<C: CellRunner> Schedule<C> {
                 &self.cells,
                 &self.records,
                 &self.words,
-                &self.inputs,
+                &self.world,
                 from,
                 to,
                 &self.snapshots,
@@ -631,7 +760,7 @@ impl<C: CellRunner> Schedule<C> {
             &self.cells,
             &self.records,
             &self.words,
-            &self.inputs,
+            &self.world,
             from,
             to,
             &self.snapshots,
@@ -653,19 +782,14 @@ impl<C: CellRunner> Schedule<C> {
         }
         let first = from.min(to);
         let Front { session, fresh } = self.front_before(first)?;
-        let Moved {
-            made,
-            between,
-            behind,
-            noted,
-        } = self.swept_moved(meter, from, to, session)?;
-        install::<C>(&mut self.records, &mut self.words, between);
-        install::<C>(&mut self.records, &mut self.words, behind);
-        put_made::<C>(&mut self.records, &mut self.words, from, made);
+        let moved = self.swept_moved(meter, from, to, session)?;
+        install::<C>(&mut self.records, &mut self.words, moved.between);
+        install::<C>(&mut self.records, &mut self.words, moved.behind);
+        put_made::<C>(&mut self.records, &mut self.words, from, moved.made);
         move_item(&mut self.cells, from, to);
         move_item(&mut self.records, from, to);
         move_item(&mut self.words, from, to);
-        carry::<C>(self.alloc, &mut self.snapshots, fresh, noted, first);
+        carry::<C>(self.alloc, &mut self.snapshots, fresh, moved.noted, first);
         Ok(())
     }
 }

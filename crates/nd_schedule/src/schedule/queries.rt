@@ -19,11 +19,11 @@ impl<C: CellRunner> Schedule<C> {
         self.cells.len()
     }
 
-    /// The inputs.
-    pub fn inputs(&self) -> &C::Inputs
+    /// What the cells are run by.
+    pub fn world(&self) -> &C::World
         ensures { C.given result.now ≡ self.now.given }
     {
-        &self.inputs
+        &self.world
     }
 
     /// The text of the cell at the place.

@@ -9,7 +9,7 @@ ghost use Rattle.nd_model.specs.Cells.Cell.{cell, session_after};
 ghost use Rattle.nd_model.specs.Cells.Footprint.{HasNone, replayed, with_effects};
 ghost use Rattle.nd_model.specs.Book.Records.{record_of, StillHolds};
 ghost use Rattle.nd_model.specs.Book.Records as records;
-ghost use Rattle.nd_model.specs.Book.Notebook.{inputs_in};
+ghost use Rattle.nd_model.specs.Book.Notebook.{Setting, world_in};
 ghost use Rattle.nd_change.specs.Change as deltas;
 ghost use Rattle.nd_change.specs.Change.{Fits};
 ghost use Rattle.nd_change.specs.Steps.{Comes, Follows, IsPutOver, IsWordOf, IsWordOfChange, Keeps, Leaves};
@@ -26,7 +26,7 @@ pub trait CellRunner: Drop {
 
     type Record: Drop;
 
-    type Inputs: Drop;
+    type World: Drop;
 
     type Change: Drop;
 
@@ -41,7 +41,7 @@ pub trait CellRunner: Drop {
 
     ghost recorded: { Self.Record → records.Record };
 
-    ghost given: { Self.Inputs → List (List ℕ × running.Source) };
+    ghost given: { Self.World → Setting };
 
     ghost change_of: { Self.Change → deltas.Change };
 
@@ -60,30 +60,30 @@ pub trait CellRunner: Drop {
     fn run(
         meter: &mut Meter,
         session: &mut Self::Session,
-        inputs: &Self::Inputs,
+        world: &Self::World,
         label: u64,
         text: &str,
     ) -> Result<Self::Record, AllocError>
         requires { HasNone label (session_of session.old) }
         ensures made { IfOk result
-            (λ r. recorded r ≡ record_of label (reading text.now) (inputs_in (given inputs.now))
+            (λ r. recorded r ≡ record_of label (reading text.now) (world_in (given world.now))
             (session_of session.old)) }
         ensures after { OnOk result
             (session_of session.new
-            ≡ session_after (cell label (reading text.now) (inputs_in (given inputs.now))
+            ≡ session_after (cell label (reading text.now) (world_in (given world.now))
             (session_of session.old))) }
         ensures counted { meter.new ≡ min (meter.old + 1) (2 ^ 64 - 1) };
 
-    /// Whether a record may stand for a run of its cell over the session and these inputs.
-    fn still_holds(made: &Self::Record, session: &Self::Session, inputs: &Self::Inputs) -> bool
+    /// Whether a record may stand for a run of its cell over the session, by the inputs and the rule.
+    fn still_holds(made: &Self::Record, session: &Self::Session, world: &Self::World) -> bool
         requires { HasNone (recorded made.now).label (session_of session.now) }
         ensures { IsTrue result
             ↔ StillHolds (recorded made.now) (session_of session.now)
-            (inputs_in (given inputs.now)) };
+            (world_in (given world.now)) };
 
     /// Does to the session what the record says that the run did. After want of memory the session is only fit to be dropped.
     fn replay(made: &Self::Record, session: &mut Self::Session) -> Result<(), AllocError>
-        requires { (i : running.Inputs)
+        requires { (i : running.World)
             × StillHolds (recorded made.now) (session_of session.old) i }
         ensures { OnOk result
             (session_of session.new
@@ -100,14 +100,14 @@ pub trait CellRunner: Drop {
     fn no_change(alloc: Global) -> Self::Change
         ensures { (k : running.Key) → change_of result k ≡ None };
 
-    /// What other inputs change, by themselves.
-    fn input_change(
+    /// What other inputs and another rule change, by themselves.
+    fn world_change(
         alloc: Global,
-        old: &Self::Inputs,
-        new: &Self::Inputs,
+        old: &Self::World,
+        new: &Self::World,
     ) -> Result<Self::Change, AllocError>
         ensures { IfOk result (λ c. (s : sessions.Session) → deltas.IsOver (change_of c) s
-            (inputs_in (given old.now)) s (inputs_in (given new.now))) };
+            (world_in (given old.now)) s (world_in (given new.now))) };
 
     /// A word that covers what the run read and did.
     fn word(made: &Self::Record) -> Self::Word
@@ -136,12 +136,12 @@ pub trait CellRunner: Drop {
         before: &Self::Record,
         made: &Self::Record,
         session: &Self::Session,
-        inputs: &Self::Inputs,
+        world: &Self::World,
         change: &mut Self::Change,
     ) -> Result<(), AllocError>
         ensures { OnOk result
             (Follows (change_of change.old) (change_of change.new) (recorded before.now)
-            (recorded made.now) (session_of session.now) (inputs_in (given inputs.now))) };
+            (recorded made.now) (session_of session.now) (world_in (given world.now))) };
 
     /// Adds to the change what a run did whose cell is gone. The session is the one in its place now.
     fn went(

@@ -9,7 +9,7 @@ ghost use Rattle.nd_model.specs.Cells.Footprint.{HasNone};
 ghost use Rattle.nd_model.specs.Book.Records.{record_of};
 ghost use Rattle.nd_model.specs.Book.Stale.{CountsStale};
 ghost use Rattle.nd_model.specs.Book.Book.{Book};
-ghost use Rattle.nd_model.specs.Book.Notebook.{inputs_in};
+ghost use Rattle.nd_model.specs.Book.Notebook.{world_in};
 ghost use Rattle.nd_schedule.specs.Cells.Source.{cells_of};
 ghost use Rattle.nd_schedule.specs.Cells.Shared.{each_of};
 ghost use Rattle.nd_change.specs.Steps.{Comes, Follows, IsWordOf, IsWordOfChange};
@@ -70,7 +70,7 @@ pub(crate) fn run_again<C: CellRunner>(
     meter: &mut Meter,
     source: &KeptCell,
     before: &C::Record,
-    inputs: &C::Inputs,
+    world: &C::World,
     i: usize,
     state: &mut SweepState<C>,
 ) -> Result<(), AllocError>
@@ -78,12 +78,12 @@ pub(crate) fn run_again<C: CellRunner>(
     requires fits { i + 1 < 2 ^ 64 }
     ensures after { OnOk result (C.session_of state.new.session
         ≡ session_after (cell source.now.label (reading (string_bytes source.now.text))
-        (inputs_in (C.given inputs.now)) (C.session_of state.old.session))) }
+        (world_in (C.given world.now)) (C.session_of state.old.session))) }
     ensures follows { OnOk result (Follows (C.change_of state.old.change)
         (C.change_of state.new.change) (C.recorded before.now)
         (record_of source.now.label (reading (string_bytes source.now.text))
-        (inputs_in (C.given inputs.now)) (C.session_of state.old.session))
-        (C.session_of state.new.session) (inputs_in (C.given inputs.now))) }
+        (world_in (C.given world.now)) (C.session_of state.old.session))
+        (C.session_of state.new.session) (world_in (C.given world.now))) }
     ensures since { OnOk result (state.new.since ≡ i + 1) }
     ensures word { OnOk result (IsWordOfChange C.covers state.new.word
         (C.change_of state.new.change)) }
@@ -91,7 +91,7 @@ pub(crate) fn run_again<C: CellRunner>(
         (map (λ c. change_at c.place (C.recorded c.record.value)) state.new.changed.items
         ≡ map (λ c. change_at c.place (C.recorded c.record.value)) state.old.changed.items
         ++ change_at i (record_of source.now.label (reading (string_bytes source.now.text))
-        (inputs_in (C.given inputs.now)) (C.session_of state.old.session)) ∷ []) }
+        (world_in (C.given world.now)) (C.session_of state.old.session)) ∷ []) }
     ensures fit { OnOk result ((n : ℕ) → i < n → AreFit C.covers n
         (map (λ c. fit_at c.place (C.recorded c.record.value) c.word) state.old.changed.items)
         → AreFit C.covers n
@@ -101,11 +101,11 @@ pub(crate) fn run_again<C: CellRunner>(
     let made = C::run(
         meter,
         &mut state.session,
-        inputs,
+        world,
         source.label,
         source.text.as_str(),
     )?;
-    C::rerun(before, &made, &state.session, inputs, &mut state.change)?;
+    C::rerun(before, &made, &state.session, world, &mut state.change)?;
     state.word = C::change_word(&state.change);
     state.since = i + 1;
     let word = C::word(&made);
@@ -130,18 +130,18 @@ pub(crate) fn run_new<C: CellRunner>(
     alloc: Global,
     meter: &mut Meter,
     source: &KeptCell,
-    inputs: &C::Inputs,
+    world: &C::World,
     state: &mut SweepState<C>,
 ) -> Result<New<C>, AllocError>
     requires none { HasNone source.now.label (C.session_of state.old.session) }
     ensures after { OnOk result (C.session_of state.new.session
         ≡ session_after (cell source.now.label (reading (string_bytes source.now.text))
-        (inputs_in (C.given inputs.now)) (C.session_of state.old.session))) }
+        (world_in (C.given world.now)) (C.session_of state.old.session))) }
     ensures comes { IfOk result (λ n. Comes (C.change_of state.old.change)
         (C.change_of state.new.change) (C.recorded n.record.value) (C.session_of state.new.session)) }
     ensures made { IfOk result (λ n. C.recorded n.record.value
         ≡ record_of source.now.label (reading (string_bytes source.now.text))
-        (inputs_in (C.given inputs.now)) (C.session_of state.old.session)) }
+        (world_in (C.given world.now)) (C.session_of state.old.session)) }
     ensures worded { IfOk result (λ n. IsWordOf C.covers n.word (C.recorded n.record.value)) }
     ensures word { OnOk result (IsWordOfChange C.covers state.new.word
         (C.change_of state.new.change)) }
@@ -152,7 +152,7 @@ pub(crate) fn run_new<C: CellRunner>(
     let made = C::run(
         meter,
         &mut state.session,
-        inputs,
+        world,
         source.label,
         source.text.as_str(),
     )?;
@@ -170,7 +170,7 @@ pub(crate) fn visit<C: CellRunner>(
     cells: &[Rc<KeptCell>],
     records: &[Rc<C::Record>],
     words: &[C::Word],
-    inputs: &C::Inputs,
+    world: &C::World,
     i: usize,
     state: &mut SweepState<C>,
 ) -> Result<(), AllocError>
@@ -179,14 +179,14 @@ pub(crate) fn visit<C: CellRunner>(
     requires word { i < length words.now }
     requires at { (old : Book) × (new : Book) × (j : ℕ)
         × IsFrame old new i j (i + 1) (cells_of cells.now) (each_of C.recorded records.now)
-        (inputs_in (C.given inputs.now))
+        (world_in (C.given world.now))
         × IsAt old new i j (C.change_of state.old.change) (C.session_of state.old.session)
         state.old.since }
     requires words { AreWords C.covers words.now (each_of C.recorded records.now) }
     requires covered { IsWordOfChange C.covers state.old.word (C.change_of state.old.change) }
     ensures at { OnOk result ((old new : Book) (j : ℕ)
         → IsFrame old new i j (i + 1) (cells_of cells.now) (each_of C.recorded records.now)
-        (inputs_in (C.given inputs.now))
+        (world_in (C.given world.now))
         → IsAt old new i j (C.change_of state.old.change) (C.session_of state.old.session)
         state.old.since
         → IsAt old new (i + 1) (j + 1) (C.change_of state.new.change)
@@ -195,7 +195,7 @@ pub(crate) fn visit<C: CellRunner>(
         (C.change_of state.new.change)) }
     ensures changed { OnOk result ((old new : Book) (j from first : ℕ)
         → IsFrame old new i j (i + 1) (cells_of cells.now) (each_of C.recorded records.now)
-        (inputs_in (C.given inputs.now))
+        (world_in (C.given world.now))
         → IsAt old new i j (C.change_of state.old.change) (C.session_of state.old.session)
         state.old.since → from ≤ i → j ≡ first + (i - from)
         → AreChanged old new from first i
@@ -208,7 +208,7 @@ pub(crate) fn visit<C: CellRunner>(
         (map (λ c. fit_at c.place (C.recorded c.record.value) c.word) state.new.changed.items)) }
     ensures counts { (old new : Book) (j before : ℕ)
         → IsFrame old new i j (i + 1) (cells_of cells.now) (each_of C.recorded records.now)
-        (inputs_in (C.given inputs.now))
+        (world_in (C.given world.now))
         → IsAt old new i j (C.change_of state.old.change) (C.session_of state.old.session)
         state.old.since
         → CountsFront old new j before meter.old → CountsFront old new (j + 1) before meter.new }
@@ -223,7 +223,7 @@ pub(crate) fn visit<C: CellRunner>(
         return Ok(());
     }
     catch_up::<C>(records, &mut state.session, state.since, i)?;
-    run_again::<C>(alloc, meter, &cells[i], made, inputs, i, state)
+    run_again::<C>(alloc, meter, &cells[i], made, world, i, state)
 }
 
 /// Goes past the cells from a place up to another where no snapshot stands between. Once the change has nothing left, no cell is looked at.
@@ -233,7 +233,7 @@ fn sweep_between<C: CellRunner>(
     cells: &[Rc<KeptCell>],
     records: &[Rc<C::Record>],
     words: &[C::Word],
-    inputs: &C::Inputs,
+    world: &C::World,
     i: usize,
     to: usize,
     state: &mut SweepState<C>,
@@ -244,14 +244,14 @@ fn sweep_between<C: CellRunner>(
     requires places { to ≤ length words.now }
     requires at { (old : Book) × (new : Book) × (j : ℕ)
         × IsFrame old new i j to (cells_of cells.now) (each_of C.recorded records.now)
-        (inputs_in (C.given inputs.now))
+        (world_in (C.given world.now))
         × IsAt old new i j (C.change_of state.old.change) (C.session_of state.old.session)
         state.old.since }
     requires words { AreWords C.covers words.now (each_of C.recorded records.now) }
     requires covered { IsWordOfChange C.covers state.old.word (C.change_of state.old.change) }
     ensures at { OnOk result ((old new : Book) (j : ℕ)
         → IsFrame old new i j to (cells_of cells.now) (each_of C.recorded records.now)
-        (inputs_in (C.given inputs.now))
+        (world_in (C.given world.now))
         → IsAt old new i j (C.change_of state.old.change) (C.session_of state.old.session)
         state.old.since
         → IsAt old new to (j + (to - i)) (C.change_of state.new.change)
@@ -260,7 +260,7 @@ fn sweep_between<C: CellRunner>(
         (C.change_of state.new.change)) }
     ensures changed { OnOk result ((old new : Book) (j from first : ℕ)
         → IsFrame old new i j to (cells_of cells.now) (each_of C.recorded records.now)
-        (inputs_in (C.given inputs.now))
+        (world_in (C.given world.now))
         → IsAt old new i j (C.change_of state.old.change) (C.session_of state.old.session)
         state.old.since → from ≤ i → j ≡ first + (i - from)
         → AreChanged old new from first i
@@ -273,14 +273,14 @@ fn sweep_between<C: CellRunner>(
         (map (λ c. fit_at c.place (C.recorded c.record.value) c.word) state.new.changed.items)) }
     ensures counted { OnOk result ((old new : Book) (j before : ℕ)
         → IsFrame old new i j to (cells_of cells.now) (each_of C.recorded records.now)
-        (inputs_in (C.given inputs.now))
+        (world_in (C.given world.now))
         → IsAt old new i j (C.change_of state.old.change) (C.session_of state.old.session)
         state.old.since
         → CountsFront old new j before meter.old
         → CountsFront old new (j + (to - i)) before meter.new) }
     ensures counts { (old new : Book) (j before : ℕ)
         → IsFrame old new i j to (cells_of cells.now) (each_of C.recorded records.now)
-        (inputs_in (C.given inputs.now))
+        (world_in (C.given world.now))
         → IsAt old new i j (C.change_of state.old.change) (C.session_of state.old.session)
         state.old.since
         → CountsFront old new j before meter.old → CountsStale old new before meter.new }
@@ -289,7 +289,7 @@ fn sweep_between<C: CellRunner>(
         if C::is_empty(&state.change) {
             return Ok(());
         }
-        visit::<C>(alloc, meter, cells, records, words, inputs, k, state)?;
+        visit::<C>(alloc, meter, cells, records, words, world, k, state)?;
     }
     Ok(())
 }
@@ -359,7 +359,7 @@ pub(crate) fn sweep<C: CellRunner>(
     cells: &[Rc<KeptCell>],
     records: &[Rc<C::Record>],
     words: &[C::Word],
-    inputs: &C::Inputs,
+    world: &C::World,
     i: usize,
     to: usize,
     now: usize,
@@ -374,7 +374,7 @@ pub(crate) fn sweep<C: CellRunner>(
     requires places { to ≤ length words.now }
     requires at { (old : Book) × (new : Book) × (j : ℕ)
         × IsFrame old new i j to (cells_of cells.now) (each_of C.recorded records.now)
-        (inputs_in (C.given inputs.now))
+        (world_in (C.given world.now))
         × IsAt old new i j (C.change_of state.old.change) (C.session_of state.old.session)
         state.old.since }
     requires words { AreWords C.covers words.now (each_of C.recorded records.now) }
@@ -384,7 +384,7 @@ pub(crate) fn sweep<C: CellRunner>(
         (map C.change_of s.pending.items)) snapshots.now }
     ensures at { OnOk result ((old new : Book) (j : ℕ)
         → IsFrame old new i j to (cells_of cells.now) (each_of C.recorded records.now)
-        (inputs_in (C.given inputs.now))
+        (world_in (C.given world.now))
         → IsAt old new i j (C.change_of state.old.change) (C.session_of state.old.session)
         state.old.since
         → IsAt old new to (j + (to - i)) (C.change_of state.new.change)
@@ -393,7 +393,7 @@ pub(crate) fn sweep<C: CellRunner>(
         (C.change_of state.new.change)) }
     ensures changed { OnOk result ((old new : Book) (j from first : ℕ)
         → IsFrame old new i j to (cells_of cells.now) (each_of C.recorded records.now)
-        (inputs_in (C.given inputs.now))
+        (world_in (C.given world.now))
         → IsAt old new i j (C.change_of state.old.change) (C.session_of state.old.session)
         state.old.since → from ≤ i → j ≡ first + (i - from)
         → AreChanged old new from first i
@@ -406,21 +406,21 @@ pub(crate) fn sweep<C: CellRunner>(
         (map (λ c. fit_at c.place (C.recorded c.record.value) c.word) state.new.changed.items)) }
     ensures noted { OnOk result ((old new : Book)
         → IsFrame old new i now to (cells_of cells.now) (each_of C.recorded records.now)
-        (inputs_in (C.given inputs.now))
+        (world_in (C.given world.now))
         → IsAt old new i now (C.change_of state.old.change) (C.session_of state.old.session)
         state.old.since
         → All (λ n. IsChangeAt old new n.place n.now (C.change_of n.change)) noted.old.items
         → All (λ n. IsChangeAt old new n.place n.now (C.change_of n.change)) noted.new.items) }
     ensures counted { OnOk result ((old new : Book) (j before : ℕ)
         → IsFrame old new i j to (cells_of cells.now) (each_of C.recorded records.now)
-        (inputs_in (C.given inputs.now))
+        (world_in (C.given world.now))
         → IsAt old new i j (C.change_of state.old.change) (C.session_of state.old.session)
         state.old.since
         → CountsFront old new j before meter.old
         → CountsFront old new (j + (to - i)) before meter.new) }
     ensures counts { (old new : Book) (j before : ℕ)
         → IsFrame old new i j to (cells_of cells.now) (each_of C.recorded records.now)
-        (inputs_in (C.given inputs.now))
+        (world_in (C.given world.now))
         → IsAt old new i j (C.change_of state.old.change) (C.session_of state.old.session)
         state.old.since
         → CountsFront old new j before meter.old → CountsStale old new before meter.new }
@@ -431,9 +431,7 @@ pub(crate) fn sweep<C: CellRunner>(
         if place < at || to < place {
             continue;
         }
-        sweep_between::<C>(
-            alloc, meter, cells, records, words, inputs, at, place, state,
-        )?;
+        sweep_between::<C>(alloc, meter, cells, records, words, world, at, place, state)?;
         let is_end = place == records.len();
         note::<C>(place, now + (place - i), is_end, &state.change, noted);
         let next = to.min(place.saturating_add(distance(to)));
@@ -441,5 +439,5 @@ pub(crate) fn sweep<C: CellRunner>(
         take_nearer::<C>(alloc, snapshot, is_due, state);
         at = place;
     }
-    sweep_between::<C>(alloc, meter, cells, records, words, inputs, at, to, state)
+    sweep_between::<C>(alloc, meter, cells, records, words, world, at, to, state)
 }

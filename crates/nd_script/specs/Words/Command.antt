@@ -4,7 +4,7 @@ use Rattle.nd_model.specs.Book.Book as book
 use Rattle.nd_model.specs.Cells.Running as running
 use Rattle.nd_model.specs.Book.Script as script
 use Rattle.nd_script.specs.declared.words.command.LineCommand.{LineCommand}
-use Rattle.nd_script.specs.declared.words.command.LineCommand.TheVariants.{Insert, Edit, Remove, Move, Show, Source, Names, Value, Saved, SetInput, DropInput, Count, Silent, Bad}
+use Rattle.nd_script.specs.declared.words.command.LineCommand.TheVariants.{Insert, Edit, Remove, Move, Show, Source, Names, Value, Saved, SetInput, DropInput, PythonRule, AtomicRule, Count, Silent, Bad}
 use Rattle.nd_script.specs.declared.words.input.LineInput.{LineInput}
 use Rattle.nd_script.specs.declared.words.input.LineInput.TheVariants.{Npy, Buffer}
 use Rattle.nd_script.specs.declared.words.input.BufferWords.{BufferWords}
@@ -30,6 +30,8 @@ line_of (Value at name) = script.Whole (script.Asks (script.ShowsValue at name.n
 line_of (Saved at name) = script.Whole (script.Asks (script.ShowsSave at name.now))
 line_of (SetInput name input) = script.Whole (script.Edits (book.SetInput name.now (source_in input)))
 line_of (DropInput name) = script.Whole (script.Edits (book.DropInput name.now))
+line_of PythonRule = script.Whole (script.Edits (book.SetRule running.Python))
+line_of AtomicRule = script.Whole (script.Edits (book.SetRule running.Atomic))
 line_of Count = script.Whole (script.Asks script.Counts)
 line_of Silent = script.Whole script.Silent
 line_of Bad = script.Whole script.Bad

@@ -7,6 +7,7 @@ ghost use Rattle.nd_model.specs.Book.Script.{
   number_word,
   placed_line,
   read_line,
+  rule_line,
   with_number,
   words_of,
 };
@@ -32,6 +33,8 @@ pub enum LineCommand<'a> {
     Saved { at: usize, name: &'a str },
     SetInput { name: &'a str, input: LineInput },
     DropInput(&'a str),
+    PythonRule,
+    AtomicRule,
     Count,
     /// An empty line, or a comment.
     Silent,
@@ -106,13 +109,23 @@ fn long_command<'a>(
 fn single_command<'a>(word: &str, first: &'a str) -> LineCommand<'a>
     ensures { line_of result ≡ line_of_words (word.now ∷ first.now ∷ []) }
 {
-    if word != "drop" {
-        return place_command(word, first);
+    match word {
+        "drop" if first.is_empty() => LineCommand::Bad,
+        "drop" => LineCommand::DropInput(first),
+        "rule" => rule_command(first),
+        _ => place_command(word, first),
     }
-    if first.is_empty() {
-        return LineCommand::Bad;
+}
+
+// A command that sets the rule.
+fn rule_command<'a>(rule: &str) -> LineCommand<'a>
+    ensures { line_of result ≡ rule_line rule.now }
+{
+    match rule {
+        "python" => LineCommand::PythonRule,
+        "atomic" => LineCommand::AtomicRule,
+        _ => LineCommand::Bad,
     }
-    LineCommand::DropInput(first)
 }
 
 // A command of one word.

@@ -4,8 +4,8 @@ use Rattle.std.specs.Prelude.{is_some, IsTrue}
 use Rattle.std.specs.declared.rc.Rc.{Rc}
 use Rattle.nd_model.specs.Arrays.Value as model
 use Rattle.nd_model.specs.Cells.Session.{Names, Session, lookup, held_bytes}
-use Rattle.nd_model.specs.Cells.Running.{Key, Name, Input, Length, Byte, Inputs, Source}
-use Rattle.nd_model.specs.Cells.Footprint.{Bound, Given, Number, found}
+use Rattle.nd_model.specs.Cells.Running.{Key, Name, Input, Length, Byte, OfRule, Inputs, Rule, World, Source}
+use Rattle.nd_model.specs.Cells.Footprint.{Bound, Given, Number, Ruled, found}
 use Rattle.nd_heap.specs.declared.value.Base.{Base}
 use Rattle.nd_heap.specs.declared.value.Value.{Value}
 use Rattle.nd_session.specs.declared.inputs.input.Input as code
@@ -73,12 +73,15 @@ byte_there : (o : Option places.Found) (p m : ℕ) → ((e : places.Found) → o
 byte_there None p m h n at = none_some n at
 byte_there (Some e) p m h n at = sym (h e refl n at)
 
-module _ (r : ReadsData) (s : Session) (inputs : Inputs) where
+ruled : (x y : Rule) → Some (Ruled x) ≡ Some (Ruled y) → x ≡ y
+ruled x y h = cc
+
+module _ (r : ReadsData) (s : Session) (w : World) where
   abbrev pub SameNames : Type 0
   SameNames = (n : List ℕ) (v : Option model.Value) → lookup n r.names ≡ Some v → v ≡ lookup n s.names
 
   abbrev pub SameInputs : Type 0
-  SameInputs = (n : List ℕ) (x : Option Source) → lookup n r.inputs ≡ Some x → x ≡ inputs n
+  SameInputs = (n : List ℕ) (x : Option Source) → lookup n r.inputs ≡ Some x → x ≡ w.inputs n
 
   abbrev pub SameLengths : Type 0
   SameLengths = (b : model.Base) (n : ℕ) → lookup_base b r.lengths ≡ Some n → n ≡ length (held_bytes s b)
@@ -86,15 +89,22 @@ module _ (r : ReadsData) (s : Session) (inputs : Inputs) where
   abbrev pub SameBytes : Type 0
   SameBytes = (b : model.Base) (e : places.Found) → lookup_base b r.bytes ≡ Some e → AreSameBytes s b e
 
-  abbrev pub Agreed : Type 0
-  Agreed = (k : Key) → IsTrue (keys_of r k) → found_of r k ≡ Some (found s inputs k)
+  abbrev pub SameRule : Type 0
+  SameRule = (x : Rule) → r.rule ≡ Some x → x ≡ w.rule
 
-  pub agreeing : SameNames → SameInputs → SameLengths → SameBytes → Agreed
-  agreeing names given long bytes (Name n) there = found_there Bound (lookup n r.names) _ (λ v is. ap Bound (names n v is)) there
-  agreeing names given long bytes (Input n) there = found_there Given (lookup n r.inputs) _ (λ x is. ap Given (given n x is)) there
-  agreeing names given long bytes (Length b) there = found_there Number (lookup_base b r.lengths) _ (λ n is. ap Number (long b n is)) there
-  agreeing names given long bytes (Byte b p) there = found_there Number (byte_at (lookup_base b r.bytes) p) _
+  abbrev pub Agreed : Type 0
+  Agreed = (k : Key) → IsTrue (keys_of r k) → found_of r k ≡ Some (found s w k)
+
+  pub agreeing : SameRule → SameNames → SameInputs → SameLengths → SameBytes → Agreed
+  agreeing rule names given long bytes OfRule there = found_there Ruled r.rule _ (λ x is. ap Ruled (rule x is)) there
+  agreeing rule names given long bytes (Name n) there = found_there Bound (lookup n r.names) _ (λ v is. ap Bound (names n v is)) there
+  agreeing rule names given long bytes (Input n) there = found_there Given (lookup n r.inputs) _ (λ x is. ap Given (given n x is)) there
+  agreeing rule names given long bytes (Length b) there = found_there Number (lookup_base b r.lengths) _ (λ n is. ap Number (long b n is)) there
+  agreeing rule names given long bytes (Byte b p) there = found_there Number (byte_at (lookup_base b r.bytes) p) _
       (λ n is. ap Number (byte_there (lookup_base b r.bytes) p _ (λ e at n is. bytes b e at p n is) n is)) there
+
+  pub agree_rule : Agreed → SameRule
+  agree_rule all x is = ruled _ _ (sym (ap (option_map Ruled) is) ∙ all OfRule (is_some_from Ruled r.rule x is))
 
   pub agree_names : Agreed → SameNames
   agree_names all n v is = bound _ _ (sym (ap (option_map Bound) is) ∙ all (Name n) (is_some_from Bound (lookup n r.names) v is))

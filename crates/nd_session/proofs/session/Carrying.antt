@@ -151,15 +151,16 @@ has_base s e b is = (s.bytes b, is, λ held. sym (rw held refl))
 module _ (s : Session) (c m e : Whole) where
   pub with_both : (r q : Record) (d k : ChangesData) → HasDone d r → HasDone k q
       → ((n : List ℕ) → IsNameWith (λ n. lookup n s.names) c.names m.names d.events n) → ((n : List ℕ) → IsNameWith (λ n. lookup n s.names) m.names e.names k.events n)
-      → ((n : List ℕ) → e.inputs n ≡ c.inputs n)
+      → ((n : List ℕ) → e.inputs n ≡ c.inputs n) → e.rule ≡ c.rule
       → ((b : model.Base) → IsBlockWith s.bytes c.blocks m.blocks d b) → ((b : model.Base) → IsBlockWith s.bytes m.blocks e.blocks k b)
       → IsWithBoth r q (collected s) c e
-  with_both r q d k was is one two inputs three four = record {
+  with_both r q d k was is one two inputs rule three four = record {
     names = λ n. elim (two n) [
       | inl here ↦ inl here
       | inr same ↦ elim (one n) [ inl here ↦ inl (same.0 ∙ here) | inr old ↦ inr (inl (same.0 ∙ old.0, leaves_name d r n was old.1, leaves_name k q n is same.1)) ]
     ];
     inputs = inputs;
+    rule = rule;
     blocks = λ b. elim (four b) [
       | inl here ↦ inl (has_base s e b here)
       | inr same ↦ elim (three b) [ inl here ↦ inl (has_base s e b (same.0 ∙ here)) | inr old ↦ inr (inl (same.0 ∙ old.0, leaves_base d r b was old.1, leaves_base k q b is same.1)) ]
@@ -167,11 +168,12 @@ module _ (s : Session) (c m e : Whole) where
   }
 
 module _ (s : Session) (c e : Whole) (r : Record) (d : ChangesData) (done : HasDone d r) (one : (n : List ℕ) → IsNameWith (λ n. lookup n s.names) c.names e.names d.events n)
-    (inputs : (n : List ℕ) → e.inputs n ≡ c.inputs n) (two : (b : model.Base) → IsBlockWith s.bytes c.blocks e.blocks d b) where
+    (inputs : (n : List ℕ) → e.inputs n ≡ c.inputs n) (rule : e.rule ≡ c.rule) (two : (b : model.Base) → IsBlockWith s.bytes c.blocks e.blocks d b) where
   pub with_old : IsWith (Some r) None (collected s) c e
   with_old = record {
     names = λ n. elim (one n) [ inl here ↦ inl here | inr same ↦ inr (same.0, leaves_name d r n done same.1, tt) ];
     inputs = inputs;
+    rule = rule;
     blocks = λ b. elim (two b) [ inl here ↦ inl (has_base s e b here) | inr same ↦ inr (same.0, leaves_base d r b done same.1, tt) ];
   }
 
@@ -179,5 +181,6 @@ module _ (s : Session) (c e : Whole) (r : Record) (d : ChangesData) (done : HasD
   with_new = record {
     names = λ n. elim (one n) [ inl here ↦ inl here | inr same ↦ inr (same.0, tt, leaves_name d r n done same.1) ];
     inputs = inputs;
+    rule = rule;
     blocks = λ b. elim (two b) [ inl here ↦ inl (has_base s e b here) | inr same ↦ inr (same.0, tt, leaves_base d r b done same.1) ];
   }

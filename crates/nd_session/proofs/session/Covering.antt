@@ -18,10 +18,12 @@ use Rattle.nd_heap.specs.declared.value.Base.{Base}
 use Rattle.nd_heap.specs.declared.value.Value.{Value}
 use Rattle.nd_marks.specs.Marks.{has_bit}
 use Rattle.nd_model.specs.Arrays.Value as model
-use Rattle.nd_model.specs.Cells.Footprint.{Bound, Given, Number}
-use Rattle.nd_model.specs.Cells.Running.{Key, Name, Input, Length, Byte, is_event_of, is_touched}
+use Rattle.nd_model.specs.Cells.Footprint.{Bound, Given, Number, Ruled}
+use Rattle.nd_model.specs.Cells.Running.{Key, Name, Input, Length, Byte, OfRule, is_event_of, is_touched}
 use Rattle.nd_model.specs.Cells.Session.{lookup}
 use Rattle.nd_session.specs.declared.inputs.input.Input as code
+use Rattle.nd_session.specs.declared.inputs.rule.CellRule as code_rule
+use Rattle.nd_session.specs.Inputs.Values.{rule_of}
 use Rattle.nd_session.specs.declared.session.change.change.Change.TheInside as change
 use Rattle.nd_session.specs.declared.session.found.FoundBytes.{FoundBytes}
 use Rattle.nd_session.specs.declared.session.reads.Reads.TheInside as reads
@@ -97,6 +99,7 @@ bit_less (Name n) = text_less n 0 (omega arith)
 bit_less (Input n) = text_less n 1 (omega arith)
 bit_less (Length b) = omega arith
 bit_less (Byte b p) = omega arith
+bit_less OfRule = omega arith
 
 -- all bits up to one are set, and one more
 pub one_bit_more : (old new : List ℕ) (bit : ℕ) → IsTrue (has_bit new bit) → ((i : ℕ) → IsTrue (has_bit old i) → IsTrue (has_bit new i))
@@ -118,26 +121,32 @@ pub rec_weaker : {E : Type 0} (P Q : E → Type 0) → ((e : E) → P e → Q e)
 rec_weaker P Q w [] h = tt
 rec_weaker P Q w (e ∷ es) h = (w e h.0, rec_weaker P Q w es h.1)
 
+some_rule : (o : Option code_rule.CellRule) → is_some (option_map Ruled (option_map rule_of o)) ≡ true → is_some o ≡ true
+some_rule None there = false_true there
+some_rule (Some x) there = refl
+
 -- what a cell read
 pub read_covered : (i : reads.Inside) (ws : List ℕ)
     → AllByRecursion (λ (e : String Global × Option (Rc Value Global)). IsTrue (covers ws (Name (string_bytes e.0)))) i.names.entries
     → AllByRecursion (λ (e : String Global × Option (Rc code.Input Global)). IsTrue (covers ws (Input (string_bytes e.0)))) i.inputs.entries
     → AllByRecursion (λ (e : Base × ℕ). CoversLabel ws e.0.label) i.lengths.entries
     → AllByRecursion (λ (e : Base × FoundBytes). CoversLabel ws e.0.label) i.bytes.entries
+    → (IsTrue (is_some i.rule) → IsTrue (covers ws OfRule))
     → (k : Key) → IsTrue (keys_of (reads_of i) k) → IsTrue (covers ws k)
-read_covered i ws names given lengths bytes (Name n) there =
+read_covered i ws names given lengths bytes rule (Name n) there =
     something (lookup n (by_text value_at i.names.entries)) (found_inside Bound (lookup n (by_text value_at i.names.entries)) there)
     (λ v at. text_all value_at (λ n v. IsTrue (covers ws (Name n))) i.names.entries names n v at)
-read_covered i ws names given lengths bytes (Input n) there =
+read_covered i ws names given lengths bytes rule (Input n) there =
     something (lookup n (by_text source_at i.inputs.entries)) (found_inside Given (lookup n (by_text source_at i.inputs.entries)) there)
     (λ x at. text_all source_at (λ n x. IsTrue (covers ws (Input n))) i.inputs.entries given n x at)
-read_covered i ws names given lengths bytes (Length b) there =
+read_covered i ws names given lengths bytes rule (Length b) there =
     something (lookup_base b (by_base length_at i.lengths.entries)) (found_inside Number (lookup_base b (by_base length_at i.lengths.entries)) there)
     (λ n at. (base_all length_at (λ d m. CoversLabel ws d.label) i.lengths.entries lengths b n at b refl).0)
-read_covered i ws names given lengths bytes (Byte b p) there =
+read_covered i ws names given lengths bytes rule (Byte b p) there =
     something (lookup_base b (by_base bytes_of i.bytes.entries))
     (read_there (lookup_base b (by_base bytes_of i.bytes.entries)) p (found_inside Number (byte_at (lookup_base b (by_base bytes_of i.bytes.entries)) p) there))
     (λ e at. (base_all bytes_of (λ d m. CoversLabel ws d.label) i.bytes.entries bytes b e at b refl).1 p)
+read_covered i ws names given lengths bytes rule OfRule there = rule (some_rule i.rule there)
 
 -- what a cell did
 touched_covered : (ws : List ℕ) (es : List Event) → AllByRecursion (λ e. IsTrue (covers ws (Name (name_of_event (event_of e))))) es
@@ -159,6 +168,7 @@ pub did_covered : (r : ReadsData) (label next : ℕ) (events : List Event) (writ
     → (k : Key) → IsTrue (is_some (puts (run_in r (record { label = label; next = next; events = map event_of events; written = by_base bytes_of written; blocks = blocks })) k)) → IsTrue (covers ws k)
 did_covered r label next events written blocks ws names own bases (Name n) there = some_if (is_touched n (map event_of events)) _ there (touched_covered ws events names n)
 did_covered r label next events written blocks ws names own bases (Input n) there = false_true there
+did_covered r label next events written blocks ws names own bases OfRule there = false_true there
 did_covered r label next events written blocks ws names own bases (Length b) there = some_if (nat_eq b.label label) _ there (λ is. (own b (eqb-true b.label label is)).0)
 did_covered r label next events written blocks ws names own bases (Byte b p) there = elim (cases_Bool (nat_eq b.label label)) [
   | inl is ↦ (own b (eqb-true b.label label is)).1 p
@@ -173,16 +183,18 @@ pub changed_covered : (i : change.Inside) (ws : List ℕ)
     → AllByRecursion (λ (e : RcStr Global × Option (Rc Value Global)). IsTrue (covers ws (Name (rc_str_bytes e.0)))) i.names.entries
     → AllByRecursion (λ (e : RcStr Global × Option (Rc code.Input Global)). IsTrue (covers ws (Input (rc_str_bytes e.0)))) i.inputs.entries
     → AllByRecursion (λ (e : Base × Option (Rc (List ℕ) Global)). CoversLabel ws e.0.label) i.blocks.entries
+    → (IsTrue (is_some i.rule) → IsTrue (covers ws OfRule))
     → (k : Key) → IsTrue (is_some (change_of (data_in i) k)) → IsTrue (covers ws k)
-changed_covered i ws names given blocks (Name n) there =
+changed_covered i ws names given blocks rule (Name n) there =
     something (value_now i.names.entries n) (found_inside Bound (value_now i.names.entries n) there)
     (λ v at. name_all value_at (λ n v. IsTrue (covers ws (Name n))) i.names.entries names n v at)
-changed_covered i ws names given blocks (Input n) there =
+changed_covered i ws names given blocks rule (Input n) there =
     something (input_now i.inputs.entries n) (found_inside Given (input_now i.inputs.entries n) there)
     (λ x at. name_all source_at (λ n x. IsTrue (covers ws (Input n))) i.inputs.entries given n x at)
-changed_covered i ws names given blocks (Length b) there =
+changed_covered i ws names given blocks rule (Length b) there =
     something (block_now i.blocks.entries b) (found_inside (λ (bytes : List ℕ). Number (length bytes)) (block_now i.blocks.entries b) there)
     (λ bytes at. (base_all bytes_in (λ d m. CoversLabel ws d.label) i.blocks.entries blocks b bytes at b refl).0)
-changed_covered i ws names given blocks (Byte b p) there =
+changed_covered i ws names given blocks rule (Byte b p) there =
     something (block_now i.blocks.entries b) (found_inside (λ (bytes : List ℕ). Number (slice_index bytes p)) (block_now i.blocks.entries b) there)
     (λ bytes at. (base_all bytes_in (λ d m. CoversLabel ws d.label) i.blocks.entries blocks b bytes at b refl).1 p)
+changed_covered i ws names given blocks rule OfRule there = rule (some_rule i.rule there)

@@ -17,9 +17,9 @@ use Rattle.nd_heap.proofs.Bases.{base_eq}
 use Rattle.nd_heap.proofs.Same.{same_bases}
 use Rattle.nd_model.specs.Arrays.Value as model
 use Rattle.nd_model.specs.Book.Records.{Record}
-use Rattle.nd_model.specs.Cells.Footprint.{Bound, Given, Number, patched}
+use Rattle.nd_model.specs.Cells.Footprint.{Bound, Given, Number, Ruled, patched}
 use Rattle.nd_model.specs.Cells.Running as running
-use Rattle.nd_model.specs.Cells.Running.{Key, Name, Input, Length, Byte, Binds, Unbinds, is_event_of, is_touched}
+use Rattle.nd_model.specs.Cells.Running.{Key, Name, Input, Length, Byte, OfRule, Binds, Unbinds, is_event_of, is_touched}
 use Rattle.nd_model.proofs.Patched.{patched_none}
 use Rattle.nd_session.specs.declared.session.found.FoundBytes.{FoundBytes}
 use Rattle.nd_session.specs.Session.Change.{HasDone, is_bound_in}
@@ -189,12 +189,13 @@ same_label m n e = grind (arith, nat_tests)
 
 pub without_done : (r : Record) (d : ChangesData) (c e : Whole) → HasDone d r
     → ((n : List ℕ) → e.names n ≡ cond (is_touched n d.events) None (c.names n))
-    → ((n : List ℕ) → e.inputs n ≡ c.inputs n)
+    → ((n : List ℕ) → e.inputs n ≡ c.inputs n) → e.rule ≡ c.rule
     → ((b : model.Base) → e.blocks b ≡ option_map (patched (writes_in d b)) (cond (nat_eq b.label d.label && binds_in b d.events) None (c.blocks b)))
     → IsWithout r c e
-without_done r d c e done names inputs blocks = record {
+without_done r d c e done names inputs rule blocks = record {
   names = λ n. names n ∙ ap (λ es. cond (is_touched n es) None (c.names n)) (sym done.events);
   inputs = inputs;
+  rule = rule;
   own = λ b own bound. blocks b ∙ ap (λ t. option_map (patched (writes_in d b)) (cond t None (c.blocks b)))
       (ap₂ (λ s t. s && t) (same_label b.label d.label (own ∙ done.label)) (ap (binds_in b) (sym done.events) ∙ bound));
   blocks = λ b other. blocks b ∙ ap (λ t. option_map (patched (writes_in d b)) (cond (t && binds_in b d.events) None (c.blocks b))) (ap (nat_eq b.label) (sym done.label) ∙ other)
@@ -213,11 +214,12 @@ mapped_left f g false None some = some
 mapped_left f g false (Some x) some = refl
 
 -- what is in a change without some names and bases, and with other bytes in the others, was in it
-pub fewer_left : (c e : Whole) (t : List ℕ → Bool) (u : model.Base → Bool) (f : model.Base → List ℕ → List ℕ) → ((n : List ℕ) → e.names n ≡ cond (t n) None (c.names n)) → ((n : List ℕ) → e.inputs n ≡ c.inputs n)
+pub fewer_left : (c e : Whole) (t : List ℕ → Bool) (u : model.Base → Bool) (f : model.Base → List ℕ → List ℕ) → ((n : List ℕ) → e.names n ≡ cond (t n) None (c.names n)) → ((n : List ℕ) → e.inputs n ≡ c.inputs n) → e.rule ≡ c.rule
     → ((b : model.Base) → e.blocks b ≡ option_map (f b) (cond (u b) None (c.blocks b))) → (k : Key) → IsTrue (is_some (whole_of e k)) → IsTrue (is_some (whole_of c k))
-fewer_left c e t u f names inputs blocks (Name n) some = none_left Bound (t n) (c.names n) (ap (λ o. is_some (option_map Bound o)) (sym (names n)) ∙ some)
-fewer_left c e t u f names inputs blocks (Input n) some = ap (λ o. is_some (option_map Given o)) (sym (inputs n)) ∙ some
-fewer_left c e t u f names inputs blocks (Length b) some =
+fewer_left c e t u f names inputs rule blocks (Name n) some = none_left Bound (t n) (c.names n) (ap (λ o. is_some (option_map Bound o)) (sym (names n)) ∙ some)
+fewer_left c e t u f names inputs rule blocks (Input n) some = ap (λ o. is_some (option_map Given o)) (sym (inputs n)) ∙ some
+fewer_left c e t u f names inputs rule blocks (Length b) some =
     mapped_left (f b) (λ bs. Number (length bs)) (u b) (c.blocks b) (ap (λ o. is_some (option_map (λ bs. Number (length bs)) o)) (sym (blocks b)) ∙ some)
-fewer_left c e t u f names inputs blocks (Byte b p) some =
+fewer_left c e t u f names inputs rule blocks (Byte b p) some =
     mapped_left (f b) (λ bs. Number (slice_index bs p)) (u b) (c.blocks b) (ap (λ o. is_some (option_map (λ bs. Number (slice_index bs p)) o)) (sym (blocks b)) ∙ some)
+fewer_left c e t u f names inputs rule blocks OfRule some = ap (λ o. is_some (option_map Ruled o)) (sym rule) ∙ some

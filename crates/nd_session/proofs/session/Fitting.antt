@@ -1,5 +1,5 @@
 -- What was read fits a change.
-use Rattle.std.proofs.Common.{◌≡◌, ◌⊎◌, ℕ, Bool, true, List, length, slice_index, string_bytes, String, Global, Option, Some, None, option_map, refl, sym, ap, ◌∙◌, inl, inr, nat_eq, arith}
+use Rattle.std.proofs.Common.{◌≡◌, ◌⊎◌, ℕ, Bool, true, List, length, slice_index, string_bytes, String, Global, Option, Some, None, option_map, refl, sym, ap, subst, ◌∙◌, inl, inr, nat_eq, arith}
 use Rattle.std.specs.Prelude.{◌↔◌, is_some, IsTrue}
 use Rattle.std.specs.declared.rc.Rc.{Rc}
 use Rattle.std.proofs.lemmas.Bool.Decides.{nat_tests}
@@ -9,8 +9,8 @@ use Rattle.nd_heap.specs.declared.value.Base.{Base}
 use Rattle.nd_heap.specs.declared.value.Value.{Value}
 use Rattle.nd_heap.specs.Values.{base_of}
 use Rattle.nd_model.specs.Arrays.Value as model
-use Rattle.nd_model.specs.Cells.Footprint.{Bound, Given, Number}
-use Rattle.nd_model.specs.Cells.Running.{Name, Input, Length, Byte, Source}
+use Rattle.nd_model.specs.Cells.Footprint.{Bound, Given, Number, Ruled}
+use Rattle.nd_model.specs.Cells.Running.{Name, Input, Length, Byte, OfRule, Rule, Source}
 use Rattle.nd_model.specs.Cells.Session.{lookup}
 use Rattle.nd_session.specs.declared.inputs.input.Input as code
 use Rattle.nd_session.specs.declared.session.found.FoundBytes.{FoundBytes}
@@ -102,6 +102,13 @@ given x y e = cc
 number : (m n : ℕ) → Number m ≡ Number n → m ≡ n
 number m n e = cc
 
+ruled : (x y : Rule) → Ruled x ≡ Ruled y → x ≡ y
+ruled x y e = cc
+
+-- what is asked of each value of an option that is there
+pub for_some : {A : Type 0} (P : A → Type 0) (b : Bool) (o : Option A) (a : A) → o ≡ Some a → (IsTrue b ↔ P a) → IsTrue b ↔ ((x : A) → o ≡ Some x → P x)
+for_some P b o a is h = (λ yes x there. subst P (same_some a x (sym is ∙ there)) (h.0 yes), λ all. h.1 (all a is))
+
 module _ (c : Whole) (r : ReadsData) where
   abbrev pub NamesFit : Type 0
   NamesFit = (n : List ℕ) (v : Option model.Value) → lookup n r.names ≡ Some v → FitsAt (c.names n) v
@@ -115,6 +122,9 @@ module _ (c : Whole) (r : ReadsData) where
   abbrev pub BytesFit : Type 0
   BytesFit = (b : model.Base) (e : places.Found) → lookup_base b r.bytes ≡ Some e → HasFound (c.blocks b) e
 
+  abbrev pub RuleFits : Type 0
+  RuleFits = (x : Rule) → r.rule ≡ Some x → FitsAt c.rule x
+
   long : (b : model.Base) → option_map (λ bytes. Number (length bytes)) (c.blocks b) ≡ option_map Number (option_map length (c.blocks b))
   long b = map_twice Number length (c.blocks b)
 
@@ -124,12 +134,16 @@ module _ (c : Whole) (r : ReadsData) where
   along : {Y : Type 0} (x y z : Option Y) → x ≡ y → (y ≡ None) ⊎ (y ≡ z) → (x ≡ None) ⊎ (x ≡ z)
   along x y z is h = elim h [ inl none ↦ inl (is ∙ none) | inr same ↦ inr (is ∙ same) ]
 
-  pub fitting : NamesFit → InputsFit → LengthsFit → BytesFit → Fits (whole_of c) (reader_in r)
-  fitting names inputs lengths bytes (Name n) there = fit_there Bound (c.names n) (lookup n r.names) (names n) there
-  fitting names inputs lengths bytes (Input n) there = fit_there Given (c.inputs n) (lookup n r.inputs) (inputs n) there
-  fitting names inputs lengths bytes (Length b) there = along _ _ _ (long b) (fit_there Number (option_map length (c.blocks b)) (lookup_base b r.lengths) (lengths b) there)
-  fitting names inputs lengths bytes (Byte b p) there = along _ _ _ (byte b p) (fit_there Number (option_map (λ bytes. slice_index bytes p) (c.blocks b)) (byte_at (lookup_base b r.bytes) p)
+  pub fitting : RuleFits → NamesFit → InputsFit → LengthsFit → BytesFit → Fits (whole_of c) (reader_in r)
+  fitting rule names inputs lengths bytes OfRule there = fit_there Ruled c.rule r.rule rule there
+  fitting rule names inputs lengths bytes (Name n) there = fit_there Bound (c.names n) (lookup n r.names) (names n) there
+  fitting rule names inputs lengths bytes (Input n) there = fit_there Given (c.inputs n) (lookup n r.inputs) (inputs n) there
+  fitting rule names inputs lengths bytes (Length b) there = along _ _ _ (long b) (fit_there Number (option_map length (c.blocks b)) (lookup_base b r.lengths) (lengths b) there)
+  fitting rule names inputs lengths bytes (Byte b p) there = along _ _ _ (byte b p) (fit_there Number (option_map (λ bytes. slice_index bytes p) (c.blocks b)) (byte_at (lookup_base b r.bytes) p)
       (byte_there (lookup_base b r.bytes) p (λ n. FitsAt (option_map (λ bytes. slice_index bytes p) (c.blocks b)) n) (λ e at. bytes b e at p)) there)
+
+  pub rule_fits : Fits (whole_of c) (reader_in r) → RuleFits
+  rule_fits all x at = fit_from Ruled ruled c.rule r.rule x at (all OfRule (is_some_from Ruled r.rule x at))
 
   pub names_fit : Fits (whole_of c) (reader_in r) → NamesFit
   names_fit all n v at = fit_from Bound bound (c.names n) (lookup n r.names) v at (all (Name n) (is_some_from Bound (lookup n r.names) v at))

@@ -8,8 +8,8 @@ use Rattle.std.proofs.Common.{Global}
 use Rattle.nd_change.specs.Change.{IsOver, IsThere}
 use Rattle.nd_change.specs.Whole.{Whole, whole_of}
 use Rattle.nd_model.specs.Arrays.Value.{Base}
-use Rattle.nd_model.specs.Cells.Footprint.{Found, Bound, Given, Number, found}
-use Rattle.nd_model.specs.Cells.Running.{Key, Name, Input, Length, Byte, Inputs, Source}
+use Rattle.nd_model.specs.Cells.Footprint.{Found, Bound, Given, Number, Ruled, found}
+use Rattle.nd_model.specs.Cells.Running.{Key, Name, Input, Length, Byte, OfRule, Inputs, Rule, World, Source}
 use Rattle.nd_model.specs.Cells.Session.{Session}
 use Rattle.nd_session.specs.declared.inputs.input.Input as code
 use Rattle.nd_session.specs.Inputs.Values.{inputs_of, source_of}
@@ -57,17 +57,33 @@ module _ (i j : Inputs) (c : Whole) (first : List ℕ → Option (Option Source)
   none_of None e = refl
   none_of (Some x) e = none_some (Given x) (sym e)
 
-  pub given_over : (s : Session) → IsOver (whole_of c) s i s j
-  given_over s = record { now = now; same = same }
+  pub given_over : (p q : Rule) → ((x : Rule) → c.rule ≡ Some x → q ≡ x) → (c.rule ≡ None → p ≡ q) → (s : Session) → IsOver (whole_of c) s (record { inputs = i; rule = p }) s (record { inputs = j; rule = q })
+  given_over p q ruled unruled s = record { now = now; same = same }
     where
-      now : (k : Key) (f : Found) → whole_of c k ≡ Some f → IsThere s k → found s j k ≡ f
+      v : World
+      v = record { inputs = i; rule = p }
+
+      w : World
+      w = record { inputs = j; rule = q }
+
+      rule_now : (o : Option Rule) (f : Found) → c.rule ≡ o → option_map Ruled o ≡ Some f → Ruled q ≡ f
+      rule_now None f is at = none_some f at
+      rule_now (Some x) f is at = ap Ruled (ruled x is) ∙ same_some (Ruled x) f at
+
+      rule_same : (o : Option Rule) → c.rule ≡ o → option_map Ruled o ≡ None → p ≡ q
+      rule_same None is out = unruled is
+      rule_same (Some x) is out = none_some (Ruled x) (sym out)
+
+      now : (k : Key) (f : Found) → whole_of c k ≡ Some f → IsThere s k → found s w k ≡ f
       now (Name n) f at there = none_some f (sym (ap (option_map Bound) (names n)) ∙ at)
       now (Input n) f at there = let is : (x : Option Source) × (c.inputs n ≡ Some x) × (Given x ≡ f) = some_of (c.inputs n) f at in ap Given (true_now n is.0 is.1) ∙ is.2
       now (Length b) f at there = none_some f (sym (ap (option_map (λ bytes. Number (length bytes))) (blocks b)) ∙ at)
       now (Byte b p) f at there = none_some f (sym (ap (option_map (λ bytes. Number (slice_index bytes p))) (blocks b)) ∙ at)
+      now OfRule f at there = rule_now c.rule f refl at
 
-      same : (k : Key) → whole_of c k ≡ None → IsThere s k → IsThere s k → found s i k ≡ found s j k
+      same : (k : Key) → whole_of c k ≡ None → IsThere s k → IsThere s k → found s v k ≡ found s w k
       same (Name n) out in_s in_t = refl
       same (Input n) out in_s in_t = ap Given (same_out n (none_of (c.inputs n) out))
       same (Length b) out in_s in_t = refl
       same (Byte b p) out in_s in_t = refl
+      same OfRule out in_s in_t = ap Ruled (rule_same c.rule refl out)

@@ -11,6 +11,7 @@ listed s = record {
   input = λ n. refl;
   length = λ b. refl;
   byte = λ b p. refl;
+  rule = refl;
   written = λ b p. refl;
   events = refl;
   label = refl;

@@ -209,5 +209,5 @@ module _ (s : Session) (c e : Whole) (r q : Record) (d k : ChangesData) (was : H
           | inr same ↦ alike b stays (sym same_three ∙ same.0) same.1 (λ p. sym (written_before b p) ∙ sym (same.2 p) ∙ sym (ap (λ o. byte_at o p) at) ∙ written_now b p)
         ]
 
-    pub with_alike : ((n : List ℕ) → e.names n ≡ cond (is_touched n k.events) None (c.names n)) → ((n : List ℕ) → e.inputs n ≡ c.inputs n) → IsWithBoth r q (collected s) c e
-    with_alike less inputs = record { names = names_alike less; inputs = inputs; blocks = blocks_alike }
+    pub with_alike : ((n : List ℕ) → e.names n ≡ cond (is_touched n k.events) None (c.names n)) → ((n : List ℕ) → e.inputs n ≡ c.inputs n) → e.rule ≡ c.rule → IsWithBoth r q (collected s) c e
+    with_alike less inputs rule = record { names = names_alike less; inputs = inputs; rule = rule; blocks = blocks_alike }

@@ -7,8 +7,8 @@ use Rattle.std.specs.Map.{lookup as find, KeepsOthers, IsKeyTest, AreApart}
 use Rattle.indexmap.specs.IndexMap.{insert_entry}
 use Rattle.std.proofs.lemmas.Bool.{cases_Bool}
 use Rattle.nd_model.specs.Arrays.Value as model
-use Rattle.nd_model.specs.Cells.Footprint.{Bound, Given, Number}
-use Rattle.nd_model.specs.Cells.Running.{Key, Name, Input, Length, Byte}
+use Rattle.nd_model.specs.Cells.Footprint.{Bound, Given, Number, Ruled}
+use Rattle.nd_model.specs.Cells.Running.{Key, Name, Input, Length, Byte, OfRule}
 use Rattle.nd_model.specs.Cells.Session.{lookup}
 use Rattle.nd_model.proofs.Lists.{lookup-bind}
 use Rattle.nd_heap.specs.declared.value.Base.{Base}
@@ -16,6 +16,7 @@ use Rattle.nd_heap.specs.Values.{base_of, entries_of}
 use Rattle.nd_heap.proofs.NameLists.{name_eq, entries-insert, entries-found}
 use Rattle.nd_heap.proofs.Same.{same_bases, same_bytes}
 use Rattle.nd_session.specs.declared.session.change.change.Change.TheInside.{Inside}
+use Rattle.nd_session.specs.Inputs.Values.{rule_of}
 use Rattle.nd_session.specs.Session.Change.{IsNoted, change_of}
 use Rattle.nd_session.specs.Session.Found.{by_base, lookup_base}
 use Rattle.nd_session.specs.Session.Now.{block_now, data_in, input_now, value_now}
@@ -92,8 +93,9 @@ base_noted now old new c set b = elim (cases_Bool (model.same_base b c)) [
 
 -- ---- a change with nothing in it
 
-pub nothing_in : (i : Inside) → i.names.entries ≡ [] → i.inputs.entries ≡ [] → i.blocks.entries ≡ [] → (k : Key) → change_of (data_in i) k ≡ None
-nothing_in i names inputs blocks (Name n) = ap (λ es. option_map Bound (value_now es n)) names
-nothing_in i names inputs blocks (Input n) = ap (λ es. option_map Given (input_now es n)) inputs
-nothing_in i names inputs blocks (Length b) = ap (λ es. option_map (λ bytes. Number (length bytes)) (block_now es b)) blocks
-nothing_in i names inputs blocks (Byte b p) = ap (λ es. option_map (λ bytes. Number (slice_index bytes p)) (block_now es b)) blocks
+pub nothing_in : (i : Inside) → i.names.entries ≡ [] → i.inputs.entries ≡ [] → i.blocks.entries ≡ [] → i.rule ≡ None → (k : Key) → change_of (data_in i) k ≡ None
+nothing_in i names inputs blocks rule (Name n) = ap (λ es. option_map Bound (value_now es n)) names
+nothing_in i names inputs blocks rule (Input n) = ap (λ es. option_map Given (input_now es n)) inputs
+nothing_in i names inputs blocks rule (Length b) = ap (λ es. option_map (λ bytes. Number (length bytes)) (block_now es b)) blocks
+nothing_in i names inputs blocks rule (Byte b p) = ap (λ es. option_map (λ bytes. Number (slice_index bytes p)) (block_now es b)) blocks
+nothing_in i names inputs blocks rule OfRule = ap (λ o. option_map Ruled (option_map rule_of o)) rule

@@ -2,7 +2,7 @@
 use Rattle.std.specs.Prelude.{◌≡◌, ◌⊎◌, ℕ, Bool, false, List, [], Option, Some, None, option_map, slice_index}
 use Rattle.nd_model.specs.Arrays.Value.{Base, Value, lies_in}
 use Rattle.nd_model.specs.Cells.Session.{lookup}
-use Rattle.nd_model.specs.Cells.Running.{Event, Binds, Unbinds, Source}
+use Rattle.nd_model.specs.Cells.Running.{Event, Binds, Unbinds, Rule, Source}
 use Rattle.nd_model.specs.Book.Records.{Record}
 use Rattle.nd_change.specs.Change.{Change}
 use Rattle.nd_change.specs.Whole.{Whole, binds_in, whole_of}
@@ -10,14 +10,15 @@ use Rattle.nd_session.specs.Session.Changes.{ChangesData, bases_in, effects_in, 
 use Rattle.nd_session.specs.Session.Found.{Found, found_at, lookup_base}
 use Rattle.nd_session.specs.Session.Reads.{ReadsData, found_of, keys_of}
 
--- what stands now: the values of names and the inputs, none where nothing is bound or given, and the bytes of bases
+-- what stands now: the values of names and the inputs, none where nothing is bound or given, the bytes of bases, and the rule
 pub record ChangeData : Type 0 where
   pub names : List (List ℕ × Option Value)
   pub inputs : List (List ℕ × Option Source)
   pub blocks : List (Base × List ℕ)
+  pub rule : Option Rule
 
 abbrev pub whole_in : ChangeData → Whole
-whole_in c = record { names = λ n. lookup n c.names; inputs = λ n. lookup n c.inputs; blocks = λ b. lookup_base b c.blocks }
+whole_in c = record { names = λ n. lookup n c.names; inputs = λ n. lookup n c.inputs; blocks = λ b. lookup_base b c.blocks; rule = c.rule }
 
 -- the change that it is
 abbrev pub change_of : ChangeData → Change

@@ -1,7 +1,7 @@
 -- Filters of keys: sets of bits, and the bit of each key.
 use Rattle.std.specs.Prelude.{◌≡◌, ℕ, ◌+◌, ◌*◌, ◌%◌, Bool, IsTrue, List, [], ◌∷◌}
 use Rattle.nd_model.specs.Arrays.Value.{Base}
-use Rattle.nd_model.specs.Cells.Running.{Key, Name, Input, Length, Byte}
+use Rattle.nd_model.specs.Cells.Running.{Key, Name, Input, Length, Byte, OfRule}
 use Rattle.nd_marks.specs.Marks.{has_bit}
 
 -- a number below 256 for the bytes of a text
@@ -9,12 +9,13 @@ abbrev pub text_bit : List ℕ → ℕ → ℕ
 text_bit [] h = h
 text_bit (x ∷ xs) h = text_bit xs ((h * 31 + x) % 256)
 
--- Names and inputs have a bit by their bytes, bases one by the cell that made them.
+-- Names and inputs have a bit by their bytes, bases one by the cell that made them, and the rule has one.
 abbrev pub bit_of : Key → ℕ
 bit_of (Name n) = text_bit n 0
 bit_of (Input n) = text_bit n 1
 bit_of (Length b) = b.label % 256
 bit_of (Byte b p) = b.label % 256
+bit_of OfRule = 2
 
 -- the filter holds the key
 abbrev pub covers : List ℕ → Key → Bool

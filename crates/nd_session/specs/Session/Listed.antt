@@ -1,7 +1,7 @@
 -- The trace of a session, and what it lists.
-use Rattle.std.specs.Prelude.{◌≡◌, ℕ, List}
+use Rattle.std.specs.Prelude.{◌≡◌, ℕ, false, List}
 use Rattle.nd_model.specs.Arrays.Value.{Base}
-use Rattle.nd_model.specs.Cells.Running.{Name, Input, Length, Byte}
+use Rattle.nd_model.specs.Cells.Running.{Name, Input, Length, Byte, OfRule}
 use Rattle.nd_heap.specs.Live.{is_base_among}
 use Rattle.nd_trace.specs.Marked.{is_among}
 use Rattle.nd_trace.specs.Seen.{Seen, names_read, inputs_read, bases_read, is_used, is_written}
@@ -26,6 +26,7 @@ pub record IsListed (s : State) : Type 0 where
   pub input : (n : List ℕ) → (live s).read (Input n) ≡ is_among (inputs_read (seen_of s)) n
   pub length : (b : Base) → (live s).read (Length b) ≡ is_base_among (bases_read (seen_of s)) b
   pub byte : (b : Base) (p : ℕ) → (live s).read (Byte b p) ≡ is_used (seen_of s) b p
+  pub rule : (live s).read OfRule ≡ false
   pub written : (b : Base) (p : ℕ) → (live s).written b p ≡ is_written (seen_of s) b p
   pub events : (live s).events ≡ (seen_of s).events
   pub label : (live s).label ≡ (seen_of s).label

@@ -1,5 +1,5 @@
 -- What stands at the keys of a change, entry by entry.
-use Rattle.std.specs.Prelude.{ℕ, List, Option}
+use Rattle.std.specs.Prelude.{ℕ, List, Option, option_map}
 use Rattle.std.proofs.Common.{Global}
 use Rattle.std.specs.declared.rc.Rc.{Rc}
 use Rattle.std.specs.declared.rc.RcStr.{RcStr}
@@ -12,6 +12,7 @@ use Rattle.nd_heap.specs.declared.value.Base.{Base}
 use Rattle.nd_heap.specs.declared.value.Value.{Value}
 use Rattle.nd_session.specs.declared.inputs.input.Input.{Input}
 use Rattle.nd_session.specs.declared.session.change.change.Change.TheInside.{Inside}
+use Rattle.nd_session.specs.Inputs.Values.{rule_of}
 use Rattle.nd_session.specs.Session.Change.{ChangeData}
 use Rattle.nd_session.specs.Session.Found.{by_base, lookup_base}
 use Rattle.nd_session.specs.Session.Reading.{source_at, value_at}
@@ -32,4 +33,5 @@ data_in c = record {
   names = entries_of value_at c.names.entries;
   inputs = entries_of source_at c.inputs.entries;
   blocks = by_base bytes_in c.blocks.entries;
+  rule = option_map rule_of c.rule;
 }

@@ -9,7 +9,7 @@ use Rattle.nd_heap.specs.declared.value.Value.{Value}
 use Rattle.nd_session.specs.declared.session.reads.Reads.TheInside.{Inside}
 use Rattle.nd_session.specs.Session.Found.{by_base, bytes_of}
 use Rattle.nd_heap.specs.Values.{value_of}
-use Rattle.nd_session.specs.Inputs.Values.{source_of}
+use Rattle.nd_session.specs.Inputs.Values.{rule_of, source_of}
 use Rattle.nd_session.specs.Session.Reads.{ReadsData}
 
 -- entries by their texts
@@ -32,4 +32,5 @@ reads_of r = record {
   inputs = by_text source_at r.inputs.entries;
   lengths = by_base length_at r.lengths.entries;
   bytes = by_base bytes_of r.bytes.entries;
+  rule = option_map rule_of r.rule;
 }

@@ -1,7 +1,7 @@
 //! `Reads`: what a cell read, with what it found there.
 
 ghost use Rattle.std.specs.Prelude.{◌≡◌, ◌↔◌, ℕ, Contains, IfOk, IsFalse, IsTrue, List, None, OnOk, false, is_some};
-ghost use Rattle.std.specs.Prelude.{Option, Some, true, bytes_eq, if◌then◌else◌, length, map, slice_index, string_bytes};
+ghost use Rattle.std.specs.Prelude.{Option, Some, true, bytes_eq, if◌then◌else◌, length, map, option_map, slice_index, string_bytes};
 ghost use Rattle.nd_model.specs.Cells.Footprint.{found};
 ghost use Rattle.nd_model.specs.Cells.Running as running;
 ghost use Rattle.nd_model.specs.Cells.Session as model;
@@ -13,12 +13,11 @@ ghost use Rattle.nd_trace.specs.Marked.{is_among, is_marked};
 ghost use Rattle.nd_session.specs.Session.Live.{live};
 ghost use Rattle.nd_session.specs.Session.Reading.{by_text, value_at, source_at, length_at};
 ghost use Rattle.nd_session.specs.Session.Found.{by_base, byte_found, bytes_of, found_at, lookup_base, Found};
-ghost use Rattle.nd_session.specs.Session.Reads.{found_in, found_of, keys_of};
-ghost use Rattle.nd_trace.specs.Seen.{is_read_in};
+ghost use Rattle.nd_session.specs.Session.Reads.{found_in, found_of, is_read_by, keys_of};
 ghost use Rattle.nd_heap.specs.Values.{base_of};
-ghost use Rattle.nd_session.specs.Inputs.Values.{inputs_of};
+ghost use Rattle.nd_session.specs.Inputs.Values.{inputs_of, rule_of, world_of};
 
-use crate::inputs::{Input, Inputs, are_same_inputs, find_input};
+use crate::inputs::{CellRule, Input, Inputs, are_same_inputs, find_input};
 use crate::session::found::{FoundByBase, note_bytes};
 use crate::session::session::Session;
 use crate::session::version::Version;
@@ -39,13 +38,15 @@ pub(crate) type InputsRead = IndexMap<String, Option<Rc<Input>>>;
 pub(crate) type LengthsRead = IndexMap<Base, usize>;
 
 /// What a cell read, with what it found there. Values and inputs are shared. So is a block, unless
-/// the bytes that were read of it are few: then they are kept alone.
+/// the bytes that were read of it are few: then they are kept alone. A refused cell has read the
+/// rule.
 #[derive(Drop)]
 pub struct Reads {
     pub(crate) names: NamesRead,
     pub(crate) inputs: InputsRead,
     pub(crate) lengths: LengthsRead,
     pub(crate) bytes: FoundByBase,
+    pub(crate) rule: Option<CellRule>,
 }
 
 impl Model for Reads {
@@ -239,19 +240,39 @@ fn have_same_bytes(reads: &FoundByBase, session: &Session) -> bool
     true
 }
 
+/// The rule as a cell has read it: none where it was not refused.
+fn read_rule(rule: CellRule, is_refused: bool) -> Option<CellRule>
+    ensures { option_map rule_of result ≡ (if is_refused then Some (rule_of rule) else None) }
+{
+    if is_refused { Some(rule) } else { None }
+}
+
+/// Whether the rule is the one that was found, if it was read.
+fn has_same_rule(found: Option<CellRule>, rule: CellRule) -> bool
+    ensures { IsTrue result
+        ↔ ((x : running.Rule) → option_map rule_of found ≡ Some x → x ≡ rule_of rule) }
+{
+    match found {
+        Some(found) => found.is_same(rule),
+        None => true,
+    }
+}
+
 impl Reads {
-    /// Returns what a cell read that began with a snapshot and these inputs.
+    /// Returns what a cell read that began with a snapshot, these inputs and this rule.
     pub fn new(
         alloc: Global,
         trace: &Trace,
         before: &Version,
         inputs: &Inputs,
+        rule: CellRule,
+        is_refused: bool,
     ) -> Result<Reads, OutOfMemory>
         ensures keys { IfOk result (λ r. (k : running.Key)
-            → keys_of r k ≡ is_read_in trace.now k) }
+            → keys_of r k ≡ is_read_by trace.now is_refused k) }
         ensures found { IfOk result (λ r. (k : running.Key) → IsTrue (keys_of r k)
-            → found_of r k
-            ≡ Some (found_in (version_of before.now) (inputs_of inputs.now.entries) k)) }
+            → found_of r k ≡ Some (found_in (version_of before.now)
+            (world_of (inputs_of inputs.now.entries) rule) k)) }
     {
         let names = find_names(alloc, trace.names(), before)?;
         let inputs = find_inputs(alloc, trace.inputs(), inputs)?;
@@ -262,18 +283,22 @@ impl Reads {
             inputs,
             lengths,
             bytes,
+            rule: read_rule(rule, is_refused),
         })
     }
 
-    /// Returns whether a session and inputs still have what was read. It takes no memory.
+    /// Returns whether a session, inputs and rule still have what was read. It takes no memory.
     ///
     /// The reads of `print(x[0])` agree with the session behind `x[1] = 5`, and not with that behind
     /// `x[0] = 5`, where `x[0]` was another number.
-    pub fn agree(&self, session: &Session, inputs: &Inputs) -> bool
+    pub fn agree(&self, session: &Session, inputs: &Inputs, rule: CellRule) -> bool
         ensures { IsTrue result ↔ ((k : running.Key) → IsTrue (keys_of self.now k)
             → found_of self.now k ≡ Some (found (running.session_of (live session.now))
-            (inputs_of inputs.now.entries) k)) }
+            (world_of (inputs_of inputs.now.entries) rule) k)) }
     {
+        if !has_same_rule(self.rule, rule) {
+            return false;
+        }
         if !have_same_names(&self.names, session) {
             return false;
         }

@@ -351,18 +351,26 @@ impl Session {
         }
     }
 
-    /// Returns a session at a snapshot: the cell of its label goes on from its next number, and has
-    /// read and done nothing since. No name and no byte is copied.
-    pub fn thaw(alloc: Global, version: &Version) -> Result<Session, OutOfMemory>
-        ensures { IfOk result (λ s. live s ≡ thawed version.now) }
+    /// Returns the session of a snapshot: the cell of its label goes on from its next number, and has
+    /// read and done nothing since. It takes no memory.
+    pub fn resume(alloc: Global, version: Version) -> Session
+        ensures { live result ≡ thawed version }
     {
-        let heap = version.heap.try_clone()?;
-        Ok(Session {
-            heap,
+        Session {
+            heap: version.heap,
             trace: Trace::new(alloc, version.label),
             next: version.next,
             alloc,
-        })
+        }
+    }
+
+    /// Returns a session at a snapshot, as `resume` does, and keeps the snapshot. No name and no
+    /// byte is copied.
+    pub fn thaw(alloc: Global, version: &Version) -> Result<Session, OutOfMemory>
+        ensures { IfOk result (λ s. live s ≡ thawed version.now) }
+    {
+        let version = version.try_clone()?;
+        Ok(Session::resume(alloc, version))
     }
 
     /// Returns a snapshot of names and blocks, without blocks that no bound value lies in. No name

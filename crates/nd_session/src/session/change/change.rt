@@ -5,7 +5,7 @@ ghost use Rattle.nd_heap.specs.Contents.{bytes_in};
 ghost use Rattle.nd_model.specs.Cells.Running.{Key};
 ghost use Rattle.nd_session.specs.Session.Change.{change_of};
 
-use crate::inputs::Input;
+use crate::inputs::{CellRule, Input};
 use crate::session::found::shared_bytes;
 use indexmap::IndexMap;
 use nd_block::RawBlock;
@@ -23,8 +23,8 @@ pub(crate) type InputsNow = IndexMap<RcStr, Option<Rc<Input>>>;
 /// The blocks of bases, `None` where a base has no bytes now.
 pub(crate) type BlocksNow = IndexMap<Base, Option<Rc<RawBlock>>>;
 
-/// What stands now at each key where a session may differ from the one before an edit: names, inputs
-/// and blocks. A key that is not in it has the same in both.
+/// What stands now at each key where a session may differ from the one before an edit: names, inputs,
+/// blocks, and the rule. A key that is not in it has the same in both.
 ///
 /// It may have keys that are the same in both. Values and blocks are shared with the session.
 ///
@@ -35,6 +35,7 @@ pub struct Change {
     pub(crate) names: NamesNow,
     pub(crate) inputs: InputsNow,
     pub(crate) blocks: BlocksNow,
+    pub(crate) rule: Option<CellRule>,
 }
 
 impl Model for Change {
@@ -71,6 +72,7 @@ impl Change {
             names: IndexMap::new(alloc),
             inputs: IndexMap::new(alloc),
             blocks: IndexMap::new(alloc),
+            rule: None,
         }
     }
 
@@ -85,6 +87,7 @@ impl Change {
             names,
             inputs,
             blocks,
+            rule: self.rule,
         })
     }
 
@@ -92,7 +95,10 @@ impl Change {
     pub fn is_empty(&self) -> bool
         ensures { IsTrue result → (k : Key) → change_of self.now k ≡ None }
     {
-        self.names.is_empty() && self.inputs.is_empty() && self.blocks.is_empty()
+        self.names.is_empty()
+            && self.inputs.is_empty()
+            && self.blocks.is_empty()
+            && self.rule.is_none()
     }
 
     /// Returns the number of names, inputs and blocks of the change.

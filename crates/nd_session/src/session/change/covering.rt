@@ -1,15 +1,16 @@
 //! `KeyFilter::of_run` and `Change::filter`: the filters of what a cell read and did, and of a change.
 
-ghost use Rattle.std.specs.Prelude.{IsTrue, string_bytes};
+ghost use Rattle.std.specs.Prelude.{IsTrue, is_some, string_bytes};
 ghost use Rattle.std.specs.List.{All};
 ghost use Rattle.std.specs.Rc.{rc_str_bytes};
 ghost use Rattle.nd_change.specs.Steps.{IsWordOf, IsWordOfChange};
-ghost use Rattle.nd_model.specs.Cells.Running.{Input, Key, Name};
+ghost use Rattle.nd_model.specs.Cells.Running.{Input, Key, Name, OfRule};
 ghost use Rattle.nd_session.specs.Session.Change.{change_of, run_in};
 ghost use Rattle.nd_session.specs.Session.Filter.{CoversLabel, StaysCovered, covers};
 ghost use Rattle.nd_session.specs.Session.Reads.{keys_of};
 ghost use Rattle.nd_trace.specs.Events.{event_of, name_of_event};
 
+use crate::inputs::CellRule;
 use crate::session::change::change::Change;
 use crate::session::change::filter::KeyFilter;
 use crate::session::changes::Changes;
@@ -102,6 +103,16 @@ fn add_events(events: &[Event], filter: &mut KeyFilter)
     }
 }
 
+/// Adds the rule, if there is one.
+fn add_some_rule(rule: Option<CellRule>, filter: &mut KeyFilter)
+    ensures added { IsTrue (is_some rule) → IsTrue (covers filter.new OfRule) }
+    ensures stays { StaysCovered filter.old filter.new }
+{
+    if rule.is_some() {
+        filter.add_rule();
+    }
+}
+
 /// Adds all that a cell read.
 fn add_reads(reads: &Reads, filter: &mut KeyFilter)
     ensures added { (k : Key) → IsTrue (keys_of reads.now k) → IsTrue (covers filter.new k) }
@@ -111,6 +122,7 @@ fn add_reads(reads: &Reads, filter: &mut KeyFilter)
     add_inputs(&reads.inputs, filter);
     add_labels(&reads.lengths, filter);
     add_labels(&reads.bytes, filter);
+    add_some_rule(reads.rule, filter);
 }
 
 impl KeyFilter {
@@ -142,6 +154,7 @@ impl Change {
         add_changed_names(&self.names, &mut filter);
         add_changed_inputs(&self.inputs, &mut filter);
         add_labels(&self.blocks, &mut filter);
+        add_some_rule(self.rule, &mut filter);
         filter
     }
 }

@@ -1,7 +1,7 @@
 //! `KeyFilter`: a set of keys in four words. It may hold keys that were not put into it.
 
 ghost use Rattle.std.specs.Prelude.{◌≡◌, ◌<◌, ℕ, IsTrue, true};
-ghost use Rattle.nd_model.specs.Cells.Running.{Input, Key, Name};
+ghost use Rattle.nd_model.specs.Cells.Running.{Input, Key, Name, OfRule};
 ghost use Rattle.nd_marks.specs.Marks.{has_bit};
 ghost use Rattle.nd_session.specs.Session.Filter.{CoversLabel, StaysCovered, covers, text_bit};
 
@@ -11,7 +11,8 @@ use std::marker::Model;
 const BITS: u64 = 256;
 
 /// A set of keys by 256 bits. A name or an input has a bit by its bytes, a block one by the label
-/// of the cell that made it, so a filter may hold keys that were not put into it.
+/// of the cell that made it, the rule one of its own. So a filter may hold keys that were not put
+/// into it.
 #[derive(Drop)]
 pub struct KeyFilter {
     words: [u64; 4],
@@ -79,6 +80,14 @@ impl KeyFilter {
         ensures stays { StaysCovered self.old self.new }
     {
         self.set(text_bit(name, 1));
+    }
+
+    /// Adds the rule.
+    pub(crate) fn add_rule(&mut self)
+        ensures added { IsTrue (covers self.new OfRule) }
+        ensures stays { StaysCovered self.old self.new }
+    {
+        self.set(2);
     }
 
     /// Adds the lengths and the bytes of all blocks of a label.

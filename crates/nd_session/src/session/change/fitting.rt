@@ -7,13 +7,13 @@ ghost use Rattle.nd_heap.specs.Values.{base_of, value_of};
 ghost use Rattle.nd_model.specs.Arrays.Value as values;
 ghost use Rattle.nd_model.specs.Cells.Running as running;
 ghost use Rattle.nd_model.specs.Cells.Session.{lookup};
-ghost use Rattle.nd_session.specs.Inputs.Values.{source_of};
+ghost use Rattle.nd_session.specs.Inputs.Values.{rule_of, source_of};
 ghost use Rattle.nd_session.specs.Session.Change.{FitsAt, HasFound, change_of, reader_in};
 ghost use Rattle.nd_session.specs.Session.Now.{block_now, input_now, value_now};
 ghost use Rattle.nd_session.specs.Session.Found.{Found, by_base, bytes_of, lookup_base};
 ghost use Rattle.nd_session.specs.Session.Reading.{by_text, length_at, source_at, value_at};
 
-use crate::inputs::{Input, are_same_inputs};
+use crate::inputs::{CellRule, Input, are_same_inputs};
 use crate::session::change::change::{BlocksNow, Change, InputsNow, NamesNow};
 use crate::session::found::{FoundByBase, FoundBytes, shared_bytes};
 use crate::session::reads::{InputsRead, LengthsRead, NamesRead, Reads};
@@ -71,6 +71,17 @@ fn fits_bytes(blocks: &BlocksNow, base: Base, found: &FoundBytes) -> bool
     match blocks.get(&base) {
         Some(block) => found.is_found_in(shared_bytes(block)),
         None => true,
+    }
+}
+
+/// Whether the rule is outside of the change, or the one that was found, if it was read.
+fn fits_rule(now: Option<CellRule>, found: Option<CellRule>) -> bool
+    ensures { IsTrue result ↔ ((x : running.Rule)
+        → option_map rule_of found ≡ Some x → FitsAt (option_map rule_of now) x) }
+{
+    match (now, found) {
+        (Some(now), Some(found)) => now.is_same(found),
+        _ => true,
     }
 }
 
@@ -151,6 +162,9 @@ impl Change {
     pub fn fits(&self, reads: &Reads) -> bool
         ensures { IsTrue result ↔ Fits (change_of self.now) (reader_in reads.now) }
     {
+        if !fits_rule(self.rule, reads.rule) {
+            return false;
+        }
         if !fit_names(&reads.names, &self.names) {
             return false;
         }

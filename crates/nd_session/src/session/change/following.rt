@@ -207,7 +207,7 @@ impl Change {
         new: &Changes,
         session: &Session,
     ) -> Result<(), OutOfMemory>
-        ensures { OnOk result ((r q : Record) (j : running.Inputs) → HasDone old.now r
+        ensures { OnOk result ((r q : Record) (j : running.World) → HasDone old.now r
             → HasDone new.now q → Follows (change_of self.old) (change_of self.new) r q
             (model.collected (running.session_of (live session.now))) j) }
     {

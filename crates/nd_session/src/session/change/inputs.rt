@@ -1,15 +1,15 @@
-//! `input_change`: what other inputs change, by themselves.
+//! `Change::of_world`: what other inputs and another rule change, by themselves.
 
-ghost use Rattle.std.specs.Prelude.{◌≡◌, ℕ, IfOk, List, None, OnOk, Some, bytes_eq, if◌then◌else◌};
+ghost use Rattle.std.specs.Prelude.{◌≡◌, ℕ, IfOk, List, None, OnOk, Some, bytes_eq, if◌then◌else◌, option_map};
 ghost use Rattle.std.specs.Rc.{rc_str_bytes};
 ghost use Rattle.nd_change.specs.Change.{IsOver};
 ghost use Rattle.nd_model.specs.Cells.Running as running;
 ghost use Rattle.nd_model.specs.Cells.Session as model;
-ghost use Rattle.nd_session.specs.Inputs.Values.{inputs_of};
+ghost use Rattle.nd_session.specs.Inputs.Values.{inputs_of, rule_of, world_of};
 ghost use Rattle.nd_session.specs.Session.Change.{IsNoted, change_of};
 ghost use Rattle.nd_session.specs.Session.Now.{input_now};
 
-use crate::inputs::{Inputs, are_same_inputs, find_input};
+use crate::inputs::{CellRule, Inputs, are_same_inputs, find_input};
 use crate::session::change::change::{Change, InputsNow};
 use crate::session::reads::share_input;
 use indexmap::IndexMap;
@@ -73,11 +73,27 @@ fn note_inputs(
     Ok(())
 }
 
+/// The rule where it is another than before.
+fn changed_rule(old: CellRule, new: CellRule) -> Option<CellRule>
+    ensures now { (x : running.Rule) → option_map rule_of result ≡ Some x → rule_of new ≡ x }
+    ensures same { option_map rule_of result ≡ None → rule_of old ≡ rule_of new }
+{
+    if old.is_same(new) { None } else { Some(new) }
+}
+
 impl Change {
-    /// Returns what new inputs change in a session with the old ones: the inputs that differ.
-    pub fn of_inputs(alloc: Global, old: &Inputs, new: &Inputs) -> Result<Change, OutOfMemory>
+    /// Returns what new inputs and a new rule change in a session with the old ones: the inputs that
+    /// differ, and the rule where it is another.
+    pub fn of_world(
+        alloc: Global,
+        old: &Inputs,
+        old_rule: CellRule,
+        new: &Inputs,
+        rule: CellRule,
+    ) -> Result<Change, OutOfMemory>
         ensures { IfOk result (λ c. (s : model.Session)
-            → IsOver (change_of c) s (inputs_of old.now.entries) s (inputs_of new.now.entries)) }
+            → IsOver (change_of c) s (world_of (inputs_of old.now.entries) old_rule)
+            s (world_of (inputs_of new.now.entries) rule)) }
     {
         let mut inputs = IndexMap::new(alloc);
         note_inputs(&mut inputs, old, old, new)?;
@@ -86,6 +102,7 @@ impl Change {
             names: IndexMap::new(alloc),
             inputs,
             blocks: IndexMap::new(alloc),
+            rule: changed_rule(old_rule, rule),
         })
     }
 }

@@ -144,7 +144,7 @@ impl Change {
     ) -> Result<(), OutOfMemory>
         requires label { old.now.label ≡ new.now.label }
         requires events { events_in old.now ≡ events_in new.now }
-        ensures { OnOk result ((r q : Record) (j : running.Inputs) → HasDone old.now r
+        ensures { OnOk result ((r q : Record) (j : running.World) → HasDone old.now r
             → HasDone new.now q → Follows (change_of self.old) (change_of self.new) r q
             (model.collected (running.session_of (live session.now))) j) }
     {

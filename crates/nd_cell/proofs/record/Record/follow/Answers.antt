@@ -3,4 +3,4 @@ use Rattle.nd_cell.proofs.Recording.{done_of}
 use Rattle.nd_cell.proofs.record.Record.follow.Goals as goal
 
 pub returns : goal.returns
-returns c = λ inputs. c.in_ok-follow.ensures (recorded c.args.before.now) (recorded c.args.self.now) inputs (done_of _ _ c.before-2.view_is) (done_of _ _ c.self.view_is)
+returns c = λ world. c.in_ok-follow.ensures (recorded c.args.before.now) (recorded c.args.self.now) world (done_of _ _ c.before-2.view_is) (done_of _ _ c.self.view_is)

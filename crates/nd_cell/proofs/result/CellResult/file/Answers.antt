@@ -1,4 +1,4 @@
-use Rattle.std.proofs.Common.{◌≡◌, ℕ, List, Some, option_map, Vec, Global, Bor, sym, ap, ◌∙◌}
+use Rattle.std.proofs.Common.{ℕ, List, Some, option_map, Vec, Global, Bor, sym, ap, ◌∙◌}
 use Rattle.nd_cell.proofs.Lines.{saves_found}
 use Rattle.nd_cell.proofs.result.CellResult.file.Goals as goal
 

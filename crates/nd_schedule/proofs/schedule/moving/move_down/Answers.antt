@@ -1,4 +1,5 @@
 use Rattle.std.proofs.Common.{◌≡◌, ◌+◌, length, map, sym, ap, subst, ◌∙◌, arith}
+use Rattle.std.proofs.lemmas.Grind.{common_steps}
 use Rattle.std.proofs.lemmas.List.{length-map}
 use Rattle.nd_model.specs.Book.Book.{Book}
 use Rattle.nd_model.specs.Book.Entries.{entry_at, record_at}
@@ -171,7 +172,7 @@ returns-clause-made g c = λ old new moving at.
     coming old new c.args.from c.args.to _ _ _ moving (c.args.to + 1) (omega (arith, long, c.requires)) (cell_of c.deref.result.now) (g.C.CellRunner.recorded c.deref-2.result.now)
     (cell_there c.args.cells.now c.args.from c.index-cells-from.result c.deref.result.now (omega (arith, long, moving.stood)) c.index-cells-from.is c.deref.ensures)
     (ap g.C.CellRunner.recorded c.deref-2.ensures ∙ record_there (λ r. g.C.CellRunner.recorded r.value) old c.args.records.now c.index-records-from.result c.args.from moving.run.records moving.stood c.index-records-from.is) in
-    made_there (λ n. g.C.CellRunner.recorded n.record.value) c.in_ok-made.made (g.C.CellRunner.recorded c.deref-2.result.now) (record_at old.inputs (entry_at old c.args.from)) (record_at new.inputs (entry_at new c.args.to)) come.made
+    made_there (λ n. g.C.CellRunner.recorded n.record.value) c.in_ok-made.made (g.C.CellRunner.recorded c.deref-2.result.now) (record_at old.world (entry_at old c.args.from)) (record_at new.world (entry_at new c.args.to)) come.made
     (c.in_ok-made.ensures.made old new c.args.from c.args.to come there)
 
 pub returns-clause-fit_between : goal.returns-clause-fit_between
@@ -209,3 +210,93 @@ leave-requires-clause-at g c =
     let old : Book = c.requires.at.0 in
     let new : Book = c.requires.at.1 in
     (old, new, c.args.from, (c.requires.at.2).run, place_at old new c.args.from c.args.to _ _ _ c.requires.at.2 c.args.from c.args.from (omega (arith, (c.requires.at.2).stood)) (omega (arith, (c.requires.at.2).stood)), c.requires.at.3)
+
+pub bounds-cells-from : goal.bounds-cells-from
+bounds-cells-from g c = grind (arith, common_steps)
+
+pub bounds-records-from : goal.bounds-records-from
+bounds-records-from g c = grind (arith, common_steps)
+
+pub enter-requires-clause-within : goal.enter-requires-clause-within
+enter-requires-clause-within g c = grind (arith, common_steps)
+
+pub leave-requires-clause-fits : goal.leave-requires-clause-fits
+leave-requires-clause-fits g c = grind (arith, common_steps)
+
+pub leave-requires-clause-record : goal.leave-requires-clause-record
+leave-requires-clause-record g c = grind (arith, common_steps)
+
+pub offset_bounds-cells-from : goal.offset_bounds-cells-from
+offset_bounds-cells-from g c = grind (arith, common_steps)
+
+pub offset_bounds-records-from : goal.offset_bounds-records-from
+offset_bounds-records-from g c = grind (arith, common_steps)
+
+pub overflow_add-from : goal.overflow_add-from
+overflow_add-from g c = grind (arith, common_steps)
+
+pub overflow_add-to : goal.overflow_add-to
+overflow_add-to g c = grind (arith, common_steps)
+
+pub overflow_add-to-2 : goal.overflow_add-to-2
+overflow_add-to-2 g c = grind (arith, common_steps)
+
+pub overflow_add-to-3 : goal.overflow_add-to-3
+overflow_add-to-3 g c = grind (arith, common_steps)
+
+pub overflow_add-to-4 : goal.overflow_add-to-4
+overflow_add-to-4 g c = grind (arith, common_steps)
+
+pub returns-clause-worded : goal.returns-clause-worded
+returns-clause-worded g c = grind (arith, common_steps)
+
+pub returns-in_err-leave-clause-counts : goal.returns-in_err-leave-clause-counts
+returns-in_err-leave-clause-counts g c = grind (arith, common_steps)
+
+pub sweep-requires-2-clause-cells : goal.sweep-requires-2-clause-cells
+sweep-requires-2-clause-cells g c = grind (arith, common_steps)
+
+pub sweep-requires-2-clause-covered : goal.sweep-requires-2-clause-covered
+sweep-requires-2-clause-covered g c = grind (arith, common_steps)
+
+pub sweep-requires-2-clause-fits : goal.sweep-requires-2-clause-fits
+sweep-requires-2-clause-fits g c = grind (arith, common_steps)
+
+pub sweep-requires-2-clause-kept : goal.sweep-requires-2-clause-kept
+sweep-requires-2-clause-kept g c = grind (arith, common_steps)
+
+pub sweep-requires-2-clause-order : goal.sweep-requires-2-clause-order
+sweep-requires-2-clause-order g c = grind (arith, common_steps)
+
+pub sweep-requires-2-clause-places : goal.sweep-requires-2-clause-places
+sweep-requires-2-clause-places g c = grind (arith, common_steps)
+
+pub sweep-requires-2-clause-records : goal.sweep-requires-2-clause-records
+sweep-requires-2-clause-records g c = grind (arith, common_steps)
+
+pub sweep-requires-2-clause-words : goal.sweep-requires-2-clause-words
+sweep-requires-2-clause-words g c = grind (arith, common_steps)
+
+pub sweep-requires-clause-cells : goal.sweep-requires-clause-cells
+sweep-requires-clause-cells g c = grind (arith, common_steps)
+
+pub sweep-requires-clause-covered : goal.sweep-requires-clause-covered
+sweep-requires-clause-covered g c = grind (arith, common_steps)
+
+pub sweep-requires-clause-fits : goal.sweep-requires-clause-fits
+sweep-requires-clause-fits g c = grind (arith, common_steps)
+
+pub sweep-requires-clause-kept : goal.sweep-requires-clause-kept
+sweep-requires-clause-kept g c = grind (arith, common_steps)
+
+pub sweep-requires-clause-order : goal.sweep-requires-clause-order
+sweep-requires-clause-order g c = grind (arith, common_steps)
+
+pub sweep-requires-clause-places : goal.sweep-requires-clause-places
+sweep-requires-clause-places g c = grind (arith, common_steps)
+
+pub sweep-requires-clause-records : goal.sweep-requires-clause-records
+sweep-requires-clause-records g c = grind (arith, common_steps)
+
+pub sweep-requires-clause-words : goal.sweep-requires-clause-words
+sweep-requires-clause-words g c = grind (arith, common_steps)

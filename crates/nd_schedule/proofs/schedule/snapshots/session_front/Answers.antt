@@ -1,4 +1,5 @@
 use Rattle.std.proofs.Common.{◌≡◌, ◌≤◌, length, sym, subst, arith}
+use Rattle.std.proofs.lemmas.Grind.{common_steps}
 use Rattle.nd_schedule.specs.Schedule.Snapshot.{StandsBefore}
 use Rattle.nd_schedule.proofs.schedule.Kept.{as_many}
 use Rattle.nd_schedule.proofs.schedule.snapshots.session_front.Goals as goal
@@ -42,3 +43,18 @@ returns-clause-fresh g c = λ b run all mine.
     let stop : c.stop_before-stop.result ≤ length b.cells = omega (arith, many, c.stop_before-stop.ensures.within, c.requires.within) in
     let on : StandsBefore b c.stop_before-stop.result (g.C.CellRunner.session_of c.replay_between.new.session) = c.in_ok-replay_between.ensures b run stands in
     c.keep_at-2.ensures.snapshots b stop on kept
+
+pub replay_between-requires-2-clause-order : goal.replay_between-requires-2-clause-order
+replay_between-requires-2-clause-order g c = grind (arith, common_steps)
+
+pub replay_between-requires-2-clause-run : goal.replay_between-requires-2-clause-run
+replay_between-requires-2-clause-run g c = grind (arith, common_steps)
+
+pub replay_between-requires-2-clause-within : goal.replay_between-requires-2-clause-within
+replay_between-requires-2-clause-within g c = grind (arith, common_steps)
+
+pub replay_between-requires-clause-order : goal.replay_between-requires-clause-order
+replay_between-requires-clause-order g c = grind (arith, common_steps)
+
+pub replay_between-requires-clause-within : goal.replay_between-requires-clause-within
+replay_between-requires-clause-within g c = grind (arith, common_steps)

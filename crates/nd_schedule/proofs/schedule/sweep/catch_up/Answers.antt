@@ -10,7 +10,7 @@ replay-requires g c =
     let new : Book = c.requires.at.1 in
     let place : IsPlace old new c.args.to c.requires.at.2 = c.requires.at.4 in
     let lt : c.loop-k.k < length old.cells = omega (arith, place.before) in (
-      new.inputs,
+      new.world,
       holds_at_hand old new c.args.to c.requires.at.2 (g.C.CellRunner.session_of c.loop-k.session) c.loop-k.k (c.loop-k.invariant old new c.requires.at.2 c.requires.at.3 place c.requires.at.5) (omega arith) place (g.C.CellRunner.recorded c.deref.result.now) (g.C.CellRunner.session_of c.loop-k.session)
           (ap g.C.CellRunner.recorded c.deref.ensures ∙ record_there (λ r. g.C.CellRunner.recorded r.value) old c.args.records.now c.index-records-k.result c.loop-k.k (c.requires.at.3).records lt c.index-records-k.is) refl,
     )

@@ -28,14 +28,14 @@ returns-in_err-keep-clause-counts g c = λ old new j before frame at h. Visiting
 
 pub returns-then-fits-clause-at : goal.returns-then-fits-clause-at
 returns-then-fits-clause-at g c = λ old new j frame at.
-    let is : g.C.CellRunner.recorded c.deref.result.now ≡ record_at old.inputs (entry_at old c.args.i) =
+    let is : g.C.CellRunner.recorded c.deref.result.now ≡ record_at old.world (entry_at old c.args.i) =
     ap g.C.CellRunner.recorded c.deref.ensures ∙ record_there (λ r. g.C.CellRunner.recorded r.value) old c.args.records.now c.index-records-i.result c.args.i (frame.run.records) (Visiting.lt old new c.args.i j _ _ _ frame _ _ _ at) c.index-records-i.is in
     let same : g.C.CellRunner.recorded c.deref-then-fits.result.now ≡ g.C.CellRunner.recorded c.deref.result.now = ap g.C.CellRunner.recorded (c.deref-then-fits.ensures ∙ sym c.deref.ensures) in
     Visiting.fits_at old new c.args.i j _ _ _ frame _ _ _ at (g.C.CellRunner.recorded c.deref-then-fits.result.now) _ (same ∙ is) (subst (Fits _) (sym same) (c.if-fits.ensures.0 refl)) c.in_ok-keep.ensures
 
 pub returns-then-fits-clause-changed : goal.returns-then-fits-clause-changed
 returns-then-fits-clause-changed g c = λ old new j from first frame at le at_first all.
-    let is : g.C.CellRunner.recorded c.deref.result.now ≡ record_at old.inputs (entry_at old c.args.i) =
+    let is : g.C.CellRunner.recorded c.deref.result.now ≡ record_at old.world (entry_at old c.args.i) =
     ap g.C.CellRunner.recorded c.deref.ensures ∙ record_there (λ r. g.C.CellRunner.recorded r.value) old c.args.records.now c.index-records-i.result c.args.i (frame.run.records) (Visiting.lt old new c.args.i j _ _ _ frame _ _ _ at) c.index-records-i.is in
     Visiting.same_more old new c.args.i j _ _ _ frame _ _ _ at from first _ le at_first
     (Visiting.fits_holds old new c.args.i j _ _ _ frame _ _ _ at (g.C.CellRunner.recorded c.deref.result.now) is (c.if-fits.ensures.0 refl)) all
@@ -71,7 +71,7 @@ run_again-requires-clause-none g c =
 pub returns-clause-at : goal.returns-clause-at
 returns-clause-at g c =
     Visiting.on_three c.run_again.result c.run_again.ensures.after c.run_again.ensures.follows c.run_again.ensures.since (λ after follows since old new j frame at.
-    let is : g.C.CellRunner.recorded c.deref-3.result.now ≡ record_at old.inputs (entry_at old c.args.i) =
+    let is : g.C.CellRunner.recorded c.deref-3.result.now ≡ record_at old.world (entry_at old c.args.i) =
     ap g.C.CellRunner.recorded c.deref-3.ensures ∙ record_there (λ r. g.C.CellRunner.recorded r.value) old c.args.records.now c.index-records-i.result c.args.i (frame.run.records) (Visiting.lt old new c.args.i j _ _ _ frame _ _ _ at) c.index-records-i.is in
     Visiting.run_at old new c.args.i j _ _ _ frame _ _ _ at (g.C.CellRunner.session_of c.catch_up.new.session)
     (c.in_ok-catch_up.ensures old new j frame.run (Visiting.place old new c.args.i j _ _ _ frame _ _ _ at) at.hand)
@@ -88,6 +88,6 @@ returns-clause-changed g c =
 
 pub returns-clause-counts : goal.returns-clause-counts
 returns-clause-counts g c = λ old new j before frame at h.
-    let is : g.C.CellRunner.recorded c.deref.result.now ≡ record_at old.inputs (entry_at old c.args.i) =
+    let is : g.C.CellRunner.recorded c.deref.result.now ≡ record_at old.world (entry_at old c.args.i) =
     ap g.C.CellRunner.recorded c.deref.ensures ∙ record_there (λ r. g.C.CellRunner.recorded r.value) old c.args.records.now c.index-records-i.result c.args.i (frame.run.records) (Visiting.lt old new c.args.i j _ _ _ frame _ _ _ at) c.index-records-i.is in
     Visiting.one_more old new c.args.i j _ _ _ frame _ _ _ at (g.C.CellRunner.recorded c.deref.result.now) before _ _ is (λ f. absurd (let e : false ≡ true = c.if-fits.ensures.1 f in cc)) h c.run_again.ensures.counted

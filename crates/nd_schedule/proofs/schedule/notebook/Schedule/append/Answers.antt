@@ -1,4 +1,6 @@
+use Rattle.std.proofs.lemmas.Grind.{common_steps}
 use Rattle.std.proofs.Common.{◌≡◌, ◌≤◌, ◌+◌, ◌||◌, ℕ, eqb, List, [], length, map, refl, sym, ap, ap₂, subst, ◌∙◌, arith}
+use Rattle.std.proofs.lemmas.Grind.{common_steps}
 use Rattle.std.specs.Prelude.{insert}
 use Rattle.std.specs.List.{All}
 use Rattle.std.proofs.lemmas.List.{length-map}
@@ -23,7 +25,7 @@ use Rattle.nd_schedule.proofs.schedule.notebook.Schedule.append.Goals as goal
 pub put_new-requires-clause-records : goal.put_new-requires-clause-records
 put_new-requires-clause-records g c =
     let s : Sheet = c.front_end.new.self in
-    let view : sheet (cells_of c.self-2.inside.cells.items) (g.C.CellRunner.given c.self-2.inside.inputs) ≡ s = c.self-2.view_is in
+    let view : sheet (cells_of c.self-2.inside.cells.items) (g.C.CellRunner.given c.self-2.inside.world) ≡ s = c.self-2.view_is in
     let run : IsKept g.C.CellRunner.covers (book_of s) (each_of g.C.CellRunner.recorded c.self-2.inside.records.items) c.self-2.inside.words.items =
     subst (λ (s : Sheet). IsKept g.C.CellRunner.covers (book_of s) (each_of g.C.CellRunner.recorded c.self-2.inside.records.items) c.self-2.inside.words.items) view (c.self-2.invariant).0 in
     let many : length c.self-2.inside.records.items ≡ length s.cells = as_many (λ r. g.C.CellRunner.recorded r.value) (book_of s) c.self-2.inside.records.items run.run.records in
@@ -35,7 +37,7 @@ put_new-requires-clause-records g c =
 pub put_new-requires-clause-words : goal.put_new-requires-clause-words
 put_new-requires-clause-words g c =
     let s : Sheet = c.front_end.new.self in
-    let view : sheet (cells_of c.self-2.inside.cells.items) (g.C.CellRunner.given c.self-2.inside.inputs) ≡ s = c.self-2.view_is in
+    let view : sheet (cells_of c.self-2.inside.cells.items) (g.C.CellRunner.given c.self-2.inside.world) ≡ s = c.self-2.view_is in
     let run : IsKept g.C.CellRunner.covers (book_of s) (each_of g.C.CellRunner.recorded c.self-2.inside.records.items) c.self-2.inside.words.items =
     subst (λ (s : Sheet). IsKept g.C.CellRunner.covers (book_of s) (each_of g.C.CellRunner.recorded c.self-2.inside.records.items) c.self-2.inside.words.items) view (c.self-2.invariant).0 in
     let many : length c.self-2.inside.records.items ≡ length s.cells = as_many (λ r. g.C.CellRunner.recorded r.value) (book_of s) c.self-2.inside.records.items run.run.records in
@@ -46,14 +48,14 @@ put_new-requires-clause-words g c =
 
 pub invariant_of-self : goal.invariant_of-self
 invariant_of-self g c =
-    subst (λ ws. IsKept g.C.CellRunner.covers (book_of (sheet (cells_of c.put_new.new.cells.items) (g.C.CellRunner.given c.self-2.inside.inputs))) (each_of g.C.CellRunner.recorded c.put_new.new.records.items) ws × All (λ x. IsSnapshot (book_of (sheet (cells_of c.put_new.new.cells.items) (g.C.CellRunner.given c.self-2.inside.inputs))) x.place (g.C.CellRunner.kept_session x.version) (map g.C.CellRunner.change_of x.pending.items)) c.self-2.inside.snapshots.items × AreUsed c.self-2.inside.least (cells_of c.put_new.new.cells.items)) (sym c.in_err-put_new.ensures.same_words)
-    (subst (λ rs. IsKept g.C.CellRunner.covers (book_of (sheet (cells_of c.put_new.new.cells.items) (g.C.CellRunner.given c.self-2.inside.inputs))) (each_of g.C.CellRunner.recorded rs) c.self-2.inside.words.items × All (λ x. IsSnapshot (book_of (sheet (cells_of c.put_new.new.cells.items) (g.C.CellRunner.given c.self-2.inside.inputs))) x.place (g.C.CellRunner.kept_session x.version) (map g.C.CellRunner.change_of x.pending.items)) c.self-2.inside.snapshots.items × AreUsed c.self-2.inside.least (cells_of c.put_new.new.cells.items)) (sym c.in_err-put_new.ensures.same_records)
-    (subst (λ xs. IsKept g.C.CellRunner.covers (book_of (sheet (cells_of xs) (g.C.CellRunner.given c.self-2.inside.inputs))) (each_of g.C.CellRunner.recorded c.self-2.inside.records.items) c.self-2.inside.words.items × All (λ x. IsSnapshot (book_of (sheet (cells_of xs) (g.C.CellRunner.given c.self-2.inside.inputs))) x.place (g.C.CellRunner.kept_session x.version) (map g.C.CellRunner.change_of x.pending.items)) c.self-2.inside.snapshots.items × AreUsed c.self-2.inside.least (cells_of xs)) (sym c.in_err-put_new.ensures.same_cells) c.self-2.invariant))
+    subst (λ ws. IsKept g.C.CellRunner.covers (book_of (sheet (cells_of c.put_new.new.cells.items) (g.C.CellRunner.given c.self-2.inside.world))) (each_of g.C.CellRunner.recorded c.put_new.new.records.items) ws × All (λ x. IsSnapshot (book_of (sheet (cells_of c.put_new.new.cells.items) (g.C.CellRunner.given c.self-2.inside.world))) x.place (g.C.CellRunner.kept_session x.version) (map g.C.CellRunner.change_of x.pending.items)) c.self-2.inside.snapshots.items × AreUsed c.self-2.inside.least (cells_of c.put_new.new.cells.items)) (sym c.in_err-put_new.ensures.same_words)
+    (subst (λ rs. IsKept g.C.CellRunner.covers (book_of (sheet (cells_of c.put_new.new.cells.items) (g.C.CellRunner.given c.self-2.inside.world))) (each_of g.C.CellRunner.recorded rs) c.self-2.inside.words.items × All (λ x. IsSnapshot (book_of (sheet (cells_of c.put_new.new.cells.items) (g.C.CellRunner.given c.self-2.inside.world))) x.place (g.C.CellRunner.kept_session x.version) (map g.C.CellRunner.change_of x.pending.items)) c.self-2.inside.snapshots.items × AreUsed c.self-2.inside.least (cells_of c.put_new.new.cells.items)) (sym c.in_err-put_new.ensures.same_records)
+    (subst (λ xs. IsKept g.C.CellRunner.covers (book_of (sheet (cells_of xs) (g.C.CellRunner.given c.self-2.inside.world))) (each_of g.C.CellRunner.recorded c.self-2.inside.records.items) c.self-2.inside.words.items × All (λ x. IsSnapshot (book_of (sheet (cells_of xs) (g.C.CellRunner.given c.self-2.inside.world))) x.place (g.C.CellRunner.kept_session x.version) (map g.C.CellRunner.change_of x.pending.items)) c.self-2.inside.snapshots.items × AreUsed c.self-2.inside.least (cells_of xs)) (sym c.in_err-put_new.ensures.same_cells) c.self-2.invariant))
 
 pub invariant_of-self-2 : goal.invariant_of-self-2
 invariant_of-self-2 g c =
     let s : Sheet = c.front_end.new.self in
-    let view : sheet (cells_of c.self-2.inside.cells.items) (g.C.CellRunner.given c.self-2.inside.inputs) ≡ s = c.self-2.view_is in
+    let view : sheet (cells_of c.self-2.inside.cells.items) (g.C.CellRunner.given c.self-2.inside.world) ≡ s = c.self-2.view_is in
     let run : IsKept g.C.CellRunner.covers (book_of s) (each_of g.C.CellRunner.recorded c.self-2.inside.records.items) c.self-2.inside.words.items =
     subst (λ (s : Sheet). IsKept g.C.CellRunner.covers (book_of s) (each_of g.C.CellRunner.recorded c.self-2.inside.records.items) c.self-2.inside.words.items) view (c.self-2.invariant).0 in
     let many : length c.self-2.inside.records.items ≡ length s.cells = as_many (λ r. g.C.CellRunner.recorded r.value) (book_of s) c.self-2.inside.records.items run.run.records in
@@ -73,7 +75,7 @@ invariant_of-self-2 g c =
     ∙ ap (λ n. insert (each_of g.C.CellRunner.recorded c.self-2.inside.records.items) n (g.C.CellRunner.recorded c.in_ok-new.new.record.value)) at_is in
     let words : c.put_new.new.words.items ≡ insert c.self-2.inside.words.items (length s.cells) c.in_ok-new.new.word =
     c.in_ok-put_new.ensures.words ∙ ap (λ n. insert c.self-2.inside.words.items n c.in_ok-new.new.word) at_is in
-    let now : sheet (cells_of c.put_new.new.cells.items) (g.C.CellRunner.given c.self-2.inside.inputs) ≡ sheet (insert s.cells (length s.cells) cell) s.given = ap₂ sheet cells (ap (λ (s : Sheet). s.given) view) in
+    let now : sheet (cells_of c.put_new.new.cells.items) (g.C.CellRunner.given c.self-2.inside.world) ≡ sheet (insert s.cells (length s.cells) cell) s.given = ap₂ sheet cells (ap (λ (s : Sheet). s.given) view) in
     let kept : All (λ x. IsSnapshot old x.place (g.C.CellRunner.kept_session x.version) (map g.C.CellRunner.change_of x.pending.items)) c.self-2.inside.snapshots.items =
     subst (λ (s : Sheet). All (λ x. IsSnapshot (book_of s) x.place (g.C.CellRunner.kept_session x.version) (map g.C.CellRunner.change_of x.pending.items)) c.self-2.inside.snapshots.items) view (c.self-2.invariant).1 in
     let behind : IsBehind old new (length s.cells) = Inserting.is_behind s (length s.cells) cell le run.run.distinct label in
@@ -96,3 +98,39 @@ invariant_of-self-2 g c =
       subst (AreUsed c.args.next) (sym cells) (used_insert c.args.next s.cells (length s.cells) cell
           (λ n lt. ap₂ (λ (cs : List Cell) (l : ℕ). is_label n cs || eqb n l) (ap (λ (s : Sheet). s.cells) c.front_end.ensures.same) (ap (λ (x : KeptCell). x.label) c.deref.ensures) ∙ c.requires.next n lt)),
     )
+
+pub put_new-requires-clause-cells : goal.put_new-requires-clause-cells
+put_new-requires-clause-cells g c = grind (arith, common_steps)
+
+pub returns-clause-counts : goal.returns-clause-counts
+returns-clause-counts g c = grind (arith, common_steps)
+
+pub returns-clause-err : goal.returns-clause-err
+returns-clause-err g c = grind (arith, common_steps)
+
+pub returns-clause-ok : goal.returns-clause-ok
+returns-clause-ok g c = grind (arith, common_steps)
+
+pub returns-in_err-new-clause-counts : goal.returns-in_err-new-clause-counts
+returns-in_err-new-clause-counts g c = grind (arith, common_steps)
+
+pub returns-in_err-new-clause-err : goal.returns-in_err-new-clause-err
+returns-in_err-new-clause-err g c = grind (arith, common_steps)
+
+pub returns-in_err-put_new-clause-counts : goal.returns-in_err-put_new-clause-counts
+returns-in_err-put_new-clause-counts g c = grind (arith, common_steps)
+
+pub returns-in_err-put_new-clause-err : goal.returns-in_err-put_new-clause-err
+returns-in_err-put_new-clause-err g c = grind (arith, common_steps)
+
+pub returns-in_err-session-clause-counts : goal.returns-in_err-session-clause-counts
+returns-in_err-session-clause-counts g c = grind (arith, common_steps)
+
+pub returns-in_err-session-clause-err : goal.returns-in_err-session-clause-err
+returns-in_err-session-clause-err g c = grind (arith, common_steps)
+
+pub run_end-requires-clause-label : goal.run_end-requires-clause-label
+run_end-requires-clause-label g c = grind (arith, common_steps)
+
+pub run_end-requires-clause-session : goal.run_end-requires-clause-session
+run_end-requires-clause-session g c = grind (arith, common_steps)

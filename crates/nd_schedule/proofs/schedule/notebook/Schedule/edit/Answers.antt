@@ -1,8 +1,10 @@
-use Rattle.std.proofs.Common.{◌≡◌, length, map, sym, ap, ap₂, subst, ◌∙◌}
+use Rattle.std.proofs.Common.{◌≡◌, length, map, sym, ap, ap₂, subst, ◌∙◌, arith}
+use Rattle.std.proofs.lemmas.Grind.{common_steps}
 use Rattle.std.specs.Prelude.{slice_index_or, slice_set}
 use Rattle.std.proofs.lemmas.List.{length-map}
 use Rattle.nd_model.specs.Book.Book.{Cell, no_cell}
 use Rattle.nd_model.specs.Book.Notebook.{Sheet, book_of}
+use Rattle.nd_model.specs.Book.Stale.{CountsStale}
 use Rattle.nd_schedule.specs.declared.cells.source.KeptCell.{KeptCell}
 use Rattle.nd_schedule.specs.Cells.Labels.{AreUsed}
 use Rattle.nd_schedule.specs.Cells.Source.{sheet, cell_of}
@@ -11,7 +13,7 @@ use Rattle.nd_schedule.specs.Schedule.Sweep.{AreFit, IsKept, fit_at}
 use Rattle.std.specs.List.{All}
 use Rattle.nd_schedule.specs.Schedule.Snapshot.{IsSnapshot}
 use Rattle.nd_schedule.proofs.schedule.Kept.{as_many}
-use Rattle.nd_schedule.proofs.schedule.Editing.{behind_set, label_at, unchanged, cell_now, cells_now, kept_now}
+use Rattle.nd_schedule.proofs.schedule.Editing.{behind_set, label_at, unchanged, cells_now, kept_now}
 use Rattle.nd_schedule.proofs.cells.Used.{used_set}
 use Rattle.nd_schedule.proofs.schedule.notebook.Schedule.edit.Goals as goal
 
@@ -25,35 +27,82 @@ install-requires-clause-fit g c =
     let run : IsKept g.C.CellRunner.covers (book_of c.args.self.now) (each_of g.C.CellRunner.recorded c.self.inside.records.items) c.self.inside.words.items =
     subst (λ (s : Sheet). IsKept g.C.CellRunner.covers (book_of s) (each_of g.C.CellRunner.recorded c.self.inside.records.items) c.self.inside.words.items) c.self.view_is (c.self.invariant).0 in
     let many : length c.self.inside.records.items ≡ length c.args.self.now.cells = as_many (λ r. g.C.CellRunner.recorded r.value) (book_of c.args.self.now) c.self.inside.records.items run.run.records in
-    subst (λ n. AreFit g.C.CellRunner.covers n (map (λ c'. fit_at c'.place (g.C.CellRunner.recorded c'.record.value) c'.word) c.in_ok-changed.field-0.changed.items)) (sym many) c.in_ok-changed.ensures.fit
+    subst (λ n. AreFit g.C.CellRunner.covers n (map (λ c'. fit_at c'.place (g.C.CellRunner.recorded c'.record.value) c'.word) c.in_ok-swept.field-0.swept.changed.items)) (sym many) c.in_ok-swept.ensures.fit
 
 pub invariant_of-self : goal.invariant_of-self
 invariant_of-self g c =
     let run : IsKept g.C.CellRunner.covers (book_of c.args.self.now) (each_of g.C.CellRunner.recorded c.self.inside.records.items) c.self.inside.words.items =
     subst (λ (s : Sheet). IsKept g.C.CellRunner.covers (book_of s) (each_of g.C.CellRunner.recorded c.self.inside.records.items) c.self.inside.words.items) c.self.view_is (c.self.invariant).0 in
-    let is : cell_of c.in_ok-cell.cell.value ≡ cell_of c.deref-3.result.now = ap cell_of (sym c.deref-3.ensures) in
-    let label : c.deref-3.result.now.label ≡ (slice_index_or c.args.self.now.cells c.args.at no_cell).label =
-    ap (λ (s : KeptCell). s.label) (c.deref-3.ensures ∙ c.in_ok-cell.ensures.ok) ∙ ap (λ (s : KeptCell). s.label) c.deref-2.ensures
-    ∙ ap (λ (x : Cell). x.label) (label_at c.args.self.now.cells c.self.inside.cells.items c.index-2.result.now c.args.at (ap (λ (s : Sheet). s.cells) c.self.view_is) c.requires c.index-2.ensures) in
+    let is : cell_of c.in_ok-cell.cell.value ≡ cell_of c.deref-2.result.now = ap cell_of (sym c.deref-2.ensures) in
+    let label : c.deref-2.result.now.label ≡ (slice_index_or c.args.self.now.cells c.args.at no_cell).label = ap (λ (s : KeptCell). s.label) c.deref-2.ensures ∙ c.in_ok-cell.ensures.label in
     let long : length (each_of g.C.CellRunner.recorded c.install.new.records.items) ≡ length (each_of g.C.CellRunner.recorded c.self.inside.records.items) =
     length-map c.install.new.records.items (λ r. g.C.CellRunner.recorded r.value) ∙ c.install.ensures.count ∙ sym (length-map c.self.inside.records.items (λ r. g.C.CellRunner.recorded r.value)) in
     let used : AreUsed c.self.inside.least c.args.self.now.cells = subst (λ (s : Sheet). AreUsed c.self.inside.least s.cells) c.self.view_is (c.self.invariant).2 in
     let kept : All (λ x. IsSnapshot (book_of c.args.self.now) x.place (g.C.CellRunner.kept_session x.version) (map g.C.CellRunner.change_of x.pending.items)) c.self.inside.snapshots.items =
     subst (λ (s : Sheet). All (λ x. IsSnapshot (book_of s) x.place (g.C.CellRunner.kept_session x.version) (map g.C.CellRunner.change_of x.pending.items)) c.self.inside.snapshots.items) c.self.view_is (c.self.invariant).1 in (
       subst (λ (s : Sheet). IsKept g.C.CellRunner.covers (book_of s) (each_of g.C.CellRunner.recorded c.install.new.records.items) c.install.new.words.items)
-          (sym (ap₂ sheet (cells_now c.self.inside.cells.items c.args.self.now.cells c.args.at c.in_ok-cell.cell (cell_of c.deref-3.result.now) (ap (λ (s : Sheet). s.cells) c.self.view_is) is) (ap (λ (s : Sheet). s.given) c.self.view_is)))
-          (kept_now g.C.CellRunner.covers c.args.self.now c.args.at (cell_of c.deref-3.result.now) _ (each_of g.C.CellRunner.recorded c.self.inside.records.items) (each_of g.C.CellRunner.recorded c.install.new.records.items) c.self.inside.words.items c.install.new.words.items c.requires label run
-          c.in_ok-changed.ensures.changed long c.install.ensures.many c.install.ensures.records c.install.ensures.words),
-      subst (λ (s : Sheet). All (λ x. IsSnapshot (book_of s) x.place (g.C.CellRunner.kept_session x.version) (map g.C.CellRunner.change_of x.pending.items)) c.carry.new.snapshots.items) (sym (ap₂ sheet (cells_now c.self.inside.cells.items c.args.self.now.cells c.args.at c.in_ok-cell.cell (cell_of c.deref-3.result.now) (ap (λ (s : Sheet). s.cells) c.self.view_is) is) (ap (λ (s : Sheet). s.given) c.self.view_is)))
-          (c.carry.ensures (book_of c.args.self.now) (book_of (sheet (slice_set c.args.self.now.cells c.args.at (cell_of c.deref-3.result.now)) c.args.self.now.given)) (behind_set c.args.self.now c.args.at (cell_of c.deref-3.result.now) c.requires run.run.distinct label) c.in_ok-changed.ensures.noted c.in_ok-session.ensures.fresh kept),
-      subst (AreUsed c.self.inside.least) (sym (cells_now c.self.inside.cells.items c.args.self.now.cells c.args.at c.in_ok-cell.cell (cell_of c.deref-3.result.now) (ap (λ (s : Sheet). s.cells) c.self.view_is) is))
-          (used_set c.self.inside.least c.args.self.now.cells c.args.at (cell_of c.deref-3.result.now) label used),
+          (sym (ap₂ sheet (cells_now c.self.inside.cells.items c.args.self.now.cells c.args.at c.in_ok-cell.cell (cell_of c.deref-2.result.now) (ap (λ (s : Sheet). s.cells) c.self.view_is) is) (ap (λ (s : Sheet). s.given) c.self.view_is)))
+          (kept_now g.C.CellRunner.covers c.args.self.now c.args.at (cell_of c.deref-2.result.now) _ (each_of g.C.CellRunner.recorded c.self.inside.records.items) (each_of g.C.CellRunner.recorded c.install.new.records.items) c.self.inside.words.items c.install.new.words.items c.requires label run
+          c.in_ok-swept.ensures.changed long c.install.ensures.many c.install.ensures.records c.install.ensures.words),
+      subst (λ (s : Sheet). All (λ x. IsSnapshot (book_of s) x.place (g.C.CellRunner.kept_session x.version) (map g.C.CellRunner.change_of x.pending.items)) c.carry.new.snapshots.items) (sym (ap₂ sheet (cells_now c.self.inside.cells.items c.args.self.now.cells c.args.at c.in_ok-cell.cell (cell_of c.deref-2.result.now) (ap (λ (s : Sheet). s.cells) c.self.view_is) is) (ap (λ (s : Sheet). s.given) c.self.view_is)))
+          (c.carry.ensures (book_of c.args.self.now) (book_of (sheet (slice_set c.args.self.now.cells c.args.at (cell_of c.deref-2.result.now)) c.args.self.now.given)) (behind_set c.args.self.now c.args.at (cell_of c.deref-2.result.now) c.requires run.run.distinct label) c.in_ok-swept.ensures.noted c.in_ok-swept.ensures.fresh kept),
+      subst (AreUsed c.self.inside.least) (sym (cells_now c.self.inside.cells.items c.args.self.now.cells c.args.at c.in_ok-cell.cell (cell_of c.deref-2.result.now) (ap (λ (s : Sheet). s.cells) c.self.view_is) is))
+          (used_set c.self.inside.least c.args.self.now.cells c.args.at (cell_of c.deref-2.result.now) label used),
     )
 
 pub returns-clause-ok : goal.returns-clause-ok
 returns-clause-ok g c =
     let new : ◌≡◌ {A = Cell} (cell_of c.in_ok-cell.cell.value) (record { label = (slice_index_or c.args.self.now.cells c.args.at no_cell).label; source = c.args.text.now }) =
-    cell_now c.in_ok-cell.cell _ _ _ c.in_ok-cell.ensures.ok
-    (ap (λ (s : KeptCell). s.label) c.deref-2.ensures ∙ ap (λ (x : Cell). x.label) (label_at c.args.self.now.cells c.self.inside.cells.items c.index-2.result.now c.args.at (ap (λ (s : Sheet). s.cells) c.self.view_is) c.requires c.index-2.ensures))
-    c.in_ok-text.ensures.ok in
+    λ i. record { label = c.in_ok-cell.ensures.label i; source = c.in_ok-cell.ensures.text i } in
     ap₂ sheet (cells_now c.self.inside.cells.items c.args.self.now.cells c.args.at c.in_ok-cell.cell _ (ap (λ (s : Sheet). s.cells) c.self.view_is) new) (ap (λ (s : Sheet). s.given) c.self.view_is)
+
+pub returns-clause-counts : goal.returns-clause-counts
+returns-clause-counts g c =
+    let new : ◌≡◌ {A = Cell} (cell_of c.in_ok-cell.cell.value) (record { label = (slice_index_or c.args.self.now.cells c.args.at no_cell).label; source = c.args.text.now }) =
+    λ i. record { label = c.in_ok-cell.ensures.label i; source = c.in_ok-cell.ensures.text i } in
+    subst (λ (x : Cell). CountsStale (book_of c.args.self.now) (book_of (sheet (slice_set c.args.self.now.cells c.args.at x) c.args.self.now.given)) c.args.meter.now c.swept_with.new.meter) (ap cell_of c.deref-2.ensures ∙ new) c.swept_with.ensures.counts
+
+pub returns-in_err-swept-clause-counts : goal.returns-in_err-swept-clause-counts
+returns-in_err-swept-clause-counts g c =
+    let new : ◌≡◌ {A = Cell} (cell_of c.in_ok-cell.cell.value) (record { label = (slice_index_or c.args.self.now.cells c.args.at no_cell).label; source = c.args.text.now }) =
+    λ i. record { label = c.in_ok-cell.ensures.label i; source = c.in_ok-cell.ensures.text i } in
+    subst (λ (x : Cell). CountsStale (book_of c.args.self.now) (book_of (sheet (slice_set c.args.self.now.cells c.args.at x) c.args.self.now.given)) c.args.meter.now c.swept_with.new.meter) (ap cell_of c.deref-2.ensures ∙ new) c.swept_with.ensures.counts
+
+pub swept_with-requires-clause-label : goal.swept_with-requires-clause-label
+swept_with-requires-clause-label g c = ap (λ (s : KeptCell). s.label) c.deref-2.ensures ∙ c.in_ok-cell.ensures.label
+
+pub eq-requires : goal.eq-requires
+eq-requires g c = grind (arith, common_steps)
+
+pub index-requires : goal.index-requires
+index-requires g c = grind (arith, common_steps)
+
+pub index_mut-requires : goal.index_mut-requires
+index_mut-requires g c = grind (arith, common_steps)
+
+pub install-requires-clause-many : goal.install-requires-clause-many
+install-requires-clause-many g c = grind (arith, common_steps)
+
+pub returns-clause-err : goal.returns-clause-err
+returns-clause-err g c = grind (arith, common_steps)
+
+pub returns-in_err-cell-clause-counts : goal.returns-in_err-cell-clause-counts
+returns-in_err-cell-clause-counts g c = grind (arith, common_steps)
+
+pub returns-in_err-cell-clause-err : goal.returns-in_err-cell-clause-err
+returns-in_err-cell-clause-err g c = grind (arith, common_steps)
+
+pub returns-in_err-swept-clause-err : goal.returns-in_err-swept-clause-err
+returns-in_err-swept-clause-err g c = grind (arith, common_steps)
+
+pub returns-then-eq-clause-counts : goal.returns-then-eq-clause-counts
+returns-then-eq-clause-counts g c = grind (arith, common_steps)
+
+pub returns-then-eq-clause-err : goal.returns-then-eq-clause-err
+returns-then-eq-clause-err g c = grind (arith, common_steps)
+
+pub swept_with-requires-clause-at : goal.swept_with-requires-clause-at
+swept_with-requires-clause-at g c = grind (arith, common_steps)
+
+pub swept_with-requires-clause-other : goal.swept_with-requires-clause-other
+swept_with-requires-clause-other g c = grind (arith, common_steps)

@@ -1,4 +1,5 @@
 use Rattle.std.proofs.Common.{◌≡◌, length, map, sym, ap, subst, ◌∙◌, arith}
+use Rattle.std.proofs.lemmas.Grind.{common_steps}
 use Rattle.std.specs.Prelude.{IfOk}
 use Rattle.std.specs.List.{All}
 use Rattle.std.proofs.lemmas.List.{length-map}
@@ -31,3 +32,15 @@ returns-clause-session g c =
     subst (λ n. StandsBefore (book_of c.args.self.now) n (g.C.CellRunner.session_of c.in-Some.session)) at_is
     (if_some (λ h. (b : Book) → All (λ x. IsSnapshot b x.place (g.C.CellRunner.kept_session x.version) (map g.C.CellRunner.change_of x.pending.items)) c.self.inside.snapshots.items → StandsBefore b c.len-at.result (g.C.CellRunner.session_of h)) c.in_ok-taken.taken _ c.in-Some.is c.in_ok-taken.ensures.session
     (book_of c.args.self.now) kept)
+
+pub returns-clause-fresh : goal.returns-clause-fresh
+returns-clause-fresh g c = grind (arith, common_steps)
+
+pub returns-clause-same : goal.returns-clause-same
+returns-clause-same g c = grind (arith, common_steps)
+
+pub returns-in_default-clause-same : goal.returns-in_default-clause-same
+returns-in_default-clause-same g c = grind (arith, common_steps)
+
+pub returns-in_default-clause-session : goal.returns-in_default-clause-session
+returns-in_default-clause-session g c = grind (arith, common_steps)

@@ -1,10 +1,12 @@
+use Rattle.std.proofs.lemmas.Grind.{common_steps}
 use Rattle.std.proofs.Common.{◌≡◌, ℕ, ◌<◌, List, length, map, get_or, Option, refl, sym, ap, ap₂, subst, ◌∙◌, arith}
+use Rattle.std.proofs.lemmas.Grind.{common_steps}
 use Rattle.std.specs.Prelude.{insert, remove, MatchOption}
 use Rattle.std.proofs.lemmas.List.{length-map}
 use Rattle.nd_model.specs.Book.Records.{Record}
 use Rattle.nd_model.specs.Book.Book.{Book, Move, no_cell}
 use Rattle.nd_model.specs.Book.Entries.{entry_at, record_at, records_of}
-use Rattle.nd_model.specs.Book.Notebook.{Sheet, book_of, edited_sheet, inputs_in}
+use Rattle.nd_model.specs.Book.Notebook.{Sheet, book_of, edited_sheet, world_in}
 use Rattle.nd_model.proofs.Entries.{get_or-records_of}
 use Rattle.nd_schedule.specs.Cells.Labels.{AreUsed}
 use Rattle.nd_schedule.specs.Cells.Source.{sheet, cell_of, cells_of}
@@ -20,25 +22,25 @@ use Rattle.nd_schedule.proofs.schedule.notebook.Schedule.move_cell.Goals as goal
 -- the records of all other cells, once both lists of changes are in their places
 module _ (old new : Book) (from to : ℕ) (es ds : Changes) (rs ss ts : List Record) (all : rs ≡ records_of old) (moved : AreMoved old new from to es ds) (first : (k : ℕ) (r : Record) → get_or ss k r ≡ changed es k (get_or rs k r))
     (second : (k : ℕ) (r : Record) → get_or ts k r ≡ changed ds k (get_or ss k r)) where
-  both : (k : ℕ) (r : Record) → k < length old.cells → get_or ts k r ≡ changed ds k (changed es k (record_at old.inputs (entry_at old k)))
+  both : (k : ℕ) (r : Record) → k < length old.cells → get_or ts k r ≡ changed ds k (changed es k (record_at old.world (entry_at old k)))
   both k r lt = second k r ∙ ap (changed ds k) (first k r ∙ ap (changed es k) (ap (λ rs. get_or rs k r) all ∙ get_or-records_of old k r lt))
 
-  stays_put : {X : Type 0} (P : X → Type 0) (o : Option X) (r x : Record) → from < length old.cells → MatchOption o (record_at old.inputs (entry_at old from) ≡ x) P → MatchOption o (get_or ts from r ≡ x) P
-  stays_put P o r x lt h = match_more o h (λ e. both from r lt ∙ moved.stays (record_at old.inputs (entry_at old from)) ∙ e) (λ n p. p)
+  stays_put : {X : Type 0} (P : X → Type 0) (o : Option X) (r x : Record) → from < length old.cells → MatchOption o (record_at old.world (entry_at old from) ≡ x) P → MatchOption o (get_or ts from r ≡ x) P
+  stays_put P o r x lt h = match_more o h (λ e. both from r lt ∙ moved.stays (record_at old.world (entry_at old from)) ∙ e) (λ n p. p)
 
 pub install-requires-clause-fit : goal.install-requires-clause-fit
 install-requires-clause-fit g c =
     let run : IsKept g.C.CellRunner.covers (book_of c.args.self.now) (each_of g.C.CellRunner.recorded c.self.inside.records.items) c.self.inside.words.items =
     subst (λ (s : Sheet). IsKept g.C.CellRunner.covers (book_of s) (each_of g.C.CellRunner.recorded c.self.inside.records.items) c.self.inside.words.items) c.self.view_is (c.self.invariant).0 in
     let many : length c.self.inside.records.items ≡ length c.args.self.now.cells = as_many (λ r. g.C.CellRunner.recorded r.value) (book_of c.args.self.now) c.self.inside.records.items run.run.records in
-    subst (λ n. AreFit g.C.CellRunner.covers n (map (λ c'. fit_at c'.place (g.C.CellRunner.recorded c'.record.value) c'.word) c.in_ok-made.field-0.between.items)) (sym many) c.in_ok-made.ensures.fit_between
+    subst (λ n. AreFit g.C.CellRunner.covers n (map (λ c'. fit_at c'.place (g.C.CellRunner.recorded c'.record.value) c'.word) c.in_ok-moved.moved.between.items)) (sym many) c.in_ok-moved.ensures.fit_between
 
 pub install-requires-2-clause-fit : goal.install-requires-2-clause-fit
 install-requires-2-clause-fit g c =
     let run : IsKept g.C.CellRunner.covers (book_of c.args.self.now) (each_of g.C.CellRunner.recorded c.self.inside.records.items) c.self.inside.words.items =
     subst (λ (s : Sheet). IsKept g.C.CellRunner.covers (book_of s) (each_of g.C.CellRunner.recorded c.self.inside.records.items) c.self.inside.words.items) c.self.view_is (c.self.invariant).0 in
     let many : length c.self.inside.records.items ≡ length c.args.self.now.cells = as_many (λ r. g.C.CellRunner.recorded r.value) (book_of c.args.self.now) c.self.inside.records.items run.run.records in
-    subst (λ n. AreFit g.C.CellRunner.covers n (map (λ c'. fit_at c'.place (g.C.CellRunner.recorded c'.record.value) c'.word) c.in_ok-made.field-0.behind.items)) (sym (c.install.ensures.count ∙ many)) c.in_ok-made.ensures.fit_behind
+    subst (λ n. AreFit g.C.CellRunner.covers n (map (λ c'. fit_at c'.place (g.C.CellRunner.recorded c'.record.value) c'.word) c.in_ok-moved.moved.behind.items)) (sym (c.install.ensures.count ∙ many)) c.in_ok-moved.ensures.fit_behind
 
 pub put_made-requires-clause-at : goal.put_made-requires-clause-at
 put_made-requires-clause-at g c =
@@ -89,9 +91,9 @@ invariant_of-self g c =
     ∙ ap (λ cs. insert (remove cs c.args.from) c.args.to (get_or cs c.args.from no_cell)) (ap (λ (s : Sheet). s.cells) c.self.view_is) in
     let old : Book = book_of c.args.self.now in
     let new : Book = book_of (edited_sheet (Move c.args.from c.args.to) c.args.self.now) in
-    let d : Record = record_at old.inputs (entry_at old c.args.from) in
-    let x : Record = record_at new.inputs (entry_at new c.args.to) in
-    let way : IsMoving old new c.args.from c.args.to c.args.self.now.cells (records_of old) (inputs_in c.args.self.now.given) =
+    let d : Record = record_at old.world (entry_at old c.args.from) in
+    let x : Record = record_at new.world (entry_at new c.args.to) in
+    let way : IsMoving old new c.args.from c.args.to c.args.self.now.cells (records_of old) (world_in c.args.self.now.given) =
     moving c.args.self.now c.args.from c.args.to _ _ _ refl (record { records = refl; distinct = run.run.distinct }) refl c.requires.from c.requires.to in
     let us : List Record = each_of g.C.CellRunner.recorded c.put_made.new.records.items in
     let ts : List Record = each_of g.C.CellRunner.recorded c.install-2.new.records.items in
@@ -99,21 +101,21 @@ invariant_of-self g c =
     let rs : List Record = each_of g.C.CellRunner.recorded c.self.inside.records.items in
     let long : length us ≡ length old.cells = length-map c.put_made.new.records.items (λ r. g.C.CellRunner.recorded r.value) ∙ c.put_made.ensures.count ∙ c.install-2.ensures.count ∙ c.install.ensures.count ∙ many in
     let as_long : length c.put_made.new.words.items ≡ length us = c.put_made.ensures.many ∙ c.install-2.ensures.many ∙ c.install.ensures.many ∙ run.many ∙ viewed ∙ many ∙ sym long in
-    let es : Changes = (map (λ c'. change_at c'.place (g.C.CellRunner.recorded c'.record.value)) c.in_ok-made.field-0.between.items) in
-    let ds : Changes = (map (λ c'. change_at c'.place (g.C.CellRunner.recorded c'.record.value)) c.in_ok-made.field-0.behind.items) in
-    let put : (k : ℕ) (r : Record) → k < length old.cells → ¬ (k ≡ c.args.from) → get_or us k r ≡ changed ds k (changed es k (record_at old.inputs (entry_at old k))) =
-    λ k r lt other. c.put_made.ensures.others k r other ∙ both old new c.args.from c.args.to es ds rs ss ts run.run.records c.in_ok-made.ensures.moved c.install.ensures.records c.install-2.ensures.records k r lt in
+    let es : Changes = (map (λ c'. change_at c'.place (g.C.CellRunner.recorded c'.record.value)) c.in_ok-moved.moved.between.items) in
+    let ds : Changes = (map (λ c'. change_at c'.place (g.C.CellRunner.recorded c'.record.value)) c.in_ok-moved.moved.behind.items) in
+    let put : (k : ℕ) (r : Record) → k < length old.cells → ¬ (k ≡ c.args.from) → get_or us k r ≡ changed ds k (changed es k (record_at old.world (entry_at old k))) =
+    λ k r lt other. c.put_made.ensures.others k r other ∙ both old new c.args.from c.args.to es ds rs ss ts run.run.records c.in_ok-moved.ensures.moved c.install.ensures.records c.install-2.ensures.records k r lt in
     let there : (r : Record) → get_or us c.args.from r ≡ x =
-    λ r. c.put_made.ensures.there r x (stays_put old new c.args.from c.args.to es ds rs ss ts run.run.records c.in_ok-made.ensures.moved c.install.ensures.records c.install-2.ensures.records (λ n. g.C.CellRunner.recorded n.record.value ≡ x) c.in_ok-made.field-0.made r x c.requires.from c.in_ok-made.ensures.made) in
+    λ r. c.put_made.ensures.there r x (stays_put old new c.args.from c.args.to es ds rs ss ts run.run.records c.in_ok-moved.ensures.moved c.install.ensures.records c.install-2.ensures.records (λ n. g.C.CellRunner.recorded n.record.value ≡ x) c.in_ok-moved.moved.made r x c.requires.from c.in_ok-moved.ensures.made) in
     let used : AreUsed c.self.inside.least c.args.self.now.cells = subst (λ (s : Sheet). AreUsed c.self.inside.least s.cells) c.self.view_is (c.self.invariant).2 in
     let kept : All (λ x. IsSnapshot (book_of c.args.self.now) x.place (g.C.CellRunner.kept_session x.version) (map g.C.CellRunner.change_of x.pending.items)) c.self.inside.snapshots.items =
     subst (λ (s : Sheet). All (λ x. IsSnapshot (book_of s) x.place (g.C.CellRunner.kept_session x.version) (map g.C.CellRunner.change_of x.pending.items)) c.self.inside.snapshots.items) c.self.view_is (c.self.invariant).1 in (
       subst (λ (s : Sheet). IsKept g.C.CellRunner.covers (book_of s) (each_of g.C.CellRunner.recorded c.move_item-2.new.list.items) c.move_item-3.new.list.items) (sym (ap₂ sheet cells (ap (λ (s : Sheet). s.given) c.self.view_is)))
-          (kept_turned g.C.CellRunner.covers old new c.args.from c.args.to _ _ _ way us es ds long c.in_ok-made.ensures.moved put there c.put_made.new.words.items c.move_item-3.new.list.items as_long
+          (kept_turned g.C.CellRunner.covers old new c.args.from c.args.to _ _ _ way us es ds long c.in_ok-moved.ensures.moved put there c.put_made.new.words.items c.move_item-3.new.list.items as_long
           (c.put_made.ensures.words (c.install-2.ensures.words (c.install.ensures.words run.words))) c.move_item-3.ensures (each_of g.C.CellRunner.recorded c.move_item-2.new.list.items)
           (turned_map (λ r. g.C.CellRunner.recorded r.value) c.put_made.new.records.items c.move_item-2.new.list.items c.args.from c.args.to d (omega (arith, many, c.install.ensures.count, c.install-2.ensures.count, c.put_made.ensures.count, c.requires.from)) c.move_item-2.ensures)),
       subst (λ (s : Sheet). All (λ x. IsSnapshot (book_of s) x.place (g.C.CellRunner.kept_session x.version) (map g.C.CellRunner.change_of x.pending.items)) c.carry.new.snapshots.items) (sym (ap₂ sheet cells (ap (λ (s : Sheet). s.given) c.self.view_is)))
-          (c.carry.ensures old new (behind old new c.args.from c.args.to _ _ _ way c.min-first.result (omega (arith, c.min-first.ensures)) (omega (arith, c.min-first.ensures))) c.in_ok-made.ensures.noted c.in_ok-session.ensures.fresh kept),
+          (c.carry.ensures old new (behind old new c.args.from c.args.to _ _ _ way c.min-first.result (omega (arith, c.min-first.ensures)) (omega (arith, c.min-first.ensures))) c.in_ok-moved.ensures.noted c.in_ok-session.ensures.fresh kept),
       subst (AreUsed c.self.inside.least) (sym cells) (used_moved c.self.inside.least c.args.self.now.cells c.args.from c.args.to used),
     )
 
@@ -124,3 +126,60 @@ returns-clause-ok g c =
     turned_map (λ s. cell_of s.value) c.self.inside.cells.items c.move_item.new.list.items c.args.from c.args.to no_cell (omega (arith, inside, c.requires.from)) c.move_item.ensures
     ∙ ap (λ cs. insert (remove cs c.args.from) c.args.to (get_or cs c.args.from no_cell)) (ap (λ (s : Sheet). s.cells) c.self.view_is) in
     ap₂ sheet cells (ap (λ (s : Sheet). s.given) c.self.view_is)
+
+pub install-requires-2-clause-many : goal.install-requires-2-clause-many
+install-requires-2-clause-many g c = grind (arith, common_steps)
+
+pub install-requires-clause-many : goal.install-requires-clause-many
+install-requires-clause-many g c = grind (arith, common_steps)
+
+pub move_item-requires-clause-from : goal.move_item-requires-clause-from
+move_item-requires-clause-from g c = grind (arith, common_steps)
+
+pub move_item-requires-clause-to : goal.move_item-requires-clause-to
+move_item-requires-clause-to g c = grind (arith, common_steps)
+
+pub put_made-requires-clause-many : goal.put_made-requires-clause-many
+put_made-requires-clause-many g c = grind (arith, common_steps)
+
+pub put_made-requires-clause-worded : goal.put_made-requires-clause-worded
+put_made-requires-clause-worded g c = grind (arith, common_steps)
+
+pub returns-clause-counts : goal.returns-clause-counts
+returns-clause-counts g c = grind (arith, common_steps)
+
+pub returns-clause-err : goal.returns-clause-err
+returns-clause-err g c = grind (arith, common_steps)
+
+pub returns-in_err-moved-clause-counts : goal.returns-in_err-moved-clause-counts
+returns-in_err-moved-clause-counts g c = grind (arith, common_steps)
+
+pub returns-in_err-moved-clause-err : goal.returns-in_err-moved-clause-err
+returns-in_err-moved-clause-err g c = grind (arith, common_steps)
+
+pub returns-in_err-session-clause-counts : goal.returns-in_err-session-clause-counts
+returns-in_err-session-clause-counts g c = grind (arith, common_steps)
+
+pub returns-in_err-session-clause-err : goal.returns-in_err-session-clause-err
+returns-in_err-session-clause-err g c = grind (arith, common_steps)
+
+pub returns-then-from-to-clause-counts : goal.returns-then-from-to-clause-counts
+returns-then-from-to-clause-counts g c = grind (arith, common_steps)
+
+pub returns-then-from-to-clause-err : goal.returns-then-from-to-clause-err
+returns-then-from-to-clause-err g c = grind (arith, common_steps)
+
+pub returns-then-from-to-clause-ok : goal.returns-then-from-to-clause-ok
+returns-then-from-to-clause-ok g c = grind (arith, common_steps)
+
+pub swept_moved-requires-clause-from : goal.swept_moved-requires-clause-from
+swept_moved-requires-clause-from g c = grind (arith, common_steps)
+
+pub swept_moved-requires-clause-other : goal.swept_moved-requires-clause-other
+swept_moved-requires-clause-other g c = grind (arith, common_steps)
+
+pub swept_moved-requires-clause-session : goal.swept_moved-requires-clause-session
+swept_moved-requires-clause-session g c = grind (arith, common_steps)
+
+pub swept_moved-requires-clause-to : goal.swept_moved-requires-clause-to
+swept_moved-requires-clause-to g c = grind (arith, common_steps)

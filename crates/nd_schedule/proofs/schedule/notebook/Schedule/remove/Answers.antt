@@ -1,4 +1,6 @@
+use Rattle.std.proofs.lemmas.Grind.{common_steps}
 use Rattle.std.proofs.Common.{◌≡◌, length, map, sym, ap, ap₂, subst, ◌∙◌, arith}
+use Rattle.std.proofs.lemmas.Grind.{common_steps}
 use Rattle.std.specs.Prelude.{remove, slice_index_or}
 use Rattle.std.proofs.lemmas.List.{length-map}
 use Rattle.nd_model.specs.Book.Book.{Cell, no_cell}
@@ -62,3 +64,33 @@ returns-clause-ok g c =
     let cells : cells_of c.remove-cell.new.self.items ≡ remove c.args.self.now.cells c.args.at =
     ap cells_of c.remove-cell.ensures.items ∙ map-remove (λ s. cell_of s.value) c.self.inside.cells.items c.args.at ∙ ap (λ cs. remove cs c.args.at) (ap (λ (s : Sheet). s.cells) c.self.view_is) in
     ap₂ sheet cells (ap (λ (s : Sheet). s.given) c.self.view_is)
+
+pub index-requires : goal.index-requires
+index-requires g c = grind (arith, common_steps)
+
+pub install-requires-clause-many : goal.install-requires-clause-many
+install-requires-clause-many g c = grind (arith, common_steps)
+
+pub remove-cell-requires : goal.remove-cell-requires
+remove-cell-requires g c = grind (arith, common_steps)
+
+pub remove-word-requires : goal.remove-word-requires
+remove-word-requires g c = grind (arith, common_steps)
+
+pub returns-clause-counts : goal.returns-clause-counts
+returns-clause-counts g c = grind (arith, common_steps)
+
+pub returns-clause-err : goal.returns-clause-err
+returns-clause-err g c = grind (arith, common_steps)
+
+pub returns-clause-last : goal.returns-clause-last
+returns-clause-last g c = grind (arith, common_steps)
+
+pub returns-in_err-swept-clause-counts : goal.returns-in_err-swept-clause-counts
+returns-in_err-swept-clause-counts g c = grind (arith, common_steps)
+
+pub returns-in_err-swept-clause-err : goal.returns-in_err-swept-clause-err
+returns-in_err-swept-clause-err g c = grind (arith, common_steps)
+
+pub returns-in_err-swept-clause-last : goal.returns-in_err-swept-clause-last
+returns-in_err-swept-clause-last g c = grind (arith, common_steps)

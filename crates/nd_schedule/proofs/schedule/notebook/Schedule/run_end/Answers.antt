@@ -3,7 +3,7 @@ use Rattle.std.specs.Prelude.{insert}
 use Rattle.nd_model.specs.Grammar.Reading.{reading}
 use Rattle.nd_model.specs.Cells.Cell.{cell, session_after}
 use Rattle.nd_model.specs.Book.Records.{record_of}
-use Rattle.nd_model.specs.Book.Notebook.{Sheet, book_of, inputs_in}
+use Rattle.nd_model.specs.Book.Notebook.{Sheet, book_of, world_in}
 use Rattle.nd_schedule.specs.Cells.Source.{sheet, cell_of}
 use Rattle.nd_schedule.specs.Cells.Shared.{each_of}
 use Rattle.nd_schedule.specs.Schedule.Sweep.{IsKept}
@@ -49,8 +49,8 @@ returns-clause-made g c =
     subst (λ (s : Sheet). IsKept g.C.CellRunner.covers (book_of s) (each_of g.C.CellRunner.recorded c.self.inside.records.items) c.self.inside.words.items) c.self.view_is (c.self.invariant).0 in
     let at : ℕ = length c.args.self.now.cells in
     let le : at ≤ length c.args.self.now.cells = omega arith in
-    let same : inputs_in (g.C.CellRunner.given c.self.inside.inputs) ≡ inputs_in c.args.self.now.given = ap (λ (s : Sheet). inputs_in s.given) c.self.view_is in
-    ap g.C.CellRunner.recorded c.in_ok-record.ensures.ok ∙ c.in_ok-made.ensures.made ∙ ap (λ t. record_of c.args.source.now.label (reading t) (inputs_in (g.C.CellRunner.given c.self.inside.inputs)) (g.C.CellRunner.session_of c.args.session.now)) c.as_str.ensures.value ∙ Inserting.run_record c.args.self.now at (cell_of c.args.source.now) le run.run.distinct c.requires.label (g.C.CellRunner.session_of c.args.session.now) c.requires.session _ same
+    let same : world_in (g.C.CellRunner.given c.self.inside.world) ≡ world_in c.args.self.now.given = ap (λ (s : Sheet). world_in s.given) c.self.view_is in
+    ap g.C.CellRunner.recorded c.in_ok-record.ensures.ok ∙ c.in_ok-made.ensures.made ∙ ap (λ t. record_of c.args.source.now.label (reading t) (world_in (g.C.CellRunner.given c.self.inside.world)) (g.C.CellRunner.session_of c.args.session.now)) c.as_str.ensures.value ∙ Inserting.run_record c.args.self.now at (cell_of c.args.source.now) le run.run.distinct c.requires.label (g.C.CellRunner.session_of c.args.session.now) c.requires.session _ same
 
 pub returns-clause-session : goal.returns-clause-session
 returns-clause-session g c =
@@ -58,6 +58,6 @@ returns-clause-session g c =
     subst (λ (s : Sheet). IsKept g.C.CellRunner.covers (book_of s) (each_of g.C.CellRunner.recorded c.self.inside.records.items) c.self.inside.words.items) c.self.view_is (c.self.invariant).0 in
     let at : ℕ = length c.args.self.now.cells in
     let le : at ≤ length c.args.self.now.cells = omega arith in
-    let same : inputs_in (g.C.CellRunner.given c.self.inside.inputs) ≡ inputs_in c.args.self.now.given = ap (λ (s : Sheet). inputs_in s.given) c.self.view_is in
+    let same : world_in (g.C.CellRunner.given c.self.inside.world) ≡ world_in c.args.self.now.given = ap (λ (s : Sheet). world_in s.given) c.self.view_is in
     Inserting.stands_behind c.args.self.now at (cell_of c.args.source.now) le run.run.distinct c.requires.label (g.C.CellRunner.session_of c.args.session.now) c.requires.session _ _ same
-    (c.in_ok-made.ensures.after ∙ ap (λ t. session_after (cell c.args.source.now.label (reading t) (inputs_in (g.C.CellRunner.given c.self.inside.inputs)) (g.C.CellRunner.session_of c.args.session.now))) c.as_str.ensures.value)
+    (c.in_ok-made.ensures.after ∙ ap (λ t. session_after (cell c.args.source.now.label (reading t) (world_in (g.C.CellRunner.given c.self.inside.world)) (g.C.CellRunner.session_of c.args.session.now))) c.as_str.ensures.value)

@@ -1,7 +1,9 @@
+use Rattle.std.proofs.lemmas.Grind.{common_steps}
 use Rattle.std.proofs.Common.{◌≡◌, length, refl, sym, ap, subst, ◌∙◌, arith, map}
+use Rattle.std.proofs.lemmas.Grind.{common_steps}
 use Rattle.std.proofs.lemmas.List.{length-map}
 use Rattle.nd_model.specs.Book.Book.{Book, Move}
-use Rattle.nd_model.specs.Book.Notebook.{Sheet, book_of, edited_sheet, inputs_in}
+use Rattle.nd_model.specs.Book.Notebook.{Sheet, book_of, edited_sheet, world_in}
 use Rattle.nd_schedule.specs.Cells.Source.{cell_of, cells_of}
 use Rattle.nd_schedule.specs.Cells.Shared.{each_of}
 use Rattle.nd_schedule.specs.Schedule.Sweep.{AreWords, IsAt, IsKept, IsMoving}
@@ -35,9 +37,9 @@ move_down-requires-clause-at g c =
     subst (λ (s : Sheet). IsKept g.C.CellRunner.covers (book_of s) (each_of g.C.CellRunner.recorded c.self.inside.records.items) c.self.inside.words.items) c.self.view_is (c.self.invariant).0 in
     let old : Book = book_of c.args.self.now in
     let new : Book = book_of (edited_sheet (Move c.args.from c.args.to) c.args.self.now) in
-    let way : IsMoving old new c.args.from c.args.to (cells_of c.deref.result.now) (each_of g.C.CellRunner.recorded c.deref-then-from-to.result.now) (inputs_in (g.C.CellRunner.given c.self.inside.inputs)) =
+    let way : IsMoving old new c.args.from c.args.to (cells_of c.deref.result.now) (each_of g.C.CellRunner.recorded c.deref-then-from-to.result.now) (world_in (g.C.CellRunner.given c.self.inside.world)) =
     moving c.args.self.now c.args.from c.args.to _ _ _ (sym (ap cells_of c.deref.ensures.value ∙ ap (λ (s : Sheet). s.cells) c.self.view_is))
-    (record { records = ap (each_of g.C.CellRunner.recorded) c.deref-then-from-to.ensures.value ∙ run.run.records; distinct = run.run.distinct }) (sym (ap (λ (s : Sheet). inputs_in s.given) c.self.view_is)) c.requires.from c.requires.to in
+    (record { records = ap (each_of g.C.CellRunner.recorded) c.deref-then-from-to.ensures.value ∙ run.run.records; distinct = run.run.distinct }) (sym (ap (λ (s : Sheet). world_in s.given) c.self.view_is)) c.requires.from c.requires.to in
     let least : c.min.result ≡ c.args.from = omega (arith, c.min.ensures, c.if-from-to.true) in
     let at : IsAt old new c.args.from c.args.from (g.C.CellRunner.change_of c.begin-state.result.change) (g.C.CellRunner.session_of c.begin-state.result.session) c.begin-state.result.since =
     subst (λ k. IsAt old new k k (g.C.CellRunner.change_of c.begin-state.result.change) (g.C.CellRunner.session_of c.begin-state.result.session) c.begin-state.result.since) least
@@ -57,9 +59,9 @@ returns-then-from-to-clause-moved g c =
     subst (λ (s : Sheet). IsKept g.C.CellRunner.covers (book_of s) (each_of g.C.CellRunner.recorded c.self.inside.records.items) c.self.inside.words.items) c.self.view_is (c.self.invariant).0 in
     let old : Book = book_of c.args.self.now in
     let new : Book = book_of (edited_sheet (Move c.args.from c.args.to) c.args.self.now) in
-    let way : IsMoving old new c.args.from c.args.to (cells_of c.deref.result.now) (each_of g.C.CellRunner.recorded c.deref-then-from-to.result.now) (inputs_in (g.C.CellRunner.given c.self.inside.inputs)) =
+    let way : IsMoving old new c.args.from c.args.to (cells_of c.deref.result.now) (each_of g.C.CellRunner.recorded c.deref-then-from-to.result.now) (world_in (g.C.CellRunner.given c.self.inside.world)) =
     moving c.args.self.now c.args.from c.args.to _ _ _ (sym (ap cells_of c.deref.ensures.value ∙ ap (λ (s : Sheet). s.cells) c.self.view_is))
-    (record { records = ap (each_of g.C.CellRunner.recorded) c.deref-then-from-to.ensures.value ∙ run.run.records; distinct = run.run.distinct }) (sym (ap (λ (s : Sheet). inputs_in s.given) c.self.view_is)) c.requires.from c.requires.to in
+    (record { records = ap (each_of g.C.CellRunner.recorded) c.deref-then-from-to.ensures.value ∙ run.run.records; distinct = run.run.distinct }) (sym (ap (λ (s : Sheet). world_in s.given) c.self.view_is)) c.requires.from c.requires.to in
     let least : c.min.result ≡ c.args.from = omega (arith, c.min.ensures, c.if-from-to.true) in
     let at : IsAt old new c.args.from c.args.from (g.C.CellRunner.change_of c.begin-state.result.change) (g.C.CellRunner.session_of c.begin-state.result.session) c.begin-state.result.since =
     subst (λ k. IsAt old new k k (g.C.CellRunner.change_of c.begin-state.result.change) (g.C.CellRunner.session_of c.begin-state.result.session) c.begin-state.result.since) least
@@ -72,9 +74,9 @@ returns-then-from-to-clause-made g c =
     subst (λ (s : Sheet). IsKept g.C.CellRunner.covers (book_of s) (each_of g.C.CellRunner.recorded c.self.inside.records.items) c.self.inside.words.items) c.self.view_is (c.self.invariant).0 in
     let old : Book = book_of c.args.self.now in
     let new : Book = book_of (edited_sheet (Move c.args.from c.args.to) c.args.self.now) in
-    let way : IsMoving old new c.args.from c.args.to (cells_of c.deref.result.now) (each_of g.C.CellRunner.recorded c.deref-then-from-to.result.now) (inputs_in (g.C.CellRunner.given c.self.inside.inputs)) =
+    let way : IsMoving old new c.args.from c.args.to (cells_of c.deref.result.now) (each_of g.C.CellRunner.recorded c.deref-then-from-to.result.now) (world_in (g.C.CellRunner.given c.self.inside.world)) =
     moving c.args.self.now c.args.from c.args.to _ _ _ (sym (ap cells_of c.deref.ensures.value ∙ ap (λ (s : Sheet). s.cells) c.self.view_is))
-    (record { records = ap (each_of g.C.CellRunner.recorded) c.deref-then-from-to.ensures.value ∙ run.run.records; distinct = run.run.distinct }) (sym (ap (λ (s : Sheet). inputs_in s.given) c.self.view_is)) c.requires.from c.requires.to in
+    (record { records = ap (each_of g.C.CellRunner.recorded) c.deref-then-from-to.ensures.value ∙ run.run.records; distinct = run.run.distinct }) (sym (ap (λ (s : Sheet). world_in s.given) c.self.view_is)) c.requires.from c.requires.to in
     let least : c.min.result ≡ c.args.from = omega (arith, c.min.ensures, c.if-from-to.true) in
     let at : IsAt old new c.args.from c.args.from (g.C.CellRunner.change_of c.begin-state.result.change) (g.C.CellRunner.session_of c.begin-state.result.session) c.begin-state.result.since =
     subst (λ k. IsAt old new k k (g.C.CellRunner.change_of c.begin-state.result.change) (g.C.CellRunner.session_of c.begin-state.result.session) c.begin-state.result.since) least
@@ -87,9 +89,9 @@ returns-then-from-to-clause-counts g c =
     subst (λ (s : Sheet). IsKept g.C.CellRunner.covers (book_of s) (each_of g.C.CellRunner.recorded c.self.inside.records.items) c.self.inside.words.items) c.self.view_is (c.self.invariant).0 in
     let old : Book = book_of c.args.self.now in
     let new : Book = book_of (edited_sheet (Move c.args.from c.args.to) c.args.self.now) in
-    let way : IsMoving old new c.args.from c.args.to (cells_of c.deref.result.now) (each_of g.C.CellRunner.recorded c.deref-then-from-to.result.now) (inputs_in (g.C.CellRunner.given c.self.inside.inputs)) =
+    let way : IsMoving old new c.args.from c.args.to (cells_of c.deref.result.now) (each_of g.C.CellRunner.recorded c.deref-then-from-to.result.now) (world_in (g.C.CellRunner.given c.self.inside.world)) =
     moving c.args.self.now c.args.from c.args.to _ _ _ (sym (ap cells_of c.deref.ensures.value ∙ ap (λ (s : Sheet). s.cells) c.self.view_is))
-    (record { records = ap (each_of g.C.CellRunner.recorded) c.deref-then-from-to.ensures.value ∙ run.run.records; distinct = run.run.distinct }) (sym (ap (λ (s : Sheet). inputs_in s.given) c.self.view_is)) c.requires.from c.requires.to in
+    (record { records = ap (each_of g.C.CellRunner.recorded) c.deref-then-from-to.ensures.value ∙ run.run.records; distinct = run.run.distinct }) (sym (ap (λ (s : Sheet). world_in s.given) c.self.view_is)) c.requires.from c.requires.to in
     let least : c.min.result ≡ c.args.from = omega (arith, c.min.ensures, c.if-from-to.true) in
     let at : IsAt old new c.args.from c.args.from (g.C.CellRunner.change_of c.begin-state.result.change) (g.C.CellRunner.session_of c.begin-state.result.session) c.begin-state.result.since =
     subst (λ k. IsAt old new k k (g.C.CellRunner.change_of c.begin-state.result.change) (g.C.CellRunner.session_of c.begin-state.result.session) c.begin-state.result.since) least
@@ -119,9 +121,9 @@ move_up-requires-clause-at g c =
     subst (λ (s : Sheet). IsKept g.C.CellRunner.covers (book_of s) (each_of g.C.CellRunner.recorded c.self.inside.records.items) c.self.inside.words.items) c.self.view_is (c.self.invariant).0 in
     let old : Book = book_of c.args.self.now in
     let new : Book = book_of (edited_sheet (Move c.args.from c.args.to) c.args.self.now) in
-    let way : IsMoving old new c.args.from c.args.to (cells_of c.deref-2.result.now) (each_of g.C.CellRunner.recorded c.deref-3.result.now) (inputs_in (g.C.CellRunner.given c.self.inside.inputs)) =
+    let way : IsMoving old new c.args.from c.args.to (cells_of c.deref-2.result.now) (each_of g.C.CellRunner.recorded c.deref-3.result.now) (world_in (g.C.CellRunner.given c.self.inside.world)) =
     moving c.args.self.now c.args.from c.args.to _ _ _ (sym (ap cells_of c.deref-2.ensures.value ∙ ap (λ (s : Sheet). s.cells) c.self.view_is))
-    (record { records = ap (each_of g.C.CellRunner.recorded) c.deref-3.ensures.value ∙ run.run.records; distinct = run.run.distinct }) (sym (ap (λ (s : Sheet). inputs_in s.given) c.self.view_is)) c.requires.from c.requires.to in
+    (record { records = ap (each_of g.C.CellRunner.recorded) c.deref-3.ensures.value ∙ run.run.records; distinct = run.run.distinct }) (sym (ap (λ (s : Sheet). world_in s.given) c.self.view_is)) c.requires.from c.requires.to in
     let least : c.min.result ≡ c.args.to = omega (arith, c.min.ensures, c.if-from-to.false) in
     let at : IsAt old new c.args.to c.args.to (g.C.CellRunner.change_of c.begin-state.result.change) (g.C.CellRunner.session_of c.begin-state.result.session) c.begin-state.result.since =
     subst (λ k. IsAt old new k k (g.C.CellRunner.change_of c.begin-state.result.change) (g.C.CellRunner.session_of c.begin-state.result.session) c.begin-state.result.since) least
@@ -141,9 +143,9 @@ returns-clause-moved g c =
     subst (λ (s : Sheet). IsKept g.C.CellRunner.covers (book_of s) (each_of g.C.CellRunner.recorded c.self.inside.records.items) c.self.inside.words.items) c.self.view_is (c.self.invariant).0 in
     let old : Book = book_of c.args.self.now in
     let new : Book = book_of (edited_sheet (Move c.args.from c.args.to) c.args.self.now) in
-    let way : IsMoving old new c.args.from c.args.to (cells_of c.deref-2.result.now) (each_of g.C.CellRunner.recorded c.deref-3.result.now) (inputs_in (g.C.CellRunner.given c.self.inside.inputs)) =
+    let way : IsMoving old new c.args.from c.args.to (cells_of c.deref-2.result.now) (each_of g.C.CellRunner.recorded c.deref-3.result.now) (world_in (g.C.CellRunner.given c.self.inside.world)) =
     moving c.args.self.now c.args.from c.args.to _ _ _ (sym (ap cells_of c.deref-2.ensures.value ∙ ap (λ (s : Sheet). s.cells) c.self.view_is))
-    (record { records = ap (each_of g.C.CellRunner.recorded) c.deref-3.ensures.value ∙ run.run.records; distinct = run.run.distinct }) (sym (ap (λ (s : Sheet). inputs_in s.given) c.self.view_is)) c.requires.from c.requires.to in
+    (record { records = ap (each_of g.C.CellRunner.recorded) c.deref-3.ensures.value ∙ run.run.records; distinct = run.run.distinct }) (sym (ap (λ (s : Sheet). world_in s.given) c.self.view_is)) c.requires.from c.requires.to in
     let least : c.min.result ≡ c.args.to = omega (arith, c.min.ensures, c.if-from-to.false) in
     let at : IsAt old new c.args.to c.args.to (g.C.CellRunner.change_of c.begin-state.result.change) (g.C.CellRunner.session_of c.begin-state.result.session) c.begin-state.result.since =
     subst (λ k. IsAt old new k k (g.C.CellRunner.change_of c.begin-state.result.change) (g.C.CellRunner.session_of c.begin-state.result.session) c.begin-state.result.since) least
@@ -156,9 +158,9 @@ returns-clause-made g c =
     subst (λ (s : Sheet). IsKept g.C.CellRunner.covers (book_of s) (each_of g.C.CellRunner.recorded c.self.inside.records.items) c.self.inside.words.items) c.self.view_is (c.self.invariant).0 in
     let old : Book = book_of c.args.self.now in
     let new : Book = book_of (edited_sheet (Move c.args.from c.args.to) c.args.self.now) in
-    let way : IsMoving old new c.args.from c.args.to (cells_of c.deref-2.result.now) (each_of g.C.CellRunner.recorded c.deref-3.result.now) (inputs_in (g.C.CellRunner.given c.self.inside.inputs)) =
+    let way : IsMoving old new c.args.from c.args.to (cells_of c.deref-2.result.now) (each_of g.C.CellRunner.recorded c.deref-3.result.now) (world_in (g.C.CellRunner.given c.self.inside.world)) =
     moving c.args.self.now c.args.from c.args.to _ _ _ (sym (ap cells_of c.deref-2.ensures.value ∙ ap (λ (s : Sheet). s.cells) c.self.view_is))
-    (record { records = ap (each_of g.C.CellRunner.recorded) c.deref-3.ensures.value ∙ run.run.records; distinct = run.run.distinct }) (sym (ap (λ (s : Sheet). inputs_in s.given) c.self.view_is)) c.requires.from c.requires.to in
+    (record { records = ap (each_of g.C.CellRunner.recorded) c.deref-3.ensures.value ∙ run.run.records; distinct = run.run.distinct }) (sym (ap (λ (s : Sheet). world_in s.given) c.self.view_is)) c.requires.from c.requires.to in
     let least : c.min.result ≡ c.args.to = omega (arith, c.min.ensures, c.if-from-to.false) in
     let at : IsAt old new c.args.to c.args.to (g.C.CellRunner.change_of c.begin-state.result.change) (g.C.CellRunner.session_of c.begin-state.result.session) c.begin-state.result.since =
     subst (λ k. IsAt old new k k (g.C.CellRunner.change_of c.begin-state.result.change) (g.C.CellRunner.session_of c.begin-state.result.session) c.begin-state.result.since) least
@@ -171,9 +173,9 @@ returns-clause-counts g c =
     subst (λ (s : Sheet). IsKept g.C.CellRunner.covers (book_of s) (each_of g.C.CellRunner.recorded c.self.inside.records.items) c.self.inside.words.items) c.self.view_is (c.self.invariant).0 in
     let old : Book = book_of c.args.self.now in
     let new : Book = book_of (edited_sheet (Move c.args.from c.args.to) c.args.self.now) in
-    let way : IsMoving old new c.args.from c.args.to (cells_of c.deref-2.result.now) (each_of g.C.CellRunner.recorded c.deref-3.result.now) (inputs_in (g.C.CellRunner.given c.self.inside.inputs)) =
+    let way : IsMoving old new c.args.from c.args.to (cells_of c.deref-2.result.now) (each_of g.C.CellRunner.recorded c.deref-3.result.now) (world_in (g.C.CellRunner.given c.self.inside.world)) =
     moving c.args.self.now c.args.from c.args.to _ _ _ (sym (ap cells_of c.deref-2.ensures.value ∙ ap (λ (s : Sheet). s.cells) c.self.view_is))
-    (record { records = ap (each_of g.C.CellRunner.recorded) c.deref-3.ensures.value ∙ run.run.records; distinct = run.run.distinct }) (sym (ap (λ (s : Sheet). inputs_in s.given) c.self.view_is)) c.requires.from c.requires.to in
+    (record { records = ap (each_of g.C.CellRunner.recorded) c.deref-3.ensures.value ∙ run.run.records; distinct = run.run.distinct }) (sym (ap (λ (s : Sheet). world_in s.given) c.self.view_is)) c.requires.from c.requires.to in
     let least : c.min.result ≡ c.args.to = omega (arith, c.min.ensures, c.if-from-to.false) in
     let at : IsAt old new c.args.to c.args.to (g.C.CellRunner.change_of c.begin-state.result.change) (g.C.CellRunner.session_of c.begin-state.result.session) c.begin-state.result.since =
     subst (λ k. IsAt old new k k (g.C.CellRunner.change_of c.begin-state.result.change) (g.C.CellRunner.session_of c.begin-state.result.session) c.begin-state.result.since) least
@@ -186,9 +188,9 @@ returns-then-from-to-clause-noted g c =
     subst (λ (s : Sheet). IsKept g.C.CellRunner.covers (book_of s) (each_of g.C.CellRunner.recorded c.self.inside.records.items) c.self.inside.words.items) c.self.view_is (c.self.invariant).0 in
     let old : Book = book_of c.args.self.now in
     let new : Book = book_of (edited_sheet (Move c.args.from c.args.to) c.args.self.now) in
-    let way : IsMoving old new c.args.from c.args.to (cells_of c.deref.result.now) (each_of g.C.CellRunner.recorded c.deref-then-from-to.result.now) (inputs_in (g.C.CellRunner.given c.self.inside.inputs)) =
+    let way : IsMoving old new c.args.from c.args.to (cells_of c.deref.result.now) (each_of g.C.CellRunner.recorded c.deref-then-from-to.result.now) (world_in (g.C.CellRunner.given c.self.inside.world)) =
     moving c.args.self.now c.args.from c.args.to _ _ _ (sym (ap cells_of c.deref.ensures.value ∙ ap (λ (s : Sheet). s.cells) c.self.view_is))
-    (record { records = ap (each_of g.C.CellRunner.recorded) c.deref-then-from-to.ensures.value ∙ run.run.records; distinct = run.run.distinct }) (sym (ap (λ (s : Sheet). inputs_in s.given) c.self.view_is)) c.requires.from c.requires.to in
+    (record { records = ap (each_of g.C.CellRunner.recorded) c.deref-then-from-to.ensures.value ∙ run.run.records; distinct = run.run.distinct }) (sym (ap (λ (s : Sheet). world_in s.given) c.self.view_is)) c.requires.from c.requires.to in
     let least : c.min.result ≡ c.args.from = omega (arith, c.min.ensures, c.if-from-to.true) in
     let at : IsAt old new c.args.from c.args.from (g.C.CellRunner.change_of c.begin-state.result.change) (g.C.CellRunner.session_of c.begin-state.result.session) c.begin-state.result.since =
     subst (λ k. IsAt old new k k (g.C.CellRunner.change_of c.begin-state.result.change) (g.C.CellRunner.session_of c.begin-state.result.session) c.begin-state.result.since) least
@@ -201,9 +203,9 @@ returns-clause-noted g c =
     subst (λ (s : Sheet). IsKept g.C.CellRunner.covers (book_of s) (each_of g.C.CellRunner.recorded c.self.inside.records.items) c.self.inside.words.items) c.self.view_is (c.self.invariant).0 in
     let old : Book = book_of c.args.self.now in
     let new : Book = book_of (edited_sheet (Move c.args.from c.args.to) c.args.self.now) in
-    let way : IsMoving old new c.args.from c.args.to (cells_of c.deref-2.result.now) (each_of g.C.CellRunner.recorded c.deref-3.result.now) (inputs_in (g.C.CellRunner.given c.self.inside.inputs)) =
+    let way : IsMoving old new c.args.from c.args.to (cells_of c.deref-2.result.now) (each_of g.C.CellRunner.recorded c.deref-3.result.now) (world_in (g.C.CellRunner.given c.self.inside.world)) =
     moving c.args.self.now c.args.from c.args.to _ _ _ (sym (ap cells_of c.deref-2.ensures.value ∙ ap (λ (s : Sheet). s.cells) c.self.view_is))
-    (record { records = ap (each_of g.C.CellRunner.recorded) c.deref-3.ensures.value ∙ run.run.records; distinct = run.run.distinct }) (sym (ap (λ (s : Sheet). inputs_in s.given) c.self.view_is)) c.requires.from c.requires.to in
+    (record { records = ap (each_of g.C.CellRunner.recorded) c.deref-3.ensures.value ∙ run.run.records; distinct = run.run.distinct }) (sym (ap (λ (s : Sheet). world_in s.given) c.self.view_is)) c.requires.from c.requires.to in
     let least : c.min.result ≡ c.args.to = omega (arith, c.min.ensures, c.if-from-to.false) in
     let at : IsAt old new c.args.to c.args.to (g.C.CellRunner.change_of c.begin-state.result.change) (g.C.CellRunner.session_of c.begin-state.result.session) c.begin-state.result.since =
     subst (λ k. IsAt old new k k (g.C.CellRunner.change_of c.begin-state.result.change) (g.C.CellRunner.session_of c.begin-state.result.session) c.begin-state.result.since) least
@@ -229,3 +231,51 @@ move_up-requires-clause-kept g c = λ b there.
     subst (λ (s : Sheet). All (λ x. IsSnapshot (book_of s) x.place (g.C.CellRunner.kept_session x.version) (map g.C.CellRunner.change_of x.pending.items)) c.self.inside.snapshots.items) c.self.view_is (c.self.invariant).1 in
     kept_lists (λ x. IsSnapshot old x.place (g.C.CellRunner.kept_session x.version) (map g.C.CellRunner.change_of x.pending.items)) (λ x. IsSnapshot b x.place (g.C.CellRunner.kept_session x.version) (map g.C.CellRunner.change_of x.pending.items)) _ _ c.deref-5.ensures.value
     (λ x h. kept_by_records old b _ run.run (record { records = ap (each_of g.C.CellRunner.recorded) (sym c.deref-3.ensures.value) ∙ there.records; distinct = there.distinct }) _ _ _ h) kept
+
+pub begin-state-requires-clause-at : goal.begin-state-requires-clause-at
+begin-state-requires-clause-at g c = grind (arith, common_steps)
+
+pub begin-state-requires-clause-session : goal.begin-state-requires-clause-session
+begin-state-requires-clause-session g c = grind (arith, common_steps)
+
+pub move_down-requires-clause-changed : goal.move_down-requires-clause-changed
+move_down-requires-clause-changed g c = grind (arith, common_steps)
+
+pub move_down-requires-clause-covered : goal.move_down-requires-clause-covered
+move_down-requires-clause-covered g c = grind (arith, common_steps)
+
+pub move_down-requires-clause-down : goal.move_down-requires-clause-down
+move_down-requires-clause-down g c = grind (arith, common_steps)
+
+pub move_down-requires-clause-to : goal.move_down-requires-clause-to
+move_down-requires-clause-to g c = grind (arith, common_steps)
+
+pub move_up-requires-clause-changed : goal.move_up-requires-clause-changed
+move_up-requires-clause-changed g c = grind (arith, common_steps)
+
+pub move_up-requires-clause-covered : goal.move_up-requires-clause-covered
+move_up-requires-clause-covered g c = grind (arith, common_steps)
+
+pub move_up-requires-clause-from : goal.move_up-requires-clause-from
+move_up-requires-clause-from g c = grind (arith, common_steps)
+
+pub move_up-requires-clause-up : goal.move_up-requires-clause-up
+move_up-requires-clause-up g c = grind (arith, common_steps)
+
+pub returns-clause-fit_behind : goal.returns-clause-fit_behind
+returns-clause-fit_behind g c = grind (arith, common_steps)
+
+pub returns-clause-fit_between : goal.returns-clause-fit_between
+returns-clause-fit_between g c = grind (arith, common_steps)
+
+pub returns-clause-worded : goal.returns-clause-worded
+returns-clause-worded g c = grind (arith, common_steps)
+
+pub returns-then-from-to-clause-fit_behind : goal.returns-then-from-to-clause-fit_behind
+returns-then-from-to-clause-fit_behind g c = grind (arith, common_steps)
+
+pub returns-then-from-to-clause-fit_between : goal.returns-then-from-to-clause-fit_between
+returns-then-from-to-clause-fit_between g c = grind (arith, common_steps)
+
+pub returns-then-from-to-clause-worded : goal.returns-then-from-to-clause-worded
+returns-then-from-to-clause-worded g c = grind (arith, common_steps)

@@ -30,13 +30,16 @@ returns-clause-added c = λ k there.
     let one = c.add_names.new.filter in
     let two = c.add_inputs.new.filter in
     let three = c.add_labels.new.filter in
-    let four = c.add_labels-2.new.filter in
-    let last = c.add_labels-2.ensures.stays in
+    let read = c.add_labels-2.new.filter in
+    let four = c.add_some_rule.new.filter in
+    let ruled = c.add_some_rule.ensures.stays in
+    let last = stays_on three read four c.add_labels-2.ensures.stays ruled in
     let two_on = stays_on two three four c.add_labels.ensures.stays last in
     let one_on = stays_on one two four c.add_inputs.ensures.stays two_on in
     read_covered i four
     (rec_weaker (IsName one) (IsName four) (λ e h. one_on (running.Name (string_bytes e.0)) h) i.names.entries (recursion_from_All (IsName one) i.names.entries c.add_names.ensures.added))
     (rec_weaker (IsInput two) (IsInput four) (λ e h. two_on (running.Input (string_bytes e.0)) h) i.inputs.entries (recursion_from_All (IsInput two) i.inputs.entries c.add_inputs.ensures.added))
     (rec_weaker (IsLength three) (IsLength four) (λ e h. label_stays three four e.0.label last h) i.lengths.entries (recursion_from_All (IsLength three) i.lengths.entries c.add_labels.ensures.added))
-    (recursion_from_All (IsByte four) i.bytes.entries c.add_labels-2.ensures.added) k
+    (rec_weaker (IsByte read) (IsByte four) (λ e h. label_stays read four e.0.label ruled h) i.bytes.entries (recursion_from_All (IsByte read) i.bytes.entries c.add_labels-2.ensures.added))
+    c.add_some_rule.ensures.added k
     (subst (λ (r : ReadsData). IsTrue (keys_of r k)) (sym c.reads.view_is) there)

@@ -11,7 +11,7 @@ use Rattle.nd_heap.specs.declared.value.Value.{Value}
 use Rattle.nd_model.specs.Cells.Running as running
 use Rattle.nd_session.specs.declared.inputs.input.Input.{Input}
 use Rattle.nd_session.specs.Session.Filter.{CoversLabel, covers}
-use Rattle.nd_session.proofs.session.Covering.{changed_covered, rec_weaker, stays_on}
+use Rattle.nd_session.proofs.session.Covering.{changed_covered, label_stays, rec_weaker, stays_on}
 use Rattle.nd_session.proofs.session.change.change.Change.filter.Goals as goal
 
 abbrev IsName : List ℕ → RcStr Global × Option (Rc Value Global) → Type 0
@@ -28,10 +28,13 @@ returns c =
     let i = c.self.inside in
     let one = c.add_changed_names.new.filter in
     let two = c.add_changed_inputs.new.filter in
-    let three = c.add_labels.new.filter in
-    let last = c.add_labels.ensures.stays in
+    let blocks = c.add_labels.new.filter in
+    let three = c.add_some_rule.new.filter in
+    let ruled = c.add_some_rule.ensures.stays in
+    let last = stays_on two blocks three c.add_labels.ensures.stays ruled in
     let one_on = stays_on one two three c.add_changed_inputs.ensures.stays last in
     subst (λ (d : ChangeData). IsWordOfChange covers three (change_of d)) c.self.view_is (changed_covered i three
     (rec_weaker (IsName one) (IsName three) (λ e h. one_on (running.Name (rc_str_bytes e.0)) h) i.names.entries (recursion_from_All (IsName one) i.names.entries c.add_changed_names.ensures.added))
     (rec_weaker (IsInput two) (IsInput three) (λ e h. last (running.Input (rc_str_bytes e.0)) h) i.inputs.entries (recursion_from_All (IsInput two) i.inputs.entries c.add_changed_inputs.ensures.added))
-    (recursion_from_All (IsBlock three) i.blocks.entries c.add_labels.ensures.added))
+    (rec_weaker (IsBlock blocks) (IsBlock three) (λ e h. label_stays blocks three e.0.label ruled h) i.blocks.entries (recursion_from_All (IsBlock blocks) i.blocks.entries c.add_labels.ensures.added))
+    c.add_some_rule.ensures.added)

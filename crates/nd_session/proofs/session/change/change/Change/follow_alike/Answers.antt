@@ -31,7 +31,7 @@ returns c = λ r q j was is.
     let left = block_now c.remove_same.new.blocks.entries in
     let mid = block_now c.note_unlike.new.blocks.entries in
     let last = block_now c.note_unlike-2.new.blocks.entries in
-    let new : Whole = record { names = value_now c.remove_names.new.names.entries; inputs = old.inputs; blocks = last } in
+    let new : Whole = record { names = value_now c.remove_names.new.names.entries; inputs = old.inputs; rule = old.rule; blocks = last } in
     let did : HasDone d r = subst (λ (k : ChangesData). HasDone k r) (sym c.old.view_is) was in
     let does : HasDone e q = subst (λ (k : ChangesData). HasDone k q) (sym c.new.view_is) is in
     let label : d.label ≡ e.label = ap (λ (k : ChangesData). k.label) c.old.view_is ∙ c.requires.label ∙ sym (ap (λ (k : ChangesData). k.label) c.new.view_is) in
@@ -45,4 +45,4 @@ returns c = λ r q j was is.
     c.in_ok-note_unlike.ensures.noted (recursion_from_All (IsEntryUnlike s.bytes k.label (byte_found k.written.entries) left mid) i.written.entries c.in_ok-note_unlike.ensures.all)
     c.in_ok-note_unlike-2.ensures.noted (recursion_from_All (IsEntryUnlike s.bytes k.label (byte_found i.written.entries) mid last) k.written.entries c.in_ok-note_unlike-2.ensures.all)
     (λ n. c.remove_names.ensures n ∙ ap (λ (es : List Event). cond (is_touched n (map event_of es)) None (old.names n)) c.deref.ensures.value)
-    (λ n. refl)))
+    (λ n. refl) refl))

@@ -20,11 +20,11 @@ returns-clause-keeps c = λ r done.
     let i = c.changes.inside in
     let d : ChangesData = record { label = i.label; next = i.next; events = map event_of i.events.items; written = by_base bytes_of i.written.entries; blocks = blocks_of i.blocks.entries } in
     let old : Whole = whole_in (data_in c.self.inside) in
-    let new : Whole = record { names = value_now c.remove_names.new.names.entries; inputs = old.inputs; blocks = block_now c.patch_blocks.new.blocks.entries } in
+    let new : Whole = record { names = value_now c.remove_names.new.names.entries; inputs = old.inputs; rule = old.rule; blocks = block_now c.patch_blocks.new.blocks.entries } in
     let did : HasDone d r = subst (λ (k : ChangesData). HasDone k r) (sym c.changes.view_is) done in
     subst (λ (o : ChangeData). Keeps (change_of o) (whole_of new) r) c.self.view_is (keeps_whole r old new (without_done r d old new did
     (λ n. c.remove_names.ensures n ∙ ap (λ (es : List Event). cond (is_touched n (map event_of es)) None (old.names n)) c.deref.ensures.value)
-    (λ n. refl)
+    (λ n. refl) refl
     (λ b. c.in_ok-patch_blocks.ensures b ∙ ap (option_map (patched (writes_in d b))) (c.remove_own.ensures b ∙ ap (λ (es : List Event). cond (nat_eq b.label i.label && binds_in b (map event_of es)) None (old.blocks b)) c.deref-2.ensures.value))))
 
 pub returns-clause-fewer : goal.returns-clause-fewer
@@ -32,9 +32,9 @@ returns-clause-fewer c = λ k.
     let i = c.changes.inside in
     let d : ChangesData = record { label = i.label; next = i.next; events = map event_of i.events.items; written = by_base bytes_of i.written.entries; blocks = blocks_of i.blocks.entries } in
     let old : Whole = whole_in (data_in c.self.inside) in
-    let new : Whole = record { names = value_now c.remove_names.new.names.entries; inputs = old.inputs; blocks = block_now c.patch_blocks.new.blocks.entries } in
+    let new : Whole = record { names = value_now c.remove_names.new.names.entries; inputs = old.inputs; rule = old.rule; blocks = block_now c.patch_blocks.new.blocks.entries } in
     subst (λ (o : ChangeData). IsTrue (is_some (whole_of new k)) → IsTrue (is_some (change_of o k))) c.self.view_is
     (fewer_left old new (λ n. is_touched n (map event_of i.events.items)) (λ b. nat_eq b.label i.label && binds_in b (map event_of i.events.items)) (λ b. patched (writes_in d b))
     (λ n. c.remove_names.ensures n ∙ ap (λ (es : List Event). cond (is_touched n (map event_of es)) None (old.names n)) c.deref.ensures.value)
-    (λ n. refl)
+    (λ n. refl) refl
     (λ b. c.in_ok-patch_blocks.ensures b ∙ ap (option_map (patched (writes_in d b))) (c.remove_own.ensures b ∙ ap (λ (es : List Event). cond (nat_eq b.label i.label && binds_in b (map event_of es)) None (old.blocks b)) c.deref-2.ensures.value)) k)

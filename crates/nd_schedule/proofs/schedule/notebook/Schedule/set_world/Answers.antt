@@ -9,7 +9,7 @@ use Rattle.nd_schedule.specs.Schedule.Snapshot.{IsSnapshot}
 use Rattle.nd_schedule.proofs.schedule.Standing.{All-none}
 use Rattle.nd_schedule.proofs.schedule.Kept.{as_many}
 use Rattle.nd_schedule.proofs.schedule.Editing.{behind_none, kept_over}
-use Rattle.nd_schedule.proofs.schedule.notebook.Schedule.set_inputs.Goals as goal
+use Rattle.nd_schedule.proofs.schedule.notebook.Schedule.set_world.Goals as goal
 
 pub install-requires-clause-fit : goal.install-requires-clause-fit
 install-requires-clause-fit g c =
@@ -26,11 +26,11 @@ invariant_of-self g c =
     length-map c.install.new.records.items (λ r. g.C.CellRunner.recorded r.value) ∙ c.install.ensures.count ∙ sym (length-map c.self.inside.records.items (λ r. g.C.CellRunner.recorded r.value)) in
     let kept : All (λ x. IsSnapshot (book_of c.args.self.now) x.place (g.C.CellRunner.kept_session x.version) (map g.C.CellRunner.change_of x.pending.items)) c.self.inside.snapshots.items =
     subst (λ (s : Sheet). All (λ x. IsSnapshot (book_of s) x.place (g.C.CellRunner.kept_session x.version) (map g.C.CellRunner.change_of x.pending.items)) c.self.inside.snapshots.items) c.self.view_is (c.self.invariant).1 in (
-      subst (λ cs. IsKept g.C.CellRunner.covers (book_of (sheet cs (g.C.CellRunner.given c.args.inputs))) (each_of g.C.CellRunner.recorded c.install.new.records.items) c.install.new.words.items)
+      subst (λ cs. IsKept g.C.CellRunner.covers (book_of (sheet cs (g.C.CellRunner.given c.args.world))) (each_of g.C.CellRunner.recorded c.install.new.records.items) c.install.new.words.items)
           (sym (ap (λ (s : Sheet). s.cells) c.self.view_is))
-          (kept_over g.C.CellRunner.covers c.args.self.now (g.C.CellRunner.given c.args.inputs) _ (each_of g.C.CellRunner.recorded c.self.inside.records.items) (each_of g.C.CellRunner.recorded c.install.new.records.items) c.self.inside.words.items c.install.new.words.items run
+          (kept_over g.C.CellRunner.covers c.args.self.now (g.C.CellRunner.given c.args.world) _ (each_of g.C.CellRunner.recorded c.self.inside.records.items) (each_of g.C.CellRunner.recorded c.install.new.records.items) c.self.inside.words.items c.install.new.words.items run
           c.in_ok-changed.ensures.changed long c.install.ensures.many c.install.ensures.records c.install.ensures.words),
-      subst (λ (s : Sheet). All (λ x. IsSnapshot (book_of s) x.place (g.C.CellRunner.kept_session x.version) (map g.C.CellRunner.change_of x.pending.items)) c.carry.new.snapshots.items) (sym (ap (λ (t : Sheet). sheet t.cells (g.C.CellRunner.given c.args.inputs)) c.self.view_is))
-          (c.carry.ensures (book_of c.args.self.now) (book_of (sheet c.args.self.now.cells (g.C.CellRunner.given c.args.inputs))) (behind_none c.args.self.now (g.C.CellRunner.given c.args.inputs) run.run.distinct) c.in_ok-changed.ensures.noted (All-none (λ x. IsSnapshot (book_of c.args.self.now) x.place (g.C.CellRunner.kept_session x.version) (map g.C.CellRunner.change_of x.pending.items)) c.new-fresh.result.items c.new-fresh.ensures.items) kept),
+      subst (λ (s : Sheet). All (λ x. IsSnapshot (book_of s) x.place (g.C.CellRunner.kept_session x.version) (map g.C.CellRunner.change_of x.pending.items)) c.carry.new.snapshots.items) (sym (ap (λ (t : Sheet). sheet t.cells (g.C.CellRunner.given c.args.world)) c.self.view_is))
+          (c.carry.ensures (book_of c.args.self.now) (book_of (sheet c.args.self.now.cells (g.C.CellRunner.given c.args.world))) (behind_none c.args.self.now (g.C.CellRunner.given c.args.world) run.run.distinct) c.in_ok-changed.ensures.noted (All-none (λ x. IsSnapshot (book_of c.args.self.now) x.place (g.C.CellRunner.kept_session x.version) (map g.C.CellRunner.change_of x.pending.items)) c.new-fresh.result.items c.new-fresh.ensures.items) kept),
       (c.self.invariant).2,
     )

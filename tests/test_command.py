@@ -441,7 +441,7 @@ class Release(Tree):
         self.assertTells(1, 'not, byte for byte', '--check')
         self.assertTells(0, alike, '--check', FAKE_TOOLCHAIN='another')
         self.build('#!/bin/sh\necho another answer\n')
-        self.assertTells(1, 'answers counts.ndn otherwise', '--check', FAKE_TOOLCHAIN='another')
+        self.assertTells(1, 'answers atomic.ndn otherwise', '--check', FAKE_TOOLCHAIN='another')
         self.put('crates/base/src/lib.rt', 'changed\n')
         self.assertTells(1, 'the sources are not those', '--check')
         self.assertTells(1, 'crates/base/src/lib.rt is younger')

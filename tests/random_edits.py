@@ -49,6 +49,10 @@ REFUSED = ["x[9] = 1", "y[-7] = 1", "print(x[6])", "print(q)", "w = q", "del q",
 UNREAD = ["x = 1 +", "y = 1 < 2 < 3", "x = $", "print(x", "frob(x)"]
 SILENT = ["", "# a remark", "import numpy as np"]
 LOADED = ["x = np.load('f')", "y = np.load('g')", "z = np.load('none')", "x = buffer('b')", "y = buffer('f')"]
+LONG = ["x = np.arange(40)", "y = np.arange(40)", "x = np.arange(200)", "y = x", "z = x[8:]", "z = y[::2]"]
+ELEMENTS = ["x[5] = 7", "x[5] = 8", "x[5] += 1", "x[6] = x[5]", "x[5:8] += 2", "x[4:6] = x[6:8]", "x[8] = 9", "x[-1] = 5",
+            "y[5] = 1", "y[30] = 2", "y[4:7] -= 1", "z[0] = 4", "z[0] += 1", "z[4:6] = x[:2]", "x[::8] += 1"]
+FEW = ["print(x[5])", "print(x[4:7])", "print(y[30], y[5])", "print(z[0])", "a = x[6]", "b = y[5]", "print(x[8:10])"]
 SAVED = ["np.save('s', x)", "np.save('t', y[0])", "np.save('s', z[1:])", "np.save('t', a)"]
 POOLS: Dict[str, List[List[str]]] = {
     "sharing": [ARRAYS, SHARED, WRITES, PRINTS],
@@ -57,6 +61,7 @@ POOLS: Dict[str, List[List[str]]] = {
     "refusals": [ARRAYS, ARRAYS, SHARED, WRITES, PRINTS, REFUSED],
     "inputs": [ARRAYS, WRITES, PRINTS, LOADED, SAVED],
     "in place": [ARRAYS, SHARED, VIEWS, AUGMENTED, AUGMENTED, PRINTS],
+    "elements": [LONG, ELEMENTS, ELEMENTS, ELEMENTS, FEW, FEW],
     "saves": [ARRAYS, VIEWS, WRITES, SAVED, SAVED],
     "all": [ARRAYS, SHARED, WRITES, PRINTS, NUMBERS, UNBOUND, REFUSED, UNREAD, SILENT, LOADED, VIEWS, AUGMENTED, SAVED],
 }

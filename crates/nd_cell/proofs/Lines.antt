@@ -1,5 +1,5 @@
 -- The lines of a cell, one after another.
-use Rattle.std.proofs.Common.{◌≡◌, ℕ, ◌+◌, ◌<◌, true, false, leb, List, [], ◌∷◌, ◌++◌, length, length-append, drop, get_or, Option, None, Some, option_map, is_some, Result, Ok, Err, IfOk, arith, refl, sym, ap, ap₂, ◌∙◌, inl, inr, add-one, drop-cons, String, string_bytes, Vec, Global}
+use Rattle.std.proofs.Common.{◌≡◌, ℕ, ◌+◌, ◌<◌, true, false, leb, List, [], ◌∷◌, ◌++◌, length, length-append, drop, get_or, Option, None, Some, option_map, is_some, Result, Ok, Err, IfOk, arith, refl, sym, ap, ap₂, subst, ◌∙◌, inl, inr, add-one, drop-cons, String, string_bytes, Vec, Global}
 use Rattle.std.specs.Prelude.{string_eq, bytes_eq}
 use Rattle.std.proofs.lemmas.Bool.{cases_Bool}
 use Rattle.indexmap.specs.IndexMap.{insert_entry}
@@ -8,7 +8,11 @@ use Rattle.nd_model.specs.Cells.Session.{bind, lookup}
 use Rattle.nd_model.specs.Cells.Running.{Running, Inputs, Output}
 use Rattle.nd_model.specs.Cells.Fault.{Fault, Statement, TextTooLong}
 use Rattle.nd_model.specs.Cells.Fault as fault
-use Rattle.nd_model.specs.Cells.Cell.{Ended, Saved, statement, statements, and_then, with_save, most_text}
+use Rattle.nd_model.specs.Grammar.Syntax as model
+use Rattle.nd_model.specs.Grammar.Syntax.{Parsed}
+use Rattle.nd_reach.specs.Reach.{EndsInReach}
+use Rattle.nd_reach.proofs.Reaching.{reach_itself}
+use Rattle.nd_model.specs.Cells.Cell.{Ended, Saved, ran, statement, statements, and_then, with_save, most_text}
 use Rattle.nd_model.specs.Grammar.Tokens.{tokens_of_stmt, tokens_of_lines}
 use Rattle.nd_syntax.specs.declared.trees.tree.Line.{Line}
 use Rattle.nd_syntax.specs.Trees.Syntax.{stmt_of, lines_of}
@@ -106,3 +110,17 @@ pub limited_output : (line : ℕ) (text new : List ℕ) (saves kept : Saved) (m 
     → IfOk added (λ o. (rest : List ℕ → Saved → Running → Ended) → and_then line text saves m rest ≡ after_line o new kept x rest)
 limited_output line text new saves kept m out x (Ok o) told adds = λ rest. limited_line line text saves m (Ok out) x told rest ∙ adds x rest
 limited_output line text new saves kept m out x (Err e) told adds = tt
+
+-- ---- ends in reach
+
+-- a text that does not parse ends at once
+pub unread_ends : (i : Inputs) (p : Parsed) (f : fault.ParseFault) (x : Running) (c : CellResult) → p ≡ Err f → string_bytes c.text ≡ [] → option_map refusal_of c.refusal ≡ Some (f.line, fault.Parse f.kind f.column)
+    → saves_of c.saves.entries ≡ [] → EndsInReach (ran i p x) (ended_of c x)
+unread_ends i p f x c is text refusal saves =
+    subst (λ (p : Parsed). EndsInReach (ran i p x) (ended_of c x)) (sym is) (record { text = text; refusal = refusal; saves = saves; running = reach_itself x })
+
+-- the lines of a text are run
+pub lines_end : {E : Type 0} (i : Inputs) (p : Parsed) (ls : List model.Line) (x y : Running) (r : Result CellResult E) → p ≡ Ok ls
+    → IfOk r (λ c. EndsInReach (statements i ls [] [] x) (ended_of c y)) → IfOk r (λ c. EndsInReach (ran i p x) (ended_of c y))
+lines_end i p ls x y (Ok c) is ends = subst (λ (p : Parsed). EndsInReach (ran i p x) (ended_of c y)) (sym is) ends
+lines_end i p ls x y (Err e) is ends = tt

@@ -1,5 +1,5 @@
 -- The record of a run, from what is kept at its end.
-use Rattle.std.proofs.Common.{◌≡◌, ℕ, Bool, true, false, List, [], Option, Some, None, length, option_map, refl, sym, ap, subst, ◌∙◌}
+use Rattle.std.proofs.Common.{◌≡◌, ℕ, Bool, true, false, List, [], Option, Some, None, length, option_map, refl, sym, ap, ap₂, subst, ◌∙◌}
 use mathlib.Core.Path.{fun_ext}
 use Rattle.std.specs.Prelude.{IsTrue, ◌||◌, is_some, if◌then◌else◌}
 use Rattle.nd_model.specs.Arrays.Value.{Base}
@@ -15,6 +15,8 @@ use Rattle.nd_model.proofs.Keeping.{found_at}
 use Rattle.nd_model.proofs.Replaying.{replays_sound}
 use Rattle.nd_model.proofs.Soundness.{held_map}
 use Rattle.nd_model.proofs.Tracks.{tracks_cell}
+use Rattle.nd_reach.specs.Reach.{EndsInReach, HasSameEnd}
+use Rattle.nd_reach.proofs.Reaching.{end_is_all, under_in_reach}
 use Rattle.nd_session.specs.Session.State.{State}
 use Rattle.nd_session.specs.Session.Live.{live}
 use Rattle.nd_session.specs.Session.Listed.{seen_of}
@@ -107,20 +109,33 @@ record_at_end_is label p i s =
       effects = effects_of e;
     }
 
-pub recorded_run : (label : ℕ) (p : Parsed) (i : World) (s v : Session) (e : Ended) (r : Record) → r ≡ record_at_end v i e → v ≡ collected s → cell label p i s ≡ e → r ≡ record_of label p i s
-recorded_run label p i s v e r is kept ends =
-    is ∙ ap (λ (v : Session). record_at_end v i e) kept ∙ ap (λ (e : Ended). record_at_end (collected s) i e) (sym ends) ∙ record_at_end_is label p i s
+-- the record of an end that is another in reach
+same_record : (v : Session) (i : World) (e f : Ended) → f.running.label ≡ e.running.label → HasSameEnd e f → record_at_end v i f ≡ record_at_end v i e
+same_record v i e f label same = λ d. record {
+  label = label d;
+  read = same.reads d;
+  values = λ k. if same.reads d k then Some (found_in v i k) else None;
+  effects = same.effects d;
+}
 
-pub ends_run : (label : ℕ) (p : Parsed) (i : World) (s v : Session) (e : Ended) → HasNone label s → IsSoundSession s → v ≡ collected s → cell label p i s ≡ e → EndsRun v i e
+same_label : (e f : Ended) → EndsInReach e f → f.running.label ≡ e.running.label
+same_label e f h = ap (λ (r : Running). r.label) h.running.rest
+
+pub recorded_run : (label : ℕ) (p : Parsed) (i : World) (s v : Session) (e : Ended) (r : Record) → r ≡ record_at_end v i e → v ≡ collected s → EndsInReach (cell label p i s) e → r ≡ record_of label p i s
+recorded_run label p i s v e r is kept ends =
+    is ∙ ap (λ (v : Session). record_at_end v i e) kept
+    ∙ same_record (collected s) i (cell label p i s) e (same_label (cell label p i s) e ends) (end_is_all label p i s e ends) ∙ record_at_end_is label p i s
+
+pub ends_run : (label : ℕ) (p : Parsed) (i : World) (s v : Session) (e : Ended) → HasNone label s → IsSoundSession s → v ≡ collected s → EndsInReach (cell label p i s) e → EndsRun v i e
 ends_run label p i s v e none sound kept ends =
-    let same : e.running.label ≡ label = ap (λ (e : Ended). e.running.label) (sym ends) ∙ (tracks_cell label p s i).labelled in
+    let same : e.running.label ≡ label = same_label (cell label p i s) e ends ∙ (tracks_cell label p s i).labelled in
     record {
       parsed = p;
       before = s;
       is = kept;
       none = subst (λ l. HasNone l s) (sym same) none;
       sound = sound;
-      ends = sym ends ∙ ap (λ l. cell l p i s) (sym same);
+      ends = subst (λ l. EndsInReach (cell l p i s) e) (sym same) ends;
     }
 
 pub is_of_run : (r : RecordData) (v : Session) (i : World) (e : Ended) → EndsRun v i e → r.changes.label ≡ e.running.label → r.changes.next ≡ e.running.next → recorded r ≡ record_at_end v i e → IsOfRun r
@@ -130,8 +145,8 @@ is_of_run r v i e run label next is = record {
   before = run.before;
   none = subst (λ l. HasNone l run.before) (sym label) run.none;
   sound = run.sound;
-  same = recorded_run e.running.label run.parsed i run.before v e (recorded r) is run.is (sym run.ends) ∙ ap (λ l. record_of l run.parsed i run.before) (sym label);
-  next = next ∙ ap (λ (e : Ended). e.running.next) run.ends ∙ ap (λ l. (cell l run.parsed i run.before).running.next) (sym label);
+  same = recorded_run e.running.label run.parsed i run.before v e (recorded r) is run.is run.ends ∙ ap (λ l. record_of l run.parsed i run.before) (sym label);
+  next = next ∙ ap (λ (r : Running). r.next) run.ends.running.rest ∙ ap (λ l. (cell l run.parsed i run.before).running.next) (sym label);
 }
 
 -- ---- how a run ends
@@ -168,10 +183,11 @@ thawed_start label s x k is kept labelled next =
     λ d. record (start (l d) s) { names = (v d).names; bytes = (v d).bytes; next = n d }
 
 -- the end of a cell that began with it
-pub ended_cell : (label : ℕ) (p : Parsed) (w : World) (s : Session) (x began : Running) (e : Ended) → x ≡ start label s → began ≡ start label s → ran w.inputs p x ≡ e
-    → cell label p w s ≡ ended_under w.rule began e
+pub ended_cell : (label : ℕ) (p : Parsed) (w : World) (s : Session) (x began : Running) (e : Ended) → x ≡ start label s → began ≡ start label s → EndsInReach (ran w.inputs p x) e
+    → EndsInReach (cell label p w s) (ended_under w.rule began e)
 ended_cell label p w s x began e is same ends =
-    ap (ended_under w.rule (start label s)) (ap (ran w.inputs p) (sym is) ∙ ends) ∙ ap (λ b. ended_under w.rule b e) (sym same)
+    subst (λ (f : Ended). EndsInReach f (ended_under w.rule began e)) (ap₂ (λ (b q : Running). ended_under w.rule b (ran w.inputs p q)) same is)
+    (under_in_reach w.rule began (ran w.inputs p x) e ends)
 
 -- ---- sessions
 

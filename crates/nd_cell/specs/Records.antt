@@ -8,6 +8,7 @@ use Rattle.nd_model.specs.Cells.Cell.{Saved, Ended, cell}
 use Rattle.nd_model.specs.Cells.Footprint.{HasNone, reads_of, effects_of}
 use Rattle.nd_model.specs.Cells.Sound.{IsSoundSession}
 use Rattle.nd_model.specs.Book.Records as records
+use Rattle.nd_reach.specs.Reach.{EndsInReach}
 use Rattle.nd_session.specs.Session.Reads.{ReadsData, found_in, found_of, keys_of}
 use Rattle.nd_session.specs.Session.Changes.{ChangesData, effects_in}
 
@@ -41,14 +42,15 @@ record_at_end s i e = record {
   effects = effects_of e;
 }
 
--- A cell ended so that began with a sound session, without a base of its label, of which this was kept.
+-- A cell ended so, but for bases that it made and nothing holds. It began with a sound session, without a base of its label, of which
+-- this was kept.
 pub record EndsRun (kept : Session) (i : World) (e : Ended) : Type 0 where
   pub parsed : Parsed
   pub before : Session
   pub is : kept ≡ collected before
   pub none : HasNone e.running.label before
   pub sound : IsSoundSession before
-  pub ends : e ≡ cell e.running.label parsed i before
+  pub ends : EndsInReach (cell e.running.label parsed i before) e
 
 -- what every record keeps true: it is that of such a run
 pub record IsOfRun (r : RecordData) : Type 0 where

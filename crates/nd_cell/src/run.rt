@@ -8,6 +8,7 @@ ghost use Rattle.nd_model.specs.Cells.Cell.{Ended, Saved, and_then, cell, ran, s
 ghost use Rattle.nd_model.specs.Cells.Footprint.{HasNone};
 ghost use Rattle.nd_model.specs.Grammar.Tokens.{tokens_of_lines, tokens_of_stmt};
 ghost use Rattle.nd_model.specs.Grammar.Reading.{reading};
+ghost use Rattle.nd_reach.specs.Reach.{EndsInReach};
 ghost use Rattle.nd_model.specs.Book.Records.{record_of};
 ghost use Rattle.nd_syntax.specs.Trees.Syntax.{kind_of, lines_of, stmt_of};
 ghost use Rattle.nd_model.specs.Cells.Session.{collected};
@@ -92,16 +93,17 @@ fn run_line(
     }
 }
 
-/// Runs the lines of a cell, up to the first refusal.
+/// Runs the lines of a cell, up to the first refusal. Between two lines, blocks that no later one
+/// can come to are given up.
 fn run_lines(
     session: &mut Session,
     inputs: &Inputs,
     lines: &[Line],
 ) -> Result<CellResult, OutOfMemory>
     requires { (live session.old).next + tokens_of_lines (lines_of lines.now) < 2 ^ 64 }
-    ensures { IfOk result (λ r.
-        statements (inputs_of inputs.now.entries) (lines_of lines.now) [] [] (live session.old)
-        ≡ ended_of r (live session.new)) }
+    ensures { IfOk result (λ r. EndsInReach
+        (statements (inputs_of inputs.now.entries) (lines_of lines.now) [] [] (live session.old))
+        (ended_of r (live session.new))) }
 {
     let alloc = session.allocator();
     let mut text = String::new(alloc);
@@ -115,6 +117,7 @@ fn run_lines(
                 saves,
             });
         }
+        session.collect_due()?;
     }
     Ok(CellResult {
         text,
@@ -144,9 +147,9 @@ fn unread(alloc: Global, fault: ParseFault) -> CellResult
 /// runs nothing.
 fn run_text(session: &mut Session, inputs: &Inputs, text: &str) -> Result<CellResult, OutOfMemory>
     requires { (live session.old).next ≡ 0 }
-    ensures { IfOk result (λ r.
-        ran (inputs_of inputs.now.entries) (reading text.now) (live session.old)
-        ≡ ended_of r (live session.new)) }
+    ensures { IfOk result (λ r. EndsInReach
+        (ran (inputs_of inputs.now.entries) (reading text.now) (live session.old))
+        (ended_of r (live session.new))) }
 {
     // proof: the number of bytes is bounded, by the clause of as_bytes().
     let _bytes = text.as_bytes();

@@ -41,7 +41,7 @@ found_by b (e ∷ es) once h = elim (or_cases _ _ h) [
     none_some v e = cc
 
 -- names that find the same hold the same
-held_more : (b : Base) (es ds : Names) → IsOnce es → ((n : List ℕ) → lookup n es ≡ lookup n ds) → is_held b es ≡ true → is_held b ds ≡ true
+pub held_more : (b : Base) (es ds : Names) → IsOnce es → ((n : List ℕ) → lookup n es ≡ lookup n ds) → is_held b es ≡ true → is_held b ds ≡ true
 held_more b es ds once same h =
     let by : (n : List ℕ) × (v : Value) × (lookup n es ≡ Some v) × (lies_in b v ≡ true) = found_by b es once h in
     held_by_name b by.0 by.1 ds (sym (same by.0) ∙ by.2) by.3

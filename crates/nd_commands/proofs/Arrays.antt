@@ -1,5 +1,5 @@
 -- The answers for arrays and rows, piece by piece.
-use Rattle.std.proofs.Common.{◌≡◌, ℕ, List, [], ◌∷◌, ◌++◌, sym, ap, ap₂, ◌∙◌, append_assoc}
+use Rattle.std.proofs.Common.{◌≡◌, ℕ, List, ◌++◌, ap₂, ◌∙◌, append_assoc}
 use Rattle.std.specs.Prelude.{codes, decimal}
 use Rattle.nd_model.specs.Arrays.View.{ElementType, item_size}
 use Rattle.nd_model.specs.Formats.Format.{format_text}

@@ -1,11 +1,12 @@
-//! `insert_cell` and the others: commands, carried out and answered.
+//! `make_edit` and the others: commands, carried out and answered.
 
 ghost use Rattle.std.specs.Prelude.{◌≡◌, codes, length};
-ghost use Rattle.nd_model.specs.Book.Book.{Insert, Change, Move, Remove, SetInput, DropInput, SetRule};
+ghost use Rattle.nd_model.specs.Book.Book.{SetInput};
 ghost use Rattle.nd_model.specs.Book.Script as script;
 ghost use Rattle.nd_model.specs.Book.Notebook.{book_of};
 ghost use Rattle.nd_script.specs.Lines.Counts.{CountsCommand};
-ghost use Rattle.nd_notebook.specs.Values.{rule_of, source_of};
+ghost use Rattle.nd_notebook.specs.Edits.{edit_of};
+ghost use Rattle.nd_notebook.specs.Values.{source_of};
 ghost use Rattle.nd_commands.specs.Carry.{Carried};
 
 use crate::answer::{
@@ -13,75 +14,24 @@ use crate::answer::{
     push_source_answer,
 };
 use crate::value::push_value;
-use nd_notebook::{CellRule, Input, Meter, Notebook};
+use nd_notebook::{Edit, Input, Meter, Notebook};
 use nd_script::lines::AnswerWrite;
 use std::alloc::Global;
 
-/// Inserts a cell.
-pub fn insert_cell<O: AnswerWrite>(
+/// Makes an edit, and answers it.
+pub fn make_edit<O: AnswerWrite>(
     out: &mut O,
     meter: &mut Meter,
     notebook: &mut Notebook,
-    at: usize,
-    source: &str,
+    edit: Edit<'_>,
 )
-    ensures carried { Carried (script.Edits (Insert at source.now)) (book_of notebook.old)
+    ensures carried { Carried (script.Edits (edit_of edit.entry)) (book_of notebook.old)
         (O.state out.old) (O.state out.new) (book_of notebook.new) }
-    ensures counts { CountsCommand (script.Edits (Insert at source.now))
+    ensures counts { CountsCommand (script.Edits (edit_of edit.entry))
         (book_of notebook.old) meter.old meter.new }
 {
-    let done = notebook.insert(meter, at, source);
-    push_edit_answer(out, "", &done);
-}
-
-/// Replaces a cell's source.
-pub fn edit_cell<O: AnswerWrite>(
-    out: &mut O,
-    meter: &mut Meter,
-    notebook: &mut Notebook,
-    at: usize,
-    source: &str,
-)
-    ensures carried { Carried (script.Edits (Change at source.now)) (book_of notebook.old)
-        (O.state out.old) (O.state out.new) (book_of notebook.new) }
-    ensures counts { CountsCommand (script.Edits (Change at source.now))
-        (book_of notebook.old) meter.old meter.new }
-{
-    let done = notebook.edit(meter, at, source);
-    push_edit_answer(out, "", &done);
-}
-
-/// Moves a cell.
-pub fn move_cell<O: AnswerWrite>(
-    out: &mut O,
-    meter: &mut Meter,
-    notebook: &mut Notebook,
-    from: usize,
-    to: usize,
-)
-    ensures carried { Carried (script.Edits (Move from to)) (book_of notebook.old)
-        (O.state out.old) (O.state out.new) (book_of notebook.new) }
-    ensures counts { CountsCommand (script.Edits (Move from to))
-        (book_of notebook.old) meter.old meter.new }
-{
-    let done = notebook.move_cell(meter, from, to);
-    push_edit_answer(out, "", &done);
-}
-
-/// Removes a cell.
-pub fn remove_cell<O: AnswerWrite>(
-    out: &mut O,
-    meter: &mut Meter,
-    notebook: &mut Notebook,
-    at: usize,
-)
-    ensures carried { Carried (script.Edits (Remove at)) (book_of notebook.old)
-        (O.state out.old) (O.state out.new) (book_of notebook.new) }
-    ensures counts { CountsCommand (script.Edits (Remove at))
-        (book_of notebook.old) meter.old meter.new }
-{
-    let done = notebook.remove(meter, at);
-    push_edit_answer(out, "", &done);
+    let done = notebook.apply(meter, edit);
+    push_edit_answer(out, edit.input_name(), &done);
 }
 
 /// Sets an input, which the notebook keeps.
@@ -99,38 +49,6 @@ pub fn set_input<O: AnswerWrite>(
 {
     let done = notebook.set_input(meter, name, input);
     push_edit_answer(out, name, &done);
-}
-
-/// Drops an input.
-pub fn drop_input<O: AnswerWrite>(
-    out: &mut O,
-    meter: &mut Meter,
-    notebook: &mut Notebook,
-    name: &str,
-)
-    ensures carried { Carried (script.Edits (DropInput name.now)) (book_of notebook.old)
-        (O.state out.old) (O.state out.new) (book_of notebook.new) }
-    ensures counts { CountsCommand (script.Edits (DropInput name.now))
-        (book_of notebook.old) meter.old meter.new }
-{
-    let done = notebook.drop_input(meter, name);
-    push_edit_answer(out, name, &done);
-}
-
-/// Sets the rule.
-pub fn set_rule<O: AnswerWrite>(
-    out: &mut O,
-    meter: &mut Meter,
-    notebook: &mut Notebook,
-    rule: CellRule,
-)
-    ensures carried { Carried (script.Edits (SetRule (rule_of rule))) (book_of notebook.old)
-        (O.state out.old) (O.state out.new) (book_of notebook.new) }
-    ensures counts { CountsCommand (script.Edits (SetRule (rule_of rule)))
-        (book_of notebook.old) meter.old meter.new }
-{
-    let done = notebook.set_rule(meter, rule);
-    push_edit_answer(out, "", &done);
 }
 
 /// Shows what a cell gives.

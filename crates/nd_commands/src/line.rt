@@ -12,12 +12,11 @@ ghost use Rattle.nd_commands.specs.Run.{tally_of};
 ghost use Rattle.nd_commands.specs.Source.{lines_so_far, opening_of, stage_of};
 
 use crate::carry::{
-    drop_input, edit_cell, insert_cell, move_cell, remove_cell, set_input, set_rule, show_names,
-    show_result, show_save, show_source, show_value,
+    make_edit, set_input, show_names, show_result, show_save, show_source, show_value,
 };
 use crate::input::input_of_line;
 use crate::source::{OpenText, Opening};
-use nd_notebook::{CellRule, Meter, Notebook};
+use nd_notebook::{CellRule, Edit, Meter, Notebook};
 use nd_script::lines::AnswerWrite;
 use nd_script::words::{LineCommand, command_of, is_end_of_source, push_count_line, push_text};
 use std::alloc::{AllocError, Global};
@@ -92,10 +91,7 @@ fn close_source<O: AnswerWrite>(
         (book_of notebook.old) meter.old meter.new }
 {
     match str::from_utf8(source.bytes()) {
-        Ok(text) => match source.opening {
-            Opening::Insert(at) => insert_cell(out, meter, notebook, at, text),
-            Opening::Edit(at) => edit_cell(out, meter, notebook, at, text),
-        },
+        Ok(text) => make_edit(out, meter, notebook, source.opening.edit(text)),
         Err(_) => push_text(out, "bad command\n"),
     }
 }
@@ -149,8 +145,8 @@ fn answer_whole<O: AnswerWrite>(
         meter.old meter.new }
 {
     match command {
-        LineCommand::Remove(at) => remove_cell(out, meter, notebook, at),
-        LineCommand::Move { from, to } => move_cell(out, meter, notebook, from, to),
+        LineCommand::Remove(at) => make_edit(out, meter, notebook, Edit::Remove(at)),
+        LineCommand::Move { from, to } => make_edit(out, meter, notebook, Edit::Move(from, to)),
         LineCommand::Show(at) => show_result(out, notebook, at),
         LineCommand::Source(at) => show_source(out, notebook, at),
         LineCommand::Names(at) => show_names(out, notebook, at),
@@ -159,9 +155,13 @@ fn answer_whole<O: AnswerWrite>(
         LineCommand::SetInput { name, input } => {
             set_input(out, meter, notebook, name, input_of_line(input))
         }
-        LineCommand::DropInput(name) => drop_input(out, meter, notebook, name),
-        LineCommand::PythonRule => set_rule(out, meter, notebook, CellRule::Python),
-        LineCommand::AtomicRule => set_rule(out, meter, notebook, CellRule::Atomic),
+        LineCommand::DropInput(name) => make_edit(out, meter, notebook, Edit::DropInput(name)),
+        LineCommand::PythonRule => {
+            make_edit(out, meter, notebook, Edit::SetRule(CellRule::Python))
+        }
+        LineCommand::AtomicRule => {
+            make_edit(out, meter, notebook, Edit::SetRule(CellRule::Atomic))
+        }
         LineCommand::Count => push_count_line(out, "count", notebook.count()),
         LineCommand::Bad => push_text(out, "bad command\n"),
         LineCommand::Insert(_) | LineCommand::Edit(_) | LineCommand::Silent => {}

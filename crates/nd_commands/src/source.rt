@@ -4,6 +4,7 @@ ghost use Rattle.std.specs.Prelude.{◌≡◌, [], ◌∷◌, ◌++◌, All, ◌
 ghost use Rattle.nd_model.specs.Book.Script.{source_of};
 ghost use Rattle.nd_commands.specs.Source.{lines_so_far, opening_of};
 
+use nd_notebook::Edit;
 use std::alloc::AllocError;
 
 /// The edit that a source is for, with its position.
@@ -11,6 +12,21 @@ use std::alloc::AllocError;
 pub enum Opening {
     Insert(usize),
     Edit(usize),
+}
+
+impl Opening {
+    ghost use Rattle.nd_model.specs.Book.Script.{with_source};
+    ghost use Rattle.nd_notebook.specs.Edits.{edit_of};
+
+    /// Returns the edit that a text makes.
+    pub fn edit(self, text: &str) -> Edit<'_>
+        ensures { edit_of result ≡ with_source (opening_of self) text.now }
+    {
+        match self {
+            Opening::Insert(at) => Edit::Insert(at, text),
+            Opening::Edit(at) => Edit::Change(at, text),
+        }
+    }
 }
 
 /// A source, of which some lines have come.

@@ -1,5 +1,5 @@
 -- Loose bases: what loses its last name is among them.
-use Rattle.std.proofs.Common.{◌≡◌, ℕ, suc, zero, true, false, not, ◌&&◌, ◌||◌, cond, bytes_eq, List, [], ◌∷◌, length, drop, filter, Some, Global, refl, sym, ap, ◌∙◌, inl, inr}
+use Rattle.std.proofs.Common.{◌≡◌, ℕ, suc, zero, Bool, true, false, nat_eq, not, ◌&&◌, ◌||◌, cond, bytes_eq, List, [], ◌∷◌, length, drop, filter, Some, Global, refl, sym, ap, ◌∙◌, inl, inr}
 use Rattle.std.specs.declared.rc.RcStr.{RcStr}
 use Rattle.std.proofs.lemmas.Bool.{cases_Bool, or_parts, or_from, or_right}
 use Rattle.nd_model.specs.Arrays.Value as model
@@ -53,6 +53,27 @@ left_unheld ns (e ∷ es) b = elim (cases_Bool (model.same_base (base_of e.0) b)
   | inr apart ↦ elim (cases_Bool (is_held (base_of e.0) ns)) [
     | inl held ↦ rw (held, apart) (left_unheld ns es b)
     | inr free ↦ rw (free, apart) (left_unheld ns es b)
+  ]
+]
+
+-- bases whose labels pass a test are left
+pub left_labelled : (test : ℕ → Bool) (es : List (Base × Unit {0})) (b : model.Base)
+    → is_base_among (bases_of (filter (λ e. test e.0.label) es)) b ≡ (is_base_among (bases_of es) b && test b.label)
+left_labelled test [] b = refl
+left_labelled test (e ∷ es) b = elim (cases_Bool (model.same_base (base_of e.0) b)) [
+  | inl same ↦
+      let is : base_of e.0 ≡ b = same_bases (base_of e.0) b same in
+      elim (cases_Bool (test b.label)) [
+        | inl passes ↦
+            let here : test e.0.label ≡ true = ap (λ (c : model.Base). test c.label) is ∙ passes in
+            rw (here, same, passes) refl
+        | inr fails ↦
+            let here : test e.0.label ≡ false = ap (λ (c : model.Base). test c.label) is ∙ fails in
+            rw (here, same, fails) (left_labelled test es b ∙ rw fails (and_false (is_base_among (bases_of es) b)))
+      ]
+  | inr apart ↦ elim (cases_Bool (test e.0.label)) [
+    | inl passes ↦ rw (passes, apart) (left_labelled test es b)
+    | inr fails ↦ rw (fails, apart) (left_labelled test es b)
   ]
 ]
 
@@ -145,6 +166,43 @@ collected_bytes names blocks after old new left removed h b = elim (cases_Bool (
     | inr never ↦ let stays : is_base_among new b ≡ false = left b ∙ rw never refl in removed b ∙ rw stays (h b never free)
   ])
 ]
+
+-- what is collected of a label
+pub collected_label : (label : ℕ) (names : Names) (blocks after : List (model.Base × List ℕ)) (old own lost : List model.Base)
+    → ((b : model.Base) → is_base_among own b ≡ (is_base_among old b && nat_eq b.label label))
+    → ((b : model.Base) → is_base_among lost b ≡ (is_base_among own b && not (is_held b names)))
+    → ((b : model.Base) → bytes_at after b ≡ cond (is_base_among lost b) [] (bytes_at blocks b))
+    → AreLoose (record { names = names; blocks = blocks; loose = old })
+    → (b : model.Base) → bytes_at after b ≡ cond (nat_eq b.label label && not (is_held b names)) [] (bytes_at blocks b)
+collected_label label names blocks after old own lost labelled left removed h b =
+    removed b ∙ ap (λ t. cond t [] (bytes_at blocks b)) (left b ∙ ap (λ t. t && not (is_held b names)) (labelled b))
+    ∙ elim (cases_Bool (is_base_among old b)) [
+      | inl was ↦ rw was refl
+      | inr never ↦ rw never (elim (cases_Bool (is_held b names)) [
+        | inl held ↦ rw held (ap (λ t. cond t [] (bytes_at blocks b)) (sym (and_false (nat_eq b.label label))))
+        | inr free ↦ let lacks : bytes_at blocks b ≡ [] = h b never free in rw lacks (sym (nothing (nat_eq b.label label && not (is_held b names))))
+      ])
+    ]
+  where
+    nothing : (t : Bool) → ◌≡◌ {A = List ℕ} (cond t [] []) []
+    nothing true = refl
+    nothing false = refl
+
+-- after that no base of the label need be loose
+pub label_loose : (label : ℕ) (names : Names) (blocks after : List (model.Base × List ℕ)) (old new : List model.Base)
+    → ((b : model.Base) → is_base_among new b ≡ (is_base_among old b && not (nat_eq b.label label)))
+    → ((b : model.Base) → bytes_at after b ≡ cond (nat_eq b.label label && not (is_held b names)) [] (bytes_at blocks b))
+    → AreLoose (record { names = names; blocks = blocks; loose = old }) → AreLoose (record { names = names; blocks = after; loose = new })
+label_loose label names blocks after old new left is h = λ b free unheld. is b ∙ elim (cases_Bool (nat_eq b.label label)) [
+  | inl own ↦ rw (own, unheld) refl
+  | inr other ↦ rw other (h b (was_free b other free) unheld)
+]
+  where
+    was_free : (b : model.Base) → nat_eq b.label label ≡ false → is_base_among new b ≡ false → is_base_among old b ≡ false
+    was_free b other free = elim (cases_Bool (is_base_among old b)) [
+      | inl was ↦ false_true (sym free ∙ left b ∙ rw (was, other) refl)
+      | inr never ↦ never
+    ]
 
 -- the loose bases are those that are not held
 pub left_loose : (names : Names) (blocks others : List (model.Base × List ℕ)) (old new : List model.Base) → bytes_at others ≡ bytes_at blocks

@@ -1,6 +1,6 @@
 //! `Blocks`: one layer of blocks by base, each shared by the versions that have it.
 
-ghost use Rattle.std.specs.Prelude.{◌≡◌, ◌+◌, ◌≤◌, ◌^◌, ◌||◌, ◌&&◌, ◌++◌, not, [], IfOk, IsFalse, IsTrue, OnErr, OnOk, if◌then◌else◌};
+ghost use Rattle.std.specs.Prelude.{◌≡◌, ◌+◌, ◌≤◌, ◌^◌, ◌||◌, ◌&&◌, ◌++◌, not, nat_eq, [], IfOk, IsFalse, IsTrue, OnErr, OnOk, if◌then◌else◌};
 ghost use Rattle.nd_model.specs.Arrays.Value as values;
 ghost use Rattle.nd_model.specs.Cells.Session as model;
 ghost use Rattle.nd_model.specs.Cells.Running as running;
@@ -180,6 +180,30 @@ pub(crate) fn retain_unheld(bases: &mut Bases, names: &NameTable)
             ensures { (result ≡ not (model.is_held (base_of base.now) names.entry.now))
                 × (_unit.new ≡ _unit.old) }
         { !names.is_held(*base) },
+    );
+}
+
+/// Keeps only the bases of a label.
+pub(crate) fn retain_label(bases: &mut Bases, label: u64)
+    ensures { (b : values.Base) → is_base_among (bases_of bases.new.entries) b
+        ≡ (is_base_among (bases_of bases.old.entries) b && nat_eq b.label label) }
+{
+    bases.retain(
+        |base: &Base, _unit: &mut ()| -> bool
+            ensures { (result ≡ nat_eq base.now.label label) × (_unit.new ≡ _unit.old) }
+        { base.label == label },
+    );
+}
+
+/// Takes out the bases of a label.
+pub(crate) fn drop_label(bases: &mut Bases, label: u64)
+    ensures { (b : values.Base) → is_base_among (bases_of bases.new.entries) b
+        ≡ (is_base_among (bases_of bases.old.entries) b && not (nat_eq b.label label)) }
+{
+    bases.retain(
+        |base: &Base, _unit: &mut ()| -> bool
+            ensures { (result ≡ not (nat_eq base.now.label label)) × (_unit.new ≡ _unit.old) }
+        { base.label != label },
     );
 }
 

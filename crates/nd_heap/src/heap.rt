@@ -1,6 +1,6 @@
 //! `Heap`: names with their values, and the blocks that arrays among these lie in.
 
-ghost use Rattle.std.specs.Prelude.{◌≡◌, ◌↔◌, ◌<◌, ◌||◌, [], IfOk, IsFalse, IsTrue, OnErr, OnOk, false, if◌then◌else◌, length, option_map, slice_get, true};
+ghost use Rattle.std.specs.Prelude.{◌≡◌, ◌↔◌, ◌<◌, ◌||◌, ◌&&◌, not, nat_eq, [], IfOk, IsFalse, IsTrue, OnErr, OnOk, false, if◌then◌else◌, length, option_map, slice_get, true};
 ghost use Rattle.std.specs.Rc.{rc_str_bytes};
 ghost use Rattle.nd_model.specs.Arrays.Value as values;
 ghost use Rattle.nd_model.specs.Cells.Session as model;
@@ -12,7 +12,7 @@ ghost use Rattle.nd_heap.specs.Live.{bytes_at, is_base_among};
 ghost use Rattle.nd_heap.specs.Loose.{lies_in_found};
 
 use crate::block_table::{BlockTable, pick_blocks};
-use crate::blocks::{Bases, Blocks, has_base, note_base, retain_unheld};
+use crate::blocks::{Bases, Blocks, drop_label, has_base, note_base, retain_label, retain_unheld};
 use crate::memory::OutOfMemory;
 use crate::name_table::NameTable;
 use crate::names::lies_in;
@@ -350,6 +350,26 @@ impl Heap {
     {
         self.settle()?;
         self.remove_loose()?;
+        Ok(())
+    }
+
+    /// Gives up the blocks of a label that no bound value lies in. Only those of loose bases are
+    /// looked at.
+    ///
+    /// Where a cell has bound `x` to an array and then to the number 1, `collect_label` of the cell's
+    /// label gives up the array's block, and of no other label one.
+    pub fn collect_label(&mut self, label: u64) -> Result<(), OutOfMemory>
+        ensures names { self.new.names ≡ self.old.names }
+        ensures ok { OnOk result ((b : values.Base) → bytes_at self.new.blocks b
+            ≡ (if nat_eq b.label label && not (model.is_held b self.old.names)
+            then [] else bytes_at self.old.blocks b)) }
+        ensures err { OnErr result (bytes_at self.new.blocks ≡ bytes_at self.old.blocks) }
+    {
+        let mut lost = self.loose.clone()?;
+        retain_label(&mut lost, label);
+        retain_unheld(&mut lost, &self.names);
+        self.blocks.remove(&lost)?;
+        drop_label(&mut self.loose, label);
         Ok(())
     }
 }

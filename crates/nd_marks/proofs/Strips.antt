@@ -317,10 +317,6 @@ pub all_left : (h e r : Bool) → e ≡ false → (h || r) ≡ (h || (r && not e
 all_left h e true is = rw is refl
 all_left h e false is = refl
 
-pub bit_alone : (a b : Bool) → (a || b) ≡ false → b ≡ (a || b)
-bit_alone true b none = false_true (sym none)
-bit_alone false b none = refl
-
 pub same_end : (p from at to : ℕ) → to ≤ at → at ≤ max from to → (nat_le from p && nat_lt p at) ≡ (nat_le from p && nat_lt p to)
 same_end p from at to le most = elim (cases_lt p from) [
   | inl lt ↦ let a : nat_le from p ≡ false = grind (arith, nat_tests) in rw a refl

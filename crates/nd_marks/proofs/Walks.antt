@@ -107,7 +107,7 @@ in_filter f (x ∷ xs) p = more (cases_Bool (nat_eq p x)) (cases_Bool (f x)) (in
     more (inr other) (inl set) rest = rw (set, other) rest
     more (inr other) (inr unset) rest = rw (unset, other) rest
 
-past_words : (ws : List ℕ) (k : ℕ) → length ws ≤ k → slice_index ws k ≡ 0
+pub past_words : (ws : List ℕ) (k : ℕ) → length ws ≤ k → slice_index ws k ≡ 0
 past_words [] k le = refl
 past_words (w ∷ ws) zero le = absurd (omega arith)
 past_words (w ∷ ws) (suc k) le = past_words ws k (omega arith)

@@ -1,8 +1,8 @@
 //! `KeptBytes`: bytes of a block at marked byte offsets, kept without the block.
 
-ghost use Rattle.std.specs.Prelude.{◌≡◌, ℕ, ◌+◌, ◌-◌, ◌^◌, ◌<◌, ◌≤◌, ◌++◌, ◌&&◌, ◌↔◌, if◌then◌else◌, IfOk, IsTrue, MatchOption, None, OnOk, Option, Some, length, map, nat_le, nat_lt, slice_index, unwrap_or};
-ghost use Rattle.nd_marks.specs.Kept.{kept_at, places_in};
-ghost use Rattle.nd_marks.specs.Marks.{holds};
+ghost use Rattle.std.specs.Prelude.{◌≡◌, ℕ, ◌+◌, ◌-◌, ◌^◌, ◌<◌, ◌≤◌, ◌++◌, ◌&&◌, ◌↔◌, if◌then◌else◌, ◌/◌, ◌%◌, false, is_some, IfOk, IsTrue, MatchOption, None, OnOk, Option, Some, length, map, nat_le, nat_lt, slice_index, unwrap_or};
+ghost use Rattle.nd_marks.specs.Kept.{byte_for, kept_at, places_in};
+ghost use Rattle.nd_marks.specs.Marks.{holds, in_word};
 ghost use Rattle.nd_model.specs.Arrays.Tuple.{count_up};
 
 use crate::bytes::byte_at;
@@ -62,6 +62,18 @@ fn append_range(bytes: &mut Vec<u8>, block: &[u8], from: u128, width: u64) -> Re
     Ok(())
 }
 
+/// The bytes of a block at the byte offsets of a walk over a set.
+fn gather(alloc: Global, marks: &Marks, block: &[u8], count: usize) -> Result<Vec<u8>, AllocError>
+    ensures { IfOk result (λ v. v.items ≡ map (slice_index block.now) (places_in marks.now)) }
+{
+    let mut bytes = Vec::with_capacity(alloc, count)?;
+    let mut walk = marks.walk();
+    while let Some(range) = walk.next() {
+        append_range(&mut bytes, block, range.from, range.width)?;
+    }
+    Ok(bytes)
+}
+
 /// Whether the block has these bytes from a byte offset on, looked at one by one.
 fn has_outside(block: &[u8], from: u128, bytes: &[u8]) -> bool
     requires { from ≤ 2 ^ 126 }
@@ -102,6 +114,116 @@ fn put_range(block: &mut [u8], from: u128, bytes: &[u8])
     block[from..from + count].copy_from_slice(&bytes[..count]);
 }
 
+/// Whether `a` from an index on and `b` have the same bytes, as far as both go.
+fn is_same_behind(a: &[u8], skip: u128, b: &[u8]) -> bool
+    requires { skip ≤ 2 ^ 126 }
+    ensures { IsTrue result ↔ ((i : ℕ) → skip + i < length a.now → i < length b.now
+        → slice_index a.now (skip + i) ≡ slice_index b.now i) }
+{
+    if skip >= a.len() as u128 {
+        return true;
+    }
+    let count = b.len().min(a.len() - skip as usize);
+    has_range(a, skip, &b[..count])
+}
+
+/// Whether bytes from byte offset `base` on and bytes from `from` on are the same where they
+/// overlap.
+fn is_same_overlap(a: &[u8], base: u128, b: &[u8], from: u128) -> bool
+    requires { (base ≤ 2 ^ 126) × (from ≤ 2 ^ 126) }
+    ensures { IsTrue result ↔ ((i : ℕ) → i < length a.now → from ≤ base + i
+        → base + i < from + length b.now
+        → slice_index a.now i ≡ slice_index b.now (base + i - from)) }
+{
+    if base <= from {
+        is_same_behind(a, from - base, b)
+    } else {
+        is_same_behind(b, base - from, a)
+    }
+}
+
+/// Puts bytes from byte offset `from` on into those from `base` on, where they overlap.
+fn put_overlap(block: &mut [u8], base: u128, bytes: &[u8], from: u128)
+    requires { (base ≤ 2 ^ 126) × (from ≤ 2 ^ 126) }
+    ensures len { length block.new ≡ length block.old }
+    ensures bytes { (i : ℕ) → i < length block.old → slice_index block.new i
+        ≡ (if nat_le from (base + i) && nat_lt (base + i) (from + length bytes.now)
+        then slice_index bytes.now (base + i - from) else slice_index block.old i) }
+{
+    if base <= from {
+        put_range(block, from - base, bytes);
+        return;
+    }
+    let skip = base - from;
+    if skip < bytes.len() as u128 {
+        put_range(block, 0, &bytes[skip as usize..]);
+    }
+}
+
+/// Whether a block has these bytes from a byte offset on, where they are marked.
+fn has_marked(marks: &Marks, block: &[u8], from: u128, bytes: &[u8]) -> bool
+    requires { from ≤ 2 ^ 126 }
+    ensures { IsTrue result ↔ ((i : ℕ) → i < length bytes.now
+        → IsTrue (holds marks.now (from + i))
+        → slice_index block.now (from + i) ≡ slice_index bytes.now i) }
+{
+    for at in 0..bytes.len() {
+        let place = from + at as u128;
+        if byte_at(block, place) != bytes[at] && marks.holds_at(place) {
+            return false;
+        }
+    }
+    true
+}
+
+/// Puts bytes of a block into those from byte offset `from` on, where they are marked.
+fn put_marked(bytes: &mut [u8], from: u128, marks: &Marks, block: &[u8])
+    requires { from ≤ 2 ^ 126 }
+    ensures len { length bytes.new ≡ length bytes.old }
+    ensures bytes { (i : ℕ) → i < length bytes.old → slice_index bytes.new i
+        ≡ (if holds marks.now (from + i) then slice_index block.now (from + i)
+        else slice_index bytes.old i) }
+{
+    for at in 0..bytes.len() {
+        let place = from + at as u128;
+        let byte = byte_at(block, place);
+        if byte != bytes[at] && marks.holds_at(place) {
+            bytes[at] = byte;
+        }
+    }
+}
+
+/// Puts bytes that are kept elsewhere into those of the byte offsets of a walk over a set.
+fn overwrite_bytes(bytes: &mut [u8], marks: &Marks, other: &KeptBytes)
+    requires { bytes.old ≡ map (byte_for (places_in marks.now) bytes.old) (places_in marks.now) }
+    ensures { bytes.new ≡ map (λ p. unwrap_or (kept_at other.now p)
+        (byte_for (places_in marks.now) bytes.old p)) (places_in marks.now) }
+{
+    let mut at = 0;
+    let mut walk = marks.walk();
+    while let Some(range) = walk.next() {
+        let end = at + range.width as usize;
+        other.patch_at(&mut bytes[at..end], range.from);
+        at = end;
+    }
+}
+
+/// Puts marked bytes of a block into those of the byte offsets of a walk over a set.
+fn overwrite_marked(bytes: &mut [u8], places: &Marks, marks: &Marks, block: &[u8])
+    requires { bytes.old ≡ map (byte_for (places_in places.now) bytes.old)
+        (places_in places.now) }
+    ensures { bytes.new ≡ map (λ p. if holds marks.now p then slice_index block.now p
+        else byte_for (places_in places.now) bytes.old p) (places_in places.now) }
+{
+    let mut at = 0;
+    let mut walk = places.walk();
+    while let Some(range) = walk.next() {
+        let end = at + range.width as usize;
+        put_marked(&mut bytes[at..end], range.from, marks, block);
+        at = end;
+    }
+}
+
 impl KeptBytes {
     /// Keeps the bytes of a block at the marked byte offsets, and is `None` where `most` of them or
     /// more are marked. An offset that is marked in two pieces may count twice. A byte offset past
@@ -120,11 +242,7 @@ impl KeptBytes {
         if count == most {
             return Ok(None);
         }
-        let mut bytes = Vec::with_capacity(alloc, count as usize)?;
-        let mut walk = marks.walk();
-        while let Some(range) = walk.next() {
-            append_range(&mut bytes, block, range.from, range.width)?;
-        }
+        let bytes = gather(alloc, marks, block, count as usize)?;
         let marks = marks.try_clone(alloc)?;
         Ok(Some(KeptBytes { marks, bytes }))
     }
@@ -169,5 +287,151 @@ impl KeptBytes {
         ensures { IsTrue result → (p : ℕ) → kept_at self.now p ≡ kept_at other.now p }
     {
         self.marks.is_same(&other.marks) && self.bytes.as_slice() == other.bytes.as_slice()
+    }
+}
+
+impl KeptBytes {
+    /// Returns equal bytes with memory of their own.
+    pub fn try_clone(&self, alloc: Global) -> Result<KeptBytes, AllocError>
+        ensures { IfOk result (λ k. k ≡ self.now) }
+    {
+        let marks = self.marks.try_clone(alloc)?;
+        let bytes = Vec::from_slice(alloc, &self.bytes)?;
+        Ok(KeptBytes { marks, bytes })
+    }
+
+    /// The number of bytes that are kept. An offset that is marked in two pieces may count twice.
+    pub fn len(&self) -> usize
+        ensures { result ≡ length self.now.bytes }
+    {
+        self.bytes.len()
+    }
+
+    /// Keeps the bytes of another block at the same byte offsets. One past its end has a 0.
+    pub fn reread(&self, alloc: Global, block: &[u8]) -> Result<KeptBytes, AllocError>
+        ensures { IfOk result (λ k. (p : ℕ) → kept_at k p
+            ≡ (if is_some (kept_at self.now p) then Some (slice_index block.now p) else None)) }
+    {
+        let bytes = gather(alloc, &self.marks, block, self.bytes.len())?;
+        let marks = self.marks.try_clone(alloc)?;
+        Ok(KeptBytes { marks, bytes })
+    }
+
+    /// Returns true only where both keep bytes at the same byte offsets.
+    pub fn has_offsets_of(&self, other: &KeptBytes) -> bool
+        ensures { IsTrue result → (p : ℕ) → is_some (kept_at self.now p)
+            ≡ is_some (kept_at other.now p) }
+    {
+        self.marks.is_same(&other.marks)
+    }
+
+    /// Returns true only where no byte offset is kept in both.
+    pub fn is_apart(&self, other: &KeptBytes) -> bool
+        ensures { IsTrue result → (p : ℕ) → IsTrue (is_some (kept_at self.now p))
+            → kept_at other.now p ≡ None }
+    {
+        self.marks.is_apart(&other.marks)
+    }
+
+    /// Returns true only where no byte offset that is kept is marked.
+    pub fn is_apart_from(&self, marks: &Marks) -> bool
+        ensures { IsTrue result → (p : ℕ) → IsTrue (is_some (kept_at self.now p))
+            → holds marks.now p ≡ false }
+    {
+        self.marks.is_apart(marks)
+    }
+
+    /// Returns the bits of the granules of 64 bytes that may have a byte that is kept.
+    pub fn granules(&self) -> u64
+        ensures { (p : ℕ) → IsTrue (is_some (kept_at self.now p))
+            → IsTrue (in_word result (p / 64 % 64)) }
+    {
+        self.marks.granules()
+    }
+
+    /// Whether bytes from a byte offset on are those that are kept there, where any are.
+    fn agrees_at(&self, bytes: &[u8], base: u128) -> bool
+        requires { base ≤ 2 ^ 126 }
+        ensures { IsTrue result ↔ ((i b : ℕ) → i < length bytes.now
+            → kept_at self.now (base + i) ≡ Some b → slice_index bytes.now i ≡ b) }
+    {
+        let mut rest = self.bytes.as_slice();
+        let mut walk = self.marks.walk();
+        while let Some(range) = walk.next() {
+            let (kept, behind) = rest.split_at(range.width as usize);
+            if !is_same_overlap(bytes, base, kept, range.from) {
+                return false;
+            }
+            rest = behind;
+        }
+        true
+    }
+
+    /// Puts each byte that is kept into bytes from a byte offset on.
+    fn patch_at(&self, block: &mut [u8], base: u128)
+        requires { base ≤ 2 ^ 126 }
+        ensures len { length block.new ≡ length block.old }
+        ensures bytes { (i : ℕ) → i < length block.old → slice_index block.new i
+            ≡ unwrap_or (kept_at self.now (base + i)) (slice_index block.old i) }
+    {
+        let mut rest = self.bytes.as_slice();
+        let mut walk = self.marks.walk();
+        while let Some(range) = walk.next() {
+            let (bytes, behind) = rest.split_at(range.width as usize);
+            put_overlap(block, base, bytes, range.from);
+            rest = behind;
+        }
+    }
+
+    /// Returns whether both have the same byte at each byte offset that both keep.
+    pub fn agrees(&self, other: &KeptBytes) -> bool
+        ensures { IsTrue result ↔ ((p a b : ℕ) → kept_at self.now p ≡ Some a
+            → kept_at other.now p ≡ Some b → a ≡ b) }
+    {
+        let mut rest = self.bytes.as_slice();
+        let mut walk = self.marks.walk();
+        while let Some(range) = walk.next() {
+            let (bytes, behind) = rest.split_at(range.width as usize);
+            if !other.agrees_at(bytes, range.from) {
+                return false;
+            }
+            rest = behind;
+        }
+        true
+    }
+
+    /// Returns whether the block has each byte that is kept at a marked byte offset.
+    pub fn agrees_with(&self, marks: &Marks, block: &[u8]) -> bool
+        ensures { IsTrue result ↔ ((p a : ℕ) → kept_at self.now p ≡ Some a
+            → IsTrue (holds marks.now p) → slice_index block.now p ≡ a) }
+    {
+        let mut rest = self.bytes.as_slice();
+        let mut walk = self.marks.walk();
+        while let Some(range) = walk.next() {
+            let (bytes, behind) = rest.split_at(range.width as usize);
+            if !has_marked(marks, block, range.from, bytes) {
+                return false;
+            }
+            rest = behind;
+        }
+        true
+    }
+
+    /// Takes over the other's byte at each byte offset that both keep.
+    pub fn overwrite(&mut self, other: &KeptBytes)
+        ensures { (p : ℕ) → kept_at self.new p ≡ (if is_some (kept_at self.old p)
+            then Some (unwrap_or (kept_at other.now p) (unwrap_or (kept_at self.old p) 0))
+            else None) }
+    {
+        overwrite_bytes(&mut self.bytes, &self.marks, other);
+    }
+
+    /// Takes over the block's byte at each marked byte offset that is kept.
+    pub fn overwrite_by(&mut self, marks: &Marks, block: &[u8])
+        ensures { (p : ℕ) → kept_at self.new p ≡ (if is_some (kept_at self.old p)
+            then Some (if holds marks.now p then slice_index block.now p
+            else unwrap_or (kept_at self.old p) 0) else None) }
+    {
+        overwrite_marked(&mut self.bytes, &self.marks, marks, block);
     }
 }

@@ -1,13 +1,16 @@
 //! `Strip`: rows of bytes at one step, such as every second element of an array, or a
 //! column of a table.
-ghost use Rattle.std.specs.Prelude.{◌≡◌, ℕ, ◌+◌, ◌*◌, ◌^◌, ◌<◌, ◌≤◌, ◌||◌, ◌⊎◌, true, false, IsTrue, IfSome, length, slice_index};
+ghost use Rattle.std.specs.Prelude.{◌≡◌, ℕ, ◌+◌, ◌*◌, ◌^◌, ◌<◌, ◌≤◌, ◌||◌, ◌/◌, ◌%◌, ◌⊎◌, true, false, IsTrue, IfSome, length, slice_index};
 ghost use Rattle.std.specs.List.{flat_map};
 ghost use Rattle.nd_model.specs.Cells.Session.{is_in};
 ghost use Rattle.nd_model.specs.Arrays.Tuple.{count_up};
-ghost use Rattle.nd_marks.specs.Marks.{in_row, in_rows, in_strip};
+ghost use Rattle.nd_marks.specs.Marks.{in_row, in_rows, in_strip, in_word};
 
 use nd_view::Run;
 use std::marker::Model;
+
+// A span of this many bytes or more has all granules.
+const MOST_GRANULAR: u128 = 4096;
 
 /// A strip: `count` rows of `width` bytes, each `step` bytes behind the one before it.
 ///
@@ -81,6 +84,54 @@ impl Stretch {
     }
 }
 
+/// A range of byte offsets that contains a set: from the first of its pieces to the end of the last.
+#[derive(Clone, Copy)]
+pub(crate) struct Span {
+    pub(crate) from: u128,
+    pub(crate) to: u128,
+}
+
+impl Span {
+    /// Returns the span of the union of two sets.
+    pub(crate) fn with(self, other: Span) -> Span
+        ensures first { (p : ℕ) → self.from ≤ p → p < self.to → (result.from ≤ p)
+            × (p < result.to) }
+        ensures second { (p : ℕ) → other.from ≤ p → p < other.to → (result.from ≤ p)
+            × (p < result.to) }
+    {
+        Span {
+            from: self.from.min(other.from),
+            to: self.to.max(other.to),
+        }
+    }
+
+    /// Returns whether one ends before the other begins.
+    pub(crate) fn is_apart(self, other: Span) -> bool
+        ensures { IsTrue result → (p : ℕ) → self.from ≤ p → p < self.to → other.from ≤ p
+            → other.to ≤ p }
+    {
+        self.to <= other.from || other.to <= self.from
+    }
+
+    /// Returns the bits of its granules of 64 bytes: bit `p / 64 % 64` for each byte offset `p`.
+    fn granules(self) -> u64
+        ensures { (p : ℕ) → self.from ≤ p → p < self.to → in_word result (p / 64 % 64) ≡ true }
+    {
+        if self.to <= self.from {
+            return 0;
+        }
+        if self.to - self.from >= MOST_GRANULAR {
+            return u64::MAX;
+        }
+        let mut word = 0_u64;
+        for granule in self.from / 64..(self.to - 1) / 64 + 1 {
+            let bit = (granule % 64) as u64;
+            word = word | 1 << bit;
+        }
+        word
+    }
+}
+
 impl Strip {
     /// Returns a strip without rows.
     pub(crate) fn empty() -> Strip
@@ -128,6 +179,35 @@ impl Strip {
         ensures end { result + self.now.width ≤ 2 ^ 65 }
     {
         u128::from(self.first) + u128::from(number) * u128::from(self.step)
+    }
+
+    /// The byte offset behind the last row.
+    fn end(&self) -> u128
+        ensures { (p : ℕ) → result ≤ p → in_strip self.now p ≡ false }
+    {
+        let rows = u128::from(self.first) + u128::from(self.count) * u128::from(self.step);
+        if self.count == 0 {
+            return rows;
+        }
+        rows - u128::from(self.step - self.width)
+    }
+
+    /// The byte offsets from the first row to the end of the last.
+    pub(crate) fn span(&self) -> Span
+        ensures { (p : ℕ) → in_strip self.now p ≡ true → (result.from ≤ p) × (p < result.to) }
+    {
+        Span {
+            from: u128::from(self.first),
+            to: self.end(),
+        }
+    }
+
+    /// Returns the bits of the granules that its rows may touch. A strip over 4,096 bytes or more
+    /// may touch each.
+    pub(crate) fn granules(&self) -> u64
+        ensures { (p : ℕ) → in_strip self.now p ≡ true → in_word result (p / 64 % 64) ≡ true }
+    {
+        self.span().granules()
     }
 
     /// Returns true only where all rows lie in a block of this length.

@@ -1,6 +1,6 @@
 //! `Walk`: a walk over the byte offsets of a set, a range at a time.
 
-ghost use Rattle.std.specs.Prelude.{◌≡◌, ℕ, ◌+◌, ◌-◌, ◌*◌, ◌^◌, ◌<◌, ◌≤◌, [], false, true, length, min, MatchOption};
+ghost use Rattle.std.specs.Prelude.{◌≡◌, ℕ, ◌+◌, ◌-◌, ◌*◌, ◌^◌, ◌<◌, ◌≤◌, ◌&&◌, [], false, true, length, min, nat_le, nat_lt, MatchOption};
 ghost use Rattle.nd_marks.specs.Kept.{IsNext, bits_left, places_in, rows_left, strips_places};
 ghost use Rattle.nd_marks.specs.Marks.{in_word, Places};
 
@@ -12,6 +12,16 @@ use std::marker::Model;
 pub(crate) struct ByteRange {
     pub(crate) from: u128,
     pub(crate) width: u64,
+}
+
+impl ByteRange {
+    /// Returns whether a byte offset is in the range.
+    pub(crate) fn holds(&self, place: u128) -> bool
+        ensures { result ≡ (nat_le self.now.from place
+            && nat_lt place (self.now.from + self.now.width)) }
+    {
+        self.from <= place && place - self.from < u128::from(self.width)
+    }
 }
 
 /// Bits of a word that are set, from one on, before another.

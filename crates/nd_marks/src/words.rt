@@ -1,5 +1,5 @@
 //! `set_bits` and `is_set`: sets of byte offsets as bits in words of 64.
-ghost use Rattle.std.specs.Prelude.{◌≡◌, ℕ, ◌+◌, ◌-◌, ◌*◌, ◌^◌, ◌<◌, ◌≤◌, ◌||◌, ◌&&◌, not, nat_le, nat_lt, nat_eq, length, slice_index, OnOk};
+ghost use Rattle.std.specs.Prelude.{◌≡◌, ℕ, ◌+◌, ◌-◌, ◌*◌, ◌^◌, ◌<◌, ◌≤◌, ◌||◌, ◌&&◌, not, nat_le, nat_lt, nat_eq, false, length, slice_index, OnOk};
 ghost use Rattle.std.specs.Int.{bit_at};
 ghost use Rattle.std.specs.List.{All, flat_map};
 ghost use Rattle.nd_model.specs.Cells.Session.{is_in};
@@ -46,8 +46,21 @@ pub(crate) fn is_set(words: &[u64], place: u64) -> bool
     (word_of(words, (place / 64) as usize) >> (place % 64)) & 1 == 1
 }
 
+/// Returns whether a bit of `from..to` is set.
+pub(crate) fn any_set(words: &[u64], from: u128, to: u128) -> bool
+    ensures { result ≡ false → (p : ℕ) → from ≤ p → p < to → has_bit words.now p ≡ false }
+{
+    let end = to.min(words.len() as u128 * 64);
+    for place in from..end {
+        if (words[(place / 64) as usize] >> (place % 64) as u64) & 1 == 1 {
+            return true;
+        }
+    }
+    false
+}
+
 /// Appends words without bits, until there are `count`.
-fn grow(words: &mut Vec<u64>, count: u64) -> Result<(), AllocError>
+pub(crate) fn grow(words: &mut Vec<u64>, count: u64) -> Result<(), AllocError>
     ensures same { OnOk result ((q : ℕ)
         → slice_index words.new.items q ≡ slice_index words.old.items q) }
     ensures room { OnOk result (count ≤ length words.new.items) }
@@ -101,21 +114,52 @@ pub(crate) fn set_bits(
     Ok(())
 }
 
-/// Sets the bits of `size` byte offsets from `first` on, for which there are words, except those of
-/// `except`.
-fn set_run(words: &mut Vec<u64>, first: u64, size: u64, except: &[u64])
-    requires size { (0 < size) × (size ≤ 64) }
+/// Adds the bits of a word to the one of this index, by one OR.
+#[inline(always)]
+pub(crate) fn add_word(words: &mut Vec<u64>, at: usize, word: u64)
+    requires { at < length words.old.items }
+    ensures len { length words.new.items ≡ length words.old.items }
+    ensures bits { (q i : ℕ) → in_word (slice_index words.new.items q) i
+        ≡ (in_word (slice_index words.old.items q) i || (nat_eq q at && in_word word i)) }
+{
+    words[at] = words[at] | word;
+}
+
+/// The word of `size` bits from bit `start` on. Those past its end are left out.
+#[inline(always)]
+pub(crate) fn first_part(start: u64, size: u64) -> u64
+    requires { (start < 64) × (size ≤ 64) }
+    ensures { (i : ℕ) → i < 64
+        → in_word result i ≡ (nat_le start i && nat_lt i (start + size)) }
+{
+    ones(size) << start
+}
+
+/// The next word of such bits, with those that are past the end of the first.
+#[inline(always)]
+fn second_part(start: u64, size: u64) -> u64
+    requires { (start < 64) × ((size ≤ 64) × (64 < start + size)) }
+    ensures { (i : ℕ) → in_word result i ≡ nat_lt (i + 64) (start + size) }
+{
+    ones(size) >> (64 - start)
+}
+
+/// Sets the bits of `size` byte offsets from `first` on, for which there are words: by one OR where
+/// they lie in one word.
+#[inline(always)]
+pub(crate) fn set_run(words: &mut Vec<u64>, first: u64, size: u64)
+    requires size { size ≤ 64 }
     requires room { first + size ≤ length words.old.items * 64 }
+    requires some { 0 < size }
     ensures len { length words.new.items ≡ length words.old.items }
     ensures bits { (p : ℕ) → has_bit words.new.items p ≡ (has_bit words.old.items p
-        || ((nat_le first p && nat_lt p (first + size)) && not (has_bit except.now p))) }
+        || (nat_le first p && nat_lt p (first + size))) }
 {
     let at = (first / 64) as usize;
     let start = first % 64;
-    let stop = start + size;
-    set_word(words, at, start, stop.min(64), word_of(except, at));
-    if stop > 64 {
-        set_word(words, at + 1, 0, stop - 64, word_of(except, at + 1));
+    add_word(words, at, first_part(start, size));
+    if start + size > 64 {
+        add_word(words, at + 1, second_part(start, size));
     }
 }
 
@@ -130,22 +174,34 @@ fn greatest(places: &[u64]) -> u64
     greatest
 }
 
-/// Sets the bits of `size` byte offsets from each of these on, except those of `except`.
-pub(crate) fn set_runs(
-    words: &mut Vec<u64>,
-    places: &[u64],
-    size: u64,
-    except: &[u64],
-) -> Result<(), AllocError>
+/// Sets the bits of `size` byte offsets from each of these on, for which there are words.
+#[inline(always)]
+fn set_each(words: &mut Vec<u64>, places: &[u64], size: u64)
+    requires size { (0 < size) × (size ≤ 64) }
+    requires room { All (λ p. p + size ≤ length words.old.items * 64) places.now }
+    ensures { (p : ℕ) → has_bit words.new.items p ≡ (has_bit words.old.items p
+        || is_in p (flat_map (λ q. count_up q size) places.now)) }
+{
+    for place in places {
+        set_run(words, *place, size);
+    }
+}
+
+/// Sets the bits of `size` byte offsets from each of these on, by a loop specialised for a usual
+/// itemsize.
+pub(crate) fn set_runs(words: &mut Vec<u64>, places: &[u64], size: u64) -> Result<(), AllocError>
     requires { (0 < size) × (size ≤ 64) }
     ensures { OnOk result ((p : ℕ) → has_bit words.new.items p ≡ (has_bit words.old.items p
-        || (is_in p (flat_map (λ q. count_up q size) places.now)
-        && not (has_bit except.now p)))) }
+        || is_in p (flat_map (λ q. count_up q size) places.now))) }
 {
     let end = u128::from(greatest(places)) + u128::from(size);
     grow(words, ((end + 63) / 64) as u64)?;
-    for place in places {
-        set_run(words, *place, size, except);
+    match size {
+        1 => set_each(words, places, 1),
+        2 => set_each(words, places, 2),
+        4 => set_each(words, places, 4),
+        8 => set_each(words, places, 8),
+        _ => set_each(words, places, size),
     }
     Ok(())
 }

@@ -24,6 +24,20 @@ pub enum Edit<'a> {
     SetRule(CellRule),
 }
 
+impl<'a> Edit<'a> {
+    ghost use Rattle.nd_notebook.specs.Edits.{edit_of, name_in};
+
+    /// Returns the name of the input that the edit is of; it is empty where the edit is of none.
+    pub fn input_name(self) -> &'a str
+        ensures { result.now ≡ name_in (edit_of self.entry) }
+    {
+        match self {
+            Edit::SetInput(name, _) | Edit::DropInput(name) => name,
+            _ => "",
+        }
+    }
+}
+
 /// Why an edit is refused. The first reason that holds is answered, and want of memory last.
 #[derive(Clone, Copy, Debug)]
 pub enum EditFault {

@@ -372,7 +372,8 @@ impl Notebook {
     ///
     /// On a notebook without cells, `Insert(0, "x = 1")` and `Remove(7)` are answered `Ok` and
     /// `NoCell(7, 1)`. Afterwards all queries answer what running all present cells in order from
-    /// nothing, over the present inputs and under the present rule, gives, whatever distinct labels the cells have.
+    /// nothing gives, over the present inputs and under the present rule, whatever distinct labels
+    /// the cells have.
     pub fn apply_all(
         &mut self,
         meter: &mut Meter,

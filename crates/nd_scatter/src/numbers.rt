@@ -88,6 +88,10 @@ fn are_side_by_side(places: &[u64], size: u64, len: usize) -> bool
     if places.is_empty() || all > len || places[0] > len - all {
         return false;
     }
+    let last = places.len() - 1;
+    if places[last] != places[0] + last as u64 * size {
+        return false;
+    }
     let mut all = true;
     for (index, place) in places.iter().enumerate() {
         all &= *place == places[0] + index as u64 * size;

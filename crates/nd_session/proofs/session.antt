@@ -12,6 +12,7 @@ pub mod Present
 pub mod Gathering
 pub mod Standing
 pub mod Covering
+pub mod Filters
 pub mod Fitting
 pub mod Dropping
 pub mod Carrying

@@ -1,3 +1,4 @@
+pub mod Chosen
 pub mod Places
 pub mod Noting
 pub mod Traces

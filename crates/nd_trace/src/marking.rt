@@ -1,6 +1,6 @@
 //! `Footprint`: the marked byte offsets of several blocks.
 
-ghost use Rattle.std.specs.Prelude.{◌≡◌, ℕ, ◌+◌, ◌≤◌, ◌^◌, ◌||◌, ◌&&◌, not, false, IfOk, OnOk};
+ghost use Rattle.std.specs.Prelude.{◌≡◌, ℕ, ◌+◌, ◌≤◌, ◌^◌, ◌||◌, ◌&&◌, not, false, pos, IfOk, IfSome, IsTrue, OnOk};
 ghost use Rattle.std.specs.List.{All, flat_map};
 ghost use Rattle.nd_marks.specs.Marks.{holds};
 ghost use Rattle.nd_model.specs.Cells.Session.{is_in};
@@ -15,7 +15,7 @@ ghost use Rattle.nd_trace.specs.Marked.{is_marked};
 use indexmap::IndexMap;
 use nd_heap::{Base, OutOfMemory};
 use nd_marks::Marks;
-use nd_places::PlaceList;
+use nd_places::{PlaceList, StridedLine};
 use nd_types::ElemType;
 use nd_view::View;
 use std::alloc::{AllocError, Global};
@@ -102,9 +102,51 @@ pub(crate) fn mark_element(
     Ok(())
 }
 
+// The byte offset of a line's first element, where its elements of `size` bytes are contiguous.
+fn row_start(line: StridedLine, size: u64) -> Option<u64>
+    requires { size ≤ 8 }
+    ensures { IfSome result (λ start. (line.start ≡ pos start) × ((line.step ≡ pos size)
+        × (start ≤ 2 ^ 61))) }
+{
+    if line.step != size as i64 || line.start < 0 {
+        return None;
+    }
+    Some(line.start as u64)
+}
+
+// Adds the bytes of the elements that a mask selects of a contiguous line to a set, and returns
+// whether the list is kept as these and nothing is excepted. Else the set stays as it is.
+fn mark_trues(
+    marks: &mut Marks,
+    elem: &ElemType,
+    places: &PlaceList,
+    except: &Marks,
+) -> Result<bool, AllocError>
+    ensures marked { IfOk result (λ done. IsTrue done → (p : ℕ) → holds marks.new p
+        ≡ (holds marks.old p || (is_in p (flat_map (element_places (type_of elem.now)) places.now)
+        && not (holds except.now p)))) }
+    ensures unmarked { IfOk result (λ done. done ≡ false → marks.new ≡ marks.old) }
+{
+    let ElemType::One(one) = elem else {
+        return Ok(false);
+    };
+    let Some(trues) = places.trues() else {
+        return Ok(false);
+    };
+    let size = one.size();
+    let Some(start) = row_start(trues.line, size) else {
+        return Ok(false);
+    };
+    if !except.is_empty() {
+        return Ok(false);
+    }
+    marks.mark_trues(start, size, trues.mask.as_slice())?;
+    Ok(true)
+}
+
 // Adds the bytes of the elements at these byte offsets to a set, except those of the other one, a
 // part at a time.
-fn mark_places(
+fn mark_parts(
     marks: &mut Marks,
     elem: &ElemType,
     places: &PlaceList,
@@ -121,6 +163,24 @@ fn mark_places(
         marks.mark_elements(elem, part, except)?;
     }
     Ok(())
+}
+
+// Adds the bytes of the elements at these byte offsets to a set, except those of the other one.
+fn mark_places(
+    marks: &mut Marks,
+    elem: &ElemType,
+    places: &PlaceList,
+    except: &Marks,
+) -> Result<(), AllocError>
+    requires { All (λ p. p + item_size (type_of elem.now) ≤ 2 ^ 64) places.now }
+    ensures { OnOk result ((p : ℕ) → holds marks.new p ≡ (holds marks.old p
+        || (is_in p (flat_map (element_places (type_of elem.now)) places.now)
+        && not (holds except.now p)))) }
+{
+    if mark_trues(marks, elem, places, except)? {
+        return Ok(());
+    }
+    mark_parts(marks, elem, places, except)
 }
 
 /// Marks the bytes of the elements at these byte offsets, except those of the other set.

@@ -63,8 +63,8 @@ ran inputs (Err f) r = record { text = []; refusal = Some (f.line, Parse f.kind 
 abbrev pub ruled : Running → Running
 ruled r = record r { read = λ k. r.read k || is_rule k }
 
--- The end of a cell that began with this session, under the rule. A refused one keeps its text and its refusal. Under the rule
--- `Atomic` it saves nothing, and its session is the one that it began with.
+-- The end of a cell under the rule; `began` is the session that it ran from. A refused one keeps its text and its refusal. Under the
+-- rule `Atomic` it saves nothing, and its session is `began`, with what was read.
 abbrev pub under : Rule → Running → Option (ℕ × Refusal) → Ended → Ended
 under rule began None e = e
 under Python began (Some f) e = record e { running = ruled e.running }

@@ -20,7 +20,7 @@ use Rattle.nd_change.specs.Snapshots.{IsAlike}
 use Rattle.nd_change.proofs.Snapshots.{alike_runs}
 use Rattle.nd_change.specs.Change.{Change, Fits, IsDisjoint, did_by}
 use Rattle.nd_change.specs.Steps.{IsWordOf, IsWordOfChange, Keeps, Follows}
-use Rattle.nd_schedule.specs.Schedule.Sweep.{AreWords, IsPlace, IsAtHand, IsAt, IsFrame, CountsFront, Changes, AreChanged, AreFit}
+use Rattle.nd_schedule.specs.Schedule.Sweep.{AreWords, IsBeside, IsPlace, IsAtHand, IsAt, IsFrame, IsOpen, IsRun, CountsFront, Changes, AreChanged, AreFit}
 use Rattle.nd_schedule.proofs.schedule.Sweeping
 
 pub on_ok : {X E : Type 0} {P Q : Type 0} (res : Result X E) → OnOk res P → (P → Q) → OnOk res Q
@@ -153,6 +153,19 @@ frame_part old new i j to cs rs given frame k n le order below = record {
   world = frame.world;
 }
 
+-- up to the end
+pub frame_open : (old new : Book) (i j n : ℕ) (cs : List Cell) (rs : List Record) (given : World) → IsOpen old new i j given → old.cells ≡ cs → IsRun old rs → n ≡ length old.cells → IsFrame old new i j n cs rs given
+frame_open old new i j n cs rs given ahead cells run whole = record {
+  cells = cells;
+  run = run;
+  order = subst (λ m. i ≤ m) (sym whole) ahead.order;
+  beside = subst (IsBeside old new i j) (sym whole) ahead.beside;
+  world = ahead.world;
+}
+
+pub open_frame : (old new : Book) (i j : ℕ) (cs : List Cell) (rs : List Record) (given now : World) → IsFrame old new i j (length old.cells) cs rs given → new.world ≡ now → IsOpen old new i j now
+open_frame old new i j cs rs given now frame world = record { order = frame.order; beside = frame.beside; world = world }
+
 -- two parts behind one another
 pub both_parts : (i j k n : ℕ) → i ≤ k → k ≤ n → j + (k - i) + (n - k) ≡ j + (n - i)
 both_parts i j k n le order = omega arith
@@ -190,3 +203,6 @@ fit_push covers n (b ∷ cs) c h lt word = (h.0, h.1, fit_push covers n cs c h.2
 pub fit_more : {X : Type 0} {W : Type 0} (covers : W → Key → Bool) (view : X → ℕ × Record × W) (n : ℕ) (xs ys : List X) (x : X) → ys ≡ xs ++ x ∷ [] → AreFit covers n (map view xs) → (view x).0 < n → IsWordOf covers (view x).2 (view x).1 → AreFit covers n (map view ys)
 fit_more covers view n xs ys x grown h lt word =
     subst (AreFit covers n) (sym (ap (map view) grown ∙ Rattle.std.proofs.lemmas.List.map-append view xs (x ∷ []))) (fit_push covers n (map view xs) (view x) h lt word)
+
+pub changed_more : {X : Type 0} (view : X → ℕ × Record) (xs ys : List X) (x : X) (c : ℕ × Record) → ys ≡ xs ++ x ∷ [] → view x ≡ c → map view ys ≡ map view xs ++ c ∷ []
+changed_more view xs ys x c grown is = ap (map view) grown ∙ Rattle.std.proofs.lemmas.List.map-append view xs (x ∷ []) ∙ ap (λ v. map view xs ++ v ∷ []) is

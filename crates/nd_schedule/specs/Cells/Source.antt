@@ -1,5 +1,5 @@
 -- The cells of a notebook as the definitions have them.
-use Rattle.std.specs.Prelude.{ℕ, List, map, string_bytes}
+use Rattle.std.specs.Prelude.{List, map, string_bytes}
 use Rattle.std.proofs.Common.{Global}
 use Rattle.std.specs.declared.rc.Rc.{Rc}
 use Rattle.nd_model.specs.Book.Book as model

@@ -96,6 +96,12 @@ pub record IsFrame (old new : Book) (i j to : ℕ) (cs : List Cell) (rs : List R
   pub beside : IsBeside old new i j to
   pub world : new.world ≡ given
 
+-- what a sweep from a place to the end goes over, of the notebook that is kept
+pub record IsOpen (old new : Book) (i j : ℕ) (given : World) : Type 0 where
+  pub order : i ≤ length old.cells
+  pub beside : IsBeside old new i j (length old.cells)
+  pub world : new.world ≡ given
+
 -- ---- a cell that moves
 
 -- A cell that stands at one place before comes in now at another: its record is that of its run before.

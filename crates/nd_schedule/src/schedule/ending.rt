@@ -16,7 +16,7 @@ use crate::cells::{KeptCell, make_room};
 use crate::schedule::notebook::{Front, Schedule};
 use crate::schedule::runner::CellRunner;
 use crate::schedule::snapshots::{keep_end, put_fresh, take_end};
-use crate::schedule::sweep::New;
+use crate::schedule::sweep::{New, run_cell};
 use nd_meter::Meter;
 use std::alloc::AllocError;
 use std::rc::Rc;
@@ -131,16 +131,7 @@ impl<C: CellRunner> Schedule<C> {
         ensures counts { CountsStale (book_of self.now) (book_of (sheet (insert self.now.cells
             (length self.now.cells) (cell_of source.now)) self.now.given)) meter.old meter.new }
     {
-        let made = C::run(
-            meter,
-            session,
-            &self.world,
-            source.label,
-            source.text.as_str(),
-        )?;
-        let word = C::word(&made);
-        let record = Rc::new(self.alloc, made)?;
-        Ok(New { record, word })
+        run_cell::<C>(self.alloc, meter, source, &self.world, session)
     }
 
     /// Puts a new cell behind the last one. It is refused for want of memory alone.

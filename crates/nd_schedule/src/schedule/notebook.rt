@@ -1,6 +1,6 @@
 //! The notebook: a list of cells, and what is kept of running them.
 
-ghost use Rattle.std.specs.Prelude.{◌≡◌, ◌<◌, ◌≤◌, ◌+◌, ◌^◌, ◌||◌, ℕ, IfOk, IfSome, IsTrue, MatchOption, OnErr, OnOk, None, [], false, bytes_eq, nat_eq};
+ghost use Rattle.std.specs.Prelude.{◌≡◌, ◌<◌, ◌≤◌, ◌+◌, ◌-◌, ◌^◌, ◌||◌, ℕ, IfOk, IfSome, IsTrue, MatchOption, OnErr, OnOk, None, [], false, bytes_eq, nat_eq};
 ghost use Rattle.std.specs.List.{All};
 ghost use Rattle.std.specs.Result.{IsOk};
 ghost use Rattle.std.specs.Prelude.{insert, length, map, min, remove, slice_index_or, slice_set, string_bytes};
@@ -11,22 +11,20 @@ ghost use Rattle.nd_model.specs.Book.Book.{Book, is_label, no_cell, Change, Inse
 ghost use Rattle.nd_model.specs.Book.Book as books;
 ghost use Rattle.nd_model.specs.Book.Entries.{entry_at, record_at, session_before, SharesFront};
 ghost use Rattle.nd_model.specs.Book.Stale.{CountsStale};
-ghost use Rattle.nd_model.specs.Book.Notebook.{Sheet, book_of, edited_sheet};
+ghost use Rattle.nd_model.specs.Book.Notebook.{Sheet, book_of, edited_sheet, world_in};
 ghost use Rattle.nd_change.specs.Snapshots.{IsAlike};
 ghost use Rattle.nd_change.specs.Steps.{IsWordOf, IsWordOfChange};
 ghost use Rattle.nd_schedule.specs.Cells.Labels.{AreUsed};
 ghost use Rattle.nd_schedule.specs.Cells.Source.{sheet, cell_of, cells_of};
 ghost use Rattle.nd_schedule.specs.Cells.Shared.{each_of};
 ghost use Rattle.nd_schedule.specs.Schedule.Snapshot.{IsChangeAt, IsSnapshot, StandsBefore, names_in};
-ghost use Rattle.nd_schedule.specs.Schedule.Sweep.{AreChanged, AreFit, AreMoved, AreWords, IsAt, IsKept, change_at, changed, fit_at};
+ghost use Rattle.nd_schedule.specs.Schedule.Sweep.{AreChanged, AreFit, AreMoved, AreWords, CountsFront, IsAt, IsKept, IsOpen, change_at, changed, fit_at};
 
 use crate::cells::{FreeLabel, KeptCell, fresh_label, move_item};
 use crate::schedule::ending::{make_rooms, put_one};
 use crate::schedule::moving::{Moved, move_down, move_up};
 use crate::schedule::runner::CellRunner;
-use crate::schedule::snapshots::{
-    Noted, Snapshot, carry, nearest, order_before, replay_between, session_front,
-};
+use crate::schedule::snapshots::{Noted, Snapshot, carry, nearest, replay_between, session_front};
 use crate::schedule::sweep::{Changed, New, SweepState, run_again, run_new, sweep};
 use nd_meter::Meter;
 use std::alloc::{AllocError, Global};
@@ -197,7 +195,10 @@ impl<C: CellRunner> Schedule<C> {
         ensures { IfOk result
             (λ o. C.order_of o ≡ names_in (session_before (book_of self.now) at).names) }
     {
-        let order = order_before::<C>(self.alloc, &self.records, at)?;
+        let mut order = C::no_order(self.alloc);
+        for k in 0..at {
+            C::note_names(&self.records[k], &mut order)?;
+        }
         Ok(order)
     }
 
@@ -218,6 +219,65 @@ impl<C: CellRunner> Schedule<C> {
             &mut fresh,
         )?;
         Ok(Front { session, fresh })
+    }
+
+    /// Sweeps over the cells from a place to the end, and gives what the sweep gathered.
+    fn swept_behind(
+        &self,
+        meter: &mut Meter,
+        world: &C::World,
+        i: usize,
+        now: usize,
+        mut state: SweepState<C>,
+    ) -> Result<Swept<C>, AllocError>
+        requires order { i ≤ length self.now.cells }
+        requires fits { now ≤ i + 1 }
+        requires at { (new : Book) × (j : ℕ)
+            × IsOpen (book_of self.now) new i j (world_in (C.given world.now))
+            × IsAt (book_of self.now) new i j (C.change_of state.change)
+            (C.session_of state.session) state.since }
+        requires covered { IsWordOfChange C.covers state.word (C.change_of state.change) }
+        ensures changed { IfOk result (λ s. (new : Book) (j from first : ℕ)
+            → IsOpen (book_of self.now) new i j (world_in (C.given world.now))
+            → IsAt (book_of self.now) new i j (C.change_of state.change)
+            (C.session_of state.session) state.since → from ≤ i → j ≡ first + (i - from)
+            → AreChanged (book_of self.now) new from first i
+            (map (λ c. change_at c.place (C.recorded c.record.value)) state.changed.items)
+            → AreChanged (book_of self.now) new from first (length self.now.cells)
+            (map (λ c. change_at c.place (C.recorded c.record.value)) s.changed.items)) }
+        ensures fit { IfOk result (λ s. AreFit C.covers (length self.now.cells)
+            (map (λ c. fit_at c.place (C.recorded c.record.value) c.word) state.changed.items)
+            → AreFit C.covers (length self.now.cells)
+            (map (λ c. fit_at c.place (C.recorded c.record.value) c.word) s.changed.items)) }
+        ensures noted { IfOk result (λ s. (new : Book)
+            → IsOpen (book_of self.now) new i now (world_in (C.given world.now))
+            → IsAt (book_of self.now) new i now (C.change_of state.change)
+            (C.session_of state.session) state.since
+            → All (λ n. IsChangeAt (book_of self.now) new n.place n.now
+            (C.change_of n.change)) s.noted.items) }
+        ensures counts { (new : Book) (j before : ℕ)
+            → IsOpen (book_of self.now) new i j (world_in (C.given world.now))
+            → IsAt (book_of self.now) new i j (C.change_of state.change)
+            (C.session_of state.session) state.since
+            → CountsFront (book_of self.now) new j before meter.old
+            → CountsStale (book_of self.now) new before meter.new }
+    {
+        let mut noted = Vec::new(self.alloc);
+        let done = sweep::<C>(
+            self.alloc,
+            meter,
+            &self.cells,
+            &self.records,
+            &self.words,
+            world,
+            i,
+            self.cells.len(),
+            now,
+            &self.snapshots,
+            &mut state,
+            &mut noted,
+        );
+        gathered::<C>(done, state, noted)
     }
 
     /// Runs another cell in the place of one, and sweeps over those behind.
@@ -259,22 +319,7 @@ impl<C: CellRunner> Schedule<C> {
             drop(state);
             return Err(AllocError);
         };
-        let mut noted = Vec::new(self.alloc);
-        let done = sweep::<C>(
-            self.alloc,
-            meter,
-            &self.cells,
-            &self.records,
-            &self.words,
-            &self.world,
-            at + 1,
-            self.cells.len(),
-            at + 1,
-            &self.snapshots,
-            &mut state,
-            &mut noted,
-        );
-        gathered::<C>(done, state, noted)
+        self.swept_behind(meter, &self.world, at + 1, at + 1, state)
     }
 
     /// A cell of another text, with the label of the one at the place.
@@ -356,29 +401,14 @@ impl<C: CellRunner> Schedule<C> {
         let session = C::empty(self.alloc)?;
         let change = C::world_change(self.alloc, &self.world, world)?;
         let word = C::change_word(&change);
-        let mut state = SweepState {
+        let state = SweepState {
             change,
             word,
             session,
             since: 0,
             changed: Vec::new(self.alloc),
         };
-        let mut noted = Vec::new(self.alloc);
-        let done = sweep::<C>(
-            self.alloc,
-            meter,
-            &self.cells,
-            &self.records,
-            &self.words,
-            world,
-            0,
-            self.cells.len(),
-            0,
-            &self.snapshots,
-            &mut state,
-            &mut noted,
-        );
-        gathered::<C>(done, state, noted)
+        self.swept_behind(meter, world, 0, 0, state)
     }
 
     /// Takes these inputs and this rule in the place of the present ones. It is refused for want of memory alone.
@@ -420,29 +450,14 @@ impl<C: CellRunner> Schedule<C> {
         let mut change = C::no_change(self.alloc);
         C::went(&self.records[at], &session, &mut change)?;
         let word = C::change_word(&change);
-        let mut state = SweepState {
+        let state = SweepState {
             change,
             word,
             session,
             since: at + 1,
             changed: Vec::new(self.alloc),
         };
-        let mut noted = Vec::new(self.alloc);
-        let done = sweep::<C>(
-            self.alloc,
-            meter,
-            &self.cells,
-            &self.records,
-            &self.words,
-            &self.world,
-            at + 1,
-            self.cells.len(),
-            at,
-            &self.snapshots,
-            &mut state,
-            &mut noted,
-        );
-        gathered::<C>(done, state, noted)
+        self.swept_behind(meter, &self.world, at + 1, at, state)
     }
 
     /// Sweeps over the cells behind one, without what that one did. Behind the last cell there is nothing to do, and no memory is
@@ -525,22 +540,7 @@ impl<C: CellRunner> Schedule<C> {
             drop(state);
             return Err(AllocError);
         };
-        let mut noted = Vec::new(self.alloc);
-        let done = sweep::<C>(
-            self.alloc,
-            meter,
-            &self.cells,
-            &self.records,
-            &self.words,
-            &self.world,
-            at,
-            self.cells.len(),
-            at + 1,
-            &self.snapshots,
-            &mut state,
-            &mut noted,
-        );
-        let swept = gathered::<C>(done, state, noted)?;
+        let swept = self.swept_behind(meter, &self.world, at, at + 1, state)?;
         Ok(Grown { new, swept })
     }
 

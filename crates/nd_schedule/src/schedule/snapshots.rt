@@ -4,14 +4,12 @@ ghost use Rattle.std.specs.Prelude.{◌≡◌, ◌<◌, ◌≤◌, ◌+◌, ◌-
 ghost use Rattle.std.specs.List.{All};
 ghost use Rattle.nd_model.specs.Book.Book.{Book, labels_of};
 ghost use Rattle.nd_model.specs.Book.Renaming.{AreDistinct};
-ghost use Rattle.nd_model.specs.Book.Entries.{session_before};
 ghost use Rattle.nd_schedule.specs.Cells.Shared.{each_of};
 ghost use Rattle.nd_schedule.specs.Schedule.Snapshot.{
   IsBehind,
   IsChangeAt,
   IsSnapshot,
   StandsBefore,
-  names_in,
 };
 ghost use Rattle.nd_schedule.specs.Schedule.Sweep.{IsRun};
 
@@ -306,23 +304,6 @@ pub(crate) fn session_front<C: CellRunner>(
     keep_at::<C>(alloc, fresh, &mut session, stop, cost, is_due);
     replay_between::<C>(records, &mut session, stop, at)?;
     Ok(session)
-}
-
-/// The names that are bound before a place, in order.
-pub(crate) fn order_before<C: CellRunner>(
-    alloc: Global,
-    records: &[Rc<C::Record>],
-    at: usize,
-) -> Result<C::Order, AllocError>
-    requires { at ≤ length records.now }
-    ensures { IfOk result (λ o. (b : Book) → IsRun b (each_of C.recorded records.now)
-        → names_in (session_before b at).names ≡ C.order_of o) }
-{
-    let mut order = C::no_order(alloc);
-    for k in 0..at {
-        C::note_names(&records[k], &mut order)?;
-    }
-    Ok(order)
 }
 
 /// Notes the change where a snapshot is kept. One of many keys is not noted, nor is one of many bytes but at the end, nor is any where

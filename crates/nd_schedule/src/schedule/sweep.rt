@@ -64,6 +64,37 @@ pub(crate) fn catch_up<C: CellRunner>(
     Ok(())
 }
 
+/// The record of a run, with its word.
+#[derive(Drop)]
+pub(crate) struct New<C: CellRunner> {
+    pub(crate) record: Rc<C::Record>,
+    pub(crate) word: C::Word,
+}
+
+/// Runs a cell over a session, and gives its record. After want of memory the session is only fit to be dropped.
+pub(crate) fn run_cell<C: CellRunner>(
+    alloc: Global,
+    meter: &mut Meter,
+    source: &KeptCell,
+    world: &C::World,
+    session: &mut C::Session,
+) -> Result<New<C>, AllocError>
+    requires none { HasNone source.now.label (C.session_of session.old) }
+    ensures after { OnOk result (C.session_of session.new
+        ≡ session_after (cell source.now.label (reading (string_bytes source.now.text))
+        (world_in (C.given world.now)) (C.session_of session.old))) }
+    ensures made { IfOk result (λ n. C.recorded n.record.value
+        ≡ record_of source.now.label (reading (string_bytes source.now.text))
+        (world_in (C.given world.now)) (C.session_of session.old)) }
+    ensures worded { IfOk result (λ n. IsWordOf C.covers n.word (C.recorded n.record.value)) }
+    ensures counted { meter.new ≡ min (meter.old + 1) (2 ^ 64 - 1) }
+{
+    let made = C::run(meter, session, world, source.label, source.text.as_str())?;
+    let word = C::word(&made);
+    let record = Rc::new(alloc, made)?;
+    Ok(New { record, word })
+}
+
 /// Runs a cell over the session at hand, where another run of it stands in the notebook before.
 pub(crate) fn run_again<C: CellRunner>(
     alloc: Global,
@@ -98,31 +129,16 @@ pub(crate) fn run_again<C: CellRunner>(
         (map (λ c. fit_at c.place (C.recorded c.record.value) c.word) state.new.changed.items)) }
     ensures counted { meter.new ≡ min (meter.old + 1) (2 ^ 64 - 1) }
 {
-    let made = C::run(
-        meter,
-        &mut state.session,
-        world,
-        source.label,
-        source.text.as_str(),
-    )?;
-    C::rerun(before, &made, &state.session, world, &mut state.change)?;
+    let New { record, word } = run_cell::<C>(alloc, meter, source, world, &mut state.session)?;
+    C::rerun(before, &record, &state.session, world, &mut state.change)?;
     state.word = C::change_word(&state.change);
     state.since = i + 1;
-    let word = C::word(&made);
-    let record = Rc::new(alloc, made)?;
     state.changed.push(Changed {
         place: i,
         record,
         word,
     })?;
     Ok(())
-}
-
-/// The record of a cell that is new, with its word.
-#[derive(Drop)]
-pub(crate) struct New<C: CellRunner> {
-    pub(crate) record: Rc<C::Record>,
-    pub(crate) word: C::Word,
 }
 
 /// Runs a new cell over the session at hand.
@@ -149,18 +165,10 @@ pub(crate) fn run_new<C: CellRunner>(
     ensures changed { OnOk result (state.new.changed.items ≡ state.old.changed.items) }
     ensures counted { meter.new ≡ min (meter.old + 1) (2 ^ 64 - 1) }
 {
-    let made = C::run(
-        meter,
-        &mut state.session,
-        world,
-        source.label,
-        source.text.as_str(),
-    )?;
-    C::came(&made, &state.session, &mut state.change)?;
+    let new = run_cell::<C>(alloc, meter, source, world, &mut state.session)?;
+    C::came(&new.record, &state.session, &mut state.change)?;
     state.word = C::change_word(&state.change);
-    let word = C::word(&made);
-    let record = Rc::new(alloc, made)?;
-    Ok(New { record, word })
+    Ok(new)
 }
 
 /// Goes past one cell: its record is kept, or the cell is run.

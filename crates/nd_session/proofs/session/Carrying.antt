@@ -151,10 +151,10 @@ has_base s e b is = (s.bytes b, is, λ held. sym (rw held refl))
 module _ (s : Session) (c m e : Whole) where
   pub with_both : (r q : Record) (d k : ChangesData) → HasDone d r → HasDone k q
       → ((n : List ℕ) → IsNameWith (λ n. lookup n s.names) c.names m.names d.events n) → ((n : List ℕ) → IsNameWith (λ n. lookup n s.names) m.names e.names k.events n)
-      → ((n : List ℕ) → e.inputs n ≡ c.inputs n) → e.rule ≡ c.rule
+      → ((n : List ℕ) → e.inputs n ≡ c.inputs n) → e.rule ≡ c.rule → ((b : model.Base) (p : ℕ) → e.bytes b p ≡ c.bytes b p)
       → ((b : model.Base) → IsBlockWith s.bytes c.blocks m.blocks d b) → ((b : model.Base) → IsBlockWith s.bytes m.blocks e.blocks k b)
       → IsWithBoth r q (collected s) c e
-  with_both r q d k was is one two inputs rule three four = record {
+  with_both r q d k was is one two inputs rule bytes three four = record {
     names = λ n. elim (two n) [
       | inl here ↦ inl here
       | inr same ↦ elim (one n) [ inl here ↦ inl (same.0 ∙ here) | inr old ↦ inr (inl (same.0 ∙ old.0, leaves_name d r n was old.1, leaves_name k q n is same.1)) ]
@@ -163,18 +163,18 @@ module _ (s : Session) (c m e : Whole) where
     rule = rule;
     blocks = λ b. elim (four b) [
       | inl here ↦ inl (has_base s e b here)
-      | inr same ↦ elim (three b) [ inl here ↦ inl (has_base s e b (same.0 ∙ here)) | inr old ↦ inr (inl (same.0 ∙ old.0, leaves_base d r b was old.1, leaves_base k q b is same.1)) ]
+      | inr same ↦ elim (three b) [ inl here ↦ inl (has_base s e b (same.0 ∙ here)) | inr old ↦ inr (inl (record { block = same.0 ∙ old.0; bytes = λ p. inr (bytes b p) }, leaves_base d r b was old.1, leaves_base k q b is same.1)) ]
     ];
   }
 
 module _ (s : Session) (c e : Whole) (r : Record) (d : ChangesData) (done : HasDone d r) (one : (n : List ℕ) → IsNameWith (λ n. lookup n s.names) c.names e.names d.events n)
-    (inputs : (n : List ℕ) → e.inputs n ≡ c.inputs n) (rule : e.rule ≡ c.rule) (two : (b : model.Base) → IsBlockWith s.bytes c.blocks e.blocks d b) where
+    (inputs : (n : List ℕ) → e.inputs n ≡ c.inputs n) (rule : e.rule ≡ c.rule) (bytes : (b : model.Base) (p : ℕ) → e.bytes b p ≡ c.bytes b p) (two : (b : model.Base) → IsBlockWith s.bytes c.blocks e.blocks d b) where
   pub with_old : IsWith (Some r) None (collected s) c e
   with_old = record {
     names = λ n. elim (one n) [ inl here ↦ inl here | inr same ↦ inr (same.0, leaves_name d r n done same.1, tt) ];
     inputs = inputs;
     rule = rule;
-    blocks = λ b. elim (two b) [ inl here ↦ inl (has_base s e b here) | inr same ↦ inr (same.0, leaves_base d r b done same.1, tt) ];
+    blocks = λ b. elim (two b) [ inl here ↦ inl (has_base s e b here) | inr same ↦ inr (inl (record { block = same.0; bytes = λ p. inr (bytes b p) }, leaves_base d r b done same.1, tt)) ];
   }
 
   pub with_new : IsWith None (Some r) (collected s) c e
@@ -182,5 +182,5 @@ module _ (s : Session) (c e : Whole) (r : Record) (d : ChangesData) (done : HasD
     names = λ n. elim (one n) [ inl here ↦ inl here | inr same ↦ inr (same.0, tt, leaves_name d r n done same.1) ];
     inputs = inputs;
     rule = rule;
-    blocks = λ b. elim (two b) [ inl here ↦ inl (has_base s e b here) | inr same ↦ inr (same.0, tt, leaves_base d r b done same.1) ];
+    blocks = λ b. elim (two b) [ inl here ↦ inl (has_base s e b here) | inr same ↦ inr (inl (record { block = same.0; bytes = λ p. inr (bytes b p) }, tt, leaves_base d r b done same.1)) ];
   }

@@ -35,3 +35,11 @@ module _ {V W : Type 0} (f : Option (Rc V Global) → W) (C : Option (Rc V Globa
   copied_bases K keys [] (d ∷ fs) h = absurd h
   copied_bases K keys (e ∷ es) [] h = absurd h
   copied_bases K keys (e ∷ es) (d ∷ fs) h = λ i. (base_of (keys e.0 d.0 h.0.0 i), copied e.1 d.1 h.0.1 i) ∷ copied_bases K keys es fs h.1 i
+
+-- values by their bases, where each is shared
+pub copied_shared : {V W : Type 0} (f : Rc V Global → W) (C : Rc V Global → Rc V Global → Type 0) → ((v w : Rc V Global) → C v w → f w ≡ f v) → (K : Base → Base → Type 0) → ((a b : Base) → K a b → b ≡ a)
+    → (es fs : List (Base × Rc V Global)) → AllZip (λ (p q : Base × Rc V Global). K p.0 q.0 × C p.1 q.1) es fs → by_base f fs ≡ by_base f es
+copied_shared f C same K keys [] [] h = refl
+copied_shared f C same K keys [] (d ∷ fs) h = absurd h
+copied_shared f C same K keys (e ∷ es) [] h = absurd h
+copied_shared f C same K keys (e ∷ es) (d ∷ fs) h = λ i. (base_of (keys e.0 d.0 h.0.0 i), same e.1 d.1 h.0.1 i) ∷ copied_shared f C same K keys es fs h.1 i

@@ -1,6 +1,6 @@
 -- Filters: the bits of words, and which keys they cover.
-use Rattle.std.proofs.Common.{◌≡◌, ℕ, ◌/◌, ◌%◌, ◌<◌, ◌≤◌, ◌+◌, ◌*◌, ◌^◌, Bool, true, false, cond, ◌||◌, min, max, nat_eq, List, [], ◌∷◌, map, length, slice_index, slice_set, bit_and, bit_or, string_bytes, String, Global, Option, Some, None, option_map, eqb-true, refl, sym, ap, subst, ◌∙◌, inl, inr, arith}
-use Rattle.std.specs.Prelude.{IsTrue, is_some}
+use Rattle.std.proofs.Common.{◌≡◌, ℕ, ◌/◌, ◌%◌, ◌<◌, ◌+◌, ◌*◌, ◌^◌, Bool, true, false, cond, ◌||◌, min, max, nat_eq, List, [], ◌∷◌, map, length, slice_index, slice_set, bit_and, bit_or, string_bytes, String, Global, Option, Some, None, option_map, eqb-true, refl, sym, ap, subst, ◌∙◌, inl, inr, arith, ◌≤◌}
+use Rattle.std.specs.Prelude.{IsTrue, is_some, ◌⊎◌}
 use Rattle.std.specs.Int.{bit_at}
 use Rattle.std.specs.Int.Bits.{and_zero_l}
 use Rattle.std.specs.List.{AllByRecursion}
@@ -12,10 +12,12 @@ use Rattle.std.proofs.lemmas.Bool.Decides.{nat_tests}
 use Rattle.std.proofs.lemmas.List.{get_or-set_same, get_or-set_other, get_or_past}
 use Rattle.std.proofs.lemmas.Nat.Bits.{bit_at_and, bit_at_or, bit_at-lt, bit_at-zero, bit_at-pow_same}
 use Rattle.nd_change.specs.Change.{puts}
+use Rattle.nd_change.specs.Whole.{byte_in}
 use Rattle.nd_heap.proofs.Same.{same_bytes}
 use Rattle.nd_heap.specs.Contents.{bytes_in}
 use Rattle.nd_heap.specs.declared.value.Base.{Base}
 use Rattle.nd_heap.specs.declared.value.Value.{Value}
+use Rattle.nd_marks.specs.Kept.{KeptData, kept_at}
 use Rattle.nd_marks.specs.Marks.{has_bit}
 use Rattle.nd_model.specs.Arrays.Value as model
 use Rattle.nd_model.specs.Cells.Footprint.{Bound, Given, Number, Ruled}
@@ -27,10 +29,10 @@ use Rattle.nd_session.specs.Inputs.Values.{rule_of}
 use Rattle.nd_session.specs.declared.session.change.change.Change.TheInside as change
 use Rattle.nd_session.specs.declared.session.found.FoundBytes.{FoundBytes}
 use Rattle.nd_session.specs.declared.session.reads.Reads.TheInside as reads
-use Rattle.nd_session.specs.Session.Change.{change_of, run_in}
-use Rattle.nd_session.specs.Session.Now.{block_now, data_in, input_now, value_now}
-use Rattle.nd_session.specs.Session.Filter.{CoversLabel, StaysCovered, bit_of, covers, text_bit}
-use Rattle.nd_session.specs.Session.Found.{by_base, byte_at, bytes_of, lookup_base}
+use Rattle.nd_session.specs.Session.Change.{change_of, run_in, part_at}
+use Rattle.nd_session.specs.Session.Now.{block_now, data_in, input_now, value_now, kept_in}
+use Rattle.nd_session.specs.Session.Filter.{CoversFound, CoversKept, CoversLabel, CoversLength, FilterData, StaysCovered, covers, text_bit}
+use Rattle.nd_session.specs.Session.Found.{Found, by_base, byte_at, bytes_of, lookup_base}
 use Rattle.nd_session.specs.Session.Reading.{by_text, length_at, reads_of, source_at, value_at}
 use Rattle.nd_session.specs.Session.Reads.{ReadsData, keys_of}
 use Rattle.nd_session.proofs.session.Agreeing.{false_true}
@@ -77,43 +79,42 @@ both x y one other none = grind (arith, nat_tests)
 pub no_bit : (v w i : ℕ) → bit_and v w ≡ 0 → IsTrue (nat_eq (bit_at v i) 1) → ¬ IsTrue (nat_eq (bit_at w i) 1)
 no_bit v w i none one other = both (bit_at v i) (bit_at w i) one other (sym (bit_at_and v w i) ∙ ap (λ n. bit_at n i) none ∙ bit_at-zero i)
 
--- filters without a bit in common
-pub apart_all : (ws us : List ℕ) → length ws ≡ 4 → ((q : ℕ) → q < 4 → bit_and (slice_index ws q) (slice_index us q) ≡ 0) → (i : ℕ) → IsTrue (has_bit ws i) → ¬ IsTrue (has_bit us i)
-apart_all ws us long none i one other = no_bit (slice_index ws (i / 64)) (slice_index us (i / 64)) (i % 64) (each (i / 64)) one other
+-- words without a bit in common at any index
+pub apart_all : (n : ℕ) (ws us : List ℕ) → length ws ≡ n → ((q : ℕ) → q < n → bit_and (slice_index ws q) (slice_index us q) ≡ 0) → (i : ℕ) → IsTrue (has_bit ws i) → ¬ IsTrue (has_bit us i)
+apart_all n ws us long none i one other = no_bit (slice_index ws (i / 64)) (slice_index us (i / 64)) (i % 64) (each (i / 64)) one other
   where
     each : (q : ℕ) → bit_and (slice_index ws q) (slice_index us q) ≡ 0
-    each q = elim (cases_lt q 4) [
+    each q = elim (cases_lt q n) [
       | inl lt ↦ none q lt
       | inr ge ↦ ap (λ w. bit_and w (slice_index us q)) (get_or_past ws q 0 (omega arith)) ∙ and_zero_l (slice_index us q)
     ]
 
 -- ---- keys
 
-text_less : (xs : List ℕ) (h : ℕ) → h < 256 → text_bit xs h < 256
+pub text_less : (xs : List ℕ) (h : ℕ) → h < 256 → text_bit xs h < 256
 text_less [] h less = less
 text_less (x ∷ xs) h less = text_less xs ((h * 31 + x) % 256) (omega arith)
 
--- each key has a bit
-pub bit_less : (k : Key) → bit_of k < 256
-bit_less (Name n) = text_less n 0 (omega arith)
-bit_less (Input n) = text_less n 1 (omega arith)
-bit_less (Length b) = omega arith
-bit_less (Byte b p) = omega arith
-bit_less OfRule = omega arith
-
--- all bits up to one are set, and one more
-pub one_bit_more : (old new : List ℕ) (bit : ℕ) → IsTrue (has_bit new bit) → ((i : ℕ) → IsTrue (has_bit old i) → IsTrue (has_bit new i))
-    → ((i : ℕ) → i < bit → IsTrue (has_bit old i)) → (i : ℕ) → i < bit + 1 → IsTrue (has_bit new i)
-one_bit_more old new bit set stays before i less = elim (cases_lt i bit) [
-  | inl lt ↦ stays i (before i lt)
-  | inr ge ↦ let is : i ≡ bit = omega (arith, less, ge) in subst (λ j. IsTrue (has_bit new j)) (sym is) set
-]
-
-pub stays_on : (a b c : List ℕ) → StaysCovered a b → StaysCovered b c → StaysCovered a c
+pub stays_on : (a b c : FilterData) → StaysCovered a b → StaysCovered b c → StaysCovered a c
 stays_on a b c one two k there = two k (one k there)
 
-pub label_stays : (a b : List ℕ) (label : ℕ) → StaysCovered a b → CoversLabel a label → CoversLabel b label
+pub label_stays : (a b : FilterData) (label : ℕ) → StaysCovered a b → CoversLabel a label → CoversLabel b label
 label_stays a b label stays h c own = (stays (Length c) (h c own).0, λ p. stays (Byte c p) ((h c own).1 p))
+
+pub length_stays : (a b : FilterData) (label : ℕ) → StaysCovered a b → CoversLength a label → CoversLength b label
+length_stays a b label stays h c own = stays (Length c) (h c own)
+
+pub found_stays : (a b : FilterData) (label : ℕ) (found : Found) → StaysCovered a b → CoversFound a label found → CoversFound b label found
+found_stays a b label found stays h c own p there = stays (Byte c p) (h c own p there)
+
+pub kept_stays : (a b : FilterData) (label : ℕ) (kept : KeptData) → StaysCovered a b → CoversKept a label kept → CoversKept b label kept
+kept_stays a b label kept stays h c own p there = stays (Byte c p) (h c own p there)
+
+-- a byte that was found is covered, where the bytes of each entry are
+byte_covered : (es : List (Base × FoundBytes)) (ws : FilterData) (b : model.Base) (p : ℕ) → AllByRecursion (λ (e : Base × FoundBytes). CoversFound ws e.0.label (bytes_of e.1)) es
+    → IsTrue (is_some (byte_at (lookup_base b (by_base bytes_of es)) p)) → IsTrue (covers ws (Byte b p))
+byte_covered es ws b p all there = something (lookup_base b (by_base bytes_of es)) (read_there (lookup_base b (by_base bytes_of es)) p there)
+    (λ e at. base_all bytes_of (λ d m. CoversFound ws d.label m) es all b e at b refl p (subst (λ (o : Option Found). IsTrue (is_some (byte_at o p))) at there))
 
 -- ---- what is true of each entry
 
@@ -126,11 +127,11 @@ some_rule None there = false_true there
 some_rule (Some x) there = refl
 
 -- what a cell read
-pub read_covered : (i : reads.Inside) (ws : List ℕ)
+pub read_covered : (i : reads.Inside) (ws : FilterData)
     → AllByRecursion (λ (e : String Global × Option (Rc Value Global)). IsTrue (covers ws (Name (string_bytes e.0)))) i.names.entries
     → AllByRecursion (λ (e : String Global × Option (Rc code.Input Global)). IsTrue (covers ws (Input (string_bytes e.0)))) i.inputs.entries
-    → AllByRecursion (λ (e : Base × ℕ). CoversLabel ws e.0.label) i.lengths.entries
-    → AllByRecursion (λ (e : Base × FoundBytes). CoversLabel ws e.0.label) i.bytes.entries
+    → AllByRecursion (λ (e : Base × ℕ). CoversLength ws e.0.label) i.lengths.entries
+    → AllByRecursion (λ (e : Base × FoundBytes). CoversFound ws e.0.label (bytes_of e.1)) i.bytes.entries
     → (IsTrue (is_some i.rule) → IsTrue (covers ws OfRule))
     → (k : Key) → IsTrue (keys_of (reads_of i) k) → IsTrue (covers ws k)
 read_covered i ws names given lengths bytes rule (Name n) there =
@@ -141,15 +142,12 @@ read_covered i ws names given lengths bytes rule (Input n) there =
     (λ x at. text_all source_at (λ n x. IsTrue (covers ws (Input n))) i.inputs.entries given n x at)
 read_covered i ws names given lengths bytes rule (Length b) there =
     something (lookup_base b (by_base length_at i.lengths.entries)) (found_inside Number (lookup_base b (by_base length_at i.lengths.entries)) there)
-    (λ n at. (base_all length_at (λ d m. CoversLabel ws d.label) i.lengths.entries lengths b n at b refl).0)
-read_covered i ws names given lengths bytes rule (Byte b p) there =
-    something (lookup_base b (by_base bytes_of i.bytes.entries))
-    (read_there (lookup_base b (by_base bytes_of i.bytes.entries)) p (found_inside Number (byte_at (lookup_base b (by_base bytes_of i.bytes.entries)) p) there))
-    (λ e at. (base_all bytes_of (λ d m. CoversLabel ws d.label) i.bytes.entries bytes b e at b refl).1 p)
+    (λ n at. base_all length_at (λ d m. CoversLength ws d.label) i.lengths.entries lengths b n at b refl)
+read_covered i ws names given lengths bytes rule (Byte b p) there = byte_covered i.bytes.entries ws b p bytes (found_inside Number (byte_at (lookup_base b (by_base bytes_of i.bytes.entries)) p) there)
 read_covered i ws names given lengths bytes rule OfRule there = rule (some_rule i.rule there)
 
 -- what a cell did
-touched_covered : (ws : List ℕ) (es : List Event) → AllByRecursion (λ e. IsTrue (covers ws (Name (name_of_event (event_of e))))) es
+touched_covered : (ws : FilterData) (es : List Event) → AllByRecursion (λ e. IsTrue (covers ws (Name (name_of_event (event_of e))))) es
     → (n : List ℕ) → is_touched n (map event_of es) ≡ true → IsTrue (covers ws (Name n))
 touched_covered ws [] h n touched = false_true touched
 touched_covered ws (e ∷ es) h n touched = elim (cases_Bool (is_event_of n (event_of e))) [
@@ -161,10 +159,10 @@ some_if : {X P : Type 0} (t : Bool) (x : X) → IsTrue (is_some (cond t (Some x)
 some_if true x there h = h refl
 some_if false x there h = false_true there
 
-pub did_covered : (r : ReadsData) (label next : ℕ) (events : List Event) (written : List (Base × FoundBytes)) (blocks : List (model.Base × List ℕ)) (ws : List ℕ)
+pub did_covered : (r : ReadsData) (label next : ℕ) (events : List Event) (written : List (Base × FoundBytes)) (blocks : List (model.Base × List ℕ)) (ws : FilterData)
     → AllByRecursion (λ e. IsTrue (covers ws (Name (name_of_event (event_of e))))) events
     → CoversLabel ws label
-    → AllByRecursion (λ (e : Base × FoundBytes). CoversLabel ws e.0.label) written
+    → AllByRecursion (λ (e : Base × FoundBytes). CoversFound ws e.0.label (bytes_of e.1)) written
     → (k : Key) → IsTrue (is_some (puts (run_in r (record { label = label; next = next; events = map event_of events; written = by_base bytes_of written; blocks = blocks })) k)) → IsTrue (covers ws k)
 did_covered r label next events written blocks ws names own bases (Name n) there = some_if (is_touched n (map event_of events)) _ there (touched_covered ws events names n)
 did_covered r label next events written blocks ws names own bases (Input n) there = false_true there
@@ -174,27 +172,39 @@ did_covered r label next events written blocks ws names own bases (Byte b p) the
   | inl is ↦ (own b (eqb-true b.label label is)).1 p
   | inr other ↦
       let at : IsTrue (is_some (option_map Number (byte_at (lookup_base b (by_base bytes_of written)) p))) = rw other at there in
-      something (lookup_base b (by_base bytes_of written)) (read_there (lookup_base b (by_base bytes_of written)) p (found_inside Number (byte_at (lookup_base b (by_base bytes_of written)) p) at))
-      (λ e is. (base_all bytes_of (λ d m. CoversLabel ws d.label) written bases b e is b refl).1 p)
+      byte_covered written ws b p bases (found_inside Number (byte_at (lookup_base b (by_base bytes_of written)) p) at)
 ]
 
 -- a change
-pub changed_covered : (i : change.Inside) (ws : List ℕ)
+pub changed_covered : (i : change.Inside) (ws : FilterData)
     → AllByRecursion (λ (e : RcStr Global × Option (Rc Value Global)). IsTrue (covers ws (Name (rc_str_bytes e.0)))) i.names.entries
     → AllByRecursion (λ (e : RcStr Global × Option (Rc code.Input Global)). IsTrue (covers ws (Input (rc_str_bytes e.0)))) i.inputs.entries
     → AllByRecursion (λ (e : Base × Option (Rc (List ℕ) Global)). CoversLabel ws e.0.label) i.blocks.entries
+    → AllByRecursion (λ (e : Base × Rc KeptData Global). CoversKept ws e.0.label e.1.value) i.parts.entries
     → (IsTrue (is_some i.rule) → IsTrue (covers ws OfRule))
     → (k : Key) → IsTrue (is_some (change_of (data_in i) k)) → IsTrue (covers ws k)
-changed_covered i ws names given blocks rule (Name n) there =
+changed_covered i ws names given blocks parts rule (Name n) there =
     something (value_now i.names.entries n) (found_inside Bound (value_now i.names.entries n) there)
     (λ v at. name_all value_at (λ n v. IsTrue (covers ws (Name n))) i.names.entries names n v at)
-changed_covered i ws names given blocks rule (Input n) there =
+changed_covered i ws names given blocks parts rule (Input n) there =
     something (input_now i.inputs.entries n) (found_inside Given (input_now i.inputs.entries n) there)
     (λ x at. name_all source_at (λ n x. IsTrue (covers ws (Input n))) i.inputs.entries given n x at)
-changed_covered i ws names given blocks rule (Length b) there =
+changed_covered i ws names given blocks parts rule (Length b) there =
     something (block_now i.blocks.entries b) (found_inside (λ (bytes : List ℕ). Number (length bytes)) (block_now i.blocks.entries b) there)
     (λ bytes at. (base_all bytes_in (λ d m. CoversLabel ws d.label) i.blocks.entries blocks b bytes at b refl).0)
-changed_covered i ws names given blocks rule (Byte b p) there =
-    something (block_now i.blocks.entries b) (found_inside (λ (bytes : List ℕ). Number (slice_index bytes p)) (block_now i.blocks.entries b) there)
-    (λ bytes at. (base_all bytes_in (λ d m. CoversLabel ws d.label) i.blocks.entries blocks b bytes at b refl).1 p)
-changed_covered i ws names given blocks rule OfRule there = rule (some_rule i.rule there)
+changed_covered i ws names given blocks parts rule (Byte b p) there =
+    elim (byte_from (block_now i.blocks.entries b) (lookup_base b (by_base kept_in i.parts.entries)) there) [
+      | inl whole ↦ (base_all bytes_in (λ d m. CoversLabel ws d.label) i.blocks.entries blocks b whole.0 whole.1 b refl).1 p
+      | inr part ↦ base_all kept_in (λ d m. CoversKept ws d.label m) i.parts.entries parts b part.0 part.1 b refl p part.2
+    ]
+  where
+    kept_there : (o : Option ℕ) → IsTrue (is_some (option_map Number o)) → IsTrue (is_some o)
+    kept_there None there = there
+    kept_there (Some n) there = refl
+
+    byte_from : (o : Option (List ℕ)) (q : Option KeptData) → IsTrue (is_some (option_map Number (byte_in o (part_at q p) p)))
+        → ((bytes : List ℕ) × (o ≡ Some bytes)) ⊎ ((kept : KeptData) × (q ≡ Some kept) × IsTrue (is_some (kept_at kept p)))
+    byte_from None None there = false_true there
+    byte_from None (Some kept) there = inr (kept, refl, kept_there (kept_at kept p) there)
+    byte_from (Some bytes) q there = inl (bytes, refl)
+changed_covered i ws names given blocks parts rule OfRule there = rule (some_rule i.rule there)

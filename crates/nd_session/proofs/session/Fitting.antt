@@ -4,7 +4,7 @@ use Rattle.std.specs.Prelude.{◌↔◌, is_some, IsTrue}
 use Rattle.std.specs.declared.rc.Rc.{Rc}
 use Rattle.std.proofs.lemmas.Bool.Decides.{nat_tests}
 use Rattle.nd_change.specs.Change.{Fits}
-use Rattle.nd_change.specs.Whole.{Whole, whole_of}
+use Rattle.nd_change.specs.Whole.{Whole, byte_in, whole_of}
 use Rattle.nd_heap.specs.declared.value.Base.{Base}
 use Rattle.nd_heap.specs.declared.value.Value.{Value}
 use Rattle.nd_heap.specs.Values.{base_of}
@@ -36,17 +36,31 @@ fits_none o a is = (λ yes. inl is, λ h. refl)
 pub same_along : {A : Type 0} (t : Bool) (a b x y : A) → a ≡ x → b ≡ y → IsTrue t ↔ (a ≡ b) → IsTrue t ↔ (x ≡ y)
 same_along t a b x y one two same = (λ yes. sym one ∙ same.0 yes ∙ two, λ e. same.1 (one ∙ e ∙ sym two))
 
-pub found_some : (o : Option (List ℕ)) (bytes : List ℕ) (e : places.Found) (t : Bool) → o ≡ Some bytes → IsTrue t ↔ ((p n : ℕ) → found_at e p ≡ Some n → slice_index bytes p ≡ n) → IsTrue t ↔ HasFound o e
-found_some o bytes e t is same = (
-  λ yes p n at. inr (ap (option_map (λ bs. slice_index bs p)) is ∙ ap Some (same.0 yes p n at)),
+pub found_some : (o : Option (List ℕ)) (w : ℕ → Option ℕ) (bytes : List ℕ) (e : places.Found) (t : Bool) → o ≡ Some bytes → IsTrue t ↔ ((p n : ℕ) → found_at e p ≡ Some n → slice_index bytes p ≡ n) → IsTrue t ↔ HasFound o w e
+found_some o w bytes e t is same = (
+  λ yes p n at. inr (ap (λ o. byte_in o (w p) p) is ∙ ap Some (same.0 yes p n at)),
   λ h. same.1 (λ p n at. elim (h p n at) [
-    | inl none ↦ none_some (slice_index bytes p) (sym none ∙ ap (option_map (λ bs. slice_index bs p)) is)
-    | inr there ↦ same_some (slice_index bytes p) n (sym (ap (option_map (λ bs. slice_index bs p)) is) ∙ there)
+    | inl none ↦ none_some (slice_index bytes p) (sym none ∙ ap (λ o. byte_in o (w p) p) is)
+    | inr there ↦ same_some (slice_index bytes p) n (sym (ap (λ o. byte_in o (w p) p) is) ∙ there)
   ]),
 )
 
-pub found_none : (o : Option (List ℕ)) (e : places.Found) → o ≡ None → IsTrue true ↔ HasFound o e
-found_none o e is = (λ yes p n at. inl (ap (option_map (λ bs. slice_index bs p)) is), λ h. refl)
+-- where the base is not there as a whole, single bytes decide
+abbrev pub IsByteFound : (ℕ → Option ℕ) → places.Found → Type 0
+IsByteFound w e = (p a n : ℕ) → w p ≡ Some a → found_at e p ≡ Some n → a ≡ n
+
+pub found_none : (o : Option (List ℕ)) (w : ℕ → Option ℕ) (e : places.Found) (t : Bool) → o ≡ None → IsTrue t ↔ IsByteFound w e → IsTrue t ↔ HasFound o w e
+found_none o w e t is same = (
+  λ yes p n at. either (w p) refl n (λ a there. same.0 yes p a n there at),
+  λ h. same.1 (λ p a n there at. elim (h p n at) [
+    | inl none ↦ none_some a (sym none ∙ ap (λ o. byte_in o (w p) p) is ∙ there)
+    | inr now ↦ same_some a n (sym there ∙ sym (ap (λ o. byte_in o (w p) p) is) ∙ now)
+  ]),
+)
+  where
+    either : {p : ℕ} (x : Option ℕ) → w p ≡ x → (n : ℕ) → ((a : ℕ) → w p ≡ Some a → a ≡ n) → FitsAt (byte_in o (w p) p) n
+    either {p} None none n h = inl (ap (λ o. byte_in o (w p) p) is ∙ none)
+    either {p} (Some a) there n h = inr (ap (λ o. byte_in o (w p) p) is ∙ there ∙ ap Some (h a there))
 
 pub same_number : (m n : ℕ) → m ≡ n → nat_eq m n ≡ true
 same_number m n e = grind (arith, nat_tests)
@@ -62,8 +76,8 @@ IsInputFit inputs e = FitsAt (inputs (string_bytes e.0)) (source_at e.1)
 abbrev pub IsLengthFit : (model.Base → Option (List ℕ)) → Base × ℕ → Type 0
 IsLengthFit blocks e = FitsAt (option_map length (blocks (base_of e.0))) e.1
 
-abbrev pub AreBytesFit : (model.Base → Option (List ℕ)) → Base × FoundBytes → Type 0
-AreBytesFit blocks e = HasFound (blocks (base_of e.0)) (bytes_of e.1)
+abbrev pub AreBytesFit : (model.Base → Option (List ℕ)) → (model.Base → ℕ → Option ℕ) → Base × FoundBytes → Type 0
+AreBytesFit blocks bytes e = HasFound (blocks (base_of e.0)) (bytes (base_of e.0)) (bytes_of e.1)
 
 -- ---- at all keys
 
@@ -120,7 +134,7 @@ module _ (c : Whole) (r : ReadsData) where
   LengthsFit = (b : model.Base) (n : ℕ) → lookup_base b r.lengths ≡ Some n → FitsAt (option_map length (c.blocks b)) n
 
   abbrev pub BytesFit : Type 0
-  BytesFit = (b : model.Base) (e : places.Found) → lookup_base b r.bytes ≡ Some e → HasFound (c.blocks b) e
+  BytesFit = (b : model.Base) (e : places.Found) → lookup_base b r.bytes ≡ Some e → HasFound (c.blocks b) (c.bytes b) e
 
   abbrev pub RuleFits : Type 0
   RuleFits = (x : Rule) → r.rule ≡ Some x → FitsAt c.rule x
@@ -128,8 +142,8 @@ module _ (c : Whole) (r : ReadsData) where
   long : (b : model.Base) → option_map (λ bytes. Number (length bytes)) (c.blocks b) ≡ option_map Number (option_map length (c.blocks b))
   long b = map_twice Number length (c.blocks b)
 
-  byte : (b : model.Base) (p : ℕ) → option_map (λ bytes. Number (slice_index bytes p)) (c.blocks b) ≡ option_map Number (option_map (λ bytes. slice_index bytes p) (c.blocks b))
-  byte b p = map_twice Number (λ bytes. slice_index bytes p) (c.blocks b)
+  abbrev byte : model.Base → ℕ → Option ℕ
+  byte b p = byte_in (c.blocks b) (c.bytes b p) p
 
   along : {Y : Type 0} (x y z : Option Y) → x ≡ y → (y ≡ None) ⊎ (y ≡ z) → (x ≡ None) ⊎ (x ≡ z)
   along x y z is h = elim h [ inl none ↦ inl (is ∙ none) | inr same ↦ inr (is ∙ same) ]
@@ -139,8 +153,7 @@ module _ (c : Whole) (r : ReadsData) where
   fitting rule names inputs lengths bytes (Name n) there = fit_there Bound (c.names n) (lookup n r.names) (names n) there
   fitting rule names inputs lengths bytes (Input n) there = fit_there Given (c.inputs n) (lookup n r.inputs) (inputs n) there
   fitting rule names inputs lengths bytes (Length b) there = along _ _ _ (long b) (fit_there Number (option_map length (c.blocks b)) (lookup_base b r.lengths) (lengths b) there)
-  fitting rule names inputs lengths bytes (Byte b p) there = along _ _ _ (byte b p) (fit_there Number (option_map (λ bytes. slice_index bytes p) (c.blocks b)) (byte_at (lookup_base b r.bytes) p)
-      (byte_there (lookup_base b r.bytes) p (λ n. FitsAt (option_map (λ bytes. slice_index bytes p) (c.blocks b)) n) (λ e at. bytes b e at p)) there)
+  fitting rule names inputs lengths bytes (Byte b p) there = fit_there Number (byte b p) (byte_at (lookup_base b r.bytes) p) (byte_there (lookup_base b r.bytes) p (λ n. FitsAt (byte b p) n) (λ e at. bytes b e at p)) there
 
   pub rule_fits : Fits (whole_of c) (reader_in r) → RuleFits
   rule_fits all x at = fit_from Ruled ruled c.rule r.rule x at (all OfRule (is_some_from Ruled r.rule x at))
@@ -158,5 +171,4 @@ module _ (c : Whole) (r : ReadsData) where
   pub bytes_fit : Fits (whole_of c) (reader_in r) → BytesFit
   bytes_fit all b e at p n there =
       let is : byte_at (lookup_base b r.bytes) p ≡ Some n = ap (λ o. byte_at o p) at ∙ there in
-      fit_from Number number (option_map (λ bytes. slice_index bytes p) (c.blocks b)) (byte_at (lookup_base b r.bytes) p) n is
-      (along _ _ _ (sym (byte b p)) (all (Byte b p) (is_some_from Number (byte_at (lookup_base b r.bytes) p) n is)))
+      fit_from Number number (byte b p) (byte_at (lookup_base b r.bytes) p) n is (all (Byte b p) (is_some_from Number (byte_at (lookup_base b r.bytes) p) n is))

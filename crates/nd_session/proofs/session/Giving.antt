@@ -1,12 +1,12 @@
 -- What other inputs change.
-use Rattle.std.proofs.Common.{◌≡◌, ℕ, List, Option, Some, None, option_map, length, slice_index, refl, sym, ap, ◌∙◌, inl, inr}
+use Rattle.std.proofs.Common.{◌≡◌, ℕ, List, Option, Some, None, option_map, length, slice_index, refl, sym, ap, ap₂, ◌∙◌, inl, inr}
 use Rattle.std.specs.List.{AllByRecursion}
 use Rattle.std.specs.Rc.{rc_str_bytes}
 use Rattle.std.specs.declared.rc.Rc.{Rc}
 use Rattle.std.specs.declared.rc.RcStr.{RcStr}
 use Rattle.std.proofs.Common.{Global}
 use Rattle.nd_change.specs.Change.{IsOver, IsThere}
-use Rattle.nd_change.specs.Whole.{Whole, whole_of}
+use Rattle.nd_change.specs.Whole.{byte_in, Whole, whole_of}
 use Rattle.nd_model.specs.Arrays.Value.{Base}
 use Rattle.nd_model.specs.Cells.Footprint.{Found, Bound, Given, Number, Ruled, found}
 use Rattle.nd_model.specs.Cells.Running.{Key, Name, Input, Length, Byte, OfRule, Inputs, Rule, World, Source}
@@ -27,7 +27,7 @@ pub out_all : (i j : Inputs) (now : List ℕ → Option (Option Source)) (es : L
     → (n : List ℕ) (x : Source) → inputs_of es n ≡ Some x → now n ≡ None → i n ≡ j n
 out_all i j now es all n x at = name_all (λ (x : Rc code.Input Global). source_of x.value) (λ n x. now n ≡ None → i n ≡ j n) es all n x at
 
-module _ (i j : Inputs) (c : Whole) (first : List ℕ → Option (Option Source)) (names : (n : List ℕ) → c.names n ≡ None) (blocks : (b : Base) → c.blocks b ≡ None)
+module _ (i j : Inputs) (c : Whole) (first : List ℕ → Option (Option Source)) (names : (n : List ℕ) → c.names n ≡ None) (blocks : (b : Base) → c.blocks b ≡ None) (bytes : (b : Base) (p : ℕ) → c.bytes b p ≡ None)
     (one : IsNoted j (λ n. None) first) (two : IsNoted j first c.inputs)
     (old : (n : List ℕ) (x : Source) → i n ≡ Some x → first n ≡ None → i n ≡ j n) (new : (n : List ℕ) (x : Source) → j n ≡ Some x → c.inputs n ≡ None → i n ≡ j n) where
   -- what stands there is there now
@@ -78,7 +78,7 @@ module _ (i j : Inputs) (c : Whole) (first : List ℕ → Option (Option Source)
       now (Name n) f at there = none_some f (sym (ap (option_map Bound) (names n)) ∙ at)
       now (Input n) f at there = let is : (x : Option Source) × (c.inputs n ≡ Some x) × (Given x ≡ f) = some_of (c.inputs n) f at in ap Given (true_now n is.0 is.1) ∙ is.2
       now (Length b) f at there = none_some f (sym (ap (option_map (λ bytes. Number (length bytes))) (blocks b)) ∙ at)
-      now (Byte b p) f at there = none_some f (sym (ap (option_map (λ bytes. Number (slice_index bytes p))) (blocks b)) ∙ at)
+      now (Byte b p) f at there = none_some f (sym (ap₂ (λ o x. option_map Number (byte_in o x p)) (blocks b) (bytes b p)) ∙ at)
       now OfRule f at there = rule_now c.rule f refl at
 
       same : (k : Key) → whole_of c k ≡ None → IsThere s k → IsThere s k → found s v k ≡ found s w k

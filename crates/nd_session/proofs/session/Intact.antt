@@ -1,5 +1,5 @@
 -- Sessions stay intact: each array that a name is bound to lies in its block.
-use Rattle.std.proofs.Common.{◌≡◌, ℕ, ◌+◌, ◌≤◌, Bool, true, false, cond, eq-eqb, List, [], ◌∷◌, length, refl, sym, ap, subst, ◌∙◌, inl, inr, arith}
+use Rattle.std.proofs.Common.{◌≡◌, ℕ, ◌+◌, ◌≤◌, Bool, true, false, cond, not, ◌&&◌, eq-eqb, List, [], ◌∷◌, length, refl, sym, ap, subst, ◌∙◌, inl, inr, arith}
 use Rattle.std.specs.Prelude.{bytes_eq}
 use Rattle.std.proofs.lemmas.Bool.{cases_Bool, and_from, or_left, or_right}
 use Rattle.nd_model.specs.Arrays.View.{Geo}
@@ -113,6 +113,17 @@ with_start label old next s bytes none held h = held_views (LiesThere old next s
 pub with_held : (label next : ℕ) (s : Session) (bytes : Base → List ℕ) → ((b : Base) → bytes b ≡ held_bytes s b) → AllLie label next s.bytes s.names → AllLie label next bytes s.names
 with_held label next s bytes held h = held_views (LiesThere label next s.bytes) (LiesThere label next bytes) s
     (λ b g is v. record { lies = lies_held s bytes held b g is v.lies; old = v.old }) h
+
+-- the blocks that are held keep their bytes
+pub with_same : (label next : ℕ) (s : Session) (bytes : Base → List ℕ) → ((b : Base) → is_held b s.names ≡ true → bytes b ≡ s.bytes b) → AllLie label next s.bytes s.names → AllLie label next bytes s.names
+with_same label next s bytes same h = held_views (LiesThere label next s.bytes) (LiesThere label next bytes) s
+    (λ b g is v. record { lies = subst (λ l. LiesIn (length l) g) (sym (same b is)) v.lies; old = v.old }) h
+
+-- a block that is held is no lost one
+pub kept_held : (own held : Bool) (bytes : List ℕ) → held ≡ true → cond (own && not held) [] bytes ≡ bytes
+kept_held true true bytes h = refl
+kept_held true false bytes h = absurd (let f : false ≡ true = h in cc)
+kept_held false held bytes h = refl
 
 -- A CELL'S CHANGES ARE MADE AGAIN: what is left is sound, and so is the session
 pub with_changes : (label next : ℕ) (s w : Session) → collected s ≡ w → IsSound (record (running.start label w) { next = next }) → AllLie label next s.bytes s.names

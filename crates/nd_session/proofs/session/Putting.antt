@@ -1,5 +1,5 @@
 -- A change that is put over a session.
-use Rattle.std.proofs.Common.{◌≡◌, ◌⊎◌, ℕ, zero, suc, ◌≤◌, Bool, true, false, cond, bytes_eq, List, [], ◌∷◌, length, drop, slice_get, Option, Some, None, option_map, unwrap_or, Global, refl, sym, ap, subst, ◌∙◌, inl, inr, arith}
+use Rattle.std.proofs.Common.{◌≡◌, ◌⊎◌, ℕ, zero, suc, ◌≤◌, Bool, true, false, cond, ◌||◌, bytes_eq, List, [], ◌∷◌, length, drop, take, slice_get, Option, Some, None, option_map, unwrap_or, Global, refl, sym, ap, subst, ◌∙◌, inl, inr, arith}
 use Rattle.std.specs.Prelude.{IfOk, IsSome, IsTrue, Ok, Err, Result, is_some}
 use Rattle.std.specs.Map.{lookup as find}
 use Rattle.std.specs.Result.{IsErr}
@@ -13,6 +13,13 @@ use Rattle.nd_model.specs.Arrays.Value as model
 use Rattle.nd_model.specs.Arrays.Value.{lies_in}
 use Rattle.nd_model.specs.Book.Sessions.{IsOnce}
 use Rattle.nd_model.specs.Cells.Session.{Names, lookup, is_held, held_bytes, collected}
+use Rattle.nd_model.specs.Cells.Footprint.{patched}
+use Rattle.nd_model.proofs.Patched.{patched_none}
+use Rattle.nd_marks.specs.Kept.{KeptData, kept_at}
+use Rattle.nd_heap.specs.Live.{is_base_among}
+use Rattle.nd_heap.proofs.Same.{same_bases}
+use Rattle.std.proofs.lemmas.Bool.{cases_Bool, or_right}
+use Rattle.std.proofs.lemmas.List.{take_all}
 use Rattle.nd_model.specs.Cells.Sound.{LiesIn, IsViewOf, AreViewsOf}
 use Rattle.nd_heap.specs.Contents.{bytes_in}
 use Rattle.nd_heap.specs.Values.{base_of}
@@ -21,11 +28,14 @@ use Rattle.nd_heap.specs.declared.value.Value.{Value}
 use Rattle.nd_heap.proofs.Bases.{base_eq}
 use Rattle.nd_heap.proofs.Plain.{none_some, some_same}
 use Rattle.nd_session.specs.Session.Intact.{LiesThere, AllLie}
-use Rattle.nd_session.specs.Session.Now.{block_now, value_now}
+use Rattle.nd_session.specs.Session.Change.{part_at}
+use Rattle.nd_session.specs.Session.Found.{by_base, length-patched, lookup_base}
+use Rattle.nd_session.specs.Session.Now.{block_now, kept_in, part_now, value_now}
 use Rattle.nd_session.specs.Session.Patch.{AllBound, KeepLengths, LiesInKnown}
 use Rattle.nd_session.specs.Session.Reading.{value_at}
 use Rattle.nd_session.proofs.session.Naming.{held_by, holder, view_at, view_map, views_from}
-use Rattle.nd_session.proofs.session.Reading.{base_all, base_found}
+use Rattle.nd_session.proofs.session.Reading.{base_all, base_entry, base_found, entry_bases, entry_step, or_false, same_base_sym}
+use Rattle.nd_session.proofs.session.Redoing.{patched_same, patched_twice}
 use Rattle.nd_session.proofs.session.Standing.{name_all}
 
 -- ---- answers
@@ -73,6 +83,54 @@ pub block_put : (es : List (Base × SharedBlock)) (i : ℕ) (e : Base × SharedB
 block_put es i e old cur new at before put b =
     put b ∙ ap (cond (model.same_base b (base_of e.0)) (bytes_in e.1)) (before b) ∙ chosen (model.same_base b (base_of e.0)) (bytes_in e.1) (old b) (block_now (drop (suc i) es) b)
     ∙ ap (λ es. unwrap_or (block_now es b) (old b)) (sym (from_here es i e at))
+
+-- ---- single bytes
+
+abbrev pub SharedPart : Type 0
+SharedPart = Rc KeptData Global
+
+-- the bytes of the first entries are put into their blocks
+abbrev pub parts_before : List (Base × SharedPart) → ℕ → (model.Base → List ℕ) → model.Base → List ℕ
+parts_before es i old b = cond (is_base_among (entry_bases (take i es)) b) (patched (part_now es b) (old b)) (old b)
+
+again : (t : Bool) (w : ℕ → Option ℕ) (bytes : List ℕ) → patched w (cond t (patched w bytes) bytes) ≡ patched w bytes
+again true w bytes = patched_twice w bytes
+again false w bytes = refl
+
+-- those of one entry more
+pub part_put : (es : List (Base × SharedPart)) (i : ℕ) (e : Base × SharedPart) (old cur new : model.Base → List ℕ) → slice_get es i ≡ Some e → find (base_eq e.0) es ≡ Some e.1
+    → ((b : model.Base) → cur b ≡ parts_before es i old b)
+    → ((b : model.Base) → new b ≡ cond (model.same_base b (base_of e.0)) (patched (kept_at (kept_in e.1)) (cur b)) (cur b))
+    → (b : model.Base) → new b ≡ parts_before es (suc i) old b
+part_put es i e old cur new at found before put b = put b ∙ elim (cases_Bool (model.same_base b (base_of e.0))) [
+  | inl same ↦
+      let is : b ≡ base_of e.0 = same_bases b (base_of e.0) same in
+      let among : is_base_among (entry_bases (take (suc i) es)) b ≡ true = entry_step es i e b at ∙ or_right (is_base_among (entry_bases (take i es)) b) _ (same_base_sym (base_of e.0) b ∙ same) in
+      let w : ℕ → Option ℕ = part_now es b in
+      let here : (p : ℕ) → kept_at (kept_in e.1) p ≡ w p = λ p. ap (λ o. part_at o p) (sym (base_entry kept_in e.0 e.1 es found)) ∙ ap (λ c. part_now es c p) (sym is) in
+      rw (same, among) (patched_same (kept_at (kept_in e.1)) w (cur b) here ∙ ap (patched w) (before b) ∙ again (is_base_among (entry_bases (take i es)) b) w (old b))
+  | inr apart ↦
+      let among : is_base_among (entry_bases (take (suc i) es)) b ≡ is_base_among (entry_bases (take i es)) b
+      = entry_step es i e b at ∙ ap (λ t. is_base_among (entry_bases (take i es)) b || t) (same_base_sym (base_of e.0) b ∙ apart) ∙ or_false _ in
+      rw (apart, among) (before b)
+]
+
+-- and those of all
+pub parts_all : (es : List (Base × SharedPart)) (i : ℕ) (old : model.Base → List ℕ) (b : model.Base) → length es ≤ i → parts_before es i old b ≡ patched (part_now es b) (old b)
+parts_all es i old b all = ap (λ fs. cond (is_base_among (entry_bases fs) b) (patched (part_now es b) (old b)) (old b)) (take_all i es all) ∙ elim (cases_Bool (is_base_among (entry_bases es) b)) [
+  | inl among ↦ rw among refl
+  | inr apart ↦ rw apart (sym (patched_none (part_now es b) (old b) (λ p. ap (λ o. part_at o p) (nothing es apart))))
+]
+  where
+    nothing : (fs : List (Base × SharedPart)) → is_base_among (entry_bases fs) b ≡ false → lookup_base b (by_base kept_in fs) ≡ None
+    nothing [] apart = refl
+    nothing (f ∷ fs) apart = elim (cases_Bool (model.same_base (base_of f.0) b)) [
+      | inl there ↦ let none : true ≡ false = rw there at apart in absurd (cc)
+      | inr other ↦
+          let rest : is_base_among (entry_bases fs) b ≡ false = rw other at apart in
+          let here : model.same_base b (base_of f.0) ≡ false = same_base_sym b (base_of f.0) ∙ other in
+          rw here (nothing fs rest)
+    ]
 
 -- ---- what is asked of each entry
 
@@ -128,7 +186,7 @@ either (Some a) = inr (a, refl)
 -- names and bytes behind the change
 module _ (c : Whole) (olds news : Names) (old new : model.Base → List ℕ) (once : IsOnce news)
     (names : (n : List ℕ) → lookup n news ≡ unwrap_or (c.names n) (lookup n olds))
-    (blocks : (b : model.Base) → new b ≡ unwrap_or (c.blocks b) (old b)) where
+    (blocks : (b : model.Base) → new b ≡ unwrap_or (c.blocks b) (patched (c.bytes b) (old b))) where
   -- what a name finds was found before, or is in the change
   found_from : (n : List ℕ) (v : model.Value) → lookup n news ≡ Some v → (lookup n olds ≡ Some v) ⊎ (c.names n ≡ Some (Some v))
   found_from n v at = elim (either (c.names n)) [
@@ -155,16 +213,16 @@ module _ (c : Whole) (olds news : Names) (old new : model.Base → List ℕ) (on
       not_some None e h = let f : false ≡ true = h in cc
       not_some (Some x) e h = cc
 
-      rest : (b : model.Base) → is_held b news ≡ true → unwrap_or (c.blocks b) (old b) ≡ unwrap_or (c.blocks b) (cond (is_held b olds) (cond (is_held b olds) (old b) []) [])
+      rest : (b : model.Base) → is_held b news ≡ true → unwrap_or (c.blocks b) (patched (c.bytes b) (old b)) ≡ unwrap_or (c.blocks b) (patched (c.bytes b) (cond (is_held b olds) (cond (is_held b olds) (old b) []) []))
       rest b held = elim (either (c.blocks b)) [
-        | inl none ↦ ap (unwrap_or (c.blocks b)) (sym (elim (was_known known b held) [
+        | inl none ↦ ap (λ bytes. unwrap_or (c.blocks b) (patched (c.bytes b) bytes)) (sym (elim (was_known known b held) [
           | inl was ↦ held_twice (is_held b olds) (old b) was
           | inr some ↦ absurd (not_some (c.blocks b) none some)
         ]))
-        | inr is ↦ ap (λ o. unwrap_or o (old b)) is.1 ∙ sym (ap (λ o. unwrap_or o (cond (is_held b olds) (cond (is_held b olds) (old b) []) [])) is.1)
+        | inr is ↦ ap (λ o. unwrap_or o (patched (c.bytes b) (old b))) is.1 ∙ sym (ap (λ o. unwrap_or o (patched (c.bytes b) (cond (is_held b olds) (cond (is_held b olds) (old b) []) []))) is.1)
       ]
 
-      same : (b : model.Base) → is_held b news ≡ true → cond (is_held b news) (cond (is_held b news) (new b) []) [] ≡ unwrap_or (c.blocks b) (cond (is_held b olds) (cond (is_held b olds) (old b) []) [])
+      same : (b : model.Base) → is_held b news ≡ true → cond (is_held b news) (cond (is_held b news) (new b) []) [] ≡ unwrap_or (c.blocks b) (patched (c.bytes b) (cond (is_held b olds) (cond (is_held b olds) (old b) []) []))
       same b held = held_twice (is_held b news) (new b) held ∙ blocks b ∙ rest b held
 
   -- each array lies in its block where it did, and where those of the change do
@@ -174,9 +232,9 @@ module _ (c : Whole) (olds news : Names) (old new : model.Base → List ℕ) (on
     where
       long : (b : model.Base) → is_held b news ≡ true → length (old b) ≤ length (new b)
       long b held = elim (either (c.blocks b)) [
-        | inl none ↦ let same : new b ≡ old b = blocks b ∙ ap (λ o. unwrap_or o (old b)) none in omega (arith, ap length same)
+        | inl none ↦ let same : new b ≡ patched (c.bytes b) (old b) = blocks b ∙ ap (λ o. unwrap_or o (patched (c.bytes b) (old b))) none in omega (arith, ap length same, length-patched (c.bytes b) (old b))
         | inr is ↦
-            let same : new b ≡ is.0 = blocks b ∙ ap (λ o. unwrap_or o (old b)) is.1 in
+            let same : new b ≡ is.0 = blocks b ∙ ap (λ o. unwrap_or o (patched (c.bytes b) (old b))) is.1 in
             let was : length (cond (is_held b news) (old b) []) ≤ length is.0 = kept b is.0 is.1 in
             let all : cond (is_held b news) (old b) [] ≡ old b = ap (λ t. cond t (old b) []) held in
             omega (arith, ap length same, ap length all, was)

@@ -1,5 +1,5 @@
 -- What stands at the keys of a change, entry by entry.
-use Rattle.std.proofs.Common.{◌≡◌, ℕ, Bool, true, false, cond, bytes_eq, nat_eq, not, filter, List, [], ◌∷◌, length, slice_index, Global, Option, Some, None, option_map, refl, sym, ap, subst, ◌∙◌, inl, inr}
+use Rattle.std.proofs.Common.{◌≡◌, ℕ, false, cond, bytes_eq, List, [], ◌∷◌, length, slice_index, Global, Option, Some, None, option_map, refl, sym, ap, subst, ◌∙◌, inl, inr, Bool, true, nat_eq, not, filter, ap₂}
 use Rattle.std.specs.Rc.{rc_str_bytes}
 use Rattle.std.specs.declared.rc.RcStr.{RcStr}
 use Rattle.std.specs.List.{AllByRecursion}
@@ -11,15 +11,16 @@ use Rattle.nd_model.specs.Cells.Footprint.{Bound, Given, Number, Ruled}
 use Rattle.nd_model.specs.Cells.Running.{Key, Name, Input, Length, Byte, OfRule}
 use Rattle.nd_model.specs.Cells.Session.{lookup}
 use Rattle.nd_model.proofs.Lists.{lookup-bind}
+use Rattle.nd_heap.specs.Values.{entries_of, base_of}
+use Rattle.nd_change.specs.Whole.{byte_in}
 use Rattle.nd_heap.specs.declared.value.Base.{Base}
-use Rattle.nd_heap.specs.Values.{base_of, entries_of}
 use Rattle.nd_heap.proofs.NameLists.{name_eq, entries-insert, entries-found}
 use Rattle.nd_heap.proofs.Same.{same_bases, same_bytes}
 use Rattle.nd_session.specs.declared.session.change.change.Change.TheInside.{Inside}
 use Rattle.nd_session.specs.Inputs.Values.{rule_of}
 use Rattle.nd_session.specs.Session.Change.{IsNoted, change_of}
+use Rattle.nd_session.specs.Session.Now.{block_now, data_in, input_now, value_now, part_now}
 use Rattle.nd_session.specs.Session.Found.{by_base, lookup_base}
-use Rattle.nd_session.specs.Session.Now.{block_now, data_in, input_now, value_now}
 
 pub none_some : {X P : Type 0} (x : X) → None ≡ Some x → P
 none_some x e = cc
@@ -93,9 +94,9 @@ base_noted now old new c set b = elim (cases_Bool (model.same_base b c)) [
 
 -- ---- a change with nothing in it
 
-pub nothing_in : (i : Inside) → i.names.entries ≡ [] → i.inputs.entries ≡ [] → i.blocks.entries ≡ [] → i.rule ≡ None → (k : Key) → change_of (data_in i) k ≡ None
-nothing_in i names inputs blocks rule (Name n) = ap (λ es. option_map Bound (value_now es n)) names
-nothing_in i names inputs blocks rule (Input n) = ap (λ es. option_map Given (input_now es n)) inputs
-nothing_in i names inputs blocks rule (Length b) = ap (λ es. option_map (λ bytes. Number (length bytes)) (block_now es b)) blocks
-nothing_in i names inputs blocks rule (Byte b p) = ap (λ es. option_map (λ bytes. Number (slice_index bytes p)) (block_now es b)) blocks
-nothing_in i names inputs blocks rule OfRule = ap (λ o. option_map Ruled (option_map rule_of o)) rule
+pub nothing_in : (i : Inside) → i.names.entries ≡ [] → i.inputs.entries ≡ [] → i.blocks.entries ≡ [] → i.parts.entries ≡ [] → i.rule ≡ None → (k : Key) → change_of (data_in i) k ≡ None
+nothing_in i names inputs blocks parts rule (Name n) = ap (λ es. option_map Bound (value_now es n)) names
+nothing_in i names inputs blocks parts rule (Input n) = ap (λ es. option_map Given (input_now es n)) inputs
+nothing_in i names inputs blocks parts rule (Length b) = ap (λ es. option_map (λ bytes. Number (length bytes)) (block_now es b)) blocks
+nothing_in i names inputs blocks parts rule (Byte b p) = ap₂ (λ es fs. option_map Number (byte_in (block_now es b) (part_now fs b p) p)) blocks parts
+nothing_in i names inputs blocks parts rule OfRule = ap (λ o. option_map Ruled (option_map rule_of o)) rule

@@ -1,24 +1,32 @@
 -- What contracts see of a change, and of the runs that it goes past.
-use Rattle.std.specs.Prelude.{◌≡◌, ◌⊎◌, ℕ, Bool, false, List, [], Option, Some, None, option_map, slice_index}
+use Rattle.std.specs.Prelude.{◌≡◌, ◌⊎◌, ℕ, Bool, false, IsSome, List, [], Option, Some, None, option_map, slice_index}
 use Rattle.nd_model.specs.Arrays.Value.{Base, Value, lies_in}
 use Rattle.nd_model.specs.Cells.Session.{lookup}
 use Rattle.nd_model.specs.Cells.Running.{Event, Binds, Unbinds, Rule, Source}
 use Rattle.nd_model.specs.Book.Records.{Record}
 use Rattle.nd_change.specs.Change.{Change}
-use Rattle.nd_change.specs.Whole.{Whole, binds_in, whole_of}
+use Rattle.nd_change.specs.Whole.{Whole, binds_in, byte_in, whole_of}
+use Rattle.nd_marks.specs.Kept.{KeptData, kept_at}
 use Rattle.nd_session.specs.Session.Changes.{ChangesData, bases_in, effects_in, events_in, writes_in}
 use Rattle.nd_session.specs.Session.Found.{Found, found_at, lookup_base}
 use Rattle.nd_session.specs.Session.Reads.{ReadsData, found_of, keys_of}
 
--- what stands now: the values of names and the inputs, none where nothing is bound or given, the bytes of bases, and the rule
+-- what stands now: the values of names and the inputs, none where nothing is bound or given, the bytes of bases, single bytes of others, and
+-- the rule
 pub record ChangeData : Type 0 where
   pub names : List (List ℕ × Option Value)
   pub inputs : List (List ℕ × Option Source)
   pub blocks : List (Base × List ℕ)
+  pub parts : List (Base × KeptData)
   pub rule : Option Rule
 
+-- the byte that is kept of a place, none where none is kept
+abbrev pub part_at : Option KeptData → ℕ → Option ℕ
+part_at None p = None
+part_at (Some kept) p = kept_at kept p
+
 abbrev pub whole_in : ChangeData → Whole
-whole_in c = record { names = λ n. lookup n c.names; inputs = λ n. lookup n c.inputs; blocks = λ b. lookup_base b c.blocks; rule = c.rule }
+whole_in c = record { names = λ n. lookup n c.names; inputs = λ n. lookup n c.inputs; blocks = λ b. lookup_base b c.blocks; bytes = λ b p. part_at (lookup_base b c.parts) p; rule = c.rule }
 
 -- the change that it is
 abbrev pub change_of : ChangeData → Change
@@ -27,6 +35,18 @@ change_of c = whole_of (whole_in c)
 -- At each key there stands what is there now, or what stood there before.
 abbrev pub IsNoted : {K A : Type 0} → (K → A) → (old new : K → Option A) → Type 0
 IsNoted {K} now old new = (k : K) → (new k ≡ Some (now k)) ⊎ (new k ≡ old k)
+
+-- So it is with single bytes.
+abbrev pub AreBytesNoted : (now : Base → List ℕ) (old new : Base → ℕ → Option ℕ) → Type 0
+AreBytesNoted now old new = (b : Base) (p : ℕ) → (new b p ≡ Some (slice_index (now b) p)) ⊎ (new b p ≡ old b p)
+
+-- a single byte is in it as it is now; or it is out of it, as it was before, and both runs wrote the same there
+abbrev pub IsBytewise : (now : List ℕ) (one other old new : ℕ → Option ℕ) → ℕ → Type 0
+IsBytewise now one other old new p = (new p ≡ Some (slice_index now p)) ⊎ ((new p ≡ None) × (old p ≡ None) × (one p ≡ other p))
+
+-- a byte is as it was and nothing is written there, or is gone, or is the one that is written, where one was before
+abbrev pub IsOverwritten : (written old new : ℕ → Option ℕ) → ℕ → Type 0
+IsOverwritten written old new p = ((new p ≡ old p) × (written p ≡ None)) ⊎ (IsSome (written p) × ((new p ≡ None) ⊎ ((new p ≡ written p) × IsSome (old p))))
 
 -- ---- runs
 
@@ -52,8 +72,8 @@ abbrev pub FitsAt : {A : Type 0} → Option A → A → Type 0
 FitsAt o a = (o ≡ None) ⊎ (o ≡ Some a)
 
 -- So it is with the bytes of a base that were found.
-abbrev pub HasFound : Option (List ℕ) → Found → Type 0
-HasFound o e = (p n : ℕ) → found_at e p ≡ Some n → FitsAt (option_map (λ bytes. slice_index bytes p) o) n
+abbrev pub HasFound : Option (List ℕ) → (ℕ → Option ℕ) → Found → Type 0
+HasFound o bytes e = (p n : ℕ) → found_at e p ≡ Some n → FitsAt (byte_in o (bytes p) p) n
 
 -- ---- what a cell did to blocks
 

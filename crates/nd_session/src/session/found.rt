@@ -1,8 +1,9 @@
 //! `FoundBytes`: the bytes at marked byte offsets of a block as it was, alone or with the block.
 
-ghost use Rattle.std.specs.Prelude.{◌≡◌, ◌↔◌, ℕ, ◌<◌, List, IfOk, IsTrue, None, OnOk, Some, if◌then◌else◌, length, slice_index, unwrap_or};
+ghost use Rattle.std.specs.Prelude.{◌≡◌, ◌↔◌, ℕ, ◌<◌, List, IfOk, IsTrue, None, OnOk, Some, if◌then◌else◌, is_some, length, slice_index, unwrap_or};
 ghost use Rattle.nd_heap.specs.Contents.{bytes_in};
 ghost use Rattle.nd_heap.specs.Values.{base_of};
+ghost use Rattle.nd_marks.specs.Kept.{kept_at};
 ghost use Rattle.nd_marks.specs.Marks.{holds};
 ghost use Rattle.nd_model.specs.Arrays.Value as values;
 ghost use Rattle.nd_session.specs.Session.Found.{byte_found, bytes_of, found_at};
@@ -81,6 +82,51 @@ impl FoundBytes {
         }
     }
 
+    /// Returns whether each byte is the one that is kept, where both have one.
+    pub(crate) fn agrees(&self, part: &KeptBytes) -> bool
+        ensures { IsTrue result ↔ ((p a n : ℕ) → kept_at part.now p ≡ Some a
+            → found_at (bytes_of self.now) p ≡ Some n → a ≡ n) }
+    {
+        match self {
+            FoundBytes::Kept(kept) => part.agrees(kept),
+            FoundBytes::Shared(marks, found) => part.agrees_with(marks, shared_bytes(found)),
+        }
+    }
+
+    /// Returns true only where no byte offset is in both.
+    pub(crate) fn is_apart(&self, part: &KeptBytes) -> bool
+        ensures { IsTrue result → (p : ℕ) → IsTrue (is_some (kept_at part.now p))
+            → found_at (bytes_of self.now) p ≡ None }
+    {
+        match self {
+            FoundBytes::Kept(kept) => part.is_apart(kept),
+            FoundBytes::Shared(marks, _) => part.is_apart_from(marks),
+        }
+    }
+
+    /// Returns true only where both have the same byte offsets.
+    pub(crate) fn has_offsets_of(&self, part: &KeptBytes) -> bool
+        ensures { IsTrue result → (p : ℕ) → is_some (kept_at part.now p)
+            ≡ is_some (found_at (bytes_of self.now) p) }
+    {
+        match self {
+            FoundBytes::Kept(kept) => part.has_offsets_of(kept),
+            FoundBytes::Shared(_, _) => false,
+        }
+    }
+
+    /// Writes each byte over the one that is kept, where both have one.
+    pub(crate) fn overwrite(&self, part: &mut KeptBytes)
+        ensures { (p : ℕ) → kept_at part.new p ≡ (if is_some (kept_at part.old p)
+            then Some (unwrap_or (found_at (bytes_of self.now) p)
+            (unwrap_or (kept_at part.old p) 0)) else None) }
+    {
+        match self {
+            FoundBytes::Kept(kept) => part.overwrite(kept),
+            FoundBytes::Shared(marks, found) => part.overwrite_by(marks, shared_bytes(found)),
+        }
+    }
+
     /// Puts each byte into a block. Byte offsets past its end are passed over.
     fn patch(&self, block: &mut [u8])
         ensures len { length block.new ≡ length block.old }
@@ -111,6 +157,26 @@ impl<'f> BlockWriter for FoundWriter<'f> {
     }
 
     ghost keeps_length = { λ w bytes. length-patched (found_at (bytes_of w.found.now)) bytes };
+}
+
+/// Single bytes, to be put into a block.
+#[derive(Drop)]
+pub(crate) struct PartWriter<'p> {
+    pub(crate) part: &'p KeptBytes,
+}
+
+impl<'p> BlockWriter for PartWriter<'p> {
+    ghost use Rattle.nd_model.specs.Cells.Footprint.{patched};
+    ghost use Rattle.nd_marks.specs.Kept.{kept_at};
+    ghost use Rattle.nd_session.specs.Session.Found.{length-patched};
+
+    ghost written = { λ w bytes. patched (kept_at w.part.now) bytes };
+
+    fn write(self, block: &mut RawBlock) {
+        self.part.patch(block.as_mut_slice());
+    }
+
+    ghost keeps_length = { λ w bytes. length-patched (kept_at w.part.now) bytes };
 }
 
 /// Notes the bytes that stand at the marked byte offsets of a block.

@@ -14,7 +14,8 @@ ghost use Rattle.nd_model.specs.Arrays.View.{item_size, byte_places, element_pla
 ghost use Rattle.nd_types.specs.Types.{type_of};
 ghost use Rattle.nd_heap.specs.Contents.{bytes_in};
 ghost use Rattle.nd_heap.specs.Values.{base_of, geo_of, value_of};
-ghost use Rattle.nd_session.specs.Session.Live.{live};
+ghost use Rattle.nd_session.specs.Session.Live.{live, own_collected};
+ghost use Rattle.nd_reach.specs.Reach.{IsSameInReach};
 ghost use Rattle.std.proofs.Common.{Global as Allocator};
 ghost use Rattle.nd_session.specs.Session.Kept.{thawed, version_of};
 ghost use Rattle.nd_session.specs.Session.Listed.{seen_of};
@@ -34,6 +35,13 @@ use std::marker::Model;
 use std::mem::replace;
 use std::rc::{Rc, RcStr};
 
+/// How many bytes of blocks are worth a look at a name.
+const LOAD_OF_A_NAME: usize = 256;
+
+/// The least number of names that is reckoned with: a session of few names is collected once 1 MiB of
+/// blocks is due.
+const FEW_NAMES: usize = 4096;
+
 /// Names and blocks while a cell runs, with what the cell has read and done.
 ///
 /// They are shared with snapshots: the first write after one copies what it changes. After an
@@ -43,6 +51,7 @@ pub struct Session {
     pub(crate) heap: Heap,
     trace: Trace,
     pub(crate) next: u64,
+    load: usize,
     alloc: Global,
 }
 
@@ -70,6 +79,7 @@ impl Session {
             heap,
             trace: Trace::new(alloc, 0),
             next: 0,
+            load: 0,
             alloc,
         })
     }
@@ -91,6 +101,7 @@ impl Session {
         self.heap.collect()?;
         self.trace = Trace::new(self.alloc, label);
         self.next = 0;
+        self.load = 0;
         Ok(())
     }
 
@@ -273,9 +284,11 @@ impl Session {
             ≡ running.after (running.Make block) (live self.old)) }
     {
         let base = self.next_base();
+        let made = block.len();
         let shared = Rc::new(self.alloc, block)?;
         self.heap.put_block(base, shared)?;
         self.next += 1;
+        self.load = self.load.saturating_add(made);
         Ok(base)
     }
 
@@ -287,10 +300,12 @@ impl Session {
         ensures { OnOk result (live self.new
             ≡ running.done (running.Binding (string_bytes name) (value_of value)) (live self.old)) }
     {
+        let lost = self.weight(name.as_str());
         let bound = RcStr::from_string(name)?;
         let kept = Rc::new(self.alloc, value)?;
         self.heap.bind(bound.clone()?, kept.clone()?)?;
         self.trace.note_event(Event::Binds(bound, kept))?;
+        self.load = self.load.saturating_add(lost);
         Ok(())
     }
 
@@ -300,10 +315,44 @@ impl Session {
         ensures { OnOk result (live self.new
             ≡ running.done (running.Unbinding name.now) (live self.old)) }
     {
+        let lost = self.weight(name);
         let unbound = RcStr::from_str(self.alloc, name)?;
         self.heap.unbind(name)?;
         self.trace.note_event(Event::Unbinds(unbound))?;
+        self.load = self.load.saturating_add(lost);
         Ok(())
+    }
+
+    /// How many bytes the block has that the value of a name lies in.
+    fn weight(&self, name: &str) -> usize {
+        match self.heap.find(name) {
+            Some(Value::Array(array) | Value::Row(array)) => self.heap.bytes(array.base).len(),
+            _ => 0,
+        }
+    }
+
+    /// Gives up the blocks that the running cell made and no bound value lies in.
+    #[tactic(auto, unfolding(crate::specs::Session::Live::live))]
+    fn collect_own(&mut self) -> Result<(), OutOfMemory>
+        ensures { OnOk result (live self.new ≡ own_collected (live self.old)) }
+    {
+        self.heap.collect_label(self.trace.label())?;
+        self.load = 0;
+        Ok(())
+    }
+
+    /// Gives up blocks that the running cell made and no bound value lies in, once many bytes were
+    /// made, or let go by names, since the last time. So a statement looks at few names, on average.
+    ///
+    /// After `x = x + 1` in the running cell, which made the first block of `x` too, it may give up
+    /// that block. Of a view that another name has it gives up nothing.
+    pub fn collect_due(&mut self) -> Result<(), OutOfMemory>
+        ensures { OnOk result (IsSameInReach (live self.old) (live self.new)) }
+    {
+        if self.load / LOAD_OF_A_NAME <= self.heap.count().max(FEW_NAMES) {
+            return Ok(());
+        }
+        self.collect_own()
     }
 
     /// Returns the value of a name. It notes nothing.
@@ -360,6 +409,7 @@ impl Session {
             heap: version.heap,
             trace: Trace::new(alloc, version.label),
             next: version.next,
+            load: 0,
             alloc,
         }
     }

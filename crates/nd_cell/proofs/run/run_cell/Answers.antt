@@ -3,6 +3,7 @@ use Rattle.nd_model.specs.Cells.Cell.{ended_under, session_after}
 use Rattle.nd_model.specs.Grammar.Reading.{reading}
 use Rattle.nd_model.specs.Cells.Running.{Running, World, session_of}
 use Rattle.nd_model.specs.Cells.Session.{Session, collected}
+use Rattle.nd_reach.proofs.Reaching.{end_is_all}
 use Rattle.nd_session.specs.Session.Kept.{thawed, version_of}
 use Rattle.nd_session.specs.Session.Live.{live}
 use Rattle.nd_session.specs.Inputs.Values.{inputs_of, world_of}
@@ -42,4 +43,5 @@ returns-clause-after c =
     let began : thawed c.in_ok-before.before ≡ _
     = thawed_start c.args.label s (live c.start.new.self) c.in_ok-before.before c.in_ok-start.ensures c.in_ok-before.ensures.session c.in_ok-before.ensures.label c.in_ok-before.ensures.next in
     c.in_ok-made.ensures.after
-    ∙ sym (ap session_after (ended_cell c.args.label (reading c.args.text.now) w s (live c.start.new.self) _ _ c.in_ok-start.ensures began c.in_ok-gives.ensures))
+    ∙ (end_is_all c.args.label (reading c.args.text.now) w s (ended_under w.rule (thawed c.in_ok-before.before) (ended_of c.in_ok-gives.gives (live c.run_text.new.session)))
+    (ended_cell c.args.label (reading c.args.text.now) w s (live c.start.new.self) _ _ c.in_ok-start.ensures began c.in_ok-gives.ensures)).after

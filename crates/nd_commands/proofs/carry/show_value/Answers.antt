@@ -1,4 +1,3 @@
-use Rattle.std.proofs.Common.{sym}
 use Rattle.nd_model.specs.Book.Notebook.{book_of}
 use Rattle.nd_notebook.specs.Queries.{bound_of}
 use Rattle.nd_commands.proofs.Carried.{told_value}

@@ -4,37 +4,17 @@ use Rattle.nd_commands.specs.Source.{lines_so_far, opening_of}
 use Rattle.nd_commands.proofs.Carried.{closed_text, closed_bytes}
 use Rattle.nd_commands.proofs.line.close_source.Goals as goal
 
-pub returns-in-Insert-clause-carried : goal.returns-in-Insert-clause-carried
-returns-in-Insert-clause-carried g c =
+pub returns-in-Ok-clause-carried : goal.returns-in-Ok-clause-carried
+returns-in-Ok-clause-carried g c =
     let s = c.args.source.now in
     let utf8 = rw c.bytes.ensures at c.in-Ok.ensures.cases.1 in
-    let is = closed_text (opening_of s.opening) (lines_so_far s) c.in-Ok.text.now (c.in-Ok.ensures.cases.0 ∙ c.bytes.ensures) utf8 in
-    let same = rw c.in-Insert.is at is in
-    rw (c.in-Insert.is, same) c.insert_cell.ensures.carried
+    rw (closed_text (opening_of s.opening) (lines_so_far s) c.in-Ok.text.now (c.in-Ok.ensures.cases.0 ∙ c.bytes.ensures) utf8, ← c.edit.ensures) c.make_edit.ensures.carried
 
-pub returns-in-Insert-clause-counts : goal.returns-in-Insert-clause-counts
-returns-in-Insert-clause-counts g c =
+pub returns-in-Ok-clause-counts : goal.returns-in-Ok-clause-counts
+returns-in-Ok-clause-counts g c =
     let s = c.args.source.now in
     let utf8 = rw c.bytes.ensures at c.in-Ok.ensures.cases.1 in
-    let is = closed_text (opening_of s.opening) (lines_so_far s) c.in-Ok.text.now (c.in-Ok.ensures.cases.0 ∙ c.bytes.ensures) utf8 in
-    let same = rw c.in-Insert.is at is in
-    rw (c.in-Insert.is, same) c.insert_cell.ensures.counts
-
-pub returns-in-Edit-clause-carried : goal.returns-in-Edit-clause-carried
-returns-in-Edit-clause-carried g c =
-    let s = c.args.source.now in
-    let utf8 = rw c.bytes.ensures at c.in-Ok.ensures.cases.1 in
-    let is = closed_text (opening_of s.opening) (lines_so_far s) c.in-Ok.text.now (c.in-Ok.ensures.cases.0 ∙ c.bytes.ensures) utf8 in
-    let same = rw c.in-Edit.is at is in
-    rw (c.in-Edit.is, same) c.edit_cell.ensures.carried
-
-pub returns-in-Edit-clause-counts : goal.returns-in-Edit-clause-counts
-returns-in-Edit-clause-counts g c =
-    let s = c.args.source.now in
-    let utf8 = rw c.bytes.ensures at c.in-Ok.ensures.cases.1 in
-    let is = closed_text (opening_of s.opening) (lines_so_far s) c.in-Ok.text.now (c.in-Ok.ensures.cases.0 ∙ c.bytes.ensures) utf8 in
-    let same = rw c.in-Edit.is at is in
-    rw (c.in-Edit.is, same) c.edit_cell.ensures.counts
+    rw (closed_text (opening_of s.opening) (lines_so_far s) c.in-Ok.text.now (c.in-Ok.ensures.cases.0 ∙ c.bytes.ensures) utf8, ← c.edit.ensures) c.make_edit.ensures.counts
 
 pub returns-in-Err-clause-carried : goal.returns-in-Err-clause-carried
 returns-in-Err-clause-carried g c =

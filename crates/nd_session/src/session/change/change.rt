@@ -4,12 +4,14 @@ ghost use Rattle.std.specs.Prelude.{◌≡◌, ◌+◌, ◌-◌, ◌^◌, IfOk, 
 ghost use Rattle.nd_heap.specs.Contents.{bytes_in};
 ghost use Rattle.nd_model.specs.Cells.Running.{Key};
 ghost use Rattle.nd_session.specs.Session.Change.{change_of};
+ghost use Rattle.nd_session.specs.Session.Now.{kept_in};
 
 use crate::inputs::{CellRule, Input};
 use crate::session::found::shared_bytes;
 use indexmap::IndexMap;
 use nd_block::RawBlock;
 use nd_heap::{Base, OutOfMemory, Value};
+use nd_marks::KeptBytes;
 use std::alloc::Global;
 use std::marker::Model;
 use std::rc::{Rc, RcStr};
@@ -23,8 +25,11 @@ pub(crate) type InputsNow = IndexMap<RcStr, Option<Rc<Input>>>;
 /// The blocks of bases, `None` where a base has no bytes now.
 pub(crate) type BlocksNow = IndexMap<Base, Option<Rc<RawBlock>>>;
 
+/// The bytes at some byte offsets of a base. Where its block is in the change too, that decides.
+pub(crate) type PartsNow = IndexMap<Base, Rc<KeptBytes>>;
+
 /// What stands now at each key where a session may differ from the one before an edit: names, inputs,
-/// blocks, and the rule. A key that is not in it has the same in both.
+/// blocks, single bytes of other blocks, and the rule. A key that is not in it has the same in both.
 ///
 /// It may have keys that are the same in both. Values and blocks are shared with the session.
 ///
@@ -35,7 +40,9 @@ pub struct Change {
     pub(crate) names: NamesNow,
     pub(crate) inputs: InputsNow,
     pub(crate) blocks: BlocksNow,
+    pub(crate) parts: PartsNow,
     pub(crate) rule: Option<CellRule>,
+    pub(crate) alloc: Global,
 }
 
 impl Model for Change {
@@ -63,6 +70,21 @@ fn weigh(blocks: &BlocksNow) -> u64
     bytes
 }
 
+/// The number of single bytes in all.
+fn weigh_parts(parts: &PartsNow) -> u64
+    ensures { result ≡ min (sum (map (λ e. length (kept_in e.1).bytes) parts.now.entries))
+        (2 ^ 64 - 1) }
+{
+    let mut bytes: u64 = 0;
+    for i in 0..parts.len() {
+        let Some((_, part)) = parts.get_index(i) else {
+            unreachable!();
+        };
+        bytes = bytes.saturating_add(part.as_ref().len() as u64);
+    }
+    bytes
+}
+
 impl Change {
     /// Returns a change with nothing in it, which takes no memory.
     pub fn new(alloc: Global) -> Change
@@ -72,7 +94,9 @@ impl Change {
             names: IndexMap::new(alloc),
             inputs: IndexMap::new(alloc),
             blocks: IndexMap::new(alloc),
+            parts: IndexMap::new(alloc),
             rule: None,
+            alloc,
         }
     }
 
@@ -83,11 +107,14 @@ impl Change {
         let names = self.names.clone()?;
         let inputs = self.inputs.clone()?;
         let blocks = self.blocks.clone()?;
+        let parts = self.parts.clone()?;
         Ok(Change {
             names,
             inputs,
             blocks,
+            parts,
             rule: self.rule,
+            alloc: self.alloc,
         })
     }
 
@@ -98,22 +125,26 @@ impl Change {
         self.names.is_empty()
             && self.inputs.is_empty()
             && self.blocks.is_empty()
+            && self.parts.is_empty()
             && self.rule.is_none()
     }
 
-    /// Returns the number of names, inputs and blocks of the change.
+    /// Returns the number of names, inputs, blocks and blocks with single bytes of the change.
     pub fn count(&self) -> usize
         ensures { result ≡ min (length self.now.names + length self.now.inputs
-            + length self.now.blocks) (2 ^ 64 - 1) }
+            + length self.now.blocks + length self.now.parts) (2 ^ 64 - 1) }
     {
         let texts = self.names.len().saturating_add(self.inputs.len());
-        texts.saturating_add(self.blocks.len())
+        let bases = self.blocks.len().saturating_add(self.parts.len());
+        texts.saturating_add(bases)
     }
 
-    /// Returns the number of bytes that the blocks of the change have in all.
+    /// Returns the number of bytes that the blocks of the change have in all, and its single bytes.
     pub fn weight(&self) -> u64
-        ensures { result ≡ min (sum (map (λ e. length e.1) self.now.blocks)) (2 ^ 64 - 1) }
+        ensures { result ≡ min (sum (map (λ e. length e.1) self.now.blocks)
+            + sum (map (λ e. length e.1.bytes) self.now.parts)) (2 ^ 64 - 1) }
     {
-        weigh(&self.blocks)
+        let blocks = weigh(&self.blocks);
+        blocks.saturating_add(weigh_parts(&self.parts))
     }
 }

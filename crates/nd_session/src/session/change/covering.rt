@@ -1,12 +1,14 @@
 //! `KeyFilter::of_run` and `Change::filter`: the filters of what a cell read and did, and of a change.
 
-ghost use Rattle.std.specs.Prelude.{IsTrue, is_some, string_bytes};
+ghost use Rattle.std.specs.Prelude.{◌/◌, ◌%◌, ℕ, IsTrue, is_some, string_bytes};
 ghost use Rattle.std.specs.List.{All};
 ghost use Rattle.std.specs.Rc.{rc_str_bytes};
 ghost use Rattle.nd_change.specs.Steps.{IsWordOf, IsWordOfChange};
+ghost use Rattle.nd_marks.specs.Marks.{in_word};
 ghost use Rattle.nd_model.specs.Cells.Running.{Input, Key, Name, OfRule};
 ghost use Rattle.nd_session.specs.Session.Change.{change_of, run_in};
-ghost use Rattle.nd_session.specs.Session.Filter.{CoversLabel, StaysCovered, covers};
+ghost use Rattle.nd_session.specs.Session.Filter.{CoversFound, CoversKept, CoversLabel, CoversLength, StaysCovered, covers};
+ghost use Rattle.nd_session.specs.Session.Found.{bytes_of, found_at};
 ghost use Rattle.nd_session.specs.Session.Reads.{keys_of};
 ghost use Rattle.nd_trace.specs.Events.{event_of, name_of_event};
 
@@ -14,11 +16,13 @@ use crate::inputs::CellRule;
 use crate::session::change::change::Change;
 use crate::session::change::filter::KeyFilter;
 use crate::session::changes::Changes;
-use crate::session::reads::Reads;
+use crate::session::found::{FoundByBase, FoundBytes};
+use crate::session::reads::{LengthsRead, Reads};
 use indexmap::IndexMap;
 use nd_heap::Base;
+use nd_marks::KeptBytes;
 use nd_trace::Event;
-use std::rc::RcStr;
+use std::rc::{Rc, RcStr};
 
 /// The most keys of which a change has a filter of its own: to make one takes a look at each key.
 const MOST_KEYS: usize = 64;
@@ -92,6 +96,56 @@ fn add_labels<V>(bases: &IndexMap<Base, V>, filter: &mut KeyFilter)
     }
 }
 
+/// Adds the lengths of blocks, by their labels.
+fn add_lengths(lengths: &LengthsRead, filter: &mut KeyFilter)
+    ensures added { All (λ e. CoversLength filter.new e.0.label) lengths.now.entries }
+    ensures stays { StaysCovered filter.old filter.new }
+{
+    for i in 0..lengths.len() {
+        let Some((base, _)) = lengths.get_index(i) else {
+            unreachable!();
+        };
+        filter.add_length(base.label);
+    }
+}
+
+/// The bits of the granules of bytes that were found.
+fn granules_of(found: &FoundBytes) -> u64
+    ensures { (p : ℕ) → IsTrue (is_some (found_at (bytes_of found.now) p))
+        → IsTrue (in_word result (p / 64 % 64)) }
+{
+    match found {
+        FoundBytes::Kept(kept) => kept.granules(),
+        FoundBytes::Shared(marks, _) => marks.granules(),
+    }
+}
+
+/// Adds the bytes that were found in blocks.
+fn add_found(found: &FoundByBase, filter: &mut KeyFilter)
+    ensures added { All (λ e. CoversFound filter.new e.0.label (bytes_of e.1)) found.now.entries }
+    ensures stays { StaysCovered filter.old filter.new }
+{
+    for i in 0..found.len() {
+        let Some((base, bytes)) = found.get_index(i) else {
+            unreachable!();
+        };
+        filter.add_bytes(base.label, granules_of(bytes));
+    }
+}
+
+/// Adds the bytes that are kept of blocks.
+pub(crate) fn add_parts(parts: &IndexMap<Base, Rc<KeptBytes>>, filter: &mut KeyFilter)
+    ensures added { All (λ e. CoversKept filter.new e.0.label e.1.value) parts.now.entries }
+    ensures stays { StaysCovered filter.old filter.new }
+{
+    for i in 0..parts.len() {
+        let Some((base, part)) = parts.get_index(i) else {
+            unreachable!();
+        };
+        filter.add_bytes(base.label, part.as_ref().granules());
+    }
+}
+
 /// Adds the names of events.
 fn add_events(events: &[Event], filter: &mut KeyFilter)
     ensures added { All (λ e. IsTrue (covers filter.new (Name (name_of_event (event_of e)))))
@@ -120,13 +174,13 @@ fn add_reads(reads: &Reads, filter: &mut KeyFilter)
 {
     add_names(&reads.names, filter);
     add_inputs(&reads.inputs, filter);
-    add_labels(&reads.lengths, filter);
-    add_labels(&reads.bytes, filter);
+    add_lengths(&reads.lengths, filter);
+    add_found(&reads.bytes, filter);
     add_some_rule(reads.rule, filter);
 }
 
 impl KeyFilter {
-    /// Returns a filter of all that a cell read and did. It has the bit of the cell's own label.
+    /// Returns a filter of all that a cell read and did. It has all bytes of the cell's own label.
     ///
     /// That of `y = x` has `x`, `y` and the label of the cell that made the block of `x`.
     pub fn of_run(reads: &Reads, changes: &Changes) -> KeyFilter
@@ -136,7 +190,7 @@ impl KeyFilter {
         add_reads(reads, &mut filter);
         filter.add_label(changes.label);
         add_events(&changes.events, &mut filter);
-        add_labels(&changes.written, &mut filter);
+        add_found(&changes.written, &mut filter);
         filter
     }
 }
@@ -154,6 +208,7 @@ impl Change {
         add_changed_names(&self.names, &mut filter);
         add_changed_inputs(&self.inputs, &mut filter);
         add_labels(&self.blocks, &mut filter);
+        add_parts(&self.parts, &mut filter);
         add_some_rule(self.rule, &mut filter);
         filter
     }

@@ -1,6 +1,6 @@
 //! `Change::fits`: whether what a cell read stands there now, where an edit may have changed it.
 
-ghost use Rattle.std.specs.Prelude.{◌≡◌, ◌↔◌, ℕ, IsTrue, List, Option, Some, length, option_map, slice_index};
+ghost use Rattle.std.specs.Prelude.{◌≡◌, ◌↔◌, ℕ, IsTrue, List, Option, Some, length, option_map};
 ghost use Rattle.nd_change.specs.Change.{Fits};
 ghost use Rattle.nd_heap.specs.Contents.{bytes_in};
 ghost use Rattle.nd_heap.specs.Values.{base_of, value_of};
@@ -9,12 +9,12 @@ ghost use Rattle.nd_model.specs.Cells.Running as running;
 ghost use Rattle.nd_model.specs.Cells.Session.{lookup};
 ghost use Rattle.nd_session.specs.Inputs.Values.{rule_of, source_of};
 ghost use Rattle.nd_session.specs.Session.Change.{FitsAt, HasFound, change_of, reader_in};
-ghost use Rattle.nd_session.specs.Session.Now.{block_now, input_now, value_now};
-ghost use Rattle.nd_session.specs.Session.Found.{Found, by_base, bytes_of, lookup_base};
+ghost use Rattle.nd_session.specs.Session.Now.{block_now, input_now, part_now, value_now};
+ghost use Rattle.nd_session.specs.Session.Found.{Found, by_base, bytes_of, found_at, lookup_base};
 ghost use Rattle.nd_session.specs.Session.Reading.{by_text, length_at, source_at, value_at};
 
 use crate::inputs::{CellRule, Input, are_same_inputs};
-use crate::session::change::change::{BlocksNow, Change, InputsNow, NamesNow};
+use crate::session::change::change::{BlocksNow, Change, InputsNow, NamesNow, PartsNow};
 use crate::session::found::{FoundByBase, FoundBytes, shared_bytes};
 use crate::session::reads::{InputsRead, LengthsRead, NamesRead, Reads};
 use nd_heap::{Base, Value, are_same_values};
@@ -63,14 +63,25 @@ fn fits_length(blocks: &BlocksNow, base: Base, count: usize) -> bool
     }
 }
 
-/// Whether a block is outside of the change, or has the bytes that were found.
-fn fits_bytes(blocks: &BlocksNow, base: Base, found: &FoundBytes) -> bool
-    ensures { IsTrue result
-        ↔ HasFound (block_now blocks.now.entries (base_of base)) (bytes_of found.now) }
+/// Whether each single byte of a block is the one that was found, if one was.
+fn fits_part(parts: &PartsNow, base: Base, found: &FoundBytes) -> bool
+    ensures { IsTrue result ↔ ((p a n : ℕ) → part_now parts.now.entries (base_of base) p ≡ Some a
+        → found_at (bytes_of found.now) p ≡ Some n → a ≡ n) }
+{
+    match parts.get(&base) {
+        Some(part) => found.agrees(part.as_ref()),
+        None => true,
+    }
+}
+
+/// Whether each byte that was found is outside of the change, or stands there now.
+fn fits_bytes(blocks: &BlocksNow, parts: &PartsNow, base: Base, found: &FoundBytes) -> bool
+    ensures { IsTrue result ↔ HasFound (block_now blocks.now.entries (base_of base))
+        (part_now parts.now.entries (base_of base)) (bytes_of found.now) }
 {
     match blocks.get(&base) {
         Some(block) => found.is_found_in(shared_bytes(block)),
-        None => true,
+        None => fits_part(parts, base, found),
     }
 }
 
@@ -137,16 +148,16 @@ fn fit_lengths(reads: &LengthsRead, blocks: &BlocksNow) -> bool
 }
 
 /// Whether the bytes that were read fit.
-fn fit_bytes(reads: &FoundByBase, blocks: &BlocksNow) -> bool
+fn fit_bytes(reads: &FoundByBase, blocks: &BlocksNow, parts: &PartsNow) -> bool
     ensures { IsTrue result ↔ ((b : values.Base) (e : Found)
         → lookup_base b (by_base bytes_of reads.now.entries) ≡ Some e
-        → HasFound (block_now blocks.now.entries b) e) }
+        → HasFound (block_now blocks.now.entries b) (part_now parts.now.entries b) e) }
 {
     for i in 0..reads.len() {
         let Some((base, found)) = reads.get_index(i) else {
             unreachable!();
         };
-        if !fits_bytes(blocks, *base, found) {
+        if !fits_bytes(blocks, parts, *base, found) {
             return false;
         }
     }
@@ -174,6 +185,6 @@ impl Change {
         if !fit_lengths(&reads.lengths, &self.blocks) {
             return false;
         }
-        fit_bytes(&reads.bytes, &self.blocks)
+        fit_bytes(&reads.bytes, &self.blocks, &self.parts)
     }
 }

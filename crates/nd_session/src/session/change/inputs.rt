@@ -102,7 +102,9 @@ impl Change {
             names: IndexMap::new(alloc),
             inputs,
             blocks: IndexMap::new(alloc),
+            parts: IndexMap::new(alloc),
             rule: changed_rule(old_rule, rule),
+            alloc,
         })
     }
 }

@@ -10,18 +10,19 @@ ghost use Rattle.nd_heap.specs.Loose.{session_in};
 ghost use Rattle.nd_heap.specs.Values.{base_of, value_of};
 ghost use Rattle.nd_model.specs.Arrays.Value as values;
 ghost use Rattle.nd_model.specs.Book.Sessions.{IsOnce};
+ghost use Rattle.nd_model.specs.Cells.Footprint.{patched};
 ghost use Rattle.nd_model.specs.Cells.Running as running;
 ghost use Rattle.nd_model.specs.Cells.Session as model;
 ghost use Rattle.nd_model.specs.Cells.Sound.{IsViewOf};
 ghost use Rattle.nd_session.specs.Session.Change.{change_of, whole_in};
 ghost use Rattle.nd_session.specs.Session.Intact.{AllLie, LiesThere};
 ghost use Rattle.nd_session.specs.Session.Live.{live};
-ghost use Rattle.nd_session.specs.Session.Now.{block_now, value_now};
+ghost use Rattle.nd_session.specs.Session.Now.{block_now, part_now, value_now};
 ghost use Rattle.nd_session.specs.Session.Patch.{AllBound, KeepLengths, LiesInKnown};
 ghost use Rattle.nd_session.specs.Session.Reading.{value_at};
 
-use crate::session::change::change::{BlocksNow, Change, NamesNow};
-use crate::session::found::shared_bytes;
+use crate::session::change::change::{BlocksNow, Change, NamesNow, PartsNow};
+use crate::session::found::{PartWriter, shared_bytes};
 use crate::session::session::Session;
 use nd_block::RawBlock;
 use nd_change::puts_whole;
@@ -161,6 +162,23 @@ fn put_blocks(alloc: Global, heap: &mut Heap, blocks: &BlocksNow) -> Result<(), 
     Ok(())
 }
 
+/// Puts single bytes into their blocks, and nothing where there is no such block. A block that is
+/// shared is copied first.
+fn put_parts(heap: &mut Heap, parts: &PartsNow) -> Result<(), OutOfMemory>
+    ensures names { heap.new.names ≡ heap.old.names }
+    ensures blocks { OnOk result ((b : values.Base) → bytes_at heap.new.blocks b
+        ≡ patched (part_now parts.now.entries b) (bytes_at heap.old.blocks b)) }
+{
+    for i in 0..parts.len() {
+        let Some((base, part)) = parts.get_index(i) else {
+            unreachable!();
+        };
+        let part = part.as_ref();
+        heap.write(*base, PartWriter { part })?;
+    }
+    Ok(())
+}
+
 /// Whether a value lies in its block, which has a number below the next one if it is of the label.
 fn lies(heap: &Heap, value: &Value, label: u64, next: u64) -> bool
     ensures { IsTrue result → IsViewOf (LiesThere label next (bytes_at heap.now.blocks))
@@ -280,6 +298,7 @@ pub(crate) fn put_over(
     }
     put_names(heap, &change.names)?;
     let kept = keep_lengths(heap, &change.blocks);
+    put_parts(heap, &change.parts)?;
     put_blocks(alloc, heap, &change.blocks)?;
     heap.distinctness();
     if kept {
@@ -302,7 +321,7 @@ pub(crate) fn is_done(done: &Result<bool, OutOfMemory>) -> bool
 
 impl Change {
     /// Puts the change over a session, and returns whether it could: the session then has what
-    /// stands now. No byte is copied. Where it could not the session may only be dropped.
+    /// stands now. A block into which single bytes are put is copied. Where it could not the session may only be dropped.
     ///
     /// It can over each session that the change was made for. It can not where a name of the change
     /// has an array whose block is neither in the change nor in the session.

@@ -1,16 +1,16 @@
-use Rattle.std.proofs.Common.{sym, subst, arith, ℕ, List, Global}
+use Rattle.std.proofs.Common.{sym, subst, arith, Global}
 use Rattle.std.specs.Prelude.{IsTrue}
 use Rattle.std.specs.Rc.{rc_str_bytes}
 use Rattle.std.specs.declared.rc.RcStr.{RcStr}
 use Rattle.std.proofs.lemmas.List.Elements.{All-from_recursion}
 use Rattle.nd_model.specs.Cells.Running.{Input}
 use Rattle.nd_heap.proofs.Entries.{all_more, all_of}
-use Rattle.nd_session.specs.Session.Filter.{covers}
+use Rattle.nd_session.specs.Session.Filter.{FilterData, covers}
 use Rattle.nd_session.proofs.session.Gathering.{before_weaker}
 use Rattle.nd_session.proofs.session.Covering.{stays_on}
 use Rattle.nd_session.proofs.session.change.covering.add_changed_inputs.Goals as goal
 
-abbrev IsIn : {V : Type 0} → List ℕ → RcStr Global × V → Type 0
+abbrev IsIn : {V : Type 0} → FilterData → RcStr Global × V → Type 0
 IsIn ws e = IsTrue (covers ws (Input (rc_str_bytes e.0)))
 
 pub loop-i-init : goal.loop-i-init

@@ -1,4 +1,4 @@
-use Rattle.std.proofs.Common.{◌∙◌, refl, subst, arith, ℕ, List}
+use Rattle.std.proofs.Common.{◌∙◌, refl, subst, arith}
 use Rattle.std.specs.Prelude.{IsTrue}
 use Rattle.std.proofs.lemmas.List.Elements.{All-from_recursion}
 use Rattle.std.proofs.lemmas.Option.{slice_get_read}
@@ -6,12 +6,12 @@ use Rattle.nd_model.specs.Cells.Running.{Name}
 use Rattle.nd_heap.proofs.Entries.{all_more, all_of}
 use Rattle.nd_trace.specs.Events.{event_of, name_of_event}
 use Rattle.nd_trace.specs.declared.trace.Event.{Event}
-use Rattle.nd_session.specs.Session.Filter.{covers}
+use Rattle.nd_session.specs.Session.Filter.{FilterData, covers}
 use Rattle.nd_session.proofs.session.Gathering.{before_weaker}
 use Rattle.nd_session.proofs.session.Covering.{stays_on}
 use Rattle.nd_session.proofs.session.change.covering.add_events.Goals as goal
 
-abbrev IsIn : List ℕ → Event → Type 0
+abbrev IsIn : FilterData → Event → Type 0
 IsIn ws e = IsTrue (covers ws (Name (name_of_event (event_of e))))
 
 pub loop-event-init : goal.loop-event-init

@@ -1,13 +1,13 @@
-use Rattle.std.proofs.Common.{sym, arith, ℕ, List}
+use Rattle.std.proofs.Common.{sym, arith}
 use Rattle.std.proofs.lemmas.List.Elements.{All-from_recursion}
 use Rattle.nd_heap.specs.declared.value.Base.{Base}
 use Rattle.nd_heap.proofs.Entries.{all_more, all_of}
-use Rattle.nd_session.specs.Session.Filter.{CoversLabel}
+use Rattle.nd_session.specs.Session.Filter.{CoversLabel, FilterData}
 use Rattle.nd_session.proofs.session.Gathering.{before_weaker}
 use Rattle.nd_session.proofs.session.Covering.{label_stays, stays_on}
 use Rattle.nd_session.proofs.session.change.covering.add_labels.Goals as goal
 
-abbrev IsIn : {V : Type 0} → List ℕ → Base × V → Type 0
+abbrev IsIn : {V : Type 0} → FilterData → Base × V → Type 0
 IsIn ws e = CoversLabel ws e.0.label
 
 pub loop-i-init : goal.loop-i-init

@@ -1,11 +1,12 @@
 use Rattle.nd_heap.proofs.Entries.{AllBefore}
-use Rattle.nd_session.specs.Session.Change.{IsNoted}
+use Rattle.nd_session.specs.Session.Change.{AreBytesNoted, IsNoted}
 use Rattle.nd_session.specs.Session.Found.{byte_found}
 use Rattle.nd_session.specs.Session.Live.{live}
-use Rattle.nd_session.specs.Session.Now.{block_now}
+use Rattle.nd_session.specs.Session.Now.{block_now, part_now}
 use Rattle.nd_session.proofs.session.Matching.{IsEntryUnlike}
 use Rattle.nd_session.proofs.session.change.matching.note_unlike.Given as goal
 
 abbrev pub invariant-loop-i : goal.invariant-loop-i
 invariant-loop-i l = IsNoted (live l.session).bytes (block_now l.fn.blocks.entries) (block_now l.blocks.entries)
-    × AllBefore (IsEntryUnlike (live l.session).bytes l.label (byte_found l.others.entries) (block_now l.fn.blocks.entries) (block_now l.blocks.entries)) l.written.entries l.i
+    × AreBytesNoted (live l.session).bytes (part_now l.fn.parts.entries) (part_now l.parts.entries)
+    × AllBefore (IsEntryUnlike (live l.session).bytes l.label (byte_found l.others.entries) (block_now l.fn.blocks.entries) (block_now l.blocks.entries) (part_now l.fn.parts.entries) (part_now l.parts.entries)) l.written.entries l.i

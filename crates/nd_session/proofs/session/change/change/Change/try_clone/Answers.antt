@@ -4,8 +4,9 @@ use Rattle.nd_heap.specs.Values.{entries_of, value_of}
 use Rattle.nd_session.specs.Inputs.Values.{rule_of, source_of}
 use Rattle.nd_session.specs.Session.Change.{change_of}
 use Rattle.nd_session.specs.Session.Found.{by_base}
+use Rattle.nd_session.specs.Session.Now.{kept_in}
 use Rattle.nd_session.specs.Session.Reading.{source_at, value_at}
-use Rattle.nd_session.proofs.session.Copying.{copied_bases, copied_names}
+use Rattle.nd_session.proofs.session.Copying.{copied_bases, copied_names, copied_shared}
 use Rattle.nd_session.proofs.session.change.change.Change.try_clone.Goals as goal
 
 pub returns : goal.returns
@@ -17,4 +18,6 @@ returns c =
     = copied_names source_at _ (record { both = λ v w h. h; same = λ v w e. ap (λ v. Some (source_of v)) e; lost = λ v h. h; made = λ w h. h }) _ (λ a b h. h) i.inputs.entries c.in_ok-inputs.inputs.entries c.in_ok-inputs.ensures.cases in
     let blocks : by_base bytes_in c.in_ok-blocks.blocks.entries ≡ by_base bytes_in i.blocks.entries
     = copied_bases bytes_in _ (record { both = λ v w h. h; same = λ v w e. e; lost = λ v h. h; made = λ w h. h }) _ (λ a b h. h) i.blocks.entries c.in_ok-blocks.blocks.entries c.in_ok-blocks.ensures.cases in
-    (λ k. change_of (record { names = names k; inputs = inputs k; blocks = blocks k; rule = option_map rule_of i.rule })) ∙ ap change_of c.self.view_is
+    let parts : by_base kept_in c.in_ok-parts.parts.entries ≡ by_base kept_in i.parts.entries
+    = copied_shared kept_in _ (λ v w h. h) _ (λ a b h. h) i.parts.entries c.in_ok-parts.parts.entries c.in_ok-parts.ensures.cases in
+    (λ k. change_of (record { names = names k; inputs = inputs k; blocks = blocks k; parts = parts k; rule = option_map rule_of i.rule })) ∙ ap change_of c.self.view_is

@@ -1,0 +1,9 @@
+pub mod Stable
+pub mod Need
+pub mod Listing
+pub mod ReadRows
+pub mod WriteRows
+pub mod Settled
+pub mod Written
+pub mod Alike
+pub mod Places

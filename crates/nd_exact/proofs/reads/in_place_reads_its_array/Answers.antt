@@ -1,0 +1,5 @@
+use Rattle.nd_exact.proofs.ReadRows.{in_place_reads_its_array}
+use Rattle.nd_exact.proofs.reads.in_place_reads_its_array.Goals as goal
+
+pub returns : goal.returns
+returns c = in_place_reads_its_array

@@ -1,0 +1,5 @@
+use Rattle.nd_exact.proofs.ReadRows.{own_doings_are_not_read}
+use Rattle.nd_exact.proofs.reads.own_doings_are_not_read.Goals as goal
+
+pub returns : goal.returns
+returns c = own_doings_are_not_read

@@ -1,0 +1,5 @@
+use Rattle.nd_exact.proofs.WriteRows.{in_place_writes_its_array}
+use Rattle.nd_exact.proofs.writes.in_place_writes_its_array.Goals as goal
+
+pub returns : goal.returns
+returns c = in_place_writes_its_array

@@ -1,0 +1,5 @@
+use Rattle.nd_exact.proofs.WriteRows.{store_writes_its_slice}
+use Rattle.nd_exact.proofs.writes.store_writes_its_slice.Goals as goal
+
+pub returns : goal.returns
+returns c = store_writes_its_slice

@@ -1,0 +1,11 @@
+use Rattle.std.proofs.Common.{sym, subst, arith}
+use Rattle.std.specs.Prelude.{IsTrue}
+use Rattle.nd_marks.specs.Marks.{has_bit}
+use Rattle.nd_session.specs.Session.Filter.{FilterData}
+use Rattle.nd_session.proofs.session.Covering.{apart_all}
+use Rattle.nd_session.proofs.session.change.filter.KeyFilter.has_other_keys.Goals as goal
+
+pub returns : goal.returns
+returns c = λ _ i one other.
+    apart_all 4 c.self.inside.keys c.other.inside.keys c.self.told.0 (λ q lt. c.loop-at.invariant q (omega (arith, lt, c.loop-at-test.false))) i
+    (subst (λ (f : FilterData). IsTrue (has_bit f.keys i)) (sym c.self.view_is) one) (subst (λ (f : FilterData). IsTrue (has_bit f.keys i)) (sym c.other.view_is) other)

@@ -1,5 +1,0 @@
-use Rattle.std.proofs.Common.{◌≡◌, ◌<◌, ℕ, bit_and, slice_index}
-use Rattle.nd_session.proofs.session.change.filter.KeyFilter.is_apart.Given as goal
-
-abbrev pub invariant-loop-at : goal.invariant-loop-at
-invariant-loop-at l = (q : ℕ) → q < l.at → bit_and (slice_index l.self-inside.words q) (slice_index l.other-inside.words q) ≡ 0

@@ -102,15 +102,35 @@ def readers(elements: int) -> Iterator[Case]:
                shown(1, "refused 1 Ufunc.ShapeMismatch"), size)
     yield Case(f"{READERS} cells `y = x[i]`, and an edit of the last", [make, *(f"y{at} = x[{at}]" for at in range(READERS))],
                edited(READERS, f"y{READERS - 1} = x[99]"), size)
-    for count in (10, 100):
-        yield Case(f"{count} cells `print(x[i], x[-i])`, and an edit of the array",
-                   [make, *(f"print(x[{at}], x[-{at}])" for at in range(1, count + 1))], edited(0, make + " + 1"), size)
+    ends = [f"print(x[{at}], x[-{at}])" for at in range(1, 1_001)]
+    yield Case("1,000 cells `print(x[i], x[-i])`", [make, *ends], size=size)
+    yield Case("100 of them, and an edit of the array", [make, *ends[:100]], edited(0, make + " + 1"), size)
     yield Case("`value` of the array", [make], asked("value x"), size)
     yield Case("`saved` of the array", [f"np.save('x', np.arange({elements}))"], asked("saved 0 x"), size)
 
 
+def bytes_read(cells: int, edits: int) -> Case:
+    """Cells that read a byte each of one array, which is edited so that another of these bytes is 1."""
+    make = "x = np.zeros(8000000, dtype=np.uint8)"
+    texts = [f"{make}\nx[{at}] = 1" for at in range(1, edits + 1)]
+    return Case(f"{cells:,} cells `y = x[i]` on 8 MB, and {edits} edits of the array",
+                [make, *(f"y{at} = x[{at}]" for at in range(1, cells + 1))], many_edits(0, texts), 8_000_000)
+
+
+def life_in_place() -> Iterator[Case]:
+    """Generations on 512 by 512 with dead edges, a cell each, that write one array and bind nothing."""
+    around = " + ".join(f"g[{a}:{a + 510}, {b}:{b + 510}]" for a in range(3) for b in range(3) if (a, b) != (1, 1))
+    step = f"g[1:-1, 1:-1] = ({around} | g[1:-1, 1:-1]) == 3"
+    first = "k = np.arange(512 * 512).reshape(512, 512)\ng = (k * k % 7 < {}).astype('uint8')\ndel k"
+    cells = [first.format(2), *[step] * 200]
+    size = 512 * 512
+    yield Case("life in place, 200 generations on 512 by 512, a cell each", cells, size=size)
+    yield Case("the same, and an edit of the first picture", cells, edited(0, first.format(3)), size)
+    yield Case("the same, and an edit of generation 100", cells, edited(100, step + "\ng[0] = 0"), size)
+
+
 def life() -> Iterator[Case]:
-    """Generations on a torus of 512 by 512, a cell each."""
+    """Generations on a torus of 512 by 512, a cell each, that write two arrays and bind a third."""
     around = " + ".join(f"p[{a}:{a + 512}, {b}:{b + 512}]" for a in range(3) for b in range(3) if (a, b) != (1, 1))
     step = (f"p[1:-1, 1:-1] = g\np[0] = p[-2]\np[-1] = p[1]\np[:, 0] = p[:, -2]\np[:, -1] = p[:, 1]\nn = {around}\n"
             "g[:] = (n == 3) | (g & (n == 2))")
@@ -136,12 +156,10 @@ def cases(elements: int = LARGE) -> Iterator[Case]:
     yield from readers(elements)
     for count in (10, 100, 1_000):
         yield dataclasses.replace(writes(count), bound=4_000 * MB)
-    eight = "x = np.arange(1048576)"
-    yield Case("100 cells `y = x[i]` on 8 MB, and 100 edits of the array",
-               [eight, *(f"y{at} = x[{at}]" for at in range(1, 101))],
-               many_edits(0, [f"{eight} + {at}" for at in range(100)]), 8 << 20)
+    yield bytes_read(1_000, 100)
     yield Case("80 lines `y = (y + 3 // np.maximum(y, 1)) // 2` on 8 MB, in one cell",
                ["y = np.arange(1048576)\n" + "y = (y + 3 // np.maximum(y, 1)) // 2\n" * 80], size=8 << 20)
+    yield from life_in_place()
     yield from life()
     yield table()
     for count in (1_000, 10_000):

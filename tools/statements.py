@@ -1,7 +1,7 @@
 """statements: the statements that `tools/bench statements` measures, in groups, and the arrays that they use.
 
-In a text, N is the number of elements, R the rows and C the columns of the table. A statement in place works on a copy
-of its own.
+In a text, N is the number of elements, R the rows and C the columns of the table; d has N // 10 records. A statement in
+place works on a copy of its own.
 """
 from __future__ import annotations
 
@@ -33,6 +33,9 @@ z = np.zeros(N, dtype='bool')
 i2 = np.arange(N // 2)
 s3 = np.arange(N // 3 * 3).reshape(N // 3, 3)
 w = np.arange(3)
+d = np.zeros(N // 10, dtype=[('sensor', '<u2'), ('ok', np.bool_), ('pad', np.uint8), ('count', '<i4'), ('time', '<i8'), ('sum', '<i8')])
+d['sensor'] = np.arange(N // 10) % 50
+d['count'] = np.arange(N // 10)
 """
 
 GROUPS = {
@@ -202,6 +205,13 @@ x.cumprod()
 (x > 5).sum()
 (x == y).all()
 np.add.reduce(t)
+""",
+    "records": """\
+d['sensor'] == 7
+d['count'].sum()
+d['count'].copy()
+d['ok'] & (d['count'] >= 0)
+d['time'] + 1
 """,
     "new arrays": """\
 np.zeros(N, dtype='int64')

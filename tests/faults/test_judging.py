@@ -12,10 +12,11 @@ import test_reads_and_writes as streams
 from setting import program, refusals, shim
 from broken import Found, file_fault, format_fault, found, front_fault, named_faults
 from commands import answers_of, commands_of
-from judging import WANT, Fault, Script
+from judging import WANT, Fault
 from notebook import FOLDER, Notebook
+from numpy_side import file_difference, needs_numpy
 from steered import KEEP, NONE, Steered, Step
-from test_broken_inputs import FILE, HEADER, answers_to, LOAD
+from test_broken_inputs import FILE, HEADER, LOAD, STRUCTURES, answers_to
 from trials import Trials, try_commands
 
 BOOK = FOLDER / 'overlapping_views.ndn'
@@ -173,6 +174,22 @@ class Inputs(unittest.TestCase):
                              (b'text 0\nrefused 1 Npy.BadKeys\nend\n', b'array B 1 1 00\n'), (b'ok\n', b'ok\n')):
             self.assertIsNone(found(shown, value, named), (shown, value))
 
+    def test_a_length_that_is_trusted(self) -> None:
+        longer = FILE[:8] + b'\xff' + FILE[9:]
+        self.assertEqual(file_fault(8, longer, HEADER, Found('Npy.Truncated', (), b'')), '')
+        self.assertNotEqual(file_fault(8, longer, HEADER, Found('Npy.BadHeader', (57,), b'')), '')
+
+    @needs_numpy
+    def test_falsified_beside_numpy(self) -> None:
+        right = answers_to(LOAD, [b'npy ' + STRUCTURES.hex().encode()])[0][1]
+        self.assertEqual(file_difference(STRUCTURES, right), '')
+        self.assertEqual(file_difference(STRUCTURES, Found('Npy.BadDescr', (), b'')), '')
+        for falsified in (dataclasses.replace(right, elements=right.elements[::-1]),
+                          dataclasses.replace(right, layout=right.layout.replace('<', '>')),
+                          dataclasses.replace(right, layout=right.layout + ',1'),
+                          Found('Npy.Truncated', (), b'')):
+            self.assertNotEqual(file_difference(STRUCTURES, falsified), '', falsified)
+
     def test_the_documents_name_faults(self) -> None:
         named = named_faults()
         self.assertEqual((named['Npy.BadHeader'], named['Npy.BadMagic'], named['Format.Unclosed']), (1, 0, 1))
@@ -183,7 +200,8 @@ class RandomScripts(unittest.TestCase):
         script, right = b'insert 0\nprint(1)\n.\nshow 0\n', b'ok\ntext 2\n1\nok\nend\n'
         self.assertEqual(test_random_scripts.fault_of(script, 0, right, b''), '')
         for status, output, errors in ((-11, right, b''), (0, right[:-4], b''), (0, right + b'ok\n', b''),
-                                       (0, right, b'?'), (1, right, b''), (0, b'ok\nno form\n', b'')):
+                                       (0, right, b'?'), (1, right, b''), (0, b'ok\nno form\n', b''),
+                                       (0, b'ok\narray B 1 2 00\n', b'')):
             self.assertNotEqual(test_random_scripts.fault_of(script, status, output, errors), '')
 
 

@@ -97,6 +97,19 @@ class Limits(unittest.TestCase):
                     (b'input f npy %s\n' % (b'00' * (INPUT_BYTES + 1)), 'refused InputTooLarge'),
                     (b'value 0 x\n', 'array b 1 2 0102')], load, 1)
 
+    def test_two_refusals_of_a_drop(self) -> None:
+        longest = 'n' * 64
+        self.check([(b'drop a/b\n', 'refused BadInputName'), (b'drop a/b c\n', 'bad command'),
+                    (f'drop {longest}n\n'.encode(), 'refused BadInputName'),
+                    (f'drop {longest}\n'.encode(), f'refused NoInputNamed {longest}'),
+                    (b'drop \xff\n', 'bad command')])
+
+    def test_two_refusals_of_a_question(self) -> None:
+        before = cell('insert 0', b'x = 1')
+        self.check([(b'value 1 y\n', 'refused NoCell 1 1'), (b'value 0 y\n', 'refused NoName y'),
+                    (b'saved 1 s\n', 'refused NoCell 1 1'), (b'saved 0 s\n', 'refused NoSave s'),
+                    (b'show 1\n', 'refused NoCell 1 1'), (b'show 01\n', 'bad command')], before, 1)
+
     def test_files_of_the_command_line(self) -> None:
         with tempfile.TemporaryDirectory(prefix='ndnote-faults-') as room:
             most, more = Path(room) / 'most', Path(room) / 'more'

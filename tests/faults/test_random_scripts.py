@@ -10,6 +10,7 @@ from concurrent.futures import ThreadPoolExecutor
 from typing import List
 
 from setting import IS_ALL, SEED, program, tell
+from broken import array_found
 from commands import answers_of, commands_of
 
 SCRIPTS = 2_000             # of bytes, and of lines
@@ -87,6 +88,11 @@ class Lines:
         return bytes(script)
 
 
+def has_form(answer: bytes) -> bool:
+    is_array = answer.startswith(b'array ')
+    return bool(FORM.fullmatch(answer)) and (not is_array or array_found(answer) is not None)
+
+
 def fault_of(script: bytes, status: int, output: bytes, errors: bytes) -> str:
     """What is wrong with the answers to a script; nothing where they are right."""
     if (status, errors) != (0, b''):
@@ -98,7 +104,7 @@ def fault_of(script: bytes, status: int, output: bytes, errors: bytes) -> str:
     count = len(commands_of(script))
     if len(answers) != count:
         return f'{len(answers)} answers to {count} commands'
-    wrong = [it for it in answers if not FORM.fullmatch(it)]
+    wrong = [it for it in answers if not has_form(it)]
     return f'an answer has no known form: {wrong[0]!r}' if wrong else ''
 
 

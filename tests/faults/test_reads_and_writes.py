@@ -4,10 +4,8 @@ from __future__ import annotations
 import errno
 import itertools
 import subprocess
-import tempfile
 import unittest
 from collections import Counter
-from pathlib import Path
 from typing import Callable, Iterator, Tuple
 
 from setting import IS_ALL, program, refusals, shim, tell
@@ -103,22 +101,6 @@ class Failing(unittest.TestCase):
             for writes in SIZES:
                 ran = run(refusals.Faults(read_bytes=reads, write_bytes=writes))
                 self.assertEqual((ran.status, ran.output, ran.errors), (0, self.wanted, b''), (reads, writes))
-
-    def test_every_read_of_an_input_and_a_script(self) -> None:
-        with tempfile.TemporaryDirectory(prefix='ndnote-faults-') as room:
-            file, script = Path(room) / 'f', Path(room) / 'script'
-            file.write_bytes(b'no file'), script.write_bytes(SCRIPT)
-            command = [program(), f'f={file}', '--script', str(script)]
-            told = [f'ndnote: input f: {file}: '.encode(), f'ndnote: script {script}: '.encode()]
-            count = refusals.run(command, b'', shim()).reads
-            statuses = []
-            for number in range(1, count + 1):
-                ran = refusals.run(command, b'', shim(), refusals.Faults(failed_read=number, read_error=errno.EIO))
-                self.assertTrue(ran.errors.startswith(told[ran.status == 1]), ran.errors)
-                self.assertTrue(self.wanted.startswith(ran.output))
-                statuses.append(ran.status)
-            self.assertEqual(statuses, sorted(statuses, reverse=True))
-            self.assertEqual(set(statuses), {1, 3})
 
 
 class Ending(unittest.TestCase):

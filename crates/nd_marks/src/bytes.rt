@@ -1,11 +1,12 @@
 //! `is_same_strips` and `patch_strips`: compares and copies the bytes of blocks at marked byte
 //! offsets, row by row and word by word.
-ghost use Rattle.std.specs.Prelude.{◌≡◌, ℕ, ◌+◌, ◌-◌, ◌*◌, ◌^◌, ◌<◌, ◌≤◌, ◌&&◌, ◌↔◌, if◌then◌else◌, IsTrue, true, nat_eq, nat_le, nat_lt, length, slice_index};
+ghost use Rattle.std.specs.Prelude.{◌≡◌, ℕ, ◌+◌, ◌-◌, ◌*◌, ◌^◌, ◌<◌, ◌≤◌, ◌++◌, ◌&&◌, ◌↔◌, OnOk, if◌then◌else◌, IsTrue, true, nat_eq, nat_le, nat_lt, length, slice_index};
 ghost use Rattle.std.specs.Int.{bit_at, from_le_bytes, to_le_bytes, w16, w32, w64};
 ghost use Rattle.nd_model.specs.Arrays.Element.{bytes_at};
 ghost use Rattle.nd_marks.specs.Marks.{has_bit, in_word, in_strip, in_strips};
 
 use crate::strip::Strip;
+use std::alloc::AllocError;
 
 /// Returns the byte at a byte offset, 0 past the end.
 pub(crate) fn byte_at(bytes: &[u8], place: u128) -> u8
@@ -197,6 +198,26 @@ fn bits64(bytes: &[u8], from: usize) -> u64
     let mut run = [0; 8];
     run.copy_from_slice(&bytes[from..from + 8]);
     u64::from_le_bytes(run)
+}
+
+/// Appends the bytes of a row. A row as wide as a usual itemsize is appended as one number.
+#[inline(always)]
+pub(crate) fn append_row(
+    bytes: &mut Vec<u8>,
+    block: &[u8],
+    from: usize,
+    width: usize,
+) -> Result<(), AllocError>
+    requires { from + width ≤ length block.now }
+    ensures { OnOk result (bytes.new.items ≡ bytes.old.items ++ bytes_at block.now from width) }
+{
+    match width {
+        1 => bytes.extend_from_slice(&[block[from]]),
+        2 => bytes.extend_from_slice(&bits16(block, from).to_le_bytes()),
+        4 => bytes.extend_from_slice(&bits32(block, from).to_le_bytes()),
+        8 => bytes.extend_from_slice(&bits64(block, from).to_le_bytes()),
+        _ => bytes.extend_from_slice(&block[from..from + width]),
+    }
 }
 
 /// Whether both have equal bytes in a row that lies in both. A row as wide as a usual itemsize is

@@ -5,7 +5,7 @@ ghost use Rattle.nd_marks.specs.Kept.{byte_for, kept_at, places_in};
 ghost use Rattle.nd_marks.specs.Marks.{holds, in_word};
 ghost use Rattle.nd_model.specs.Arrays.Tuple.{count_up};
 
-use crate::bytes::byte_at;
+use crate::bytes::{append_row, byte_at};
 use crate::marks::Marks;
 use std::alloc::{AllocError, Global};
 use std::marker::Model;
@@ -58,8 +58,7 @@ fn append_range(bytes: &mut Vec<u8>, block: &[u8], from: u128, width: u64) -> Re
     if end > block.len() as u128 {
         return append_outside(bytes, block, from, width);
     }
-    bytes.extend_from_slice(&block[from as usize..end as usize])?;
-    Ok(())
+    append_row(bytes, block, from as usize, width as usize)
 }
 
 /// The bytes of a block at the byte offsets of a walk over a set.

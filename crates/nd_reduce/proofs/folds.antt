@@ -1,4 +1,5 @@
 pub mod Better
+pub mod Blockwise
 pub mod Folded
 pub mod Joined
 pub mod Prefixed

@@ -1,5 +1,6 @@
 //! Reductions over consecutive numbers: a [`fold`] is a state that takes numbers, [`fold_lanes`]
 //! gives one result for each lane, [`accumulate_lanes`] one for each number.
+mod blocks;
 pub mod fold;
 mod lanes;
 mod masks;

@@ -103,6 +103,14 @@ module _ (better : ℤ → ℤ → Bool) where
           rw (all, none) refl
     ]
 
+    -- none is better than this one, and the other one is: then it is better than all
+    pub beats : (w x : ℤ) (xs : List ℤ) → list_any (λ y. better y x) xs ≡ false → better w x ≡ true → (has_any xs ≡ false) ⊎ (better w (best better xs) ≡ true)
+    beats w x [] none own = inl refl
+    beats w x (y ∷ ys) none own = elim (cases_Bool (better y x)) [
+      | inl is ↦ let f = rw is at none in absurd (cc)
+      | inr other ↦ let rest : list_any (λ v. better v x) ys ≡ false = rw other at none in inr (between w (fold pick y ys) x own (none_best x y ys other rest))
+    ]
+
     pub place_taken : (zs : List ℤ) (z : ℤ) → (has_any zs ≡ false) ⊎ (better z (best better zs) ≡ true) → best_place better (zs ++ z ∷ []) ≡ length zs
     place_taken [] z is = refl
     place_taken (x ∷ xs) z (inl none) = absurd (cc)
@@ -114,12 +122,5 @@ module _ (better : ℤ → ℤ → Bool) where
       | inr none ↦
           let own : better z x ≡ true = ap (better z) (sym (stays_first x xs none)) ∙ is in
           let all : list_any (λ y. better y x) (xs ++ z ∷ []) ≡ true = any_last x z xs true own ∙ rw none refl in
-          rw all (ap suc (place_taken xs z (beats xs none own)))
+          rw all (ap suc (place_taken xs z (beats z x xs none own)))
     ]
-      where
-        beats : (xs : List ℤ) → list_any (λ y. better y x) xs ≡ false → better z x ≡ true → (has_any xs ≡ false) ⊎ (better z (best better xs) ≡ true)
-        beats [] none own = inl refl
-        beats (y ∷ ys) none own = elim (cases_Bool (better y x)) [
-          | inl is ↦ let f = rw is at none in absurd (cc)
-          | inr other ↦ let rest : list_any (λ w. better w x) ys ≡ false = rw other at none in inr (between z (fold pick y ys) x own (none_best x y ys other rest))
-        ]

@@ -6,9 +6,10 @@ use Rattle.std.specs.Int.RustNames.{FitsSigned}
 use Rattle.std.proofs.lemmas.Bool.Decides.{nat_tests}
 use Rattle.std.proofs.lemmas.List.{length_push}
 use native.Mathlib.Nat.{mod-eq_of_lt}
-use Rattle.nd_model.specs.Making.Reductions.{best}
+use Rattle.nd_model.specs.Making.Reductions.{best, best_place}
 use Rattle.nd_reduce.specs.Folds.States.{has_any, IsBest, IsPlaced}
-use Rattle.nd_reduce.proofs.folds.Folded.{best_kept, best_taken, place_kept, place_taken}
+use Rattle.nd_reduce.proofs.folds.Folded.{best_kept, best_taken, place_kept, place_taken, place_within}
+use Rattle.nd_reduce.proofs.folds.Blockwise.{best_ahead, place_ahead}
 use Rattle.nd_reduce.proofs.folds.Joined.{has_behind, best_joined, best_before, place_before}
 
 has_more : (zs : List ℤ) (z : ℤ) → has_any (zs ++ z ∷ []) ≡ true
@@ -100,4 +101,19 @@ module _ (better : ℤ → ℤ → Bool) (between : (a b c : ℤ) → better a c
         many = ap (λ m. m % 2 ^ 64) all ∙ mod-eq_of_lt lt;
         is = p.is ∙ sym (best_before better between apart zs xs some worse);
         at = p.at ∙ sym (place_before better between apart zs xs some worse);
+      }
+
+  -- the best of them is better than those before
+  pub place_moves : (b : ℤ) (count place n at : ℕ) → n ≡ length xs → at ≡ best_place better xs → FitsSigned w128 (best better xs) → IsPlaced better count place b zs
+      → (length zs < 2 ^ 64 → (nat_lt 0 count && not (better (best better xs) b)) ≡ false) → IsPlaced better ((count + n) % 2 ^ 64) ((count + at) % 2 ^ 64) (best better xs) (zs ++ xs)
+  place_moves b count place n at long is fits h e = λ lt.
+      let short : length zs < 2 ^ 64 = omega (arith, length-append zs xs) in
+      let p = h short in
+      let one = either better zs b (best better xs) (nat_lt 0 count) (ap (nat_lt 0) p.many ∙ counted zs) p.is (taken_one (nat_lt 0 count) (better (best better xs) b) (e short)) in
+      let all : count + n ≡ length (zs ++ xs) = omega (arith, length-append zs xs, p.many, long) in
+      let within : count + at < 2 ^ 64 = omega (arith, length-append zs xs, p.many, is, place_within better xs) in record {
+        fits = fits;
+        many = ap (λ m. m % 2 ^ 64) all ∙ mod-eq_of_lt lt;
+        is = sym (best_ahead better between apart zs xs any one);
+        at = mod-eq_of_lt within ∙ (λ i. p.many i + is i) ∙ sym (place_ahead better between apart zs xs any one);
       }

@@ -1,5 +1,5 @@
 //! `FoldStep`: NumPy's reductions as types, so that each inner loop is compiled for one of them.
-ghost use Rattle.std.specs.Prelude.{◌≡◌, ℕ, ◌^◌, ◌<◌, ◌≤◌, ◌+ℤ◌, ◌*ℤ◌, pos, int_lt, not, ◌&&◌, List, [], ◌∷◌, ◌++◌, ℤ, length};
+ghost use Rattle.std.specs.Prelude.{◌≡◌, ℕ, ◌^◌, ◌<◌, ◌≤◌, ◌+ℤ◌, ◌*ℤ◌, pos, int_lt, not, ◌&&◌, List, [], ◌∷◌, ◌++◌, ℤ, length, IsTrue};
 ghost use Rattle.std.specs.Int.{int_wrap, w64};
 ghost use Rattle.std.specs.List.{fold, list_any, list_all};
 ghost use Rattle.nd_model.specs.Grammar.Calls as calls;
@@ -32,6 +32,15 @@ pub trait FoldStep: Drop {
     /// Takes the next number.
     fn step(self, number: i128) -> Self
         ensures { (zs : List ℤ) → has_taken self zs → has_taken result (zs ++ number ∷ []) };
+
+    /// Returns whether the state stays the same whatever numbers come.
+    #[inline(always)]
+    fn is_settled(&self) -> bool
+        ensures { (zs more : List ℤ) → IsTrue result → has_taken self.now zs
+            → has_taken self.now (zs ++ more) }
+    {
+        false
+    }
 
     /// Returns the result for the numbers taken, which are of the kind `kind`.
     fn result(&self, kind: Kind) -> i128
@@ -259,6 +268,11 @@ impl FoldStep for Any {
     }
 
     #[inline(always)]
+    fn is_settled(&self) -> bool {
+        self.0
+    }
+
+    #[inline(always)]
     fn result(&self, _kind: Kind) -> i128 {
         wrap(Kind::Bool, i128::from(self.0))
     }
@@ -286,6 +300,11 @@ impl FoldStep for All {
     #[inline(always)]
     fn step(self, number: i128) -> All {
         All(self.0 & !is_zero(number))
+    }
+
+    #[inline(always)]
+    fn is_settled(&self) -> bool {
+        !self.0
     }
 
     #[inline(always)]

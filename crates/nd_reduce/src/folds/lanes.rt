@@ -46,32 +46,50 @@ fn fold_side<F: RunFold>(fold: F, side: Side<'_>, count: usize) -> F
     }
 }
 
-// The result for the next `count` numbers, which are of the kind `kind`.
+// Leaves out the next `count` numbers.
+fn skip(numbers: &mut Elements<'_>, buffer: &mut [u8], chunk: usize, count: usize)
+    requires enough { count ≤ length numbers.old.numbers }
+    requires some { 0 < chunk }
+    requires buffer { chunk * size_of numbers.old.kind ≤ length buffer.old }
+    ensures left { numbers.new.numbers ≡ drop count numbers.old.numbers }
+    ensures size { numbers.new.kind ≡ numbers.old.kind }
+{
+    let mut done = 0;
+    while done < count {
+        let passed = chunk.min(count - done);
+        numbers.take(buffer, passed);
+        done += passed;
+    }
+}
+
+// The result for the next `count` numbers, which are of the kind `kind`, and how many of them were
+// not read, since they do not change it.
 fn fold_lane<F: RunFold>(
     kind: Kind,
     numbers: &mut Elements<'_>,
     buffer: &mut [u8],
     chunk: usize,
     count: usize,
-) -> i128
+) -> (i128, usize)
     requires enough { count ≤ length numbers.old.numbers }
     requires few { count < 2 ^ 64 }
     requires some { 0 < chunk }
     requires buffer { chunk * size_of numbers.old.kind ≤ length buffer.old }
-    ensures number { result ≡ wrap (fold_kind F.reduction (kind_of kind))
+    ensures number { result.0 ≡ wrap (fold_kind F.reduction (kind_of kind))
         (folded F.reduction (take count numbers.old.numbers)) }
-    ensures left { numbers.new.numbers ≡ drop count numbers.old.numbers }
+    ensures unread { result.1 ≤ length numbers.new.numbers }
+    ensures left { drop result.1 numbers.new.numbers ≡ drop count numbers.old.numbers }
     ensures size { numbers.new.kind ≡ numbers.old.kind }
 {
     let mut fold = F::begin();
     let mut done = 0;
-    while done < count {
+    while done < count && !fold.is_settled() {
         let some = chunk.min(count - done);
         let side = numbers.take(buffer, some);
         fold = fold_side::<F>(fold, side, some);
         done += some;
     }
-    fold.result(kind)
+    (fold.result(kind), count - done)
 }
 
 /// Appends the results for `lanes` lanes of `count` consecutive numbers each. `kind` is that of the
@@ -99,8 +117,11 @@ pub fn fold_lanes<F: RunFold>(
     let mut buffer = [0; CHUNKS * CHUNK];
     let mut bytes = [0; MOST_SIZE];
     let mut rest = lanes;
+    let mut unread = 0;
     while rest > 0 {
-        let number = fold_lane::<F>(kind, numbers, &mut buffer, chunk, count);
+        skip(numbers, &mut buffer, chunk, unread);
+        let (number, left) = fold_lane::<F>(kind, numbers, &mut buffer, chunk, count);
+        unread = left;
         store_at(&mut bytes, 0, Elem::little(to), number);
         out.push(&bytes[..size]);
         rest -= 1;

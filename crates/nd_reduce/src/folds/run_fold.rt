@@ -4,6 +4,7 @@ ghost use Rattle.nd_model.specs.Arrays.Element.{size_of};
 ghost use Rattle.nd_types.specs.Kinds.{kind_of};
 ghost use Rattle.nd_reduce.specs.Folds.Lanes.{numbers_in};
 
+use crate::folds::blocks::{greatest_block, least_block};
 use crate::folds::fold::{
     All, Any, ArgMax, ArgMin, FoldStep, Max, Min, Prod, Sum, keeps_greatest, keeps_least,
 };
@@ -78,13 +79,19 @@ impl RunFold for ArgMin {
         if count == 0 {
             return self;
         }
-        if !keeps_least(self.count > 0, self.best, least_in(kind, bytes, count)) {
-            return take_kinds(self, kind, bytes, count);
+        let taken = self.count.wrapping_add(count as u64);
+        let least = least_block(kind, bytes, count);
+        if keeps_least(self.count > 0, self.best, least.best) {
+            return ArgMin {
+                count: taken,
+                place: self.place,
+                best: self.best,
+            };
         }
         ArgMin {
-            count: self.count.wrapping_add(count as u64),
-            place: self.place,
-            best: self.best,
+            count: taken,
+            place: self.count.wrapping_add(least.place(kind, bytes) as u64),
+            best: least.best,
         }
     }
 }
@@ -94,13 +101,19 @@ impl RunFold for ArgMax {
         if count == 0 {
             return self;
         }
-        if !keeps_greatest(self.count > 0, self.best, greatest_in(kind, bytes, count)) {
-            return take_kinds(self, kind, bytes, count);
+        let taken = self.count.wrapping_add(count as u64);
+        let greatest = greatest_block(kind, bytes, count);
+        if keeps_greatest(self.count > 0, self.best, greatest.best) {
+            return ArgMax {
+                count: taken,
+                place: self.place,
+                best: self.best,
+            };
         }
         ArgMax {
-            count: self.count.wrapping_add(count as u64),
-            place: self.place,
-            best: self.best,
+            count: taken,
+            place: self.count.wrapping_add(greatest.place(kind, bytes) as u64),
+            best: greatest.best,
         }
     }
 }

@@ -24,7 +24,7 @@ answered e old new (Err edits.CellTooLong) h = inl (ap edit_answer (sym h.0), rw
 answered e old new (Err edits.BadInputName) h = inl (ap edit_answer (sym h.0), rw h.0 (ap book_of h.1))
 answered e old new (Err edits.InputTooLarge) h = inl (ap edit_answer (sym h.0), rw h.0 (ap book_of h.1))
 answered e old new (Err edits.NoInputNamed) h = inl (ap edit_answer (sym h.0), rw h.0 (ap book_of h.1))
-answered e old new (Err edits.OutOfMemory) h = inr (ap is_none h.0, refl, ap book_of h.1)
+answered e old new (Err (edits.Memory m)) h = inr (ap is_none h.0, refl, ap book_of h.1)
 
 pub carried_edit : (e : Edit) (old new : Sheet) (r : Result (Unit {0}) EditFault) (was now : AnswerState)
     → Answers e old (outcome_of e r) new → Pushes was (edit_answer_of (name_in e) r) now → Carried (Edits e) (book_of old) was now (book_of new)
@@ -53,4 +53,4 @@ counts_edit e old new (Err edits.CellTooLong) before after h given = counts_some
 counts_edit e old new (Err edits.BadInputName) before after h given = counts_some _ _ _ _ before after h.0 given
 counts_edit e old new (Err edits.InputTooLarge) before after h given = counts_some _ _ _ _ before after h.0 given
 counts_edit e old new (Err edits.NoInputNamed) before after h given = counts_some _ _ _ _ before after h.0 given
-counts_edit e old new (Err edits.OutOfMemory) before after h given = counts_stale e old before after h.0 given
+counts_edit e old new (Err (edits.Memory m)) before after h given = counts_stale e old before after h.0 given

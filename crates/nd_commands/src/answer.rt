@@ -49,7 +49,7 @@ fn push_edit_fault<O: AnswerWrite>(out: &mut O, name: &str, fault: EditFault)
         EditFault::BadInputName => push_text(out, "BadInputName"),
         EditFault::InputTooLarge => push_text(out, "InputTooLarge"),
         EditFault::NoInputNamed => push_words(out, "NoInputNamed ", name),
-        EditFault::OutOfMemory => push_text(out, "OutOfMemory"),
+        EditFault::Memory(_) => push_text(out, "OutOfMemory"),
     }
 }
 
@@ -72,7 +72,7 @@ fn push_query_fault<O: AnswerWrite>(out: &mut O, name: &str, fault: QueryFault)
         QueryFault::NoCell(at, count) => push_no_cell(out, at, count),
         QueryFault::NoName => push_words(out, "NoName ", name),
         QueryFault::NoSave => push_words(out, "NoSave ", name),
-        QueryFault::OutOfMemory => push_text(out, "OutOfMemory"),
+        QueryFault::Memory(_) => push_text(out, "OutOfMemory"),
     }
 }
 

@@ -62,9 +62,12 @@ enum ProgramFault<'a> {
     /// The script of a file was not run to its end.
     #[error("script {0}: {1}")]
     StoppedScript(&'a str, RunFault),
-    /// The script of standard input was not run to its end, or memory ran out before a script began.
+    /// The script of standard input was not run to its end.
     #[error("{0}")]
     Stopped(RunFault),
+    /// The library was refused memory before a script began.
+    #[error("out of memory")]
+    MemoryWanted,
 }
 
 /// Why a notebook refuses an input, in words. No input meets the other refusals of edits.
@@ -72,14 +75,14 @@ fn refusal_text(fault: &EditFault) -> &'static str {
     match fault {
         EditFault::BadInputName => "a name has 1 to 64 digits, letters, '-', '.' or '_'",
         EditFault::InputTooLarge => "larger than 67108864 bytes",
-        EditFault::OutOfMemory => "out of memory",
+        EditFault::Memory(_) => "out of memory",
         _ => "refused",
     }
 }
 
 impl<'a, T: Drop> From<AllocFailed<T>> for ProgramFault<'a> {
     fn from(_failed: AllocFailed<T>) -> ProgramFault<'a> {
-        ProgramFault::Stopped(RunFault::OutOfMemory)
+        ProgramFault::MemoryWanted
     }
 }
 
@@ -95,20 +98,21 @@ impl<'a> ProgramFault<'a> {
             ProgramFault::UnreadInput(_, _) | ProgramFault::RefusedInput(_, _) => NO_INPUT,
             ProgramFault::UnopenedScript(_, _)
             | ProgramFault::StoppedScript(_, _)
-            | ProgramFault::Stopped(_) => STOPPED,
+            | ProgramFault::Stopped(_)
+            | ProgramFault::MemoryWanted => STOPPED,
         }
     }
 
     fn of_arguments(error: &io::Error) -> ProgramFault<'a> {
         match error.kind() {
-            io::ErrorKind::OutOfMemory => ProgramFault::Stopped(RunFault::OutOfMemory),
+            io::ErrorKind::OutOfMemory => ProgramFault::MemoryWanted,
             _ => ProgramFault::NotText,
         }
     }
 
     fn of_command_line(error: Error) -> ProgramFault<'a> {
         match error.kind() {
-            ErrorKind::OutOfMemory => ProgramFault::Stopped(RunFault::OutOfMemory),
+            ErrorKind::OutOfMemory => ProgramFault::MemoryWanted,
             _ => ProgramFault::Refused(error),
         }
     }

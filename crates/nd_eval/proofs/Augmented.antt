@@ -318,7 +318,7 @@ exits_update {Y} w op b g cs y e o is h =
     subst (λ (o : Result Y Stop). Makes w o (update op b g cs y)) (sym (p.1 ∙ ap Err p.2)) (at e h)
   where
     at : (e : Stop) → Makes kind_of (Err e) (in_place_kind op g y) → Makes w (Err e) (update op b g cs y)
-    at Memory h = tt
+    at (Memory m) h = tt
     at (Refused f) h = ap (λ k. refusing.◌>>=◌ (refusing.◌>>=◌ k (λ k. Ok (results_in_place k op g cs y))) (λ ws. Ok (Storing b ws))) h
 
 pub goes_update : (op : BinaryOp) (b : Base) (g : Geo) (cs : List Content) (y : model.Operand) (k : Kind) → in_place_kind op g y ≡ Ok k → update op b g cs y ≡ Ok (Storing b (results_in_place k op g cs y))
@@ -338,7 +338,7 @@ module _ {Y : Type 0} (w : Y → Effect) (i : Inputs) (t : value.Value) (r : Run
       subst (λ (o : Result Y Stop). Ends w o r (run i (decide all >>= store_made t) r)) (sym (p.1 ∙ ap Err p.2)) (at e h)
     where
       at : (e : Stop) → StandsFor (Err e) (binary op x y) → Ends w (Err e) r (run i (decide all >>= store_made t) r)
-      at Memory h = tt
+      at (Memory m) h = tt
       at (Refused f) h = ap (λ m. run i (decide (refusing.◌>>=◌ m (λ m. refusing.◌>>=◌ (assigned m) (λ ws. Ok (m, ws)))) >>= store_made t) r) h
 
   module _ (n : New) (o : model.Operand) (made : StandsFor (Ok n) (binary op x y)) (new_gives : MakesNew (Ok n) (binary op x y)) (is_new : o ≡ operand_of_new n) where
@@ -377,7 +377,7 @@ module _ (op : BinaryOp) (g : Geo) (cs : List Content) (y : model.Operand) (w : 
       subst (λ (o : Result Y Stop). Makes f o (copy_update op g cs y w v t os)) (sym (p.1 ∙ ap Err p.2)) (at e h)
     where
       at : (e : Stop) → Makes kind_of (Err e) (in_place_kind op g y) → Makes f (Err e) (copy_update op g cs y w v t os)
-      at Memory h = tt
+      at (Memory m) h = tt
       at (Refused d) h = ap (λ k. refusing.◌>>=◌ (refusing.◌>>=◌ k (λ k. Ok (model.Elements false g (map (content_in_place k op g cs y) (indices g.shape))))) (λ x. refusing.◌>>=◌ (assignment_writes w x t os) (λ ws. stored_in ws v))) h
 
   module _ (k : Kind) (kind : in_place_kind op g y ≡ Ok k) where
@@ -394,7 +394,7 @@ module _ (op : BinaryOp) (g : Geo) (cs : List Content) (y : model.Operand) (w : 
         subst (λ (o : Result Y Stop). Makes f o (copy_update op g cs y w v t os)) (sym (p.1 ∙ ap Err p.2)) (at e h)
       where
         at : (e : Stop) → Makes geo_in (Err e) (target_by w left t os) → Makes f (Err e) (copy_update op g cs y w v t os)
-        at Memory h = tt
+        at (Memory m) h = tt
         at (Refused d) h = assigned_left ∙ ap (λ m. refusing.◌>>=◌ m (λ ws. stored_in ws v)) (writes_made w left t os (Err (Refused d)) h)
 
     pub goes_left : (x : Target) → target_by w (model.Elements false g cs) t os ≡ Ok (geo_in x) → copy_update op g cs y w v t os ≡ stored_in (writes_to (geo_in x) left) v

@@ -15,7 +15,7 @@ use Rattle.nd_eval.specs.Ends.{Ends}
 -- a refusal of the first part, given on
 pub stops : {A B X Y : Type 0} (v : X → A) (w : Y → B) (i : Inputs) (t : Eval A) (f : A → Eval B) (r s : Running) (e : Stop)
     → Ends v (Err e) s (run i t r) → Ends w (Err e) s (run i (t >>= f) r)
-stops v w i t f r s Memory h = tt
+stops v w i t f r s (Memory m) h = tt
 stops v w i t f r s (Refused e) h = run_bind i t f r ∙ ap (λ m. goes_on i m f) h
 
 -- the exit by `?`
@@ -27,7 +27,7 @@ exits {A} {B} {X} {Y} v w i t f r s e o is h =
 
 -- a refusal is the same however an answer would be seen
 pub refused_alike : {B X Y : Type 0} (v : X → B) (w : Y → B) (e : Stop) (s : Running) (m : Result B Fault × Running) → Ends v (Err e) s m → Ends w (Err e) s m
-refused_alike v w Memory s m h = tt
+refused_alike v w (Memory want) s m h = tt
 refused_alike v w (Refused f) s m h = h
 
 -- what comes after an answer
@@ -61,7 +61,7 @@ follows_saying v w i t f r u x o first rest = follows v w i (decide t) f r r u x
 
 -- where what is made takes memory
 pub made_ends : {A X : Type 0} (v : X → A) (i : Inputs) (t : Result A Fault) (r : Running) (e : Stop) → Makes v (Err e) t → Ends v (Err e) r (run i (decide t) r)
-made_ends v i t r Memory h = tt
+made_ends v i t r (Memory m) h = tt
 made_ends v i t r (Refused f) h = ap (λ t. run i (decide t) r) h
 
 pub exits_making : {A B X Y : Type 0} (v : X → A) (w : Y → B) (i : Inputs) (t : Result A Fault) (f : A → Eval B) (r : Running) (e : Stop) (o : Result Y Stop)
@@ -85,5 +85,5 @@ makes_exit {A} {X} {Y} v w m e o is h =
     subst (λ (o : Result Y Stop). Makes w o m) (sym (p.1 ∙ ap Err p.2)) (at e h)
   where
     at : (e : Stop) → Makes v (Err e) m → Makes w (Err e) m
-    at Memory h = tt
+    at (Memory m) h = tt
     at (Refused f) h = h

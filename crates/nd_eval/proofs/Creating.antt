@@ -29,7 +29,7 @@ given_number i n r = ap (λ t. run i t r) (gives_number n)
 -- ---- an evaluation of what is made
 
 stopped_making : (i : Inputs) (m : Result Made Fault) (r : Running) (e : Stop) → MakesNew (Err e) m → Ends value_of (Err e) r (run i (decide m >>= give) r)
-stopped_making i m r Memory h = tt
+stopped_making i m r (Memory want) h = tt
 stopped_making i m r (Refused f) h = ap (λ t. run i t r) h
 
 pub exits_new : (i : Inputs) (m : Result Made Fault) (r : Running) (e : Stop) (o : Result Value Stop) → IsErrAnd o (λ x. x ≡ e) → MakesNew (Err e) m → Ends value_of o r (run i (decide m >>= give) r)

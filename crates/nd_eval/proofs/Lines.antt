@@ -25,7 +25,7 @@ limit_exits {Y} w o e s m is h =
     subst (λ (o : Result Y Stop). Ends w o s (limit_effect m)) (sym p.1) (go p.0 (subst (λ (o : Result Y Stop). Ends w o s m) p.1 h))
   where
     go : (x : Stop) → Ends w (Err x) s m → Ends w (Err x) s (limit_effect m)
-    go Memory h = tt
+    go (Memory m) h = tt
     go (Refused f) h = ap limit_effect h
 
 -- the line that is printed

@@ -37,7 +37,7 @@ refused_chain i e (y ∷ ys) r s f h =
     refused_chain i (Binary y.0 e y.1) ys r s f (run_bind i (value e) (λ v. binary_value (binary y.0) v y.1) r ∙ ap (λ m. goes_on i m (λ v. binary_value (binary y.0) v y.1)) h)
 
 stopped_chain : (i : Inputs) (e : Expr) (ys : List (BinaryOp × Expr)) (r s : Running) (x : Stop) → Ends value_of (Err x) s (run i (value e) r) → Ends value_of (Err x) s (run i (value (chained e ys)) r)
-stopped_chain i e ys r s Memory h = tt
+stopped_chain i e ys r s (Memory m) h = tt
 stopped_chain i e ys r s (Refused f) h = refused_chain i e ys r s (fault_of f) h
 
 -- the exit by `?`

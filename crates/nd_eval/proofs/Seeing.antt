@@ -104,7 +104,7 @@ alone_is (Row a) bytes (lent_operand.Elements e) alone h = cc
 -- ---- what is made
 
 stopped_stretching : (i : Inputs) (m : Result Chosen Fault) (r : Running) (e : Stop) → MakesStretched (Err e) m → Ends value_of (Err e) r (run i (decide m >>= choose_of_number) r)
-stopped_stretching i m r Memory h = tt
+stopped_stretching i m r (Memory want) h = tt
 stopped_stretching i m r (Refused f) h = ap (λ t. run i t r) h
 
 pub exits_stretching : (i : Inputs) (m : Result Chosen Fault) (r : Running) (e : Stop) (o : Result Value Stop) → IsErrAnd o (λ x. x ≡ e) → MakesStretched (Err e) m

@@ -14,7 +14,7 @@ use Rattle.nd_eval.specs.Lines.{limit_effect}
 -- as the definitions have it, unless memory ran out
 abbrev pub Ends : {X Y : Type 0} → (X → Y) → Result X Stop → Running → Result Y Fault × Running → Type 0
 Ends view (Ok x) r ended = ended ≡ (Ok (view x), r)
-Ends view (Err Memory) r ended = Unit {0}
+Ends view (Err (Memory m)) r ended = Unit {0}
 Ends view (Err (Refused f)) r ended = ended ≡ (Err (fault_of f), r)
 
 -- the session that is asked, as it stands

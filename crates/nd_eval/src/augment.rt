@@ -218,9 +218,9 @@ impl Evaluator<'_> {
         let bound = self.operate(BinaryCall::Operator(op), found, value)?;
         match String::from_str(self.session.allocator(), name) {
             Ok(name) => Ok(Effect::Bind(name, bound)),
-            Err(_) => {
+            Err(refused) => {
                 drop(bound);
-                Err(Stop::Memory)
+                Err(Stop::Memory(refused.into()))
             }
         }
     }
@@ -241,14 +241,14 @@ impl Evaluator<'_> {
         ensures ready { IfOk result (IsReady (session_of self.new)) }
     {
         match array_of(found) {
-            Ok(array) => {
-                let Ok(()) = mark_array_and_value(self.session, &array, &value) else {
+            Ok(array) => match mark_array_and_value(self.session, &array, &value) {
+                Ok(()) => update_effect(self.session, op, array, value),
+                Err(memory) => {
                     drop(array);
                     drop(value);
-                    return Err(Stop::Memory);
-                };
-                update_effect(self.session, op, array, value)
-            }
+                    Err(Stop::Memory(memory))
+                }
+            },
             Err(found) => {
                 let bound = self.rebind(name, op, &found, &value);
                 drop(found);
@@ -351,11 +351,14 @@ impl Evaluator<'_> {
             (contents.index_of index.now)) self.new }
         ensures ready { IfOk result (IsReady (session_of self.new)) }
     {
-        let Ok(()) = mark_item_operands(self.session, &value, &found, index) else {
-            drop(found);
-            drop(value);
-            return Err(Stop::Memory);
-        };
+        match mark_item_operands(self.session, &value, &found, index) {
+            Ok(()) => {}
+            Err(memory) => {
+                drop(found);
+                drop(value);
+                return Err(Stop::Memory(memory));
+            }
+        }
         match array_of(found) {
             Ok(array) => {
                 if is_advanced(index) {

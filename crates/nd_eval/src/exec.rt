@@ -75,9 +75,9 @@ impl Evaluator<'_> {
         let bound = self.value(expr)?;
         match String::from_str(self.session.allocator(), name) {
             Ok(name) => Ok(Effect::Bind(name, bound)),
-            Err(_) => {
+            Err(refused) => {
                 drop(bound);
-                Err(Stop::Memory)
+                Err(Stop::Memory(refused.into()))
             }
         }
     }
@@ -327,6 +327,6 @@ pub fn run_stmt(
     match evaluate_stmt(session, inputs, stmt) {
         Ok(effect) => Ok(Ok(do_effect(session, effect)?)),
         Err(Stop::Refused(fault)) => Ok(Err(fault)),
-        Err(Stop::Memory) => Err(OutOfMemory),
+        Err(Stop::Memory(memory)) => Err(memory),
     }
 }

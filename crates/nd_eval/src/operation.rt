@@ -129,9 +129,9 @@ impl Evaluator<'_> {
             New::Number(number) => Ok(Value::Number(number)),
             New::Array(view, block) => match self.session.new_block(block) {
                 Ok(base) => Ok(Value::Array(Array { base, view })),
-                Err(_) => {
+                Err(memory) => {
                     drop(view);
-                    Err(Stop::Memory)
+                    Err(Stop::Memory(memory))
                 }
             },
         }

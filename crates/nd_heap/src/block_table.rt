@@ -10,12 +10,12 @@ ghost use Rattle.nd_heap.specs.Values.{base_of, value_of};
 use crate::blocks::{
     Bases, Blocks, bytes_of, remove_blocks, remove_shared, share_block, stack, write, write_block,
 };
-use crate::memory::OutOfMemory;
 use crate::name_table::MANY;
 use crate::value::{Base, Value};
 use crate::writer::BlockWriter;
 use indexmap::IndexMap;
 use nd_block::RawBlock;
+use nd_memory::OutOfMemory;
 use std::alloc::Global;
 use std::marker::Model;
 use std::rc::Rc;

@@ -9,12 +9,12 @@ ghost use Rattle.nd_heap.specs.Contents.{blocks_of, bases_of, bytes_in};
 ghost use Rattle.nd_heap.specs.Layers.{is_block_among};
 ghost use Rattle.nd_heap.specs.Live.{bytes_at, is_base_among};
 
-use crate::memory::OutOfMemory;
 use crate::name_table::NameTable;
 use crate::value::{Base, Value};
 use crate::writer::BlockWriter;
 use indexmap::IndexMap;
 use nd_block::RawBlock;
+use nd_memory::OutOfMemory;
 use std::rc::Rc;
 
 /// Blocks by their bases. A copy shares each of them.

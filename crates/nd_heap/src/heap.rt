@@ -13,13 +13,13 @@ ghost use Rattle.nd_heap.specs.Loose.{lies_in_found};
 
 use crate::block_table::{BlockTable, pick_blocks};
 use crate::blocks::{Bases, Blocks, drop_label, has_base, note_base, retain_label, retain_unheld};
-use crate::memory::OutOfMemory;
 use crate::name_table::NameTable;
 use crate::names::lies_in;
 use crate::value::{Base, Value};
 use crate::writer::BlockWriter;
 use indexmap::IndexMap;
 use nd_block::RawBlock;
+use nd_memory::OutOfMemory;
 use std::alloc::Global;
 use std::marker::Model;
 use std::rc::{Rc, RcStr};

@@ -4,7 +4,6 @@
 mod block_table;
 mod blocks;
 mod heap;
-mod memory;
 mod name_table;
 mod names;
 mod value;
@@ -12,6 +11,6 @@ mod writer;
 
 pub use blocks::{Bases, Blocks, bytes_of};
 pub use heap::Heap;
-pub use memory::OutOfMemory;
+pub use nd_memory::OutOfMemory;
 pub use value::{Array, Base, Value, are_same_values};
 pub use writer::BlockWriter;

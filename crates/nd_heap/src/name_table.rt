@@ -12,12 +12,12 @@ ghost use Rattle.nd_heap.specs.Loose.{LosesHolder};
 ghost use Rattle.nd_heap.specs.Values.{base_of, value_of, names_of};
 
 use crate::blocks::{Bases, drop_base, note_base};
-use crate::memory::OutOfMemory;
 use crate::names::{
     Names, find, insert, is_held, is_held_below, lies_in, lies_in_label, remove, unbind,
 };
 use crate::value::{Base, Value};
 use indexmap::IndexMap;
+use nd_memory::OutOfMemory;
 use std::alloc::Global;
 use std::marker::Model;
 use std::rc::{Rc, RcStr};

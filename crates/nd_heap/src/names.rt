@@ -7,9 +7,9 @@ ghost use Rattle.nd_model.specs.Arrays.Value as values;
 ghost use Rattle.nd_heap.specs.Layers.{overridden};
 ghost use Rattle.nd_heap.specs.Values.{base_of, value_of, names_of};
 
-use crate::memory::OutOfMemory;
 use crate::value::{Base, Value};
 use indexmap::IndexMap;
+use nd_memory::OutOfMemory;
 use std::rc::{Rc, RcStr};
 
 /// A copy of the names shares each name's text and its value.

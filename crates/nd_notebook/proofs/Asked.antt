@@ -15,6 +15,7 @@ use Rattle.nd_model.specs.Book.Book as model
 use Rattle.nd_model.specs.Book.Notebook.{Sheet, Tells, book_of}
 use Rattle.nd_model.specs.Book.Scheduler.{told_of}
 use Rattle.nd_model.proofs.Entries.{told_by_records}
+use Rattle.nd_memory.specs.Want.{out_of_memory}
 use Rattle.nd_change.specs.Snapshots.{IsAlike}
 use Rattle.nd_change.proofs.Changes.{held_by_name}
 use Rattle.nd_notebook.specs.declared.query.QueryFault as declared
@@ -161,11 +162,11 @@ save_not_told b at n f e = by (slice_get (told_book b) at) f e
     by None (faults.NoCell a k) e = cc
     by None faults.NoName e = absurd (cc)
     by None faults.NoSave e = absurd (cc)
-    by None faults.OutOfMemory e = absurd (cc)
+    by None (faults.Memory m) e = absurd (cc)
     by (Some t) f e = absurd (cc)
 
 -- memory is wanted where there is a value
 pub wants_memory : {X Y : Type 0} (name : List ℕ) (view : X → Y) (r : Result X declared.QueryFault) (answer : Result Y QueryFault)
-    → IsErrAnd r (λ e. e ≡ faults.OutOfMemory) → is_ok answer ≡ true → Tells (answer_of name view r) answer
+    → IsErrAnd r (λ e. e ≡ faults.Memory out_of_memory) → is_ok answer ≡ true → Tells (answer_of name view r) answer
 wants_memory name view (Ok x) answer h ok = elim h [ ]
 wants_memory {X} name view (Err e) answer h ok = subst (λ (f : declared.QueryFault). Tells (answer_of {X = X} name view (Err f)) answer) (sym h) ok

@@ -35,7 +35,7 @@ edit_fault_of name edits.CellTooLong = model.CellTooLong
 edit_fault_of name edits.BadInputName = model.BadInputName
 edit_fault_of name edits.InputTooLarge = model.InputTooLarge
 edit_fault_of name edits.NoInputNamed = model.NoInputNamed name
-edit_fault_of name edits.OutOfMemory = model.EditFault.OutOfMemory
+edit_fault_of name (edits.Memory m) = model.EditFault.OutOfMemory
 
 -- the answer to an edit
 abbrev pub outcome_of : model.Edit → Result (Unit {0}) EditFault → Result (Unit {0}) model.EditFault

@@ -38,7 +38,7 @@ abbrev pub query_fault_of : List ℕ → declared.QueryFault → model.QueryFaul
 query_fault_of name (faults.NoCell at count) = model.QueryFault.NoCell at count
 query_fault_of name faults.NoName = model.QueryFault.NoName name
 query_fault_of name faults.NoSave = model.QueryFault.NoSave name
-query_fault_of name faults.OutOfMemory = model.QueryFault.OutOfMemory
+query_fault_of name (faults.Memory m) = model.QueryFault.OutOfMemory
 
 -- the answer to a query for a name, seen by view
 abbrev pub answer_of : {X Y : Type 0} → List ℕ → (X → Y) → Result X declared.QueryFault → Result Y model.QueryFault

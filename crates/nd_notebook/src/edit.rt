@@ -1,6 +1,7 @@
 //! `Edit` and `EditFault`: the edits of a notebook, and why they are refused.
 
 ghost use Rattle.std.specs.Prelude.{◌≡◌};
+ghost use Rattle.nd_memory.specs.Want.{out_of_memory};
 ghost use Rattle.nd_notebook.specs.declared.edit.EditFault.TheVariants as edits;
 
 use nd_session::session::{CellRule, Input, OutOfMemory};
@@ -54,21 +55,21 @@ pub enum EditFault {
     /// No input has the name.
     NoInputNamed,
     /// Want of memory. The notebook is as it was.
-    OutOfMemory,
+    Memory(OutOfMemory),
 }
 
 impl From<OutOfMemory> for EditFault {
-    ghost from_gives = { λ _ e. e ≡ edits.OutOfMemory };
+    ghost from_gives = { λ _ e. e ≡ edits.Memory out_of_memory };
 
-    fn from(_e: OutOfMemory) -> EditFault {
-        EditFault::OutOfMemory
+    fn from(memory: OutOfMemory) -> EditFault {
+        EditFault::Memory(memory)
     }
 }
 
 impl From<AllocError> for EditFault {
-    ghost from_gives = { λ _ e. e ≡ edits.OutOfMemory };
+    ghost from_gives = { λ _ e. e ≡ edits.Memory out_of_memory };
 
-    fn from(_e: AllocError) -> EditFault {
-        EditFault::OutOfMemory
+    fn from(refused: AllocError) -> EditFault {
+        EditFault::Memory(refused.into())
     }
 }

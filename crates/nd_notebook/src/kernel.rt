@@ -12,7 +12,7 @@ ghost use Rattle.nd_cell.specs.Records.{recorded};
 use crate::world::World;
 use nd_cell::{Meter, Record, run_cell};
 use nd_schedule::schedule::CellRunner;
-use nd_session::session::{Base, Change, KeyFilter, NameOrder, OutOfMemory, Session, Version};
+use nd_session::session::{Base, Change, KeyFilter, NameOrder, Session, Version};
 use std::alloc::{AllocError, Global};
 use std::rc::Rc;
 
@@ -77,7 +77,7 @@ impl CellRunner for SessionRunner {
     fn empty(alloc: Global) -> Result<Session, AllocError> {
         match Session::new(alloc) {
             Ok(session) => Ok(session),
-            Err(OutOfMemory) => Err(AllocError),
+            Err(memory) => Err(memory.into()),
         }
     }
 
@@ -90,7 +90,7 @@ impl CellRunner for SessionRunner {
     ) -> Result<Record, AllocError> {
         match run_cell(meter, session, &world.inputs, world.rule, label, text) {
             Ok(made) => Ok(made),
-            Err(OutOfMemory) => Err(AllocError),
+            Err(memory) => Err(memory.into()),
         }
     }
 
@@ -101,7 +101,7 @@ impl CellRunner for SessionRunner {
     fn replay(made: &Record, session: &mut Session) -> Result<(), AllocError> {
         match made.replay(session) {
             Ok(()) => Ok(()),
-            Err(OutOfMemory) => Err(AllocError),
+            Err(memory) => Err(memory.into()),
         }
     }
 
@@ -116,7 +116,7 @@ impl CellRunner for SessionRunner {
     fn world_change(alloc: Global, old: &World, new: &World) -> Result<Change, AllocError> {
         match Change::of_world(alloc, &old.inputs, old.rule, &new.inputs, new.rule) {
             Ok(change) => Ok(change),
-            Err(OutOfMemory) => Err(AllocError),
+            Err(memory) => Err(memory.into()),
         }
     }
 
@@ -139,7 +139,7 @@ impl CellRunner for SessionRunner {
     fn keep(made: &Record, change: &mut Change) -> Result<(), AllocError> {
         match made.keep(change) {
             Ok(()) => Ok(()),
-            Err(OutOfMemory) => Err(AllocError),
+            Err(memory) => Err(memory.into()),
         }
     }
 
@@ -152,35 +152,35 @@ impl CellRunner for SessionRunner {
     ) -> Result<(), AllocError> {
         match made.follow(before, session, change) {
             Ok(()) => Ok(()),
-            Err(OutOfMemory) => Err(AllocError),
+            Err(memory) => Err(memory.into()),
         }
     }
 
     fn went(before: &Record, session: &Session, change: &mut Change) -> Result<(), AllocError> {
         match before.leave(session, change) {
             Ok(()) => Ok(()),
-            Err(OutOfMemory) => Err(AllocError),
+            Err(memory) => Err(memory.into()),
         }
     }
 
     fn came(made: &Record, session: &Session, change: &mut Change) -> Result<(), AllocError> {
         match made.come(session, change) {
             Ok(()) => Ok(()),
-            Err(OutOfMemory) => Err(AllocError),
+            Err(memory) => Err(memory.into()),
         }
     }
 
     fn freeze(session: &mut Session) -> Result<Version, AllocError> {
         match session.freeze() {
             Ok(version) => Ok(version),
-            Err(OutOfMemory) => Err(AllocError),
+            Err(memory) => Err(memory.into()),
         }
     }
 
     fn thaw(alloc: Global, version: &Version) -> Result<Session, AllocError> {
         match Session::thaw(alloc, version) {
             Ok(session) => Ok(session),
-            Err(OutOfMemory) => Err(AllocError),
+            Err(memory) => Err(memory.into()),
         }
     }
 
@@ -207,14 +207,14 @@ impl CellRunner for SessionRunner {
     fn share(change: &Change) -> Result<Change, AllocError> {
         match change.try_clone() {
             Ok(change) => Ok(change),
-            Err(OutOfMemory) => Err(AllocError),
+            Err(memory) => Err(memory.into()),
         }
     }
 
     fn patch(change: &Change, session: &mut Session) -> Result<bool, AllocError> {
         match change.patch(session) {
             Ok(could) => Ok(could),
-            Err(OutOfMemory) => Err(AllocError),
+            Err(memory) => Err(memory.into()),
         }
     }
 
@@ -225,7 +225,7 @@ impl CellRunner for SessionRunner {
     fn note_names(made: &Record, order: &mut NameOrder) -> Result<(), AllocError> {
         match made.note_names(order) {
             Ok(()) => Ok(()),
-            Err(OutOfMemory) => Err(AllocError),
+            Err(memory) => Err(memory.into()),
         }
     }
 }

@@ -1,6 +1,7 @@
 //! `BoundValue`: the answers to queries for names and values.
 
 ghost use Rattle.std.specs.Prelude.{◌≡◌, IfOk, map, string_bytes};
+ghost use Rattle.nd_memory.specs.Want.{out_of_memory};
 ghost use Rattle.nd_notebook.specs.Queries.{bound_of, shown_of};
 ghost use Rattle.nd_notebook.specs.declared.query.QueryFault.TheVariants as faults;
 
@@ -19,7 +20,7 @@ pub enum QueryFault {
     /// The cell saved no file under the name.
     NoSave,
     /// Want of memory.
-    OutOfMemory,
+    Memory(OutOfMemory),
 }
 
 /// The elements of an array or a row: a view, and the bytes of its block. They are shown in C
@@ -69,18 +70,18 @@ impl BoundValue {
 }
 
 impl From<OutOfMemory> for QueryFault {
-    ghost from_gives = { λ _ e. e ≡ faults.OutOfMemory };
+    ghost from_gives = { λ _ e. e ≡ faults.Memory out_of_memory };
 
-    fn from(_e: OutOfMemory) -> QueryFault {
-        QueryFault::OutOfMemory
+    fn from(memory: OutOfMemory) -> QueryFault {
+        QueryFault::Memory(memory)
     }
 }
 
 impl From<AllocError> for QueryFault {
-    ghost from_gives = { λ _ e. e ≡ faults.OutOfMemory };
+    ghost from_gives = { λ _ e. e ≡ faults.Memory out_of_memory };
 
-    fn from(_e: AllocError) -> QueryFault {
-        QueryFault::OutOfMemory
+    fn from(refused: AllocError) -> QueryFault {
+        QueryFault::Memory(refused.into())
     }
 }
 

@@ -20,10 +20,7 @@ impl ElemType {
     pub fn of_structure(alloc: Global, structure: RecType) -> Result<ElemType, AllocError>
         ensures { IfOk result (λ t. type_of t ≡ Structure structure.0 structure.1) }
     {
-        match Rc::new(alloc, structure) {
-            Ok(shared) => Ok(ElemType::Rec(shared)),
-            Err(_failed) => Err(AllocError),
-        }
+        Ok(ElemType::Rec(Rc::new(alloc, structure)?))
     }
 
     /// Returns the itemsize in bytes, pad bytes among it.

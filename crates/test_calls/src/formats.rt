@@ -37,7 +37,7 @@ fn print_sized(rt: &HostRuntime, size: u64, format: &str) -> io::Result<()> {
     match parse_format(rt.alloc(), format, size) {
         Ok(elem) => print_taken(rt, &elem),
         Err(FormatError::Fault(fault)) => print_fault(rt, fault),
-        Err(FormatError::Memory) => Err(AllocError.into()),
+        Err(FormatError::Memory(memory)) => Err(AllocError::from(memory).into()),
     }
 }
 

@@ -38,7 +38,7 @@ fn answer_line(rt: &HostRuntime, line: &str) -> io::Result<()> {
     let (call, escaped) = line.split_once(' ').unwrap_or((line, ""));
     match unescape(rt.alloc(), escaped) {
         Ok(text) => answer_text(rt, call, &text),
-        Err(EscapeFault::Memory) => Err(AllocError.into()),
+        Err(EscapeFault::Memory(memory)) => Err(AllocError::from(memory).into()),
         Err(fault) => println!(rt; "{fault:?}"),
     }
 }

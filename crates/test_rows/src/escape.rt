@@ -2,6 +2,7 @@
 
 ghost use Rattle.std.specs.Prelude.{◌≡◌, ◌≤◌, Contains, IfOk, length, string_bytes};
 
+use nd_memory::OutOfMemory;
 use std::alloc::{AllocError, Global};
 
 /// The most bytes that a repetition makes.
@@ -22,12 +23,12 @@ pub enum EscapeFault {
     /// A repetition makes more than 2^20 bytes.
     TooLong,
     /// The memory ran out.
-    Memory,
+    Memory(OutOfMemory),
 }
 
 impl From<AllocError> for EscapeFault {
-    fn from(_error: AllocError) -> EscapeFault {
-        EscapeFault::Memory
+    fn from(refused: AllocError) -> EscapeFault {
+        EscapeFault::Memory(refused.into())
     }
 }
 

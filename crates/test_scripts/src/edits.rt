@@ -2,7 +2,7 @@
 
 use nd_notebook::{CellRule, Edit, EditFault, Input, Meter, Notebook};
 use nd_script::words::{LineCommand, LineInput, command_of};
-use std::alloc::Global;
+use std::alloc::{AllocError, Global};
 use std::io;
 use test_rows::unescape;
 
@@ -133,8 +133,9 @@ fn print_answers(rt: &HostRuntime, answers: &[Result<(), EditFault>]) -> io::Res
 /// Makes the edits, and prints the answer to each, the runs that they took, and what the cells printed.
 fn print_edits(rt: &HostRuntime, notebook: &mut Notebook, edits: &[Edit]) -> io::Result<()> {
     let mut meter = Meter::new(rt);
-    let Ok(answers) = notebook.apply_all(&mut meter, edits) else {
-        return Err(io::ErrorKind::OutOfMemory.into());
+    let answers = match notebook.apply_all(&mut meter, edits) {
+        Ok(answers) => answers,
+        Err(memory) => return Err(AllocError::from(memory).into()),
     };
     print_answers(rt, &answers)?;
     println!(rt; "{} runs", meter.runs())?;

@@ -3,6 +3,7 @@
 //! same whichever that is.
 
 use nd_notebook::{BoundValue, Edit, EditFault, Meter, Notebook, QueryFault, Shown};
+use std::alloc::Global;
 use std::io;
 
 /// A cell as it is to show: its source, the text that it prints, and the elements of the arrays
@@ -18,7 +19,7 @@ struct Cell<'a> {
 /// The names that are bound after a cell, asked for again where memory was wanted.
 fn names_of(notebook: &Notebook, at: usize) -> Result<Vec<String>, QueryFault> {
     match notebook.names(at) {
-        Err(QueryFault::OutOfMemory) => notebook.names(at),
+        Err(QueryFault::Memory(_)) => notebook.names(at),
         answer => answer,
     }
 }
@@ -26,7 +27,7 @@ fn names_of(notebook: &Notebook, at: usize) -> Result<Vec<String>, QueryFault> {
 /// The value of a name after a cell, asked for again where memory was wanted.
 fn value_of(notebook: &Notebook, at: usize, name: &str) -> Result<BoundValue, QueryFault> {
     match notebook.value(at, name) {
-        Err(QueryFault::OutOfMemory) => notebook.value(at, name),
+        Err(QueryFault::Memory(_)) => notebook.value(at, name),
         answer => answer,
     }
 }
@@ -110,7 +111,7 @@ fn is_shown(notebook: &Notebook, cells: &[Cell]) -> bool {
 fn is_right(notebook: &mut Notebook, meter: &mut Meter, step: Step) -> bool {
     match notebook.apply(meter, step.edit) {
         Ok(()) => is_shown(notebook, step.after),
-        Err(EditFault::OutOfMemory) => {
+        Err(EditFault::Memory(_)) => {
             is_shown(notebook, step.before)
                 && notebook.apply(meter, step.edit).is_ok()
                 && is_shown(notebook, step.after)
@@ -260,6 +261,17 @@ fn say(rt: &HostRuntime, is_right: bool) -> io::Result<()> {
     println!(rt; "{answer}")
 }
 
+/// Makes two edits by one call, a second time where memory was wanted for the answers: whether no
+/// edit was made in between.
+fn are_made_at_once(alloc: Global, meter: &mut Meter) -> bool {
+    let mut notebook = Notebook::new(alloc);
+    let edits = [STEPS[0].edit, STEPS[1].edit];
+    if notebook.apply_all(meter, &edits).is_ok() {
+        return true;
+    }
+    notebook.count() == 0 && notebook.apply_all(meter, &edits).is_ok()
+}
+
 /// Makes the edits, and says of each whether it was right.
 pub(crate) fn print_edits(rt: &HostRuntime) -> io::Result<()> {
     let mut notebook = Notebook::new(rt.alloc());
@@ -268,5 +280,6 @@ pub(crate) fn print_edits(rt: &HostRuntime) -> io::Result<()> {
         let is_step_right = is_right(&mut notebook, &mut meter, *step);
         say(rt, is_step_right)?;
     }
-    Ok(())
+    let are_made = are_made_at_once(rt.alloc(), &mut meter);
+    say(rt, are_made)
 }

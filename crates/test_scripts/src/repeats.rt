@@ -49,11 +49,11 @@ fn make_edit(
     edit: Edit,
 ) -> io::Result<bool> {
     let before = show(alloc, notebook)?;
-    if let Err(EditFault::OutOfMemory) = notebook.apply(meter, edit) {
+    if let Err(EditFault::Memory(_)) = notebook.apply(meter, edit) {
         let after = show(alloc, notebook)?;
         let answer = notebook.apply(meter, edit);
         return Ok(
-            before.as_str() == after.as_str() && !matches!(answer, Err(EditFault::OutOfMemory)),
+            before.as_str() == after.as_str() && !matches!(answer, Err(EditFault::Memory(_))),
         );
     }
     Ok(true)

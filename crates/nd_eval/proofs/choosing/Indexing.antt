@@ -196,7 +196,7 @@ copy_stops bytes xs g h e o is made =
     subst (λ o. Makes chosen_of o (choice_by bytes xs g)) (sym (p.1 ∙ ap Err p.2)) (at e made)
   where
     at : (e : Stop) → Makes selected (Err e) (elements_by bytes xs g) → Makes chosen_of (Err e) (choice_by bytes xs g)
-    at Memory made = tt
+    at (Memory m) made = tt
     at (Refused f) made = chooses_elements bytes xs g h ∙ ap (λ m. m >>= λ h. Ok (ACopy h)) made
 
 pub same_index_arrays : (bytes : Base → List ℕ) (x : IndexValue) → has_array (index_operands bytes x) ≡ has_array (operands_of x)

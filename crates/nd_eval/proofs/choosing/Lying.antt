@@ -103,5 +103,5 @@ writes_are w v t os = of_choice (is_full_mask (length (shape_of t)) (items_in w 
 -- what is written where the elements are found, or refused where they are
 pub writes_made : (w : Viewing) (v t : Operand) (os : List Operand) (r : Result Target Stop) → Makes geo_in r (target_by w v t os) → Makes (λ x. writes_to (geo_in x) v) r (assignment_writes w v t os)
 writes_made w v t os (Ok x) h = writes_are w v t os ∙ ap (λ m. refusing.◌>>=◌ m (λ g. Ok (writes_to g v))) h
-writes_made w v t os (Err Memory) h = tt
+writes_made w v t os (Err (Memory m)) h = tt
 writes_made w v t os (Err (Refused f)) h = writes_are w v t os ∙ ap (λ m. refusing.◌>>=◌ m (λ g. Ok (writes_to g v))) h

@@ -62,7 +62,7 @@ no_lengths o os f e = by (lengths_of os) e
 
 pub seen_makes : (r : Result Geo Stop) (m : Result Geo Fault) → Makes (λ v. v) r m → Makes (λ v. AView v) r (seen m)
 seen_makes (Ok v) m h = ap seen h
-seen_makes (Err Memory) m h = tt
+seen_makes (Err (Memory want)) m h = tt
 seen_makes (Err (Refused f)) m h = ap seen h
 
 -- ---- new arrays of one element

@@ -140,7 +140,7 @@ pub not_reduced : {X : Type 0} (v : X → Made) (m : Result Made Fault) (f : Axi
 not_reduced v m f s is h = subst (λ s. MakesNew (Err s) m) (sym is) (at f h)
   where
     at : (f : AxisFault) → Makes v (Err f) m → MakesNew (Err (fold_stop f)) m
-    at fault.Memory h = tt
+    at (fault.Memory m) h = tt
     at fault.NotNumbers h = refuses m _ h
     at fault.NoAxis h = refuses m _ h
     at fault.EmptyReduce h = refuses m _ h
@@ -151,7 +151,7 @@ pub not_folded : (r : Result Numbers Fault) (f : AxisFault) (s : Stop) → s ≡
 not_folded r f s is h = subst (λ s. MakesNew (Err s) (numbers_made r)) (sym is) (at f h)
   where
     at : (f : AxisFault) → Makes (λ (m : Geo × List ℕ). m) (Err f) (array_of r) → MakesNew (Err (fold_stop f)) (numbers_made r)
-    at fault.Memory h = tt
+    at (fault.Memory m) h = tt
     at fault.NotNumbers h = refuses (numbers_made r) _ (not_made r _ h)
     at fault.NoAxis h = refuses (numbers_made r) _ (not_made r _ h)
     at fault.EmptyReduce h = refuses (numbers_made r) _ (not_made r _ h)

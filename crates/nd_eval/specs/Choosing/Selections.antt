@@ -33,6 +33,6 @@ index_fault_of (items_faults.MaskShape axis) = MaskShape axis
 index_fault_of items_faults.IndexShapes = IndexShapes
 
 abbrev pub fancy_stop : FancyFault → Stop
-fancy_stop fancy_fault.Memory = Memory
+fancy_stop (fancy_fault.Memory m) = Memory m
 fancy_stop (fancy_fault.Index f) = Refused (Index (index_fault_of f))
 fancy_stop (fancy_fault.View f) = Refused (View f)

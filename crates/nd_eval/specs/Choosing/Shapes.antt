@@ -35,5 +35,5 @@ IsAlone (ElementsOperand e) = e.is_row ≡ true
 -- what is given of what was chosen of no array, unless memory ran out
 abbrev pub MakesStretched : Result New Stop → Result operand.Chosen Fault → Type 0
 MakesStretched (Ok n) chosen = (decide chosen >>= choose_of_number) ≡ given n
-MakesStretched (Err Memory) chosen = Unit {0}
+MakesStretched (Err (Memory m)) chosen = Unit {0}
 MakesStretched (Err (Refused f)) chosen = (decide chosen >>= choose_of_number) ≡ Refuses (fault_of f)

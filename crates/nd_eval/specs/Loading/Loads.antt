@@ -22,11 +22,11 @@ load_by Buffer = files.buffer
 -- what is given of what an input comes to, unless memory ran out
 abbrev pub LoadsNew : Result New Stop → Result Loaded Fault → Type 0
 LoadsNew (Ok n) loaded = (decide loaded >>= give_loaded) ≡ given n
-LoadsNew (Err Memory) loaded = Unit {0}
+LoadsNew (Err (Memory m)) loaded = Unit {0}
 LoadsNew (Err (Refused f)) loaded = (decide loaded >>= give_loaded) ≡ Refuses (fault_of f)
 
 -- an input of this name is refused, unless memory ran out
 abbrev pub RefusesInput : Result New Stop → List ℕ → Type 0
 RefusesInput (Ok n) name = ⊥
-RefusesInput (Err Memory) name = Unit {0}
+RefusesInput (Err (Memory m)) name = Unit {0}
 RefusesInput (Err (Refused f)) name = fault_of f ≡ Stmt (NoInput name)

@@ -15,7 +15,7 @@ scalar_number n = Scalar (kind_of n.0) n.1
 
 -- why an evaluation stops where there is no fold
 abbrev pub fold_stop : AxisFault → Stop
-fold_stop fault.Memory = Memory
+fold_stop (fault.Memory m) = Memory m
 fold_stop fault.NotNumbers = Refused (stmt.Reduce reduce.NotNumbers)
 fold_stop fault.NoAxis = Refused (stmt.Reduce reduce.NoAxis)
 fold_stop fault.EmptyReduce = Refused (stmt.Reduce reduce.EmptyReduce)

@@ -32,7 +32,7 @@ fn stop_of(fault: FancyFault) -> Stop
     ensures { result ≡ fancy_stop fault }
 {
     let fault = match fault {
-        FancyFault::Memory => return Stop::Memory,
+        FancyFault::Memory(memory) => return Stop::Memory(memory),
         FancyFault::View(fault) => return Stop::Refused(StmtFault::View(fault)),
         FancyFault::Index(fault) => fault,
     };
@@ -120,9 +120,9 @@ pub(crate) fn select_elements(
             drop(items);
             match view.try_clone() {
                 Ok(view) => Ok(Selection { view, places }),
-                Err(_) => {
+                Err(refused) => {
                     drop(places);
-                    Err(Stop::Memory)
+                    Err(Stop::Memory(refused.into()))
                 }
             }
         }

@@ -64,9 +64,9 @@ fn stretch_number(alloc: Global, number: Num, shape: &[u64]) -> Result<New, Stop
                 Err(stop)
             }
         },
-        Err(_) => {
+        Err(refused) => {
             drop(element);
-            Err(Stop::Memory)
+            Err(Stop::Memory(refused.into()))
         }
     }
 }
@@ -94,9 +94,9 @@ fn stretch_row(alloc: Global, row: &BorrowedArray<'_>, shape: &[u64]) -> Result<
                 Err(stop)
             }
         },
-        Err(_) => {
+        Err(refused) => {
             drop(element);
-            Err(Stop::Memory)
+            Err(Stop::Memory(refused.into()))
         }
     }
 }

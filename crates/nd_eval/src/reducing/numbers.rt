@@ -24,7 +24,7 @@ fn stop_of(fault: AxisFault) -> Stop
     ensures { result ≡ fold_stop fault }
 {
     match fault {
-        AxisFault::Memory => Stop::Memory,
+        AxisFault::Memory(memory) => Stop::Memory(memory),
         AxisFault::NotNumbers => Stop::Refused(StmtFault::Reduce(Refusal::NotNumbers)),
         AxisFault::NoAxis => Stop::Refused(StmtFault::Reduce(Refusal::NoAxis)),
         AxisFault::EmptyReduce => Stop::Refused(StmtFault::Reduce(Refusal::EmptyReduce)),

@@ -169,9 +169,9 @@ pub(crate) fn update_chosen(
             drop(array);
             write_scattered(session, base, selection, scatter)
         }
-        Err(_) => {
+        Err(refused) => {
             drop(array);
-            Err(OutOfMemory)
+            Err(refused.into())
         }
     }
 }

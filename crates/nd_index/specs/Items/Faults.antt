@@ -28,6 +28,6 @@ fault_of_select (select.View f) = View f
 -- what is chosen, unless memory ran out
 abbrev pub Makes : {X Y : Type 0} → (X → Y) → Result X FancyFault → Result Y model.Fault → Type 0
 Makes view (Ok x) y = y ≡ Ok (view x)
-Makes view (Err Memory) y = Unit {0}
+Makes view (Err (Memory m)) y = Unit {0}
 Makes view (Err (Index f)) y = y ≡ Err (model.Index (fault_of f))
 Makes view (Err (View f)) y = y ≡ Err (model.View (view_fault_of f))

@@ -1,9 +1,11 @@
 //! `ItemFault` and `FancyFault`: why an advanced index is refused.
 ghost use Rattle.std.specs.Prelude.{◌≡◌};
+ghost use Rattle.nd_memory.specs.Want.{out_of_memory};
 ghost use Rattle.nd_index.specs.declared.items.fault.FancyFault.TheVariants.{Memory};
 ghost use Rattle.nd_index.specs.Items.Faults.{fault_of_select};
 
 use crate::basic::SelectFault;
+use nd_memory::OutOfMemory;
 use nd_view::ViewFault;
 use std::alloc::AllocError;
 
@@ -29,7 +31,7 @@ pub enum ItemFault {
 #[derive(Clone, Copy)]
 pub enum FancyFault {
     /// Want of memory for the byte offsets.
-    Memory,
+    Memory(OutOfMemory),
     /// The items are refused.
     Index(ItemFault),
     /// The selection would exceed the limits of arrays.
@@ -37,10 +39,10 @@ pub enum FancyFault {
 }
 
 impl From<AllocError> for FancyFault {
-    ghost from_gives = { λ _ e. e ≡ Memory };
+    ghost from_gives = { λ _ e. e ≡ Memory out_of_memory };
 
-    fn from(_error: AllocError) -> FancyFault {
-        FancyFault::Memory
+    fn from(refused: AllocError) -> FancyFault {
+        FancyFault::Memory(refused.into())
     }
 }
 

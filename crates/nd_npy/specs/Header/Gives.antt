@@ -100,7 +100,7 @@ text_given bytes r = result_of (λ u. bytes) r
 -- the header, or the fault, unless memory ran out
 abbrev pub GivesHeader : Result header.Header NpyError → Result Header model.NpyFault → Type 0
 GivesHeader (Ok h) r = r ≡ Ok (header_from h)
-GivesHeader (Err Memory) r = Unit {0}
+GivesHeader (Err (Memory m)) r = Unit {0}
 GivesHeader (Err (Fault f)) r = r ≡ Err (fault_of f)
 
 -- the array is this one, alone in its block, in C order
@@ -112,5 +112,5 @@ pub record IsArray (a : NpyArray) (m : npy.NpyArray) : Type 0 where
 abbrev pub GivesArray : Result NpyArray NpyError → Result npy.NpyArray model.NpyFault → Type 0
 GivesArray (Ok a) (Ok m) = IsArray a m
 GivesArray (Ok a) (Err f) = ⊥
-GivesArray (Err Memory) r = Unit {0}
+GivesArray (Err (Memory m)) r = Unit {0}
 GivesArray (Err (Fault f)) r = r ≡ Err (fault_of f)

@@ -56,11 +56,11 @@ progress_of s = record {
 -- what a step gives, or its fault, unless memory ran out
 abbrev pub GoesOn : Result Unit FormatError → Result Progress model.FormatFault → Progress → Type 0
 GoesOn (Ok u) r s = r ≡ Ok s
-GoesOn (Err error.Memory) r s = Unit {0}
+GoesOn (Err (error.Memory m)) r s = Unit {0}
 GoesOn (Err (error.Fault f)) r s = r ≡ Err (fault_of f)
 
 -- the type, or the fault, unless memory ran out
 abbrev pub Gives : Result ElemType FormatError → Result ElementType model.FormatFault → Type 0
 Gives (Ok t) r = r ≡ Ok (type_of t)
-Gives (Err error.Memory) r = Unit {0}
+Gives (Err (error.Memory m)) r = Unit {0}
 Gives (Err (error.Fault f)) r = r ≡ Err (fault_of f)

@@ -1,7 +1,9 @@
 //! `NpyFault`: why bytes are no NPY file of an array.
 ghost use Rattle.std.specs.Prelude.{◌≡◌};
+ghost use Rattle.nd_memory.specs.Want.{out_of_memory};
 ghost use Rattle.nd_npy.specs.declared.header.fault.NpyError.TheVariants.{Memory, Fault};
 
+use nd_memory::OutOfMemory;
 use std::alloc::{AllocError, AllocFailed};
 
 /// Why bytes are no NPY file of an array. Bytes of the header are counted from 0.
@@ -29,23 +31,23 @@ pub enum NpyFault {
 #[derive(Drop)]
 pub enum NpyError {
     /// Want of memory.
-    Memory,
+    Memory(OutOfMemory),
     Fault(NpyFault),
 }
 
 impl From<AllocError> for NpyError {
-    ghost from_gives = { λ _ e. e ≡ Memory };
+    ghost from_gives = { λ _ e. e ≡ Memory out_of_memory };
 
-    fn from(_error: AllocError) -> NpyError {
-        NpyError::Memory
+    fn from(refused: AllocError) -> NpyError {
+        NpyError::Memory(refused.into())
     }
 }
 
 impl<T: Drop> From<AllocFailed<T>> for NpyError {
-    ghost from_gives = { λ _ e. e ≡ Memory };
+    ghost from_gives = { λ _ e. e ≡ Memory out_of_memory };
 
-    fn from(_error: AllocFailed<T>) -> NpyError {
-        NpyError::Memory
+    fn from(failed: AllocFailed<T>) -> NpyError {
+        NpyError::Memory(failed.into())
     }
 }
 

@@ -1,7 +1,9 @@
 //! `FormatFault`: why a text is no format string of PEP 3118.
 ghost use Rattle.std.specs.Prelude.{◌≡◌};
+ghost use Rattle.nd_memory.specs.Want.{out_of_memory};
 ghost use Rattle.nd_npy.specs.declared.pep3118.fault.FormatError.TheVariants.{Memory};
 
+use nd_memory::OutOfMemory;
 use std::alloc::{AllocError, AllocFailed};
 
 /// Why a text is no format string for an item of a given size (PEP 3118). Bytes of the text are
@@ -30,22 +32,22 @@ pub enum FormatFault {
 #[derive(Debug, Drop)]
 pub enum FormatError {
     /// Want of memory.
-    Memory,
+    Memory(OutOfMemory),
     Fault(FormatFault),
 }
 
 impl From<AllocError> for FormatError {
-    ghost from_gives = { λ _ e. e ≡ Memory };
+    ghost from_gives = { λ _ e. e ≡ Memory out_of_memory };
 
-    fn from(_e: AllocError) -> FormatError {
-        FormatError::Memory
+    fn from(refused: AllocError) -> FormatError {
+        FormatError::Memory(refused.into())
     }
 }
 
 impl<T: Drop> From<AllocFailed<T>> for FormatError {
-    ghost from_gives = { λ _ e. e ≡ Memory };
+    ghost from_gives = { λ _ e. e ≡ Memory out_of_memory };
 
-    fn from(_e: AllocFailed<T>) -> FormatError {
-        FormatError::Memory
+    fn from(failed: AllocFailed<T>) -> FormatError {
+        FormatError::Memory(failed.into())
     }
 }

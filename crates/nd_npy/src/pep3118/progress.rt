@@ -291,10 +291,7 @@ impl Progress {
             return Err(FormatError::Fault(FormatFault::BadItemSize));
         }
         match RecType::new(self.fields, size as u32) {
-            Some(structure) => match ElemType::of_structure(alloc, structure) {
-                Ok(elem) => Ok(elem),
-                Err(_) => Err(FormatError::Memory),
-            },
+            Some(structure) => Ok(ElemType::of_structure(alloc, structure)?),
             None => Err(FormatError::Fault(FormatFault::BadItemSize)),
         }
     }

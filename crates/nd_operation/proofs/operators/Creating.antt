@@ -17,6 +17,7 @@ use Rattle.nd_model.specs.Making.Operand.{Operand, Made, AnArray}
 use Rattle.nd_model.specs.Cells.Operation.{give, fresh_array, unless_too_large}
 use Rattle.nd_model.specs.Arrays.Broadcast.{unless_fault, in_limits}
 use Rattle.nd_model.specs.Making.Creation.{type_or, type_for, length_of, lengths_of, integer_of, integers_of, fill_content, uniform, filled_array, full_array, full_of, without_axes, operand_misfit, converted_at, unless_misfit}
+use Rattle.nd_memory.specs.Want.{out_of_memory}
 use Rattle.nd_operation.specs.declared.refusals.fault.StmtFault.{StmtFault}
 use Rattle.nd_operation.specs.declared.refusals.stop.Stop.{Stop}
 use Rattle.nd_operation.specs.declared.refusals.stop.Stop.TheVariants.{Memory, Refused}
@@ -46,11 +47,11 @@ refuses_new m f h = ap (λ m. decide m >>= give) h
 pub new_refused : (m : Result Made Fault) (f : StmtFault) (o : Result New Stop) → IsErrAnd o (λ x. x ≡ Refused f) → m ≡ Err (fault_of f) → MakesNew o m
 new_refused m f o is h = new_stops m (Refused f) o is (refuses_new m (fault_of f) h)
 
-pub new_memory : (m : Result Made Fault) (o : Result New Stop) → IsErrAnd o (λ x. x ≡ Memory) → MakesNew o m
-new_memory m o is = new_stops m Memory o is tt
+pub new_memory : (m : Result Made Fault) (o : Result New Stop) → IsErrAnd o (λ x. x ≡ Memory out_of_memory) → MakesNew o m
+new_memory m o is = new_stops m (Memory out_of_memory) o is tt
 
 stopped : {A X : Type 0} (v : X → A) (t : Result A Fault) (go : A → Result Made Fault) (e : Stop) → Makes v (Err e) t → MakesNew (Err e) (refusing.◌>>=◌ t go)
-stopped v t go Memory h = tt
+stopped v t go (Memory m) h = tt
 stopped v t go (Refused f) h = refuses_new (refusing.◌>>=◌ t go) (fault_of f) (ap (λ r. refusing.◌>>=◌ r go) h)
 
 -- the exit by `?`
@@ -188,7 +189,7 @@ pub lengths_exit : (os : List Operand) (go : List ℕ → Result Made Fault) (e 
 lengths_exit os go e o is h = new_stops (refusing.◌>>=◌ (lengths_of os) go) e o is (at e h)
   where
     at : (e : Stop) → Makes {X = List ℕ} (λ v. v) (Err e) (clip_lengths (lengths_of os)) → MakesNew (Err e) (refusing.◌>>=◌ (lengths_of os) go)
-    at Memory h = tt
+    at (Memory m) h = tt
     at (Refused f) h = refuses_new (refusing.◌>>=◌ (lengths_of os) go) (fault_of f) (ap (λ r. refusing.◌>>=◌ r go) (not_read (lengths_of os) (fault_of f) h))
 
 -- ---- lengths read from left to right

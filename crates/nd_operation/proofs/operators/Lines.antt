@@ -95,5 +95,5 @@ stops_line {Y} v w part all e out more is h =
     subst (λ (out : Result Y Stop). Makes w out (limit_line all)) (sym (p.1 ∙ ap Err p.2)) (go e h)
   where
     go : (e : Stop) → Makes v (Err e) (limit_line part) → Makes w (Err e) (limit_line all)
-    go Memory h = tt
+    go (Memory m) h = tt
     go (Refused f) h = more (fault_of f) h

@@ -158,7 +158,7 @@ not_made (Err e) f h = let same : e ≡ f = cc in ap Err same
 
 -- the exit by `?`
 pub exits_map : (r : Result Numbers Fault) (f : MapFault) (o : Result New Stop) → IsErrAnd o (λ x. x ≡ map_stop f) → Makes (λ (m : Geo × List ℕ). m) (Err f) (array_of r) → MakesNew o (numbers_made r)
-exits_map r Memory o is h = new_memory (numbers_made r) o is
+exits_map r (Memory m) o is h = new_memory (numbers_made r) o is
 exits_map r (map_fault.Ufunc f) o is h = new_refused (numbers_made r) (stmt_fault.Ufunc f) o is (not_made r _ h)
 exits_map r (map_fault.View f) o is h = new_refused (numbers_made r) (stmt_fault.View f) o is (not_made r _ h)
 
@@ -169,7 +169,7 @@ exits_operand r f o is h =
     subst (λ (o : Result New Stop). StandsFor o (numbers_made r)) (sym (p.1 ∙ ap Err p.2)) (at f h)
   where
     at : (f : MapFault) → Makes (λ (m : Geo × List ℕ). m) (Err f) (array_of r) → StandsFor (Err (map_stop f)) (numbers_made r)
-    at Memory h = tt
+    at (Memory m) h = tt
     at (map_fault.Ufunc f) h = not_made r _ h
     at (map_fault.View f) h = not_made r _ h
 

@@ -3,6 +3,7 @@ use Rattle.std.proofs.Common.{◌≡◌, Result, Err, IsErrAnd, sym, ap, ◌∙�
 use Rattle.std.proofs.lemmas.Result.{err_from_is_err_and}
 use Rattle.nd_model.specs.Cells.Fault.{Fault}
 use Rattle.nd_model.specs.Cells.Refusing as refusing
+use Rattle.nd_memory.specs.Want.{out_of_memory}
 use Rattle.nd_ufunc.specs.Elementwise.Faults as mapping
 use Rattle.nd_ufunc.specs.declared.elementwise.fault.MapFault.{MapFault}
 use Rattle.nd_ufunc.specs.declared.elementwise.fault.MapFault.TheVariants as map_fault
@@ -21,9 +22,9 @@ makes_refused {A} {Y} w m f o is h =
     subst (λ (o : Result Y Stop). Makes w o m) (sym (p.1 ∙ ap Err p.2)) h
 
 -- the exit by `?` where memory ran out
-pub makes_memory : {A Y : Type 0} (w : Y → A) (m : Result A Fault) (o : Result Y Stop) → IsErrAnd o (λ x. x ≡ Memory) → Makes w o m
+pub makes_memory : {A Y : Type 0} (w : Y → A) (m : Result A Fault) (o : Result Y Stop) → IsErrAnd o (λ x. x ≡ Memory out_of_memory) → Makes w o m
 makes_memory {A} {Y} w m o is =
-    let p : (x : Stop) × (o ≡ Err x) × (x ≡ Memory) = err_from_is_err_and o is in
+    let p : (x : Stop) × (o ≡ Err x) × (x ≡ Memory out_of_memory) = err_from_is_err_and o is in
     subst (λ (o : Result Y Stop). Makes w o m) (sym (p.1 ∙ ap Err p.2)) tt
 
 -- a refusal that is told, of what takes no memory
@@ -41,8 +42,8 @@ says_not {A} {B} {Y} w t f e o is h =
 
 -- what a function takes no arrays for is told
 pub makes_mapped : {A X Y : Type 0} (v : X → A) (w : Y → A) (m : Result A Fault) (f : MapFault) (o : Result Y Stop) → IsErrAnd o (λ x. x ≡ map_stop f) → mapping.Makes v (Err f) m → Makes w o m
-makes_mapped {A} {X} {Y} v w m map_fault.Memory o is h =
-    let p : (x : Stop) × (o ≡ Err x) × (x ≡ Memory) = err_from_is_err_and o is in
+makes_mapped {A} {X} {Y} v w m (map_fault.Memory want) o is h =
+    let p : (x : Stop) × (o ≡ Err x) × (x ≡ Memory out_of_memory) = err_from_is_err_and o is in
     subst (λ (o : Result Y Stop). Makes w o m) (sym (p.1 ∙ ap Err p.2)) tt
 makes_mapped v w m (map_fault.Ufunc f) o is h = makes_refused w m (stmt_fault.Ufunc f) o is h
 makes_mapped v w m (map_fault.View f) o is h = makes_refused w m (stmt_fault.View f) o is h

@@ -46,13 +46,13 @@ NewLies (Array view block) = LiesIn (length block) view
 -- the definition's result is made, and as an operand it is the one that was made, unless memory ran out
 abbrev pub StandsFor : Result New Stop → Result operand.Made Fault → Type 0
 StandsFor (Ok new) made = (m : operand.Made) × (made ≡ Ok m) × (operand_of_made m ≡ operand_of_new new)
-StandsFor (Err Memory) made = Unit {0}
+StandsFor (Err (Memory m)) made = Unit {0}
 StandsFor (Err (Refused f)) made = made ≡ Err (fault_of f)
 
 -- what is given of the definition's result, unless memory ran out
 abbrev pub MakesNew : Result New Stop → Result operand.Made Fault → Type 0
 MakesNew (Ok n) made = (decide made >>= give) ≡ given n
-MakesNew (Err Memory) made = Unit {0}
+MakesNew (Err (Memory m)) made = Unit {0}
 MakesNew (Err (Refused f)) made = (decide made >>= give) ≡ Refuses (fault_of f)
 
 -- what a call of one operand makes

@@ -14,5 +14,5 @@ Says view (Err f) y = y ≡ Err (fault_of f)
 -- the same, unless memory ran out
 abbrev pub Makes : {X Y : Type 0} → (X → Y) → Result X Stop → Result Y Fault → Type 0
 Makes view (Ok x) y = y ≡ Ok (view x)
-Makes view (Err Memory) y = Unit {0}
+Makes view (Err (Memory m)) y = Unit {0}
 Makes view (Err (Refused f)) y = y ≡ Err (fault_of f)

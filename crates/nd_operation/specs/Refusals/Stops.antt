@@ -14,17 +14,17 @@ use Rattle.nd_operation.specs.declared.refusals.stop.Stop.TheVariants.{Memory, R
 
 abbrev pub type_stop : TypeFault → Stop
 type_stop type_fault.BadType = Refused (Stmt BadType)
-type_stop type_fault.OutOfMemory = Memory
+type_stop (type_fault.Memory m) = Memory m
 
 abbrev pub format_stop : FormatError → Stop
-format_stop format_error.Memory = Memory
+format_stop (format_error.Memory m) = Memory m
 format_stop (format_error.Fault f) = Refused (Format f)
 
 abbrev pub npy_stop : NpyError → Stop
-npy_stop npy_error.Memory = Memory
+npy_stop (npy_error.Memory m) = Memory m
 npy_stop (npy_error.Fault f) = Refused (Npy f)
 
 abbrev pub map_stop : MapFault → Stop
-map_stop map_fault.Memory = Memory
+map_stop (map_fault.Memory m) = Memory m
 map_stop (map_fault.Ufunc f) = Refused (Ufunc f)
 map_stop (map_fault.View f) = Refused (View f)

@@ -1,14 +1,15 @@
 //! `Stop`: why an evaluation stops, by a refusal or for want of memory.
 
 ghost use Rattle.std.specs.Prelude.{◌≡◌};
+ghost use Rattle.nd_memory.specs.Want.{out_of_memory};
 ghost use Rattle.nd_operation.specs.declared.refusals.fault.StmtFault.TheVariants.{Shape};
 ghost use Rattle.nd_operation.specs.declared.refusals.stop.Stop.TheVariants.{Memory, Refused};
 ghost use Rattle.nd_operation.specs.Refusals.Faults.{refusal_of_select};
 ghost use Rattle.nd_operation.specs.Refusals.Stops.{format_stop, map_stop, npy_stop, type_stop};
 
 use crate::refusals::fault::{IndexFault, StmtError, StmtFault};
-use nd_heap::OutOfMemory;
 use nd_index::basic::SelectFault;
+use nd_memory::OutOfMemory;
 use nd_npy::header::NpyError;
 use nd_npy::pep3118::FormatError;
 use nd_shape::ShapeFault;
@@ -19,7 +20,7 @@ use std::alloc::{AllocError, AllocFailed};
 /// Why an evaluation stops: want of memory, or a refusal of the statement.
 #[derive(Drop)]
 pub enum Stop {
-    Memory,
+    Memory(OutOfMemory),
     Refused(StmtFault),
 }
 
@@ -56,10 +57,10 @@ impl From<ShapeFault> for Stop {
 }
 
 impl From<OutOfMemory> for Stop {
-    ghost from_gives = { λ _ e. e ≡ Memory };
+    ghost from_gives = { λ _ e. e ≡ Memory out_of_memory };
 
-    fn from(_error: OutOfMemory) -> Stop {
-        Stop::Memory
+    fn from(memory: OutOfMemory) -> Stop {
+        Stop::Memory(memory)
     }
 }
 
@@ -69,7 +70,7 @@ impl From<TypeFault> for Stop {
     fn from(fault: TypeFault) -> Stop {
         match fault {
             TypeFault::BadType => Stop::Refused(StmtFault::Stmt(StmtError::BadType)),
-            TypeFault::OutOfMemory => Stop::Memory,
+            TypeFault::Memory(memory) => Stop::Memory(memory),
         }
     }
 }
@@ -79,7 +80,7 @@ impl From<FormatError> for Stop {
 
     fn from(error: FormatError) -> Stop {
         match error {
-            FormatError::Memory => Stop::Memory,
+            FormatError::Memory(memory) => Stop::Memory(memory),
             FormatError::Fault(fault) => Stop::Refused(StmtFault::Format(fault)),
         }
     }
@@ -90,7 +91,7 @@ impl From<NpyError> for Stop {
 
     fn from(error: NpyError) -> Stop {
         match error {
-            NpyError::Memory => Stop::Memory,
+            NpyError::Memory(memory) => Stop::Memory(memory),
             NpyError::Fault(fault) => Stop::Refused(StmtFault::Npy(fault)),
         }
     }
@@ -101,7 +102,7 @@ impl From<MapFault> for Stop {
 
     fn from(fault: MapFault) -> Stop {
         match fault {
-            MapFault::Memory => Stop::Memory,
+            MapFault::Memory(memory) => Stop::Memory(memory),
             MapFault::Ufunc(fault) => Stop::Refused(StmtFault::Ufunc(fault)),
             MapFault::View(fault) => Stop::Refused(StmtFault::View(fault)),
         }
@@ -109,17 +110,17 @@ impl From<MapFault> for Stop {
 }
 
 impl From<AllocError> for Stop {
-    ghost from_gives = { λ _ e. e ≡ Memory };
+    ghost from_gives = { λ _ e. e ≡ Memory out_of_memory };
 
-    fn from(_error: AllocError) -> Stop {
-        Stop::Memory
+    fn from(refused: AllocError) -> Stop {
+        Stop::Memory(refused.into())
     }
 }
 
 impl<T: Drop> From<AllocFailed<T>> for Stop {
-    ghost from_gives = { λ _ e. e ≡ Memory };
+    ghost from_gives = { λ _ e. e ≡ Memory out_of_memory };
 
-    fn from(_failed: AllocFailed<T>) -> Stop {
-        Stop::Memory
+    fn from(failed: AllocFailed<T>) -> Stop {
+        Stop::Memory(failed.into())
     }
 }

@@ -17,12 +17,12 @@ use Rattle.nd_parse.specs.declared.reader.read.Failure.TheVariants as failures
 use Rattle.nd_parse.specs.Reader.Gives.{tokens_of, reason_of, stop_of, Fails}
 
 pub fails_on : {Y Z : Type 0} (e : Failure) (r : Result Y grammar.Stop) (k : Y → Result Z grammar.Stop) → Fails e r → Fails e (r >>= k)
-fails_on failures.Memory r k h = tt
+fails_on (failures.Memory m) r k h = tt
 fails_on (failures.Stopped s) r k h = rw h refl
 
 pub many_fails : {A C : Type 0} (set : ℕ) (g : List A → C) (a : Gram model.Token A) (ts : List model.Token) (e : Failure) → Shrinks kind a → next_in kind set ts ≡ true
     → Fails e (read kind a ts) → Fails e (read kind (Many set g a) ts)
-many_fails set g a ts failures.Memory s h f = tt
+many_fails set g a ts (failures.Memory m) s h f = tt
 many_fails set g a ts (failures.Stopped x) s h f = many_err kind set g a ts (stop_of x) s h f
 
 -- the same stop, as the code has it

@@ -33,7 +33,7 @@ stop_of s = record { left = s.left; why = reason_of s.why }
 
 -- What a function returned, seen by view, is what reading gives, unless memory ran out.
 abbrev pub Fails : {Y : Type 0} → Failure → Result Y grammar.Stop → Type 0
-Fails failures.Memory read = Unit {0}
+Fails (failures.Memory m) read = Unit {0}
 Fails (failures.Stopped s) read = read ≡ Err (stop_of s)
 
 abbrev pub Gives : {X Y : Type 0} → (X → Y) → Result X Failure → Result Y grammar.Stop → Type 0

@@ -134,6 +134,6 @@ pub fn parse_cell(alloc: Global, text: &str) -> Result<Result<Vec<Line>, ParseFa
     match whole(alloc, &tokens) {
         Ok(lines) => Ok(Ok(lines)),
         Err(Failure::Stopped(stop)) => Ok(Err(fault_at(&tokens, stop))),
-        Err(Failure::Memory) => Err(AllocError),
+        Err(Failure::Memory(memory)) => Err(memory.into()),
     }
 }

@@ -1,5 +1,6 @@
 //! `take` and `Read`: reading one token, and where a reader stops.
 ghost use Rattle.std.specs.Prelude.{◌≡◌, IfOk, length, if◌then◌else◌, string_bytes};
+ghost use Rattle.nd_memory.specs.Want.{out_of_memory};
 ghost use Rattle.nd_model.specs.Grammar.Kinds.{kind};
 ghost use Rattle.nd_model.specs.Grammar.Predict.{read, next_in};
 ghost use Rattle.nd_model.specs.Grammar.Cells.{token, leaf, name, name_of, quoted_of, line_at};
@@ -10,6 +11,7 @@ ghost use Rattle.nd_parse.specs.declared.reader.read.Failure.TheVariants.{Memory
 ghost use Rattle.nd_parse.specs.declared.reader.read.Reason.TheVariants.{Itself};
 
 use crate::reader::kinds::{CALLED, NAME, next_in};
+use nd_memory::OutOfMemory;
 use nd_syntax::trees::Expr;
 use nd_token::{Token, Word};
 use std::alloc::{AllocError, AllocFailed, Global};
@@ -44,23 +46,23 @@ pub struct ReadStop {
 /// Why nothing was read: want of memory, or a refused token.
 #[derive(Drop)]
 pub enum Failure {
-    Memory,
+    Memory(OutOfMemory),
     Stopped(ReadStop),
 }
 
 impl From<AllocError> for Failure {
-    ghost from_gives = { λ _ e. e ≡ Memory };
+    ghost from_gives = { λ _ e. e ≡ Memory out_of_memory };
 
-    fn from(_e: AllocError) -> Failure {
-        Failure::Memory
+    fn from(refused: AllocError) -> Failure {
+        Failure::Memory(refused.into())
     }
 }
 
 impl<T: Drop> From<AllocFailed<T>> for Failure {
-    ghost from_gives = { λ _ e. e ≡ Memory };
+    ghost from_gives = { λ _ e. e ≡ Memory out_of_memory };
 
-    fn from(_e: AllocFailed<T>) -> Failure {
-        Failure::Memory
+    fn from(failed: AllocFailed<T>) -> Failure {
+        Failure::Memory(failed.into())
     }
 }
 

@@ -49,7 +49,7 @@ module _ (r : Reduction) (axis : Option ℤ) (keep : Bool) (o : Operand) (k : Ki
     -- the first refusal stands
     pub is_above : {X Y : Type 0} (v : X → Geo) (m : Y → Geo × List ℕ) (f : AxisFault) → Makes v (Err f) (unless_fault (limit_fault (size_of to) shape) (Ok (contiguous (One (little to)) shape)))
         → Makes m (Err f) (array_of (reduced_numbers r axis keep o))
-    is_above v m fault.Memory h = tt
+    is_above v m (fault.Memory want) h = tt
     is_above v m fault.NotNumbers h = above _ h
     is_above v m fault.NoAxis h = above _ h
     is_above v m fault.EmptyReduce h = above _ h

@@ -9,7 +9,7 @@ use Rattle.nd_reduce.specs.declared.axes.fault.AxisFault.TheVariants.{Memory, No
 -- what is worked out, unless memory ran out
 abbrev pub Makes : {X Y : Type 0} → (X → Y) → Result X AxisFault → Result Y model.Fault → Type 0
 Makes view (Ok x) y = y ≡ Ok (view x)
-Makes view (Err Memory) y = Unit {0}
+Makes view (Err (Memory m)) y = Unit {0}
 Makes view (Err NotNumbers) y = y ≡ Err (model.Reduce reduce.NotNumbers)
 Makes view (Err NoAxis) y = y ≡ Err (model.Reduce reduce.NoAxis)
 Makes view (Err EmptyReduce) y = y ≡ Err (model.Reduce reduce.EmptyReduce)

@@ -1,7 +1,9 @@
 //! `AxisFault`: why a reduction is refused.
 ghost use Rattle.std.specs.Prelude.{◌≡◌};
+ghost use Rattle.nd_memory.specs.Want.{out_of_memory};
 ghost use Rattle.nd_reduce.specs.declared.axes.fault.AxisFault.TheVariants.{Memory, View};
 
+use nd_memory::OutOfMemory;
 use nd_view::ViewFault;
 use std::alloc::AllocError;
 
@@ -9,7 +11,7 @@ use std::alloc::AllocError;
 #[derive(Clone, Copy)]
 pub enum AxisFault {
     /// Want of memory for the results.
-    Memory,
+    Memory(OutOfMemory),
     /// The operand's elements are structures.
     NotNumbers,
     /// The operand has no such axis.
@@ -21,9 +23,9 @@ pub enum AxisFault {
 }
 
 impl From<AllocError> for AxisFault {
-    ghost from_gives = { λ _ e. e ≡ Memory };
+    ghost from_gives = { λ _ e. e ≡ Memory out_of_memory };
 
-    fn from(_error: AllocError) -> AxisFault {
-        AxisFault::Memory
+    fn from(refused: AllocError) -> AxisFault {
+        AxisFault::Memory(refused.into())
     }
 }

@@ -307,19 +307,15 @@ impl<C: CellRunner> Schedule<C> {
             meter.old meter.new }
     {
         let mut state = self.begin(at, session);
-        let Ok(()) = run_again::<C>(
-            self.alloc,
-            meter,
-            source,
-            &self.records[at],
-            &self.world,
-            at,
-            &mut state,
-        ) else {
-            drop(state);
-            return Err(AllocError);
-        };
-        self.swept_behind(meter, &self.world, at + 1, at + 1, state)
+        let (before, world) = (&self.records[at], &self.world);
+        match run_again::<C>(self.alloc, meter, source, before, world, at, &mut state) {
+            Ok(()) => {}
+            Err(refused) => {
+                drop(state);
+                return Err(refused);
+            }
+        }
+        self.swept_behind(meter, world, at + 1, at + 1, state)
     }
 
     /// A cell of another text, with the label of the one at the place.
@@ -536,9 +532,12 @@ impl<C: CellRunner> Schedule<C> {
             meter.old meter.new }
     {
         let mut state = self.begin(at, session);
-        let Ok(new) = run_new::<C>(self.alloc, meter, source, &self.world, &mut state) else {
-            drop(state);
-            return Err(AllocError);
+        let new = match run_new::<C>(self.alloc, meter, source, &self.world, &mut state) {
+            Ok(new) => new,
+            Err(refused) => {
+                drop(state);
+                return Err(refused);
+            }
         };
         let swept = self.swept_behind(meter, &self.world, at, at + 1, state)?;
         Ok(Grown { new, swept })
@@ -600,11 +599,14 @@ impl<C: CellRunner> Schedule<C> {
             meter.old meter.new }
     {
         let added = self.run_between(meter, at, &cell)?;
-        let Ok(()) = make_rooms::<C>(&mut self.cells, &mut self.records, &mut self.words, at) else {
-            drop(added);
-            drop(cell);
-            return Err(AllocError);
-        };
+        match make_rooms::<C>(&mut self.cells, &mut self.records, &mut self.words, at) {
+            Ok(()) => {}
+            Err(refused) => {
+                drop(added);
+                drop(cell);
+                return Err(refused);
+            }
+        }
         let Added { grown, fresh } = added;
         let Grown { new, swept } = grown;
         install::<C>(&mut self.records, &mut self.words, swept.changed);

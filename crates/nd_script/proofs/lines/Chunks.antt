@@ -5,7 +5,7 @@ use Rattle.std.proofs.lemmas.List.{take_rest}
 use Rattle.nd_script.specs.Lines.Counts.{Tally}
 use Rattle.nd_model.specs.Book.Script.{Stage, Between}
 use Rattle.nd_script.specs.declared.lines.run_fault.RunFault.{RunFault}
-use Rattle.nd_script.specs.declared.lines.run_fault.RunFault.TheVariants.{ReadFault, WriteFault, LineTooLong, OutOfMemory}
+use Rattle.nd_script.specs.declared.lines.run_fault.RunFault.TheVariants.{ReadFault, WriteFault, LineTooLong, Memory}
 use Rattle.nd_model.specs.Book.ScriptRuns.{most_line, IsInLine}
 use Rattle.nd_script.specs.Lines.Run.{IsTooLong, FitsLine, LineRuns, Runs, Stops, StopsInLine}
 use Rattle.nd_script.proofs.lines.Lines.{newline_at, no_newline, in_line_append}
@@ -29,7 +29,7 @@ extend_stops : (f : RunFault) (s : Stage) (line bytes : List ℕ) (t : Stage) (b
 extend_stops ReadFault s line bytes t begun part tail old new was now inside long r = absurd long
 extend_stops WriteFault s line bytes t begun part tail old new was now inside long r = absurd long
 extend_stops LineTooLong s line bytes t begun part tail old new was now inside long r = stops_long s line bytes t begun part tail old new was now inside long r
-extend_stops OutOfMemory s line bytes t begun part tail old new was now inside long r = stops_memory s line bytes t begun (part ++ tail) old new was now r
+extend_stops (Memory m) s line bytes t begun part tail old new was now inside long r = stops_memory s line bytes t begun (part ++ tail) old new was now r
 
 pub stops_extend : (f : RunFault) (s : Stage) (line bytes : List ℕ) (t : Stage) (begun part rest all : List ℕ) (i : ℕ) (old new : Tally) (was now : Option (List ℕ)) → position (λ c. c == 10) rest ≡ Some i → part ≡ take i rest → IsInLine begun
     → all ≡ bytes ++ rest → Runs s line bytes t begun old was now new → IsTooLong (begun ++ part) f → Stops f s line all old was now new
@@ -43,7 +43,7 @@ stops_in_line : (f : RunFault) (s : Stage) (line bytes : List ℕ) (t : Stage) (
 stops_in_line ReadFault s line bytes t begun tail old mid new was now then_now inside r l = absurd l
 stops_in_line WriteFault s line bytes t begun tail old mid new was now then_now inside r l = stops_line s line bytes t begun tail old mid new was now then_now inside r l
 stops_in_line LineTooLong s line bytes t begun tail old mid new was now then_now inside r l = absurd l
-stops_in_line OutOfMemory s line bytes t begun tail old mid new was now then_now inside r l = rw (l.0, l.1) (stops_memory s line bytes t begun (10 ∷ tail) old mid was now r)
+stops_in_line (Memory m) s line bytes t begun tail old mid new was now then_now inside r l = rw (l.0, l.1) (stops_memory s line bytes t begun (10 ∷ tail) old mid was now r)
 
 pub stops_end : (f : RunFault) (s : Stage) (line bytes : List ℕ) (t : Stage) (begun part grown rest all : List ℕ) (i : ℕ) (old mid new : Tally) (was now then_now : Option (List ℕ)) → position (λ c. c == 10) rest ≡ Some i → part ≡ take i rest → IsInLine begun
     → all ≡ bytes ++ rest → Runs s line bytes t begun old was now mid → grown ≡ begun ++ part → StopsInLine f t grown mid now then_now new → Stops f s line all old was then_now new

@@ -6,10 +6,11 @@ use Rattle.std.specs.List.{slice_split}
 use Rattle.std.proofs.KnownBytes.{Appends-nil, Appends-trans, Consumes-kept, Consumes-trans}
 use Rattle.std.proofs.lemmas.Bool.{ne_eqb, false≢true}
 use Rattle.std.proofs.lemmas.List.Splits.{slice_split_at}
+use Rattle.nd_memory.specs.Want.{out_of_memory}
 use Rattle.nd_script.specs.Lines.Counts.{Tally, CountedAnswer, CountedAnswers, CutCountedAnswers, CountedAt, CountedBefore, CountedToEnd, CountedStop}
 use Rattle.nd_model.specs.Book.Script.{Command, Bad, AreFirst, Line, Whole, Opens, Stage, Between, Within, step, step_of_line, read_line, is_dot, closed, commands, commands_from, completed, completed_from, lines_of, ended_lines, last_line, left_open}
 use Rattle.nd_script.specs.declared.lines.run_fault.RunFault.{RunFault}
-use Rattle.nd_script.specs.declared.lines.run_fault.RunFault.TheVariants.{ReadFault, WriteFault, LineTooLong, OutOfMemory}
+use Rattle.nd_script.specs.declared.lines.run_fault.RunFault.TheVariants.{ReadFault, WriteFault, LineTooLong, Memory}
 use Rattle.nd_model.specs.Book.ScriptRuns.{most_line, AreWholeLines, IsInLine}
 use Rattle.nd_script.specs.Lines.Run.{open_answer, run_fault_of, stage_behind, LineRuns, LineStops, Finishes, FinishStops, Runs, AnswersAt, Before, Stops, StopsAtEnd, StopsInLine, Wrote}
 use Rattle.nd_script.proofs.lines.Lines.{one_line, parts_are_some}
@@ -231,7 +232,7 @@ stops_long s line bytes t begun part tail old new was now inside long r = record
 }
 
 -- no memory for a line
-pub stops_memory : (s : Stage) (line bytes : List ℕ) (t : Stage) (begun tail : List ℕ) (old new : Tally) (was now : Option (List ℕ)) → Runs s line bytes t begun old was now new → Stops OutOfMemory s line (bytes ++ tail) old was now new
+pub stops_memory : (s : Stage) (line bytes : List ℕ) (t : Stage) (begun tail : List ℕ) (old new : Tally) (was now : Option (List ℕ)) → Runs s line bytes t begun old was now new → Stops (Memory out_of_memory) s line (bytes ++ tail) old was now new
 stops_memory s line bytes t begun tail old new was now r = record {
   executed = r.executed;
   written = r.written;
@@ -346,7 +347,7 @@ pub finish_stopped : (f : RunFault) (s : Stage) (line : List ℕ) (old new : Tal
 finish_stopped ReadFault s line old new was now inside some l = l
 finish_stopped WriteFault s line old new was now inside some l = finish_cut s line old new was now inside some l
 finish_stopped LineTooLong s line old new was now inside some l = l
-finish_stopped OutOfMemory s line old new was now inside some l = l
+finish_stopped (Memory m) s line old new was now inside some l = l
 
 -- ---- whole runs
 
@@ -391,7 +392,7 @@ counted_before {given = given} {begun = begun} r = (r.whole, begun, r.place, r.a
 
 -- memory was wanted to read the last line
 unread_at_end : (unread left : Option (List ℕ)) (given : List ℕ) (t : Stage) (begun : List ℕ) (old new : Tally) (was now : Option (List ℕ)) → Consumes unread left given → IsAtEnd left
-    → Runs Between [] given t begun old was now new → CountedStop (run_fault_of OutOfMemory) unread left old was now new
+    → Runs Between [] given t begun old was now new → CountedStop (run_fault_of (Memory out_of_memory)) unread left old was now new
 unread_at_end unread left given t begun old new was now taken ended r = record {
   given = given;
   written = r.written;
@@ -407,7 +408,7 @@ pub stopped_at_end : (f : RunFault) (unread left : Option (List ℕ)) (given : L
 stopped_at_end ReadFault unread left given t begun old mid new was now then_now taken ended r q = absurd q
 stopped_at_end WriteFault unread left given t begun old mid new was now then_now taken ended r q = cut_at_end unread left given t begun old mid new was now then_now taken ended r q
 stopped_at_end LineTooLong unread left given t begun old mid new was now then_now taken ended r q = absurd q
-stopped_at_end OutOfMemory unread left given t begun old mid new was now then_now taken ended r q = rw (q.0, q.1) (unread_at_end unread left given t begun old mid was now taken ended r)
+stopped_at_end (Memory m) unread left given t begun old mid new was now then_now taken ended r q = rw (q.0, q.1) (unread_at_end unread left given t begun old mid was now taken ended r)
 
 -- a read failed, or the turns ran out
 pub stopped_in_reading : (unread left : Option (List ℕ)) (given : List ℕ) (t : Stage) (begun : List ℕ) (old new : Tally) (was now : Option (List ℕ)) → Consumes unread left given → IsInLine begun
@@ -435,13 +436,13 @@ runs_at : (f : RunFault) (given : List ℕ) (old new : Tally) (written : List �
 runs_at ReadFault given old new written executed other first answers before = absurd (other refl)
 runs_at WriteFault given old new written executed other first answers before = (executed, first, answers)
 runs_at LineTooLong given old new written executed other first answers before = (before.0, before.1, (completed_are_first before.0 before.1.are_whole, rw (sym before.2) answers))
-runs_at OutOfMemory given old new written executed other first answers before = (before.0, before.1, before.2, before.3, (completed_are_first before.0 before.3, rw (← before.4) answers))
+runs_at (Memory m) given old new written executed other first answers before = (before.0, before.1, before.2, before.3, (completed_are_first before.0 before.3, rw (← before.4) answers))
 
 answers_before : (f : RunFault) (cs ds : List Command) (old mid new : Tally) (one two : List ℕ) → CountedAnswers cs old one mid → AnswersAt f ds mid two new → AnswersAt f (cs ++ ds) old (one ++ two) new
 answers_before ReadFault cs ds old mid new one two first second = CountedAnswers-append cs ds old mid new one two first second
 answers_before WriteFault cs ds old mid new one two first second = CutCountedAnswers-append cs ds old mid new one two first second
 answers_before LineTooLong cs ds old mid new one two first second = CountedAnswers-append cs ds old mid new one two first second
-answers_before OutOfMemory cs ds old mid new one two first second = CountedAnswers-append cs ds old mid new one two first second
+answers_before (Memory m) cs ds old mid new one two first second = CountedAnswers-append cs ds old mid new one two first second
 
 before_later : (f : RunFault) (s t : Stage) (cs ds : List Command) (whole bytes all : List ℕ) → all ≡ whole ++ bytes → AreWholeLines whole → cs ≡ completed_from s (ended_lines whole) → t ≡ stage_behind s (ended_lines whole)
     → Before f t ds bytes → Before f s (cs ++ ds) all
@@ -460,7 +461,7 @@ before_later LineTooLong s t cs ds whole bytes all e w done stage before =
       },
       done_later s t cs ds (ended_lines whole) (ended_lines before.0) done stage before.2 ∙ sym (ap (completed_from s) (ended_lines-append whole before.0 w)),
     )
-before_later OutOfMemory s t cs ds whole bytes all e w done stage before = (
+before_later (Memory m) s t cs ds whole bytes all e w done stage before = (
   whole ++ before.0,
   before.1,
   e ∙ ap (λ xs. whole ++ xs) before.2 ∙ sym (append_assoc whole before.0 before.1),

@@ -7,14 +7,14 @@ use Rattle.nd_model.specs.Book.Script.{Command, IsFront, Stage, Between, Within,
 use Rattle.nd_model.specs.Book.ScriptRuns.{most_line, AreWholeLines, IsInLine, LongLineBehind}
 use Rattle.nd_model.specs.Book.ScriptRuns as model
 use Rattle.nd_script.specs.declared.lines.run_fault.RunFault.{RunFault}
-use Rattle.nd_script.specs.declared.lines.run_fault.RunFault.TheVariants.{ReadFault, WriteFault, LineTooLong, OutOfMemory}
+use Rattle.nd_script.specs.declared.lines.run_fault.RunFault.TheVariants.{ReadFault, WriteFault, LineTooLong, Memory}
 
 -- the fault as the definitions have it
 abbrev pub run_fault_of : RunFault → model.RunFault
 run_fault_of ReadFault = model.ReadFault
 run_fault_of WriteFault = model.WriteFault
 run_fault_of LineTooLong = model.LineTooLong
-run_fault_of OutOfMemory = model.OutOfMemory
+run_fault_of (Memory m) = model.OutOfMemory
 
 -- the beginning of a line, not too long
 pub record FitsLine (line : List ℕ) : Type 0 where
@@ -26,7 +26,7 @@ abbrev pub IsTooLong : (line : List ℕ) → RunFault → Type 0
 IsTooLong line ReadFault = ⊥
 IsTooLong line WriteFault = ⊥
 IsTooLong line LineTooLong = most_line < length line
-IsTooLong line OutOfMemory = Unit {0}
+IsTooLong line (Memory m) = Unit {0}
 
 -- A front of the answer was written, and all of it where the flag is set.
 pub record Wrote (was : Option (List ℕ)) (answer : List ℕ) (is_whole : Bool) (now : Option (List ℕ)) : Type 0 where
@@ -84,13 +84,13 @@ abbrev pub StopsInLine : RunFault → Stage → (line : List ℕ) → Tally → 
 StopsInLine ReadFault s line old was now new = ⊥
 StopsInLine WriteFault s line old was now new = LineStops s line old was now new
 StopsInLine LineTooLong s line old was now new = ⊥
-StopsInLine OutOfMemory s line old was now new = (new ≡ old) × (now ≡ was)
+StopsInLine (Memory m) s line old was now new = (new ≡ old) × (now ≡ was)
 
 abbrev pub StopsAtEnd : RunFault → Stage → (line : List ℕ) → Tally → (was now : Option (List ℕ)) → Tally → Type 0
 StopsAtEnd ReadFault s line old was now new = ⊥
 StopsAtEnd WriteFault s line old was now new = FinishStops s line old was now new
 StopsAtEnd LineTooLong s line old was now new = ⊥
-StopsAtEnd OutOfMemory s line old was now new = (new ≡ old) × (now ≡ was)
+StopsAtEnd (Memory m) s line old was now new = (new ≡ old) × (now ≡ was)
 
 -- ---- some bytes
 
@@ -117,14 +117,14 @@ abbrev pub AnswersAt : RunFault → List Command → Tally → List ℕ → Tall
 AnswersAt ReadFault cs old written new = CountedAnswers cs old written new
 AnswersAt WriteFault cs old written new = CutCountedAnswers cs old written new
 AnswersAt LineTooLong cs old written new = CountedAnswers cs old written new
-AnswersAt OutOfMemory cs old written new = CountedAnswers cs old written new
+AnswersAt (Memory m) cs old written new = CountedAnswers cs old written new
 
 -- what was carried out before the fault: at a line that is too long or could not be read, the commands of the lines before it
 abbrev pub Before : RunFault → Stage → (executed : List Command) → (bytes : List ℕ) → Type 0
 Before ReadFault s executed bytes = Unit {0}
 Before WriteFault s executed bytes = Unit {0}
 Before LineTooLong s executed bytes = (front : List ℕ) × LongLineBehind front bytes × (executed ≡ completed_from s (ended_lines front))
-Before OutOfMemory s executed bytes = (front : List ℕ) × (rest : List ℕ) × (bytes ≡ front ++ rest) × AreWholeLines front × (executed ≡ completed_from s (ended_lines front))
+Before (Memory m) s executed bytes = (front : List ℕ) × (rest : List ℕ) × (bytes ≡ front ++ rest) × AreWholeLines front × (executed ≡ completed_from s (ended_lines front))
 
 -- The run stopped within these bytes.
 pub record Stops (f : RunFault) (s : Stage) (line bytes : List ℕ) (old : Tally) (was now : Option (List ℕ)) (new : Tally) : Type 0 where

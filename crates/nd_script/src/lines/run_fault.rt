@@ -1,8 +1,10 @@
 //! `RunFault`: why a script is not run to its end.
 
 ghost use Rattle.std.specs.Prelude.{◌≡◌};
+ghost use Rattle.nd_memory.specs.Want.{out_of_memory};
 ghost use Rattle.nd_script.specs.declared.lines.run_fault.RunFault.TheVariants as faults;
 
+use nd_memory::OutOfMemory;
 use std::alloc::AllocError;
 use thiserror::Error;
 
@@ -21,13 +23,13 @@ pub enum RunFault {
     /// Want of memory to read a line: for its bytes, for a source or for an input. No answer takes
     /// memory of its own size.
     #[error("out of memory")]
-    OutOfMemory,
+    Memory(OutOfMemory),
 }
 
 impl From<AllocError> for RunFault {
-    ghost from_gives = { λ _ e. e ≡ faults.OutOfMemory };
+    ghost from_gives = { λ _ e. e ≡ faults.Memory out_of_memory };
 
-    fn from(_e: AllocError) -> RunFault {
-        RunFault::OutOfMemory
+    fn from(refused: AllocError) -> RunFault {
+        RunFault::Memory(refused.into())
     }
 }

@@ -33,7 +33,6 @@ ghost use Rattle.nd_script.specs.Words.Command.{source_in, words_in};
 ghost use Rattle.nd_script.specs.Words.Words.{parts_behind, parts_of, six_of};
 
 use crate::words::word::{number_of, split_word};
-use hex::FromHexError;
 use std::alloc::{AllocError, Global};
 
 /// An input as a line writes it: the bytes of an NPY file, or a strided buffer (PEP 3118).
@@ -173,22 +172,14 @@ fn bytes_of(alloc: Global, word: &str) -> Result<Option<Vec<u8>>, AllocError>
 fn bytes_of_digits(alloc: Global, word: &str) -> Result<Option<Vec<u8>>, AllocError>
     ensures { IfOk result (λ o. option_map (λ v. v.items) o ≡ hex_bytes word.now) }
 {
-    match hex::decode(alloc, word.as_bytes()) {
-        Ok(bytes) => Ok(Some(bytes)),
-        Err(error) => no_bytes(error),
+    let digits = word.as_bytes();
+    if digits.len() % 2 == 1 {
+        return Ok(None);
     }
-}
-
-/// No bytes for digits that are none; want of memory stays an error.
-fn no_bytes(error: FromHexError) -> Result<Option<Vec<u8>>, AllocError>
-    ensures value { IfOk result (λ o. (o ≡ None) × (error ≢ FromHexError.OutOfMemory)) }
-    ensures memory { IfErr result (λ _. error ≡ FromHexError.OutOfMemory) }
-{
-    match error {
-        FromHexError::OutOfMemory => Err(AllocError),
-        FromHexError::InvalidHexCharacter { .. }
-        | FromHexError::OddLength
-        | FromHexError::InvalidStringLength => Ok(None),
+    let mut bytes = vec![in alloc; 0u8; digits.len() / 2]?;
+    match hex::decode_to_slice(digits, &mut bytes) {
+        Ok(()) => Ok(Some(bytes)),
+        Err(_) => Ok(None),
     }
 }
 

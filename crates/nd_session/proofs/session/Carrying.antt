@@ -1,11 +1,12 @@
 -- What a change becomes behind runs of a cell.
-use Rattle.std.proofs.Common.{◌≡◌, ◌⊎◌, ℕ, true, false, cond, ◌||◌, nat_eq, bytes_eq, List, [], ◌∷◌, map, Option, Some, None, eqb-true, refl, sym, ap, subst, ◌∙◌, inl, inr, arith}
+use Rattle.std.proofs.Common.{◌≡◌, ◌⊎◌, ℕ, true, false, cond, ◌||◌, nat_eq, bytes_eq, List, [], ◌∷◌, map, slice_index, Option, Some, None, option_map, eqb-true, refl, sym, ap, subst, ◌∙◌, inl, inr, arith}
 use Rattle.std.specs.Prelude.{IsTrue}
 use Rattle.std.specs.List.{All, AllByRecursion}
 use Rattle.std.proofs.lemmas.Bool.{cases_Bool}
 use Rattle.std.proofs.lemmas.Bool.Decides.{nat_tests}
 use Rattle.std.proofs.lemmas.List.Elements.{recursion_from_All}
-use Rattle.nd_change.specs.Whole.{Whole, HasBase, IsWith, IsWithBoth, LeavesBase, LeavesName, binds_in}
+use Rattle.nd_change.specs.Change.{puts, puts_by}
+use Rattle.nd_change.specs.Whole.{Whole, HasBase, HasByte, HasPart, IsAsItWas, IsGone, IsWith, IsWithBoth, LeavesBase, LeavesName, LosesBase, binds_in}
 use Rattle.nd_heap.specs.declared.value.Base.{Base}
 use Rattle.nd_heap.specs.declared.value.Value.{Value}
 use Rattle.nd_heap.specs.declared.value.Value.TheVariants.{Number}
@@ -14,21 +15,22 @@ use Rattle.nd_heap.proofs.Same.{base_same, bytes_same, same_bases, same_bytes}
 use Rattle.nd_model.specs.Arrays.Value as model
 use Rattle.nd_model.specs.Arrays.Value.{lies_in}
 use Rattle.nd_model.specs.Book.Records.{Record}
-use Rattle.nd_model.specs.Cells.Running.{Binds, Unbinds, is_event_of, is_touched}
+use Rattle.nd_model.specs.Cells.Footprint.{Number as OfNumber}
+use Rattle.nd_model.specs.Cells.Running.{Binds, Byte, Length, Unbinds, is_event_of, is_touched}
 use Rattle.nd_model.specs.Cells.Running as running
-use Rattle.nd_model.specs.Cells.Session.{Session, collected, lookup}
+use Rattle.nd_model.specs.Cells.Session.{Session, collected, held_bytes, is_held, lookup}
 use Rattle.nd_types.specs.declared.num.Num.{Num}
 use Rattle.nd_types.specs.declared.num.Num.TheVariants as numbers
 use Rattle.nd_types.specs.declared.num.Num.TheVariants.{Int, Scalar}
 use Rattle.nd_session.specs.declared.session.found.FoundBytes.{FoundBytes}
-use Rattle.nd_session.specs.Session.Change.{HasDone, IsNoted, LeavesBlock, is_bound_in}
+use Rattle.nd_session.specs.Session.Change.{AreBytesNoted, HasDone, IsByteNow, IsCarriedPast, IsNoted, IsWrittenNow, LeavesBlock, is_bound_in}
 use Rattle.nd_session.specs.Session.Changes.{ChangesData, writes_in}
 use Rattle.nd_session.specs.Session.Found as places
-use Rattle.nd_session.specs.Session.Found.{by_base, byte_at, bytes_of, lookup_base}
+use Rattle.nd_session.specs.Session.Found.{by_base, byte_at, bytes_of, found_at, lookup_base}
 use Rattle.nd_session.proofs.session.Agreeing.{false_true}
 use Rattle.nd_session.proofs.session.Gathering.{event_name}
 use Rattle.nd_session.proofs.session.Reading.{base_all}
-use Rattle.nd_session.proofs.session.Standing.{noted_on, stays_noted}
+use Rattle.nd_session.proofs.session.Standing.{none_before, none_some, noted_on, stays_noted}
 use Rattle.nd_trace.specs.declared.trace.Event.{Event}
 use Rattle.nd_trace.specs.Events.{event_of, name_of_event}
 
@@ -77,12 +79,31 @@ set_base now old new c set = set c ∙ ap (λ t. cond t (Some (now c)) (old c)) 
 abbrev pub IsOwnNow : ℕ → (now : model.Base → List ℕ) (new : model.Base → Option (List ℕ)) → Event → Type 0
 IsOwnNow label now new e = (b : model.Base) → b.label ≡ label → IsTrue (is_bound_in b (event_of e)) → new b ≡ Some (now b)
 
-abbrev pub IsBaseNow : (now : model.Base → List ℕ) (new : model.Base → Option (List ℕ)) → Base × FoundBytes → Type 0
-IsBaseNow now new e = new (base_of e.0) ≡ Some (now (base_of e.0))
+-- so it is with an entry of what a cell wrote
+abbrev pub IsEntryNow : (now : model.Base → List ℕ) (label beside : ℕ) (new : model.Base → Option (List ℕ)) (is : model.Base → ℕ → Option ℕ) → Base × FoundBytes → Type 0
+IsEntryNow now label beside new is e = IsWrittenNow now label beside new is (base_of e.0) (found_at (bytes_of e.1))
 
--- a base has the bytes that it has now, or that it had before and the cell leaves it
-abbrev pub IsBlockWith : (now : model.Base → List ℕ) (old new : model.Base → Option (List ℕ)) → ChangesData → model.Base → Type 0
-IsBlockWith now old new d b = (new b ≡ Some (now b)) ⊎ ((new b ≡ old b) × LeavesBlock d b)
+-- it stays so, where more is noted
+pub entry_stays : (now : model.Base → List ℕ) (label beside : ℕ) (mid new : model.Base → Option (List ℕ)) (there is : model.Base → ℕ → Option ℕ) → IsNoted now mid new → AreBytesNoted now there is
+    → (e : Base × FoundBytes) → IsEntryNow now label beside mid there e → IsEntryNow now label beside new is e
+entry_stays now label beside mid new there is step bytes e h = elim h [
+  | inl here ↦ inl (stays_noted now mid new step b here)
+  | inr part ↦ elim (step b) [
+    | inl here ↦ inl here
+    | inr same ↦ inr (
+      same ∙ part.0,
+      part.1,
+      part.2,
+      λ p. elim (part.3 p) [
+        | inl here ↦ inl (stays_noted (λ p. slice_index (now b) p) (there b) (is b) (bytes b) p here)
+        | inr not ↦ inr not
+      ],
+    )
+  ]
+]
+  where
+    b : model.Base
+    b = base_of e.0
 
 -- no number lies in a base
 pub number_lies : (b : model.Base) (n : Num) → lies_in b (number_of n) ≡ false
@@ -116,26 +137,46 @@ module _ (now : model.Base → List ℕ) where
   no_writes : (es : List (Base × FoundBytes)) (b : model.Base) → lookup_base b (by_base bytes_of es) ≡ None → (p : ℕ) → byte_at (lookup_base b (by_base bytes_of es)) p ≡ None
   no_writes es b none p = ap (λ o. byte_at o p) none
 
-  pub blocks_with : (d : ChangesData) (events : List Event) (written : List (Base × FoundBytes)) (old mid new : model.Base → Option (List ℕ)) → map event_of events ≡ d.events → by_base bytes_of written ≡ d.written
-      → IsNoted now old mid → AllByRecursion (IsOwnNow d.label now mid) events → IsNoted now mid new → AllByRecursion (IsBaseNow now new) written
-      → (b : model.Base) → IsBlockWith now old new d b
-  blocks_with d events written old mid new same_events same_written one own two all b = writes (lookup_base b (by_base bytes_of written)) refl
-    where
-      left : ((p : ℕ) → writes_in d b p ≡ None) → (b.label ≡ d.label → binds_in b d.events ≡ false) → IsBlockWith now old new d b
-      left none leaves = elim (noted_on now old mid new one two b) [ inl here ↦ inl here | inr same ↦ inr (same, (leaves, none)) ]
+  module _ (d : ChangesData) (beside : ℕ) (events : List Event) (written : List (Base × FoundBytes)) (old mid new : model.Base → Option (List ℕ)) (was is : model.Base → ℕ → Option ℕ)
+      (same_events : map event_of events ≡ d.events) (same_written : by_base bytes_of written ≡ d.written)
+      (one : IsNoted now old mid) (own : AllByRecursion (IsOwnNow d.label now mid) events) (two : IsNoted now mid new) (bytes : AreBytesNoted now was is)
+      (all : AllByRecursion (IsEntryNow now d.label beside new is) written) where
+    left_in : (b : model.Base) → ((p : ℕ) → writes_in d b p ≡ None) → (b.label ≡ d.label → binds_in b d.events ≡ false) → IsCarriedPast now d beside old new was is b
+    left_in b none leaves = elim (noted_on now old mid new one two b) [ inl here ↦ inl here | inr same ↦ inr (inl (same, (leaves, none), bytes b)) ]
 
-      names : ((p : ℕ) → writes_in d b p ≡ None) → IsBlockWith now old new d b
-      names none = elim (cases_Bool (binds_in b (map event_of events))) [
-        | inl bound ↦ elim (cases_Bool (nat_eq b.label d.label)) [
-          | inl mine ↦ inl (stays_noted now mid new two b (bound_now d.label mid events own b (eqb-true b.label d.label mine) bound))
-          | inr away ↦ left none (λ is. absurd (let mine : nat_eq b.label d.label ≡ true = grind (arith, nat_tests) in cc))
-        ]
-        | inr not ↦ left none (λ is. ap (binds_in b) (sym same_events) ∙ not)
+    unwritten : (b : model.Base) → ((p : ℕ) → writes_in d b p ≡ None) → IsCarriedPast now d beside old new was is b
+    unwritten b none = elim (cases_Bool (binds_in b (map event_of events))) [
+      | inl bound ↦ elim (cases_Bool (nat_eq b.label d.label)) [
+        | inl mine ↦ inl (stays_noted now mid new two b (bound_now d.label mid events own b (eqb-true b.label d.label mine) bound))
+        | inr away ↦ left_in b none (λ is. absurd (let mine : nat_eq b.label d.label ≡ true = grind (arith, nat_tests) in cc))
       ]
+      | inr not ↦ left_in b none (λ is. ap (binds_in b) (sym same_events) ∙ not)
+    ]
 
-      writes : (o : Option places.Found) → lookup_base b (by_base bytes_of written) ≡ o → IsBlockWith now old new d b
-      writes None none = names (λ p. ap (λ es. byte_at (lookup_base b es) p) (sym same_written) ∙ no_writes written b none p)
-      writes (Some e) at = inl (base_all bytes_of (λ c m. new c ≡ Some (now c)) written all b e at)
+    parted : (b : model.Base) (e : places.Found) → lookup_base b (by_base bytes_of written) ≡ Some e → IsWrittenNow now d.label beside new is b (found_at e) → IsCarriedPast now d beside old new was is b
+    parted b e at h = elim h [
+      | inl here ↦ inl here
+      | inr part ↦ inr (inr (
+        none_before now old new (noted_on now old mid new one two) b part.0,
+        part.0,
+        part.1,
+        part.2,
+        λ p. elim (bytes b p) [
+          | inl here ↦ inl here
+          | inr same ↦ elim (part.3 p) [
+            | inl here ↦ inl here
+            | inr not ↦ inr (same, ap (λ es. byte_at (lookup_base b es) p) (sym same_written) ∙ ap (λ o. byte_at o p) at ∙ not)
+          ]
+        ],
+      ))
+    ]
+
+    pub blocks_with : (b : model.Base) → IsCarriedPast now d beside old new was is b
+    blocks_with b = by (lookup_base b (by_base bytes_of written)) refl
+      where
+        by : (o : Option places.Found) → lookup_base b (by_base bytes_of written) ≡ o → IsCarriedPast now d beside old new was is b
+        by None none = unwritten b (λ p. ap (λ es. byte_at (lookup_base b es) p) (sym same_written) ∙ no_writes written b none p)
+        by (Some e) at = parted b e at (base_all bytes_of (λ c m. IsWrittenNow now d.label beside new is c (found_at m)) written all b e at)
 
 -- ---- behind runs
 
@@ -148,33 +189,114 @@ leaves_base d r b done left = (λ own. ap (binds_in b) done.events ∙ left.0 (o
 pub has_base : (s : Session) (e : Whole) (b : model.Base) → e.blocks b ≡ Some (s.bytes b) → HasBase e (collected s) b
 has_base s e b is = (s.bytes b, is, λ held. sym (rw held refl))
 
-module _ (s : Session) (c m e : Whole) where
-  pub with_both : (r q : Record) (d k : ChangesData) → HasDone d r → HasDone k q
-      → ((n : List ℕ) → IsNameWith (λ n. lookup n s.names) c.names m.names d.events n) → ((n : List ℕ) → IsNameWith (λ n. lookup n s.names) m.names e.names k.events n)
-      → ((n : List ℕ) → e.inputs n ≡ c.inputs n) → e.rule ≡ c.rule → ((b : model.Base) (p : ℕ) → e.bytes b p ≡ c.bytes b p)
-      → ((b : model.Base) → IsBlockWith s.bytes c.blocks m.blocks d b) → ((b : model.Base) → IsBlockWith s.bytes m.blocks e.blocks k b)
-      → IsWithBoth r q (collected s) c e
-  with_both r q d k was is one two inputs rule bytes three four = record {
+pub has_byte : (s : Session) (e : Whole) (b : model.Base) (p : ℕ) → e.bytes b p ≡ Some (slice_index (s.bytes b) p) → HasByte e (collected s) b p
+has_byte s e b p is = (slice_index (s.bytes b) p, is, λ held. ap (λ bs. slice_index bs p) (there held))
+  where
+    there : is_held b s.names ≡ true → s.bytes b ≡ held_bytes (collected s) b
+    there held = sym (rw held refl)
+
+-- a run does nothing to the length of a base of another label, nor to a byte that it does not write
+module _ (d : ChangesData) (r : Record) (b : model.Base) (done : HasDone d r) (away : nat_eq b.label d.label ≡ false) where
+  other_label : nat_eq b.label r.label ≡ false
+  other_label = ap (nat_eq b.label) done.label ∙ away
+
+  pub no_length : puts r (Length b) ≡ None
+  no_length = rw other_label refl
+
+  pub no_byte : (p : ℕ) → writes_in d b p ≡ None → puts r (Byte b p) ≡ None
+  no_byte p none = rw other_label (ap (option_map OfNumber) (done.writes b p ∙ none))
+
+-- a byte is as it is now, or as it was
+pub byte_as_it_was : (s : Session) (c e : Whole) (b : model.Base) (p : ℕ) → (e.bytes b p ≡ Some (slice_index (s.bytes b) p)) ⊎ (e.bytes b p ≡ c.bytes b p) → HasByte e (collected s) b p ⊎ (e.bytes b p ≡ c.bytes b p)
+byte_as_it_was s c e b p h = elim h [ inl here ↦ inl (has_byte s e b p here) | inr was ↦ inr was ]
+
+module _ (s : Session) (c m e : Whole) (r q : Record) (d k : ChangesData) (was : HasDone d r) (is : HasDone k q)
+    (three : (b : model.Base) → IsCarriedPast s.bytes d k.label c.blocks m.blocks c.bytes m.bytes b) (four : (b : model.Base) → IsCarriedPast s.bytes k d.label m.blocks e.blocks m.bytes e.bytes b) where
+  abbrev IsPast : model.Base → Type 0
+  IsPast b = HasBase e (collected s) b ⊎ ((IsAsItWas (collected s) c e b × LeavesBase (Some r) b × LeavesBase (Some q) b)
+      ⊎ (HasPart (Some r) (Some q) (collected s) c e b ⊎ (LosesBase r q (collected s) c e b ⊎ IsGone q b)))
+
+  -- a byte is as it is now, or was left by both
+  part_of_both : (b : model.Base) → c.blocks b ≡ None → e.blocks b ≡ None → nat_eq b.label d.label ≡ false → nat_eq b.label k.label ≡ false
+      → ((p : ℕ) → (m.bytes b p ≡ Some (slice_index (s.bytes b) p)) ⊎ ((m.bytes b p ≡ c.bytes b p) × (writes_in d b p ≡ None)))
+      → ((p : ℕ) → (e.bytes b p ≡ Some (slice_index (s.bytes b) p)) ⊎ ((e.bytes b p ≡ m.bytes b p) × (writes_in k b p ≡ None))) → IsPast b
+  part_of_both b before out not_old not_new first second = inr (inr (inl (record {
+    was = before;
+    out = out;
+    old = no_length d r b was not_old;
+    new = no_length k q b is not_new;
+    bytes = λ p. elim (second p) [
+      | inl here ↦ inl (has_byte s e b p here)
+      | inr on ↦ elim (first p) [
+        | inl here ↦ inl (has_byte s e b p (on.0 ∙ here))
+        | inr left ↦ inr (on.0 ∙ left.0, no_byte d r b was not_old p left.1, no_byte k q b is not_new p on.1)
+      ]
+    ];
+  })))
+
+  past_both : (b : model.Base) → IsPast b
+  past_both b = elim (four b) [
+    | inl here ↦ inl (has_base s e b here)
+    | inr rest ↦ elim rest [
+      | inl left ↦ elim (three b) [
+        | inl here ↦ inl (has_base s e b (left.0 ∙ here))
+        | inr before ↦ elim before [
+          | inl old ↦ inr (inl (
+            record {
+              block = left.0 ∙ old.0;
+              bytes = λ p. elim (left.2 p) [
+                | inl here ↦ inl (has_byte s e b p here)
+                | inr same ↦ elim (old.2 p) [ inl here ↦ inl (has_byte s e b p (same ∙ here)) | inr as_before ↦ inr (same ∙ as_before) ]
+              ];
+            },
+            leaves_base d r b was old.1,
+            leaves_base k q b is left.1,
+          ))
+          | inr part ↦ part_of_both b part.0 (left.0 ∙ part.1) part.2 part.3 part.4 (λ p. elim (left.2 p) [ inl here ↦ inl here | inr same ↦ inr (same, left.1.1 p) ])
+        ]
+      ]
+      | inr part ↦ elim (three b) [
+        | inl here ↦ none_some (s.bytes b) (sym part.0 ∙ here)
+        | inr before ↦ elim before [
+          | inl old ↦ part_of_both b (sym old.0 ∙ part.0) part.1 part.3 part.2 (λ p. elim (old.2 p) [ inl here ↦ inl here | inr same ↦ inr (same, old.1.1 p) ]) part.4
+          | inr first ↦ part_of_both b first.0 part.1 part.3 part.2 first.4 part.4
+        ]
+      ]
+    ]
+  ]
+
+  pub with_both : ((n : List ℕ) → IsNameWith (λ n. lookup n s.names) c.names m.names d.events n) → ((n : List ℕ) → IsNameWith (λ n. lookup n s.names) m.names e.names k.events n)
+      → ((n : List ℕ) → e.inputs n ≡ c.inputs n) → e.rule ≡ c.rule → IsWithBoth r q (collected s) c e
+  with_both one two inputs rule = record {
     names = λ n. elim (two n) [
       | inl here ↦ inl here
       | inr same ↦ elim (one n) [ inl here ↦ inl (same.0 ∙ here) | inr old ↦ inr (inl (same.0 ∙ old.0, leaves_name d r n was old.1, leaves_name k q n is same.1)) ]
     ];
     inputs = inputs;
     rule = rule;
-    blocks = λ b. elim (four b) [
-      | inl here ↦ inl (has_base s e b here)
-      | inr same ↦ elim (three b) [ inl here ↦ inl (has_base s e b (same.0 ∙ here)) | inr old ↦ inr (inl (record { block = same.0 ∙ old.0; bytes = λ p. inr (bytes b p) }, leaves_base d r b was old.1, leaves_base k q b is same.1)) ]
-    ];
+    blocks = past_both;
   }
 
 module _ (s : Session) (c e : Whole) (r : Record) (d : ChangesData) (done : HasDone d r) (one : (n : List ℕ) → IsNameWith (λ n. lookup n s.names) c.names e.names d.events n)
-    (inputs : (n : List ℕ) → e.inputs n ≡ c.inputs n) (rule : e.rule ≡ c.rule) (bytes : (b : model.Base) (p : ℕ) → e.bytes b p ≡ c.bytes b p) (two : (b : model.Base) → IsBlockWith s.bytes c.blocks e.blocks d b) where
+    (inputs : (n : List ℕ) → e.inputs n ≡ c.inputs n) (rule : e.rule ≡ c.rule) (beside : ℕ) (two : (b : model.Base) → IsCarriedPast s.bytes d beside c.blocks e.blocks c.bytes e.bytes b) where
   pub with_old : IsWith (Some r) None (collected s) c e
   with_old = record {
     names = λ n. elim (one n) [ inl here ↦ inl here | inr same ↦ inr (same.0, leaves_name d r n done same.1, tt) ];
     inputs = inputs;
     rule = rule;
-    blocks = λ b. elim (two b) [ inl here ↦ inl (has_base s e b here) | inr same ↦ inr (inl (record { block = same.0; bytes = λ p. inr (bytes b p) }, leaves_base d r b done same.1, tt)) ];
+    blocks = λ b. elim (two b) [
+      | inl here ↦ inl (has_base s e b here)
+      | inr rest ↦ elim rest [
+        | inl left ↦ inr (inl (record { block = left.0; bytes = λ p. byte_as_it_was s c e b p (left.2 p) }, leaves_base d r b done left.1, tt))
+        | inr part ↦ inr (inr (record {
+          was = part.0;
+          out = part.1;
+          old = no_length d r b done part.2;
+          new = refl;
+          bytes = λ p. elim (part.4 p) [ inl here ↦ inl (has_byte s e b p here) | inr same ↦ inr (same.0, no_byte d r b done part.2 p same.1, refl) ];
+        }))
+      ]
+    ];
   }
 
   pub with_new : IsWith None (Some r) (collected s) c e
@@ -182,5 +304,17 @@ module _ (s : Session) (c e : Whole) (r : Record) (d : ChangesData) (done : HasD
     names = λ n. elim (one n) [ inl here ↦ inl here | inr same ↦ inr (same.0, tt, leaves_name d r n done same.1) ];
     inputs = inputs;
     rule = rule;
-    blocks = λ b. elim (two b) [ inl here ↦ inl (has_base s e b here) | inr same ↦ inr (inl (record { block = same.0; bytes = λ p. inr (bytes b p) }, tt, leaves_base d r b done same.1)) ];
+    blocks = λ b. elim (two b) [
+      | inl here ↦ inl (has_base s e b here)
+      | inr rest ↦ elim rest [
+        | inl left ↦ inr (inl (record { block = left.0; bytes = λ p. byte_as_it_was s c e b p (left.2 p) }, tt, leaves_base d r b done left.1))
+        | inr part ↦ inr (inr (record {
+          was = part.0;
+          out = part.1;
+          old = refl;
+          new = no_length d r b done part.2;
+          bytes = λ p. elim (part.4 p) [ inl here ↦ inl (has_byte s e b p here) | inr same ↦ inr (same.0, refl, no_byte d r b done part.2 p same.1) ];
+        }))
+      ]
+    ];
   }

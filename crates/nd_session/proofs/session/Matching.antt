@@ -17,13 +17,13 @@ use Rattle.nd_model.specs.Arrays.Value as model
 use Rattle.nd_model.specs.Book.Records.{Record}
 use Rattle.nd_model.specs.Cells.Footprint.{Bound, Number, replayed}
 use Rattle.nd_model.specs.Cells.Running.{Name, is_touched}
-use Rattle.nd_model.specs.Cells.Session.{Session, collected, held_bytes, is_held, lookup}
+use Rattle.nd_model.specs.Cells.Session.{Session, collected, is_held, lookup}
 use Rattle.nd_session.specs.declared.session.found.FoundBytes.{FoundBytes}
-use Rattle.nd_session.specs.Session.Change.{AreBytesNoted, HasDone, IsBytewise, IsNoted, LosesSame}
+use Rattle.nd_session.specs.Session.Change.{AreBytesNoted, HasDone, IsByteNow, IsBytewise, IsNoted, LosesSame}
 use Rattle.nd_session.specs.Session.Changes.{ChangesData, bases_in, writes_in}
 use Rattle.nd_session.specs.Session.Found as places
 use Rattle.nd_session.specs.Session.Found.{by_base, byte_at, byte_found, bytes_of, found_at, lookup_base}
-use Rattle.nd_session.proofs.session.Carrying.{IsOwnNow, bound_now, has_base, leaves_base}
+use Rattle.nd_session.proofs.session.Carrying.{IsOwnNow, bound_now, has_base, has_byte, leaves_base}
 use Rattle.nd_session.proofs.session.Reading.{base_all, base_found}
 use Rattle.nd_session.proofs.session.Standing.{none_before, none_some, noted_on, stays_noted}
 use Rattle.nd_trace.specs.declared.trace.Event.{Event}
@@ -101,6 +101,15 @@ module _ (now : model.Base → List ℕ) (kept : KeptData) (c : model.Base) (old
       here is put None none = inr (put ∙ ap (λ o. cond (is_some o) (Some (slice_index (now c) p)) None) none ∙ sym (ap (λ b. old b p) is ∙ less p none))
       here is put (Some n) some = inl (put ∙ ap (λ o. cond (is_some o) (Some (slice_index (now c) p)) None) some ∙ ap (λ b. Some (slice_index (now b) p)) (sym is))
 
+  pub part_now_there : (found : ℕ → Option ℕ) → ((p : ℕ) → found p ≡ kept_at kept p) → (p : ℕ) → IsByteNow (now c) found (new c) p
+  part_now_there found is p = here (kept_at kept p) refl
+    where
+      here : (o : Option ℕ) → kept_at kept p ≡ o → IsByteNow (now c) found (new c) p
+      here None none = inr (is p ∙ none)
+      here (Some n) some = inl (
+          set c p ∙ ap (λ t. cond t (cond (is_some (kept_at kept p)) (Some (slice_index (now c) p)) None) (old c p)) (base_same c) ∙ ap (λ o. cond (is_some o) (Some (slice_index (now c) p)) None) some
+          )
+
   pub part_bytewise : (found other : ℕ → Option ℕ) → ((p : ℕ) → found p ≡ kept_at kept p) → ((p : ℕ) → is_some (kept_at kept p) ≡ is_some (other p)) → (p : ℕ) → IsBytewise (now c) found other (old c) (new c) p
   part_bytewise found other is offsets p = here (kept_at kept p) refl
     where
@@ -166,13 +175,6 @@ module _ (s : Session) (c e : Whole) (r q : Record) (d k : ChangesData) (was : H
         ];
       }
 
-  -- a single byte that is in it as it is in the session
-  byte_here : (b : model.Base) (p : ℕ) → e.bytes b p ≡ Some (slice_index (s.bytes b) p) → HasByte e (collected s) b p
-  byte_here b p is = (slice_index (s.bytes b) p, is, λ held. ap (λ bs. slice_index bs p) (there held))
-    where
-      there : is_held b s.names ≡ true → s.bytes b ≡ held_bytes (collected s) b
-      there held = sym (rw held refl)
-
   -- a base of another cell that is in it by single bytes, or is out of it
   lost_other : (b : model.Base) → nat_eq b.label k.label ≡ false → c.blocks b ≡ None → e.blocks b ≡ None → ((p : ℕ) → IsBytewise (s.bytes b) (writes_in d b) (writes_in k b) (c.bytes b) (e.bytes b) p)
       → LosesBase r q (collected s) c e b
@@ -183,7 +185,7 @@ module _ (s : Session) (c e : Whole) (r q : Record) (d k : ChangesData) (was : H
         out = out;
         length = record { same = rw (mine, ours) refl; rest = λ none. ap (option_map (λ bs. Number (length bs))) before };
         bytes = λ p. elim (writes p) [
-          | inl here ↦ inl (byte_here b p here)
+          | inl here ↦ inl (has_byte s e b p here)
           | inr gone ↦ inr (gone.0, record { same = rw (mine, ours) (ap (option_map Number) (was.writes b p ∙ gone.2 ∙ sym (is.writes b p))); rest = λ none. rw (before, gone.1) refl })
         ];
       }
@@ -258,7 +260,7 @@ module _ (s : Session) (c e : Whole) (r q : Record) (d k : ChangesData) (was : H
       | inl binds ↦ elim (two b) [
         | inl same ↦ here b (stays ∙ same ∙ bound_now s.bytes k.label c1 bound own b (eqb-true b.label k.label mine) binds)
         | inr gone ↦ lost b (lost_own b gone.1 gone.2 (stays ∙ gone.0) (λ p. elim (bytes_noted b p) [
-          | inl there ↦ inl (byte_here b p there)
+          | inl there ↦ inl (has_byte s e b p there)
           | inr same ↦ inr (same ∙ removed b p ∙ ap₂ (λ t u. cond (t && u) None (c.bytes b p)) mine binds)
         ]))
       ]
@@ -274,7 +276,7 @@ module _ (s : Session) (c e : Whole) (r q : Record) (d k : ChangesData) (was : H
         | inr as_before ↦ inr (inl (
           record {
             block = stays ∙ same ∙ as_before;
-            bytes = λ p. elim (bytes_noted b p) [ inl there ↦ inl (byte_here b p there) | inr was ↦ inr (was ∙ same_away b p away) ];
+            bytes = λ p. elim (bytes_noted b p) [ inl there ↦ inl (has_byte s e b p there) | inr was ↦ inr (was ∙ same_away b p away) ];
           },
           leaves_base d r b was (λ mine. not_own b away (mine ∙ label), none),
           leaves_base k q b is (λ mine. not_own b away mine, none_now),

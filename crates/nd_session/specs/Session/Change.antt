@@ -1,5 +1,5 @@
 -- What contracts see of a change, and of the runs that it goes past.
-use Rattle.std.specs.Prelude.{◌≡◌, ◌⊎◌, ℕ, Bool, false, IsSome, List, [], Option, Some, None, option_map, slice_index}
+use Rattle.std.specs.Prelude.{◌≡◌, ◌⊎◌, ℕ, Bool, false, nat_eq, IsSome, List, [], Option, Some, None, option_map, slice_index}
 use Rattle.nd_model.specs.Arrays.Value.{Base, Value, lies_in}
 use Rattle.nd_model.specs.Cells.Session.{lookup}
 use Rattle.nd_model.specs.Cells.Running.{Event, Binds, Unbinds, Rule, Source}
@@ -44,6 +44,14 @@ AreBytesNoted now old new = (b : Base) (p : ℕ) → (new b p ≡ Some (slice_in
 abbrev pub IsBytewise : (now : List ℕ) (one other old new : ℕ → Option ℕ) → ℕ → Type 0
 IsBytewise now one other old new p = (new p ≡ Some (slice_index now p)) ⊎ ((new p ≡ None) × (old p ≡ None) × (one p ≡ other p))
 
+-- a single byte is in it as it is now, or is not written
+abbrev pub IsByteNow : (now : List ℕ) (written new : ℕ → Option ℕ) → ℕ → Type 0
+IsByteNow now written new p = (new p ≡ Some (slice_index now p)) ⊎ (written p ≡ None)
+
+-- a base is in it as it is now; or it is of neither label and is not in it, and each byte that is written is in it as it is now
+abbrev pub IsWrittenNow : (now : Base → List ℕ) (label beside : ℕ) (blocks : Base → Option (List ℕ)) (bytes : Base → ℕ → Option ℕ) → Base → (ℕ → Option ℕ) → Type 0
+IsWrittenNow now label beside blocks bytes b written = (blocks b ≡ Some (now b)) ⊎ ((blocks b ≡ None) × (nat_eq b.label label ≡ false) × (nat_eq b.label beside ≡ false) × ((p : ℕ) → IsByteNow (now b) written (bytes b) p))
+
 -- a byte is as it was and nothing is written there, or is gone, or is the one that is written, where one was before
 abbrev pub IsOverwritten : (written old new : ℕ → Option ℕ) → ℕ → Type 0
 IsOverwritten written old new p = ((new p ≡ old p) × (written p ≡ None)) ⊎ (IsSome (written p) × ((new p ≡ None) ⊎ ((new p ≡ written p) × IsSome (old p))))
@@ -85,6 +93,19 @@ is_bound_in b (Unbinds n) = false
 -- the cell binds no value in the base, if it is its own, and writes no byte of it
 abbrev pub LeavesBlock : ChangesData → Base → Type 0
 LeavesBlock c b = (b.label ≡ c.label → binds_in b (events_in c) ≡ false) × ((p : ℕ) → writes_in c b p ≡ None)
+
+-- a base is in it as it was, and the cell leaves it; single bytes may be as they are now
+abbrev pub IsLeftIn : (now : Base → List ℕ) → ChangesData → (old new : Base → Option (List ℕ)) (was is : Base → ℕ → Option ℕ) → Base → Type 0
+IsLeftIn now c old new was is b = (new b ≡ old b) × LeavesBlock c b × ((p : ℕ) → (is b p ≡ Some (slice_index (now b) p)) ⊎ (is b p ≡ was b p))
+
+-- a base of neither label is in it by single bytes: each is as it is now, or as it was, and the cell does not write it
+abbrev pub IsPartedIn : (now : Base → List ℕ) → ChangesData → (beside : ℕ) (old new : Base → Option (List ℕ)) (was is : Base → ℕ → Option ℕ) → Base → Type 0
+IsPartedIn now c beside old new was is b = (old b ≡ None) × (new b ≡ None) × (nat_eq b.label c.label ≡ false) × (nat_eq b.label beside ≡ false)
+    × ((p : ℕ) → (is b p ≡ Some (slice_index (now b) p)) ⊎ ((is b p ≡ was b p) × (writes_in c b p ≡ None)))
+
+-- a base is in it as it is now, or is left in it, or is in it by single bytes
+abbrev pub IsCarriedPast : (now : Base → List ℕ) → ChangesData → (beside : ℕ) (old new : Base → Option (List ℕ)) (was is : Base → ℕ → Option ℕ) → Base → Type 0
+IsCarriedPast now c beside old new was is b = (new b ≡ Some (now b)) ⊎ (IsLeftIn now c old new was is b ⊎ IsPartedIn now c beside old new was is b)
 
 -- a base is in the change as it was, or is out of it: it is of the label, and has the same bytes in both
 abbrev pub LosesSame : (label : ℕ) (one other : Base → List ℕ) (old new : Base → Option (List ℕ)) → Base → Type 0

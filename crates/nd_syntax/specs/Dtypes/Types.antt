@@ -12,19 +12,19 @@ use Rattle.nd_types.specs.declared.types.ElemType.{ElemType}
 use Rattle.nd_types.specs.Fields.{fields_of}
 use Rattle.nd_types.specs.Types.{type_of}
 use Rattle.nd_syntax.specs.declared.dtypes.fault.TypeFault.{TypeFault}
-use Rattle.nd_syntax.specs.declared.dtypes.fault.TypeFault.TheVariants.{BadType, OutOfMemory}
+use Rattle.nd_syntax.specs.declared.dtypes.fault.TypeFault.TheVariants.{BadType, Memory}
 
 -- the definition's type or refusal, unless memory ran out
 abbrev pub Gives : Result ElemType TypeFault → Result view.ElementType model.Fault → Type 0
 Gives (Ok t) r = r ≡ Ok (type_of t)
 Gives (Err BadType) r = r ≡ Err (model.Stmt model.BadType)
-Gives (Err OutOfMemory) r = Unit {0}
+Gives (Err (Memory m)) r = Unit {0}
 
 -- the definition's fields with their bytes together, or its refusal, unless memory ran out
 abbrev pub GivesFields : Result (Vec Field Global × ℕ) TypeFault → Option (List view.Field) → Type 0
 GivesFields (Ok fs) o = (o ≡ Some (fields_of fs.0.items)) × (fs.1 ≡ fields_size (fields_of fs.0.items))
 GivesFields (Err BadType) o = o ≡ None
-GivesFields (Err OutOfMemory) o = Unit {0}
+GivesFields (Err (Memory m)) o = Unit {0}
 
 -- each field has a type
 abbrev pub are_all_named : List FieldType → Bool

@@ -9,6 +9,6 @@ use Rattle.nd_ufunc.specs.declared.elementwise.fault.MapFault.TheVariants.{Memor
 -- what is worked out, unless memory ran out
 abbrev pub Makes : {X Y : Type 0} → (X → Y) → Result X MapFault → Result Y model.Fault → Type 0
 Makes view (Ok x) y = y ≡ Ok (view x)
-Makes view (Err Memory) y = Unit {0}
+Makes view (Err (Memory m)) y = Unit {0}
 Makes view (Err (Ufunc f)) y = y ≡ Err (model.Ufunc (ufunc_fault_of f))
 Makes view (Err (View f)) y = y ≡ Err (model.View (view_fault_of f))

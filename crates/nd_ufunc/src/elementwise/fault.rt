@@ -1,8 +1,10 @@
 //! `MapFault`: why a universal function gives no array of results.
 ghost use Rattle.std.specs.Prelude.{◌≡◌};
+ghost use Rattle.nd_memory.specs.Want.{out_of_memory};
 ghost use Rattle.nd_ufunc.specs.declared.elementwise.fault.MapFault.TheVariants.{Memory, Ufunc, View};
 
 use crate::scalar::UfuncFault;
+use nd_memory::OutOfMemory;
 use nd_view::ViewFault;
 use std::alloc::AllocError;
 
@@ -10,7 +12,7 @@ use std::alloc::AllocError;
 #[derive(Clone, Copy)]
 pub enum MapFault {
     /// Want of memory for the results.
-    Memory,
+    Memory(OutOfMemory),
     /// The function does not take these operands.
     Ufunc(UfuncFault),
     /// The array of the results exceeds the limits of arrays.
@@ -18,10 +20,10 @@ pub enum MapFault {
 }
 
 impl From<AllocError> for MapFault {
-    ghost from_gives = { λ _ e. e ≡ Memory };
+    ghost from_gives = { λ _ e. e ≡ Memory out_of_memory };
 
-    fn from(_error: AllocError) -> MapFault {
-        MapFault::Memory
+    fn from(refused: AllocError) -> MapFault {
+        MapFault::Memory(refused.into())
     }
 }
 

@@ -18,5 +18,5 @@ returns-in-InputTooLarge g c = rw c.in-InputTooLarge.is c.push_text-in-InputTooL
 pub returns-in-NoInputNamed : goal.returns-in-NoInputNamed
 returns-in-NoInputNamed g c = rw c.in-NoInputNamed.is c.push_words.ensures
 
-pub returns-in-OutOfMemory : goal.returns-in-OutOfMemory
-returns-in-OutOfMemory g c = rw c.in-OutOfMemory.is c.push_text-in-OutOfMemory.ensures
+pub returns-in-Memory : goal.returns-in-Memory
+returns-in-Memory g c = rw c.in-Memory.is c.push_text-in-Memory.ensures

@@ -9,5 +9,5 @@ returns-in-NoName g c = rw c.in-NoName.is c.push_words.ensures
 pub returns-in-NoSave : goal.returns-in-NoSave
 returns-in-NoSave g c = rw c.in-NoSave.is c.push_words-in-NoSave.ensures
 
-pub returns-in-OutOfMemory : goal.returns-in-OutOfMemory
-returns-in-OutOfMemory g c = rw c.in-OutOfMemory.is c.push_text.ensures
+pub returns-in-Memory : goal.returns-in-Memory
+returns-in-Memory g c = rw c.in-Memory.is c.push_text.ensures

@@ -114,7 +114,7 @@ fn has_same_offsets(others: &FoundByBase, base: Base, kept: &KeptBytes) -> bool
 }
 
 /// Returns true only where the change has single bytes of a block at the offsets of these alone.
-fn has_no_more(parts: &PartsNow, base: Base, kept: &KeptBytes) -> bool
+pub(crate) fn has_no_more(parts: &PartsNow, base: Base, kept: &KeptBytes) -> bool
     ensures { IsTrue result → (p : ℕ) → kept_at kept.now p ≡ None
         → part_now parts.now.entries (base_of base) p ≡ None }
 {
@@ -125,7 +125,7 @@ fn has_no_more(parts: &PartsNow, base: Base, kept: &KeptBytes) -> bool
 }
 
 /// Notes the bytes that a block has now at the offsets of these, in place of those that are noted.
-fn note_part(
+pub(crate) fn note_part(
     parts: &mut PartsNow,
     base: Base,
     kept: &KeptBytes,

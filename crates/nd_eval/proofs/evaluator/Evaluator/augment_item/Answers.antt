@@ -55,7 +55,7 @@ assign_made-made-requires-clause-found c =
     let q = marked c.args.found s in
     let u = live c.mark_item_operands.new.session in
     let f = c.args.found in
-    subst (IsHeld u) (sym c.in-Err.ensures.0) (held_index_marked c.args.index.now f q u c.in-Ok.ensures
+    subst (IsHeld u) (sym c.in-Err-array_of.ensures.0) (held_index_marked c.args.index.now f q u c.in-Ok.ensures
     (held_marked f f s q refl (held_marked c.args.value f r s refl c.requires.found)))
 
 pub assign_made-made-requires-clause-target : goal.assign_made-made-requires-clause-target
@@ -76,20 +76,20 @@ assign_made-made-requires-clause-room c =
     let last = index_next c.args.index.now _ _ c.in-Ok.ensures in
     rw (last, again, once) c.requires.room
 
-pub returns-in-Err-clause-effect : goal.returns-in-Err-clause-effect
-returns-in-Err-clause-effect c =
+pub returns-in-Err-array_of-clause-effect : goal.returns-in-Err-array_of-clause-effect
+returns-in-Err-array_of-clause-effect c =
     let i = inputs_of c.args.self.now.inputs.now.entries in
     let op = binary_op c.args.op in
     let v = c.args.value in
-    let f = c.in-Err.found in
+    let f = c.in-Err-array_of.found in
     let t = c.args.target.now in
     let x = c.args.index.now in
     let r = live c.args.self.now.session.now in
     let s = marked c.args.value r in
     let q = marked c.args.found s in
     let u = live c.mark_item_operands.new.session in (
-      ends_alike _ _ _ (ap (λ f. run i (item_augmentation op (value_of v) (value_of f) (value_of t) (contents.index_of x)) r) (sym c.in-Err.ensures.0)
-          ∙ made_assigned i op v f t x r s q u c.in-Err.ensures.1 refl (ap (λ f. marked f s) (sym c.in-Err.ensures.0)) c.in-Ok.ensures)
+      ends_alike _ _ _ (ap (λ f. run i (item_augmentation op (value_of v) (value_of f) (value_of t) (contents.index_of x)) r) (sym c.in-Err-array_of.ensures.0)
+          ∙ made_assigned i op v f t x r s q u c.in-Err-array_of.ensures.1 refl (ap (λ f. marked f s) (sym c.in-Err-array_of.ensures.0)) c.in-Ok.ensures)
           c.assign_made-made.ensures.effect.0,
       c.assign_made-made.ensures.effect.1,
     )

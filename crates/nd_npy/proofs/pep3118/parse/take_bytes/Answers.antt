@@ -9,7 +9,7 @@ use Rattle.nd_npy.specs.Pep3118.Gives.{progress_of, GoesOn}
 use Rattle.nd_npy.proofs.pep3118.parse.take_bytes.Goals as goal
 
 failing : (e : FormatError) (s t u : Progress) (at role byte : ℕ) (roles bytes : List ℕ) (x : Result Progress FormatFault) → x ≡ take_bytes s at (role ∷ roles) (byte ∷ bytes) → GoesOn (Err e) (take_byte s at role byte) t → GoesOn (Err e) x u
-failing error.Memory s t u at role byte roles bytes x e h = tt
+failing (error.Memory m) s t u at role byte roles bytes x e h = tt
 failing (error.Fault f) s t u at role byte roles bytes x e h = e ∙ ap (λ r. and_then r (λ v. take_bytes v (at + 1) roles bytes)) h
 
 pub returns-in-Err : goal.returns-in-Err

@@ -10,7 +10,7 @@ use Rattle.nd_ufunc.proofs.elementwise.map.with_block.Goals as goal
 -- a refusal stays
 lifts : (g : List ℕ → Result (Geo × List ℕ) Fault) (f : MapFault) (made : Result (List ℕ) Fault)
     → Makes {X = List ℕ} {Y = List ℕ} (λ b. b) (Err f) made → Makes {X = Geo × List ℕ} {Y = Geo × List ℕ} (λ m. m) (Err f) (made >>= g)
-lifts g Memory made is = tt
+lifts g (Memory m) made is = tt
 lifts g (Ufunc f) made is = ap (λ r. r >>= g) is
 lifts g (View f) made is = ap (λ r. r >>= g) is
 

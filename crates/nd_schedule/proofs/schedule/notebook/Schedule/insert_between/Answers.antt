@@ -74,8 +74,8 @@ pub returns-clause-counts : goal.returns-clause-counts
 returns-clause-counts g c =
     subst (λ (x : Cell). CountsStale (book_of c.args.self.now) (book_of (sheet (insert c.args.self.now.cells c.args.at x) c.args.self.now.given)) c.args.meter.now c.run_between.new.meter) (ap cell_of c.deref.ensures) c.run_between.ensures.counts
 
-pub returns-in_default-clause-counts : goal.returns-in_default-clause-counts
-returns-in_default-clause-counts g c =
+pub returns-in-Err-clause-counts : goal.returns-in-Err-clause-counts
+returns-in-Err-clause-counts g c =
     subst (λ (x : Cell). CountsStale (book_of c.args.self.now) (book_of (sheet (insert c.args.self.now.cells c.args.at x) c.args.self.now.given)) c.args.meter.now c.run_between.new.meter) (ap cell_of c.deref.ensures) c.run_between.ensures.counts
 
 pub returns-in_err-added-clause-counts : goal.returns-in_err-added-clause-counts
@@ -127,11 +127,11 @@ install-requires-clause-many g c = grind (arith, common_steps)
 pub returns-clause-err : goal.returns-clause-err
 returns-clause-err g c = grind (arith, common_steps)
 
-pub returns-in_default-clause-err : goal.returns-in_default-clause-err
-returns-in_default-clause-err g c = grind (arith, common_steps)
+pub returns-in-Err-clause-err : goal.returns-in-Err-clause-err
+returns-in-Err-clause-err g c = grind (arith, common_steps)
 
-pub returns-in_default-clause-ok : goal.returns-in_default-clause-ok
-returns-in_default-clause-ok g c = grind (arith, common_steps)
+pub returns-in-Err-clause-ok : goal.returns-in-Err-clause-ok
+returns-in-Err-clause-ok g c = grind (arith, common_steps)
 
 pub returns-in_err-added-clause-err : goal.returns-in_err-added-clause-err
 returns-in_err-added-clause-err g c = grind (arith, common_steps)

@@ -22,6 +22,8 @@ NO_VALUE = (
     re.compile(r'\bErr\((?:AllocError|(?:io::)?ErrorKind::OutOfMemory)\)\s*=>'),
     re.compile(r'\b(?:io::)?ErrorKind::OutOfMemory\s*=>'),
 )
+# Under another name an error would be passed over.
+RENAMED = re.compile(r'\b(?:AllocError|AllocFailed|OutOfMemory)\s+as\b')
 VALUE = re.compile(r'\bAllocError\b|\bAllocFailed\b|\bErrorKind::OutOfMemory\b|\bFromHexError::OutOfMemory\b')
 
 
@@ -43,7 +45,7 @@ def code_of(line: str) -> str:
 def places_in(file: str, text: str) -> Iterator[Place]:
     """The lines of a file that make an error of the allocator."""
     for number, line in enumerate(text.splitlines(), 1):
-        if VALUE.search(code_of(line)):
+        if VALUE.search(code_of(line)) or RENAMED.search(line.split('//', 1)[0]):
             yield Place(file, number, line.strip())
 
 
@@ -65,7 +67,7 @@ class OutOfMemory(unittest.TestCase):
     def test_each_form_of_a_made_error_is_found(self) -> None:
         for line in ('return Err(AllocError);', 'Err(_) => Err(AllocError),', 'let e = AllocError;', 'Err(AllocError.into())',
                      'Err(std::alloc::AllocError)', 'drop(AllocFailed { value });', 'Err(io::ErrorKind::OutOfMemory.into())',
-                     'Err(FromHexError::OutOfMemory)'):
+                     'Err(FromHexError::OutOfMemory)', 'use std::alloc::{AllocError as Refused, Global};'):
             with self.subTest(line):
                 self.assertEqual(len(list(places_in('made', line))), 1)
 

@@ -8,8 +8,8 @@ use std::alloc::{AllocError, AllocFailed};
 
 /// Want of memory: an allocation was refused.
 ///
-/// The field is private, so a value is made only from an error of the standard library's own
-/// allocations. No function can answer it of its own accord.
+/// The field is private: a value is made only from an error of the standard library's own
+/// allocations. The type does not say in which call the allocation was refused.
 #[derive(Clone, Copy, PartialEq, Eq, Debug)]
 pub struct OutOfMemory {
     refused: AllocError,

@@ -1,13 +1,11 @@
 -- Numbers that stay in their type, byte by byte.
-use Rattle.std.proofs.Common.{◌≡◌, ◌≢◌, ℕ, ℤ, pos, zero, suc, ◌+◌, ◌-◌, ◌*◌, ◌<◌, ◌≤◌, List, [], ◌∷◌, ◌++◌, map, length, take, drop, get_or, refl, sym, ap, ◌∙◌, subst, arith, append-nil, append_assoc, Fits, w8}
+use Rattle.std.proofs.Common.{◌≡◌, ◌≢◌, ℕ, ℤ, zero, suc, ◌+◌, ◌-◌, ◌*◌, ◌<◌, ◌≤◌, List, [], ◌∷◌, ◌++◌, map, length, take, drop, get_or, refl, sym, ap, ◌∙◌, subst, arith, append-nil, append_assoc, Fits, w8}
 use Rattle.std.specs.List.{All}
-use Rattle.std.proofs.lemmas.Int.{ints}
 use Rattle.std.proofs.lemmas.List.{take-append-drop, drop-drop, get_or-map}
 use Rattle.std.proofs.lemmas.List.Elements.{All-take, All-drop}
 use borrow.Rule.Slice.PartMut.{put_mid}
 use Rattle.nd_model.specs.Arrays.Content.{number_at, writes, all_writes}
 use Rattle.nd_model.specs.Arrays.Element.{Kind, Boolean, Element, width_of, size_of, residue, bytes_in, bytes_of, bytes_at, with_bytes, wrap}
-use Rattle.nd_model.specs.Arrays.Runs.{place_at, run_places}
 use Rattle.nd_model.specs.Cells.Session.{put}
 use Rattle.nd_model.specs.Arrays.Tuple.{count_up}
 use Rattle.nd_model.specs.Arrays.View.{One}
@@ -15,33 +13,10 @@ use Rattle.nd_model.proofs.Puts.{put-append}
 use Rattle.nd_model.proofs.Residues.{one_wrap, bytes_round_trip}
 use Rattle.nd_block.proofs.Copied.{length-bytes_at, length-with_bytes}
 use Rattle.nd_block.proofs.Together.{bytes_at-split, with_bytes-twice}
-use Rattle.nd_convert.proofs.conversion.Pieces.{run_is}
 use Rattle.nd_view.proofs.Tuples.{length-count_up, get_or-count_up}
 use Rattle.nd_assign.specs.Copies.{copied_content, with_copies}
-use Rattle.nd_assign.specs.SideBySide.{side_by_side}
+use Rattle.nd_view.specs.SideBySide.{side_by_side}
 use Rattle.nd_assign.proofs.Copied.{number_put}
-
--- a run with the step of its elements' size
-pub by_step : (ps : List ℕ) (step : ℤ) (size : ℕ) → ((k : ℕ) → k < length ps → place_at (get_or ps 0 0) step k ≡ pos (get_or ps k 0)) → step ≡ pos size
-    → ps ≡ side_by_side size (get_or ps 0 0) (length ps)
-by_step ps step size places is = sym (run_is ps (get_or ps 0 0) step places) ∙ ap (λ s. run_places (get_or ps 0 0) s (length ps)) is
-
--- one element is contiguous
-pub alone : (ps : List ℕ) (size : ℕ) → length ps ≡ 1 → ps ≡ side_by_side size (get_or ps 0 0) (length ps)
-alone [] size one = absurd (omega (arith, one))
-alone (p ∷ []) size one = ap (λ q. q ∷ []) (omega arith)
-alone (p ∷ q ∷ ps) size one = absurd (omega (arith, one))
-
--- the step of several contiguous elements is their size
-pub step_is : (ps : List ℕ) (step : ℤ) (size : ℕ) → 1 < length ps → ((k : ℕ) → k < length ps → place_at (get_or ps 0 0) step k ≡ pos (get_or ps k 0))
-    → ps ≡ side_by_side size (get_or ps 0 0) (length ps) → step ≡ pos size
-step_is ps step size two places are =
-    let in_order : 1 < length (count_up 0 (length ps)) = omega (arith, length-count_up 0 (length ps), two) in
-    let next : get_or ps 1 0 ≡ get_or ps 0 0 + 1 * size
-    = ap (λ l. get_or l 1 0) are ∙ get_or-map (λ k. get_or ps 0 0 + k * size) (count_up 0 (length ps)) 1 0 0 in_order
-    ∙ ap (λ k. get_or ps 0 0 + k * size) (get_or-count_up 0 (length ps) 1 0 two) in
-    let there : place_at (get_or ps 0 0) step 1 ≡ pos (get_or ps 1 0) = places 1 two in
-    omega (arith, ints, next, there)
 
 -- contiguous elements that lie inside len bytes end inside them all together
 pub end_held : (ps : List ℕ) (size first len : ℕ) → 0 < length ps → ps ≡ side_by_side size first (length ps) → All (λ p. p + size ≤ len) ps → first + length ps * size ≤ len

@@ -4,7 +4,6 @@ pub mod Copies
 pub mod HeldFields
 pub mod KeptLength
 pub mod Prepared
-pub mod SideBySide
 pub mod Sources
 pub mod Stretched
 pub mod Walks

@@ -6,7 +6,7 @@ use Rattle.nd_model.specs.Arrays.Element.{Boolean, Element, size_of}
 use Rattle.nd_model.specs.Arrays.View.{Geo, One, item_size}
 use Rattle.nd_assign.specs.HeldFields.{HoldsFields}
 use Rattle.nd_assign.specs.Prepared.{Prepared}
-use Rattle.nd_assign.specs.SideBySide.{side_by_side}
+use Rattle.nd_view.specs.SideBySide.{side_by_side}
 use Rattle.nd_assign.specs.declared.assignment.Assignment.TheInside.{Inside}
 use Rattle.nd_assign.specs.declared.assignment.Way.{Way}
 use Rattle.nd_assign.specs.declared.assignment.Way.TheVariants.{Lent, Number, Copied, Moved, Up, Down}

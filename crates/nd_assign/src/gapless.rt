@@ -1,39 +1,14 @@
 //! `copy_gapless` and `move_gapless`: contiguous numbers that keep their dtype, copied at once.
-ghost use Rattle.std.specs.Prelude.{◌≡◌, ◌≢◌, ◌+◌, ◌*◌, ◌<◌, ◌≤◌, length, slice_index, IfSome, IsTrue, ◌↔◌};
+ghost use Rattle.std.specs.Prelude.{◌≡◌, ◌≢◌, ◌+◌, ◌*◌, ◌<◌, ◌≤◌, length, slice_index};
 ghost use Rattle.std.specs.List.{All};
 ghost use Rattle.nd_model.specs.Arrays.Element.{Boolean, size_of};
 ghost use Rattle.nd_model.specs.Arrays.View.{One};
 ghost use Rattle.nd_element.specs.Elements.{AreHeld};
 ghost use Rattle.nd_assign.specs.Copies.{with_copies};
-ghost use Rattle.nd_assign.specs.SideBySide.{side_by_side};
+ghost use Rattle.nd_view.specs.SideBySide.{side_by_side};
 
 use nd_types::Elem;
-use nd_view::{Run, View};
-
-/// Returns whether the elements of a run are contiguous, as a single one is.
-pub(crate) fn is_gapless(run: &Run, elem: Elem) -> bool
-    ensures { IsTrue result ↔ (run.now ≡ side_by_side (size_of elem.kind) (slice_index run.now 0)
-        (length run.now)) }
-{
-    run.count() == 1 || run.step() == i128::from(elem.size())
-}
-
-/// Returns the byte offsets of a contiguous view as a run: `8 16` for `x[1:3]` with itemsize 8.
-/// `None` where the view is empty, or not one contiguous run.
-pub fn gapless_run(view: &View, elem: Elem) -> Option<Run>
-    ensures { IfSome result (λ run. (run ≡ view.now.places)
-        × (run ≡ side_by_side (size_of elem.kind) (slice_index run 0) (length run))) }
-{
-    let mut runs = view.runs();
-    let run = runs.next()?;
-    if run.count() as usize != view.count() {
-        return None;
-    }
-    if !is_gapless(&run, elem) {
-        return None;
-    }
-    Some(run)
-}
+use nd_view::Run;
 
 // The byte offset at which a contiguous run ends.
 fn end_of(run: &Run, elem: Elem, bytes: &[u8]) -> usize

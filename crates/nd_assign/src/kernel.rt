@@ -63,11 +63,12 @@ pub(crate) fn copy_run(
     let (start, step) = (run.start(), run.step());
     let (from_start, from_step) = (from_run.start(), from_run.step());
     let (size, from_size) = (i128::from(to.size()), i128::from(from.size()));
-    if step == size && from_step == from_size {
+    let is_contiguous = run.is_contiguous(to.size());
+    if is_contiguous && from_run.is_contiguous(from.size()) {
         copy_each(
             out, to, start, size, bytes, from, from_start, from_size, count,
         );
-    } else if step == size && from_step == 0 {
+    } else if is_contiguous && from_step == 0 {
         copy_each(out, to, start, size, bytes, from, from_start, 0, count);
     } else {
         copy_each(

@@ -19,7 +19,6 @@ mod walk;
 mod within;
 
 pub use assignment::Assignment;
-pub use gapless::gapless_run;
 pub use preparation::prepare;
 pub use shape::fits;
 pub use source::{AssignedValue, assign};

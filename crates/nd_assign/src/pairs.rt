@@ -5,7 +5,7 @@ ghost use Rattle.nd_model.specs.Arrays.View.{One};
 ghost use Rattle.nd_element.specs.Elements.{AreHeld};
 ghost use Rattle.nd_assign.specs.Copies.{with_copies};
 
-use crate::gapless::{copy_gapless, is_gapless};
+use crate::gapless::copy_gapless;
 use crate::kernel::copy_run;
 use nd_element::{is_elem, keeps_bytes};
 use nd_types::{Elem, Kind};
@@ -118,7 +118,8 @@ pub(crate) fn copy_numbers(
         out.old }
 {
     if is_elem(to, from) {
-        if keeps_bytes(to) && is_gapless(run, to) && is_gapless(from_run, to) {
+        let size = to.size();
+        if keeps_bytes(to) && run.is_contiguous(size) && from_run.is_contiguous(size) {
             copy_gapless(out, to, run, bytes, from_run);
             return;
         }

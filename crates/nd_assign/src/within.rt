@@ -11,7 +11,6 @@ ghost use Rattle.nd_assign.specs.Prepared.{written_by};
 ghost use Rattle.nd_assign.specs.Ways.{AreIn, IsWay, bytes_read, own_copy};
 
 use crate::assignment::{Assignment, Way};
-use crate::gapless::gapless_run;
 use crate::moved::{extent_of, moved_view};
 use crate::views::copy_views;
 use nd_block::RawBlock;
@@ -149,8 +148,8 @@ fn moved_way<'v>(target: &View, source: &View) -> Option<Way<'v>>
     if !keeps_bytes(*to) {
         return None;
     }
-    let run = gapless_run(target, *to)?;
-    let from_run = gapless_run(source, *to)?;
+    let run = target.contiguous_run(to.size())?;
+    let from_run = source.contiguous_run(to.size())?;
     Some(Way::Moved(*to, run, from_run))
 }
 

@@ -185,7 +185,7 @@ pub fn run_cell(
 {
     meter.advance();
     session.soundness();
-    session.start(label)?;
+    session.start(label);
     let before = session.freeze()?;
     let gives = run_text(session, inputs, text)?;
     let made = Record::of_run(session, before, inputs, rule, gives)?;

@@ -6,7 +6,7 @@ ghost use Rattle.nd_model.specs.Book.Script as script;
 ghost use Rattle.nd_model.specs.Book.Notebook.{book_of};
 ghost use Rattle.nd_script.specs.Lines.Counts.{CountsCommand};
 ghost use Rattle.nd_notebook.specs.Edits.{edit_of};
-ghost use Rattle.nd_notebook.specs.Values.{source_of};
+ghost use Rattle.nd_notebook.specs.Sources.{source_of};
 ghost use Rattle.nd_commands.specs.Carry.{Carried};
 
 use crate::answer::{

@@ -7,7 +7,6 @@ mod answerer;
 mod carry;
 mod elements;
 mod fault;
-mod input;
 mod line;
 mod program;
 mod runner;

@@ -14,7 +14,6 @@ ghost use Rattle.nd_commands.specs.Source.{lines_so_far, opening_of, stage_of};
 use crate::carry::{
     make_edit, set_input, show_names, show_result, show_save, show_source, show_value,
 };
-use crate::input::input_of_line;
 use crate::source::{OpenText, Opening};
 use nd_notebook::{CellRule, Edit, Meter, Notebook};
 use nd_script::lines::AnswerWrite;
@@ -152,9 +151,7 @@ fn answer_whole<O: AnswerWrite>(
         LineCommand::Names(at) => show_names(out, notebook, at),
         LineCommand::Value { at, name } => show_value(alloc, out, notebook, at, name),
         LineCommand::Saved { at, name } => show_save(out, notebook, at, name),
-        LineCommand::SetInput { name, input } => {
-            set_input(out, meter, notebook, name, input_of_line(input))
-        }
+        LineCommand::SetInput { name, input } => set_input(out, meter, notebook, name, input),
         LineCommand::DropInput(name) => make_edit(out, meter, notebook, Edit::DropInput(name)),
         LineCommand::PythonRule => {
             make_edit(out, meter, notebook, Edit::SetRule(CellRule::Python))

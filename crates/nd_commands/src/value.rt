@@ -5,14 +5,13 @@ ghost use Rattle.nd_model.specs.Formats.Format as formats;
 ghost use Rattle.nd_model.specs.Book.Script as script;
 ghost use Rattle.nd_model.specs.Text.Text.{truth_text};
 ghost use Rattle.nd_model.specs.Arrays.View.{item_size};
-ghost use Rattle.nd_notebook.specs.Kinds.{kind_of};
 ghost use Rattle.nd_notebook.specs.Types.{type_of};
 ghost use Rattle.nd_notebook.specs.Queries.{bound_of, shown_of};
 ghost use Rattle.nd_script.specs.Lines.Answers.{Pushes};
 ghost use Rattle.nd_commands.specs.Value.{array_of, row_of, PushesValue};
 
 use crate::elements::push_elements;
-use nd_notebook::{BoundValue, ElemType, Kind, Shown, ShownElements};
+use nd_notebook::{BoundValue, ElemType, Shown, ShownElements};
 use nd_npy::pep3118::write_format;
 use nd_script::lines::AnswerWrite;
 use nd_script::words::{push_integer, push_number, push_shape, push_text};
@@ -71,7 +70,7 @@ fn push_shown<O: AnswerWrite>(
         }
         Shown::Scalar(kind, number) => {
             push_text(out, "scalar ");
-            push_text(out, kind_name(kind));
+            push_text(out, kind.name());
             push_text(out, " ");
             push_integer(out, number);
             Ok(())
@@ -134,20 +133,4 @@ fn truth_name(truth: bool) -> &'static str
     ensures { result.now ≡ truth_text truth }
 {
     if truth { "True" } else { "False" }
-}
-
-fn kind_name(kind: Kind) -> &'static str
-    ensures { result.now ≡ formats.kind_text (kind_of kind) }
-{
-    match kind {
-        Kind::Bool => "bool",
-        Kind::I8 => "int8",
-        Kind::I16 => "int16",
-        Kind::I32 => "int32",
-        Kind::I64 => "int64",
-        Kind::U8 => "uint8",
-        Kind::U16 => "uint16",
-        Kind::U32 => "uint32",
-        Kind::U64 => "uint64",
-    }
 }

@@ -1,4 +1,5 @@
 pub mod Alike
+pub mod Contiguous
 pub mod InOrder
 pub mod Pieces
 pub mod Written

@@ -59,6 +59,9 @@ bytes_at-set b v w (e ∷ es) there c = elim (cases_Bool (base_eq b e.0)) [
 nat_eq_sym : (m n : ℕ) → nat_eq m n ≡ nat_eq n m
 nat_eq_sym m n = grind (arith, nat_tests)
 
+pub same_base_sym : (a b : model.Base) → model.same_base a b ≡ model.same_base b a
+same_base_sym a b = ap₂ (λ x y. x && y) (nat_eq_sym a.label b.label) (nat_eq_sym a.number b.number)
+
 pub base_eq_sym : (a b : Base) → model.same_base (base_of a) (base_of b) ≡ base_eq b a
 base_eq_sym a b = ap₂ (λ x y. x && y) (nat_eq_sym a.label b.label) (nat_eq_sym a.number b.number)
 
@@ -96,9 +99,12 @@ same_block b bytes f is = fun_ext (λ c. elim (cases_Bool (model.same_base b c))
   | inr apart ↦ rw apart refl
 ])
 
--- nothing is written where there is no block
+-- nothing is written where there are no bytes
+pub nothing_written : (f : List ℕ → List ℕ) → ((bytes : List ℕ) → length (f bytes) ≡ length bytes) → (b : model.Base) (g : model.Base → List ℕ) → g b ≡ [] → running.with_base b (f (g b)) g ≡ g
+nothing_written f same b g empty = same_block b (f (g b)) g (ap f empty ∙ no_entries (f []) (same []) ∙ sym empty)
+
+-- nor where there is no block
 pub nothing_put : (f : List ℕ → List ℕ) → ((bytes : List ℕ) → length (f bytes) ≡ length bytes) → (b : Base) (es : List (Base × Shared)) → None ≡ find (base_eq b) es
     → running.with_base (base_of b) (f (bytes_at (blocks_of es) (base_of b))) (bytes_at (blocks_of es)) ≡ bytes_at (blocks_of es)
 nothing_put f same b es none =
-    let empty : bytes_at (blocks_of es) (base_of b) ≡ [] = found_block b es ∙ ap found_bytes (sym none) in
-    same_block (base_of b) _ (bytes_at (blocks_of es)) (ap f empty ∙ no_entries (f []) (same []) ∙ sym empty)
+    nothing_written f same (base_of b) (bytes_at (blocks_of es)) (found_block b es ∙ ap found_bytes (sym none))

@@ -9,3 +9,4 @@ pub mod Layering
 pub mod Below
 pub mod Picking
 pub mod Stacking
+pub mod Hiding

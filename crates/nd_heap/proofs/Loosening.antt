@@ -204,14 +204,6 @@ label_loose label names blocks after old new left is h = λ b free unheld. is b 
       | inr never ↦ never
     ]
 
--- the loose bases are those that are not held
-pub left_loose : (names : Names) (blocks others : List (model.Base × List ℕ)) (old new : List model.Base) → bytes_at others ≡ bytes_at blocks
-    → ((b : model.Base) → is_base_among new b ≡ (is_base_among old b && not (is_held b names)))
-    → AreLoose (record { names = names; blocks = blocks; loose = old }) → AreLoose (record { names = names; blocks = others; loose = new })
-left_loose names blocks others old new same left h = λ b free unheld.
-    ap (λ (f : model.Base → List ℕ). f b) same
-    ∙ h b (elim (cases_Bool (is_base_among old b)) [ inl was ↦ let no : true ≡ false = sym (left b ∙ rw (was, unheld) refl) ∙ free in false_true (sym no) | inr never ↦ never ]) unheld
-
 -- after that no base need be loose
 pub none_loose : (names : Names) (blocks : List (model.Base × List ℕ)) (loose : List model.Base) (old : model.Base → List ℕ) → ((b : model.Base) → bytes_at blocks b ≡ cond (is_held b names) (old b) [])
     → AreLoose (record { names = names; blocks = blocks; loose = loose })

@@ -1,6 +1,5 @@
 -- Blocks in layers.
-use Rattle.std.proofs.Common.{◌≡◌, ℕ, zero, suc, ◌+◌, ◌≤◌, Bool, true, false, not, ◌&&◌, ◌||◌, cond, List, [], ◌∷◌, ◌++◌, length, take, drop, slice_get, Option, Some, None, is_some, add-one, refl, sym, ap, ◌∙◌, inl, inr, arith}
-use Rattle.std.specs.Prelude.{IsTrue}
+use Rattle.std.proofs.Common.{◌≡◌, ℕ, zero, suc, ◌+◌, ◌≤◌, Bool, true, false, not, ◌&&◌, ◌||◌, cond, List, [], ◌∷◌, ◌++◌, length, take, drop, slice_get, Some, None, is_some, add-one, refl, sym, ap, ◌∙◌, inl, inr, arith}
 use mathlib.Core.Path.{fun_ext}
 use Rattle.std.specs.Map.{lookup as find, set_value}
 use Rattle.indexmap.specs.IndexMap.{insert_entry}
@@ -13,9 +12,9 @@ use Rattle.nd_heap.specs.Values.{base_of}
 use Rattle.nd_heap.specs.Contents.{bases_of, blocks_of}
 use Rattle.nd_heap.specs.Layers.{is_block_among}
 use Rattle.nd_heap.specs.Live.{bytes_at, is_base_among}
-use Rattle.nd_heap.proofs.Bases.{Shared, base_eq, base_eq_sym, found_block, found_bytes}
+use Rattle.nd_heap.proofs.Bases.{Shared, base_eq, base_eq_sym}
 use Rattle.nd_heap.proofs.Picking.{among_more}
-use Rattle.nd_heap.proofs.Plain.{none_some, some_same, or_false, and_false, and_true}
+use Rattle.nd_heap.proofs.Plain.{none_some, some_same, and_false, and_true}
 use Rattle.nd_heap.proofs.Same.{same_bases}
 
 abbrev pub Stack : Type 0
@@ -108,11 +107,6 @@ removed_stacked newer newer' shared shared' gone b among is was = bytes-stacked 
     go false true h = refl
     go false false h = refl
 
--- none of the old ones goes
-pub none_gone : (gone : Bool) (bytes : List ℕ) → (IsTrue gone → bytes ≡ []) → bytes ≡ cond gone [] bytes
-none_gone true bytes h = h refl
-none_gone false bytes h = refl
-
 -- one base more is taken out
 pub removed_among : (base : Base) (es fs : List (Base × Shared)) → ((q : Base) → find (base_eq q) fs ≡ cond (base_eq base q) None (find (base_eq q) es)) → (b : model.Base)
     → is_block_among (blocks_of fs) b ≡ (is_block_among (blocks_of es) b && not (model.same_base (base_of base) b))
@@ -146,25 +140,8 @@ over_more es i e cur new ys at put before b =
     ap (λ (f : model.Base → List ℕ). f b) put ∙ ap (λ bytes. cond (model.same_base (base_of e.0) b) e.1.value bytes) (before b ∙ ap (λ k. bytes_at (blocks_of (drop k es) ++ ys) b) (add-one i))
     ∙ sym (ap (λ es. bytes_at (blocks_of es ++ ys) b) (drop_there es i e at))
 
--- a base of the first ones is none of these
-pub none_more : (bases : List (Base × Unit {0})) (i : ℕ) (e : Base × Unit {0}) (f : model.Base → List ℕ) → slice_get bases i ≡ Some e → f (base_of e.0) ≡ []
-    → ((b : model.Base) → IsTrue (is_base_among (bases_of (take i bases)) b) → f b ≡ []) → (b : model.Base) → IsTrue (is_base_among (bases_of (take (i + 1) bases)) b) → f b ≡ []
-none_more bases i e f at here before b among = elim (cases_Bool (model.same_base (base_of e.0) b)) [
-  | inl same ↦ ap f (sym (same_bases (base_of e.0) b same)) ∙ here
-  | inr apart ↦ before b (sym (or_false (is_base_among (bases_of (take i bases)) b))
-      ∙ ap (λ t. is_base_among (bases_of (take i bases)) b || t) (sym apart) ∙ sym (among_more bases i e b at) ∙ ap (λ k. is_base_among (bases_of (take k bases)) b) (sym (add-one i)) ∙ among)
-]
-
 pub among_written : (b : Base) (w : Shared) (es fs : List (Base × Shared)) → fs ≡ set_value (base_eq b) es w → (c : model.Base) → is_block_among (blocks_of fs) c ≡ is_block_among (blocks_of es) c
 among_written b w es fs is c = ap (λ es. is_block_among (blocks_of es) c) is ∙ among_set b w es c
-
--- there is no block where none is found
-pub none_found : (b : Base) (es : List (Base × Shared)) (t : Bool) → t ≡ is_some (find (base_eq b) es) → t ≡ false → bytes_at (blocks_of es) (base_of b) ≡ []
-none_found b es t is none = found_block b es ∙ go (find (base_eq b) es) (sym is ∙ none)
-  where
-    go : (o : Option Shared) → is_some o ≡ false → found_bytes o ≡ []
-    go None h = refl
-    go (Some v) h = cc
 
 -- whether there is one
 pub among_is : (b : Base) (es : List (Base × Shared)) (t s : Bool) → t ≡ is_some (find (base_eq b) es) → t ≡ s → is_block_among (blocks_of es) (base_of b) ≡ s

@@ -1,7 +1,8 @@
--- Names in layers: old ones, newer values of some of these, and names that were added behind them. Blocks that are there.
-use Rattle.std.specs.Prelude.{◌≡◌, ℕ, Bool, false, ◌||◌, List, [], ◌∷◌, None, unwrap_or}
+-- Names in layers: old ones, newer values of some of these, and names that were added behind them. Blocks that are there, or gone.
+use Rattle.std.specs.Prelude.{◌≡◌, ℕ, Bool, false, ◌||◌, List, [], ◌∷◌, None, if◌then◌else◌, unwrap_or}
 use Rattle.nd_model.specs.Arrays.Value.{Base, same_base}
 use Rattle.nd_model.specs.Cells.Session.{Names, lookup}
+use Rattle.nd_heap.specs.Live.{is_base_among}
 
 -- the old names, each with its newer value where there is one
 abbrev pub overridden : (newer old : Names) → Names
@@ -17,3 +18,14 @@ AreDistinctNames (e ∷ es) = (lookup e.0 es ≡ None) × AreDistinctNames es
 abbrev pub is_block_among : List (Base × List ℕ) → Base → Bool
 is_block_among [] b = false
 is_block_among (e ∷ es) b = same_base e.0 b || is_block_among es b
+
+-- the blocks but those of some bases
+abbrev pub without : List Base → List (Base × List ℕ) → List (Base × List ℕ)
+without gone [] = []
+without gone (e ∷ es) = if is_base_among gone e.0 then without gone es else e ∷ without gone es
+
+-- what contracts see of a table of blocks
+pub record TableData : Type 0 where
+  pub blocks : List (Base × List ℕ)
+  -- how many blocks can be taken out without memory
+  pub room : ℕ

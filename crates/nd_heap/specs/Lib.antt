@@ -3,3 +3,4 @@ pub mod Contents
 pub mod Live
 pub mod Loose
 pub mod Layers
+pub mod Sharing

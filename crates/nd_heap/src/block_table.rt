@@ -1,15 +1,18 @@
 //! `BlockTable`: blocks by base in two layers, so that a change copies few of them.
 
-ghost use Rattle.std.specs.Prelude.{◌≡◌, [], IfOk, IsTrue, OnErr, OnOk, if◌then◌else◌, true};
+ghost use Rattle.std.specs.Prelude.{◌≡◌, ◌+◌, ◌≤◌, [], IfOk, OnErr, OnOk, if◌then◌else◌};
 ghost use Rattle.nd_model.specs.Cells.Running as running;
 ghost use Rattle.nd_model.specs.Arrays.Value as values;
 ghost use Rattle.nd_heap.specs.Contents.{bases_of, blocks_of, bytes_in};
 ghost use Rattle.nd_heap.specs.Live.{bytes_at, is_base_among};
-ghost use Rattle.nd_heap.specs.Values.{base_of, value_of};
+ghost use Rattle.nd_heap.specs.Values.{base_of};
+ghost use Rattle.indexmap.specs.IndexMap.{index_map_len};
 
 use crate::blocks::{
-    Bases, Blocks, bytes_of, remove_blocks, remove_shared, share_block, stack, write, write_block,
+    Bases, Blocks, bytes_of, has_base, hide, remove_blocks, remove_own, share_block, stack, write,
+    write_block,
 };
+use crate::layer::Layer;
 use crate::name_table::MANY;
 use crate::value::{Base, Value};
 use crate::writer::BlockWriter;
@@ -20,87 +23,119 @@ use std::alloc::Global;
 use std::marker::Model;
 use std::rc::Rc;
 
-/// Blocks by their bases: old ones, which versions share, and newer ones, which hide old ones of the same bases. A copy shares the
-/// old ones, so it copies few.
+/// Blocks by their bases: old ones, which versions share, and newer ones, which hide old ones of
+/// the same bases. A copy shares the old ones, so it copies few.
 #[derive(Drop)]
 pub(crate) struct BlockTable {
-    shared: Rc<Blocks>,
+    shared: Layer<Blocks>,
+    /// The bases whose old blocks are taken out, though the shared layer still has them.
+    gone: Bases,
     newer: Blocks,
     alloc: Global,
 }
 
 impl Model for BlockTable {
-    ghost use Rattle.std.specs.Prelude.{◌++◌, List, ℕ};
-    ghost use Rattle.nd_model.specs.Arrays.Value.{Base};
+    ghost use Rattle.nd_heap.specs.Layers.{TableData};
 
-    ghost Value = { List (Base × List ℕ) };
+    ghost Value = { TableData };
 
-    ghost use Rattle.nd_heap.specs.Contents.{blocks_of};
+    ghost use Rattle.std.specs.Prelude.{◌++◌};
+    ghost use Rattle.indexmap.specs.IndexMap.{spare};
+    ghost use Rattle.nd_heap.specs.Contents.{bases_of, blocks_of};
+    ghost use Rattle.nd_heap.specs.Layers.{without};
+    ghost use Rattle.nd_heap.specs.Sharing.{held_in};
 
-    ghost view = { λ t. blocks_of t.newer.entries ++ blocks_of t.shared.value.entries };
+    ghost view = { λ t. record {
+      blocks = blocks_of t.newer.entries
+          ++ without (bases_of t.gone.entries) (blocks_of (held_in t.shared).entries);
+      room = spare t.gone;
+    } };
 }
 
 impl BlockTable {
     /// No blocks.
-    pub(crate) fn new(alloc: Global) -> Result<BlockTable, OutOfMemory>
-        ensures { IfOk result (λ t. t ≡ []) }
+    pub(crate) fn new(alloc: Global) -> BlockTable
+        ensures { result.blocks ≡ [] }
     {
-        let shared = Rc::new(alloc, IndexMap::new(alloc))?;
-        Ok(BlockTable {
-            shared,
+        BlockTable {
+            shared: Layer::Own(IndexMap::new(alloc)),
+            gone: IndexMap::new(alloc),
             newer: IndexMap::new(alloc),
             alloc,
-        })
+        }
     }
 
-    /// A copy that shares every block: no byte is copied.
-    pub(crate) fn try_clone(&self) -> Result<BlockTable, OutOfMemory>
-        ensures { IfOk result (λ t. t ≡ self.now) }
+    /// A copy that shares every block, with room to take out `room` blocks: no byte is copied.
+    pub(crate) fn try_clone(&self, room: usize) -> Result<BlockTable, OutOfMemory>
+        ensures blocks { IfOk result (λ t. t.blocks ≡ self.now.blocks) }
+        ensures room { IfOk result (λ t. room ≤ t.room) }
     {
-        let shared = self.shared.clone()?;
+        let shared = self.shared.try_clone()?;
+        let mut gone = self.gone.clone()?;
+        gone.reserve(room)?;
         let newer = self.newer.clone()?;
         Ok(BlockTable {
             shared,
+            gone,
             newer,
             alloc: self.alloc,
         })
     }
 
+    /// Makes room to take out `room` blocks.
+    pub(crate) fn make_room(&mut self, room: usize) -> Result<(), OutOfMemory>
+        ensures blocks { self.new.blocks ≡ self.old.blocks }
+        ensures room { self.old.room ≤ self.new.room }
+        ensures ok { OnOk result (room ≤ self.new.room) }
+    {
+        self.gone.reserve(room)?;
+        Ok(())
+    }
+
     /// The bytes of a block, none where there is no such block.
     pub(crate) fn bytes(&self, base: Base) -> &[u8]
-        ensures { result.now ≡ bytes_at self.now (base_of base) }
+        ensures { result.now ≡ bytes_at self.now.blocks (base_of base) }
     {
-        match self.newer.get(&base) {
-            Some(block) => block.as_ref().as_slice(),
-            None => bytes_of(self.shared.as_ref(), base),
+        if let Some(block) = self.newer.get(&base) {
+            return block.as_ref().as_slice();
         }
+        if has_base(&self.gone, base) {
+            return &[];
+        }
+        bytes_of(self.shared.as_ref(), base)
     }
 
     /// The block of a base, shared.
     pub(crate) fn share(&self, base: Base) -> Result<Option<Rc<RawBlock>>, OutOfMemory>
-        ensures { IfOk result (λ o. bytes_in o ≡ bytes_at self.now (base_of base)) }
+        ensures { IfOk result (λ o. bytes_in o ≡ bytes_at self.now.blocks (base_of base)) }
     {
-        match self.newer.get(&base) {
-            Some(block) => Ok(Some(block.clone()?)),
-            None => Ok(share_block(self.shared.as_ref(), base)?),
+        if let Some(block) = self.newer.get(&base) {
+            return Ok(Some(block.clone()?));
         }
+        if has_base(&self.gone, base) {
+            return Ok(None);
+        }
+        Ok(share_block(self.shared.as_ref(), base)?)
     }
 
     /// Sets a block.
     pub(crate) fn put_block(&mut self, base: Base, block: Rc<RawBlock>) -> Result<(), OutOfMemory>
-        ensures ok { OnOk result (bytes_at self.new
-            ≡ running.with_base (base_of base) block.value (bytes_at self.old)) }
-        ensures err { OnErr result (bytes_at self.new ≡ bytes_at self.old) }
+        ensures ok { OnOk result (bytes_at self.new.blocks
+            ≡ running.with_base (base_of base) block.value (bytes_at self.old.blocks)) }
+        ensures err { OnErr result (bytes_at self.new.blocks ≡ bytes_at self.old.blocks) }
+        ensures room { self.old.room ≤ self.new.room }
     {
         self.newer.insert(base, block)?;
         Ok(())
     }
 
-    /// Puts the block of the base, shared, into the newer layer, if there is one and versions share the old layer.
+    /// Puts the block of the base, shared, into the newer layer, if there is one and versions share
+    /// the old layer.
     fn raise(&mut self, base: Base) -> Result<(), OutOfMemory>
-        ensures { bytes_at self.new ≡ bytes_at self.old }
+        ensures bytes { bytes_at self.new.blocks ≡ bytes_at self.old.blocks }
+        ensures room { self.old.room ≤ self.new.room }
     {
-        if Rc::strong_count(&self.shared) == 1 {
+        if self.shared.is_own() {
             return Ok(());
         }
         if let Some(block) = self.share(base)? {
@@ -115,12 +150,17 @@ impl BlockTable {
         base: Base,
         writer: W,
     ) -> Result<(), OutOfMemory>
-        ensures ok { OnOk result (bytes_at self.new ≡ running.with_base (base_of base)
-            (W.written writer (bytes_at self.old (base_of base))) (bytes_at self.old)) }
-        ensures err { OnErr result (bytes_at self.new ≡ bytes_at self.old) }
+        ensures ok { OnOk result (bytes_at self.new.blocks ≡ running.with_base (base_of base)
+            (W.written writer (bytes_at self.old.blocks (base_of base)))
+            (bytes_at self.old.blocks)) }
+        ensures err { OnErr result (bytes_at self.new.blocks ≡ bytes_at self.old.blocks) }
+        ensures room { self.old.room ≤ self.new.room }
     {
         if self.newer.contains_key(&base) {
             write_block(&mut self.newer, base, writer)?;
+            return Ok(());
+        }
+        if has_base(&self.gone, base) {
             return Ok(());
         }
         write(&mut self.shared, base, writer)?;
@@ -133,46 +173,62 @@ impl BlockTable {
         base: Base,
         writer: W,
     ) -> Result<(), OutOfMemory>
-        ensures ok { OnOk result (bytes_at self.new ≡ running.with_base (base_of base)
-            (W.written writer (bytes_at self.old (base_of base))) (bytes_at self.old)) }
-        ensures err { OnErr result (bytes_at self.new ≡ bytes_at self.old) }
+        ensures ok { OnOk result (bytes_at self.new.blocks ≡ running.with_base (base_of base)
+            (W.written writer (bytes_at self.old.blocks (base_of base)))
+            (bytes_at self.old.blocks)) }
+        ensures err { OnErr result (bytes_at self.new.blocks ≡ bytes_at self.old.blocks) }
+        ensures room { self.old.room ≤ self.new.room }
     {
         self.raise(base)?;
         self.write_layer(base, writer)?;
         Ok(())
     }
 
-    /// Takes out the blocks of these bases. The old ones are copied where one of them is to go and versions share them.
-    pub(crate) fn remove(&mut self, bases: &Bases) -> Result<(), OutOfMemory>
-        ensures ok { OnOk result ((b : values.Base) → bytes_at self.new b
-            ≡ (if is_base_among (bases_of bases.now.entries) b then [] else bytes_at self.old b)) }
-        ensures err { OnErr result (bytes_at self.new ≡ bytes_at self.old) }
+    /// Takes out the blocks of these bases, without memory.
+    pub(crate) fn remove(&mut self, bases: &Bases)
+        requires { index_map_len bases.now ≤ self.old.room }
+        ensures bytes { (b : values.Base) → bytes_at self.new.blocks b
+            ≡ (if is_base_among (bases_of bases.now.entries) b
+            then [] else bytes_at self.old.blocks b) }
+        ensures room { self.old.room ≤ self.new.room + index_map_len bases.now }
     {
-        remove_shared(&mut self.shared, bases)?;
+        hide(&mut self.gone, self.shared.as_ref(), bases);
         remove_blocks(&mut self.newer, bases);
-        Ok(())
+        self.drop_hidden();
     }
 
-    /// Makes the old blocks the only layer where the newer ones are many.
-    pub(crate) fn settle(&mut self) -> Result<(), OutOfMemory>
-        ensures { bytes_at self.new ≡ bytes_at self.old }
+    /// Gives back the memory of old blocks that are gone, where no version shares the old layer.
+    fn drop_hidden(&mut self)
+        ensures bytes { bytes_at self.new.blocks ≡ bytes_at self.old.blocks }
+        ensures room { self.old.room ≤ self.new.room }
     {
-        if self.newer.len() <= MANY {
+        if remove_own(&mut self.shared, &self.gone) {
+            self.gone.clear();
+        }
+    }
+
+    /// Makes the old blocks the only layer where the newer ones are many, or those that are gone.
+    pub(crate) fn settle(&mut self) -> Result<(), OutOfMemory>
+        ensures bytes { bytes_at self.new.blocks ≡ bytes_at self.old.blocks }
+        ensures room { self.old.room ≤ self.new.room }
+    {
+        if self.newer.len() <= MANY && self.gone.len() <= MANY {
             return Ok(());
         }
-        let flat = stack(&self.newer, self.shared.as_ref())?;
-        self.shared = Rc::new(self.alloc, flat)?;
+        let flat = stack(&self.newer, self.shared.as_ref(), &self.gone)?;
+        self.shared = Layer::Shared(Rc::new(self.alloc, flat)?);
         self.newer.clear();
+        self.gone.clear();
         Ok(())
     }
 }
 
 /// Puts the block of the base, shared, among the others, if there is one.
 fn pick_block(picked: &mut Blocks, blocks: &BlockTable, base: Base) -> Result<(), OutOfMemory>
-    requires { bytes_at blocks.now (base_of base) ≡ []
+    requires { bytes_at blocks.now.blocks (base_of base) ≡ []
         → bytes_at (blocks_of picked.old.entries) (base_of base) ≡ [] }
     ensures { OnOk result (bytes_at (blocks_of picked.new.entries)
-        ≡ running.with_base (base_of base) (bytes_at blocks.now (base_of base))
+        ≡ running.with_base (base_of base) (bytes_at blocks.now.blocks (base_of base))
         (bytes_at (blocks_of picked.old.entries))) }
 {
     if let Some(block) = blocks.share(base)? {
@@ -189,7 +245,7 @@ pub(crate) fn pick_blocks(
 ) -> Result<Blocks, OutOfMemory>
     ensures { IfOk result (λ picked. (b : values.Base) → bytes_at (blocks_of picked.entries) b
         ≡ (if is_base_among (bases_of bases.now.entries) b
-        then bytes_at blocks.now b else [])) }
+        then bytes_at blocks.now.blocks b else [])) }
 {
     let mut picked = IndexMap::new(alloc);
     for i in 0..bases.len() {

@@ -1,14 +1,17 @@
 //! `Blocks`: one layer of blocks by base, each shared by the versions that have it.
 
-ghost use Rattle.std.specs.Prelude.{◌≡◌, ◌+◌, ◌≤◌, ◌^◌, ◌||◌, ◌&&◌, ◌++◌, not, nat_eq, [], IfOk, IsFalse, IsTrue, OnErr, OnOk, if◌then◌else◌};
+ghost use Rattle.std.specs.Prelude.{◌≡◌, ◌+◌, ◌≤◌, ◌^◌, ◌||◌, ◌&&◌, ◌++◌, ◌<◌, not, nat_eq, [], IfOk, IsFalse, IsTrue, OnErr, OnOk, if◌then◌else◌};
 ghost use Rattle.nd_model.specs.Arrays.Value as values;
 ghost use Rattle.nd_model.specs.Cells.Session as model;
 ghost use Rattle.nd_model.specs.Cells.Running as running;
 ghost use Rattle.nd_heap.specs.Values.{base_of, value_of, names_of};
 ghost use Rattle.nd_heap.specs.Contents.{blocks_of, bases_of, bytes_in};
-ghost use Rattle.nd_heap.specs.Layers.{is_block_among};
+ghost use Rattle.nd_heap.specs.Layers.{is_block_among, without};
 ghost use Rattle.nd_heap.specs.Live.{bytes_at, is_base_among};
+ghost use Rattle.nd_heap.specs.Sharing.{held_in};
+ghost use Rattle.indexmap.specs.IndexMap.{index_map_len, spare};
 
+use crate::layer::Layer;
 use crate::name_table::NameTable;
 use crate::value::{Base, Value};
 use crate::writer::BlockWriter;
@@ -79,8 +82,9 @@ pub(crate) fn write_block<W: BlockWriter + Drop>(
     Ok(())
 }
 
-/// Writes to a block of a layer that is shared: the layer is copied first, and nothing is written where there is no such block.
-pub(crate) fn write<W: BlockWriter + Drop>(
+/// Writes to a block of a layer that is shared, which is copied first: nothing is written where
+/// there is no such block.
+fn write_copied<W: BlockWriter + Drop>(
     blocks: &mut Rc<Blocks>,
     base: Base,
     writer: W,
@@ -97,12 +101,34 @@ pub(crate) fn write<W: BlockWriter + Drop>(
     Ok(())
 }
 
-/// Puts blocks over others, aside: where both have a base, it has the block of the first.
-pub(crate) fn stack(newer: &Blocks, older: &Blocks) -> Result<Blocks, OutOfMemory>
+/// Writes to a block of a layer, and nothing where there is no such block.
+pub(crate) fn write<W: BlockWriter + Drop>(
+    blocks: &mut Layer<Blocks>,
+    base: Base,
+    writer: W,
+) -> Result<(), OutOfMemory>
+    ensures ok { OnOk result (bytes_at (blocks_of (held_in blocks.new).entries)
+        ≡ running.with_base (base_of base) (W.written writer
+        (bytes_at (blocks_of (held_in blocks.old).entries) (base_of base)))
+        (bytes_at (blocks_of (held_in blocks.old).entries))) }
+    ensures err { OnErr result (bytes_at (blocks_of (held_in blocks.new).entries)
+        ≡ bytes_at (blocks_of (held_in blocks.old).entries)) }
+{
+    match blocks {
+        Layer::Own(own) => write_block(own, base, writer),
+        Layer::Shared(shared) => write_copied(shared, base, writer),
+    }
+}
+
+/// Puts blocks over others without those that are gone, aside: where both have a base, it has the
+/// block of the first.
+pub(crate) fn stack(newer: &Blocks, older: &Blocks, gone: &Bases) -> Result<Blocks, OutOfMemory>
     ensures { IfOk result (λ all. (b : values.Base) → bytes_at (blocks_of all.entries) b
-        ≡ bytes_at (blocks_of newer.now.entries ++ blocks_of older.now.entries) b) }
+        ≡ bytes_at (blocks_of newer.now.entries
+        ++ without (bases_of gone.now.entries) (blocks_of older.now.entries)) b) }
 {
     let mut all = older.clone()?;
+    remove_blocks(&mut all, gone);
     for i in (0..newer.len()).rev() {
         let Some((base, block)) = newer.get_index(i) else {
             unreachable!();
@@ -112,28 +138,12 @@ pub(crate) fn stack(newer: &Blocks, older: &Blocks) -> Result<Blocks, OutOfMemor
     Ok(all)
 }
 
-/// Whether one of these bases has a block.
-fn has_any(blocks: &Blocks, bases: &Bases) -> bool
-    ensures { IsFalse result → (b : values.Base)
-        → IsTrue (is_base_among (bases_of bases.now.entries) b)
-        → bytes_at (blocks_of blocks.now.entries) b ≡ [] }
-{
-    for i in 0..bases.len() {
-        let Some((base, _)) = bases.get_index(i) else {
-            unreachable!();
-        };
-        if blocks.contains_key(base) {
-            return true;
-        }
-    }
-    false
-}
-
 /// Puts the base that the value lies in among the others, if it lies in one.
 pub(crate) fn note_base(bases: &mut Bases, value: &Value) -> Result<(), OutOfMemory>
     ensures ok { OnOk result ((b : values.Base) → is_base_among (bases_of bases.new.entries) b
         ≡ (is_base_among (bases_of bases.old.entries) b || values.lies_in b (value_of value.now))) }
     ensures err { OnErr result (bases_of bases.new.entries ≡ bases_of bases.old.entries) }
+    ensures len { index_map_len bases.new ≤ index_map_len bases.old + 1 }
 {
     match value {
         Value::Number(_) => {}
@@ -153,7 +163,8 @@ pub(crate) fn has_base(bases: &Bases, base: Base) -> bool
 
 /// Takes the base that the value lies in out of these, if it lies in one.
 pub(crate) fn drop_base(bases: &mut Bases, value: &Value)
-    ensures { (b : values.Base) → is_base_among (bases_of bases.new.entries) b
+    ensures less { index_map_len bases.new ≤ index_map_len bases.old }
+    ensures left { (b : values.Base) → is_base_among (bases_of bases.new.entries) b
         ≡ (is_base_among (bases_of bases.old.entries) b
         && not (values.lies_in b (value_of value.now))) }
 {
@@ -168,7 +179,8 @@ pub(crate) fn drop_base(bases: &mut Bases, value: &Value)
 /// Takes out the bases that some bound value lies in. Few are looked for one by one, many by one
 /// pass over the names: a pass for each would cost their product.
 pub(crate) fn retain_unheld(bases: &mut Bases, names: &NameTable)
-    ensures { (b : values.Base) → is_base_among (bases_of bases.new.entries) b
+    ensures less { index_map_len bases.new ≤ index_map_len bases.old }
+    ensures left { (b : values.Base) → is_base_among (bases_of bases.new.entries) b
         ≡ (is_base_among (bases_of bases.old.entries) b && not (model.is_held b names.now)) }
 {
     if bases.len() > FEW {
@@ -197,7 +209,8 @@ pub(crate) fn retain_label(bases: &mut Bases, label: u64)
 
 /// Takes out the bases of a label.
 pub(crate) fn drop_label(bases: &mut Bases, label: u64)
-    ensures { (b : values.Base) → is_base_among (bases_of bases.new.entries) b
+    ensures less { index_map_len bases.new ≤ index_map_len bases.old }
+    ensures left { (b : values.Base) → is_base_among (bases_of bases.new.entries) b
         ≡ (is_base_among (bases_of bases.old.entries) b && not (nat_eq b.label label)) }
 {
     bases.retain(
@@ -224,19 +237,73 @@ pub(crate) fn remove_blocks(blocks: &mut Blocks, bases: &Bases)
     }
 }
 
-/// Takes the blocks of these bases out of a layer that is shared: the layer is copied first where one of them is to go.
-pub(crate) fn remove_shared(blocks: &mut Rc<Blocks>, bases: &Bases) -> Result<(), OutOfMemory>
-    ensures ok { OnOk result ((b : values.Base)
+/// Takes the blocks of these bases out of a layer, and returns whether it has: not where versions
+/// share the layer.
+pub(crate) fn remove_own(blocks: &mut Layer<Blocks>, bases: &Bases) -> bool
+    ensures own { IsTrue result → (b : values.Base)
+        → bytes_at (blocks_of (held_in blocks.new).entries) b
+        ≡ (if is_base_among (bases_of bases.now.entries) b
+        then [] else bytes_at (blocks_of (held_in blocks.old).entries) b) }
+    ensures shared { IsFalse result → bytes_at (blocks_of (held_in blocks.new).entries)
+        ≡ bytes_at (blocks_of (held_in blocks.old).entries) }
+{
+    match blocks {
+        Layer::Own(own) => {
+            remove_blocks(own, bases);
+            true
+        }
+        Layer::Shared(shared) => remove_unshared(shared, bases),
+    }
+}
+
+/// Takes the blocks of these bases out, and returns whether it has: not where they have two owners.
+fn remove_unshared(blocks: &mut Rc<Blocks>, bases: &Bases) -> bool
+    ensures own { IsTrue result → (b : values.Base)
         → bytes_at (blocks_of blocks.new.value.entries) b
         ≡ (if is_base_among (bases_of bases.now.entries) b
-        then [] else bytes_at (blocks_of blocks.old.value.entries) b)) }
-    ensures err { OnErr result (bytes_at (blocks_of blocks.new.value.entries)
-        ≡ bytes_at (blocks_of blocks.old.value.entries)) }
+        then [] else bytes_at (blocks_of blocks.old.value.entries) b) }
+    ensures shared { IsFalse result → bytes_at (blocks_of blocks.new.value.entries)
+        ≡ bytes_at (blocks_of blocks.old.value.entries) }
 {
-    if !has_any(Rc::as_ref(blocks), bases) {
-        return Ok(());
+    match Rc::get_mut(blocks) {
+        Some(own) => {
+            remove_blocks(own, bases);
+            true
+        }
+        None => false,
     }
-    let own = Rc::make_mut(blocks)?;
-    remove_blocks(own, bases);
-    Ok(())
+}
+
+/// Puts the bases that have a block among those that are gone, which needs no memory.
+pub(crate) fn hide(gone: &mut Bases, blocks: &Blocks, bases: &Bases)
+    requires { index_map_len bases.now ≤ spare gone.old }
+    ensures bytes { (b : values.Base)
+        → bytes_at (without (bases_of gone.new.entries) (blocks_of blocks.now.entries)) b
+        ≡ (if is_base_among (bases_of bases.now.entries) b then []
+        else bytes_at (without (bases_of gone.old.entries) (blocks_of blocks.now.entries)) b) }
+    ensures room { spare gone.old ≤ spare gone.new + index_map_len bases.now }
+{
+    for i in 0..bases.len() {
+        let Some((base, _)) = bases.get_index(i) else {
+            unreachable!();
+        };
+        hide_one(gone, blocks, *base);
+    }
+}
+
+/// Puts the base among those that are gone, if it has a block.
+fn hide_one(gone: &mut Bases, blocks: &Blocks, base: Base)
+    requires { 0 < spare gone.old }
+    ensures bytes { (b : values.Base)
+        → bytes_at (without (bases_of gone.new.entries) (blocks_of blocks.now.entries)) b
+        ≡ (if values.same_base (base_of base) b then []
+        else bytes_at (without (bases_of gone.old.entries) (blocks_of blocks.now.entries)) b) }
+    ensures room { spare gone.old ≤ spare gone.new + 1 }
+{
+    if bytes_of(blocks, base).is_empty() {
+        return;
+    }
+    let Ok(_) = gone.insert(base, ()) else {
+        unreachable!();
+    };
 }

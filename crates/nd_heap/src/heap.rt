@@ -1,11 +1,12 @@
 //! `Heap`: names with their values, and the blocks that arrays among these lie in.
 
-ghost use Rattle.std.specs.Prelude.{◌≡◌, ◌↔◌, ◌<◌, ◌||◌, ◌&&◌, not, nat_eq, [], IfOk, IsFalse, IsTrue, OnErr, OnOk, false, if◌then◌else◌, length, option_map, slice_get, true};
+ghost use Rattle.std.specs.Prelude.{◌≡◌, ◌↔◌, ◌+◌, ◌<◌, ◌≤◌, ◌||◌, ◌&&◌, not, nat_eq, [], IfOk, IsFalse, IsTrue, OnErr, OnOk, false, if◌then◌else◌, length, option_map, slice_get, true};
 ghost use Rattle.std.specs.Rc.{rc_str_bytes};
 ghost use Rattle.nd_model.specs.Arrays.Value as values;
 ghost use Rattle.nd_model.specs.Cells.Session as model;
 ghost use Rattle.nd_model.specs.Cells.Running as running;
 ghost use Rattle.nd_model.specs.Book.Sessions.{IsOnce};
+ghost use Rattle.indexmap.specs.IndexMap.{index_map_len};
 ghost use Rattle.nd_heap.specs.Values.{base_of, value_of};
 ghost use Rattle.nd_heap.specs.Contents.{bases_of, blocks_of, bytes_in};
 ghost use Rattle.nd_heap.specs.Live.{bytes_at, is_base_among};
@@ -26,7 +27,8 @@ use std::rc::{Rc, RcStr};
 
 /// Names and blocks, of which copies share most. A base is loose from when it is made, and from
 /// when a name that lay in it gets a value that does not, until blocks are collected: only loose
-/// bases are asked whether a name still lies in them.
+/// bases are asked whether a name still lies in them. The blocks have room for each of them, so
+/// that to collect needs no memory.
 ///
 /// Where `x` and `y` are views of one base, `unbind("x")` leaves the block, and after `unbind("y")`
 /// the next `collect` gives it up.
@@ -46,17 +48,19 @@ impl Model for Heap {
 
     ghost view = { λ h. record {
       names = h.names;
-      blocks = h.blocks;
+      blocks = h.blocks.blocks;
       loose = bases_of h.loose.entries;
     } };
 
+    ghost use Rattle.std.specs.Prelude.{◌≤◌};
+    ghost use Rattle.indexmap.specs.IndexMap.{index_map_len};
     ghost use Rattle.nd_heap.specs.Loose.{AreLoose};
 
     ghost invariant = { λ h. AreLoose (record {
       names = h.names;
-      blocks = h.blocks;
+      blocks = h.blocks.blocks;
       loose = bases_of h.loose.entries;
-    }) };
+    }) × (index_map_len h.loose ≤ h.blocks.room) };
 }
 
 /// Puts the base that the value of a name lies in among the others: the name is about to lose it.
@@ -65,6 +69,7 @@ fn loosen(loose: &mut Bases, names: &NameTable, name: &str) -> Result<(), OutOfM
         ≡ (is_base_among (bases_of loose.old.entries) b
         || lies_in_found b (model.lookup name.now names.now))) }
     ensures err { OnErr result (bases_of loose.new.entries ≡ bases_of loose.old.entries) }
+    ensures len { index_map_len loose.new ≤ index_map_len loose.old + 1 }
 {
     if let Some(value) = names.find(name) {
         note_base(loose, value.as_ref())?;
@@ -96,6 +101,7 @@ fn loosen_bound(
         → IsTrue (lies_in_found b (model.lookup name.now names.now))
         → IsTrue (is_base_among (bases_of loose.new.entries) b
         || values.lies_in b (value_of next.now))) }
+    ensures len { index_map_len loose.new ≤ index_map_len loose.old + 1 }
 {
     let Some(value) = names.find(name) else {
         return Ok(());
@@ -111,8 +117,9 @@ fn loosen_bound(
 fn loosen_empty(loose: &mut Bases, blocks: &BlockTable, base: Base) -> Result<(), OutOfMemory>
     ensures more { (b : values.Base) → IsTrue (is_base_among (bases_of loose.old.entries) b)
         → IsTrue (is_base_among (bases_of loose.new.entries) b) }
-    ensures empty { OnOk result (bytes_at blocks.now (base_of base) ≡ []
+    ensures empty { OnOk result (bytes_at blocks.now.blocks (base_of base) ≡ []
         → IsTrue (is_base_among (bases_of loose.new.entries) (base_of base))) }
+    ensures len { index_map_len loose.new ≤ index_map_len loose.old + 1 }
 {
     if blocks.bytes(base).is_empty() {
         loose.insert(base, ())?;
@@ -121,18 +128,16 @@ fn loosen_empty(loose: &mut Bases, blocks: &BlockTable, base: Base) -> Result<()
 }
 
 impl Heap {
-    /// No names and no blocks.
-    pub fn new(alloc: Global) -> Result<Heap, OutOfMemory>
-        ensures names { IfOk result (λ h. h.names ≡ []) }
-        ensures blocks { IfOk result (λ h. h.blocks ≡ []) }
+    /// No names and no blocks. It takes no memory.
+    pub fn new(alloc: Global) -> Heap
+        ensures names { result.names ≡ [] }
+        ensures blocks { result.blocks ≡ [] }
     {
-        let names = NameTable::new(alloc)?;
-        let blocks = BlockTable::new(alloc)?;
-        Ok(Heap {
-            names,
-            blocks,
+        Heap {
+            names: NameTable::new(alloc),
+            blocks: BlockTable::new(alloc),
             loose: IndexMap::new(alloc),
-        })
+        }
     }
 
     /// Returns a copy that shares names and blocks: no name and no byte is copied. What is bound or
@@ -141,8 +146,8 @@ impl Heap {
         ensures { IfOk result (λ h. h ≡ self.now) }
     {
         let names = self.names.try_clone()?;
-        let blocks = self.blocks.try_clone()?;
         let loose = self.loose.clone()?;
+        let blocks = self.blocks.try_clone(loose.len())?;
         Ok(Heap {
             names,
             blocks,
@@ -269,6 +274,7 @@ impl Heap {
         ensures err { OnErr result (self.new.names ≡ self.old.names) }
         ensures blocks { self.new.blocks ≡ self.old.blocks }
     {
+        self.blocks.make_room(self.loose.len() + 1)?;
         loosen_bound(&mut self.loose, &self.names, name.as_str(), value.as_ref())?;
         self.names.bind(name, value)?;
         Ok(())
@@ -280,6 +286,7 @@ impl Heap {
         ensures err { OnErr result (self.new.names ≡ self.old.names) }
         ensures blocks { self.new.blocks ≡ self.old.blocks }
     {
+        self.blocks.make_room(self.loose.len() + 1)?;
         loosen(&mut self.loose, &self.names, name)?;
         self.names.unbind(name)?;
         Ok(())
@@ -292,6 +299,7 @@ impl Heap {
             ≡ running.with_base (base_of base) block.value (bytes_at self.old.blocks)) }
         ensures err { OnErr result (bytes_at self.new.blocks ≡ bytes_at self.old.blocks) }
     {
+        self.blocks.make_room(self.loose.len() + 1)?;
         loosen_empty(&mut self.loose, &self.blocks, base)?;
         self.blocks.put_block(base, block)?;
         Ok(())
@@ -321,36 +329,32 @@ impl Heap {
     }
 
     /// Gives up the blocks of loose bases that no bound value lies in.
-    fn remove_loose(&mut self) -> Result<(), OutOfMemory>
+    fn remove_loose(&mut self)
         ensures names { self.new.names ≡ self.old.names }
-        ensures ok { OnOk result ((b : values.Base) → bytes_at self.new.blocks b
-            ≡ (if model.is_held b self.old.names then bytes_at self.old.blocks b else [])) }
-        ensures err { OnErr result (bytes_at self.new.blocks ≡ bytes_at self.old.blocks) }
+        ensures bytes { (b : values.Base) → bytes_at self.new.blocks b
+            ≡ (if model.is_held b self.old.names then bytes_at self.old.blocks b else []) }
     {
         retain_unheld(&mut self.loose, &self.names);
-        if self.loose.is_empty() {
-            return Ok(());
-        }
-        self.blocks.remove(&self.loose)?;
+        self.blocks.remove(&self.loose);
         self.loose.clear();
-        Ok(())
     }
 
     /// proof: drops the heap, apart from a caller whose proof would be long.
     pub fn discard(self) {}
 
-    /// Gives up the blocks that no bound value lies in. Only those of loose bases are looked at.
+    /// Gives up the blocks that no bound value lies in. Only those of loose bases are looked at,
+    /// and no memory is needed.
     ///
     /// After `bind` of `x` to an array and then to the number 1, it gives up the array's block.
-    pub fn collect(&mut self) -> Result<(), OutOfMemory>
+    pub fn collect(&mut self)
         ensures names { self.new.names ≡ self.old.names }
-        ensures ok { OnOk result ((b : values.Base) → bytes_at self.new.blocks b
-            ≡ (if model.is_held b self.old.names then bytes_at self.old.blocks b else [])) }
-        ensures err { OnErr result (bytes_at self.new.blocks ≡ bytes_at self.old.blocks) }
+        ensures bytes { (b : values.Base) → bytes_at self.new.blocks b
+            ≡ (if model.is_held b self.old.names then bytes_at self.old.blocks b else []) }
     {
-        self.settle()?;
-        self.remove_loose()?;
-        Ok(())
+        self.remove_loose();
+        // To merge layers only makes later calls faster: where its memory is refused, names and
+        // bytes stay as they are.
+        let _ = self.settle();
     }
 
     /// Gives up the blocks of a label that no bound value lies in. Only those of loose bases are
@@ -368,7 +372,8 @@ impl Heap {
         let mut lost = self.loose.clone()?;
         retain_label(&mut lost, label);
         retain_unheld(&mut lost, &self.names);
-        self.blocks.remove(&lost)?;
+        self.blocks.make_room(lost.len() + self.loose.len())?;
+        self.blocks.remove(&lost);
         drop_label(&mut self.loose, label);
         Ok(())
     }

@@ -4,6 +4,7 @@
 mod block_table;
 mod blocks;
 mod heap;
+mod layer;
 mod name_table;
 mod names;
 mod value;

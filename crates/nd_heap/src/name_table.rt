@@ -1,10 +1,11 @@
 //! `NameTable`: names in order with their values in layers, so that a change copies few of them.
 
-ghost use Rattle.std.specs.Prelude.{◌≡◌, ◌<◌, ◌↔◌, ◌&&◌, not, [], Some, IfOk, IsFalse, IsTrue, false, OnErr, OnOk, length, option_map, slice_get};
+ghost use Rattle.std.specs.Prelude.{◌≡◌, ◌<◌, ◌≤◌, ◌↔◌, ◌&&◌, not, [], Some, IfOk, IsFalse, IsTrue, false, OnErr, OnOk, length, option_map, slice_get};
 ghost use Rattle.std.specs.Rc.{rc_str_bytes};
 ghost use Rattle.nd_model.specs.Cells.Session as model;
 ghost use Rattle.nd_model.specs.Book.Sessions.{IsOnce};
 ghost use Rattle.nd_model.specs.Arrays.Value as values;
+ghost use Rattle.indexmap.specs.IndexMap.{index_map_len};
 ghost use Rattle.nd_heap.specs.Contents.{bases_of};
 ghost use Rattle.nd_heap.specs.Layers.{AreDistinctNames};
 ghost use Rattle.nd_heap.specs.Live.{is_base_among};
@@ -12,6 +13,7 @@ ghost use Rattle.nd_heap.specs.Loose.{LosesHolder};
 ghost use Rattle.nd_heap.specs.Values.{base_of, value_of, names_of};
 
 use crate::blocks::{Bases, drop_base, note_base};
+use crate::layer::Layer;
 use crate::names::{
     Names, find, insert, is_held, is_held_below, lies_in, lies_in_label, remove, unbind,
 };
@@ -29,7 +31,7 @@ pub(crate) const MANY: usize = 256;
 /// behind them. A copy shares the old ones, so it copies few.
 #[derive(Drop)]
 pub(crate) struct NameTable {
-    shared: Rc<Names>,
+    shared: Layer<Names>,
     newer: Names,
     added: Names,
     alloc: Global,
@@ -42,34 +44,34 @@ impl Model for NameTable {
     ghost Value = { List (List ℕ × values.Value) };
 
     ghost use Rattle.nd_heap.specs.Layers.{overridden, AreDistinctNames};
+    ghost use Rattle.nd_heap.specs.Sharing.{held_in};
     ghost use Rattle.nd_heap.specs.Values.{names_of};
 
-    ghost view = { λ t. overridden (names_of t.newer.entries) (names_of t.shared.value.entries)
+    ghost view = { λ t. overridden (names_of t.newer.entries) (names_of (held_in t.shared).entries)
         ++ names_of t.added.entries };
 
     ghost invariant = { λ t. AreDistinctNames (overridden (names_of t.newer.entries)
-        (names_of t.shared.value.entries) ++ names_of t.added.entries) };
+        (names_of (held_in t.shared).entries) ++ names_of t.added.entries) };
 }
 
 impl NameTable {
     /// No names.
-    pub(crate) fn new(alloc: Global) -> Result<NameTable, OutOfMemory>
-        ensures { IfOk result (λ t. t ≡ []) }
+    pub(crate) fn new(alloc: Global) -> NameTable
+        ensures { result ≡ [] }
     {
-        let shared = Rc::new(alloc, IndexMap::new(alloc))?;
-        Ok(NameTable {
-            shared,
+        NameTable {
+            shared: Layer::Own(IndexMap::new(alloc)),
             newer: IndexMap::new(alloc),
             added: IndexMap::new(alloc),
             alloc,
-        })
+        }
     }
 
     /// A copy that shares the old names and each value.
     pub(crate) fn try_clone(&self) -> Result<NameTable, OutOfMemory>
         ensures { IfOk result (λ t. t ≡ self.now) }
     {
-        let shared = self.shared.clone()?;
+        let shared = self.shared.try_clone()?;
         let newer = self.newer.clone()?;
         let added = self.added.clone()?;
         Ok(NameTable {
@@ -190,7 +192,7 @@ impl NameTable {
         ensures ok { OnOk result (self.new ≡ names_of names.entries) }
         ensures err { OnErr result (self.new ≡ self.old) }
     {
-        self.shared = Rc::new(self.alloc, names)?;
+        self.shared = Layer::Shared(Rc::new(self.alloc, names)?);
         self.newer.clear();
         self.added.clear();
         Ok(())
@@ -266,7 +268,8 @@ impl NameTable {
 
     /// Takes out the bases that some bound value lies in, by one pass over the names.
     pub(crate) fn drop_held(&self, bases: &mut Bases)
-        ensures { (b : values.Base) → is_base_among (bases_of bases.new.entries) b
+        ensures less { index_map_len bases.new ≤ index_map_len bases.old }
+        ensures left { (b : values.Base) → is_base_among (bases_of bases.new.entries) b
             ≡ (is_base_among (bases_of bases.old.entries) b && not (model.is_held b self.now)) }
     {
         for i in 0..self.len() {

@@ -5,8 +5,10 @@ ghost use Rattle.std.specs.Rc.{rc_str_bytes};
 ghost use Rattle.nd_model.specs.Cells.Session as model;
 ghost use Rattle.nd_model.specs.Arrays.Value as values;
 ghost use Rattle.nd_heap.specs.Layers.{overridden};
+ghost use Rattle.nd_heap.specs.Sharing.{held_in};
 ghost use Rattle.nd_heap.specs.Values.{base_of, value_of, names_of};
 
+use crate::layer::Layer;
 use crate::value::{Base, Value};
 use indexmap::IndexMap;
 use nd_memory::OutOfMemory;
@@ -34,7 +36,7 @@ pub(crate) fn remove(names: &mut Names, name: &str)
 }
 
 /// Takes a name out. Names that are shared are copied first.
-pub(crate) fn unbind(names: &mut Rc<Names>, name: &str) -> Result<(), OutOfMemory>
+fn unbind_copied(names: &mut Rc<Names>, name: &str) -> Result<(), OutOfMemory>
     ensures ok { OnOk result (names_of names.new.value.entries
         ≡ model.unbind name.now (names_of names.old.value.entries)) }
     ensures err { OnErr result (names_of names.new.value.entries
@@ -42,6 +44,20 @@ pub(crate) fn unbind(names: &mut Rc<Names>, name: &str) -> Result<(), OutOfMemor
 {
     let own = Rc::make_mut(names)?;
     remove(own, name);
+    Ok(())
+}
+
+/// Takes a name out of a layer.
+pub(crate) fn unbind(names: &mut Layer<Names>, name: &str) -> Result<(), OutOfMemory>
+    ensures ok { OnOk result (names_of (held_in names.new).entries
+        ≡ model.unbind name.now (names_of (held_in names.old).entries)) }
+    ensures err { OnErr result (names_of (held_in names.new).entries
+        ≡ names_of (held_in names.old).entries) }
+{
+    match names {
+        Layer::Own(own) => remove(own, name),
+        Layer::Shared(shared) => unbind_copied(shared, name)?,
+    }
     Ok(())
 }
 

@@ -1,7 +1,7 @@
 -- Spans of sets, and the bits of their granules.
-use Rattle.std.proofs.Common.{◌≡◌, ℕ, zero, suc, ◌+◌, ◌*◌, ◌/◌, ◌%◌, ◌<◌, ◌≤◌, ◌^◌, ◌||◌, true, false, nat_eq, bit_or, max, List, [], ◌∷◌, get_or, length, take, refl, sym, ap, ◌∙◌, inl, inr, arith, w64}
+use Rattle.std.proofs.Common.{◌≡◌, ℕ, zero, suc, ◌+◌, ◌*◌, ◌/◌, ◌%◌, ◌<◌, ◌≤◌, ◌^◌, ◌||◌, ◌&&◌, Bool, true, false, nat_eq, nat_lt, bit_or, max, slice_index, List, [], ◌∷◌, get_or, length, take, refl, sym, ap, ◌∙◌, inl, inr, arith, w64}
 use Rattle.std.specs.Int.{bit_at}
-use Rattle.std.proofs.lemmas.Bool.{cases_lt, false≢true}
+use Rattle.std.proofs.lemmas.Bool.{cases_Bool, cases_lt, false≢true}
 use Rattle.std.proofs.lemmas.Bool.Decides.{nat_tests}
 use Rattle.std.proofs.lemmas.Nat.Bits.{bit_at_or, bit_at-lt, bit_at_ones, bit_at-zero, bit_at_set_same}
 use Rattle.nd_marks.specs.Marks.{Strip, has_bit, in_strip, in_strips, in_word}
@@ -61,3 +61,66 @@ pub strip_more : {A : Type 0} (l : Strip) (ss : List Strip) (i : ℕ) (s : Strip
     → (in_strip l p || in_strips (take (i + 1) ss) p) ≡ true → A
 strip_more l ss i s p lt is old one h = either_way (in_strip l p || in_strips (take i ss) p) (in_strip s p)
     (sym (ap (λ t. in_strip l p || t) (take_more ss i s p lt is) ∙ nested (in_strip l p) (in_strips (take i ss) p) (in_strip s p)) ∙ h) old one
+
+-- a word is added to the one of its index
+pub word_added : (ws vs us os : List ℕ) (at word : ℕ) → word ≡ slice_index os at → ((q i : ℕ) → in_word (slice_index vs q) i ≡ (in_word (slice_index ws q) i || (nat_eq q at && in_word word i)))
+    → ((p : ℕ) → has_bit ws p ≡ (has_bit us p || (nat_lt p (at * 64) && has_bit os p))) → (p : ℕ) → has_bit vs p ≡ (has_bit us p || (nat_lt p ((at + 1) * 64) && has_bit os p))
+word_added ws vs us os at word is set before p =
+    set (p / 64) (p % 64) ∙ ap (λ b. b || (nat_eq (p / 64) at && in_word word (p % 64))) (before p) ∙ elim (cases_Bool (nat_eq (p / 64) at)) [
+      | inl same ↦
+          let here : p / 64 ≡ at = grind (arith, nat_tests, same) in
+          let bit : in_word word (p % 64) ≡ has_bit os p = ap (λ w. in_word w (p % 64)) (is ∙ ap (slice_index os) (sym here)) in
+          let not_yet : nat_lt p (at * 64) ≡ false = grind (arith, nat_tests) in
+          let now : nat_lt p ((at + 1) * 64) ≡ true = grind (arith, nat_tests) in
+          rw (same, bit, not_yet, now) (drop_false (has_bit us p) (has_bit os p))
+      | inr other ↦
+          let apart : nat_lt p (at * 64) ≡ nat_lt p ((at + 1) * 64) = grind (arith, nat_tests, other) in
+          rw (other, apart) (or_nothing (has_bit us p || (nat_lt p ((at + 1) * 64) && has_bit os p)))
+    ]
+  where
+    drop_false : (u o : Bool) → ((u || false) || o) ≡ (u || o)
+    drop_false true o = refl
+    drop_false false o = refl
+
+    or_nothing : (u : Bool) → (u || false) ≡ u
+    or_nothing true = refl
+    or_nothing false = refl
+
+-- all words are added
+pub words_added : (u : Bool) (os : List ℕ) (at p : ℕ) → length os ≤ at → (u || (nat_lt p (at * 64) && has_bit os p)) ≡ (u || has_bit os p)
+words_added u os at p long = elim (cases_Bool (has_bit os p)) [
+  | inl set ↦
+      let within : p < length os * 64 = bit_within os p set in
+      let now : nat_lt p (at * 64) ≡ true = grind (arith, nat_tests) in
+      rw (set, now) refl
+  | inr unset ↦ rw unset (ap (λ x. u || x) (and_false (nat_lt p (at * 64))))
+]
+  where
+    and_false : (x : Bool) → (x && false) ≡ false
+    and_false true = refl
+    and_false false = refl
+
+-- strips with the bits of one set, and the bits of another
+pub beside_bits : (s bs l ss bm : Bool) → ((((s || bm) || l) || ss) || bs) ≡ ((s || bs) || ((l || ss) || bm))
+beside_bits true bs l ss bm = refl
+beside_bits false true true true true = refl
+beside_bits false true true true false = refl
+beside_bits false true true false true = refl
+beside_bits false true true false false = refl
+beside_bits false true false true true = refl
+beside_bits false true false true false = refl
+beside_bits false true false false true = refl
+beside_bits false true false false false = refl
+beside_bits false false true true true = refl
+beside_bits false false true true false = refl
+beside_bits false false true false true = refl
+beside_bits false false true false false = refl
+beside_bits false false false true true = refl
+beside_bits false false false true false = refl
+beside_bits false false false false true = refl
+beside_bits false false false false false = refl
+
+pub get_here : (os : List ℕ) (at w : ℕ) → at < length os → w ≡ get_or os at w → w ≡ slice_index os at
+get_here [] at w lt is = elim lt [ ]
+get_here (o ∷ os) zero w lt is = is
+get_here (o ∷ os) (suc at) w lt is = get_here os at w (omega arith) is

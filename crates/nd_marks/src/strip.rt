@@ -182,8 +182,11 @@ impl Strip {
     }
 
     /// The byte offset behind the last row.
-    fn end(&self) -> u128
-        ensures { (p : ℕ) → result ≤ p → in_strip self.now p ≡ false }
+    pub(crate) fn end(&self) -> u128
+        ensures past { (p : ℕ) → result ≤ p → in_strip self.now p ≡ false }
+        ensures rows { (n : ℕ) → n < self.now.count
+            → self.now.first + n * self.now.step + self.now.width ≤ result }
+        ensures near { result ≤ 2 ^ 65 }
     {
         let rows = u128::from(self.first) + u128::from(self.count) * u128::from(self.step);
         if self.count == 0 {
@@ -432,14 +435,6 @@ impl Strip {
     }
 }
 
-/// Returns true only where the elements of a run lie `step` bytes apart, in increasing order.
-pub(crate) fn are_together(run: &Run, step: u64) -> bool
-    ensures { IsTrue result → (k : ℕ) → k < length run.now
-        → slice_index run.now k ≡ slice_index run.now 0 + k * step }
-{
-    run.count() == 1 || run.step() == i128::from(step)
-}
-
 /// Returns true only where the elements of a run lie `step` bytes apart, in decreasing order.
 fn are_backwards(run: &Run, step: u64) -> bool
     ensures { IsTrue result → (k : ℕ) → k < length run.now
@@ -462,7 +457,7 @@ pub(crate) fn strip_of(run: &Run, size: u64) -> Option<Strip>
     let count = run.count();
     let first = run.start();
     let last = run.place(count - 1);
-    if are_together(run, step) {
+    if run.is_contiguous(step) {
         return Some(Strip {
             first,
             width: size,

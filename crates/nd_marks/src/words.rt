@@ -1,5 +1,5 @@
 //! `set_bits` and `is_set`: sets of byte offsets as bits in words of 64.
-ghost use Rattle.std.specs.Prelude.{◌≡◌, ℕ, ◌+◌, ◌-◌, ◌*◌, ◌^◌, ◌<◌, ◌≤◌, ◌||◌, ◌&&◌, not, nat_le, nat_lt, nat_eq, false, length, slice_index, OnOk};
+ghost use Rattle.std.specs.Prelude.{◌≡◌, ℕ, ◌+◌, ◌-◌, ◌*◌, ◌^◌, ◌<◌, ◌≤◌, ◌||◌, ◌&&◌, not, nat_le, nat_lt, nat_eq, false, length, slice_index, OnErr, OnOk};
 ghost use Rattle.std.specs.Int.{bit_at};
 ghost use Rattle.std.specs.List.{All, flat_map};
 ghost use Rattle.nd_model.specs.Cells.Session.{is_in};
@@ -61,8 +61,7 @@ pub(crate) fn any_set(words: &[u64], from: u128, to: u128) -> bool
 
 /// Appends words without bits, until there are `count`.
 pub(crate) fn grow(words: &mut Vec<u64>, count: u64) -> Result<(), AllocError>
-    ensures same { OnOk result ((q : ℕ)
-        → slice_index words.new.items q ≡ slice_index words.old.items q) }
+    ensures same { (q : ℕ) → slice_index words.new.items q ≡ slice_index words.old.items q }
     ensures room { OnOk result (count ≤ length words.new.items) }
 {
     for _ in words.len() as u64..count {
@@ -82,23 +81,19 @@ fn set_word(words: &mut Vec<u64>, at: usize, from: u64, to: u64, except: u64)
     words[at] = words[at] | (mask(from, to) & !except);
 }
 
-/// Sets the bits of the byte offsets `from..to`, except those of `except`.
-pub(crate) fn set_bits(
-    words: &mut Vec<u64>,
-    from: u128,
-    to: u128,
-    except: &[u64],
-) -> Result<(), AllocError>
-    requires { to ≤ 2 ^ 65 }
-    ensures { OnOk result ((p : ℕ) → has_bit words.new.items p ≡ (has_bit words.old.items p
-        || ((nat_le from p && nat_lt p to) && not (has_bit except.now p)))) }
+/// Sets the bits of the byte offsets `from..to`, for which there are words, except those of
+/// `except`.
+fn put_bits(words: &mut Vec<u64>, from: u128, to: u128, except: &[u64])
+    requires room { to ≤ length words.old.items * 64 }
+    ensures len { length words.new.items ≡ length words.old.items }
+    ensures bits { (p : ℕ) → has_bit words.new.items p ≡ (has_bit words.old.items p
+        || ((nat_le from p && nat_lt p to) && not (has_bit except.now p))) }
 {
     if to <= from {
-        return Ok(());
+        return;
     }
     let first = (from / 64) as u64;
     let end = ((to - 1) / 64 + 1) as u64;
-    grow(words, end)?;
     for at in first..end {
         let low = u128::from(at) * 64;
         let start = (from.max(low) - low) as u64;
@@ -111,6 +106,23 @@ pub(crate) fn set_bits(
             word_of(except, at as usize),
         );
     }
+}
+
+/// Sets the bits of the byte offsets `from..to`, except those of `except`.
+pub(crate) fn set_bits(
+    words: &mut Vec<u64>,
+    from: u128,
+    to: u128,
+    except: &[u64],
+) -> Result<(), AllocError>
+    requires { to ≤ 2 ^ 65 }
+    ensures ok { OnOk result ((p : ℕ) → has_bit words.new.items p ≡ (has_bit words.old.items p
+        || ((nat_le from p && nat_lt p to) && not (has_bit except.now p)))) }
+    ensures err { OnErr result ((p : ℕ)
+        → has_bit words.new.items p ≡ has_bit words.old.items p) }
+{
+    grow(words, ((to + 63) / 64) as u64)?;
+    put_bits(words, from, to, except);
     Ok(())
 }
 
@@ -191,8 +203,10 @@ fn set_each(words: &mut Vec<u64>, places: &[u64], size: u64)
 /// itemsize.
 pub(crate) fn set_runs(words: &mut Vec<u64>, places: &[u64], size: u64) -> Result<(), AllocError>
     requires { (0 < size) × (size ≤ 64) }
-    ensures { OnOk result ((p : ℕ) → has_bit words.new.items p ≡ (has_bit words.old.items p
+    ensures ok { OnOk result ((p : ℕ) → has_bit words.new.items p ≡ (has_bit words.old.items p
         || is_in p (flat_map (λ q. count_up q size) places.now))) }
+    ensures err { OnErr result ((p : ℕ)
+        → has_bit words.new.items p ≡ has_bit words.old.items p) }
 {
     let end = u128::from(greatest(places)) + u128::from(size);
     grow(words, ((end + 63) / 64) as u64)?;
@@ -206,14 +220,46 @@ pub(crate) fn set_runs(words: &mut Vec<u64>, places: &[u64], size: u64) -> Resul
     Ok(())
 }
 
-/// Sets the bits of all rows of a strip.
-pub(crate) fn set_strip(words: &mut Vec<u64>, strip: &Strip) -> Result<(), AllocError>
-    ensures { OnOk result ((p : ℕ) → has_bit words.new.items p ≡ (has_bit words.old.items p
-        || in_strip strip.now p)) }
+/// Sets the bits of all rows of a strip, for which there are words.
+fn put_strip(words: &mut Vec<u64>, strip: &Strip)
+    requires room { (n : ℕ) → n < strip.now.count
+        → strip.now.first + n * strip.now.step + strip.now.width ≤ length words.old.items * 64 }
+    ensures { (p : ℕ) → has_bit words.new.items p
+        ≡ (has_bit words.old.items p || in_strip strip.now p) }
 {
     for number in 0..strip.count() {
         let from = strip.start(number);
-        set_bits(words, from, from + u128::from(strip.width()), &[])?;
+        put_bits(words, from, from + u128::from(strip.width()), &[]);
+    }
+}
+
+/// Sets the bits of all rows of a strip.
+pub(crate) fn set_strip(words: &mut Vec<u64>, strip: &Strip) -> Result<(), AllocError>
+    ensures ok { OnOk result ((p : ℕ) → has_bit words.new.items p ≡ (has_bit words.old.items p
+        || in_strip strip.now p)) }
+    ensures err { OnErr result ((p : ℕ)
+        → has_bit words.new.items p ≡ has_bit words.old.items p) }
+{
+    grow(words, ((strip.end() + 63) / 64) as u64)?;
+    put_strip(words, strip);
+    Ok(())
+}
+
+/// Adds the bits of other words, each word by one OR. Where there are none yet, these take their
+/// place.
+pub(crate) fn add_words(words: &mut Vec<u64>, others: Vec<u64>) -> Result<(), AllocError>
+    ensures ok { OnOk result ((p : ℕ) → has_bit words.new.items p ≡ (has_bit words.old.items p
+        || has_bit others.items p)) }
+    ensures err { OnErr result ((p : ℕ)
+        → has_bit words.new.items p ≡ has_bit words.old.items p) }
+{
+    if words.is_empty() {
+        *words = others;
+        return Ok(());
+    }
+    grow(words, others.len() as u64)?;
+    for at in 0..others.len() {
+        add_word(words, at, others[at]);
     }
     Ok(())
 }

@@ -2,7 +2,8 @@
 use Rattle.std.specs.Prelude.{◌≡◌, ℕ, List, [], ◌∷◌, None, Result, Ok, Err}
 use Rattle.nd_model.specs.Book.Book as model
 use Rattle.nd_model.specs.Book.Notebook.{Sheet, Answers, CountsRuns, book_of}
-use Rattle.nd_session.specs.Inputs.Values.{rule_of, source_of}
+use Rattle.nd_input.specs.Sources.{source_of}
+use Rattle.nd_session.specs.Inputs.Values.{rule_of}
 use Rattle.nd_notebook.specs.declared.edit.Edit.{Edit}
 use Rattle.nd_notebook.specs.declared.edit.Edit.TheVariants.{Insert, Change, Move, Remove, SetInput, DropInput, SetRule}
 use Rattle.nd_notebook.specs.declared.edit.EditFault.{EditFault}

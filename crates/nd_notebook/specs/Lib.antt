@@ -6,4 +6,5 @@ pub use Rattle.nd_types.specs.Types
 pub use Rattle.nd_cell.specs.Syntax
 pub use Rattle.nd_cell.specs.Faults
 pub use Rattle.nd_cell.specs.Results
+pub use Rattle.nd_input.specs.Sources
 pub use Rattle.nd_session.specs.Inputs.Values

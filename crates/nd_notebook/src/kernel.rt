@@ -75,10 +75,7 @@ impl CellRunner for SessionRunner {
     ghost covers = { λ w k. filters.covers w k };
 
     fn empty(alloc: Global) -> Result<Session, AllocError> {
-        match Session::new(alloc) {
-            Ok(session) => Ok(session),
-            Err(memory) => Err(memory.into()),
-        }
+        Ok(Session::new(alloc))
     }
 
     fn run(

@@ -3,7 +3,8 @@
 ghost use Rattle.std.specs.Prelude.{◌≡◌, IfOk, OnErr, OnOk, length};
 ghost use Rattle.nd_model.specs.Book.Book as model;
 ghost use Rattle.nd_model.specs.Book.Notebook.{Answers, CountsRuns, no_sheet};
-ghost use Rattle.nd_session.specs.Inputs.Values.{rule_of, source_of};
+ghost use Rattle.nd_input.specs.Sources.{source_of};
+ghost use Rattle.nd_session.specs.Inputs.Values.{rule_of};
 ghost use Rattle.nd_notebook.specs.Edits.{IsRefusalOf, outcome_of};
 
 use crate::edit::{Edit, EditFault};

@@ -11,7 +11,7 @@ use Rattle.nd_model.proofs.Residues.{bytes_round_trip}
 use Rattle.nd_block.proofs.Copied.{length-bytes_at}
 use Rattle.nd_block.proofs.Together.{bytes_at-split}
 use Rattle.nd_element.specs.Elements.{canonical_at}
-use Rattle.nd_assign.specs.SideBySide.{side_by_side}
+use Rattle.nd_view.specs.SideBySide.{side_by_side}
 
 module _ (e : Element) (xs : List ℕ) (number : e.kind ≢ Boolean) (small : All (λ b. b < 256) xs) where
   -- one

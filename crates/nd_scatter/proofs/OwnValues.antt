@@ -14,7 +14,7 @@ use Rattle.nd_view.proofs.Tuples.{map-map, map_same, numbers}
 use Rattle.nd_assign.specs.Assigned.{with_elements}
 use Rattle.nd_assign.specs.Copies.{with_copies}
 use Rattle.nd_assign.specs.HeldFields.{HoldsFields}
-use Rattle.nd_assign.specs.SideBySide.{side_by_side}
+use Rattle.nd_view.specs.SideBySide.{side_by_side}
 use Rattle.nd_assign.specs.Stretched.{value_places}
 use Rattle.nd_assign.proofs.Assigned.{assigned}
 use Rattle.nd_assign.proofs.Bytewise.{bytewise, end_held}

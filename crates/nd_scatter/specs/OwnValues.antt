@@ -2,7 +2,7 @@
 use Rattle.std.specs.Prelude.{◌≡◌, ◌≢◌, ◌^◌, ◌<◌, ◌≤◌, length}
 use Rattle.nd_model.specs.Arrays.Element.{Boolean, Element, size_of}
 use Rattle.nd_model.specs.Arrays.View.{Geo, One}
-use Rattle.nd_assign.specs.SideBySide.{side_by_side}
+use Rattle.nd_view.specs.SideBySide.{side_by_side}
 
 -- numbers of the target's type, which are no Booleans, in the target's shape, and side by side from the first byte on
 pub record AreOwnValues (g v : Geo) : Type 0 where

@@ -5,7 +5,7 @@ ghost use Rattle.std.specs.List.{flat_map};
 ghost use Rattle.nd_model.specs.Arrays.Element.{Boolean, size_of};
 ghost use Rattle.nd_model.specs.Arrays.View.{One};
 ghost use Rattle.nd_types.specs.Kinds.{kind_of};
-ghost use Rattle.nd_assign.specs.SideBySide.{side_by_side};
+ghost use Rattle.nd_view.specs.SideBySide.{side_by_side};
 ghost use Rattle.nd_element.specs.Elements.{canonical_at};
 
 use nd_block::{Filling, value_at};

@@ -5,7 +5,7 @@ ghost use Rattle.nd_model.specs.Arrays.Element.{Boolean, size_of};
 ghost use Rattle.nd_model.specs.Cells.Sound.{LiesIn};
 ghost use Rattle.nd_model.specs.Arrays.View.{One};
 ghost use Rattle.nd_assign.specs.Assigned.{with_elements};
-ghost use Rattle.nd_assign.specs.SideBySide.{side_by_side};
+ghost use Rattle.nd_view.specs.SideBySide.{side_by_side};
 ghost use Rattle.nd_assign.specs.Sources.{IsValue};
 ghost use Rattle.nd_index.specs.Advanced.Chosen.{view_at};
 ghost use Rattle.nd_scatter.specs.OwnValues.{AreOwnValues};
@@ -14,7 +14,6 @@ ghost use Rattle.nd_scatter.specs.Scattered.{written_by};
 use crate::kernel::hold_bytes;
 use crate::preparation::prepare_elements;
 use crate::scatter::Scatter;
-use nd_assign::gapless_run;
 use nd_block::RawBlock;
 use nd_element::keeps_bytes;
 use nd_index::advanced::ChosenPlaces;
@@ -47,7 +46,7 @@ fn begins_gapless(view: &View, elem: Elem) -> bool
 {
     // proof: the number of elements is bounded, by the clause of count().
     let _len = view.count();
-    let Some(run) = gapless_run(view, elem) else {
+    let Some(run) = view.contiguous_run(elem.size()) else {
         return false;
     };
     // proof: the run has an element, by the clause of count().

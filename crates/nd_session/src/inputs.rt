@@ -4,6 +4,7 @@ mod input;
 mod input_name;
 mod rule;
 
-pub use input::{Input, Inputs, are_same_inputs, find_input, has_input, with_input, without_input};
+pub use input::{Inputs, are_same_inputs, find_input, has_input, with_input, without_input};
 pub use input_name::is_input_name;
+pub use nd_input::Input;
 pub use rule::CellRule;

@@ -107,3 +107,22 @@ pub written_more : (b : Base) (ps : List ℕ) (r s : running.Running) (written :
 written_more b ps r s written e read none marked =
     ap (λ w. record s { written = w }) (fun_ext (λ c. fun_ext (λ p. marked c p ∙ ap (λ t. s.written c p || (same_base b c && t)) (no_exceptions (model.is_in p ps) (e p) (none p)))))
     ∙ ap (λ (s : running.Running). record s { written = λ c p. s.written c p || (same_base b c && model.is_in p ps) }) read
+
+-- nothing is read
+pub noted_none : (keys : Key → Bool) (r s : running.Running) → ((k : Key) → keys k ≡ false) → s ≡ r → s ≡ running.having_read keys r
+noted_none keys r s none same = same ∙ ap (λ f. record r { read = f }) (fun_ext (λ k. or_false (r.read k) ∙ ap (λ t. r.read k || (t && not (running.is_own r k))) (sym (none k))))
+
+-- sets of bytes that hold what they held
+pub same_used : (looked asked : List (List ℕ)) (lengths : List Base) (used used' : List (Base × Places)) → ((c : Base) (p : ℕ) → is_marked used' c p ≡ is_marked used c p)
+    → is_read looked asked lengths used' ≡ is_read looked asked lengths used
+same_used looked asked lengths used used' same = fun_ext at
+  where
+    at : (k : Key) → is_read looked asked lengths used' k ≡ is_read looked asked lengths used k
+    at (Name n) = refl
+    at (Input n) = refl
+    at (Length b) = refl
+    at (Byte b p) = same b p
+    at OfRule = refl
+
+pub same_marks : (used used' : List (Base × Places)) → ((c : Base) (p : ℕ) → is_marked used' c p ≡ is_marked used c p) → is_marked used' ≡ is_marked used
+same_marks used used' same = fun_ext (λ c. fun_ext (λ p. same c p))

@@ -1,8 +1,9 @@
 -- What traces stand for.
-use Rattle.std.proofs.Common.{◌≡◌, ℕ, Bool, true, false, not, ◌||◌, ◌&&◌, cond, nat_eq, bytes_eq, List, [], ◌∷◌, ◌++◌, map, string_bytes, String, None, slice_get, zero, suc, ◌≤◌, length, Global, ap, ap₂, ◌∙◌, sym, refl, arith}
+use Rattle.std.proofs.Common.{◌≡◌, ℕ, Bool, true, false, not, ◌||◌, ◌&&◌, cond, nat_eq, bytes_eq, List, [], ◌∷◌, ◌++◌, map, string_bytes, String, None, Option, Some, inl, inr, slice_get, zero, suc, ◌≤◌, length, Global, ap, ap₂, ◌∙◌, sym, refl, arith}
 use mathlib.Core.Path.{fun_ext}
 use Rattle.std.specs.Prelude.{nat_lt, string_eq}
 use Rattle.std.specs.List.{list_any, IsDistinct, AllByRecursion}
+use Rattle.std.proofs.lemmas.Bool.{cases_Bool, false≢true}
 use Rattle.std.proofs.lemmas.Bool.Decides.{nat_tests, same_from_decides}
 use Rattle.std.proofs.lemmas.List.{map-append}
 use Rattle.std.proofs.lemmas.Slice.Eq.{bytes_eq-Decides}
@@ -19,8 +20,10 @@ use Rattle.nd_trace.specs.Seen.{Seen}
 use Rattle.nd_heap.specs.Live.{is_base_among}
 use Rattle.nd_trace.specs.Marked.{is_among, is_marked, is_read}
 use Rattle.nd_trace.specs.Traced.{trace_of}
+use Rattle.nd_trace.specs.Noted.{unread_base, unread_in, with_length, with_text}
+use Rattle.nd_model.specs.Cells.Storing.{having_written}
 use Rattle.nd_heap.proofs.Bases.{base_eq, base_eq_sym}
-use Rattle.nd_trace.proofs.Noting.{noted, name_more, name_there, input_more, input_there, length_more, length_there, bytes_more}
+use Rattle.nd_trace.proofs.Noting.{noted, noted_none, name_more, name_there, input_more, input_there, length_more, length_there, bytes_more, written_more}
 
 pub bytes_eq_sym : (m n : List ℕ) → bytes_eq m n ≡ bytes_eq n m
 bytes_eq_sym m n = same_from_decides (bytes_eq m n) (bytes_eq n m) (bytes_eq-Decides m n) (let d = bytes_eq-Decides n m in (λ h. sym (d.0 h), λ e. d.1 (sym e)))
@@ -70,7 +73,7 @@ reads_none OfRule = refl
 
 pub nothing_seen : (t : Seen) → t.events ≡ [] → t.written ≡ [] → t.looked ≡ [] → t.asked ≡ [] → t.lengths ≡ [] → t.used ≡ [] → trace_of t ≡ running.start t.label session.no_session
 nothing_seen t events written looked asked lengths used =
-    (λ i. trace_of (record { label = t.label; events = events i; written = written i; looked = looked i; asked = asked i; lengths = lengths i; used = used i }))
+    (λ i. trace_of (record { label = t.label; events = events i; written = written i; looked = looked i; asked = asked i; lengths = lengths i; used = used i; room = t.room }))
     ∙ ap (λ f. record (running.start t.label session.no_session) { read = f }) (fun_ext reads_none)
 
 -- each text once, each base once
@@ -91,6 +94,22 @@ bases_once (k ∷ ks) h = (others ks h.0, bases_once ks h.1)
     others : (ks : List Base) → AllByRecursion (λ l. base_eq k l ≡ false) ks → AllByRecursion (λ m. model.same_base (base_of k) m ≡ false) (map base_of ks)
     others [] h = tt
     others (l ∷ ks) h = (h.0, others ks h.1)
+
+pub first_false : (x y : Bool) → (x || y) ≡ false → x ≡ false
+first_false false y h = refl
+first_false true y h = h
+
+kept : {X : Type 0} (x y : Bool) (a b : X) → (x || y) ≡ true → cond x a (cond y a b) ≡ a
+kept true y a b h = refl
+kept false y a b h = ap (λ y. cond y a b) h
+
+added : {X : Type 0} (x y : Bool) (a b : X) → (x || y) ≡ false → cond x a (cond y a b) ≡ b
+added true y a b h = absurd (false≢true (sym h))
+added false y a b h = ap (λ y. cond y a b) h
+
+pub and_true : (x : Bool) → x ≡ (x && not false)
+and_true true = refl
+and_true false = refl
 
 module _ (t : Seen) where
   pub looks_up : (n : List ℕ) (looked : List (List ℕ)) → running.is_touched n t.events ≡ false → looked ≡ t.looked ++ n ∷ []
@@ -123,3 +142,46 @@ module _ (t : Seen) where
   uses b ps used except other is marked = noted (running.is_byte (base_of b) ps) (trace_of t) _
       (bytes_more t.looked t.asked t.lengths t.used (running.is_own (trace_of t)) (base_of b) ps used except
       (λ p. ap (λ o. o || is_marked t.written (base_of b) p) other ∙ sym (is p)) marked)
+
+  -- a text is noted once
+  pub named : (n : List ℕ) (looked : List (List ℕ)) → looked ≡ cond (running.is_touched n t.events) t.looked (with_text n t.looked)
+      → trace_of (record t { looked = looked }) ≡ running.having_read (running.is_name n) (trace_of t)
+  named n looked is = elim (cases_Bool (running.is_touched n t.events || is_among t.looked n)) [
+    | inl there ↦ ap (λ looked. trace_of (record t { looked = looked })) (is ∙ kept (running.is_touched n t.events) (is_among t.looked n) t.looked (t.looked ++ n ∷ []) there) ∙ looked_up_before n there
+    | inr new ↦ looks_up n looked (first_false (running.is_touched n t.events) (is_among t.looked n) new) (is ∙ added (running.is_touched n t.events) (is_among t.looked n) t.looked (t.looked ++ n ∷ []) new)
+  ]
+
+  pub asked_for : (n : List ℕ) (asked : List (List ℕ)) → asked ≡ with_text n t.asked → trace_of (record t { asked = asked }) ≡ running.having_read (running.is_input n) (trace_of t)
+  asked_for n asked is = elim (cases_Bool (is_among t.asked n)) [
+    | inl there ↦ ap (λ asked. trace_of (record t { asked = asked })) (is ∙ ap (λ x. cond x t.asked (t.asked ++ n ∷ [])) there) ∙ asked_before n there
+    | inr new ↦ asks n asked (is ∙ ap (λ x. cond x t.asked (t.asked ++ n ∷ [])) new)
+  ]
+
+  -- the length of a base is noted once
+  pub length_noted : (b : model.Base) (lengths : List model.Base) → lengths ≡ with_length (unread_base t b) t.lengths
+      → trace_of (record t { lengths = lengths }) ≡ running.having_read (running.is_length b) (trace_of t)
+  length_noted b lengths is = elim (cases_Bool (nat_eq b.label t.label || is_base_among t.lengths b)) [
+    | inl there ↦
+        ap (λ lengths. trace_of (record t { lengths = lengths })) (is ∙ ap (λ x. with_length (cond x None (Some b)) t.lengths) there)
+        ∙ noted (running.is_length b) (trace_of t) _ (length_there t.looked t.asked t.lengths t.used (running.is_own (trace_of t)) b there)
+    | inr new ↦
+        ap (λ lengths. trace_of (record t { lengths = lengths })) (is ∙ ap (λ x. with_length (cond x None (Some b)) t.lengths) new)
+        ∙ noted (running.is_length b) (trace_of t) _ (length_more t.looked t.asked t.lengths t.used (running.is_own (trace_of t)) b (first_false (nat_eq b.label t.label) (is_base_among t.lengths b) new))
+  ]
+
+  pub length_of_value : (v : Option model.Value) (lengths : List model.Base) → lengths ≡ with_length (unread_in t v) t.lengths
+      → trace_of (record t { lengths = lengths }) ≡ running.having_read (running.is_length_of v) (trace_of t)
+  length_of_value None lengths is = noted_none (running.is_length_of None) (trace_of t) _ (λ k. refl) (ap (λ ls. trace_of (record t { lengths = ls })) is)
+  length_of_value (Some (model.Int n)) lengths is = noted_none (running.is_length_of (Some (model.Int n))) (trace_of t) _ (λ k. refl) (ap (λ ls. trace_of (record t { lengths = ls })) is)
+  length_of_value (Some (model.Truth b)) lengths is = noted_none (running.is_length_of (Some (model.Truth b))) (trace_of t) _ (λ k. refl) (ap (λ ls. trace_of (record t { lengths = ls })) is)
+  length_of_value (Some (model.Scalar e n)) lengths is = noted_none (running.is_length_of (Some (model.Scalar e n))) (trace_of t) _ (λ k. refl) (ap (λ ls. trace_of (record t { lengths = ls })) is)
+  length_of_value (Some (model.Array b g)) lengths is = length_noted b lengths is
+  length_of_value (Some (model.Row b g)) lengths is = length_noted b lengths is
+
+  -- bytes are written, and the length of their base is read
+  pub writes : (b : model.Base) (ps : List ℕ) (m : ℕ → Bool) (written : List (model.Base × Places)) (lengths : List model.Base) → ((p : ℕ) → m p ≡ is_in p ps)
+      → ((c : model.Base) (p : ℕ) → is_marked written c p ≡ (is_marked t.written c p || (model.same_base b c && m p))) → lengths ≡ with_length (unread_base t b) t.lengths
+      → trace_of (record t { written = written; lengths = lengths }) ≡ having_written b ps (trace_of t)
+  writes b ps m written lengths is marked long =
+      written_more b ps (trace_of t) (trace_of (record t { lengths = lengths })) (is_marked written) (λ p. false) (length_noted b lengths long) (λ p. refl)
+      (λ c p. marked c p ∙ ap (λ x. is_marked t.written c p || (model.same_base b c && x)) (is p ∙ and_true (is_in p ps)))

@@ -1,7 +1,8 @@
 -- What contracts see of a trace's fields, and what is true of them.
-use Rattle.std.specs.Prelude.{◌≡◌, ℕ, Bool, true, false, List, bytes_eq, map, string_bytes}
+use Rattle.std.specs.Prelude.{◌≡◌, ℕ, ◌-◌, Bool, true, false, List, bytes_eq, map, min, string_bytes, vec_capacity, vec_len}
 use Rattle.std.specs.Rc.{rc_str_bytes}
 use Rattle.std.specs.List.{list_any}
+use Rattle.indexmap.specs.IndexSet.{spare}
 use Rattle.nd_model.specs.Cells.Running as running
 use Rattle.nd_trace.specs.declared.trace.Event.{Event}
 use Rattle.nd_trace.specs.declared.trace.Event.TheVariants.{Binds, Unbinds}
@@ -32,6 +33,7 @@ seen_in t = record {
   asked = map string_bytes t.asked.keys;
   lengths = map base_of t.lengths.keys;
   used = marks_of t.used.entries;
+  room = min (vec_capacity t.events - vec_len t.events) (spare t.touched);
 }
 
 -- the names of the events are those of the set

@@ -13,6 +13,8 @@ pub record Seen : Type 0 where
   pub asked : List (List ℕ)
   pub lengths : List Base
   pub used : List (Base × Places)
+  -- how many bindings can be noted without memory
+  pub room : ℕ
 
 -- the names that were looked up, the inputs that were asked for, and the bases whose length was read, each in the order in
 -- which they were first read

@@ -1,22 +1,26 @@
 //! `Trace`: what the running cell has read and done, recorded for its replay.
 
-ghost use Rattle.std.specs.Prelude.{◌≡◌, ◌+◌, ◌≤◌, ◌^◌, IfOk, IsTrue, OnOk, Some, bytes_eq, map, option_map, slice_get, string_bytes};
+ghost use Rattle.std.specs.Prelude.{◌≡◌, ℕ, ◌+◌, ◌<◌, ◌≤◌, ◌^◌, ◌&&◌, not, false, nat_eq, if◌then◌else◌, List, IfOk, IfSome, IsTrue, OnErr, OnOk, bytes_eq, map, option_map, slice_get, string_bytes};
 ghost use Rattle.std.specs.List.{All, IsDistinct, flat_map};
 ghost use Rattle.std.specs.Rc.{rc_str_bytes};
+ghost use Rattle.indexmap.specs.IndexSet.{spare};
 ghost use Rattle.nd_model.specs.Cells.Running as running;
 ghost use Rattle.nd_model.specs.Cells.Session as model;
+ghost use Rattle.nd_model.specs.Cells.Session.{is_in};
+ghost use Rattle.nd_model.specs.Cells.Storing.{having_written};
 ghost use Rattle.nd_model.specs.Arrays.Value.{same_base};
 ghost use Rattle.nd_model.specs.Arrays.View.{item_size, byte_places, element_places};
 ghost use Rattle.nd_types.specs.Types.{type_of};
+ghost use Rattle.nd_marks.specs.Marks.{holds};
+ghost use Rattle.nd_heap.specs.Live.{is_base_among};
 ghost use Rattle.nd_heap.specs.Values.{base_of, geo_of, value_of};
 ghost use Rattle.nd_trace.specs.Contents.{marks_of};
 ghost use Rattle.nd_trace.specs.Events.{binds, event_of, name_of_event};
 ghost use Rattle.nd_trace.specs.Traced.{trace_of};
-ghost use Rattle.nd_trace.specs.Seen.{names_read, inputs_read, bases_read, is_used, is_written};
-ghost use Rattle.nd_model.specs.Cells.Storing.{having_written};
-ghost use Rattle.nd_trace.specs.Seen.{having_event};
+ghost use Rattle.nd_trace.specs.Seen.{names_read, inputs_read, bases_read, is_used, is_written, having_event};
+ghost use Rattle.nd_trace.specs.Noted.{unread_base, unread_in, with_length, with_text};
 
-use crate::marking::{Footprint, has_mark, mark_element, mark_elements, mark_view, marks_in};
+use crate::marking::{Footprint, has_mark, join, marks_in, marks_of_elements};
 use indexmap::{IndexMap, IndexSet};
 use nd_heap::{Array, Base, OutOfMemory, Value};
 use nd_marks::Marks;
@@ -107,6 +111,67 @@ impl Model for Trace {
     ghost view = { seen_in };
 
     ghost invariant = { AreTouched };
+}
+
+/// Adds a text to those that are noted, unless it is there already.
+fn add_text(alloc: Global, texts: &mut IndexSet<String>, text: &str) -> Result<(), OutOfMemory>
+    ensures ok { OnOk result (map string_bytes texts.new.keys
+        ≡ with_text text.now (map string_bytes texts.old.keys)) }
+    ensures err { OnErr result (map string_bytes texts.new.keys
+        ≡ map string_bytes texts.old.keys) }
+{
+    if texts.contains(text) {
+        return Ok(());
+    }
+    let key = String::from_str(alloc, text)?;
+    texts.insert(key)?;
+    Ok(())
+}
+
+/// Adds a name to those that were looked up, unless what stands there is the cell's own doing.
+fn add_name(
+    alloc: Global,
+    looked: &mut IndexSet<String>,
+    name: &str,
+    is_own: bool,
+) -> Result<(), OutOfMemory>
+    ensures ok { OnOk result (map string_bytes looked.new.keys
+        ≡ (if is_own then map string_bytes looked.old.keys
+        else with_text name.now (map string_bytes looked.old.keys))) }
+    ensures err { OnErr result (map string_bytes looked.new.keys
+        ≡ map string_bytes looked.old.keys) }
+{
+    if is_own {
+        return Ok(());
+    }
+    add_text(alloc, looked, name)?;
+    Ok(())
+}
+
+/// Makes room for a block among those whose length is read, if there is one to be added.
+fn make_room(lengths: &mut IndexSet<Base>, unread: Option<Base>) -> Result<(), OutOfMemory>
+    ensures room { OnOk result (IfSome unread (λ b. 0 < spare lengths.new)) }
+    ensures same { lengths.new.keys ≡ lengths.old.keys }
+{
+    if unread.is_some() {
+        lengths.reserve(1)?;
+    }
+    Ok(())
+}
+
+/// Adds a block, if there is one, to those whose length is read. There is room for it.
+fn add_length(lengths: &mut IndexSet<Base>, unread: Option<Base>)
+    requires room { IfSome unread (λ b. 0 < spare lengths.old) }
+    requires new { IfSome unread (λ b. is_base_among (map base_of lengths.old.keys) (base_of b)
+        ≡ false) }
+    ensures { map base_of lengths.new.keys
+        ≡ with_length (option_map base_of unread) (map base_of lengths.old.keys) }
+{
+    if let Some(base) = unread {
+        let Ok(_) = lengths.insert(base) else {
+            unreachable!();
+        };
+    }
 }
 
 impl Trace {
@@ -233,30 +298,49 @@ impl Trace {
         &self.written
     }
 
-    /// Notes a binding or unbinding.
-    pub fn note_event(&mut self, event: Event) -> Result<(), OutOfMemory>
-        ensures after { OnOk result (trace_of self.new
-            ≡ having_event (event_of event) (trace_of self.old)) }
+    /// Makes room for one more binding or unbinding, which `note_event` then notes without memory.
+    pub fn reserve_event(&mut self) -> Result<(), OutOfMemory>
+        ensures room { OnOk result (0 < self.new.room) }
+        ensures same { trace_of self.new ≡ trace_of self.old }
         ensures label { self.new.label ≡ self.old.label }
     {
-        let name = event.name().clone()?;
         self.events.reserve(1)?;
-        self.touched.insert(name)?;
-        self.events.push_reserved(event);
+        self.touched.reserve(1)?;
         Ok(())
     }
 
-    /// Notes that a name is looked up.
-    pub fn note_name(&mut self, alloc: Global, name: &str) -> Result<(), OutOfMemory>
-        ensures after { OnOk result (trace_of self.new
-            ≡ running.having_read (running.is_name name.now) (trace_of self.old)) }
+    /// Notes a binding or unbinding of a name, for which there is room.
+    pub fn note_event(&mut self, name: RcStr, event: Event)
+        requires room { 0 < self.old.room }
+        requires name { rc_str_bytes name ≡ name_of_event (event_of event) }
+        ensures after { trace_of self.new ≡ having_event (event_of event) (trace_of self.old) }
         ensures label { self.new.label ≡ self.old.label }
     {
-        if self.touched.contains(name) || self.looked.contains(name) {
-            return Ok(());
-        }
-        let key = String::from_str(alloc, name)?;
-        self.looked.insert(key)?;
+        let Ok(_) = self.touched.insert(name) else {
+            unreachable!();
+        };
+        self.events.push_reserved(event);
+    }
+
+    /// Notes that a name is looked up, and that the length of the block is read that its value lies
+    /// in.
+    pub fn note_lookup(
+        &mut self,
+        alloc: Global,
+        name: &str,
+        value: Option<&Value>,
+    ) -> Result<(), OutOfMemory>
+        ensures after { OnOk result (trace_of self.new ≡ running.having_read
+            (running.is_length_of (option_map (λ v. value_of v.now) value.entry))
+            (running.having_read (running.is_name name.now) (trace_of self.old))) }
+        ensures err { OnErr result (trace_of self.new ≡ trace_of self.old) }
+        ensures label { self.new.label ≡ self.old.label }
+    {
+        let unread = self.unread_base(value);
+        make_room(&mut self.lengths, unread)?;
+        let is_own = self.touched.contains(name);
+        add_name(alloc, &mut self.looked, name, is_own)?;
+        add_length(&mut self.lengths, unread);
         Ok(())
     }
 
@@ -264,40 +348,63 @@ impl Trace {
     pub fn note_input(&mut self, alloc: Global, name: &str) -> Result<(), OutOfMemory>
         ensures after { OnOk result (trace_of self.new
             ≡ running.having_read (running.is_input name.now) (trace_of self.old)) }
+        ensures err { OnErr result (trace_of self.new ≡ trace_of self.old) }
         ensures label { self.new.label ≡ self.old.label }
     {
-        if self.asked.contains(name) {
-            return Ok(());
-        }
-        let key = String::from_str(alloc, name)?;
-        self.asked.insert(key)?;
+        add_text(alloc, &mut self.asked, name)?;
         Ok(())
     }
 
-    /// Notes that the length of a block is read.
-    pub fn note_length(&mut self, base: Base) -> Result<(), OutOfMemory>
-        ensures after { OnOk result (trace_of self.new
-            ≡ running.having_read (running.is_length (base_of base)) (trace_of self.old)) }
-        ensures label { self.new.label ≡ self.old.label }
-    {
-        if base.label == self.label || self.lengths.contains(&base) {
-            return Ok(());
-        }
-        self.lengths.insert(base)?;
-        Ok(())
-    }
-
-    /// Notes that the length of a value's block is read, if it lies in one.
-    pub fn note_length_of(&mut self, value: &Value) -> Result<(), OutOfMemory>
-        ensures after { OnOk result (trace_of self.new
-            ≡ running.having_read (running.is_length_of (Some (value_of value.now)))
-            (trace_of self.old)) }
-        ensures label { self.new.label ≡ self.old.label }
+    /// The block that a value lies in, where another cell made it and its length is not noted.
+    fn unread_base(&self, value: Option<&Value>) -> Option<Base>
+        ensures base { option_map base_of result
+            ≡ unread_in self.now (option_map (λ v. value_of v.now) value.entry) }
+        ensures new { IfSome result (λ b. is_base_among self.now.lengths (base_of b) ≡ false) }
     {
         match value {
-            Value::Number(_) => Ok(()),
-            Value::Array(array) | Value::Row(array) => self.note_length(array.base),
+            Some(Value::Array(array) | Value::Row(array)) => self.unread(array.base),
+            _ => None,
         }
+    }
+
+    /// The block, where another cell made it and its length is not noted.
+    fn unread(&self, base: Base) -> Option<Base>
+        ensures base { option_map base_of result ≡ unread_base self.now (base_of base) }
+        ensures new { IfSome result (λ b. is_base_among self.now.lengths (base_of b) ≡ false) }
+    {
+        if base.label == self.label || self.lengths.contains(&base) {
+            None
+        } else {
+            Some(base)
+        }
+    }
+
+    /// Adds byte offsets of a block of another cell to those that are used.
+    fn use_marks(&mut self, base: Base, marks: Marks) -> Result<(), OutOfMemory>
+        requires { nat_eq base.label self.old.label ≡ false }
+        ensures after { OnOk result ((ps : List ℕ) → ((p : ℕ) → holds marks p
+            ≡ (is_in p ps && not (is_written self.old (base_of base) p)))
+            → trace_of self.new ≡ running.having_read (running.is_byte (base_of base) ps)
+            (trace_of self.old)) }
+        ensures err { OnErr result (trace_of self.new ≡ trace_of self.old) }
+        ensures label { self.new.label ≡ self.old.label }
+    {
+        join(&mut self.used, base, marks)?;
+        Ok(())
+    }
+
+    /// Adds byte offsets of a block to those that are written, and notes that its length is read.
+    fn write_marks(&mut self, base: Base, marks: Marks) -> Result<(), OutOfMemory>
+        ensures after { OnOk result ((ps : List ℕ) → ((p : ℕ) → holds marks p ≡ is_in p ps)
+            → trace_of self.new ≡ having_written (base_of base) ps (trace_of self.old)) }
+        ensures err { OnErr result (trace_of self.new ≡ trace_of self.old) }
+        ensures label { self.new.label ≡ self.old.label }
+    {
+        let unread = self.unread(base);
+        make_room(&mut self.lengths, unread)?;
+        join(&mut self.written, base, marks)?;
+        add_length(&mut self.lengths, unread);
+        Ok(())
     }
 
     /// Notes that all elements of an array are read.
@@ -308,6 +415,7 @@ impl Trace {
         ensures after { OnOk result (trace_of self.new ≡ running.having_read
             (running.is_byte (base_of array.now.base) (byte_places (geo_of array.now)))
             (trace_of self.old)) }
+        ensures err { OnErr result (trace_of self.new ≡ trace_of self.old) }
         ensures label { self.new.label ≡ self.old.label }
     {
         let base = array.base;
@@ -316,7 +424,8 @@ impl Trace {
         }
         let nothing = Marks::new(alloc);
         let written = marks_in(&self.written, base, &nothing);
-        mark_view(alloc, &mut self.used, base, &array.view, written)?;
+        let marks = Marks::new(alloc).with_view(&array.view, written)?;
+        self.use_marks(base, marks)?;
         Ok(())
     }
 
@@ -332,6 +441,7 @@ impl Trace {
         ensures after { OnOk result (trace_of self.new ≡ running.having_read
             (running.is_byte (base_of base) (element_places (type_of elem.now) place))
             (trace_of self.old)) }
+        ensures err { OnErr result (trace_of self.new ≡ trace_of self.old) }
         ensures label { self.new.label ≡ self.old.label }
     {
         if base.label == self.label {
@@ -339,7 +449,8 @@ impl Trace {
         }
         let nothing = Marks::new(alloc);
         let written = marks_in(&self.written, base, &nothing);
-        mark_element(alloc, &mut self.used, base, elem, place, written)?;
+        let marks = Marks::new(alloc).with_element(elem, place, written)?;
+        self.use_marks(base, marks)?;
         Ok(())
     }
 
@@ -355,6 +466,7 @@ impl Trace {
         ensures after { OnOk result (trace_of self.new ≡ running.having_read
             (running.is_byte (base_of base)
             (flat_map (element_places (type_of elem.now)) places.now)) (trace_of self.old)) }
+        ensures err { OnErr result (trace_of self.new ≡ trace_of self.old) }
         ensures label { self.new.label ≡ self.old.label }
     {
         if base.label == self.label {
@@ -362,7 +474,8 @@ impl Trace {
         }
         let nothing = Marks::new(alloc);
         let written = marks_in(&self.written, base, &nothing);
-        mark_elements(alloc, &mut self.used, base, elem, places, written)?;
+        let marks = marks_of_elements(alloc, elem, places, written)?;
+        self.use_marks(base, marks)?;
         Ok(())
     }
 
@@ -371,11 +484,12 @@ impl Trace {
         ensures after { OnOk result (trace_of self.new
             ≡ having_written (base_of array.now.base) (byte_places (geo_of array.now))
             (trace_of self.old)) }
+        ensures err { OnErr result (trace_of self.new ≡ trace_of self.old) }
         ensures label { self.new.label ≡ self.old.label }
     {
-        self.note_length(array.base)?;
         let nothing = Marks::new(alloc);
-        mark_view(alloc, &mut self.written, array.base, &array.view, &nothing)?;
+        let marks = Marks::new(alloc).with_view(&array.view, &nothing)?;
+        self.write_marks(array.base, marks)?;
         Ok(())
     }
 
@@ -391,11 +505,12 @@ impl Trace {
         ensures after { OnOk result (trace_of self.new
             ≡ having_written (base_of base) (element_places (type_of elem.now) place)
             (trace_of self.old)) }
+        ensures err { OnErr result (trace_of self.new ≡ trace_of self.old) }
         ensures label { self.new.label ≡ self.old.label }
     {
-        self.note_length(base)?;
         let nothing = Marks::new(alloc);
-        mark_element(alloc, &mut self.written, base, elem, place, &nothing)?;
+        let marks = Marks::new(alloc).with_element(elem, place, &nothing)?;
+        self.write_marks(base, marks)?;
         Ok(())
     }
 
@@ -410,11 +525,12 @@ impl Trace {
         requires { All (λ p. p + item_size (type_of elem.now) ≤ 2 ^ 64) places.now }
         ensures after { OnOk result (trace_of self.new ≡ having_written (base_of base)
             (flat_map (element_places (type_of elem.now)) places.now) (trace_of self.old)) }
+        ensures err { OnErr result (trace_of self.new ≡ trace_of self.old) }
         ensures label { self.new.label ≡ self.old.label }
     {
-        self.note_length(base)?;
         let nothing = Marks::new(alloc);
-        mark_elements(alloc, &mut self.written, base, elem, places, &nothing)?;
+        let marks = marks_of_elements(alloc, elem, places, &nothing)?;
+        self.write_marks(base, marks)?;
         Ok(())
     }
 }

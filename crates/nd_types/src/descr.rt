@@ -3,21 +3,21 @@ ghost use Rattle.std.specs.Prelude.{◌≡◌, None, map, option_map};
 ghost use Rattle.nd_model.specs.Cells.Session as session;
 ghost use Rattle.nd_model.specs.Arrays.Types as model;
 ghost use Rattle.nd_types.specs.Kinds.{kind_of};
-ghost use Rattle.nd_types.specs.Names.{named_kind};
+ghost use Rattle.nd_types.specs.Names.{named_kind, with_name};
 
 use crate::elem::Elem;
 use crate::kind::Kind;
 
-static KIND_NAMES: [(&str, Kind); 9] = [
-    ("bool", Kind::Bool),
-    ("int8", Kind::I8),
-    ("int16", Kind::I16),
-    ("int32", Kind::I32),
-    ("int64", Kind::I64),
-    ("uint8", Kind::U8),
-    ("uint16", Kind::U16),
-    ("uint32", Kind::U32),
-    ("uint64", Kind::U64),
+static KINDS: [Kind; 9] = [
+    Kind::Bool,
+    Kind::I8,
+    Kind::I16,
+    Kind::I32,
+    Kind::I64,
+    Kind::U8,
+    Kind::U16,
+    Kind::U32,
+    Kind::U64,
 ];
 
 static KIND_CODES: [(&str, Kind); 9] = [
@@ -44,12 +44,24 @@ fn find_kind(table: &[(&str, Kind)], name: &[u8]) -> Option<Kind>
     None
 }
 
+// The kind of this name, among these.
+fn find_named(kinds: &[Kind], name: &str) -> Option<Kind>
+    ensures { option_map kind_of result ≡ session.lookup name.now (map with_name kinds.now) }
+{
+    for kind in kinds {
+        if name == kind.name() {
+            return Some(*kind);
+        }
+    }
+    None
+}
+
 /// Returns the kind of a name such as `int8` or `bool` (NumPy user guide, "Data types"). Any other
 /// text gives `None`, as `float64` and `i4` do.
 pub fn kind_named(name: &str) -> Option<Kind>
     ensures { option_map kind_of result ≡ session.lookup name.now model.kind_names }
 {
-    find_kind(&KIND_NAMES, name.as_bytes())
+    find_named(&KINDS, name)
 }
 
 // The dtype of a code such as `i4`, in a byte order.

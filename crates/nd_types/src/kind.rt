@@ -1,6 +1,7 @@
-//! `Kind`: NumPy's nine kinds of integers and Booleans, their ranges and `wrap`.
+//! `Kind`: NumPy's nine kinds of integers and Booleans, their names, their ranges and `wrap`.
 ghost use Rattle.std.specs.Prelude.{◌≡◌, ◌<◌, ◌≤◌, IsTrue, ◌↔◌};
 ghost use Rattle.nd_model.specs.Arrays.Element as element;
+ghost use Rattle.nd_model.specs.Formats.Format as formats;
 ghost use Rattle.nd_types.specs.Kinds.{kind_of};
 
 /// One of NumPy's nine kinds of integers and Booleans (NumPy user guide, "Data types").
@@ -38,6 +39,23 @@ impl Kind {
             Kind::I16 | Kind::U16 => 2,
             Kind::I32 | Kind::U32 => 4,
             Kind::I64 | Kind::U64 => 8,
+        }
+    }
+
+    /// Returns NumPy's name of the kind, such as `int8` or `bool`.
+    pub fn name(self) -> &'static str
+        ensures { result.now ≡ formats.kind_text (kind_of self) }
+    {
+        match self {
+            Kind::Bool => "bool",
+            Kind::I8 => "int8",
+            Kind::I16 => "int16",
+            Kind::I32 => "int32",
+            Kind::I64 => "int64",
+            Kind::U8 => "uint8",
+            Kind::U16 => "uint16",
+            Kind::U32 => "uint32",
+            Kind::U64 => "uint64",
         }
     }
 }

@@ -25,3 +25,4 @@ pub mod ByRuns
 pub mod InOrder
 pub mod Ranges
 pub mod Within
+pub mod SideBySide

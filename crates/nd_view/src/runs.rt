@@ -1,7 +1,8 @@
 //! `Runs`: the elements of a view in C order, as runs of elements one step apart.
-ghost use Rattle.std.specs.Prelude.{◌≡◌, ℕ, pos, ◌≤ℤ◌, ◌<◌, ◌≤◌, ◌^◌, [], ◌+◌, ◌∷◌, length, take, drop, slice_index, MatchOption};
+ghost use Rattle.std.specs.Prelude.{◌≡◌, ℕ, pos, ◌≤ℤ◌, ◌<◌, ◌≤◌, ◌^◌, [], ◌+◌, ◌∷◌, length, take, drop, slice_index, MatchOption, IsTrue, ◌↔◌};
 ghost use Rattle.std.specs.List.{concat};
 ghost use Rattle.nd_model.specs.Arrays.Runs.{place_at, spot_at, run_places, in_pieces};
+ghost use Rattle.nd_view.specs.SideBySide.{side_by_side};
 ghost use Rattle.nd_view.specs.Walks.{IsInner};
 
 use crate::inner_loop::InnerLoop;
@@ -64,6 +65,17 @@ impl Run {
         ensures some { 0 < result }
     {
         self.count
+    }
+
+    /// Returns whether the elements, of `itemsize` bytes each, are contiguous in increasing order.
+    /// A single element is.
+    #[inline(always)]
+    pub fn is_contiguous(&self, itemsize: u64) -> bool
+        ensures { IsTrue result ↔ (self.now ≡ side_by_side itemsize (slice_index self.now 0)
+            (length self.now)) }
+    {
+        let count = self.count();
+        count == 1 || self.step() == i128::from(itemsize)
     }
 
     /// Returns the byte offset of an element.

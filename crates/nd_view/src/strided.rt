@@ -1,5 +1,5 @@
 //! `View`: where the elements of an array lie in its bytes.
-ghost use Rattle.std.specs.Prelude.{◌≡◌, ◌+◌, ◌*◌, ◌^◌, ◌<◌, ◌≤◌, length, take, slice_index, false, IsTrue, ◌↔◌, IfOk, OnOk, MatchOption, unsigned_abs};
+ghost use Rattle.std.specs.Prelude.{◌≡◌, ◌+◌, ◌*◌, ◌^◌, ◌<◌, ◌≤◌, length, take, slice_index, false, IsTrue, ◌↔◌, IfOk, IfSome, OnOk, MatchOption, unsigned_abs};
 ghost use Rattle.std.specs.List.{All, concat};
 ghost use Rattle.nd_model.specs.Arrays.Runs.{runs_of};
 ghost use Rattle.nd_model.specs.Arrays.Strides as model;
@@ -10,13 +10,14 @@ ghost use Rattle.nd_model.specs.Cells.Sound.{LiesIn};
 ghost use Rattle.nd_types.specs.Types.{type_of};
 ghost use Rattle.nd_view.specs.Faults.{view_given};
 ghost use Rattle.nd_view.specs.Indexes.{IsIndex};
+ghost use Rattle.nd_view.specs.SideBySide.{side_by_side};
 ghost use Rattle.nd_view.specs.Strides.{kept_all};
 
 use crate::elements::push_element;
 use crate::fault::ViewFault;
 use crate::inner_loop::{last_axis, widest_loop};
 use crate::parts::{kept_offset, kept_steps, kept_strides, parts_fault, reach_of};
-use crate::runs::Runs;
+use crate::runs::{Run, Runs};
 use crate::shapes::{element_count, steps};
 use crate::walk::{advance, place_by, shift_place};
 use nd_types::ElemType;
@@ -308,6 +309,23 @@ impl View {
             self,
             widest_loop(self.shape.as_slice(), self.strides.as_slice()),
         )
+    }
+
+    /// Returns the elements in C order as one run, where they are contiguous: `8 16` for `x[1:3]`
+    /// with itemsize 8. `None` where the view is empty, or not one contiguous run.
+    pub fn contiguous_run(&self, itemsize: u64) -> Option<Run>
+        ensures { IfSome result (λ run. (run ≡ self.now.places)
+            × (run ≡ side_by_side itemsize (slice_index run 0) (length run))) }
+    {
+        let mut runs = self.runs();
+        let run = runs.next()?;
+        if run.count() as usize != self.count() {
+            return None;
+        }
+        if !run.is_contiguous(itemsize) {
+            return None;
+        }
+        Some(run)
     }
 
     /// Returns the runs of elements along the last axis, in C order: two of three elements for

@@ -1,7 +1,7 @@
 //! `run_row`: makes a list of edits on a notebook without cells, with the meter.
 
 use nd_notebook::{CellRule, Edit, EditFault, Input, Meter, Notebook};
-use nd_script::words::{LineCommand, LineInput, command_of};
+use nd_script::words::{LineCommand, command_of};
 use std::alloc::{AllocError, Global};
 use std::io;
 use test_rows::unescape;
@@ -54,32 +54,10 @@ pub(crate) fn unescape_lines(alloc: Global, lines: &str) -> io::Result<Vec<Strin
     Ok(texts)
 }
 
-/// The input of a line, as a notebook takes it.
-fn taken_of(input: LineInput) -> Input {
-    match input {
-        LineInput::Npy(bytes) => Input::Npy(bytes),
-        LineInput::Buffer {
-            format,
-            itemsize,
-            shape,
-            strides,
-            offset,
-            bytes,
-        } => Input::Buffer {
-            format,
-            itemsize,
-            shape,
-            strides,
-            offset,
-            bytes,
-        },
-    }
-}
-
 /// The input that a line sets; of a line that sets none, one without bytes.
 fn input_of(alloc: Global, line: &str) -> io::Result<Input> {
     match command_of(alloc, line.as_bytes())? {
-        LineCommand::SetInput { input, .. } => Ok(taken_of(input)),
+        LineCommand::SetInput { input, .. } => Ok(input),
         _ => Ok(Input::Npy(Vec::new(alloc))),
     }
 }

@@ -1,18 +1,18 @@
 -- The elements of an array in C order, from a list of their contents.
-use Rattle.std.proofs.Common.{◌≡◌, ℕ, ◌+◌, List, [], ◌∷◌, ◌++◌, map, length, append-nil, Bool, true, false, ℤ, pos, sym, refl, ap, ap₂, ◌∙◌, append_assoc, length-append}
+use Rattle.std.proofs.Common.{◌≡◌, ℕ, List, [], map, length, append-nil, Bool, true, false, ℤ, pos, sym, refl, ap, ◌∙◌}
 use Rattle.std.specs.List.{flat_map}
 use Rattle.std.proofs.lemmas.List.{length-map}
 use Rattle.std.specs.Prelude.{if◌then◌else◌, ◌==◌}
 use Rattle.nd_model.specs.Arrays.Element as element
 use Rattle.nd_model.specs.Arrays.Element.{Kind, Boolean, Int8, Int16, Int32, Int64, UInt8, UInt16, UInt32, UInt64, Element, width_of, size_of, value_in, residue, bytes_in, bytes_at, bytes_of, wrap}
 use Rattle.nd_model.specs.Arrays.View.{ElementType, One}
-use Rattle.nd_model.specs.Arrays.Content.{Content, Num, number_at, content_or, content_in_order, number_in, content_at, element_bytes, array_bytes}
+use Rattle.nd_model.specs.Arrays.Content.{Content, Num, number_at, content_in_order, number_in, content_at, element_bytes, array_bytes}
 use Rattle.nd_model.specs.Making.Conversion.{converted_content}
 use Rattle.nd_model.proofs.Contents.{numbers_bytes}
 use Rattle.nd_model.proofs.Residues.{one_wrap}
 use Rattle.nd_element.specs.Elements.{canonical_at}
 use Rattle.nd_convert.specs.Conversion.Converted.{converted_at, converted_bytes}
-use Rattle.nd_model.specs.Arrays.Tuple.{count_up, elements_of, indices, number}
+use Rattle.nd_model.specs.Arrays.Tuple.{elements_of}
 use Rattle.nd_view.proofs.Tuples.{flat_map_same}
 use Rattle.nd_view.proofs.InOrder.{flat_map-map, in_order}
 

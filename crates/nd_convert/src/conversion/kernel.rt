@@ -40,10 +40,9 @@ pub(crate) fn convert_run(out: &mut [u8], to: Elem, bytes: &[u8], from: Elem, ru
     requires held { AreHeld from bytes.now run.now }
     ensures { out.new ≡ converted_bytes to from bytes.now run.now }
 {
-    let count = run.count() as usize;
-    let size = i128::from(from.size());
-    if run.step() == size {
-        convert_each(out, to, bytes, from, run.start(), size, count);
+    let (size, count) = (from.size(), run.count() as usize);
+    if run.is_contiguous(size) {
+        convert_each(out, to, bytes, from, run.start(), i128::from(size), count);
     } else {
         convert_each(out, to, bytes, from, run.start(), run.step(), count);
     }

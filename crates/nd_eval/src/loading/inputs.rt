@@ -4,7 +4,7 @@ ghost use Rattle.std.specs.Prelude.{◌≡◌, option_map};
 ghost use Rattle.nd_model.specs.Formats.Files as files;
 ghost use Rattle.nd_model.specs.Formats.FormatReading.{read_format};
 ghost use Rattle.nd_model.specs.Formats.NpyReading as reading;
-ghost use Rattle.nd_session.specs.Inputs.Values.{source_of};
+ghost use Rattle.nd_input.specs.Sources.{source_of};
 ghost use Rattle.nd_eval.specs.Loading.Loads.{LoadsNew, RefusesInput, load_by};
 
 use nd_block::RawBlock;

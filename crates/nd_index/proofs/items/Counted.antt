@@ -1,5 +1,5 @@
 -- Numbers that are read one after another.
-use Rattle.std.proofs.Common.{◌≡◌, ℕ, zero, suc, ◌+◌, ◌*◌, ◌<◌, ◌≤◌, Bool, true, false, List, [], ◌∷◌, ◌++◌, map, length, drop, get_or, Option, Some, None, refl, sym, ap, ◌∙◌, inl, inr, eqb-true, arith, length-append}
+use Rattle.std.proofs.Common.{◌≡◌, ℕ, ◌+◌, ◌*◌, ◌<◌, ◌≤◌, Bool, true, false, List, [], ◌∷◌, ◌++◌, map, length, drop, get_or, Option, Some, None, refl, sym, ap, ◌∙◌, inl, inr, eqb-true, arith, length-append}
 use Rattle.std.specs.Prelude.{ℤ, pos, nat_eq, slice_index, unsigned_abs}
 use Rattle.std.proofs.Math.Nat.{mul-le-mul_right}
 use Rattle.std.proofs.lemmas.Bool.{cases_Bool}
@@ -9,7 +9,6 @@ use Rattle.nd_model.specs.Indexing.Advanced.{is_nonzero, number_fault, or_next, 
 use Rattle.nd_model.specs.Arrays.Content.{number_at}
 use Rattle.nd_model.specs.Arrays.Element.{Element}
 use Rattle.nd_model.specs.Cells.Fault.{IndexFault}
-use Rattle.nd_model.specs.Arrays.Runs.{place_at}
 use Rattle.nd_element.specs.Elements.{numbers_at}
 use Rattle.nd_index.specs.Items.Counts.{true_count}
 use Rattle.nd_index.specs.Items.Packed.{IsPacked}
@@ -71,16 +70,6 @@ count_run e bytes runs run rest is =
 
 -- ---- elements side by side
 
-pub packed_places : (size : ℕ) (step : ℤ) (run : List ℕ) → step ≡ pos size → ((k : ℕ) → k < length run → place_at (slice_index run 0) step k ≡ pos (slice_index run k))
-    → (k : ℕ) → k < length run → slice_index run k ≡ slice_index run 0 + k * size
-packed_places size step run is each k lt =
-    let here : pos (slice_index run 0 + k * size) ≡ pos (slice_index run k) = ap (λ s. place_at (slice_index run 0) s k) (sym is) ∙ each k lt in
-    cc
-
-pub packed_alone : (size : ℕ) (run : List ℕ) → length run ≤ 1 → (k : ℕ) → k < length run → slice_index run k ≡ slice_index run 0 + k * size
-packed_alone size run le zero lt = omega arith
-packed_alone size run le (suc k) lt = absurd (omega (arith, le, lt))
-
 pub packed_is : (size len : ℕ) (run : List ℕ) → ((k : ℕ) → k < length run → slice_index run k ≡ slice_index run 0 + k * size) → slice_index run 0 + length run * size ≤ len → IsPacked size len run
 packed_is size len run places total = record {
   places = places;
@@ -90,14 +79,7 @@ packed_is size len run places total = record {
     within : (k : ℕ) → (k + 1) * size ≤ length run * size → slice_index run 0 + k * size + size ≤ len
     within k le = let next : (k + 1) * size ≡ k * size + size = omega arith in omega (arith, le, next, total)
 
--- the step of elements side by side is their size
-pub packed_step : (size len : ℕ) (step : ℤ) (run : List ℕ) → 1 < length run → ((k : ℕ) → k < length run → place_at (slice_index run 0) step k ≡ pos (slice_index run k)) → IsPacked size len run → step ≡ pos size
-packed_step size len step run two each packed =
-    let next : slice_index run 1 ≡ slice_index run 0 + 1 * size = packed.places 1 two in
-    let there : place_at (slice_index run 0) step 1 ≡ pos (slice_index run 1) = each 1 two in
-    omega (arith, ints, next, there)
-
--- and they end with the last one
+-- they end with the last one
 pub packed_end : (size len : ℕ) (run : List ℕ) → 0 < length run → IsPacked size len run → slice_index run 0 + length run * size ≤ len
 packed_end size len [] some packed = absurd (omega (arith, some))
 packed_end size len (p ∷ run) some packed =

@@ -15,11 +15,10 @@ pub fn is_packed(run: &Run, size: u64, len: usize) -> bool
     requires { size ≤ 8 }
     ensures { IsTrue result ↔ IsPacked size len run.now }
 {
-    let count = run.count();
-    if count > 1 && run.step() != i128::from(size) {
+    if !run.is_contiguous(size) {
         return false;
     }
-    u128::from(run.start()) + u128::from(count) * u128::from(size) <= len as u128
+    u128::from(run.start()) + u128::from(run.count()) * u128::from(size) <= len as u128
 }
 
 /// Returns the number of index `at` in a run. `packed` tells that the run is contiguous within the

@@ -11,7 +11,7 @@ use Rattle.nd_model.proofs.Residues.{bytes_round_trip}
 use Rattle.nd_block.proofs.Copied.{length-bytes_at}
 use Rattle.nd_block.proofs.Together.{bytes_at-split}
 use Rattle.nd_element.specs.Elements.{canonical_at}
-use Rattle.nd_assign.specs.SideBySide.{side_by_side}
+use Rattle.nd_view.specs.SideBySide.{side_by_side}
 
 number_bytes : (e : Element) (z : ℤ) → element_bytes (One e) (Num z) ≡ bytes_of e z
 number_bytes e z = sym (append-nil (element_bytes (One e) (Num z))) ∙ numbers_bytes e [] (λ t. z) ∙ append-nil (bytes_of e z)

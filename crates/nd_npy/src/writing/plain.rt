@@ -2,10 +2,9 @@
 ghost use Rattle.std.specs.Prelude.{◌≡◌, ◌≢◌, ◌+◌, ◌*◌, ◌<◌, ◌≤◌, length, slice_index, IfSome};
 ghost use Rattle.std.specs.List.{All};
 ghost use Rattle.nd_model.specs.Arrays.Element.{Boolean, size_of, bytes_at};
-ghost use Rattle.nd_assign.specs.SideBySide.{side_by_side};
+ghost use Rattle.nd_view.specs.SideBySide.{side_by_side};
 ghost use Rattle.nd_element.specs.Elements.{canonical_bytes};
 
-use nd_assign::gapless_run;
 use nd_element::keeps_bytes;
 use nd_types::{Elem, ElemType};
 use nd_view::{Run, View};
@@ -19,7 +18,7 @@ fn plain_run(view: &View, elem: Elem) -> Option<Run>
     if !keeps_bytes(elem) {
         return None;
     }
-    gapless_run(view, elem)
+    view.contiguous_run(elem.size())
 }
 
 // The bytes of a run of contiguous elements, or `None` where some are missing.

@@ -1,4 +1,4 @@
-//! The kinds, functions and methods that names stand for, each by a table.
+//! `kind_named`, `ufunc_named` and the like: the kinds, functions and methods that names stand for.
 ghost use Rattle.std.specs.Prelude.{◌≡◌, map};
 ghost use Rattle.nd_types.specs.Kinds.{kind_of};
 ghost use Rattle.nd_model.specs.Grammar.Cells.{kind_named, fill_named, ufunc_named, reduction_named, accumulation_named};
@@ -7,17 +7,6 @@ ghost use Rattle.nd_parse.specs.Reader.Tables.{named, named_entry};
 
 use nd_syntax::trees::{Accumulation, Fill, Reduction, Ufunc};
 use nd_types::Kind;
-
-static KINDS: [(&str, Kind); 8] = [
-    ("int8", Kind::I8),
-    ("int16", Kind::I16),
-    ("int32", Kind::I32),
-    ("int64", Kind::I64),
-    ("uint8", Kind::U8),
-    ("uint16", Kind::U16),
-    ("uint32", Kind::U32),
-    ("uint64", Kind::U64),
-];
 
 static FILLS: [(&str, Fill); 1] = [("ones", Fill::Ones)];
 
@@ -56,7 +45,7 @@ fn named<T: Copy>(table: &[(&str, T)], other: T, name: &str) -> T
 pub fn kind_named(name: &str) -> Kind
     ensures { kind_of result ≡ kind_named name.now }
 {
-    named(&KINDS, Kind::Bool, name)
+    nd_types::kind_named(name).unwrap_or(Kind::Bool)
 }
 
 /// Returns what `zeros` or `ones` fills an array with.

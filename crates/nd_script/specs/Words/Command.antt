@@ -1,18 +1,12 @@
 -- What the commands of the program stand for.
-use Rattle.std.specs.Prelude.{ℕ, List, [], ◌∷◌, string_bytes}
+use Rattle.std.specs.Prelude.{ℕ, List, [], ◌∷◌}
 use Rattle.nd_model.specs.Book.Book as book
 use Rattle.nd_model.specs.Cells.Running as running
 use Rattle.nd_model.specs.Book.Script as script
+use Rattle.nd_input.specs.Sources.{source_of}
 use Rattle.nd_script.specs.declared.words.command.LineCommand.{LineCommand}
 use Rattle.nd_script.specs.declared.words.command.LineCommand.TheVariants.{Insert, Edit, Remove, Move, Show, Source, Names, Value, Saved, SetInput, DropInput, PythonRule, AtomicRule, Count, Silent, Bad}
-use Rattle.nd_script.specs.declared.words.input.LineInput.{LineInput}
-use Rattle.nd_script.specs.declared.words.input.LineInput.TheVariants.{Npy, Buffer}
 use Rattle.nd_script.specs.declared.words.input.BufferWords.{BufferWords}
-
--- the input that a line gives
-abbrev pub source_in : LineInput → running.Source
-source_in (Npy bytes) = running.Npy bytes.items
-source_in (Buffer format itemsize shape strides offset bytes) = running.Buffer (string_bytes format) itemsize shape.items strides.items offset bytes.items
 
 -- the words of a buffer, in order
 abbrev pub words_in : BufferWords → List (List ℕ)
@@ -28,7 +22,7 @@ line_of (Source at) = script.Whole (script.Asks (script.ShowsSource at))
 line_of (Names at) = script.Whole (script.Asks (script.ShowsNames at))
 line_of (Value at name) = script.Whole (script.Asks (script.ShowsValue at name.now))
 line_of (Saved at name) = script.Whole (script.Asks (script.ShowsSave at name.now))
-line_of (SetInput name input) = script.Whole (script.Edits (book.SetInput name.now (source_in input)))
+line_of (SetInput name input) = script.Whole (script.Edits (book.SetInput name.now (source_of input)))
 line_of (DropInput name) = script.Whole (script.Edits (book.DropInput name.now))
 line_of PythonRule = script.Whole (script.Edits (book.SetRule running.Python))
 line_of AtomicRule = script.Whole (script.Edits (book.SetRule running.Atomic))

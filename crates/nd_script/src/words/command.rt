@@ -13,8 +13,9 @@ ghost use Rattle.nd_model.specs.Book.Script.{
 };
 ghost use Rattle.nd_script.specs.Words.Command.{line_of};
 
-use crate::words::input::{LineInput, input_of};
+use crate::words::input::input_of;
 use crate::words::word::{number_of, split_word};
+use nd_input::Input;
 use std::alloc::{AllocError, Global};
 
 /// The command of a line of a script, outside a source. Positions count from 0.
@@ -31,7 +32,7 @@ pub enum LineCommand<'a> {
     Names(usize),
     Value { at: usize, name: &'a str },
     Saved { at: usize, name: &'a str },
-    SetInput { name: &'a str, input: LineInput },
+    SetInput { name: &'a str, input: Input },
     DropInput(&'a str),
     PythonRule,
     AtomicRule,

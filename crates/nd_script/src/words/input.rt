@@ -1,4 +1,4 @@
-//! `LineInput`: an input that a line of a script writes out.
+//! `input_of`: the input that a line of a script writes out.
 
 ghost use Rattle.std.specs.Prelude.{
   ◌≡◌,
@@ -29,35 +29,18 @@ ghost use Rattle.nd_model.specs.Book.Script.{
   positive,
   words_of,
 };
-ghost use Rattle.nd_script.specs.Words.Command.{source_in, words_in};
+ghost use Rattle.nd_input.specs.Sources.{source_of};
+ghost use Rattle.nd_script.specs.Words.Command.{words_in};
 ghost use Rattle.nd_script.specs.Words.Words.{parts_behind, parts_of, six_of};
 
 use crate::words::word::{number_of, split_word};
+use nd_input::Input;
 use std::alloc::{AllocError, Global};
-
-/// An input as a line writes it: the bytes of an NPY file, or a strided buffer (PEP 3118).
-#[derive(Drop)]
-pub enum LineInput {
-    Npy(Vec<u8>),
-    /// Strides and the offset of the first element are counted in bytes.
-    Buffer {
-        format: String,
-        itemsize: u64,
-        shape: Vec<u64>,
-        strides: Vec<i64>,
-        offset: u64,
-        bytes: Vec<u8>,
-    },
-}
 
 /// Returns the input that words write, of which the first says its form, or `None` where they write
 /// none.
-pub(crate) fn input_of(
-    alloc: Global,
-    kind: &str,
-    rest: &str,
-) -> Result<Option<LineInput>, AllocError>
-    ensures { IfOk result (λ o. option_map source_in o
+pub(crate) fn input_of(alloc: Global, kind: &str, rest: &str) -> Result<Option<Input>, AllocError>
+    ensures { IfOk result (λ o. option_map source_of o
         ≡ input_of_words kind.now (words_of rest.now)) }
 {
     match kind {
@@ -68,14 +51,14 @@ pub(crate) fn input_of(
 }
 
 /// The bytes of an NPY file.
-fn npy_of(alloc: Global, rest: &str) -> Result<Option<LineInput>, AllocError>
-    ensures { IfOk result (λ o. option_map source_in o
+fn npy_of(alloc: Global, rest: &str) -> Result<Option<Input>, AllocError>
+    ensures { IfOk result (λ o. option_map source_of o
         ≡ input_of_words (codes "npy") (words_of rest.now)) }
 {
     match split_word(rest) {
         (_, Some(_)) => Ok(None),
         (word, None) => match bytes_of(alloc, word)? {
-            Some(bytes) => Ok(Some(LineInput::Npy(bytes))),
+            Some(bytes) => Ok(Some(Input::Npy(bytes))),
             None => Ok(None),
         },
     }
@@ -116,8 +99,8 @@ fn six_words(text: &str) -> Option<BufferWords<'_>>
 }
 
 /// A strided buffer.
-fn buffer_of(alloc: Global, rest: &str) -> Result<Option<LineInput>, AllocError>
-    ensures { IfOk result (λ o. option_map source_in o
+fn buffer_of(alloc: Global, rest: &str) -> Result<Option<Input>, AllocError>
+    ensures { IfOk result (λ o. option_map source_of o
         ≡ input_of_words (codes "buffer") (words_of rest.now)) }
 {
     match six_words(rest) {
@@ -127,8 +110,8 @@ fn buffer_of(alloc: Global, rest: &str) -> Result<Option<LineInput>, AllocError>
 }
 
 /// The strided buffer of six words.
-fn buffer_of_words(alloc: Global, words: BufferWords) -> Result<Option<LineInput>, AllocError>
-    ensures { IfOk result (λ o. option_map source_in o
+fn buffer_of_words(alloc: Global, words: BufferWords) -> Result<Option<Input>, AllocError>
+    ensures { IfOk result (λ o. option_map source_of o
         ≡ input_of_words (codes "buffer") (words_in words.entry)) }
 {
     if words.format.is_empty() {
@@ -147,7 +130,7 @@ fn buffer_of_words(alloc: Global, words: BufferWords) -> Result<Option<LineInput
         return Ok(None);
     };
     let format = String::from_str(alloc, words.format)?;
-    Ok(Some(LineInput::Buffer {
+    Ok(Some(Input::Buffer {
         format,
         itemsize,
         shape,

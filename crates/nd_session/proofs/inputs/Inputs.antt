@@ -10,8 +10,9 @@ use Rattle.std.specs.declared.rc.RcStr.{RcStr}
 use Rattle.indexmap.specs.IndexMap.{insert_entry}
 use Rattle.nd_model.specs.Cells.Session.{lookup, bind, unbind}
 use Rattle.nd_model.specs.Cells.Running.{Source}
-use Rattle.nd_session.specs.declared.inputs.input.Input.{Input}
-use Rattle.nd_session.specs.Inputs.Values.{source_of, given_of}
+use Rattle.nd_input.specs.declared.Input.{Input}
+use Rattle.nd_input.specs.Sources.{source_of}
+use Rattle.nd_session.specs.Inputs.Values.{given_of}
 use Rattle.nd_heap.proofs.NameLists.{name_eq, entries-insert, entries-found, entries-remove, cloned_entries}
 
 abbrev pub SharedInput : Type 0

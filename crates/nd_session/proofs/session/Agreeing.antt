@@ -8,13 +8,13 @@ use Rattle.nd_model.specs.Cells.Running.{Key, Name, Input, Length, Byte, OfRule,
 use Rattle.nd_model.specs.Cells.Footprint.{Bound, Given, Number, Ruled, found}
 use Rattle.nd_heap.specs.declared.value.Base.{Base}
 use Rattle.nd_heap.specs.declared.value.Value.{Value}
-use Rattle.nd_session.specs.declared.inputs.input.Input as code
+use Rattle.nd_input.specs.declared.Input as code
 use Rattle.nd_session.specs.declared.session.found.FoundBytes.{FoundBytes}
 use Rattle.nd_session.specs.Session.Found as places
 use Rattle.nd_session.specs.Session.Found.{byte_at, bytes_of, found_at, lookup_base}
 use Rattle.std.specs.Option.{option_copied}
 use Rattle.nd_heap.specs.Values.{base_of, value_of}
-use Rattle.nd_session.specs.Inputs.Values.{source_of}
+use Rattle.nd_input.specs.Sources.{source_of}
 use Rattle.nd_session.specs.Session.Reading.{value_at, source_at}
 use Rattle.nd_session.specs.Session.Reads.{ReadsData, found_of, keys_of}
 

@@ -23,7 +23,7 @@ use Rattle.nd_model.specs.Arrays.Value as model
 use Rattle.nd_model.specs.Cells.Footprint.{Bound, Given, Number, Ruled}
 use Rattle.nd_model.specs.Cells.Running.{Key, Name, Input, Length, Byte, OfRule, is_event_of, is_touched}
 use Rattle.nd_model.specs.Cells.Session.{lookup}
-use Rattle.nd_session.specs.declared.inputs.input.Input as code
+use Rattle.nd_input.specs.declared.Input as code
 use Rattle.nd_session.specs.declared.inputs.rule.CellRule as code_rule
 use Rattle.nd_session.specs.Inputs.Values.{rule_of}
 use Rattle.nd_session.specs.declared.session.change.change.Change.TheInside as change

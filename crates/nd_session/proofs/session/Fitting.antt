@@ -12,7 +12,7 @@ use Rattle.nd_model.specs.Arrays.Value as model
 use Rattle.nd_model.specs.Cells.Footprint.{Bound, Given, Number, Ruled}
 use Rattle.nd_model.specs.Cells.Running.{Name, Input, Length, Byte, OfRule, Rule, Source}
 use Rattle.nd_model.specs.Cells.Session.{lookup}
-use Rattle.nd_session.specs.declared.inputs.input.Input as code
+use Rattle.nd_input.specs.declared.Input as code
 use Rattle.nd_session.specs.declared.session.found.FoundBytes.{FoundBytes}
 use Rattle.nd_session.specs.Session.Change.{FitsAt, HasFound, reader_in}
 use Rattle.nd_session.specs.Session.Found as places

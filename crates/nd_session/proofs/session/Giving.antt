@@ -11,8 +11,9 @@ use Rattle.nd_model.specs.Arrays.Value.{Base}
 use Rattle.nd_model.specs.Cells.Footprint.{Found, Bound, Given, Number, Ruled, found}
 use Rattle.nd_model.specs.Cells.Running.{Key, Name, Input, Length, Byte, OfRule, Inputs, Rule, World, Source}
 use Rattle.nd_model.specs.Cells.Session.{Session}
-use Rattle.nd_session.specs.declared.inputs.input.Input as code
-use Rattle.nd_session.specs.Inputs.Values.{inputs_of, source_of}
+use Rattle.nd_input.specs.declared.Input as code
+use Rattle.nd_input.specs.Sources.{source_of}
+use Rattle.nd_session.specs.Inputs.Values.{inputs_of}
 use Rattle.nd_session.specs.Session.Change.{IsNoted}
 use Rattle.nd_session.proofs.session.Standing.{name_all, none_before, none_some, same_some}
 

@@ -1,5 +1,5 @@
 -- What is noted, under names and blocks.
-use Rattle.std.proofs.Common.{◌≡◌, ℕ, Bool, true, false, not, ◌&&◌, ◌||◌, List, [], ◌∷◌, ◌++◌, refl, sym, ap, ap₂, ◌∙◌, Option}
+use Rattle.std.proofs.Common.{◌≡◌, ℕ, Bool, true, false, not, ◌&&◌, ◌||◌, List, [], ◌∷◌, ◌++◌, refl, sym, ap, ap₂, ◌∙◌, Option, Some, None, option_map, Bor}
 use mathlib.Core.Path.{fun_ext}
 use Rattle.nd_model.specs.Arrays.Value.{Base, Value}
 use Rattle.nd_model.specs.Cells.Session as model
@@ -7,6 +7,9 @@ use Rattle.nd_model.specs.Cells.Running.{Key}
 use Rattle.nd_model.specs.Cells.Running as running
 use Rattle.nd_model.specs.Cells.Storing.{having_written}
 use Rattle.nd_trace.specs.Seen.{having_event}
+use Rattle.std.specs.Option.{option_copied}
+use Rattle.nd_heap.specs.declared.value.Value.{Value as Lent}
+use Rattle.nd_heap.specs.Values.{value_of}
 
 pub noted_over : (keys : Key → Bool) (t u : running.Running) (names : List (List ℕ × Value)) (bytes : Base → List ℕ) (next : ℕ) → u ≡ running.having_read keys t
     → record u { names = names; bytes = bytes; next = next } ≡ running.having_read keys (record t { names = names; bytes = bytes; next = next })
@@ -15,6 +18,11 @@ noted_over keys t u names bytes next e = ap (λ (r : running.Running). record r 
 pub written_over : (b : Base) (ps : List ℕ) (t u : running.Running) (names : List (List ℕ × Value)) (bytes : Base → List ℕ) (next : ℕ) → u ≡ having_written b ps t
     → record u { names = names; bytes = bytes; next = next } ≡ having_written b ps (record t { names = names; bytes = bytes; next = next })
 written_over b ps t u names bytes next e = ap (λ (r : running.Running). record r { names = names; bytes = bytes; next = next }) e
+
+-- nothing is noted
+pub stayed_over : (t u : running.Running) (names : List (List ℕ × Value)) (bytes : Base → List ℕ) (next : ℕ) → u ≡ t
+    → record u { names = names; bytes = bytes; next = next } ≡ record t { names = names; bytes = bytes; next = next }
+stayed_over t u names bytes next e = ap (λ (r : running.Running). record r { names = names; bytes = bytes; next = next }) e
 
 -- a name is bound, whose text and value are shared
 pub bound_over : (n m l : List ℕ) (v w x : Value) (t u : running.Running) (names names' : model.Names) (bytes : Base → List ℕ) (next : ℕ) → u ≡ having_event (running.Binds m w) t
@@ -56,6 +64,11 @@ pub looked_up : (n : List ℕ) (o : Option Value) (r s t : running.Running) → 
 looked_up n o r s t named long is =
     long ∙ ap₂ (λ v s. running.having_read (running.is_length_of v) s) is named
     ∙ read_twice (running.is_name n) (running.is_length_of (model.lookup n r.names)) r
+
+-- a value that is lent
+pub lent : (r : Option (Bor Lent)) → option_map (λ (v : Bor Lent). value_of v.now) r ≡ option_map value_of (option_copied r)
+lent None = refl
+lent (Some v) = refl
 
 -- a cell begins
 pub begun : (label : ℕ) (t : running.Running) (names : model.Names) (bytes : Base → List ℕ) (s : model.Session) → t ≡ running.start label model.no_session → names ≡ s.names

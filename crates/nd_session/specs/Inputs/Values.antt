@@ -1,19 +1,15 @@
 -- What the values of the code stand for among the definitions.
-use Rattle.std.specs.Prelude.{ℕ, List, string_bytes}
+use Rattle.std.specs.Prelude.{ℕ, List}
 use Rattle.std.specs.declared.rc.Rc.{Rc}
 use Rattle.std.specs.declared.rc.RcStr.{RcStr}
 use Rattle.std.proofs.Common.{Global}
 use Rattle.nd_model.specs.Cells.Session.{lookup}
 use Rattle.nd_model.specs.Cells.Running as running
-use Rattle.nd_session.specs.declared.inputs.input.Input.{Input}
-use Rattle.nd_session.specs.declared.inputs.input.Input.TheVariants.{Npy, Buffer}
+use Rattle.nd_input.specs.declared.Input.{Input}
+use Rattle.nd_input.specs.Sources.{source_of}
 use Rattle.nd_session.specs.declared.inputs.rule.CellRule.{CellRule}
 use Rattle.nd_session.specs.declared.inputs.rule.CellRule.TheVariants.{Python, Atomic}
 use Rattle.nd_heap.specs.Values.{entries_of}
-
-abbrev pub source_of : Input → running.Source
-source_of (Npy bytes) = running.Npy bytes.items
-source_of (Buffer format itemsize shape strides offset bytes) = running.Buffer (string_bytes format) itemsize shape.items strides.items offset bytes.items
 
 -- the inputs with their names
 abbrev pub given_of : List (RcStr Global × Rc Input Global) → List (List ℕ × running.Source)

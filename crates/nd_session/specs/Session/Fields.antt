@@ -21,6 +21,7 @@ traced t names blocks next = record {
   asked = t.asked;
   lengths = t.lengths;
   used = t.used;
+  room = t.room;
 }
 
 abbrev pub state_of : Inside → State

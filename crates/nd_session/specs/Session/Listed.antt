@@ -18,6 +18,7 @@ seen_of s = record {
   asked = s.asked;
   lengths = s.lengths;
   used = s.used;
+  room = s.room;
 }
 
 -- THE LAW OF READERS: the trace of a session lists what has been read and written, and nothing else

@@ -11,7 +11,7 @@ use Rattle.nd_heap.specs.Values.{entries_of}
 use Rattle.nd_heap.specs.declared.value.Base.{Base}
 use Rattle.nd_heap.specs.declared.value.Value.{Value}
 use Rattle.nd_marks.specs.Kept.{KeptData}
-use Rattle.nd_session.specs.declared.inputs.input.Input.{Input}
+use Rattle.nd_input.specs.declared.Input.{Input}
 use Rattle.nd_session.specs.declared.session.change.change.Change.TheInside.{Inside}
 use Rattle.nd_session.specs.Inputs.Values.{rule_of}
 use Rattle.nd_session.specs.Session.Change.{ChangeData, part_at}

@@ -4,12 +4,13 @@ use Rattle.std.proofs.Common.{Global}
 use Rattle.std.specs.declared.rc.Rc.{Rc}
 use Rattle.nd_model.specs.Arrays.Value as model
 use Rattle.nd_model.specs.Cells.Running.{Source}
-use Rattle.nd_session.specs.declared.inputs.input.Input.{Input}
+use Rattle.nd_input.specs.declared.Input.{Input}
 use Rattle.nd_heap.specs.declared.value.Value.{Value}
 use Rattle.nd_session.specs.declared.session.reads.Reads.TheInside.{Inside}
 use Rattle.nd_session.specs.Session.Found.{by_base, bytes_of}
 use Rattle.nd_heap.specs.Values.{value_of}
-use Rattle.nd_session.specs.Inputs.Values.{rule_of, source_of}
+use Rattle.nd_input.specs.Sources.{source_of}
+use Rattle.nd_session.specs.Inputs.Values.{rule_of}
 use Rattle.nd_session.specs.Session.Reads.{ReadsData}
 
 -- entries by their texts

@@ -16,3 +16,5 @@ pub record State : Type 0 where
   pub asked : List (List ℕ)
   pub lengths : List Base
   pub used : List (Base × Places)
+  -- how many bindings can be noted without memory
+  pub room : ℕ

@@ -89,7 +89,7 @@ fn own_bases(alloc: Global, label: u64, events: &[Event]) -> Result<Bases, OutOf
         → is_base_among (bases_of own.entries) b
         ≡ model.is_held b (replayed (map event_of events.now) [])) }
 {
-    let mut heap = Heap::new(alloc)?;
+    let mut heap = Heap::new(alloc);
     replay(&mut heap, events)?;
     let mut own = heap.held_bases()?;
     retain_own(&mut own, label);

@@ -87,7 +87,7 @@ pub(crate) fn redo(heap: &mut Heap, changes: &Changes) -> Result<(), OutOfMemory
     ensures session { OnOk result (session.collected (session_in heap.new)
         ≡ changed changes.now (session_in heap.old)) }
 {
-    heap.collect()?;
+    heap.collect();
     replay(heap, &changes.events)?;
     put_back(heap, &changes.written)?;
     share_own(heap, &changes.blocks, changes.label)?;

@@ -1,6 +1,6 @@
 //! `Session`: the names and blocks between two cells, with a trace of the running one.
 
-ghost use Rattle.std.specs.Prelude.{◌≡◌, ◌+◌, ◌<◌, ◌≤◌, ◌^◌, [], IfOk, IsFalse, IsTrue, OnOk, ◌↔◌, option_map, string_bytes};
+ghost use Rattle.std.specs.Prelude.{◌≡◌, ◌+◌, ◌<◌, ◌≤◌, ◌^◌, [], IfOk, IsFalse, IsTrue, OnErr, OnOk, ◌↔◌, option_map, string_bytes};
 ghost use Rattle.std.specs.List.{All, flat_map};
 ghost use Rattle.nd_model.specs.Cells.Session as model;
 ghost use Rattle.nd_model.specs.Cells.Running as running;
@@ -44,8 +44,9 @@ const FEW_NAMES: usize = 4096;
 
 /// Names and blocks while a cell runs, with what the cell has read and done.
 ///
-/// They are shared with snapshots: the first write after one copies what it changes. After an
-/// error, which is want of memory, the session may only be dropped.
+/// They are shared with snapshots: the first write after one copies what it changes. A call that is
+/// refused for want of memory leaves names, bytes and trace as they were, but for those that say
+/// otherwise.
 #[derive(Drop)]
 pub struct Session {
     pub(crate) heap: Heap,
@@ -69,19 +70,29 @@ impl Model for Session {
     ghost invariant = { IsIntact };
 }
 
+/// Returns an equal value, if there is one.
+fn copy_found(found: Option<&Value>) -> Result<Option<Value>, OutOfMemory>
+    ensures { IfOk result (λ o. option_map value_of o
+        ≡ option_map (λ v. value_of v.now) found.entry) }
+{
+    match found {
+        Some(value) => Ok(Some(value.try_clone()?)),
+        None => Ok(None),
+    }
+}
+
 impl Session {
-    /// Returns a session without names, as a cell of label 0 begins.
-    pub fn new(alloc: Global) -> Result<Session, OutOfMemory>
-        ensures { IfOk result (λ s. live s ≡ running.start 0 model.no_session) }
+    /// Returns a session without names, as a cell of label 0 begins. It takes no memory.
+    pub fn new(alloc: Global) -> Session
+        ensures { live result ≡ running.start 0 model.no_session }
     {
-        let heap = Heap::new(alloc)?;
-        Ok(Session {
-            heap,
+        Session {
+            heap: Heap::new(alloc),
             trace: Trace::new(alloc, 0),
             next: 0,
             load: 0,
             alloc,
-        })
+        }
     }
 
     /// Returns the allocator of the session. To a clause all values of `Global` are one.
@@ -92,17 +103,15 @@ impl Session {
     }
 
     /// Begins a cell of this label: nothing is read or done. Blocks that no bound value lies in are
-    /// freed. No name and no byte is copied.
-    pub fn start(&mut self, label: u64) -> Result<(), OutOfMemory>
+    /// freed. No name and no byte is copied, and no memory is taken.
+    pub fn start(&mut self, label: u64)
         requires { HasNone label (running.session_of (live self.old)) }
-        ensures { OnOk result (live self.new
-            ≡ running.start label (running.session_of (live self.old))) }
+        ensures { live self.new ≡ running.start label (running.session_of (live self.old)) }
     {
-        self.heap.collect()?;
+        self.heap.collect();
         self.trace = Trace::new(self.alloc, label);
         self.next = 0;
         self.load = 0;
-        Ok(())
     }
 
     /// proof: each array that a name is bound to lies in its block.
@@ -158,20 +167,18 @@ impl Session {
             ≡ model.lookup name.now (live self.old).names) }
         ensures after { OnOk result (live self.new
             ≡ running.after (running.Lookup name.now) (live self.old)) }
+        ensures err { OnErr result (live self.new ≡ live self.old) }
     {
-        self.trace.note_name(self.alloc, name)?;
-        let Some(found) = self.heap.find(name) else {
-            return Ok(None);
-        };
-        let value = found.try_clone()?;
-        self.trace.note_length_of(&value)?;
-        Ok(Some(value))
+        let value = copy_found(self.heap.find(name))?;
+        self.trace.note_lookup(self.alloc, name, value.as_ref())?;
+        Ok(value)
     }
 
     /// Notes that an input is asked for.
     pub fn ask(&mut self, name: &str) -> Result<(), OutOfMemory>
-        ensures { OnOk result (live self.new
+        ensures after { OnOk result (live self.new
             ≡ running.after (running.Ask name.now) (live self.old)) }
+        ensures err { OnErr result (live self.new ≡ live self.old) }
     {
         self.trace.note_input(self.alloc, name)?;
         Ok(())
@@ -179,9 +186,10 @@ impl Session {
 
     /// Notes that all elements of an array are read, whose bytes `bytes` then gives.
     pub fn mark_used(&mut self, array: &Array) -> Result<(), OutOfMemory>
-        ensures { OnOk result (live self.new
+        ensures after { OnOk result (live self.new
             ≡ running.after (running.Use (base_of array.now.base) (byte_places (geo_of array.now)))
             (live self.old)) }
+        ensures err { OnErr result (live self.new ≡ live self.old) }
     {
         self.trace.note_view(self.alloc, array)?;
         Ok(())
@@ -195,9 +203,10 @@ impl Session {
         elem: &ElemType,
     ) -> Result<(), OutOfMemory>
         requires { place + item_size (type_of elem.now) ≤ 2 ^ 64 }
-        ensures { OnOk result (live self.new
+        ensures after { OnOk result (live self.new
             ≡ running.after (running.Use (base_of base) (element_places (type_of elem.now) place))
             (live self.old)) }
+        ensures err { OnErr result (live self.new ≡ live self.old) }
     {
         self.trace.note_element(self.alloc, base, place, elem)?;
         Ok(())
@@ -211,8 +220,9 @@ impl Session {
         places: &PlaceList,
     ) -> Result<(), OutOfMemory>
         requires ends { All (λ p. p + item_size (type_of elem.now) ≤ 2 ^ 64) places.now }
-        ensures { OnOk result (live self.new ≡ running.after (running.Use (base_of base)
+        ensures after { OnOk result (live self.new ≡ running.after (running.Use (base_of base)
             (flat_map (element_places (type_of elem.now)) places.now)) (live self.old)) }
+        ensures err { OnErr result (live self.new ≡ live self.old) }
     {
         self.trace.note_elements(self.alloc, base, elem, places)?;
         Ok(())
@@ -220,9 +230,10 @@ impl Session {
 
     /// Notes that all elements of an array are written.
     pub fn mark_written(&mut self, array: &Array) -> Result<(), OutOfMemory>
-        ensures { OnOk result (live self.new
+        ensures after { OnOk result (live self.new
             ≡ having_written (base_of array.now.base) (byte_places (geo_of array.now))
             (live self.old)) }
+        ensures err { OnErr result (live self.new ≡ live self.old) }
     {
         self.trace.write_view(self.alloc, array)?;
         Ok(())
@@ -236,9 +247,10 @@ impl Session {
         elem: &ElemType,
     ) -> Result<(), OutOfMemory>
         requires { place + item_size (type_of elem.now) ≤ 2 ^ 64 }
-        ensures { OnOk result (live self.new
+        ensures after { OnOk result (live self.new
             ≡ having_written (base_of base) (element_places (type_of elem.now) place)
             (live self.old)) }
+        ensures err { OnErr result (live self.new ≡ live self.old) }
     {
         self.trace.write_element(self.alloc, base, place, elem)?;
         Ok(())
@@ -252,8 +264,9 @@ impl Session {
         places: &PlaceList,
     ) -> Result<(), OutOfMemory>
         requires ends { All (λ p. p + item_size (type_of elem.now) ≤ 2 ^ 64) places.now }
-        ensures { OnOk result (live self.new ≡ having_written (base_of base)
+        ensures after { OnOk result (live self.new ≡ having_written (base_of base)
             (flat_map (element_places (type_of elem.now)) places.now) (live self.old)) }
+        ensures err { OnErr result (live self.new ≡ live self.old) }
     {
         self.trace.write_elements(self.alloc, base, elem, places)?;
         Ok(())
@@ -266,8 +279,9 @@ impl Session {
     /// noted. `x[1] = 5`, over `int64`s, notes the element at byte offset 8, and writes its bytes.
     #[tactic(auto, unfolding(crate::specs::Session::Live::live))]
     pub fn write<W: BlockWriter + Drop>(&mut self, base: Base, writer: W) -> Result<(), OutOfMemory>
-        ensures { OnOk result (live self.new ≡ having_block (base_of base)
+        ensures after { OnOk result (live self.new ≡ having_block (base_of base)
             (W.written writer ((live self.old).bytes (base_of base))) (live self.old)) }
+        ensures err { OnErr result (live self.new ≡ live self.old) }
     {
         self.heap.write(base, writer)?;
         Ok(())
@@ -282,6 +296,7 @@ impl Session {
             ≡ record { label = (live self.old).label; number = (live self.old).next }) }
         ensures after { OnOk result (live self.new
             ≡ running.after (running.Make block) (live self.old)) }
+        ensures err { OnErr result (live self.new ≡ live self.old) }
     {
         let base = self.next_base();
         let made = block.len();
@@ -297,14 +312,18 @@ impl Session {
     #[tactic(auto, unfolding(crate::specs::Session::Live::live))]
     pub fn bind(&mut self, name: String, value: Value) -> Result<(), OutOfMemory>
         requires { IsViewOf (IsHeldView (live self.old)) (value_of value) }
-        ensures { OnOk result (live self.new
+        ensures after { OnOk result (live self.new
             ≡ running.done (running.Binding (string_bytes name) (value_of value)) (live self.old)) }
+        ensures err { OnErr result (live self.new ≡ live self.old) }
     {
         let lost = self.weight(name.as_str());
         let bound = RcStr::from_string(name)?;
         let kept = Rc::new(self.alloc, value)?;
-        self.heap.bind(bound.clone()?, kept.clone()?)?;
-        self.trace.note_event(Event::Binds(bound, kept))?;
+        let entry = bound.clone()?;
+        let event = Event::Binds(bound.clone()?, kept.clone()?);
+        self.trace.reserve_event()?;
+        self.heap.bind(entry, kept)?;
+        self.trace.note_event(bound, event);
         self.load = self.load.saturating_add(lost);
         Ok(())
     }
@@ -312,13 +331,16 @@ impl Session {
     /// Unbinds a name.
     #[tactic(auto, unfolding(crate::specs::Session::Live::live))]
     pub fn unbind(&mut self, name: &str) -> Result<(), OutOfMemory>
-        ensures { OnOk result (live self.new
+        ensures after { OnOk result (live self.new
             ≡ running.done (running.Unbinding name.now) (live self.old)) }
+        ensures err { OnErr result (live self.new ≡ live self.old) }
     {
         let lost = self.weight(name);
         let unbound = RcStr::from_str(self.alloc, name)?;
+        let event = Event::Unbinds(unbound.clone()?);
+        self.trace.reserve_event()?;
         self.heap.unbind(name)?;
-        self.trace.note_event(Event::Unbinds(unbound))?;
+        self.trace.note_event(unbound, event);
         self.load = self.load.saturating_add(lost);
         Ok(())
     }
@@ -436,7 +458,7 @@ impl Session {
     {
         let Base { label, number } = self.next_base();
         let mut heap = self.heap.try_clone()?;
-        heap.collect()?;
+        heap.collect();
         Ok(Version {
             heap,
             label,
@@ -453,7 +475,7 @@ impl Session {
     }
 
     /// Puts names and blocks of a change over those of the session, and returns whether it could. It
-    /// notes nothing.
+    /// notes nothing. Where it could not, and after want of memory, the session may only be dropped.
     #[tactic(auto, unfolding(crate::specs::Session::Live::live))]
     pub(crate) fn put_over(&mut self, change: &Change) -> Result<bool, OutOfMemory>
         ensures put { IfOk result (λ could. IsTrue could → IsPut (whole_in change.now)
@@ -461,7 +483,7 @@ impl Session {
             (model.collected (running.session_of (live self.new)))) }
         ensures once { IfOk result (λ could. IsTrue could → IsOnce (live self.new).names) }
     {
-        let nothing = Heap::new(self.alloc)?;
+        let nothing = Heap::new(self.alloc);
         let mut heap = replace(&mut self.heap, nothing);
         let label = self.trace.label();
         let next = next_now(&change.names, label, self.next);
@@ -480,7 +502,8 @@ impl Session {
     /// Makes the changes of a cell: its names, its blocks, which are shared, and the bytes that it
     /// wrote. The session then is that of the cell, which has read nothing.
     ///
-    /// The changes of `x[0] = 5` set this element alone, whatever `x` has elsewhere.
+    /// The changes of `x[0] = 5` set this element alone, whatever `x` has elsewhere. After want of
+    /// memory the session may only be dropped.
     #[tactic(auto, unfolding(crate::specs::Session::Live::live))]
     pub fn redo(&mut self, changes: &Changes) -> Result<(), OutOfMemory>
         requires none { HasNone changes.now.label (running.session_of (live self.old)) }
@@ -492,7 +515,7 @@ impl Session {
         ensures cell { OnOk result (record (live self.new) { names = []; bytes = λ b. [] }
             ≡ record (running.start changes.now.label model.no_session) { next = changes.now.next }) }
     {
-        let nothing = Heap::new(self.alloc)?;
+        let nothing = Heap::new(self.alloc);
         let mut heap = replace(&mut self.heap, nothing);
         redo(&mut heap, changes)?;
         self.trace = Trace::new(self.alloc, changes.label);

@@ -7,7 +7,7 @@ use Rattle.nd_model.specs.Arrays.Content.{number_at}
 use Rattle.nd_model.specs.Arrays.Element.{Element, Kind, size_of, bytes_at, bytes_of, value_of, wrap}
 use Rattle.nd_model.specs.Arrays.Tuple.{count_up}
 use Rattle.nd_model.proofs.Values.{round_trip, wrap_value, length-bytes_of}
-use Rattle.nd_assign.specs.SideBySide.{side_by_side}
+use Rattle.nd_view.specs.SideBySide.{side_by_side}
 use Rattle.nd_convert.specs.Conversion.Converted.{converted_bytes}
 use Rattle.nd_ufunc.specs.Elementwise.Replaced.{AreValues, Wraps, written_numbers, replaced}
 use Rattle.nd_ufunc.specs.Loops.Results.{result_bytes}

@@ -8,7 +8,7 @@ use Rattle.nd_model.specs.Arrays.Content.{number_at}
 use Rattle.nd_model.specs.Arrays.Element.{Element, size_of, value_of, bytes_at}
 use Rattle.nd_model.specs.Arrays.Runs.{place_at}
 use Rattle.nd_model.specs.Arrays.Tuple.{count_up}
-use Rattle.nd_assign.specs.SideBySide.{side_by_side}
+use Rattle.nd_view.specs.SideBySide.{side_by_side}
 use Rattle.nd_ufunc.specs.Elementwise.KeptOff.{KeepsOff}
 use Rattle.nd_ufunc.specs.Elementwise.Beside.{StaysBeside, left_beside}
 use Rattle.nd_ufunc.specs.declared.elementwise.beside.LeftBeside.{LeftBeside}

@@ -17,7 +17,7 @@ use Rattle.nd_model.specs.Arrays.Tuple.{count_up, elements_of, indices, number}
 use Rattle.nd_model.specs.Arrays.View.{One, Geo}
 use Rattle.nd_model.proofs.Puts.{put-append}
 use Rattle.nd_model.proofs.Values.{length-bytes_of}
-use Rattle.nd_assign.specs.SideBySide.{side_by_side}
+use Rattle.nd_view.specs.SideBySide.{side_by_side}
 use Rattle.nd_assign.proofs.Copied.{number_put}
 use Rattle.nd_block.proofs.Copied.{length-with_bytes}
 use Rattle.nd_block.proofs.Together.{with_bytes-twice}

@@ -41,9 +41,9 @@ bytes_within bytes start n size j lt =
     ∙ take-take size m (drop (start + j * size) bytes) (omega (arith, le))
 
 -- side by side
-pub side_by_side : (e : Element) (bytes ps : List ℕ) (start : ℕ) (step : ℤ) → ((k : ℕ) → k < length ps → place_at start step k ≡ pos (get_or ps k 0)) → step ≡ pos (size_of e.kind)
+pub contiguous_numbers : (e : Element) (bytes ps : List ℕ) (start : ℕ) (step : ℤ) → ((k : ℕ) → k < length ps → place_at start step k ≡ pos (get_or ps k 0)) → step ≡ pos (size_of e.kind)
     → map (λ j. number_at e (take (length ps * size_of e.kind) (drop start bytes)) (j * size_of e.kind)) (count_up 0 (length ps)) ≡ map (number_at e bytes) ps
-side_by_side e bytes ps start step places is =
+contiguous_numbers e bytes ps start step places is =
     sym (by_numbers ps start step places (number_at e bytes)
     ∙ same_counted (λ j. number_at e bytes (spot_at start step j)) (λ j. number_at e (take (length ps * size_of e.kind) (drop start bytes)) (j * size_of e.kind)) 0 (length ps)
     (λ j le lt. ap (number_at e bytes) (ap (λ s. spot_at start s j) is ∙ goes start (size_of e.kind) j) ∙ ap (value_of e) (sym (bytes_within bytes start (length ps) (size_of e.kind) j (omega arith)))))

@@ -4,7 +4,7 @@ use Rattle.nd_model.specs.Arrays.Element.{size_of}
 use Rattle.nd_model.specs.Cells.Sound.{LiesIn}
 use Rattle.nd_model.specs.Grammar.Syntax.{Divide}
 use Rattle.nd_model.specs.Arrays.View.{One}
-use Rattle.nd_assign.specs.SideBySide.{side_by_side}
+use Rattle.nd_view.specs.SideBySide.{side_by_side}
 use Rattle.nd_syntax.specs.Trees.Syntax.{binary_op}
 use Rattle.nd_types.specs.Kinds.{kind_of}
 use Rattle.nd_ufunc.specs.Elementwise.Arguments.{numbers_beside}

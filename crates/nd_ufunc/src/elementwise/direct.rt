@@ -7,7 +7,7 @@ ghost use Rattle.nd_model.specs.Making.Operators as operators;
 ghost use Rattle.nd_model.specs.Cells.Sound.{LiesIn};
 ghost use Rattle.nd_syntax.specs.Trees.Syntax.{binary_op};
 ghost use Rattle.nd_types.specs.Kinds.{kind_of};
-ghost use Rattle.nd_assign.specs.SideBySide.{side_by_side};
+ghost use Rattle.nd_view.specs.SideBySide.{side_by_side};
 ghost use Rattle.nd_ufunc.specs.Elementwise.Prepared.{IsRightSide, right_operand, with_results, written_directly};
 ghost use Rattle.nd_ufunc.specs.Loops.Results.{binary_result};
 
@@ -17,7 +17,6 @@ use crate::elementwise::replacing::replace_numbers;
 use crate::elementwise::results::operand_kind;
 use crate::loops::operation::Operation;
 use crate::loops::{CHUNK, ROOM, operation as functions};
-use nd_assign::gapless_run;
 use nd_block::RawBlock;
 use nd_syntax::trees::BinaryOp;
 use nd_types::{Elem, ElemType, Kind};
@@ -126,7 +125,7 @@ fn buffer_places(alloc: Global, kind: Kind) -> Result<Option<Run>, AllocError>
 {
     let elem = Elem::little(kind);
     let view = View::contiguous(alloc, ElemType::One(elem), &[CHUNK as u64])?;
-    Ok(gapless_run(&view, elem))
+    Ok(view.contiguous_run(elem.size()))
 }
 
 /// Prepares an operator in place, or gives `None` where a temporary array is needed. The target
@@ -154,7 +153,7 @@ pub(crate) fn prepare_directly<'v>(
     let ElemType::One(elem) = target.elem() else {
         return Ok(None);
     };
-    let Some(run) = gapless_run(target, *elem) else {
+    let Some(run) = target.contiguous_run(elem.size()) else {
         return Ok(None);
     };
     let Some(places) = buffer_places(alloc, kind)? else {

@@ -4,7 +4,7 @@ ghost use Rattle.std.specs.List.{flat_map};
 ghost use Rattle.nd_model.specs.Arrays.Element.{bytes_of, size_of, with_bytes};
 ghost use Rattle.nd_model.specs.Making.Elementwise.{little};
 ghost use Rattle.nd_types.specs.Kinds.{kind_of};
-ghost use Rattle.nd_assign.specs.SideBySide.{side_by_side};
+ghost use Rattle.nd_view.specs.SideBySide.{side_by_side};
 ghost use Rattle.nd_element.specs.Elements.{AreHeld, numbers_at};
 ghost use Rattle.nd_ufunc.specs.Elementwise.Beside.{HeldBeside, StaysBeside, left_beside, size_beside};
 ghost use Rattle.nd_ufunc.specs.Elementwise.Replaced.{AreValues, Wraps, replaced, written_numbers};

@@ -8,7 +8,6 @@ ghost use Rattle.nd_ufunc.specs.Loops.Sides.{HasNumbers, numbers_on};
 use crate::loops::kernel::Side;
 use crate::loops::parts::side_behind;
 use crate::loops::reading::lend;
-use nd_assign::gapless_run;
 use nd_types::{Elem, Kind};
 use nd_view::View;
 use std::marker::Model;
@@ -39,7 +38,7 @@ impl<'v> Lent<'v> {
         requires { AreHeld elem bytes.now view.now.places }
         ensures { IfSome result (λ l. l ≡ numbers_at elem bytes.now view.now.places) }
     {
-        let run = gapless_run(view, elem)?;
+        let run = view.contiguous_run(elem.size())?;
         let lent = lend(kind, bytes, elem, &run)?;
         Some(Lent {
             side: Side::Each(lent, kind),

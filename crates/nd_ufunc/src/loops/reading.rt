@@ -58,7 +58,7 @@ pub(crate) fn lend<'b>(kind: Kind, bytes: &'b [u8], elem: Elem, run: &Run) -> Op
     ensures { IfSome result (λ lent. HasNumbers (Each lent kind) (length run.now)
         × (numbers_on (Each lent kind) (length run.now) ≡ numbers_at elem bytes.now run.now)) }
 {
-    if run.step() == i128::from(elem.size()) && is_elem(elem, Elem::little(kind)) {
+    if run.is_contiguous(elem.size()) && is_elem(elem, Elem::little(kind)) {
         Some(bytes_of_run(bytes, elem, run))
     } else {
         None

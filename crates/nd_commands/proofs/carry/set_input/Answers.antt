@@ -1,5 +1,5 @@
 use Rattle.nd_model.specs.Book.Book.{SetInput}
-use Rattle.nd_notebook.specs.Values.{source_of}
+use Rattle.nd_notebook.specs.Sources.{source_of}
 use Rattle.nd_commands.proofs.Edited.{carried_edit, counts_edit}
 use Rattle.nd_commands.proofs.carry.set_input.Goals as goal
 

@@ -7,5 +7,5 @@ use Rattle.nd_heap.proofs.block_table.pick_block.Goals as goal
 
 pub returns-in_ok-insert : goal.returns-in_ok-insert
 returns-in_ok-insert c =
-    set_block c.args.base c.in-Some.block (bytes_at c.args.blocks.now (base_of c.args.base)) c.args.picked.now.entries c.args.picked.now.entries c.insert.new.self.entries
+    set_block c.args.base c.in-Some.block (bytes_at c.args.blocks.now.blocks (base_of c.args.base)) c.args.picked.now.entries c.args.picked.now.entries c.insert.new.self.entries
     (sym (ap bytes_in c.in-Some.is) ∙ c.in_ok-block.ensures) refl c.in_ok-insert.ensures.entries

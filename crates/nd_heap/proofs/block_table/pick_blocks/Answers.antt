@@ -11,9 +11,9 @@ pick_block-requires c = nothing_picked (is_base_among (bases_of (take c.loop-i.i
 
 pub loop-i-preserved : goal.loop-i-preserved
 loop-i-preserved c = rw add-one (λ b. picked_more c.args.bases.now.entries c.loop-i.i _ (sym c.in-Some.ensures.entry) b
-    (bytes_at (blocks_of c.pick_block.new.picked.entries) b) (bytes_at (blocks_of c.loop-i.picked.entries) b) (bytes_at c.args.blocks.now)
+    (bytes_at (blocks_of c.pick_block.new.picked.entries) b) (bytes_at (blocks_of c.loop-i.picked.entries) b) (bytes_at c.args.blocks.now.blocks)
     (ap (λ f. f b) c.in_ok-pick_block.ensures) (c.loop-i.invariant b))
 
 pub returns : goal.returns
-returns c = λ b. c.loop-i.invariant b ∙ ap (λ es. cond (is_base_among (bases_of es) b) (bytes_at c.args.blocks.now b) [])
+returns c = λ b. c.loop-i.invariant b ∙ ap (λ es. cond (is_base_among (bases_of es) b) (bytes_at c.args.blocks.now.blocks b) [])
     (take_all c.loop-i.i c.args.bases.now.entries (omega (arith, c.loop-i-test.false, c.len-i-end.ensures.len)))

@@ -6,8 +6,8 @@ use Rattle.nd_heap.specs.Live.{is_base_among}
 use Rattle.nd_heap.proofs.Held.{taken_base}
 use Rattle.nd_heap.proofs.blocks.drop_base.Goals as goal
 
-pub returns-in-Array : goal.returns-in-Array
-returns-in-Array c = λ b.
+pub returns-in-Array-clause-left : goal.returns-in-Array-clause-left
+returns-in-Array-clause-left c = λ b.
     let es = c.args.bases.now.entries in
     taken_base c.in-Array.array.base es c.swap_remove.new.self.entries c.swap_remove.ensures.updates.0 b
     ∙ (elim c.in-Array.is [

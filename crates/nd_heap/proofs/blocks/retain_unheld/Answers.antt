@@ -5,6 +5,6 @@ use Rattle.nd_heap.specs.Live.{is_base_among}
 use Rattle.nd_heap.proofs.Loosening.{left_unheld}
 use Rattle.nd_heap.proofs.blocks.retain_unheld.Goals as goal
 
-pub returns : goal.returns
-returns c = λ b. ap (λ es. is_base_among (bases_of es) b) (filter-RetainsPairs _ _ _ (λ k v b w g call. search rules) _ _ c.retain.ensures.filtered)
+pub returns-clause-left : goal.returns-clause-left
+returns-clause-left c = λ b. ap (λ es. is_base_among (bases_of es) b) (filter-RetainsPairs _ _ _ (λ k v b w g call. search rules) _ _ c.retain.ensures.filtered)
     ∙ left_unheld c.args.names.now c.args.bases.now.entries b

@@ -1,5 +1,4 @@
 use Rattle.std.proofs.Common.{◌-◌, ◌+◌, ◌≡◌, sym, ap, subst, ◌∙◌, drop, arith, false, Bor}
-use Rattle.std.specs.Rc.{rc_str_bytes}
 use Rattle.nd_model.specs.Cells.Session as model
 use Rattle.nd_model.specs.Arrays.Value as values
 use Rattle.nd_heap.specs.Layers.{overridden}

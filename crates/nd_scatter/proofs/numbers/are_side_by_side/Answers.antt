@@ -1,6 +1,6 @@
 use Rattle.std.proofs.Common.{◌≡◌, ℕ, List, pos, ◌<◌, length, get_or, refl, sym, ap, arith}
 use Rattle.nd_model.specs.Arrays.Runs.{place_at}
-use Rattle.nd_assign.proofs.Bytewise.{by_step}
+use Rattle.nd_view.proofs.SideBySide.{by_step}
 use Rattle.nd_scatter.proofs.numbers.are_side_by_side.Goals as goal
 
 pub returns-clause-places : goal.returns-clause-places

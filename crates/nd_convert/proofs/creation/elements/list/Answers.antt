@@ -1,4 +1,4 @@
-use Rattle.std.proofs.Common.{◌≡◌, sym, ◌∙◌}
+use Rattle.std.proofs.Common.{sym, ◌∙◌}
 use Rattle.nd_convert.proofs.creation.NewBytes.{in_place, list_bytes}
 use Rattle.nd_convert.proofs.creation.elements.list.Goals as goal
 

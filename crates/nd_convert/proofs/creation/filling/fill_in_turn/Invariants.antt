@@ -1,4 +1,4 @@
-use Rattle.std.proofs.Common.{◌≡◌, ◌*◌, ◌++◌, length, drop, pos, slice_index_or}
+use Rattle.std.proofs.Common.{◌≡◌, ◌*◌, ◌++◌, drop, pos, slice_index_or}
 use Rattle.nd_convert.specs.Creation.Numbers.{bytes_below}
 use Rattle.nd_convert.proofs.creation.filling.fill_in_turn.Given as goal
 

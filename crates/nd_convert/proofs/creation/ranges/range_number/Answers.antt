@@ -1,4 +1,4 @@
-use Rattle.std.proofs.Common.{◌≡◌, FitsSigned, pos, ◌+ℤ◌, ◌*ℤ◌, ap, ap₂, ◌∙◌, rules}
+use Rattle.std.proofs.Common.{FitsSigned, pos, ◌+ℤ◌, ◌*ℤ◌, ap, ap₂, ◌∙◌, rules}
 use Rattle.std.specs.Int.{int_wrap, w128}
 use mir.Facts.{to_z-of_z}
 use Rattle.std.proofs.lemmas.Int.{int_wrap-add_right}

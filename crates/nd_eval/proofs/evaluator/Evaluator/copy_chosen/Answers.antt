@@ -20,7 +20,7 @@ returns-clause-value c = λ g.
     let s = live c.mark_used_elements.new.self in
     let b = base_of c.args.base in
     let h = selected c.args.selection.now in
-    let marks = c.in_ok-mark_used_elements.ensures ∙ ap (λ t. after (Use b (flat_map (element_places t) h.places)) r) c.elem.ensures in
+    let marks = c.in_ok-mark_used_elements.ensures.after ∙ ap (λ t. after (Use b (flat_map (element_places t) h.places)) r) c.elem.ensures in
     let same = c.bytes.ensures ∙ ap (λ (q : Running). q.bytes b) marks in (
       ends_alike value_of _ _
           ((λ j. run i (give (copy_of h (sym same j))) (sym marks j))
@@ -43,8 +43,8 @@ copy_selection-requires c =
     let r = live c.args.self.now.session.now in
     let b = base_of c.args.base in
     let h = selected c.args.selection.now in
-    let same = c.bytes.ensures ∙ ap (λ (q : Running). q.bytes b) c.in_ok-mark_used_elements.ensures in
+    let same = c.bytes.ensures ∙ ap (λ (q : Running). q.bytes b) c.in_ok-mark_used_elements.ensures.after in
     subst (λ bytes. LiesIn (length bytes) h) (sym same) c.requires.lies
 
 pub give-requires : goal.give-requires
-give-requires c = rw (ap (λ (q : Running). q.next) c.in_ok-mark_used_elements.ensures) c.requires.room
+give-requires c = rw (ap (λ (q : Running). q.next) c.in_ok-mark_used_elements.ensures.after) c.requires.room

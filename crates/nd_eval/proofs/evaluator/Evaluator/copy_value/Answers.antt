@@ -21,8 +21,8 @@ returns-in_err-new c =
     let b = base_of c.args.array.now.base in
     let shape = c.args.shape.now in
     let block = c.bytes.result.now in
-    let same = c.bytes.ensures ∙ ap (λ (q : Running). q.bytes b) c.in_ok-mark_used.ensures in (
-      ends_alike value_of _ _ (λ j. run i (fresh_array g.element shape (content_in_order shape (contents_over g (sym same j)))) (sym c.in_ok-mark_used.ensures j))
+    let same = c.bytes.ensures ∙ ap (λ (q : Running). q.bytes b) c.in_ok-mark_used.ensures.after in (
+      ends_alike value_of _ _ (λ j. run i (fresh_array g.element shape (content_in_order shape (contents_over g (sym same j)))) (sym c.in_ok-mark_used.ensures.after j))
           (exits_new i (Ok (AnArray g.element shape (content_in_order shape (contents_over g block)))) _ _ _ c.from_residual-in_err-new.ensures.1 c.in_err-new.ensures),
       (refl, refl),
     )
@@ -36,8 +36,8 @@ returns c =
     let b = base_of c.args.array.now.base in
     let shape = c.args.shape.now in
     let block = c.bytes.result.now in
-    let same = c.bytes.ensures ∙ ap (λ (q : Running). q.bytes b) c.in_ok-mark_used.ensures in (
-      ends_alike value_of _ _ (λ j. run i (fresh_array g.element shape (content_in_order shape (contents_over g (sym same j)))) (sym c.in_ok-mark_used.ensures j))
+    let same = c.bytes.ensures ∙ ap (λ (q : Running). q.bytes b) c.in_ok-mark_used.ensures.after in (
+      ends_alike value_of _ _ (λ j. run i (fresh_array g.element shape (content_in_order shape (contents_over g (sym same j)))) (sym c.in_ok-mark_used.ensures.after j))
           (follows_new i (Ok (AnArray g.element shape (content_in_order shape (contents_over g block)))) _ _ c.in_ok-new.new _ c.in_ok-new.ensures c.give.ensures.0),
       c.give.ensures.1,
     )

@@ -28,10 +28,10 @@ returns-in_ok-mark_element-in-One c =
     let fits : FitsSigned w128 z = search rules in
     let typed : g.element ≡ One e = sym c.elem.ensures ∙ ap type_of c.in-One.is in
     let place : get_or g.places 0 0 ≡ p = sym c.place_of-place.ensures.value in
-    let block : c.bytes.result.now ≡ r.bytes b = c.bytes.ensures ∙ ap (λ (q : Running). q.bytes b) c.in_ok-mark_element-in-One.ensures in
+    let block : c.bytes.result.now ≡ r.bytes b = c.bytes.ensures ∙ ap (λ (q : Running). q.bytes b) c.in_ok-mark_element-in-One.ensures.after in
     let number : to_z w128 (of_z w128 z) ≡ number_at e (r.bytes b) p = to_z-of_z w128 z fits ∙ c.number_in-number.ensures ∙ ap (λ l. number_at e l p) block in (
       (λ j. run i (operation.element_of b g.writable (typed j) (place j)) r)
           ∙ ap (λ z. (Ok (Scalar e.kind z), after (Use b (element_places (One e) p)) r)) (used_alone e (r.bytes b) p ∙ sym number)
-          ∙ ap₂ (λ (k : Kind) (s : Running). (Ok (Scalar k (to_z w128 (of_z w128 z))), s)) (sym c.kind.ensures) (sym c.in_ok-mark_element-in-One.ensures),
+          ∙ ap₂ (λ (k : Kind) (s : Running). (Ok (Scalar k (to_z w128 (of_z w128 z))), s)) (sym c.kind.ensures) (sym c.in_ok-mark_element-in-One.ensures.after),
       (refl, refl),
     )

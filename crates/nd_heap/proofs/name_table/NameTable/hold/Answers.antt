@@ -5,9 +5,9 @@ use Rattle.nd_heap.proofs.Layering.{only_layer}
 use Rattle.nd_heap.proofs.name_table.NameTable.hold.Goals as goal
 
 pub invariant_of-self : goal.invariant_of-self
-invariant_of-self c = subst AreDistinctNames (sym (only_layer (names_of c.clear.new.self.entries) (names_of c.in_ok-self-inside.field-0.value.entries) (names_of c.clear-2.new.self.entries) (names_of c.args.names.entries)
-    (ap names_of c.clear.ensures.empty) (ap (λ m. names_of m.entries) c.in_ok-self-inside.ensures.ok) (ap names_of c.clear-2.ensures.empty))) c.requires
+invariant_of-self c = subst AreDistinctNames (sym (only_layer (names_of c.clear.new.self.entries) (names_of c.in_ok-new.field-0.value.entries) (names_of c.clear-2.new.self.entries) (names_of c.args.names.entries)
+    (ap names_of c.clear.ensures.empty) (ap (λ m. names_of m.entries) c.in_ok-new.ensures.ok) (ap names_of c.clear-2.ensures.empty))) c.requires
 
 pub returns-clause-ok : goal.returns-clause-ok
-returns-clause-ok c = only_layer (names_of c.clear.new.self.entries) (names_of c.in_ok-self-inside.field-0.value.entries) (names_of c.clear-2.new.self.entries) (names_of c.args.names.entries)
-    (ap names_of c.clear.ensures.empty) (ap (λ m. names_of m.entries) c.in_ok-self-inside.ensures.ok) (ap names_of c.clear-2.ensures.empty)
+returns-clause-ok c = only_layer (names_of c.clear.new.self.entries) (names_of c.in_ok-new.field-0.value.entries) (names_of c.clear-2.new.self.entries) (names_of c.args.names.entries)
+    (ap names_of c.clear.ensures.empty) (ap (λ m. names_of m.entries) c.in_ok-new.ensures.ok) (ap names_of c.clear-2.ensures.empty)

@@ -3,6 +3,7 @@ use Rattle.nd_model.specs.Cells.Session as model
 use Rattle.nd_model.specs.Cells.Session.{Names}
 use Rattle.nd_heap.specs.Layers.{overridden, AreDistinctNames}
 use Rattle.nd_heap.specs.Values.{names_of}
+use Rattle.nd_heap.specs.Sharing.{held_in}
 use Rattle.nd_heap.proofs.Bases.{at_err}
 use Rattle.nd_heap.proofs.Layering.{distinct_unbind, only_layer}
 use Rattle.nd_heap.proofs.Plain.{no_entries}
@@ -19,8 +20,8 @@ invariant_of-self-2 c =
     let i = c.self.inside in
     let newer : i.newer.entries ≡ [] = no_entries i.newer.entries (omega (arith, c.if-len-gt0.false, c.len.ensures.len, c.len-2.ensures.len)) in
     let added : i.added.entries ≡ [] = no_entries i.added.entries (omega (arith, c.if-len-gt0.false, c.len.ensures.len, c.len-2.ensures.len)) in
-    let was = only_layer (names_of i.newer.entries) (names_of i.shared.value.entries) (names_of i.added.entries) _ (ap names_of newer) refl (ap names_of added) in
-    subst AreDistinctNames (sym (only_layer (names_of i.newer.entries) (names_of c.unbind.new.names.value.entries) (names_of i.added.entries) _ (ap names_of newer) c.in_ok-unbind.ensures.ok (ap names_of added)))
+    let was = only_layer (names_of i.newer.entries) (names_of (held_in i.shared).entries) (names_of i.added.entries) _ (ap names_of newer) refl (ap names_of added) in
+    subst AreDistinctNames (sym (only_layer (names_of i.newer.entries) (names_of (held_in c.unbind.new.names).entries) (names_of i.added.entries) _ (ap names_of newer) c.in_ok-unbind.ensures.ok (ap names_of added)))
     (distinct_unbind c.args.name.now _ (subst AreDistinctNames was c.self.invariant))
 
 pub returns-clause-ok : goal.returns-clause-ok
@@ -28,8 +29,8 @@ returns-clause-ok c =
     let i = c.self.inside in
     let newer : i.newer.entries ≡ [] = no_entries i.newer.entries (omega (arith, c.if-len-gt0.false, c.len.ensures.len, c.len-2.ensures.len)) in
     let added : i.added.entries ≡ [] = no_entries i.added.entries (omega (arith, c.if-len-gt0.false, c.len.ensures.len, c.len-2.ensures.len)) in
-    let was = only_layer (names_of i.newer.entries) (names_of i.shared.value.entries) (names_of i.added.entries) _ (ap names_of newer) refl (ap names_of added) in
-    only_layer (names_of i.newer.entries) (names_of c.unbind.new.names.value.entries) (names_of i.added.entries) _ (ap names_of newer) c.in_ok-unbind.ensures.ok (ap names_of added)
+    let was = only_layer (names_of i.newer.entries) (names_of (held_in i.shared).entries) (names_of i.added.entries) _ (ap names_of newer) refl (ap names_of added) in
+    only_layer (names_of i.newer.entries) (names_of (held_in c.unbind.new.names).entries) (names_of i.added.entries) _ (ap names_of newer) c.in_ok-unbind.ensures.ok (ap names_of added)
     ∙ ap (model.unbind c.args.name.now) (sym was ∙ c.self.view_is)
 
 pub invariant_of-self : goal.invariant_of-self

@@ -3,5 +3,5 @@ use Rattle.nd_model.specs.Cells.Session.{collected}
 use Rattle.nd_model.specs.Cells.Running.{Running, session_of}
 use Rattle.nd_notebook.proofs.kernel.SessionRunnerCellRunner.empty.Goals as goal
 
-pub returns-in-Ok : goal.returns-in-Ok
-returns-in-Ok c = ap (λ (r : Running). collected (session_of r)) c.in-Ok.ensures
+pub returns : goal.returns
+returns c = ap (λ (r : Running). collected (session_of r)) c.new.ensures

@@ -2,8 +2,9 @@ use Rattle.std.proofs.Common.{◌∙◌, ap, refl, Global}
 use Rattle.std.proofs.lemmas.Result.{err_from_is_err_and}
 use Rattle.std.specs.declared.rc.Rc.{Rc}
 use Rattle.nd_heap.proofs.NameLists.{cloned_entries}
-use Rattle.nd_session.specs.declared.inputs.input.Input.{Input}
-use Rattle.nd_session.specs.Inputs.Values.{rule_of, source_of}
+use Rattle.nd_input.specs.declared.Input.{Input}
+use Rattle.nd_input.specs.Sources.{source_of}
+use Rattle.nd_session.specs.Inputs.Values.{rule_of}
 use Rattle.nd_notebook.proofs.Worlds.{rule_counts, rule_edited}
 use Rattle.nd_notebook.proofs.notebook.Notebook.set_rule.Goals as goal
 

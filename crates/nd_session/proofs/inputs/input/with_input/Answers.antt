@@ -1,6 +1,7 @@
 use Rattle.std.proofs.Common.{◌∙◌, ap, ap₂}
 use Rattle.nd_model.specs.Cells.Session.{bind}
-use Rattle.nd_session.specs.Inputs.Values.{source_of, given_of}
+use Rattle.nd_input.specs.Sources.{source_of}
+use Rattle.nd_session.specs.Inputs.Values.{given_of}
 use Rattle.nd_session.proofs.inputs.Inputs.{given-insert, cloned_inputs}
 use Rattle.nd_session.proofs.inputs.input.with_input.Goals as goal
 

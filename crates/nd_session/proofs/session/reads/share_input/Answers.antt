@@ -1,5 +1,5 @@
 use Rattle.std.proofs.Common.{◌∙◌, ap, Some}
-use Rattle.nd_session.specs.Inputs.Values.{source_of}
+use Rattle.nd_input.specs.Sources.{source_of}
 use Rattle.nd_session.proofs.session.reads.share_input.Goals as goal
 
 pub returns-in_ok-clone-in-Some : goal.returns-in_ok-clone-in-Some

@@ -5,7 +5,7 @@ use Rattle.nd_model.specs.Making.Elementwise.{little}
 use Rattle.nd_model.specs.Arrays.Tuple.{count_up, elements_of}
 use Rattle.nd_model.specs.Arrays.View.{One, Geo, contiguous}
 use Rattle.nd_types.specs.Kinds.{kind_of}
-use Rattle.nd_assign.specs.SideBySide.{side_by_side}
+use Rattle.nd_view.specs.SideBySide.{side_by_side}
 use Rattle.nd_view.proofs.Tuples.{map_same}
 use Rattle.nd_ufunc.proofs.elementwise.direct.buffer_places.Goals as goal
 
@@ -24,5 +24,5 @@ pub returns : goal.returns
 returns c =
     let e : Element = little (kind_of c.args.kind) in
     let view_is : c.in_ok-view.view ≡ contiguous (One e) (8192 ∷ []) = c.in_ok-view.ensures ∙ (λ i. contiguous (One (c.little-elem.ensures i)) (8192 ∷ [])) in
-    of_some c.gapless_run.result _ (λ run. run ≡ side_by_side (size_of e.kind) 0 8192)
-    (λ run is. is.0 ∙ ap (λ (v : Geo). v.places) view_is ∙ laid e 8192) c.gapless_run.ensures
+    of_some c.contiguous_run.result _ (λ run. run ≡ side_by_side (size_of e.kind) 0 8192)
+    (λ run is. is.0 ∙ ap (λ (v : Geo). v.places) view_is ∙ laid e 8192) c.contiguous_run.ensures

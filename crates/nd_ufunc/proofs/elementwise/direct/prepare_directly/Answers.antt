@@ -1,7 +1,7 @@
 use Rattle.std.proofs.Common.{rules, ◌≡◌, ℕ, List, Option, ap, ◌∙◌, subst}
 use Rattle.std.specs.Prelude.{IfSome}
 use Rattle.nd_model.specs.Arrays.Element.{size_of}
-use Rattle.nd_assign.specs.SideBySide.{side_by_side}
+use Rattle.nd_view.specs.SideBySide.{side_by_side}
 use Rattle.nd_model.specs.Arrays.Broadcast.{broadcasts_to}
 use Rattle.nd_model.specs.Making.Operand.{Operand, shape_of}
 use Rattle.nd_syntax.specs.Trees.Syntax.{binary_op}

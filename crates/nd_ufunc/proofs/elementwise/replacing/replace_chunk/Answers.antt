@@ -8,7 +8,7 @@ use Rattle.nd_model.specs.Making.Elementwise.{little}
 use Rattle.nd_model.specs.Arrays.Tuple.{count_up}
 use Rattle.nd_model.proofs.Puts.{take-count_up}
 use Rattle.nd_types.specs.Kinds.{kind_of}
-use Rattle.nd_assign.specs.SideBySide.{side_by_side}
+use Rattle.nd_view.specs.SideBySide.{side_by_side}
 use Rattle.nd_assign.proofs.Bytewise.{put_bytes}
 use Rattle.nd_element.specs.Elements.{numbers_at}
 use Rattle.nd_view.proofs.Tuples.{length-count_up}

@@ -9,7 +9,7 @@ use Rattle.nd_model.specs.Arrays.Content.{number_at}
 use Rattle.nd_model.specs.Arrays.Element.{Element, Kind, size_of, with_bytes, wrap}
 use Rattle.nd_model.specs.Arrays.Tuple.{count_up}
 use Rattle.nd_types.specs.Kinds.{kind_of}
-use Rattle.nd_assign.specs.SideBySide.{side_by_side}
+use Rattle.nd_view.specs.SideBySide.{side_by_side}
 use Rattle.nd_assign.proofs.Bytewise.{end_held, put_bytes}
 use Rattle.nd_convert.proofs.conversion.Pieces.{length-put_mid}
 use Rattle.nd_element.specs.Elements.{numbers_at}

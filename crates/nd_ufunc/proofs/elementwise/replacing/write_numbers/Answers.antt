@@ -2,7 +2,7 @@ use Rattle.std.proofs.Common.{◌≡◌, ℕ, List, length, sym, ap, ◌∙◌}
 use Rattle.nd_model.specs.Arrays.Element.{Element, size_of}
 use Rattle.nd_model.specs.Making.Elementwise.{little}
 use Rattle.nd_types.specs.Kinds.{kind_of}
-use Rattle.nd_assign.specs.SideBySide.{side_by_side}
+use Rattle.nd_view.specs.SideBySide.{side_by_side}
 use Rattle.nd_convert.specs.Conversion.Converted.{converted_bytes}
 use Rattle.nd_ufunc.specs.Elementwise.Replaced.{written_numbers}
 use Rattle.nd_ufunc.proofs.elementwise.Given.{kept_values, converted_values}

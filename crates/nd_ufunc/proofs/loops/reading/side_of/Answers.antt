@@ -9,7 +9,7 @@ use Rattle.nd_model.specs.Making.Elementwise.{little}
 use Rattle.nd_model.specs.Arrays.Tuple.{count_up}
 use Rattle.nd_types.specs.Kinds.{kind_of}
 use Rattle.nd_convert.specs.Conversion.Converted.{converted_bytes}
-use Rattle.nd_ufunc.proofs.loops.SideBySide.{at_one_place, side_by_side, converted_back}
+use Rattle.nd_ufunc.proofs.loops.SideBySide.{at_one_place, converted_back}
 use Rattle.nd_ufunc.proofs.loops.reading.side_of.Goals as goal
 
 pub returns-then-step-eq0-clause-numbers : goal.returns-then-step-eq0-clause-numbers

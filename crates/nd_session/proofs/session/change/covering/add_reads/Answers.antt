@@ -5,7 +5,7 @@ use Rattle.std.proofs.lemmas.List.Elements.{recursion_from_All}
 use Rattle.nd_heap.specs.declared.value.Base.{Base}
 use Rattle.nd_heap.specs.declared.value.Value.{Value}
 use Rattle.nd_model.specs.Cells.Running as running
-use Rattle.nd_session.specs.declared.inputs.input.Input.{Input}
+use Rattle.nd_input.specs.declared.Input.{Input}
 use Rattle.nd_session.specs.declared.session.found.FoundBytes.{FoundBytes}
 use Rattle.nd_session.specs.Session.Filter.{CoversFound, CoversLength, FilterData, covers}
 use Rattle.nd_session.specs.Session.Found.{bytes_of}

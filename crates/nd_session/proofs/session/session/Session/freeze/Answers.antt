@@ -17,7 +17,7 @@ unfolding live
 returns-clause-session c =
     (λ i. record {
       names = (c.collect.ensures.names ∙ ap (λ (h : HeapData). h.names) c.in_ok-heap.ensures) i;
-      bytes = fun_ext (λ (b : Base). c.in_ok-collect.ensures.ok b
+      bytes = fun_ext (λ (b : Base). c.collect.ensures.bytes b
           ∙ ap (λ (h : HeapData). cond (model.is_held b h.names) (bytes_at h.blocks b) []) c.in_ok-heap.ensures) i;
     })
     ∙ ap (λ (s : State). model.collected (running.session_of (live s))) c.self.view_is
@@ -30,5 +30,5 @@ invariant_of-result c =
     let is = c.next_base-label.ensures ∙ sym (ap (λ (s : State). record { label = (live s).label; number = (live s).next }) c.self.view_is) in
     subst (λ (b : Base). AllLie b.label b.number bytes c.collect.new.self.names) (sym is)
     (subst (λ (es : model.Names). AllLie c.self.inside.trace.label c.self.inside.next bytes es) (sym (c.collect.ensures.names ∙ ap (λ (h : HeapData). h.names) c.in_ok-heap.ensures))
-    (with_held c.self.inside.trace.label c.self.inside.next s bytes (λ b. c.in_ok-collect.ensures.ok b
+    (with_held c.self.inside.trace.label c.self.inside.next s bytes (λ b. c.collect.ensures.bytes b
     ∙ ap (λ (h : HeapData). cond (model.is_held b h.names) (bytes_at h.blocks b) []) c.in_ok-heap.ensures) c.self.invariant))

@@ -7,10 +7,17 @@ use Rattle.nd_heap.specs.Live.{bytes_at}
 use Rattle.nd_session.specs.Session.Live.{live}
 use Rattle.nd_session.specs.Session.State.{State}
 use Rattle.nd_heap.specs.Values.{base_of}
-use Rattle.nd_session.proofs.session.Sessions.{noted_over}
+use Rattle.nd_heap.proofs.Bases.{at_err, on_err}
+use Rattle.nd_session.proofs.session.Sessions.{noted_over, stayed_over}
 use Rattle.nd_session.proofs.session.session.Session.mark_element.Goals as goal
 
-pub returns : goal.returns
+pub returns-clause-after : goal.returns-clause-after
 unfolding live
-returns c = noted_over (running.is_byte (base_of c.args.base) (element_places (type_of c.args.elem.now) c.args.place)) (trace_of c.self.inside.trace) (trace_of c.note_element.new.self) c.self.inside.heap.names (bytes_at c.self.inside.heap.blocks) c.self.inside.next c.in_ok-note_element.ensures.after
+returns-clause-after c = noted_over (running.is_byte (base_of c.args.base) (element_places (type_of c.args.elem.now) c.args.place)) (trace_of c.self.inside.trace) (trace_of c.note_element.new.self) c.self.inside.heap.names (bytes_at c.self.inside.heap.blocks) c.self.inside.next c.in_ok-note_element.ensures.after
     ∙ ap (λ (s : State). running.after (running.Use (base_of c.args.base) (element_places (type_of c.args.elem.now) c.args.place)) (live s)) c.self.view_is
+
+pub returns-in_err-note_element-clause-err : goal.returns-in_err-note_element-clause-err
+unfolding live
+returns-in_err-note_element-clause-err c = on_err _ (stayed_over (trace_of c.self.inside.trace) (trace_of c.note_element.new.self) c.self.inside.heap.names (bytes_at c.self.inside.heap.blocks) c.self.inside.next
+    (at_err _ _ c.in_err-note_element.was c.note_element.ensures.err)
+    ∙ ap (λ (s : State). live s) c.self.view_is)

@@ -6,10 +6,17 @@ use Rattle.nd_session.specs.Session.Live.{live}
 use Rattle.nd_session.specs.Session.State.{State}
 use Rattle.nd_model.specs.Cells.Storing.{having_written}
 use Rattle.nd_heap.specs.Values.{base_of, geo_of}
-use Rattle.nd_session.proofs.session.Sessions.{written_over}
+use Rattle.nd_heap.proofs.Bases.{at_err, on_err}
+use Rattle.nd_session.proofs.session.Sessions.{written_over, stayed_over}
 use Rattle.nd_session.proofs.session.session.Session.mark_written.Goals as goal
 
-pub returns : goal.returns
+pub returns-clause-after : goal.returns-clause-after
 unfolding live
-returns c = written_over (base_of c.args.array.now.base) (byte_places (geo_of c.args.array.now)) (trace_of c.self.inside.trace) (trace_of c.write_view.new.self) c.self.inside.heap.names (bytes_at c.self.inside.heap.blocks) c.self.inside.next c.in_ok-write_view.ensures.after
+returns-clause-after c = written_over (base_of c.args.array.now.base) (byte_places (geo_of c.args.array.now)) (trace_of c.self.inside.trace) (trace_of c.write_view.new.self) c.self.inside.heap.names (bytes_at c.self.inside.heap.blocks) c.self.inside.next c.in_ok-write_view.ensures.after
     ∙ ap (λ (s : State). having_written (base_of c.args.array.now.base) (byte_places (geo_of c.args.array.now)) (live s)) c.self.view_is
+
+pub returns-in_err-write_view-clause-err : goal.returns-in_err-write_view-clause-err
+unfolding live
+returns-in_err-write_view-clause-err c = on_err _ (stayed_over (trace_of c.self.inside.trace) (trace_of c.write_view.new.self) c.self.inside.heap.names (bytes_at c.self.inside.heap.blocks) c.self.inside.next
+    (at_err _ _ c.in_err-write_view.was c.write_view.ensures.err)
+    ∙ ap (λ (s : State). live s) c.self.view_is)

@@ -8,5 +8,5 @@ use Rattle.nd_session.proofs.session.session.Session.new.Goals as goal
 
 pub returns : goal.returns
 unfolding live
-returns c = begun 0 (trace_of c.new-2.result) c.in_ok-heap.heap.names (bytes_at c.in_ok-heap.heap.blocks) model.no_session
-    c.new-2.ensures c.in_ok-heap.ensures.names (λ b. ap (λ bs. bytes_at bs b) c.in_ok-heap.ensures.blocks)
+returns c = begun 0 (trace_of c.new-2.result) c.new.result.names (bytes_at c.new.result.blocks) model.no_session
+    c.new-2.ensures c.new.ensures.names (λ b. ap (λ bs. bytes_at bs b) c.new.ensures.blocks)

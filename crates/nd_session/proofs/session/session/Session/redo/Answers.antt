@@ -23,20 +23,20 @@ invariant_of-self-2 c =
     let w = changed k (running.session_of (live (state_of c.self.inside))) in
     let is : model.collected s ≡ w = c.in_ok-redo.ensures.session ∙ ap (λ (h : HeapData). changed k (session_in h)) c.replace-heap.ensures.value in
     let sound : IsSound (going_on k (running.session_of (live (state_of c.self.inside)))) = subst (λ (s : State). IsSound (going_on k (running.session_of (live s)))) (sym c.self.view_is) c.requires.sound in
-    let label : c.new-2.result.label ≡ c.changes.inside.label = ap (λ r. r.label) c.new-2.ensures in
+    let label : c.new.result.label ≡ c.changes.inside.label = ap (λ r. r.label) c.new.ensures in
     subst (λ (l : ℕ). AllLie l c.changes.inside.next bytes names) (sym label)
     (subst (λ (k : ChangesData). AllLie k.label k.next bytes names) (sym c.changes.view_is) (with_changes k.label k.next s w is sound))
 
 pub returns-clause-cell : goal.returns-clause-cell
 unfolding live
-returns-clause-cell c = ap (λ (r : running.Running). record r { next = c.changes.inside.next }) c.new-2.ensures
+returns-clause-cell c = ap (λ (r : running.Running). record r { next = c.changes.inside.next }) c.new.ensures
     ∙ ap (λ (k : ChangesData). record (running.start k.label model.no_session) { next = k.next }) c.changes.view_is
 
 pub returns-in_err-redo-clause-names : goal.returns-in_err-redo-clause-names
-returns-in_err-redo-clause-names c = not_ok _ _ c.from_residual-in_err-redo.ensures.0
+returns-in_err-redo-clause-names c = not_ok _ _ c.from_residual.ensures.0
 
 pub returns-in_err-redo-clause-session : goal.returns-in_err-redo-clause-session
-returns-in_err-redo-clause-session c = not_ok _ _ c.from_residual-in_err-redo.ensures.0
+returns-in_err-redo-clause-session c = not_ok _ _ c.from_residual.ensures.0
 
 pub returns-in_err-redo-clause-cell : goal.returns-in_err-redo-clause-cell
-returns-in_err-redo-clause-cell c = not_ok _ _ c.from_residual-in_err-redo.ensures.0
+returns-in_err-redo-clause-cell c = not_ok _ _ c.from_residual.ensures.0

@@ -11,9 +11,9 @@ use Rattle.nd_heap.proofs.Bases.{at_err}
 use Rattle.nd_session.proofs.session.Intact.{same_lie, with_bytes, length-written}
 use Rattle.nd_session.proofs.session.session.Session.write.Goals as goal
 
-pub returns : goal.returns
+pub returns-clause-after : goal.returns-clause-after
 unfolding live
-returns g c = (λ i. record (trace_of c.self.inside.trace) { names = c.write.ensures.names i; bytes = c.in_ok-write.ensures.ok i; next = c.self.inside.next })
+returns-clause-after g c = (λ i. record (trace_of c.self.inside.trace) { names = c.write.ensures.names i; bytes = c.in_ok-write.ensures.ok i; next = c.self.inside.next })
     ∙ ap (λ (s : State). having_block (base_of c.args.base) (g.W.BlockWriter.written c.args.writer ((live s).bytes (base_of c.args.base))) (live s)) c.self.view_is
 
 pub invariant_of-self-2 : goal.invariant_of-self-2

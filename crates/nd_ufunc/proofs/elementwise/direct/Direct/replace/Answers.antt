@@ -9,7 +9,7 @@ use Rattle.nd_model.specs.Arrays.View.{ElementType, Geo, item_size}
 use Rattle.nd_model.proofs.Values.{wrap_in_range}
 use Rattle.nd_syntax.specs.Trees.Syntax.{binary_op}
 use Rattle.nd_types.specs.Kinds.{kind_of}
-use Rattle.nd_assign.specs.SideBySide.{side_by_side}
+use Rattle.nd_view.specs.SideBySide.{side_by_side}
 use Rattle.nd_assign.proofs.Bytewise.{end_held}
 use Rattle.nd_element.specs.Elements.{numbers_at}
 use Rattle.nd_ufunc.specs.Elementwise.Arguments.{numbers_beside}

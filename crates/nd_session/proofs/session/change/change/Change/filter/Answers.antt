@@ -10,7 +10,7 @@ use Rattle.nd_heap.specs.declared.value.Base.{Base}
 use Rattle.nd_marks.specs.Kept.{KeptData}
 use Rattle.nd_heap.specs.declared.value.Value.{Value}
 use Rattle.nd_model.specs.Cells.Running as running
-use Rattle.nd_session.specs.declared.inputs.input.Input.{Input}
+use Rattle.nd_input.specs.declared.Input.{Input}
 use Rattle.nd_session.specs.Session.Filter.{CoversKept, CoversLabel, FilterData, covers}
 use Rattle.nd_session.proofs.session.Covering.{changed_covered, kept_stays, label_stays, rec_weaker, stays_on}
 use Rattle.nd_session.proofs.session.change.change.Change.filter.Goals as goal

@@ -1,7 +1,7 @@
 use Rattle.std.proofs.Common.{List, Option, Global, ap, subst}
 use Rattle.std.specs.declared.rc.Rc.{Rc}
 use Rattle.std.specs.declared.rc.RcStr.{RcStr}
-use Rattle.nd_session.specs.declared.inputs.input.Input.{Input}
+use Rattle.nd_input.specs.declared.Input.{Input}
 use Rattle.nd_session.specs.Inputs.Values.{inputs_of, rule_of}
 use Rattle.nd_session.specs.Session.Change.{IsNoted, whole_in}
 use Rattle.nd_session.specs.Session.Now.{block_now, data_in, input_now, part_now, value_now}

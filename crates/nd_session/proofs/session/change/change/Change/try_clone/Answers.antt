@@ -1,7 +1,8 @@
 use Rattle.std.proofs.Common.{option_map, ◌≡◌, ◌∙◌, Some, ap}
 use Rattle.nd_heap.specs.Contents.{bytes_in}
 use Rattle.nd_heap.specs.Values.{entries_of, value_of}
-use Rattle.nd_session.specs.Inputs.Values.{rule_of, source_of}
+use Rattle.nd_input.specs.Sources.{source_of}
+use Rattle.nd_session.specs.Inputs.Values.{rule_of}
 use Rattle.nd_session.specs.Session.Change.{change_of}
 use Rattle.nd_session.specs.Session.Found.{by_base}
 use Rattle.nd_session.specs.Session.Now.{kept_in}

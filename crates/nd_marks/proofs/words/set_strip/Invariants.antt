@@ -1,6 +1,0 @@
-use Rattle.std.proofs.Common.{◌≡◌, ℕ, ◌||◌}
-use Rattle.nd_marks.specs.Marks.{has_bit, in_rows}
-use Rattle.nd_marks.proofs.words.set_strip.Given as goal
-
-abbrev pub invariant-loop-number : goal.invariant-loop-number
-invariant-loop-number l = (p : ℕ) → has_bit l.words.items p ≡ (has_bit l.fn.words.items p || in_rows l.strip.first l.strip.width l.strip.step l.number p)

@@ -16,6 +16,8 @@ import refusals  # noqa: E402
 SHORT, LONG = 64, 1_024
 # More snapshots are in the long notebook, and each may keep a change.
 SNAPSHOTS = (LONG - SHORT) // 32
+# Of one cell.
+STATEMENTS = 40
 
 
 def real_program() -> Optional[str]:
@@ -29,6 +31,11 @@ def real_program() -> Optional[str]:
 def arrays(count: int) -> list[str]:
     """Cells of which none reads what another made."""
     return [f'v{k} = np.arange(4)' for k in range(count)]
+
+
+def scattered_reads(count: int) -> str:
+    """Statements that each read ten positions of an array of this many elements."""
+    return '\n'.join([f'y = x[[0, 3, 8, 15, 24, 35, 48, 51, 60, {count - 1}]]'] * STATEMENTS)
 
 
 @unittest.skipUnless(real_program(), 'no program: NDNOTE_PROGRAM, or crates/ndnote/out/ndnote')
@@ -74,6 +81,13 @@ class Costs(unittest.TestCase):
         editing = self.cost(['z = 1', read, 'w = z + y'], 'edit 0', 'z = 2', '.')
         self.assertGreater(inserting, 900)
         self.assertLess(editing, 900)
+
+    def test_scattered_positions_of_a_large_array_cost_what_those_of_a_small_one_do(self) -> None:
+        """Their bits are marked in the cell's own set, which grows once, and not in a set for each statement."""
+        small, large = (self.cost([f'x = np.arange({count})'], 'insert 1', scattered_reads(count), '.')
+                        for count in (64, 2**20))
+        self.assertGreater(small, STATEMENTS)
+        self.assertLess(large - small, STATEMENTS)
 
 
 if __name__ == '__main__':

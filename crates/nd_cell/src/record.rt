@@ -24,6 +24,7 @@ use nd_session::session::{
     CellRule, Change, Changes, Inputs, KeyFilter, NameOrder, OutOfMemory, Reads, Session, Version,
 };
 use std::marker::Model;
+use std::mem::replace;
 use std::rc::Rc;
 
 /// The record of a cell's run: what it read, with what it found there, what it did to the session,
@@ -72,13 +73,18 @@ fn end_by(rule: CellRule, session: &mut Session, before: Version, gives: CellRes
         (ended_under (rule_of rule) (thawed before) (ended_of gives (live session.old))) }
 {
     if gives.refusal.is_none() {
+        before.discard();
         return gives;
     }
     match rule {
-        CellRule::Python => gives,
+        CellRule::Python => {
+            before.discard();
+            gives
+        }
         CellRule::Atomic => {
             let alloc = session.allocator();
-            *session = Session::resume(alloc, before);
+            let refused = replace(session, Session::resume(alloc, before));
+            refused.discard();
             CellResult {
                 text: gives.text,
                 refusal: gives.refusal,

@@ -318,8 +318,9 @@ impl Heap {
         Ok(())
     }
 
-    /// Makes what has changed part of what is shared, where it is much.
-    fn settle(&mut self) -> Result<(), OutOfMemory>
+    /// Merges what has changed with what copies of the heap share, where it is much: later copies
+    /// then cost less. Where memory is wanted too, names and bytes are as they were.
+    pub fn settle(&mut self) -> Result<(), OutOfMemory>
         ensures names { self.new.names ≡ self.old.names }
         ensures bytes { bytes_at self.new.blocks ≡ bytes_at self.old.blocks }
     {
@@ -328,8 +329,14 @@ impl Heap {
         Ok(())
     }
 
-    /// Gives up the blocks of loose bases that no bound value lies in.
-    fn remove_loose(&mut self)
+    /// proof: drops the heap, apart from a caller whose proof would be long.
+    pub fn discard(self) {}
+
+    /// Gives up the blocks that no bound value lies in. Only those of loose bases are looked at,
+    /// and no memory is taken.
+    ///
+    /// After `bind` of `x` to an array and then to the number 1, it gives up the array's block.
+    pub fn collect(&mut self)
         ensures names { self.new.names ≡ self.old.names }
         ensures bytes { (b : values.Base) → bytes_at self.new.blocks b
             ≡ (if model.is_held b self.old.names then bytes_at self.old.blocks b else []) }
@@ -339,22 +346,17 @@ impl Heap {
         self.loose.clear();
     }
 
-    /// proof: drops the heap, apart from a caller whose proof would be long.
-    pub fn discard(self) {}
-
-    /// Gives up the blocks that no bound value lies in. Only those of loose bases are looked at,
-    /// and no memory is needed.
-    ///
-    /// After `bind` of `x` to an array and then to the number 1, it gives up the array's block.
-    pub fn collect(&mut self)
-        ensures names { self.new.names ≡ self.old.names }
-        ensures bytes { (b : values.Base) → bytes_at self.new.blocks b
-            ≡ (if model.is_held b self.old.names then bytes_at self.old.blocks b else []) }
+    /// Returns a copy as `try_clone` does, without the blocks that no bound value lies in. Its
+    /// layers are merged where they are many.
+    pub fn try_collected(&self) -> Result<Heap, OutOfMemory>
+        ensures names { IfOk result (λ h. h.names ≡ self.now.names) }
+        ensures bytes { IfOk result (λ h. (b : values.Base) → bytes_at h.blocks b
+            ≡ (if model.is_held b self.now.names then bytes_at self.now.blocks b else [])) }
     {
-        self.remove_loose();
-        // To merge layers only makes later calls faster: where its memory is refused, names and
-        // bytes stay as they are.
-        let _ = self.settle();
+        let mut heap = self.try_clone()?;
+        heap.collect();
+        heap.settle()?;
+        Ok(heap)
     }
 
     /// Gives up the blocks of a label that no bound value lies in. Only those of loose bases are

@@ -1,5 +1,6 @@
 pub mod Bits
 pub mod Chosen
+pub mod Listed
 pub mod Ranges
 pub mod Slices
 pub mod Spans

@@ -100,26 +100,6 @@ words_added u os at p long = elim (cases_Bool (has_bit os p)) [
     and_false true = refl
     and_false false = refl
 
--- strips with the bits of one set, and the bits of another
-pub beside_bits : (s bs l ss bm : Bool) → ((((s || bm) || l) || ss) || bs) ≡ ((s || bs) || ((l || ss) || bm))
-beside_bits true bs l ss bm = refl
-beside_bits false true true true true = refl
-beside_bits false true true true false = refl
-beside_bits false true true false true = refl
-beside_bits false true true false false = refl
-beside_bits false true false true true = refl
-beside_bits false true false true false = refl
-beside_bits false true false false true = refl
-beside_bits false true false false false = refl
-beside_bits false false true true true = refl
-beside_bits false false true true false = refl
-beside_bits false false true false true = refl
-beside_bits false false true false false = refl
-beside_bits false false false true true = refl
-beside_bits false false false true false = refl
-beside_bits false false false false true = refl
-beside_bits false false false false false = refl
-
 pub get_here : (os : List ℕ) (at w : ℕ) → at < length os → w ≡ get_or os at w → w ≡ slice_index os at
 get_here [] at w lt is = elim lt [ ]
 get_here (o ∷ os) zero w lt is = is

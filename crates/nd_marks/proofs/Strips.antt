@@ -234,20 +234,31 @@ pub either_way : {A : Type 0} (a b : Bool) → (a || b) ≡ true → (a ≡ true
 either_way true b h x y = x refl
 either_way false b h x y = y h
 
-in_strips-append : (ss : List Strip) (s : Strip) (p : ℕ) → in_strips (ss ++ s ∷ []) p ≡ (in_strips ss p || in_strip s p)
+pub in_strips-append : (ss : List Strip) (s : Strip) (p : ℕ) → in_strips (ss ++ s ∷ []) p ≡ (in_strips ss p || in_strip s p)
 in_strips-append [] s p = or_false (in_strip s p)
 in_strips-append (x ∷ xs) s p = ap (λ b. in_strip x p || b) (in_strips-append xs s p) ∙ or_assoc (in_strip x p) (in_strips xs p) (in_strip s p)
 
 -- the last strip goes among the others, and another takes its place
-pub pushed : (ss ts : List Strip) (s r : Strip) (b : Bool) (p : ℕ) → ts ≡ ss ++ s ∷ [] → ((in_strip r p || in_strips ts p) || b) ≡ (((in_strip s p || in_strips ss p) || b) || in_strip r p)
-pushed ss ts s r b p is = ap (λ t. (in_strip r p || t) || b) (ap (λ ts. in_strips ts p) is ∙ in_strips-append ss s p) ∙ turn (in_strip r p) (in_strips ss p) (in_strip s p) b
+pub pushed : (ss ts : List Strip) (s r : Strip) (p : ℕ) → ts ≡ ss ++ s ∷ [] → (in_strip r p || in_strips ts p) ≡ ((in_strip s p || in_strips ss p) || in_strip r p)
+pushed ss ts s r p is = ap (λ t. in_strip r p || t) (ap (λ ts. in_strips ts p) is ∙ in_strips-append ss s p) ∙ turn (in_strip r p) (in_strips ss p) (in_strip s p)
   where
-    turn : (r o s b : Bool) → ((r || (o || s)) || b) ≡ (((s || o) || b) || r)
-    turn true o s b = sym (or_true ((s || o) || b))
-    turn false true true b = refl
-    turn false true false b = refl
-    turn false false true b = refl
-    turn false false false b = sym (or_false b)
+    turn : (r o s : Bool) → (r || (o || s)) ≡ ((s || o) || r)
+    turn true o s = sym (or_true (s || o))
+    turn false true true = refl
+    turn false true false = refl
+    turn false false true = refl
+    turn false false false = refl
+
+-- a strip fits, and the rest stays
+pub fitted : (a b r s : Bool) → a ≡ (b || s) → (a || r) ≡ ((b || r) || s)
+fitted a b r s is = ap (λ t. t || r) is ∙ turn b s r
+  where
+    turn : (b s r : Bool) → ((b || s) || r) ≡ ((b || r) || s)
+    turn true s r = refl
+    turn false true true = refl
+    turn false true false = refl
+    turn false false true = refl
+    turn false false false = refl
 
 and_false : (b : Bool) → (b && false) ≡ false
 and_false true = refl
@@ -345,3 +356,21 @@ among_covers l b r ss i s p lt is all = elim (cases_Bool (in_strip s p)) [
 pub not_true : (b : Bool) → not b ≡ true → b ≡ false
 not_true true h = false_true h
 not_true false h = refl
+
+-- strips, the rest of them and words are put together
+pub merged : (a r v w mw s ml ms : Bool) → v ≡ ((w || mw) || r) → (a || r) ≡ (((s || false) || ml) || ms) → (a || v) ≡ ((s || w) || ((ml || ms) || mw))
+merged a r v w mw s ml ms set is =
+    ap (λ t. a || t) set ∙ aside a (w || mw) r ∙ ap (λ t. t || (w || mw)) is ∙ turn s ml ms w mw
+  where
+    aside : (a b r : Bool) → (a || (b || r)) ≡ ((a || r) || b)
+    aside true b r = refl
+    aside false b r = or_comm b r
+
+    turn : (s ml ms w mw : Bool) → ((((s || false) || ml) || ms) || (w || mw)) ≡ ((s || w) || ((ml || ms) || mw))
+    turn true ml ms w mw = refl
+    turn false true ms true mw = refl
+    turn false true ms false mw = refl
+    turn false false true true mw = refl
+    turn false false true false mw = refl
+    turn false false false true mw = refl
+    turn false false false false mw = refl

@@ -1,10 +1,10 @@
 //! `set_bits` and `is_set`: sets of byte offsets as bits in words of 64.
-ghost use Rattle.std.specs.Prelude.{◌≡◌, ℕ, ◌+◌, ◌-◌, ◌*◌, ◌^◌, ◌<◌, ◌≤◌, ◌||◌, ◌&&◌, not, nat_le, nat_lt, nat_eq, false, length, slice_index, OnErr, OnOk};
+ghost use Rattle.std.specs.Prelude.{◌≡◌, ℕ, ◌+◌, ◌-◌, ◌*◌, ◌^◌, ◌<◌, ◌≤◌, ◌||◌, ◌&&◌, not, nat_le, nat_lt, nat_eq, false, length, slice_index, IsTrue, OnErr, OnOk};
 ghost use Rattle.std.specs.Int.{bit_at};
 ghost use Rattle.std.specs.List.{All, flat_map};
 ghost use Rattle.nd_model.specs.Cells.Session.{is_in};
 ghost use Rattle.nd_model.specs.Arrays.Tuple.{count_up};
-ghost use Rattle.nd_marks.specs.Marks.{has_bit, in_word, in_strip};
+ghost use Rattle.nd_marks.specs.Marks.{has_bit, in_word, in_strip, in_strips};
 
 use crate::strip::Strip;
 use std::alloc::AllocError;
@@ -62,6 +62,7 @@ pub(crate) fn any_set(words: &[u64], from: u128, to: u128) -> bool
 /// Appends words without bits, until there are `count`.
 pub(crate) fn grow(words: &mut Vec<u64>, count: u64) -> Result<(), AllocError>
     ensures same { (q : ℕ) → slice_index words.new.items q ≡ slice_index words.old.items q }
+    ensures more { length words.old.items ≤ length words.new.items }
     ensures room { OnOk result (count ≤ length words.new.items) }
 {
     for _ in words.len() as u64..count {
@@ -176,7 +177,7 @@ pub(crate) fn set_run(words: &mut Vec<u64>, first: u64, size: u64)
 }
 
 /// The greatest of the byte offsets, 0 where there are none.
-fn greatest(places: &[u64]) -> u64
+pub(crate) fn greatest(places: &[u64]) -> u64
     ensures { All (λ p. p ≤ result) places.now }
 {
     let mut greatest = 0_u64;
@@ -191,7 +192,8 @@ fn greatest(places: &[u64]) -> u64
 fn set_each(words: &mut Vec<u64>, places: &[u64], size: u64)
     requires size { (0 < size) × (size ≤ 64) }
     requires room { All (λ p. p + size ≤ length words.old.items * 64) places.now }
-    ensures { (p : ℕ) → has_bit words.new.items p ≡ (has_bit words.old.items p
+    ensures len { length words.new.items ≡ length words.old.items }
+    ensures bits { (p : ℕ) → has_bit words.new.items p ≡ (has_bit words.old.items p
         || is_in p (flat_map (λ q. count_up q size) places.now)) }
 {
     for place in places {
@@ -199,17 +201,15 @@ fn set_each(words: &mut Vec<u64>, places: &[u64], size: u64)
     }
 }
 
-/// Sets the bits of `size` byte offsets from each of these on, by a loop specialised for a usual
-/// itemsize.
-pub(crate) fn set_runs(words: &mut Vec<u64>, places: &[u64], size: u64) -> Result<(), AllocError>
-    requires { (0 < size) × (size ≤ 64) }
-    ensures ok { OnOk result ((p : ℕ) → has_bit words.new.items p ≡ (has_bit words.old.items p
-        || is_in p (flat_map (λ q. count_up q size) places.now))) }
-    ensures err { OnErr result ((p : ℕ)
-        → has_bit words.new.items p ≡ has_bit words.old.items p) }
+/// Sets the bits of `size` byte offsets from each of these on, for which there are words. A usual
+/// itemsize has a loop of its own.
+fn put_runs(words: &mut Vec<u64>, places: &[u64], size: u64)
+    requires size { (0 < size) × (size ≤ 64) }
+    requires room { All (λ p. p + size ≤ length words.old.items * 64) places.now }
+    ensures len { length words.new.items ≡ length words.old.items }
+    ensures bits { (p : ℕ) → has_bit words.new.items p ≡ (has_bit words.old.items p
+        || is_in p (flat_map (λ q. count_up q size) places.now)) }
 {
-    let end = u128::from(greatest(places)) + u128::from(size);
-    grow(words, ((end + 63) / 64) as u64)?;
     match size {
         1 => set_each(words, places, 1),
         2 => set_each(words, places, 2),
@@ -217,14 +217,49 @@ pub(crate) fn set_runs(words: &mut Vec<u64>, places: &[u64], size: u64) -> Resul
         8 => set_each(words, places, 8),
         _ => set_each(words, places, size),
     }
-    Ok(())
+}
+
+/// Returns whether elements of `size` bytes at these byte offsets are contiguous.
+pub(crate) fn are_adjacent(places: &[u64], size: u64) -> bool
+    ensures { IsTrue result → (k : ℕ) → k < length places.now
+        → slice_index places.now k ≡ slice_index places.now 0 + k * size }
+{
+    for at in 1..places.len() {
+        let before = places[at - 1];
+        if places[at] < before || places[at] - before != size {
+            return false;
+        }
+    }
+    true
+}
+
+/// Sets the bits of the numbers of `size` bytes at these byte offsets, for which there are words:
+/// as one range where they are contiguous.
+pub(crate) fn put_numbers(words: &mut Vec<u64>, places: &[u64], size: u64)
+    requires size { (0 < size) × (size ≤ 64) }
+    requires room { All (λ p. p + size ≤ length words.old.items * 64) places.now }
+    ensures len { length words.new.items ≡ length words.old.items }
+    ensures bits { (p : ℕ) → has_bit words.new.items p ≡ (has_bit words.old.items p
+        || is_in p (flat_map (λ q. count_up q size) places.now)) }
+{
+    let Some(first) = places.first() else {
+        return;
+    };
+    if are_adjacent(places, size) {
+        let from = u128::from(*first);
+        let to = from + places.len() as u128 * u128::from(size);
+        put_bits(words, from, to, &[]);
+        return;
+    }
+    put_runs(words, places, size);
 }
 
 /// Sets the bits of all rows of a strip, for which there are words.
 fn put_strip(words: &mut Vec<u64>, strip: &Strip)
     requires room { (n : ℕ) → n < strip.now.count
         → strip.now.first + n * strip.now.step + strip.now.width ≤ length words.old.items * 64 }
-    ensures { (p : ℕ) → has_bit words.new.items p
+    ensures len { length words.new.items ≡ length words.old.items }
+    ensures bits { (p : ℕ) → has_bit words.new.items p
         ≡ (has_bit words.old.items p || in_strip strip.now p) }
 {
     for number in 0..strip.count() {
@@ -247,9 +282,10 @@ pub(crate) fn set_strip(words: &mut Vec<u64>, strip: &Strip) -> Result<(), Alloc
 
 /// Adds the bits of other words, each word by one OR. Where there are none yet, these take their
 /// place.
-pub(crate) fn add_words(words: &mut Vec<u64>, others: Vec<u64>) -> Result<(), AllocError>
+fn add_words(words: &mut Vec<u64>, others: Vec<u64>) -> Result<(), AllocError>
     ensures ok { OnOk result ((p : ℕ) → has_bit words.new.items p ≡ (has_bit words.old.items p
         || has_bit others.items p)) }
+    ensures more { length words.old.items ≤ length words.new.items }
     ensures err { OnErr result ((p : ℕ)
         → has_bit words.new.items p ≡ has_bit words.old.items p) }
 {
@@ -261,5 +297,47 @@ pub(crate) fn add_words(words: &mut Vec<u64>, others: Vec<u64>) -> Result<(), Al
     for at in 0..others.len() {
         add_word(words, at, others[at]);
     }
+    Ok(())
+}
+
+/// Makes room for the bits of all rows of these strips. The bits stay as they were.
+fn reserve_strips(words: &mut Vec<u64>, strips: &[Strip]) -> Result<(), AllocError>
+    ensures same { (p : ℕ) → has_bit words.new.items p ≡ has_bit words.old.items p }
+    ensures room { OnOk result (All (λ s. (n : ℕ) → n < s.count
+        → s.first + n * s.step + s.width ≤ length words.new.items * 64) strips.now) }
+{
+    for strip in strips {
+        grow(words, ((strip.end() + 63) / 64) as u64)?;
+    }
+    Ok(())
+}
+
+/// Sets the bits of all rows of these strips, for which there are words.
+fn put_strips(words: &mut Vec<u64>, strips: &[Strip])
+    requires room { All (λ s. (n : ℕ) → n < s.count
+        → s.first + n * s.step + s.width ≤ length words.old.items * 64) strips.now }
+    ensures { (p : ℕ) → has_bit words.new.items p
+        ≡ (has_bit words.old.items p || in_strips strips.now p) }
+{
+    for strip in strips {
+        put_strip(words, strip);
+    }
+}
+
+/// Adds the bits of other words and of all rows of these strips. Where memory is wanted, the bits
+/// stay as they were.
+pub(crate) fn add_bits(
+    words: &mut Vec<u64>,
+    others: Vec<u64>,
+    strips: &[Strip],
+) -> Result<(), AllocError>
+    ensures ok { OnOk result ((p : ℕ) → has_bit words.new.items p ≡ ((has_bit words.old.items p
+        || has_bit others.items p) || in_strips strips.now p)) }
+    ensures err { OnErr result ((p : ℕ)
+        → has_bit words.new.items p ≡ has_bit words.old.items p) }
+{
+    reserve_strips(words, strips)?;
+    add_words(words, others)?;
+    put_strips(words, strips);
     Ok(())
 }

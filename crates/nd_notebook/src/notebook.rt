@@ -284,7 +284,9 @@ impl Notebook {
             (λ v. IsAlike (version_of v) (session_before (book_of self.now) at)) }
     {
         let session = self.schedule.session_like(at)?;
-        let version = session.freeze()?;
+        let frozen = session.freeze();
+        session.discard();
+        let version = frozen?;
         Ok(version)
     }
 

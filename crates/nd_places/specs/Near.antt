@@ -1,5 +1,5 @@
 -- Places at the ends of ways from the first byte.
-use Rattle.std.specs.Prelude.{ℕ, Bool, ◌&&◌, ◌^◌, ◌≤◌, ℤ, pos, ◌+ℤ◌, ◌*ℤ◌, int_le, int_lt, unsigned_abs, if◌then◌else◌, not, nat_eq, List, map}
+use Rattle.std.specs.Prelude.{◌≡◌, ℕ, Bool, ◌&&◌, ◌^◌, ◌≤◌, ℤ, pos, ◌+ℤ◌, ◌*ℤ◌, ◌≤ℤ◌, int_le, int_lt, unsigned_abs, if◌then◌else◌, not, nat_eq, List, map}
 use Rattle.std.specs.List.{flat_map}
 use Rattle.nd_model.specs.Indexing.Advanced.{true_numbers}
 
@@ -18,6 +18,10 @@ rows_places starts ways = flat_map (λ s. map (λ z. place_on (s +ℤ z)) ways) 
 -- the element of this number on a line
 abbrev pub place_on_line : (start step : ℤ) → ℕ → ℕ
 place_on_line start step k = place_on (start +ℤ (pos k *ℤ step))
+
+-- the elements of a line, of this size, follow one another, and the first is a place
+abbrev pub IsRow : (start step : ℤ) → ℕ → Type 0
+IsRow start step size = (step ≡ pos size) × (pos 0 ≤ℤ start)
 
 -- whether a byte of a mask is true
 abbrev pub is_true : ℕ → Bool

@@ -1,6 +1,6 @@
 //! `StridedLine`: elements at one distance from another, whose byte offsets 64 bits hold.
-ghost use Rattle.std.specs.Prelude.{◌≡◌, ◌^◌, ◌≤◌, unsigned_abs};
-ghost use Rattle.nd_places.specs.Near.{IsNear, place_on};
+ghost use Rattle.std.specs.Prelude.{◌≡◌, ◌↔◌, ◌^◌, ◌≤◌, IsTrue, unsigned_abs};
+ghost use Rattle.nd_places.specs.Near.{IsNear, IsRow, place_on};
 
 /// A strided line of elements: the byte offset of the element of index 0, and the bytes from one to
 /// the next.
@@ -12,6 +12,17 @@ pub struct StridedLine {
     pub step: i64,
     ghost start_near: { IsNear start },
     ghost step_near: { unsigned_abs step ≤ 2 ^ 29 },
+}
+
+impl StridedLine {
+    /// Returns whether its elements, of `size` bytes each, are contiguous, and the first begins in
+    /// the block.
+    #[inline(always)]
+    pub fn is_contiguous(&self, size: u64) -> bool
+        ensures { IsTrue result ↔ IsRow self.now.start self.now.step size }
+    {
+        i128::from(self.step) == i128::from(size) && self.start >= 0
+    }
 }
 
 /// Returns a distance from the block's first byte as a byte offset, 0 for a negative one.

@@ -7,8 +7,8 @@ ghost use Rattle.nd_model.specs.Arrays.View.{One};
 ghost use Rattle.nd_types.specs.Kinds.{kind_of};
 ghost use Rattle.nd_element.specs.Elements.{canonical_at};
 ghost use Rattle.nd_places.specs.Forms.{trues_on};
-ghost use Rattle.nd_places.specs.Near.{is_true, place_on_line};
-ghost use Rattle.nd_scatter.specs.OnLine.{AreOnLine, IsRow};
+ghost use Rattle.nd_places.specs.Near.{IsRow, is_true, place_on_line};
+ghost use Rattle.nd_scatter.specs.OnLine.{AreOnLine};
 ghost use Rattle.nd_scatter.specs.Ready.{AreValues};
 ghost use Rattle.nd_scatter.specs.Scattered.{scattered};
 
@@ -66,21 +66,13 @@ pub(crate) fn inner_trues(elem: Elem, places: &PlaceList, len: usize) -> Option<
     }
 }
 
-// Whether the elements of a line, of `size` bytes each, are contiguous.
-fn is_row(line: StridedLine, size: usize) -> bool
-    requires { size ≤ 8 }
-    ensures { IsTrue result → IsRow line size }
-{
-    line.step == size as i64 && line.start >= 0
-}
-
 // The byte offset of an element of a line. `is_row` tells that the line is contiguous, which is
 // faster.
 #[inline(always)]
 fn place_at(line: StridedLine, size: usize, is_row: bool, number: u64) -> u64
     requires number { number ≤ 2 ^ 32 }
     requires size { size ≤ 8 }
-    requires row { IsTrue is_row → IsRow line size }
+    requires row { IsTrue is_row → IsRow line.start line.step size }
     ensures { result ≡ place_on_line line.start line.step number }
 {
     if is_row {
@@ -113,7 +105,7 @@ fn keep_trues(
 ) -> usize
     requires kind { elem.kind ≢ Boolean }
     requires size { size ≡ size_of elem.kind }
-    requires row { IsTrue is_row → IsRow line size }
+    requires row { IsTrue is_row → IsRow line.start line.step size }
     requires inside { AreOnLine line size (first + length mask.now) (length bytes.now) }
     requires range { first + length mask.now ≤ 2 ^ 24 }
     requires room { length mask.now * size ≤ length out.old }
@@ -153,7 +145,7 @@ fn keep_on_line(
     ensures bytes { take result out.new
         ≡ flat_map (canonical_at (One elem) bytes.now) (trues_on line first mask.now) }
 {
-    if is_row(line, size) {
+    if line.is_contiguous(size as u64) {
         keep_trues(out, elem, size, bytes, line, true, first, mask)
     } else {
         keep_trues(out, elem, size, bytes, line, false, first, mask)
@@ -274,7 +266,7 @@ fn write_each(
 )
     requires size { size ≡ size_of elem.kind }
     requires word { (kind_of word ≢ Boolean) × (size_of (kind_of word) ≡ size) }
-    requires row { IsTrue is_row → IsRow line size }
+    requires row { IsTrue is_row → IsRow line.start line.step size }
     requires step { step ≤ size }
     requires inside { AreOnLine line size (length mask.now) (length out.old) }
     requires range { length mask.now ≤ 2 ^ 24 }
@@ -318,7 +310,7 @@ fn write_line(
         (length values.now) }
     ensures { out.new ≡ scattered (One elem) values.now step 0 (trues_on line 0 mask.now) out.old }
 {
-    if !is_row(line, size) {
+    if !line.is_contiguous(size as u64) {
         write_each(out, elem, size, word, line, false, mask, values, step);
     } else if step == 0 {
         write_each(out, elem, size, word, line, true, mask, values, 0);

@@ -20,7 +20,7 @@ ghost use Rattle.nd_trace.specs.Traced.{trace_of};
 ghost use Rattle.nd_trace.specs.Seen.{names_read, inputs_read, bases_read, is_used, is_written, having_event};
 ghost use Rattle.nd_trace.specs.Noted.{unread_base, unread_in, with_length, with_text};
 
-use crate::marking::{Footprint, has_mark, join, marks_in, marks_of_elements};
+use crate::marking::{Footprint, has_mark, join, join_elements, marks_in};
 use indexmap::{IndexMap, IndexSet};
 use nd_heap::{Array, Base, OutOfMemory, Value};
 use nd_marks::Marks;
@@ -190,6 +190,9 @@ impl Trace {
             used: IndexMap::new(alloc),
         }
     }
+
+    /// proof: drops the trace, apart from a caller whose proof would be long.
+    pub fn discard(self) {}
 
     /// The running cell's label.
     pub fn label(&self) -> u64
@@ -474,8 +477,7 @@ impl Trace {
         }
         let nothing = Marks::new(alloc);
         let written = marks_in(&self.written, base, &nothing);
-        let marks = marks_of_elements(alloc, elem, places, written)?;
-        self.use_marks(base, marks)?;
+        join_elements(alloc, &mut self.used, base, elem, places, written)?;
         Ok(())
     }
 
@@ -529,8 +531,10 @@ impl Trace {
         ensures label { self.new.label ≡ self.old.label }
     {
         let nothing = Marks::new(alloc);
-        let marks = marks_of_elements(alloc, elem, places, &nothing)?;
-        self.write_marks(base, marks)?;
+        let unread = self.unread(base);
+        make_room(&mut self.lengths, unread)?;
+        join_elements(alloc, &mut self.written, base, elem, places, &nothing)?;
+        add_length(&mut self.lengths, unread);
         Ok(())
     }
 }

@@ -83,6 +83,15 @@ fn retain_own(bases: &mut Bases, label: u64)
     );
 }
 
+/// Does the events, and returns the blocks that some name then holds.
+fn held_behind(heap: &mut Heap, events: &[Event]) -> Result<Bases, OutOfMemory>
+    ensures { IfOk result (λ held. (b : values.Base) → is_base_among (bases_of held.entries) b
+        ≡ model.is_held b (replayed (map event_of events.now) heap.old.names)) }
+{
+    replay(heap, events)?;
+    heap.held_bases()
+}
+
 /// The blocks of this label that some name holds after the events alone.
 fn own_bases(alloc: Global, label: u64, events: &[Event]) -> Result<Bases, OutOfMemory>
     ensures { IfOk result (λ own. (b : values.Base) → nat_eq b.label label ≡ true
@@ -90,8 +99,9 @@ fn own_bases(alloc: Global, label: u64, events: &[Event]) -> Result<Bases, OutOf
         ≡ model.is_held b (replayed (map event_of events.now) [])) }
 {
     let mut heap = Heap::new(alloc);
-    replay(&mut heap, events)?;
-    let mut own = heap.held_bases()?;
+    let held = held_behind(&mut heap, events);
+    heap.discard();
+    let mut own = held?;
     retain_own(&mut own, label);
     Ok(own)
 }

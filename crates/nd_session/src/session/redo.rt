@@ -1,6 +1,6 @@
-//! `replay` and `redo`: what a cell did, done again to the names and blocks of a session.
+//! `replay` and `redone`: what a cell did, done again to the names and blocks of a session.
 
-ghost use Rattle.std.specs.Prelude.{◌≡◌, ℕ, [], nat_eq, map, OnOk, if◌then◌else◌};
+ghost use Rattle.std.specs.Prelude.{◌≡◌, ℕ, [], nat_eq, map, IfOk, OnOk, if◌then◌else◌};
 ghost use Rattle.nd_model.specs.Cells.Footprint.{HasNone, patched, replayed};
 ghost use Rattle.nd_model.specs.Cells.Running as running;
 ghost use Rattle.nd_model.specs.Cells.Session as session;
@@ -81,15 +81,33 @@ fn put_back(heap: &mut Heap, written: &FoundByBase) -> Result<(), OutOfMemory>
 }
 
 /// Makes the changes to names and blocks.
-pub(crate) fn redo(heap: &mut Heap, changes: &Changes) -> Result<(), OutOfMemory>
+fn redo(heap: &mut Heap, changes: &Changes) -> Result<(), OutOfMemory>
     requires { HasNone changes.now.label (session_in heap.old) }
     ensures names { OnOk result (heap.new.names ≡ replayed changes.now.events heap.old.names) }
     ensures session { OnOk result (session.collected (session_in heap.new)
         ≡ changed changes.now (session_in heap.old)) }
 {
     heap.collect();
+    heap.settle()?;
     replay(heap, &changes.events)?;
     put_back(heap, &changes.written)?;
     share_own(heap, &changes.blocks, changes.label)?;
     Ok(())
+}
+
+/// Returns names and blocks with the changes made.
+pub(crate) fn redone(heap: Heap, changes: &Changes) -> Result<Heap, OutOfMemory>
+    requires { HasNone changes.now.label (session_in heap) }
+    ensures names { IfOk result (λ h. h.names ≡ replayed changes.now.events heap.names) }
+    ensures session { IfOk result (λ h. session.collected (session_in h)
+        ≡ changed changes.now (session_in heap)) }
+{
+    let mut heap = heap;
+    match redo(&mut heap, changes) {
+        Ok(()) => Ok(heap),
+        Err(memory) => {
+            heap.discard();
+            Err(memory)
+        }
+    }
 }

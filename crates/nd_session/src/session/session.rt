@@ -23,7 +23,7 @@ ghost use Rattle.nd_model.specs.Cells.Storing.{having_written, having_block};
 
 use crate::session::change::{Change, is_done, next_now, put_over};
 use crate::session::changes::Changes;
-use crate::session::redo::redo;
+use crate::session::redo::redone;
 use crate::session::version::Version;
 use nd_block::RawBlock;
 use nd_heap::{Array, Base, BlockWriter, Heap, OutOfMemory, Value};
@@ -109,7 +109,8 @@ impl Session {
         ensures { live self.new ≡ running.start label (running.session_of (live self.old)) }
     {
         self.heap.collect();
-        self.trace = Trace::new(self.alloc, label);
+        let seen = replace(&mut self.trace, Trace::new(self.alloc, label));
+        seen.discard();
         self.next = 0;
         self.load = 0;
     }
@@ -363,6 +364,15 @@ impl Session {
         Ok(())
     }
 
+    /// Merges the layers of names and blocks, where they are many.
+    #[tactic(auto, unfolding(crate::specs::Session::Live::live))]
+    fn settle(&mut self) -> Result<(), OutOfMemory>
+        ensures { live self.new ≡ live self.old }
+    {
+        self.heap.settle()?;
+        Ok(())
+    }
+
     /// Gives up blocks that the running cell made and no bound value lies in, once many bytes were
     /// made, or let go by names, since the last time. So a statement looks at few names, on average.
     ///
@@ -371,6 +381,7 @@ impl Session {
     pub fn collect_due(&mut self) -> Result<(), OutOfMemory>
         ensures { OnOk result (IsSameInReach (live self.old) (live self.new)) }
     {
+        self.settle()?;
         if self.load / LOAD_OF_A_NAME <= self.heap.count().max(FEW_NAMES) {
             return Ok(());
         }
@@ -436,6 +447,9 @@ impl Session {
         }
     }
 
+    /// proof: drops the session, apart from a caller whose proof would be long.
+    pub fn discard(self) {}
+
     /// Returns a session at a snapshot, as `resume` does, and keeps the snapshot. No name and no
     /// byte is copied.
     pub fn thaw(alloc: Global, version: &Version) -> Result<Session, OutOfMemory>
@@ -457,8 +471,7 @@ impl Session {
         ensures next { IfOk result (λ v. v.next ≡ (live self.now).next) }
     {
         let Base { label, number } = self.next_base();
-        let mut heap = self.heap.try_clone()?;
-        heap.collect();
+        let heap = self.heap.try_collected()?;
         Ok(Version {
             heap,
             label,
@@ -516,11 +529,13 @@ impl Session {
             ≡ record (running.start changes.now.label model.no_session) { next = changes.now.next }) }
     {
         let nothing = Heap::new(self.alloc);
-        let mut heap = replace(&mut self.heap, nothing);
-        redo(&mut heap, changes)?;
-        self.trace = Trace::new(self.alloc, changes.label);
+        let heap = replace(&mut self.heap, nothing);
+        let heap = redone(heap, changes)?;
+        let seen = replace(&mut self.trace, Trace::new(self.alloc, changes.label));
+        seen.discard();
         self.next = changes.next;
-        self.heap = heap;
+        let nothing = replace(&mut self.heap, heap);
+        nothing.discard();
         Ok(())
     }
 }

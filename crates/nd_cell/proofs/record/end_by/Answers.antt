@@ -16,5 +16,5 @@ returns-in-Python c =
 
 pub returns-in-Atomic : goal.returns-in-Atomic
 returns-in-Atomic c =
-    atomic_end (rule_of c.args.rule) (thawed c.args.before) (string_bytes c.args.gives.text) c.args.gives.refusal (saves_of c.args.gives.saves.entries) (saves_of c.new.result.entries) (live c.args.session.now) (live c.resume.result)
-    (ap rule_of c.in-Atomic.is) (c.is_none.ensures ∙ ap not c.if-is_none.false) (ap saves_of c.new.ensures.empty) c.resume.ensures
+    atomic_end (rule_of c.args.rule) (thawed c.args.before) (string_bytes c.args.gives.text) c.args.gives.refusal (saves_of c.args.gives.saves.entries) (saves_of c.new.result.entries) (live c.args.session.now) (live c.replace-refused.new.dest)
+    (ap rule_of c.in-Atomic.is) (c.is_none.ensures ∙ ap not c.if-is_none.false) (ap saves_of c.new.ensures.empty) (ap live c.replace-refused.ensures.after ∙ c.resume.ensures)

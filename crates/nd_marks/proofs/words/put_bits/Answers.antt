@@ -1,4 +1,4 @@
-use Rattle.std.proofs.Common.{◌∙◌, ◌≡◌, ◌||◌, ◌&&◌, ◌/◌, ◌%◌, ◌*◌, not, true, nat_lt, nat_eq, refl, ap, arith}
+use Rattle.std.proofs.Common.{◌∙◌, ◌≡◌, ◌||◌, ◌&&◌, ◌*◌, not, true, nat_lt, refl, ap, arith}
 use Rattle.std.proofs.lemmas.Bool.Decides.{nat_tests}
 use Rattle.nd_marks.specs.Marks.{has_bit}
 use Rattle.nd_marks.proofs.Bits.{before_word, nothing_more, word_set}

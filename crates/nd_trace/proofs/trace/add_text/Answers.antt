@@ -1,4 +1,4 @@
-use Rattle.std.proofs.Common.{◌≡◌, ◌∙◌, ◌++◌, ◌∷◌, [], cond, map, sym, string_bytes, ap}
+use Rattle.std.proofs.Common.{◌∙◌, ◌++◌, ◌∷◌, [], cond, map, sym, string_bytes, ap}
 use Rattle.nd_trace.proofs.Traces.{found_text, text_more}
 use Rattle.nd_trace.proofs.trace.add_text.Goals as goal
 

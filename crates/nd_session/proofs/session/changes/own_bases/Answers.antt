@@ -9,5 +9,5 @@ use Rattle.nd_session.proofs.session.changes.own_bases.Goals as goal
 
 pub returns : goal.returns
 returns c = λ b own. ap (λ es. is_base_among (bases_of es) b) c.retain_own.ensures ∙ own_kept c.args.label c.in_ok-own.own.entries b own
-    ∙ c.in_ok-own.ensures b ∙ ap (is_held b) c.in_ok-replay.ensures.names
+    ∙ c.in_ok-own.ensures b
     ∙ ap (λ ns. is_held b (replayed (map event_of c.args.events.now) ns)) c.new-heap.ensures.names

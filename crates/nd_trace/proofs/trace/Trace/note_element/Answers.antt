@@ -1,4 +1,4 @@
-use Rattle.std.proofs.Common.{◌≡◌, ◌∙◌, ◌||◌, ◌&&◌, not, nat_eq, ap, arith}
+use Rattle.std.proofs.Common.{◌∙◌, ◌||◌, ◌&&◌, not, ap, arith}
 use Rattle.std.proofs.lemmas.Bool.Decides.{nat_tests}
 use Rattle.nd_model.specs.Arrays.View.{element_places}
 use Rattle.nd_types.specs.Types.{type_of}

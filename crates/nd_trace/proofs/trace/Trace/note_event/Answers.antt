@@ -1,5 +1,3 @@
-use Rattle.std.proofs.Common.{◌≡◌, ◌∙◌, ◌++◌, ◌∷◌, [], ap, arith}
-use Rattle.nd_trace.specs.Seen.{Seen}
 use Rattle.nd_trace.proofs.Touched.{touched_more}
 use Rattle.nd_trace.proofs.trace.Trace.note_event.Goals as goal
 

@@ -1,4 +1,4 @@
-use Rattle.std.proofs.Common.{◌≡◌, ◌∙◌, Bool, cond, List, ℕ, Option, map, option_map, sym, string_bytes, ap, ap₂}
+use Rattle.std.proofs.Common.{◌≡◌, ◌∙◌, cond, List, ℕ, Option, map, option_map, sym, string_bytes, ap, ap₂}
 use Rattle.nd_model.specs.Arrays.Value as model
 use Rattle.nd_model.specs.Cells.Running as running
 use Rattle.nd_heap.specs.Values.{base_of, value_of}

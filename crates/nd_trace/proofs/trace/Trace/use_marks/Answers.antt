@@ -2,7 +2,6 @@ use Rattle.std.proofs.Common.{◌≡◌, ◌∙◌, ◌||◌, ◌&&◌, false, n
 use Rattle.nd_model.specs.Arrays.Value.{same_base}
 use Rattle.nd_model.specs.Cells.Session.{is_in}
 use Rattle.nd_model.specs.Cells.Running as running
-use Rattle.nd_marks.specs.Marks.{holds}
 use Rattle.nd_heap.specs.Values.{base_of}
 use Rattle.nd_heap.proofs.Bases.{at_err, on_err}
 use Rattle.nd_trace.specs.Contents.{marks_of}

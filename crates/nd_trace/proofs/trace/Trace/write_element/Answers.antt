@@ -1,4 +1,4 @@
-use Rattle.std.proofs.Common.{◌≡◌, ◌∙◌, ◌||◌, ◌&&◌, not, sym, ap}
+use Rattle.std.proofs.Common.{◌∙◌, ◌||◌, ◌&&◌, not, sym, ap}
 use Rattle.nd_model.specs.Arrays.View.{element_places}
 use Rattle.nd_types.specs.Types.{type_of}
 use Rattle.nd_model.specs.Cells.Session.{is_in}

@@ -1,4 +1,4 @@
-use Rattle.std.proofs.Common.{◌≡◌, ◌∙◌, ◌||◌, ◌&&◌, not, sym, ap}
+use Rattle.std.proofs.Common.{◌∙◌, ◌||◌, ◌&&◌, not, sym, ap}
 use Rattle.nd_model.specs.Arrays.View.{byte_places}
 use Rattle.nd_model.specs.Cells.Session.{is_in}
 use Rattle.nd_marks.specs.Marks.{holds}

@@ -16,9 +16,8 @@ pub returns-clause-session : goal.returns-clause-session
 unfolding live
 returns-clause-session c =
     (λ i. record {
-      names = (c.collect.ensures.names ∙ ap (λ (h : HeapData). h.names) c.in_ok-heap.ensures) i;
-      bytes = fun_ext (λ (b : Base). c.collect.ensures.bytes b
-          ∙ ap (λ (h : HeapData). cond (model.is_held b h.names) (bytes_at h.blocks b) []) c.in_ok-heap.ensures) i;
+      names = c.in_ok-heap.ensures.names i;
+      bytes = fun_ext c.in_ok-heap.ensures.bytes i;
     })
     ∙ ap (λ (s : State). model.collected (running.session_of (live s))) c.self.view_is
 
@@ -26,9 +25,8 @@ pub invariant_of-result : goal.invariant_of-result
 unfolding live
 invariant_of-result c =
     let s = running.session_of (live (state_of c.self.inside)) in
-    let bytes = bytes_at c.collect.new.self.blocks in
+    let bytes = bytes_at c.in_ok-heap.heap.blocks in
     let is = c.next_base-label.ensures ∙ sym (ap (λ (s : State). record { label = (live s).label; number = (live s).next }) c.self.view_is) in
-    subst (λ (b : Base). AllLie b.label b.number bytes c.collect.new.self.names) (sym is)
-    (subst (λ (es : model.Names). AllLie c.self.inside.trace.label c.self.inside.next bytes es) (sym (c.collect.ensures.names ∙ ap (λ (h : HeapData). h.names) c.in_ok-heap.ensures))
-    (with_held c.self.inside.trace.label c.self.inside.next s bytes (λ b. c.collect.ensures.bytes b
-    ∙ ap (λ (h : HeapData). cond (model.is_held b h.names) (bytes_at h.blocks b) []) c.in_ok-heap.ensures) c.self.invariant))
+    subst (λ (b : Base). AllLie b.label b.number bytes c.in_ok-heap.heap.names) (sym is)
+    (subst (λ (es : model.Names). AllLie c.self.inside.trace.label c.self.inside.next bytes es) (sym c.in_ok-heap.ensures.names)
+    (with_held c.self.inside.trace.label c.self.inside.next s bytes c.in_ok-heap.ensures.bytes c.self.invariant))

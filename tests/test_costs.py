@@ -1,4 +1,4 @@
-"""What edits allocate in a long notebook and in a short one: no contract speaks of it."""
+"""What edits cost in a long notebook and in a short one: no contract speaks of it."""
 from __future__ import annotations
 
 import os
@@ -12,6 +12,7 @@ TOP = Path(__file__).resolve().parents[1]
 sys.path.insert(0, str(TOP / 'tools'))
 
 import refusals  # noqa: E402
+from driver import Program  # noqa: E402
 
 SHORT, LONG = 64, 1_024
 # More snapshots are in the long notebook, and each may keep a change.
@@ -88,6 +89,25 @@ class Costs(unittest.TestCase):
                         for count in (64, 2**20))
         self.assertGreater(small, STATEMENTS)
         self.assertLess(large - small, STATEMENTS)
+
+
+@unittest.skipUnless(real_program(), 'no program: NDNOTE_PROGRAM, or crates/ndnote/out/ndnote')
+class FarMoves(unittest.TestCase):
+    """Processor times, each the least of some turns: what a replay costs is no allocation."""
+
+    CELLS, TURNS = 2_000, 5
+
+    def test_a_cell_that_moves_far_is_put_in_over_a_snapshot(self) -> None:
+        """Were each cell between its two places replayed, a move would cost a seventh of inserting all."""
+        program = Program(real_program())
+        self.addCleanup(program.close)
+        whole = program.load(arrays(self.CELLS))
+        last, up, down = self.CELLS - 1, [], []
+        for _turn in range(self.TURNS):
+            up.append(program.move(last, 1)[0])
+            down.append(program.move(1, last)[0])
+        self.assertLess(min(up), whole / 30)
+        self.assertLess(min(down), whole / 30)
 
 
 if __name__ == '__main__':

@@ -121,6 +121,7 @@ pub(crate) fn low64(value: i128) -> u64
 }
 
 // Writes a single byte, which is the same in both byte orders.
+#[inline(always)]
 fn put8(bytes: &mut [u8], place: usize, word: u8, big: bool)
     requires { place < length bytes.old }
     ensures { bytes.new ≡ with_bytes bytes.old place (bytes_in (width_of Int8) big word) }
@@ -130,6 +131,7 @@ fn put8(bytes: &mut [u8], place: usize, word: u8, big: bool)
     bytes[place] = word;
 }
 
+#[inline(always)]
 fn put16(bytes: &mut [u8], place: usize, word: u16, big: bool)
     requires { place + 2 ≤ length bytes.old }
     ensures { bytes.new ≡ with_bytes bytes.old place (bytes_in (width_of Int16) big word) }
@@ -137,6 +139,7 @@ fn put16(bytes: &mut [u8], place: usize, word: u16, big: bool)
     bytes[place..place + 2].copy_from_slice(&bytes16(word, big));
 }
 
+#[inline(always)]
 fn put32(bytes: &mut [u8], place: usize, word: u32, big: bool)
     requires { place + 4 ≤ length bytes.old }
     ensures { bytes.new ≡ with_bytes bytes.old place (bytes_in (width_of Int32) big word) }
@@ -144,6 +147,7 @@ fn put32(bytes: &mut [u8], place: usize, word: u32, big: bool)
     bytes[place..place + 4].copy_from_slice(&bytes32(word, big));
 }
 
+#[inline(always)]
 fn put64(bytes: &mut [u8], place: usize, word: u64, big: bool)
     requires { place + 8 ≤ length bytes.old }
     ensures { bytes.new ≡ with_bytes bytes.old place (bytes_in (width_of Int64) big word) }

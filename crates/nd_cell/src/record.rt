@@ -73,18 +73,18 @@ fn end_by(rule: CellRule, session: &mut Session, before: Version, gives: CellRes
         (ended_under (rule_of rule) (thawed before) (ended_of gives (live session.old))) }
 {
     if gives.refusal.is_none() {
-        before.discard();
+        drop(before);
         return gives;
     }
     match rule {
         CellRule::Python => {
-            before.discard();
+            drop(before);
             gives
         }
         CellRule::Atomic => {
             let alloc = session.allocator();
             let refused = replace(session, Session::resume(alloc, before));
-            refused.discard();
+            drop(refused);
             CellResult {
                 text: gives.text,
                 refusal: gives.refusal,

@@ -96,7 +96,10 @@ pub fn show_value<O: AnswerWrite>(
         (O.state out.old) (O.state out.new) (book_of notebook.now) }
 {
     match notebook.value(at, name) {
-        Ok(value) => push_value(alloc, out, &value),
+        Ok(value) => {
+            push_value(alloc, out, &value);
+            drop(value);
+        }
         Err(fault) => push_query_refusal(out, name, fault),
     }
 }

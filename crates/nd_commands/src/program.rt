@@ -240,14 +240,25 @@ fn run_path<'a>(
     }
 }
 
+/// Runs the script that is asked for over its inputs, on a notebook without cells.
+fn run_request<'a>(
+    rt: &HostRuntime,
+    request: &Request<'a>,
+    notebook: &mut Notebook,
+) -> Result<(), ProgramFault<'a>> {
+    let mut meter = Meter::new(rt);
+    set_inputs(rt, &mut meter, notebook, &request.inputs)?;
+    run_path(rt, request.script, &mut meter, notebook)
+}
+
 /// Runs the script that a command line names, of which the first word is the program, over its
 /// inputs.
 fn run_command_line<'a>(rt: &HostRuntime, words: &'a [String]) -> Result<(), ProgramFault<'a>> {
     let request = request_of(rt.alloc(), words)?;
-    let mut meter = Meter::new(rt);
     let mut notebook = Notebook::new(rt.alloc());
-    set_inputs(rt, &mut meter, &mut notebook, &request.inputs)?;
-    run_path(rt, request.script, &mut meter, &mut notebook)
+    let ended = run_request(rt, &request, &mut notebook);
+    drop(notebook);
+    ended
 }
 
 /// The exit status of a run, of which a fault is said on standard error.

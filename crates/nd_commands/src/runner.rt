@@ -109,7 +109,9 @@ pub fn run_script<R: CountedRead, W: CountedWrite>(
     ensures writer_kept { OnOk result (W.failures writer.new ≡ W.failures writer.old) }
 {
     let mut notebook = Notebook::new(alloc);
-    run(alloc, reader, writer, meter, &mut notebook)
+    let ended = run(alloc, reader, writer, meter, &mut notebook);
+    drop(notebook);
+    ended
 }
 
 // Room for a source of any length that a cell may have. Without memory for it there is none yet.

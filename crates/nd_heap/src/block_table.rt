@@ -70,16 +70,21 @@ impl BlockTable {
         ensures blocks { IfOk result (λ t. t.blocks ≡ self.now.blocks) }
         ensures room { IfOk result (λ t. room ≤ t.room) }
     {
-        let shared = self.shared.try_clone()?;
         let mut gone = self.gone.clone()?;
         gone.reserve(room)?;
         let newer = self.newer.clone()?;
-        Ok(BlockTable {
-            shared,
-            gone,
-            newer,
-            alloc: self.alloc,
-        })
+        match self.shared.try_clone() {
+            Ok(shared) => Ok(BlockTable {
+                shared,
+                gone,
+                newer,
+                alloc: self.alloc,
+            }),
+            Err(memory) => {
+                drop(newer);
+                Err(memory.into())
+            }
+        }
     }
 
     /// Makes room to take out `room` blocks.

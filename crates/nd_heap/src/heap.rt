@@ -145,14 +145,19 @@ impl Heap {
     pub fn try_clone(&self) -> Result<Heap, OutOfMemory>
         ensures { IfOk result (λ h. h ≡ self.now) }
     {
-        let names = self.names.try_clone()?;
         let loose = self.loose.clone()?;
         let blocks = self.blocks.try_clone(loose.len())?;
-        Ok(Heap {
-            names,
-            blocks,
-            loose,
-        })
+        match self.names.try_clone() {
+            Ok(names) => Ok(Heap {
+                names,
+                blocks,
+                loose,
+            }),
+            Err(memory) => {
+                drop(blocks);
+                Err(memory)
+            }
+        }
     }
 
     /// How many names are bound.
@@ -329,9 +334,6 @@ impl Heap {
         Ok(())
     }
 
-    /// proof: drops the heap, apart from a caller whose proof would be long.
-    pub fn discard(self) {}
-
     /// Gives up the blocks that no bound value lies in. Only those of loose bases are looked at,
     /// and no memory is taken.
     ///
@@ -355,8 +357,13 @@ impl Heap {
     {
         let mut heap = self.try_clone()?;
         heap.collect();
-        heap.settle()?;
-        Ok(heap)
+        match heap.settle() {
+            Ok(()) => Ok(heap),
+            Err(memory) => {
+                drop(heap);
+                Err(memory)
+            }
+        }
     }
 
     /// Gives up the blocks of a label that no bound value lies in. Only those of loose bases are

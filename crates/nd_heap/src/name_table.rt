@@ -71,15 +71,17 @@ impl NameTable {
     pub(crate) fn try_clone(&self) -> Result<NameTable, OutOfMemory>
         ensures { IfOk result (λ t. t ≡ self.now) }
     {
-        let shared = self.shared.try_clone()?;
         let newer = self.newer.clone()?;
         let added = self.added.clone()?;
-        Ok(NameTable {
-            shared,
-            newer,
-            added,
-            alloc: self.alloc,
-        })
+        match self.shared.try_clone() {
+            Ok(shared) => Ok(NameTable {
+                shared,
+                newer,
+                added,
+                alloc: self.alloc,
+            }),
+            Err(memory) => Err(memory.into()),
+        }
     }
 
     /// proof: no name stands twice.

@@ -285,7 +285,7 @@ impl Notebook {
     {
         let session = self.schedule.session_like(at)?;
         let frozen = session.freeze();
-        session.discard();
+        drop(session);
         let version = frozen?;
         Ok(version)
     }

@@ -191,9 +191,6 @@ impl Trace {
         }
     }
 
-    /// proof: drops the trace, apart from a caller whose proof would be long.
-    pub fn discard(self) {}
-
     /// The running cell's label.
     pub fn label(&self) -> u64
         ensures { result ≡ self.now.label }

@@ -126,5 +126,8 @@ pub(crate) fn run_row(rt: &HostRuntime, title: &str, lines: &str) -> io::Result<
     let texts = unescape_lines(rt.alloc(), lines)?;
     let inputs = inputs_of(rt.alloc(), &texts)?;
     let edits = edits_of(rt.alloc(), &texts, &inputs)?;
-    print_edits(rt, &mut Notebook::new(rt.alloc()), &edits)
+    let mut notebook = Notebook::new(rt.alloc());
+    let printed = print_edits(rt, &mut notebook, &edits);
+    drop(notebook);
+    printed
 }

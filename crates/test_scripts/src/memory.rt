@@ -16,20 +16,29 @@ struct Cell<'a> {
     y: Option<[u8; 4]>,
 }
 
+/// Whether memory was wanted for an answer.
+fn wants_memory<T>(answer: &Result<T, QueryFault>) -> bool {
+    matches!(answer, Err(QueryFault::Memory(_)))
+}
+
 /// The names that are bound after a cell, asked for again where memory was wanted.
 fn names_of(notebook: &Notebook, at: usize) -> Result<Vec<String>, QueryFault> {
-    match notebook.names(at) {
-        Err(QueryFault::Memory(_)) => notebook.names(at),
-        answer => answer,
+    let names = notebook.names(at);
+    if !wants_memory(&names) {
+        return names;
     }
+    drop(names);
+    notebook.names(at)
 }
 
 /// The value of a name after a cell, asked for again where memory was wanted.
 fn value_of(notebook: &Notebook, at: usize, name: &str) -> Result<BoundValue, QueryFault> {
-    match notebook.value(at, name) {
-        Err(QueryFault::Memory(_)) => notebook.value(at, name),
-        answer => answer,
+    let value = notebook.value(at, name);
+    if !wants_memory(&value) {
+        return value;
     }
+    drop(value);
+    notebook.value(at, name)
 }
 
 /// Whether the bytes are those of these elements.
@@ -51,10 +60,13 @@ fn is_array_of(value: Shown<'_>, elements: [u8; 4]) -> bool {
 
 /// Whether the value of the name after the cell is an array of these elements.
 fn is_array(notebook: &Notebook, at: usize, name: &str, elements: [u8; 4]) -> bool {
-    match value_of(notebook, at, name) {
+    let found = value_of(notebook, at, name);
+    let is_array = match &found {
         Ok(value) => is_array_of(value.shown(), elements),
         Err(_) => false,
-    }
+    };
+    drop(found);
+    is_array
 }
 
 /// Whether the names are `x`, and behind it `y` where there is one.
@@ -262,9 +274,8 @@ fn say(rt: &HostRuntime, is_right: bool) -> io::Result<()> {
 }
 
 /// Makes two edits by one call, a second time where memory was wanted for the answers: whether no
-/// edit was made in between.
-fn are_made_at_once(alloc: Global, meter: &mut Meter) -> bool {
-    let mut notebook = Notebook::new(alloc);
+/// edit was made in between. The notebook has no cells.
+fn are_made_at_once(notebook: &mut Notebook, meter: &mut Meter) -> bool {
     let edits = [STEPS[0].edit, STEPS[1].edit];
     if notebook.apply_all(meter, &edits).is_ok() {
         return true;
@@ -272,14 +283,24 @@ fn are_made_at_once(alloc: Global, meter: &mut Meter) -> bool {
     notebook.count() == 0 && notebook.apply_all(meter, &edits).is_ok()
 }
 
-/// Makes the edits, and says of each whether it was right.
-pub(crate) fn print_edits(rt: &HostRuntime) -> io::Result<()> {
-    let mut notebook = Notebook::new(rt.alloc());
-    let mut meter = Meter::new(rt);
+/// Makes the edits on a notebook without cells, and says of each whether it was right.
+fn print_steps(rt: &HostRuntime, notebook: &mut Notebook, meter: &mut Meter) -> io::Result<()> {
     for step in &STEPS {
-        let is_step_right = is_right(&mut notebook, &mut meter, *step);
+        let is_step_right = is_right(notebook, meter, *step);
         say(rt, is_step_right)?;
     }
-    let are_made = are_made_at_once(rt.alloc(), &mut meter);
+    Ok(())
+}
+
+/// Makes the edits one by one, and two of them by one call.
+pub(crate) fn print_edits(rt: &HostRuntime) -> io::Result<()> {
+    let mut meter = Meter::new(rt);
+    let mut notebook = Notebook::new(rt.alloc());
+    let said = print_steps(rt, &mut notebook, &mut meter);
+    drop(notebook);
+    said?;
+    let mut notebook = Notebook::new(rt.alloc());
+    let are_made = are_made_at_once(&mut notebook, &mut meter);
+    drop(notebook);
     say(rt, are_made)
 }

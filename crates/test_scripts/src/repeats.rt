@@ -76,13 +76,25 @@ fn make_edits(
     Ok(true)
 }
 
+/// Makes the edits on a notebook without cells, and prints what the cells printed in the end.
+fn repeat_edits(
+    rt: &HostRuntime,
+    meter: &mut Meter,
+    notebook: &mut Notebook,
+    lines: &str,
+) -> io::Result<()> {
+    if !make_edits(rt, meter, notebook, lines)? {
+        println!(rt; "an edit that wanted memory changed something")?;
+    }
+    print_texts(rt, notebook)
+}
+
 /// Makes the edits that stand below a title, and prints what the cells printed in the end.
 pub(crate) fn repeat_row(rt: &HostRuntime, title: &str, lines: &str) -> io::Result<()> {
     println!(rt; "= edits: {title}")?;
     let mut meter = Meter::new(rt);
     let mut notebook = Notebook::new(rt.alloc());
-    if !make_edits(rt, &mut meter, &mut notebook, lines)? {
-        println!(rt; "an edit that wanted memory changed something")?;
-    }
-    print_texts(rt, &notebook)
+    let repeated = repeat_edits(rt, &mut meter, &mut notebook, lines);
+    drop(notebook);
+    repeated
 }

@@ -118,7 +118,10 @@ fn print_cells_kept(rt: &HostRuntime, notebook: &mut Notebook) -> io::Result<()>
 
 /// Prints the cells that a new notebook has after a script that cannot be read to its end.
 fn print_kept(rt: &HostRuntime) -> io::Result<()> {
-    print_cells_kept(rt, &mut Notebook::new(rt.alloc()))
+    let mut notebook = Notebook::new(rt.alloc());
+    let printed = print_cells_kept(rt, &mut notebook);
+    drop(notebook);
+    printed
 }
 
 /// Three reads of a script that has no end.
@@ -134,6 +137,7 @@ fn print_endless(rt: &HostRuntime) -> io::Result<()> {
         &mut notebook,
         3,
     );
+    drop(notebook);
     print_end(
         rt,
         "a reader without an end",

@@ -249,6 +249,7 @@ pub(crate) fn move_down<C: CellRunner>(
         to + 1,
         from,
         snapshots,
+        true,
         state,
         &mut noted,
     )?;
@@ -274,6 +275,7 @@ pub(crate) fn move_down<C: CellRunner>(
         cells.len(),
         to + 1,
         snapshots,
+        false,
         state,
         &mut noted,
     )?;
@@ -371,6 +373,7 @@ pub(crate) fn move_up<C: CellRunner>(
         from,
         to + 1,
         snapshots,
+        true,
         state,
         &mut noted,
     )?;
@@ -387,6 +390,7 @@ pub(crate) fn move_up<C: CellRunner>(
         cells.len(),
         from + 1,
         snapshots,
+        false,
         state,
         &mut noted,
     )?;

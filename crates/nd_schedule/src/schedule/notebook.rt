@@ -274,6 +274,7 @@ impl<C: CellRunner> Schedule<C> {
             self.cells.len(),
             now,
             &self.snapshots,
+            false,
             &mut state,
             &mut noted,
         );

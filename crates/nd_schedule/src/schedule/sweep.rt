@@ -328,6 +328,37 @@ fn may_run<C: CellRunner>(
     false
 }
 
+/// Whether no snapshot stands behind a place and up to another.
+fn is_last<C: CellRunner>(snapshots: &[Snapshot<C>], place: usize, to: usize) -> bool {
+    for snapshot in snapshots {
+        if place < snapshot.place && snapshot.place <= to {
+            return false;
+        }
+    }
+    true
+}
+
+/// Whether the snapshot at a place is of use as the session at hand: a cell behind it may run, or a session is wanted at the end, and no
+/// snapshot stands nearer to that. No answer depends on it.
+fn is_session_due<C: CellRunner>(
+    records: &[Rc<C::Record>],
+    words: &[C::Word],
+    snapshots: &[Snapshot<C>],
+    place: usize,
+    to: usize,
+    is_wanted: bool,
+    state: &SweepState<C>,
+) -> bool
+    requires records { to ≤ length records.now }
+    requires places { to ≤ length words.now }
+{
+    if is_wanted && state.since < place && is_last::<C>(snapshots, place, to) {
+        return true;
+    }
+    let next = to.min(place.saturating_add(distance(to)));
+    may_run::<C>(records, words, place, next, state)
+}
+
 /// Takes a snapshot with the change put over it as the session at hand, where that is nearer. Where it cannot be patched, and for want of
 /// memory, the session at hand stays.
 fn take_nearer<C: CellRunner>(
@@ -360,7 +391,8 @@ fn take_nearer<C: CellRunner>(
     state.since = snapshot.place;
 }
 
-/// Goes past the cells from a place up to another. Where a snapshot stands, the change there is noted with the place now.
+/// Goes past the cells from a place up to another. Where a snapshot stands, the change there is noted with the place now. Where a session
+/// is wanted behind them, the last snapshot is taken as the session at hand.
 pub(crate) fn sweep<C: CellRunner>(
     alloc: Global,
     meter: &mut Meter,
@@ -372,6 +404,7 @@ pub(crate) fn sweep<C: CellRunner>(
     to: usize,
     now: usize,
     snapshots: &[Snapshot<C>],
+    is_wanted: bool,
     state: &mut SweepState<C>,
     noted: &mut Vec<Noted<C>>,
 ) -> Result<(), AllocError>
@@ -442,8 +475,7 @@ pub(crate) fn sweep<C: CellRunner>(
         sweep_between::<C>(alloc, meter, cells, records, words, world, at, place, state)?;
         let is_end = place == records.len();
         note::<C>(place, now + (place - i), is_end, &state.change, noted);
-        let next = to.min(place.saturating_add(distance(to)));
-        let is_due = may_run::<C>(records, words, place, next, state);
+        let is_due = is_session_due::<C>(records, words, snapshots, place, to, is_wanted, state);
         take_nearer::<C>(alloc, snapshot, is_due, state);
         at = place;
     }

@@ -100,7 +100,7 @@ fn own_bases(alloc: Global, label: u64, events: &[Event]) -> Result<Bases, OutOf
 {
     let mut heap = Heap::new(alloc);
     let held = held_behind(&mut heap, events);
-    heap.discard();
+    drop(heap);
     let mut own = held?;
     retain_own(&mut own, label);
     Ok(own)

@@ -274,10 +274,10 @@ impl Reads {
             → found_of r k ≡ Some (found_in (version_of before.now)
             (world_of (inputs_of inputs.now.entries) rule) k)) }
     {
-        let names = find_names(alloc, trace.names(), before)?;
-        let inputs = find_inputs(alloc, trace.inputs(), inputs)?;
         let lengths = find_lengths(alloc, trace.bases(), before)?;
         let bytes = find_bytes(alloc, trace.used_bytes(), before)?;
+        let inputs = find_inputs(alloc, trace.inputs(), inputs)?;
+        let names = find_names(alloc, trace.names(), before)?;
         Ok(Reads {
             names,
             inputs,

@@ -106,7 +106,7 @@ pub(crate) fn redone(heap: Heap, changes: &Changes) -> Result<Heap, OutOfMemory>
     match redo(&mut heap, changes) {
         Ok(()) => Ok(heap),
         Err(memory) => {
-            heap.discard();
+            drop(heap);
             Err(memory)
         }
     }

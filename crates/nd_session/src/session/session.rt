@@ -110,7 +110,7 @@ impl Session {
     {
         self.heap.collect();
         let seen = replace(&mut self.trace, Trace::new(self.alloc, label));
-        seen.discard();
+        drop(seen);
         self.next = 0;
         self.load = 0;
     }
@@ -357,7 +357,8 @@ impl Session {
     /// Gives up the blocks that the running cell made and no bound value lies in.
     #[tactic(auto, unfolding(crate::specs::Session::Live::live))]
     fn collect_own(&mut self) -> Result<(), OutOfMemory>
-        ensures { OnOk result (live self.new ≡ own_collected (live self.old)) }
+        ensures ok { OnOk result (live self.new ≡ own_collected (live self.old)) }
+        ensures err { OnErr result (live self.new ≡ live self.old) }
     {
         self.heap.collect_label(self.trace.label())?;
         self.load = 0;
@@ -379,7 +380,8 @@ impl Session {
     /// After `x = x + 1` in the running cell, which made the first block of `x` too, it may give up
     /// that block. Of a view that another name has it gives up nothing.
     pub fn collect_due(&mut self) -> Result<(), OutOfMemory>
-        ensures { OnOk result (IsSameInReach (live self.old) (live self.new)) }
+        ensures ok { OnOk result (IsSameInReach (live self.old) (live self.new)) }
+        ensures err { OnErr result (live self.new ≡ live self.old) }
     {
         self.settle()?;
         if self.load / LOAD_OF_A_NAME <= self.heap.count().max(FEW_NAMES) {
@@ -447,9 +449,6 @@ impl Session {
         }
     }
 
-    /// proof: drops the session, apart from a caller whose proof would be long.
-    pub fn discard(self) {}
-
     /// Returns a session at a snapshot, as `resume` does, and keeps the snapshot. No name and no
     /// byte is copied.
     pub fn thaw(alloc: Global, version: &Version) -> Result<Session, OutOfMemory>
@@ -502,13 +501,13 @@ impl Session {
         let next = next_now(&change.names, label, self.next);
         let done = put_over(self.alloc, &mut heap, change, label, self.next, next);
         if !is_done(&done) {
-            heap.discard();
+            drop(heap);
             return done;
         }
         heap.distinctness();
         self.next = next;
         let nothing = replace(&mut self.heap, heap);
-        nothing.discard();
+        drop(nothing);
         Ok(true)
     }
 
@@ -532,10 +531,10 @@ impl Session {
         let heap = replace(&mut self.heap, nothing);
         let heap = redone(heap, changes)?;
         let seen = replace(&mut self.trace, Trace::new(self.alloc, changes.label));
-        seen.discard();
+        drop(seen);
         self.next = changes.next;
         let nothing = replace(&mut self.heap, heap);
-        nothing.discard();
+        drop(nothing);
         Ok(())
     }
 }

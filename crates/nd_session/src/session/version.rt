@@ -51,9 +51,6 @@ impl Version {
         })
     }
 
-    /// proof: drops the snapshot, apart from a caller whose proof would be long.
-    pub fn discard(self) {}
-
     /// Returns the value of a name.
     pub fn peek(&self, name: &str) -> Option<&Value>
         ensures { option_map (λ v. value_of v.now) result

@@ -24,9 +24,9 @@ loop-line-preserved c =
     c.loop-line-test.true c.line-item.is c.if-is_some.ensures c.in_ok-refusal.ensures.meaning in (
       ends_on whole (statements i behind text saves ran) (statements i behind text saves now)
           (subst (λ (f : Ended). EndsInReach whole f) line c.loop-line.invariant.0)
-          (reach_is_all i behind text saves ran now c.in_ok-collect_due.ensures),
+          (reach_is_all i behind text saves ran now c.in_ok-collect_due.ensures.ok),
       let more = tokens_more c.args.lines.now c.loop-line.line-index c.line-item.result c.loop-line-test.true c.line-item.is in
-          let next : now.next ≡ ran.next = ap (λ (r : Running). r.next) c.in_ok-collect_due.ensures.rest in
+          let next : now.next ≡ ran.next = ap (λ (r : Running). r.next) c.in_ok-collect_due.ensures.ok.rest in
           omega (arith, c.loop-line.invariant.1, c.in_ok-refusal.ensures.numbers, more, next),
     )
 

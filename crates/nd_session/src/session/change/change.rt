@@ -104,10 +104,10 @@ impl Change {
     pub fn try_clone(&self) -> Result<Change, OutOfMemory>
         ensures { IfOk result (λ c. change_of c ≡ change_of self.now) }
     {
-        let names = self.names.clone()?;
-        let inputs = self.inputs.clone()?;
         let blocks = self.blocks.clone()?;
         let parts = self.parts.clone()?;
+        let inputs = self.inputs.clone()?;
+        let names = self.names.clone()?;
         Ok(Change {
             names,
             inputs,

@@ -5,9 +5,9 @@ use Rattle.nd_heap.proofs.Bases.{cloned_blocks}
 use Rattle.nd_heap.proofs.Picking.{cloned_bases}
 use Rattle.nd_heap.proofs.block_table.BlockTable.try_clone.Goals as goal
 
-pub returns-clause-blocks : goal.returns-clause-blocks
-returns-clause-blocks c =
+pub returns-in-Ok-clause-blocks : goal.returns-in-Ok-clause-blocks
+returns-in-Ok-clause-blocks c =
     let gone = ap bases_of c.reserve.ensures.entries ∙ cloned_bases _ _ c.in_ok-gone.ensures.cases in
     ap₂ (λ xs ys. xs ++ ys) (cloned_blocks _ _ c.in_ok-newer.ensures.cases)
-    (ap₂ without gone (⊎_elim (λ e. ap (λ m. blocks_of m.entries) e) (cloned_blocks _ _) c.in_ok-shared.ensures))
+    (ap₂ without gone (⊎_elim (λ e. ap (λ m. blocks_of m.entries) e) (cloned_blocks _ _) c.in-Ok.ensures))
     ∙ ap (λ (t : TableData). t.blocks) c.self.view_is

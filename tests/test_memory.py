@@ -4,6 +4,7 @@ from __future__ import annotations
 import os
 import resource
 import subprocess
+import sys
 import tempfile
 import threading
 import unittest
@@ -11,6 +12,10 @@ from pathlib import Path
 from typing import Optional
 
 TOP = Path(__file__).resolve().parents[1]
+sys.path.insert(0, str(TOP / 'tools'))
+
+from driver import Program  # noqa: E402
+
 MIB = 1 << 20
 HEADER = b"{'descr': '|u1', 'fortran_order': False, 'shape': (%d,), }"
 SHOWN = b'insert 0\nprint(1)\n.\nshow 0\n'
@@ -49,6 +54,16 @@ class Memory(unittest.TestCase):
             ran = self.run_within(80, SHOWN, f'big.npy={path}')
         self.assertEqual((ran.returncode, ran.stderr), (0, b''))
         self.assertEqual(ran.stdout, b'ok\ntext 2\n1\nok\nend\n')
+
+    def test_a_stencil_keeps_its_image_and_no_bit_for_each_byte(self) -> None:
+        """200 generations of life on 512 by 512: 50 MiB of images, and 6 more if the bits of each read were kept."""
+        around = ' + '.join(f'g[{a}:{a + 510}, {b}:{b + 510}]' for a in range(3) for b in range(3) if (a, b) != (1, 1))
+        step = f'g[1:-1, 1:-1] = ({around} | g[1:-1, 1:-1]) == 3'
+        cells = ["k = np.arange(512 * 512).reshape(512, 512)\ng = (k * k % 7 < 2).astype('uint8')\ndel k", *[step] * 200]
+        program = Program(real_program())
+        self.addCleanup(program.close)
+        program.load(cells)
+        self.assertLess(program.memory()[0], 60 * MIB)
 
     def test_an_input_of_a_pipe_is_read_to_its_end(self) -> None:
         script = b"insert 0\nx = np.load('p.npy')\nprint(x.sum())\n.\nshow 0\n"

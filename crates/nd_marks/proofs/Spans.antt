@@ -31,6 +31,13 @@ bit_within ws p h = elim (cases_lt p (length ws * 64)) [
 pub all_bits : (i : ℕ) → i < 64 → in_word 18446744073709551615 i ≡ true
 all_bits i lt = ap (λ b. nat_eq b 1) (bit_at_ones 64 i lt)
 
+-- the bits of a word that are all set
+pub full_word : (ws : List ℕ) (at p : ℕ) → at % 64 ≡ 0 → slice_index ws (at / 64) ≡ 18446744073709551615 → at ≤ p → p < at + 64 → has_bit ws p ≡ true
+full_word ws at p even full from to =
+    let here : p / 64 ≡ at / 64 = omega arith in
+    let less : p % 64 < 64 = omega arith in
+    ap (λ k. in_word (slice_index ws k) (p % 64)) here ∙ ap (λ w. in_word w (p % 64)) full ∙ all_bits (p % 64) less
+
 pub bit_stays : (w m i : ℕ) → in_word w i ≡ true → in_word (bit_or w m) i ≡ true
 bit_stays w m i h =
     let one : bit_at w i ≡ 1 = grind (arith, nat_tests, h) in

@@ -1,5 +1,5 @@
 //! `set_bits` and `is_set`: sets of byte offsets as bits in words of 64.
-ghost use Rattle.std.specs.Prelude.{◌≡◌, ℕ, ◌+◌, ◌-◌, ◌*◌, ◌^◌, ◌<◌, ◌≤◌, ◌||◌, ◌&&◌, not, nat_le, nat_lt, nat_eq, false, length, slice_index, IsTrue, OnErr, OnOk};
+ghost use Rattle.std.specs.Prelude.{◌≡◌, ℕ, ◌+◌, ◌-◌, ◌*◌, ◌^◌, ◌<◌, ◌≤◌, ◌||◌, ◌&&◌, not, nat_le, nat_lt, nat_eq, false, true, length, slice_index, IsTrue, OnErr, OnOk};
 ghost use Rattle.std.specs.Int.{bit_at};
 ghost use Rattle.std.specs.List.{All, flat_map};
 ghost use Rattle.nd_model.specs.Cells.Session.{is_in};
@@ -57,6 +57,27 @@ pub(crate) fn any_set(words: &[u64], from: u128, to: u128) -> bool
         }
     }
     false
+}
+
+/// Returns whether all bits of `from..to` are set. Of a whole word one test tells it.
+pub(crate) fn are_set(words: &[u64], from: u64, to: u64) -> bool
+    ensures { IsTrue result → (p : ℕ) → from ≤ p → p < to → has_bit words.now p ≡ true }
+{
+    let mut at = from;
+    while at < to {
+        if at % 64 == 0 && to - at >= 64 {
+            if word_of(words, (at / 64) as usize) != u64::MAX {
+                return false;
+            }
+            at += 64;
+        } else {
+            if !is_set(words, at) {
+                return false;
+            }
+            at += 1;
+        }
+    }
+    true
 }
 
 /// Appends words without bits, until there are `count`.

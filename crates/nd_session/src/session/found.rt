@@ -51,7 +51,7 @@ impl FoundBytes {
         if let Some(kept) = KeptBytes::new(alloc, marks, bytes, few)? {
             return Ok(FoundBytes::Kept(kept));
         }
-        let marks = marks.try_clone(alloc)?;
+        let marks = marks.try_compact(alloc, bytes.len() as u64)?;
         Ok(FoundBytes::Shared(marks, block))
     }
 

@@ -296,6 +296,25 @@ taken_range xs a n le = ext_get_or 0 _ _ (let long : length (take n (drop a xs))
     let less : k < n = grind (arith, places, lt) in
     get_or-take n (drop a xs) k 0 less ∙ get_or-drop a xs k 0 ∙ sym (map_range (slice_index xs) a n k 0 less))
 
+-- the values at one more row
+pub row_added : (f : ℕ → ℕ) (s : Strip) (row : ℕ) (bytes new all : List ℕ) → row < s.count → new ≡ bytes ++ map f (count_up (s.first + row * s.step) s.width)
+    → bytes ++ map f (rows_left s row) ≡ all → new ++ map f (rows_left s (row + 1)) ≡ all
+row_added f s row bytes new all lt is before =
+    let here : List ℕ = count_up (s.first + row * s.step) s.width in
+    let rest : List ℕ = rows_left s (row + 1) in
+    ap (λ xs. xs ++ map f rest) is ∙ append_assoc bytes (map f here) (map f rest)
+    ∙ ap (λ ys. bytes ++ ys) (sym (map-append f here rest) ∙ ap (map f) (sym (row_next s row lt)))
+    ∙ before
+
+-- the values at one more strip
+pub strip_added : (f : ℕ → ℕ) (ss : List Strip) (i : ℕ) (s : Strip) (bytes new all : List ℕ) → i < length ss → s ≡ get_or ss i s → new ≡ bytes ++ map f (rows_left s 0)
+    → bytes ++ map f (strips_places (drop i ss)) ≡ all → new ++ map f (strips_places (drop (i + 1) ss)) ≡ all
+strip_added f ss i s bytes new all lt here is before =
+    let rest : List ℕ = strips_places (drop (i + 1) ss) in
+    ap (λ xs. xs ++ map f rest) is ∙ append_assoc bytes (map f (rows_left s 0)) (map f rest)
+    ∙ ap (λ ys. bytes ++ ys) (sym (map-append f (rows_left s 0) rest) ∙ ap (map f) (sym (strip_next ss i s lt here)))
+    ∙ before
+
 -- a part is compared with bytes
 pub same_bytes : (xs ys : List ℕ) (a : ℕ) (t : Bool) → a + length ys ≤ length xs → t ≡ pointwise eqb (take (length ys) (drop a xs)) ys
     → (t ≡ true → (i : ℕ) → i < length ys → slice_index xs (a + i) ≡ slice_index ys i) × (((i : ℕ) → i < length ys → slice_index xs (a + i) ≡ slice_index ys i) → t ≡ true)

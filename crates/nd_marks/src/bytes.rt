@@ -1,8 +1,9 @@
 //! `is_same_strips` and `patch_strips`: compares and copies the bytes of blocks at marked byte
 //! offsets, row by row and word by word.
-ghost use Rattle.std.specs.Prelude.{◌≡◌, ℕ, ◌+◌, ◌-◌, ◌*◌, ◌^◌, ◌<◌, ◌≤◌, ◌++◌, ◌&&◌, ◌↔◌, OnOk, if◌then◌else◌, IsTrue, true, nat_eq, nat_le, nat_lt, length, slice_index};
+ghost use Rattle.std.specs.Prelude.{◌≡◌, ℕ, ◌+◌, ◌-◌, ◌*◌, ◌^◌, ◌<◌, ◌≤◌, ◌++◌, ◌&&◌, ◌↔◌, OnOk, if◌then◌else◌, IsTrue, true, nat_eq, nat_le, nat_lt, length, map, slice_index};
 ghost use Rattle.std.specs.Int.{bit_at, from_le_bytes, to_le_bytes, w16, w32, w64};
 ghost use Rattle.nd_model.specs.Arrays.Element.{bytes_at};
+ghost use Rattle.nd_marks.specs.Kept.{rows_left};
 ghost use Rattle.nd_marks.specs.Marks.{has_bit, in_word, in_strip, in_strips};
 
 use crate::strip::Strip;
@@ -217,6 +218,47 @@ pub(crate) fn append_row(
         4 => bytes.extend_from_slice(&bits32(block, from).to_le_bytes()),
         8 => bytes.extend_from_slice(&bits64(block, from).to_le_bytes()),
         _ => bytes.extend_from_slice(&block[from..from + width]),
+    }
+}
+
+/// Appends the bytes of all rows of a strip of this width that lies in the block.
+#[inline(always)]
+fn append_each(
+    bytes: &mut Vec<u8>,
+    block: &[u8],
+    strip: &Strip,
+    width: usize,
+) -> Result<(), AllocError>
+    requires width { width ≡ strip.now.width }
+    requires inside { (k : ℕ) → k < strip.now.count
+        → strip.now.first + k * strip.now.step + strip.now.width ≤ length block.now }
+    ensures { OnOk result (bytes.new.items
+        ≡ bytes.old.items ++ map (slice_index block.now) (rows_left strip.now 0)) }
+{
+    for number in 0..strip.count() {
+        append_row(bytes, block, strip.offset(number), width)?;
+    }
+    Ok(())
+}
+
+/// Appends the bytes of all rows of a strip that lies in the block, by loops specialised for the
+/// usual itemsizes.
+pub(crate) fn append_rows(
+    bytes: &mut Vec<u8>,
+    block: &[u8],
+    strip: &Strip,
+) -> Result<(), AllocError>
+    requires { (k : ℕ) → k < strip.now.count
+        → strip.now.first + k * strip.now.step + strip.now.width ≤ length block.now }
+    ensures { OnOk result (bytes.new.items
+        ≡ bytes.old.items ++ map (slice_index block.now) (rows_left strip.now 0)) }
+{
+    match strip.width() {
+        1 => append_each(bytes, block, strip, 1),
+        2 => append_each(bytes, block, strip, 2),
+        4 => append_each(bytes, block, strip, 4),
+        8 => append_each(bytes, block, strip, 8),
+        width => append_each(bytes, block, strip, width as usize),
     }
 }
 

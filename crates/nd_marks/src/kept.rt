@@ -1,12 +1,13 @@
 //! `KeptBytes`: bytes of a block at marked byte offsets, kept without the block.
 
 ghost use Rattle.std.specs.Prelude.{◌≡◌, ℕ, ◌+◌, ◌-◌, ◌^◌, ◌<◌, ◌≤◌, ◌++◌, ◌&&◌, ◌↔◌, if◌then◌else◌, ◌/◌, ◌%◌, false, is_some, IfOk, IsTrue, MatchOption, None, OnOk, Option, Some, length, map, nat_le, nat_lt, slice_index, unwrap_or};
-ghost use Rattle.nd_marks.specs.Kept.{byte_for, kept_at, places_in};
+ghost use Rattle.nd_marks.specs.Kept.{byte_for, kept_at, places_in, rows_left, strips_places};
 ghost use Rattle.nd_marks.specs.Marks.{holds, in_word};
 ghost use Rattle.nd_model.specs.Arrays.Tuple.{count_up};
 
-use crate::bytes::{append_row, byte_at};
+use crate::bytes::{append_row, append_rows, byte_at};
 use crate::marks::Marks;
+use crate::strip::Strip;
 use std::alloc::{AllocError, Global};
 use std::marker::Model;
 
@@ -61,12 +62,40 @@ fn append_range(bytes: &mut Vec<u8>, block: &[u8], from: u128, width: u64) -> Re
     append_row(bytes, block, from as usize, width as usize)
 }
 
-/// The bytes of a block at the byte offsets of a walk over a set.
+/// Appends the bytes of all rows of a strip.
+fn append_strip(bytes: &mut Vec<u8>, block: &[u8], strip: &Strip) -> Result<(), AllocError>
+    ensures { OnOk result (bytes.new.items
+        ≡ bytes.old.items ++ map (slice_index block.now) (rows_left strip.now 0)) }
+{
+    if strip.lies_in(block.len()) {
+        return append_rows(bytes, block, strip);
+    }
+    for number in 0..strip.count() {
+        append_range(bytes, block, strip.start(number), strip.width())?;
+    }
+    Ok(())
+}
+
+/// Appends the bytes of all rows of all strips.
+fn append_strips(bytes: &mut Vec<u8>, block: &[u8], strips: &[Strip]) -> Result<(), AllocError>
+    ensures { OnOk result (bytes.new.items
+        ≡ bytes.old.items ++ map (slice_index block.now) (strips_places strips.now)) }
+{
+    for strip in strips {
+        append_strip(bytes, block, strip)?;
+    }
+    Ok(())
+}
+
+/// The bytes of a block at the byte offsets of a walk over a set. The rows of strips are appended by
+/// a loop of their own, and what bits mark by the walk.
 fn gather(alloc: Global, marks: &Marks, block: &[u8], count: usize) -> Result<Vec<u8>, AllocError>
     ensures { IfOk result (λ v. v.items ≡ map (slice_index block.now) (places_in marks.now)) }
 {
     let mut bytes = Vec::with_capacity(alloc, count)?;
-    let mut walk = marks.walk();
+    append_strip(&mut bytes, block, marks.last())?;
+    append_strips(&mut bytes, block, marks.strips())?;
+    let mut walk = marks.bits();
     while let Some(range) = walk.next() {
         append_range(&mut bytes, block, range.from, range.width)?;
     }

@@ -170,6 +170,20 @@ impl<'m> Walk<'m> {
         }
     }
 
+    /// A walk over bits alone, which stands behind all rows of a strip.
+    pub(crate) fn of_bits(last: &Strip, words: &'m [u64]) -> Walk<'m>
+        ensures { result ≡ bits_left words.now 0 }
+    {
+        Walk {
+            rows: *last,
+            row: last.count(),
+            strips: &[],
+            strip: 0,
+            words,
+            bit: 0,
+        }
+    }
+
     /// The next range, at least one byte offset, or `None` where none is left.
     pub(crate) fn next(&mut self) -> Option<ByteRange>
         ensures { MatchOption result (self.old ≡ [])

@@ -98,7 +98,7 @@ class FarMoves(unittest.TestCase):
     CELLS, TURNS = 2_000, 5
 
     def test_a_cell_that_moves_far_is_put_in_over_a_snapshot(self) -> None:
-        """Were each cell between its two places replayed, a move would cost a seventh of inserting all."""
+        """Were each cell between its two places replayed, a move would cost a thirtieth of inserting all."""
         program = Program(real_program())
         self.addCleanup(program.close)
         whole = program.load(arrays(self.CELLS))
@@ -106,8 +106,8 @@ class FarMoves(unittest.TestCase):
         for _turn in range(self.TURNS):
             up.append(program.move(last, 1)[0])
             down.append(program.move(1, last)[0])
-        self.assertLess(min(up), whole / 30)
-        self.assertLess(min(down), whole / 30)
+        self.assertLess(min(up), whole / 100)
+        self.assertLess(min(down), whole / 100)
 
 
 if __name__ == '__main__':

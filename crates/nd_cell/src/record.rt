@@ -115,15 +115,35 @@ impl Record {
     {
         let alloc = session.allocator();
         let is_refused = gives.refusal.is_some();
-        let reads = Reads::new(alloc, session.seen(), &before, inputs, rule, is_refused)?;
+        let reads = match Reads::new(alloc, session.seen(), &before, inputs, rule, is_refused) {
+            Ok(reads) => reads,
+            Err(memory) => {
+                drop(before);
+                drop(gives);
+                return Err(memory);
+            }
+        };
         let gives = end_by(rule, session, before, gives);
-        let changes = Changes::new(alloc, session)?;
-        let result = Rc::new(alloc, gives)?;
-        Ok(Record {
-            reads,
-            changes,
-            result,
-        })
+        let changes = match Changes::new(alloc, session) {
+            Ok(changes) => changes,
+            Err(memory) => {
+                drop(reads);
+                drop(gives);
+                return Err(memory);
+            }
+        };
+        match Rc::new(alloc, gives) {
+            Ok(result) => Ok(Record {
+                reads,
+                changes,
+                result,
+            }),
+            Err(refused) => {
+                drop(reads);
+                drop(changes);
+                Err(refused.into())
+            }
+        }
     }
 
     /// Returns what the run gave.

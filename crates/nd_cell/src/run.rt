@@ -187,7 +187,13 @@ pub fn run_cell(
     session.soundness();
     session.start(label);
     let before = session.freeze()?;
-    let gives = run_text(session, inputs, text)?;
+    let gives = match run_text(session, inputs, text) {
+        Ok(gives) => gives,
+        Err(memory) => {
+            drop(before);
+            return Err(memory);
+        }
+    };
     let made = Record::of_run(session, before, inputs, rule, gives)?;
     Ok(made)
 }

@@ -19,10 +19,10 @@ of_run-requires c =
     let began : thawed c.in_ok-before.before ≡ _
     = thawed_start c.args.label s (live c.start.new.self) c.in_ok-before.before c.start.ensures c.in_ok-before.ensures.session c.in_ok-before.ensures.label c.in_ok-before.ensures.next in
     ends_run c.args.label (reading c.args.text.now) w s (version_of c.in_ok-before.before)
-    (ended_under w.rule (thawed c.in_ok-before.before) (ended_of c.in_ok-gives.gives (live c.run_text.new.session)))
+    (ended_under w.rule (thawed c.in_ok-before.before) (ended_of c.in-Ok.gives (live c.run_text.new.session)))
     c.requires (sound_now (live c.args.session.now) c.soundness.ensures)
     (c.in_ok-before.ensures.session ∙ ap (λ (x : Running). collected (session_of x)) c.start.ensures ∙ collected_start c.args.label s)
-    (ended_cell c.args.label (reading c.args.text.now) w s (live c.start.new.self) _ _ c.start.ensures began c.in_ok-gives.ensures)
+    (ended_cell c.args.label (reading c.args.text.now) w s (live c.start.new.self) _ _ c.start.ensures began c.in-Ok.ensures)
 
 pub returns-clause-recorded : goal.returns-clause-recorded
 returns-clause-recorded c =
@@ -31,10 +31,10 @@ returns-clause-recorded c =
     let began : thawed c.in_ok-before.before ≡ _
     = thawed_start c.args.label s (live c.start.new.self) c.in_ok-before.before c.start.ensures c.in_ok-before.ensures.session c.in_ok-before.ensures.label c.in_ok-before.ensures.next in
     recorded_run c.args.label (reading c.args.text.now) w s (version_of c.in_ok-before.before)
-    (ended_under w.rule (thawed c.in_ok-before.before) (ended_of c.in_ok-gives.gives (live c.run_text.new.session)))
+    (ended_under w.rule (thawed c.in_ok-before.before) (ended_of c.in-Ok.gives (live c.run_text.new.session)))
     (recorded c.in_ok-made.made) c.in_ok-made.ensures.recorded
     (c.in_ok-before.ensures.session ∙ ap (λ (x : Running). collected (session_of x)) c.start.ensures ∙ collected_start c.args.label s)
-    (ended_cell c.args.label (reading c.args.text.now) w s (live c.start.new.self) _ _ c.start.ensures began c.in_ok-gives.ensures)
+    (ended_cell c.args.label (reading c.args.text.now) w s (live c.start.new.self) _ _ c.start.ensures began c.in-Ok.ensures)
 
 pub returns-clause-after : goal.returns-clause-after
 returns-clause-after c =
@@ -43,5 +43,5 @@ returns-clause-after c =
     let began : thawed c.in_ok-before.before ≡ _
     = thawed_start c.args.label s (live c.start.new.self) c.in_ok-before.before c.start.ensures c.in_ok-before.ensures.session c.in_ok-before.ensures.label c.in_ok-before.ensures.next in
     c.in_ok-made.ensures.after
-    ∙ (end_is_all c.args.label (reading c.args.text.now) w s (ended_under w.rule (thawed c.in_ok-before.before) (ended_of c.in_ok-gives.gives (live c.run_text.new.session)))
-    (ended_cell c.args.label (reading c.args.text.now) w s (live c.start.new.self) _ _ c.start.ensures began c.in_ok-gives.ensures)).after
+    ∙ (end_is_all c.args.label (reading c.args.text.now) w s (ended_under w.rule (thawed c.in_ok-before.before) (ended_of c.in-Ok.gives (live c.run_text.new.session)))
+    (ended_cell c.args.label (reading c.args.text.now) w s (live c.start.new.self) _ _ c.start.ensures began c.in-Ok.ensures)).after

@@ -14,28 +14,28 @@ use Rattle.nd_cell.specs.Results.{ended_of, refusal_of, saves_of}
 use Rattle.nd_cell.proofs.Recording.{is_of_run, read_under, recorded_whole, session_at_end}
 use Rattle.nd_cell.proofs.record.Record.of_run.Goals as goal
 
-pub returns-clause-recorded : goal.returns-clause-recorded
-returns-clause-recorded c =
+pub returns-in-Ok-new-2-clause-recorded : goal.returns-in-Ok-new-2-clause-recorded
+returns-in-Ok-new-2-clause-recorded c =
     let w : World = world_of (inputs_of c.args.inputs.now.entries) c.args.rule in
     let e : Ended = ended_under w.rule (thawed c.args.before) (ended_of c.args.gives (live c.args.session.now)) in
     let made : RecordData = record {
-      reads = c.in_ok-reads.reads;
-      changes = c.in_ok-changes.changes;
-      text = string_bytes c.in_ok-result.result.value.text;
-      refusal = option_map refusal_of c.in_ok-result.result.value.refusal;
-      saves = saves_of c.in_ok-result.result.value.saves.entries;
+      reads = c.in-Ok.reads;
+      changes = c.in-Ok-new.changes;
+      text = string_bytes c.in-Ok-new-2.result.value.text;
+      refusal = option_map refusal_of c.in-Ok-new-2.result.value.refusal;
+      saves = saves_of c.in-Ok-new-2.result.value.saves.entries;
     } in
     let keys : (k : Key) → keys_of made.reads k ≡ reads_of e k
-    = λ k. c.in_ok-reads.ensures.keys k ∙ ap (λ (t : Seen). is_read_by t c.is_some-is_refused.result k) c.seen.ensures
+    = λ k. c.in-Ok.ensures.keys k ∙ ap (λ (t : Seen). is_read_by t c.is_some-is_refused.result k) c.seen.ensures
     ∙ ap (λ (b : Bool). is_read_by (seen_of c.args.session.now) b k) c.is_some-is_refused.ensures
     ∙ read_under c.args.session.now w.rule (thawed c.args.before) (string_bytes c.args.gives.text) c.args.gives.refusal (saves_of c.args.gives.saves.entries) k in
     recorded_whole (version_of c.args.before) w made e (live c.end_by-gives.new.session)
-    (ap (λ (x : CellResult). ended_of x (live c.end_by-gives.new.session)) c.in_ok-result.ensures.ok ∙ c.end_by-gives.ensures)
-    c.in_ok-changes.ensures.label keys c.in_ok-reads.ensures.found
-    c.in_ok-changes.ensures.events c.in_ok-changes.ensures.bases c.in_ok-changes.ensures.writes
+    (ap (λ (x : CellResult). ended_of x (live c.end_by-gives.new.session)) c.in-Ok-new-2.ensures.ok ∙ c.end_by-gives.ensures)
+    c.in-Ok-new.ensures.label keys c.in-Ok.ensures.found
+    c.in-Ok-new.ensures.events c.in-Ok-new.ensures.bases c.in-Ok-new.ensures.writes
 
-pub returns-clause-after : goal.returns-clause-after
-returns-clause-after c = session_at_end (ended_of c.end_by-gives.result (live c.end_by-gives.new.session))
+pub returns-in-Ok-new-2-clause-after : goal.returns-in-Ok-new-2-clause-after
+returns-in-Ok-new-2-clause-after c = session_at_end (ended_of c.end_by-gives.result (live c.end_by-gives.new.session))
     (ended_under (rule_of c.args.rule) (thawed c.args.before) (ended_of c.args.gives (live c.args.session.now))) (live c.end_by-gives.new.session).read c.end_by-gives.ensures
 
 pub invariant_of-result : goal.invariant_of-result
@@ -43,20 +43,20 @@ invariant_of-result c =
     let w : World = world_of (inputs_of c.args.inputs.now.entries) c.args.rule in
     let e : Ended = ended_under w.rule (thawed c.args.before) (ended_of c.args.gives (live c.args.session.now)) in
     let made : RecordData = record {
-      reads = c.in_ok-reads.reads;
-      changes = c.in_ok-changes.changes;
-      text = string_bytes c.in_ok-result.result.value.text;
-      refusal = option_map refusal_of c.in_ok-result.result.value.refusal;
-      saves = saves_of c.in_ok-result.result.value.saves.entries;
+      reads = c.in-Ok.reads;
+      changes = c.in-Ok-new.changes;
+      text = string_bytes c.in-Ok-new-2.result.value.text;
+      refusal = option_map refusal_of c.in-Ok-new-2.result.value.refusal;
+      saves = saves_of c.in-Ok-new-2.result.value.saves.entries;
     } in
     let keys : (k : Key) → keys_of made.reads k ≡ reads_of e k
-    = λ k. c.in_ok-reads.ensures.keys k ∙ ap (λ (t : Seen). is_read_by t c.is_some-is_refused.result k) c.seen.ensures
+    = λ k. c.in-Ok.ensures.keys k ∙ ap (λ (t : Seen). is_read_by t c.is_some-is_refused.result k) c.seen.ensures
     ∙ ap (λ (b : Bool). is_read_by (seen_of c.args.session.now) b k) c.is_some-is_refused.ensures
     ∙ read_under c.args.session.now w.rule (thawed c.args.before) (string_bytes c.args.gives.text) c.args.gives.refusal (saves_of c.args.gives.saves.entries) k in
     is_of_run made (version_of c.args.before) w e c.requires
-    (c.in_ok-changes.ensures.label ∙ ap (λ (x : Ended). x.running.label) c.end_by-gives.ensures)
-    (c.in_ok-changes.ensures.next ∙ ap (λ (x : Ended). x.running.next) c.end_by-gives.ensures)
+    (c.in-Ok-new.ensures.label ∙ ap (λ (x : Ended). x.running.label) c.end_by-gives.ensures)
+    (c.in-Ok-new.ensures.next ∙ ap (λ (x : Ended). x.running.next) c.end_by-gives.ensures)
     (recorded_whole (version_of c.args.before) w made e (live c.end_by-gives.new.session)
-    (ap (λ (x : CellResult). ended_of x (live c.end_by-gives.new.session)) c.in_ok-result.ensures.ok ∙ c.end_by-gives.ensures)
-    c.in_ok-changes.ensures.label keys c.in_ok-reads.ensures.found
-    c.in_ok-changes.ensures.events c.in_ok-changes.ensures.bases c.in_ok-changes.ensures.writes)
+    (ap (λ (x : CellResult). ended_of x (live c.end_by-gives.new.session)) c.in-Ok-new-2.ensures.ok ∙ c.end_by-gives.ensures)
+    c.in-Ok-new.ensures.label keys c.in-Ok.ensures.found
+    c.in-Ok-new.ensures.events c.in-Ok-new.ensures.bases c.in-Ok-new.ensures.writes)

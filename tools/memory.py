@@ -4,6 +4,7 @@ from __future__ import annotations
 import dataclasses
 import resource
 import tempfile
+import threading
 from collections.abc import Callable, Iterator
 from dataclasses import dataclass
 from pathlib import Path
@@ -15,6 +16,8 @@ LARGE = 1 << 24
 READERS = 50
 # What a case may take where it says nothing else.
 BOUND = 2_000 * MB
+# A case that takes longer by the clock is ended, so that it holds up no report.
+MOST_SECONDS = 120
 
 
 @dataclass
@@ -31,7 +34,8 @@ class Case:
 
 @dataclass
 class Peak:
-    """A case: processor seconds, the most bytes at a time, and the bytes of its arrays. With `is_more` it passed the
+    """A case: processor seconds, the most bytes at a time, and the bytes of its arrays. With `is_late` it was ended
+    after `MOST_SECONDS`, and the peak is that until then. With `is_more` it passed the
     bound that `peak` has, and was ended."""
 
     case: str
@@ -39,6 +43,7 @@ class Peak:
     peak: int
     size: int = 0
     is_more: bool = False
+    is_late: bool = False
 
     @property
     def ratio(self) -> float | None:
@@ -176,7 +181,14 @@ def input_case(path: Path) -> Case:
 
 
 def run_case(path: str, case: Case) -> Peak:
-    program = Program(path, *case.words)
+    program, until_then = Program(path, *case.words), []
+
+    def end_late() -> None:
+        until_then.append(program.memory()[1])
+        program.process.kill()
+
+    timer = threading.Timer(MOST_SECONDS, end_late)
+    timer.start()
     try:
         # The bound is of addresses, which a notebook has some more of than of memory.
         resource.prlimit(program.process.pid, resource.RLIMIT_AS, (case.bound, case.bound))
@@ -186,8 +198,11 @@ def run_case(path: str, case: Case) -> Peak:
         case.then(program)
         return Peak(case.name, program.clock() - before, program.memory()[1], case.size)
     except (TooMuch, EOFError, BrokenPipeError):
+        if until_then:
+            return Peak(case.name, MOST_SECONDS, until_then[0], case.size, is_late=True)
         return Peak(case.name, 0.0, case.bound, case.size, is_more=True)
     finally:
+        timer.cancel()
         program.end()
 
 

@@ -58,7 +58,7 @@ fn get64(bytes: &[u8], place: usize, big: bool) -> u64
     }
 }
 
-#[inline]
+#[inline(always)]
 pub(crate) fn bytes16(word: u16, big: bool) -> [u8; 2]
     ensures { result ≡ bytes_in (width_of Int16) big word }
 {
@@ -69,7 +69,7 @@ pub(crate) fn bytes16(word: u16, big: bool) -> [u8; 2]
     }
 }
 
-#[inline]
+#[inline(always)]
 pub(crate) fn bytes32(word: u32, big: bool) -> [u8; 4]
     ensures { result ≡ bytes_in (width_of Int32) big word }
 {
@@ -80,7 +80,7 @@ pub(crate) fn bytes32(word: u32, big: bool) -> [u8; 4]
     }
 }
 
-#[inline]
+#[inline(always)]
 pub(crate) fn bytes64(word: u64, big: bool) -> [u8; 8]
     ensures { result ≡ bytes_in (width_of Int64) big word }
 {

@@ -3,6 +3,7 @@ pub mod Chosen
 pub mod Listed
 pub mod Ranges
 pub mod Slices
+pub mod Sparse
 pub mod Spans
 pub mod Strips
 pub mod Walks

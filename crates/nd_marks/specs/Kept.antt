@@ -1,5 +1,5 @@
 -- The places of a set in the order of a walk over them, and the bytes that are kept of these.
-use Rattle.std.specs.Prelude.{◌≡◌, ℕ, zero, suc, ◌+◌, ◌-◌, ◌*◌, ◌^◌, ◌<◌, ◌≤◌, List, [], ◌∷◌, ◌++◌, Option, Some, None, filter, drop, length, map, nat_eq, if◌then◌else◌}
+use Rattle.std.specs.Prelude.{◌≡◌, ℕ, zero, suc, ◌+◌, ◌-◌, ◌*◌, ◌^◌, ◌<◌, ◌≤◌, List, [], ◌∷◌, ◌++◌, Option, Some, None, filter, drop, length, map, nat_eq, nat_le, Bool, ◌&&◌, if◌then◌else◌}
 use Rattle.nd_model.specs.Arrays.Tuple.{count_up}
 use Rattle.nd_marks.specs.Marks.{Places, Strip, has_bit, holds}
 use Rattle.nd_marks.specs.declared.walk.Walk.TheInside as walk
@@ -17,6 +17,15 @@ rows_left s row = row_places (s.first + row * s.step) s.width s.step (s.count - 
 abbrev pub strips_places : List Strip → List ℕ
 strips_places [] = []
 strips_places (s ∷ ss) = rows_left s 0 ++ strips_places ss
+
+-- the rows of strips
+abbrev pub rows_in : List Strip → ℕ
+rows_in [] = 0
+rows_in (s ∷ ss) = s.count + rows_in ss
+
+-- there are no bits, and at most so many rows
+abbrev pub is_few : Places → ℕ → Bool
+is_few m most = nat_eq (length m.words) 0 && nat_le (m.last.count + rows_in m.strips) most
 
 -- the places of bits from one on
 abbrev pub bits_left : List ℕ → ℕ → List ℕ

@@ -1,7 +1,7 @@
 //! `KeptBytes`: bytes of a block at marked byte offsets, kept without the block.
 
 ghost use Rattle.std.specs.Prelude.{◌≡◌, ℕ, ◌+◌, ◌-◌, ◌^◌, ◌<◌, ◌≤◌, ◌++◌, ◌&&◌, ◌↔◌, if◌then◌else◌, ◌/◌, ◌%◌, false, is_some, IfOk, IsTrue, MatchOption, None, OnOk, Option, Some, length, map, nat_le, nat_lt, slice_index, unwrap_or};
-ghost use Rattle.nd_marks.specs.Kept.{byte_for, kept_at, places_in, rows_left, strips_places};
+ghost use Rattle.nd_marks.specs.Kept.{byte_for, is_few, kept_at, places_in, rows_left, strips_places};
 ghost use Rattle.nd_marks.specs.Marks.{holds, in_word};
 ghost use Rattle.nd_model.specs.Arrays.Tuple.{count_up};
 
@@ -270,8 +270,8 @@ impl KeptBytes {
         if count == most {
             return Ok(None);
         }
-        let bytes = gather(alloc, marks, block, count as usize)?;
-        let marks = marks.try_clone(alloc)?;
+        let marks = marks.try_sparse(alloc)?;
+        let bytes = gather(alloc, &marks, block, count as usize)?;
         Ok(Some(KeptBytes { marks, bytes }))
     }
 
@@ -333,6 +333,14 @@ impl KeptBytes {
         ensures { result ≡ length self.now.bytes }
     {
         self.bytes.len()
+    }
+
+    /// Returns whether the bytes lie in at most `most` rows, and none is marked by a bit. Only what
+    /// is kept at many scattered byte offsets is marked by bits.
+    pub fn has_few_rows(&self, most: u64) -> bool
+        ensures { result ≡ is_few self.now.marks most }
+    {
+        self.marks.has_few_rows(most)
     }
 
     /// Keeps the bytes of another block at the same byte offsets. One past its end has a 0.

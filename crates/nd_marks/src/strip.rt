@@ -4,6 +4,7 @@ ghost use Rattle.std.specs.Prelude.{◌≡◌, ℕ, ◌+◌, ◌*◌, ◌^◌, �
 ghost use Rattle.std.specs.List.{flat_map};
 ghost use Rattle.nd_model.specs.Cells.Session.{is_in};
 ghost use Rattle.nd_model.specs.Arrays.Tuple.{count_up};
+ghost use Rattle.nd_marks.specs.Kept.{rows_left};
 ghost use Rattle.nd_marks.specs.Marks.{in_row, in_rows, in_strip, in_word};
 
 use nd_view::Run;
@@ -148,7 +149,8 @@ impl Strip {
     /// Returns a strip of one row.
     pub(crate) fn range(first: u64, width: u64) -> Strip
         requires { 0 < width }
-        ensures { (p : ℕ) → in_strip result p ≡ in_row first width p }
+        ensures places { (p : ℕ) → in_strip result p ≡ in_row first width p }
+        ensures walk { rows_left result 0 ≡ count_up first width }
     {
         Strip {
             first,

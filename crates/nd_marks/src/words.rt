@@ -59,7 +59,7 @@ pub(crate) fn any_set(words: &[u64], from: u128, to: u128) -> bool
     false
 }
 
-/// Returns whether all bits of `from..to` are set. Of a whole word one test tells it.
+/// Returns whether all bits of `from..to` are set. A whole word is compared at once.
 pub(crate) fn are_set(words: &[u64], from: u64, to: u64) -> bool
     ensures { IsTrue result → (p : ℕ) → from ≤ p → p < to → has_bit words.now p ≡ true }
 {

@@ -5,7 +5,7 @@ use Rattle.std.specs.List.{All, AllByRecursion}
 use Rattle.std.proofs.lemmas.Bool.{cases_Bool}
 use Rattle.std.proofs.lemmas.Bool.Decides.{nat_tests}
 use Rattle.std.proofs.lemmas.List.Elements.{recursion_from_All}
-use Rattle.nd_change.specs.Change.{puts, puts_by}
+use Rattle.nd_change.specs.Change.{puts}
 use Rattle.nd_change.specs.Whole.{Whole, HasBase, HasByte, HasPart, IsAsItWas, IsGone, IsWith, IsWithBoth, LeavesBase, LeavesName, LosesBase, binds_in}
 use Rattle.nd_heap.specs.declared.value.Base.{Base}
 use Rattle.nd_heap.specs.declared.value.Value.{Value}
@@ -23,7 +23,7 @@ use Rattle.nd_types.specs.declared.num.Num.{Num}
 use Rattle.nd_types.specs.declared.num.Num.TheVariants as numbers
 use Rattle.nd_types.specs.declared.num.Num.TheVariants.{Int, Scalar}
 use Rattle.nd_session.specs.declared.session.found.FoundBytes.{FoundBytes}
-use Rattle.nd_session.specs.Session.Change.{AreBytesNoted, HasDone, IsByteNow, IsCarriedPast, IsNoted, IsWrittenNow, LeavesBlock, is_bound_in}
+use Rattle.nd_session.specs.Session.Change.{AreBytesNoted, HasDone, IsCarriedPast, IsNoted, IsWrittenNow, LeavesBlock, is_bound_in}
 use Rattle.nd_session.specs.Session.Changes.{ChangesData, writes_in}
 use Rattle.nd_session.specs.Session.Found as places
 use Rattle.nd_session.specs.Session.Found.{by_base, byte_at, bytes_of, found_at, lookup_base}

@@ -1,5 +1,5 @@
 -- What stands at the keys of a change, entry by entry.
-use Rattle.std.proofs.Common.{◌≡◌, ℕ, false, cond, bytes_eq, List, [], ◌∷◌, length, slice_index, Global, Option, Some, None, option_map, refl, sym, ap, subst, ◌∙◌, inl, inr, Bool, true, nat_eq, not, filter, ap₂}
+use Rattle.std.proofs.Common.{◌≡◌, ℕ, false, cond, bytes_eq, List, [], ◌∷◌, length, Global, Option, Some, None, option_map, refl, sym, ap, subst, ◌∙◌, inl, inr, ap₂}
 use Rattle.std.specs.Rc.{rc_str_bytes}
 use Rattle.std.specs.declared.rc.RcStr.{RcStr}
 use Rattle.std.specs.List.{AllByRecursion}
@@ -11,16 +11,14 @@ use Rattle.nd_model.specs.Cells.Footprint.{Bound, Given, Number, Ruled}
 use Rattle.nd_model.specs.Cells.Running.{Key, Name, Input, Length, Byte, OfRule}
 use Rattle.nd_model.specs.Cells.Session.{lookup}
 use Rattle.nd_model.proofs.Lists.{lookup-bind}
-use Rattle.nd_heap.specs.Values.{entries_of, base_of}
+use Rattle.nd_heap.specs.Values.{entries_of}
 use Rattle.nd_change.specs.Whole.{byte_in}
-use Rattle.nd_heap.specs.declared.value.Base.{Base}
 use Rattle.nd_heap.proofs.NameLists.{name_eq, entries-insert, entries-found}
 use Rattle.nd_heap.proofs.Same.{same_bases, same_bytes}
 use Rattle.nd_session.specs.declared.session.change.change.Change.TheInside.{Inside}
 use Rattle.nd_session.specs.Inputs.Values.{rule_of}
 use Rattle.nd_session.specs.Session.Change.{IsNoted, change_of}
 use Rattle.nd_session.specs.Session.Now.{block_now, data_in, input_now, value_now, part_now}
-use Rattle.nd_session.specs.Session.Found.{by_base, lookup_base}
 
 pub none_some : {X P : Type 0} (x : X) → None ≡ Some x → P
 none_some x e = cc

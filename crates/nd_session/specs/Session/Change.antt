@@ -1,5 +1,5 @@
 -- What contracts see of a change, and of the runs that it goes past.
-use Rattle.std.specs.Prelude.{◌≡◌, ◌⊎◌, ℕ, Bool, false, nat_eq, IsSome, List, [], Option, Some, None, option_map, slice_index}
+use Rattle.std.specs.Prelude.{◌≡◌, ◌⊎◌, ℕ, Bool, false, nat_eq, IsSome, List, [], Option, Some, None, slice_index}
 use Rattle.nd_model.specs.Arrays.Value.{Base, Value, lies_in}
 use Rattle.nd_model.specs.Cells.Session.{lookup}
 use Rattle.nd_model.specs.Cells.Running.{Event, Binds, Unbinds, Rule, Source}

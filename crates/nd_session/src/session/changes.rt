@@ -144,16 +144,30 @@ fn keep(alloc: Global, trace: &Trace, heap: &Heap, next: u64) -> Result<Changes,
     let label = trace.label();
     let done = trace.events();
     let own = own_bases(alloc, label, done)?;
-    let blocks = heap.pick_blocks(alloc, &own)?;
-    let written = find_written(alloc, trace.written_bytes(), heap, label)?;
-    let events = copy_events(alloc, done)?;
-    Ok(Changes {
-        label,
-        next,
-        events,
-        written,
-        blocks,
-    })
+    let picked = heap.pick_blocks(alloc, &own);
+    drop(own);
+    let blocks = picked?;
+    let events = match copy_events(alloc, done) {
+        Ok(events) => events,
+        Err(memory) => {
+            drop(blocks);
+            return Err(memory);
+        }
+    };
+    match find_written(alloc, trace.written_bytes(), heap, label) {
+        Ok(written) => Ok(Changes {
+            label,
+            next,
+            events,
+            written,
+            blocks,
+        }),
+        Err(memory) => {
+            drop(blocks);
+            drop(events);
+            Err(memory)
+        }
+    }
 }
 
 /// What the events last do to a name: true where they bind it, false where they unbind it, `None`

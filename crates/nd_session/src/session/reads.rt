@@ -275,16 +275,36 @@ impl Reads {
             (world_of (inputs_of inputs.now.entries) rule) k)) }
     {
         let lengths = find_lengths(alloc, trace.bases(), before)?;
-        let bytes = find_bytes(alloc, trace.used_bytes(), before)?;
-        let inputs = find_inputs(alloc, trace.inputs(), inputs)?;
-        let names = find_names(alloc, trace.names(), before)?;
-        Ok(Reads {
-            names,
-            inputs,
-            lengths,
-            bytes,
-            rule: read_rule(rule, is_refused),
-        })
+        let bytes = match find_bytes(alloc, trace.used_bytes(), before) {
+            Ok(bytes) => bytes,
+            Err(memory) => {
+                drop(lengths);
+                return Err(memory);
+            }
+        };
+        let inputs = match find_inputs(alloc, trace.inputs(), inputs) {
+            Ok(inputs) => inputs,
+            Err(memory) => {
+                drop(lengths);
+                drop(bytes);
+                return Err(memory);
+            }
+        };
+        match find_names(alloc, trace.names(), before) {
+            Ok(names) => Ok(Reads {
+                names,
+                inputs,
+                lengths,
+                bytes,
+                rule: read_rule(rule, is_refused),
+            }),
+            Err(memory) => {
+                drop(lengths);
+                drop(bytes);
+                drop(inputs);
+                Err(memory)
+            }
+        }
     }
 
     /// Returns whether a session, inputs and rule still have what was read. It takes no memory.

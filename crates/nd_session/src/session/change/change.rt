@@ -105,17 +105,37 @@ impl Change {
         ensures { IfOk result (λ c. change_of c ≡ change_of self.now) }
     {
         let blocks = self.blocks.clone()?;
-        let parts = self.parts.clone()?;
-        let inputs = self.inputs.clone()?;
-        let names = self.names.clone()?;
-        Ok(Change {
-            names,
-            inputs,
-            blocks,
-            parts,
-            rule: self.rule,
-            alloc: self.alloc,
-        })
+        let parts = match self.parts.clone() {
+            Ok(parts) => parts,
+            Err(memory) => {
+                drop(blocks);
+                return Err(memory.into());
+            }
+        };
+        let inputs = match self.inputs.clone() {
+            Ok(inputs) => inputs,
+            Err(memory) => {
+                drop(blocks);
+                drop(parts);
+                return Err(memory.into());
+            }
+        };
+        match self.names.clone() {
+            Ok(names) => Ok(Change {
+                names,
+                inputs,
+                blocks,
+                parts,
+                rule: self.rule,
+                alloc: self.alloc,
+            }),
+            Err(memory) => {
+                drop(blocks);
+                drop(parts);
+                drop(inputs);
+                Err(memory.into())
+            }
+        }
     }
 
     /// Returns whether the change has nothing in it.

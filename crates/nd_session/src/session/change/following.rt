@@ -17,7 +17,7 @@ ghost use Rattle.nd_session.specs.Session.Live.{live};
 ghost use Rattle.nd_trace.specs.Events.{event_of, name_of_event};
 
 use crate::session::change::change::{BlocksNow, Change, NamesNow, PartsNow};
-use crate::session::change::matching::{are_same_events, has_no_more, note_part};
+use crate::session::change::matching::{MOST_ROWS, are_same_events, has_no_more, note_part};
 use crate::session::changes::Changes;
 use crate::session::found::{FoundByBase, FoundBytes};
 use crate::session::session::Session;
@@ -177,7 +177,7 @@ fn note_single(
     let FoundBytes::Kept(kept) = found else {
         return Ok(false);
     };
-    if !has_no_more(parts, base, kept) {
+    if !kept.has_few_rows(MOST_ROWS) || !has_no_more(parts, base, kept) {
         return Ok(false);
     }
     note_part(parts, base, kept, session)?;
@@ -268,7 +268,7 @@ fn note_blocks(
 impl Change {
     /// Goes past a cell that was run again: what its runs changed becomes what stands in the session
     /// behind the run now, and what both did alike leaves the change. Of a block of another cell to
-    /// which they wrote at few byte offsets, these bytes alone are noted.
+    /// which they wrote in few rows, these bytes alone are noted.
     ///
     /// Behind `x = 1` that became `y = 2` the change has `x` as it is now, and `y` with the value 2.
     /// Behind `x = 1` that became `x = 2 - 1` it has nothing.
@@ -307,7 +307,7 @@ impl Change {
     }
 
     /// Goes past a cell that is new: what it changed becomes what stands in the session behind it. Of
-    /// a block of another cell to which it wrote at few byte offsets, these bytes alone are noted.
+    /// a block of another cell to which it wrote in few rows, these bytes alone are noted.
     pub fn come(&mut self, new: &Changes, session: &Session) -> Result<(), OutOfMemory>
         ensures { OnOk result ((q : Record) → HasDone new.now q → Comes (change_of self.old)
             (change_of self.new) q (model.collected (running.session_of (live session.now)))) }

@@ -30,6 +30,10 @@ use nd_marks::KeptBytes;
 use nd_trace::Event;
 use std::rc::Rc;
 
+/// Single bytes of a change lie in at most this many rows of a block. Each row is looked for in all
+/// that a record read of the block, so more rows are noted by the block as it is now.
+pub(crate) const MOST_ROWS: u64 = 16;
+
 /// Returns whether the events are equal, in the same order.
 pub(crate) fn are_same_events(one: &[Event], other: &[Event]) -> bool
     ensures { IsTrue result → map event_of one.now ≡ map event_of other.now }
@@ -145,7 +149,7 @@ pub(crate) fn note_part(
 }
 
 /// Notes the bytes that a block has now where two runs wrote, and returns whether it could: both
-/// wrote at the same few offsets, and the change has single bytes of the block at these alone.
+/// wrote in the same few rows, and the change has single bytes of the block in these alone.
 fn note_few(
     parts: &mut PartsNow,
     base: Base,
@@ -163,6 +167,9 @@ fn note_few(
     let FoundBytes::Kept(kept) = found else {
         return Ok(false);
     };
+    if !kept.has_few_rows(MOST_ROWS) {
+        return Ok(false);
+    }
     if !has_same_offsets(others, base, kept) || !has_no_more(parts, base, kept) {
         return Ok(false);
     }
@@ -238,7 +245,7 @@ fn note_unlike(
 impl Change {
     /// Goes past a cell that was run again, where both runs bound the same names to the same values:
     /// these names leave the change. So do the blocks that both made with the same bytes. Of a block
-    /// of another cell to which both wrote at the same few offsets, these bytes alone are noted.
+    /// of another cell to which both wrote in the same few rows, these bytes alone are noted.
     ///
     /// Behind `x = np.arange(3)` that became `x = np.arange(3) + 1` the change has the block of `x`,
     /// and not the name.

@@ -1,6 +1,6 @@
 //! `Change::patch`: puts a change over a session, where it can.
 
-ghost use Rattle.std.specs.Prelude.{◌≡◌, ◌≤◌, ℕ, IfOk, IsFalse, IsTrue, List, Ok, OnOk, Some, false, true, bytes_eq, if◌then◌else◌, unwrap_or};
+ghost use Rattle.std.specs.Prelude.{◌≡◌, ◌≤◌, ℕ, IfOk, IsFalse, IsTrue, List, Ok, OnOk, Some, false, true, bytes_eq, if◌then◌else◌, length, nat_lt, unwrap_or};
 ghost use Rattle.std.specs.Rc.{rc_str_bytes};
 ghost use Rattle.nd_change.specs.Steps.{IsPutOver};
 ghost use Rattle.nd_change.specs.Whole.{IsPut};
@@ -104,6 +104,15 @@ fn put_names(heap: &mut Heap, names: &NamesNow) -> Result<(), OutOfMemory>
     Ok(())
 }
 
+/// Whether a block has more bytes than this, and some bound value lies in it. The names are asked
+/// only about a block with more bytes.
+fn gets_shorter(heap: &Heap, base: Base, len: usize) -> bool
+    ensures { result ≡ nat_lt len
+        (length (model.held_bytes (session_in heap.now) (base_of base))) }
+{
+    heap.bytes(base).len() > len && heap.held_bytes(base).len() > len
+}
+
 /// Whether no block that a bound value lies in gets shorter.
 fn keep_lengths(heap: &Heap, blocks: &BlocksNow) -> bool
     ensures { IsTrue result → KeepLengths (model.held_bytes (session_in heap.now))
@@ -113,7 +122,8 @@ fn keep_lengths(heap: &Heap, blocks: &BlocksNow) -> bool
         let Some((base, block)) = blocks.get_index(i) else {
             unreachable!();
         };
-        if heap.held_bytes(*base).len() > shared_bytes(block).len() {
+        let len = shared_bytes(block).len();
+        if gets_shorter(heap, *base, len) {
             return false;
         }
     }

@@ -10,15 +10,15 @@ use Rattle.nd_session.specs.Session.Reading.{source_at, value_at}
 use Rattle.nd_session.proofs.session.Copying.{copied_bases, copied_names, copied_shared}
 use Rattle.nd_session.proofs.session.change.change.Change.try_clone.Goals as goal
 
-pub returns : goal.returns
-returns c =
+pub returns-in-Ok-clone-2 : goal.returns-in-Ok-clone-2
+returns-in-Ok-clone-2 c =
     let i = c.self.inside in
-    let names : entries_of value_at c.in_ok-names.names.entries ≡ entries_of value_at i.names.entries
-    = copied_names value_at _ (record { both = λ v w h. h; same = λ v w e. ap (λ v. Some (value_of v)) e; lost = λ v h. h; made = λ w h. h }) _ (λ a b h. h) i.names.entries c.in_ok-names.names.entries c.in_ok-names.ensures.cases in
-    let inputs : entries_of source_at c.in_ok-inputs.inputs.entries ≡ entries_of source_at i.inputs.entries
-    = copied_names source_at _ (record { both = λ v w h. h; same = λ v w e. ap (λ v. Some (source_of v)) e; lost = λ v h. h; made = λ w h. h }) _ (λ a b h. h) i.inputs.entries c.in_ok-inputs.inputs.entries c.in_ok-inputs.ensures.cases in
+    let names : entries_of value_at c.in-Ok-clone-2.names.entries ≡ entries_of value_at i.names.entries
+    = copied_names value_at _ (record { both = λ v w h. h; same = λ v w e. ap (λ v. Some (value_of v)) e; lost = λ v h. h; made = λ w h. h }) _ (λ a b h. h) i.names.entries c.in-Ok-clone-2.names.entries c.in-Ok-clone-2.ensures.cases in
+    let inputs : entries_of source_at c.in-Ok-clone.inputs.entries ≡ entries_of source_at i.inputs.entries
+    = copied_names source_at _ (record { both = λ v w h. h; same = λ v w e. ap (λ v. Some (source_of v)) e; lost = λ v h. h; made = λ w h. h }) _ (λ a b h. h) i.inputs.entries c.in-Ok-clone.inputs.entries c.in-Ok-clone.ensures.cases in
     let blocks : by_base bytes_in c.in_ok-blocks.blocks.entries ≡ by_base bytes_in i.blocks.entries
     = copied_bases bytes_in _ (record { both = λ v w h. h; same = λ v w e. e; lost = λ v h. h; made = λ w h. h }) _ (λ a b h. h) i.blocks.entries c.in_ok-blocks.blocks.entries c.in_ok-blocks.ensures.cases in
-    let parts : by_base kept_in c.in_ok-parts.parts.entries ≡ by_base kept_in i.parts.entries
-    = copied_shared kept_in _ (λ v w h. h) _ (λ a b h. h) i.parts.entries c.in_ok-parts.parts.entries c.in_ok-parts.ensures.cases in
+    let parts : by_base kept_in c.in-Ok.parts.entries ≡ by_base kept_in i.parts.entries
+    = copied_shared kept_in _ (λ v w h. h) _ (λ a b h. h) i.parts.entries c.in-Ok.parts.entries c.in-Ok.ensures.cases in
     (λ k. change_of (record { names = names k; inputs = inputs k; blocks = blocks k; parts = parts k; rule = option_map rule_of i.rule })) ∙ ap change_of c.self.view_is

@@ -1,7 +1,8 @@
 -- Loose bases: what loses its last name is among them.
-use Rattle.std.proofs.Common.{◌≡◌, ℕ, suc, zero, Bool, true, false, nat_eq, not, ◌&&◌, ◌||◌, cond, bytes_eq, List, [], ◌∷◌, length, drop, filter, Some, Global, refl, sym, ap, ◌∙◌, inl, inr}
+use Rattle.std.proofs.Common.{◌≡◌, ℕ, suc, zero, Bool, true, false, nat_eq, not, ◌&&◌, ◌||◌, cond, bytes_eq, List, [], ◌∷◌, length, drop, filter, Some, Global, refl, sym, ap, ◌∙◌, inl, inr, arith}
 use Rattle.std.specs.declared.rc.RcStr.{RcStr}
 use Rattle.std.proofs.lemmas.Bool.{cases_Bool, or_parts, or_from, or_right}
+use Rattle.std.proofs.lemmas.Bool.Decides.{nat_tests}
 use Rattle.nd_model.specs.Arrays.Value as model
 use Rattle.nd_model.specs.Cells.Session.{Names, lookup, bind, is_held}
 use Rattle.nd_model.specs.Cells.Running as running
@@ -35,45 +36,24 @@ held_behind b [] (suc i) h = h
 held_behind b (e ∷ es) zero h = h
 held_behind b (e ∷ es) (suc i) h = or_right _ _ (held_behind b es i h)
 
--- bases that are not held are left
-pub left_unheld : (ns : Names) (es : List (Base × Unit {0})) (b : model.Base)
-    → is_base_among (bases_of (filter (λ e. not (is_held (base_of e.0) ns)) es)) b ≡ (is_base_among (bases_of es) b && not (is_held b ns))
-left_unheld ns [] b = refl
-left_unheld ns (e ∷ es) b = elim (cases_Bool (model.same_base (base_of e.0) b)) [
+-- bases that pass a test are left
+pub left_by : (test : model.Base → Bool) (es : List (Base × Unit {0})) (b : model.Base)
+    → is_base_among (bases_of (filter (λ e. test (base_of e.0)) es)) b ≡ (is_base_among (bases_of es) b && test b)
+left_by test [] b = refl
+left_by test (e ∷ es) b = elim (cases_Bool (model.same_base (base_of e.0) b)) [
   | inl same ↦
       let is : base_of e.0 ≡ b = same_bases (base_of e.0) b same in
-      elim (cases_Bool (is_held b ns)) [
-        | inl held ↦
-            let there : is_held (base_of e.0) ns ≡ true = ap (λ c. is_held c ns) is ∙ held in
-            rw (there, same, held) (left_unheld ns es b ∙ rw held (and_false (is_base_among (bases_of es) b)))
-        | inr free ↦
-            let there : is_held (base_of e.0) ns ≡ false = ap (λ c. is_held c ns) is ∙ free in
-            rw (there, same, free) refl
-      ]
-  | inr apart ↦ elim (cases_Bool (is_held (base_of e.0) ns)) [
-    | inl held ↦ rw (held, apart) (left_unheld ns es b)
-    | inr free ↦ rw (free, apart) (left_unheld ns es b)
-  ]
-]
-
--- bases whose labels pass a test are left
-pub left_labelled : (test : ℕ → Bool) (es : List (Base × Unit {0})) (b : model.Base)
-    → is_base_among (bases_of (filter (λ e. test e.0.label) es)) b ≡ (is_base_among (bases_of es) b && test b.label)
-left_labelled test [] b = refl
-left_labelled test (e ∷ es) b = elim (cases_Bool (model.same_base (base_of e.0) b)) [
-  | inl same ↦
-      let is : base_of e.0 ≡ b = same_bases (base_of e.0) b same in
-      elim (cases_Bool (test b.label)) [
+      elim (cases_Bool (test b)) [
         | inl passes ↦
-            let here : test e.0.label ≡ true = ap (λ (c : model.Base). test c.label) is ∙ passes in
+            let here : test (base_of e.0) ≡ true = ap test is ∙ passes in
             rw (here, same, passes) refl
         | inr fails ↦
-            let here : test e.0.label ≡ false = ap (λ (c : model.Base). test c.label) is ∙ fails in
-            rw (here, same, fails) (left_labelled test es b ∙ rw fails (and_false (is_base_among (bases_of es) b)))
+            let here : test (base_of e.0) ≡ false = ap test is ∙ fails in
+            rw (here, same, fails) (left_by test es b ∙ rw fails (and_false (is_base_among (bases_of es) b)))
       ]
-  | inr apart ↦ elim (cases_Bool (test e.0.label)) [
-    | inl passes ↦ rw (passes, apart) (left_labelled test es b)
-    | inr fails ↦ rw (fails, apart) (left_labelled test es b)
+  | inr apart ↦ elim (cases_Bool (test (base_of e.0))) [
+    | inl passes ↦ rw (passes, apart) (left_by test es b)
+    | inr fails ↦ rw (fails, apart) (left_by test es b)
   ]
 ]
 
@@ -83,6 +63,17 @@ left_labelled test (e ∷ es) b = elim (cases_Bool (model.same_base (base_of e.0
 pub more_loose : (names : Names) (blocks : List (model.Base × List ℕ)) (old new : List model.Base) → ((b : model.Base) → is_base_among new b ≡ false → is_base_among old b ≡ false)
     → AreLoose (record { names = names; blocks = blocks; loose = old }) → AreLoose (record { names = names; blocks = blocks; loose = new })
 more_loose names blocks old new more h = λ b free unheld. h b (more b free) unheld
+
+-- bases without bytes need not be loose
+pub full_loose : (names : Names) (blocks : List (model.Base × List ℕ)) (old new : List model.Base) → ((b : model.Base) → is_base_among new b ≡ (is_base_among old b && not (nat_eq (length (bytes_at blocks b)) 0)))
+    → AreLoose (record { names = names; blocks = blocks; loose = old }) → AreLoose (record { names = names; blocks = blocks; loose = new })
+full_loose names blocks old new left h = λ b free unheld. elim (cases_Bool (is_base_among old b)) [
+  | inl was ↦ elim (cases_Bool (nat_eq (length (bytes_at blocks b)) 0)) [
+    | inl none ↦ let e : length (bytes_at blocks b) ≡ 0 = grind (arith, nat_tests) in no_entries (bytes_at blocks b) e
+    | inr some ↦ false_true (sym free ∙ left b ∙ rw (was, some) refl)
+  ]
+  | inr never ↦ h b never unheld
+]
 
 -- a name gets another value, or loses its own
 pub lost_loose : (n : List ℕ) (names after : Names) (blocks : List (model.Base × List ℕ)) (old new : List model.Base)

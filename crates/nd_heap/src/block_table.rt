@@ -1,6 +1,6 @@
 //! `BlockTable`: blocks by base in two layers, so that a change copies few of them.
 
-ghost use Rattle.std.specs.Prelude.{◌≡◌, ◌+◌, ◌≤◌, [], IfOk, OnErr, OnOk, if◌then◌else◌};
+ghost use Rattle.std.specs.Prelude.{◌≡◌, ◌+◌, ◌≤◌, ◌&&◌, [], IfOk, OnErr, OnOk, if◌then◌else◌, length, nat_eq, not};
 ghost use Rattle.nd_model.specs.Cells.Running as running;
 ghost use Rattle.nd_model.specs.Arrays.Value as values;
 ghost use Rattle.nd_heap.specs.Contents.{bases_of, blocks_of, bytes_in};
@@ -240,6 +240,22 @@ fn pick_block(picked: &mut Blocks, blocks: &BlockTable, base: Base) -> Result<()
         picked.insert(base, block)?;
     }
     Ok(())
+}
+
+/// Takes out the bases that have no bytes: there is nothing to give up.
+pub(crate) fn retain_full(bases: &mut Bases, blocks: &BlockTable)
+    ensures less { index_map_len bases.new ≤ index_map_len bases.old }
+    ensures left { (b : values.Base) → is_base_among (bases_of bases.new.entries) b
+        ≡ (is_base_among (bases_of bases.old.entries) b
+        && not (nat_eq (length (bytes_at blocks.now.blocks b)) 0)) }
+{
+    bases.retain(
+        |base: &Base, _unit: &mut ()| -> bool
+            ensures { (result
+                ≡ not (nat_eq (length (bytes_at blocks.entry.now.blocks (base_of base.now))) 0))
+                × (_unit.new ≡ _unit.old) }
+        { !blocks.bytes(*base).is_empty() },
+    );
 }
 
 /// The blocks of these bases, shared.

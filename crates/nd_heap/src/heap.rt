@@ -12,7 +12,7 @@ ghost use Rattle.nd_heap.specs.Contents.{bases_of, blocks_of, bytes_in};
 ghost use Rattle.nd_heap.specs.Live.{bytes_at, is_base_among};
 ghost use Rattle.nd_heap.specs.Loose.{lies_in_found};
 
-use crate::block_table::{BlockTable, pick_blocks};
+use crate::block_table::{BlockTable, pick_blocks, retain_full};
 use crate::blocks::{Bases, Blocks, drop_label, has_base, note_base, retain_label, retain_unheld};
 use crate::name_table::NameTable;
 use crate::names::lies_in;
@@ -334,8 +334,8 @@ impl Heap {
         Ok(())
     }
 
-    /// Gives up the blocks that no bound value lies in. Only those of loose bases are looked at,
-    /// and no memory is taken.
+    /// Gives up the blocks that no bound value lies in. Only loose bases that have bytes are looked
+    /// for among the names, and no memory is taken.
     ///
     /// After `bind` of `x` to an array and then to the number 1, it gives up the array's block.
     pub fn collect(&mut self)
@@ -343,6 +343,7 @@ impl Heap {
         ensures bytes { (b : values.Base) → bytes_at self.new.blocks b
             ≡ (if model.is_held b self.old.names then bytes_at self.old.blocks b else []) }
     {
+        retain_full(&mut self.loose, &self.blocks);
         retain_unheld(&mut self.loose, &self.names);
         self.blocks.remove(&self.loose);
         self.loose.clear();

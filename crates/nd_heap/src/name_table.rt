@@ -72,7 +72,13 @@ impl NameTable {
         ensures { IfOk result (λ t. t ≡ self.now) }
     {
         let newer = self.newer.clone()?;
-        let added = self.added.clone()?;
+        let added = match self.added.clone() {
+            Ok(added) => added,
+            Err(memory) => {
+                drop(newer);
+                return Err(memory.into());
+            }
+        };
         match self.shared.try_clone() {
             Ok(shared) => Ok(NameTable {
                 shared,
@@ -80,7 +86,11 @@ impl NameTable {
                 added,
                 alloc: self.alloc,
             }),
-            Err(memory) => Err(memory.into()),
+            Err(memory) => {
+                drop(newer);
+                drop(added);
+                Err(memory.into())
+            }
         }
     }
 

@@ -30,6 +30,13 @@ const MOST_ASKED: usize = 256;
 /// How many changes a snapshot keeps that are not put over it yet.
 const MOST_PENDING: usize = 32;
 
+/// How many cells lie at least between a snapshot over which many changes are put and the one in front of it. Fewer are soon replayed.
+const MOST_REPLAYED: usize = 512;
+
+/// How many bytes a snapshot takes for itself at most that is dropped once its changes are many. More are written by cells that are not
+/// soon replayed.
+const MOST_DROPPED_BYTES: u64 = 1 << 20;
+
 /// How many names, inputs and blocks a change has at most that is put over a session. Of more, to replay records is cheaper.
 pub(crate) const MOST_KEYS: usize = 64;
 
@@ -383,12 +390,19 @@ fn add_pending<C: CellRunner>(snapshot: Snapshot<C>, noted: Noted<C>) -> Option<
     }
 }
 
-/// A snapshot behind an edit, with the change that is noted for its place. A change of many bytes is put over it, and so are changes
-/// that have become many.
+/// Whether the records from the last snapshot in front up to this one are soon replayed.
+fn is_soon_replayed<C: CellRunner>(snapshot: &Snapshot<C>, from: usize) -> bool {
+    snapshot.cost <= MOST_DROPPED_BYTES && snapshot.place.saturating_sub(from) < MOST_REPLAYED
+}
+
+/// A snapshot behind an edit, with the change that is noted for its place. A change of many bytes is put over it. So are changes that
+/// have become many: no edit has used the snapshot since the first of them. Where its records are soon replayed from the last snapshot in
+/// front, whose place is `from`, it is dropped in place of that.
 fn put_behind<C: CellRunner>(
     alloc: Global,
     snapshot: Snapshot<C>,
     noted: Noted<C>,
+    from: usize,
 ) -> Option<Snapshot<C>>
     requires { noted.place ≡ snapshot.place }
     ensures { IfSome result (λ s. (old new : Book) → AreDistinct (labels_of old.cells)
@@ -401,8 +415,12 @@ fn put_behind<C: CellRunner>(
 {
     let is_large = C::change_size(&noted.change) > MOST_PENDING_BYTES;
     let grown = add_pending::<C>(snapshot, noted)?;
-    let is_due = is_large || grown.pending.len() > MOST_PENDING;
-    unburdened::<C>(alloc, grown, is_due)
+    let are_many = grown.pending.len() > MOST_PENDING;
+    if are_many && is_soon_replayed::<C>(&grown, from) {
+        drop(grown);
+        return None;
+    }
+    unburdened::<C>(alloc, grown, is_large || are_many)
 }
 
 /// Takes out what is noted of a place, and of the places in front of it, the last of the list being the first.
@@ -428,11 +446,13 @@ fn noted_at<C: CellRunner>(noted: &mut Vec<Noted<C>>, place: usize) -> Option<No
     None
 }
 
-/// A snapshot behind an edit: one in front stays, and another gets the change that is noted for its place.
+/// A snapshot behind an edit: one in front stays, and another gets the change that is noted for its place. The last one in front of it
+/// that stays is at `from`.
 fn carried<C: CellRunner>(
     alloc: Global,
     snapshot: Snapshot<C>,
     front: usize,
+    from: usize,
     noted: &mut Vec<Noted<C>>,
 ) -> Option<Snapshot<C>>
     ensures noted { (old new : Book)
@@ -449,7 +469,7 @@ fn carried<C: CellRunner>(
         return Some(snapshot);
     }
     let next = noted_at::<C>(noted, snapshot.place)?;
-    put_behind::<C>(alloc, snapshot, next)
+    put_behind::<C>(alloc, snapshot, next, from)
 }
 
 /// Puts one snapshot more behind the others, if there is one. Where memory is wanting it is dropped.
@@ -700,7 +720,8 @@ pub(crate) fn carry<C: CellRunner>(
     noted.reverse();
     let before = replace(snapshots, Vec::new(alloc));
     for snapshot in before {
-        let kept = carried::<C>(alloc, snapshot, front, &mut noted);
+        let from = last_place::<C>(snapshots);
+        let kept = carried::<C>(alloc, snapshot, front, from, &mut noted);
         push_some::<C>(snapshots, kept);
     }
     put_fresh::<C>(snapshots, fresh, front);

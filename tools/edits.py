@@ -1,6 +1,7 @@
 """edits: the notebooks that `tools/bench edits` measures: an edit of one cell of many, beside inserting all of them."""
 from __future__ import annotations
 
+import time
 from collections.abc import Callable, Iterator
 from dataclasses import dataclass
 
@@ -10,8 +11,10 @@ IMAGES = 50
 LARGE = 1 << 24
 READERS, SUMS = 50, 50
 MOST_CELLS = 10_000
-# Edits of the middle cell of which the mean and the most are told: more than snapshots let wait.
+# Edits of the middle cell of which the mean and the most are told.
 MANY = 20
+# Edits of cells all over a notebook, of which as many are made as take these seconds: more than a snapshot lets wait.
+SPREAD, SPREAD_SECONDS = 100, 3
 
 
 @dataclass
@@ -130,6 +133,13 @@ def measure(path: str, shape: Shape, turns: int) -> Costs:
         """Seconds of another value, of which each turn gives one that was not there before."""
         return checked(*program.edit(k, shape.other(k, 5 + turn)))
 
+    def spread() -> Cost:
+        """Seconds of other values in cells all over the notebook, but for its first tenth."""
+        values, front, begun = [], count // 10, time.monotonic()
+        while len(values) < SPREAD and (len(values) < 2 or time.monotonic() - begun < SPREAD_SECONDS):
+            values.append(changed(front + (len(values) * 6_007 + 13) % (count - front), len(values)))
+        return Cost("other values all over", min(values), sum(values) / len(values), max(values))
+
     def removed(k: int) -> float:
         seconds = checked(*program.remove(k))
         checked(*program.insert(k, cells[k]))
@@ -163,6 +173,7 @@ def measure(path: str, shape: Shape, turns: int) -> Costs:
             checked(*program.edit(k, cells[k]))
             edits.append(cost(f"blanks in the {place} cell", lambda turn: edited(k, cells[k] + " " * (turn + 1))))
             edits.append(cost(f"the {place} cell is removed", lambda turn: removed(k)))
+        edits.append(spread())
         edits.append(cost("the middle cell moves one place down", lambda turn: moved(count // 2, count // 2 + 1)))
         edits.append(cost("the last cell moves to place 1", lambda turn: moved(count - 1, 1)))
         edits.append(cost("a new name in the middle", lambda turn: inserted(count // 2, f"zz{turn} = np.arange(3)")))

@@ -91,6 +91,14 @@ class Costs(unittest.TestCase):
         self.assertLess(large - small, STATEMENTS)
 
 
+    def test_changes_that_have_become_many_are_put_over_few_snapshots(self) -> None:
+        """The 33rd and 34th edit in front of the snapshots: were the 33 changes put over each of them, it would take
+        thousands of allocations."""
+        edits = [line for turn in range(34) for line in (f'edit {turn}', f'v{turn} = np.arange(4) + 1', '.')]
+        many, fewer = (self.cost(arrays(LONG), *edits[:3 * turns]) for turns in (34, 32))
+        self.assertLess(many - fewer, 50 * SNAPSHOTS)
+
+
 @unittest.skipUnless(real_program(), 'no program: NDNOTE_PROGRAM, or crates/ndnote/out/ndnote')
 class FarMoves(unittest.TestCase):
     """Processor times, each the least of some turns: what a replay costs is no allocation."""
@@ -108,6 +116,30 @@ class FarMoves(unittest.TestCase):
             down.append(program.move(1, last)[0])
         self.assertLess(min(up), whole / 100)
         self.assertLess(min(down), whole / 100)
+
+
+@unittest.skipUnless(real_program(), 'no program: NDNOTE_PROGRAM, or crates/ndnote/out/ndnote')
+class ManyRows(unittest.TestCase):
+    """Processor times of an edit among cells that write many rows of one block. Were each row of one looked for among all
+    rows of another, an edit would take hundreds of times what inserting all does."""
+
+    CELLS = 10
+
+    def slowdown(self, first: str, cell: str) -> float:
+        """An edit of the cell in the middle, by the time of inserting all. `cell` has the places of its number and of
+        what it adds."""
+        program = Program(real_program())
+        self.addCleanup(program.close)
+        whole = program.load([first, *(cell.format(at, 1) for at in range(self.CELLS))])
+        half = self.CELLS // 2
+        return program.edit(half + 1, cell.format(half, 2))[0] / whole
+
+    def test_of_masks(self) -> None:
+        self.assertLess(self.slowdown('x = np.arange(60000)\ns = x * 7919 % 30011', 'x[s % 10 == {0}] += {1}'), 5)
+
+    def test_of_parts_of_a_field(self) -> None:
+        first = "t = np.zeros(100000, dtype=[('a', 'u1'), ('b', '<i8'), ('c', '<i8')])"
+        self.assertLess(self.slowdown(first, "t['a'][{0}::10] += {1}"), 5)
 
 
 if __name__ == '__main__':

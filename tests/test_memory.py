@@ -65,6 +65,16 @@ class Memory(unittest.TestCase):
         program.load(cells)
         self.assertLess(program.memory()[0], 60 * MIB)
 
+    def test_scattered_elements_keep_ranges_and_no_bit_for_each_byte(self) -> None:
+        """20 cells that each print ten elements of 32 MiB: 4 MiB of bits a cell, if they were kept."""
+        count, step = 4 * MIB, 400_009
+        chosen = ', '.join(str(at * at * 37 % step + at * step) for at in range(10))
+        cells = [f'x = np.arange({count})', *(f'print(x[[{chosen}, {count - 1 - at}]])' for at in range(20))]
+        program = Program(real_program())
+        self.addCleanup(program.close)
+        program.load(cells)
+        self.assertLess(program.memory()[0], 48 * MIB)
+
     def test_an_input_of_a_pipe_is_read_to_its_end(self) -> None:
         script = b"insert 0\nx = np.load('p.npy')\nprint(x.sum())\n.\nshow 0\n"
         with tempfile.TemporaryDirectory() as folder:

@@ -135,6 +135,8 @@ class Runs(unittest.TestCase):
         (self.folder / 'book.py').write_text('print(1)\n# %%\nx = np.arange(16777216)\n' + 'x = x * 3\n' * 900)
         running = subprocess.Popen([sys.executable, '-m', 'ndnote', 'run', self.folder / 'book.py'], text=True,
                                    stdout=subprocess.PIPE, stderr=subprocess.PIPE, start_new_session=True,
+                                   # A test that runs in the background may have got interrupts that are ignored.
+                                   preexec_fn=lambda: signal.signal(signal.SIGINT, signal.SIG_DFL),
                                    env={**os.environ, 'PYTHONPATH': str(PYTHON)})
         self.addCleanup(running.kill)
         with self.assertRaises(subprocess.TimeoutExpired):

@@ -34,6 +34,11 @@ def arrays(count: int) -> list[str]:
     return [f'v{k} = np.arange(4)' for k in range(count)]
 
 
+def readers(count: int) -> list[str]:
+    """Cells that all read what the first one made."""
+    return ['v0 = np.arange(4)', *(f'v{k} = v0 + {k}' for k in range(1, count))]
+
+
 def scattered_reads(count: int) -> str:
     """Statements that each read ten positions of an array of this many elements."""
     return '\n'.join([f'y = x[[0, 3, 8, 15, 24, 35, 48, 51, 60, {count - 1}]]'] * STATEMENTS)
@@ -90,13 +95,30 @@ class Costs(unittest.TestCase):
         self.assertGreater(small, STATEMENTS)
         self.assertLess(large - small, STATEMENTS)
 
-
     def test_changes_that_have_become_many_are_put_over_few_snapshots(self) -> None:
         """The 33rd and 34th edit in front of the snapshots: were the 33 changes put over each of them, it would take
         thousands of allocations."""
         edits = [line for turn in range(34) for line in (f'edit {turn}', f'v{turn} = np.arange(4) + 1', '.')]
         many, fewer = (self.cost(arrays(LONG), *edits[:3 * turns]) for turns in (34, 32))
         self.assertLess(many - fewer, 50 * SNAPSHOTS)
+
+
+@unittest.skipUnless(real_program(), 'no program: NDNOTE_PROGRAM, or crates/ndnote/out/ndnote')
+class EditsBehindALargeChange(unittest.TestCase):
+    """Processor times, each the least of some turns: an edit that all cells read, and then one of a cell far down."""
+
+    CELLS, TURNS = 2_000, 5
+
+    def test_snapshots_stay_behind_an_edit_that_all_cells_read(self) -> None:
+        """Were they dropped, the second edit would replay all records in front of it, a twentieth of inserting all."""
+        program = Program(real_program())
+        self.addCleanup(program.close)
+        whole = program.load(readers(self.CELLS))
+        far, times = self.CELLS - 40, []
+        for turn in range(self.TURNS):
+            program.edit(0, f'v0 = np.arange(4) + {turn + 1}')
+            times.append(program.edit(far, f'v{far} = v0 + {self.CELLS + turn}')[0])
+        self.assertLess(min(times), whole / 100)
 
 
 @unittest.skipUnless(real_program(), 'no program: NDNOTE_PROGRAM, or crates/ndnote/out/ndnote')

@@ -2,6 +2,7 @@
 mod ending;
 mod moving;
 mod notebook;
+mod noting;
 mod queries;
 mod runner;
 mod snapshots;

@@ -1,5 +1,5 @@
 -- A cell that is taken out, and the sweep behind it.
-use Rattle.std.proofs.Common.{◌≡◌, ℕ, Bool, ◌+◌, ◌-◌, ◌<◌, ◌≤◌, ◌⊎◌, List, length, get_or, Some, None, refl, sym, ap, subst, ◌∙◌, inl, inr, arith}
+use Rattle.std.proofs.Common.{◌≡◌, ℕ, Bool, ◌+◌, ◌-◌, ◌<◌, ◌≤◌, ◌⊎◌, List, [], length, map, get_or, Some, None, refl, sym, ap, subst, ◌∙◌, inl, inr, arith}
 use Rattle.std.specs.Prelude.{remove}
 use Rattle.std.proofs.lemmas.Bool.{cases_lt}
 use Rattle.std.proofs.lemmas.List.{ext_get_or, get_or-take, length-map}
@@ -24,6 +24,10 @@ use Rattle.nd_change.proofs.Snapshots.{over_alike}
 use Rattle.nd_schedule.specs.Schedule.Snapshot.{IsBehind, StandsBefore}
 use Rattle.nd_schedule.specs.Schedule.Sweep.{IsAt, IsFrame, Changes, changed, AreChanged, AreWords, IsKept}
 use Rattle.nd_schedule.proofs.schedule.Sweeping.{alike_self, alike_turned, runs_over, leaves_next}
+
+-- behind the last cell nothing is changed
+pub none_changed : {X : Type 0} (f : X → ℕ × Record) (old new : Book) (i j to : ℕ) (xs : List X) → to ≤ i → xs ≡ [] → AreChanged old new i j to (map f xs)
+none_changed f old new i j to xs le none = subst (λ ys. AreChanged old new i j to (map f ys)) (sym none) (record { now = λ n lt. absurd (omega (arith, lt, le)); before = λ k r lt. refl; past = λ k r le. refl })
 
 module _ (s : Sheet) (at : ℕ) (lt : at < length s.cells) (d : AreDistinct (labels_of s.cells)) where
   abbrev pub old : Book

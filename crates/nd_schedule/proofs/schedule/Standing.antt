@@ -21,7 +21,9 @@ use Rattle.nd_change.specs.Change.{Change, IsOver, did_by}
 use Rattle.nd_change.specs.Snapshots.{IsAlike}
 use Rattle.nd_change.specs.Steps.{IsPutOver}
 use Rattle.nd_change.proofs.Snapshots.{nothing_left, over_alike}
-use Rattle.nd_schedule.specs.Schedule.Snapshot.{IsBehind, IsChangeAt, IsSnapshot, Leads, StandsBefore, names_in}
+use Rattle.nd_schedule.specs.Schedule.Snapshot.{IsBehind, IsChangeAt, IsNoted, IsSnapshot, Leads, StandsBefore, names_in}
+use Rattle.nd_schedule.specs.declared.schedule.noting.Memo.{Memo}
+use Rattle.nd_schedule.specs.declared.schedule.noting.Memo.TheVariants as memo
 use Rattle.nd_schedule.specs.Schedule.Sweep.{IsAt, IsPlace, IsRun}
 use Rattle.nd_schedule.proofs.schedule.Sweeping.{alike_self, leaves_next, next_alike}
 
@@ -73,6 +75,13 @@ fresh_one b place s h ds le stands same none = record {
   leads = subst (λ ds. Leads ds s (session_before b place)) (sym none) (subst (λ u. IsAlike u (session_before b place)) (sym same) stands.alike);
 }
 
+-- the session at hand, where it stands before the place now
+pub hand_there : (old new : Book) (i j : ℕ) (d : Change) (s : Session) (since : ℕ) → IsAt old new i j d s since → since ≡ i → StandsBefore new j s
+hand_there old new i j d s since at is = record {
+  alike = let e : j - (i - since) ≡ j = omega (arith, is) in subst (λ n. IsAlike s (session_before new n)) e at.hand.session;
+  once = at.hand.once;
+}
+
 -- ---- snapshots behind an edit
 
 pub kept_in_front : (old new : Book) (front place : ℕ) (s : Session) (ds : List Change) → IsBehind old new front → place ≤ front → IsSnapshot old place s ds → IsSnapshot new place s ds
@@ -93,6 +102,14 @@ noted_on view old new place now s xs ys x d noted grown h = record {
 leads_alike : (ds : List Change) (s t u : Session) → IsAlike t u → Leads ds s t → Leads ds s u
 leads_alike [] s t u a h = alike_more s t u h a
 leads_alike (d ∷ ds) s t u a h = (h.0, h.1, h.2, h.3, h.4, leads_alike ds h.0 t u a h.5)
+
+-- what is noted is a change
+pub change_noted : {D V : Type 0} (view : D → Change) (kept : V → Session) (old new : Book) (place now : ℕ) (m : Memo D V) (d : D) → IsNoted view kept old new place now m → m ≡ memo.Change d → IsChangeAt old new place now (view d)
+change_noted view kept old new place now m d noted is = subst (IsNoted view kept old new place now) is noted
+
+-- what is noted is a session
+pub session_noted : {D V : Type 0} (view : D → Change) (kept : V → Session) (old new : Book) (place now : ℕ) (m : Memo D V) (v : V) (ds : List Change) → IsNoted view kept old new place now m → m ≡ memo.Session v → ds ≡ [] → IsSnapshot new now (kept v) ds
+session_noted view kept old new place now m v ds noted is none = subst (IsSnapshot new now (kept v)) (sym none) (subst (IsNoted view kept old new place now) is noted)
 
 -- a change with nothing in it need not be kept
 pub still_on : (d : Change) (old new : Book) (place now : ℕ) (s : Session) (ds : List Change) → ((k : Key) → d k ≡ None) → AreDistinct (labels_of old.cells) → AreDistinct (labels_of new.cells) → IsChangeAt old new place now d → IsSnapshot old place s ds → IsSnapshot new now s ds

@@ -8,6 +8,8 @@ use Rattle.nd_model.specs.Book.Book.{Book, labels_of}
 use Rattle.nd_model.specs.Book.Entries.{SharesFront, session_before}
 use Rattle.nd_change.specs.Change.{Change, IsOver}
 use Rattle.nd_change.specs.Snapshots.{IsAlike}
+use Rattle.nd_schedule.specs.declared.schedule.noting.Memo.{Memo}
+use Rattle.nd_schedule.specs.declared.schedule.noting.Memo.TheVariants as memo
 
 -- THE CHANGES LEAD from the one session to the other: put over it in order, they give one that is alike.
 abbrev pub Leads : List Change → Session → Session → Type 0
@@ -29,6 +31,11 @@ pub record StandsBefore (b : Book) (place : ℕ) (s : Session) : Type 0 where
 pub record IsChangeAt (old new : Book) (place now : ℕ) (d : Change) : Type 0 where
   pub within : now ≤ length new.cells
   pub over : IsOver d (session_before old place) old.world (session_before new now) new.world
+
+-- What a sweep keeps there is the change, or a snapshot of the notebook now.
+abbrev pub IsNoted : {D V : Type 0} → (D → Change) → (V → Session) → (old new : Book) → (place now : ℕ) → Memo D V → Type 0
+IsNoted change_of kept_session old new place now (memo.Change d) = IsChangeAt old new place now (change_of d)
+IsNoted change_of kept_session old new place now (memo.Session v) = IsSnapshot new now (kept_session v) []
 
 -- an edit behind the first cells
 pub record IsBehind (old new : Book) (front : ℕ) : Type 0 where

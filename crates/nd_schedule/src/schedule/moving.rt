@@ -15,7 +15,7 @@ ghost use Rattle.nd_model.specs.Book.Notebook.{world_in};
 ghost use Rattle.nd_change.specs.Steps.{Comes, IsWordOf, IsWordOfChange};
 ghost use Rattle.nd_schedule.specs.Cells.Source.{cell_of, cells_of};
 ghost use Rattle.nd_schedule.specs.Cells.Shared.{each_of};
-ghost use Rattle.nd_schedule.specs.Schedule.Snapshot.{IsChangeAt, IsSnapshot};
+ghost use Rattle.nd_schedule.specs.Schedule.Snapshot.{IsNoted, IsSnapshot};
 ghost use Rattle.nd_schedule.specs.Schedule.Sweep.{
   AreFit,
   AreMoved,
@@ -31,8 +31,9 @@ ghost use Rattle.nd_schedule.specs.Schedule.Sweep.{
 };
 
 use crate::cells::KeptCell;
+use crate::schedule::noting::Noted;
 use crate::schedule::runner::CellRunner;
-use crate::schedule::snapshots::{Noted, Snapshot};
+use crate::schedule::snapshots::Snapshot;
 use crate::schedule::sweep::{Changed, New, SweepState, catch_up, run_new, sweep};
 use nd_meter::Meter;
 use std::alloc::{AllocError, Global};
@@ -228,7 +229,8 @@ pub(crate) fn move_down<C: CellRunner>(
         (world_in (C.given world.now))
         → IsAt old new from from (C.change_of state.old.change) (C.session_of state.old.session)
         state.old.since
-        → All (λ n. IsChangeAt old new n.place n.now (C.change_of n.change)) m.noted.items) }
+        → All (λ n. IsNoted C.change_of C.kept_session old new n.place n.now n.memo)
+        m.noted.items) }
     ensures counts { (old new : Book)
         → IsMoving old new from to (cells_of cells.now) (each_of C.recorded records.now)
         (world_in (C.given world.now))
@@ -343,7 +345,8 @@ pub(crate) fn move_up<C: CellRunner>(
         (world_in (C.given world.now))
         → IsAt old new to to (C.change_of state.old.change) (C.session_of state.old.session)
         state.old.since
-        → All (λ n. IsChangeAt old new n.place n.now (C.change_of n.change)) m.noted.items) }
+        → All (λ n. IsNoted C.change_of C.kept_session old new n.place n.now n.memo)
+        m.noted.items) }
     ensures counts { (old new : Book)
         → IsMoving old new from to (cells_of cells.now) (each_of C.recorded records.now)
         (world_in (C.given world.now))

@@ -17,14 +17,15 @@ ghost use Rattle.nd_change.specs.Steps.{IsWordOf, IsWordOfChange};
 ghost use Rattle.nd_schedule.specs.Cells.Labels.{AreUsed};
 ghost use Rattle.nd_schedule.specs.Cells.Source.{sheet, cell_of, cells_of};
 ghost use Rattle.nd_schedule.specs.Cells.Shared.{each_of};
-ghost use Rattle.nd_schedule.specs.Schedule.Snapshot.{IsChangeAt, IsSnapshot, StandsBefore, names_in};
+ghost use Rattle.nd_schedule.specs.Schedule.Snapshot.{IsNoted, IsSnapshot, StandsBefore, names_in};
 ghost use Rattle.nd_schedule.specs.Schedule.Sweep.{AreChanged, AreFit, AreMoved, AreWords, CountsFront, IsAt, IsKept, IsOpen, change_at, changed, fit_at};
 
 use crate::cells::{FreeLabel, KeptCell, fresh_label, move_item};
 use crate::schedule::ending::{make_rooms, put_one};
 use crate::schedule::moving::{Moved, move_down, move_up};
+use crate::schedule::noting::Noted;
 use crate::schedule::runner::CellRunner;
-use crate::schedule::snapshots::{Noted, Snapshot, carry, nearest, replay_between, session_front};
+use crate::schedule::snapshots::{Snapshot, carry, nearest, replay_between, session_front};
 use crate::schedule::sweep::{Changed, New, SweepState, run_again, run_new, sweep};
 use nd_meter::Meter;
 use std::alloc::{AllocError, Global};
@@ -253,8 +254,8 @@ impl<C: CellRunner> Schedule<C> {
             → IsOpen (book_of self.now) new i now (world_in (C.given world.now))
             → IsAt (book_of self.now) new i now (C.change_of state.change)
             (C.session_of state.session) state.since
-            → All (λ n. IsChangeAt (book_of self.now) new n.place n.now
-            (C.change_of n.change)) s.noted.items) }
+            → All (λ n. IsNoted C.change_of C.kept_session
+            (book_of self.now) new n.place n.now n.memo) s.noted.items) }
         ensures counts { (new : Book) (j before : ℕ)
             → IsOpen (book_of self.now) new i j (world_in (C.given world.now))
             → IsAt (book_of self.now) new i j (C.change_of state.change)
@@ -300,9 +301,9 @@ impl<C: CellRunner> Schedule<C> {
             (map (λ c. change_at c.place (C.recorded c.record.value)) s.changed.items)) }
         ensures fit { IfOk result (λ s. AreFit C.covers (length self.now.cells)
             (map (λ c. fit_at c.place (C.recorded c.record.value) c.word) s.changed.items)) }
-        ensures noted { IfOk result (λ s. All (λ n. IsChangeAt (book_of self.now)
-            (book_of (sheet (slice_set self.now.cells at (cell_of source.now)) self.now.given)) n.place n.now
-            (C.change_of n.change)) s.noted.items) }
+        ensures noted { IfOk result (λ s. All (λ n. IsNoted C.change_of C.kept_session
+            (book_of self.now) (book_of (sheet (slice_set self.now.cells at (cell_of source.now))
+            self.now.given)) n.place n.now n.memo) s.noted.items) }
         ensures counts { CountsStale (book_of self.now)
             (book_of (sheet (slice_set self.now.cells at (cell_of source.now)) self.now.given))
             meter.old meter.new }
@@ -349,9 +350,9 @@ impl<C: CellRunner> Schedule<C> {
             (map (λ c. change_at c.place (C.recorded c.record.value)) e.swept.changed.items)) }
         ensures fit { IfOk result (λ e. AreFit C.covers (length self.now.cells)
             (map (λ c. fit_at c.place (C.recorded c.record.value) c.word) e.swept.changed.items)) }
-        ensures noted { IfOk result (λ e. All (λ n. IsChangeAt (book_of self.now)
-            (book_of (sheet (slice_set self.now.cells at (cell_of source.now)) self.now.given))
-            n.place n.now (C.change_of n.change)) e.swept.noted.items) }
+        ensures noted { IfOk result (λ e. All (λ n. IsNoted C.change_of C.kept_session
+            (book_of self.now) (book_of (sheet (slice_set self.now.cells at (cell_of source.now))
+            self.now.given)) n.place n.now n.memo) e.swept.noted.items) }
         ensures fresh { IfOk result (λ e. All (λ s. IsSnapshot (book_of self.now) s.place
             (C.kept_session s.version) (map C.change_of s.pending.items)) e.fresh.items) }
         ensures counts { CountsStale (book_of self.now)
@@ -389,9 +390,9 @@ impl<C: CellRunner> Schedule<C> {
             (map (λ c. change_at c.place (C.recorded c.record.value)) s.changed.items)) }
         ensures fit { IfOk result (λ s. AreFit C.covers (length self.now.cells)
             (map (λ c. fit_at c.place (C.recorded c.record.value) c.word) s.changed.items)) }
-        ensures noted { IfOk result (λ s. All (λ n. IsChangeAt (book_of self.now)
-            (book_of (sheet self.now.cells (C.given world.now))) n.place n.now
-            (C.change_of n.change)) s.noted.items) }
+        ensures noted { IfOk result (λ s. All (λ n. IsNoted C.change_of C.kept_session
+            (book_of self.now) (book_of (sheet self.now.cells (C.given world.now)))
+            n.place n.now n.memo) s.noted.items) }
         ensures counts { CountsStale (book_of self.now)
             (book_of (sheet self.now.cells (C.given world.now))) meter.old meter.new }
     {
@@ -438,9 +439,9 @@ impl<C: CellRunner> Schedule<C> {
             (map (λ c. change_at c.place (C.recorded c.record.value)) v.changed.items)) }
         ensures fit { IfOk result (λ v. AreFit C.covers (length self.now.cells)
             (map (λ c. fit_at c.place (C.recorded c.record.value) c.word) v.changed.items)) }
-        ensures noted { IfOk result (λ s. All (λ n. IsChangeAt (book_of self.now)
-            (book_of (sheet (remove self.now.cells at) self.now.given)) n.place n.now
-            (C.change_of n.change)) s.noted.items) }
+        ensures noted { IfOk result (λ s. All (λ n. IsNoted C.change_of C.kept_session
+            (book_of self.now) (book_of (sheet (remove self.now.cells at) self.now.given))
+            n.place n.now n.memo) s.noted.items) }
         ensures counts { CountsStale (book_of self.now)
             (book_of (sheet (remove self.now.cells at) self.now.given)) meter.old meter.new }
     {
@@ -467,9 +468,9 @@ impl<C: CellRunner> Schedule<C> {
             (map (λ c. change_at c.place (C.recorded c.record.value)) v.swept.changed.items)) }
         ensures fit { IfOk result (λ v. AreFit C.covers (length self.now.cells)
             (map (λ c. fit_at c.place (C.recorded c.record.value) c.word) v.swept.changed.items)) }
-        ensures noted { IfOk result (λ s. All (λ n. IsChangeAt (book_of self.now)
-            (book_of (sheet (remove self.now.cells at) self.now.given)) n.place n.now
-            (C.change_of n.change)) s.swept.noted.items) }
+        ensures noted { IfOk result (λ s. All (λ n. IsNoted C.change_of C.kept_session
+            (book_of self.now) (book_of (sheet (remove self.now.cells at) self.now.given))
+            n.place n.now n.memo) s.swept.noted.items) }
         ensures fresh { IfOk result (λ f. All (λ s. IsSnapshot (book_of self.now) s.place
             (C.kept_session s.version) (map C.change_of s.pending.items)) f.fresh.items) }
         ensures last { at + 1 ≡ length self.now.cells → IsOk result }
@@ -525,9 +526,9 @@ impl<C: CellRunner> Schedule<C> {
             (map (λ c. change_at c.place (C.recorded c.record.value)) g.swept.changed.items)) }
         ensures fit { IfOk result (λ g. AreFit C.covers (length self.now.cells)
             (map (λ c. fit_at c.place (C.recorded c.record.value) c.word) g.swept.changed.items)) }
-        ensures noted { IfOk result (λ g. All (λ n. IsChangeAt (book_of self.now)
-            (book_of (sheet (insert self.now.cells at (cell_of source.now)) self.now.given))
-            n.place n.now (C.change_of n.change)) g.swept.noted.items) }
+        ensures noted { IfOk result (λ g. All (λ n. IsNoted C.change_of C.kept_session
+            (book_of self.now) (book_of (sheet (insert self.now.cells at (cell_of source.now))
+            self.now.given)) n.place n.now n.memo) g.swept.noted.items) }
         ensures counts { CountsStale (book_of self.now)
             (book_of (sheet (insert self.now.cells at (cell_of source.now)) self.now.given))
             meter.old meter.new }
@@ -566,9 +567,9 @@ impl<C: CellRunner> Schedule<C> {
         ensures fit { IfOk result (λ a. AreFit C.covers (length self.now.cells)
             (map (λ c. fit_at c.place (C.recorded c.record.value) c.word)
             a.grown.swept.changed.items)) }
-        ensures noted { IfOk result (λ a. All (λ n. IsChangeAt (book_of self.now)
-            (book_of (sheet (insert self.now.cells at (cell_of source.now)) self.now.given))
-            n.place n.now (C.change_of n.change)) a.grown.swept.noted.items) }
+        ensures noted { IfOk result (λ a. All (λ n. IsNoted C.change_of C.kept_session
+            (book_of self.now) (book_of (sheet (insert self.now.cells at (cell_of source.now))
+            self.now.given)) n.place n.now n.memo) a.grown.swept.noted.items) }
         ensures fresh { IfOk result (λ a. All (λ s. IsSnapshot (book_of self.now) s.place
             (C.kept_session s.version) (map C.change_of s.pending.items)) a.fresh.items) }
         ensures counts { CountsStale (book_of self.now)
@@ -736,9 +737,9 @@ impl<C: CellRunner> Schedule<C> {
             (map (λ c. fit_at c.place (C.recorded c.record.value) c.word) m.between.items)) }
         ensures fit_behind { IfOk result (λ m. AreFit C.covers (length self.now.cells)
             (map (λ c. fit_at c.place (C.recorded c.record.value) c.word) m.behind.items)) }
-        ensures noted { IfOk result (λ m. All (λ n. IsChangeAt (book_of self.now)
-            (book_of (edited_sheet (Move from to) self.now)) n.place n.now
-            (C.change_of n.change)) m.noted.items) }
+        ensures noted { IfOk result (λ m. All (λ n. IsNoted C.change_of C.kept_session
+            (book_of self.now) (book_of (edited_sheet (Move from to) self.now))
+            n.place n.now n.memo) m.noted.items) }
         ensures counts { CountsStale (book_of self.now)
             (book_of (edited_sheet (Move from to) self.now)) meter.old meter.new }
     {

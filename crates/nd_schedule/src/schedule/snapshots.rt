@@ -1,6 +1,6 @@
 //! `Snapshot`: a session that is kept, with the changes that are still to be put over it.
 
-ghost use Rattle.std.specs.Prelude.{◌≡◌, ◌<◌, ◌≤◌, ◌+◌, ◌-◌, ℕ, IfOk, IfSome, OnOk, length, map, slice_index_or};
+ghost use Rattle.std.specs.Prelude.{◌≡◌, ◌<◌, ◌≤◌, ◌+◌, ◌-◌, ℕ, IfOk, IfSome, IsTrue, OnOk, length, map, slice_index_or};
 ghost use Rattle.std.specs.List.{All};
 ghost use Rattle.nd_model.specs.Book.Book.{Book, labels_of};
 ghost use Rattle.nd_model.specs.Book.Renaming.{AreDistinct};
@@ -8,11 +8,13 @@ ghost use Rattle.nd_schedule.specs.Cells.Shared.{each_of};
 ghost use Rattle.nd_schedule.specs.Schedule.Snapshot.{
   IsBehind,
   IsChangeAt,
+  IsNoted,
   IsSnapshot,
   StandsBefore,
 };
 ghost use Rattle.nd_schedule.specs.Schedule.Sweep.{IsRun};
 
+use crate::schedule::noting::{Memo, Noted, noted_at};
 use crate::schedule::runner::CellRunner;
 use std::alloc::{AllocError, Global};
 use std::mem::replace;
@@ -44,7 +46,7 @@ pub(crate) const MOST_KEYS: usize = 64;
 const MOST_BYTES: u64 = 1 << 26;
 
 /// How many bytes a change has at most that is put over a snapshot in the middle. To copy more takes longer than to replay records.
-const MOST_PUT_BYTES: u64 = 1 << 22;
+pub(crate) const MOST_PUT_BYTES: u64 = 1 << 22;
 
 /// How many bytes a pending change may have until it is put over its snapshot.
 const MOST_PENDING_BYTES: u64 = 1 << 16;
@@ -62,14 +64,6 @@ pub struct Snapshot<C: CellRunner> {
     pub(crate) version: C::Version,
     pub(crate) pending: Vec<C::Change>,
     pub(crate) cost: u64,
-}
-
-/// What a sweep notes where a snapshot is kept: its place before the edit and now, and the change there.
-#[derive(Drop)]
-pub(crate) struct Noted<C: CellRunner> {
-    pub(crate) place: usize,
-    pub(crate) now: usize,
-    pub(crate) change: C::Change,
 }
 
 /// A session with all pending changes of a snapshot put over it, or none where one of them cannot be.
@@ -313,31 +307,6 @@ pub(crate) fn session_front<C: CellRunner>(
     Ok(session)
 }
 
-/// Notes the change where a snapshot is kept. One of many keys is not noted, nor is one of many bytes but at the end, nor is any where
-/// memory is wanting: the snapshot is dropped.
-pub(crate) fn note<C: CellRunner>(
-    place: usize,
-    now: usize,
-    is_end: bool,
-    change: &C::Change,
-    noted: &mut Vec<Noted<C>>,
-)
-    ensures { (old new : Book) → IsChangeAt old new place now (C.change_of change.now)
-        → All (λ n. IsChangeAt old new n.place n.now (C.change_of n.change)) noted.old.items
-        → All (λ n. IsChangeAt old new n.place n.now (C.change_of n.change)) noted.new.items }
-{
-    if C::change_count(change) > MOST_KEYS {
-        return;
-    }
-    if !is_end && C::change_size(change) > MOST_PUT_BYTES {
-        return;
-    }
-    let Ok(change) = C::share(change) else {
-        return;
-    };
-    let _room = noted.push(Noted { place, now, change });
-}
-
 /// A snapshot with its pending changes put over it, where that is due.
 fn unburdened<C: CellRunner>(
     alloc: Global,
@@ -361,21 +330,19 @@ fn unburdened<C: CellRunner>(
 }
 
 /// Adds a change to those that are pending, and brings the snapshot to its place now. A change with nothing in it is not kept.
-fn add_pending<C: CellRunner>(snapshot: Snapshot<C>, noted: Noted<C>) -> Option<Snapshot<C>>
-    requires { noted.place ≡ snapshot.place }
+fn add_pending<C: CellRunner>(
+    snapshot: Snapshot<C>,
+    now: usize,
+    change: C::Change,
+) -> Option<Snapshot<C>>
     ensures { IfSome result (λ s. (old new : Book) → AreDistinct (labels_of old.cells)
         → AreDistinct (labels_of new.cells)
-        → IsChangeAt old new noted.place noted.now (C.change_of noted.change)
+        → IsChangeAt old new snapshot.place now (C.change_of change)
         → IsSnapshot old snapshot.place (C.kept_session snapshot.version)
         (map C.change_of snapshot.pending.items)
         → IsSnapshot new s.place (C.kept_session s.version)
         (map C.change_of s.pending.items)) }
 {
-    let Noted {
-        place: _place,
-        now,
-        change,
-    } = noted;
     let mut grown = snapshot;
     if C::is_empty(&change) {
         grown.place = now;
@@ -395,26 +362,26 @@ fn is_soon_replayed<C: CellRunner>(snapshot: &Snapshot<C>, from: usize) -> bool 
     snapshot.cost <= MOST_DROPPED_BYTES && snapshot.place.saturating_sub(from) < MOST_REPLAYED
 }
 
-/// A snapshot behind an edit, with the change that is noted for its place. A change of many bytes is put over it. So are changes that
+/// A snapshot behind an edit, with the change that is noted of its place. A change of many bytes is put over it. So are changes that
 /// have become many: no edit has used the snapshot since the first of them. Where its records are soon replayed from the last snapshot in
 /// front, whose place is `from`, it is dropped in place of that.
 fn put_behind<C: CellRunner>(
     alloc: Global,
     snapshot: Snapshot<C>,
-    noted: Noted<C>,
+    now: usize,
+    change: C::Change,
     from: usize,
 ) -> Option<Snapshot<C>>
-    requires { noted.place ≡ snapshot.place }
     ensures { IfSome result (λ s. (old new : Book) → AreDistinct (labels_of old.cells)
         → AreDistinct (labels_of new.cells)
-        → IsChangeAt old new noted.place noted.now (C.change_of noted.change)
+        → IsChangeAt old new snapshot.place now (C.change_of change)
         → IsSnapshot old snapshot.place (C.kept_session snapshot.version)
         (map C.change_of snapshot.pending.items)
         → IsSnapshot new s.place (C.kept_session s.version)
         (map C.change_of s.pending.items)) }
 {
-    let is_large = C::change_size(&noted.change) > MOST_PENDING_BYTES;
-    let grown = add_pending::<C>(snapshot, noted)?;
+    let is_large = C::change_size(&change) > MOST_PENDING_BYTES;
+    let grown = add_pending::<C>(snapshot, now, change)?;
     let are_many = grown.pending.len() > MOST_PENDING;
     if are_many && is_soon_replayed::<C>(&grown, from) {
         drop(grown);
@@ -423,31 +390,35 @@ fn put_behind<C: CellRunner>(
     unburdened::<C>(alloc, grown, is_large || are_many)
 }
 
-/// Takes out what is noted of a place, and of the places in front of it, the last of the list being the first.
-fn noted_at<C: CellRunner>(noted: &mut Vec<Noted<C>>, place: usize) -> Option<Noted<C>>
-    ensures noted { (old new : Book)
-        → All (λ n. IsChangeAt old new n.place n.now (C.change_of n.change)) noted.old.items
-        → All (λ n. IsChangeAt old new n.place n.now (C.change_of n.change)) noted.new.items }
-    ensures place { IfSome result (λ n. n.place ≡ place) }
-    ensures found { IfSome result (λ n. (old new : Book)
-        → All (λ n. IsChangeAt old new n.place n.now (C.change_of n.change)) noted.old.items
-        → IsChangeAt old new n.place n.now (C.change_of n.change)) }
+/// A snapshot behind an edit, at its place now: with the change that is noted of it, or made of the session that is noted.
+fn bring_along<C: CellRunner>(
+    alloc: Global,
+    snapshot: Snapshot<C>,
+    now: usize,
+    memo: Memo<C::Change, C::Version>,
+    from: usize,
+) -> Option<Snapshot<C>>
+    ensures { IfSome result (λ s. (old new : Book) → AreDistinct (labels_of old.cells)
+        → AreDistinct (labels_of new.cells)
+        → IsNoted C.change_of C.kept_session old new snapshot.place now memo
+        → IsSnapshot old snapshot.place (C.kept_session snapshot.version)
+        (map C.change_of snapshot.pending.items)
+        → IsSnapshot new s.place (C.kept_session s.version)
+        (map C.change_of s.pending.items)) }
 {
-    while let Some(next) = noted.pop() {
-        if next.place == place {
-            return Some(next);
-        }
-        if next.place > place {
-            // never fails, since there is room
-            let _room = noted.push(next);
-            return None;
-        }
+    match memo {
+        Memo::Change(change) => put_behind::<C>(alloc, snapshot, now, change, from),
+        Memo::Session(version) => Some(Snapshot {
+            place: now,
+            version,
+            pending: Vec::new(alloc),
+            cost: snapshot.cost,
+        }),
     }
-    None
 }
 
-/// A snapshot behind an edit: one in front stays, and another gets the change that is noted for its place. The last one in front of it
-/// that stays is at `from`.
+/// A snapshot behind an edit: one in front stays, and another gets what is noted of its place. The last one in front of it that stays is
+/// at `from`.
 fn carried<C: CellRunner>(
     alloc: Global,
     snapshot: Snapshot<C>,
@@ -456,10 +427,11 @@ fn carried<C: CellRunner>(
     noted: &mut Vec<Noted<C>>,
 ) -> Option<Snapshot<C>>
     ensures noted { (old new : Book)
-        → All (λ n. IsChangeAt old new n.place n.now (C.change_of n.change)) noted.old.items
-        → All (λ n. IsChangeAt old new n.place n.now (C.change_of n.change)) noted.new.items }
+        → All (λ n. IsNoted C.change_of C.kept_session old new n.place n.now n.memo) noted.old.items
+        → All (λ n. IsNoted C.change_of C.kept_session old new n.place n.now n.memo)
+        noted.new.items }
     ensures snapshot { IfSome result (λ s. (old new : Book) → IsBehind old new front
-        → All (λ n. IsChangeAt old new n.place n.now (C.change_of n.change)) noted.old.items
+        → All (λ n. IsNoted C.change_of C.kept_session old new n.place n.now n.memo) noted.old.items
         → IsSnapshot old snapshot.place (C.kept_session snapshot.version)
         (map C.change_of snapshot.pending.items)
         → IsSnapshot new s.place (C.kept_session s.version)
@@ -469,7 +441,7 @@ fn carried<C: CellRunner>(
         return Some(snapshot);
     }
     let next = noted_at::<C>(noted, snapshot.place)?;
-    put_behind::<C>(alloc, snapshot, next, from)
+    bring_along::<C>(alloc, snapshot, next.now, next.memo, from)
 }
 
 /// Puts one snapshot more behind the others, if there is one. Where memory is wanting it is dropped.
@@ -709,7 +681,7 @@ pub(crate) fn carry<C: CellRunner>(
     front: usize,
 )
     ensures { (old new : Book) → IsBehind old new front
-        → All (λ n. IsChangeAt old new n.place n.now (C.change_of n.change)) noted.items
+        → All (λ n. IsNoted C.change_of C.kept_session old new n.place n.now n.memo) noted.items
         → All (λ s. IsSnapshot old s.place (C.kept_session s.version)
         (map C.change_of s.pending.items)) fresh.items
         → All (λ s. IsSnapshot old s.place (C.kept_session s.version)

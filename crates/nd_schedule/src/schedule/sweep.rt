@@ -13,12 +13,13 @@ ghost use Rattle.nd_model.specs.Book.Notebook.{world_in};
 ghost use Rattle.nd_schedule.specs.Cells.Source.{cells_of};
 ghost use Rattle.nd_schedule.specs.Cells.Shared.{each_of};
 ghost use Rattle.nd_change.specs.Steps.{Comes, Follows, IsWordOf, IsWordOfChange};
-ghost use Rattle.nd_schedule.specs.Schedule.Snapshot.{IsChangeAt, IsSnapshot};
+ghost use Rattle.nd_schedule.specs.Schedule.Snapshot.{IsNoted, IsSnapshot};
 ghost use Rattle.nd_schedule.specs.Schedule.Sweep.{AreChanged, AreFit, AreWords, CountsFront, IsAt, IsAtHand, IsFrame, IsPlace, IsRun, change_at, fit_at};
 
 use crate::cells::KeptCell;
+use crate::schedule::noting::{Noted, note};
 use crate::schedule::runner::CellRunner;
-use crate::schedule::snapshots::{MOST_KEYS, Noted, Snapshot, distance, note, thawed};
+use crate::schedule::snapshots::{MOST_KEYS, Snapshot, distance, thawed};
 use nd_meter::Meter;
 use std::alloc::{AllocError, Global};
 use std::rc::Rc;
@@ -450,8 +451,9 @@ pub(crate) fn sweep<C: CellRunner>(
         (world_in (C.given world.now))
         → IsAt old new i now (C.change_of state.old.change) (C.session_of state.old.session)
         state.old.since
-        → All (λ n. IsChangeAt old new n.place n.now (C.change_of n.change)) noted.old.items
-        → All (λ n. IsChangeAt old new n.place n.now (C.change_of n.change)) noted.new.items) }
+        → All (λ n. IsNoted C.change_of C.kept_session old new n.place n.now n.memo) noted.old.items
+        → All (λ n. IsNoted C.change_of C.kept_session old new n.place n.now n.memo)
+        noted.new.items) }
     ensures counted { OnOk result ((old new : Book) (j before : ℕ)
         → IsFrame old new i j to (cells_of cells.now) (each_of C.recorded records.now)
         (world_in (C.given world.now))
@@ -474,7 +476,16 @@ pub(crate) fn sweep<C: CellRunner>(
         }
         sweep_between::<C>(alloc, meter, cells, records, words, world, at, place, state)?;
         let is_end = place == records.len();
-        note::<C>(place, now + (place - i), is_end, &state.change, noted);
+        let is_there = state.since == place;
+        note::<C>(
+            place,
+            now + (place - i),
+            is_end,
+            is_there,
+            &state.change,
+            &mut state.session,
+            noted,
+        );
         let is_due = is_session_due::<C>(records, words, snapshots, place, to, is_wanted, state);
         take_nearer::<C>(alloc, snapshot, is_due, state);
         at = place;

@@ -5,7 +5,7 @@ use Rattle.nd_model.specs.Book.Book.{Book}
 use Rattle.nd_model.specs.Book.Entries.{entry_at, record_at}
 use Rattle.nd_schedule.specs.Cells.Source.{cell_of}
 use Rattle.nd_schedule.specs.Schedule.Sweep.{AreChanged, AreFit, CountsFront, IsAt, IsComing, IsPlace, change_at, fit_at}
-use Rattle.nd_schedule.specs.Schedule.Snapshot.{IsChangeAt}
+use Rattle.nd_schedule.specs.Schedule.Snapshot.{IsNoted}
 use Rattle.nd_schedule.proofs.schedule.Standing.{All-none}
 use Rattle.nd_schedule.proofs.schedule.Sweeping.{changed_none, counts_stale, none_yet, record_there}
 use Rattle.nd_schedule.proofs.schedule.Turning.{coming, down_place, frame_down, frame_rest, made_there, moved_down, place_at, same_place}
@@ -203,7 +203,7 @@ returns-clause-noted g c = λ old new moving at.
     (ap g.C.CellRunner.recorded c.deref-2.ensures ∙ record_there (λ r. g.C.CellRunner.recorded r.value) old c.args.records.now c.index-records-from.result c.args.from moving.run.records moving.stood c.index-records-from.is) in
     let come_in = c.in_ok-made.ensures.at old new c.args.from c.args.to come there in
     let rest = frame_rest old new c.args.from c.args.to _ _ _ moving (c.args.to + 1) (length c.args.cells.now) (omega (arith, c.requires.down)) (omega arith) (omega (arith, c.requires.to)) (sym long) in
-    c.in_ok-sweep-2.ensures.noted old new rest come_in (c.in_ok-sweep.ensures.noted old new frame left (All-none (λ n. IsChangeAt old new n.place n.now (g.C.CellRunner.change_of n.change)) c.new-noted.result.items c.new-noted.ensures.items))
+    c.in_ok-sweep-2.ensures.noted old new rest come_in (c.in_ok-sweep.ensures.noted old new frame left (All-none (λ n. IsNoted g.C.CellRunner.change_of g.C.CellRunner.kept_session old new n.place n.now n.memo) c.new-noted.result.items c.new-noted.ensures.items))
 
 pub leave-requires-clause-at : goal.leave-requires-clause-at
 leave-requires-clause-at g c =

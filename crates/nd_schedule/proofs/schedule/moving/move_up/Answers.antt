@@ -5,7 +5,7 @@ use Rattle.nd_model.specs.Book.Book.{Book}
 use Rattle.nd_model.specs.Book.Entries.{entry_at, record_at}
 use Rattle.nd_schedule.specs.Cells.Source.{cell_of}
 use Rattle.nd_schedule.specs.Schedule.Sweep.{AreChanged, AreFit, CountsFront, IsAt, IsComing, IsPlace, change_at, fit_at}
-use Rattle.nd_schedule.specs.Schedule.Snapshot.{IsChangeAt}
+use Rattle.nd_schedule.specs.Schedule.Snapshot.{IsNoted}
 use Rattle.nd_schedule.proofs.schedule.Standing.{All-none}
 use Rattle.nd_schedule.proofs.schedule.Sweeping.{changed_none, counts_stale, none_yet, record_there}
 use Rattle.nd_schedule.proofs.schedule.Turning.{coming, frame_rest, frame_up, made_there, moved_up, place_at, same_place, up_place}
@@ -224,7 +224,7 @@ returns-clause-noted g c = λ old new moving at.
     let place : IsPlace old new c.args.from (c.args.from + 1) = place_at old new c.args.from c.args.to _ _ _ moving c.args.from (c.args.from + 1) (omega (arith, moving.stood)) (omega (arith, moving.stood)) in
     let left = c.in_ok-leave.ensures.at old new (c.args.from + 1) moving.run place there in
     let rest = frame_rest old new c.args.from c.args.to _ _ _ moving (c.args.from + 1) (length c.args.cells.now) (omega arith) (omega (arith, c.requires.up)) (omega (arith, c.requires.from)) (sym long) in
-    c.in_ok-sweep-2.ensures.noted old new rest left (c.in_ok-sweep.ensures.noted old new frame come_in (All-none (λ n. IsChangeAt old new n.place n.now (g.C.CellRunner.change_of n.change)) c.new-noted.result.items c.new-noted.ensures.items))
+    c.in_ok-sweep-2.ensures.noted old new rest left (c.in_ok-sweep.ensures.noted old new frame come_in (All-none (λ n. IsNoted g.C.CellRunner.change_of g.C.CellRunner.kept_session old new n.place n.now n.memo) c.new-noted.result.items c.new-noted.ensures.items))
 
 pub bounds-cells-from : goal.bounds-cells-from
 bounds-cells-from g c = grind (arith, common_steps)

@@ -3,13 +3,13 @@ use Rattle.std.specs.List.{All}
 use Rattle.std.proofs.lemmas.Iterator.Adapters.{YieldsList-from_vec}
 use Rattle.std.proofs.lemmas.Iterator.Consumers.{YieldsList-turn}
 use Rattle.std.proofs.lemmas.List.Sorted.{All-permutation}
-use Rattle.nd_schedule.specs.Schedule.Snapshot.{IsChangeAt, IsSnapshot}
+use Rattle.nd_schedule.specs.Schedule.Snapshot.{IsNoted, IsSnapshot}
 use Rattle.nd_schedule.proofs.schedule.Standing.{All-none, if_some_more, one_of}
 use Rattle.nd_schedule.proofs.schedule.snapshots.carry.Goals as goal
 
 pub loop-snapshot-init : goal.loop-snapshot-init
 loop-snapshot-init g c = record {
-  noted = λ old new all. All-permutation (λ n. IsChangeAt old new n.place n.now (g.C.CellRunner.change_of n.change)) c.args.noted.items _ c.reverse.ensures.permutation all;
+  noted = λ old new all. All-permutation (λ n. IsNoted g.C.CellRunner.change_of g.C.CellRunner.kept_session old new n.place n.now n.memo) c.args.noted.items _ c.reverse.ensures.permutation all;
   kept = λ old new behind all olds. All-none (λ s. IsSnapshot new s.place (g.C.CellRunner.kept_session s.version) (map g.C.CellRunner.change_of s.pending.items)) _ (ap (λ v. v.items) c.replace-before.ensures.after ∙ c.new.ensures.items);
 }
 

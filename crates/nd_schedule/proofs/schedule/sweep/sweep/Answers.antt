@@ -1,9 +1,10 @@
-use Rattle.std.proofs.Common.{◌+◌, ◌-◌, ℕ, map, sym, subst, arith}
+use Rattle.std.proofs.Common.{◌≡◌, ◌+◌, ◌-◌, ℕ, map, sym, subst, arith}
+use Rattle.std.proofs.lemmas.Bool.Decides.{nat_tests}
 use Rattle.nd_model.specs.Book.Book.{Book}
 use Rattle.nd_change.specs.Steps.{IsWordOfChange}
 use Rattle.nd_schedule.specs.Schedule.Snapshot.{IsSnapshot}
-use Rattle.nd_schedule.specs.Schedule.Sweep.{AreChanged, AreFit, change_at, fit_at}
-use Rattle.nd_schedule.proofs.schedule.Standing.{one_of}
+use Rattle.nd_schedule.specs.Schedule.Sweep.{AreChanged, AreFit, IsAt, change_at, fit_at}
+use Rattle.nd_schedule.proofs.schedule.Standing.{hand_there, one_of}
 use Rattle.nd_schedule.proofs.schedule.Parting.{part, at_part, counts_part, noted_part, place_part}
 use Rattle.nd_schedule.proofs.schedule.Visiting.{next_changed, on_ok, start_at, start_counts}
 use Rattle.nd_schedule.proofs.schedule.sweep.sweep.Goals as goal
@@ -39,7 +40,8 @@ loop-snapshot-preserved g c = record {
   at = λ old new j frame at.
       c.take_nearer.ensures.at old new (j + (c.snapshot-item.result.place - c.args.i)) (place_part old new c.args.i j c.args.to _ _ _ frame c.loop-snapshot.at c.snapshot-item.result.place (omega (arith, c.loop-snapshot.invariant.behind)) (omega arith) (omega arith))
       (one_of (λ s. IsSnapshot old s.place (g.C.CellRunner.kept_session s.version) (map g.C.CellRunner.change_of s.pending.items)) c.args.snapshots.now c.loop-snapshot.snapshot-index c.snapshot-item.result (c.requires.kept old frame.run) c.loop-snapshot-test.true c.snapshot-item.is)
-      (at_part old new c.args.i j c.args.to _ _ _ frame c.loop-snapshot.at c.snapshot-item.result.place (omega (arith, c.loop-snapshot.invariant.behind)) (omega arith) (omega arith) _ _ _ (c.in_ok-sweep_between.ensures.at old new (j + (c.loop-snapshot.at - c.args.i)) (part old new c.args.i j c.args.to _ _ _ frame c.loop-snapshot.at c.snapshot-item.result.place (omega (arith, c.loop-snapshot.invariant.behind)) (omega arith) (omega arith)) (c.loop-snapshot.invariant.at old new j frame at)));
+      (subst (λ u. IsAt old new c.snapshot-item.result.place (j + (c.snapshot-item.result.place - c.args.i)) (g.C.CellRunner.change_of c.sweep_between.new.state.change) u c.sweep_between.new.state.since) (sym c.note.ensures.same)
+      (at_part old new c.args.i j c.args.to _ _ _ frame c.loop-snapshot.at c.snapshot-item.result.place (omega (arith, c.loop-snapshot.invariant.behind)) (omega arith) (omega arith) _ _ _ (c.in_ok-sweep_between.ensures.at old new (j + (c.loop-snapshot.at - c.args.i)) (part old new c.args.i j c.args.to _ _ _ frame c.loop-snapshot.at c.snapshot-item.result.place (omega (arith, c.loop-snapshot.invariant.behind)) (omega arith) (omega arith)) (c.loop-snapshot.invariant.at old new j frame at))));
   covered =
       subst (λ w. IsWordOfChange g.C.CellRunner.covers w (g.C.CellRunner.change_of c.take_nearer.new.state.change)) (sym c.take_nearer.ensures.word)
       (subst (λ d. IsWordOfChange g.C.CellRunner.covers c.sweep_between.new.state.word (g.C.CellRunner.change_of d)) (sym c.take_nearer.ensures.change) c.in_ok-sweep_between.ensures.covered);
@@ -53,7 +55,10 @@ loop-snapshot-preserved g c = record {
   counts = λ old new j before frame at all.
       counts_part old new c.args.i j c.args.to _ _ _ frame c.loop-snapshot.at c.snapshot-item.result.place (omega (arith, c.loop-snapshot.invariant.behind)) (omega arith) (omega arith) before _ (c.in_ok-sweep_between.ensures.counted old new (j + (c.loop-snapshot.at - c.args.i)) before (part old new c.args.i j c.args.to _ _ _ frame c.loop-snapshot.at c.snapshot-item.result.place (omega (arith, c.loop-snapshot.invariant.behind)) (omega arith) (omega arith)) (c.loop-snapshot.invariant.at old new j frame at) (c.loop-snapshot.invariant.counts old new j before frame at all));
   noted = λ old new frame at all.
-      c.note.ensures old new (noted_part old new c.args.i c.args.now c.args.to _ _ _ frame c.loop-snapshot.at c.snapshot-item.result.place (omega (arith, c.loop-snapshot.invariant.behind)) (omega arith) (omega arith) _ _ _ (at_part old new c.args.i c.args.now c.args.to _ _ _ frame c.loop-snapshot.at c.snapshot-item.result.place (omega (arith, c.loop-snapshot.invariant.behind)) (omega arith) (omega arith) _ _ _ (c.in_ok-sweep_between.ensures.at old new (c.args.now + (c.loop-snapshot.at - c.args.i)) (part old new c.args.i c.args.now c.args.to _ _ _ frame c.loop-snapshot.at c.snapshot-item.result.place (omega (arith, c.loop-snapshot.invariant.behind)) (omega arith) (omega arith)) (c.loop-snapshot.invariant.at old new c.args.now frame at)))) (c.loop-snapshot.invariant.noted old new frame at all);
+      let stands = at_part old new c.args.i c.args.now c.args.to _ _ _ frame c.loop-snapshot.at c.snapshot-item.result.place (omega (arith, c.loop-snapshot.invariant.behind)) (omega arith) (omega arith) _ _ _ (c.in_ok-sweep_between.ensures.at old new (c.args.now + (c.loop-snapshot.at - c.args.i)) (part old new c.args.i c.args.now c.args.to _ _ _ frame c.loop-snapshot.at c.snapshot-item.result.place (omega (arith, c.loop-snapshot.invariant.behind)) (omega arith) (omega arith)) (c.loop-snapshot.invariant.at old new c.args.now frame at)) in
+      c.note.ensures.noted old new (noted_part old new c.args.i c.args.now c.args.to _ _ _ frame c.loop-snapshot.at c.snapshot-item.result.place (omega (arith, c.loop-snapshot.invariant.behind)) (omega arith) (omega arith) _ _ _ stands)
+      (λ there. let is : c.sweep_between.new.state.since ≡ c.snapshot-item.result.place = grind (arith, nat_tests) in hand_there old new c.snapshot-item.result.place (c.args.now + (c.snapshot-item.result.place - c.args.i)) _ _ _ stands is)
+      (c.loop-snapshot.invariant.noted old new frame at all);
 }
 
 pub sweep_between-requires-2-clause-at : goal.sweep_between-requires-2-clause-at

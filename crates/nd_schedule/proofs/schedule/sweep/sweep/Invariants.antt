@@ -5,7 +5,7 @@ use Rattle.nd_schedule.specs.Cells.Source.{cells_of}
 use Rattle.nd_schedule.specs.Cells.Shared.{each_of}
 use Rattle.nd_change.specs.Steps.{IsWordOfChange}
 use Rattle.std.specs.List.{All}
-use Rattle.nd_schedule.specs.Schedule.Snapshot.{IsChangeAt}
+use Rattle.nd_schedule.specs.Schedule.Snapshot.{IsNoted}
 use Rattle.nd_schedule.specs.Schedule.Sweep.{AreChanged, AreFit, CountsFront, IsAt, IsFrame, change_at, fit_at}
 use Rattle.nd_schedule.proofs.schedule.sweep.sweep.Given as goal
 
@@ -26,5 +26,5 @@ invariant-loop-snapshot g l = record {
   counts : (old new : Book) (j before : ℕ) → IsFrame old new l.i j l.to (cells_of l.cells) (each_of g.C.CellRunner.recorded l.records) (world_in (g.C.CellRunner.given l.world))
       → IsAt old new l.i j (g.C.CellRunner.change_of l.fn.state.change) (g.C.CellRunner.session_of l.fn.state.session) l.fn.state.since → CountsFront old new j before l.fn.meter → CountsFront old new (j + (l.at - l.i)) before l.meter;
   noted : (old new : Book) → IsFrame old new l.i l.now l.to (cells_of l.cells) (each_of g.C.CellRunner.recorded l.records) (world_in (g.C.CellRunner.given l.world))
-      → IsAt old new l.i l.now (g.C.CellRunner.change_of l.fn.state.change) (g.C.CellRunner.session_of l.fn.state.session) l.fn.state.since → All (λ n. IsChangeAt old new n.place n.now (g.C.CellRunner.change_of n.change)) l.fn.noted.items → All (λ n. IsChangeAt old new n.place n.now (g.C.CellRunner.change_of n.change)) l.noted.items;
+      → IsAt old new l.i l.now (g.C.CellRunner.change_of l.fn.state.change) (g.C.CellRunner.session_of l.fn.state.session) l.fn.state.since → All (λ n. IsNoted g.C.CellRunner.change_of g.C.CellRunner.kept_session old new n.place n.now n.memo) l.fn.noted.items → All (λ n. IsNoted g.C.CellRunner.change_of g.C.CellRunner.kept_session old new n.place n.now n.memo) l.noted.items;
 }

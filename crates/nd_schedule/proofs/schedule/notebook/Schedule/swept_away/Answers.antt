@@ -1,5 +1,7 @@
-use Rattle.std.proofs.Common.{arith}
+use Rattle.std.proofs.Common.{◌+◌, ◌≤◌, length, arith}
 use Rattle.std.proofs.lemmas.Grind.{common_steps}
+use Rattle.nd_schedule.specs.Schedule.Sweep.{change_at}
+use Rattle.nd_schedule.proofs.schedule.Removing.{none_changed}
 use Rattle.nd_schedule.proofs.schedule.notebook.Schedule.swept_away.Goals as goal
 
 pub overflow_add-at : goal.overflow_add-at
@@ -36,7 +38,9 @@ pub returns-in_err-swept-clause-last : goal.returns-in_err-swept-clause-last
 returns-in_err-swept-clause-last g c = grind (arith, common_steps)
 
 pub returns-then-len-at-clause-changed : goal.returns-then-len-at-clause-changed
-returns-then-len-at-clause-changed g c = grind (arith, common_steps)
+returns-then-len-at-clause-changed g c =
+    let le : length c.args.self.now.cells ≤ c.args.at + 1 = grind (arith, common_steps) in
+    none_changed (λ c'. change_at c'.place (g.C.CellRunner.recorded c'.record.value)) _ _ (c.args.at + 1) c.args.at _ _ le c.no_sweep.ensures.changed
 
 pub returns-then-len-at-clause-counts : goal.returns-then-len-at-clause-counts
 returns-then-len-at-clause-counts g c = grind (arith, common_steps)

@@ -7,7 +7,7 @@ use Rattle.nd_model.specs.Book.Notebook.{Sheet, book_of}
 use Rattle.nd_schedule.specs.Cells.Source.{cell_of, cells_of}
 use Rattle.nd_schedule.specs.Cells.Shared.{each_of}
 use Rattle.nd_schedule.specs.Schedule.Sweep.{AreChanged, AreFit, AreWords, IsKept, IsRun, change_at, fit_at}
-use Rattle.nd_schedule.specs.Schedule.Snapshot.{IsChangeAt, IsSnapshot}
+use Rattle.nd_schedule.specs.Schedule.Snapshot.{IsNoted, IsSnapshot}
 use Rattle.nd_schedule.proofs.schedule.Standing.{All-none, kept_by_records, kept_lists}
 use Rattle.nd_schedule.proofs.schedule.Kept.{as_many}
 use Rattle.nd_schedule.proofs.schedule.Visiting.{changed_to, frame_open}
@@ -109,9 +109,9 @@ returns-clause-noted g c =
     let there : IsRun (book_of c.args.self.now) (each_of g.C.CellRunner.recorded c.deref-2.result.now) = record { records = ap (each_of g.C.CellRunner.recorded) c.deref-2.ensures.value ∙ run.run.records; distinct = run.run.distinct } in
     let cells : c.args.self.now.cells ≡ cells_of c.deref.result.now = sym (ap cells_of c.deref.ensures.value ∙ ap (λ (s : Sheet). s.cells) c.self.view_is) in
     if_ok_more c.gathered.result c.gathered.ensures (λ s h new ahead at.
-    subst (λ xs. All (λ n. IsChangeAt (book_of c.args.self.now) new n.place n.now (g.C.CellRunner.change_of n.change)) xs) (sym h.2)
+    subst (λ xs. All (λ n. IsNoted g.C.CellRunner.change_of g.C.CellRunner.kept_session (book_of c.args.self.now) new n.place n.now n.memo) xs) (sym h.2)
     (ended c.sweep-done.result c.sweep-done.ensures.noted h.0 (book_of c.args.self.now) new (frame_open (book_of c.args.self.now) new c.args.i c.args.now c.len.result _ _ _ ahead cells there whole) at
-    (All-none (λ n. IsChangeAt (book_of c.args.self.now) new n.place n.now (g.C.CellRunner.change_of n.change)) c.new-noted.result.items c.new-noted.ensures.items)))
+    (All-none (λ n. IsNoted g.C.CellRunner.change_of g.C.CellRunner.kept_session (book_of c.args.self.now) new n.place n.now n.memo) c.new-noted.result.items c.new-noted.ensures.items)))
 
 pub returns-clause-counts : goal.returns-clause-counts
 returns-clause-counts g c = λ new j before ahead at so_far.

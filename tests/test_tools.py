@@ -18,6 +18,7 @@ import toolchain  # noqa: E402
 wrong_bodies = toolchain.loaded("wrong_bodies", f"{TOOLS}/wrong-bodies")
 profile = toolchain.loaded("tool_profile", f"{TOOLS}/profile")
 bench = toolchain.loaded("bench", f"{TOOLS}/bench")
+definitions = toolchain.loaded("definitions", f"{TOOLS}/definitions")
 
 SOURCE = """\
 //! A module.
@@ -51,6 +52,87 @@ PATH = "src/meter.rt"
 def edit(name: str, *pairs: tuple[str, str]) -> wrong_bodies.Edit:
     text = "\n".join([f"file: {PATH}", *(line for old, new in pairs for line in (f"old: {old}", f"new: {new}"))])
     return wrong_bodies.edit_of("nd_meter", name, text, lambda _: SOURCE)
+
+
+LOW = """\
+-- What is counted.
+use Rattle.std.specs.Prelude.{ℕ, suc}
+
+-- a kind of thing
+pub data Thing : Type 0 where
+  Plain : Thing
+  -- with how many
+  Many : ℕ → Thing
+
+infixl 10 ◌plus◌
+abbrev pub ◌plus◌ : ℕ → ℕ → ℕ
+(suc n) plus m = suc (n plus m)
+n plus m = m
+
+abbrev mutual
+  pub even : ℕ → ℕ
+  even (suc n) = odd n
+
+  pub odd : ℕ → ℕ
+  odd (suc n) = even n
+
+abbrev pub unused : Thing
+unused = Plain
+"""
+HIGH = """\
+use Rattle.low.specs.Counts.{Thing, Many as Some, ◌plus◌}
+use Rattle.low.specs.Counts as counts
+
+abbrev pub count : Thing → ℕ
+count (Some n) = n plus n
+
+abbrev pub parity : Thing → ℕ
+parity t = counts.even (count t)
+"""
+CALL = """\
+ghost use Rattle.high.specs.Parity.{parity};
+
+/// Counts.
+pub fn told(thing: &Thing) -> u64
+    // count
+    ensures { result ≡ parity thing.now }
+{
+    count(thing)
+}
+"""
+
+
+class Definitions(unittest.TestCase):
+    """Definitions are read from their files, and those that a contract reaches are found."""
+
+    def setUp(self):
+        texts = {"Rattle.low.specs.Counts": LOW, "Rattle.high.specs.Parity": HIGH}
+        self.modules = {name: definitions.read_module(f"{name}.antt", text) for name, text in texts.items()}
+
+    def lines(self, text):
+        found = definitions.reached(self.modules, [definitions.contract(text, "told")])
+        return {path: sum(it.lines for it in found if it.path == path) for path in {it.path for it in found}}
+
+    def test_a_file_has_its_definitions_with_their_lines(self):
+        low = self.modules["Rattle.low.specs.Counts"].definitions
+        self.assertEqual({name: it.lines for name, it in low.items()},
+                         {"Thing": 3, "Plain": 3, "Many": 3, "◌plus◌": 3, "even": 2, "odd": 2, "unused": 2})
+        self.assertIs(low["Many"], low["Thing"])
+
+    def test_a_contract_reaches_what_its_clauses_name_and_what_these_name(self):
+        self.assertEqual(self.lines(CALL), {"Rattle.high.specs.Parity.antt": 4, "Rattle.low.specs.Counts.antt": 10})
+
+    def test_a_body_and_a_comment_reach_nothing(self):
+        self.assertEqual(self.lines(CALL.replace("parity thing.now", "thing.now")), {})
+
+    def test_a_contract_that_is_not_there_is_told(self):
+        with self.assertRaises(ValueError):
+            definitions.contract(CALL, "untold")
+
+    def test_the_page_has_what_the_promise_reaches_now(self):
+        with open(f"{definitions.ROOT}/{definitions.PAGE}", encoding="utf-8") as file:
+            page = file.read()
+        self.assertEqual(page, definitions.written(page, definitions.table(definitions.parts())))
 
 
 class Edits(unittest.TestCase):

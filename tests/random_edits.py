@@ -2,11 +2,12 @@
 """tests/random_edits.py [--seconds S] [--seed N]: edited notebooks answer as fresh notebooks of the same cells do.
 
 A trial is a notebook under fifty random edits, refused ones and changes of the rule among them. One trial of eight
-begins with 40 to 100 cells, so that edits go past several snapshots, and has twenty edits. After each edit the program
-is asked for all: the sources, texts, refusals and saved files of all cells, the names after each, and the value of
-every name. The same questions go to a run of the program that is given the rule, the inputs and the cells as they are
-by then, from nothing, and the answers must be the same. Where the program has the command `runs`, no edit may run more
-cells than it makes stale, as `stale_cells` counts them, and a refused edit runs none.
+begins with 40 to 100 cells, so that edits go past several snapshots, and has twenty edits. In one of four of these the
+cells bind up to 150 names, most of which read one name, so that one edit makes more names others than a snapshot notes.
+After each edit the program is asked for all: the sources, texts, refusals and saved files of all cells, the names after
+each, and the values of seven names. The same questions go to a run of the program that is given the rule, the inputs
+and the cells as they are by then, from nothing, and the answers must be the same. Where the program has the command
+`runs`, no edit may run more cells than it makes stale, as `stale_cells` counts them, and a refused edit runs none.
 
 The program is that of NDNOTE_PROGRAM, else the one built in crates/ndnote. Exit status 1: a trial failed; its script
 is printed, made short.
@@ -30,6 +31,7 @@ MOST_CELLS = 12
 EDITS = 50
 LONG_CELLS = (40, 100)
 LONG_EDITS = 20
+MANY_NAMES = 150
 MARK = "bad command"
 
 ARRAYS = ["x = np.arange(4)", "y = np.arange(3)", "z = np.arange(6)", "x = np.arange(2)"]
@@ -195,11 +197,23 @@ class Drawer:
         self.pool = self.random.choice(list(POOLS.values()))
         self.most = max(self.random.randint(0, MOST_CELLS), self.random.randint(0, MOST_CELLS))
         self.is_long = self.random.randrange(8) == 0
+        self.has_many_names = self.is_long and self.random.randrange(4) == 0
         if self.is_long:
             self.most = self.random.randint(*LONG_CELLS)
 
+    def text_of_many_names(self, book: Book) -> str:
+        """A cell that binds the name that all read, or some that read it."""
+        draw = self.random
+        if not book.cells or draw.randrange(30) == 0:
+            return f"x = np.arange(4)\nx[0] = {draw.randrange(3)}"
+        some = [draw.randrange(MANY_NAMES) for _ in range(draw.randint(1, 12))]
+        lines = [f"n{k} = {draw.choice(['x', 'x', 'x', f'n{k // 2}'])} + {draw.randrange(2)}" for k in some]
+        return "\n".join([*lines, *([f"print(n{some[0] // 3}, x[0])"] if draw.randrange(3) == 0 else [])])
+
     def text(self, book: Book) -> str:
         draw = self.random
+        if self.has_many_names:
+            return self.text_of_many_names(book)
         if not book.cells or draw.randrange(20) == 0:
             return OPENING
         if draw.randrange(8) == 0:

@@ -3,7 +3,7 @@
 
 A trial is a notebook under fifty random edits, refused ones and changes of the rule among them. One trial of eight
 begins with 40 to 100 cells, so that edits go past several snapshots, and has twenty edits. In one of four of these the
-cells bind up to 150 names, most of which read one name, so that one edit makes more names others than a snapshot notes.
+cells bind up to 150 names, most of which read one array, so that one edit makes more names others than a snapshot notes.
 After each edit the program is asked for all: the sources, texts, refusals and saved files of all cells, the names after
 each, and the values of seven names. The same questions go to a run of the program that is given the rule, the inputs
 and the cells as they are by then, from nothing, and the answers must be the same. Where the program has the command
@@ -202,12 +202,12 @@ class Drawer:
             self.most = self.random.randint(*LONG_CELLS)
 
     def text_of_many_names(self, book: Book) -> str:
-        """A cell that binds the name that all read, or some that read it."""
+        """A cell that binds the array that most read, or names to elements of it."""
         draw = self.random
         if not book.cells or draw.randrange(30) == 0:
             return f"x = np.arange(4)\nx[0] = {draw.randrange(3)}"
         some = [draw.randrange(MANY_NAMES) for _ in range(draw.randint(1, 12))]
-        lines = [f"n{k} = {draw.choice(['x', 'x', 'x', f'n{k // 2}'])} + {draw.randrange(2)}" for k in some]
+        lines = [f"n{k} = {draw.choice(['x[0]', 'x[0]', 'x[0]', 'x[1]', f'n{k // 2}'])}" for k in some]
         return "\n".join([*lines, *([f"print(n{some[0] // 3}, x[0])"] if draw.randrange(3) == 0 else [])])
 
     def text(self, book: Book) -> str:

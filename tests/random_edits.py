@@ -6,11 +6,13 @@ begins with 40 to 100 cells, so that edits go past several snapshots, and has tw
 cells bind up to 150 names, most of which read one array, so that one edit makes more names others than a snapshot notes.
 After each edit the program is asked for all: the sources, texts, refusals and saved files of all cells, the names after
 each, and the values of seven names. The same questions go to a run of the program that is given the rule, the inputs
-and the cells as they are by then, from nothing, and the answers must be the same. Where the program has the command
-`runs`, no edit may run more cells than it makes stale, as `stale_cells` counts them, and a refused edit runs none.
+and the cells as they are by then, from nothing, and the answers must be the same. Where the program has the word `try`,
+cells are tried before these questions: each must give what it gives where that run has it inserted, and the questions
+show that nothing has changed. Where the program has the command `runs`, no edit may run more cells than
+it makes stale, as `stale_cells` counts them, and a refused edit runs none.
 
-The program is that of NDNOTE_PROGRAM, else the one built in crates/ndnote. Exit status 1: a trial failed; its script
-is printed, made short.
+The program is that of NDNOTE_PROGRAM, else the one built in crates/ndnote_desk. Exit status 1: a trial failed; its
+script is printed, made short.
 """
 import argparse
 import os
@@ -26,13 +28,15 @@ sys.dont_write_bytecode = True
 from stale_cells import Pass  # noqa: E402
 
 ROOT = os.path.dirname(os.path.dirname(os.path.abspath(__file__)))
-PROGRAM = os.environ.get("NDNOTE_PROGRAM", os.path.join(ROOT, "crates/ndnote/out/ndnote"))
+PROGRAM = os.environ.get("NDNOTE_PROGRAM", os.path.join(ROOT, "crates/ndnote_desk/out/ndnote_desk"))
 MOST_CELLS = 12
 EDITS = 50
 LONG_CELLS = (40, 100)
 LONG_EDITS = 20
 MANY_NAMES = 150
 MARK = "bad command"
+PARTS = 4               # of the answers behind an edit: its own, runs, tries, all questions
+TRIES = 3               # of drawn cells behind an edit
 
 ARRAYS = ["x = np.arange(4)", "y = np.arange(3)", "z = np.arange(6)", "x = np.arange(2)"]
 SHARED = ["y = x", "z = y", "x = z", "y = z", "z = x", "x = y", "x = x"]
@@ -259,16 +263,49 @@ class Drawer:
 
 
 def answers(lines: List[str]) -> List[str]:
-    """What the program answers to a script, in the parts between its marks."""
-    done = subprocess.run([PROGRAM], input="\n".join(lines) + "\n", capture_output=True, text=True, timeout=120)
+    """What the program answers to a script, in the parts between its marks. A byte of a file is a character."""
+    script = "\n".join(lines) + "\n"
+    done = subprocess.run([PROGRAM], input=script, capture_output=True, encoding="latin-1", timeout=120)
     if done.returncode:
         return [f"exit status {done.returncode}: {done.stderr}"]
     return done.stdout.split(MARK + "\n")
 
 
-def counts_runs() -> bool:
-    """Whether the program has the command `runs`."""
-    return answers(["runs"])[0].startswith("runs ")
+@dataclass(frozen=True)
+class Has:
+    """What the program has beside the commands of every script: `runs` and `try`."""
+    runs: bool
+    tries: bool
+
+
+def words_of_program() -> Has:
+    words = answers(["words"])[0].split()
+    return Has(answers(["runs"])[0].startswith("runs "), "try" in words)
+
+
+def tried_lines(edit: Edit) -> List[str]:
+    """The lines that try the cell of an insertion."""
+    return ["try" + edit.lines()[0].removeprefix("insert"), *edit.lines()[1:]]
+
+
+def inserted_lines(edit: Edit) -> List[str]:
+    """A script that inserts a cell, asks what it gives, and takes it out again."""
+    return [*edit.lines(), f"show {edit.at}", *(f"saved {edit.at} {name}" for name in SAVES), f"remove {edit.at}"]
+
+
+def as_tried(answer: str) -> str:
+    """The answer to a try, made of those to `inserted_lines`."""
+    if not answer.startswith("ok\n"):
+        return answer.split("\n")[0] + "\n"
+    shown, files = answer.removeprefix("ok\n").split("\nend\n")
+    found = dict(zip(SAVES, files.split("\n")))
+    lines = []
+    for line in shown.split("\n"):
+        word, *names = line.split(" ")
+        lines.append(line)
+        if word == "save":
+            lines.append(bytes.fromhex(found[names[0]].split(" ")[1]).decode("latin-1"))
+    return "\n".join([*lines, "end", ""])
 
 
 def is_read(text: str) -> bool:
@@ -298,9 +335,20 @@ class Step:
     cells: List[Cell]
     inputs: Dict[str, Input]
     rule: str
+    tried: int = 0              # how many of the tries run a cell
 
 
-def steps_of(edits: List[Edit], has_runs: bool, every: bool) -> Tuple[List[str], List[Step]]:
+def tries_of(book: Book, number: int, edits: List[Edit]) -> List[Edit]:
+    """Cells that are tried behind an edit: texts of the others, at drawn places. The same for the same edits."""
+    draw = random.Random(f"{number} {edits[number]}")
+    texts = [edit.text for edit in edits if edit.text] or [OPENING]
+    lines = [draw.choice(draw.choice(draw.choice(list(POOLS.values())))) for _ in range(2)]
+    count = len(book.cells)
+    return [Edit("insert", draw.randint(0, count + (draw.randrange(20) == 0)), text=text)
+            for text in [*draw.choices(texts, k=TRIES - 1), "\n".join(lines)]]
+
+
+def steps_of(edits: List[Edit], has: Has, every: bool) -> Tuple[List[str], List[Step]]:
     """A script of the edits with all questions after each of the last fifty, or after the last alone, and what is
     expected there."""
     book, script, steps = Book(), [], []
@@ -308,8 +356,12 @@ def steps_of(edits: List[Edit], has_runs: bool, every: bool) -> Tuple[List[str],
         wanted = book.make(edit)
         script += edit.lines()
         if every and number >= len(edits) - EDITS or number == len(edits) - 1:
-            script += ["mark", *(["runs"] if has_runs else []), "mark", *book.questions(), "mark"]
+            tries = tries_of(book, number, edits) if has.tries else []
+            tried = [line for it in tries for line in tried_lines(it)]
+            script += ["mark", *(["runs"] if has.runs else []), "mark", *tried, "mark", *book.questions(), "mark"]
             fresh = [*book.lines(), "mark", *book.questions()]
+            for it in tries:
+                fresh += ["mark", *inserted_lines(it)]
             steps.append(Step(number, wanted, fresh, list(book.cells), dict(book.inputs), book.rule))
     return script, steps
 
@@ -317,13 +369,18 @@ def steps_of(edits: List[Edit], has_runs: bool, every: bool) -> Tuple[List[str],
 def wrong_answers(told: List[str], steps: List[Step], every: bool) -> Optional[Fault]:
     """The first edit that is not answered as the book has it, or behind which a fresh notebook answers otherwise."""
     with ThreadPoolExecutor(os.cpu_count()) as pool:
-        fresh = list(pool.map(lambda step: answers(step.fresh)[-1], steps))
+        all_fresh = list(pool.map(lambda step: answers(step.fresh)[1:] or [""], steps))
     for at, step in enumerate(steps):
-        answer, found = told[3 * at], told[3 * at + 2]
+        fresh, *inserted = all_fresh[at]
+        tried = list(map(as_tried, inserted))
+        answer, _, tries, found = told[PARTS * at:PARTS * (at + 1)]
         if every and answer.split("\n")[-2:] != [step.wanted, ""]:
             return Fault(step.number, f"edit {step.number} is answered {answer!r} in place of {step.wanted!r}")
-        if found != fresh[at]:
-            return Fault(step.number, f"after edit {step.number} " + first_difference(found, fresh[at]))
+        if tries != "".join(tried):
+            return Fault(step.number, f"a try after edit {step.number} " + first_difference(tries, "".join(tried)))
+        if found != fresh:
+            return Fault(step.number, f"after edit {step.number} " + first_difference(found, fresh))
+        step.tried = sum(it.startswith("text ") for it in tried)
     return None
 
 
@@ -331,36 +388,36 @@ def wrong_runs(told: List[str], steps: List[Step]) -> Optional[Fault]:
     """The first edit that ran more cells than it made stale."""
     runs, last = 0, Pass()
     for at, step in enumerate(steps):
-        now = int(told[3 * at + 1].split()[1])
+        now = int(told[PARTS * at + 1].split()[1])
         following = last.then(step.cells, step.inputs, is_read, step.rule) if step.wanted == "ok" else last
         most = following.stale if step.wanted == "ok" else 0
         if now - runs > most and (at or not step.number):
             return Fault(step.number, f"edit {step.number} ran {now - runs} cells, where {most} were stale")
-        runs, last = now, following
+        runs, last = now + step.tried, following
     return None
 
 
-def fault_of(edits: List[Edit], has_runs: bool, every: bool = True) -> Optional[Fault]:
+def fault_of(edits: List[Edit], has: Has, every: bool = True) -> Optional[Fault]:
     """What is wrong with the answers to these edits, asked for after each or after the last alone."""
     if not edits:
         return None
-    script, steps = steps_of(edits, has_runs, every)
+    script, steps = steps_of(edits, has, every)
     told = answers(script)
-    if len(told) != 3 * len(steps) + 1:
-        return Fault(len(edits) - 1, f"{len(told)} parts of answers, not {3 * len(steps) + 1}: {told[-1][-200:]}")
+    if len(told) != PARTS * len(steps) + 1:
+        return Fault(len(edits) - 1, f"{len(told)} parts of answers, not {PARTS * len(steps) + 1}: {told[-1][-200:]}")
     fault = wrong_answers(told, steps, every)
-    return fault or (wrong_runs(told, steps) if has_runs and every else None)
+    return fault or (wrong_runs(told, steps) if has.runs and every else None)
 
 
-def shortened(edits: List[Edit], fault: Fault, has_runs: bool, until: float) -> List[Edit]:
+def shortened(edits: List[Edit], fault: Fault, has: Has, until: float) -> List[Edit]:
     """Fewer edits whose answers are wrong too."""
     edits = edits[:fault.number + 1]
-    every = not fault_of(edits, has_runs, False)
+    every = not fault_of(edits, has, False)
     at = len(edits)
     while at > 0 and time.monotonic() < until:
         at -= 1
         fewer = edits[:at] + edits[at + 1:]
-        if fault_of(fewer, has_runs, every):
+        if fault_of(fewer, has, every):
             edits = fewer
     return edits
 
@@ -376,14 +433,14 @@ def drawn_edits(seed: int) -> List[Edit]:
     return edits
 
 
-def trial(seed: int, has_runs: bool) -> bool:
+def trial(seed: int, has: Has) -> bool:
     """Whether the notebook of a seed is answered as it should be; says what is wrong."""
     edits = drawn_edits(seed)
-    fault = fault_of(edits, has_runs)
+    fault = fault_of(edits, has)
     if not fault:
         return True
-    edits = shortened(edits, fault, has_runs, time.monotonic() + 30)
-    print(f"seed {seed}: {(fault_of(edits, has_runs) or fault).text}")
+    edits = shortened(edits, fault, has, time.monotonic() + 30)
+    print(f"seed {seed}: {(fault_of(edits, has) or fault).text}")
     print("\n".join(line for edit in edits for line in edit.lines()))
     return False
 
@@ -395,12 +452,12 @@ def main() -> int:
     options = parser.parse_args()
     if not os.access(PROGRAM, os.X_OK):
         sys.exit(f"there is no program at {PROGRAM}")
-    has_runs = counts_runs()
-    told = "runs are counted" if has_runs else "the program tells no runs"
-    print(f"seed {options.seed}, {options.seconds:g} seconds, {told}", flush=True)
+    found = words_of_program()
+    told = [name for name, is_there in (("tries are drawn", found.tries), ("runs are counted", found.runs)) if is_there]
+    print(", ".join([f"seed {options.seed}", f"{options.seconds:g} seconds", *told]), flush=True)
     until, passed, failed, seed = time.monotonic() + options.seconds, 0, 0, options.seed
     while time.monotonic() < until and failed < 5:
-        if trial(seed, has_runs):
+        if trial(seed, found):
             passed += 1
         else:
             failed += 1

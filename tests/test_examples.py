@@ -24,6 +24,8 @@ def tool() -> ModuleType:
 
 EXAMPLES = tool()
 SCRIPT = "```ndn\ncount\n```\nIt is answered\n```answers\ncount 0\n```\n"
+DESK = ("```desk\ninsert 0\nnp.save('f', 1)\n.\nsave 0 f f.npy\ninput f file f.npy\ntype 0 x\n```\n"
+        "```answers\nok\nok\nok\nrefused NoName x\n```\n")
 NOTEBOOK = """# One
 ```cell
 x = np.arange(3)
@@ -87,12 +89,13 @@ class Written(unittest.TestCase):
         return run(self.path)
 
     def test_right_answers_pass(self) -> None:
-        for text, count in ((SCRIPT, 1), (NOTEBOOK, 4), (TABLE, 5), (SCRIPT + NOTEBOOK + TABLE, 10)):
+        for text, count in ((SCRIPT, 1), (DESK, 1), (NOTEBOOK, 4), (TABLE, 5), (SCRIPT + NOTEBOOK + TABLE, 10)):
             self.assertEqual(self.run_text(text), (0, [f"{count} passed, 0 failed"]))
 
     def test_each_changed_answer_is_told_with_its_line(self) -> None:
         for text, old, new, line in (
-                (SCRIPT, "count 0", "count 1", 5), (NOTEBOOK, "[0 1 2]", "[0 1 3]", 6),
+                (SCRIPT, "count 0", "count 1", 5), (DESK, "NoName x\n```", "NoName y\n```", 9),
+                (NOTEBOOK, "[0 1 2]", "[0 1 3]", 6),
                 (NOTEBOOK, "\n3\n", "\n4\n", 13), (NOTEBOOK, "Bounds 0 9 3", "Bounds 0 9 4", 13),
                 (NOTEBOOK, "save x 160", "save x 161", 21),
                 (NOTEBOOK, "Bounds 0 9 4", "Bounds 0 9 5", 24), (TABLE, "` [2 3]]`", "` [2 4]]`", 7),

@@ -7,6 +7,7 @@
 //   READ_BYTES, WRITE_BYTES   the most bytes of a read, of a write; 0: as many as are asked for
 //   FAILED_READ, READ_ERROR   the read that fails, and its errno
 //   FAILED_WRITE, WRITE_ERROR the write that fails, and its errno; 0: the write takes no byte
+//   FAILED_CHANGE, CHANGE_ERROR   the same of the writes to files, their syncs and renames, which are counted together
 //   ENDLESS_READ          1: each read gives one newline, and no file is asked
 //   STEER_FROM, STEER_TO  pipes by which another process steers this one at each read of standard input
 //   TELL                  1: the number of allocations is told on standard error at the end
@@ -29,8 +30,9 @@ struct order { int64_t what, first, count; };
 struct report { int64_t has_ended, value, seen, refused; };
 
 static int is_ready;
-static int64_t first_refused, refusals, seen, refused, reads, writes, consumed;
+static int64_t first_refused, refusals, seen, refused, reads, writes, changes, consumed;
 static int64_t read_bytes, write_bytes, failed_read, read_error, failed_write, write_error, is_endless;
+static int64_t failed_change, change_error;
 static int64_t steer_from, steer_to;
 
 static int64_t number(const char *name) {
@@ -49,6 +51,8 @@ static void prepare(void) {
     read_error = number("READ_ERROR");
     failed_write = number("FAILED_WRITE");
     write_error = number("WRITE_ERROR");
+    failed_change = number("FAILED_CHANGE");
+    change_error = number("CHANGE_ERROR");
     is_endless = number("ENDLESS_READ");
     steer_from = number("STEER_FROM");
     steer_to = number("STEER_TO");
@@ -139,24 +143,44 @@ ssize_t read(int file, void *to, size_t size) {
     return next_read(file, to, read_bytes && size > (size_t)read_bytes ? (size_t)read_bytes : size);
 }
 
+// Counts a call that changes a file; whether it fails.
+static int fails_to_change(void) {
+    if (!is_ready) prepare();
+    changes++;
+    if (changes == failed_change) errno = change_error;
+    return changes == failed_change;
+}
+
 ssize_t write(int file, const void *from, size_t size) {
     if (!is_ready) prepare();
-    if (file != 1) return next_write(file, from, size);
-    writes++;
-    if (writes == failed_write) {
-        if (!write_error) return 0;
+    if (file == 2) return next_write(file, from, size);
+    if (file != 1) {
+        if (fails_to_change()) return change_error ? -1 : 0;
+    } else if (++writes == failed_write) {
         errno = write_error;
-        return -1;
+        return write_error ? -1 : 0;
     }
     return next_write(file, from, write_bytes && size > (size_t)write_bytes ? (size_t)write_bytes : size);
+}
+
+int fsync(int file) {
+    static int (*next)(int);
+    if (!next) next = dlsym(RTLD_NEXT, "fsync");
+    return fails_to_change() ? -1 : next(file);
+}
+
+int rename(const char *from, const char *to) {
+    static int (*next)(const char *, const char *);
+    if (!next) next = dlsym(RTLD_NEXT, "rename");
+    return fails_to_change() ? -1 : next(from, to);
 }
 
 ssize_t __write(int file, const void *from, size_t size) { return write(file, from, size); }
 
 __attribute__((destructor)) static void tell(void) {
-    char line[96];
+    char line[128];
     if (!number("TELL")) return;
-    int length = snprintf(line, sizeof line, "allocations=%lld reads=%lld writes=%lld\n", (long long)seen,
-                          (long long)reads, (long long)writes);
+    int length = snprintf(line, sizeof line, "allocations=%lld reads=%lld writes=%lld changes=%lld\n",
+                          (long long)seen, (long long)reads, (long long)writes, (long long)changes);
     if (next_write(2, line, length) < 0) _exit(3);
 }

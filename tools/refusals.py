@@ -13,7 +13,7 @@ from dataclasses import dataclass
 from typing import Optional, Sequence
 
 SOURCE = os.path.join(os.path.dirname(os.path.realpath(__file__)), "refusals.c")
-TOLD = re.compile(rb"allocations=(\d+) reads=(\d+) writes=(\d+)\n\Z")
+TOLD = re.compile(rb"allocations=(\d+) reads=(\d+) writes=(\d+) changes=(\d+)\n\Z")
 
 
 class NoCompiler(Exception):
@@ -32,6 +32,8 @@ class Faults:
     write_bytes: int = 0        # the most bytes of a write
     failed_write: int = 0
     write_error: int = 0        # 0: the write takes nothing
+    failed_change: int = 0      # of the writes to files, their syncs and renames
+    change_error: int = 0
     is_endless: bool = False    # each read gives one newline
 
     def environment(self, shim: str) -> dict[str, str]:
@@ -39,6 +41,7 @@ class Faults:
             "REFUSED_ALLOCATION": self.allocation, "REFUSED_ALLOCATIONS": self.allocations,
             "READ_BYTES": self.read_bytes, "FAILED_READ": self.failed_read, "READ_ERROR": self.read_error,
             "WRITE_BYTES": self.write_bytes, "FAILED_WRITE": self.failed_write, "WRITE_ERROR": self.write_error,
+            "FAILED_CHANGE": self.failed_change, "CHANGE_ERROR": self.change_error,
             "ENDLESS_READ": int(self.is_endless), "TELL": 1}
         return {"LD_PRELOAD": shim, **{name: str(number) for name, number in numbers.items() if number}}
 
@@ -56,6 +59,7 @@ class Ran:
     allocations: int
     reads: int
     writes: int
+    changes: int
 
 
 def build(folder: str) -> str:
@@ -74,7 +78,7 @@ def run(command: Sequence[str], given: bytes, shim: str, faults: Faults = NO_FAU
     try:
         done = subprocess.run(command, env=environment, capture_output=True, input=given, timeout=seconds, check=False)
     except subprocess.TimeoutExpired:
-        return Ran(b"", None, b"", 0, 0, 0)
+        return Ran(b"", None, b"", 0, 0, 0, 0)
     told = TOLD.search(done.stderr)
-    counts = [int(number) for number in told.groups()] if told else [0, 0, 0]
+    counts = [int(number) for number in told.groups()] if told else [0] * 4
     return Ran(done.stdout, done.returncode, TOLD.sub(b"", done.stderr), *counts)

@@ -10,7 +10,7 @@ import sys
 from pathlib import Path
 from typing import Optional, Sequence
 
-from . import book, page
+from . import book, files, page
 from .engine import Died
 from .excerpt import is_behind
 from .faults import column, told, words
@@ -149,7 +149,7 @@ def make_page(session: Session, options: argparse.Namespace) -> None:
     session.sync()
     for shown in session.codes():
         session.look(shown)
-    book.replace_file(path, page.page(session)[0].encode())
+    files.replace_file(path, page.page(session)[0].encode())
     print(path)
 
 
@@ -171,7 +171,7 @@ def main(given: Optional[Sequence[str]] = None) -> int:
     options = arguments(given)
     try:
         if options.command == 'live' and not options.book.exists():
-            book.replace_file(options.book, BEGIN)
+            files.replace_file(options.book, BEGIN)
         session = opened(options.book, inputs=options.inputs, memory=options.memory)
     except UnicodeDecodeError:
         print(f'ndnote: {options.book}: a book is UTF-8 text', file=sys.stderr)

@@ -4,22 +4,20 @@ from __future__ import annotations
 import ast
 import codecs
 import difflib
-import os
 import re
-import tempfile
 from dataclasses import dataclass, replace
 from functools import cached_property, lru_cache
 from pathlib import Path
-from typing import Iterable, Sequence, TypeVar, Union
+from typing import Iterable, Sequence, TypeVar
+
+from .files import PathLike, replace_file
 
 MARK = re.compile(r'#[ \t]*%%(?!%)[ \t]*(.*)')
 TEXT = re.compile(r'\[(markdown|md)\][ \t]*')
 INPUT = re.compile(r'''\b(np\s*\.\s*load|buffer)\s*\(\s*(['"])([A-Za-z0-9_.-]{1,64})\2''')
 NAME = re.compile('[A-Za-z0-9_.-]{1,64}')     # of an input
-LARGEST = 1 << 26       # bytes of an input
 
 Item = TypeVar('Item')
-PathLike = Union[str, 'os.PathLike[str]']
 
 
 @dataclass(frozen=True)
@@ -183,15 +181,6 @@ def changes(old: Sequence[Item], new: Sequence[Item]) -> list[tuple]:
 
 # Files.
 
-def read_input(path: Path) -> bytes:
-    """The bytes of an input."""
-    if not path.is_file():
-        raise OSError('no regular file')
-    if path.stat().st_size > LARGEST:
-        raise OSError('more than 64 MiB')
-    return path.read_bytes()
-
-
 def read(path: PathLike) -> str:
     """The text of a book, without a byte order mark. Line ends stay as they are."""
     return Path(path).read_bytes().removeprefix(codecs.BOM_UTF8).decode('utf-8')
@@ -202,26 +191,3 @@ def write(path: PathLike, text: str) -> None:
     with open(path, 'rb') as file:
         mark = file.read(3)
     replace_file(path, (mark if mark == codecs.BOM_UTF8 else b'') + text.encode('utf-8', 'replace'))
-
-
-def replace_file(path: PathLike, data: bytes) -> None:
-    """Puts bytes into a file in one step. Whoever reads it sees the old ones or the new ones, also on a full disk.
-    An OSError names this file."""
-    try:
-        put(path, data)
-    except OSError as error:
-        raise OSError(error.errno, error.strerror, str(path)) from None
-
-
-def put(path: PathLike, data: bytes) -> None:
-    """Writes a file beside another one, and puts it in the other's place."""
-    target = Path(os.path.realpath(path))
-    handle, other = tempfile.mkstemp(dir=target.parent, prefix='.ndnote-')
-    try:
-        with os.fdopen(handle, 'wb') as file:
-            file.write(data)
-        os.chmod(other, target.stat().st_mode & 0o777 if target.exists() else 0o644)
-        os.replace(other, target)
-    except BaseException:
-        os.unlink(other)
-        raise

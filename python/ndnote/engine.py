@@ -1,6 +1,7 @@
 """One process of the proved program, spoken to by the commands of its scripts. Nothing here knows of books or pages."""
 from __future__ import annotations
 
+import errno
 import os
 import re
 import resource
@@ -11,11 +12,16 @@ from functools import cached_property
 from pathlib import Path
 from typing import Any, Callable, Iterable, NamedTuple, Optional, Sequence, TypeVar
 
-from .values import Layout, Value
+from .files import PathLike, replace_file
+from .values import Known, Layout, Value
 
 Answer = TypeVar('Answer')
 # How the program's allocator takes and keeps memory, unless the environment says so itself. `./ndnote` reads this file too.
 TUNABLES = Path(__file__).with_name('tunables').read_text('ascii').strip()
+# What the program calls the errors of the system.
+CAUSES = {'NotFound': errno.ENOENT, 'PermissionDenied': errno.EACCES, 'AlreadyExists': errno.EEXIST,
+          'NotADirectory': errno.ENOTDIR, 'IsADirectory': errno.EISDIR, 'ReadOnlyFilesystem': errno.EROFS,
+          'StorageFull': errno.ENOSPC, 'InvalidFilename': errno.ENAMETOOLONG}
 
 
 class Refused(Exception):
@@ -39,10 +45,17 @@ class Result(NamedTuple):
     saves: dict[str, int]
 
 
+class Trial(NamedTuple):
+    """What a cell would print, why it would stop if it would, and its saved files."""
+    text: str
+    refusal: Optional[Refusal]
+    files: dict[str, bytes]
+
+
 def program() -> str:
-    """The path of the built program: $NDNOTE_PROGRAM, or what the checkout around this package has built."""
+    """The path of the program: $NDNOTE_PROGRAM, or what the checkout around this package has built for front ends."""
     told = os.environ.get('NDNOTE_PROGRAM')
-    path = Path(told) if told else Path(__file__).resolve().parents[2] / 'crates/ndnote/out/ndnote'
+    path = Path(told) if told else Path(__file__).resolve().parents[2] / 'crates/ndnote_desk/out/ndnote_desk'
     if not path.is_file():
         raise FileNotFoundError(f'{path}: the program is not built; NDNOTE_PROGRAM may name another')
     return str(path)
@@ -158,6 +171,17 @@ class Notebook:
             raise Refused(line.removeprefix('refused '))
         return line
 
+    def _ask_of_file(self, path: PathLike, *parts: bytes) -> None:
+        """Asks for what is done with a file. Where that fails an OSError tells why, as of a file of one's own."""
+        try:
+            self._ask(*parts)
+        except Refused as refused:
+            word, _, cause = str(refused).partition(' ')
+            if word not in ('Unread', 'Unwritten'):
+                raise
+            number = CAUSES.get(cause, errno.EIO)
+            raise OSError(number, os.strerror(number), str(path)) from None
+
     def _ask_all(self, commands: Iterable[bytes], read: Callable[[], Answer]) -> list[Answer]:
         """The answers to many commands, sent without waiting for each."""
         sent = list(commands)
@@ -175,6 +199,16 @@ class Notebook:
             return frozenset(self._ask(b'words\n').split(' ')[1:])
         except Refused:
             return frozenset()
+
+    def said(self, word: str, path: PathLike) -> Optional[bytes]:
+        """A path in a line with a word; None where the program has no such word, or no line can have the path."""
+        text = str(Path(path).absolute())
+        if word not in self.words or re.search(r'[\n\0]', text):
+            return None
+        try:
+            return text.encode('utf-8')
+        except UnicodeEncodeError:
+            return None
 
     # Edits.
 
@@ -194,9 +228,14 @@ class Notebook:
 
     def input(self, name: str, data: Any, layout: Optional[Layout] = None) -> None:
         """Sets an input. With a layout the bytes are a buffer's memory. Else bytes are those of an NPY file, a path
-        names one, and any object with a buffer (PEP 3118) is handed over as a buffer in C order."""
+        names one, which the program reads itself if it can, and any object with a buffer (PEP 3118) is handed over as
+        a buffer in C order."""
         word = asked(name, 'BadInputName')
         if isinstance(data, (str, os.PathLike)):
+            path = self.said('file', data)
+            if path and not layout:
+                self._ask_of_file(data, b'input %s file ' % word, path, b'\n')
+                return
             data = Path(data).read_bytes()
         if isinstance(data, (bytes, bytearray)) and not layout:
             self._ask(b'input %s npy ' % word, data.hex().encode() or b'-', b'\n')
@@ -215,18 +254,26 @@ class Notebook:
 
     # Questions.
 
-    def _result(self) -> Result:
+    def _shown(self, of_file: Callable[[int], Any]) -> tuple[str, Optional[Refusal], dict[str, Any]]:
+        """What a cell shows: its text, its refusal, and what is made of the length of each saved file."""
         line = self._line()
         if not line.startswith('text '):
             raise Refused(line.removeprefix('refused '))
-        text, refusal, saves = self._bytes(int(line[5:])).decode(), None, {}
+        text, refusal, files = self._bytes(int(line[5:])).decode(), None, {}
         while (line := self._line()) != 'end':
             word, *rest = line.split(' ', 2)
             if word == 'refused':
                 refusal = Refusal(int(rest[0]), rest[1])
             elif word == 'save':
-                saves[rest[0]] = int(rest[1])
-        return Result(text, refusal, saves)
+                files[rest[0]] = of_file(int(rest[1]))
+        return text, refusal, files
+
+    def _result(self) -> Result:
+        return Result(*self._shown(int))
+
+    def _file(self, length: int) -> bytes:
+        """The bytes of a file that stand in an answer."""
+        return self._bytes(length + 1)[:-1]
 
     def show(self, at: int) -> Result:
         return self.show_all([at])[0]
@@ -245,9 +292,41 @@ class Notebook:
     def value(self, at: int, name: str) -> Value:
         return Value.of_answer(self._ask(b'value %d %s\n' % (at, asked(name, f'NoName {name}'))))
 
+    def type(self, at: int, name: str) -> Known:
+        """What a name is bound to, without elements. A program without the word tells it with all of them."""
+        if 'type' not in self.words:
+            return self.value(at, name).known
+        return Known.of_answer(self._ask(b'type %d %s\n' % (at, asked(name, f'NoName {name}'))))
+
+    def try_cell(self, at: int, source: str) -> Trial:
+        """What a cell would give if it were inserted; the notebook stays as it is. A program without the word is given
+        the cell, which is then taken out again."""
+        if 'try' in self.words:
+            self._write((b'try %d\n' % at, script_source(source), b'\n.\n'))
+            return Trial(*self._shown(self._file))
+        self.insert(at, source)
+        try:
+            result = self.show(at)
+            return Trial(result.text, result.refusal, {name: self.saved(at, name) for name in result.saves})
+        finally:
+            if not self.is_over():
+                self.remove(at)
+
     def saved(self, at: int, name: str) -> bytes:
         answer = self._ask(b'saved %d %s\n' % (at, asked(name, f'NoSave {name}')))
         return bytes.fromhex(answer.removeprefix('saved ').replace('-', ''))
+
+    def save(self, at: int, name: str, path: PathLike) -> None:
+        """Writes a saved file to a path, in one step. A file that is there keeps its mode, and a link stays one."""
+        word, target = asked(name, f'NoSave {name}'), Path(os.path.realpath(path))
+        said, mode = self.said('save', target), target.stat().st_mode & 0o777 if target.exists() else None
+        is_secret = mode is not None and mode & 0o444 != 0o444      # the program's new file may be read by all
+        if not said or is_secret:
+            replace_file(path, self.saved(at, name))
+            return
+        self._ask_of_file(path, b'save %d %s ' % (at, word), said, b'\n')
+        if mode is not None:
+            os.chmod(target, mode)
 
     def __getitem__(self, name: str) -> Value:
         """The value of a name after the last cell."""

@@ -7,7 +7,8 @@ from typing import NamedTuple
 
 from .engine import Notebook, Refusal
 from .explain import fresh_name, shortened, statement_at
-from .probe import Known, Probe, asker, known, lengths
+from .probe import Probe, behind_cell, known
+from .values import Known
 
 ROWS = 3                # at each end
 COLUMNS = 8             # at each end
@@ -27,15 +28,12 @@ def excerpts(notebook: Notebook, at: int, source: str, refusal: Refusal) -> list
     statement = statement_at(source, refusal.line)
     if not isinstance(statement, ast.Expr) or not isinstance(statement.value, ast.Call):
         return []
-    words = [ast.get_source_segment(source, word) or '' for word in statement.value.args[:WORDS]]
     front = fresh_name(set(notebook.names(at)))
-    names = [f'{front}{count}' for count in range(len(words))]
-    with asker(notebook, at) as bound:
-        bound.run(f'{name} = {word}' for name, word in zip(names, words))
-        with asker(notebook, bound.place) as probe:
-            found = known(probe, names)
-            shown = [Excerpt(shortened(word), found[name].words, ends(probe, name, found[name]))
-                     for name, word in zip(names, words) if name in found]
+    words = {f'{front}{count}': word for count, word in enumerate(statement.value.args[:WORDS])}
+    probe = behind_cell(notebook, at).behind([f'{name} = {ast.unparse(word)}' for name, word in words.items()])
+    found = known(probe, list(words))
+    shown = [Excerpt(shortened(ast.get_source_segment(source, words[name]) or ''), what.words, ends(probe, name, what))
+             for name, what in found.items()]
     left = len(statement.value.args) - len(shown)
     more = Excerpt(f'{left} more', 'not shown', f'… {left} more arguments left out by ndnote …')
     return shown + [more] if shown and left else shown

@@ -8,7 +8,7 @@ import difflib
 from typing import NamedTuple, Optional
 
 from .engine import Notebook, Refusal
-from .probe import asker, known
+from .probe import behind_cell, known
 
 GROUPS = ('View', 'Index', 'Shape', 'Ufunc', 'Reduce')
 OTHERS = ('Stmt.NotAnArray', 'Stmt.BadArgument')
@@ -120,14 +120,12 @@ def operands(notebook: Notebook, at: int, source: str, refusal: Refusal) -> list
         name = f'{front}{count}'
         lines.append(f'{name} = {ast.unparse(Named(names).visit(copy.deepcopy(node)))}')
         names[span(node)] = name
-    with asker(notebook, at) as bound:
-        stopped = bound.run(lines).refusal
-        if stopped and stopped.fault != refusal.fault:
-            return []
-        shown = parts(nodes[stopped.line - 1]) if stopped else wanted
-        asked = {names[span(node)]: ast.get_source_segment(source, node) or '' for node in shown if span(node) in names}
-        with asker(notebook, bound.place) as probe:
-            found = known(probe, list(asked))
+    probe = behind_cell(notebook, at).behind(lines)
+    if probe.stopped and probe.stopped.fault != refusal.fault:
+        return []
+    shown = parts(nodes[probe.stopped.line - 1]) if probe.stopped else wanted
+    asked = {names[span(node)]: ast.get_source_segment(source, node) or '' for node in shown if span(node) in names}
+    found = known(probe, list(asked))
     return [Operand(shortened(asked[name]), what.words) for name, what in found.items()]
 
 

@@ -6,11 +6,11 @@ import math
 import struct
 import zlib
 from html import escape
-from typing import Callable, NamedTuple, Sequence
+from typing import Any, Callable, NamedTuple, Sequence
 
 from .engine import Notebook
-from .probe import Known, asker, known, lengths
-from .values import Type, Value
+from .probe import behind_cell, known
+from .values import Known, Type, Value, lengths
 
 SIDE = 256              # samples along each side of an image
 POINTS = 160            # along a line
@@ -92,33 +92,31 @@ def plan_mask(name: str, shape: tuple[int, ...], is_bundle: bool, ends: tuple[st
 
 
 def figures(notebook: Notebook, at: int, names: Sequence[str]) -> list[Figure]:
-    """The pictures of these names, as they are after cell `at`. Between edits only: the notebook stays as it was."""
+    """The pictures of these names, as they are after cell `at`. The notebook stays as it was."""
     bound = set(notebook.names(at))
     wanted = [name for name in names if name in bound]
     if not wanted:
         return []
-    made = []
-    with asker(notebook, at) as probe:
-        found = known(probe, wanted[:MOST])
-        plans = {name: plan(name, what.type, what.shape) for name, what in found.items() if what.is_array}
-        files = {(name, at): f'{count}.{at}' for count, (name, plan_) in enumerate(plans.items())
-                 for at in range(len(plan_.samples))}
-        saves = probe.run(f"np.save('{file}', {plans[name].samples[at]})" for (name, at), file in files.items()).saves
-        for name, what in found.items():
-            if not what.is_array:
-                made.append(of_number(name, what.value))
-                continue
-            samples = [probe.saved(file) for (owner, _), file in files.items() if owner == name and file in saves]
-            made.append(of_array(name, what, plans[name], samples))
+    made, probe = [], behind_cell(notebook, at)
+    found = known(probe, wanted[:MOST])
+    plans = {name: plan(name, what.type, what.shape) for name, what in found.items() if what.is_array}
+    files = {(name, at): f'{count}.{at}' for count, (name, plan_) in enumerate(plans.items())
+             for at in range(len(plan_.samples))}
+    saved = probe.run(f"np.save('{file}', {plans[name].samples[at]})" for (name, at), file in files.items()).files
+    for name, what in found.items():
+        if what.is_array:
+            own = [file for (owner, _), file in files.items() if owner == name and file in saved]
+            made.append(of_array(name, what, plans[name], [Value.of_npy(saved[file]) for file in own]))
+        else:
+            made.append(of_number(name, what, probe.value(name).tolist() if what.kind == 'row' else what.number))
     if len(wanted) > MOST:
         made.append(Figure(f'and {len(wanted) - MOST:,} more names', '', '', '', ''))
     return made
 
 
-def of_number(name: str, value: Value) -> Figure:
-    number = value.tolist()
-    text = str(bool(number)) if value.kind_name == 'bool' else str(number)
-    kind = 'Python ' + value.kind if value.type is None else value.kind_name
+def of_number(name: str, what: Known, number: Any) -> Figure:
+    text = str(bool(number)) if what.kind_name == 'bool' else str(number)
+    kind = 'Python ' + what.kind if what.type is None else what.kind_name
     return Figure(name, kind, '', '', f'<code>{escape(text)}</code>')
 
 

@@ -1,81 +1,84 @@
-"""Questions about values that the program has no word for, asked by cells that are put in behind another one and taken
-out again. By the notebook's promise everything is then as it was."""
+"""Questions about values that are asked by trying cells, which changes nothing."""
 from __future__ import annotations
 
-from typing import Callable, Iterable, Sequence
+from typing import Iterable, Optional, Sequence
 
-from .engine import Notebook, Refused, Result
-from .values import Type, Value
-
-
-class Known:
-    """What is known of a value without its elements: its type, and its shape or its number."""
-
-    def __init__(self, value: Value, is_array: bool) -> None:
-        self.value = value
-        self.is_array = is_array
-        self.shape = value.shape[1:] if is_array else ()
-
-    @property
-    def type(self) -> Type:
-        return self.value.type
-
-    @property
-    def words(self) -> str:
-        """'int64 · 7 × 24', 'Python int', or 'row'."""
-        if not self.is_array:
-            words = {'int': 'a Python integer', 'bool': 'a Python Boolean', 'row': 'a row'}
-            return words.get(self.value.kind, self.value.kind_name)
-        return f'{self.type.kind} · {lengths(self.shape) or "no axes"}'
-
-
-def lengths(shape: Sequence[int]) -> str:
-    return ' × '.join(f'{length:,}' for length in shape)
+from .engine import Notebook, Refusal, Refused, Trial
+from .values import Known, Value
 
 
 class Probe:
-    """A cell behind cell `at` while a `with` block asks it. It never outlives the block."""
+    """Asks about the values behind a place of a notebook, and behind lines that stand there as if they were a cell."""
 
-    def __init__(self, notebook: Notebook, at: int) -> None:
+    def __init__(self, notebook: Notebook, place: int, lines: Sequence[str] = (), stopped: Optional[Refusal] = None
+                 ) -> None:
         self.notebook = notebook
-        self.place = at + 1
+        self.place = place
+        self.lines = list(lines)
+        self.stopped = stopped      # why no more lines than these were carried out
 
-    def __enter__(self) -> 'Probe':
-        self.notebook.insert(self.place, '')
-        return self
+    def run(self, lines: Iterable[str]) -> Trial:
+        """What more lines give, each of which is a statement. Refusals count these lines from 1."""
+        trial = self.notebook.try_cell(self.place, '\n'.join([*self.lines, *lines]))
+        if not trial.refusal:
+            return trial
+        return trial._replace(refusal=trial.refusal._replace(line=trial.refusal.line - len(self.lines)))
 
-    def __exit__(self, *_: object) -> None:
-        if not self.notebook.is_over():
-            self.notebook.remove(self.place)
+    def behind(self, lines: Sequence[str]) -> 'Probe':
+        """A probe behind more lines, up to the first that is refused."""
+        stopped = self.run(lines).refusal
+        done = lines[:stopped.line - 1] if stopped else lines
+        return Probe(self.notebook, self.place, [*self.lines, *done], stopped)
 
-    def run(self, lines: Iterable[str]) -> Result:
-        self.notebook.edit(self.place, '\n'.join(lines))
-        return self.notebook.show(self.place)
+    def value(self, name: str) -> Value:
+        """The number or the row that a name is bound to."""
+        if not self.lines:
+            return self.notebook.value(self.place - 1, name)
+        trial = self.run([f"np.save('is', {name})", f"np.save('scalar', {name}.astype(np.int8))"])
+        if trial.refusal and trial.refusal.fault == 'Stmt.NeedsType':       # a Python integer beyond int64
+            trial = self.run([f"np.save('is', np.uint64({name}))"])
+        if 'is' not in trial.files:
+            raise Refused(trial.refusal.fault)
+        saved = Value.of_npy(trial.files['is'])
+        if saved.type.is_structure:
+            return saved._replace(kind='row')
+        kind = 'scalar' if 'scalar' in trial.files else 'bool' if saved.type.is_mask else 'int'
+        return Value(kind, saved.type if kind == 'scalar' else None, number=saved.elements()[0])
 
-    def saved(self, name: str) -> Value:
-        return Value.of_npy(self.notebook.saved(self.place, name))
 
-
-# Words by which a program answers these questions itself, and what asks it so in place of a probe.
-WAYS: dict[str, Callable[[Notebook, int], Probe]] = {}
-
-
-def asker(notebook: Notebook, at: int) -> Probe:
-    """What asks this program about the values after a cell."""
-    return next((way for word, way in WAYS.items() if word in notebook.words), Probe)(notebook, at)
+def behind_cell(notebook: Notebook, at: int) -> Probe:
+    """What asks about the values after a cell."""
+    return Probe(notebook, at + 1)
 
 
 def known(probe: Probe, names: Sequence[str]) -> dict[str, Known]:
-    """The types and shapes of names that are bound behind the probe's cell: the headers of files without elements."""
+    """What those of the names are that are bound where a probe stands."""
+    has_word = not probe.lines and 'type' in probe.notebook.words
+    return known_by_word(probe, names) if has_word else known_by_files(probe, names)
+
+
+def known_by_word(probe: Probe, names: Sequence[str]) -> dict[str, Known]:
+    found = {}
+    for name in names:
+        try:
+            found[name] = probe.notebook.type(probe.place - 1, name)
+        except Refused:                         # for want of memory, or not bound
+            pass
+    return found
+
+
+def known_by_files(probe: Probe, names: Sequence[str]) -> dict[str, Known]:
+    """By the headers of files without elements."""
     found, left = {}, list(names)
     while left:                                 # a number or a row refuses, and the next run goes on behind it
-        result = probe.run(f"np.save('{at}', {name}[None][:0])" for at, name in enumerate(left))
-        count = len(result.saves)
-        for at in range(count):
-            found[left[at]] = Known(probe.saved(str(at)), True)
+        files = probe.run(f"np.save('{at}', {name}[None][:0])" for at, name in enumerate(left)).files
+        for at, data in files.items():
+            header = Value.of_npy(data)
+            found[left[int(at)]] = header.known._replace(shape=header.shape[1:])
+        count = len(files)
         if count < len(left):
             try:
-                found[left[count]] = Known(probe.notebook.value(probe.place, left[count]), False)
+                found[left[count]] = probe.value(left[count]).known
             except Refused:                     # for want of memory, or not bound
                 pass
         left = left[count + 1:]

@@ -10,7 +10,7 @@ import time
 from pathlib import Path
 from typing import Any, Iterable, NamedTuple, Optional
 
-from . import book, pictures
+from . import book, files, pictures
 from .engine import Died, Notebook, Refused, Result
 from .excerpt import Excerpt, excerpts
 from .explain import Operand, alike, operands
@@ -49,7 +49,7 @@ class Shown:
 class Session:
     """`news` guards what is shown. Only one thread brings the program to the book; any may change the book and look."""
 
-    def __init__(self, path: book.PathLike, inputs: Iterable[tuple[str, str]] = (),
+    def __init__(self, path: files.PathLike, inputs: Iterable[tuple[str, str]] = (),
                  memory: Optional[int] = None) -> None:
         self.path = Path(path)
         self.given = dict(inputs)   # names to paths that the command line gives
@@ -69,7 +69,7 @@ class Session:
         self.notebook = Notebook(memory=self.memory)
         self.order: list[int] = []          # the cells of the program, in order
         self.sent: dict[int, str] = {}      # and their sources
-        self.inputs: dict[str, tuple[Any, Optional[bytes]]] = {}    # to the stamp of the file, and its digest
+        self.inputs: dict[str, tuple[Any, Any]] = {}    # to the stamp of the file, and what tells its bytes from others
         # What is not answered yet: (cell, source), (input, stamp), or (cell, None) for what is seen of it.
         self.current: Optional[tuple[Any, Any]] = None
 
@@ -145,14 +145,14 @@ class Session:
 
     def read_input(self, name: str, is_buffer: bool) -> tuple[bytes, Optional[Layout]]:
         path = self.input_path(name)
-        data = book.read_input(path)
+        data = files.read_input(path)
         if not is_buffer:
             return data, None
         layout = layout_path(path)
         if not layout.exists():
             raise OSError(f'its layout is not there: {layout.name}')
         try:
-            return data, Layout.of_json(book.read_input(layout).decode())
+            return data, Layout.of_json(files.read_input(layout).decode())
         except (OSError, ValueError, RecursionError) as error:
             raise OSError(f'its layout {layout.name} is wrong: {error}') from None
 
@@ -161,17 +161,24 @@ class Session:
         self.current = name, told
         if self.blame[self.current] > 1:
             raise OSError('the program was stopped, or ended twice, when it was given this file')
-        digest, data, layout = None, b'', None
-        if told[0]:
-            data, layout = self.read_input(name, told[2])
-            digest = hashlib.sha256(data + repr(layout).encode()).digest()
-        is_other = self.inputs.get(name, (None, None))[1] != digest
-        if is_other and digest:
+        mark, data, layout = self.found_input(name, told) if told[0] else (None, b'', None)
+        is_other = self.inputs.get(name, (None, None))[1] != mark
+        if is_other and mark:
             self.notebook.input(name, data, layout)
         elif is_other:
             self.notebook.drop(name)
-        self.inputs[name] = told, digest
+        self.inputs[name] = told, mark
         return is_other
+
+    def found_input(self, name: str, told: Any) -> tuple[Any, Any, Optional[Layout]]:
+        """What is handed over for an input, behind what tells its bytes from others: their digest. A file that the
+        program reads itself has its stamp for that and is not read here: cells that read the same bytes run no more."""
+        path = self.input_path(name)
+        if not told[2] and self.notebook.said('file', path):
+            files.check_input(path)
+            return told[0], path, None
+        data, layout = self.read_input(name, told[2])
+        return hashlib.sha256(data + repr(layout).encode()).digest(), data, layout
 
     def sync_inputs(self) -> bool:
         """Sets, replaces and drops inputs, as their files are now; tells whether any is another."""
@@ -367,16 +374,16 @@ class Session:
         return Seen(tuple(figures), tuple(operands(self.notebook, at, source, refusal)),
                     alike(self.notebook, at, refusal.fault))
 
-    def saves(self, folder: book.PathLike) -> list[str]:
+    def saves(self, folder: files.PathLike) -> list[str]:
         """Writes the saved files of all cells, the last of each name; `.npy` is put behind a name as NumPy does."""
-        files = {}
+        last = {}
         for at, result in enumerate(self.notebook.show_all(range(len(self.order)))):
             for name in result.saves:
-                files[name if name.endswith('.npy') else name + '.npy'] = self.notebook.saved(at, name)
+                last[name if name.endswith('.npy') else name + '.npy'] = at, name
         Path(folder).mkdir(parents=True, exist_ok=True)
-        for name, data in files.items():
-            book.replace_file(Path(folder) / name, data)
-        return list(files)
+        for file, (at, name) in last.items():
+            self.notebook.save(at, name, Path(folder) / file)
+        return list(last)
 
 
 def layout_path(path: Path) -> Path:
@@ -393,7 +400,7 @@ def stamp(path: Path) -> Optional[tuple[int, int, int]]:
     return stat.st_size, stat.st_mtime_ns, stat.st_ino
 
 
-def opened(path: book.PathLike, **options: Any) -> Session:
+def opened(path: files.PathLike, **options: Any) -> Session:
     """A session of a book; the program does not have its cells yet."""
     session = Session(path, **options)
     session.set_cells(book.parse(book.read(path)))

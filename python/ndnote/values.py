@@ -4,7 +4,7 @@ from __future__ import annotations
 import ast
 import json
 import struct
-from typing import Any, NamedTuple, Optional
+from typing import Any, NamedTuple, Optional, Sequence
 
 NAMES = {'?': 'bool', 'b': 'int8', 'h': 'int16', 'i': 'int32', 'q': 'int64',
          'B': 'uint8', 'H': 'uint16', 'I': 'uint32', 'Q': 'uint64'}
@@ -118,8 +118,55 @@ class Type(NamedTuple):
         return Type(tuple(fields), place, True)
 
 
+def lengths(shape: Sequence[int]) -> str:
+    return ' × '.join(f'{length:,}' for length in shape)
+
+
+class Known(NamedTuple):
+    """What a value is without its elements: `kind` is 'int', 'bool', 'scalar', 'array' or 'row'."""
+    kind: str
+    type: Optional[Type] = None
+    shape: tuple[int, ...] = ()
+    number: Any = None
+    format: str = ''
+
+    @staticmethod
+    def of_answer(line: str) -> 'Known':
+        """What the command `type` answers."""
+        word, rest = line.split(' ', 1)
+        if word == 'int':
+            return Known('int', number=int(rest))
+        if word == 'bool':
+            return Known('bool', number=rest == 'True')
+        if word == 'scalar':
+            kind, number = rest.split(' ')
+            return Known('scalar', Type.of_kind(kind), number=int(number))
+        shape: tuple[int, ...] = ()
+        if word == 'array':
+            rest, told = rest.rsplit(' ', 1)
+            shape = () if told == '()' else tuple(map(int, told.split(',')))
+        text, size = rest.rsplit(' ', 1)
+        return Known(word, Type.of_format(text, int(size)), shape, format=text)
+
+    @property
+    def is_array(self) -> bool:
+        return self.kind == 'array'
+
+    @property
+    def kind_name(self) -> str:
+        return self.kind if self.type is None else self.type.kind
+
+    @property
+    def words(self) -> str:
+        """'int64 · 7 × 24', 'a Python integer', or 'a row'."""
+        if self.is_array:
+            return f'{self.kind_name} · {lengths(self.shape) or "no axes"}'
+        words = {'int': 'a Python integer', 'bool': 'a Python Boolean', 'row': 'a row'}
+        return words.get(self.kind, self.kind_name)
+
+
 class Value(NamedTuple):
-    """A value: `kind` is 'int', 'bool', 'scalar', 'array' or 'row'; a number stands in `number`, elements in `data`."""
+    """A value: what it is as `Known` has it; a number stands in `number`, elements in `data`."""
     kind: str
     type: Optional[Type] = None
     shape: tuple[int, ...] = ()
@@ -129,23 +176,16 @@ class Value(NamedTuple):
 
     @staticmethod
     def of_answer(line: str) -> 'Value':
-        """What the command `value` answers."""
-        word, rest = line.split(' ', 1)
-        if word == 'int':
-            return Value('int', number=int(rest))
-        if word == 'bool':
-            return Value('bool', number=rest == 'True')
-        if word == 'scalar':
-            kind, number = rest.split(' ')
-            return Value('scalar', Type.of_kind(kind), number=int(number))
-        shape: tuple[int, ...] = ()
-        if word == 'array':
-            text, size, lengths, digits = rest.rsplit(' ', 3)
-            shape = () if lengths == '()' else tuple(map(int, lengths.split(',')))
-        else:
-            text, size, digits = rest.rsplit(' ', 2)
+        """What the command `value` answers: elements stand behind what `type` answers."""
+        has_elements = line.startswith(('array ', 'row '))
+        front, digits = line.rsplit(' ', 1) if has_elements else (line, '-')
+        known = Known.of_answer(front)
         data = b'' if digits == '-' else bytes.fromhex(digits)
-        return Value(word, Type.of_format(text, int(size)), shape, data, format=text)
+        return Value(known.kind, known.type, known.shape, data, known.number, known.format)
+
+    @property
+    def known(self) -> Known:
+        return Known(self.kind, self.type, self.shape, self.number, self.format)
 
     @staticmethod
     def of_npy(file: bytes) -> 'Value':
@@ -157,7 +197,7 @@ class Value(NamedTuple):
 
     @property
     def kind_name(self) -> str:
-        return self.kind if self.type is None else self.type.kind
+        return self.known.kind_name
 
     def elements(self, field: Optional[Field] = None) -> Any:
         """All numbers in C order: of an array of numbers, or of one field."""

@@ -5,7 +5,7 @@ import tempfile
 import unittest
 from pathlib import Path
 
-from ndnote import book
+from ndnote import book, files
 
 
 def edited(old, edits):
@@ -93,7 +93,7 @@ class Files(unittest.TestCase):
         path.write_bytes(b'old')
         path.chmod(0o640)
         (self.folder / 'link').symlink_to(path)
-        book.replace_file(self.folder / 'link', b'new')
+        files.replace_file(self.folder / 'link', b'new')
         self.assertEqual((path.read_bytes(), path.stat().st_mode & 0o777), (b'new', 0o640))
         self.assertTrue((self.folder / 'link').is_symlink())
         self.assertEqual(sorted(os.listdir(self.folder)), ['a', 'link'])
@@ -101,10 +101,10 @@ class Files(unittest.TestCase):
     def test_inputs_are_regular_and_bounded(self):
         os.mkfifo(self.folder / 'pipe')
         with open(self.folder / 'large', 'wb') as file:
-            file.truncate(book.LARGEST + 1)
+            file.truncate(files.LARGEST + 1)
         for name in ('pipe', 'large', '.'):
             with self.assertRaises(OSError):
-                book.read_input(self.folder / name)
+                files.read_input(self.folder / name)
 
 
 if __name__ == '__main__':

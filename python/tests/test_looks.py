@@ -1,10 +1,11 @@
 """What is found out about values beside their texts: types, pictures, operands of refusals, and ends of long texts."""
 import unittest
+from unittest import mock
 
 from ndnote import Notebook, pictures
 from ndnote.excerpt import excerpts
 from ndnote.explain import alike, operands
-from ndnote.probe import asker, known
+from ndnote.probe import behind_cell, known
 
 
 class Counting:
@@ -51,10 +52,13 @@ class Looks(unittest.TestCase):
     def test_types_and_shapes_without_elements(self):
         self.book.insert(0, "n = 3\nx = np.arange(6).reshape(2, 3)\nr = np.zeros(2, dtype=[('a', np.int8)])\nw = r[0]\n"
                             's = np.uint8(7)\nb = x > 2\nz = np.array(5)')
-        with asker(self.book, 0) as probe:
-            found = {name: what.words for name, what in known(probe, ['n', 'x', 'q', 'r', 'w', 's', 'b', 'z']).items()}
-        self.assertEqual(found, {'n': 'a Python integer', 'x': 'int64 · 2 × 3', 'r': 'structure · 2', 'w': 'a row',
-                                 's': 'uint8', 'b': 'bool · 2 × 3', 'z': 'int64 · no axes'})
+        more = ['g = 18446744073709551615', 't = True', 'u = np.bool_(1)', 'v = np.arange(3)', 'del x']
+        words = {'g': 'a Python integer', 't': 'a Python Boolean', 'u': 'bool', 'v': 'int64 · 3'}
+        probe = behind_cell(self.book, 0)
+        for probe, others in ((probe, {'x': 'int64 · 2 × 3'}), (probe.behind(more), words)):
+            found = {name: what.words for name, what in known(probe, list('nxqrwsbzgtuv')).items()}
+            self.assertEqual(found, {'n': 'a Python integer', 'r': 'structure · 2', 'w': 'a row', 's': 'uint8',
+                                     'b': 'bool · 2 × 3', 'z': 'int64 · no axes', **others})
 
     def test_kinds_of_pictures(self):
         cells = {'n = 3': 'code', 'm = np.arange(12).reshape(3, 4) > 5': 'mask',
@@ -124,6 +128,20 @@ class Looks(unittest.TestCase):
         first, last = lines.split('\n\n')
         self.assertEqual((first.split('\n')[0], last.split('\n')[0], lines.count('\n')), ('[0]', '[-1]', 16))
         self.assertIn('794 rows left out by ndnote', last)
+
+    def test_an_argument_of_several_lines(self):
+        (text, words, lines), = self.cut('x = np.arange(200000)\nprint(x +\n      1)')
+        self.assertEqual((text, words, lines[:6]), ('x + 1', 'int64 · 200,000', '[1 2 3'))
+
+
+class LooksWithoutWords(Looks):
+    """The same over a program for scripts alone."""
+
+    def setUp(self):
+        patched = mock.patch.object(Notebook, 'words', frozenset())
+        patched.start()
+        self.addCleanup(patched.stop)
+        super().setUp()
 
 
 if __name__ == '__main__':

@@ -92,12 +92,34 @@ class Sessions(unittest.TestCase):
         self.assertEqual(self.texts(session), ['[0 1 2]\n'])
         (self.folder / 'a.npy').write_bytes(npy('np.arange(4)'))
         self.assertEqual((session.sync(), self.texts(session)), (1, ['[0 1 2 3]\n']))
-        os.utime(self.folder / 'a.npy')
         self.sent.clear()
         self.assertEqual((session.sync(), self.sent), (0, []))
+        os.utime(self.folder / 'a.npy')
+        reads_itself = 'file' in session.notebook.words
+        sent = ['input a.npy file '] if reads_itself else []
+        self.assertEqual((session.sync(), self.sent[:1]), (0, sent))
         (self.folder / 'a.npy').unlink()
         session.sync()
         self.assertEqual(session.codes()[0].result.refusal.fault, 'Stmt.NoInput a.npy')
+
+    def test_a_file_that_can_be_no_input_is_a_problem(self):
+        session = self.open("# %%\na = np.load('a.npy')\nprint(a)\n")
+        for make, told in ((os.mkfifo, 'no regular file'), (os.mkdir, 'no regular file'),
+                           (lambda path: path.touch() or os.truncate(path, (1 << 26) + 1), 'more than 64 MiB')):
+            path = self.folder / 'a.npy'
+            make(path)
+            session.sync()
+            self.assertIn(told, session.problems['a.npy'])
+            path.rmdir() if path.is_dir() else path.unlink()
+        path.write_bytes(npy('np.arange(3)'))
+        self.assertEqual((session.sync(), self.texts(session), session.problems), (1, ['[0 1 2]\n'], {}))
+
+    def test_saved_files_are_written(self):
+        session = self.open("# %%\nnp.save('f', 1)\nnp.save('g.npy', 2)\n# %%\nnp.save('f', 3)\n")
+        for _ in range(2):
+            self.assertEqual(session.saves(self.folder / 'a b'), ['f.npy', 'g.npy'])
+            self.assertEqual(sorted(os.listdir(self.folder / 'a b')), ['f.npy', 'g.npy'])
+            self.assertEqual((self.folder / 'a b/f.npy').read_bytes(), npy('3'))
 
     def test_buffers_follow_their_layouts(self):
         layout = '{"format": "%s", "itemsize": 1, "shape": [2, 2], "strides": [-4, 1], "offset": 5}'
@@ -211,6 +233,16 @@ class Sessions(unittest.TestCase):
                         other.look(shown)
             self.assertEqual(told(session), told(fresh), turn)
             fresh.close()
+
+
+class SessionsWithoutWords(Sessions):
+    """The same over a program for scripts alone."""
+
+    def setUp(self):
+        patched = mock.patch.object(Notebook, 'words', frozenset())
+        patched.start()
+        self.addCleanup(patched.stop)
+        super().setUp()
 
 
 if __name__ == '__main__':

@@ -4,7 +4,7 @@ from __future__ import annotations
 import re
 from typing import List
 
-OPENING = re.compile(rb'(?:insert|edit) (0|[1-9][0-9]*)\Z')
+OPENING = re.compile(rb'(?:insert|edit|try) (0|[1-9][0-9]*)\Z')
 LENGTH = re.compile(rb'(text|source|names) ([0-9]+)\Z')
 
 

@@ -5,7 +5,10 @@ from dataclasses import dataclass
 from typing import Callable, FrozenSet, Sequence, Tuple
 
 WANT = b'refused OutOfMemory\n'
-NO_EDIT = (b'show ', b'source ', b'names ', b'value ', b'saved ', b'count')
+NO_EDIT = (b'show ', b'source ', b'names ', b'value ', b'saved ', b'count', b'words', b'try ', b'type ', b'save ')
+# What takes memory and is no edit.
+ASKING = (b'names ', b'value ', b'try ', b'type ', b'save ')
+OF_FILES = (b'refused Unread ', b'refused Unwritten ')
 Commands = Tuple[bytes, ...]
 # The answers of a script in which nothing is refused for want of memory.
 Answers = Callable[[Commands], Sequence[bytes]]
@@ -21,9 +24,11 @@ def is_edit(command: bytes) -> bool:
 
 def may_want(command: bytes, wanted: bytes) -> bool:
     """Whether a command that would be answered so may be answered with want of memory in place of it."""
+    if wanted.startswith(OF_FILES):
+        return True
     if is_edit(command):
         return wanted == b'ok\n'
-    return command.startswith((b'names ', b'value ')) and not wanted.startswith(b'refused ')
+    return command.startswith(ASKING) and not wanted.startswith((b'refused ', b'bad command'))
 
 
 @dataclass(frozen=True)

@@ -9,7 +9,7 @@
 #include <string.h>
 #include <unistd.h>
 
-enum { NOTHING, KEEPS, HALVES, PASSES_OVER };
+enum { NOTHING, KEEPS, HALVES, PASSES_OVER, FORGETS };
 
 #ifdef STARTER
 int main(int count, char **words) {
@@ -44,6 +44,13 @@ void *realloc(void *old, size_t size) {
     if (got || MISTAKE != KEEPS) return got;
     has_wanted = 1;
     return __libc_realloc(old, size);
+}
+
+// FORGETS: a file that is saved is never put in its place.
+int rename(const char *from, const char *to) {
+    static int (*next)(const char *, const char *);
+    if (!next) next = dlsym(RTLD_NEXT, "rename");
+    return MISTAKE == FORGETS ? 0 : next(from, to);
 }
 
 // How much of an answer is written before its newline. HALVES: half of an array's elements.

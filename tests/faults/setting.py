@@ -1,10 +1,11 @@
-"""setting: the program that is tested, the library that lets it fail, and how much is to be tried."""
+"""setting: the programs that are tested, the library that lets them fail, and how much is to be tried."""
 from __future__ import annotations
 
 import atexit
 import functools
 import os
 import random
+import subprocess
 import sys
 import tempfile
 import unittest
@@ -15,16 +16,28 @@ TOP = Path(__file__).resolve().parents[2]
 sys.path[:0] = [str(TOP / 'python'), str(TOP / 'tools')]
 sys.dont_write_bytecode = True
 
-import refusals                                     # noqa: E402
-from ndnote.engine import program as built_program  # noqa: E402
+import refusals     # noqa: E402
 
 # `tests/run --all` and `tests/run --seed N` set these.
 IS_ALL = os.environ.get('NDNOTE_ALL') == 'true'
 SEED = int(os.environ.get('NDNOTE_SEED') or random.randrange(1 << 32))
 
 
-def program() -> str:
-    return os.path.abspath(built_program())
+def program(name: str = 'ndnote') -> str:
+    """The path of a built program, or that of the one that $NDNOTE_PROGRAM names."""
+    path = os.path.abspath(os.environ.get('NDNOTE_PROGRAM') or TOP / 'crates' / name / 'out' / name)
+    if not os.path.isfile(path):
+        raise FileNotFoundError(f'{path}: the program is not built; NDNOTE_PROGRAM may name another')
+    return path
+
+
+def desk() -> str:
+    """The path of the program for front ends. A program without words skips the test, and says so."""
+    path = program('ndnote_desk')
+    told = subprocess.run([path], input=b'words\n', stdout=subprocess.PIPE, check=False, timeout=60).stdout
+    if not told.startswith(b'words '):
+        raise unittest.SkipTest('the program has no words: NDNOTE_PROGRAM names one for scripts alone')
+    return path
 
 
 @functools.lru_cache(maxsize=None)

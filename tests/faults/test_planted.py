@@ -10,11 +10,11 @@ import unittest
 from pathlib import Path
 from typing import Tuple
 
-from setting import program, shim
+from setting import desk, program, shim
 
 SOURCE = Path(__file__).with_name('planted.c')
 FOLDER = SOURCE.parent
-NOTHING, KEEPS, HALVES, PASSES_OVER = range(4)
+NOTHING, KEEPS, HALVES, PASSES_OVER, FORGETS = range(5)
 LONG_CELL = 'test_drawn_allocations.OfLongScripts.test_drawn_allocations_of_a_long_cell'
 # A program that does not hold the length of a header against that of the file.
 TRUSTS = '''#!{python}
@@ -35,9 +35,9 @@ class Planted(unittest.TestCase):
         self.addCleanup(room.cleanup)
         self.room = Path(room.name)
 
-    def compiled(self, mistake: int) -> str:
+    def compiled(self, mistake: int, path: str = '') -> str:
         library, starter = self.room / f'planted{mistake}.so', self.room / f'starter{mistake}'
-        told = [f'-DMISTAKE={mistake}', f'-DPROGRAM="{program()}"', f'-DLIBRARY="{library}"']
+        told = [f'-DMISTAKE={mistake}', f'-DPROGRAM="{path or program()}"', f'-DLIBRARY="{library}"']
         for path, options in ((library, ['-shared', '-fPIC']), (starter, ['-static', '-DSTARTER'])):
             words = ['cc', '-O2', '-Wall', '-Wextra', '-Werror', *options, *told]
             subprocess.run([*words, '-o', str(path), str(SOURCE), '-ldl'], check=True)
@@ -84,6 +84,11 @@ class Planted(unittest.TestCase):
                    ('test_reads_and_writes.Ending.test_a_full_device', '(0, '),
                    ('test_files_and_long_answers.OfLongAnswers', '(0, '),
                    ('test_files_and_long_answers.Closed', '(0, '))
+
+    def test_words_for_front_ends(self) -> None:
+        self.check(self.compiled(KEEPS, desk()),
+                   ('test_desk.OfAllocations.test_allocations_of_each_word', 'all questions'))
+        self.check(self.compiled(FORGETS, desk()), ('test_desk.OfFiles.test_every_write', 'No such file'))
 
     def test_a_header_length_that_is_trusted(self) -> None:
         planted = self.room / 'trusts'

@@ -11,7 +11,6 @@ import sources
 
 TOP = Path(__file__).resolve().parents[2]
 NOT_PROVED = 3
-KEPT = {'proved': f'{shipped.UNPACKED}/proved.kept', 'preview': f'{shipped.UNPACKED}/preview.kept'}
 
 
 def say(text: str) -> None:
@@ -19,10 +18,10 @@ def say(text: str) -> None:
 
 
 def how_to_go_on(top: Path) -> str:
-    """What a person can do where there is no proved program of the present sources."""
+    """What a person can do where there are no proved programs of the present sources."""
     count, lanes, seconds = proved.estimate(top)
     return ('  ./ndnote --preview ..  builds it without any proof, in minutes, and keeps it until a source changes\n'
-            f'  ./ndnote --build       proves and builds it: {count} crates, {lanes} side by side, '
+            f'  ./ndnote --build       proves and builds: {count} crates, {lanes} side by side, '
             f'some {proved.span(seconds)}')
 
 
@@ -34,46 +33,48 @@ def built_sum(top: Path) -> Optional[shipped.Sum]:
         return None
 
 
-def proved_program(top: Path) -> Path:
-    """The proved program of the present sources: what was built here, else what lies in dist/."""
-    now, built = sources.sum_of(top), built_sum(top)
-    if built and built.sources == now and (top / proved.BUILT).is_file():
-        if sources.sum_of_file(top / proved.BUILT) == built.program:
-            keep(top, 'proved', top / proved.BUILT, now)
-            return top / proved.BUILT
+def proved_program(top: Path, name: str) -> Path:
+    """The proved program of this name and the present sources: what was built here, else what lies in dist/."""
+    now, built, path = sources.sum_of(top), built_sum(top), top / proved.built(name)
+    if built and built.sources == now and path.is_file():
+        if sources.sum_of_file(path) == built.programs[name]:
+            keep(top, 'proved', name, path, now)
+            return path
     there = shipped.sum_in(top / shipped.SUM)
     if there is None:
         raise preview.NotBuilt(f'no proved program is here: there is no {shipped.SUM}\n{how_to_go_on(top)}')
     if there.sources != now:
         raise preview.NotBuilt(f'what lies here is not yet proved: its sources are not those of {shipped.PACKED}\n'
                                f'{how_to_go_on(top)}')
-    found = shipped.unpack(top, there)
+    found = shipped.unpack(top, there, name)
     if found.is_temporary:
         say(f'{shipped.UNPACKED} cannot be written: the proved program is unpacked for this run alone')
     elif found.is_new:
         say(f'unpacked the proved program of these sources ({there.toolchain})')
     if not found.is_temporary:
-        keep(top, 'proved', found.path, now)
+        keep(top, 'proved', name, found.path, now)
     return found.path
 
 
-def preview_program(top: Path) -> Path:
+def preview_program(top: Path, name: str) -> Path:
     """The program that was built of the present code without proof, or that is built now."""
-    now, path = sources.sum_of(top, sources.PREVIEW_OF), top / preview.PREVIEW
-    told = top / f'{preview.PREVIEW}.sum'
+    of, path = sources.preview_of(name), top / preview.path_of(name)
+    now, told = sources.sum_of(top, of), top / f'{preview.path_of(name)}.sum'
     if not path.is_file() or not told.is_file() or told.read_text() != f'{now} {sources.sum_of_file(path)}\n':
         say('building a preview, without any proof: one to two minutes of a free processor')
-        path = preview.build(top)
-        if sources.sum_of(top, sources.PREVIEW_OF) == now:
+        path = preview.build(top, name)
+        if sources.sum_of(top, of) == now:
             sources.write(told, f'{now} {sources.sum_of_file(path)}\n'.encode())
-    keep(top, 'preview', path, now)
+    keep(top, 'preview', name, path, now)
     return path
 
 
-def keep(top: Path, kind: str, path: Path, now: str) -> None:
-    parts = sources.PREVIEW_OF if kind == 'preview' else sources.PROVED_OF
+def keep(top: Path, kind: str, name: str, path: Path, now: str) -> None:
+    """Keeps for `./ndnote` that a program of this kind and name is of the sources of this sum."""
+    of = sources.preview_of(name) if kind == 'preview' else sources.PROVED
     extra = [shipped.SUM, proved.BUILT_SUM] if kind == 'proved' else []
-    sources.Kept(top, top / KEPT[kind]).keep(path.relative_to(top), parts, now, extra)
+    kept = sources.Kept(top, top / shipped.UNPACKED / f'{kind}-{name}.kept')
+    kept.keep(path.relative_to(top), of, now, extra)
 
 
 def version(top: Path) -> int:
@@ -92,7 +93,8 @@ def main(words: List[str]) -> int:
         if verb == '--build':
             proved.build(TOP)
         elif verb == 'program':
-            print(proved_program(TOP) if rest == ['proved'] else preview_program(TOP))
+            kind, name = rest
+            print(proved_program(TOP, name) if kind == 'proved' else preview_program(TOP, name))
         elif verb == 'check':
             return checked.main(Path(rest[0]), rest[1:])
         return 0

@@ -1,4 +1,4 @@
-"""`./ndnote --build`: proves the crates below the program, side by side, and builds it."""
+"""`./ndnote --build`: proves the crates below the programs, side by side, and builds these."""
 import fcntl
 import hashlib
 import os
@@ -14,11 +14,15 @@ import shipped
 import sources
 from preview import NotBuilt
 
-BUILT = 'crates/ndnote/out/ndnote'
-BUILT_SUM = 'crates/ndnote/out/ndnote.sum'
+BUILT_SUM = 'crates/ndnote/out/ndnote.sum'      # of all programs
 # What a check takes, in seconds of one processor: for a crate, a line of code, a line of definitions and proofs.
 CRATE_SECONDS, CODE_SECONDS, PROOF_SECONDS = 10.0, 0.12, 0.008
 CHECK_BYTES = 2_500_000_000
+
+
+def built(name: str) -> str:
+    """Where a program lies that was proved and built, relative to the top."""
+    return f'crates/{name}/out/{name}'
 
 
 def lines_in(folder: Path, ending: str) -> int:
@@ -84,7 +88,7 @@ def copy_sources(top: Path, room: Path) -> None:
     for folder in sorted((room / 'crates').glob('*')):
         if folder.name not in crates:
             shutil.rmtree(folder)
-    for part in sources.PROVED_OF:
+    for part in sources.PROVED.parts:
         for file in (room / 'crates').glob(f'*/{part}/**/*'):
             if file.is_file() and str(file.relative_to(room)) not in wanted:
                 file.unlink()
@@ -125,8 +129,8 @@ class Progress:
 
 
 def prove_all(room: Path, progress: Progress) -> None:
-    """Proves the crates in the room, side by side, and builds the program, as the gate does. What `rt ci` has proved on
-    this machine, of the same files, is not proved again."""
+    """Proves the crates in the room, side by side, and builds the programs, as the gate does. What `rt ci` has proved
+    on this machine, of the same files, is not proved again."""
     ran = subprocess.Popen(['rt', 'ci'], cwd=room, stdin=subprocess.DEVNULL, stdout=subprocess.PIPE,
                            stderr=subprocess.STDOUT, text=True, errors='replace')
     assert ran.stdout
@@ -163,8 +167,16 @@ def lock_of(room: Path) -> IO[bytes]:
     return lock
 
 
+def put(top: Path, programs: Dict[str, bytes], told: shipped.Sum) -> None:
+    """Writes the programs, and their sum behind them."""
+    files = [(built(name), program, 0o755) for name, program in programs.items()]
+    for path, data, mode in [*files, (BUILT_SUM, told.text().encode(), 0o644)]:
+        if not sources.write(top / path, data, mode):
+            raise NotBuilt(f'{path} cannot be written')
+
+
 def build(top: Path) -> None:
-    """Proves and builds the program of the sources as they are at the start."""
+    """Proves and builds the programs of the sources as they are at the start."""
     if not shutil.which('rt'):
         raise NotBuilt('a proof needs the Rattle toolchain: there is no `rt` on the PATH')
     room = room_of(top)
@@ -176,12 +188,10 @@ def build(top: Path) -> None:
         proved, line = sources.sum_of(top), toolchain()
         progress = Progress(top, lanes)
         prove_all(room, progress)
-        program = (room / BUILT).read_bytes()
+        programs = {name: (room / built(name)).read_bytes() for name in sources.PROGRAMS}
         if sources.sum_of(top) != proved:
             raise NotBuilt('a source was changed meanwhile: once more')
-        told = shipped.Sum(proved, line, hashlib.sha256(program).hexdigest())
-        if not sources.write(top / BUILT, program, 0o755) or not sources.write(top / BUILT_SUM, told.text().encode()):
-            raise NotBuilt(f'{BUILT} cannot be written')
+        put(top, programs, shipped.Sum.of(proved, line, programs))
         elapsed = time.monotonic() - progress.began
         print(f'ndnote: {count} crates are proved by {line}, {progress.proved} of them now, in {span(elapsed)}',
               file=sys.stderr)

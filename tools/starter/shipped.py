@@ -1,10 +1,12 @@
-"""The proved program that lies packed in dist/: written, checked, unpacked."""
+"""The proved programs that lie packed in dist/: written, checked, unpacked."""
 import hashlib
+import io
 import shutil
 import subprocess
+import tarfile
 import tempfile
 from pathlib import Path
-from typing import NamedTuple, Optional
+from typing import Dict, NamedTuple, Optional
 
 import sources
 
@@ -13,7 +15,7 @@ try:
 except ImportError:         # a Python that was built without it
     lzma = None             # type: ignore[assignment]
 
-PACKED = 'dist/ndnote.xz'
+PACKED = 'dist/ndnote.tar.xz'
 SUM = 'dist/ndnote.sum'
 UNPACKED = 'dist/.unpacked'
 
@@ -23,13 +25,22 @@ class Damaged(Exception):
 
 
 class Sum(NamedTuple):
-    """What dist/ndnote.sum says: of which sources, by which toolchain, and of which bytes the program is."""
+    """What dist/ndnote.sum says: of which sources and by which toolchain the programs are, and the sum of each."""
     sources: str
     toolchain: str
-    program: str
+    programs: Dict[str, str]
+
+    @staticmethod
+    def of(sources_sum: str, toolchain: str, programs: Dict[str, bytes]) -> 'Sum':
+        return Sum(sources_sum, toolchain, sums_of(programs))
 
     def text(self) -> str:
-        return ''.join(f'{name} {value}\n' for name, value in self._asdict().items())
+        lines = {'sources': self.sources, 'toolchain': self.toolchain, **self.programs}
+        return ''.join(f'{name} {value}\n' for name, value in lines.items())
+
+
+def sums_of(programs: Dict[str, bytes]) -> Dict[str, str]:
+    return {name: hashlib.sha256(program).hexdigest() for name, program in programs.items()}
 
 
 def sum_in(path: Path) -> Optional[Sum]:
@@ -41,25 +52,28 @@ def sum_in(path: Path) -> Optional[Sum]:
     except (OSError, UnicodeDecodeError) as error:
         raise Damaged(f'{path.parent.name}/{path.name} cannot be read: {error}') from error
     told = dict(line.partition(' ')[::2] for line in lines)
-    if sorted(told) != sorted(Sum._fields):
-        raise Damaged(f'{path.parent.name}/{path.name} has other lines than {", ".join(Sum._fields)}')
-    return Sum(**told)
+    wanted = ('sources', 'toolchain', *sources.PROGRAMS)
+    if sorted(told) != sorted(wanted):
+        raise Damaged(f'{path.parent.name}/{path.name} has other lines than {", ".join(wanted)}')
+    return Sum(told['sources'], told['toolchain'], {name: told[name] for name in sources.PROGRAMS})
 
 
-def unpacked_bytes(top: Path, wanted: Sum) -> bytes:
-    """The program, once its bytes are those of the sum."""
+def unpacked_bytes(top: Path, wanted: Sum) -> Dict[str, bytes]:
+    """The programs by their names, once their bytes are those of the sum."""
     try:
         packed = (top / PACKED).read_bytes()
         if lzma:
-            program = lzma.decompress(packed)
+            whole = lzma.decompress(packed)
         else:
             ran = subprocess.run(['xz', '--decompress', '--stdout'], input=packed, stdout=subprocess.PIPE, check=True)
-            program = ran.stdout
-    except Exception as error:      # of lzma, of the file, of xz
+            whole = ran.stdout
+        with tarfile.open(fileobj=io.BytesIO(whole), mode='r:') as tar:
+            programs = {entry.name: tar.extractfile(entry).read() for entry in tar}
+    except Exception as error:      # of lzma, of the file, of xz, of tar
         raise Damaged(f'{PACKED} cannot be unpacked: {error}') from error
-    if hashlib.sha256(program).hexdigest() != wanted.program:
-        raise Damaged(f'{PACKED} does not hold the program that {SUM} names')
-    return program
+    if sums_of(programs) != wanted.programs:
+        raise Damaged(f'{PACKED} does not hold the programs that {SUM} names')
+    return programs
 
 
 class Unpacked(NamedTuple):
@@ -69,31 +83,42 @@ class Unpacked(NamedTuple):
     is_temporary: bool
 
 
-def unpack(top: Path, wanted: Sum) -> Unpacked:
-    """The program of this sum as a file that can be run. Several starts may unpack at once: each writes a file of its
-    own and puts it in its place whole."""
-    path = top / UNPACKED / f'ndnote-{wanted.program[:16]}'
-    if path.is_file() and sources.sum_of_file(path) == wanted.program:
+def unpack(top: Path, wanted: Sum, name: str) -> Unpacked:
+    """The program of this name and this sum as a file that can be run. Several starts may unpack at once: each writes
+    a file of its own and puts it in its place whole."""
+    path = top / UNPACKED / f'{name}-{wanted.programs[name][:16]}'
+    if path.is_file() and sources.sum_of_file(path) == wanted.programs[name]:
         return Unpacked(path, False, False)
-    program = unpacked_bytes(top, wanted)
+    program = unpacked_bytes(top, wanted)[name]
     if sources.write(path, program, 0o755):
-        for other in path.parent.glob('ndnote-*'):
+        for other in path.parent.glob(f'{name}-*'):
             if other != path:
                 other.unlink()
         return Unpacked(path, True, False)
     room = Path(tempfile.mkdtemp(prefix='ndnote-for-one-run-'))
-    path = room / 'ndnote'
+    path = room / name
     if not sources.write(path, program, 0o755):
         shutil.rmtree(room, ignore_errors=True)
         raise Damaged('the program can be unpacked neither into dist/ nor into a temporary folder')
     return Unpacked(path, True, True)
 
 
-def pack(top: Path, program: bytes, told: Sum) -> None:
-    """Writes dist/: the packed program first, so that a sum never stands before its program."""
+def archive(programs: Dict[str, bytes]) -> bytes:
+    """A tar file of programs, which is the same for the same ones."""
+    whole = io.BytesIO()
+    with tarfile.open(fileobj=whole, mode='w', format=tarfile.USTAR_FORMAT) as tar:
+        for name, program in programs.items():
+            entry = tarfile.TarInfo(name)
+            entry.size, entry.mode = len(program), 0o755
+            tar.addfile(entry, io.BytesIO(program))
+    return whole.getvalue()
+
+
+def pack(top: Path, programs: Dict[str, bytes], told: Sum) -> None:
+    """Writes dist/: the packed programs first, so that a sum never stands before its programs."""
     if not lzma:
         raise Damaged('this Python has no lzma')
-    packed = lzma.compress(program, preset=9 | lzma.PRESET_EXTREME)
+    packed = lzma.compress(archive(programs), preset=9 | lzma.PRESET_EXTREME)
     for path, data in ((PACKED, packed), (SUM, told.text().encode())):
         if not sources.write(top / path, data):
             raise Damaged(f'{path} cannot be written')

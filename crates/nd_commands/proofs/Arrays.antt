@@ -9,19 +9,19 @@ use Rattle.nd_script.specs.Lines.Answers.{AnswerState, Pushes}
 use Rattle.nd_script.proofs.lines.Answers.{pushes_same, pushes_trans}
 
 -- a word, a dtype and its size, and what stands behind
-grouped : (word format size : List ℕ) → word ++ (format ++ codes " " ++ size ++ codes " ") ≡ word ++ format ++ codes " " ++ size ++ codes " "
+grouped : (word format size : List ℕ) → word ++ (format ++ codes " " ++ size) ++ codes " " ≡ word ++ format ++ codes " " ++ size ++ codes " "
 grouped word format size = simp append_assoc
 
-module _ {a b c : AnswerState} (t : ElementType) (format : List ℕ) (size : ℕ) (is : format ≡ format_text t) (sized : size ≡ item_size t) where
-  headed : (word : List ℕ) → Pushes a word b → Pushes b (format ++ codes " " ++ decimal size ++ codes " ") c
-      → Pushes a (word ++ format_text t ++ codes " " ++ decimal (item_size t) ++ codes " ") c
-  headed word p q =
-      pushes_same (grouped word format (decimal size) ∙ ap₂ (λ f n. word ++ f ++ codes " " ++ decimal n ++ codes " ") is sized) (pushes_trans p q)
+module _ {a b c d : AnswerState} (t : ElementType) (format : List ℕ) (size : ℕ) (is : format ≡ format_text t) (sized : size ≡ item_size t) where
+  headed : (word : List ℕ) → Pushes a word b → Pushes b (format ++ codes " " ++ decimal size) c → Pushes c (codes " ") d
+      → Pushes a (word ++ format_text t ++ codes " " ++ decimal (item_size t) ++ codes " ") d
+  headed word p q s =
+      pushes_same (grouped word format (decimal size) ∙ ap₂ (λ f n. word ++ f ++ codes " " ++ decimal n ++ codes " ") is sized) (pushes_trans (pushes_trans p q) s)
 
-  pub row_pushed : {d : AnswerState} (bytes : List ℕ) → Pushes a (codes "row ") b → Pushes b (format ++ codes " " ++ decimal size ++ codes " ") c → Pushes c (hex_text bytes) d
-      → Pushes a (shown_text (ShownRow t bytes)) d
-  row_pushed bytes p q r = pushes_trans (headed (codes "row ") p q) r
+  pub row_pushed : {e : AnswerState} (bytes : List ℕ) → Pushes a (codes "row ") b → Pushes b (format ++ codes " " ++ decimal size) c → Pushes c (codes " ") d
+      → Pushes d (hex_text bytes) e → Pushes a (shown_text (ShownRow t bytes)) e
+  row_pushed bytes p q s r = pushes_trans (headed (codes "row ") p q s) r
 
-  pub array_pushed : {d e f : AnswerState} (shape bytes : List ℕ) → Pushes a (codes "array ") b → Pushes b (format ++ codes " " ++ decimal size ++ codes " ") c
-      → Pushes c (shape_text shape) d → Pushes d (codes " ") e → Pushes e (hex_text bytes) f → Pushes a (shown_text (ShownArray t shape bytes)) f
-  array_pushed shape bytes p q r s u = pushes_trans (pushes_trans (pushes_trans (headed (codes "array ") p q) r) s) u
+  pub array_pushed : {e f g : AnswerState} (shape bytes : List ℕ) → Pushes a (codes "array ") b → Pushes b (format ++ codes " " ++ decimal size) c → Pushes c (codes " ") d
+      → Pushes d (shape_text shape) e → Pushes e (codes " ") f → Pushes f (hex_text bytes) g → Pushes a (shown_text (ShownArray t shape bytes)) g
+  array_pushed shape bytes p q s r u v = pushes_trans (pushes_trans (pushes_trans (headed (codes "array ") p q s) r) u) v

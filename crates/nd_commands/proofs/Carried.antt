@@ -1,18 +1,20 @@
 -- Commands that are carried out.
 use Rattle.std.proofs.Common.{◌≡◌, ℕ, true, false, List, [], ◌∷◌, refl, sym, ap, inl, inr}
-use Rattle.std.specs.Prelude.{IsUtf8, Ok, codes}
+use Rattle.std.specs.Prelude.{IsUtf8, Option, Some, None, is_some, Ok, codes}
 use Rattle.std.specs.Str.{is_utf8}
 use Rattle.std.proofs.lemmas.Bool.{false_from_ne_true}
 use Rattle.std.proofs.lemmas.Str.{IsUtf8-from_is_utf8, is_utf8-from_IsUtf8}
 use Rattle.nd_model.specs.Book.Script.{Command, Edits, Asks, ShowsValue, Bad, Opening, Line, Whole, Opens, Stage, Between, Within, step, read_line, is_dot, closed, source_of, with_source, query_answer, with_text, value_answer, refused_line, succeeds}
 use Rattle.nd_model.specs.Book.Book.{Book, value_at}
 use Rattle.nd_model.specs.Book.Renaming.{Shown}
-use Rattle.nd_script.specs.Lines.Counts.{Tally, CountsCommand}
-use Rattle.nd_script.specs.Lines.Answers.{AnswerState}
-use Rattle.nd_script.specs.Lines.Run.{Answered}
+use Rattle.nd_script.specs.Lines.Counts.{Tally, CountsCommand, plain}
+use Rattle.nd_script.specs.Lines.Answers.{AnswerState, Pushes}
+use Rattle.nd_script.specs.Lines.Run.{Answered, Ended}
 use Rattle.nd_script.proofs.lines.Answers.{pushes_none}
 use Rattle.nd_script.proofs.lines.Progress.{one_answer}
 use Rattle.nd_commands.specs.Carry.{Carried, CarriedLine, CountsLine}
+use Rattle.nd_commands.specs.Source.{stage_of}
+use Rattle.nd_commands.specs.declared.source.OpenText.{OpenText}
 use Rattle.nd_commands.specs.Value.{PushesValue}
 
 pub closed_text : (o : Opening) (ls : List (List ℕ)) (text : List ℕ) → text ≡ source_of ls → IsUtf8 (source_of ls) → closed o ls ≡ Edits (with_source o text)
@@ -27,26 +29,33 @@ closed_bytes o ls other =
 
 -- a line that completes one command
 answered_one : (s t : Stage) (c : Command) (line : List ℕ) (old new : Tally) (was now : AnswerState) → (step s line).0 ≡ c ∷ [] → t ≡ (step s line).1
-    → Carried c old.book was now new.book → CountsCommand c old.book old.count new.count → Answered s line t old was now new
+    → Carried c old.book was now new.book → CountsCommand c old.book old.count new.count → Answered plain s line t old was now new
 answered_one s t c line old new was now one stage given counts =
-    (given.0, (stage, rw one (one_answer c old new given.0 (given.1, counts))), given.2)
+    (given.0, (stage, rw one (one_answer plain c old new given.0 (given.1, counts))), given.2)
 
 pub closed_done : (o : Opening) (before : List (List ℕ)) (line : List ℕ) (old new : Tally) (was now : AnswerState) → is_dot line ≡ true → Carried (closed o before) old.book was now new.book
-    → CountsCommand (closed o before) old.book old.count new.count → Answered (Within o before) line Between old was now new
+    → CountsCommand (closed o before) old.book old.count new.count → Answered plain (Within o before) line Between old was now new
 closed_done o before line old new was now dot given counts =
     answered_one (Within o before) Between (closed o before) line old new was now (rw dot refl) (rw dot refl) given counts
 
 -- ---- a line outside a source
 
 pub done_whole : (l : Line) (line : List ℕ) (old new : Tally) (was now : AnswerState) → read_line line ≡ l → (opens : (o : Opening) → l ≡ Opens o → ⊥) → CarriedLine l old.book was now new.book
-    → CountsLine l old.book old.count new.count → Answered Between line Between old was now new
+    → CountsLine l old.book old.count new.count → Answered plain Between line Between old was now new
 done_whole (Whole c) line old new was now is opens given counts =
     answered_one Between Between c line old new was now (rw is refl) (rw is refl) given counts
 done_whole (Opens o) line old new was now is opens given counts = absurd (opens o refl)
 
 -- a line that completes no command is answered by nothing
-pub answered_none : (s t : Stage) (line : List ℕ) (old : Tally) (was : AnswerState) → (step s line).0 ≡ [] → t ≡ (step s line).1 → Answered s line t old was was old
+pub answered_none : (s t : Stage) (line : List ℕ) (old : Tally) (was : AnswerState) → (step s line).0 ≡ [] → t ≡ (step s line).1 → Answered plain s line t old was was old
 answered_none s t line old was none stage = ([], (stage, rw none (refl, refl)), pushes_none was)
+
+-- ---- the end of a script
+
+-- a source without its end is a bad command
+pub ended_by : (source : Option OpenText) (held : Tally) (was now : AnswerState) → is_some source ≡ true → Pushes was (codes "bad command\n") now → Ended plain (stage_of source) held was now
+ended_by None held was now some pushed = cc
+ended_by (Some s) held was now some pushed = (codes "bad command\n", one_answer plain Bad held held (codes "bad command\n") (inl (refl, refl), refl), pushed)
 
 -- ---- values
 

@@ -4,4 +4,5 @@ pub mod Carried
 pub mod Edited
 pub mod Lines
 pub mod Openings
+pub mod Plain
 pub mod Shown

@@ -98,7 +98,8 @@ pub fn push_result_answer<O: AnswerWrite>(out: &mut O, shown: &CellResult)
     push_text(out, "end\n");
 }
 
-fn push_refusal<O: AnswerWrite>(out: &mut O, refusal: &Option<Refusal>)
+/// Appends how a cell ended: `ok`, or its refusal with the line, such as `refused 2 Stmt.NoName x`.
+pub fn push_refusal<O: AnswerWrite>(out: &mut O, refusal: &Option<Refusal>)
     ensures { Pushes (O.state out.old) (script.ok_or_refused (option_map refusal_of refusal.now))
         (O.state out.new) }
 {

@@ -1,5 +1,7 @@
 //! `NotebookAnswerer`: answers the lines of a script on a notebook.
 
+ghost use Rattle.nd_script.specs.Lines.Counts.{plain};
+ghost use Rattle.nd_script.proofs.lines.Plain.{plain_one_by_one};
 ghost use Rattle.nd_commands.specs.Run.{tally_of};
 ghost use Rattle.nd_commands.specs.Source.{stage_of};
 
@@ -23,13 +25,17 @@ pub struct NotebookAnswerer<'a> {
 }
 
 impl Answerer for NotebookAnswerer<'_> {
+    ghost language = { plain };
+
     ghost stage = { λ s. stage_of s.source.now };
 
-    ghost tally = { λ s. tally_of s.notebook.now s.meter.now };
+    ghost state = { λ s. tally_of s.notebook.now s.meter.now };
 
     ghost reference = { λ s. s.notebook.ghost_name };
 
     ghost meter_reference = { λ s. s.meter.ghost_name };
+
+    ghost one_by_one = { plain_one_by_one };
 
     fn answer_line<O: AnswerWrite>(&mut self, line: &[u8], out: &mut O) -> Result<(), AllocError> {
         let source = self.source.take();

@@ -13,6 +13,10 @@ mod runner;
 mod source;
 mod value;
 
+pub use answer::{push_edit_answer, push_query_refusal, push_refusal};
+pub use line::answer_line;
 pub use nd_script::lines::{CountedRead, CountedWrite, RunFault, ScriptReader, ScriptWriter};
-pub use program::{status, status_of};
-pub use runner::{run, run_script, run_turns};
+pub use program::{Scripting, read_input, status, status_by, status_of};
+pub use runner::{room_for_sources, run, run_script, run_turns};
+pub use source::{OpenText, Opening};
+pub use value::{push_layout, push_shown};

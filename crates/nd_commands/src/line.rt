@@ -4,7 +4,7 @@ ghost use Rattle.std.specs.Prelude.{◌≡◌, [], IfOk, OnErr};
 ghost use Rattle.nd_model.specs.Book.Script as script;
 ghost use Rattle.nd_model.specs.Book.Notebook.{book_of};
 ghost use Rattle.nd_script.specs.Words.Command.{line_of};
-ghost use Rattle.nd_script.specs.Lines.Counts.{CountsCommand};
+ghost use Rattle.nd_script.specs.Lines.Counts.{CountsCommand, plain};
 ghost use Rattle.nd_script.specs.Lines.Run.{Answered};
 ghost use Rattle.nd_model.specs.Book.ScriptRuns.{IsInLine};
 ghost use Rattle.nd_commands.specs.Carry.{Carried, CarriedLine, CountsLine};
@@ -34,7 +34,7 @@ pub fn answer_line<O: AnswerWrite>(
     notebook: &mut Notebook,
 ) -> Result<Option<OpenText>, AllocError>
     requires { IsInLine line.now }
-    ensures done { IfOk result (λ t. Answered (stage_of source) line.now (stage_of t)
+    ensures done { IfOk result (λ t. Answered plain (stage_of source) line.now (stage_of t)
         (tally_of notebook.old meter.old) (O.state out.old) (O.state out.new)
         (tally_of notebook.new meter.new)) }
     ensures unread { OnErr result (tally_of notebook.new meter.new
@@ -57,7 +57,7 @@ fn continue_source<O: AnswerWrite>(
     notebook: &mut Notebook,
 ) -> Result<Option<OpenText>, AllocError>
     requires { IsInLine line.now }
-    ensures done { IfOk result (λ t. Answered
+    ensures done { IfOk result (λ t. Answered plain
         (script.Within (opening_of source.opening) (lines_so_far source)) line.now (stage_of t)
         (tally_of notebook.old meter.old) (O.state out.old) (O.state out.new)
         (tally_of notebook.new meter.new)) }
@@ -104,7 +104,7 @@ fn answer_command<O: AnswerWrite>(
     meter: &mut Meter,
     notebook: &mut Notebook,
 ) -> Result<Option<OpenText>, AllocError>
-    ensures done { IfOk result (λ t. Answered script.Between line.now (stage_of t)
+    ensures done { IfOk result (λ t. Answered plain script.Between line.now (stage_of t)
         (tally_of notebook.old meter.old) (O.state out.old) (O.state out.new)
         (tally_of notebook.new meter.new)) }
     ensures unread { OnErr result (tally_of notebook.new meter.new

@@ -7,7 +7,7 @@ use crate::runner::run;
 use clap::error::ErrorKind;
 use clap::{Arg, ArgAction, ArgMatches, Command, Error};
 use nd_notebook::{EditFault, Input, Meter, Notebook};
-use nd_script::lines::{RunFault, ScriptReader, ScriptWriter};
+use nd_script::lines::{CountedRead, CountedWrite, RunFault, ScriptReader, ScriptWriter};
 use std::alloc::{AllocFailed, Global};
 use std::io::Read;
 use std::process::ExitCode;
@@ -27,6 +27,40 @@ const NO_INPUT: u8 = 3;
 
 /// What the program is, as its help says it.
 const ABOUT: &str = "runs a script of a reactive notebook for integer and Boolean arrays";
+
+/// What tells one program of scripts from another: its name, and the words of its scripts.
+pub trait Scripting {
+    /// Returns the name by which the program speaks of itself.
+    fn name() -> &'static str;
+
+    /// Runs the script of a reader over a notebook, and writes its answers.
+    fn run_script<R: CountedRead, W: CountedWrite>(
+        rt: &HostRuntime,
+        reader: &mut R,
+        writer: &mut W,
+        meter: &mut Meter,
+        notebook: &mut Notebook,
+    ) -> Result<(), RunFault>;
+}
+
+/// The program `ndnote`, whose scripts have the commands of [`run`].
+struct Plain;
+
+impl Scripting for Plain {
+    fn name() -> &'static str {
+        "ndnote"
+    }
+
+    fn run_script<R: CountedRead, W: CountedWrite>(
+        rt: &HostRuntime,
+        reader: &mut R,
+        writer: &mut W,
+        meter: &mut Meter,
+        notebook: &mut Notebook,
+    ) -> Result<(), RunFault> {
+        run(rt.alloc(), reader, writer, meter, notebook)
+    }
+}
 
 /// How much of the file of an input is read: a byte more than an input may take.
 const MOST_READ: u64 = 67_108_865;
@@ -144,7 +178,11 @@ fn inputs_of<'a>(alloc: Global, words: &[&'a str]) -> Result<Vec<InputFile<'a>>,
 }
 
 /// The words of the command line as its arguments. Whatever they do not take is refused.
-fn matches_of<'a>(alloc: Global, words: &'a [String]) -> Result<ArgMatches<'a>, Error> {
+fn matches_of<'a>(
+    alloc: Global,
+    name: &'static str,
+    words: &'a [String],
+) -> Result<ArgMatches<'a>, Error> {
     let script = Arg::new(alloc, "script")
         .long("script")
         .value_name("PATH")
@@ -154,7 +192,7 @@ fn matches_of<'a>(alloc: Global, words: &'a [String]) -> Result<ArgMatches<'a>, 
         .value_name("NAME=PATH")
         .help("An input and its NPY file")
         .action(ArgAction::Append);
-    let command = Command::new(alloc, "ndnote")
+    let command = Command::new(alloc, name)
         .about(ABOUT)
         .arg(script)?
         .arg(inputs)?;
@@ -162,8 +200,12 @@ fn matches_of<'a>(alloc: Global, words: &'a [String]) -> Result<ArgMatches<'a>, 
 }
 
 /// What the words of the command line ask for.
-fn request_of<'a>(alloc: Global, words: &'a [String]) -> Result<Request<'a>, ProgramFault<'a>> {
-    let matches = match matches_of(alloc, words) {
+fn request_of<'a>(
+    alloc: Global,
+    name: &'static str,
+    words: &'a [String],
+) -> Result<Request<'a>, ProgramFault<'a>> {
+    let matches = match matches_of(alloc, name, words) {
         Ok(matches) => matches,
         Err(error) => return Err(ProgramFault::of_command_line(error)),
     };
@@ -174,9 +216,9 @@ fn request_of<'a>(alloc: Global, words: &'a [String]) -> Result<Request<'a>, Pro
     })
 }
 
-/// The bytes of a file, and of a large one as many as are more than an input may take. The buffer
-/// is made for the file's length; where none is known, as of a pipe, it grows.
-fn read_input(rt: &HostRuntime, path: &str) -> io::Result<Vec<u8>> {
+/// Returns the bytes of a file, and of a large one as many as are more than an input may take. The
+/// buffer is made for the file's length; where none is known, as of a pipe, it grows.
+pub fn read_input(rt: &HostRuntime, path: &str) -> io::Result<Vec<u8>> {
     let file = fs::open(rt, path)?;
     // A byte more than the file has, so that the read that finds the end needs no more room.
     let room = file.metadata()?.len().saturating_add(1).min(MOST_READ);
@@ -205,7 +247,7 @@ fn set_inputs<'a>(
 }
 
 /// Runs the script of a reader; the answers go to standard output.
-fn run_reader<R: Read + Drop>(
+fn run_reader<S: Scripting, R: Read + Drop>(
     rt: &HostRuntime,
     reader: R,
     meter: &mut Meter,
@@ -213,25 +255,25 @@ fn run_reader<R: Read + Drop>(
 ) -> Result<(), RunFault> {
     let mut reader = ScriptReader::new(reader);
     let mut writer = ScriptWriter::new(rt.stdout());
-    run(rt.alloc(), &mut reader, &mut writer, meter, notebook)
+    S::run_script(rt, &mut reader, &mut writer, meter, notebook)
 }
 
 /// Runs the script at the path, or that of standard input. A script that cannot be opened cannot be
 /// read.
-fn run_path<'a>(
+fn run_path<'a, S: Scripting>(
     rt: &HostRuntime,
     path: Option<&'a str>,
     meter: &mut Meter,
     notebook: &mut Notebook,
 ) -> Result<(), ProgramFault<'a>> {
     let Some(path) = path else {
-        return match run_reader(rt, rt.stdin(), meter, notebook) {
+        return match run_reader::<S, _>(rt, rt.stdin(), meter, notebook) {
             Ok(()) => Ok(()),
             Err(fault) => Err(ProgramFault::Stopped(fault)),
         };
     };
     let ended = match fs::open(rt, path) {
-        Ok(file) => run_reader(rt, file, meter, notebook),
+        Ok(file) => run_reader::<S, _>(rt, file, meter, notebook),
         Err(error) => return Err(ProgramFault::UnopenedScript(path, error)),
     };
     match ended {
@@ -241,40 +283,43 @@ fn run_path<'a>(
 }
 
 /// Runs the script that is asked for over its inputs, on a notebook without cells.
-fn run_request<'a>(
+fn run_request<'a, S: Scripting>(
     rt: &HostRuntime,
     request: &Request<'a>,
     notebook: &mut Notebook,
 ) -> Result<(), ProgramFault<'a>> {
     let mut meter = Meter::new(rt);
     set_inputs(rt, &mut meter, notebook, &request.inputs)?;
-    run_path(rt, request.script, &mut meter, notebook)
+    run_path::<S>(rt, request.script, &mut meter, notebook)
 }
 
 /// Runs the script that a command line names, of which the first word is the program, over its
 /// inputs.
-fn run_command_line<'a>(rt: &HostRuntime, words: &'a [String]) -> Result<(), ProgramFault<'a>> {
-    let request = request_of(rt.alloc(), words)?;
+fn run_command_line<'a, S: Scripting>(
+    rt: &HostRuntime,
+    words: &'a [String],
+) -> Result<(), ProgramFault<'a>> {
+    let request = request_of(rt.alloc(), S::name(), words)?;
     let mut notebook = Notebook::new(rt.alloc());
-    let ended = run_request(rt, &request, &mut notebook);
+    let ended = run_request::<S>(rt, &request, &mut notebook);
     drop(notebook);
     ended
 }
 
 /// The exit status of a run, of which a fault is said on standard error.
-fn status_of_run(rt: &HostRuntime, ended: Result<(), ProgramFault>) -> ExitCode
+fn status_of_run(rt: &HostRuntime, name: &str, ended: Result<(), ProgramFault>) -> ExitCode
     ensures { exit_status result ≤ 3 }
 {
     match ended {
         Ok(()) => ExitCode::from(ENDED),
         Err(fault) => {
-            let _ = eprintln!(rt; "ndnote: {fault}");
+            let _ = eprintln!(rt; "{name}: {fault}");
             ExitCode::from(fault.status())
         }
     }
 }
 
-/// Runs the program with these words, of which the first is its name, and gives its exit status:
+/// Runs a program with these words, of which the first is its name, and gives its exit status:
 ///
 /// ```text
 /// 0  the script ended           2  the command line is refused
@@ -283,19 +328,33 @@ fn status_of_run(rt: &HostRuntime, ended: Result<(), ProgramFault>) -> ExitCode
 ///
 /// Why it is not 0 is said on standard error. `ndnote --script s.ndn x=x.npy` sets the input `x`,
 /// and runs `s.ndn`.
-pub fn status_of(rt: &HostRuntime, words: &[String]) -> ExitCode
+fn status_of_words<S: Scripting>(rt: &HostRuntime, words: &[String]) -> ExitCode
     ensures { exit_status result ≤ 3 }
 {
-    status_of_run(rt, run_command_line(rt, words))
+    status_of_run(rt, S::name(), run_command_line::<S>(rt, words))
 }
 
-/// Runs the program with the words of its command line, and gives its exit status, as `status_of`
+/// Runs a program with the words of its command line, and gives its exit status, as `status_of`
 /// does.
-pub fn status(rt: &HostRuntime) -> ExitCode
+pub fn status_by<S: Scripting>(rt: &HostRuntime) -> ExitCode
     ensures { exit_status result ≤ 3 }
 {
     match words_of(rt) {
-        Ok(words) => status_of(rt, &words),
-        Err(error) => status_of_run(rt, Err(ProgramFault::of_arguments(&error))),
+        Ok(words) => status_of_words::<S>(rt, &words),
+        Err(error) => status_of_run(rt, S::name(), Err(ProgramFault::of_arguments(&error))),
     }
+}
+
+/// Runs `ndnote` with these words, as [`status`] does with those of the command line.
+pub fn status_of(rt: &HostRuntime, words: &[String]) -> ExitCode
+    ensures { exit_status result ≤ 3 }
+{
+    status_of_words::<Plain>(rt, words)
+}
+
+/// Runs `ndnote` with the words of its command line, and gives its exit status.
+pub fn status(rt: &HostRuntime) -> ExitCode
+    ensures { exit_status result ≤ 3 }
+{
+    status_by::<Plain>(rt)
 }

@@ -1,6 +1,6 @@
 //! `run`: runs a script over a notebook, from a reader to a writer.
 
-ghost use Rattle.std.specs.Prelude.{◌≡◌, ◌^◌, ◌⊎◌, IfErr, OnOk};
+ghost use Rattle.std.specs.Prelude.{◌≡◌, ◌^◌, ◌⊎◌, [], IfErr, OnOk};
 ghost use Rattle.nd_model.specs.Book.Notebook.{book_of};
 ghost use Rattle.nd_script.specs.Lines.Counts.{CountedStop, CountedToEnd};
 ghost use Rattle.nd_script.specs.Lines.Ends.{counted_on};
@@ -114,8 +114,11 @@ pub fn run_script<R: CountedRead, W: CountedWrite>(
     ended
 }
 
-// Room for a source of any length that a cell may have. Without memory for it there is none yet.
-fn room_for_sources(alloc: Global) -> Vec<u8> {
+/// Returns room for a source of any length that a cell may have. Without memory for it there is none
+/// yet.
+pub fn room_for_sources(alloc: Global) -> Vec<u8>
+    ensures { result.items ≡ [] }
+{
     Vec::with_capacity(alloc, MOST_SOURCE).unwrap_or(Vec::new(alloc))
 }
 

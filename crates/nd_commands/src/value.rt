@@ -47,8 +47,8 @@ pub fn push_value<O: AnswerWrite>(alloc: Global, out: &mut O, value: &BoundValue
     }
 }
 
-// Appends a value. All memory is taken before its first byte.
-fn push_shown<O: AnswerWrite>(
+/// Appends a value, such as `int 3`, without a newline. All memory is taken before its first byte.
+pub fn push_shown<O: AnswerWrite>(
     alloc: Global,
     out: &mut O,
     value: Shown<'_>,
@@ -93,7 +93,8 @@ fn push_array<O: AnswerWrite>(
     let ShownElements { view, block } = elements;
     let mut layout = Layout::new(alloc, view.elem())?;
     push_text(out, "array ");
-    push_type(out, layout.format.as_str(), view.elem());
+    push_layout(out, layout.format.as_str(), view.elem());
+    push_text(out, " ");
     push_shape(out, view.shape());
     push_text(out, " ");
     push_elements(out, layout.item.as_mut_slice(), view, block);
@@ -113,20 +114,20 @@ fn push_row<O: AnswerWrite>(
     let ShownElements { view, block } = elements;
     let mut layout = Layout::new(alloc, view.elem())?;
     push_text(out, "row ");
-    push_type(out, layout.format.as_str(), view.elem());
+    push_layout(out, layout.format.as_str(), view.elem());
+    push_text(out, " ");
     push_elements(out, layout.item.as_mut_slice(), view, block);
     Ok(())
 }
 
-// The format string of a dtype (PEP 3118), its itemsize, and a space.
-fn push_type<O: AnswerWrite>(out: &mut O, format: &str, elem: &ElemType)
+/// Appends the format string of a dtype (PEP 3118) and its itemsize, such as `<q 8`.
+pub fn push_layout<O: AnswerWrite>(out: &mut O, format: &str, elem: &ElemType)
     ensures { Pushes (O.state out.old) (format.now ++ codes " " ++ decimal
-        (item_size (type_of elem.now)) ++ codes " ") (O.state out.new) }
+        (item_size (type_of elem.now))) (O.state out.new) }
 {
     push_text(out, format);
     push_text(out, " ");
     push_number(out, elem.size());
-    push_text(out, " ");
 }
 
 fn truth_name(truth: bool) -> &'static str

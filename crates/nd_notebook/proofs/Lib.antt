@@ -1,4 +1,5 @@
 pub mod Answered
 pub mod Asked
 pub mod Sessions
+pub mod Tried
 pub mod Worlds

@@ -1,5 +1,6 @@
 pub mod Edits
 pub mod Queries
+pub mod Tried
 pub use Rattle.nd_types.specs.Kinds
 pub use Rattle.nd_types.specs.Fields
 pub use Rattle.nd_types.specs.Types

@@ -6,6 +6,7 @@ mod edit;
 mod kernel;
 mod notebook;
 mod query;
+mod trying;
 mod world;
 
 pub use edit::{Edit, EditFault};
@@ -13,7 +14,8 @@ pub use nd_cell::{
     CellFault, CellResult, FormatFault, IndexFault, Meter, NpyFault, ParseKind, ReduceFault,
     Refusal, ShapeFault, StmtError, StmtFault, UfuncFault, ViewFault,
 };
-pub use nd_session::session::{CellRule, Input, OutOfMemory};
+pub use nd_session::session::{CellRule, Input, OutOfMemory, is_input_name};
 pub use nd_types::{Elem, ElemType, Field, Kind, RecType};
 pub use notebook::Notebook;
 pub use query::{BoundValue, QueryFault, Shown, ShownElements};
+pub use trying::TriedCell;

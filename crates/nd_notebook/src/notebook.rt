@@ -24,7 +24,7 @@ use std::marker::Model;
 const MOST_CELLS: usize = 10_000;
 
 /// The most bytes of a cell's text.
-const MOST_SOURCE: usize = 65_536;
+pub(crate) const MOST_SOURCE: usize = 65_536;
 
 /// The most bytes that an input may take.
 const MOST_INPUT: u128 = 67_108_864;
@@ -49,7 +49,7 @@ fn check_input(name: &str, input: &Input) -> Result<(), EditFault>
 /// After an edit of the first to `x = np.arange(2)` it gives `[1 2]`.
 #[derive(Drop)]
 pub struct Notebook {
-    schedule: Schedule<SessionRunner>,
+    pub(crate) schedule: Schedule<SessionRunner>,
     alloc: Global,
 }
 

@@ -8,3 +8,4 @@ mod Inserting
 mod Parting
 mod Standing
 mod Turning
+mod Tried

@@ -7,6 +7,7 @@ mod queries;
 mod runner;
 mod snapshots;
 mod sweep;
+mod trying;
 
 pub use notebook::Schedule;
 pub use runner::CellRunner;

@@ -9,3 +9,4 @@ pub use pieces::{
     push_count_line, push_hex, push_hex_digits, push_integer, push_names, push_number, push_shape,
     push_text,
 };
+pub use word::{number_of, split_word};

@@ -12,7 +12,6 @@ ghost use Rattle.nd_model.specs.Book.Book as books;
 ghost use Rattle.nd_model.specs.Book.Entries.{entry_at, record_at, session_before, SharesFront};
 ghost use Rattle.nd_model.specs.Book.Stale.{CountsStale};
 ghost use Rattle.nd_model.specs.Book.Notebook.{Sheet, book_of, edited_sheet, world_in};
-ghost use Rattle.nd_change.specs.Snapshots.{IsAlike};
 ghost use Rattle.nd_change.specs.Steps.{IsWordOf, IsWordOfChange};
 ghost use Rattle.nd_schedule.specs.Cells.Labels.{AreUsed};
 ghost use Rattle.nd_schedule.specs.Cells.Source.{sheet, cell_of, cells_of};
@@ -181,8 +180,7 @@ impl<C: CellRunner> Schedule<C> {
     /// the records behind that. Its names may stand in another order.
     pub fn session_like(&self, at: usize) -> Result<C::Session, AllocError>
         requires { at ≤ length self.now.cells }
-        ensures { IfOk result
-            (λ s. IsAlike (C.session_of s) (session_before (book_of self.now) at)) }
+        ensures { IfOk result (λ s. StandsBefore (book_of self.now) at (C.session_of s)) }
     {
         let (from, mut session, _is_patched) = nearest::<C>(self.alloc, &self.snapshots, at)?;
         replay_between::<C>(&self.records, &mut session, from, at)?;

@@ -2,9 +2,9 @@
 use Rattle.std.proofs.Common.{◌≡◌, ℕ, true, false, cond, List, [], ◌∷◌, ◌++◌, inl, inr, refl, sym, ap, ◌∙◌, append_assoc, append-nil}
 use Rattle.std.specs.Prelude.{◌==◌}
 use Rattle.std.specs.List.{slice_split, onto_first}
-use Rattle.nd_model.specs.Book.Script.{Stage, Between, step, commands, commands_from, completed, completed_from, lines_of, ended_lines, without_last, without_empty_end, AreFirst}
+use Rattle.nd_model.specs.Book.Script.{lines_of, ended_lines, without_last, without_empty_end}
 use Rattle.nd_model.specs.Book.ScriptRuns.{AreWholeLines, IsInLine}
-use Rattle.nd_script.specs.Lines.Run.{stage_behind}
+use Rattle.nd_script.specs.Lines.Language.{Language, AreFirstIn, commands_in, completed_in, stage_behind}
 use Rattle.nd_script.proofs.lines.Lines.{one_line, parts_are_some}
 
 -- ---- lines
@@ -67,30 +67,31 @@ pub whole-append : (xs ys : List ℕ) → AreWholeLines xs → AreWholeLines ys 
 whole-append xs ys first (inl none) = let same : xs ++ ys ≡ xs = ap (λ q. xs ++ q) none ∙ append-nil xs in rw same first
 whole-append xs ys first (inr some) = inr (xs ++ some.0, ap (λ q. xs ++ q) some.1 ∙ sym (append_assoc xs some.0 (10 ∷ [])))
 
--- ---- commands
+module _ (L : Language) where
+  -- ---- commands
 
-pub completed_from-append : (s : Stage) (ls ms : List (List ℕ)) → completed_from s (ls ++ ms) ≡ completed_from s ls ++ completed_from (stage_behind s ls) ms
-completed_from-append s [] ms = refl
-completed_from-append s (l ∷ ls) ms =
-    let after = (step s l).1 in
-    ap (λ cs. (step s l).0 ++ cs) (completed_from-append after ls ms) ∙ sym (append_assoc (step s l).0 (completed_from after ls) (completed_from (stage_behind after ls) ms))
+  pub completed_in-append : (s : L.Stage) (ls ms : List (List ℕ)) → completed_in L s (ls ++ ms) ≡ completed_in L s ls ++ completed_in L (stage_behind L s ls) ms
+  completed_in-append s [] ms = refl
+  completed_in-append s (l ∷ ls) ms =
+      let after = (L.step s l).1 in
+      ap (λ cs. (L.step s l).0 ++ cs) (completed_in-append after ls ms) ∙ sym (append_assoc (L.step s l).0 (completed_in L after ls) (completed_in L (stage_behind L after ls) ms))
 
-pub commands_from-append : (s : Stage) (ls ms : List (List ℕ)) → commands_from s (ls ++ ms) ≡ completed_from s ls ++ commands_from (stage_behind s ls) ms
-commands_from-append s [] ms = refl
-commands_from-append s (l ∷ ls) ms =
-    let after = (step s l).1 in
-    ap (λ cs. (step s l).0 ++ cs) (commands_from-append after ls ms) ∙ sym (append_assoc (step s l).0 (completed_from after ls) (commands_from (stage_behind after ls) ms))
+  pub commands_in-append : (s : L.Stage) (ls ms : List (List ℕ)) → commands_in L s (ls ++ ms) ≡ completed_in L s ls ++ commands_in L (stage_behind L s ls) ms
+  commands_in-append s [] ms = refl
+  commands_in-append s (l ∷ ls) ms =
+      let after = (L.step s l).1 in
+      ap (λ cs. (L.step s l).0 ++ cs) (commands_in-append after ls ms) ∙ sym (append_assoc (L.step s l).0 (completed_in L after ls) (commands_in L (stage_behind L after ls) ms))
 
-pub stage_behind-append : (s : Stage) (ls ms : List (List ℕ)) → stage_behind s (ls ++ ms) ≡ stage_behind (stage_behind s ls) ms
-stage_behind-append s [] ms = refl
-stage_behind-append s (l ∷ ls) ms = stage_behind-append (step s l).1 ls ms
+  pub stage_behind-append : (s : L.Stage) (ls ms : List (List ℕ)) → stage_behind L s (ls ++ ms) ≡ stage_behind L (stage_behind L s ls) ms
+  stage_behind-append s [] ms = refl
+  stage_behind-append s (l ∷ ls) ms = stage_behind-append (L.step s l).1 ls ms
 
--- the commands of whole lines, and then those of what follows
-pub commands_behind : (s : Stage) (front more : List ℕ) → AreWholeLines front
-    → commands_from s (lines_of (front ++ more)) ≡ completed_from s (ended_lines front) ++ commands_from (stage_behind s (ended_lines front)) (lines_of more)
-commands_behind s front more whole = ap (commands_from s) (lines_of-append front more whole) ∙ commands_from-append s (ended_lines front) (lines_of more)
+  -- the commands of whole lines, and then those of what follows
+  pub commands_behind : (s : L.Stage) (front more : List ℕ) → AreWholeLines front
+      → commands_in L s (lines_of (front ++ more)) ≡ completed_in L s (ended_lines front) ++ commands_in L (stage_behind L s (ended_lines front)) (lines_of more)
+  commands_behind s front more whole = ap (commands_in L s) (lines_of-append front more whole) ∙ commands_in-append s (ended_lines front) (lines_of more)
 
--- the commands of whole lines are the first ones of each script that begins with them
-pub completed_are_first : (front : List ℕ) → AreWholeLines front → AreFirst (completed front) false front
-completed_are_first front whole = λ script more.
-    (commands_from (stage_behind Between (ended_lines front)) (lines_of more.0), ap commands more.1 ∙ commands_behind Between front more.0 whole)
+  -- the commands of whole lines are the first ones of each script that begins with them
+  pub completed_are_first : (s : L.Stage) (front : List ℕ) → AreWholeLines front → AreFirstIn L s (completed_in L s (ended_lines front)) false front
+  completed_are_first s front whole = λ script more.
+      (commands_in L (stage_behind L s (ended_lines front)) (lines_of more.0), ap (λ xs. commands_in L s (lines_of xs)) more.1 ∙ commands_behind s front more.0 whole)

@@ -1,10 +1,8 @@
 //! `run_lines`: reads a script line by line, and writes the answers.
 
 ghost use Rattle.std.specs.Prelude.{◌≡◌, ◌⊎◌, IfErr, OnOk};
-ghost use Rattle.nd_model.specs.Book.Script.{Between};
-ghost use Rattle.nd_script.specs.Lines.Counts.{CountedStop, CountedToEnd};
 ghost use Rattle.nd_script.specs.Lines.Ends.{counted_on};
-ghost use Rattle.nd_model.specs.Book.ScriptRuns.{RanToEnd, StoppedAt};
+ghost use Rattle.nd_script.specs.Lines.Language.{RanToEndIn, StoppedAtIn};
 ghost use Rattle.nd_script.specs.Lines.Run.{run_fault_of};
 
 use crate::lines::answerer::Answerer;
@@ -17,7 +15,8 @@ use std::alloc::Global;
 /// Runs a script by at most `turns` reads. Each line's answer is written before the next one is
 /// carried out. At a fault the commands so far stand.
 ///
-/// A script of the two lines `count`, over a notebook of no cells, writes `count 0` twice.
+/// A script of the two lines `count`, over a notebook of no cells, writes `count 0` twice in the
+/// plain language.
 pub fn run_lines<R: CountedRead, W: CountedWrite, A: Answerer>(
     alloc: Global,
     reader: &mut R,
@@ -25,25 +24,14 @@ pub fn run_lines<R: CountedRead, W: CountedWrite, A: Answerer>(
     answerer: &mut A,
     turns: u64,
 ) -> Result<(), RunFault>
-    requires { A.stage answerer.old ≡ Between }
-    ensures to_end { OnOk result (RanToEnd (R.remaining reader.old) (R.remaining reader.new)
-        (A.tally answerer.old).book (W.contents writer.old)
-        (W.contents writer.new) (A.tally answerer.new).book) }
-    ensures stopped { IfErr result (λ f. StoppedAt (run_fault_of f)
+    ensures to_end { OnOk result (RanToEndIn A.language (A.stage answerer.old)
         (R.remaining reader.old) (R.remaining reader.new)
-        (A.tally answerer.old).book (W.contents writer.old)
-        (W.contents writer.new) (A.tally answerer.new).book) }
-
-    // The meter after each command: an edit counts at most its stale cells, a refused edit and a
-    // query none.
-    ensures counted { OnOk result (CountedToEnd
-        (R.remaining reader.old) (R.remaining reader.new)
-        (A.tally answerer.old) (W.contents writer.old)
-        (W.contents writer.new) (A.tally answerer.new)) }
-    ensures counted_stop { IfErr result (λ f. CountedStop (run_fault_of f)
-        (R.remaining reader.old) (R.remaining reader.new)
-        (A.tally answerer.old) (W.contents writer.old)
-        (W.contents writer.new) (A.tally answerer.new)) }
+        (A.state answerer.old) (W.contents writer.old)
+        (W.contents writer.new) (A.state answerer.new)) }
+    ensures stopped { IfErr result (λ f. StoppedAtIn A.language (A.stage answerer.old)
+        (run_fault_of f) (R.remaining reader.old) (R.remaining reader.new)
+        (A.state answerer.old) (W.contents writer.old)
+        (W.contents writer.new) (A.state answerer.new)) }
 
     // A read fault comes only where a read failed or all reads were made, a write fault only where
     // a write failed.

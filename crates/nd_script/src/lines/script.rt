@@ -3,7 +3,7 @@
 ghost use Rattle.std.specs.Prelude.{◌≡◌, ◌≢◌, ◌==◌, ◌++◌, [], ◌≤◌, length, position, OnOk, OnErr, IfErr, is_ok};
 ghost use Rattle.nd_script.specs.Lines.Ends.{counted_on};
 ghost use Rattle.nd_model.specs.Book.ScriptRuns.{most_line, IsInLine};
-ghost use Rattle.nd_script.specs.Lines.Run.{open_answer, Finishes, FitsLine, IsTooLong, LineRuns, Runs, Stops, StopsAtEnd, StopsInLine, Wrote};
+ghost use Rattle.nd_script.specs.Lines.Run.{Finishes, FitsLine, IsTooLong, LineRuns, Runs, Stops, StopsAtEnd, StopsInLine, WroteEnd};
 
 use crate::lines::answer_writer::AnswerWriter;
 use crate::lines::answerer::Answerer;
@@ -31,8 +31,8 @@ fn newline_in(bytes: &[u8]) -> Option<usize>
 
 // Answers the end of a script.
 fn answer_end<A: Answerer, W: CountedWrite>(answerer: &A, writer: &mut W) -> Result<(), RunFault>
-    ensures answer { Wrote (W.contents writer.old) (open_answer (A.stage answerer.now))
-        (is_ok result) (W.contents writer.new) }
+    ensures answer { WroteEnd A.language (A.stage answerer.now) (A.state answerer.now)
+        (W.contents writer.old) (is_ok result) (W.contents writer.new) }
     ensures fault { IfErr result (λ f. f ≡ RunFault.WriteFault) }
     ensures kept { OnOk result (W.failures writer.new ≡ W.failures writer.old) }
     ensures failed { OnErr result (W.failures writer.new ≡ counted_on (W.failures writer.old) 1) }
@@ -73,14 +73,15 @@ impl Script {
         writer: &mut W,
     ) -> Result<(), RunFault>
         requires { IsInLine self.old.line.items }
-        ensures ok { OnOk result (LineRuns (A.stage answerer.old) self.old.line.items
+        ensures ok { OnOk result (LineRuns A.language (A.stage answerer.old) self.old.line.items
             (A.stage answerer.new)
-            (A.tally answerer.old) (W.contents writer.old)
-            (W.contents writer.new) (A.tally answerer.new)) }
+            (A.state answerer.old) (W.contents writer.old)
+            (W.contents writer.new) (A.state answerer.new)) }
         ensures line { OnOk result (self.new.line.items ≡ []) }
-        ensures err { IfErr result (λ f. StopsInLine f (A.stage answerer.old) self.old.line.items
-            (A.tally answerer.old) (W.contents writer.old)
-            (W.contents writer.new) (A.tally answerer.new)) }
+        ensures err { IfErr result (λ f. StopsInLine A.language f (A.stage answerer.old)
+            self.old.line.items
+            (A.state answerer.old) (W.contents writer.old)
+            (W.contents writer.new) (A.state answerer.new)) }
         ensures kept { OnOk result (W.failures writer.new ≡ W.failures writer.old) }
         ensures failed { IfErr result (λ f. f ≡ RunFault.WriteFault
             → W.failures writer.new ≡ counted_on (W.failures writer.old) 1) }
@@ -101,15 +102,15 @@ impl Script {
         writer: &mut W,
     ) -> Result<(), RunFault>
         requires { FitsLine self.old.line.items }
-        ensures ok { OnOk result (Runs (A.stage answerer.old) self.old.line.items bytes.now
-            (A.stage answerer.new) self.new.line.items
-            (A.tally answerer.old) (W.contents writer.old)
-            (W.contents writer.new) (A.tally answerer.new)) }
+        ensures ok { OnOk result (Runs A.language (A.stage answerer.old) self.old.line.items
+            bytes.now (A.stage answerer.new) self.new.line.items
+            (A.state answerer.old) (W.contents writer.old)
+            (W.contents writer.new) (A.state answerer.new)) }
         ensures fits { OnOk result (FitsLine self.new.line.items) }
-        ensures err { IfErr result (λ f. Stops f (A.stage answerer.old)
+        ensures err { IfErr result (λ f. Stops A.language f (A.stage answerer.old)
             self.old.line.items bytes.now
-            (A.tally answerer.old) (W.contents writer.old)
-            (W.contents writer.new) (A.tally answerer.new)) }
+            (A.state answerer.old) (W.contents writer.old)
+            (W.contents writer.new) (A.state answerer.new)) }
         ensures kept { OnOk result (W.failures writer.new ≡ W.failures writer.old) }
         ensures unread { IfErr result (λ f. f ≢ RunFault.ReadFault) }
         ensures failed { IfErr result (λ f. f ≡ RunFault.WriteFault
@@ -133,12 +134,13 @@ impl Script {
         writer: &mut W,
     ) -> Result<(), RunFault>
         requires { IsInLine self.old.line.items }
-        ensures ok { OnOk result (Finishes (A.stage answerer.old) self.old.line.items
-            (A.tally answerer.old) (W.contents writer.old)
-            (W.contents writer.new) (A.tally answerer.new)) }
-        ensures err { IfErr result (λ f. StopsAtEnd f (A.stage answerer.old) self.old.line.items
-            (A.tally answerer.old) (W.contents writer.old)
-            (W.contents writer.new) (A.tally answerer.new)) }
+        ensures ok { OnOk result (Finishes A.language (A.stage answerer.old) self.old.line.items
+            (A.state answerer.old) (W.contents writer.old)
+            (W.contents writer.new) (A.state answerer.new)) }
+        ensures err { IfErr result (λ f. StopsAtEnd A.language f (A.stage answerer.old)
+            self.old.line.items
+            (A.state answerer.old) (W.contents writer.old)
+            (W.contents writer.new) (A.state answerer.new)) }
         ensures kept { OnOk result (W.failures writer.new ≡ W.failures writer.old) }
         ensures failed { IfErr result (λ f. f ≡ RunFault.WriteFault
             → W.failures writer.new ≡ counted_on (W.failures writer.old) 1) }

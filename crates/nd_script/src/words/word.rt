@@ -7,7 +7,7 @@ ghost use Rattle.nd_script.specs.Words.Words.{words_behind};
 use itoa::Buffer;
 
 /// Returns the first word, and what follows the space that ends it.
-pub(crate) fn split_word(text: &str) -> (&str, Option<&str>)
+pub fn split_word(text: &str) -> (&str, Option<&str>)
     ensures { words_of text.now ≡ result.0.now ∷ words_behind (option_copied result.1) }
 {
     match text.split_once(' ') {
@@ -17,7 +17,7 @@ pub(crate) fn split_word(text: &str) -> (&str, Option<&str>)
 }
 
 /// Returns the number whose decimal text the word is.
-pub(crate) fn number_of(word: &str) -> Option<usize>
+pub fn number_of(word: &str) -> Option<usize>
     ensures { result ≡ number_word word.now }
 {
     let number = word.parse::<usize>().ok()?;

@@ -13,5 +13,5 @@ returns-clause-pushed g c =
     let view = c.args.elements.view.now in
     let format = c.as_str.ensures.value ∙ c.in_ok-layout.ensures.format ∙ ap format_text c.elem.ensures in
     array_pushed view.element c.as_str.result.now (item_size (type_of c.elem-2.result.now)) format (ap item_size c.elem-2.ensures)
-    view.shape (canonical_bytes view c.args.elements.block.now) c.push_text.ensures c.push_type.ensures
-    (pushes_same (ap shape_text c.shape.ensures.value) c.push_shape.ensures) c.push_text-2.ensures c.push_elements.ensures
+    view.shape (canonical_bytes view c.args.elements.block.now) c.push_text.ensures c.push_layout.ensures c.push_text-2.ensures
+    (pushes_same (ap shape_text c.shape.ensures.value) c.push_shape.ensures) c.push_text-3.ensures c.push_elements.ensures

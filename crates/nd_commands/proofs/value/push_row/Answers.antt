@@ -11,4 +11,4 @@ returns-clause-pushed g c =
     let view = c.args.elements.view.now in
     let format = c.as_str.ensures.value ∙ c.in_ok-layout.ensures.format ∙ ap format_text c.elem.ensures in
     row_pushed view.element c.as_str.result.now (item_size (type_of c.elem-2.result.now)) format (ap item_size c.elem-2.ensures)
-    (canonical_bytes view c.args.elements.block.now) c.push_text.ensures c.push_type.ensures c.push_elements.ensures
+    (canonical_bytes view c.args.elements.block.now) c.push_text.ensures c.push_layout.ensures c.push_text-2.ensures c.push_elements.ensures

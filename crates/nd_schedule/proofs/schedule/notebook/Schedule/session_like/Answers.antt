@@ -3,7 +3,7 @@ use Rattle.std.specs.List.{All}
 use Rattle.nd_model.specs.Book.Book.{Book}
 use Rattle.nd_model.specs.Book.Notebook.{Sheet, book_of}
 use Rattle.nd_schedule.specs.Cells.Shared.{each_of}
-use Rattle.nd_schedule.specs.Schedule.Snapshot.{IsSnapshot, StandsBefore}
+use Rattle.nd_schedule.specs.Schedule.Snapshot.{IsSnapshot}
 use Rattle.nd_schedule.specs.Schedule.Sweep.{IsKept}
 use Rattle.nd_schedule.proofs.schedule.Kept.{as_many}
 use Rattle.nd_schedule.proofs.schedule.notebook.Schedule.session_like.Goals as goal
@@ -35,7 +35,5 @@ returns g c =
     subst (λ (s : Sheet). IsKept g.C.CellRunner.covers (book_of s) (each_of g.C.CellRunner.recorded c.self.inside.records.items) c.self.inside.words.items) c.self.view_is (c.self.invariant).0 in
     let kept : All (λ s. IsSnapshot b s.place (g.C.CellRunner.kept_session s.version) (map g.C.CellRunner.change_of s.pending.items)) c.self.inside.snapshots.items =
     subst (λ (s : Sheet). All (λ s'. IsSnapshot (book_of s) s'.place (g.C.CellRunner.kept_session s'.version) (map g.C.CellRunner.change_of s'.pending.items)) c.self.inside.snapshots.items) c.self.view_is (c.self.invariant).1 in
-    let stands : StandsBefore b c.args.at (g.C.CellRunner.session_of c.replay_between.new.session) =
     c.in_ok-replay_between.ensures b (record { records = ap (each_of g.C.CellRunner.recorded) c.deref-2.ensures.value ∙ run.run.records; distinct = run.run.distinct })
-    (c.in_ok-from.ensures.session b (subst (All (λ s. IsSnapshot b s.place (g.C.CellRunner.kept_session s.version) (map g.C.CellRunner.change_of s.pending.items))) (sym c.deref.ensures.value) kept)) in
-    stands.alike
+    (c.in_ok-from.ensures.session b (subst (All (λ s. IsSnapshot b s.place (g.C.CellRunner.kept_session s.version) (map g.C.CellRunner.change_of s.pending.items))) (sym c.deref.ensures.value) kept))

@@ -9,7 +9,7 @@ returns-in_err-end_line-clause-err g c =
     let some : 0 < length c.args.self.now.line.items = search rules in
     let p = err_from_is_err_and c.from_residual.result c.from_residual.ensures.1 in
     rw (p.1, p.2) (
-    finish_stopped _ (g.A.Answerer.stage c.args.answerer.now) c.args.self.now.line.items (g.A.Answerer.tally c.args.answerer.now) (g.A.Answerer.tally c.end_line.new.answerer)
+    finish_stopped g.A.Answerer.language _ (g.A.Answerer.stage c.args.answerer.now) c.args.self.now.line.items (g.A.Answerer.state c.args.answerer.now) (g.A.Answerer.state c.end_line.new.answerer)
     (g.W.CountedWrite.contents c.args.writer.now) (g.W.CountedWrite.contents c.end_line.new.writer) c.requires some c.in_err-end_line.ensures.err
     )
 
@@ -19,14 +19,14 @@ returns-clause-ok g c =
       | then-not-is_empty+in_ok-end_line w ↦
           let some : 0 < length c.args.self.now.line.items = search rules in
           let wrote = rw (w.answerer-is, w.writer-is) at c.answer_end.ensures.answer in
-          rw w.answerer-is (finish_some c.answer_end.result (g.A.Answerer.stage c.args.answerer.now) (g.A.Answerer.stage w.end_line.new.answerer) c.args.self.now.line.items (g.A.Answerer.tally c.args.answerer.now)
-          (g.A.Answerer.tally w.end_line.new.answerer) (g.W.CountedWrite.contents c.args.writer.now) (g.W.CountedWrite.contents w.end_line.new.writer) (g.W.CountedWrite.contents c.answer_end.new.writer)
+          rw w.answerer-is (finish_some g.A.Answerer.language g.met.A.Answerer.one_by_one c.answer_end.result (g.A.Answerer.stage c.args.answerer.now) (g.A.Answerer.stage w.end_line.new.answerer) c.args.self.now.line.items (g.A.Answerer.state c.args.answerer.now)
+          (g.A.Answerer.state w.end_line.new.answerer) (g.W.CountedWrite.contents c.args.writer.now) (g.W.CountedWrite.contents w.end_line.new.writer) (g.W.CountedWrite.contents c.answer_end.new.writer)
           c.requires some w.in_ok-end_line.ensures.ok wrote).0
       | else-not-is_empty w ↦
           let zero : length c.args.self.now.line.items ≡ 0 = search rules in
           let none = no_bytes c.args.self.now.line.items zero in
           let wrote = rw (w.answerer-is, w.writer-is) at c.answer_end.ensures.answer in
-          rw w.answerer-is (finish_none c.answer_end.result (g.A.Answerer.stage c.args.answerer.now) c.args.self.now.line.items (g.A.Answerer.tally c.args.answerer.now)
+          rw w.answerer-is (finish_none g.A.Answerer.language g.met.A.Answerer.one_by_one c.answer_end.result (g.A.Answerer.stage c.args.answerer.now) c.args.self.now.line.items (g.A.Answerer.state c.args.answerer.now)
           (g.W.CountedWrite.contents c.args.writer.now) (g.W.CountedWrite.contents c.answer_end.new.writer) none wrote).0
     ]
 
@@ -36,13 +36,13 @@ returns-clause-err g c =
       | then-not-is_empty+in_ok-end_line w ↦
           let some : 0 < length c.args.self.now.line.items = search rules in
           let wrote = rw (w.answerer-is, w.writer-is) at c.answer_end.ensures.answer in
-          rw w.answerer-is (at_end c.answer_end.result _ _ _ _ _ _ c.answer_end.ensures.fault (finish_some c.answer_end.result (g.A.Answerer.stage c.args.answerer.now) (g.A.Answerer.stage w.end_line.new.answerer) c.args.self.now.line.items (g.A.Answerer.tally c.args.answerer.now)
-          (g.A.Answerer.tally w.end_line.new.answerer) (g.W.CountedWrite.contents c.args.writer.now) (g.W.CountedWrite.contents w.end_line.new.writer) (g.W.CountedWrite.contents c.answer_end.new.writer)
+          rw w.answerer-is (at_end g.A.Answerer.language c.answer_end.result _ _ _ _ _ _ c.answer_end.ensures.fault (finish_some g.A.Answerer.language g.met.A.Answerer.one_by_one c.answer_end.result (g.A.Answerer.stage c.args.answerer.now) (g.A.Answerer.stage w.end_line.new.answerer) c.args.self.now.line.items (g.A.Answerer.state c.args.answerer.now)
+          (g.A.Answerer.state w.end_line.new.answerer) (g.W.CountedWrite.contents c.args.writer.now) (g.W.CountedWrite.contents w.end_line.new.writer) (g.W.CountedWrite.contents c.answer_end.new.writer)
           c.requires some w.in_ok-end_line.ensures.ok wrote).1)
       | else-not-is_empty w ↦
           let zero : length c.args.self.now.line.items ≡ 0 = search rules in
           let none = no_bytes c.args.self.now.line.items zero in
           let wrote = rw (w.answerer-is, w.writer-is) at c.answer_end.ensures.answer in
-          rw w.answerer-is (at_end c.answer_end.result _ _ _ _ _ _ c.answer_end.ensures.fault (finish_none c.answer_end.result (g.A.Answerer.stage c.args.answerer.now) c.args.self.now.line.items (g.A.Answerer.tally c.args.answerer.now)
+          rw w.answerer-is (at_end g.A.Answerer.language c.answer_end.result _ _ _ _ _ _ c.answer_end.ensures.fault (finish_none g.A.Answerer.language g.met.A.Answerer.one_by_one c.answer_end.result (g.A.Answerer.stage c.args.answerer.now) c.args.self.now.line.items (g.A.Answerer.state c.args.answerer.now)
           (g.W.CountedWrite.contents c.args.writer.now) (g.W.CountedWrite.contents c.answer_end.new.writer) none wrote).1)
     ]

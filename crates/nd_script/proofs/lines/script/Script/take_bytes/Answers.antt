@@ -7,7 +7,7 @@ use Rattle.nd_script.proofs.lines.script.Script.take_bytes.Goals as goal
 pub loop-end-init : goal.loop-end-init
 loop-end-init g c = record {
   fits = c.requires;
-  so_far = ([], refl, runs_none (g.A.Answerer.stage c.args.answerer.now) c.args.self.now.line.items (g.A.Answerer.tally c.args.answerer.now) (g.W.CountedWrite.contents c.args.writer.now));
+  so_far = ([], refl, runs_none g.A.Answerer.language (g.A.Answerer.stage c.args.answerer.now) c.args.self.now.line.items (g.A.Answerer.state c.args.answerer.now) (g.W.CountedWrite.contents c.args.writer.now));
   kept = refl;
   same_reference = refl;
   same_meter = refl;
@@ -19,8 +19,8 @@ returns-in_err-extend_line-clause-err g c =
     let inv = c.loop-end.invariant in
     let found = sym c.newline_in.ensures ∙ c.in-Some.is in
     rw (p.1, p.2) (
-    stops_extend _ (g.A.Answerer.stage c.args.answerer.now) c.args.self.now.line.items inv.so_far.0 (g.A.Answerer.stage c.loop-end.answerer) c.loop-end.self.line.items _ c.loop-end.rest.now c.args.bytes.now c.in-Some.end
-    (g.A.Answerer.tally c.args.answerer.now) (g.A.Answerer.tally c.loop-end.answerer) (g.W.CountedWrite.contents c.args.writer.now) (g.W.CountedWrite.contents c.loop-end.writer) found refl inv.fits.in_line inv.so_far.1 inv.so_far.2
+    stops_extend g.A.Answerer.language _ (g.A.Answerer.stage c.args.answerer.now) c.args.self.now.line.items inv.so_far.0 (g.A.Answerer.stage c.loop-end.answerer) c.loop-end.self.line.items _ c.loop-end.rest.now c.args.bytes.now c.in-Some.end
+    (g.A.Answerer.state c.args.answerer.now) (g.A.Answerer.state c.loop-end.answerer) (g.W.CountedWrite.contents c.args.writer.now) (g.W.CountedWrite.contents c.loop-end.writer) found refl inv.fits.in_line inv.so_far.1 inv.so_far.2
     c.in_err-extend_line.ensures.fault
     )
 
@@ -35,8 +35,8 @@ returns-in_err-end_line-clause-err g c =
     let inv = c.loop-end.invariant in
     let found = sym c.newline_in.ensures ∙ c.in-Some.is in
     rw (p.1, p.2) (
-    stops_end _ (g.A.Answerer.stage c.args.answerer.now) c.args.self.now.line.items inv.so_far.0 (g.A.Answerer.stage c.loop-end.answerer) c.loop-end.self.line.items _
-    c.extend_line.new.self.line.items c.loop-end.rest.now c.args.bytes.now c.in-Some.end (g.A.Answerer.tally c.args.answerer.now) (g.A.Answerer.tally c.loop-end.answerer) (g.A.Answerer.tally c.end_line.new.answerer)
+    stops_end g.A.Answerer.language _ (g.A.Answerer.stage c.args.answerer.now) c.args.self.now.line.items inv.so_far.0 (g.A.Answerer.stage c.loop-end.answerer) c.loop-end.self.line.items _
+    c.extend_line.new.self.line.items c.loop-end.rest.now c.args.bytes.now c.in-Some.end (g.A.Answerer.state c.args.answerer.now) (g.A.Answerer.state c.loop-end.answerer) (g.A.Answerer.state c.end_line.new.answerer)
     (g.W.CountedWrite.contents c.args.writer.now) (g.W.CountedWrite.contents c.loop-end.writer) (g.W.CountedWrite.contents c.end_line.new.writer) found refl inv.fits.in_line inv.so_far.1 inv.so_far.2
     c.in_ok-extend_line.ensures.line c.in_err-end_line.ensures.err
     )
@@ -47,9 +47,9 @@ loop-end-preserved g c =
     let found = sym c.newline_in.ensures ∙ c.in-Some.is in
     record {
       fits = fits_none c.end_line.new.self.line.items c.in_ok-end_line.ensures.line;
-      so_far = line_more (g.A.Answerer.stage c.args.answerer.now) c.args.self.now.line.items inv.so_far.0 (g.A.Answerer.stage c.loop-end.answerer) (g.A.Answerer.stage c.end_line.new.answerer)
-          c.loop-end.self.line.items _ c.extend_line.new.self.line.items c.loop-end.rest.now c.args.bytes.now c.end_line.new.self.line.items c.in-Some.end (g.A.Answerer.tally c.args.answerer.now) (g.A.Answerer.tally c.loop-end.answerer)
-          (g.A.Answerer.tally c.end_line.new.answerer) (g.W.CountedWrite.contents c.args.writer.now) (g.W.CountedWrite.contents c.loop-end.writer) (g.W.CountedWrite.contents c.end_line.new.writer) found refl inv.fits.in_line inv.so_far.1 inv.so_far.2
+      so_far = line_more g.A.Answerer.language (g.A.Answerer.stage c.args.answerer.now) c.args.self.now.line.items inv.so_far.0 (g.A.Answerer.stage c.loop-end.answerer) (g.A.Answerer.stage c.end_line.new.answerer)
+          c.loop-end.self.line.items _ c.extend_line.new.self.line.items c.loop-end.rest.now c.args.bytes.now c.end_line.new.self.line.items c.in-Some.end (g.A.Answerer.state c.args.answerer.now) (g.A.Answerer.state c.loop-end.answerer)
+          (g.A.Answerer.state c.end_line.new.answerer) (g.W.CountedWrite.contents c.args.writer.now) (g.W.CountedWrite.contents c.loop-end.writer) (g.W.CountedWrite.contents c.end_line.new.writer) found refl inv.fits.in_line inv.so_far.1 inv.so_far.2
           c.in_ok-extend_line.ensures.line c.in_ok-end_line.ensures.ok c.in_ok-end_line.ensures.line;
       kept = c.in_ok-end_line.ensures.kept ∙ inv.kept;
       same_reference = c.end_line.ensures.same_reference ∙ inv.same_reference;
@@ -59,8 +59,8 @@ loop-end-preserved g c =
 pub returns-clause-ok : goal.returns-clause-ok
 returns-clause-ok g c =
     let inv = c.loop-end.invariant in
-    last_runs c.extend_line-2.result (g.A.Answerer.stage c.args.answerer.now) c.args.self.now.line.items inv.so_far.0 (g.A.Answerer.stage c.loop-end.answerer) c.loop-end.self.line.items
-    c.extend_line-2.new.self.line.items c.loop-end.rest.now c.args.bytes.now (g.A.Answerer.tally c.args.answerer.now) (g.A.Answerer.tally c.loop-end.answerer) (g.W.CountedWrite.contents c.args.writer.now) (g.W.CountedWrite.contents c.loop-end.writer)
+    last_runs g.A.Answerer.language c.extend_line-2.result (g.A.Answerer.stage c.args.answerer.now) c.args.self.now.line.items inv.so_far.0 (g.A.Answerer.stage c.loop-end.answerer) c.loop-end.self.line.items
+    c.extend_line-2.new.self.line.items c.loop-end.rest.now c.args.bytes.now (g.A.Answerer.state c.args.answerer.now) (g.A.Answerer.state c.loop-end.answerer) (g.W.CountedWrite.contents c.args.writer.now) (g.W.CountedWrite.contents c.loop-end.writer)
     inv.so_far.1 inv.so_far.2 c.extend_line-2.ensures.line
 
 pub returns-clause-fits : goal.returns-clause-fits
@@ -72,5 +72,5 @@ pub returns-clause-err : goal.returns-clause-err
 returns-clause-err g c =
     let inv = c.loop-end.invariant in
     let none = sym c.newline_in.ensures ∙ c.in_default.is in
-    last_stops c.extend_line-2.result (g.A.Answerer.stage c.args.answerer.now) c.args.self.now.line.items inv.so_far.0 (g.A.Answerer.stage c.loop-end.answerer) c.loop-end.self.line.items c.loop-end.rest.now c.args.bytes.now
-    (g.A.Answerer.tally c.args.answerer.now) (g.A.Answerer.tally c.loop-end.answerer) (g.W.CountedWrite.contents c.args.writer.now) (g.W.CountedWrite.contents c.loop-end.writer) none inv.fits.in_line inv.so_far.1 inv.so_far.2 c.extend_line-2.ensures.fault
+    last_stops g.A.Answerer.language c.extend_line-2.result (g.A.Answerer.stage c.args.answerer.now) c.args.self.now.line.items inv.so_far.0 (g.A.Answerer.stage c.loop-end.answerer) c.loop-end.self.line.items c.loop-end.rest.now c.args.bytes.now
+    (g.A.Answerer.state c.args.answerer.now) (g.A.Answerer.state c.loop-end.answerer) (g.W.CountedWrite.contents c.args.writer.now) (g.W.CountedWrite.contents c.loop-end.writer) none inv.fits.in_line inv.so_far.1 inv.so_far.2 c.extend_line-2.ensures.fault

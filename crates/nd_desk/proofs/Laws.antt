@@ -1,0 +1,124 @@
+-- Each word for front ends is a bad command of every other script.
+use Rattle.std.proofs.Common.{◌≡◌, ℕ, Bool, true, false, List, [], ◌∷◌, Option, Some, None, refl, sym, ap, subst, ◌∙◌, inl, inr, bytes_eq, codes}
+use Rattle.std.specs.Prelude.{◌==◌, ◌&&◌, if◌then◌else◌}
+use Rattle.std.specs.Str.{is_utf8}
+use Rattle.std.specs.List.{slice_split, onto_first, join_with_byte}
+use Rattle.std.proofs.lemmas.Bool.{cases_Bool, eqb-true}
+use Rattle.std.proofs.lemmas.Slice.Eq.{bytes_eq-Decides}
+use Rattle.nd_model.specs.Cells.Running.{Source}
+use Rattle.nd_model.specs.Book.Script as script
+use Rattle.nd_model.specs.Book.Script.{Whole, Bad, number_word, words_of, read_line, with_number, placed_line, input_line, input_of_words}
+use Rattle.nd_script.proofs.words.Words.{parts_are_some}
+use Rattle.nd_desk.specs.Words.{Line, line_of_words, path_line, placed, read_word, try_line, type_line, save_line, file_line}
+use Rattle.nd_desk.specs.Laws.{WordsWereBad}
+
+clash : {X : Type 0} (o : Option X) (x : X) → o ≡ None → o ≡ Some x → ⊥
+clash None x none some = cc
+clash (Some y) x none some = cc
+
+is_word : (w k : List ℕ) → bytes_eq w k ≡ true → w ≡ k
+is_word w k e = (bytes_eq-Decides w k).0 e
+
+-- ---- by the words of a line
+
+number_is_bad : (o : Option ℕ) → with_number o (placed_line (codes "try")) ≡ Whole Bad
+number_is_bad None = refl
+number_is_bad (Some at) = refl
+
+try_is_bad : (a : List ℕ) → script.line_of_words (codes "try" ∷ a ∷ []) ≡ Whole Bad
+try_is_bad a = number_is_bad (number_word a)
+
+-- an input has none of its forms
+no_file : (a : List ℕ) (o : Option Source) → o ≡ None → input_line a o ≡ Whole Bad
+no_file [] o e = refl
+no_file (c ∷ cs) o e = rw e refl
+
+file_is_none : (c : List ℕ) (more : List (List ℕ)) → input_of_words (codes "file") (c ∷ more) ≡ None
+file_is_none c [] = refl
+file_is_none c (d ∷ []) = refl
+file_is_none c (d ∷ e ∷ []) = refl
+file_is_none c (d ∷ e ∷ f ∷ []) = refl
+file_is_none c (d ∷ e ∷ f ∷ g ∷ []) = refl
+file_is_none c (d ∷ e ∷ f ∷ g ∷ h ∷ []) = refl
+file_is_none c (d ∷ e ∷ f ∷ g ∷ h ∷ i ∷ more) = refl
+
+both : (a b : Bool) → (a && b) ≡ true → (a ≡ true) × (b ≡ true)
+both true b e = (refl, e)
+both false b e = absurd (cc)
+
+one_word : (w : List ℕ) (l : Line) → line_of_words (w ∷ []) ≡ Some l → script.line_of_words (w ∷ []) ≡ Whole Bad
+one_word w l e = elim (cases_Bool (bytes_eq w (codes "words"))) [
+  | inl is ↦ subst (λ k. script.line_of_words (k ∷ []) ≡ Whole Bad) (sym (is_word w (codes "words") is)) refl
+  | inr other ↦ absurd (clash (line_of_words (w ∷ [])) l (rw other refl) e)
+]
+
+two_words : (w a : List ℕ) (l : Line) → line_of_words (w ∷ a ∷ []) ≡ Some l → script.line_of_words (w ∷ a ∷ []) ≡ Whole Bad
+two_words w a l e = elim (cases_Bool (bytes_eq w (codes "try"))) [
+  | inl is ↦ subst (λ k. script.line_of_words (k ∷ a ∷ []) ≡ Whole Bad) (sym (is_word w (codes "try") is)) (try_is_bad a)
+  | inr other ↦ absurd (clash (line_of_words (w ∷ a ∷ [])) l (rw other refl) e)
+]
+
+three_words : (w a b : List ℕ) (l : Line) → line_of_words (w ∷ a ∷ b ∷ []) ≡ Some l → script.line_of_words (w ∷ a ∷ b ∷ []) ≡ Whole Bad
+three_words w a b l e = elim (cases_Bool (bytes_eq w (codes "type"))) [
+  | inl is ↦ subst (λ k. script.line_of_words (k ∷ a ∷ b ∷ []) ≡ Whole Bad) (sym (is_word w (codes "type") is)) refl
+  | inr other ↦ absurd (clash (line_of_words (w ∷ a ∷ b ∷ [])) l (rw other refl) e)
+]
+
+-- neither an input from a file nor a file that is saved
+other_path : (w a b path : List ℕ) → (bytes_eq w (codes "input") && bytes_eq b (codes "file")) ≡ false → bytes_eq w (codes "save") ≡ false → path_line w a b path ≡ None
+other_path w a b path input save = rw (input, save) refl
+
+more_words : (w a b c : List ℕ) (more : List (List ℕ)) (l : Line) → line_of_words (w ∷ a ∷ b ∷ c ∷ more) ≡ Some l → script.line_of_words (w ∷ a ∷ b ∷ c ∷ more) ≡ Whole Bad
+more_words w a b c more l e = elim (cases_Bool (bytes_eq w (codes "input") && bytes_eq b (codes "file"))) [
+  | inl is ↦
+      let words = both (bytes_eq w (codes "input")) (bytes_eq b (codes "file")) is in
+      subst (λ k. script.line_of_words (k ∷ a ∷ b ∷ c ∷ more) ≡ Whole Bad) (sym (is_word w (codes "input") words.0))
+      (no_file a (input_of_words b (c ∷ more)) (ap (λ k. input_of_words k (c ∷ more)) (is_word b (codes "file") words.1) ∙ file_is_none c more))
+  | inr other ↦ elim (cases_Bool (bytes_eq w (codes "save"))) [
+    | inl is ↦ subst (λ k. script.line_of_words (k ∷ a ∷ b ∷ c ∷ more) ≡ Whole Bad) (sym (is_word w (codes "save") is)) refl
+    | inr not ↦ absurd (clash (line_of_words (w ∷ a ∷ b ∷ c ∷ more)) l (other_path w a b (join_with_byte 32 (c ∷ more)) other not) e)
+  ]
+]
+
+by_words : (ws : List (List ℕ)) (l : Line) → line_of_words ws ≡ Some l → script.line_of_words ws ≡ Whole Bad
+by_words [] l e = refl
+by_words (w ∷ []) l e = one_word w l e
+by_words (w ∷ a ∷ []) l e = two_words w a l e
+by_words (w ∷ a ∷ b ∷ []) l e = three_words w a b l e
+by_words (w ∷ a ∷ b ∷ c ∷ more) l e = more_words w a b c more l e
+
+-- ---- a comment is no word
+
+comment_words : (part : List ℕ) (parts : List (List ℕ)) → line_of_words ((35 ∷ part) ∷ parts) ≡ None
+comment_words part [] = refl
+comment_words part (a ∷ []) = refl
+comment_words part (a ∷ b ∷ []) = refl
+comment_words part (a ∷ b ∷ c ∷ more) = refl
+
+no_comment : (cs : List ℕ) → line_of_words (words_of (35 ∷ cs)) ≡ None
+no_comment cs =
+    let some = parts_are_some (λ d. d == 32) cs in
+    ap (λ ws. line_of_words (onto_first 35 ws)) some.2 ∙ comment_words some.0 some.1
+
+-- ---- the law
+
+worded : (line : List ℕ) (l : Line) → is_utf8 line ≡ true → read_word line ≡ Some l → line_of_words (words_of line) ≡ Some l
+worded line l text e = rw text at e
+
+at_text : (c : ℕ) (cs : List ℕ) (l : Line) → is_utf8 (c ∷ cs) ≡ true → line_of_words (words_of (c ∷ cs)) ≡ Some l → read_line (c ∷ cs) ≡ Whole Bad
+at_text c cs l text e = elim (cases_Bool (c == 35)) [
+  | inl hash ↦
+      let same : line_of_words (words_of (c ∷ cs)) ≡ None = ap (λ d. line_of_words (words_of (d ∷ cs))) (eqb-true c 35 hash) ∙ no_comment cs in
+      absurd (clash (line_of_words (words_of (c ∷ cs))) l same e)
+  | inr other ↦ rw (other, text) (by_words (words_of (c ∷ cs)) l e)
+]
+
+pub words_were_bad : WordsWereBad
+words_were_bad [] l e = elim (cases_Bool (is_utf8 [])) [
+  | inl text ↦ absurd (clash (line_of_words (words_of [])) l refl (worded [] l text e))
+  | inr not ↦ absurd (clash (read_word []) l (rw not refl) e)
+]
+words_were_bad (c ∷ cs) l e = elim (cases_Bool (is_utf8 (c ∷ cs))) [
+  | inl text ↦ at_text c cs l text (worded (c ∷ cs) l text e)
+  | inr not ↦ absurd (clash (read_word (c ∷ cs)) l (rw not refl) e)
+]

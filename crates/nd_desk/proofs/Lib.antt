@@ -1,0 +1,5 @@
+pub mod Carried
+pub mod Ended
+pub mod Laws
+pub mod Lines
+pub mod Plainly

@@ -1,0 +1,93 @@
+-- What the commands of a desk may answer, and the notebook and the meter after each.
+use Rattle.std.specs.Prelude.{◌≡◌, ℕ, ◌⊎◌, IsTrue, is_ok, List, ◌++◌, length, codes, decimal, Some, Result, Ok, Err}
+use Rattle.std.specs.List.{flat_map}
+use Rattle.nd_model.specs.Arrays.View.{item_size}
+use Rattle.nd_model.specs.Formats.Format.{format_text}
+use Rattle.nd_model.specs.Cells.InputName.{is_input_name}
+use Rattle.nd_model.specs.Cells.Running.{Npy}
+use Rattle.nd_model.specs.Cells.Cell.{Saved}
+use Rattle.nd_model.specs.Book.Renaming.{Shown, ShownInt, ShownTruth, ShownScalar, ShownArray, ShownRow}
+use Rattle.nd_model.specs.Book.Book.{SetInput, EditFault, QueryFault, CellResult, value_at, saved_at}
+use Rattle.nd_model.specs.Book.Script.{Edits, shape_text, shown_text, ok_or_refused, edit_answer, query_answer, refused_line, with_text}
+use Rattle.nd_script.specs.Lines.Counts.{Tally, CountedAnswer}
+use Rattle.nd_notebook.specs.Tried.{tried, TellsTried, CountsTried}
+use Rattle.nd_script.specs.Lines.Language.{Language}
+use Rattle.nd_desk.specs.Words.{Command, Plain, AsksWords, AsksType, Tries, SetsFile, SavesFile, Stage, step, left_open}
+
+-- ---- answers
+
+-- a number as `value` has it; of an array or a row what it is, without its elements
+abbrev pub type_text : Shown → List ℕ
+type_text (ShownInt z) = shown_text (ShownInt z)
+type_text (ShownTruth t) = shown_text (ShownTruth t)
+type_text (ShownScalar k z) = shown_text (ShownScalar k z)
+type_text (ShownArray t shape bytes) = codes "array " ++ format_text t ++ codes " " ++ decimal (item_size t) ++ codes " " ++ shape_text shape
+type_text (ShownRow t bytes) = codes "row " ++ format_text t ++ codes " " ++ decimal (item_size t)
+
+abbrev pub type_answer : Shown → List ℕ
+type_answer v = type_text v ++ codes "\n"
+
+-- each file with its length, and its bytes in the lines behind
+abbrev pub file_lines : Saved → List ℕ
+file_lines saves = flat_map (λ (f : List ℕ × List ℕ). codes "save " ++ f.0 ++ codes " " ++ decimal (length f.1) ++ codes "\n" ++ f.1 ++ codes "\n") saves
+
+abbrev pub trial_answer : CellResult → List ℕ
+trial_answer r = codes "text " ++ decimal (length r.text) ++ codes "\n" ++ r.text ++ ok_or_refused r.refusal ++ file_lines r.saves ++ codes "end\n"
+
+abbrev pub tried_answer : Result CellResult EditFault → List ℕ
+tried_answer (Ok r) = trial_answer r
+tried_answer (Err f) = edit_answer (Some f)
+
+abbrev pub out_of_memory : List ℕ
+out_of_memory = refused_line (codes "OutOfMemory")
+
+-- The answer is the one that is meant, or memory is wanted where there is something to tell.
+abbrev pub TellsType : Result Shown QueryFault → (text : List ℕ) → Type 0
+TellsType asked text = (text ≡ query_answer (with_text type_answer asked)) ⊎ (IsTrue (is_ok asked) × (text ≡ out_of_memory))
+
+-- why a file is not to be had
+pub data FileCause : Type 0 where
+  NotFound : FileCause
+  PermissionDenied : FileCause
+  NotADirectory : FileCause
+  IsADirectory : FileCause
+  StorageFull : FileCause
+  Failed : FileCause
+
+abbrev pub cause_text : FileCause → List ℕ
+cause_text NotFound = codes "NotFound"
+cause_text PermissionDenied = codes "PermissionDenied"
+cause_text NotADirectory = codes "NotADirectory"
+cause_text IsADirectory = codes "IsADirectory"
+cause_text StorageFull = codes "StorageFull"
+cause_text Failed = codes "Failed"
+
+-- A file is not to be had, for some cause or for want of memory.
+abbrev pub IsUnhad : (tried text : List ℕ) → Type 0
+IsUnhad tried text = ((cause : FileCause) × (text ≡ refused_line (tried ++ cause_text cause))) ⊎ (text ≡ out_of_memory)
+
+-- the bytes of some file were set, or under a good name they were not to be had
+abbrev pub SetsSome : List ℕ → Tally → (text : List ℕ) → Tally → Type 0
+SetsSome name old text new =
+    ((bytes : List ℕ) × CountedAnswer (Edits (SetInput name (Npy bytes))) old text new)
+    ⊎ (IsTrue (is_input_name name) × IsUnhad (codes "Unread ") text × (new ≡ old))
+
+-- a file that is there was written or not, and one that is not there is refused
+abbrev pub SavesSome : Result (List ℕ) QueryFault → (text : List ℕ) → Type 0
+SavesSome (Ok file) text = (text ≡ codes "ok\n") ⊎ IsUnhad (codes "Unwritten ") text
+SavesSome (Err f) text = text ≡ query_answer (Err f)
+
+-- WHAT A COMMAND MAY ANSWER, with the notebook and the meter after it
+abbrev pub Gives : Command → Tally → (text : List ℕ) → Tally → Type 0
+Gives (Plain c) old text new = CountedAnswer c old text new
+Gives AsksWords old text new = (text ≡ codes "words file save try type\n") × (new ≡ old)
+Gives (AsksType at name) old text new = TellsType (value_at old.book at name) text × (new ≡ old)
+Gives (Tries at source) old text new =
+    (outcome : Result CellResult EditFault) × TellsTried outcome (tried at source old.book) × CountsTried outcome old.count new.count
+    × (text ≡ tried_answer outcome) × (new.book ≡ old.book)
+Gives (SetsFile name path) old text new = SetsSome name old text new
+Gives (SavesFile at name path) old text new = SavesSome (saved_at old.book at name) text × (new ≡ old)
+
+-- THE LANGUAGE OF A DESK: the commands of every script and words for front ends, counted on the meter
+abbrev pub desk : Language
+desk = record { Command = Command; Stage = Stage; State = Tally; step = step; left_open = left_open; gives = Gives }

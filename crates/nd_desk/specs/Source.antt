@@ -1,0 +1,18 @@
+-- Texts, as far as their lines have come.
+use Rattle.std.specs.Prelude.{Option, Some, None}
+use Rattle.nd_model.specs.Book.Script as script
+use Rattle.nd_commands.specs.declared.source.OpenText.{OpenText}
+use Rattle.nd_commands.specs.Source as texts
+use Rattle.nd_desk.specs.Words.{Stage, Plainly, Trying}
+use Rattle.nd_desk.specs.declared.line.DeskSource.{DeskSource}
+use Rattle.nd_desk.specs.declared.line.DeskSource.TheVariants.{Plain, Try}
+
+abbrev pub plain_source : Option OpenText → Option DeskSource
+plain_source None = None
+plain_source (Some t) = Some (Plain t)
+
+-- where a script stands
+abbrev pub stage_of : Option DeskSource → Stage
+stage_of None = Plainly script.Between
+stage_of (Some (Plain t)) = Plainly (texts.stage_of (Some t))
+stage_of (Some (Try at t)) = Trying at (texts.lines_so_far t)

@@ -1,0 +1,114 @@
+//! `try_cell` and the others: words for front ends, carried out and answered.
+
+ghost use Rattle.nd_commands.specs.Run.{tally_of};
+ghost use Rattle.nd_script.specs.Lines.Answers.{Pushes};
+ghost use Rattle.nd_desk.specs.Carry.{Asked, CarriedOut, PushesUnhad};
+ghost use Rattle.nd_desk.specs.Words.{AsksType, SavesFile, SetsFile, Tries};
+
+use crate::answer::{push_trial, push_type};
+use crate::file::{FileCause, replace_file};
+use nd_commands::{push_edit_answer, push_query_refusal, read_input};
+use nd_notebook::{EditFault, Input, Meter, Notebook, is_input_name};
+use nd_script::lines::AnswerWrite;
+use nd_script::words::push_text;
+use std::alloc::Global;
+use std::io::ErrorKind;
+
+/// Tries a cell at a position, and tells what it gives. The notebook stays as it is.
+pub fn try_cell<O: AnswerWrite>(
+    out: &mut O,
+    meter: &mut Meter,
+    notebook: &Notebook,
+    at: usize,
+    source: &str,
+)
+    ensures { CarriedOut (Tries at source.now) (tally_of notebook.now meter.old)
+        (O.state out.old) (O.state out.new) (tally_of notebook.now meter.new) }
+{
+    match notebook.try_cell(meter, at, source) {
+        Ok(tried) => {
+            push_trial(out, tried.result());
+            drop(tried);
+        }
+        Err(fault) => push_edit_answer(out, "", &Err(fault)),
+    }
+}
+
+/// Tells the dtype and the shape of a name's value after a cell.
+pub fn show_type<O: AnswerWrite>(
+    alloc: Global,
+    out: &mut O,
+    notebook: &Notebook,
+    at: usize,
+    name: &str,
+)
+    ensures { Asked (AsksType at name.now) notebook.now (O.state out.old) (O.state out.new) }
+{
+    match notebook.value(at, name) {
+        Ok(value) => {
+            push_type(alloc, out, &value);
+            drop(value);
+        }
+        Err(fault) => push_query_refusal(out, name, fault),
+    }
+}
+
+// Appends why a file is not to be had, behind a word for what was tried.
+fn push_cause<O: AnswerWrite>(out: &mut O, tried: &str, kind: ErrorKind)
+    ensures { PushesUnhad tried.now (O.state out.old) (O.state out.new) }
+{
+    if kind == ErrorKind::OutOfMemory {
+        return push_text(out, "refused OutOfMemory\n");
+    }
+    push_text(out, "refused ");
+    push_text(out, tried);
+    push_text(out, FileCause::of_kind(kind).name());
+    push_text(out, "\n");
+}
+
+/// Sets an input to the NPY file at a path. A name that no input may have is refused before the file
+/// is opened.
+pub fn set_file<O: AnswerWrite>(
+    rt: &HostRuntime,
+    out: &mut O,
+    meter: &mut Meter,
+    notebook: &mut Notebook,
+    name: &str,
+    path: &str,
+)
+    ensures { CarriedOut (SetsFile name.now path.now) (tally_of notebook.old meter.old)
+        (O.state out.old) (O.state out.new) (tally_of notebook.new meter.new) }
+{
+    if !is_input_name(name) {
+        push_edit_answer(out, name, &Err(EditFault::BadInputName));
+        return;
+    }
+    match read_input(rt, path) {
+        Ok(bytes) => {
+            let done = notebook.set_input(meter, name, Input::Npy(bytes));
+            push_edit_answer(out, name, &done);
+        }
+        Err(error) => push_cause(out, "Unread ", error.kind()),
+    }
+}
+
+/// Writes a file that a cell saved to a path.
+pub fn save_file<O: AnswerWrite>(
+    rt: &HostRuntime,
+    out: &mut O,
+    notebook: &Notebook,
+    at: usize,
+    name: &str,
+    path: &str,
+)
+    ensures { Asked (SavesFile at name.now path.now) notebook.now
+        (O.state out.old) (O.state out.new) }
+{
+    match notebook.file(at, name) {
+        Ok(file) => match replace_file(rt, path, file) {
+            Ok(()) => push_text(out, "ok\n"),
+            Err(error) => push_cause(out, "Unwritten ", error.kind()),
+        },
+        Err(fault) => push_query_refusal(out, name, fault),
+    }
+}

@@ -1,0 +1,22 @@
+//! Scripts with words for front ends: [`run_desk`] carries out the commands of a script and more.
+//! [`status`] is the program without its `main`.
+#![tactic(auto)]
+
+ghost use Rattle.nd_desk.specs.Laws.{WordsWereBad};
+
+mod answer;
+mod answerer;
+mod carry;
+mod file;
+mod line;
+mod program;
+mod runner;
+mod word;
+
+pub use program::status;
+pub use runner::run_desk;
+
+/// No command of a script is another one here: each word for front ends is a bad command elsewhere.
+pub fn words_were_bad()
+    ensures { WordsWereBad }
+{}

@@ -49,17 +49,23 @@ TellsType asked text = (text ≡ query_answer (with_text type_answer asked)) ⊎
 pub data FileCause : Type 0 where
   NotFound : FileCause
   PermissionDenied : FileCause
+  AlreadyExists : FileCause
   NotADirectory : FileCause
   IsADirectory : FileCause
+  ReadOnlyFilesystem : FileCause
   StorageFull : FileCause
+  InvalidFilename : FileCause
   Failed : FileCause
 
 abbrev pub cause_text : FileCause → List ℕ
 cause_text NotFound = codes "NotFound"
 cause_text PermissionDenied = codes "PermissionDenied"
+cause_text AlreadyExists = codes "AlreadyExists"
 cause_text NotADirectory = codes "NotADirectory"
 cause_text IsADirectory = codes "IsADirectory"
+cause_text ReadOnlyFilesystem = codes "ReadOnlyFilesystem"
 cause_text StorageFull = codes "StorageFull"
+cause_text InvalidFilename = codes "InvalidFilename"
 cause_text Failed = codes "Failed"
 
 -- A file is not to be had, for some cause or for want of memory.

@@ -16,9 +16,12 @@ const MOST_PARTS: u8 = 100;
 pub enum FileCause {
     NotFound,
     PermissionDenied,
+    AlreadyExists,
     NotADirectory,
     IsADirectory,
+    ReadOnlyFilesystem,
     StorageFull,
+    InvalidFilename,
     /// Any other cause.
     Failed,
 }
@@ -29,9 +32,12 @@ impl FileCause {
         match kind {
             ErrorKind::NotFound => FileCause::NotFound,
             ErrorKind::PermissionDenied => FileCause::PermissionDenied,
+            ErrorKind::AlreadyExists => FileCause::AlreadyExists,
             ErrorKind::NotADirectory => FileCause::NotADirectory,
             ErrorKind::IsADirectory => FileCause::IsADirectory,
+            ErrorKind::ReadOnlyFilesystem => FileCause::ReadOnlyFilesystem,
             ErrorKind::StorageFull => FileCause::StorageFull,
+            ErrorKind::InvalidFilename => FileCause::InvalidFilename,
             _ => FileCause::Failed,
         }
     }
@@ -43,9 +49,12 @@ impl FileCause {
         match self {
             FileCause::NotFound => "NotFound",
             FileCause::PermissionDenied => "PermissionDenied",
+            FileCause::AlreadyExists => "AlreadyExists",
             FileCause::NotADirectory => "NotADirectory",
             FileCause::IsADirectory => "IsADirectory",
+            FileCause::ReadOnlyFilesystem => "ReadOnlyFilesystem",
             FileCause::StorageFull => "StorageFull",
+            FileCause::InvalidFilename => "InvalidFilename",
             FileCause::Failed => "Failed",
         }
     }

@@ -1,5 +1,6 @@
 pub mod Answer
 pub mod Carry
+pub mod Input
 pub mod Run
 pub mod Source
 pub mod Value

@@ -1,7 +1,9 @@
 //! `status`: runs what the command line asks for, and gives the exit status of the program.
 
-ghost use Rattle.std.specs.Prelude.{◌≤◌};
+ghost use Rattle.std.specs.Prelude.{IfOk, ◌≤◌};
 ghost use Rattle.std.specs.Process.{exit_status};
+ghost use Rattle.nd_input.specs.Sources.{source_of};
+ghost use Rattle.nd_commands.specs.Input.{IsNpy};
 
 use crate::runner::run;
 use clap::error::ErrorKind;
@@ -216,15 +218,17 @@ fn request_of<'a>(
     })
 }
 
-/// Returns the bytes of a file, and of a large one as many as are more than an input may take. The
-/// buffer is made for the file's length; where none is known, as of a pipe, it grows.
-pub fn read_input(rt: &HostRuntime, path: &str) -> io::Result<Vec<u8>> {
+/// Returns an input of the bytes of an NPY file, of a large one as many as are more than an input
+/// may take. The buffer is made for the file's length; where none is known, as of a pipe, it grows.
+pub fn read_input(rt: &HostRuntime, path: &str) -> io::Result<Input>
+    ensures { IfOk result (λ input. IsNpy (source_of input)) }
+{
     let file = fs::open(rt, path)?;
     // A byte more than the file has, so that the read that finds the end needs no more room.
     let room = file.metadata()?.len().saturating_add(1).min(MOST_READ);
     let mut bytes = Vec::with_capacity(rt.alloc(), room as usize)?;
     file.take(MOST_READ).read_to_end(&mut bytes)?;
-    Ok(bytes)
+    Ok(Input::Npy(bytes))
 }
 
 /// Sets the inputs of a notebook in order, to the first that is not to be had.
@@ -235,11 +239,11 @@ fn set_inputs<'a>(
     inputs: &[InputFile<'a>],
 ) -> Result<(), ProgramFault<'a>> {
     for input in inputs {
-        let bytes = match read_input(rt, input.path) {
-            Ok(bytes) => bytes,
+        let source = match read_input(rt, input.path) {
+            Ok(source) => source,
             Err(error) => return Err(ProgramFault::UnreadInput(*input, error)),
         };
-        if let Err(fault) = notebook.set_input(meter, input.name, Input::Npy(bytes)) {
+        if let Err(fault) = notebook.set_input(meter, input.name, source) {
             return Err(ProgramFault::RefusedInput(*input, fault));
         }
     }

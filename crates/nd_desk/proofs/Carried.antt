@@ -11,7 +11,7 @@ use Rattle.nd_model.specs.Book.Renaming.{Shown}
 use Rattle.nd_model.specs.Book.Script as script
 use Rattle.nd_model.specs.Book.Script.{Edits, edit_answer, query_answer, refused_line, source_of, with_text}
 use Rattle.nd_model.specs.Cells.InputName.{is_input_name}
-use Rattle.nd_model.specs.Cells.Running.{Npy}
+use Rattle.nd_model.specs.Cells.Running.{Source, Npy}
 use Rattle.nd_model.specs.Text.FaultText.{query_fault_text}
 use Rattle.nd_script.specs.Lines.Answers.{AnswerState, Pushes}
 use Rattle.nd_script.specs.Lines.Counts.{Tally, CountedAnswer}
@@ -20,6 +20,7 @@ use Rattle.nd_notebook.specs.declared.query.QueryFault as asked
 use Rattle.nd_notebook.specs.declared.trying.TriedCell.{TriedCell}
 use Rattle.nd_notebook.specs.Queries.{answer_of, query_fault_of}
 use Rattle.nd_notebook.specs.Tried.{tried, tried_of, TellsTried, CountsTried}
+use Rattle.nd_commands.specs.Input.{IsNpy}
 use Rattle.nd_commands.specs.Run.{tally_of}
 use Rattle.nd_desk.specs.Words.{Tries, AsksType, SetsFile, SavesFile, Plain, closed_try}
 use Rattle.nd_desk.specs.Answers.{tried_answer, type_answer, out_of_memory, TellsType, SavesSome, IsUnhad}
@@ -70,9 +71,9 @@ untold_type sheet at name f was now count told pushed =
 
 -- ---- files
 
-pub set_some : (name path : List ℕ) (bytes text : List ℕ) (old new : Tally) (was now : AnswerState) → CountedAnswer (Edits (SetInput name (Npy bytes))) old text new → Pushes was text now
-    → CarriedOut (SetsFile name path) old was now new
-set_some name path bytes text old new was now given pushed = (text, inl (bytes, given), pushed)
+pub set_some : (name path : List ℕ) (source : Source) (text : List ℕ) (old new : Tally) (was now : AnswerState) → IsNpy source → CountedAnswer (Edits (SetInput name source)) old text new
+    → Pushes was text now → CarriedOut (SetsFile name path) old was now new
+set_some name path source text old new was now npy given pushed = (text, inl (npy.0, subst (λ s. CountedAnswer (Edits (SetInput name s)) old text new) npy.1 given), pushed)
 
 -- under a name that no input may have nothing is read
 pub bad_name : (name path : List ℕ) (old : Tally) (was now : AnswerState) → is_input_name name ≡ false → Pushes was (edit_answer (Some BadInputName)) now

@@ -8,7 +8,7 @@ ghost use Rattle.nd_desk.specs.Words.{AsksType, SavesFile, SetsFile, Tries};
 use crate::answer::{push_trial, push_type};
 use crate::file::{FileCause, replace_file};
 use nd_commands::{push_edit_answer, push_query_refusal, read_input};
-use nd_notebook::{EditFault, Input, Meter, Notebook, is_input_name};
+use nd_notebook::{EditFault, Meter, Notebook, is_input_name};
 use nd_script::lines::AnswerWrite;
 use nd_script::words::push_text;
 use std::alloc::Global;
@@ -84,8 +84,8 @@ pub fn set_file<O: AnswerWrite>(
         return;
     }
     match read_input(rt, path) {
-        Ok(bytes) => {
-            let done = notebook.set_input(meter, name, Input::Npy(bytes));
+        Ok(input) => {
+            let done = notebook.set_input(meter, name, input);
             push_edit_answer(out, name, &done);
         }
         Err(error) => push_cause(out, "Unread ", error.kind()),

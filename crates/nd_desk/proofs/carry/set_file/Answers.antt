@@ -1,6 +1,6 @@
 use Rattle.std.proofs.Common.{[], rules}
 use Rattle.nd_model.specs.Book.Book.{SetInput}
-use Rattle.nd_model.specs.Cells.Running.{Npy}
+use Rattle.nd_input.specs.Sources.{source_of}
 use Rattle.nd_commands.specs.Run.{tally_of}
 use Rattle.nd_commands.proofs.Edited.{carried_edit, counts_edit}
 use Rattle.nd_desk.proofs.Carried.{bad_name, set_some, unread}
@@ -11,13 +11,13 @@ returns-then-not-is_input_name g c = bad_name c.args.name.now c.args.path.now (t
 
 pub returns-in-Ok : goal.returns-in-Ok
 returns-in-Ok g c =
-    let edit = SetInput c.args.name.now (Npy c.in-Ok.bytes.items) in
+    let edit = SetInput c.args.name.now (source_of c.in-Ok.input) in
     let carried = carried_edit edit c.args.notebook.now c.set_input-done.new.self c.set_input-done.result _ _ c.set_input-done.ensures.answered c.push_edit_answer-in-Ok.ensures in
     let counts =
     counts_edit edit c.args.notebook.now c.set_input-done.new.self c.set_input-done.result c.args.meter.now c.set_input-done.new.meter
     c.set_input-done.ensures.answered c.set_input-done.ensures.counts in
-    set_some c.args.name.now c.args.path.now c.in-Ok.bytes.items carried.0 (tally_of c.args.notebook.now c.args.meter.now) (tally_of c.set_input-done.new.self c.set_input-done.new.meter)
-    _ _ (carried.1, counts) carried.2
+    set_some c.args.name.now c.args.path.now (source_of c.in-Ok.input) carried.0 (tally_of c.args.notebook.now c.args.meter.now) (tally_of c.set_input-done.new.self c.set_input-done.new.meter)
+    _ _ c.read_input.ensures (carried.1, counts) carried.2
 
 pub returns-in-Err : goal.returns-in-Err
 returns-in-Err g c = unread c.args.name.now c.args.path.now (tally_of c.args.notebook.now c.args.meter.now) _ _ (search rules) c.push_cause.ensures

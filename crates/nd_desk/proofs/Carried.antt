@@ -1,6 +1,6 @@
 -- Words for front ends that are carried out.
-use Rattle.std.proofs.Common.{◌≡◌, ℕ, true, false, List, [], ◌∷◌, ◌++◌, Option, Some, None, Result, Ok, Err, ◌⊎◌, refl, sym, ap, subst, ◌∙◌, inl, inr}
-use Rattle.std.specs.Prelude.{IsUtf8, IsTrue, is_ok, codes}
+use Rattle.std.proofs.Common.{◌≡◌, ℕ, true, false, List, [], Some, Result, Ok, Err, ◌⊎◌, refl, sym, ap, subst, inl, inr}
+use Rattle.std.specs.Prelude.{IsUtf8, is_ok, codes}
 use Rattle.std.specs.Str.{is_utf8}
 use Rattle.std.proofs.lemmas.Bool.{false_from_ne_true}
 use Rattle.std.proofs.lemmas.Str.{IsUtf8-from_is_utf8, is_utf8-from_IsUtf8}
@@ -18,7 +18,7 @@ use Rattle.nd_script.specs.Lines.Counts.{Tally, CountedAnswer}
 use Rattle.nd_notebook.specs.declared.edit.EditFault as declared
 use Rattle.nd_notebook.specs.declared.query.QueryFault as asked
 use Rattle.nd_notebook.specs.declared.trying.TriedCell.{TriedCell}
-use Rattle.nd_notebook.specs.Queries.{answer_of, query_fault_of}
+use Rattle.nd_notebook.specs.Queries.{query_fault_of}
 use Rattle.nd_notebook.specs.Tried.{tried, tried_of, TellsTried, CountsTried}
 use Rattle.nd_commands.specs.Input.{IsNpy}
 use Rattle.nd_commands.specs.Run.{tally_of}

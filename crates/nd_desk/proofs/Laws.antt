@@ -1,15 +1,15 @@
 -- Each word for front ends is a bad command of every other script.
 use Rattle.std.proofs.Common.{◌≡◌, ℕ, Bool, true, false, List, [], ◌∷◌, Option, Some, None, refl, sym, ap, subst, ◌∙◌, inl, inr, bytes_eq, codes}
-use Rattle.std.specs.Prelude.{◌==◌, ◌&&◌, if◌then◌else◌}
+use Rattle.std.specs.Prelude.{◌==◌, ◌&&◌}
 use Rattle.std.specs.Str.{is_utf8}
-use Rattle.std.specs.List.{slice_split, onto_first, join_with_byte}
+use Rattle.std.specs.List.{onto_first, join_with_byte}
 use Rattle.std.proofs.lemmas.Bool.{cases_Bool, eqb-true}
 use Rattle.std.proofs.lemmas.Slice.Eq.{bytes_eq-Decides}
 use Rattle.nd_model.specs.Cells.Running.{Source}
 use Rattle.nd_model.specs.Book.Script as script
 use Rattle.nd_model.specs.Book.Script.{Whole, Bad, number_word, words_of, read_line, with_number, placed_line, input_line, input_of_words}
 use Rattle.nd_script.proofs.words.Words.{parts_are_some}
-use Rattle.nd_desk.specs.Words.{Line, line_of_words, path_line, placed, read_word, try_line, type_line, save_line, file_line}
+use Rattle.nd_desk.specs.Words.{Line, line_of_words, path_line, read_word}
 use Rattle.nd_desk.specs.Laws.{WordsWereBad}
 
 clash : {X : Type 0} (o : Option X) (x : X) → o ≡ None → o ≡ Some x → ⊥

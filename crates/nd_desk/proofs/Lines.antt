@@ -1,5 +1,5 @@
 -- Lines with words for front ends.
-use Rattle.std.proofs.Common.{◌≡◌, ℕ, true, false, List, ◌∷◌, None, Some, refl, sym, ap, ◌∙◌}
+use Rattle.std.proofs.Common.{◌≡◌, ℕ, true, false, List, ◌∷◌, None, refl, sym, ap, ◌∙◌}
 use Rattle.std.specs.Prelude.{◌==◌, IsUtf8}
 use Rattle.std.specs.Str.{is_utf8}
 use Rattle.std.specs.List.{join_with_byte}

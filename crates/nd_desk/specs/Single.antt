@@ -4,7 +4,7 @@ use Rattle.nd_model.specs.Book.Script as script
 use Rattle.nd_model.specs.Book.Script.{Between, Within, is_dot}
 use Rattle.nd_script.specs.Lines.Language.{AtMostOne, OneByOne}
 use Rattle.nd_script.proofs.lines.Plain.{plain_one_by_one}
-use Rattle.nd_desk.specs.Words.{Command, Plain, Line, Whole, Opens, Stage, Plainly, Trying, step, step_of_word, plainly, read_word, closed_try, left_open}
+use Rattle.nd_desk.specs.Words.{Command, Plain, Line, Whole, Opens, Stage, Plainly, Trying, step, step_of_word, read_word, closed_try, left_open}
 use Rattle.nd_desk.specs.Answers.{desk}
 
 few_mapped : (cs : List script.Command) → AtMostOne cs → AtMostOne (map Plain cs)

@@ -264,11 +264,11 @@ class Drawer:
 
 def answers(lines: List[str]) -> List[str]:
     """What the program answers to a script, in the parts between its marks. A byte of a file is a character."""
-    script = "\n".join(lines) + "\n"
-    done = subprocess.run([PROGRAM], input=script, capture_output=True, encoding="latin-1", timeout=120)
+    script = ("\n".join(lines) + "\n").encode("latin-1")
+    done = subprocess.run([PROGRAM], input=script, capture_output=True, timeout=120, check=False)
     if done.returncode:
-        return [f"exit status {done.returncode}: {done.stderr}"]
-    return done.stdout.split(MARK + "\n")
+        return [f"exit status {done.returncode}: {done.stderr.decode('latin-1')}"]
+    return done.stdout.decode("latin-1").split(MARK + "\n")
 
 
 @dataclass(frozen=True)

@@ -9,7 +9,7 @@ from typing import Iterator, NamedTuple
 CRATES = Path(__file__).resolve().parents[1] / 'crates'
 
 # Blocks of 2^63 bytes or more, which no allocator gives, are refused without asking one.
-EXCEPTIONS = {'nd_block/src/block.rt': 1, 'nd_block/src/filling.rt': 1}
+EXCEPTIONS = {'nd_block/src/block.rt': 1, 'nd_block/src/filling.rt': 1, 'nd_desk/src/carry.rt': 1}
 
 # What a word is no value in: an import, a type, a call of `from`, and an arm that takes an error apart.
 NO_VALUE = (

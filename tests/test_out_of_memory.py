@@ -9,7 +9,9 @@ from typing import Iterator, NamedTuple
 CRATES = Path(__file__).resolve().parents[1] / 'crates'
 
 # Blocks of 2^63 bytes or more, which no allocator gives, are refused without asking one.
-EXCEPTIONS = {'nd_block/src/block.rt': 1, 'nd_block/src/filling.rt': 1, 'nd_desk/src/carry.rt': 1}
+MADE = {'nd_block/src/block.rt': 1, 'nd_block/src/filling.rt': 1}
+# The kind of an error that a file gave is compared with want of memory; none is made.
+COMPARED = {'nd_desk/src/carry.rt': 1}
 
 # What a word is no value in: an import, a type, a call of `from`, and an arm that takes an error apart.
 NO_VALUE = (
@@ -62,7 +64,7 @@ class OutOfMemory(unittest.TestCase):
             for place in places_in(file, path.read_text()):
                 found.setdefault(file, []).append(place)
         counts = {file: len(places) for file, places in found.items()}
-        self.assertEqual(counts, EXCEPTIONS, found)
+        self.assertEqual(counts, {**MADE, **COMPARED}, found)
 
     def test_each_form_of_a_made_error_is_found(self) -> None:
         for line in ('return Err(AllocError);', 'Err(_) => Err(AllocError),', 'let e = AllocError;', 'Err(AllocError.into())',

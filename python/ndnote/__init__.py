@@ -1,5 +1,6 @@
 """Notebooks of integer arrays from Python: a thin client of the proved program `ndnote`."""
-from .engine import Died, Notebook, Refusal, Refused, Result, Trial
+from .engine import Notebook, Refusal, Refused, RefusedAmong, Result, Trial
+from .process import Died
 from .values import Known, Type, Value
 
-__all__ = ['Died', 'Known', 'Notebook', 'Refusal', 'Refused', 'Result', 'Trial', 'Type', 'Value']
+__all__ = ['Died', 'Known', 'Notebook', 'Refusal', 'Refused', 'RefusedAmong', 'Result', 'Trial', 'Type', 'Value']

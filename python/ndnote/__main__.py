@@ -11,9 +11,9 @@ from pathlib import Path
 from typing import Optional, Sequence
 
 from . import book, files, page
-from .engine import Died
 from .excerpt import is_behind
 from .faults import column, told, words
+from .process import Died
 from .session import TOO_LONG, Session, Shown, opened
 
 FINE, REFUSED, WRONG, ENDED, INTERRUPTED = 0, 1, 2, 3, 130

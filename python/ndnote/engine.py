@@ -1,35 +1,39 @@
-"""One process of the proved program, spoken to by the commands of its scripts. Nothing here knows of books or pages."""
+"""`Notebook`: one process of the proved program, spoken to by the commands of its scripts. It knows of no books."""
 from __future__ import annotations
 
 import errno
 import os
 import re
-import resource
-import subprocess
 import tempfile
-import threading
 from functools import cached_property
+from operator import index as whole
 from pathlib import Path
-from typing import Any, Callable, Iterable, NamedTuple, Optional, Sequence, TypeVar
+from typing import Any, Callable, Iterable, NamedTuple, Optional, Sequence, Union
 
 from .files import PathLike, replace_file
-from .values import Known, Layout, Value
+from .process import Process
+from .values import Known, Layout, Type, Value
 
-Answer = TypeVar('Answer')
-# How the program's allocator takes and keeps memory, unless the environment says so itself. `./ndnote` reads this file too.
-TUNABLES = Path(__file__).with_name('tunables').read_text('ascii').strip()
+Part = Union[int, slice]
+# ('insert', at, source), ('edit', at, source), ('move', origin, to), ('remove', at): an edit of cells.
+Edit = tuple
 # What the program calls the errors of the system.
 CAUSES = {'NotFound': errno.ENOENT, 'PermissionDenied': errno.EACCES, 'AlreadyExists': errno.EEXIST,
           'NotADirectory': errno.ENOTDIR, 'IsADirectory': errno.EISDIR, 'ReadOnlyFilesystem': errno.EROFS,
           'StorageFull': errno.ENOSPC, 'InvalidFilename': errno.ENAMETOOLONG}
+LARGE = 1 << 16         # bytes of an input that are handed over in a file, where the program reads files
 
 
 class Refused(Exception):
     """An edit or a question that the notebook refused, in its words: 'NoCell 3 3'. Nothing has changed."""
 
 
-class Died(Exception):
-    """The process ended, or was ended, before it had answered."""
+class RefusedAmong(Refused):
+    """Several edits that are one, of which the edit `at` was refused, counted from 0."""
+
+    def __init__(self, at: int, why: str) -> None:
+        super().__init__(why)
+        self.at = at
 
 
 class Refusal(NamedTuple):
@@ -52,15 +56,6 @@ class Trial(NamedTuple):
     files: dict[str, bytes]
 
 
-def program() -> str:
-    """The path of the program: $NDNOTE_PROGRAM, or what the checkout around this package has built for front ends."""
-    told = os.environ.get('NDNOTE_PROGRAM')
-    path = Path(told) if told else Path(__file__).resolve().parents[2] / 'crates/ndnote_desk/out/ndnote_desk'
-    if not path.is_file():
-        raise FileNotFoundError(f'{path}: the program is not built; NDNOTE_PROGRAM may name another')
-    return str(path)
-
-
 def script_source(source: str) -> bytes:
     """The lines of a source as a script takes them: a line '.' would end it, and ' .' means the same to the grammar."""
     lines = source.encode('utf-8', 'replace').split(b'\n')
@@ -79,15 +74,45 @@ def asked(name: str, refusal: str) -> bytes:
     return name.encode('utf-8', 'replace')
 
 
-class Notebook:
+def index_word(index: Union[Part, Sequence[Part]]) -> str:
+    """An index of whole numbers and slices as one word of a script: '0,1:5,::2'."""
+    def limit(number: Any) -> str:
+        return '' if number is None else str(whole(number))
+    words = []
+    for part in index if isinstance(index, tuple) else (index,):
+        if isinstance(part, slice):
+            step = '' if part.step is None else ':' + limit(part.step)
+            words.append(f'{limit(part.start)}:{limit(part.stop)}{step}')
+        elif isinstance(part, bool):
+            raise TypeError('an index of whole numbers and slices has no Booleans')
+        else:
+            words.append(str(whole(part)))
+    if not words:
+        raise TypeError('an index has a part at least')
+    return ','.join(words)
+
+
+def layout_words(layout: Layout) -> str:
+    """A layout as the words of a script."""
+    if re.search(r'\s', layout.format):
+        raise ValueError(f'{layout.format}: a format with spaces is not taken')
+    return (f'{layout.format} {layout.itemsize} {list_word(layout.shape)} {list_word(layout.strides)} '
+            f'{layout.offset}')
+
+
+def line_of(edit: Edit) -> bytes:
+    """An edit of cells as a command of a script."""
+    word, at, *rest = edit
+    if word in ('insert', 'edit'):
+        return b'%s %d\n%b\n.\n' % (word.encode(), at, script_source(rest[0]))
+    return ' '.join([word, str(at), *map(str, rest)]).encode() + b'\n'
+
+
+class Notebook(Process):
     """A notebook of the program, edited and asked by the commands of its scripts. Cells are counted from 0."""
 
-    def __init__(self, path: Optional[str] = None, memory: Optional[int] = None) -> None:
-        self._log = tempfile.TemporaryFile()
-        self._process = subprocess.Popen([path or program()], stdin=subprocess.PIPE, stdout=subprocess.PIPE,
-                                         stderr=self._log, env={'GLIBC_TUNABLES': TUNABLES, **os.environ})
-        if memory:
-            resource.prlimit(self._process.pid, resource.RLIMIT_AS, (memory, memory))
+    def __init__(self, path: Optional[str] = None, memory: Optional[int] = None, progress: bool = False) -> None:
+        super().__init__(path, memory, progress)
         self.count = 0
 
     def __enter__(self) -> 'Notebook':
@@ -95,74 +120,6 @@ class Notebook:
 
     def __exit__(self, *_: object) -> None:
         self.close()
-
-    def close(self) -> None:
-        self._process.kill()
-        self._process.wait()
-        for pipe in (self._process.stdin, self._process.stdout, self._log):
-            try:
-                pipe.close()
-            except BrokenPipeError:
-                pass
-
-    @property
-    def process(self) -> int:
-        """The number of the process."""
-        return self._process.pid
-
-    def kill(self) -> None:
-        """Ends the process, from any thread: whoever waits for an answer gets Died."""
-        self._process.kill()
-
-    def starve(self) -> bool:
-        """Refuses the program any more memory, from any thread and on Linux alone; tells whether that could be done.
-        An edit that takes memory is then refused for want of it, and the notebook is as it was."""
-        return self._bound_memory(lambda most: (1, most))
-
-    def feed(self) -> bool:
-        """Ends `starve`."""
-        return self._bound_memory(lambda most: (most, most))
-
-    def _bound_memory(self, limits: Callable[[int], tuple[int, int]]) -> bool:
-        try:
-            _, most = resource.prlimit(self._process.pid, resource.RLIMIT_AS)
-            resource.prlimit(self._process.pid, resource.RLIMIT_AS, limits(most))
-            return True
-        except (AttributeError, OSError):
-            return False
-
-    def is_over(self) -> bool:
-        return self._process.poll() is not None
-
-    # What is sent, and what is read. A thread of its own writes a batch, so that long answers cannot block both sides.
-
-    def death(self) -> Died:
-        """How the process ended."""
-        status = self._process.wait()
-        self._log.seek(0)
-        said = self._log.read(1000).decode('utf-8', 'replace').strip()
-        how = f'ended by signal {-status}' if status < 0 else f'ended with status {status}'
-        return Died(how + (f': {said}' if said else ''))
-
-    def _write(self, parts: Iterable[bytes]) -> None:
-        try:
-            for part in parts:
-                self._process.stdin.write(part)
-            self._process.stdin.flush()
-        except (BrokenPipeError, ValueError):
-            pass                                # the reader finds the end of the answers
-
-    def _line(self) -> str:
-        line = self._process.stdout.readline()
-        if not line.endswith(b'\n'):
-            raise self.death()
-        return line[:-1].decode()
-
-    def _bytes(self, count: int) -> bytes:
-        data = self._process.stdout.read(count)
-        if len(data) < count:
-            raise self.death()
-        return data
 
     def _ask(self, *parts: bytes) -> str:
         self._write(parts)
@@ -182,16 +139,6 @@ class Notebook:
             number = CAUSES.get(cause, errno.EIO)
             raise OSError(number, os.strerror(number), str(path)) from None
 
-    def _ask_all(self, commands: Iterable[bytes], read: Callable[[], Answer]) -> list[Answer]:
-        """The answers to many commands, sent without waiting for each."""
-        sent = list(commands)
-        writer = threading.Thread(target=self._write, args=(sent,))
-        writer.start()
-        try:
-            return [read() for _ in sent]
-        finally:
-            writer.join()
-
     @cached_property
     def words(self) -> frozenset[str]:
         """The words that this program has beside those of its first scripts; asked for once."""
@@ -203,7 +150,7 @@ class Notebook:
     def said(self, word: str, path: PathLike) -> Optional[bytes]:
         """A path in a line with a word; None where the program has no such word, or no line can have the path."""
         text = str(Path(path).absolute())
-        if word not in self.words or re.search(r'[\n\0]', text):
+        if word not in self.words or re.search(r'[\s\0]' if word == 'raw' else r'[\n\0]', text):
             return None
         try:
             return text.encode('utf-8')
@@ -212,42 +159,76 @@ class Notebook:
 
     # Edits.
 
+    def apply(self, edits: Sequence[Edit]) -> None:
+        """Does edits of cells; several are one edit, of which all is done or nothing. RefusedAmong tells which of them
+        was refused. A program without the word `begin` refuses several."""
+        lines = [line_of(edit) for edit in edits]
+        if len(lines) > 1:
+            self._ask_together(lines)
+        elif lines:
+            self._ask(*lines)
+        words = [edit[0] for edit in edits]
+        self.count += words.count('insert') - words.count('remove')
+
+    def _ask_together(self, lines: Sequence[bytes]) -> None:
+        if 'begin' not in self.words:
+            raise Refused('bad command')
+        try:
+            self._ask(b'begin\n', *lines, b'end\n')
+        except Refused as refused:
+            if match := re.fullmatch(r'([0-9]+) (.*)', str(refused)):
+                raise RefusedAmong(int(match.group(1)), match.group(2)) from None
+            raise
+
     def insert(self, at: int, source: str) -> None:
-        self._ask(b'insert %d\n' % at, script_source(source), b'\n.\n')
-        self.count += 1
+        self.apply([('insert', at, source)])
 
     def edit(self, at: int, source: str) -> None:
-        self._ask(b'edit %d\n' % at, script_source(source), b'\n.\n')
+        self.apply([('edit', at, source)])
 
     def move(self, origin: int, to: int) -> None:
-        self._ask(b'move %d %d\n' % (origin, to))
+        self.apply([('move', origin, to)])
 
     def remove(self, at: int) -> None:
-        self._ask(b'remove %d\n' % at)
-        self.count -= 1
+        self.apply([('remove', at)])
 
     def input(self, name: str, data: Any, layout: Optional[Layout] = None) -> None:
-        """Sets an input. With a layout the bytes are a buffer's memory. Else bytes are those of an NPY file, a path
-        names one, which the program reads itself if it can, and any object with a buffer (PEP 3118) is handed over as
-        a buffer in C order."""
+        """Sets an input. With a layout the bytes are a buffer's memory, or those of the file that a path names. Else
+        bytes are those of an NPY file, a path names one, and any object with a buffer (PEP 3118) is handed over as a
+        buffer in C order. The program reads files itself if it can."""
         word = asked(name, 'BadInputName')
         if isinstance(data, (str, os.PathLike)):
-            path = self.said('file', data)
-            if path and not layout:
-                self._ask_of_file(data, b'input %s file ' % word, path, b'\n')
+            if self._input_at(word, data, layout):
                 return
             data = Path(data).read_bytes()
-        if isinstance(data, (bytes, bytearray)) and not layout:
-            self._ask(b'input %s npy ' % word, data.hex().encode() or b'-', b'\n')
-            return
-        if not layout:
+        elif not layout and not isinstance(data, (bytes, bytearray)):
             view = memoryview(data)
             layout, data = Layout.of_view(view), view.tobytes('C')
-        if re.search(r'\s', layout.format):
-            raise ValueError(f'{layout.format}: a format with spaces is not taken')
-        words = (f' buffer {layout.format} {layout.itemsize} {list_word(layout.shape)} '
-                 f'{list_word(layout.strides)} {layout.offset} ')
-        self._ask(b'input ', word, words.encode(), data.hex().encode() or b'-', b'\n')
+        words = ' buffer ' + layout_words(layout) if layout else ' npy'
+        if memoryview(data).nbytes < LARGE or not self._input_by_file(word, data, layout):
+            self._ask(b'input ', word, words.encode(), b' ', data.hex().encode() or b'-', b'\n')
+
+    def _input_at(self, word: bytes, path: PathLike, layout: Optional[Layout]) -> bool:
+        """Lets the program read the file of an input; tells whether it could be told to."""
+        kind = 'raw' if layout else 'file'
+        said = self.said(kind, path)
+        if not said:
+            return False
+        words = b' ' + layout_words(layout).encode() if layout else b''
+        self._ask_of_file(path, b'input %b %b %b%b\n' % (word, kind.encode(), said, words))
+        return True
+
+    def _input_by_file(self, word: bytes, data: Any, layout: Optional[Layout]) -> bool:
+        """Hands over bytes in a file of their own; tells whether that could be done."""
+        if ('raw' if layout else 'file') not in self.words:
+            return False
+        try:
+            with tempfile.NamedTemporaryFile(prefix='ndnote-') as file:
+                file.write(data)
+                file.flush()
+                return self._input_at(word, file.name, layout)
+        except OSError:                         # no room, or the program may not read there
+            return False
 
     def drop(self, name: str) -> None:
         self._ask(b'drop %s\n' % asked(name, f'NoInputNamed {name}'))
@@ -291,6 +272,33 @@ class Notebook:
 
     def value(self, at: int, name: str) -> Value:
         return Value.of_answer(self._ask(b'value %d %s\n' % (at, asked(name, f'NoName {name}'))))
+
+    def part(self, at: int, name: str, index: Union[Part, Sequence[Part]]) -> Value:
+        """The elements of an array that an index of whole numbers and slices chooses; no others are sent. A program
+        without the word is asked by a cell that is tried."""
+        word = index_word(index)
+        if 'part' not in self.words:
+            return self._part_tried(at, name, word)
+        return Value.of_answer(self._ask(b'part %d %s %s\n' % (at, asked(name, f'NoName {name}'), word.encode())))
+
+    def _part_tried(self, at: int, name: str, word: str) -> Value:
+        if name not in self.names(at):
+            raise Refused(f'NoName {name}')
+        trial = self.try_cell(at + 1, f"np.save('part', {name}[{word}])")
+        if trial.refusal:
+            raise Refused(trial.refusal.fault)
+        part = Value.of_npy(trial.files['part'])
+        if part.shape:
+            return part
+        if part.type.is_structure:
+            return part._replace(kind='row')
+        return Value('scalar', Type.of_kind(part.type.native), number=part.elements()[0])
+
+    def ran(self) -> Optional[list[int]]:
+        """The places of the cells that ran in the last edit that was done; None where the program does not tell."""
+        if 'ran' not in self.words:
+            return None
+        return [int(word) for word in self._ask(b'ran\n').split(' ')[2:]]
 
     def type(self, at: int, name: str) -> Known:
         """What a name is bound to, without elements. A program without the word tells it with all of them."""

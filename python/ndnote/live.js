@@ -152,8 +152,7 @@ function update(id, cell) {
   if (title) cell.title ? title.textContent = cell.title : title.remove();
   updateSource(section, cell.source);
   section.classList.toggle('pending', cell.pending);
-  if (cell.out === null) return;
-  section.querySelector('.out').innerHTML = cell.out;
+  if (cell.out !== null) section.querySelector('.out').innerHTML = cell.out;
   if (cell.flash && cell.kind === 'code' && onScreen.has(id)) flashing.push(section);
 }
 
@@ -164,24 +163,40 @@ function flash() {
   flashing = [];
 }
 
-let running = 0, done = [0, 0];
+// The cell that runs now, where the program tells it, bears a mark.
+function markRunning(id) {
+  const now = id === null ? null : at(id);
+  for (const section of main.querySelectorAll('.running')) if (section !== now) section.classList.remove('running');
+  now?.classList.add('running');
+}
+
+let ticking = 0, done = [0, 0];
 function tellRunning() {
   const began = performance.now(), time = make('span');
   const stop = make('button', { textContent: 'Stop', onclick: () => request({ op: 'stop' }) });
-  running = setInterval(() => {
+  ticking = setInterval(() => {
     const seconds = (performance.now() - began) / 1000;
     if (seconds < .25) return;
     if (!time.parentNode) { state.className = 'busy'; state.replaceChildren(time, stop); }
+    const title = main.querySelector('.running > h3')?.textContent;
     const what = done[0] < done[1] ? `${done[0]} of ${done[1]} cells` : 'running';
-    time.textContent = `${what} · ${seconds.toFixed(1)} s`;
+    time.textContent = [what, title, `${seconds.toFixed(1)} s`].filter(Boolean).join(' · ');
   }, 100);
 }
 
-function tellState({ word, ms, count, ended, text, problem }) {
-  clearInterval(running);
+const counted = (count, word) => `${count} ${word}${count === 1 ? '' : 's'}`;
+
+function sayDone({ ms, count, ran }) {
+  const cells = ran === null ? '' : `${counted(ran, 'cell')} ran`;
+  const time = `${ms < 10 ? ms.toFixed(1) : Math.round(ms)} ms`;
+  return [`${counted(count, 'output')} changed`, cells, time].filter(Boolean).join(' · ');
+}
+
+function tellState(told) {
+  const { word, ended, text, problem } = told;
+  clearInterval(ticking);
   if (word === 'running' || word === 'starting') return tellRunning();
-  const outputs = `${count} ${count === 1 ? 'output' : 'outputs'} changed`;
-  const said = word === 'fault' ? text : `${outputs} · ${ms < 10 ? ms.toFixed(1) : Math.round(ms)} ms`;
+  const said = word === 'fault' ? text : sayDone(told);
   const end = ended && `The program ${ended} and was started again with the same cells`;
   state.className = word === 'fault' || ended || problem ? 'bad' : '';
   state.textContent = [end, said, problem].filter(Boolean).join(' · ');
@@ -203,11 +218,12 @@ function arrange(order) {
 }
 
 let toldBefore = '';
-function show({ rev, order, cells, state: told, done: now }) {
+function show({ rev, order, cells, state: told, done: now, running }) {
   done = now;
   for (const [id, cell] of Object.entries(cells)) update(Number(id), cell);
   flash();
   arrange(order);
+  markRunning(running);
   if (wantsFocus) {
     const fresh = Object.keys(cells).map(id => at(id)).find(section => section && areaOf(section).value === '');
     if (fresh) { areaOf(fresh).focus(); wantsFocus = false; }
@@ -237,7 +253,7 @@ document.querySelector('header').append(make('button', {
 const events = new EventSource('events?rev=' + document.body.dataset.rev);
 events.onmessage = event => show(JSON.parse(event.data));
 events.onerror = () => {
-  clearInterval(running);
+  clearInterval(ticking);
   toldBefore = '';
   state.className = 'bad';
   state.textContent = 'The server does not answer.';

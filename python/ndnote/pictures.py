@@ -6,10 +6,10 @@ import math
 import struct
 import zlib
 from html import escape
-from typing import Any, Callable, NamedTuple, Sequence
+from typing import Any, Callable, NamedTuple, Sequence, Union
 
-from .engine import Notebook
-from .probe import behind_cell, known
+from .engine import Notebook, Part, Refused, index_word
+from .probe import Probe, behind_cell, known
 from .values import Known, Type, Value, lengths
 
 SIDE = 256              # samples along each side of an image
@@ -30,15 +30,37 @@ class Figure(NamedTuple):
     picture: str        # HTML; of a number or a few its text, in <code>
 
 
+# What is asked of an array: an index of it, () for all of it, or an expression.
+Sample = Union[tuple[Part, ...], str]
+
+
 class Plan(NamedTuple):
-    """How a picture of an array is made: the drawing, the samples that are saved for it, and what they leave out."""
+    """How a picture of an array is made: the drawing, the samples that are drawn, what is told beside it of all its
+    elements, and what the samples leave out."""
     draw: str
-    samples: tuple[str, ...]
+    drawn: tuple[Sample, ...]
+    ends: tuple[str, ...] = ()
     note: str = ''
+
+    @property
+    def samples(self) -> tuple[Sample, ...]:
+        return self.drawn + self.ends
 
 
 def step(length: int, most: int = SIDE) -> int:
     return max(1, -(-length // most))
+
+
+def every(length: int, most: int = SIDE) -> slice:
+    """So many of the positions along an axis that they are not more than `most`."""
+    return slice(None, None, step(length, most))
+
+
+def expression(name: str, sample: Sample) -> str:
+    """A sample as a cell asks for it."""
+    if isinstance(sample, str):
+        return sample
+    return f'{name}[{index_word(sample)}]' if sample else name
 
 
 def plan(name: str, type_: Type, shape: tuple[int, ...]) -> Plan:
@@ -47,9 +69,9 @@ def plan(name: str, type_: Type, shape: tuple[int, ...]) -> Plan:
     if not size:
         return Plan('nothing', ())
     if not axes or axes == 1 and shape[0] <= 8 and not type_.is_structure:
-        return Plan('number', (name,))
+        return Plan('number', ((),))
     if type_.is_structure:
-        return Plan('table', (f'{name}[{"0, " * (axes - 1)}:{ROWS}]',))
+        return Plan('table', ((0,) * (axes - 1) + (slice(ROWS),),))
     ends = (f'{name}.sum()',) if type_.is_mask else (f'{name}.min()', f'{name}.max()')
     ends = ends if size <= WHOLE else ()
     is_bundle = axes == 2 and 1 <= shape[1] <= LINES and shape[0] >= 4 * shape[1]
@@ -58,24 +80,24 @@ def plan(name: str, type_: Type, shape: tuple[int, ...]) -> Plan:
     if type_.is_mask and axes <= 2 and ends:
         return plan_mask(name, shape, is_bundle, ends)
     if axes == 1:
-        return Plan('image', (f'{name}[None, ::{step(shape[0])}]',) + ends)
+        return Plan('image', ((every(shape[0]),),), ends)
     if axes == 3 and shape[2] in (3, 4) and type_.kind == 'uint8':
-        return Plan('colour', (f'{name}[::{step(shape[0])}, ::{step(shape[1])}]',) + ends)
-    first = '0, ' * (axes - 2)
-    return Plan('image', (f'{name}[{first}::{step(shape[-2])}, ::{step(shape[-1])}]',) + ends,
-                f'of [{first}:, :]' if first else '')
+        return Plan('colour', ((every(shape[0]), every(shape[1])),), ends)
+    first = (0,) * (axes - 2)
+    return Plan('image', (first + (every(shape[-2]), every(shape[-1])),), ends,
+                f'of [{"0, " * len(first)}:, :]' if first else '')
 
 
 def plan_lines(name: str, shape: tuple[int, ...], ends: tuple[str, ...]) -> Plan:
     """One line for each column: itself, or the lowest and the highest of parts."""
     part = step(shape[0], POINTS)
     if part == 1:
-        return Plan('lines', (name, name) + ends)
+        return Plan('lines', ((),), ends)
     if not ends:
-        return Plan('lines', (f'{name}[::{part}]',) * 2, f'every {part:,}th')
+        return Plan('lines', ((every(shape[0], POINTS),),), note=f'every {part:,}th')
     whole, wide = shape[0] // part * part, ''.join(f', {length}' for length in shape[1:])
     parts = f'{name}[:{whole}].reshape(-1, {part}{wide})'
-    return Plan('lines', (f'{parts}.min(axis=1)', f'{parts}.max(axis=1)') + ends)
+    return Plan('lines', (f'{parts}.min(axis=1)', f'{parts}.max(axis=1)'), ends)
 
 
 def plan_mask(name: str, shape: tuple[int, ...], is_bundle: bool, ends: tuple[str, ...]) -> Plan:
@@ -85,10 +107,10 @@ def plan_mask(name: str, shape: tuple[int, ...], is_bundle: bool, ends: tuple[st
     rows, columns = (columns, rows) if is_bundle else (rows, columns)
     tall, wide = step(rows), step(columns)
     if tall == wide == 1:
-        return Plan('image', (flat,) + ends)
+        return Plan('image', (flat if is_bundle else (),), ends)
     parts = (f'{flat}[:{rows // tall * tall}, :{columns // wide * wide}]'
              f'.reshape({rows // tall}, {tall}, {columns // wide}, {wide})')
-    return Plan('shares', (f'{parts}.sum(axis=3).sum(axis=1)',) + ends)
+    return Plan('shares', (f'{parts}.sum(axis=3).sum(axis=1)',), ends)
 
 
 def figures(notebook: Notebook, at: int, names: Sequence[str]) -> list[Figure]:
@@ -100,18 +122,37 @@ def figures(notebook: Notebook, at: int, names: Sequence[str]) -> list[Figure]:
     made, probe = [], behind_cell(notebook, at)
     found = known(probe, wanted[:MOST])
     plans = {name: plan(name, what.type, what.shape) for name, what in found.items() if what.is_array}
-    files = {(name, at): f'{count}.{at}' for count, (name, plan_) in enumerate(plans.items())
-             for at in range(len(plan_.samples))}
-    saved = probe.run(f"np.save('{file}', {plans[name].samples[at]})" for (name, at), file in files.items()).files
+    had = samples(probe, plans)
     for name, what in found.items():
         if what.is_array:
-            own = [file for (owner, _), file in files.items() if owner == name and file in saved]
-            made.append(of_array(name, what, plans[name], [Value.of_npy(saved[file]) for file in own]))
+            own = [had[name, at] for at in range(len(plans[name].samples)) if (name, at) in had]
+            made.append(of_array(name, what, plans[name], own))
         else:
             made.append(of_number(name, what, probe.value(name).tolist() if what.kind == 'row' else what.number))
     if len(wanted) > MOST:
         made.append(Figure(f'and {len(wanted) - MOST:,} more names', '', '', '', ''))
     return made
+
+
+def samples(probe: Probe, plans: dict[str, Plan]) -> dict[tuple[str, int], Value]:
+    """The samples of names that could be had, by their places in the plans: parts of arrays by their indexes, where the
+    program has the word, and all others by a cell that saves them and is tried."""
+    had: dict[tuple[str, int], Value] = {}
+    saved: list[tuple[str, int]] = []
+    lines = []
+    for name, plan_ in plans.items():
+        for at, sample in enumerate(plan_.samples):
+            if isinstance(sample, str) or 'part' not in probe.notebook.words:
+                lines.append(f"np.save('{len(saved)}', {expression(name, sample)})")
+                saved.append((name, at))
+                continue
+            try:
+                had[name, at] = probe.part(name, sample) if sample else probe.value(name)
+            except Refused:                     # for want of memory
+                pass
+    given = probe.run(lines).files if lines else {}
+    had.update((saved[int(file)], Value.of_npy(data)) for file, data in given.items())
+    return had
 
 
 def of_number(name: str, what: Known, number: Any) -> Figure:
@@ -124,7 +165,7 @@ def of_array(name: str, what: Known, plan_: Plan, samples: list[Value]) -> Figur
     """The figure of an array, as far as its samples could be had."""
     note, picture, ends, size = plan_.note, '', [], math.prod(what.shape)
     if len(samples) == len(plan_.samples) and samples:
-        drawn = 2 if plan_.draw == 'lines' else 1
+        drawn = len(plan_.drawn)
         ends = [end.elements()[0] for end in samples[drawn:]]
         picture = DRAWINGS[plan_.draw](samples[:drawn], what.shape)
     if len(ends) == 2:
@@ -180,7 +221,7 @@ def shown(file: bytes, width: int, height: int, name: str) -> str:
 
 def draw_image(samples: list[Value], _shape: Sequence[int]) -> str:
     sample = samples[0]
-    height, width = sample.shape
+    height, width = (1,) * (2 - len(sample.shape)) + sample.shape
     if sample.type.is_mask:
         return mask(width, height, bytes(255 * bool(byte) for byte in sample.data))
     numbers = sample.elements()
@@ -209,7 +250,7 @@ def draw_colour(samples: list[Value], _shape: Sequence[int]) -> str:
 
 
 def draw_lines(samples: list[Value], _shape: Sequence[int]) -> str:
-    lows, highs = samples
+    lows, highs = samples[0], samples[-1]
     count = lows.shape[1] if len(lows.shape) == 2 else 1
     low, high = lows.elements(), highs.elements()
     least, most = min(low), max(high)

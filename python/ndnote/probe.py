@@ -3,7 +3,7 @@ from __future__ import annotations
 
 from typing import Iterable, Optional, Sequence
 
-from .engine import Notebook, Refusal, Refused, Trial
+from .engine import Notebook, Part, Refusal, Refused, Trial
 from .values import Known, Value
 
 
@@ -31,7 +31,7 @@ class Probe:
         return Probe(self.notebook, self.place, [*self.lines, *done], stopped)
 
     def value(self, name: str) -> Value:
-        """The number or the row that a name is bound to."""
+        """What a name is bound to; behind lines a number or a row."""
         if not self.lines:
             return self.notebook.value(self.place - 1, name)
         trial = self.run([f"np.save('is', {name})", f"np.save('scalar', {name}.astype(np.int8))"])
@@ -44,6 +44,11 @@ class Probe:
             return saved._replace(kind='row')
         kind = 'scalar' if 'scalar' in trial.files else 'bool' if saved.type.is_mask else 'int'
         return Value(kind, saved.type if kind == 'scalar' else None, number=saved.elements()[0])
+
+
+    def part(self, name: str, index: Sequence[Part]) -> Value:
+        """The elements of an array that an index chooses, where no lines stand before."""
+        return self.notebook.part(self.place - 1, name, index)
 
 
 def behind_cell(notebook: Notebook, at: int) -> Probe:

@@ -15,7 +15,8 @@ from http.server import BaseHTTPRequestHandler, ThreadingHTTPServer
 from typing import Any, Optional
 
 from . import book, page
-from .engine import Died, Refused
+from .engine import Refused
+from .process import Died
 from .session import Session, Shown
 
 PAUSE = 0.2             # seconds between two looks at the files
@@ -83,8 +84,9 @@ class Desk:
                 self.state = {'word': 'running'}    # the next look at the files tells it, if it takes that long
             began = time.perf_counter()
             count = session.sync()
-            self.tell(word='ready', ms=(time.perf_counter() - began) * 1000, count=count, ended=session.last_death,
-                      problem='; '.join(session.problems.values()))
+            ran = len(session.ran) if session.tells_runs else None
+            self.tell(word='ready', ms=(time.perf_counter() - began) * 1000, count=count, ran=ran,
+                      ended=session.last_death, problem='; '.join(session.problems.values()))
             session.last_death = ''
             return
         old = next((shown for shown in session.codes() if shown.is_old and shown.id in self.visible), None)
@@ -202,16 +204,15 @@ class Desk:
         session = self.session
         return {'rev': session.rev, 'order': [shown.id for shown in session.shown],
                 'cells': {shown.id: self.told(shown, rev) for shown in session.shown if shown.rev > rev},
-                'state': self.state, 'done': [len(session.order), len(session.codes())]}
+                'state': self.state, 'done': [len(session.order), len(session.codes())], 'running': session.running()}
 
     def told(self, shown: Shown, rev: int) -> dict[str, Any]:
         """A cell for a browser; its output only where that may be another."""
-        is_other = shown.out_rev > rev
-        is_told = is_other or shown.note or shown.result and shown.result.refusal
+        is_told = shown.out_rev > rev or shown.note or shown.result and shown.result.refusal
         return {'kind': 'text' if shown.cell.is_text else 'code', 'title': shown.cell.title,
                 'source': shown.cell.source,
                 'out': page.output(shown, self.session.path.name, True) if is_told else None,
-                'flash': is_other, 'pending': self.session.is_pending(shown)}
+                'flash': shown.flash_rev > rev, 'pending': self.session.is_pending(shown)}
 
 
 class Handler(BaseHTTPRequestHandler):

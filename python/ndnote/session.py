@@ -3,24 +3,27 @@ what changed is sent, and it is noted which cells show something else. A process
 from __future__ import annotations
 
 import collections
-import hashlib
 import itertools
 import threading
 import time
 from pathlib import Path
-from typing import Any, Iterable, NamedTuple, Optional
+from typing import Any, Iterable, NamedTuple, Optional, Sequence
 
 from . import book, files, pictures
-from .engine import Died, Notebook, Refused, Result
+from .edits import CellEdit, edits_to, first_place
+from .engine import Refused, RefusedAmong, Result
 from .excerpt import Excerpt, excerpts
 from .explain import Operand, alike, operands
 from .faults import words
-from .values import Layout
+from .inputs import Look, handed_over, look_at
+from .process import Died
+from .sender import Doing, Sender
 
 HELD = '# not run'      # stands in the program for a cell that ended it, until it is edited
 STOPPED = 'Stopped: it runs again when it is edited or run'
 GRACE = 1.0             # seconds that a cell has to be stopped without the process
 TOO_LONG = 'Stmt.TextTooLong'
+TRIES = 3               # of several edits as one, each without what was refused of the one before
 
 
 class Seen(NamedTuple):
@@ -44,16 +47,17 @@ class Shown:
         self.is_old = True          # what is seen of it may be another by now
         self.rev = 0                # when anything of it was another last
         self.out_rev = 0            # when its texts, files or pictures were
+        self.flash_rev = 0          # when it ran last, or where that is not told, when its output was another
 
 
-class Session:
+class Session(Sender):
     """`news` guards what is shown. Only one thread brings the program to the book; any may change the book and look."""
 
     def __init__(self, path: files.PathLike, inputs: Iterable[tuple[str, str]] = (),
                  memory: Optional[int] = None) -> None:
+        super().__init__(memory)
         self.path = Path(path)
         self.given = dict(inputs)   # names to paths that the command line gives
-        self.memory = memory
         self.news = threading.Condition(threading.RLock())
         self.ids = itertools.count()
         self.shown: list[Shown] = []
@@ -63,25 +67,16 @@ class Session:
         self.deaths = 0             # in a row
         self.last_death = ''        # how the process ended, until that is told
         self.is_stopping = False
-        self.begin()
+        self.stopped: Optional[int] = None      # the cell that ran when it was to be stopped
 
-    def begin(self) -> None:
-        self.notebook = Notebook(memory=self.memory)
-        self.order: list[int] = []          # the cells of the program, in order
-        self.sent: dict[int, str] = {}      # and their sources
-        self.inputs: dict[str, tuple[Any, Any]] = {}    # to the stamp of the file, and what tells its bytes from others
-        # What is not answered yet: (cell, source), (input, stamp), or (cell, None) for what is seen of it.
-        self.current: Optional[tuple[Any, Any]] = None
-
-    def close(self) -> None:
-        self.notebook.close()
-
-    def touch(self, shown: Optional[Shown] = None, is_out: bool = True) -> None:
+    def touch(self, shown: Optional[Shown] = None, is_out: bool = True, has_run: bool = False) -> None:
         with self.news:
             self.rev += 1
             if shown:
                 shown.rev = self.rev
                 shown.out_rev = self.rev if is_out else shown.out_rev
+                is_flash = has_run or is_out and not self.tells_runs
+                shown.flash_rev = self.rev if is_flash else shown.flash_rev
             self.news.notify_all()
 
     # The book.
@@ -132,53 +127,32 @@ class Session:
     def input_path(self, name: str) -> Path:
         return Path(self.given.get(name, self.path.parent / name))
 
-    def stamps(self) -> dict[str, Any]:
-        """The inputs that the book wants, and how their files look from outside. A buffer has a layout beside it."""
+    def stamps(self) -> dict[str, Look]:
+        """The inputs that the book wants, and how their files look from outside."""
         with self.news:
             sources = [self.wanted(shown) for shown in self.codes()]
-        found: dict[str, Any] = {}
+        found: dict[str, Look] = {}
         for name, is_buffer in (pair for source in sources for pair in book.inputs(source)):
             if name not in found:
-                path = self.input_path(name)
-                found[name] = (stamp(path), is_buffer and stamp(layout_path(path)), is_buffer)
+                found[name] = look_at(self.input_path(name), is_buffer)
         return found
 
-    def read_input(self, name: str, is_buffer: bool) -> tuple[bytes, Optional[Layout]]:
-        path = self.input_path(name)
-        data = files.read_input(path)
-        if not is_buffer:
-            return data, None
-        layout = layout_path(path)
-        if not layout.exists():
-            raise OSError(f'its layout is not there: {layout.name}')
-        try:
-            return data, Layout.of_json(files.read_input(layout).decode())
-        except (OSError, ValueError, RecursionError) as error:
-            raise OSError(f'its layout {layout.name} is wrong: {error}') from None
-
-    def sync_input(self, name: str, told: Any) -> bool:
+    def sync_input(self, name: str, look: Look) -> bool:
         """Sets or drops one input; tells whether it is another now."""
-        self.current = name, told
-        if self.blame[self.current] > 1:
+        self.current = Doing(name, look)
+        if self.blame[name, look] > 1:
             raise OSError('the program was stopped, or ended twice, when it was given this file')
-        mark, data, layout = self.found_input(name, told) if told[0] else (None, b'', None)
+        given = handed_over(self.notebook, self.input_path(name), look) if look.file else None
+        mark = given and given.mark
         is_other = self.inputs.get(name, (None, None))[1] != mark
-        if is_other and mark:
-            self.notebook.input(name, data, layout)
+        if is_other and given:
+            self.notebook.input(name, given.data, given.layout)
         elif is_other:
             self.notebook.drop(name)
-        self.inputs[name] = told, mark
+        if is_other:
+            self.note_runs()
+        self.inputs[name] = look, mark
         return is_other
-
-    def found_input(self, name: str, told: Any) -> tuple[Any, Any, Optional[Layout]]:
-        """What is handed over for an input, behind what tells its bytes from others: their digest. A file that the
-        program reads itself has its stamp for that and is not read here: cells that read the same bytes run no more."""
-        path = self.input_path(name)
-        if not told[2] and self.notebook.said('file', path):
-            files.check_input(path)
-            return told[0], path, None
-        data, layout = self.read_input(name, told[2])
-        return hashlib.sha256(data + repr(layout).encode()).digest(), data, layout
 
     def sync_inputs(self) -> bool:
         """Sets, replaces and drops inputs, as their files are now; tells whether any is another."""
@@ -200,22 +174,26 @@ class Session:
         for name in set(self.inputs) - set(wanted):
             if self.inputs[name][1]:
                 self.notebook.drop(name)
+                self.note_runs()
             del self.inputs[name]
         self.problems = {name: text for name, text in self.problems.items() if name in wanted}
         return is_other
 
     # What the program is told: cells.
 
+    def wanted_cells(self) -> list[tuple[Shown, str]]:
+        """The cells that the program is to have, and their sources."""
+        with self.news:
+            return [(shown, self.wanted(shown)) for shown in self.codes()]
+
     def sync_cells(self) -> int:
         """Removes, moves, edits and inserts cells; gives the place of the first that is another, or their count."""
-        with self.news:
-            wanted = [(shown, self.wanted(shown)) for shown in self.codes()]
+        first = self.sync_together()
+        wanted = self.wanted_cells()
         numbers = {shown.id for shown, _ in wanted}
-        first = len(wanted)
-        for at in reversed(range(len(self.order))):
-            if self.order[at] not in numbers:
-                self.notebook.remove(at)
-                del self.sent[self.order.pop(at)]
+        for at, number in reversed(list(enumerate(self.order))):
+            if number not in numbers:
+                self.send(Doing(number, None, [CellEdit(number, ('remove', at))]))
                 first = min(first, at)
         at = 0
         for shown, source in wanted:
@@ -224,80 +202,154 @@ class Session:
                 if not self.sync_cell(shown, source, at):
                     continue
                 first = min(first, at)
+            elif source == shown.cell.source and self.take_note(shown, source):     # it was refused another text
+                self.touch(shown)
             at += 1
         self.current = None
-        return first
+        return min(first, len(self.order))
+
+    def sync_together(self) -> int:
+        """Has several edits done as one, where the program can: each stale cell then runs once. What is refused is left
+        to single edits. Gives the first place that is another, or the count."""
+        has_word = bool(self.order) and 'begin' in self.notebook.words
+        left: set[int] = set()
+        for _ in range(TRIES if has_word else 0):
+            wanted = [(shown.id, self.sent.get(shown.id) if shown.id in left else source)
+                      for shown, source in self.wanted_cells()]
+            wanted = [(number, source) for number, source in wanted if source is not None]
+            edits = edits_to(wanted, self.order, self.sent)
+            if len(edits) < 2:
+                break
+            try:
+                self.send(Doing(None, tuple(edits), edits))
+                self.has_stopped()              # they had ended before they could be stopped
+                self.tell_sent(edits)
+                return first_place(edits)
+            except Refused as refused:
+                running = self.running()
+                if self.has_stopped():
+                    self.hold_back(edits, self.stopped if running is None else running)
+                elif isinstance(refused, RefusedAmong):
+                    left.add(edits[refused.at].number)
+                else:                           # for want of memory: fewer may be done with it
+                    break
+        return len(self.order)
+
+    def tell_sent(self, edits: Sequence[CellEdit]) -> None:
+        """Tells what several edits have brought, but what the cells show."""
+        by_id = {shown.id: shown for shown in list(self.shown)}
+        for edit in edits:
+            shown = by_id.get(edit.number)
+            if shown and edit.source is not None:
+                self.touch(shown, is_out=self.take_note(shown, edit.source))
+
+    def take_note(self, shown: Shown, source: str) -> bool:
+        """Takes away the note of a cell that the program has as it stands; tells whether there was one."""
+        has_note = bool(shown.note) and source != HELD
+        shown.note = '' if has_note else shown.note
+        return has_note
+
+    def hold_back(self, edits: Sequence[CellEdit], running: Optional[int]) -> None:
+        """Holds back what stopped edits were to bring: the cell that ran, where it is one of them, else all."""
+        brought = [edit for edit in edits if edit.source is not None]
+        for edit in [edit for edit in brought if edit.number == running] or brought:
+            self.blame[edit.number, edit.source] = 2
+            if shown := self.with_id(edit.number):
+                self.tell_refused(shown, STOPPED)
+
+    def tell_refused(self, shown: Shown, why: str) -> None:
+        """Tells why the program does not have a cell as it stands."""
+        is_new = shown.id not in self.sent
+        shown.note = f'{why[0].upper()}{why[1:]}.' + ('' if is_new else ' What is shown is of the text before.')
+        shown.result = None if is_new else shown.result
+        self.touch(shown)
 
     def sync_cell(self, shown: Shown, source: str, at: int) -> bool:
         """Brings one cell to its place and its source; tells whether the program has it there, in whatever text."""
-        self.current = shown.id, source
         is_new = shown.id not in self.sent
         try:
-            self.send_cell(shown, source, at, is_new)
+            self.send_cell(shown, source, at)
             self.has_stopped()                  # it had ended before it could be stopped
-            self.sent[shown.id] = source
-            if source != HELD:
-                shown.note = ''
+            had_note = self.take_note(shown, source)
             if is_new:
                 shown.result, shown.is_old = self.notebook.show(at), True
-            self.touch(shown, is_out=is_new)
+            self.touch(shown, is_out=is_new or had_note, has_run=is_new and shown.id in self.unasked)
+            if is_new:
+                self.unasked.discard(shown.id)
             return True
         except Refused as refused:
             why = words(str(refused)).wrong
             if self.has_stopped():
-                self.blame[self.current] = 2
+                self.blame[shown.id, source] = 2
                 why = STOPPED
-            shown.note = f'{why[0].upper()}{why[1:]}.' + ('' if is_new else ' What is shown is of the text before.')
-            shown.result = None if is_new else shown.result
-            self.touch(shown)
+            self.tell_refused(shown, why)
             return not is_new
 
-    def send_cell(self, shown: Shown, source: str, at: int, is_new: bool) -> None:
-        if is_new:
-            self.notebook.insert(at, source)
-            self.order.insert(at, shown.id)
+    def send_cell(self, shown: Shown, source: str, at: int) -> None:
+        def send(*edit: Any) -> None:
+            self.send(Doing(shown.id, source, [CellEdit(shown.id, edit)]))
+        if shown.id not in self.sent:
+            send('insert', at, source)
             return
         if self.order[at] != shown.id:
-            origin = self.order.index(shown.id, at)
-            self.notebook.move(origin, at)
-            self.order.insert(at, self.order.pop(origin))
+            send('move', self.order.index(shown.id, at), at)
         if self.sent[shown.id] != source:
-            self.notebook.edit(at, source)
+            send('edit', at, source)
 
     def sync(self) -> int:
         """Brings the program to the book. Gives how many cells show other texts, refusals or files than before."""
         before = {shown.id: shown.result for shown in self.shown}
+        self.ran.clear()
         while True:
             try:
-                count = self.sync_once(before)
+                self.sync_once()
                 self.deaths = self.blame[None, None] = 0
-                return count
+                break
             except Died as died:
                 self.restart(died)
+        self.touch()
+        by_id = {shown.id: shown for shown in list(self.shown)}
+        return sum(before.get(number) != by_id[number].result for number in self.order if number in by_id)
 
-    def sync_once(self, before: dict[int, Optional[Result]]) -> int:
+    def sync_once(self) -> None:
+        """Sends what is another, and asks what the cells show that may show something else."""
+        self.tells_runs = 'ran' in self.notebook.words
         is_other = self.sync_inputs()
         first = min(self.sync_cells(), 0 if is_other else len(self.order))
         by_id = {shown.id: shown for shown in list(self.shown)}
-        count, places = 0, range(first, len(self.order))
+        shown_now = [by_id.get(number) for number in self.order]
+        for shown in filter(None, shown_now[first:]):
+            shown.is_old = True                 # a value may be another behind a cell that did not run
+        places = range(first, len(self.order))
+        if self.tells_runs:
+            places = [at for at, number in enumerate(self.order) if number in self.unasked]
         for at, result in zip(places, self.notebook.show_all(places)):
-            shown = by_id.get(self.order[at])
-            if not shown:
-                continue
-            shown.is_old = True
-            count += before.get(shown.id) != result
-            if shown.result != result:
-                shown.result = result
-                shown.seen = shown.seen._replace(operands=(), alike='', excerpts=())
-                self.touch(shown)
-        self.touch()
-        return count
+            if shown := shown_now[at]:
+                self.tell_result(shown, result)
+        self.unasked.clear()
+
+    def tell_result(self, shown: Shown, result: Result) -> None:
+        """Tells what a cell shows that may be another."""
+        is_other = shown.result != result
+        if is_other:
+            shown.result = result
+            shown.seen = shown.seen._replace(operands=(), alike='', excerpts=())
+        if is_other or self.tells_runs:
+            self.touch(shown, is_out=is_other, has_run=self.tells_runs)
+
+    def named(self, number: int) -> str:
+        """A cell in words: by its title, or by its line."""
+        shown = self.with_id(number)
+        if not shown:
+            return 'a cell that is gone'
+        return f'the cell “{shown.cell.title}”' if shown.cell.title else f'the cell of line {shown.line}'
 
     def restart(self, died: Died) -> None:
         """After an end of the process. What was stopped, or ended it twice, is not sent again until it is another.
         Raises what it is told where that does not help either."""
-        number, what = self.current or (None, None)
-        self.last_death = '' if self.is_stopping else str(died)
+        number, what = self.culprit()
+        told = died if self.running() is None else died.placed(self.named(number))
+        self.last_death = '' if self.is_stopping else str(told)
         self.blame[number, what] += 2 if self.is_stopping else 1
         if isinstance(what, str):
             shown = self.with_id(number) or Shown(number, book.Cell('', ''))
@@ -312,7 +364,7 @@ class Session:
         self.deaths += 1
         self.begin()
         if self.blame[number, what] > 3:
-            raise died
+            raise told
 
     # Stopping a cell that runs.
 
@@ -321,14 +373,15 @@ class Session:
         notebook, current = self.notebook, self.current
         if current is None:
             return
+        self.stopped = self.running()
         self.is_stopping = True
-        if current[1] is not None and notebook.starve():
+        if current.what is not None and notebook.starve():
             end = time.monotonic() + GRACE
             while time.monotonic() < end and self.is_stopping:
                 time.sleep(0.02)
         if not self.is_stopping or self.notebook is not notebook:
             return
-        if self.current == current:
+        if self.current and self.current[:2] == current[:2]:
             notebook.kill()
         else:                                   # it had ended before it was stopped
             self.has_stopped()
@@ -351,8 +404,8 @@ class Session:
     def look(self, shown: Shown) -> None:
         """Finds what is seen of one cell beside its texts, between edits."""
         shown.is_old = False
-        self.current, seen = (shown.id, None), Seen()
-        if self.sent.get(shown.id, HELD) != HELD and self.blame[self.current] < 2:
+        self.current, seen = Doing(shown.id, None), Seen()
+        if self.sent.get(shown.id, HELD) != HELD and self.blame[shown.id, None] < 2:
             try:
                 seen = self.find(shown, self.order.index(shown.id), self.sent[shown.id])
             except Refused:                     # for want of memory, or of room for a cell more
@@ -384,20 +437,6 @@ class Session:
         for file, (at, name) in last.items():
             self.notebook.save(at, name, Path(folder) / file)
         return list(last)
-
-
-def layout_path(path: Path) -> Path:
-    """The file that says how the elements of a buffer lie in another one."""
-    return path.with_name(path.name + '.json')
-
-
-def stamp(path: Path) -> Optional[tuple[int, int, int]]:
-    """How a file looks from outside, or None where it is not there."""
-    try:
-        stat = path.stat()
-    except OSError:
-        return None
-    return stat.st_size, stat.st_mtime_ns, stat.st_ino
 
 
 def opened(path: files.PathLike, **options: Any) -> Session:

@@ -75,6 +75,11 @@ class Type(NamedTuple):
         return 'structure' if self.is_structure else self.fields[0].kind
 
     @property
+    def native(self) -> str:
+        """The kind of one element, whatever the order of its bytes."""
+        return NAMES[self.fields[0].code[1]]
+
+    @property
     def is_mask(self) -> bool:
         return self.kind == 'bool'
 

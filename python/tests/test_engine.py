@@ -7,6 +7,7 @@ from pathlib import Path
 
 import ndnote
 from ndnote import Died, Notebook, Refused
+from ndnote.process import takes_progress
 from ndnote.values import Layout, Value
 
 try:
@@ -39,7 +40,7 @@ class Notebooks(unittest.TestCase):
             book['y']
 
     def test_the_allocator_is_told_how_to_keep_memory(self):
-        told = os.environ.get('GLIBC_TUNABLES', ndnote.engine.TUNABLES)
+        told = os.environ.get('GLIBC_TUNABLES', ndnote.process.TUNABLES)
         self.book.insert(0, 'x = 1')    # its answer shows that the program has begun
         # The loader cuts the text into its parts where it stands, by zeros in the place of colons.
         words = Path(f'/proc/{self.book.process}/environ').read_bytes().replace(b'\0', b':')
@@ -134,6 +135,49 @@ class Notebooks(unittest.TestCase):
         self.book.feed()
         self.book.insert(1, 'y = x + 1')
         self.assertEqual((self.book.show(0).text, ndnote.Refused), ('499500\n', Refused))
+
+
+class Progress(unittest.TestCase):
+    """A program that tells on standard error which cell runs."""
+
+    def program(self, lines):
+        folder = tempfile.TemporaryDirectory()
+        self.addCleanup(folder.cleanup)
+        path = Path(folder.name) / 'program'
+        path.write_text('#!/bin/sh\n' + lines)
+        path.chmod(0o755)
+        return str(path)
+
+    def book(self, path):
+        book = Notebook(path, progress=True)
+        self.addCleanup(book.close)
+        return book
+
+    def test_the_cell_that_runs_and_the_messages(self):
+        path = self.program('[ "$1" = --progress ] || exit 2\nread line || exit 0\n'
+                            'echo run 3 >&2; echo done 3 17 >&2; echo run 12 >&2; echo no memory >&2; kill -9 $$\n')
+        self.assertTrue(takes_progress(path))
+        book = self.book(path)
+        self.assertIsNone(book.running)
+        with self.assertRaises(Died) as died:
+            book.remove(0)
+        self.assertEqual((str(died.exception), book.running), ('ended by signal 9: no memory', 12))
+        self.assertEqual(str(died.exception.placed('the cell')), 'ended by signal 9 in the cell: no memory')
+
+    def test_a_program_that_does_not_tell_is_started_without_the_option(self):
+        path = self.program('[ $# = 0 ] || exit 2\nread line\necho ok\nread line\n')
+        self.assertFalse(takes_progress(path))
+        book = self.book(path)
+        book.remove(0)
+        self.assertIsNone(book.running)
+
+    def test_much_that_is_told_stops_nothing(self):
+        path = self.program('[ "$1" = --progress ] || exit 2\nread line || exit 0\n'
+                            'for i in `seq 20000`; do echo run $i; echo done $i 1; echo some words; done >&2\n'
+                            'echo ok\nread line\n')
+        book = self.book(path)
+        book.remove(0)
+        self.assertLessEqual(len(book._said.messages), 1000)
 
 
 if __name__ == '__main__':

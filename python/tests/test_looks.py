@@ -6,6 +6,7 @@ from ndnote import Notebook, pictures
 from ndnote.excerpt import excerpts
 from ndnote.explain import alike, operands
 from ndnote.probe import behind_cell, known
+from programs import WithAllWords, WithoutWords
 
 
 class Counting:
@@ -134,14 +135,30 @@ class Looks(unittest.TestCase):
         self.assertEqual((text, words, lines[:6]), ('x + 1', 'int64 · 200,000', '[1 2 3'))
 
 
-class LooksWithoutWords(Looks):
+class LooksWithoutWords(WithoutWords, Looks):
     """The same over a program for scripts alone."""
 
-    def setUp(self):
-        patched = mock.patch.object(Notebook, 'words', frozenset())
-        patched.start()
-        self.addCleanup(patched.stop)
-        super().setUp()
+
+class LooksWithAllWords(WithAllWords, Looks):
+    """The same over a program that has all words."""
+
+    def test_parts_draw_the_pictures_that_tried_cells_draw(self):
+        sources = ['x = np.arange(300000).reshape(500, 600)', 'x = np.arange(5000000) % 9 > 7',
+                   'x = np.zeros((300, 2, 2, 700), dtype=np.int8) + np.arange(700)', 'x = np.arange(5000000) % 1000',
+                   'x = np.arange(600 * 700 * 3).reshape(600, 700, 3).astype(np.uint8)', 'x = np.arange(99)[::-1]',
+                   "x = np.zeros((3, 9), dtype=[('a', np.int8), ('b', '>u4')])\nx['a'] = np.arange(9)",
+                   'x = np.arange(7)']
+        for source in sources:
+            self.book.insert(0, source)
+            sent, write = [], self.book._write
+            self.book._write = lambda parts: (sent.extend(parts), write(parts))
+            found = pictures.figures(self.book, 0, ['x'])
+            del self.book._write
+            self.assertTrue(any(line.startswith((b'part 0 x ', b'value 0 x')) for line in sent), source)
+            with mock.patch.object(Notebook, 'words', self.book.words - {'part'}):
+                del self.book.words
+                self.assertEqual(pictures.figures(self.book, 0, ['x']), found, source)
+            self.book.remove(0)
 
 
 if __name__ == '__main__':

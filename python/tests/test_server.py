@@ -9,12 +9,14 @@ from pathlib import Path
 
 from ndnote import server
 from ndnote.session import opened
+from programs import WithAllWords
+from sessions import SLOW_IN_PLACE
 
 FIRST = 'x = np.arange(3)\nprint(x)'
 TEXT = f'# %% One\n{FIRST}\n\n# %% <b>Two</b>\nprint(x.sum())\nnp.save("s.npy", x)\n'
 
 
-class Served(unittest.TestCase):
+class Serving(unittest.TestCase):
     def setUp(self):
         folder = tempfile.TemporaryDirectory()
         self.addCleanup(folder.cleanup)
@@ -49,6 +51,7 @@ class Served(unittest.TestCase):
     def outputs(self):
         return [shown.result and shown.result.text for shown in self.server.desk.session.shown]
 
+class Served(Serving):
     def test_the_page(self):
         self.wait(lambda: all(self.outputs()))
         answer = self.ask()
@@ -150,6 +153,44 @@ class Served(unittest.TestCase):
         self.server.desk.session.notebook.kill()
         self.wait(lambda: 'signal 9' in str(self.server.desk.state))
         self.assertEqual(self.outputs(), ['[0 1 2]\n', '3\n'])
+
+
+class ServedWithAllWords(WithAllWords, Serving):
+    """Over a program that tells which cells ran, and which cell runs."""
+
+    def test_cells_that_ran_flash(self):
+        desk, session = self.server.desk, self.server.desk.session
+        self.do(op='look', ids=[0, 1])
+        self.wait(lambda: all(self.outputs()) and not any(shown.is_old for shown in session.shown))
+        rev = session.rev
+        self.do(op='edit', id=0, was=FIRST, source=FIRST + '  # the same')
+        self.wait(lambda: desk.since(rev)['cells'].get(0, {}).get('flash') and desk.state['word'] == 'ready')
+        news = desk.since(rev)
+        self.assertEqual((news['state']['ran'], news['state']['count'], news['cells'][0]['out']), (1, 0, None))
+        self.assertEqual([number for number, cell in news['cells'].items() if cell['flash']], [0])
+
+    def test_the_cell_that_runs_is_told(self):
+        desk = self.server.desk
+        self.wait(lambda: desk.state['word'] == 'ready')
+        self.assertIsNone(desk.since(-1)['running'])
+        self.do(op='edit', id=0, was=FIRST, source=SLOW_IN_PLACE)
+        self.wait(lambda: desk.since(-1)['running'] == 0)
+        self.assertEqual(self.do(op='stop'), 204)
+        self.wait(lambda: desk.state['word'] == 'ready')
+        self.assertIsNone(desk.since(-1)['running'])
+
+    def test_the_cell_in_which_the_program_ends_is_told(self):
+        desk, session = self.server.desk, self.server.desk.session
+        self.wait(lambda: desk.state['word'] == 'ready')
+        self.do(op='edit', id=0, was=FIRST, source=SLOW_IN_PLACE)
+        self.wait(lambda: session.running() == 0)
+        first = session.notebook
+        first.kill()
+        self.wait(lambda: session.notebook is not first and session.running() == 0)
+        self.assertEqual(session.last_death, 'ended by signal 9 in the cell “One”')
+        session.notebook.kill()
+        self.wait(lambda: desk.state['word'] == 'ready')
+        self.assertIn('twice in this cell', session.shown[0].note)
 
 
 if __name__ == '__main__':

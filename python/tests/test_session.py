@@ -1,79 +1,29 @@
 """A book in one notebook of the program: what is sent, what comes back after an end, and that it is a fresh run's."""
 import os
 import random
-import sys
-import tempfile
 import threading
 import time
 import unittest
-from pathlib import Path
 from unittest import mock
 
-from ndnote import Died, Notebook, book, pictures
-from ndnote.engine import program
-from ndnote.session import opened
+from ndnote import Died, book, pictures
+from ndnote.process import program
+from ndnote.session import Doing, opened
+from programs import WithAllWords, WithoutWords
+from sessions import SLOW, SLOW_IN_PLACE, Opened, npy, wrapper
 
-SLOW = 's = np.arange(2000000)\n' + 's = s ** 3 % 1001\n' * 900
-SLOW_IN_PLACE = 's = np.arange(16777216)\n' + 's *= 3\n' * 900
 POOL = ['x = np.arange(6)', 'x = np.arange(9) * 2', 'y = x[1:4]', 'y += 10', 'print(x)', 'print(y, x.sum())',
         "a = np.load('a.npy')\nprint(a)", 'x[0] = 7\nm = x > 3', 'del x', 'y = 1 +', 'x = x[::-1]', '',
         "np.save('s', x)", 'print(m)', 'a *= 2', 'x[9] = 1', 'm = a > 1\nprint(m.sum())', 'print(x + np.arange(4))']
 MARKS = ['# %%\n', '# %% Title\n', '# %% [markdown]\n# ']
-WRAPPER = '''#!{0}
-import os, subprocess, sys
-inner = subprocess.Popen(['{1}'], stdin=subprocess.PIPE)
-for line in sys.stdin.buffer:
-    if b'BOOM' in line:
-        inner.kill()
-        os._exit(7)
-    inner.stdin.write(line)
-    inner.stdin.flush()
-'''
-
-
-def npy(source):
-    """The bytes of an NPY file."""
-    with Notebook() as notebook:
-        notebook.insert(0, f"np.save('f', {source})")
-        return notebook.saved(0, 'f')
 
 
 def told(session):
     return [(shown.cell, shown.line, shown.result, shown.seen, shown.note) for shown in session.shown]
 
 
-class Sessions(unittest.TestCase):
-    def setUp(self):
-        folder = tempfile.TemporaryDirectory()
-        self.addCleanup(folder.cleanup)
-        self.folder = Path(folder.name)
-
-    def open(self, text):
-        self.path = self.folder / 'book.py'
-        self.path.write_text(text)
-        session = opened(self.path)
-        self.addCleanup(session.close)
-        self.sent = []
-        session.sync()
-        self.process = session.notebook.process
-        write = session.notebook._write
-
-        def listen(parts):
-            self.sent += [part.split(b'\n')[0].decode() for part in parts[:1]]
-            write(parts)
-        session.notebook._write = listen
-        return session
-
-    def change(self, session, old, new):
-        """How many outputs changed, and the commands that were sent for it but `show`."""
-        self.sent.clear()
-        self.path.write_text(self.path.read_text().replace(old, new))
-        session.set_cells(book.parse(self.path.read_text()))
-        count = session.sync()
-        return count, [word for word in self.sent if not word.startswith('show')]
-
-    def texts(self, session):
-        return [shown.result.text for shown in session.codes()]
+class Sessions(Opened):
+    turns = 100             # of drawn changes
 
     def test_only_what_changed_is_sent(self):
         session = self.open('# %%\nx = np.arange(3)\n# %% [markdown]\n# Words.\n# %%\nprint(x)\n# %%\nprint(1)\n')
@@ -96,7 +46,7 @@ class Sessions(unittest.TestCase):
         self.assertEqual((session.sync(), self.sent), (0, []))
         os.utime(self.folder / 'a.npy')
         reads_itself = 'file' in session.notebook.words
-        sent = ['input a.npy file '] if reads_itself else []
+        sent = [f'input a.npy file {self.folder / "a.npy"}'] if reads_itself else []
         self.assertEqual((session.sync(), self.sent[:1]), (0, sent))
         (self.folder / 'a.npy').unlink()
         session.sync()
@@ -160,7 +110,7 @@ class Sessions(unittest.TestCase):
     def test_a_stop_that_comes_too_late_stops_nothing(self):
         session = self.open('# %%\ns = 1\n')
         session.stop()
-        session.current = (0, 's = 1')
+        session.current = Doing(0, 's = 1')
         with mock.patch('ndnote.session.GRACE', 0.2):
             thread = threading.Thread(target=session.stop)
             thread.start()
@@ -171,10 +121,7 @@ class Sessions(unittest.TestCase):
         self.assertEqual((self.texts(session), session.codes()[0].note), (['499500\n'], ''))
 
     def test_a_cell_that_ends_the_program_is_held_back(self):
-        wrapper = self.folder / 'program'
-        wrapper.write_text(WRAPPER.format(sys.executable, program()))
-        wrapper.chmod(0o755)
-        with mock.patch.dict(os.environ, NDNOTE_PROGRAM=str(wrapper)):
+        with mock.patch.dict(os.environ, NDNOTE_PROGRAM=wrapper(self.folder / 'program', program())):
             session = self.open('# %%\nx = 1\n# %%\n# BOOM\n# %%\nprint(x)\n')
             self.assertIn('twice in this cell', session.codes()[1].note)
             self.assertEqual(self.texts(session), ['', '', '1\n'])
@@ -186,6 +133,12 @@ class Sessions(unittest.TestCase):
         self.change(session, 'x = 1', 'x = 2\n#' + 'x' * 70_000)
         self.assertEqual(self.texts(session), ['1\n'])
         self.assertIn('65,536 bytes', session.codes()[0].note)
+        for source in ('x = 1', 'x = 2 - 1'):
+            self.change(session, 'x = ', 'x = 2\n#' + 'x' * 70_000 + '\nx = ')
+            shown, rev = session.codes()[0], session.rev
+            self.assertIn('65,536 bytes', shown.note)
+            self.write(session, f'# %%\n{source}\nprint(x)\n')
+            self.assertEqual((shown.note, self.texts(session), shown.out_rev > rev), ('', ['1\n'], True))
 
     def test_pictures_that_end_the_program_are_left_out(self):
         session = self.open('# %%\nx = np.arange(3)\n')
@@ -215,7 +168,7 @@ class Sessions(unittest.TestCase):
         drawn = random.Random(5)
         cells = [('# %%\n', source) for source in POOL[:5]]
         session = self.open('x = 1\n')
-        for turn in range(100):
+        for turn in range(self.turns):
             for _ in range(drawn.choice((1, 1, 1, 2, 4))):
                 self.mutate(drawn, cells)
             if drawn.random() < 0.2:
@@ -235,14 +188,13 @@ class Sessions(unittest.TestCase):
             fresh.close()
 
 
-class SessionsWithoutWords(Sessions):
+class SessionsWithoutWords(WithoutWords, Sessions):
     """The same over a program for scripts alone."""
 
-    def setUp(self):
-        patched = mock.patch.object(Notebook, 'words', frozenset())
-        patched.start()
-        self.addCleanup(patched.stop)
-        super().setUp()
+
+class SessionsWithAllWords(WithAllWords, Sessions):
+    """The same over a program that has all words."""
+    turns = 25
 
 
 if __name__ == '__main__':

@@ -1,5 +1,6 @@
 """The words for front ends: what each says, its refusals, and that a try changes nothing."""
 import os
+import random
 import shutil
 import subprocess
 import tempfile
@@ -7,9 +8,16 @@ import unittest
 from pathlib import Path
 from unittest import mock
 
-from ndnote import Notebook, Refused
-from ndnote.engine import Trial, program, script_source
-from ndnote.values import Known, Type, Value
+from ndnote import Notebook, Refused, RefusedAmong
+from ndnote.engine import LARGE, Trial, index_word, script_source
+from ndnote.process import program
+from ndnote.values import Known, Layout, Type, Value
+from programs import WithAllWords, WithoutWords
+
+try:
+    import numpy as np
+except ImportError:
+    np = None
 
 CELLS = ["x = np.arange(6)\ny = x[1:4]\nn = 7\nb = True\nnp.save('f', x)", 'y += 10\nprint(x, n)',
          "z = x[::2]\nnp.save('f', z)", 'print(x[9])',
@@ -26,6 +34,20 @@ BAD = ['words ', ' words', 'words x', 'Words', 'words\r', 'try', 'try ', 'try a'
        'try  0', 'try 0 ', 'try 18446744073709551616', 'type', 'type 0', 'type 0 ', 'type  x', 'type a x', 'type 0 x y',
        'type 0  x', 'save', 'save 0', 'save 0 f', 'save 0 f ', 'save a f p', 'save 0  p', 'save 00 f p', 'input x file',
        'input x file ', 'input  file p', 'input x file\t', 'file', 'file p', 'input x files p', 'save\u00a00 f p']
+
+
+BAD_BUT_SOME = ['ran ', 'ran x', ' ran', 'begin ', 'begin x', 'end', 'end x', 'part', 'part 0', 'part 0 x', 'part 0 x ',
+                'part 0 x 1,', 'part 0 x ,1', 'part 0 x 1::2:', 'part 0 x 01', 'part 0 x -0', 'part 0 x +1',
+                'part 0 x 1 2', 'part 0 x a', 'part 0 x ...', 'part 0 x 1.', 'part a x 1', 'part 0  x 1', 'part 0 x 1\r',
+                'raw', 'input x raw', 'input x raw p', 'input x raw p B 1 3 1', 'input  raw p B 1 3 1 0',
+                'input b raw  B 1 3 1 0']
+MORE = ("c = np.arange(24, dtype='>i2').reshape(2, 3, 4)\nm = c > 5\n"
+        "t = np.zeros((2, 3), dtype=[('a', 'i1'), ('b', '>u4')])\nt['b'] = np.arange(6).reshape(2, 3)\ne = np.array(5)")
+FROM_1, EVERY_2ND, BACK, ALL = slice(1, None), slice(None, None, 2), slice(None, None, -1), slice(None)
+PARTS = [('x', 3), ('x', -1), ('x', slice(1, 3)), ('x', EVERY_2ND), ('x', BACK), ('x', slice(9, None)),
+         ('y', slice(-2, 9)), ('c', 1), ('c', (1, 2, 3)), ('c', (0, BACK)), ('c', (ALL, -1, EVERY_2ND)),
+         ('c', (FROM_1, FROM_1, FROM_1)), ('m', (1, EVERY_2ND, 0)), ('m', (0, 0, 0)), ('t', 0), ('t', (1, 2)),
+         ('t', (BACK, slice(4, 0, -2))), ('r', 1), ('r', ALL)]
 
 
 def npy(source):
@@ -212,27 +234,229 @@ class Calls(Folder):
             self.assertTrue(link.is_symlink())
 
 
-class CallsWithoutWords(Calls):
+    def test_parts(self):
+        self.fill()
+        self.book.insert(5, MORE)
+        for name, index in PARTS:
+            self.book.insert(6, f'part = {name}[{index_word(index)}]')
+            wanted = self.book.value(6, 'part')
+            self.book.remove(6)
+            found = self.book.part(5, name, index)
+            self.assertEqual(found._replace(format=''), wanted._replace(format=''), (name, index))
+        self.assertEqual(self.book.part(5, 't', (1, 2)).tolist(), (0, 5))
+        self.assertEqual(self.book.part(5, 'c', (1, BACK, 0)).tolist(), [20, 16, 12])
+
+    @unittest.skipUnless(np, 'needs NumPy')
+    def test_parts_are_numpys(self):
+        self.book.insert(0, MORE)
+        theirs = np.arange(24, dtype='>i2').reshape(2, 3, 4)
+        draw = random.Random(3)
+
+        def number():
+            return draw.choice((None, *range(-6, 7)))
+        for _ in range(200):
+            index = tuple(draw.choice((draw.randint(-3, 3), slice(number(), number(), number() or None)))
+                          for _ in range(draw.randint(1, 3)))
+            try:
+                wanted = theirs[index]
+            except IndexError:
+                with self.assertRaisesRegex(Refused, '^Index.OutOfBounds '):
+                    self.book.part(0, 'c', index)
+                continue
+            found = self.book.part(0, 'c', index)
+            self.assertEqual((found.shape, found.tolist(), found.kind == 'array'),
+                             (wanted.shape, wanted.tolist(), wanted.ndim > 0), index)
+
+    def test_parts_that_are_refused(self):
+        self.fill()
+        self.book.insert(5, MORE)
+        before = all_answers(self.book)
+        for at, name, index, told in (
+                (6, 'x', 0, 'NoCell 6 6'), (0, 'q', 0, 'NoName q'), (0, 'x y', 0, 'NoName x y'),
+                (0, 'c', 0, 'NoName c'),
+                (0, 'x', 9, 'Index.OutOfBounds 0 9 6'), (0, 'x', -7, 'Index.OutOfBounds 0 -7 6'),
+                (5, 'c', (1, 2, 4), 'Index.OutOfBounds 2 4 4'), (0, 'x', (0, 0), 'Index.TooManyIndices'),
+                (5, 'e', ALL, 'Index.TooManyIndices'), (0, 'x', slice(None, None, 0), 'Index.ZeroStep'),
+                (0, 'n', 0, 'Stmt.NotAnArray'), (0, 'b', ALL, 'Stmt.NotAnArray'), (4, 's', 0, 'Stmt.NotAnArray'),
+                (4, 'w', 0, 'Stmt.NotAnArray'), (4, 'big', 0, 'Stmt.NotAnArray')):
+            with self.assertRaisesRegex(Refused, f'^{told}$'):
+                self.book.part(at, name, index)
+        for index in (True, (), None, 1.5, 'x', (0, None), slice('a')):
+            with self.assertRaises(TypeError):
+                self.book.part(0, 'x', index)
+        self.assertEqual(all_answers(self.book), before)
+
+    def test_several_edits(self):
+        self.fill()
+        edits = [('insert', 0, 'a = 1\n.\nprint(a)'), ('edit', 2, 'print(a, x)'), ('move', 2, 5), ('remove', 1)]
+        before = all_answers(self.book)
+        self.book.apply([])
+        if 'begin' not in self.book.words:
+            with self.assertRaisesRegex(Refused, '^bad command$'):
+                self.book.apply(edits)
+            self.assertEqual(all_answers(self.book), before)
+            return
+        for wrong, told in ((('edit', 9, ''), 'NoCell 9 5'), (('insert', 5, '#' * 65_537), 'CellTooLong')):
+            with self.assertRaises(RefusedAmong) as refused:
+                self.book.apply([*edits, wrong, ('remove', 7)])
+            self.assertEqual((str(refused.exception), refused.exception.at), (told, 4))
+            self.assertEqual(all_answers(self.book), before)
+        self.book.apply(edits)
+        together, count = all_answers(self.book), self.book.count
+        with Notebook() as other:
+            self.book.close()
+            self.book = other
+            self.fill()
+            for edit in edits:
+                other.apply([edit])
+            self.assertEqual((all_answers(other), other.count), (together, count))
+
+    def test_several_edits_that_want_memory(self):
+        self.fill()
+        if 'begin' not in self.book.words:
+            return
+        before = all_answers(self.book)
+        self.assertTrue(self.book.starve())
+        with self.assertRaisesRegex(Refused, '^OutOfMemory$'):
+            self.book.apply([('edit', 0, 'x = 1'), ('insert', 5, 'y = np.arange(16777216)\ny = y + 1')])
+        self.book.feed()
+        self.assertEqual(all_answers(self.book), before)
+
+    def test_which_cells_ran(self):
+        has_word = 'ran' in self.book.words
+
+        def ran(*places):
+            self.assertEqual(self.book.ran(), list(places) if has_word else None)
+        ran()
+        self.book.insert(0, 'x = np.arange(3)')
+        ran(0)
+        self.book.insert(1, 'y = 5')
+        self.book.insert(2, 'print(x)')
+        ran(2)
+        self.book.edit(0, 'x = np.arange(4)')
+        ran(0, 2)
+        with self.assertRaises(Refused):
+            self.book.edit(9, '')
+        ran(0, 2)
+        self.book.move(0, 2)
+        self.assertEqual(self.book.show(1).refusal.fault, 'Stmt.NoName x')
+        ran(1)
+        self.book.edit(0, 'y = 5')
+        ran()
+        self.book.remove(2)
+        ran()
+
+    def test_buffers_that_are_files(self):
+        self.book.insert(0, "print(buffer('b'))")
+        layout = Layout('>h', 2, (2, 2), (-4, 2), 4)
+        for name in ('a.raw', ' two  spaces ', 'ä.raw', 'tab\t', os.fsdecode(b'no \xff UTF-8')):
+            with tempfile.TemporaryDirectory() as folder:
+                path = Path(folder) / name
+                path.write_bytes(bytes(range(8)))
+                self.book.input('b', path, layout)
+                self.assertEqual(self.book.show(0).text, '[[1029 1543]\n [   1  515]]\n')
+                self.book.drop('b')
+        before = all_answers(self.book)
+        for path, error in (('/no/file', FileNotFoundError), ('/', IsADirectoryError)):
+            with self.assertRaises(error) as told:
+                self.book.input('b', path, layout)
+            self.assertEqual(told.exception.filename, path)
+            with self.assertRaisesRegex(Refused, '^BadInputName$'):
+                self.book.input('a b', path, layout)
+        self.assertEqual(all_answers(self.book), before)
+
+    def test_large_inputs(self):
+        self.book.insert(0, "print(buffer('b').sum())\nprint(np.load('f').sum())")
+        data = bytes(range(256)) * (LARGE // 256)
+        file = npy('np.arange(200000)')
+        self.assertGreater(len(file), LARGE)
+        with tempfile.TemporaryDirectory() as other:
+            for folder in (other, self.folder, '/no/folder'):     # the second has a space
+                with mock.patch.object(tempfile, 'tempdir', str(folder)):
+                    for given, layout in ((memoryview(data).cast('B', (2, LARGE // 2)), None),
+                                          (data, Layout('B', 1, (LARGE,), (-1,), LARGE - 1))):
+                        self.book.input('b', given, layout)
+                        self.book.input('f', file)
+                        self.assertEqual(self.book.show(0).text, f'{sum(data)}\n19999900000\n')
+                        self.book.drop('b')
+                        self.book.drop('f')
+            self.assertEqual((os.listdir(other), os.listdir(self.folder)), ([], []))
+
+
+class CallsWithoutWords(WithoutWords, Calls):
     """The same over a program for scripts alone."""
 
-    def setUp(self):
-        patched = mock.patch.object(Notebook, 'words', frozenset())
-        patched.start()
-        self.addCleanup(patched.stop)
-        super().setUp()
+
+class CallsWithAllWords(WithAllWords, Calls):
+    """The same over a program that has all words."""
 
 
-class Lines(Folder):
+class Told(Folder):
+    def told(self, line):
+        self.book._write([line.encode() + b'\n'])
+        return self.book._line()
+
+
+class NewLines(WithAllWords, Told):
+    """What a program that has all words answers itself."""
+
+    def test_the_words(self):
+        word, *words = self.told('words').split(' ')
+        self.assertEqual((word, words), ('words', sorted(set(words))))
+        self.assertLessEqual({'begin', 'file', 'part', 'ran', 'raw', 'save', 'try', 'type'}, set(words))
+
+    def test_malformed_lines(self):
+        self.fill()
+        before = all_answers(self.book)
+        for line in BAD_BUT_SOME:
+            self.assertEqual(self.told(line), 'bad command', line)
+        self.assertEqual(all_answers(self.book), before)
+
+    def test_parts(self):
+        self.fill()
+        for index, told in (('3', 'scalar int64 13'), ('1:3', 'array <q 8 2 0b000000000000000c00000000000000'),
+                            ('::5', 'array <q 8 2 00000000000000000500000000000000'), ('6:', 'array <q 8 0 -'),
+                            ('9', 'refused Index.OutOfBounds 0 9 6'), ('0,0', 'refused Index.TooManyIndices')):
+            self.assertEqual(self.told(f'part 1 x {index}'), told)
+        self.assertEqual(self.told('part 4 r 1'), 'row T{b:a b:>I:c:} 5 0000000000')
+        self.assertEqual(self.told('part 4 r 1:'), 'array T{b:a b:>I:c:} 5 1 0000000000')
+        self.assertEqual(self.told('part 5 x 0'), 'refused NoCell 5 5')
+        self.assertEqual(self.told('part 4 q 0'), 'refused NoName q')
+
+    def test_edits_between_begin_and_end(self):
+        self.assertEqual(self.told('ran'), 'ran 0')
+        for lines, told in (('begin\nend', ['ok']),
+                            ('begin\ninsert 0\nx = 1\n.\ninsert 1\nprint(x)\n.\nend\nran', ['ok', 'ran 2 0 1']),
+                            ('begin\nedit 0\nx = 2\n.\ncount\nshow 0\nwords\nend\ncount',
+                             ['bad command', 'bad command', 'bad command', 'ok', 'count 2']),
+                            ('begin\nmove 0 1\nremove 5\nremove 0\nend\nran', ['refused 1 NoCell 5 2', 'ran 2 0 1']),
+                            ('begin\ninput n npy -\ndrop n\ndrop n\nend', ['refused 2 NoInputNamed n']),
+                            ('begin\nbegin\nremove 1\nremove 0\nend\ncount', ['bad command', 'ok', 'count 0'])):
+            self.book._write([lines.encode() + b'\n'])
+            self.assertEqual([self.book._line() for _ in told], told, lines)
+        self.assertEqual(self.told('count'), 'count 0')
+
+    def test_raw_files(self):
+        self.book.insert(0, "print(buffer('b'))")
+        with tempfile.TemporaryDirectory() as folder:
+            path = Path(folder) / 'b'
+            path.write_bytes(bytes(range(6)))
+            for line, told in ((f'b raw {path} B 1 2,2 -3,1 3', 'ok'), (f'b raw {path} B 1 2 1 x', 'bad command'),
+                               (f'b raw {path} B 1 2 1', 'bad command'), (f'b raw {path} B 1 2 1 0 00', 'bad command'),
+                               (f'b raw {folder}/no B 1 2 1 0', 'refused Unread NotFound'),
+                               (f'b raw {folder} B 1 2 1 0', 'refused Unread IsADirectory'),
+                               (f'a/b raw {folder}/no B 1 2 1 0', 'refused BadInputName')):
+                self.assertEqual(self.told(f'input {line}'), told, line)
+            self.assertEqual(self.book.show(0).text, '[[3 4]\n [0 1]]\n')
+
+
+class Lines(Told):
     """What the program itself answers."""
 
     def setUp(self):
         super().setUp()
         if not self.book.words:
             self.skipTest('the program has no words: NDNOTE_PROGRAM names one for scripts alone')
-
-    def told(self, line):
-        self.book._write([line.encode() + b'\n'])
-        return self.book._line()
 
     def test_the_words(self):
         word, *words = self.told('words').split(' ')

@@ -5,10 +5,12 @@ from dataclasses import dataclass
 from typing import Callable, FrozenSet, Sequence, Tuple
 
 WANT = b'refused OutOfMemory\n'
-NO_EDIT = (b'show ', b'source ', b'names ', b'value ', b'saved ', b'count', b'words', b'try ', b'type ', b'save ')
+NO_EDIT = (b'show ', b'source ', b'names ', b'value ', b'saved ', b'count', b'words', b'try ', b'type ', b'part ',
+           b'save ')
 # What takes memory and is no edit.
-ASKING = (b'names ', b'value ', b'try ', b'type ', b'save ')
-OF_FILES = (b'refused Unread ', b'refused Unwritten ')
+ASKING = (b'names ', b'value ', b'try ', b'type ', b'part ', b'save ')
+# Refusals that are found behind allocations: of a file, and of the index of a part.
+LATE = (b'refused Unread ', b'refused Unwritten ', b'refused Index.', b'refused Stmt.')
 Commands = Tuple[bytes, ...]
 # The answers of a script in which nothing is refused for want of memory.
 Answers = Callable[[Commands], Sequence[bytes]]
@@ -24,7 +26,7 @@ def is_edit(command: bytes) -> bool:
 
 def may_want(command: bytes, wanted: bytes) -> bool:
     """Whether a command that would be answered so may be answered with want of memory in place of it."""
-    if wanted.startswith(OF_FILES):
+    if wanted.startswith(LATE):
         return True
     if is_edit(command):
         return wanted == b'ok\n'

@@ -66,11 +66,16 @@ class OfAllocations(Room):
 class OfFiles(Room):
     def test_every_read(self) -> None:
         """A read of the input that fails is a refusal; a read of the script ends the program."""
-        made = self.room / 'made'
-        self.run_with(CELL + b'save 0 f %b\n' % bytes(made))
-        script = b"insert 0\nprint(np.load('f'))\n.\ninput f npy 00\ninput f file %b\nshow 0\n" % bytes(made)
+        made = bytes(self.room / 'made')
+        self.run_with(CELL + b'save 0 f %b\n' % made)
+        for call, form, fault in ((b"np.load('f')", b'file %b' % made, b'Npy.BadMagic'),
+                                  (b"buffer('f')", b'raw %b <q 8 40 8 128' % made, b'Stmt.NoInput f')):
+            with self.subTest(call):
+                script = b'insert 0\nprint(%b)\n.\ninput f npy 00\ninput f %b\nshow 0\n' % (call, form)
+                self.see_every_read(script, b'ok\nok\nrefused Unread Failed\ntext 0\nrefused 1 %b\nend\n' % fault)
+
+    def see_every_read(self, script: bytes, told: bytes) -> None:
         wanted, counts = self.run_with(script).output, Counter()
-        told = b'ok\nok\nrefused Unread Failed\ntext 0\nrefused 1 Npy.BadMagic\nend\n'
         self.assertIn(b'[ 0  1  2', wanted)
         for size in SIZES:
             for number in range(1, self.run_with(script, refusals.Faults(read_bytes=size)).reads + 1):
@@ -119,7 +124,8 @@ class OfFiles(Room):
 
     def test_little_at_a_time(self) -> None:
         path = self.room / 'f'
-        script = CELL + b"save 0 f %b\ninput f file %b\ntry 1\nprint(np.load('f'))\n.\n" % (bytes(path), bytes(path))
+        script = CELL + (b"save 0 f %b\ninput f file %b\ninput g raw %b <q 8 40 8 128\ntry 1\nprint(np.load('f') - buffer('g'))\n.\n"
+                         % (bytes(path), bytes(path), bytes(path)))
         wanted = self.run_with(script).output
         for size in SIZES:
             ran = self.run_with(script, refusals.Faults(read_bytes=size, write_bytes=size))

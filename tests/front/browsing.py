@@ -17,6 +17,7 @@ except ImportError:
     webdriver = None
 
 TOP = Path(__file__).resolve().parents[2]
+sys.path.append(str(TOP / 'python/tests'))
 TEXT = '# %% [markdown]\n# # Title\n\n# %% First\nx = np.arange(3)\nprint(x)\n\n# %%\nprint(x.sum())\n'
 WORDS = ('--headless=new', '--no-sandbox', '--disable-gpu', '--disable-dev-shm-usage', '--window-size=1000,900')
 HARMLESS = ('409', '500', 'ERR_CONNECTION', 'ERR_INCOMPLETE')     # conflicts and ends that a test makes itself

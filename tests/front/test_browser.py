@@ -2,6 +2,8 @@
 import unittest
 
 from browsing import Browsing, has_browser
+from programs import WithAllWords
+from sessions import SLOW_IN_PLACE
 
 try:
     from selenium.webdriver.common.by import By
@@ -78,6 +80,40 @@ class Browsers(Browsing):
         before = self.page.execute_script(find)
         self.type(0, 'x = np.arange(600).reshape(20, 30) > 300\nprint(x.sum())', Keys.CONTROL, Keys.ENTER)
         self.wait(lambda: self.page.execute_script(find) not in (None, before))
+
+
+@has_browser
+class BrowsersWithAllWords(WithAllWords, Browsing):
+    """Over a program that tells which cells ran, and which cell runs."""
+    text = '# %% First\nx = np.arange(3)\nprint(x)\n\n# %%\ny = 7\nprint(y)\n\n# %%\nprint(x.sum())\n'
+    outputs = ['[0 1 2]', '7', '3']
+
+    def classes(self, name):
+        """Whether each cell bears a mark."""
+        find = "return [...document.querySelectorAll('section.code')].map(one => one.classList.contains(arguments[0]))"
+        return self.page.execute_script(find, name)
+
+    def put_out(self):
+        """Takes the marks of earlier flashes away."""
+        self.page.execute_script("document.querySelectorAll('.flash').forEach(one => one.classList.remove('flash'))")
+
+    def test_the_cells_that_ran_flash(self):
+        self.wait(lambda: 'ran' in self.state())
+        self.put_out()
+        self.type(0, 'x = np.arange(4)\nprint(x)', Keys.CONTROL, Keys.ENTER)
+        self.wait(lambda: self.texts() == ['[0 1 2 3]', '7', '6'] and self.classes('flash') == [True, False, True])
+        self.wait(lambda: '2 outputs changed · 2 cells ran · ' in self.state())
+        self.put_out()
+        self.type(1, 'y = 8 - 1\nprint(y)', Keys.CONTROL, Keys.ENTER)
+        self.wait(lambda: '0 outputs changed · 1 cell ran · ' in self.state())
+        self.wait(lambda: self.classes('flash') == [False, True, False])
+
+    def test_the_cell_that_runs_bears_a_mark(self):
+        self.type(0, SLOW_IN_PLACE, Keys.CONTROL, Keys.ENTER)
+        self.wait(lambda: self.classes('running') == [True, False, False])
+        self.wait(lambda: 'running · First · ' in self.state())
+        self.page.find_element(By.CSS_SELECTOR, '#state button').click()
+        self.wait(lambda: 'Stopped' in self.said(0) and not any(self.classes('running')))
 
 
 if __name__ == '__main__':

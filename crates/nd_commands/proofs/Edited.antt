@@ -15,7 +15,7 @@ use Rattle.nd_notebook.specs.Edits.{name_in, outcome_of}
 use Rattle.nd_commands.specs.Answer.{edit_answer_of}
 use Rattle.nd_commands.specs.Carry.{Carried}
 
-answered : (e : Edit) (old new : Sheet) (r : Result (Unit {0}) EditFault) → Answers e old (outcome_of e r) new
+answered : {X : Type 0} (e : Edit) (old new : Sheet) (r : Result X EditFault) → Answers e old (outcome_of e r) new
     → Answer (Edits e) (book_of old) (edit_answer_of (name_in e) r) (book_of new)
 answered e old new (Ok done) h = inl (ap edit_answer (sym h.0), rw h.0 (ap book_of h.1 ∙ edits_book e old))
 answered e old new (Err (edits.NoCell at count)) h = inl (ap edit_answer (sym h.0), rw h.0 (ap book_of h.1))
@@ -26,7 +26,7 @@ answered e old new (Err edits.InputTooLarge) h = inl (ap edit_answer (sym h.0), 
 answered e old new (Err edits.NoInputNamed) h = inl (ap edit_answer (sym h.0), rw h.0 (ap book_of h.1))
 answered e old new (Err (edits.Memory m)) h = inr (ap is_none h.0, refl, ap book_of h.1)
 
-pub carried_edit : (e : Edit) (old new : Sheet) (r : Result (Unit {0}) EditFault) (was now : AnswerState)
+pub carried_edit : {X : Type 0} (e : Edit) (old new : Sheet) (r : Result X EditFault) (was now : AnswerState)
     → Answers e old (outcome_of e r) new → Pushes was (edit_answer_of (name_in e) r) now → Carried (Edits e) (book_of old) was now (book_of new)
 carried_edit e old new r was now h pushed = (edit_answer_of (name_in e) r, answered e old new r h, pushed)
 
@@ -44,7 +44,7 @@ counts_stale e old before after is given =
     let P : Book → Type 0 = λ b. CountsStale (book_of old) b before after in
     counts_none (model.refusal e (book_of old)) (book_of old) (edited e (book_of old)) before after is (subst P (edits_book e old) given)
 
-pub counts_edit : (e : Edit) (old new : Sheet) (r : Result (Unit {0}) EditFault) (before after : ℕ) → Answers e old (outcome_of e r) new
+pub counts_edit : {X : Type 0} (e : Edit) (old new : Sheet) (r : Result X EditFault) (before after : ℕ) → Answers e old (outcome_of e r) new
     → CountsRuns e old (outcome_of e r) before after → CountsCommand (Edits e) (book_of old) before after
 counts_edit e old new (Ok done) before after h given = counts_stale e old before after h.0 given
 counts_edit e old new (Err (edits.NoCell at count)) before after h given = counts_some _ _ _ _ before after h.0 given

@@ -1,6 +1,6 @@
 //! `push_edit_answer` and the others: the answers to commands, as lines.
 
-ghost use Rattle.std.specs.Prelude.{◌≡◌, ◌++◌, codes, decimal, map, option_map, string_bytes};
+ghost use Rattle.std.specs.Prelude.{◌≡◌, ◌++◌, Some, codes, decimal, map, option_map, string_bytes};
 ghost use Rattle.nd_model.specs.Text.FaultText as texts;
 ghost use Rattle.nd_model.specs.Book.Script as script;
 ghost use Rattle.nd_notebook.specs.Results.{refusal_of, saves_of};
@@ -17,17 +17,23 @@ use nd_script::words::{push_count_line, push_hex, push_names, push_number, push_
 
 /// Appends the answer to an edit of an input or a cell: `ok`, or the refusal, as
 /// `refused NoCell 7 2` of a notebook of two cells.
-pub fn push_edit_answer<O: AnswerWrite>(out: &mut O, name: &str, done: &Result<(), EditFault>)
+pub fn push_edit_answer<O: AnswerWrite, T>(out: &mut O, name: &str, done: &Result<T, EditFault>)
     ensures { Pushes (O.state out.old) (edit_answer_of name.now done.now) (O.state out.new) }
 {
     match done {
-        Ok(()) => push_text(out, "ok\n"),
-        Err(fault) => {
-            push_text(out, "refused ");
-            push_edit_fault(out, name, *fault);
-            push_text(out, "\n");
-        }
+        Ok(_) => push_text(out, "ok\n"),
+        Err(fault) => push_edit_refusal(out, name, *fault),
     }
+}
+
+/// Appends why an edit of an input or a cell is refused.
+pub fn push_edit_refusal<O: AnswerWrite>(out: &mut O, name: &str, fault: EditFault)
+    ensures { Pushes (O.state out.old)
+        (script.edit_answer (Some (edit_fault_of name.now fault))) (O.state out.new) }
+{
+    push_text(out, "refused ");
+    push_edit_fault(out, name, fault);
+    push_text(out, "\n");
 }
 
 // A refusal with the name that it mentions.

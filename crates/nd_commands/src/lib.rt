@@ -13,10 +13,11 @@ mod runner;
 mod source;
 mod value;
 
-pub use answer::{push_edit_answer, push_query_refusal, push_refusal};
+pub use answer::{push_edit_answer, push_edit_refusal, push_query_refusal, push_refusal};
+pub use fault::push_cell_fault;
 pub use line::answer_line;
 pub use nd_script::lines::{CountedRead, CountedWrite, RunFault, ScriptReader, ScriptWriter};
-pub use program::{Scripting, read_input, status, status_by, status_of};
+pub use program::{Scripting, read_bytes, status, status_by, status_of};
 pub use runner::{room_for_sources, run, run_script, run_turns};
 pub use source::{OpenText, Opening};
 pub use value::{push_layout, push_shown};

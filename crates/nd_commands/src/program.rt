@@ -10,7 +10,7 @@ use clap::error::ErrorKind;
 use clap::{Arg, ArgAction, ArgMatches, Command, Error};
 use nd_notebook::{EditFault, Input, Meter, Notebook};
 use nd_script::lines::{CountedRead, CountedWrite, RunFault, ScriptReader, ScriptWriter};
-use std::alloc::{AllocFailed, Global};
+use std::alloc::{AllocError, AllocFailed, Global};
 use std::io::Read;
 use std::process::ExitCode;
 use std::{env, fs, io};
@@ -35,6 +35,9 @@ pub trait Scripting {
     /// Returns the name by which the program speaks of itself.
     fn name() -> &'static str;
 
+    /// Returns whether the command line has `--progress`, by which each run of a cell is told of.
+    fn has_progress() -> bool;
+
     /// Runs the script of a reader over a notebook, and writes its answers.
     fn run_script<R: CountedRead, W: CountedWrite>(
         rt: &HostRuntime,
@@ -51,6 +54,10 @@ struct Plain;
 impl Scripting for Plain {
     fn name() -> &'static str {
         "ndnote"
+    }
+
+    fn has_progress() -> bool {
+        false
     }
 
     fn run_script<R: CountedRead, W: CountedWrite>(
@@ -160,11 +167,13 @@ fn words_of(rt: &HostRuntime) -> io::Result<Vec<String>> {
     Ok(words)
 }
 
-/// What a command line asks for: the path of the script, if one is given, and the inputs in order.
+/// What a command line asks for: the path of the script, if one is given, the inputs in order, and
+/// whether each run of a cell is told of.
 #[derive(Drop)]
 struct Request<'a> {
     script: Option<&'a str>,
     inputs: Vec<InputFile<'a>>,
+    has_progress: bool,
 }
 
 /// The inputs that these words name, each as `NAME=PATH`.
@@ -179,10 +188,27 @@ fn inputs_of<'a>(alloc: Global, words: &[&'a str]) -> Result<Vec<InputFile<'a>>,
     Ok(inputs)
 }
 
+/// A command with the option `--progress`, where the program has it.
+fn with_progress<'a>(
+    alloc: Global,
+    command: Command<'a>,
+    has_progress: bool,
+) -> Result<Command<'a>, AllocError> {
+    if !has_progress {
+        return Ok(command);
+    }
+    let progress = Arg::new(alloc, "progress")
+        .long("progress")
+        .help("Tells of each run of a cell on standard error")
+        .action(ArgAction::SetTrue);
+    command.arg(progress)
+}
+
 /// The words of the command line as its arguments. Whatever they do not take is refused.
 fn matches_of<'a>(
     alloc: Global,
     name: &'static str,
+    has_progress: bool,
     words: &'a [String],
 ) -> Result<ArgMatches<'a>, Error> {
     let script = Arg::new(alloc, "script")
@@ -198,6 +224,7 @@ fn matches_of<'a>(
         .about(ABOUT)
         .arg(script)?
         .arg(inputs)?;
+    let command = with_progress(alloc, command, has_progress)?;
     command.try_get_matches_from(words)
 }
 
@@ -205,9 +232,10 @@ fn matches_of<'a>(
 fn request_of<'a>(
     alloc: Global,
     name: &'static str,
+    has_progress: bool,
     words: &'a [String],
 ) -> Result<Request<'a>, ProgramFault<'a>> {
-    let matches = match matches_of(alloc, name, words) {
+    let matches = match matches_of(alloc, name, has_progress, words) {
         Ok(matches) => matches,
         Err(error) => return Err(ProgramFault::of_command_line(error)),
     };
@@ -215,19 +243,26 @@ fn request_of<'a>(
     Ok(Request {
         script: matches.get_str("script"),
         inputs,
+        has_progress: matches.get_flag("progress"),
     })
 }
 
-/// Returns an input of the bytes of an NPY file, of a large one as many as are more than an input
-/// may take. The buffer is made for the file's length; where none is known, as of a pipe, it grows.
-pub fn read_input(rt: &HostRuntime, path: &str) -> io::Result<Input>
-    ensures { IfOk result (λ input. IsNpy (source_of input)) }
-{
+/// Returns the bytes of a file, of a large one as many as are more than an input may take. The buffer
+/// is made for the file's length; where none is known, as of a pipe, it grows.
+pub fn read_bytes(rt: &HostRuntime, path: &str) -> io::Result<Vec<u8>> {
     let file = fs::open(rt, path)?;
     // A byte more than the file has, so that the read that finds the end needs no more room.
     let room = file.metadata()?.len().saturating_add(1).min(MOST_READ);
     let mut bytes = Vec::with_capacity(rt.alloc(), room as usize)?;
     file.take(MOST_READ).read_to_end(&mut bytes)?;
+    Ok(bytes)
+}
+
+/// The input of an NPY file.
+fn read_input(rt: &HostRuntime, path: &str) -> io::Result<Input>
+    ensures { IfOk result (λ input. IsNpy (source_of input)) }
+{
+    let bytes = read_bytes(rt, path)?;
     Ok(Input::Npy(bytes))
 }
 
@@ -292,7 +327,11 @@ fn run_request<'a, S: Scripting>(
     request: &Request<'a>,
     notebook: &mut Notebook,
 ) -> Result<(), ProgramFault<'a>> {
-    let mut meter = Meter::new(rt);
+    let mut meter = if request.has_progress {
+        Meter::telling(rt)
+    } else {
+        Meter::new(rt)
+    };
     set_inputs(rt, &mut meter, notebook, &request.inputs)?;
     run_path::<S>(rt, request.script, &mut meter, notebook)
 }
@@ -303,7 +342,7 @@ fn run_command_line<'a, S: Scripting>(
     rt: &HostRuntime,
     words: &'a [String],
 ) -> Result<(), ProgramFault<'a>> {
-    let request = request_of(rt.alloc(), S::name(), words)?;
+    let request = request_of(rt.alloc(), S::name(), S::has_progress(), words)?;
     let mut notebook = Notebook::new(rt.alloc());
     let ended = run_request::<S>(rt, &request, &mut notebook);
     drop(notebook);

@@ -2,14 +2,15 @@
 use Rattle.std.proofs.Common.{◌≡◌, ℕ, Bool, true, false, List, [], ◌∷◌, Option, Some, None, refl, sym, ap, subst, ◌∙◌, inl, inr, bytes_eq, codes}
 use Rattle.std.specs.Prelude.{◌==◌, ◌&&◌}
 use Rattle.std.specs.Str.{is_utf8}
-use Rattle.std.specs.List.{onto_first, join_with_byte}
+use Rattle.std.specs.List.{onto_first}
 use Rattle.std.proofs.lemmas.Bool.{cases_Bool, eqb-true}
 use Rattle.std.proofs.lemmas.Slice.Eq.{bytes_eq-Decides}
 use Rattle.nd_model.specs.Cells.Running.{Source}
 use Rattle.nd_model.specs.Book.Script as script
 use Rattle.nd_model.specs.Book.Script.{Whole, Bad, number_word, words_of, read_line, with_number, placed_line, input_line, input_of_words}
+use Rattle.nd_script.proofs.words.InputWords.{no_kind}
 use Rattle.nd_script.proofs.words.Words.{parts_are_some}
-use Rattle.nd_desk.specs.Words.{Line, line_of_words, path_line, read_word}
+use Rattle.nd_desk.specs.Words.{Line, line_of_words, long_line, read_word}
 use Rattle.nd_desk.specs.Laws.{WordsWereBad}
 
 clash : {X : Type 0} (o : Option X) (x : X) → o ≡ None → o ≡ Some x → ⊥
@@ -33,15 +34,6 @@ no_file : (a : List ℕ) (o : Option Source) → o ≡ None → input_line a o �
 no_file [] o e = refl
 no_file (c ∷ cs) o e = rw e refl
 
-file_is_none : (c : List ℕ) (more : List (List ℕ)) → input_of_words (codes "file") (c ∷ more) ≡ None
-file_is_none c [] = refl
-file_is_none c (d ∷ []) = refl
-file_is_none c (d ∷ e ∷ []) = refl
-file_is_none c (d ∷ e ∷ f ∷ []) = refl
-file_is_none c (d ∷ e ∷ f ∷ g ∷ []) = refl
-file_is_none c (d ∷ e ∷ f ∷ g ∷ h ∷ []) = refl
-file_is_none c (d ∷ e ∷ f ∷ g ∷ h ∷ i ∷ more) = refl
-
 both : (a b : Bool) → (a && b) ≡ true → (a ≡ true) × (b ≡ true)
 both true b e = (refl, e)
 both false b e = absurd (cc)
@@ -64,19 +56,31 @@ three_words w a b l e = elim (cases_Bool (bytes_eq w (codes "type"))) [
   | inr other ↦ absurd (clash (line_of_words (w ∷ a ∷ b ∷ [])) l (rw other refl) e)
 ]
 
--- neither an input from a file nor a file that is saved
-other_path : (w a b path : List ℕ) → (bytes_eq w (codes "input") && bytes_eq b (codes "file")) ≡ false → bytes_eq w (codes "save") ≡ false → path_line w a b path ≡ None
-other_path w a b path input save = rw (input, save) refl
+-- an input of a kind that no other script has
+input_is_bad : (w a b c : List ℕ) (more : List (List ℕ)) (k : List ℕ) → bytes_eq k (codes "npy") ≡ false → bytes_eq k (codes "buffer") ≡ false
+    → (bytes_eq w (codes "input") && bytes_eq b k) ≡ true → script.line_of_words (w ∷ a ∷ b ∷ c ∷ more) ≡ Whole Bad
+input_is_bad w a b c more k npy buffer is =
+    let words = both (bytes_eq w (codes "input")) (bytes_eq b k) is in
+    subst (λ v. script.line_of_words (v ∷ a ∷ b ∷ c ∷ more) ≡ Whole Bad) (sym (is_word w (codes "input") words.0))
+    (no_file a (input_of_words b (c ∷ more)) (ap (λ v. input_of_words v (c ∷ more)) (is_word b k words.1) ∙ sym (no_kind k (c ∷ more) npy buffer)))
+
+-- none of the words
+other_line : (w a b : List ℕ) (words : List (List ℕ)) → (bytes_eq w (codes "input") && bytes_eq b (codes "file")) ≡ false → (bytes_eq w (codes "input") && bytes_eq b (codes "raw")) ≡ false
+    → bytes_eq w (codes "save") ≡ false → bytes_eq w (codes "part") ≡ false → long_line w a b words ≡ None
+other_line w a b words file raw save part = rw (file, raw, save, part) refl
 
 more_words : (w a b c : List ℕ) (more : List (List ℕ)) (l : Line) → line_of_words (w ∷ a ∷ b ∷ c ∷ more) ≡ Some l → script.line_of_words (w ∷ a ∷ b ∷ c ∷ more) ≡ Whole Bad
 more_words w a b c more l e = elim (cases_Bool (bytes_eq w (codes "input") && bytes_eq b (codes "file"))) [
-  | inl is ↦
-      let words = both (bytes_eq w (codes "input")) (bytes_eq b (codes "file")) is in
-      subst (λ k. script.line_of_words (k ∷ a ∷ b ∷ c ∷ more) ≡ Whole Bad) (sym (is_word w (codes "input") words.0))
-      (no_file a (input_of_words b (c ∷ more)) (ap (λ k. input_of_words k (c ∷ more)) (is_word b (codes "file") words.1) ∙ file_is_none c more))
-  | inr other ↦ elim (cases_Bool (bytes_eq w (codes "save"))) [
-    | inl is ↦ subst (λ k. script.line_of_words (k ∷ a ∷ b ∷ c ∷ more) ≡ Whole Bad) (sym (is_word w (codes "save") is)) refl
-    | inr not ↦ absurd (clash (line_of_words (w ∷ a ∷ b ∷ c ∷ more)) l (other_path w a b (join_with_byte 32 (c ∷ more)) other not) e)
+  | inl is ↦ input_is_bad w a b c more (codes "file") refl refl is
+  | inr file ↦ elim (cases_Bool (bytes_eq w (codes "input") && bytes_eq b (codes "raw"))) [
+    | inl is ↦ input_is_bad w a b c more (codes "raw") refl refl is
+    | inr raw ↦ elim (cases_Bool (bytes_eq w (codes "save"))) [
+      | inl is ↦ subst (λ k. script.line_of_words (k ∷ a ∷ b ∷ c ∷ more) ≡ Whole Bad) (sym (is_word w (codes "save") is)) refl
+      | inr save ↦ elim (cases_Bool (bytes_eq w (codes "part"))) [
+        | inl is ↦ subst (λ k. script.line_of_words (k ∷ a ∷ b ∷ c ∷ more) ≡ Whole Bad) (sym (is_word w (codes "part") is)) refl
+        | inr part ↦ absurd (clash (line_of_words (w ∷ a ∷ b ∷ c ∷ more)) l (other_line w a b (c ∷ more) file raw save part) e)
+      ]
+    ]
   ]
 ]
 

@@ -4,15 +4,18 @@ use Rattle.std.specs.List.{flat_map}
 use Rattle.nd_model.specs.Arrays.View.{item_size}
 use Rattle.nd_model.specs.Formats.Format.{format_text}
 use Rattle.nd_model.specs.Cells.InputName.{is_input_name}
-use Rattle.nd_model.specs.Cells.Running.{Npy}
+use Rattle.nd_model.specs.Cells.Running.{Source, Npy, Buffer}
+use Rattle.nd_model.specs.Cells.Fault.{Fault}
+use Rattle.nd_model.specs.Text.FaultText.{fault_text}
 use Rattle.nd_model.specs.Cells.Cell.{Saved}
 use Rattle.nd_model.specs.Book.Renaming.{Shown, ShownInt, ShownTruth, ShownScalar, ShownArray, ShownRow}
 use Rattle.nd_model.specs.Book.Book.{SetInput, EditFault, QueryFault, CellResult, value_at, saved_at}
-use Rattle.nd_model.specs.Book.Script.{Edits, shape_text, shown_text, ok_or_refused, edit_answer, query_answer, refused_line, with_text}
+use Rattle.nd_model.specs.Book.Script.{Edits, shape_text, shown_text, value_answer, ok_or_refused, edit_answer, query_answer, refused_line, with_text}
 use Rattle.nd_script.specs.Lines.Counts.{Tally, CountedAnswer}
 use Rattle.nd_notebook.specs.Tried.{tried, TellsTried, CountsTried}
 use Rattle.nd_script.specs.Lines.Language.{Language}
-use Rattle.nd_desk.specs.Words.{Command, Plain, AsksWords, AsksType, Tries, SetsFile, SavesFile, Stage, step, left_open}
+use Rattle.nd_desk.specs.Parts.{part_of}
+use Rattle.nd_desk.specs.Words.{Command, Plain, AsksWords, AsksType, AsksPart, Tries, SetsFile, SetsRaw, SavesFile, Stage, step, left_open}
 
 -- ---- answers
 
@@ -26,6 +29,11 @@ type_text (ShownRow t bytes) = codes "row " ++ format_text t ++ codes " " ++ dec
 
 abbrev pub type_answer : Shown → List ℕ
 type_answer v = type_text v ++ codes "\n"
+
+-- a part as `value` has a value, or why there is none
+abbrev pub part_answer : Result Shown Fault → List ℕ
+part_answer (Ok v) = value_answer v
+part_answer (Err f) = refused_line (fault_text f)
 
 -- each file with its length, and its bytes in the lines behind
 abbrev pub file_lines : Saved → List ℕ
@@ -41,9 +49,9 @@ tried_answer (Err f) = edit_answer (Some f)
 abbrev pub out_of_memory : List ℕ
 out_of_memory = refused_line (codes "OutOfMemory")
 
--- The answer is the one that is meant, or memory is wanted where there is something to tell.
-abbrev pub TellsType : Result Shown QueryFault → (text : List ℕ) → Type 0
-TellsType asked text = (text ≡ query_answer (with_text type_answer asked)) ⊎ (IsTrue (is_ok asked) × (text ≡ out_of_memory))
+-- The answer is the one that is meant of the value, or memory is wanted where there is a value.
+abbrev pub TellsValue : (answer : Shown → List ℕ) → Result Shown QueryFault → (text : List ℕ) → Type 0
+TellsValue answer asked text = (text ≡ query_answer (with_text answer asked)) ⊎ (IsTrue (is_ok asked) × (text ≡ out_of_memory))
 
 -- why a file is not to be had
 pub data FileCause : Type 0 where
@@ -72,10 +80,10 @@ cause_text Failed = codes "Failed"
 abbrev pub IsUnhad : (tried text : List ℕ) → Type 0
 IsUnhad tried text = ((cause : FileCause) × (text ≡ refused_line (tried ++ cause_text cause))) ⊎ (text ≡ out_of_memory)
 
--- the bytes of some file were set, or under a good name they were not to be had
-abbrev pub SetsSome : List ℕ → Tally → (text : List ℕ) → Tally → Type 0
-SetsSome name old text new =
-    ((bytes : List ℕ) × CountedAnswer (Edits (SetInput name (Npy bytes))) old text new)
+-- an input of the bytes of some file was set, or under a good name it was not to be had
+abbrev pub SetsSome : (input : List ℕ → Source) → (name : List ℕ) → Tally → (text : List ℕ) → Tally → Type 0
+SetsSome input name old text new =
+    ((bytes : List ℕ) × CountedAnswer (Edits (SetInput name (input bytes))) old text new)
     ⊎ (IsTrue (is_input_name name) × IsUnhad (codes "Unread ") text × (new ≡ old))
 
 -- a file that is there was written or not, and one that is not there is refused
@@ -86,12 +94,14 @@ SavesSome (Err f) text = text ≡ query_answer (Err f)
 -- WHAT A COMMAND MAY ANSWER, with the notebook and the meter after it
 abbrev pub Gives : Command → Tally → (text : List ℕ) → Tally → Type 0
 Gives (Plain c) old text new = CountedAnswer c old text new
-Gives AsksWords old text new = (text ≡ codes "words file save try type\n") × (new ≡ old)
-Gives (AsksType at name) old text new = TellsType (value_at old.book at name) text × (new ≡ old)
+Gives AsksWords old text new = (text ≡ codes "words file part raw save try type\n") × (new ≡ old)
+Gives (AsksType at name) old text new = TellsValue type_answer (value_at old.book at name) text × (new ≡ old)
+Gives (AsksPart at name index) old text new = TellsValue (λ v. part_answer (part_of index v)) (value_at old.book at name) text × (new ≡ old)
 Gives (Tries at source) old text new =
     (outcome : Result CellResult EditFault) × TellsTried outcome (tried at source old.book) × CountsTried outcome old.count new.count
     × (text ≡ tried_answer outcome) × (new.book ≡ old.book)
-Gives (SetsFile name path) old text new = SetsSome name old text new
+Gives (SetsFile name path) old text new = SetsSome Npy name old text new
+Gives (SetsRaw name path format itemsize shape strides offset) old text new = SetsSome (Buffer format itemsize shape strides offset) name old text new
 Gives (SavesFile at name path) old text new = SavesSome (saved_at old.book at name) text × (new ≡ old)
 
 -- THE LANGUAGE OF A DESK: the commands of every script and words for front ends, counted on the meter

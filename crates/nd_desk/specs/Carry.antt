@@ -1,12 +1,11 @@
 -- Words for front ends that are carried out.
 use Rattle.std.specs.Prelude.{ℕ, ◌⊎◌, List}
-use Rattle.nd_model.specs.Book.Renaming.{Shown}
 use Rattle.nd_script.specs.Lines.Answers.{AnswerState, Pushes}
 use Rattle.nd_script.specs.Lines.Counts.{Tally}
 use Rattle.nd_model.specs.Book.Notebook.{Sheet}
 use Rattle.nd_commands.specs.Run.{tally_of}
 use Rattle.nd_desk.specs.Words.{Command}
-use Rattle.nd_desk.specs.Answers.{Gives, IsUnhad, type_answer, out_of_memory}
+use Rattle.nd_desk.specs.Answers.{Gives, out_of_memory}
 
 -- The command was carried out, and its answer was appended.
 abbrev pub CarriedOut : Command → Tally → (was now : AnswerState) → Tally → Type 0
@@ -16,10 +15,6 @@ CarriedOut c old was now new = (text : List ℕ) × Gives c old text new × Push
 abbrev pub Asked : Command → Sheet → (was now : AnswerState) → Type 0
 Asked c sheet was now = (count : ℕ) → CarriedOut c (tally_of sheet count) was now (tally_of sheet count)
 
--- why a file is not to be had was appended
-abbrev pub PushesUnhad : (tried : List ℕ) → (was now : AnswerState) → Type 0
-PushesUnhad tried was now = (text : List ℕ) × IsUnhad tried text × Pushes was text now
-
--- what a value is was appended, or that memory is wanted
-abbrev pub PushesType : Shown → (was now : AnswerState) → Type 0
-PushesType v was now = Pushes was (type_answer v) now ⊎ Pushes was out_of_memory now
+-- the answer was appended, or that memory is wanted
+abbrev pub PushesAnswer : (text : List ℕ) → (was now : AnswerState) → Type 0
+PushesAnswer text was now = Pushes was text now ⊎ Pushes was out_of_memory now

@@ -1,8 +1,10 @@
 pub mod Answers
 pub mod Carry
+pub mod Chosen
 pub mod Files
 pub mod Laws
 pub mod Lines
+pub mod Parts
 pub mod Single
 pub mod Source
 pub mod Words

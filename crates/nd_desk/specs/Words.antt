@@ -1,9 +1,10 @@
 -- Scripts with words for front ends: what their lines say.
-use Rattle.std.specs.Prelude.{ℕ, ◌&&◌, bytes_eq, if◌then◌else◌, List, [], ◌∷◌, ◌++◌, map, codes, Option, Some, None}
+use Rattle.std.specs.Prelude.{ℕ, ℤ, ◌==◌, ◌&&◌, bytes_eq, if◌then◌else◌, List, [], ◌∷◌, ◌++◌, map, option_map, codes, Option, Some, None}
 use Rattle.std.specs.Str.{is_utf8}
-use Rattle.std.specs.List.{join_with_byte}
+use Rattle.std.specs.List.{join_with_byte, slice_split}
+use Rattle.nd_model.specs.Indexing.Selecting.{Item, At, Slice}
 use Rattle.nd_model.specs.Book.Script as script
-use Rattle.nd_model.specs.Book.Script.{number_word, words_of, source_of, is_dot}
+use Rattle.nd_model.specs.Book.Script.{number_word, integer_word, list_word, every, words_of, source_of, is_dot}
 
 -- ---- commands
 
@@ -12,14 +13,42 @@ pub data Command : Type 0 where
   Plain : script.Command → Command
   AsksWords : Command
   AsksType : (at : ℕ) → (name : List ℕ) → Command
+  AsksPart : (at : ℕ) → (name : List ℕ) → (index : List Item) → Command
   Tries : (at : ℕ) → (source : List ℕ) → Command
   SetsFile : (name path : List ℕ) → Command
+  SetsRaw : (name path format : List ℕ) → (itemsize : ℕ) → (shape : List ℕ) → (strides : List ℤ) → (offset : ℕ) → Command
   SavesFile : (at : ℕ) → (name path : List ℕ) → Command
 
 -- where a script stands: as every script, or in the text of a cell that is to be tried
 pub data Stage : Type 0 where
   Plainly : script.Stage → Stage
   Trying : (at : ℕ) → (before : List (List ℕ)) → Stage
+
+-- ---- indexes
+
+-- a bound of a slice is an integer, or is left out
+abbrev pub bound_word : List ℕ → Option (Option ℤ)
+bound_word [] = Some None
+bound_word (c ∷ cs) = option_map Some (integer_word (c ∷ cs))
+
+abbrev pub slice_of : (start stop step : Option (Option ℤ)) → Option Item
+slice_of (Some start) (Some stop) (Some step) = Some (Slice start stop step)
+slice_of _ _ _ = None
+
+-- by what stands between colons: a whole number has none, a slice one or two
+abbrev pub item_of_parts : List (List ℕ) → Option Item
+item_of_parts [] = None
+item_of_parts (number ∷ []) = option_map At (integer_word number)
+item_of_parts (start ∷ stop ∷ []) = slice_of (bound_word start) (bound_word stop) (Some None)
+item_of_parts (start ∷ stop ∷ step ∷ []) = slice_of (bound_word start) (bound_word stop) (bound_word step)
+item_of_parts (start ∷ stop ∷ step ∷ more ∷ parts) = None
+
+abbrev pub item_word : List ℕ → Option Item
+item_word word = item_of_parts (slice_split (λ c. c == 58) word)
+
+-- AN INDEX has whole numbers and slices, with a comma between two of them.
+abbrev pub index_word : List ℕ → Option (List Item)
+index_word word = every item_word (slice_split (λ c. c == 44) word)
 
 -- ---- lines
 
@@ -51,11 +80,33 @@ save_line [] path at = None
 save_line (c ∷ cs) [] at = None
 save_line (c ∷ cs) (p ∷ ps) at = Some (Whole (SavesFile at (c ∷ cs) (p ∷ ps)))
 
--- a path has the words that are left, with a space between two of them
-abbrev pub path_line : (word a b path : List ℕ) → Option Line
-path_line word a b path =
-    if bytes_eq word (codes "input") && bytes_eq b (codes "file") then file_line a path
-    else if bytes_eq word (codes "save") then placed (number_word a) (save_line b path)
+-- a strided buffer but for its bytes: these are those of the file
+abbrev pub raw_of : (name path format : List ℕ) → Option ℕ → Option (List ℕ) → Option (List ℤ) → Option ℕ → Option Line
+raw_of (c ∷ cs) (p ∷ ps) (f ∷ fs) (Some itemsize) (Some shape) (Some strides) (Some offset) =
+    Some (Whole (SetsRaw (c ∷ cs) (p ∷ ps) (f ∷ fs) itemsize shape strides offset))
+raw_of _ _ _ _ _ _ _ = None
+
+-- its path is one word
+abbrev pub raw_line : (name : List ℕ) → (words : List (List ℕ)) → Option Line
+raw_line name (path ∷ format ∷ itemsize ∷ shape ∷ strides ∷ offset ∷ []) =
+    raw_of name path format (number_word itemsize) (list_word number_word shape) (list_word integer_word strides) (number_word offset)
+raw_line name _ = None
+
+abbrev pub part_of_index : ℕ → (name : List ℕ) → Option (List Item) → Option Line
+part_of_index at name None = None
+part_of_index at name (Some index) = Some (Whole (AsksPart at name index))
+
+abbrev pub part_line : (name : List ℕ) → (words : List (List ℕ)) → ℕ → Option Line
+part_line (c ∷ cs) (index ∷ []) at = part_of_index at (c ∷ cs) (index_word index)
+part_line _ _ at = None
+
+-- a path that ends its line has the words that are left, with a space between two of them
+abbrev pub long_line : (word a b : List ℕ) → (words : List (List ℕ)) → Option Line
+long_line word a b words =
+    if bytes_eq word (codes "input") && bytes_eq b (codes "file") then file_line a (join_with_byte 32 words)
+    else if bytes_eq word (codes "input") && bytes_eq b (codes "raw") then raw_line a words
+    else if bytes_eq word (codes "save") then placed (number_word a) (save_line b (join_with_byte 32 words))
+    else if bytes_eq word (codes "part") then placed (number_word a) (part_line b words)
     else None
 
 abbrev pub line_of_words : List (List ℕ) → Option Line
@@ -63,7 +114,7 @@ line_of_words [] = None
 line_of_words (word ∷ []) = if bytes_eq word (codes "words") then Some (Whole AsksWords) else None
 line_of_words (word ∷ a ∷ []) = if bytes_eq word (codes "try") then placed (number_word a) try_line else None
 line_of_words (word ∷ a ∷ b ∷ []) = if bytes_eq word (codes "type") then placed (number_word a) (type_line b) else None
-line_of_words (word ∷ a ∷ b ∷ c ∷ more) = path_line word a b (join_with_byte 32 (c ∷ more))
+line_of_words (word ∷ a ∷ b ∷ c ∷ more) = long_line word a b (c ∷ more)
 
 -- WHAT A LINE SAYS, outside a source, that is none of every script's commands
 abbrev pub read_word : List ℕ → Option Line

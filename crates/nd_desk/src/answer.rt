@@ -1,9 +1,9 @@
 //! `push_trial` and the others: the answers to words for front ends.
 
 ghost use Rattle.std.specs.Prelude.{◌≡◌, OnErr, OnOk, codes};
-ghost use Rattle.nd_desk.specs.Answers.{file_lines, trial_answer, type_text};
+ghost use Rattle.nd_desk.specs.Answers.{file_lines, trial_answer, type_answer, type_text};
 ghost use Rattle.nd_commands.specs.Value.{array_of, row_of};
-ghost use Rattle.nd_desk.specs.Carry.{PushesType};
+ghost use Rattle.nd_desk.specs.Carry.{PushesAnswer};
 ghost use Rattle.nd_notebook.specs.Queries.{bound_of, result_of, shown_of};
 ghost use Rattle.nd_notebook.specs.Results.{saves_of};
 ghost use Rattle.nd_script.specs.Lines.Answers.{Pushes};
@@ -18,9 +18,10 @@ use std::alloc::{AllocError, Global};
 
 /// Appends the words that a script of a desk has beside those of every script.
 pub fn push_words<O: AnswerWrite>(out: &mut O)
-    ensures { Pushes (O.state out.old) (codes "words file save try type\n") (O.state out.new) }
+    ensures { Pushes (O.state out.old) (codes "words file part raw save try type\n")
+        (O.state out.new) }
 {
-    push_text(out, "words file save try type\n");
+    push_text(out, "words file part raw save try type\n");
 }
 
 /// Appends what a cell gives that was tried: its text, its refusal, and its files with their bytes.
@@ -50,7 +51,8 @@ fn push_files<O: AnswerWrite>(out: &mut O, saves: &IndexMap<String, Vec<u8>>)
 /// Appends the answer to `type`: a number as `value` has it, of an array or a row the dtype, the
 /// itemsize and the shape. Where memory is wanted for it, the refusal is appended.
 pub fn push_type<O: AnswerWrite>(alloc: Global, out: &mut O, value: &BoundValue)
-    ensures { PushesType (bound_of value.now) (O.state out.old) (O.state out.new) }
+    ensures { PushesAnswer (type_answer (bound_of value.now))
+        (O.state out.old) (O.state out.new) }
 {
     match push_shown_type(alloc, out, value.shown()) {
         Ok(()) => push_text(out, "\n"),

@@ -2,12 +2,15 @@
 
 ghost use Rattle.nd_commands.specs.Run.{tally_of};
 ghost use Rattle.nd_script.specs.Lines.Answers.{Pushes};
-ghost use Rattle.nd_desk.specs.Carry.{Asked, CarriedOut, PushesUnhad};
-ghost use Rattle.nd_desk.specs.Words.{AsksType, SavesFile, SetsFile, Tries};
+ghost use Rattle.nd_desk.specs.Carry.{Asked, CarriedOut};
+ghost use Rattle.nd_desk.specs.Files.{unhad_text};
+ghost use Rattle.nd_desk.specs.Lines.{sets};
+ghost use Rattle.nd_desk.specs.Words.{AsksType, SavesFile, Tries};
 
 use crate::answer::{push_trial, push_type};
 use crate::file::{FileCause, replace_file};
-use nd_commands::{push_edit_answer, push_query_refusal, read_input};
+use crate::form::FileForm;
+use nd_commands::{push_edit_answer, push_edit_refusal, push_query_refusal};
 use nd_notebook::{EditFault, Meter, Notebook, is_input_name};
 use nd_script::lines::AnswerWrite;
 use nd_script::words::push_text;
@@ -30,7 +33,7 @@ pub fn try_cell<O: AnswerWrite>(
             push_trial(out, tried.result());
             drop(tried);
         }
-        Err(fault) => push_edit_answer(out, "", &Err(fault)),
+        Err(fault) => push_edit_refusal(out, "", fault),
     }
 }
 
@@ -55,9 +58,9 @@ pub fn show_type<O: AnswerWrite>(
 
 // Appends why a file is not to be had, behind a word for what was tried.
 fn push_cause<O: AnswerWrite>(out: &mut O, tried: &str, kind: ErrorKind)
-    ensures { PushesUnhad tried.now (O.state out.old) (O.state out.new) }
+    ensures { Pushes (O.state out.old) (unhad_text tried.now kind) (O.state out.new) }
 {
-    if kind == ErrorKind::OutOfMemory {
+    if let ErrorKind::OutOfMemory = kind {
         return push_text(out, "refused OutOfMemory\n");
     }
     push_text(out, "refused ");
@@ -66,8 +69,8 @@ fn push_cause<O: AnswerWrite>(out: &mut O, tried: &str, kind: ErrorKind)
     push_text(out, "\n");
 }
 
-/// Sets an input to the NPY file at a path. A name that no input may have is refused before the file
-/// is opened.
+/// Sets an input to the file at a path, in a form. A name that no input may have is refused before
+/// the file is opened.
 pub fn set_file<O: AnswerWrite>(
     rt: &HostRuntime,
     out: &mut O,
@@ -75,15 +78,16 @@ pub fn set_file<O: AnswerWrite>(
     notebook: &mut Notebook,
     name: &str,
     path: &str,
+    form: FileForm<'_>,
 )
-    ensures { CarriedOut (SetsFile name.now path.now) (tally_of notebook.old meter.old)
+    ensures { CarriedOut (sets name.now path.now form.entry) (tally_of notebook.old meter.old)
         (O.state out.old) (O.state out.new) (tally_of notebook.new meter.new) }
 {
     if !is_input_name(name) {
-        push_edit_answer(out, name, &Err(EditFault::BadInputName));
+        push_edit_refusal(out, name, EditFault::BadInputName);
         return;
     }
-    match read_input(rt, path) {
+    match form.read(rt, path) {
         Ok(input) => {
             let done = notebook.set_input(meter, name, input);
             push_edit_answer(out, name, &done);

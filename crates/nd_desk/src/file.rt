@@ -2,7 +2,7 @@
 
 ghost use Rattle.std.specs.Prelude.{◌≡◌};
 ghost use Rattle.nd_desk.specs.Answers.{cause_text};
-ghost use Rattle.nd_desk.specs.Files.{cause_of};
+ghost use Rattle.nd_desk.specs.Files.{cause_of, cause_of_kind};
 
 use std::alloc::Global;
 use std::fs::{self, File};
@@ -28,7 +28,9 @@ pub enum FileCause {
 
 impl FileCause {
     /// Returns the cause of an error, which is no want of memory.
-    pub(crate) fn of_kind(kind: ErrorKind) -> FileCause {
+    pub(crate) fn of_kind(kind: ErrorKind) -> FileCause
+        ensures { cause_of result ≡ cause_of_kind kind }
+    {
         match kind {
             ErrorKind::NotFound => FileCause::NotFound,
             ErrorKind::PermissionDenied => FileCause::PermissionDenied,

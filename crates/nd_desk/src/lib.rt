@@ -8,8 +8,12 @@ mod answer;
 mod answerer;
 mod carry;
 mod file;
+mod form;
+mod index;
 mod line;
+mod part;
 mod program;
+mod raw;
 mod runner;
 mod word;
 

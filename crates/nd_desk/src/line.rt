@@ -14,6 +14,7 @@ ghost use Rattle.nd_desk.specs.Words.{Plainly, Trying, closed_try};
 
 use crate::answer::push_words;
 use crate::carry::{save_file, set_file, show_type, try_cell};
+use crate::part::show_part;
 use crate::word::{DeskLine, DeskWord, desk_line};
 use nd_commands::{OpenText, Opening, answer_line};
 use nd_notebook::{Meter, Notebook};
@@ -170,7 +171,12 @@ fn answer_word<O: AnswerWrite>(
     match word {
         DeskWord::Words => push_words(out),
         DeskWord::Dtype { at, name } => show_type(rt.alloc(), out, notebook, at, name),
-        DeskWord::SetFile { name, path } => set_file(rt, out, meter, notebook, name, path),
+        DeskWord::Part { at, name, index } => {
+            show_part(rt.alloc(), out, notebook, at, name, index);
+        }
+        DeskWord::SetFile { name, path, form } => {
+            set_file(rt, out, meter, notebook, name, path, form);
+        }
         DeskWord::SaveFile { at, name, path } => save_file(rt, out, notebook, at, name, path),
     }
 }

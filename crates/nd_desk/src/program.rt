@@ -16,6 +16,10 @@ impl Scripting for Desk {
         "ndnote_desk"
     }
 
+    fn has_progress() -> bool {
+        true
+    }
+
     fn run_script<R: CountedRead, W: CountedWrite>(
         rt: &HostRuntime,
         reader: &mut R,

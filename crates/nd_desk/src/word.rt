@@ -2,9 +2,19 @@
 
 ghost use Rattle.std.specs.Prelude.{◌≡◌, [], ◌∷◌, option_map};
 ghost use Rattle.nd_model.specs.Book.Script.{words_of};
-ghost use Rattle.nd_desk.specs.Words.{file_line, line_of_words, path_line, read_word, save_line};
+ghost use Rattle.nd_desk.specs.Words.{
+  file_line,
+  line_of_words,
+  long_line,
+  part_line,
+  read_word,
+  save_line,
+};
 ghost use Rattle.nd_desk.specs.Lines.{line_of};
 
+use crate::form::FileForm;
+use crate::index::is_index;
+use crate::raw::raw_line;
 use nd_script::words::{number_of, split_word};
 
 /// What a line says that is none of a script's commands. Positions count from 0.
@@ -25,10 +35,17 @@ pub enum DeskWord<'a> {
         at: usize,
         name: &'a str,
     },
-    /// The NPY file at a path is set as the input of a name.
+    /// What an index chooses of a name's value after a cell. The index stays as it is written.
+    Part {
+        at: usize,
+        name: &'a str,
+        index: &'a str,
+    },
+    /// The file at a path, in a form, is set as the input of a name.
     SetFile {
         name: &'a str,
         path: &'a str,
+        form: FileForm<'a>,
     },
     /// A file that a cell saved is written to a path.
     SaveFile {
@@ -39,7 +56,7 @@ pub enum DeskWord<'a> {
 }
 
 /// Returns what a line says, which is without its newline, if it is one of the words: `try 2`,
-/// `type 0 x`, `input x file x.npy`. A path is all that stands behind its space.
+/// `part 0 x 1:5`, `input x file x.npy`. That path is all that stands behind its space.
 pub fn desk_line(line: &[u8]) -> Option<DeskLine<'_>>
     ensures { option_map line_of result ≡ read_word line.now }
 {
@@ -98,33 +115,61 @@ fn name_line<'a>(word: &str, place: &str, name: &'a str) -> Option<DeskLine<'a>>
     Some(DeskLine::Word(DeskWord::Dtype { at, name }))
 }
 
-// A line of four words or more, which ends with a path.
-fn long_line<'a>(word: &str, first: &'a str, second: &'a str, path: &'a str) -> Option<DeskLine<'a>>
+// proof: the words behind the third are told by their text.
+fn long_line<'a>(word: &str, first: &'a str, second: &'a str, rest: &'a str) -> Option<DeskLine<'a>>
     ensures { option_map line_of result
-        ≡ line_of_words (word.now ∷ first.now ∷ second.now ∷ words_of path.now) }
+        ≡ line_of_words (word.now ∷ first.now ∷ second.now ∷ words_of rest.now) }
 {
-    path_line(word, first, second, path)
+    ending_line(word, first, second, rest)
 }
 
-// A line that ends with a path.
-fn path_line<'a>(word: &str, first: &'a str, second: &'a str, path: &'a str) -> Option<DeskLine<'a>>
-    ensures { option_map line_of result ≡ path_line word.now first.now second.now path.now }
+// A line of four words or more.
+fn ending_line<'a>(
+    word: &str,
+    first: &'a str,
+    second: &'a str,
+    rest: &'a str,
+) -> Option<DeskLine<'a>>
+    ensures { option_map line_of result
+        ≡ long_line word.now first.now second.now (words_of rest.now) }
 {
     match word {
-        "input" if second == "file" => file_line(first, path),
-        "save" => save_line(number_of(first)?, second, path),
+        "input" if second == "file" => file_line(first, rest),
+        "input" if second == "raw" => raw_line(first, rest),
+        "save" => save_line(number_of(first)?, second, rest),
+        "part" => part_line(number_of(first)?, second, rest),
         _ => None,
     }
 }
 
-// The file at a path as an input.
+// The NPY file at a path as an input.
 fn file_line<'a>(name: &'a str, path: &'a str) -> Option<DeskLine<'a>>
     ensures { option_map line_of result ≡ file_line name.now path.now }
 {
     if name.is_empty() || path.is_empty() {
         return None;
     }
-    Some(DeskLine::Word(DeskWord::SetFile { name, path }))
+    let form = FileForm::Npy;
+    Some(DeskLine::Word(DeskWord::SetFile { name, path, form }))
+}
+
+// A part of a value, by an index, which ends its line.
+fn part_line<'a>(at: usize, name: &'a str, rest: &'a str) -> Option<DeskLine<'a>>
+    ensures { option_map line_of result ≡ part_line name.now (words_of rest.now) at }
+{
+    match split_word(rest) {
+        (index, None) => index_line(at, name, index),
+        (_, Some(_)) => None,
+    }
+}
+
+fn index_line<'a>(at: usize, name: &'a str, index: &'a str) -> Option<DeskLine<'a>>
+    ensures { option_map line_of result ≡ part_line name.now (index.now ∷ []) at }
+{
+    if name.is_empty() || !is_index(index) {
+        return None;
+    }
+    Some(DeskLine::Word(DeskWord::Part { at, name, index }))
 }
 
 // A saved file that is written to a path.

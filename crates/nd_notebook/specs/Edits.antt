@@ -1,7 +1,8 @@
 -- Edits and their answers as the definitions have them.
 use Rattle.std.specs.Prelude.{◌≡◌, ℕ, List, [], ◌∷◌, None, Result, Ok, Err}
 use Rattle.nd_model.specs.Book.Book as model
-use Rattle.nd_model.specs.Book.Notebook.{Sheet, Answers, CountsRuns, book_of}
+use Rattle.nd_model.specs.Book.Notebook.{Sheet, Answers, CountsRuns, book_of, edited_sheet}
+use Rattle.nd_schedule.specs.Schedule.Ran.{AreStale}
 use Rattle.nd_input.specs.Sources.{source_of}
 use Rattle.nd_session.specs.Inputs.Values.{rule_of}
 use Rattle.nd_notebook.specs.declared.edit.Edit.{Edit}
@@ -39,8 +40,8 @@ edit_fault_of name edits.NoInputNamed = model.NoInputNamed name
 edit_fault_of name (edits.Memory m) = model.EditFault.OutOfMemory
 
 -- the answer to an edit
-abbrev pub outcome_of : model.Edit → Result (Unit {0}) EditFault → Result (Unit {0}) model.EditFault
-outcome_of e (Ok done) = Ok done
+abbrev pub outcome_of : {X : Type 0} → model.Edit → Result X EditFault → Result (Unit {0}) model.EditFault
+outcome_of e (Ok done) = Ok tt
 outcome_of e (Err f) = Err (edit_fault_of (name_in e) f)
 
 -- the answers to the first of these edits
@@ -48,6 +49,10 @@ abbrev pub outcomes_of : List model.Edit → List (Result (Unit {0}) EditFault) 
 outcomes_of [] rs = []
 outcomes_of (e ∷ es) [] = []
 outcomes_of (e ∷ es) (r ∷ rs) = outcome_of e r ∷ outcomes_of es rs
+
+-- WHICH CELLS AN EDIT RAN that was done: the stale ones
+abbrev pub RanFor : model.Edit → Sheet → List ℕ → Type 0
+RanFor e old places = AreStale (book_of old) (book_of (edited_sheet e old)) places
 
 -- the edit is refused in this way in each notebook, which counts nothing; or it is refused in none
 abbrev pub IsRefusalOf : model.Edit → Result (Unit {0}) EditFault → Type 0

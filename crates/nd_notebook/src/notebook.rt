@@ -5,7 +5,7 @@ ghost use Rattle.nd_model.specs.Book.Book as model;
 ghost use Rattle.nd_model.specs.Book.Notebook.{Answers, CountsRuns, no_sheet};
 ghost use Rattle.nd_input.specs.Sources.{source_of};
 ghost use Rattle.nd_session.specs.Inputs.Values.{rule_of};
-ghost use Rattle.nd_notebook.specs.Edits.{IsRefusalOf, outcome_of};
+ghost use Rattle.nd_notebook.specs.Edits.{IsRefusalOf, RanFor, outcome_of};
 
 use crate::edit::{Edit, EditFault};
 use crate::kernel::SessionRunner;
@@ -40,6 +40,19 @@ fn check_input(name: &str, input: &Input) -> Result<(), EditFault>
         return Err(EditFault::InputTooLarge);
     }
     Ok(())
+}
+
+/// The answer to an edit, without the positions of the cells that ran.
+fn without_places(answer: Result<Vec<usize>, EditFault>) -> Result<(), EditFault>
+    ensures { (e : model.Edit) → outcome_of e result ≡ outcome_of e answer }
+{
+    match answer {
+        Ok(ran) => {
+            drop(ran);
+            Ok(())
+        }
+        Err(fault) => Err(fault),
+    }
 }
 
 /// A list of cells under edits, with inputs and a rule, whose answers are those of running all cells
@@ -83,15 +96,22 @@ impl Notebook {
 }
 
 impl Notebook {
-    /// Inserts a cell at a position, which may be behind the last one.
+    /// Inserts a cell at a position, which may be behind the last one, and returns the positions of
+    /// the cells that ran: the new one, and those that it made stale.
     ///
     /// Refused in this order: no such position (`NoCell`), 10,000 cells already (`TooManyCells`), a
     /// text of more than 65,536 bytes (`CellTooLong`), want of memory.
-    pub fn insert(&mut self, meter: &mut Meter, at: usize, source: &str) -> Result<(), EditFault>
+    pub fn insert(
+        &mut self,
+        meter: &mut Meter,
+        at: usize,
+        source: &str,
+    ) -> Result<Vec<usize>, EditFault>
         ensures answered { Answers (model.Insert at source.now) self.old
             (outcome_of (model.Insert at source.now) result) self.new }
         ensures counts { CountsRuns (model.Insert at source.now) self.old
             (outcome_of (model.Insert at source.now) result) meter.old meter.new }
+        ensures ran { IfOk result (λ v. RanFor (model.Insert at source.now) self.old v.items) }
     {
         let count = self.schedule.count();
         if count < at {
@@ -103,19 +123,25 @@ impl Notebook {
         if source.len() > MOST_SOURCE {
             return Err(EditFault::CellTooLong);
         }
-        self.schedule.insert(meter, at, source)?;
-        Ok(())
+        let ran = self.schedule.insert(meter, at, source)?;
+        Ok(ran)
     }
 
-    /// Gives the cell at a position another text.
+    /// Gives the cell at a position another text, and returns the positions of the cells that ran.
     ///
     /// Refused in this order: no such cell (`NoCell`), a text of more than 65,536 bytes
     /// (`CellTooLong`), want of memory.
-    pub fn edit(&mut self, meter: &mut Meter, at: usize, source: &str) -> Result<(), EditFault>
+    pub fn edit(
+        &mut self,
+        meter: &mut Meter,
+        at: usize,
+        source: &str,
+    ) -> Result<Vec<usize>, EditFault>
         ensures answered { Answers (model.Change at source.now) self.old
             (outcome_of (model.Change at source.now) result) self.new }
         ensures counts { CountsRuns (model.Change at source.now) self.old
             (outcome_of (model.Change at source.now) result) meter.old meter.new }
+        ensures ran { IfOk result (λ v. RanFor (model.Change at source.now) self.old v.items) }
     {
         let count = self.schedule.count();
         if count <= at {
@@ -124,19 +150,26 @@ impl Notebook {
         if source.len() > MOST_SOURCE {
             return Err(EditFault::CellTooLong);
         }
-        self.schedule.edit(meter, at, source)?;
-        Ok(())
+        let ran = self.schedule.edit(meter, at, source)?;
+        Ok(ran)
     }
 
-    /// Moves the cell at `from`, so that it is at `to` afterwards.
+    /// Moves the cell at `from`, so that it is at `to` afterwards, and returns the positions of the
+    /// cells that ran, as they are then.
     ///
     /// Refused where one of them has no cell, with the first such position (`NoCell`), and for want
     /// of memory.
-    pub fn move_cell(&mut self, meter: &mut Meter, from: usize, to: usize) -> Result<(), EditFault>
+    pub fn move_cell(
+        &mut self,
+        meter: &mut Meter,
+        from: usize,
+        to: usize,
+    ) -> Result<Vec<usize>, EditFault>
         ensures answered { Answers (model.Move from to) self.old
             (outcome_of (model.Move from to) result) self.new }
         ensures counts { CountsRuns (model.Move from to) self.old
             (outcome_of (model.Move from to) result) meter.old meter.new }
+        ensures ran { IfOk result (λ v. RanFor (model.Move from to) self.old v.items) }
     {
         let count = self.schedule.count();
         if count <= from {
@@ -145,28 +178,29 @@ impl Notebook {
         if count <= to {
             return Err(EditFault::NoCell(to, count));
         }
-        self.schedule.move_cell(meter, from, to)?;
-        Ok(())
+        let ran = self.schedule.move_cell(meter, from, to)?;
+        Ok(ran)
     }
 
-    /// Removes the cell at a position. Refused where there is none (`NoCell`), and for want of
-    /// memory.
-    pub fn remove(&mut self, meter: &mut Meter, at: usize) -> Result<(), EditFault>
+    /// Removes the cell at a position, and returns the positions of the cells that ran. Refused where
+    /// there is none (`NoCell`), and for want of memory.
+    pub fn remove(&mut self, meter: &mut Meter, at: usize) -> Result<Vec<usize>, EditFault>
         ensures answered { Answers (model.Remove at) self.old
             (outcome_of (model.Remove at) result) self.new }
         ensures counts { CountsRuns (model.Remove at) self.old
             (outcome_of (model.Remove at) result) meter.old meter.new }
+        ensures ran { IfOk result (λ v. RanFor (model.Remove at) self.old v.items) }
     {
         let count = self.schedule.count();
         if count <= at {
             return Err(EditFault::NoCell(at, count));
         }
-        self.schedule.remove(meter, at)?;
-        Ok(())
+        let ran = self.schedule.remove(meter, at)?;
+        Ok(ran)
     }
 
-    /// Sets the input under a name, in place of one that has it. The notebook keeps its bytes, and
-    /// copies none. A refused input is dropped.
+    /// Sets the input under a name, in place of one that has it, and returns the positions of the cells
+    /// that ran. The notebook keeps its bytes, and copies none. A refused input is dropped.
     ///
     /// Refused in this order: a name that no input may have (`BadInputName`), an input of more than
     /// 2^26 bytes (`InputTooLarge`), want of memory.
@@ -175,12 +209,14 @@ impl Notebook {
         meter: &mut Meter,
         name: &str,
         input: Input,
-    ) -> Result<(), EditFault>
+    ) -> Result<Vec<usize>, EditFault>
         ensures answered { Answers (model.SetInput name.now (source_of input)) self.old
             (outcome_of (model.SetInput name.now (source_of input)) result) self.new }
         ensures counts { CountsRuns (model.SetInput name.now (source_of input)) self.old
             (outcome_of (model.SetInput name.now (source_of input)) result)
             meter.old meter.new }
+        ensures ran { IfOk result
+            (λ v. RanFor (model.SetInput name.now (source_of input)) self.old v.items) }
     {
         if let Err(fault) = check_input(name, &input) {
             return Err(fault);
@@ -188,19 +224,20 @@ impl Notebook {
         let world = self.schedule.world();
         let inputs = with_input(self.alloc, &world.inputs, name, input)?;
         let rule = world.rule;
-        self.schedule.set_world(meter, World { inputs, rule })?;
-        Ok(())
+        let ran = self.schedule.set_world(meter, World { inputs, rule })?;
+        Ok(ran)
     }
 
-    /// Drops the input of a name.
+    /// Drops the input of a name, and returns the positions of the cells that ran.
     ///
     /// Refused in this order: a name that no input may have (`BadInputName`), no input of the name
     /// (`NoInputNamed`), want of memory.
-    pub fn drop_input(&mut self, meter: &mut Meter, name: &str) -> Result<(), EditFault>
+    pub fn drop_input(&mut self, meter: &mut Meter, name: &str) -> Result<Vec<usize>, EditFault>
         ensures answered { Answers (model.DropInput name.now) self.old
             (outcome_of (model.DropInput name.now) result) self.new }
         ensures counts { CountsRuns (model.DropInput name.now) self.old
             (outcome_of (model.DropInput name.now) result) meter.old meter.new }
+        ensures ran { IfOk result (λ v. RanFor (model.DropInput name.now) self.old v.items) }
     {
         if !is_input_name(name) {
             return Err(EditFault::BadInputName);
@@ -211,23 +248,25 @@ impl Notebook {
         }
         let inputs = without_input(&world.inputs, name)?;
         let rule = world.rule;
-        self.schedule.set_world(meter, World { inputs, rule })?;
-        Ok(())
+        let ran = self.schedule.set_world(meter, World { inputs, rule })?;
+        Ok(ran)
     }
 
-    /// Sets what stands of a cell that is refused. Where the rule is another one, the cells that are
-    /// refused run again, and those that read what they did. Where it is the present one, none does.
+    /// Sets what stands of a cell that is refused, and returns the positions of the cells that ran.
+    /// Where the rule is another one, the cells that are refused run again, and those that read what
+    /// they did. Where it is the present one, none does.
     ///
     /// Refused for want of memory alone.
-    pub fn set_rule(&mut self, meter: &mut Meter, rule: CellRule) -> Result<(), EditFault>
+    pub fn set_rule(&mut self, meter: &mut Meter, rule: CellRule) -> Result<Vec<usize>, EditFault>
         ensures answered { Answers (model.SetRule (rule_of rule)) self.old
             (outcome_of (model.SetRule (rule_of rule)) result) self.new }
         ensures counts { CountsRuns (model.SetRule (rule_of rule)) self.old
             (outcome_of (model.SetRule (rule_of rule)) result) meter.old meter.new }
+        ensures ran { IfOk result (λ v. RanFor (model.SetRule (rule_of rule)) self.old v.items) }
     {
         let inputs = self.schedule.world().inputs.clone()?;
-        self.schedule.set_world(meter, World { inputs, rule })?;
-        Ok(())
+        let ran = self.schedule.set_world(meter, World { inputs, rule })?;
+        Ok(ran)
     }
 }
 
@@ -338,12 +377,19 @@ impl Notebook {
     ghost use Rattle.nd_notebook.specs.Edits.{edit_of, outcomes_of};
 
     /// Sets a copy of an input that is lent. An input that is refused is not copied.
-    fn set_copy(&mut self, meter: &mut Meter, name: &str, input: &Input) -> Result<(), EditFault>
+    fn set_copy(
+        &mut self,
+        meter: &mut Meter,
+        name: &str,
+        input: &Input,
+    ) -> Result<Vec<usize>, EditFault>
         ensures answered { Answers (model.SetInput name.now (source_of input.now)) self.old
             (outcome_of (model.SetInput name.now (source_of input.now)) result) self.new }
         ensures counts { CountsRuns (model.SetInput name.now (source_of input.now)) self.old
             (outcome_of (model.SetInput name.now (source_of input.now)) result)
             meter.old meter.new }
+        ensures ran { IfOk result
+            (λ v. RanFor (model.SetInput name.now (source_of input.now)) self.old v.items) }
     {
         if let Err(fault) = check_input(name, input) {
             return Err(fault);
@@ -352,12 +398,14 @@ impl Notebook {
         self.set_input(meter, name, copy)
     }
 
-    /// Makes an edit, or refuses it. The input of an edit is lent, so the notebook keeps a copy.
-    pub fn apply(&mut self, meter: &mut Meter, edit: Edit) -> Result<(), EditFault>
+    /// Makes an edit, or refuses it, and returns the positions of the cells that it ran. The input of
+    /// an edit is lent, so the notebook keeps a copy.
+    pub fn apply(&mut self, meter: &mut Meter, edit: Edit) -> Result<Vec<usize>, EditFault>
         ensures answered { Answers (edit_of edit.entry) self.old
             (outcome_of (edit_of edit.entry) result) self.new }
         ensures counts { CountsRuns (edit_of edit.entry) self.old
             (outcome_of (edit_of edit.entry) result) meter.old meter.new }
+        ensures ran { IfOk result (λ v. RanFor (edit_of edit.entry) self.old v.items) }
     {
         match edit {
             Edit::Insert(at, source) => self.insert(meter, at, source),
@@ -392,7 +440,7 @@ impl Notebook {
         self.schedule.distinctness();
         let mut answers = Vec::with_capacity(self.alloc, edits.len())?;
         for edit in edits {
-            let answer = self.apply(meter, *edit);
+            let answer = without_places(self.apply(meter, *edit));
             answers.push_reserved(answer);
         }
         self.schedule.distinctness();

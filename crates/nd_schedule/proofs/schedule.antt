@@ -1,3 +1,4 @@
+mod Places
 pub mod Sweeping
 mod Visiting
 mod Passing
@@ -8,4 +9,6 @@ mod Inserting
 mod Parting
 mod Standing
 mod Turning
+mod Stretches
+mod Runs
 mod Tried

@@ -122,7 +122,10 @@ fn is_shown(notebook: &Notebook, cells: &[Cell]) -> bool {
 /// Makes an edit, a second time where memory was wanted: whether the notebook was as before then, and is right now.
 fn is_right(notebook: &mut Notebook, meter: &mut Meter, step: Step) -> bool {
     match notebook.apply(meter, step.edit) {
-        Ok(()) => is_shown(notebook, step.after),
+        Ok(ran) => {
+            drop(ran);
+            is_shown(notebook, step.after)
+        }
         Err(EditFault::Memory(_)) => {
             is_shown(notebook, step.before)
                 && notebook.apply(meter, step.edit).is_ok()

@@ -15,7 +15,7 @@ use Rattle.nd_model.specs.Book.Book.{Book, Cell, no_cell, labels_of}
 use Rattle.nd_model.specs.Book.Book as book
 use Rattle.nd_model.specs.Book.Entries.{entry_at, record_at, session_before, records_of, SharesFront}
 use Rattle.nd_model.specs.Book.Notebook.{Setting, Sheet, book_of, edited_sheet}
-use Rattle.nd_model.specs.Book.Stale.{kept_of}
+use Rattle.nd_model.specs.Book.Stale.{IsStale, kept_of}
 use Rattle.nd_model.proofs.Entries.{fresh_at}
 use Rattle.nd_model.proofs.EditKept.{kept_changed, same_change, map-slice_set}
 use Rattle.nd_model.proofs.EditLabels.{change_distinct}
@@ -31,7 +31,7 @@ use Rattle.nd_change.specs.Steps.{Follows}
 use Rattle.nd_change.proofs.Snapshots.{alike_runs}
 use Rattle.nd_schedule.specs.Schedule.Snapshot.{IsBehind, StandsBefore}
 use Rattle.nd_schedule.specs.Schedule.Sweep.{IsRun, IsBeside, IsAt, IsFrame, CountsFront, Changes, AreChanged, AreWords, IsKept, changed}
-use Rattle.nd_schedule.proofs.schedule.Sweeping.{none_yet, alike_self, counts_run, past_swap, changed_none, changed_more}
+use Rattle.nd_schedule.proofs.schedule.Sweeping.{none_yet, alike_self, counts_run, past_swap, changed_none, changed_more, stale_there}
 use Rattle.nd_schedule.proofs.schedule.Kept.{records_now}
 
 module _ (s : Sheet) (at : ℕ) (c : Cell) (lt : at < length s.cells) (d : AreDistinct (labels_of s.cells)) (label : c.label ≡ (get_or s.cells at no_cell).label) (other : bytes_eq c.source (get_or s.cells at no_cell).source ≡ false) where
@@ -56,7 +56,7 @@ module _ (s : Sheet) (at : ℕ) (c : Cell) (lt : at < length s.cells) (d : AreDi
   entry_is : (entry_at new at).cell ≡ c
   entry_is = get_or-set_same s.cells at c no_cell lt
 
-  take_set : (cs : List Cell) (k : ℕ) → take k cs ≡ take k (set cs k c)
+  pub take_set : (cs : List Cell) (k : ℕ) → take k cs ≡ take k (set cs k c)
   take_set cs zero = refl
   take_set [] (suc k) = refl
   take_set (x ∷ cs) (suc k) = ap (λ ys. x ∷ ys) (take_set cs k)
@@ -72,6 +72,12 @@ module _ (s : Sheet) (at : ℕ) (c : Cell) (lt : at < length s.cells) (d : AreDi
     where
       none_some : (f : Found) → None ≡ Some f → ⊥
       none_some f e = cc
+
+  fails : (t : Session) → IfSome (kept_of old (entry_at new at).cell) (λ r. ¬ StillHolds r t new.world)
+  fails t = subst (λ o. IfSome o (λ r. ¬ StillHolds r t new.world)) (sym (ap (kept_of old) (entry_is ∙ is_cell) ∙ kept_changed old at c.source d lt other)) tt
+
+  pub stale_at : IsStale old new (entry_at new at)
+  stale_at = stale_there old new at less d distinct_now (fails (session_before new at))
 
   module _ (h : Session) (here : StandsBefore old at h) where
     now_here : IsAlike h (session_before new at)
@@ -108,9 +114,7 @@ module _ (s : Sheet) (at : ℕ) (c : Cell) (lt : at < length s.cells) (d : AreDi
         let e : at ≡ at + (at - at) = omega arith in
         changed_more old new at at at cs (subst (AreChanged old new at at at) (sym none) (changed_none old new at at)) (omega arith) ds (record_of c.label (reading c.source) given h) grown
         (ap (λ g. record_of c.label (reading c.source) g h) same ∙ run_record ∙ ap (λ k. record_at new.world (entry_at new k)) e)
-
-  fails : (t : Session) → IfSome (kept_of old (entry_at new at).cell) (λ r. ¬ StillHolds r t new.world)
-  fails t = subst (λ o. IfSome o (λ r. ¬ StillHolds r t new.world)) (sym (ap (kept_of old) (entry_is ∙ is_cell) ∙ kept_changed old at c.source d lt other)) tt
+        (subst (λ k. IsStale old new (entry_at new k)) e stale_at)
 
   pub first_counts : (before after : ℕ) → after ≡ min (before + 1) (2 ^ 64 - 1) → CountsFront old new (at + 1) before after
   first_counts before after more = counts_run old new at before before after less d distinct_now (fails (session_before new at)) (none_yet old new at before) more

@@ -15,7 +15,7 @@ use Rattle.nd_model.specs.Book.Sessions.{IsOnce}
 use Rattle.nd_model.specs.Book.Book.{Book, Cell, no_cell, labels_of, fresh_label}
 use Rattle.nd_model.specs.Book.Entries.{entry_at, entries_of, record_at, records_of, session_before, SharesFront}
 use Rattle.nd_model.specs.Book.Notebook.{Sheet, book_of}
-use Rattle.nd_model.specs.Book.Stale.{kept_of}
+use Rattle.nd_model.specs.Book.Stale.{IsStale, kept_of}
 use Rattle.nd_model.proofs.EditKept.{front_insert, kept_new}
 use Rattle.nd_model.proofs.EditLabels.{insert_distinct, fresh}
 use Rattle.nd_model.proofs.Entries.{fresh_at, get_or-records_of}
@@ -30,7 +30,7 @@ use Rattle.nd_change.proofs.Changes.{run_over}
 use Rattle.nd_change.proofs.Snapshots.{alike_runs, over_alike}
 use Rattle.nd_schedule.specs.Schedule.Snapshot.{IsBehind, StandsBefore}
 use Rattle.nd_schedule.specs.Schedule.Sweep.{IsAt, IsFrame, CountsFront, Changes, changed, AreChanged, AreWords, IsKept}
-use Rattle.nd_schedule.proofs.schedule.Sweeping.{alike_self, alike_turned, counts_run, next_alike, none_yet, runs_over}
+use Rattle.nd_schedule.proofs.schedule.Sweeping.{alike_self, alike_turned, counts_run, next_alike, none_yet, runs_over, stale_there}
 
 module _ (s : Sheet) (at : ℕ) (c : Cell) (le : at ≤ length s.cells) (d : AreDistinct (labels_of s.cells)) (label : c.label ≡ fresh_label s.cells) where
   abbrev pub old : Book
@@ -51,8 +51,11 @@ module _ (s : Sheet) (at : ℕ) (c : Cell) (le : at ≤ length s.cells) (d : Are
   pub less : at < length new.cells
   less = omega (arith, many)
 
+  pub same_cells : take at old.cells ≡ take at new.cells
+  same_cells = let P : Cell → Type 0 = λ c. take at s.cells ≡ take at (insert s.cells at c) in subst P (sym is_cell) (front_insert s.cells at c.source le)
+
   pub front : SharesFront at old new
-  front = same_front at old new refl (let P : Cell → Type 0 = λ c. take at s.cells ≡ take at (insert s.cells at c) in subst P (sym is_cell) (front_insert s.cells at c.source le))
+  front = same_front at old new refl same_cells
 
   entry_is : (entry_at new at).cell ≡ c
   entry_is = get_or-insert_at s.cells at c no_cell le
@@ -124,6 +127,9 @@ module _ (s : Sheet) (at : ℕ) (c : Cell) (le : at ≤ length s.cells) (d : Are
 
   fails : (t : Session) → IfSome (kept_of old (entry_at new at).cell) (λ r. ¬ StillHolds r t new.world)
   fails t = subst (λ o. IfSome o (λ r. ¬ StillHolds r t new.world)) (sym (ap (kept_of old) (entry_is ∙ is_cell) ∙ kept_new old (record { label = fresh_label s.cells; source = c.source }) (fresh s.cells))) tt
+
+  pub stale_at : IsStale old new (entry_at new at)
+  stale_at = stale_there old new at less d distinct_now (fails (session_before new at))
 
   pub first_counts : (before after : ℕ) → after ≡ min (before + 1) (2 ^ 64 - 1) → CountsFront old new (at + 1) before after
   first_counts before after more = counts_run old new at before before after less d distinct_now (fails (session_before new at)) (none_yet old new at before) more

@@ -27,7 +27,7 @@ use Rattle.nd_schedule.proofs.schedule.Sweeping.{alike_self, alike_turned, runs_
 
 -- behind the last cell nothing is changed
 pub none_changed : {X : Type 0} (f : X → ℕ × Record) (old new : Book) (i j to : ℕ) (xs : List X) → to ≤ i → xs ≡ [] → AreChanged old new i j to (map f xs)
-none_changed f old new i j to xs le none = subst (λ ys. AreChanged old new i j to (map f ys)) (sym none) (record { now = λ n lt. absurd (omega (arith, lt, le)); before = λ k r lt. refl; past = λ k r le. refl })
+none_changed f old new i j to xs le none = subst (λ ys. AreChanged old new i j to (map f ys)) (sym none) (record { now = λ n lt. absurd (omega (arith, lt, le)); before = λ k r lt. refl; past = λ k r le. refl; rising = tt; stale = λ n lt. absurd (omega (arith, lt, le)) })
 
 module _ (s : Sheet) (at : ℕ) (lt : at < length s.cells) (d : AreDistinct (labels_of s.cells)) where
   abbrev pub old : Book

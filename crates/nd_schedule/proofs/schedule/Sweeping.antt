@@ -1,14 +1,14 @@
 -- One cell of a sweep.
-use Rattle.std.proofs.Common.{◌≡◌, ℕ, zero, suc, ◌+◌, ◌-◌, ◌^◌, ◌<◌, ◌≤◌, ◌⊎◌, min, IsTrue, Bool, true, false, List, [], ◌∷◌, ◌++◌, length, map, take, drop, get_or, Option, Some, None, IfSome, is_some, refl, sym, ap, ap₂, subst, ◌∙◌, inl, inr, arith, take-append-drop}
+use Rattle.std.proofs.Common.{◌≡◌, ℕ, zero, suc, ◌+◌, ◌-◌, ◌^◌, ◌<◌, ◌≤◌, ◌⊎◌, min, IsTrue, Bool, true, false, List, [], ◌∷◌, ◌++◌, length, map, take, drop, get_or, Option, Some, None, IfSome, option_map, is_some, refl, sym, ap, ap₂, subst, ◌∙◌, inl, inr, arith, take-append-drop}
 use Rattle.nd_model.specs.Cells.Session.{Session}
-use Rattle.nd_model.specs.Cells.Running.{Key}
+use Rattle.nd_model.specs.Cells.Running.{Key, World}
 use Rattle.nd_model.specs.Grammar.Reading.{reading}
-use Rattle.nd_model.specs.Cells.Footprint.{Found, HasNone, with_effects}
+use Rattle.nd_model.specs.Cells.Footprint.{Agree, Found, HasNone, found, reads_of, with_effects}
 use Rattle.nd_model.specs.Book.Records.{Record, record_of, StillHolds}
 use Rattle.nd_model.specs.Book.Renaming.{AreDistinct}
 use Rattle.nd_model.specs.Book.Book.{Book, Cell, no_cell, labels_of}
-use Rattle.nd_model.specs.Book.Entries.{entry_at, entries_of, record_at, records_of, session_before}
-use Rattle.nd_model.specs.Book.Stale.{IsStale, AtLeast, kept_of, counted, CountsStale}
+use Rattle.nd_model.specs.Book.Entries.{Entry, ended, entry_at, entries_of, record_at, records_of, session_before}
+use Rattle.nd_model.specs.Book.Stale.{IsStale, AtLeast, entry_before, kept_of, counted, CountsStale}
 use Rattle.nd_model.proofs.Entries.{fresh_at, take-entries_of, get_or-records_of, session_before-next, stale_now, at_least-append, at_least-push, holds_there, replays_there}
 use Rattle.nd_model.proofs.EditKept.{kept_all}
 use Rattle.nd_model.proofs.Lazy.{length-entries}
@@ -20,11 +20,30 @@ use Rattle.nd_change.specs.Snapshots.{IsAlike}
 use Rattle.nd_change.proofs.Snapshots.{alike_replays, over_alike}
 use Rattle.nd_change.proofs.Changes.{fits_holds, holds_over, run_over, passes}
 use Rattle.nd_change.specs.Steps.{IsWordOf, IsWordOfChange, Keeps, Follows}
-use Rattle.nd_schedule.specs.Schedule.Sweep.{IsBeside, IsPlace, IsAtHand, IsAt, CountsFront, Changes, changed, AreChanged}
+use Rattle.nd_schedule.specs.Schedule.Sweep.{IsBeside, IsPlace, IsAtHand, IsAt, CountsFront, Changes, changed, places_in, AreChanged}
+use Rattle.nd_schedule.specs.Schedule.Ran.{AreBetween}
+use Rattle.std.specs.Prelude.{Contains}
+use Rattle.std.proofs.lemmas.List.Elements.{Contains-append_cases, Contains-append_left, Contains-append_right}
+use Rattle.nd_schedule.proofs.schedule.Places
+use Rattle.nd_schedule.proofs.schedule.Places.{between_wide, between_append, is_one, first_of}
 
 counted-suc : (runs meter : ℕ) → counted (suc runs) meter ≡ min (counted runs meter + 1) (2 ^ 64 - 1)
 counted-suc zero meter = refl
 counted-suc (suc runs) meter = omega arith
+
+some_is : {X : Type 0} (x y : X) → Some x ≡ Some y → x ≡ y
+some_is x y e = ap (unwrap_or' x) e
+  where
+    unwrap_or' : {X : Type 0} → X → Option X → X
+    unwrap_or' d None = d
+    unwrap_or' d (Some y) = y
+
+some_found : (f g : Found) → Some f ≡ Some g → f ≡ g
+some_found f g e = some_is f g e
+
+-- what a run found at a key that it read
+read_there : (i : World) (was : Entry) (key : Key) → IsTrue (reads_of (ended i was) key) → (record_at i was).values key ≡ Some (found was.session i key)
+read_there i was key read = rw read refl
 
 module _ (old new : Book) where
   pub none_yet : (k meter : ℕ) → CountsFront old new k meter meter
@@ -38,15 +57,27 @@ module _ (old new : Book) where
   counts_same k before after lt h =
       (h.0, subst (AtLeast h.0 (IsStale old new)) (sym (take-entries_of new k lt)) (at_least-append h.0 (IsStale old new) (take k (entries_of new)) (entry_at new k ∷ []) h.1), h.2)
 
+  -- a cell of which no record holds is stale
+  pub stale_there : (k : ℕ) → k < length new.cells → AreDistinct (labels_of old.cells) → AreDistinct (labels_of new.cells) → IfSome (kept_of old (entry_at new k).cell) (λ r. ¬ StillHolds r (session_before new k) new.world) → IsStale old new (entry_at new k)
+  stale_there k lt d e fails = stale_now old new d (entry_at new k).cell (session_before new k) (fresh_at new k lt e) fails
+
+  -- a cell of which a record holds is not
+  pub fresh_there : (k : ℕ) (r : Record) → kept_of old (entry_at new k).cell ≡ Some r → StillHolds r (session_before new k) new.world → ¬ IsStale old new (entry_at new k)
+  fresh_there k r kept holds stale = either (entry_before old (entry_at new k).cell) kept stale
+    where
+      either : (o : Option Entry) → option_map (record_at old.world) o ≡ Some r → IfSome o (λ was. ¬ Agree (reads_of (ended old.world was)) was.session old.world (session_before new k) new.world) → ⊥
+      either None e h = absurd (cc)
+      either (Some was) e h = let is : record_at old.world was ≡ r = some_is (record_at old.world was) r e in
+          h (λ key read. some_found _ _ (sym (read_there old.world was key read) ∙ ap (λ (x : Record). x.values key) is ∙ holds.same key (subst (λ (x : Record). IsTrue (x.read key)) is read)))
+
   -- one cell more was run, for want of a record that holds
   pub counts_run : (k before mid after : ℕ) → k < length new.cells → AreDistinct (labels_of old.cells) → AreDistinct (labels_of new.cells)
       → IfSome (kept_of old (entry_at new k).cell) (λ r. ¬ StillHolds r (session_before new k) new.world) → CountsFront old new k before mid → after ≡ min (mid + 1) (2 ^ 64 - 1) → CountsFront old new (k + 1) before after
-  counts_run k before mid after lt d e fails h more =
-      let stale : IsStale old new (entry_at new k) = stale_now old new d (entry_at new k).cell (session_before new k) (fresh_at new k lt e) fails in (
-        suc h.0,
-        subst (AtLeast (suc h.0) (IsStale old new)) (sym (take-entries_of new k lt)) (at_least-push h.0 (IsStale old new) (take k (entries_of new)) (entry_at new k) h.1 stale),
-        more ∙ ap (λ m. min (m + 1) (2 ^ 64 - 1)) h.2 ∙ sym (counted-suc h.0 before),
-      )
+  counts_run k before mid after lt d e fails h more = (
+    suc h.0,
+    subst (AtLeast (suc h.0) (IsStale old new)) (sym (take-entries_of new k lt)) (at_least-push h.0 (IsStale old new) (take k (entries_of new)) (entry_at new k) h.1 (stale_there k lt d e fails)),
+    more ∙ ap (λ m. min (m + 1) (2 ^ 64 - 1)) h.2 ∙ sym (counted-suc h.0 before),
+  )
 
 -- the record of a cell is that of a run over the session before it
 pub runs_over : (b : Book) (k : ℕ) → k < length b.cells → AreDistinct (labels_of b.cells) → IsRunOver (record_at b.world (entry_at b k)) (session_before b k) b.world
@@ -142,6 +173,9 @@ module _ (old new : Book) (i j : ℕ) (lt : i < length old.cells) (d : AreDistin
   -- where it does not, the cell is stale
   pub fails_now : ¬ StillHolds r t new.world → IfSome (kept_of old (entry_at new j).cell) (λ r. ¬ StillHolds r t new.world)
   fails_now h = subst (λ o. IfSome o (λ r. ¬ StillHolds r t new.world)) (sym (ap (kept_of old) (sym cell_is) ∙ kept_there old i lt d)) h
+
+  pub fresh_now : StillHolds r t new.world → ¬ IsStale old new (entry_at new j)
+  fresh_now h = fresh_there old new j r (ap (kept_of old) (sym cell_is) ∙ kept_there old i lt d) h
 
   module _ (c : Change) (at_hand : Session) (since : ℕ) (at : IsAt old new i j c at_hand since) where
     pub fits_now : Fits c r → StillHolds r t new.world
@@ -246,15 +280,27 @@ changed_push : (cs : Changes) (c : ℕ × Record) (k : ℕ) (x : Record) → cha
 changed_push [] c k x = refl
 changed_push (b ∷ cs) c k x = changed_push cs c k (Rattle.std.proofs.Common.cond (Rattle.std.proofs.Common.eqb k b.0) b.1 x)
 
+places_push : (cs : Changes) (c : ℕ × Record) → places_in (cs ++ c ∷ []) ≡ places_in cs ++ c.0 ∷ []
+places_push cs c = Rattle.std.proofs.lemmas.List.map-append (λ (c : ℕ × Record). c.0) cs (c ∷ [])
+
 module _ (old new : Book) (i j to : ℕ) (cs : Changes) (all : AreChanged old new i j to cs) (within : i ≤ to) where
   -- one cell more that is as it was
-  pub changed_same : record_at old.world (entry_at old to) ≡ record_at new.world (entry_at new (j + (to - i))) → AreChanged old new i j (to + 1) cs
-  changed_same same = record {
+  pub changed_same : record_at old.world (entry_at old to) ≡ record_at new.world (entry_at new (j + (to - i))) → ¬ IsStale old new (entry_at new (j + (to - i))) → AreChanged old new i j (to + 1) cs
+  changed_same same fresh = record {
     now = λ n less. more n (Rattle.std.proofs.lemmas.Bool.cases_lt (i + n) to) less;
     before = all.before;
     past = λ k x le. all.past k x (omega arith);
+    rising = between_wide i to (to + 1) (places_in cs) (omega arith) all.rising;
+    stale = λ n less. told n (Rattle.std.proofs.lemmas.Bool.cases_lt (i + n) to) less;
   }
     where
+      told : (n : ℕ) → (i + n < to) ⊎ (to ≤ i + n) → i + n < to + 1 → (Contains (places_in cs) (i + n) → IsStale old new (entry_at new (j + n))) × (IsStale old new (entry_at new (j + n)) → Contains (places_in cs) (i + n))
+      told n (inl before) less = all.stale n before
+      told n (inr past) less = let there : j + (to - i) ≡ j + n = omega arith in (
+        λ c. let inside : (i ≤ i + n) × (i + n < to) = Places.within i to (places_in cs) (i + n) all.rising c in absurd (omega (arith, inside.1)),
+        λ stale. absurd (fresh (subst (λ k. IsStale old new (entry_at new k)) (sym there) stale)),
+      )
+
       more : (n : ℕ) → (i + n < to) ⊎ (to ≤ i + n) → i + n < to + 1 → changed cs (i + n) (record_at old.world (entry_at old (i + n))) ≡ record_at new.world (entry_at new (j + n))
       more n (inl before) less = all.now n before
       more n (inr past) less =
@@ -262,13 +308,28 @@ module _ (old new : Book) (i j to : ℕ) (cs : Changes) (all : AreChanged old ne
           all.past (i + n) (record_at old.world (entry_at old (i + n))) past ∙ ap (λ k. record_at old.world (entry_at old k)) (sym here) ∙ same ∙ ap (λ k. record_at new.world (entry_at new k)) there
 
   -- one that is another
-  pub changed_more : (ds : Changes) (x : Record) → ds ≡ cs ++ (to, x) ∷ [] → x ≡ record_at new.world (entry_at new (j + (to - i))) → AreChanged old new i j (to + 1) ds
-  changed_more ds x grown is = subst (AreChanged old new i j (to + 1)) (sym grown) (record {
+  pub changed_more : (ds : Changes) (x : Record) → ds ≡ cs ++ (to, x) ∷ [] → x ≡ record_at new.world (entry_at new (j + (to - i))) → IsStale old new (entry_at new (j + (to - i))) → AreChanged old new i j (to + 1) ds
+  changed_more ds x grown is stale = subst (AreChanged old new i j (to + 1)) (sym grown) (record {
     now = λ n less. more n (Rattle.std.proofs.lemmas.Bool.cases_lt (i + n) to) less;
     before = λ k x' less. changed_push cs (to, x) k x' ∙ ap (λ t. Rattle.std.proofs.Common.cond t x (changed cs k x')) (Rattle.std.proofs.Common.ne_eqb k to (λ e. absurd (omega arith))) ∙ all.before k x' less;
     past = λ k x' le. changed_push cs (to, x) k x' ∙ ap (λ t. Rattle.std.proofs.Common.cond t x (changed cs k x')) (Rattle.std.proofs.Common.ne_eqb k to (λ e. absurd (omega arith))) ∙ all.past k x' (omega arith);
+    rising = subst (AreBetween i (to + 1)) (sym (places_push cs (to, x))) (between_append i to (to + 1) (places_in cs) (to ∷ []) within (omega arith) all.rising (omega arith, omega arith, tt));
+    stale = λ n less. told n (Rattle.std.proofs.lemmas.Bool.cases_lt (i + n) to) less;
   })
     where
+      told : (n : ℕ) → (i + n < to) ⊎ (to ≤ i + n) → i + n < to + 1 → (Contains (places_in (cs ++ (to, x) ∷ [])) (i + n) → IsStale old new (entry_at new (j + n))) × (IsStale old new (entry_at new (j + n)) → Contains (places_in (cs ++ (to, x) ∷ [])) (i + n))
+      told n (inl before) less = (
+        λ c. elim (Contains-append_cases (places_in cs) (to ∷ []) (i + n) (subst (λ ps. Contains ps (i + n)) (places_push cs (to, x)) c)) [
+          | inl front ↦ (all.stale n before).0 front
+          | inr last ↦ absurd (let is : i + n ≡ to = is_one to (i + n) last in omega arith)
+        ],
+        λ is. subst (λ ps. Contains ps (i + n)) (sym (places_push cs (to, x))) (Contains-append_left (places_in cs) (to ∷ []) (i + n) ((all.stale n before).1 is)),
+      )
+      told n (inr past) less = let there : j + (to - i) ≡ j + n = omega arith in let here : to ≡ i + n = omega arith in (
+        λ c. subst (λ k. IsStale old new (entry_at new k)) there stale,
+        λ is. subst (λ ps. Contains ps (i + n)) (sym (places_push cs (to, x))) (Contains-append_right (places_in cs) (to ∷ []) (i + n) (subst (Contains (to ∷ [])) here (first_of to []))),
+      )
+
       more : (n : ℕ) → (i + n < to) ⊎ (to ≤ i + n) → i + n < to + 1 → changed (cs ++ (to, x) ∷ []) (i + n) (record_at old.world (entry_at old (i + n))) ≡ record_at new.world (entry_at new (j + n))
       more n (inl before) less =
           changed_push cs (to, x) (i + n) (record_at old.world (entry_at old (i + n)))
@@ -287,4 +348,4 @@ record_there view b xs x k all lt is =
 
 -- nothing is changed yet
 pub changed_none : (old new : Book) (i j : ℕ) → AreChanged old new i j i []
-changed_none old new i j = record { now = λ n less. absurd (omega arith); before = λ k x less. refl; past = λ k x le. refl }
+changed_none old new i j = record { now = λ n less. absurd (omega arith); before = λ k x less. refl; past = λ k x le. refl; rising = tt; stale = λ n less. absurd (omega arith) }

@@ -17,7 +17,7 @@ use Rattle.nd_model.specs.Book.Book.{Book, Cell, no_cell, labels_of, Move}
 use Rattle.nd_model.specs.Book.Notebook.{Sheet, book_of, edited_sheet, world_in}
 use Rattle.nd_model.specs.Book.Entries.{entry_at, entries_of, record_at, records_of, session_before, SharesFront}
 use Rattle.nd_model.specs.Book.Scheduler.{IsOfRun}
-use Rattle.nd_model.specs.Book.Stale.{kept_of}
+use Rattle.nd_model.specs.Book.Stale.{IsStale, kept_of}
 use Rattle.nd_model.proofs.EditKept.{front_move, map-insert, map-remove}
 use Rattle.nd_model.proofs.EditLabels.{move_distinct}
 use Rattle.nd_model.proofs.Entries.{fresh_at, get_or-records_of}
@@ -32,7 +32,7 @@ use Rattle.nd_change.proofs.Changes.{run_over}
 use Rattle.nd_change.proofs.Snapshots.{alike_replays, alike_runs, over_alike}
 use Rattle.nd_schedule.specs.Schedule.Snapshot.{IsBehind, StandsBefore}
 use Rattle.nd_schedule.specs.Schedule.Sweep.{AreChanged, AreMoved, AreWords, Changes, changed, CountsFront, IsAt, IsComing, IsFrame, IsKept, IsMoving, IsPlace, IsRun}
-use Rattle.nd_schedule.proofs.schedule.Sweeping.{alike_self, alike_turned, counts_run, counts_same, kept_there, leaves_next, next_alike, runs_over}
+use Rattle.nd_schedule.proofs.schedule.Sweeping.{alike_self, alike_turned, counts_run, counts_same, fresh_there, kept_there, leaves_next, next_alike, runs_over, stale_there}
 
 pub if_ok_more : {X E : Type 0} {P Q : X → Type 0} (res : Result X E) → IfOk res P → ((x : X) → P x → Q x) → IfOk res Q
 if_ok_more (Ok x) p f = f x p
@@ -158,6 +158,16 @@ module _ (old new : Book) (from i j : ℕ) (rs : List Record) (c : Cell) (r : Re
       subst (λ o. IfSome o (λ r. ¬ StillHolds r t new.world)) (sym (ap (kept_of old) (coming.cell ∙ sym coming.was) ∙ kept_there old from coming.stood coming.run.distinct))
       (λ holds. out (subst (StillHolds r h) coming.world (let P : Record → Type 0 = λ x. StillHolds x h new.world in
       subst P (sym coming.made) (alike_replays (record_at old.world (entry_at old from)) h t new.world here at.hand.once once_there holds).0)))
+
+  pub enter_stale : ¬ StillHolds r h given → IsStale old new (entry_at new j)
+  enter_stale out = stale_there old new j coming.there coming.run.distinct coming.place.distinct (enter_fails out)
+
+  pub enter_fresh : StillHolds r h given → ¬ IsStale old new (entry_at new j)
+  enter_fresh holds =
+      let was : Record = record_at old.world (entry_at old from) in
+      let at_hand_now : StillHolds was h new.world = subst (StillHolds was h) (sym coming.world) (subst (λ x. StillHolds x h given) coming.made holds) in
+      fresh_there old new j was (ap (kept_of old) (coming.cell ∙ sym coming.was) ∙ kept_there old from coming.stood coming.run.distinct)
+      (alike_replays was t h new.world (alike_turned h t here) once_there at.hand.once at_hand_now).0
 
   pub enter_counts : (before mid after : ℕ) → (after ≡ mid) ⊎ ((after ≡ min (mid + 1) (2 ^ 64 - 1)) × (¬ StillHolds r h given)) → CountsFront old new j before mid → CountsFront old new (j + 1) before after
   enter_counts before mid after (inl same) so_far = subst (CountsFront old new (j + 1) before) (sym same) (counts_same old new j before mid coming.there so_far)
@@ -296,6 +306,10 @@ module _ (old new : Book) (from to : ℕ) (cs : List Cell) (rs : List Record) (g
           let e : to + 1 + (k - (to + 1)) ≡ k = omega arith in
           ap (changed ds k) (first.past k x (omega arith)) ∙ ap (λ n. changed ds n (record_at old.world (entry_at old n))) (sym e) ∙ second.now (k - (to + 1)) (omega arith) ∙ ap (λ n. record_at new.world (entry_at new n)) e;
       stays = λ r. second.before from (changed es from r) (omega arith) ∙ first.before from r (omega arith);
+      between_down = λ _. first;
+      behind_down = λ _. second;
+      between_up = λ up. absurd (omega arith);
+      behind_up = λ up. absurd (omega arith);
     }
 
     pub moved_up : to < from → AreChanged old new to (to + 1) from es → AreChanged old new (from + 1) (from + 1) (length old.cells) ds → AreMoved old new from to es ds
@@ -311,6 +325,10 @@ module _ (old new : Book) (from to : ℕ) (cs : List Cell) (rs : List Record) (g
           let e : from + 1 + (k - (from + 1)) ≡ k = omega arith in
           ap (changed ds k) (first.past k x (omega arith)) ∙ ap (λ n. changed ds n (record_at old.world (entry_at old n))) (sym e) ∙ second.now (k - (from + 1)) (omega arith) ∙ ap (λ n. record_at new.world (entry_at new n)) e;
       stays = λ r. second.before from (changed es from r) (omega arith) ∙ first.past from r (omega arith);
+      between_down = λ down. absurd (omega arith);
+      behind_down = λ down. absurd (omega arith);
+      between_up = λ _. first;
+      behind_up = λ _. second;
     }
 
   -- ---- what is kept, with the cell in its new place

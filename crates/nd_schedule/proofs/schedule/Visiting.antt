@@ -1,5 +1,5 @@
 -- One cell of a sweep, as the code goes past it.
-use Rattle.std.proofs.Common.{◌≡◌, ℕ, ◌+◌, ◌-◌, ◌^◌, ◌<◌, ◌≤◌, min, IsTrue, Bool, List, [], ◌∷◌, ◌++◌, length, map, get_or, Some, Result, Ok, Err, OnOk, sym, ap, subst, ◌∙◌, arith, Global}
+use Rattle.std.proofs.Common.{◌≡◌, ℕ, ◌+◌, ◌-◌, ◌^◌, ◌<◌, ◌≤◌, min, IsTrue, Bool, List, [], ◌∷◌, ◌++◌, length, map, get_or, Some, IfSome, Result, Ok, Err, OnOk, sym, ap, subst, ◌∙◌, arith, Global}
 use Rattle.std.proofs.lemmas.List.{get_or-map, length-map}
 use Rattle.std.specs.declared.rc.Rc.{Rc}
 use Rattle.nd_model.specs.Cells.Session.{Session, no_session}
@@ -10,6 +10,7 @@ use Rattle.nd_model.specs.Cells.Footprint.{HasNone}
 use Rattle.nd_model.specs.Book.Records.{Record, record_of, StillHolds}
 use Rattle.nd_model.specs.Book.Book.{Book, Cell, no_cell}
 use Rattle.nd_model.specs.Book.Entries.{entry_at, entries_of, record_at, session_before}
+use Rattle.nd_model.specs.Book.Stale.{IsStale, kept_of}
 use Rattle.nd_model.proofs.Entries.{fresh_at, get_or-records_of}
 use Rattle.nd_model.proofs.Lazy.{length-entries}
 use Rattle.nd_schedule.specs.declared.cells.source.KeptCell.{KeptCell}
@@ -71,12 +72,20 @@ module _ (old new : Book) (i j : ℕ) (cs : List Cell) (rs : List Record) (given
   pub same_more : (from first : ℕ) (ds : Changes) → from ≤ i → j ≡ first + (i - from) → StillHolds was (session_before new j) new.world → AreChanged old new from first i ds → AreChanged old new from first (i + 1) ds
   same_more from first ds le is h all =
       Sweeping.changed_same old new from first i ds all le (Sweeping.same_record old new i j lt frame.run.distinct frame.beside h ∙ ap (λ k. record_at new.world (entry_at new k)) is)
+      (subst (λ k. ¬ IsStale old new (entry_at new k)) is (Sweeping.fresh_now old new i j lt frame.run.distinct frame.beside h))
 
   pub fits_holds : (x : Record) → x ≡ was → Fits c x → StillHolds was (session_before new j) new.world
   fits_holds x is fits = Sweeping.fits_now old new i j lt frame.run.distinct frame.beside c s since at (subst (Fits c) is fits)
 
   pub fits_at : (x : Record) (e : Change) → x ≡ was → Fits c x → Keeps c e x → IsAt old new (i + 1) (j + 1) e s since
   fits_at x e is fits keeps = Sweeping.past_kept old new i j lt frame.run.distinct frame.beside c s since at e (subst (Keeps c e) is keeps) (fits_holds x is fits)
+
+  fails_now : (x : Record) → x ≡ was → ¬ Fits c x → IfSome (kept_of old (entry_at new j).cell) (λ r. ¬ StillHolds r (session_before new j) new.world)
+  fails_now x is out = Sweeping.fails_now old new i j lt frame.run.distinct frame.beside
+      (Sweeping.not_fits old new i j lt frame.run.distinct frame.beside c s since at (λ f. out (subst (Fits c) (sym is) f)))
+
+  stale_now : (x : Record) → x ≡ was → ¬ Fits c x → IsStale old new (entry_at new j)
+  stale_now x is out = Sweeping.stale_there old new j less frame.run.distinct frame.beside.distinct (fails_now x is out)
 
   -- the cell is run
   module _ (h : Session) (hand : IsAtHand old new i j h i) (src : Cell) (of : src ≡ get_or cs i no_cell) where
@@ -108,15 +117,13 @@ module _ (old new : Book) (i j : ℕ) (cs : List Cell) (rs : List Record) (given
         (Sweeping.past_run old new i j lt frame.run.distinct frame.beside c s since at e h after here hand.once (then ∙ run_after)
         (subst (λ g. Follows c e was (record_at new.world (entry_at new j)) after g) (sym frame.world) (subst (λ q. Follows c e was q after given) run_record (subst (λ x. Follows c e x (record_of src.label (reading src.source) given h) after given) is follows))))
 
-    pub run_changed : (from first : ℕ) (ds es : Changes) → from ≤ i → j ≡ first + (i - from) → es ≡ ds ++ (i, record_of src.label (reading src.source) given h) ∷ [] → AreChanged old new from first i ds → AreChanged old new from first (i + 1) es
-    run_changed from first ds es le is grown all =
+    pub run_changed : (x : Record) → x ≡ was → ¬ Fits c x → (from first : ℕ) (ds es : Changes) → from ≤ i → j ≡ first + (i - from) → es ≡ ds ++ (i, record_of src.label (reading src.source) given h) ∷ [] → AreChanged old new from first i ds → AreChanged old new from first (i + 1) es
+    run_changed x x_is out from first ds es le is grown all =
         Sweeping.changed_more old new from first i ds all le es (record_of src.label (reading src.source) given h) grown (run_record ∙ ap (λ k. record_at new.world (entry_at new k)) is)
+        (subst (λ k. IsStale old new (entry_at new k)) is (stale_now x x_is out))
 
   pub one_more : (x : Record) (before mid after : ℕ) → x ≡ was → ¬ Fits c x → CountsFront old new j before mid → after ≡ min (mid + 1) (2 ^ 64 - 1) → CountsFront old new (j + 1) before after
-  one_more x before mid after is out h more =
-      Sweeping.counts_run old new j before mid after less frame.run.distinct frame.beside.distinct
-      (Sweeping.fails_now old new i j lt frame.run.distinct frame.beside
-      (Sweeping.not_fits old new i j lt frame.run.distinct frame.beside c s since at (λ f. out (subst (Fits c) (sym is) f)))) h more
+  one_more x before mid after is out h more = Sweeping.counts_run old new j before mid after less frame.run.distinct frame.beside.distinct (fails_now x is out) h more
 
 -- ---- the sweep
 

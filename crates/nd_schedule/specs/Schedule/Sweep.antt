@@ -1,5 +1,5 @@
 -- A sweep over the cells behind an edit, with the change that it has made.
-use Rattle.std.specs.Prelude.{◌≡◌, ℕ, ◌+◌, ◌-◌, ◌<◌, ◌≤◌, Bool, List, [], ◌∷◌, length, take, slice_index_or, insert, remove, nat_eq, ⊤, if◌then◌else◌}
+use Rattle.std.specs.Prelude.{◌≡◌, ◌↔◌, Contains, map, ℕ, ◌+◌, ◌-◌, ◌<◌, ◌≤◌, Bool, List, [], ◌∷◌, length, take, slice_index_or, insert, remove, nat_eq, ⊤, if◌then◌else◌}
 use Rattle.nd_model.specs.Cells.Session.{Session}
 use Rattle.nd_model.specs.Cells.Running.{Key, World}
 use Rattle.nd_model.specs.Book.Records.{Record}
@@ -11,6 +11,7 @@ use Rattle.nd_model.specs.Book.Sessions.{IsOnce}
 use Rattle.nd_change.specs.Snapshots.{IsAlike}
 use Rattle.nd_change.specs.Change.{Change, IsOver}
 use Rattle.nd_change.specs.Steps.{IsWordOf}
+use Rattle.nd_schedule.specs.Schedule.Ran.{AreBetween}
 
 -- ---- words
 
@@ -68,11 +69,18 @@ abbrev pub changed : Changes → ℕ → Record → Record
 changed [] k r = r
 changed (c ∷ cs) k r = changed cs k (if nat_eq k c.0 then c.1 else r)
 
--- With the changes, the records from the place i on up to another are those of the book now from j on. Nothing behind is changed.
+-- the places of changes
+abbrev pub places_in : Changes → List ℕ
+places_in cs = map (λ c. c.0) cs
+
+-- With the changes, the records from the place i on up to another are those of the book now from j on. The changes are of the stale
+-- cells there, in order. Nothing behind is changed.
 pub record AreChanged (old new : Book) (i j to : ℕ) (cs : Changes) : Type 0 where
   pub now : (n : ℕ) → i + n < to → changed cs (i + n) (record_at old.world (entry_at old (i + n))) ≡ record_at new.world (entry_at new (j + n))
   pub before : (k : ℕ) (r : Record) → k < i → changed cs k r ≡ r
   pub past : (k : ℕ) (r : Record) → to ≤ k → changed cs k r ≡ r
+  pub rising : AreBetween i to (places_in cs)
+  pub stale : (n : ℕ) → i + n < to → Contains (places_in cs) (i + n) ↔ IsStale old new (entry_at new (j + n))
 
 abbrev pub fit_at : {W : Type 0} → ℕ → Record → W → ℕ × Record × W
 fit_at k r w = (k, r, w)
@@ -132,3 +140,8 @@ pub record AreMoved (old new : Book) (from to : ℕ) (cs ds : Changes) : Type 0 
   pub up : (k : ℕ) → to ≤ k → k < from → changed ds k (changed cs k (record_at old.world (entry_at old k))) ≡ record_at new.world (entry_at new (k + 1))
   pub behind : (k : ℕ) → from < k → to < k → k < length old.cells → changed ds k (changed cs k (record_at old.world (entry_at old k))) ≡ record_at new.world (entry_at new k)
   pub stays : (r : Record) → changed ds from (changed cs from r) ≡ r
+  -- the cells between the two places, and those behind
+  pub between_down : from < to → AreChanged old new (from + 1) from (to + 1) cs
+  pub behind_down : from < to → AreChanged old new (to + 1) (to + 1) (length old.cells) ds
+  pub between_up : to < from → AreChanged old new to (to + 1) from cs
+  pub behind_up : to < from → AreChanged old new (from + 1) (from + 1) (length old.cells) ds

@@ -10,6 +10,7 @@ ghost use Rattle.nd_model.specs.Book.Stale.{CountsStale};
 ghost use Rattle.nd_model.specs.Book.Notebook.{book_of};
 ghost use Rattle.nd_change.specs.Steps.{IsWordOf};
 ghost use Rattle.nd_schedule.specs.Cells.Source.{sheet, cell_of};
+ghost use Rattle.nd_schedule.specs.Schedule.Ran.{AreStale};
 ghost use Rattle.nd_schedule.specs.Schedule.Snapshot.{IsSnapshot, StandsBefore};
 
 use crate::cells::{KeptCell, make_room};
@@ -131,16 +132,23 @@ impl<C: CellRunner> Schedule<C> {
         ensures counts { CountsStale (book_of self.now) (book_of (sheet (insert self.now.cells
             (length self.now.cells) (cell_of source.now)) self.now.given)) meter.old meter.new }
     {
-        run_cell::<C>(self.alloc, meter, source, &self.world, session)
+        run_cell::<C>(
+            self.alloc,
+            meter,
+            source,
+            &self.world,
+            self.cells.len(),
+            session,
+        )
     }
 
-    /// Puts a new cell behind the last one. It is refused for want of memory alone.
+    /// Puts a new cell behind the last one, and gives its place. It is refused for want of memory alone.
     pub(crate) fn append(
         &mut self,
         meter: &mut Meter,
         cell: Rc<KeptCell>,
         next: usize,
-    ) -> Result<(), AllocError>
+    ) -> Result<Vec<usize>, AllocError>
         requires label { cell.value.label ≡ books.fresh_label self.old.cells }
         requires next { (n : ℕ) → n < next
             → IsTrue (is_label n self.old.cells || nat_eq n cell.value.label) }
@@ -149,8 +157,13 @@ impl<C: CellRunner> Schedule<C> {
         ensures err { OnErr result (self.new ≡ self.old) }
         ensures counts { CountsStale (book_of self.old) (book_of (sheet (insert self.old.cells
             (length self.old.cells) (cell_of cell.value)) self.old.given)) meter.old meter.new }
+        ensures ran { IfOk result (λ v. AreStale (book_of self.old)
+            (book_of (sheet (insert self.old.cells (length self.old.cells) (cell_of cell.value))
+            self.old.given)) v.items) }
     {
         let at = self.cells.len();
+        let mut ran = Vec::new(self.alloc);
+        ran.push(at)?;
         let Front { mut session, fresh } = self.front_end()?;
         let new = self.run_end(meter, &cell, &mut session)?;
         put_new::<C>(
@@ -164,6 +177,6 @@ impl<C: CellRunner> Schedule<C> {
         self.least = next;
         put_fresh::<C>(&mut self.snapshots, fresh, at);
         keep_end::<C>(self.alloc, &mut self.snapshots, &self.records, &mut session);
-        Ok(())
+        Ok(ran)
     }
 }

@@ -1,6 +1,6 @@
 //! `move_down` and `move_up`: the sweeps around a cell that moves.
 
-ghost use Rattle.std.specs.Prelude.{◌≡◌, ◌<◌, ◌≤◌, ◌+◌, ◌-◌, ◌^◌, ◌⊎◌, [], ℕ, IfOk, IfSome, MatchOption, OnOk, length, map, min};
+ghost use Rattle.std.specs.Prelude.{◌≡◌, ◌<◌, ◌≤◌, ◌+◌, ◌-◌, ◌^◌, ◌++◌, ◌⊎◌, [], ℕ, IfOk, IfSome, MatchOption, OnOk, length, map, min};
 ghost use Rattle.std.specs.Prelude.{string_bytes};
 ghost use Rattle.std.specs.List.{All};
 ghost use Rattle.nd_model.specs.Grammar.Reading.{reading};
@@ -8,13 +8,15 @@ ghost use Rattle.nd_model.specs.Cells.Cell.{cell, session_after};
 ghost use Rattle.nd_model.specs.Cells.Footprint.{HasNone};
 ghost use Rattle.nd_model.specs.Book.Records.{record_of, StillHolds};
 ghost use Rattle.nd_model.specs.Book.Scheduler.{IsOfRun};
-ghost use Rattle.nd_model.specs.Book.Stale.{CountsStale};
+ghost use Rattle.nd_model.specs.Book.Stale.{CountsStale, IsStale};
 ghost use Rattle.nd_model.specs.Book.Book.{Book};
 ghost use Rattle.nd_model.specs.Book.Entries.{entry_at, record_at};
 ghost use Rattle.nd_model.specs.Book.Notebook.{world_in};
 ghost use Rattle.nd_change.specs.Steps.{Comes, IsWordOf, IsWordOfChange};
 ghost use Rattle.nd_schedule.specs.Cells.Source.{cell_of, cells_of};
 ghost use Rattle.nd_schedule.specs.Cells.Shared.{each_of};
+ghost use Rattle.nd_schedule.specs.Schedule.Ran.{place_made, shifted};
+ghost use Rattle.nd_schedule.specs.declared.schedule.ran.Shift.TheVariants as shifts;
 ghost use Rattle.nd_schedule.specs.Schedule.Snapshot.{IsNoted, IsSnapshot};
 ghost use Rattle.nd_schedule.specs.Schedule.Sweep.{
   AreFit,
@@ -32,6 +34,7 @@ ghost use Rattle.nd_schedule.specs.Schedule.Sweep.{
 
 use crate::cells::KeptCell;
 use crate::schedule::noting::Noted;
+use crate::schedule::ran::{Shift, note_places};
 use crate::schedule::runner::CellRunner;
 use crate::schedule::snapshots::Snapshot;
 use crate::schedule::sweep::{Changed, New, SweepState, catch_up, run_new, sweep};
@@ -48,6 +51,80 @@ pub(crate) struct Moved<C: CellRunner> {
     pub(crate) between: Vec<Changed<C>>,
     pub(crate) behind: Vec<Changed<C>>,
     pub(crate) noted: Vec<Noted<C>>,
+}
+
+/// Adds the place of a cell that moved, where it was run.
+fn note_made<C: CellRunner>(
+    ran: &mut Vec<usize>,
+    made: &Option<New<C>>,
+    to: usize,
+) -> Result<(), AllocError>
+    ensures { OnOk result (ran.new.items ≡ ran.old.items ++ place_made made.now to) }
+{
+    if made.is_some() {
+        ran.push(to)?;
+    }
+    Ok(())
+}
+
+impl<C: CellRunner> Moved<C> {
+    /// Adds the places now of the cells that ran, around one that moved to a later place.
+    fn note_down(&self, ran: &mut Vec<usize>, to: usize) -> Result<(), AllocError>
+        requires between { (n : ℕ) × (n + 1 < 2 ^ 64) × AreFit C.covers n
+            (map (λ c. fit_at c.place (C.recorded c.record.value) c.word) self.now.between.items) }
+        requires behind { (n : ℕ) × (n + 1 < 2 ^ 64) × AreFit C.covers n
+            (map (λ c. fit_at c.place (C.recorded c.record.value) c.word) self.now.behind.items) }
+        ensures { OnOk result (ran.new.items
+            ≡ ((ran.old.items ++ map (λ c. shifted shifts.Earlier c.place) self.now.between.items)
+            ++ place_made self.now.made to)
+            ++ map (λ c. shifted shifts.Stays c.place) self.now.behind.items) }
+    {
+        note_places::<C>(ran, &self.between, Shift::Earlier)?;
+        note_made::<C>(ran, &self.made, to)?;
+        note_places::<C>(ran, &self.behind, Shift::Stays)
+    }
+
+    /// Adds the places now of the cells that ran, around one that moved to an earlier place.
+    fn note_up(&self, ran: &mut Vec<usize>, to: usize) -> Result<(), AllocError>
+        requires between { (n : ℕ) × (n + 1 < 2 ^ 64) × AreFit C.covers n
+            (map (λ c. fit_at c.place (C.recorded c.record.value) c.word) self.now.between.items) }
+        requires behind { (n : ℕ) × (n + 1 < 2 ^ 64) × AreFit C.covers n
+            (map (λ c. fit_at c.place (C.recorded c.record.value) c.word) self.now.behind.items) }
+        ensures { OnOk result (ran.new.items
+            ≡ ((ran.old.items ++ place_made self.now.made to)
+            ++ map (λ c. shifted shifts.Later c.place) self.now.between.items)
+            ++ map (λ c. shifted shifts.Stays c.place) self.now.behind.items) }
+    {
+        note_made::<C>(ran, &self.made, to)?;
+        note_places::<C>(ran, &self.between, Shift::Later)?;
+        note_places::<C>(ran, &self.behind, Shift::Stays)
+    }
+
+    /// Adds the places now of the cells that ran, around one that moved from a place to another.
+    pub(crate) fn note_ran(
+        &self,
+        ran: &mut Vec<usize>,
+        from: usize,
+        to: usize,
+    ) -> Result<(), AllocError>
+        requires between { (n : ℕ) × (n + 1 < 2 ^ 64) × AreFit C.covers n
+            (map (λ c. fit_at c.place (C.recorded c.record.value) c.word) self.now.between.items) }
+        requires behind { (n : ℕ) × (n + 1 < 2 ^ 64) × AreFit C.covers n
+            (map (λ c. fit_at c.place (C.recorded c.record.value) c.word) self.now.behind.items) }
+        ensures down { OnOk result (from < to → ran.new.items
+            ≡ ((ran.old.items ++ map (λ c. shifted shifts.Earlier c.place) self.now.between.items)
+            ++ place_made self.now.made to)
+            ++ map (λ c. shifted shifts.Stays c.place) self.now.behind.items) }
+        ensures up { OnOk result (to ≤ from → ran.new.items
+            ≡ ((ran.old.items ++ place_made self.now.made to)
+            ++ map (λ c. shifted shifts.Later c.place) self.now.between.items)
+            ++ map (λ c. shifted shifts.Stays c.place) self.now.behind.items) }
+    {
+        if from < to {
+            return self.note_down(ran, to);
+        }
+        self.note_up(ran, to)
+    }
 }
 
 /// Takes out what the cell at a place did, where a sweep stands.
@@ -86,6 +163,7 @@ fn put_in<C: CellRunner>(
     source: &KeptCell,
     made: &C::Record,
     world: &C::World,
+    now: usize,
     state: &mut SweepState<C>,
 ) -> Result<Option<New<C>>, AllocError>
     requires none { HasNone source.now.label (C.session_of state.old.session) }
@@ -105,6 +183,11 @@ fn put_in<C: CellRunner>(
         (λ n. C.recorded n.record.value
         ≡ record_of source.now.label (reading (string_bytes source.now.text))
         (world_in (C.given world.now)) (C.session_of state.old.session))) }
+    ensures held { IfOk result (λ o. MatchOption o
+        (StillHolds (C.recorded made.now) (C.session_of state.old.session)
+        (world_in (C.given world.now)))
+        (λ _. ¬ StillHolds (C.recorded made.now) (C.session_of state.old.session)
+        (world_in (C.given world.now)))) }
     ensures worded { IfOk result (λ o. IfSome o
         (λ n. IsWordOf C.covers n.word (C.recorded n.record.value))) }
     ensures covered { OnOk result (IsWordOfChange C.covers state.new.word
@@ -122,7 +205,7 @@ fn put_in<C: CellRunner>(
         state.word = C::change_word(&state.change);
         return Ok(None);
     }
-    let new = run_new::<C>(alloc, meter, source, world, state)?;
+    let new = run_new::<C>(alloc, meter, source, world, now, state)?;
     Ok(Some(new))
 }
 
@@ -135,6 +218,7 @@ pub(crate) fn enter<C: CellRunner>(
     made: &C::Record,
     world: &C::World,
     i: usize,
+    now: usize,
     state: &mut SweepState<C>,
 ) -> Result<Option<New<C>>, AllocError>
     requires within { i ≤ length records.now }
@@ -157,6 +241,13 @@ pub(crate) fn enter<C: CellRunner>(
         state.old.since
         → MatchOption o (C.recorded made.now ≡ record_at new.world (entry_at new j))
         (λ n. C.recorded n.record.value ≡ record_at new.world (entry_at new j))) }
+    ensures stale { IfOk result (λ o. (old new : Book) (from j : ℕ)
+        → IsComing old new from i j (each_of C.recorded records.now) (cell_of source.now)
+        (C.recorded made.now) (world_in (C.given world.now))
+        → IsAt old new i j (C.change_of state.old.change) (C.session_of state.old.session)
+        state.old.since
+        → MatchOption o (¬ IsStale old new (entry_at new j))
+        (λ _. IsStale old new (entry_at new j))) }
     ensures worded { IfOk result (λ o. IfSome o
         (λ n. IsWordOf C.covers n.word (C.recorded n.record.value))) }
     ensures covered { OnOk result (IsWordOfChange C.covers state.new.word
@@ -171,7 +262,7 @@ pub(crate) fn enter<C: CellRunner>(
 {
     catch_up::<C>(records, &mut state.session, state.since, i)?;
     state.since = i;
-    put_in::<C>(alloc, meter, source, made, world, state)
+    put_in::<C>(alloc, meter, source, made, world, now, state)
 }
 
 /// Sweeps over all cells behind one that moves to a later place.
@@ -218,6 +309,13 @@ pub(crate) fn move_down<C: CellRunner>(
         → MatchOption m.made
         (record_at old.world (entry_at old from) ≡ record_at new.world (entry_at new to))
         (λ n. C.recorded n.record.value ≡ record_at new.world (entry_at new to))) }
+    ensures stale { IfOk result (λ m. (old new : Book)
+        → IsMoving old new from to (cells_of cells.now) (each_of C.recorded records.now)
+        (world_in (C.given world.now))
+        → IsAt old new from from (C.change_of state.old.change) (C.session_of state.old.session)
+        state.old.since
+        → MatchOption m.made (¬ IsStale old new (entry_at new to))
+        (λ _. IsStale old new (entry_at new to))) }
     ensures worded { IfOk result (λ m. IfSome m.made
         (λ n. IsWordOf C.covers n.word (C.recorded n.record.value))) }
     ensures fit_between { IfOk result (λ m. AreFit C.covers (length cells.now)
@@ -240,6 +338,7 @@ pub(crate) fn move_down<C: CellRunner>(
 {
     let mut noted = Vec::new(alloc);
     leave::<C>(records, from, state)?;
+    state.shift = Shift::Earlier;
     sweep::<C>(
         alloc,
         meter,
@@ -264,8 +363,10 @@ pub(crate) fn move_down<C: CellRunner>(
         &records[from],
         world,
         to + 1,
+        to,
         state,
     )?;
+    state.shift = Shift::Stays;
     sweep::<C>(
         alloc,
         meter,
@@ -334,6 +435,13 @@ pub(crate) fn move_up<C: CellRunner>(
         → MatchOption m.made
         (record_at old.world (entry_at old from) ≡ record_at new.world (entry_at new to))
         (λ n. C.recorded n.record.value ≡ record_at new.world (entry_at new to))) }
+    ensures stale { IfOk result (λ m. (old new : Book)
+        → IsMoving old new from to (cells_of cells.now) (each_of C.recorded records.now)
+        (world_in (C.given world.now))
+        → IsAt old new to to (C.change_of state.old.change) (C.session_of state.old.session)
+        state.old.since
+        → MatchOption m.made (¬ IsStale old new (entry_at new to))
+        (λ _. IsStale old new (entry_at new to))) }
     ensures worded { IfOk result (λ m. IfSome m.made
         (λ n. IsWordOf C.covers n.word (C.recorded n.record.value))) }
     ensures fit_between { IfOk result (λ m. AreFit C.covers (length cells.now)
@@ -363,8 +471,10 @@ pub(crate) fn move_up<C: CellRunner>(
         &records[from],
         world,
         to,
+        to,
         state,
     )?;
+    state.shift = Shift::Later;
     sweep::<C>(
         alloc,
         meter,
@@ -382,6 +492,7 @@ pub(crate) fn move_up<C: CellRunner>(
     )?;
     let between = replace(&mut state.changed, Vec::new(alloc));
     leave::<C>(records, from, state)?;
+    state.shift = Shift::Stays;
     sweep::<C>(
         alloc,
         meter,

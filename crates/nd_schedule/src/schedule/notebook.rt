@@ -1,13 +1,13 @@
 //! The notebook: a list of cells, and what is kept of running them.
 
-ghost use Rattle.std.specs.Prelude.{◌≡◌, ◌<◌, ◌≤◌, ◌+◌, ◌-◌, ◌^◌, ◌||◌, ℕ, IfOk, IfSome, IsTrue, MatchOption, OnErr, OnOk, None, [], false, bytes_eq, nat_eq};
+ghost use Rattle.std.specs.Prelude.{◌≡◌, ◌<◌, ◌≤◌, ◌+◌, ◌-◌, ◌^◌, ◌++◌, ◌||◌, ℕ, IfOk, IsTrue, OnErr, OnOk, None, [], false, bytes_eq, nat_eq};
 ghost use Rattle.std.specs.List.{All};
 ghost use Rattle.std.specs.Result.{IsOk};
 ghost use Rattle.std.specs.Prelude.{insert, length, map, min, remove, slice_index_or, slice_set, string_bytes};
 ghost use Rattle.std.specs.Vec.{vec_capacity};
 ghost use Rattle.nd_model.specs.Cells.Running as running;
 ghost use Rattle.nd_model.specs.Book.Records as kept;
-ghost use Rattle.nd_model.specs.Book.Book.{Book, is_label, no_cell, Change, Insert, Move, Remove};
+ghost use Rattle.nd_model.specs.Book.Book.{Book, is_label, no_cell, Change, Insert, Remove};
 ghost use Rattle.nd_model.specs.Book.Book as books;
 ghost use Rattle.nd_model.specs.Book.Entries.{entry_at, record_at, session_before, SharesFront};
 ghost use Rattle.nd_model.specs.Book.Stale.{CountsStale};
@@ -16,13 +16,15 @@ ghost use Rattle.nd_change.specs.Steps.{IsWordOf, IsWordOfChange};
 ghost use Rattle.nd_schedule.specs.Cells.Labels.{AreUsed};
 ghost use Rattle.nd_schedule.specs.Cells.Source.{sheet, cell_of, cells_of};
 ghost use Rattle.nd_schedule.specs.Cells.Shared.{each_of};
+ghost use Rattle.nd_schedule.specs.Schedule.Ran.{AreStale, shifted};
+ghost use Rattle.nd_schedule.specs.declared.schedule.ran.Shift.TheVariants as shifts;
 ghost use Rattle.nd_schedule.specs.Schedule.Snapshot.{IsNoted, IsSnapshot, StandsBefore, names_in};
-ghost use Rattle.nd_schedule.specs.Schedule.Sweep.{AreChanged, AreFit, AreMoved, AreWords, CountsFront, IsAt, IsKept, IsOpen, change_at, changed, fit_at};
+ghost use Rattle.nd_schedule.specs.Schedule.Sweep.{AreChanged, AreFit, AreWords, CountsFront, IsAt, IsKept, IsOpen, change_at, changed, fit_at};
 
-use crate::cells::{FreeLabel, KeptCell, fresh_label, move_item};
+use crate::cells::{FreeLabel, KeptCell, fresh_label};
 use crate::schedule::ending::{make_rooms, put_one};
-use crate::schedule::moving::{Moved, move_down, move_up};
 use crate::schedule::noting::Noted;
+use crate::schedule::ran::{Shift, note_places};
 use crate::schedule::runner::CellRunner;
 use crate::schedule::snapshots::{Snapshot, carry, nearest, replay_between, session_front};
 use crate::schedule::sweep::{Changed, New, SweepState, run_again, run_new, sweep};
@@ -158,6 +160,30 @@ fn no_sweep<C: CellRunner>(alloc: Global) -> Edited<C>
     };
     let fresh = Vec::new(alloc);
     Edited { swept, fresh }
+}
+
+/// Makes room for a new cell at a place, with its record and its word, and adds the places of the cells that ran behind it.
+fn make_places<C: CellRunner>(
+    cells: &mut Vec<Rc<KeptCell>>,
+    records: &mut Vec<Rc<C::Record>>,
+    words: &mut Vec<C::Word>,
+    at: usize,
+    ran: &mut Vec<usize>,
+    changed: &[Changed<C>],
+) -> Result<(), AllocError>
+    requires { (n : ℕ) × (n + 1 < 2 ^ 64) × AreFit C.covers n
+        (map (λ c. fit_at c.place (C.recorded c.record.value) c.word) changed.now) }
+    ensures same_cells { cells.new.items ≡ cells.old.items }
+    ensures same_records { records.new.items ≡ records.old.items }
+    ensures same_words { words.new.items ≡ words.old.items }
+    ensures cells { OnOk result (length cells.old.items + 1 ≤ vec_capacity cells.new) }
+    ensures records { OnOk result (length records.old.items + 1 ≤ vec_capacity records.new) }
+    ensures words { OnOk result (length words.old.items + 1 ≤ vec_capacity words.new) }
+    ensures places { OnOk result (ran.new.items
+        ≡ ran.old.items ++ map (λ c. shifted shifts.Later c.place) changed.now) }
+{
+    make_rooms::<C>(cells, records, words, at)?;
+    note_places::<C>(ran, changed, Shift::Later)
 }
 
 impl<C: CellRunner> Schedule<C> {
@@ -362,23 +388,39 @@ impl<C: CellRunner> Schedule<C> {
         Ok(Edited { swept, fresh })
     }
 
-    /// Gives the cell at the place another text. It is refused for want of memory alone.
-    pub fn edit(&mut self, meter: &mut Meter, at: usize, text: &str) -> Result<(), AllocError>
+    /// Gives the cell at the place another text, and returns the places of the cells that ran. It is refused for want of memory alone.
+    pub fn edit(
+        &mut self,
+        meter: &mut Meter,
+        at: usize,
+        text: &str,
+    ) -> Result<Vec<usize>, AllocError>
         requires { at < length self.old.cells }
         ensures ok { OnOk result (self.new ≡ edited_sheet (Change at text.now) self.old) }
         ensures err { OnErr result (self.new ≡ self.old) }
         ensures counts { CountsStale (book_of self.old)
             (book_of (edited_sheet (Change at text.now) self.old)) meter.old meter.new }
+        ensures ran { IfOk result (λ v. AreStale (book_of self.old)
+            (book_of (edited_sheet (Change at text.now) self.old)) v.items) }
     {
+        let mut ran = Vec::new(self.alloc);
         if text == self.cells[at].text.as_str() {
-            return Ok(());
+            return Ok(ran);
         }
         let cell = self.cell_with(at, text)?;
         let Edited { swept, fresh } = self.swept_with(meter, at, &cell)?;
+        match note_places::<C>(&mut ran, &swept.changed, Shift::Stays) {
+            Ok(()) => {}
+            Err(refused) => {
+                drop(swept);
+                drop(fresh);
+                return Err(refused);
+            }
+        }
         self.cells[at] = cell;
         install::<C>(&mut self.records, &mut self.words, swept.changed);
         carry::<C>(self.alloc, &mut self.snapshots, fresh, swept.noted, at);
-        Ok(())
+        Ok(ran)
     }
 
     /// Sweeps over all cells, by other inputs or another rule.
@@ -403,23 +445,40 @@ impl<C: CellRunner> Schedule<C> {
             session,
             since: 0,
             changed: Vec::new(self.alloc),
+            shift: Shift::Stays,
         };
         self.swept_behind(meter, world, 0, 0, state)
     }
 
-    /// Takes these inputs and this rule in the place of the present ones. It is refused for want of memory alone.
-    pub fn set_world(&mut self, meter: &mut Meter, world: C::World) -> Result<(), AllocError>
+    /// Takes these inputs and this rule in the place of the present ones, and returns the places of the cells that ran. It is refused for
+    /// want of memory alone.
+    pub fn set_world(
+        &mut self,
+        meter: &mut Meter,
+        world: C::World,
+    ) -> Result<Vec<usize>, AllocError>
         ensures ok { OnOk result (self.new ≡ sheet self.old.cells (C.given world)) }
         ensures err { OnErr result (self.new ≡ self.old) }
         ensures counts { CountsStale (book_of self.old)
             (book_of (sheet self.old.cells (C.given world))) meter.old meter.new }
+        ensures ran { IfOk result (λ v. AreStale (book_of self.old)
+            (book_of (sheet self.old.cells (C.given world))) v.items) }
     {
+        let mut ran = Vec::new(self.alloc);
         let Swept { changed, noted } = self.swept_over(meter, &world)?;
+        match note_places::<C>(&mut ran, &changed, Shift::Stays) {
+            Ok(()) => {}
+            Err(refused) => {
+                drop(changed);
+                drop(noted);
+                return Err(refused);
+            }
+        }
         install::<C>(&mut self.records, &mut self.words, changed);
         let fresh = Vec::new(self.alloc);
         carry::<C>(self.alloc, &mut self.snapshots, fresh, noted, 0);
         self.world = world;
-        Ok(())
+        Ok(ran)
     }
 
     /// Sweeps over the cells behind one, without what that one did.
@@ -452,6 +511,7 @@ impl<C: CellRunner> Schedule<C> {
             session,
             since: at + 1,
             changed: Vec::new(self.alloc),
+            shift: Shift::Earlier,
         };
         self.swept_behind(meter, &self.world, at + 1, at, state)
     }
@@ -483,23 +543,35 @@ impl<C: CellRunner> Schedule<C> {
         Ok(Edited { swept, fresh })
     }
 
-    /// Takes the cell at the place out. It is refused for want of memory alone, and at the last cell never.
-    pub fn remove(&mut self, meter: &mut Meter, at: usize) -> Result<(), AllocError>
+    /// Takes the cell at the place out, and returns the places of the cells that ran. It is refused for want of memory alone, and at the
+    /// last cell never.
+    pub fn remove(&mut self, meter: &mut Meter, at: usize) -> Result<Vec<usize>, AllocError>
         requires { at < length self.old.cells }
         ensures ok { OnOk result (self.new ≡ edited_sheet (Remove at) self.old) }
         ensures err { OnErr result (self.new ≡ self.old) }
         ensures last { at + 1 ≡ length self.old.cells → IsOk result }
         ensures counts { CountsStale (book_of self.old)
             (book_of (edited_sheet (Remove at) self.old)) meter.old meter.new }
+        ensures ran { IfOk result (λ v. AreStale (book_of self.old)
+            (book_of (edited_sheet (Remove at) self.old)) v.items) }
     {
+        let mut ran = Vec::new(self.alloc);
         let Edited { swept, fresh } = self.swept_away(meter, at)?;
+        match note_places::<C>(&mut ran, &swept.changed, Shift::Earlier) {
+            Ok(()) => {}
+            Err(refused) => {
+                drop(swept);
+                drop(fresh);
+                return Err(refused);
+            }
+        }
         install::<C>(&mut self.records, &mut self.words, swept.changed);
         self.least = self.least.min(self.cells[at].label as usize);
         let _cell = self.cells.remove(at);
         let _record = self.records.remove(at);
         let _word = self.words.remove(at);
         carry::<C>(self.alloc, &mut self.snapshots, fresh, swept.noted, at);
-        Ok(())
+        Ok(ran)
     }
 
     /// Runs a new cell before the one at a place, and sweeps over those from there on.
@@ -532,13 +604,14 @@ impl<C: CellRunner> Schedule<C> {
             meter.old meter.new }
     {
         let mut state = self.begin(at, session);
-        let new = match run_new::<C>(self.alloc, meter, source, &self.world, &mut state) {
+        let new = match run_new::<C>(self.alloc, meter, source, &self.world, at, &mut state) {
             Ok(new) => new,
             Err(refused) => {
                 drop(state);
                 return Err(refused);
             }
         };
+        state.shift = Shift::Later;
         let swept = self.swept_behind(meter, &self.world, at, at + 1, state)?;
         Ok(Grown { new, swept })
     }
@@ -579,14 +652,15 @@ impl<C: CellRunner> Schedule<C> {
         Ok(Added { grown, fresh })
     }
 
-    /// Puts a new cell in front of the one at the place. It is refused for want of memory alone.
+    /// Puts a new cell in front of the one at the place, and returns the places of the cells that ran. It is refused for want of memory
+    /// alone.
     fn insert_between(
         &mut self,
         meter: &mut Meter,
         at: usize,
         cell: Rc<KeptCell>,
         next: usize,
-    ) -> Result<(), AllocError>
+    ) -> Result<Vec<usize>, AllocError>
         requires at { at ≤ length self.old.cells }
         requires label { cell.value.label ≡ books.fresh_label self.old.cells }
         requires next { (n : ℕ) → n < next
@@ -597,9 +671,21 @@ impl<C: CellRunner> Schedule<C> {
         ensures counts { CountsStale (book_of self.old)
             (book_of (sheet (insert self.old.cells at (cell_of cell.value)) self.old.given))
             meter.old meter.new }
+        ensures ran { IfOk result (λ v. AreStale (book_of self.old)
+            (book_of (sheet (insert self.old.cells at (cell_of cell.value)) self.old.given))
+            v.items) }
     {
+        let mut ran = Vec::new(self.alloc);
+        ran.push(at)?;
         let added = self.run_between(meter, at, &cell)?;
-        match make_rooms::<C>(&mut self.cells, &mut self.records, &mut self.words, at) {
+        match make_places::<C>(
+            &mut self.cells,
+            &mut self.records,
+            &mut self.words,
+            at,
+            &mut ran,
+            &added.grown.swept.changed,
+        ) {
             Ok(()) => {}
             Err(refused) => {
                 drop(added);
@@ -620,7 +706,7 @@ impl<C: CellRunner> Schedule<C> {
         );
         self.least = next;
         carry::<C>(self.alloc, &mut self.snapshots, fresh, swept.noted, at);
-        Ok(())
+        Ok(ran)
     }
 
     /// A cell of a text, with a label that no other has.
@@ -637,13 +723,21 @@ impl<C: CellRunner> Schedule<C> {
         Ok(NewCell { cell, next })
     }
 
-    /// Puts a new cell at the place, which may be behind the last one. It is refused for want of memory alone.
-    pub fn insert(&mut self, meter: &mut Meter, at: usize, text: &str) -> Result<(), AllocError>
+    /// Puts a new cell at the place, which may be behind the last one, and returns the places of the cells that ran. It is refused for want
+    /// of memory alone.
+    pub fn insert(
+        &mut self,
+        meter: &mut Meter,
+        at: usize,
+        text: &str,
+    ) -> Result<Vec<usize>, AllocError>
         requires { at ≤ length self.old.cells }
         ensures ok { OnOk result (self.new ≡ edited_sheet (Insert at text.now) self.old) }
         ensures err { OnErr result (self.new ≡ self.old) }
         ensures counts { CountsStale (book_of self.old)
             (book_of (edited_sheet (Insert at text.now) self.old)) meter.old meter.new }
+        ensures ran { IfOk result (λ v. AreStale (book_of self.old)
+            (book_of (edited_sheet (Insert at text.now) self.old)) v.items) }
     {
         let NewCell { cell, next } = self.new_cell(text)?;
         if at == self.cells.len() {
@@ -651,39 +745,9 @@ impl<C: CellRunner> Schedule<C> {
         }
         self.insert_between(meter, at, cell, next)
     }
-}
 
-/// Puts the record of a cell that was run in its place, if there is one. It takes no memory.
-fn put_made<C: CellRunner>(
-    records: &mut Vec<Rc<C::Record>>,
-    words: &mut Vec<C::Word>,
-    at: usize,
-    made: Option<New<C>>,
-)
-    requires at { at < length records.old.items }
-    requires many { length words.old.items ≡ length records.old.items }
-    requires worded { IfSome made (λ n. IsWordOf C.covers n.word (C.recorded n.record.value)) }
-    ensures there { (r x : kept.Record)
-        → MatchOption made (slice_index_or (each_of C.recorded records.old.items) at r ≡ x)
-        (λ n. C.recorded n.record.value ≡ x)
-        → slice_index_or (each_of C.recorded records.new.items) at r ≡ x }
-    ensures others { (k : ℕ) (r : kept.Record) → ¬ (k ≡ at)
-        → slice_index_or (each_of C.recorded records.new.items) k r
-        ≡ slice_index_or (each_of C.recorded records.old.items) k r }
-    ensures words { AreWords C.covers words.old.items (each_of C.recorded records.old.items)
-        → AreWords C.covers words.new.items (each_of C.recorded records.new.items) }
-    ensures count { length records.new.items ≡ length records.old.items }
-    ensures many { length words.new.items ≡ length words.old.items }
-{
-    if let Some(New { record, word }) = made {
-        records[at] = record;
-        words[at] = word;
-    }
-}
-
-impl<C: CellRunner> Schedule<C> {
     /// A sweep that stands at a place, where nothing is changed yet.
-    fn begin(&self, at: usize, session: C::Session) -> SweepState<C>
+    pub(crate) fn begin(&self, at: usize, session: C::Session) -> SweepState<C>
         requires at { at ≤ length self.now.cells }
         requires session { StandsBefore (book_of self.now) at (C.session_of session) }
         ensures at { (new : Book) → SharesFront at (book_of self.now) new
@@ -704,94 +768,7 @@ impl<C: CellRunner> Schedule<C> {
             session,
             since: at,
             changed: Vec::new(self.alloc),
+            shift: Shift::Stays,
         }
-    }
-
-    /// Sweeps over the cells around one that moves.
-    fn swept_moved(
-        &self,
-        meter: &mut Meter,
-        from: usize,
-        to: usize,
-        session: C::Session,
-    ) -> Result<Moved<C>, AllocError>
-        requires from { from < length self.now.cells }
-        requires to { to < length self.now.cells }
-        requires other { ¬ (from ≡ to) }
-        requires session { StandsBefore (book_of self.now) (min from to) (C.session_of session) }
-        ensures moved { IfOk result (λ m. AreMoved (book_of self.now)
-            (book_of (edited_sheet (Move from to) self.now)) from to
-            (map (λ c. change_at c.place (C.recorded c.record.value)) m.between.items)
-            (map (λ c. change_at c.place (C.recorded c.record.value)) m.behind.items)) }
-        ensures made { IfOk result (λ m. MatchOption m.made
-            (record_at (book_of self.now).world (entry_at (book_of self.now) from)
-            ≡ record_at (book_of self.now).world
-            (entry_at (book_of (edited_sheet (Move from to) self.now)) to))
-            (λ n. C.recorded n.record.value ≡ record_at (book_of self.now).world
-            (entry_at (book_of (edited_sheet (Move from to) self.now)) to))) }
-        ensures worded { IfOk result (λ m. IfSome m.made
-            (λ n. IsWordOf C.covers n.word (C.recorded n.record.value))) }
-        ensures fit_between { IfOk result (λ m. AreFit C.covers (length self.now.cells)
-            (map (λ c. fit_at c.place (C.recorded c.record.value) c.word) m.between.items)) }
-        ensures fit_behind { IfOk result (λ m. AreFit C.covers (length self.now.cells)
-            (map (λ c. fit_at c.place (C.recorded c.record.value) c.word) m.behind.items)) }
-        ensures noted { IfOk result (λ m. All (λ n. IsNoted C.change_of C.kept_session
-            (book_of self.now) (book_of (edited_sheet (Move from to) self.now))
-            n.place n.now n.memo) m.noted.items) }
-        ensures counts { CountsStale (book_of self.now)
-            (book_of (edited_sheet (Move from to) self.now)) meter.old meter.new }
-    {
-        let mut state = self.begin(from.min(to), session);
-        if from < to {
-            return move_down::<C>(
-                self.alloc,
-                meter,
-                &self.cells,
-                &self.records,
-                &self.words,
-                &self.world,
-                from,
-                to,
-                &self.snapshots,
-                &mut state,
-            );
-        }
-        move_up::<C>(
-            self.alloc,
-            meter,
-            &self.cells,
-            &self.records,
-            &self.words,
-            &self.world,
-            from,
-            to,
-            &self.snapshots,
-            &mut state,
-        )
-    }
-
-    /// Moves the cell at the first place, so that it stands at the second afterwards. It is refused for want of memory alone.
-    pub fn move_cell(&mut self, meter: &mut Meter, from: usize, to: usize) -> Result<(), AllocError>
-        requires from { from < length self.old.cells }
-        requires to { to < length self.old.cells }
-        ensures ok { OnOk result (self.new ≡ edited_sheet (Move from to) self.old) }
-        ensures err { OnErr result (self.new ≡ self.old) }
-        ensures counts { CountsStale (book_of self.old)
-            (book_of (edited_sheet (Move from to) self.old)) meter.old meter.new }
-    {
-        if from == to {
-            return Ok(());
-        }
-        let first = from.min(to);
-        let Front { session, fresh } = self.front_before(first)?;
-        let moved = self.swept_moved(meter, from, to, session)?;
-        install::<C>(&mut self.records, &mut self.words, moved.between);
-        install::<C>(&mut self.records, &mut self.words, moved.behind);
-        put_made::<C>(&mut self.records, &mut self.words, from, moved.made);
-        move_item(&mut self.cells, from, to);
-        move_item(&mut self.records, from, to);
-        move_item(&mut self.words, from, to);
-        carry::<C>(self.alloc, &mut self.snapshots, fresh, moved.noted, first);
-        Ok(())
     }
 }

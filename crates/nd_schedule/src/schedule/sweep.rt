@@ -18,6 +18,7 @@ ghost use Rattle.nd_schedule.specs.Schedule.Sweep.{AreChanged, AreFit, AreWords,
 
 use crate::cells::KeptCell;
 use crate::schedule::noting::{Noted, note};
+use crate::schedule::ran::Shift;
 use crate::schedule::runner::CellRunner;
 use crate::schedule::snapshots::{MOST_KEYS, Snapshot, distance, thawed};
 use nd_meter::Meter;
@@ -40,6 +41,8 @@ pub struct SweepState<C: CellRunner> {
     pub(crate) session: C::Session,
     pub(crate) since: usize,
     pub(crate) changed: Vec<Changed<C>>,
+    // where the cells stand that it comes to, for what is told of their runs
+    pub(crate) shift: Shift,
 }
 
 /// Brings the session at hand to the place where the sweep stands.
@@ -72,12 +75,13 @@ pub(crate) struct New<C: CellRunner> {
     pub(crate) word: C::Word,
 }
 
-/// Runs a cell over a session, and gives its record. After want of memory the session is only fit to be dropped.
+/// Runs a cell over a session, and gives its record. Its place now is told where runs are told of. After want of memory the session is only fit to be dropped.
 pub(crate) fn run_cell<C: CellRunner>(
     alloc: Global,
     meter: &mut Meter,
     source: &KeptCell,
     world: &C::World,
+    now: usize,
     session: &mut C::Session,
 ) -> Result<New<C>, AllocError>
     requires none { HasNone source.now.label (C.session_of session.old) }
@@ -90,7 +94,10 @@ pub(crate) fn run_cell<C: CellRunner>(
     ensures worded { IfOk result (λ n. IsWordOf C.covers n.word (C.recorded n.record.value)) }
     ensures counted { meter.new ≡ min (meter.old + 1) (2 ^ 64 - 1) }
 {
-    let made = C::run(meter, session, world, source.label, source.text.as_str())?;
+    let began = meter.begin(now);
+    let made = C::run(meter, session, world, source.label, source.text.as_str());
+    meter.end(now, began);
+    let made = made?;
     let word = C::word(&made);
     let record = Rc::new(alloc, made)?;
     Ok(New { record, word })
@@ -130,7 +137,8 @@ pub(crate) fn run_again<C: CellRunner>(
         (map (λ c. fit_at c.place (C.recorded c.record.value) c.word) state.new.changed.items)) }
     ensures counted { meter.new ≡ min (meter.old + 1) (2 ^ 64 - 1) }
 {
-    let New { record, word } = run_cell::<C>(alloc, meter, source, world, &mut state.session)?;
+    let now = state.shift.place(i);
+    let New { record, word } = run_cell::<C>(alloc, meter, source, world, now, &mut state.session)?;
     C::rerun(before, &record, &state.session, world, &mut state.change)?;
     state.word = C::change_word(&state.change);
     state.since = i + 1;
@@ -148,6 +156,7 @@ pub(crate) fn run_new<C: CellRunner>(
     meter: &mut Meter,
     source: &KeptCell,
     world: &C::World,
+    now: usize,
     state: &mut SweepState<C>,
 ) -> Result<New<C>, AllocError>
     requires none { HasNone source.now.label (C.session_of state.old.session) }
@@ -166,7 +175,7 @@ pub(crate) fn run_new<C: CellRunner>(
     ensures changed { OnOk result (state.new.changed.items ≡ state.old.changed.items) }
     ensures counted { meter.new ≡ min (meter.old + 1) (2 ^ 64 - 1) }
 {
-    let new = run_cell::<C>(alloc, meter, source, world, &mut state.session)?;
+    let new = run_cell::<C>(alloc, meter, source, world, now, &mut state.session)?;
     C::came(&new.record, &state.session, &mut state.change)?;
     state.word = C::change_word(&state.change);
     Ok(new)

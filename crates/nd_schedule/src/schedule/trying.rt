@@ -30,6 +30,9 @@ impl<C: CellRunner> Schedule<C> {
     {
         let free = fresh_label(self.alloc, &self.cells, self.least)?;
         let mut session = self.session_like(at)?;
-        C::run(meter, &mut session, &self.world, free.label, text)
+        let began = meter.begin(at);
+        let made = C::run(meter, &mut session, &self.world, free.label, text);
+        meter.end(at, began);
+        made
     }
 }

@@ -167,9 +167,10 @@ fn bytes_of_digits(alloc: Global, word: &str) -> Result<Option<Vec<u8>>, AllocEr
 }
 
 /// A kind of numbers that a word can be read as.
-trait Numeral: Copy {
+pub trait Numeral: Copy {
     ghost numeral: { List ℕ → Option Self };
 
+    /// Returns the number whose decimal text the word is.
     fn read(word: &str) -> Option<Self>
         ensures { result ≡ numeral word.now };
 }
@@ -216,8 +217,8 @@ fn negative(number: Option<usize>) -> Option<i64>
     }
 }
 
-/// The first number of a list, and what follows the comma that ends it.
-fn split_part(text: &str) -> (&str, Option<&str>)
+/// Returns the first part of a list, and what follows the comma that ends it.
+pub fn split_part(text: &str) -> (&str, Option<&str>)
     ensures parts { parts_of text.now
         ≡ result.0.now ∷ parts_behind (option_copied result.1) }
     ensures shorter { IfSome result.1 (λ rest. length rest.now < length text.now) }
@@ -228,8 +229,8 @@ fn split_part(text: &str) -> (&str, Option<&str>)
     }
 }
 
-/// The numbers of a list, separated by commas; `()` has none.
-fn numbers_of<N: Numeral>(alloc: Global, word: &str) -> Result<Option<Vec<N>>, AllocError>
+/// Returns the numbers of a list, separated by commas; `()` has none.
+pub fn numbers_of<N: Numeral>(alloc: Global, word: &str) -> Result<Option<Vec<N>>, AllocError>
     ensures { IfOk result (λ o. option_map (λ v. v.items) o ≡ list_word N.numeral word.now) }
 {
     if word == "()" {

@@ -12,4 +12,4 @@ returns-in-Ok g c =
 pub returns-in-Err : goal.returns-in-Err
 returns-in-Err g c =
     tried_out c.try_cell.result c.args.at c.args.source.now c.args.notebook.now c.args.meter.now c.try_cell.new.meter _ _
-    c.try_cell.ensures.told c.try_cell.ensures.counts (rw c.in-Err.is c.push_edit_answer.ensures)
+    c.try_cell.ensures.told c.try_cell.ensures.counts (rw c.in-Err.is c.push_edit_refusal.ensures)

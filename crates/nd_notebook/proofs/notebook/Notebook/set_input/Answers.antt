@@ -10,10 +10,10 @@ returns-in_err-inputs-clause-answered c =
     let p = err_from_is_err_and c.from_residual.result c.from_residual.ensures.1 in
     rw (p.1, p.2) (c.in_default.ensures c.args.self.now, refl)
 
-pub returns-in_err-set_world-clause-answered : goal.returns-in_err-set_world-clause-answered
-returns-in_err-set_world-clause-answered c =
-    let p = err_from_is_err_and c.from_residual-in_err-set_world.result c.from_residual-in_err-set_world.ensures.1 in
-    rw (p.1, p.2) (c.in_default.ensures c.args.self.now, c.in_err-set_world.ensures.err ∙ c.self.view_is)
+pub returns-in_err-ran-clause-answered : goal.returns-in_err-ran-clause-answered
+returns-in_err-ran-clause-answered c =
+    let p = err_from_is_err_and c.from_residual-in_err-ran.result c.from_residual-in_err-ran.ensures.1 in
+    rw (p.1, p.2) (c.in_default.ensures c.args.self.now, c.in_err-ran.ensures.err ∙ c.self.view_is)
 
 pub returns-clause-answered : goal.returns-clause-answered
 returns-clause-answered c = (c.in_default.ensures c.args.self.now, search rules)

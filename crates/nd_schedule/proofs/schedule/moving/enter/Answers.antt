@@ -1,6 +1,7 @@
 use Rattle.std.proofs.Common.{◌∙◌}
+use Rattle.nd_schedule.specs.Schedule.Sweep.{IsAt}
 use Rattle.nd_schedule.proofs.schedule.Sweeping.{counts_same}
-use Rattle.nd_schedule.proofs.schedule.Turning.{enter_at, enter_counts, enter_none, enter_of_run, enter_record, if_ok_more, match_more}
+use Rattle.nd_schedule.proofs.schedule.Turning.{enter_at, enter_counts, enter_fresh, enter_none, enter_of_run, enter_record, enter_stale, if_ok_more, match_more}
 use Rattle.nd_schedule.proofs.schedule.Visiting.{on_three}
 use Rattle.nd_schedule.proofs.schedule.moving.enter.Goals as goal
 
@@ -29,3 +30,10 @@ returns-in_err-catch_up-clause-counts g c = λ old new from j before coming at s
 pub returns-clause-counts : goal.returns-clause-counts
 returns-clause-counts g c = λ old new from j before coming at so_far.
     enter_counts old new from c.args.i j _ _ _ _ coming _ (g.C.CellRunner.session_of c.catch_up.new.session) (record { over = at.over; hand = c.in_ok-catch_up.ensures old new j coming.run coming.place at.hand }) before _ _ c.put_in.ensures.counts so_far
+
+pub returns-clause-stale : goal.returns-clause-stale
+returns-clause-stale g c = if_ok_more c.put_in.result c.put_in.ensures.held (λ o held old new from j coming at.
+    let here : IsAt old new c.args.i j _ (g.C.CellRunner.session_of c.catch_up.new.session) c.args.i = record { over = at.over; hand = c.in_ok-catch_up.ensures old new j coming.run coming.place at.hand } in
+    match_more o held
+    (λ holds. enter_fresh old new from c.args.i j _ _ _ _ coming _ (g.C.CellRunner.session_of c.catch_up.new.session) here holds)
+    (λ n out. enter_stale old new from c.args.i j _ _ _ _ coming _ (g.C.CellRunner.session_of c.catch_up.new.session) here out))

@@ -300,3 +300,19 @@ sweep-requires-clause-records g c = grind (arith, common_steps)
 
 pub sweep-requires-clause-words : goal.sweep-requires-clause-words
 sweep-requires-clause-words g c = grind (arith, common_steps)
+
+pub returns-clause-stale : goal.returns-clause-stale
+returns-clause-stale g c = λ old new moving at.
+    let long : length old.cells ≡ length c.args.cells.now = ap length moving.cells ∙ length-map c.args.cells.now (λ s. cell_of s.value) in
+    let place : IsPlace old new c.args.from c.args.from = place_at old new c.args.from c.args.to _ _ _ moving c.args.from c.args.from (omega (arith, moving.stood)) (omega (arith, moving.stood)) in
+    let left : IsAt old new (c.args.from + 1) c.args.from (g.C.CellRunner.change_of c.leave.new.state.change) (g.C.CellRunner.session_of c.leave.new.state.session) c.leave.new.state.since =
+    c.in_ok-leave.ensures.at old new c.args.from moving.run place at in
+    let frame = frame_down old new c.args.from c.args.to _ _ _ moving c.requires.down in
+    let there : IsAt old new (c.args.to + 1) c.args.to (g.C.CellRunner.change_of c.sweep.new.state.change) (g.C.CellRunner.session_of c.sweep.new.state.session) c.sweep.new.state.since =
+    subst (λ k. IsAt old new (c.args.to + 1) k (g.C.CellRunner.change_of c.sweep.new.state.change) (g.C.CellRunner.session_of c.sweep.new.state.session) c.sweep.new.state.since) (down_place c.args.from c.args.to c.requires.down)
+    (c.in_ok-sweep.ensures.at old new c.args.from frame left) in
+    let come : IsComing old new c.args.from (c.args.to + 1) c.args.to _ (cell_of c.deref.result.now) (g.C.CellRunner.recorded c.deref-2.result.now) _ =
+    coming old new c.args.from c.args.to _ _ _ moving (c.args.to + 1) (omega (arith, long, c.requires)) (cell_of c.deref.result.now) (g.C.CellRunner.recorded c.deref-2.result.now)
+    (cell_there c.args.cells.now c.args.from c.index-cells-from.result c.deref.result.now (omega (arith, long, moving.stood)) c.index-cells-from.is c.deref.ensures)
+    (ap g.C.CellRunner.recorded c.deref-2.ensures ∙ record_there (λ r. g.C.CellRunner.recorded r.value) old c.args.records.now c.index-records-from.result c.args.from moving.run.records moving.stood c.index-records-from.is) in
+    c.in_ok-made.ensures.stale old new c.args.from c.args.to come there

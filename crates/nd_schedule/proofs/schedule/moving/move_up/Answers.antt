@@ -306,3 +306,12 @@ sweep-requires-clause-records g c = grind (arith, common_steps)
 
 pub sweep-requires-clause-words : goal.sweep-requires-clause-words
 sweep-requires-clause-words g c = grind (arith, common_steps)
+
+pub returns-clause-stale : goal.returns-clause-stale
+returns-clause-stale g c = λ old new moving at.
+    let long : length old.cells ≡ length c.args.cells.now = ap length moving.cells ∙ length-map c.args.cells.now (λ s. cell_of s.value) in
+    let come : IsComing old new c.args.from (c.args.to) c.args.to _ (cell_of c.deref.result.now) (g.C.CellRunner.recorded c.deref-2.result.now) _ =
+    coming old new c.args.from c.args.to _ _ _ moving (c.args.to) (omega (arith, long, c.requires)) (cell_of c.deref.result.now) (g.C.CellRunner.recorded c.deref-2.result.now)
+    (cell_there c.args.cells.now c.args.from c.index-cells-from.result c.deref.result.now (omega (arith, long, moving.stood)) c.index-cells-from.is c.deref.ensures)
+    (ap g.C.CellRunner.recorded c.deref-2.ensures ∙ record_there (λ r. g.C.CellRunner.recorded r.value) old c.args.records.now c.index-records-from.result c.args.from moving.run.records moving.stood c.index-records-from.is) in
+    c.in_ok-made.ensures.stale old new c.args.from c.args.to come at

@@ -65,3 +65,9 @@ returns-then-still_holds-clause-since g c = refl
 
 pub returns-then-still_holds-clause-worded : goal.returns-then-still_holds-clause-worded
 returns-then-still_holds-clause-worded g c = tt
+
+pub returns-then-still_holds-clause-held : goal.returns-then-still_holds-clause-held
+returns-then-still_holds-clause-held g c = c.if-still_holds.ensures.0 refl
+
+pub returns-clause-held : goal.returns-clause-held
+returns-clause-held g c = λ h. let e : false ≡ true = c.if-still_holds.ensures.1 h in cc

@@ -19,10 +19,10 @@ pub returns-clause-worded : goal.returns-clause-worded
 returns-clause-worded g c = subst (λ r. IsWordOf g.C.CellRunner.covers c.word-word.result (g.C.CellRunner.recorded r)) (sym c.in_ok-record.ensures.ok) c.word-word.ensures
 
 pub returns-clause-counted : goal.returns-clause-counted
-returns-clause-counted g c = c.run.ensures.counted
+returns-clause-counted g c = c.run-made.ensures.counted
 
 pub returns-in_err-made-clause-counted : goal.returns-in_err-made-clause-counted
-returns-in_err-made-clause-counted g c = c.run.ensures.counted
+returns-in_err-made-clause-counted g c = c.run-made.ensures.counted
 
 pub returns-in_err-record-clause-counted : goal.returns-in_err-record-clause-counted
-returns-in_err-record-clause-counted g c = c.run.ensures.counted
+returns-in_err-record-clause-counted g c = c.run-made.ensures.counted

@@ -81,10 +81,12 @@ returns-clause-at g c =
 pub returns-clause-changed : goal.returns-clause-changed
 returns-clause-changed g c =
     Visiting.on_ok c.run_again.result c.run_again.ensures.changed (λ grown old new j from first frame at le at_first all.
+    let is : g.C.CellRunner.recorded c.deref.result.now ≡ record_at old.world (entry_at old c.args.i) =
+    ap g.C.CellRunner.recorded c.deref.ensures ∙ record_there (λ r. g.C.CellRunner.recorded r.value) old c.args.records.now c.index-records-i.result c.args.i (frame.run.records) (Visiting.lt old new c.args.i j _ _ _ frame _ _ _ at) c.index-records-i.is in
     Visiting.run_changed old new c.args.i j _ _ _ frame _ _ _ at (g.C.CellRunner.session_of c.catch_up.new.session)
     (c.in_ok-catch_up.ensures old new j frame.run (Visiting.place old new c.args.i j _ _ _ frame _ _ _ at) at.hand)
     (cell_of c.deref-2.result.now) (Visiting.cell_there c.args.cells.now c.args.i c.index-cells-i.result c.deref-2.result.now c.requires.cell c.index-cells-i.is c.deref-2.ensures)
-    from first _ _ le at_first grown all)
+    (g.C.CellRunner.recorded c.deref.result.now) is (λ f. absurd (let e : false ≡ true = c.if-fits.ensures.1 f in cc)) from first _ _ le at_first grown all)
 
 pub returns-clause-counts : goal.returns-clause-counts
 returns-clause-counts g c = λ old new j before frame at h.

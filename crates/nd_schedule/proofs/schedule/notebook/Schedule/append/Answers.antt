@@ -1,5 +1,5 @@
 use Rattle.std.proofs.lemmas.Grind.{common_steps}
-use Rattle.std.proofs.Common.{◌≡◌, ◌≤◌, ◌+◌, ◌||◌, ℕ, eqb, List, [], length, map, refl, sym, ap, ap₂, subst, ◌∙◌, arith}
+use Rattle.std.proofs.Common.{◌≡◌, ◌≤◌, ◌+◌, ◌++◌, ◌||◌, ℕ, eqb, List, [], ◌∷◌, length, map, refl, sym, ap, ap₂, subst, ◌∙◌, arith}
 use Rattle.std.proofs.lemmas.Grind.{common_steps}
 use Rattle.std.specs.Prelude.{insert}
 use Rattle.std.specs.List.{All}
@@ -14,7 +14,9 @@ use Rattle.nd_schedule.specs.Cells.Labels.{AreUsed}
 use Rattle.nd_schedule.specs.Cells.Source.{sheet, cell_of, cells_of}
 use Rattle.nd_schedule.specs.Cells.Shared.{each_of}
 use Rattle.nd_schedule.specs.Schedule.Snapshot.{IsBehind, IsSnapshot, StandsBefore}
+use Rattle.nd_schedule.specs.Schedule.Ran.{AreStale}
 use Rattle.nd_schedule.specs.Schedule.Sweep.{IsKept}
+use Rattle.nd_schedule.proofs.schedule.Runs.{ran_appended}
 use Rattle.nd_schedule.proofs.schedule.Kept.{as_many}
 use Rattle.nd_schedule.proofs.schedule.Standing.{kept_in_front, kept_lists}
 use Rattle.nd_schedule.proofs.schedule.Sweeping.{changed_none}
@@ -134,3 +136,13 @@ run_end-requires-clause-label g c = grind (arith, common_steps)
 
 pub run_end-requires-clause-session : goal.run_end-requires-clause-session
 run_end-requires-clause-session g c = grind (arith, common_steps)
+
+pub returns-clause-ran : goal.returns-clause-ran
+returns-clause-ran g c =
+    let run : IsKept g.C.CellRunner.covers (book_of c.args.self.now) (each_of g.C.CellRunner.recorded c.self.inside.records.items) c.self.inside.words.items =
+    subst (λ (s : Sheet). IsKept g.C.CellRunner.covers (book_of s) (each_of g.C.CellRunner.recorded c.self.inside.records.items) c.self.inside.words.items) c.self.view_is (c.self.invariant).0 in
+    let inside : length c.self.inside.cells.items ≡ length c.args.self.now.cells = sym (length-map c.self.inside.cells.items (λ s. cell_of s.value)) ∙ ap (λ (s : Sheet). length s.cells) c.self.view_is in
+    let place : c.len-at.result ≡ length c.args.self.now.cells = omega (arith, c.len-at.ensures, inside) in
+    let places : c.push.new.self.items ≡ length c.args.self.now.cells ∷ [] = c.in_ok-push.ensures.items ∙ ap₂ (λ ps (n : ℕ). ps ++ n ∷ []) c.new-ran.ensures.items place in
+    subst (AreStale (book_of c.args.self.now) (book_of (sheet (insert c.args.self.now.cells (length c.args.self.now.cells) (cell_of c.args.cell.value)) c.args.self.now.given))) (sym places)
+    (ran_appended c.args.self.now (cell_of c.args.cell.value) run.run.distinct c.requires.label)

@@ -1,6 +1,6 @@
-use Rattle.std.proofs.Common.{◌≡◌, length, map, sym, ap, ap₂, subst, ◌∙◌, arith}
+use Rattle.std.proofs.Common.{◌≡◌, ◌++◌, length, map, sym, ap, ap₂, subst, ◌∙◌, arith, false, string_bytes}
 use Rattle.std.proofs.lemmas.Grind.{common_steps}
-use Rattle.std.specs.Prelude.{slice_index_or, slice_set}
+use Rattle.std.specs.Prelude.{bytes_eq, slice_index_or, slice_set}
 use Rattle.std.proofs.lemmas.List.{length-map}
 use Rattle.nd_model.specs.Book.Book.{Cell, no_cell}
 use Rattle.nd_model.specs.Book.Notebook.{Sheet, book_of}
@@ -9,7 +9,10 @@ use Rattle.nd_schedule.specs.declared.cells.source.KeptCell.{KeptCell}
 use Rattle.nd_schedule.specs.Cells.Labels.{AreUsed}
 use Rattle.nd_schedule.specs.Cells.Source.{sheet, cell_of}
 use Rattle.nd_schedule.specs.Cells.Shared.{each_of}
-use Rattle.nd_schedule.specs.Schedule.Sweep.{AreFit, IsKept, fit_at}
+use Rattle.nd_schedule.specs.Schedule.Ran.{AreStale, shifted}
+use Rattle.nd_schedule.specs.declared.schedule.ran.Shift.TheVariants as shifts
+use Rattle.nd_schedule.specs.Schedule.Sweep.{AreFit, IsKept, change_at, fit_at}
+use Rattle.nd_schedule.proofs.schedule.Runs.{ran_edited, ran_nothing}
 use Rattle.std.specs.List.{All}
 use Rattle.nd_schedule.specs.Schedule.Snapshot.{IsSnapshot}
 use Rattle.nd_schedule.proofs.schedule.Kept.{as_many}
@@ -106,3 +109,35 @@ swept_with-requires-clause-at g c = grind (arith, common_steps)
 
 pub swept_with-requires-clause-other : goal.swept_with-requires-clause-other
 swept_with-requires-clause-other g c = grind (arith, common_steps)
+
+pub note_places-requires : goal.note_places-requires
+note_places-requires g c =
+    let inside : length c.self.inside.cells.items ≡ length c.args.self.now.cells = sym (length-map c.self.inside.cells.items (λ s. cell_of s.value)) ∙ ap (λ (s : Sheet). length s.cells) c.self.view_is in (
+      length c.args.self.now.cells,
+      omega (arith, inside, c.self.inside.cells.ok, c.self.inside.cells.small),
+      subst (λ xs. AreFit g.C.CellRunner.covers (length c.args.self.now.cells) (map (λ c'. fit_at c'.place (g.C.CellRunner.recorded c'.record.value) c'.word) xs)) (sym c.deref-3.ensures.value) c.in_ok-swept.ensures.fit,
+    )
+
+pub returns-clause-ran : goal.returns-clause-ran
+returns-clause-ran g c =
+    let run : IsKept g.C.CellRunner.covers (book_of c.args.self.now) (each_of g.C.CellRunner.recorded c.self.inside.records.items) c.self.inside.words.items =
+    subst (λ (s : Sheet). IsKept g.C.CellRunner.covers (book_of s) (each_of g.C.CellRunner.recorded c.self.inside.records.items) c.self.inside.words.items) c.self.view_is (c.self.invariant).0 in
+    let new : ◌≡◌ {A = Cell} (cell_of c.in_ok-cell.cell.value) (record { label = (slice_index_or c.args.self.now.cells c.args.at no_cell).label; source = c.args.text.now }) =
+    λ i. record { label = c.in_ok-cell.ensures.label i; source = c.in_ok-cell.ensures.text i } in
+    let is : cell_of c.deref-2.result.now ≡ cell_of c.in_ok-cell.cell.value = ap cell_of c.deref-2.ensures in
+    let label : c.deref-2.result.now.label ≡ (slice_index_or c.args.self.now.cells c.args.at no_cell).label = ap (λ (s : KeptCell). s.label) c.deref-2.ensures ∙ c.in_ok-cell.ensures.label in
+    let other : bytes_eq (string_bytes c.deref-2.result.now.text) (slice_index_or c.args.self.now.cells c.args.at no_cell).source ≡ false = grind (arith, common_steps) in
+    let places : c.note_places.new.ran.items ≡ map (λ c'. shifted shifts.Stays c'.place) c.in_ok-swept.field-0.swept.changed.items =
+    c.in-Ok.ensures.places ∙ ap₂ (λ ps xs. ps ++ map (λ c'. shifted shifts.Stays c'.place) xs) c.new-ran.ensures.items c.deref-3.ensures.value in
+    subst (λ (x : Cell). AreStale (book_of c.args.self.now) (book_of (sheet (slice_set c.args.self.now.cells c.args.at x) c.args.self.now.given)) c.note_places.new.ran.items) (is ∙ new)
+    (subst (AreStale (book_of c.args.self.now) (book_of (sheet (slice_set c.args.self.now.cells c.args.at (cell_of c.deref-2.result.now)) c.args.self.now.given))) (sym places)
+    (ran_edited (λ c'. change_at c'.place (g.C.CellRunner.recorded c'.record.value)) c.in_ok-swept.field-0.swept.changed.items c.args.self.now c.args.at (cell_of c.deref-2.result.now) c.requires run.run.distinct label other c.in_ok-swept.ensures.changed))
+
+pub returns-then-eq-clause-ran : goal.returns-then-eq-clause-ran
+returns-then-eq-clause-ran g c =
+    let run : IsKept g.C.CellRunner.covers (book_of c.args.self.now) (each_of g.C.CellRunner.recorded c.self.inside.records.items) c.self.inside.words.items =
+    subst (λ (s : Sheet). IsKept g.C.CellRunner.covers (book_of s) (each_of g.C.CellRunner.recorded c.self.inside.records.items) c.self.inside.words.items) c.self.view_is (c.self.invariant).0 in
+    subst (λ (s : Sheet). AreStale (book_of c.args.self.now) (book_of s) c.new-ran.result.items)
+    (unchanged c.args.text.now c.as_str.result.now c.args.self.now c.args.at c.deref.result.now c.requires (sym c.if-eq.ensures) c.as_str.ensures.value
+    (ap cell_of c.deref.ensures ∙ label_at c.args.self.now.cells c.self.inside.cells.items c.index.result.now c.args.at (ap (λ (s : Sheet). s.cells) c.self.view_is) c.requires c.index.ensures))
+    (subst (AreStale (book_of c.args.self.now) (book_of c.args.self.now)) (sym c.new-ran.ensures.items) (ran_nothing (book_of c.args.self.now) run.run.distinct))

@@ -40,3 +40,9 @@ returns-then-at-len-clause-err g c = grind (arith, common_steps)
 
 pub returns-then-at-len-clause-ok : goal.returns-then-at-len-clause-ok
 returns-then-at-len-clause-ok g c = grind (arith, common_steps)
+
+pub returns-clause-ran : goal.returns-clause-ran
+returns-clause-ran g c = grind (arith, common_steps)
+
+pub returns-then-at-len-clause-ran : goal.returns-then-at-len-clause-ran
+returns-then-at-len-clause-ran g c = grind (arith, common_steps)

@@ -1,5 +1,5 @@
 use Rattle.std.proofs.lemmas.Grind.{common_steps}
-use Rattle.std.proofs.Common.{◌≡◌, ℕ, ◌<◌, List, length, map, get_or, Option, refl, sym, ap, ap₂, subst, ◌∙◌, arith}
+use Rattle.std.proofs.Common.{◌≡◌, ℕ, ◌<◌, ◌++◌, inl, inr, List, length, map, get_or, Option, refl, sym, ap, ap₂, subst, ◌∙◌, arith}
 use Rattle.std.proofs.lemmas.Grind.{common_steps}
 use Rattle.std.specs.Prelude.{insert, remove, MatchOption}
 use Rattle.std.proofs.lemmas.List.{length-map}
@@ -11,11 +11,15 @@ use Rattle.nd_model.proofs.Entries.{get_or-records_of}
 use Rattle.nd_schedule.specs.Cells.Labels.{AreUsed}
 use Rattle.nd_schedule.specs.Cells.Source.{sheet, cell_of, cells_of}
 use Rattle.nd_schedule.specs.Cells.Shared.{each_of}
+use Rattle.nd_schedule.specs.Schedule.Ran.{AreStale, place_made, shifted}
+use Rattle.nd_schedule.specs.declared.schedule.ran.Shift.TheVariants as shifts
+use Rattle.std.proofs.lemmas.Bool.{cases_lt}
+use Rattle.nd_schedule.proofs.schedule.Runs.{ran_down, ran_nothing, ran_up}
 use Rattle.nd_schedule.specs.Schedule.Sweep.{AreFit, AreMoved, Changes, IsKept, IsMoving, change_at, changed, fit_at}
 use Rattle.std.specs.List.{All}
 use Rattle.nd_schedule.specs.Schedule.Snapshot.{IsSnapshot}
 use Rattle.nd_schedule.proofs.schedule.Kept.{as_many}
-use Rattle.nd_schedule.proofs.schedule.Turning.{behind, kept_turned, match_more, moving, turned_map}
+use Rattle.nd_schedule.proofs.schedule.Turning.{behind, kept_turned, match_more, moving, turned_map, turned_same}
 use Rattle.nd_schedule.proofs.cells.Used.{used_moved}
 use Rattle.nd_schedule.proofs.schedule.notebook.Schedule.move_cell.Goals as goal
 
@@ -170,7 +174,8 @@ pub returns-then-from-to-clause-err : goal.returns-then-from-to-clause-err
 returns-then-from-to-clause-err g c = grind (arith, common_steps)
 
 pub returns-then-from-to-clause-ok : goal.returns-then-from-to-clause-ok
-returns-then-from-to-clause-ok g c = grind (arith, common_steps)
+returns-then-from-to-clause-ok g c =
+    ap (λ cs. sheet cs c.args.self.now.given) (turned_same c.args.self.now.cells c.args.from no_cell c.requires.from ∙ ap (λ n. insert (remove c.args.self.now.cells c.args.from) n (get_or c.args.self.now.cells c.args.from no_cell)) c.if-from-to.true)
 
 pub swept_moved-requires-clause-from : goal.swept_moved-requires-clause-from
 swept_moved-requires-clause-from g c = grind (arith, common_steps)
@@ -183,3 +188,42 @@ swept_moved-requires-clause-session g c = grind (arith, common_steps)
 
 pub swept_moved-requires-clause-to : goal.swept_moved-requires-clause-to
 swept_moved-requires-clause-to g c = grind (arith, common_steps)
+
+pub note_ran-requires-clause-between : goal.note_ran-requires-clause-between
+note_ran-requires-clause-between g c =
+    let inside : length c.self.inside.cells.items ≡ length c.args.self.now.cells = sym (length-map c.self.inside.cells.items (λ s. cell_of s.value)) ∙ ap (λ (s : Sheet). length s.cells) c.self.view_is in (
+      length c.args.self.now.cells,
+      omega (arith, inside, c.self.inside.cells.ok, c.self.inside.cells.small),
+      c.in_ok-moved.ensures.fit_between,
+    )
+
+pub note_ran-requires-clause-behind : goal.note_ran-requires-clause-behind
+note_ran-requires-clause-behind g c =
+    let inside : length c.self.inside.cells.items ≡ length c.args.self.now.cells = sym (length-map c.self.inside.cells.items (λ s. cell_of s.value)) ∙ ap (λ (s : Sheet). length s.cells) c.self.view_is in (
+      length c.args.self.now.cells,
+      omega (arith, inside, c.self.inside.cells.ok, c.self.inside.cells.small),
+      c.in_ok-moved.ensures.fit_behind,
+    )
+
+pub returns-then-from-to-clause-ran : goal.returns-then-from-to-clause-ran
+returns-then-from-to-clause-ran g c =
+    let run : IsKept g.C.CellRunner.covers (book_of c.args.self.now) (each_of g.C.CellRunner.recorded c.self.inside.records.items) c.self.inside.words.items =
+    subst (λ (s : Sheet). IsKept g.C.CellRunner.covers (book_of s) (each_of g.C.CellRunner.recorded c.self.inside.records.items) c.self.inside.words.items) c.self.view_is (c.self.invariant).0 in
+    subst (λ (s : Sheet). AreStale (book_of c.args.self.now) (book_of s) c.new-ran.result.items)
+    (ap (λ cs. sheet cs c.args.self.now.given) (turned_same c.args.self.now.cells c.args.from no_cell c.requires.from ∙ ap (λ n. insert (remove c.args.self.now.cells c.args.from) n (get_or c.args.self.now.cells c.args.from no_cell)) c.if-from-to.true))
+    (subst (AreStale (book_of c.args.self.now) (book_of c.args.self.now)) (sym c.new-ran.ensures.items) (ran_nothing (book_of c.args.self.now) run.run.distinct))
+
+pub returns-clause-ran : goal.returns-clause-ran
+returns-clause-ran g c =
+    let run : IsKept g.C.CellRunner.covers (book_of c.args.self.now) (each_of g.C.CellRunner.recorded c.self.inside.records.items) c.self.inside.words.items =
+    subst (λ (s : Sheet). IsKept g.C.CellRunner.covers (book_of s) (each_of g.C.CellRunner.recorded c.self.inside.records.items) c.self.inside.words.items) c.self.view_is (c.self.invariant).0 in
+    let old : Book = book_of c.args.self.now in
+    let new : Book = book_of (edited_sheet (Move c.args.from c.args.to) c.args.self.now) in
+    let way : IsMoving old new c.args.from c.args.to c.args.self.now.cells (records_of old) (world_in c.args.self.now.given) =
+    moving c.args.self.now c.args.from c.args.to _ _ _ refl (record { records = refl; distinct = run.run.distinct }) refl c.requires.from c.requires.to in
+    elim (cases_lt c.args.from c.args.to) [
+      | inl down ↦ subst (AreStale old new) (sym (c.in-Ok.ensures.down down ∙ ap (λ (ps : List ℕ). ((ps ++ map (λ c'. shifted shifts.Earlier c'.place) c.in_ok-moved.moved.between.items) ++ place_made c.in_ok-moved.moved.made c.args.to) ++ map (λ c'. shifted shifts.Stays c'.place) c.in_ok-moved.moved.behind.items) c.new-ran.ensures.items))
+          (ran_down (λ c'. change_at c'.place (g.C.CellRunner.recorded c'.record.value)) c.in_ok-moved.moved.between.items c.in_ok-moved.moved.behind.items c.in_ok-moved.moved.made old new c.args.from c.args.to _ _ _ way c.in_ok-moved.ensures.moved c.in_ok-moved.ensures.stale down)
+      | inr up ↦ subst (AreStale old new) (sym (c.in-Ok.ensures.up up ∙ ap (λ (ps : List ℕ). ((ps ++ place_made c.in_ok-moved.moved.made c.args.to) ++ map (λ c'. shifted shifts.Later c'.place) c.in_ok-moved.moved.between.items) ++ map (λ c'. shifted shifts.Stays c'.place) c.in_ok-moved.moved.behind.items) c.new-ran.ensures.items))
+          (ran_up (λ c'. change_at c'.place (g.C.CellRunner.recorded c'.record.value)) c.in_ok-moved.moved.between.items c.in_ok-moved.moved.behind.items c.in_ok-moved.moved.made old new c.args.from c.args.to _ _ _ way c.in_ok-moved.ensures.moved c.in_ok-moved.ensures.stale (omega (arith, up, c.if-from-to.false)))
+    ]

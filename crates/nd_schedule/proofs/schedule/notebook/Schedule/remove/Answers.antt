@@ -1,5 +1,5 @@
 use Rattle.std.proofs.lemmas.Grind.{common_steps}
-use Rattle.std.proofs.Common.{◌≡◌, length, map, sym, ap, ap₂, subst, ◌∙◌, arith}
+use Rattle.std.proofs.Common.{◌≡◌, ◌++◌, length, map, sym, ap, ap₂, subst, ◌∙◌, arith}
 use Rattle.std.proofs.lemmas.Grind.{common_steps}
 use Rattle.std.specs.Prelude.{remove, slice_index_or}
 use Rattle.std.proofs.lemmas.List.{length-map}
@@ -10,8 +10,12 @@ use Rattle.nd_schedule.specs.Cells.Labels.{AreUsed}
 use Rattle.nd_schedule.specs.declared.cells.source.KeptCell.{KeptCell}
 use Rattle.nd_schedule.specs.Cells.Source.{sheet, cell_of, cells_of}
 use Rattle.nd_schedule.specs.Cells.Shared.{each_of}
-use Rattle.nd_schedule.specs.Schedule.Sweep.{AreFit, IsKept, fit_at}
+use Rattle.nd_schedule.specs.Schedule.Ran.{AreStale, shifted}
+use Rattle.nd_schedule.specs.declared.schedule.ran.Shift.TheVariants as shifts
+use Rattle.nd_schedule.specs.Schedule.Sweep.{AreFit, IsKept, change_at, fit_at}
+use Rattle.nd_schedule.proofs.schedule.Runs.{no_changes, ran_removed}
 use Rattle.std.specs.List.{All}
+use Rattle.std.specs.Result.{IsOk}
 use Rattle.nd_schedule.specs.Schedule.Snapshot.{IsSnapshot}
 use Rattle.nd_schedule.proofs.schedule.Kept.{as_many}
 use Rattle.nd_schedule.proofs.schedule.Editing.{label_at}
@@ -43,8 +47,8 @@ invariant_of-self g c =
     ap cells_of c.remove-cell.ensures.items ∙ map-remove (λ s. cell_of s.value) c.self.inside.cells.items c.args.at ∙ ap (λ cs. remove cs c.args.at) (ap (λ (s : Sheet). s.cells) c.self.view_is) in
     let records : each_of g.C.CellRunner.recorded c.remove-record.new.self.items ≡ remove (each_of g.C.CellRunner.recorded c.install.new.records.items) c.args.at =
     ap (each_of g.C.CellRunner.recorded) c.remove-record.ensures.items ∙ map-remove (λ r. g.C.CellRunner.recorded r.value) c.install.new.records.items c.args.at in
-    let label : c.deref.result.now.label ≡ (slice_index_or c.args.self.now.cells c.args.at no_cell).label =
-    ap (λ (x : KeptCell). x.label) c.deref.ensures ∙ ap (λ (x : Cell). x.label) (label_at c.args.self.now.cells c.self.inside.cells.items c.index.result.now c.args.at (ap (λ (s : Sheet). s.cells) c.self.view_is) c.requires c.index.ensures) in
+    let label : c.deref-2.result.now.label ≡ (slice_index_or c.args.self.now.cells c.args.at no_cell).label =
+    ap (λ (x : KeptCell). x.label) c.deref-2.ensures ∙ ap (λ (x : Cell). x.label) (label_at c.args.self.now.cells c.self.inside.cells.items c.index.result.now c.args.at (ap (λ (s : Sheet). s.cells) c.self.view_is) c.requires c.index.ensures) in
     let used : AreUsed c.self.inside.least c.args.self.now.cells = subst (λ (s : Sheet). AreUsed c.self.inside.least s.cells) c.self.view_is (c.self.invariant).2 in
     let kept : All (λ x. IsSnapshot (book_of c.args.self.now) x.place (g.C.CellRunner.kept_session x.version) (map g.C.CellRunner.change_of x.pending.items)) c.self.inside.snapshots.items =
     subst (λ (s : Sheet). All (λ x. IsSnapshot (book_of s) x.place (g.C.CellRunner.kept_session x.version) (map g.C.CellRunner.change_of x.pending.items)) c.self.inside.snapshots.items) c.self.view_is (c.self.invariant).1 in (
@@ -94,3 +98,24 @@ returns-in_err-swept-clause-err g c = grind (arith, common_steps)
 
 pub returns-in_err-swept-clause-last : goal.returns-in_err-swept-clause-last
 returns-in_err-swept-clause-last g c = grind (arith, common_steps)
+
+pub note_places-requires : goal.note_places-requires
+note_places-requires g c =
+    let inside : length c.self.inside.cells.items ≡ length c.args.self.now.cells = sym (length-map c.self.inside.cells.items (λ s. cell_of s.value)) ∙ ap (λ (s : Sheet). length s.cells) c.self.view_is in (
+      length c.args.self.now.cells,
+      omega (arith, inside, c.self.inside.cells.ok, c.self.inside.cells.small),
+      subst (λ xs. AreFit g.C.CellRunner.covers (length c.args.self.now.cells) (map (λ c'. fit_at c'.place (g.C.CellRunner.recorded c'.record.value) c'.word) xs)) (sym c.deref.ensures.value) c.in_ok-swept.ensures.fit,
+    )
+
+pub returns-clause-ran : goal.returns-clause-ran
+returns-clause-ran g c =
+    let run : IsKept g.C.CellRunner.covers (book_of c.args.self.now) (each_of g.C.CellRunner.recorded c.self.inside.records.items) c.self.inside.words.items =
+    subst (λ (s : Sheet). IsKept g.C.CellRunner.covers (book_of s) (each_of g.C.CellRunner.recorded c.self.inside.records.items) c.self.inside.words.items) c.self.view_is (c.self.invariant).0 in
+    let places : c.note_places.new.ran.items ≡ map (λ c'. shifted shifts.Earlier c'.place) c.in_ok-swept.field-0.swept.changed.items =
+    c.in-Ok.ensures.places ∙ ap₂ (λ ps xs. ps ++ map (λ c'. shifted shifts.Earlier c'.place) xs) c.new-ran.ensures.items c.deref.ensures.value in
+    subst (AreStale (book_of c.args.self.now) (book_of (sheet (remove c.args.self.now.cells c.args.at) c.args.self.now.given))) (sym places)
+    (ran_removed (λ c'. change_at c'.place (g.C.CellRunner.recorded c'.record.value)) c.in_ok-swept.field-0.swept.changed.items c.args.self.now c.args.at c.requires run.run.distinct c.in_ok-swept.ensures.changed)
+
+pub returns-in-Err-clause-last : goal.returns-in-Err-clause-last
+returns-in-Err-clause-last g c = λ last. subst IsOk c.in-Err.is
+    (c.note_places.ensures.none (c.deref.ensures.value ∙ no_changes (λ c'. change_at c'.place (g.C.CellRunner.recorded c'.record.value)) _ _ _ _ _ c.in_ok-swept.field-0.swept.changed.items (omega (arith, last)) c.in_ok-swept.ensures.changed))

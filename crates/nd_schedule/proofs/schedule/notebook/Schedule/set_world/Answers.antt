@@ -1,9 +1,12 @@
-use Rattle.std.proofs.Common.{◌≡◌, length, map, sym, ap, subst, ◌∙◌}
+use Rattle.std.proofs.Common.{◌≡◌, ◌++◌, length, map, sym, ap, ap₂, subst, ◌∙◌, arith}
 use Rattle.std.proofs.lemmas.List.{length-map}
 use Rattle.nd_model.specs.Book.Notebook.{Sheet, book_of}
-use Rattle.nd_schedule.specs.Cells.Source.{sheet}
+use Rattle.nd_schedule.specs.Cells.Source.{sheet, cell_of}
 use Rattle.nd_schedule.specs.Cells.Shared.{each_of}
-use Rattle.nd_schedule.specs.Schedule.Sweep.{AreFit, IsKept, fit_at}
+use Rattle.nd_schedule.specs.Schedule.Ran.{AreStale, shifted}
+use Rattle.nd_schedule.specs.declared.schedule.ran.Shift.TheVariants as shifts
+use Rattle.nd_schedule.specs.Schedule.Sweep.{AreFit, IsKept, change_at, fit_at}
+use Rattle.nd_schedule.proofs.schedule.Runs.{ran_over}
 use Rattle.std.specs.List.{All}
 use Rattle.nd_schedule.specs.Schedule.Snapshot.{IsSnapshot}
 use Rattle.nd_schedule.proofs.schedule.Standing.{All-none}
@@ -34,3 +37,18 @@ invariant_of-self g c =
           (c.carry.ensures (book_of c.args.self.now) (book_of (sheet c.args.self.now.cells (g.C.CellRunner.given c.args.world))) (behind_none c.args.self.now (g.C.CellRunner.given c.args.world) run.run.distinct) c.in_ok-changed.ensures.noted (All-none (λ x. IsSnapshot (book_of c.args.self.now) x.place (g.C.CellRunner.kept_session x.version) (map g.C.CellRunner.change_of x.pending.items)) c.new-fresh.result.items c.new-fresh.ensures.items) kept),
       (c.self.invariant).2,
     )
+
+pub note_places-requires : goal.note_places-requires
+note_places-requires g c =
+    let inside : length c.self.inside.cells.items ≡ length c.args.self.now.cells = sym (length-map c.self.inside.cells.items (λ s. cell_of s.value)) ∙ ap (λ (s : Sheet). length s.cells) c.self.view_is in (
+      length c.args.self.now.cells,
+      omega (arith, inside, c.self.inside.cells.ok, c.self.inside.cells.small),
+      subst (λ xs. AreFit g.C.CellRunner.covers (length c.args.self.now.cells) (map (λ c'. fit_at c'.place (g.C.CellRunner.recorded c'.record.value) c'.word) xs)) (sym c.deref.ensures.value) c.in_ok-changed.ensures.fit,
+    )
+
+pub returns-clause-ran : goal.returns-clause-ran
+returns-clause-ran g c =
+    let places : c.note_places.new.ran.items ≡ map (λ c'. shifted shifts.Stays c'.place) c.in_ok-changed.field-0.changed.items =
+    c.in-Ok.ensures.places ∙ ap₂ (λ ps xs. ps ++ map (λ c'. shifted shifts.Stays c'.place) xs) c.new-ran.ensures.items c.deref.ensures.value in
+    subst (AreStale (book_of c.args.self.now) (book_of (sheet c.args.self.now.cells (g.C.CellRunner.given c.args.world)))) (sym places)
+    (ran_over (λ c'. change_at c'.place (g.C.CellRunner.recorded c'.record.value)) c.in_ok-changed.field-0.changed.items c.args.self.now (g.C.CellRunner.given c.args.world) c.in_ok-changed.ensures.changed)

@@ -279,3 +279,33 @@ returns-then-from-to-clause-fit_between g c = grind (arith, common_steps)
 
 pub returns-then-from-to-clause-worded : goal.returns-then-from-to-clause-worded
 returns-then-from-to-clause-worded g c = grind (arith, common_steps)
+
+pub returns-then-from-to-clause-stale : goal.returns-then-from-to-clause-stale
+returns-then-from-to-clause-stale g c =
+    let run : IsKept g.C.CellRunner.covers (book_of c.args.self.now) (each_of g.C.CellRunner.recorded c.self.inside.records.items) c.self.inside.words.items =
+    subst (λ (s : Sheet). IsKept g.C.CellRunner.covers (book_of s) (each_of g.C.CellRunner.recorded c.self.inside.records.items) c.self.inside.words.items) c.self.view_is (c.self.invariant).0 in
+    let old : Book = book_of c.args.self.now in
+    let new : Book = book_of (edited_sheet (Move c.args.from c.args.to) c.args.self.now) in
+    let way : IsMoving old new c.args.from c.args.to (cells_of c.deref.result.now) (each_of g.C.CellRunner.recorded c.deref-then-from-to.result.now) (world_in (g.C.CellRunner.given c.self.inside.world)) =
+    moving c.args.self.now c.args.from c.args.to _ _ _ (sym (ap cells_of c.deref.ensures.value ∙ ap (λ (s : Sheet). s.cells) c.self.view_is))
+    (record { records = ap (each_of g.C.CellRunner.recorded) c.deref-then-from-to.ensures.value ∙ run.run.records; distinct = run.run.distinct }) (sym (ap (λ (s : Sheet). world_in s.given) c.self.view_is)) c.requires.from c.requires.to in
+    let least : c.min.result ≡ c.args.from = omega (arith, c.min.ensures, c.if-from-to.true) in
+    let at : IsAt old new c.args.from c.args.from (g.C.CellRunner.change_of c.begin-state.result.change) (g.C.CellRunner.session_of c.begin-state.result.session) c.begin-state.result.since =
+    subst (λ k. IsAt old new k k (g.C.CellRunner.change_of c.begin-state.result.change) (g.C.CellRunner.session_of c.begin-state.result.session) c.begin-state.result.since) least
+    (c.begin-state.ensures.at new (front old new c.args.from c.args.to _ _ _ way c.min.result (omega (arith, least, c.if-from-to.true)) (omega (arith, least, c.if-from-to.true))) refl) in
+    if_ok_more c.move_down.result c.move_down.ensures.stale (λ m h. h old new way at)
+
+pub returns-clause-stale : goal.returns-clause-stale
+returns-clause-stale g c =
+    let run : IsKept g.C.CellRunner.covers (book_of c.args.self.now) (each_of g.C.CellRunner.recorded c.self.inside.records.items) c.self.inside.words.items =
+    subst (λ (s : Sheet). IsKept g.C.CellRunner.covers (book_of s) (each_of g.C.CellRunner.recorded c.self.inside.records.items) c.self.inside.words.items) c.self.view_is (c.self.invariant).0 in
+    let old : Book = book_of c.args.self.now in
+    let new : Book = book_of (edited_sheet (Move c.args.from c.args.to) c.args.self.now) in
+    let way : IsMoving old new c.args.from c.args.to (cells_of c.deref-2.result.now) (each_of g.C.CellRunner.recorded c.deref-3.result.now) (world_in (g.C.CellRunner.given c.self.inside.world)) =
+    moving c.args.self.now c.args.from c.args.to _ _ _ (sym (ap cells_of c.deref-2.ensures.value ∙ ap (λ (s : Sheet). s.cells) c.self.view_is))
+    (record { records = ap (each_of g.C.CellRunner.recorded) c.deref-3.ensures.value ∙ run.run.records; distinct = run.run.distinct }) (sym (ap (λ (s : Sheet). world_in s.given) c.self.view_is)) c.requires.from c.requires.to in
+    let least : c.min.result ≡ c.args.to = omega (arith, c.min.ensures, c.if-from-to.false) in
+    let at : IsAt old new c.args.to c.args.to (g.C.CellRunner.change_of c.begin-state.result.change) (g.C.CellRunner.session_of c.begin-state.result.session) c.begin-state.result.since =
+    subst (λ k. IsAt old new k k (g.C.CellRunner.change_of c.begin-state.result.change) (g.C.CellRunner.session_of c.begin-state.result.session) c.begin-state.result.since) least
+    (c.begin-state.ensures.at new (front old new c.args.from c.args.to _ _ _ way c.min.result (omega (arith, least, c.if-from-to.false)) (omega (arith, least, c.if-from-to.false))) refl) in
+    if_ok_more c.move_up.result c.move_up.ensures.stale (λ m h. h old new way at)

@@ -6,7 +6,7 @@ use Rattle.nd_model.proofs.EditKept.{map-slice_set}
 use Rattle.nd_change.specs.Steps.{IsWordOf}
 use Rattle.nd_schedule.proofs.schedule.Kept.{word_one}
 use Rattle.nd_schedule.proofs.schedule.Standing.{if_some}
-use Rattle.nd_schedule.proofs.schedule.notebook.put_made.Goals as goal
+use Rattle.nd_schedule.proofs.schedule.shifting.put_made.Goals as goal
 
 match_some : {X : Type 0} (A : Type 0) (P : X → Type 0) (o : Option X) (x : X) → o ≡ Some x → MatchOption o A P → P x
 match_some A P o x is h = subst (λ o. MatchOption o A P) is h

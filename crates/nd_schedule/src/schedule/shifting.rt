@@ -1,0 +1,165 @@
+//! `move_cell`: moves a cell to another place, and sweeps over those around it.
+
+ghost use Rattle.std.specs.Prelude.{◌≡◌, ◌<◌, ◌-◌, ℕ, IfOk, IfSome, MatchOption, OnErr, OnOk};
+ghost use Rattle.std.specs.List.{All};
+ghost use Rattle.std.specs.Prelude.{length, map, min, slice_index_or};
+ghost use Rattle.nd_model.specs.Book.Records as kept;
+ghost use Rattle.nd_model.specs.Book.Book.{Move};
+ghost use Rattle.nd_model.specs.Book.Entries.{entry_at, record_at};
+ghost use Rattle.nd_model.specs.Book.Stale.{CountsStale, IsStale};
+ghost use Rattle.nd_model.specs.Book.Notebook.{book_of, edited_sheet};
+ghost use Rattle.nd_change.specs.Steps.{IsWordOf};
+ghost use Rattle.nd_schedule.specs.Cells.Shared.{each_of};
+ghost use Rattle.nd_schedule.specs.Schedule.Ran.{AreStale};
+ghost use Rattle.nd_schedule.specs.Schedule.Snapshot.{IsNoted, StandsBefore};
+ghost use Rattle.nd_schedule.specs.Schedule.Sweep.{AreFit, AreMoved, AreWords, change_at, fit_at};
+
+use crate::cells::move_item;
+use crate::schedule::moving::{Moved, move_down, move_up};
+use crate::schedule::notebook::{Front, Schedule, install};
+use crate::schedule::runner::CellRunner;
+use crate::schedule::snapshots::carry;
+use crate::schedule::sweep::New;
+use nd_meter::Meter;
+use std::alloc::AllocError;
+use std::rc::Rc;
+
+/// Puts the record of a cell that was run in its place, if there is one. It takes no memory.
+fn put_made<C: CellRunner>(
+    records: &mut Vec<Rc<C::Record>>,
+    words: &mut Vec<C::Word>,
+    at: usize,
+    made: Option<New<C>>,
+)
+    requires at { at < length records.old.items }
+    requires many { length words.old.items ≡ length records.old.items }
+    requires worded { IfSome made (λ n. IsWordOf C.covers n.word (C.recorded n.record.value)) }
+    ensures there { (r x : kept.Record)
+        → MatchOption made (slice_index_or (each_of C.recorded records.old.items) at r ≡ x)
+        (λ n. C.recorded n.record.value ≡ x)
+        → slice_index_or (each_of C.recorded records.new.items) at r ≡ x }
+    ensures others { (k : ℕ) (r : kept.Record) → ¬ (k ≡ at)
+        → slice_index_or (each_of C.recorded records.new.items) k r
+        ≡ slice_index_or (each_of C.recorded records.old.items) k r }
+    ensures words { AreWords C.covers words.old.items (each_of C.recorded records.old.items)
+        → AreWords C.covers words.new.items (each_of C.recorded records.new.items) }
+    ensures count { length records.new.items ≡ length records.old.items }
+    ensures many { length words.new.items ≡ length words.old.items }
+{
+    if let Some(New { record, word }) = made {
+        records[at] = record;
+        words[at] = word;
+    }
+}
+
+impl<C: CellRunner> Schedule<C> {
+    /// Sweeps over the cells around one that moves.
+    fn swept_moved(
+        &self,
+        meter: &mut Meter,
+        from: usize,
+        to: usize,
+        session: C::Session,
+    ) -> Result<Moved<C>, AllocError>
+        requires from { from < length self.now.cells }
+        requires to { to < length self.now.cells }
+        requires other { ¬ (from ≡ to) }
+        requires session { StandsBefore (book_of self.now) (min from to) (C.session_of session) }
+        ensures moved { IfOk result (λ m. AreMoved (book_of self.now)
+            (book_of (edited_sheet (Move from to) self.now)) from to
+            (map (λ c. change_at c.place (C.recorded c.record.value)) m.between.items)
+            (map (λ c. change_at c.place (C.recorded c.record.value)) m.behind.items)) }
+        ensures made { IfOk result (λ m. MatchOption m.made
+            (record_at (book_of self.now).world (entry_at (book_of self.now) from)
+            ≡ record_at (book_of self.now).world
+            (entry_at (book_of (edited_sheet (Move from to) self.now)) to))
+            (λ n. C.recorded n.record.value ≡ record_at (book_of self.now).world
+            (entry_at (book_of (edited_sheet (Move from to) self.now)) to))) }
+        ensures stale { IfOk result (λ m. MatchOption m.made
+            (¬ IsStale (book_of self.now) (book_of (edited_sheet (Move from to) self.now))
+            (entry_at (book_of (edited_sheet (Move from to) self.now)) to))
+            (λ _. IsStale (book_of self.now) (book_of (edited_sheet (Move from to) self.now))
+            (entry_at (book_of (edited_sheet (Move from to) self.now)) to))) }
+        ensures worded { IfOk result (λ m. IfSome m.made
+            (λ n. IsWordOf C.covers n.word (C.recorded n.record.value))) }
+        ensures fit_between { IfOk result (λ m. AreFit C.covers (length self.now.cells)
+            (map (λ c. fit_at c.place (C.recorded c.record.value) c.word) m.between.items)) }
+        ensures fit_behind { IfOk result (λ m. AreFit C.covers (length self.now.cells)
+            (map (λ c. fit_at c.place (C.recorded c.record.value) c.word) m.behind.items)) }
+        ensures noted { IfOk result (λ m. All (λ n. IsNoted C.change_of C.kept_session
+            (book_of self.now) (book_of (edited_sheet (Move from to) self.now))
+            n.place n.now n.memo) m.noted.items) }
+        ensures counts { CountsStale (book_of self.now)
+            (book_of (edited_sheet (Move from to) self.now)) meter.old meter.new }
+    {
+        let mut state = self.begin(from.min(to), session);
+        if from < to {
+            return move_down::<C>(
+                self.alloc,
+                meter,
+                &self.cells,
+                &self.records,
+                &self.words,
+                &self.world,
+                from,
+                to,
+                &self.snapshots,
+                &mut state,
+            );
+        }
+        move_up::<C>(
+            self.alloc,
+            meter,
+            &self.cells,
+            &self.records,
+            &self.words,
+            &self.world,
+            from,
+            to,
+            &self.snapshots,
+            &mut state,
+        )
+    }
+
+    /// Moves the cell at the first place, so that it stands at the second afterwards, and returns the places of the cells that ran. It is
+    /// refused for want of memory alone.
+    pub fn move_cell(
+        &mut self,
+        meter: &mut Meter,
+        from: usize,
+        to: usize,
+    ) -> Result<Vec<usize>, AllocError>
+        requires from { from < length self.old.cells }
+        requires to { to < length self.old.cells }
+        ensures ok { OnOk result (self.new ≡ edited_sheet (Move from to) self.old) }
+        ensures err { OnErr result (self.new ≡ self.old) }
+        ensures counts { CountsStale (book_of self.old)
+            (book_of (edited_sheet (Move from to) self.old)) meter.old meter.new }
+        ensures ran { IfOk result (λ v. AreStale (book_of self.old)
+            (book_of (edited_sheet (Move from to) self.old)) v.items) }
+    {
+        let mut ran = Vec::new(self.alloc);
+        if from == to {
+            return Ok(ran);
+        }
+        let first = from.min(to);
+        let Front { session, fresh } = self.front_before(first)?;
+        let moved = self.swept_moved(meter, from, to, session)?;
+        match moved.note_ran(&mut ran, from, to) {
+            Ok(()) => {}
+            Err(refused) => {
+                drop(moved);
+                drop(fresh);
+                return Err(refused);
+            }
+        }
+        install::<C>(&mut self.records, &mut self.words, moved.between);
+        install::<C>(&mut self.records, &mut self.words, moved.behind);
+        put_made::<C>(&mut self.records, &mut self.words, from, moved.made);
+        move_item(&mut self.cells, from, to);
+        move_item(&mut self.records, from, to);
+        move_item(&mut self.words, from, to);
+        carry::<C>(self.alloc, &mut self.snapshots, fresh, moved.noted, first);
+        Ok(ran)
+    }
+}

@@ -8,8 +8,9 @@ After each edit the program is asked for all: the sources, texts, refusals and s
 each, and the values of seven names. The same questions go to a run of the program that is given the rule, the inputs
 and the cells as they are by then, from nothing, and the answers must be the same. Where the program has the word `try`,
 cells are tried before these questions: each must give what it gives where that run has it inserted, and the questions
-show that nothing has changed. Where the program has the command `runs`, no edit may run more cells than
-it makes stale, as `stale_cells` counts them, and a refused edit runs none.
+show that nothing has changed. Where it has `begin`, one edit of five is several edits that are made as one. Where it has
+`ran`, it must tell the cells that an edit makes stale, as `stale_cells` finds them, and behind a refused edit what it told
+before. Where it has `reads`, each cell must have read what `stale_cells` finds, of the cells that it finds.
 
 The program is that of NDNOTE_PROGRAM, else the one built in crates/ndnote_desk. Exit status 1: a trial failed; its
 script is printed, made short.
@@ -25,7 +26,7 @@ from dataclasses import dataclass
 from typing import Dict, List, Optional, Tuple
 
 sys.dont_write_bytecode = True
-from stale_cells import Pass  # noqa: E402
+from stale_cells import Pass, Told  # noqa: E402
 
 ROOT = os.path.dirname(os.path.dirname(os.path.abspath(__file__)))
 PROGRAM = os.environ.get("NDNOTE_PROGRAM", os.path.join(ROOT, "crates/ndnote_desk/out/ndnote_desk"))
@@ -35,7 +36,9 @@ LONG_CELLS = (40, 100)
 LONG_EDITS = 20
 MANY_NAMES = 150
 MARK = "bad command"
-PARTS = 4               # of the answers behind an edit: its own, runs, tries, all questions
+PARTS = 4               # of the answers behind an edit: its own, runs and reads, tries, all questions
+TOGETHER = 5            # one edit of so many is several that are made as one
+MOST_TOGETHER = 6
 TRIES = 3               # of drawn cells behind an edit
 
 ARRAYS = ["x = np.arange(4)", "y = np.arange(3)", "z = np.arange(6)", "x = np.arange(2)"]
@@ -50,8 +53,9 @@ NUMBERS = ["a = 1", "a = -2", "a = True", "b = a", "a = b", "b = 0", "b = x[1]",
            "y[b] = a", "x[0] = b", "print(a, b)", "print(x[a])", "print(b)"]
 UNBOUND = ["del x", "del y", "del z", "del a", "del b", "x = y", "z = x", "a = x", "b = a", "x = 3"]
 REFUSED = ["x[9] = 1", "y[-7] = 1", "print(x[6])", "print(q)", "w = q", "del q", "a[0] = 1", "x[0, 0] = 1",
-           "x[0] = z", "x[y] = 1", "x[0] = 9223372036854775808", "a = 18446744073709551616", "y = x.T",
+           "x[0] = z", "x[0] = 9223372036854775808", "a = 18446744073709551616", "y = x.T",
            "x = np.zeros(3)"]
+CHOSEN = ["x[y] = 1", "x[y] += 1", "print(x[y])"]
 UNREAD = ["x = 1 +", "y = 1 < 2 < 3", "x = $", "print(x", "frob(x)"]
 SILENT = ["", "# a remark", "import numpy as np"]
 LOADED = ["x = np.load('f')", "y = np.load('g')", "z = np.load('none')", "x = buffer('b')", "y = buffer('f')"]
@@ -69,6 +73,7 @@ POOLS: Dict[str, List[List[str]]] = {
     "in place": [ARRAYS, SHARED, VIEWS, AUGMENTED, AUGMENTED, PRINTS],
     "elements": [LONG, ELEMENTS, ELEMENTS, ELEMENTS, FEW, FEW],
     "saves": [ARRAYS, VIEWS, WRITES, SAVED, SAVED],
+    "choosing": [ARRAYS, SHARED, CHOSEN, WRITES, PRINTS],
     "all": [ARRAYS, SHARED, WRITES, PRINTS, NUMBERS, UNBOUND, REFUSED, UNREAD, SILENT, LOADED, VIEWS, AUGMENTED, SAVED],
 }
 OPENING = "x = np.arange(4)\ny = np.arange(3)\nz = x\na = 1\nb = True"
@@ -112,8 +117,11 @@ class Edit:
     text: str = ""
     name: str = ""
     input: Optional[Input] = None
+    parts: Tuple["Edit", ...] = ()
 
     def lines(self) -> List[str]:
+        if self.word == "together":
+            return ["begin", *(line for part in self.parts for line in part.lines()), "end"]
         if self.word in ("insert", "edit"):
             return [f"{self.word} {self.at}", *(self.text.split("\n") if self.text else []), "."]
         if self.word == "move":
@@ -154,8 +162,25 @@ class Book:
                 return f"refused NoCell {at} {count}"
         return None
 
+    def copy(self) -> "Book":
+        copy = Book()
+        copy.cells, copy.inputs, copy.rule = list(self.cells), dict(self.inputs), self.rule
+        return copy
+
+    def make_together(self, parts: Tuple[Edit, ...]) -> str:
+        """Makes edits as one, all of them or none, and gives the one answer."""
+        draft = self.copy()
+        for number, part in enumerate(parts):
+            answer = draft.make(part)
+            if answer != "ok":
+                return answer.replace("refused", f"refused {number}", 1)
+        self.cells, self.inputs, self.rule = draft.cells, draft.inputs, draft.rule
+        return "ok"
+
     def make(self, edit: Edit) -> str:
         """Makes an edit, and gives its answer."""
+        if edit.word == "together":
+            return self.make_together(edit.parts)
         refusal = self.refusal(edit)
         if refusal:
             return refusal
@@ -261,6 +286,14 @@ class Drawer:
         name = draw.choice(["f", "g", "b"])
         return Edit("input", name=name, input=draw.choice(INPUTS)) if choice == "input" else Edit("drop", name=name)
 
+    def several(self, book: Book) -> Edit:
+        """Several edits that are made as one, of which each is one of the cells and inputs that those before it leave."""
+        draft, parts = book.copy(), []
+        for _ in range(self.random.randrange(MOST_TOGETHER)):
+            parts.append(self.edit(draft))
+            draft.make(parts[-1])
+        return Edit("together", parts=tuple(parts))
+
 
 def answers(lines: List[str]) -> List[str]:
     """What the program answers to a script, in the parts between its marks. A byte of a file is a character."""
@@ -273,14 +306,16 @@ def answers(lines: List[str]) -> List[str]:
 
 @dataclass(frozen=True)
 class Has:
-    """What the program has beside the commands of every script: `runs` and `try`."""
-    runs: bool
+    """Which words the program has beside the commands of every script."""
     tries: bool
+    ran: bool
+    reads: bool
+    together: bool
 
 
 def words_of_program() -> Has:
     words = answers(["words"])[0].split()
-    return Has(answers(["runs"])[0].startswith("runs "), "try" in words)
+    return Has(*(word in words for word in ("try", "ran", "reads", "begin")))
 
 
 def tried_lines(edit: Edit) -> List[str]:
@@ -335,7 +370,6 @@ class Step:
     cells: List[Cell]
     inputs: Dict[str, Input]
     rule: str
-    tried: int = 0              # how many of the tries run a cell
 
 
 def tries_of(book: Book, number: int, edits: List[Edit]) -> List[Edit]:
@@ -358,7 +392,8 @@ def steps_of(edits: List[Edit], has: Has, every: bool) -> Tuple[List[str], List[
         if every and number >= len(edits) - EDITS or number == len(edits) - 1:
             tries = tries_of(book, number, edits) if has.tries else []
             tried = [line for it in tries for line in tried_lines(it)]
-            script += ["mark", *(["runs"] if has.runs else []), "mark", *tried, "mark", *book.questions(), "mark"]
+            told = [*(["ran"] if has.ran else []), *(f"reads {at}" for at in range(len(book.cells)) if has.reads)]
+            script += ["mark", *told, "mark", *tried, "mark", *book.questions(), "mark"]
             fresh = [*book.lines(), "mark", *book.questions()]
             for it in tries:
                 fresh += ["mark", *inserted_lines(it)]
@@ -380,20 +415,55 @@ def wrong_answers(told: List[str], steps: List[Step], every: bool) -> Optional[F
             return Fault(step.number, f"a try after edit {step.number} " + first_difference(tries, "".join(tried)))
         if found != fresh:
             return Fault(step.number, f"after edit {step.number} " + first_difference(found, fresh))
-        step.tried = sum(it.startswith("text ") for it in tried)
     return None
 
 
-def wrong_runs(told: List[str], steps: List[Step]) -> Optional[Fault]:
-    """The first edit that ran more cells than it made stale."""
-    runs, last = 0, Pass()
+def told_of(lines: List[str]) -> Told:
+    """What the lines behind `reads` tell; the numbers of blocks are left out."""
+    told = Told({}, set(), set())
+    for word, *words in (line.split(" ") for line in lines):
+        cells = [None if it == "-" else int(it) if it.isdigit() else it for it in words]
+        if word == "name":
+            told.names[words[0]] = cells[1]
+        elif word == "input":
+            told.inputs.add(words[0])
+        else:
+            told.arrays.add((cells[0], cells[2]))
+    return told
+
+
+def wrong_reads(lines: List[str], now: Pass) -> Optional[str]:
+    """What is wrong with the answers to `reads` of each cell."""
+    for at in range(len(now.runs)):
+        count = int(lines[0].split(" ")[1])
+        found, lines = lines[1:count + 1], lines[count + 1:]
+        if len(set(found)) != count or told_of(found) != now.told(at):
+            return f"cell {at} is told to have read {found}, and has read {now.told(at)}"
+    return None
+
+
+def wrong_runs(told: List[str], steps: List[Step], has: Has) -> Optional[Fault]:
+    """The first edit that ran other cells than those that it made stale, or behind which a cell is told to have read
+    what it has not. Of cells that `stale_cells` cannot run nothing is said."""
+    try:
+        return compared_runs(told, steps, has)
+    except NotImplementedError:
+        return None
+
+
+def compared_runs(told: List[str], steps: List[Step], has: Has) -> Optional[Fault]:
+    ran, last = "ran 0", Pass()
     for at, step in enumerate(steps):
-        now = int(told[PARTS * at + 1].split()[1])
-        following = last.then(step.cells, step.inputs, is_read, step.rule) if step.wanted == "ok" else last
-        most = following.stale if step.wanted == "ok" else 0
-        if now - runs > most and (at or not step.number):
-            return Fault(step.number, f"edit {step.number} ran {now - runs} cells, where {most} were stale")
-        runs, last = now + step.tried, following
+        first, *lines = told[PARTS * at + 1].split("\n")
+        if step.wanted == "ok":
+            last = last.then(step.cells, step.inputs, is_read, step.rule)
+            ran = " ".join(map(str, ["ran", len(last.stale), *last.stale]))
+        if first != ran and (at or not step.number):
+            return Fault(step.number, f"edit {step.number} is told to have run {first!r} in place of {ran!r}")
+        wrong = wrong_reads(lines, last) if has.reads and last.runs else None
+        if wrong:
+            return Fault(step.number, f"after edit {step.number} {wrong}")
+        ran = first
     return None
 
 
@@ -406,7 +476,7 @@ def fault_of(edits: List[Edit], has: Has, every: bool = True) -> Optional[Fault]
     if len(told) != PARTS * len(steps) + 1:
         return Fault(len(edits) - 1, f"{len(told)} parts of answers, not {PARTS * len(steps) + 1}: {told[-1][-200:]}")
     fault = wrong_answers(told, steps, every)
-    return fault or (wrong_runs(told, steps) if has.runs and every else None)
+    return fault or (wrong_runs(told, steps, has) if has.ran and every else None)
 
 
 def shortened(edits: List[Edit], fault: Fault, has: Has, until: float) -> List[Edit]:
@@ -422,20 +492,21 @@ def shortened(edits: List[Edit], fault: Fault, has: Has, until: float) -> List[E
     return edits
 
 
-def drawn_edits(seed: int) -> List[Edit]:
+def drawn_edits(seed: int, has: Has) -> List[Edit]:
     drawer, book, edits = Drawer(seed), Book(), []
     while first := drawer.opening(book):
         edits += first
         book.make(first[0])
     for _ in range(LONG_EDITS if drawer.is_long else EDITS):
-        edits.append(drawer.edit(book))
+        is_one = not has.together or drawer.random.randrange(TOGETHER)
+        edits.append(drawer.edit(book) if is_one else drawer.several(book))
         book.make(edits[-1])
     return edits
 
 
 def trial(seed: int, has: Has) -> bool:
     """Whether the notebook of a seed is answered as it should be; says what is wrong."""
-    edits = drawn_edits(seed)
+    edits = drawn_edits(seed, has)
     fault = fault_of(edits, has)
     if not fault:
         return True
@@ -453,7 +524,8 @@ def main() -> int:
     if not os.access(PROGRAM, os.X_OK):
         sys.exit(f"there is no program at {PROGRAM}")
     found = words_of_program()
-    told = [name for name, is_there in (("tries are drawn", found.tries), ("runs are counted", found.runs)) if is_there]
+    told = [name for name, is_there in (("tries are drawn", found.tries), ("several edits as one", found.together),
+                                        ("runs are compared", found.ran), ("reads are compared", found.reads)) if is_there]
     print(", ".join([f"seed {options.seed}", f"{options.seconds:g} seconds", *told]), flush=True)
     until, passed, failed, seed = time.monotonic() + options.seconds, 0, 0, options.seed
     while time.monotonic() < until and failed < 5:

@@ -1,14 +1,15 @@
-"""Counts the cells that an edit makes stale, for notebooks whose cells have the statements of `random_edits`.
+"""Finds the cells that an edit makes stale, and who reads whom, for notebooks of the statements of `random_edits`.
 
 A cell is stale where it is new, has another text, or where its last run read something that is another now: what a
-name is bound to, an element of an array that the cell did not make or write itself, or an input. A cell that was
-refused is stale where the rule is another. All cells are run here from nothing over arrays with one axis; a run keeps
-what it read. Texts are read as Python's own syntax tree; a call or an index of another form raises NotImplementedError.
+name is bound to, the length of the memory of an array that it came to by a name, an element that the cell did not make
+or write itself, or an input. A cell that was refused is stale where the rule is another. All cells are run here from
+nothing over arrays with one axis; a run keeps what it read. Texts are read as Python's own syntax tree; a call or an
+index of another form raises NotImplementedError.
 """
 import ast
 import operator
 from dataclasses import dataclass, field
-from typing import Any, Dict, List, Optional, Tuple, Union
+from typing import Any, Callable, Dict, List, Optional, Set, Tuple, Union
 
 INT64 = 1 << 63
 OPERATORS = {ast.Add: operator.add, ast.Sub: operator.sub, ast.Mult: operator.mul, ast.BitXor: operator.xor,
@@ -67,6 +68,7 @@ class Reads:
     """What a run read from before the cell."""
     names: Dict[str, Optional[Value]] = field(default_factory=dict)
     elements: Dict[Tuple[BaseKey, int], int] = field(default_factory=dict)
+    lengths: Dict[BaseKey, int] = field(default_factory=dict)
     inputs: Dict[str, Any] = field(default_factory=dict)
 
     def agree(self, session: Session, inputs: Dict[str, Any]) -> bool:
@@ -77,6 +79,8 @@ class Reads:
         for (base, place), number in self.elements.items():
             if place >= len(session.bases.get(base, [])) or session.bases[base][place] != number:
                 return False
+        if any(len(session.bases.get(base, [])) != count for base, count in self.lengths.items()):
+            return False
         return all(inputs.get(name) == value for name, value in self.inputs.items())
 
 
@@ -105,6 +109,8 @@ class Run:
             self.reads.names.setdefault(name, value)
         if value is None:
             raise Refused
+        if isinstance(value, Array) and value.base[0] != self.label:
+            self.reads.lengths.setdefault(value.base, len(self.session.bases[value.base]))
         return value
 
     def bind(self, name: str, value: Optional[Value]) -> None:
@@ -198,7 +204,9 @@ class Run:
 
     def position(self, node: ast.expr) -> int:
         value = self.value(node)
-        if isinstance(value, (bool, Array)) or not isinstance(value, (int, Scalar)):
+        if isinstance(value, Array):
+            raise NotImplementedError("an index that is an array")
+        if isinstance(value, bool) or not isinstance(value, (int, Scalar)):
             raise Refused
         return value.number if isinstance(value, Scalar) else value
 
@@ -240,7 +248,15 @@ class Run:
         if isinstance(value, Array):
             self.numbers(value)
 
+    def evaluate(self, target: ast.Subscript) -> None:
+        """Looks up the names of a target and of its index, before the index is looked at."""
+        self.value(target.value)
+        for part in ast.walk(target.slice):
+            if isinstance(part, ast.Name):
+                self.name(part.id)
+
     def assign(self, target: ast.Subscript, value: Value) -> None:
+        self.evaluate(target)
         self.use(value)
         chosen = self.choose(target)
         if isinstance(value, Array) and not isinstance(target.slice, ast.Slice):
@@ -257,6 +273,7 @@ class Run:
             else:
                 self.bind(node.target.id, self.computed(work, old, value))
             return
+        self.evaluate(node.target)
         try:
             chosen = self.choose(node.target)
         except Refused:
@@ -301,11 +318,23 @@ def fitted(number: int, kind: str) -> int:
 
 @dataclass
 class Ran:
-    """A run that is kept: the label and the text of its cell, what it read, and whether it was refused."""
+    """A run that is kept: the label and the text of its cell, what it read, whether it was refused, and what stands of it:
+    the names that it bound or unbound, and the elements of arrays of other cells that it wrote."""
     label: int
     text: str
     reads: Reads
     is_refused: bool
+    bound: Set[str] = field(default_factory=set)
+    written: Set[Tuple[BaseKey, int]] = field(default_factory=set)
+
+
+@dataclass
+class Told:
+    """What a cell read: names and arrays, each with the cell that it is of, and inputs. An array is told by the cell that
+    made it and the last one that made it or wrote an element that was read."""
+    names: Dict[str, Optional[int]]
+    inputs: Set[str]
+    arrays: Set[Tuple[int, int]]
 
 
 @dataclass
@@ -313,22 +342,38 @@ class Pass:
     """The runs of all cells of a notebook under a rule."""
     rule: str = "python"
     runs: List[Ran] = field(default_factory=list)
-    stale: int = 0
+    stale: List[int] = field(default_factory=list)
 
     def stands(self, ran: Ran, cell: Any, rule: str) -> bool:
         """Whether a run of this pass is one of the cell's present text, and no other rule may change what it left."""
         return (ran.label, ran.text) == (cell.label, cell.text) and (rule == self.rule or not ran.is_refused)
 
     def then(self, cells: List[Any], inputs: Dict[str, Any], is_read: Any, rule: str = "python") -> "Pass":
-        """Runs all cells anew under a rule, and counts those for which no run of this pass stands."""
+        """Runs all cells anew under a rule, and finds the places of those for which no run of this pass stands."""
         session, following = Session(), Pass(rule)
-        for cell in cells:
-            following.stale += not any(self.stands(ran, cell, rule) and ran.reads.agree(session, inputs)
-                                       for ran in self.runs)
+        for place, cell in enumerate(cells):
+            if not any(self.stands(ran, cell, rule) and ran.reads.agree(session, inputs) for ran in self.runs):
+                following.stale.append(place)
             before = session.copy()
             run = Run(session, cell.label, inputs)
             run.run(cell.text, is_read(cell.text))
+            following.runs.append(Ran(cell.label, cell.text, run.reads, run.is_refused))
             if rule == "atomic" and run.is_refused:
                 session = before
-            following.runs.append(Ran(cell.label, cell.text, run.reads, run.is_refused))
+            else:
+                following.runs[-1].bound, following.runs[-1].written = run.bound, run.own
         return following
+
+    def last(self, at: int, is_it: Callable[[Ran], bool]) -> Optional[int]:
+        """The last cell in front of a place whose run is the one that is meant."""
+        return next((place for place in reversed(range(at)) if is_it(self.runs[place])), None)
+
+    def told(self, at: int) -> Told:
+        """What the cell at a place read, and of which cells."""
+        reads, arrays = self.runs[at].reads, set()
+        for base in {*reads.lengths, *(base for base, _ in reads.elements)}:
+            used = {element for element in reads.elements if element[0] == base}
+            maker = self.last(at, lambda ran: ran.label == base[0])
+            arrays.add((maker, self.last(at, lambda ran: ran.label == base[0] or bool(ran.written & used))))
+        names = {name: self.last(at, lambda ran: name in ran.bound) for name in reads.names}
+        return Told(names, set(reads.inputs), arrays)

@@ -1,22 +1,31 @@
-"""Tests of `stale_cells`: notebooks whose stale cells follow from the definition of what a cell reads."""
+"""Tests of `stale_cells`: notebooks whose stale cells and reads follow from the definition of what a cell reads."""
 import sys
 import unittest
 from typing import List
 
 sys.dont_write_bytecode = True
 from random_edits import Book, Edit, is_read  # noqa: E402
-from stale_cells import Pass  # noqa: E402
+from stale_cells import Pass, Told  # noqa: E402
 
 
-def stale_after(texts: List[str], edit: Edit, rule: str = "python") -> int:
-    """How many cells an edit makes stale in a notebook of these texts under a rule."""
+def book_of(texts: List[str], rule: str = "python") -> Book:
     book = Book()
     book.make(Edit("rule", name=rule))
     for at, text in enumerate(texts):
         book.make(Edit("insert", at, text=text))
-    before = Pass().then(book.cells, book.inputs, is_read, book.rule)
+    return book
+
+
+def pass_of(book: Book) -> Pass:
+    return Pass().then(book.cells, book.inputs, is_read, book.rule)
+
+
+def stale_after(texts: List[str], edit: Edit, rule: str = "python") -> int:
+    """How many cells an edit makes stale in a notebook of these texts under a rule."""
+    book = book_of(texts, rule)
+    before = pass_of(book)
     book.make(edit)
-    return before.then(book.cells, book.inputs, is_read, book.rule).stale
+    return len(before.then(book.cells, book.inputs, is_read, book.rule).stale)
 
 
 class StaleCells(unittest.TestCase):
@@ -68,6 +77,31 @@ class StaleCells(unittest.TestCase):
         texts = ["x = np.arange(3)", "x[0] = x[2]\nprint(q)", "print(x[:2])"]
         edit = Edit("edit", 0, text="x = np.arange(3)\nx[2] = 9")
         self.assertEqual([stale_after(texts, edit, rule) for rule in ("python", "atomic")], [3, 2])
+
+
+class WhoReadsWhom(unittest.TestCase):
+    def told(self, texts: List[str], rule: str = "python") -> Told:
+        """What the last cell of these texts read."""
+        return pass_of(book_of(texts, rule)).told(len(texts) - 1)
+
+    def test_through_a_view_the_last_that_wrote_what_was_read(self) -> None:
+        texts = ["x = np.arange(6)", "y = x[2:4]", "x[2] = 5", "x[0] = 7", "print(y[0])"]
+        self.assertEqual(self.told(texts), Told({"y": 1}, set(), {(0, 2)}))
+
+    def test_a_name_that_is_gone_or_never_was(self) -> None:
+        self.assertEqual(self.told(["x = 1", "del x", "a = x"]), Told({"x": 1}, set(), set()))
+        self.assertEqual(self.told(["y = 1", "a = x"]), Told({"x": None}, set(), set()))
+
+    def test_what_a_cell_made_or_bound_itself_is_not_read(self) -> None:
+        self.assertEqual(self.told(["x = np.arange(3)", "x = np.arange(2)\nprint(x)"]), Told({}, set(), set()))
+
+    def test_inputs(self) -> None:
+        self.assertEqual(self.told(["x = np.load('none')"]), Told({}, {"none"}, set()))
+
+    def test_a_refused_cell_that_left_nothing_is_no_writer(self) -> None:
+        texts = ["x = np.arange(3)", "x[0] = 5\nprint(q)", "print(x[0])"]
+        self.assertEqual(self.told(texts).arrays, {(0, 1)})
+        self.assertEqual(self.told(texts, "atomic").arrays, {(0, 0)})
 
 
 if __name__ == "__main__":

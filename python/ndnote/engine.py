@@ -12,6 +12,7 @@ from typing import Any, Callable, Iterable, NamedTuple, Optional, Sequence, Unio
 
 from .files import PathLike, replace_file
 from .process import Process
+from .reads import Reads, count_of
 from .values import Known, Layout, Type, Value
 
 Part = Union[int, slice]
@@ -299,6 +300,18 @@ class Notebook(Process):
         if 'ran' not in self.words:
             return None
         return [int(word) for word in self._ask(b'ran\n').split(' ')[2:]]
+
+    def reads(self, at: int) -> Optional[Reads]:
+        """What a cell read, and the cells in front of it from which it has that; None where the program does not tell.
+        A ValueError tells an answer that is none."""
+        if 'reads' not in self.words:
+            return None
+        first = self._ask(b'reads %d\n' % at)
+        lines = [self._line() for _ in range(count_of(first))]     # all of them, so that the next answer is the next
+        reads = Reads.of_lines(lines)
+        if any(place >= at for place in reads.places()):
+            raise ValueError(f'cell {at} read from one that does not stand in front: {lines}')
+        return reads
 
     def type(self, at: int, name: str) -> Known:
         """What a name is bound to, without elements. A program without the word tells it with all of them."""

@@ -218,11 +218,12 @@ function arrange(order) {
 }
 
 let toldBefore = '';
-function show({ rev, order, cells, state: told, done: now, running }) {
+function show({ rev, order, cells, links, state: told, done: now, running }) {
   done = now;
   for (const [id, cell] of Object.entries(cells)) update(Number(id), cell);
   flash();
   arrange(order);
+  tellLinks(links);
   markRunning(running);
   if (wantsFocus) {
     const fresh = Object.keys(cells).map(id => at(id)).find(section => section && areaOf(section).value === '');

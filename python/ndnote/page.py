@@ -193,7 +193,7 @@ def policy(style: str, script: str, connect: str) -> str:
 
 def page(session: Session, is_live: bool = False) -> tuple[str, str]:
     """The whole page, and the policy that lets nothing run in it but its own script."""
-    style, script = asset('page.css'), asset('page.js') + (asset('live.js') if is_live else '')
+    style, script = asset('page.css'), asset('page.js') + (asset('live.js') + asset('links.js') if is_live else '')
     rule = policy(style, script, "'self'" if is_live else "'none'")
     name = session.path.name
     cells = ''.join(cell(shown, name, is_live) for shown in session.shown)

@@ -91,7 +91,7 @@ class Desk:
             return
         old = next((shown for shown in session.codes() if shown.is_old and shown.id in self.visible), None)
         if old:
-            session.look(old)
+            session.look(old, has_links=True)
         elif not self.wake.wait(PAUSE) and session.notebook.is_over():
             raise session.notebook.death()
 
@@ -199,11 +199,13 @@ class Desk:
         except queue.Empty:
             return None
 
-    def since(self, rev: int) -> dict[str, Any]:
-        """What is another since a revision, for a browser."""
-        session = self.session
+    def since(self, rev: int, is_first: bool = False) -> dict[str, Any]:
+        """What is another since a revision, for a browser. The first news have all links: a page has none yet."""
+        session, linked = self.session, -1 if is_first else rev
         return {'rev': session.rev, 'order': [shown.id for shown in session.shown],
                 'cells': {shown.id: self.told(shown, rev) for shown in session.shown if shown.rev > rev},
+                'links': {shown.id: shown.links and shown.links.told() for shown in session.shown
+                          if shown.links_rev > linked},
                 'state': self.state, 'done': [len(session.order), len(session.codes())], 'running': session.running()}
 
     def told(self, shown: Shown, rev: int) -> dict[str, Any]:
@@ -291,7 +293,7 @@ class Handler(BaseHTTPRequestHandler):
                 with session.news:
                     is_news = is_first or session.news.wait_for(lambda: session.rev != rev, 15)
                     began = time.thread_time()
-                    news = desk.since(rev if rev <= session.rev else -1) if is_news else None
+                    news = desk.since(rev if rev <= session.rev else -1, is_first) if is_news else None
                     rev, is_first = session.rev, False
                 data = json.dumps(news).encode()
                 self.wfile.write(b'id: %d\ndata: %s\n\n' % (rev, data) if news else b': still here\n\n')

@@ -17,6 +17,7 @@ from .explain import Operand, alike, operands
 from .faults import words
 from .inputs import Look, handed_over, look_at
 from .process import Died
+from .reads import Links
 from .sender import Doing, Sender
 
 HELD = '# not run'      # stands in the program for a cell that ended it, until it is edited
@@ -48,6 +49,8 @@ class Shown:
         self.rev = 0                # when anything of it was another last
         self.out_rev = 0            # when its texts, files or pictures were
         self.flash_rev = 0          # when it ran last, or where that is not told, when its output was another
+        self.links: Optional[Links] = None      # what it reads from, where that is known
+        self.links_rev = 0          # when that was another
 
 
 class Session(Sender):
@@ -79,6 +82,13 @@ class Session(Sender):
                 shown.flash_rev = self.rev if is_flash else shown.flash_rev
             self.news.notify_all()
 
+    def set_links(self, shown: Shown, links: Optional[Links]) -> None:
+        """Tells what a cell reads from; None where that is not known, or not any more."""
+        if shown.links != links:
+            with self.news:
+                self.touch()
+                shown.links, shown.links_rev = links, self.rev
+
     # The book.
 
     def set_cells(self, cells: list[book.Cell]) -> None:
@@ -104,6 +114,7 @@ class Session(Sender):
             return
         if cell.is_text:
             shown.result, shown.seen, shown.note = None, Seen(), ''
+            self.set_links(shown, None)
         shown.cell, shown.line = cell, line
         self.blame.pop((shown.id, None), None)
         self.touch(shown, is_out=cell.is_text)
@@ -315,14 +326,16 @@ class Session(Sender):
         """Sends what is another, and asks what the cells show that may show something else."""
         self.tells_runs = 'ran' in self.notebook.words
         is_other = self.sync_inputs()
-        first = min(self.sync_cells(), 0 if is_other else len(self.order))
+        first = self.sync_cells()
+        places: Sequence[int] = [at for at, number in enumerate(self.order) if number in self.unasked]
+        if is_other:
+            first = min([first, *places[:1]] if self.tells_runs else [0])
         by_id = {shown.id: shown for shown in list(self.shown)}
         shown_now = [by_id.get(number) for number in self.order]
         for shown in filter(None, shown_now[first:]):
             shown.is_old = True                 # a value may be another behind a cell that did not run
-        places = range(first, len(self.order))
-        if self.tells_runs:
-            places = [at for at, number in enumerate(self.order) if number in self.unasked]
+            self.set_links(shown, None)
+        places = places if self.tells_runs else range(first, len(self.order))
         for at, result in zip(places, self.notebook.show_all(places)):
             if shown := shown_now[at]:
                 self.tell_result(shown, result)
@@ -401,21 +414,32 @@ class Session(Sender):
 
     # What is shown beside texts.
 
-    def look(self, shown: Shown) -> None:
-        """Finds what is seen of one cell beside its texts, between edits."""
+    def look(self, shown: Shown, has_links: bool = False) -> None:
+        """Finds what is seen of one cell beside its texts, between edits, and if that is wanted, what it reads from."""
         shown.is_old = False
-        self.current, seen = Doing(shown.id, None), Seen()
+        self.current, seen, links = Doing(shown.id, None), Seen(), None
         if self.sent.get(shown.id, HELD) != HELD and self.blame[shown.id, None] < 2:
+            at = self.order.index(shown.id)
             try:
-                seen = self.find(shown, self.order.index(shown.id), self.sent[shown.id])
+                links = self.find_links(at) if has_links else None
+                seen = self.find(shown, at, self.sent[shown.id])
             except Refused:                     # for want of memory, or of room for a cell more
                 pass
             if self.notebook.count != len(self.order):
                 raise Died('could not forget a cell')
         self.current = None
+        self.set_links(shown, links)
         if seen != shown.seen:
             shown.seen = seen
             self.touch(shown)
+
+    def find_links(self, at: int) -> Optional[Links]:
+        """What a cell reads from, where the program tells it and has the memory for it."""
+        try:
+            reads = self.notebook.reads(at)
+        except Refused:
+            return None
+        return None if reads is None else Links.of_reads(reads, self.order)
 
     def find(self, shown: Shown, at: int, source: str) -> Seen:
         figures = pictures.figures(self.notebook, at, book.bound(source))

@@ -3,7 +3,7 @@
 one, in the simplest way; all other lines it hands on. $NDNOTE_REAL names the real program.
 
 What ran in an edit it finds by fresh runs of the cells before and after: new cells and texts, cells that load a name or
-an input that is another, and cells that show something else.
+an input that is another, and cells that show something else. What a cell read it finds in the texts: fake_reads.py.
 """
 from __future__ import annotations
 
@@ -19,12 +19,15 @@ import time
 from dataclasses import dataclass, field
 from typing import BinaryIO, NamedTuple, NoReturn, Optional
 
-WORDS = {'begin', 'end', 'part', 'ran', 'raw'}
+from fake_reads import CellText, reads_of
+
+WORDS = {'begin', 'end', 'part', 'ran', 'raw', 'reads'}
 WITH_TEXT = re.compile(rb'(insert|edit|try) (0|[1-9][0-9]{0,18})\n')
 OTHER_EDIT = re.compile(rb'(?:move (\d+) (\d+)|remove (\d+)|(input) (\S+) .*|(drop) (\S+)|(rule) \w+)\n')
 NUMBER = rb'(?:0|-?[1-9]\d*)'
 AXIS = rb'(?:%b|%b?:%b?(?::%b?)?)' % ((NUMBER,) * 4)
 PART = re.compile(rb'part (\d+) (\S+) (%b(?:,%b)*)\n' % (AXIS, AXIS))
+READS = re.compile(rb'reads (0|[1-9]\d{0,18})\n')
 FILE = re.compile(rb'input (\S+) file (.+)\n')
 RAW = re.compile(rb'input (\S+) raw (\S+) (\S+ \S+ \S+ \S+ \S+)\n')
 LOADS = re.compile(rb'''(?:np\.load|buffer)\(['"]([^'"]*)''')
@@ -156,6 +159,8 @@ class Fake:
             return b'words %b\n' % ' '.join(sorted(self.has | WORDS)).encode()
         if line == b'ran\n':
             return self.ran()
+        if READS.fullmatch(line) and 'reads' not in self.has:
+            return self.reads(int(line.split()[1]))
         if PART.fullmatch(line) and 'part' not in self.has:
             return self.part(*PART.fullmatch(line).groups())
         return self.real.ask(line)
@@ -224,6 +229,17 @@ class Fake:
         self.found = self.now.copy(), new
         places = stale_places(self.before, self.now, old, new)
         return b'ran %b\n' % b' '.join(b'%d' % number for number in (len(places), *places))
+
+    def reads(self, at: int) -> bytes:
+        """What a cell read, by the texts of the cells down to it, and the lines on which these were refused."""
+        count = len(self.now.cells)
+        if at >= count:
+            return b'refused NoCell %d %d\n' % (at, count)
+        cells = []
+        for place, cell in enumerate(self.now.cells[:at + 1]):
+            refused = re.search(rb'^refused (\d+) ', self.real.ask(b'show %d\n' % place), re.M)
+            cells.append(CellText(cell.text.decode('utf-8').removesuffix('.\n'), int(refused[1]) if refused else 0))
+        return reads_of(cells).encode()
 
     def part(self, at: bytes, name: bytes, index: bytes) -> bytes:
         """What a cell behind AT gives by the index; it is put there, and taken out again."""

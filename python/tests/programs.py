@@ -9,7 +9,7 @@ from unittest import mock
 from ndnote import Notebook, process
 
 FAKE = Path(__file__).resolve().parent / 'fake_desk.py'
-NEW_WORDS = {'begin', 'part', 'ran', 'raw'}
+NEW_WORDS = {'begin', 'part', 'ran', 'raw', 'reads'}
 
 
 def words_of(path: str) -> set[str]:

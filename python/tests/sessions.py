@@ -6,9 +6,10 @@ import sys
 import tempfile
 import unittest
 from pathlib import Path
+from typing import Optional
 
 from ndnote import Notebook, book
-from ndnote.session import Session, opened
+from ndnote.session import Session, Shown, opened
 
 SLOW = 's = np.arange(2000000)\n' + 's = s ** 3 % 1001\n' * 900
 SLOW_IN_PLACE = 's = np.arange(16777216)\n' + 's *= 3\n' * 900
@@ -32,6 +33,14 @@ def npy(source: str) -> bytes:
     with Notebook() as notebook:
         notebook.insert(0, f"np.save('f', {source})")
         return notebook.saved(0, 'f')
+
+
+def links_of(session: Session, shown: Shown) -> Optional[tuple[list, list[str]]]:
+    """What a cell reads from: places, names and whether through memory; inputs."""
+    if shown.links is None:
+        return None
+    cells = [(session.order.index(number), sorted(names), is_memory) for number, names, is_memory in shown.links.cells]
+    return cells, sorted(shown.links.inputs)
 
 
 def wrapper(path: Path, program: str) -> str:

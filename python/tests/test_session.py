@@ -10,7 +10,7 @@ from ndnote import Died, book, pictures
 from ndnote.process import program
 from ndnote.session import Doing, opened
 from programs import WithAllWords, WithoutWords
-from sessions import SLOW, SLOW_IN_PLACE, Opened, npy, wrapper
+from sessions import SLOW, SLOW_IN_PLACE, Opened, links_of, npy, wrapper
 
 POOL = ['x = np.arange(6)', 'x = np.arange(9) * 2', 'y = x[1:4]', 'y += 10', 'print(x)', 'print(y, x.sum())',
         "a = np.load('a.npy')\nprint(a)", 'x[0] = 7\nm = x > 3', 'del x', 'y = 1 +', 'x = x[::-1]', '',
@@ -19,7 +19,8 @@ MARKS = ['# %%\n', '# %% Title\n', '# %% [markdown]\n# ']
 
 
 def told(session):
-    return [(shown.cell, shown.line, shown.result, shown.seen, shown.note) for shown in session.shown]
+    return [(shown.cell, shown.line, shown.result, shown.seen, shown.note, links_of(session, shown))
+            for shown in session.shown]
 
 
 class Sessions(Opened):
@@ -183,7 +184,7 @@ class Sessions(Opened):
             for other in (session, fresh):
                 for shown in other.codes():
                     if shown.is_old:
-                        other.look(shown)
+                        other.look(shown, has_links=True)
             self.assertEqual(told(session), told(fresh), turn)
             fresh.close()
 

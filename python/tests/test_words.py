@@ -40,7 +40,8 @@ BAD_BUT_SOME = ['ran ', 'ran x', ' ran', 'begin ', 'begin x', 'end', 'end x', 'p
                 'part 0 x 1,', 'part 0 x ,1', 'part 0 x 1::2:', 'part 0 x 01', 'part 0 x -0', 'part 0 x +1',
                 'part 0 x 1 2', 'part 0 x a', 'part 0 x ...', 'part 0 x 1.', 'part a x 1', 'part 0  x 1', 'part 0 x 1\r',
                 'raw', 'input x raw', 'input x raw p', 'input x raw p B 1 3 1', 'input  raw p B 1 3 1 0',
-                'input b raw  B 1 3 1 0']
+                'input b raw  B 1 3 1 0', 'reads', 'reads ', 'reads x', 'reads 01', 'reads -1', 'reads 0 1', 'reads 0 ',
+                'reads  0', ' reads 0', 'reads 0\r']
 MORE = ("c = np.arange(24, dtype='>i2').reshape(2, 3, 4)\nm = c > 5\n"
         "t = np.zeros((2, 3), dtype=[('a', 'i1'), ('b', '>u4')])\nt['b'] = np.arange(6).reshape(2, 3)\ne = np.array(5)")
 FROM_1, EVERY_2ND, BACK, ALL = slice(1, None), slice(None, None, 2), slice(None, None, -1), slice(None)
@@ -403,7 +404,7 @@ class NewLines(WithAllWords, Told):
     def test_the_words(self):
         word, *words = self.told('words').split(' ')
         self.assertEqual((word, words), ('words', sorted(set(words))))
-        self.assertLessEqual({'begin', 'file', 'part', 'ran', 'raw', 'save', 'try', 'type'}, set(words))
+        self.assertLessEqual({'begin', 'end', 'file', 'part', 'ran', 'raw', 'reads', 'save', 'try', 'type'}, set(words))
 
     def test_malformed_lines(self):
         self.fill()

@@ -5,13 +5,32 @@ import re
 from typing import List
 
 OPENING = re.compile(rb'(?:insert|edit|try) (0|[1-9][0-9]*)\Z')
-LENGTH = re.compile(rb'(text|source|names) ([0-9]+)\Z')
+LENGTH = re.compile(rb'(text|source|names|reads) ([0-9]+)\Z')
 
 
 def opens_source(line: bytes) -> bool:
     """Whether the lines below are a cell, up to a line with one dot."""
     found = OPENING.match(line)
     return bool(found) and int(found.group(1)) < 1 << 64
+
+
+def source_end(lines: List[bytes], at: int) -> int:
+    """The number behind the lines of the command that begins at one, with those of its cell."""
+    if not opens_source(lines[at]):
+        return at + 1
+    while at < len(lines) and lines[at] != b'.':
+        at += 1
+    return at + 1
+
+
+def command_end(lines: List[bytes], at: int) -> int:
+    """The number behind the lines of the command that begins at one, with those of edits that are made as one."""
+    if lines[at] != b'begin':
+        return source_end(lines, at)
+    at += 1
+    while at < len(lines) and lines[at] != b'end':
+        at = source_end(lines, at)
+    return at + 1
 
 
 def commands_of(script: bytes) -> List[bytes]:
@@ -21,14 +40,10 @@ def commands_of(script: bytes) -> List[bytes]:
         lines.pop()
     found, at = [], 0
     while at < len(lines):
-        begin, line = at, lines[at]
-        at += 1
-        if not line or line.startswith(b'#'):
-            continue
-        if opens_source(line):
-            while at < len(lines) and lines[at] != b'.':
-                at += 1
+        if not lines[at] or lines[at].startswith(b'#'):
             at += 1
+            continue
+        begin, at = at, command_end(lines, at)
         found.append(b'\n'.join(lines[begin:at]) + b'\n')
     return found
 
@@ -48,7 +63,7 @@ def answer_end(output: bytes, at: int) -> int:
     if not found:
         return end
     word, count = found.group(1), int(found.group(2))
-    if word == b'names':
+    if word in (b'names', b'reads'):
         for _ in range(count):
             end = line_end(output, end)
         return end

@@ -6,9 +6,9 @@ from typing import Callable, FrozenSet, Sequence, Tuple
 
 WANT = b'refused OutOfMemory\n'
 NO_EDIT = (b'show ', b'source ', b'names ', b'value ', b'saved ', b'count', b'words', b'try ', b'type ', b'part ',
-           b'save ')
+           b'save ', b'ran', b'reads ')
 # What takes memory and is no edit.
-ASKING = (b'names ', b'value ', b'try ', b'type ', b'part ', b'save ')
+ASKING = (b'names ', b'value ', b'try ', b'type ', b'part ', b'save ', b'reads ')
 # Refusals that are found behind allocations: of a file, and of the index of a part.
 LATE = (b'refused Unread ', b'refused Unwritten ', b'refused Index.', b'refused Stmt.')
 Commands = Tuple[bytes, ...]

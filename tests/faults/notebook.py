@@ -12,13 +12,14 @@ from steered import NONE, Steered
 
 FOLDER = Path(__file__).resolve().parent / 'notebooks'
 BOUND = re.compile(rb'^([a-z]\w*) = ', re.MULTILINE)
+INSERTED = re.compile(rb'^insert ', re.MULTILINE)
 SAVED = re.compile(rb"np\.save\('([^']+)'")
 
 
 def questions_of(commands: Commands) -> bytes:
     """Everything that a script may ask about the cells that these commands can make."""
     script = b''.join(commands)
-    cells = sum(it.startswith(b'insert ') for it in commands)
+    cells = len(INSERTED.findall(script))
     names, saves = sorted(set(BOUND.findall(script))), sorted(set(SAVED.findall(script)))
     lines: List[bytes] = [b'count']
     for at in range(cells):

@@ -283,6 +283,13 @@ impl Record {
         Ok(())
     }
 
+    /// Returns what the run read, with what it found there.
+    pub fn reads(&self) -> &Reads
+        ensures { result.now ≡ self.now.reads }
+    {
+        &self.reads
+    }
+
     /// Returns what the run did to its session.
     pub fn changes(&self) -> &Changes
         ensures { result.now ≡ self.now.changes }

@@ -4,15 +4,17 @@ use Rattle.std.specs.Prelude.{IsUtf8, Option, Some, None, is_some, Ok, codes}
 use Rattle.std.specs.Str.{is_utf8}
 use Rattle.std.proofs.lemmas.Bool.{false_from_ne_true}
 use Rattle.std.proofs.lemmas.Str.{IsUtf8-from_is_utf8, is_utf8-from_IsUtf8}
-use Rattle.nd_model.specs.Book.Script.{Command, Edits, Asks, ShowsValue, Bad, Opening, Line, Whole, Opens, Stage, Between, Within, step, read_line, is_dot, closed, source_of, with_source, query_answer, with_text, value_answer, refused_line, succeeds}
+use Rattle.nd_model.specs.Book.Notebook.{Sheet, book_of}
+use Rattle.nd_model.specs.Book.Script.{Command, Edits, Query, Asks, ShowsValue, Bad, Opening, Line, Whole, Opens, Stage, Between, Within, step, read_line, is_dot, closed, source_of, with_source, query_answer, with_text, value_answer, refused_line, succeeds}
 use Rattle.nd_model.specs.Book.Book.{Book, value_at}
 use Rattle.nd_model.specs.Book.Renaming.{Shown}
-use Rattle.nd_script.specs.Lines.Counts.{Tally, CountsCommand, plain}
+use Rattle.nd_script.specs.Lines.Counts.{Tally, plain}
 use Rattle.nd_script.specs.Lines.Answers.{AnswerState, Pushes}
 use Rattle.nd_script.specs.Lines.Run.{Answered, Ended}
 use Rattle.nd_script.proofs.lines.Answers.{pushes_none}
 use Rattle.nd_script.proofs.lines.Progress.{one_answer}
-use Rattle.nd_commands.specs.Carry.{Carried, CarriedLine, CountsLine}
+use Rattle.nd_commands.specs.Carry.{Carried, CarriedLine}
+use Rattle.nd_commands.specs.Noted.{Noted, CarriedNoted, noted, noted_of}
 use Rattle.nd_commands.specs.Source.{stage_of}
 use Rattle.nd_commands.specs.declared.source.OpenText.{OpenText}
 use Rattle.nd_commands.specs.Value.{PushesValue}
@@ -28,26 +30,31 @@ closed_bytes o ls other =
 -- ---- the end of a source
 
 -- a line that completes one command
-answered_one : (s t : Stage) (c : Command) (line : List ℕ) (old new : Tally) (was now : AnswerState) → (step s line).0 ≡ c ∷ [] → t ≡ (step s line).1
-    → Carried c old.book was now new.book → CountsCommand c old.book old.count new.count → Answered plain s line t old was now new
-answered_one s t c line old new was now one stage given counts =
-    (given.0, (stage, rw one (one_answer plain c old new given.0 (given.1, counts))), given.2)
+answered_one : (s t : Stage) (c : Command) (line : List ℕ) (old new : Noted) (was now : AnswerState) → (step s line).0 ≡ c ∷ [] → t ≡ (step s line).1
+    → CarriedNoted c old was now new → Answered noted s line t old was now new
+answered_one s t c line old new was now one stage given =
+    (given.0, (stage, rw one (one_answer noted c old new given.0 given.1)), given.2)
 
-pub closed_done : (o : Opening) (before : List (List ℕ)) (line : List ℕ) (old new : Tally) (was now : AnswerState) → is_dot line ≡ true → Carried (closed o before) old.book was now new.book
-    → CountsCommand (closed o before) old.book old.count new.count → Answered plain (Within o before) line Between old was now new
-closed_done o before line old new was now dot given counts =
-    answered_one (Within o before) Between (closed o before) line old new was now (rw dot refl) (rw dot refl) given counts
+pub closed_done : (o : Opening) (before : List (List ℕ)) (line : List ℕ) (old new : Noted) (was now : AnswerState) → is_dot line ≡ true → CarriedNoted (closed o before) old was now new
+    → Answered noted (Within o before) line Between old was now new
+closed_done o before line old new was now dot given =
+    answered_one (Within o before) Between (closed o before) line old new was now (rw dot refl) (rw dot refl) given
 
 -- ---- a line outside a source
 
-pub done_whole : (l : Line) (line : List ℕ) (old new : Tally) (was now : AnswerState) → read_line line ≡ l → (opens : (o : Opening) → l ≡ Opens o → ⊥) → CarriedLine l old.book was now new.book
-    → CountsLine l old.book old.count new.count → Answered plain Between line Between old was now new
-done_whole (Whole c) line old new was now is opens given counts =
-    answered_one Between Between c line old new was now (rw is refl) (rw is refl) given counts
-done_whole (Opens o) line old new was now is opens given counts = absurd (opens o refl)
+pub done_whole : (l : Line) (line : List ℕ) (old new : Noted) (was now : AnswerState) → read_line line ≡ l → (opens : (o : Opening) → l ≡ Opens o → ⊥) → CarriedLine l old was now new
+    → Answered noted Between line Between old was now new
+done_whole (Whole c) line old new was now is opens given =
+    answered_one Between Between c line old new was now (rw is refl) (rw is refl) given
+done_whole (Opens o) line old new was now is opens given = absurd (opens o refl)
+
+-- a question counts nothing and notes nothing
+pub asked : (q : Query) (s : Sheet) (count : ℕ) (ran : List ℕ) (was now : AnswerState) → Carried (Asks q) (book_of s) was now (book_of s)
+    → CarriedNoted (Asks q) (noted_of s count ran) was now (noted_of s count ran)
+asked q s count ran was now given = (given.0, ((given.1, refl), refl), given.2)
 
 -- a line that completes no command is answered by nothing
-pub answered_none : (s t : Stage) (line : List ℕ) (old : Tally) (was : AnswerState) → (step s line).0 ≡ [] → t ≡ (step s line).1 → Answered plain s line t old was was old
+pub answered_none : (s t : Stage) (line : List ℕ) (old : Noted) (was : AnswerState) → (step s line).0 ≡ [] → t ≡ (step s line).1 → Answered noted s line t old was was old
 answered_none s t line old was none stage = ([], (stage, rw none (refl, refl)), pushes_none was)
 
 -- ---- the end of a script

@@ -1,6 +1,6 @@
--- Edits that are carried out.
-use Rattle.std.proofs.Common.{◌≡◌, ℕ, Option, Some, None, Result, Ok, Err, refl, sym, subst, ap, ◌∙◌, inl, inr}
-use Rattle.std.specs.Prelude.{is_none}
+-- Edits that are carried out, with what they count and note.
+use Rattle.std.proofs.Common.{◌≡◌, ℕ, List, Option, Some, None, Result, Ok, Err, get_or, refl, sym, subst, ap, ◌∙◌, inl, inr, arith}
+use Rattle.std.specs.Prelude.{IfOk, MatchResult, is_none}
 use Rattle.nd_model.specs.Book.Book.{Book, Edit, edited}
 use Rattle.nd_model.specs.Book.Book as model
 use Rattle.nd_model.specs.Book.Stale.{CountsStale}
@@ -11,9 +11,11 @@ use Rattle.nd_script.specs.Lines.Answers.{AnswerState, Pushes}
 use Rattle.nd_script.specs.Lines.Counts.{CountsCommand, CountsUnlessRefused}
 use Rattle.nd_notebook.specs.declared.edit.EditFault.{EditFault}
 use Rattle.nd_notebook.specs.declared.edit.EditFault.TheVariants as edits
-use Rattle.nd_notebook.specs.Edits.{name_in, outcome_of}
+use Rattle.nd_notebook.specs.Edits.{RanFor, edit_fault_of, name_in, outcome_of}
+use Rattle.nd_schedule.specs.Schedule.Ran.{AreStale}
 use Rattle.nd_commands.specs.Answer.{edit_answer_of}
 use Rattle.nd_commands.specs.Carry.{Carried}
+use Rattle.nd_commands.specs.Noted.{CarriedNoted, NotesRan, noted_of}
 
 answered : {X : Type 0} (e : Edit) (old new : Sheet) (r : Result X EditFault) → Answers e old (outcome_of e r) new
     → Answer (Edits e) (book_of old) (edit_answer_of (name_in e) r) (book_of new)
@@ -54,3 +56,30 @@ counts_edit e old new (Err edits.BadInputName) before after h given = counts_som
 counts_edit e old new (Err edits.InputTooLarge) before after h given = counts_some _ _ _ _ before after h.0 given
 counts_edit e old new (Err edits.NoInputNamed) before after h given = counts_some _ _ _ _ before after h.0 given
 counts_edit e old new (Err (edits.Memory m)) before after h given = counts_stale e old before after h.0 given
+
+-- ---- what they note
+
+-- a refusal is another answer
+refused_is_not_ok : (f : model.EditFault) → edit_answer (Some f) ≡ edit_answer None → ⊥
+refused_is_not_ok f same =
+    let first : 114 ≡ 111 = ap (λ text. get_or text 0 0) same in
+    absurd (omega (arith, first))
+
+-- where an edit is done, the places that it returns are noted, and else none
+notes_edit : {X : Type 0} (r : Result X EditFault) (places_in : X → List ℕ) (e : Edit) (old new : Sheet) (before after : ℕ) (held ran : List ℕ) → Answers e old (outcome_of e r) new
+    → IfOk r (λ x. RanFor e old (places_in x)) → MatchResult r (λ x. ran ≡ places_in x) (λ f. ran ≡ held)
+    → NotesRan (Edits e) (edit_answer_of (name_in e) r) (noted_of old before held) (noted_of new after ran)
+notes_edit (Ok x) places_in e old new before after held ran h given same =
+    let P : Sheet → List ℕ → Type 0 = λ s places. AreStale (book_of old) (book_of s) places in
+    (λ ok. subst (λ places. P new places) (sym same) (subst (λ s. P s (places_in x)) (sym h.1) given), λ refused. absurd (refused refl))
+notes_edit (Err f) places_in e old new before after held ran h given same = (λ ok. absurd (refused_is_not_ok (edit_fault_of (name_in e) f) ok), λ refused. same)
+
+pub noted_edit : {X : Type 0} (r : Result X EditFault) (places_in : X → List ℕ) (e : Edit) (old new : Sheet) (before after : ℕ) (held ran : List ℕ) (was now : AnswerState)
+    → Answers e old (outcome_of e r) new → CountsRuns e old (outcome_of e r) before after
+    → IfOk r (λ x. RanFor e old (places_in x)) → MatchResult r (λ x. ran ≡ places_in x) (λ f. ran ≡ held)
+    → Pushes was (edit_answer_of (name_in e) r) now → CarriedNoted (Edits e) (noted_of old before held) was now (noted_of new after ran)
+noted_edit r places_in e old new before after held ran was now h counts given same pushed = (
+  edit_answer_of (name_in e) r,
+  ((answered e old new r h, counts_edit e old new r before after h counts), notes_edit r places_in e old new before after held ran h given same),
+  pushed,
+)

@@ -1,15 +1,30 @@
--- What was counted was carried out and answered.
+-- What was noted was counted, and what was counted was carried out and answered.
 use Rattle.std.proofs.Common.{◌≡◌, ℕ, Bool, true, false, List, [], ◌∷◌, ◌++◌, Option, Result, ap, ◌∙◌, append_assoc}
 use Rattle.std.specs.Prelude.{OnOk, IfErr}
 use Rattle.std.proofs.lemmas.Result.{IfErr-weaker, on_ok_weaker}
-use Rattle.nd_model.specs.Book.Script.{Command, Between, Answers, AreFirst, CutAnswers, completed}
+use Rattle.nd_model.specs.Book.Script.{Command, Stage, Between, Answers, AreFirst, CutAnswers, completed}
 use Rattle.nd_model.specs.Book.ScriptRuns as model
 use Rattle.nd_model.specs.Book.ScriptRuns.{RanToEnd, RunsAt, StoppedAt}
 use Rattle.nd_script.specs.declared.lines.run_fault.RunFault.{RunFault}
 use Rattle.nd_script.specs.Lines.Counts.{Tally, plain, CountedToEnd, CountedStop}
 use Rattle.nd_script.specs.Lines.Language.{AnswersIn, CutAnswersIn, RunsAtIn}
-use Rattle.nd_script.specs.Lines.Run.{run_fault_of}
+use Rattle.nd_script.specs.Lines.Answers.{AnswerState}
+use Rattle.nd_script.specs.Lines.Run.{Answered, run_fault_of}
 use Rattle.nd_script.proofs.lines.Progress.{cut_nowhere}
+use Rattle.nd_commands.specs.Noted.{Noted, noted}
+
+-- ---- one line
+
+counted_answers : (cs : List Command) (old new : Noted) (text : List ℕ) → AnswersIn noted cs old text new → AnswersIn plain cs old.tally text new.tally
+counted_answers [] old new text given = (given.0, ap (λ n. n.tally) given.1)
+counted_answers (c ∷ cs) old new text given = (given.0, given.1, given.2.tally, given.3, given.4.0, counted_answers cs given.2 new given.1 given.5)
+
+-- the places of the cells that ran are left out
+pub counted_line : (s t : Stage) (line : List ℕ) (old new : Noted) (was now : AnswerState) → Answered noted s line t old was now new
+    → Answered plain s line t old.tally was now new.tally
+counted_line s t line old new was now given = (given.0, (given.1.0, counted_answers _ old new given.0 given.1.1), given.2)
+
+-- ---- whole runs
 
 plain_answers : (cs : List Command) (old new : Tally) (text : List ℕ) → AnswersIn plain cs old text new → Answers cs old.book text new.book
 plain_answers [] old new text given = (given.0, ap (λ t. t.book) given.1)

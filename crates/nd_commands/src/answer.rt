@@ -44,7 +44,8 @@ fn push_words<O: AnswerWrite>(out: &mut O, refusal: &str, name: &str)
     push_text(out, name);
 }
 
-fn push_edit_fault<O: AnswerWrite>(out: &mut O, name: &str, fault: EditFault)
+/// Appends the words of why an edit of an input or a cell is refused, such as `NoCell 7 2`.
+pub fn push_edit_fault<O: AnswerWrite>(out: &mut O, name: &str, fault: EditFault)
     ensures { Pushes (O.state out.old) (texts.edit_fault_text (edit_fault_of name.now fault))
         (O.state out.new) }
 {

@@ -22,6 +22,8 @@ pub struct NotebookAnswerer<'a> {
     pub source: &'a mut Option<OpenText>,
     /// Room for the next source.
     pub room: &'a mut Vec<u8>,
+    /// The places of the cells that ran in the last edit that was done.
+    pub ran: &'a mut Vec<usize>,
 }
 
 impl Answerer for NotebookAnswerer<'_> {
@@ -47,6 +49,7 @@ impl Answerer for NotebookAnswerer<'_> {
             out,
             self.meter,
             self.notebook,
+            self.ran,
         )?;
         Ok(())
     }

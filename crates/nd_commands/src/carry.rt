@@ -1,54 +1,75 @@
 //! `make_edit` and the others: commands, carried out and answered.
 
-ghost use Rattle.std.specs.Prelude.{◌≡◌, codes, length};
+ghost use Rattle.std.specs.Prelude.{◌≡◌, MatchResult, codes, length};
 ghost use Rattle.nd_model.specs.Book.Book.{SetInput};
 ghost use Rattle.nd_model.specs.Book.Script as script;
 ghost use Rattle.nd_model.specs.Book.Notebook.{book_of};
-ghost use Rattle.nd_script.specs.Lines.Counts.{CountsCommand};
 ghost use Rattle.nd_notebook.specs.Edits.{edit_of};
 ghost use Rattle.nd_notebook.specs.Sources.{source_of};
+ghost use Rattle.nd_script.specs.Lines.Answers.{Pushes};
+ghost use Rattle.nd_commands.specs.Answer.{edit_answer_of};
 ghost use Rattle.nd_commands.specs.Carry.{Carried};
+ghost use Rattle.nd_commands.specs.Noted.{CarriedNoted, noted_of};
 
 use crate::answer::{
     push_edit_answer, push_names_answer, push_query_refusal, push_result_answer, push_save_answer,
     push_source_answer,
 };
 use crate::value::push_value;
-use nd_notebook::{Edit, Input, Meter, Notebook};
+use nd_notebook::{Edit, EditFault, Input, Meter, Notebook};
 use nd_script::lines::AnswerWrite;
 use std::alloc::Global;
 
-/// Makes an edit, and answers it.
+// Answers an edit. Where it is done, `ran` becomes the places of the cells that it ran.
+fn answer_edit<O: AnswerWrite>(
+    out: &mut O,
+    ran: &mut Vec<usize>,
+    name: &str,
+    done: Result<Vec<usize>, EditFault>,
+)
+    ensures pushed { Pushes (O.state out.old) (edit_answer_of name.now done) (O.state out.new) }
+    ensures ran { MatchResult done (λ v. ran.new.items ≡ v.items)
+        (λ _. ran.new.items ≡ ran.old.items) }
+{
+    push_edit_answer(out, name, &done);
+    if let Ok(places) = done {
+        *ran = places;
+    }
+}
+
+/// Makes an edit, and answers it. Where it is done, `ran` becomes the places of the cells that it
+/// ran.
 pub fn make_edit<O: AnswerWrite>(
     out: &mut O,
     meter: &mut Meter,
     notebook: &mut Notebook,
+    ran: &mut Vec<usize>,
     edit: Edit<'_>,
 )
-    ensures carried { Carried (script.Edits (edit_of edit.entry)) (book_of notebook.old)
-        (O.state out.old) (O.state out.new) (book_of notebook.new) }
-    ensures counts { CountsCommand (script.Edits (edit_of edit.entry))
-        (book_of notebook.old) meter.old meter.new }
+    ensures { CarriedNoted (script.Edits (edit_of edit.entry))
+        (noted_of notebook.old meter.old ran.old.items) (O.state out.old) (O.state out.new)
+        (noted_of notebook.new meter.new ran.new.items) }
 {
     let done = notebook.apply(meter, edit);
-    push_edit_answer(out, edit.input_name(), &done);
+    answer_edit(out, ran, edit.input_name(), done);
 }
 
-/// Sets an input, which the notebook keeps.
+/// Sets an input, which the notebook keeps. Where it is set, `ran` becomes the places of the cells
+/// that ran.
 pub fn set_input<O: AnswerWrite>(
     out: &mut O,
     meter: &mut Meter,
     notebook: &mut Notebook,
+    ran: &mut Vec<usize>,
     name: &str,
     input: Input,
 )
-    ensures carried { Carried (script.Edits (SetInput name.now (source_of input)))
-        (book_of notebook.old) (O.state out.old) (O.state out.new) (book_of notebook.new) }
-    ensures counts { CountsCommand (script.Edits (SetInput name.now (source_of input)))
-        (book_of notebook.old) meter.old meter.new }
+    ensures { CarriedNoted (script.Edits (SetInput name.now (source_of input)))
+        (noted_of notebook.old meter.old ran.old.items) (O.state out.old) (O.state out.new)
+        (noted_of notebook.new meter.new ran.new.items) }
 {
     let done = notebook.set_input(meter, name, input);
-    push_edit_answer(out, name, &done);
+    answer_edit(out, ran, name, done);
 }
 
 /// Shows what a cell gives.

@@ -2,13 +2,11 @@
 
 ghost use Rattle.std.specs.Prelude.{◌≡◌, [], IfOk, OnErr};
 ghost use Rattle.nd_model.specs.Book.Script as script;
-ghost use Rattle.nd_model.specs.Book.Notebook.{book_of};
 ghost use Rattle.nd_script.specs.Words.Command.{line_of};
-ghost use Rattle.nd_script.specs.Lines.Counts.{CountsCommand, plain};
 ghost use Rattle.nd_script.specs.Lines.Run.{Answered};
 ghost use Rattle.nd_model.specs.Book.ScriptRuns.{IsInLine};
-ghost use Rattle.nd_commands.specs.Carry.{Carried, CarriedLine, CountsLine};
-ghost use Rattle.nd_commands.specs.Run.{tally_of};
+ghost use Rattle.nd_commands.specs.Carry.{CarriedLine};
+ghost use Rattle.nd_commands.specs.Noted.{CarriedNoted, noted, noted_of};
 ghost use Rattle.nd_commands.specs.Source.{lines_so_far, opening_of, stage_of};
 
 use crate::carry::{
@@ -23,7 +21,7 @@ use std::mem;
 
 /// Carries a line out, and appends its answer. The source that is open behind the line is returned.
 /// Memory may be wanted for an input, or for a source that the room does not hold: then nothing is
-/// carried out.
+/// carried out. An edit that is done puts the places of the cells that it ran into `ran`.
 pub fn answer_line<O: AnswerWrite>(
     alloc: Global,
     source: Option<OpenText>,
@@ -32,18 +30,19 @@ pub fn answer_line<O: AnswerWrite>(
     out: &mut O,
     meter: &mut Meter,
     notebook: &mut Notebook,
+    ran: &mut Vec<usize>,
 ) -> Result<Option<OpenText>, AllocError>
     requires { IsInLine line.now }
-    ensures done { IfOk result (λ t. Answered plain (stage_of source) line.now (stage_of t)
-        (tally_of notebook.old meter.old) (O.state out.old) (O.state out.new)
-        (tally_of notebook.new meter.new)) }
-    ensures unread { OnErr result (tally_of notebook.new meter.new
-        ≡ tally_of notebook.old meter.old) }
+    ensures done { IfOk result (λ t. Answered noted (stage_of source) line.now (stage_of t)
+        (noted_of notebook.old meter.old ran.old.items) (O.state out.old) (O.state out.new)
+        (noted_of notebook.new meter.new ran.new.items)) }
+    ensures unread { OnErr result (noted_of notebook.new meter.new ran.new.items
+        ≡ noted_of notebook.old meter.old ran.old.items) }
     ensures unwritten { OnErr result (O.state out.new ≡ O.state out.old) }
 {
     match source {
-        None => answer_command(alloc, room, line, out, meter, notebook),
-        Some(source) => continue_source(source, room, line, out, meter, notebook),
+        None => answer_command(alloc, room, line, out, meter, notebook, ran),
+        Some(source) => continue_source(source, room, line, out, meter, notebook, ran),
     }
 }
 
@@ -55,18 +54,19 @@ fn continue_source<O: AnswerWrite>(
     out: &mut O,
     meter: &mut Meter,
     notebook: &mut Notebook,
+    ran: &mut Vec<usize>,
 ) -> Result<Option<OpenText>, AllocError>
     requires { IsInLine line.now }
-    ensures done { IfOk result (λ t. Answered plain
+    ensures done { IfOk result (λ t. Answered noted
         (script.Within (opening_of source.opening) (lines_so_far source)) line.now (stage_of t)
-        (tally_of notebook.old meter.old) (O.state out.old) (O.state out.new)
-        (tally_of notebook.new meter.new)) }
-    ensures unread { OnErr result (tally_of notebook.new meter.new
-        ≡ tally_of notebook.old meter.old) }
+        (noted_of notebook.old meter.old ran.old.items) (O.state out.old) (O.state out.new)
+        (noted_of notebook.new meter.new ran.new.items)) }
+    ensures unread { OnErr result (noted_of notebook.new meter.new ran.new.items
+        ≡ noted_of notebook.old meter.old ran.old.items) }
     ensures unwritten { OnErr result (O.state out.new ≡ O.state out.old) }
 {
     if is_end_of_source(line) {
-        close_source(&source, out, meter, notebook);
+        close_source(&source, out, meter, notebook, ran);
         *room = source.text;
         Ok(None)
     } else {
@@ -81,16 +81,15 @@ fn close_source<O: AnswerWrite>(
     out: &mut O,
     meter: &mut Meter,
     notebook: &mut Notebook,
+    ran: &mut Vec<usize>,
 )
-    ensures carried { Carried
+    ensures { CarriedNoted
         (script.closed (opening_of source.now.opening) (lines_so_far source.now))
-        (book_of notebook.old) (O.state out.old) (O.state out.new) (book_of notebook.new) }
-    ensures counts { CountsCommand
-        (script.closed (opening_of source.now.opening) (lines_so_far source.now))
-        (book_of notebook.old) meter.old meter.new }
+        (noted_of notebook.old meter.old ran.old.items) (O.state out.old) (O.state out.new)
+        (noted_of notebook.new meter.new ran.new.items) }
 {
     match str::from_utf8(source.bytes()) {
-        Ok(text) => make_edit(out, meter, notebook, source.opening.edit(text)),
+        Ok(text) => make_edit(out, meter, notebook, ran, source.opening.edit(text)),
         Err(_) => push_text(out, "bad command\n"),
     }
 }
@@ -103,12 +102,13 @@ fn answer_command<O: AnswerWrite>(
     out: &mut O,
     meter: &mut Meter,
     notebook: &mut Notebook,
+    ran: &mut Vec<usize>,
 ) -> Result<Option<OpenText>, AllocError>
-    ensures done { IfOk result (λ t. Answered plain script.Between line.now (stage_of t)
-        (tally_of notebook.old meter.old) (O.state out.old) (O.state out.new)
-        (tally_of notebook.new meter.new)) }
-    ensures unread { OnErr result (tally_of notebook.new meter.new
-        ≡ tally_of notebook.old meter.old) }
+    ensures done { IfOk result (λ t. Answered noted script.Between line.now (stage_of t)
+        (noted_of notebook.old meter.old ran.old.items) (O.state out.old) (O.state out.new)
+        (noted_of notebook.new meter.new ran.new.items)) }
+    ensures unread { OnErr result (noted_of notebook.new meter.new ran.new.items
+        ≡ noted_of notebook.old meter.old ran.old.items) }
     ensures unwritten { OnErr result (O.state out.new ≡ O.state out.old) }
 {
     let command = command_of(alloc, line)?;
@@ -116,7 +116,7 @@ fn answer_command<O: AnswerWrite>(
         LineCommand::Insert(at) => Ok(Some(open_source(alloc, room, Opening::Insert(at)))),
         LineCommand::Edit(at) => Ok(Some(open_source(alloc, room, Opening::Edit(at)))),
         _ => {
-            answer_whole(alloc, command, out, meter, notebook);
+            answer_whole(alloc, command, out, meter, notebook, ran);
             Ok(None)
         }
     }
@@ -137,27 +137,29 @@ fn answer_whole<O: AnswerWrite>(
     out: &mut O,
     meter: &mut Meter,
     notebook: &mut Notebook,
+    ran: &mut Vec<usize>,
 )
-    ensures carried { CarriedLine (line_of command.entry) (book_of notebook.old)
-        (O.state out.old) (O.state out.new) (book_of notebook.new) }
-    ensures counts { CountsLine (line_of command.entry) (book_of notebook.old)
-        meter.old meter.new }
+    ensures { CarriedLine (line_of command.entry)
+        (noted_of notebook.old meter.old ran.old.items) (O.state out.old) (O.state out.new)
+        (noted_of notebook.new meter.new ran.new.items) }
 {
     match command {
-        LineCommand::Remove(at) => make_edit(out, meter, notebook, Edit::Remove(at)),
-        LineCommand::Move { from, to } => make_edit(out, meter, notebook, Edit::Move(from, to)),
+        LineCommand::Remove(at) => make_edit(out, meter, notebook, ran, Edit::Remove(at)),
+        LineCommand::Move { from, to } => {
+            make_edit(out, meter, notebook, ran, Edit::Move(from, to))
+        }
         LineCommand::Show(at) => show_result(out, notebook, at),
         LineCommand::Source(at) => show_source(out, notebook, at),
         LineCommand::Names(at) => show_names(out, notebook, at),
         LineCommand::Value { at, name } => show_value(alloc, out, notebook, at, name),
         LineCommand::Saved { at, name } => show_save(out, notebook, at, name),
-        LineCommand::SetInput { name, input } => set_input(out, meter, notebook, name, input),
-        LineCommand::DropInput(name) => make_edit(out, meter, notebook, Edit::DropInput(name)),
+        LineCommand::SetInput { name, input } => set_input(out, meter, notebook, ran, name, input),
+        LineCommand::DropInput(name) => make_edit(out, meter, notebook, ran, Edit::DropInput(name)),
         LineCommand::PythonRule => {
-            make_edit(out, meter, notebook, Edit::SetRule(CellRule::Python))
+            make_edit(out, meter, notebook, ran, Edit::SetRule(CellRule::Python))
         }
         LineCommand::AtomicRule => {
-            make_edit(out, meter, notebook, Edit::SetRule(CellRule::Atomic))
+            make_edit(out, meter, notebook, ran, Edit::SetRule(CellRule::Atomic))
         }
         LineCommand::Count => push_count_line(out, "count", notebook.count()),
         LineCommand::Bad => push_text(out, "bad command\n"),

@@ -156,12 +156,14 @@ pub fn run_turns<R: CountedRead, W: CountedWrite>(
 {
     let mut source = None;
     let mut room = room_for_sources(alloc);
+    let mut ran = Vec::new(alloc);
     let mut answerer = NotebookAnswerer {
         alloc,
         meter,
         notebook,
         source: &mut source,
         room: &mut room,
+        ran: &mut ran,
     };
     run_lines(alloc, reader, writer, &mut answerer, turns)
 }

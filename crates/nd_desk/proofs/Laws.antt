@@ -22,12 +22,13 @@ is_word w k e = (bytes_eq-Decides w k).0 e
 
 -- ---- by the words of a line
 
-number_is_bad : (o : Option ℕ) → with_number o (placed_line (codes "try")) ≡ Whole Bad
-number_is_bad None = refl
-number_is_bad (Some at) = refl
+try_is_bad : (o : Option ℕ) → with_number o (placed_line (codes "try")) ≡ Whole Bad
+try_is_bad None = refl
+try_is_bad (Some at) = refl
 
-try_is_bad : (a : List ℕ) → script.line_of_words (codes "try" ∷ a ∷ []) ≡ Whole Bad
-try_is_bad a = number_is_bad (number_word a)
+reads_are_bad : (o : Option ℕ) → with_number o (placed_line (codes "reads")) ≡ Whole Bad
+reads_are_bad None = refl
+reads_are_bad (Some at) = refl
 
 -- an input has none of its forms
 no_file : (a : List ℕ) (o : Option Source) → o ≡ None → input_line a o ≡ Whole Bad
@@ -41,13 +42,22 @@ both false b e = absurd (cc)
 one_word : (w : List ℕ) (l : Line) → line_of_words (w ∷ []) ≡ Some l → script.line_of_words (w ∷ []) ≡ Whole Bad
 one_word w l e = elim (cases_Bool (bytes_eq w (codes "words"))) [
   | inl is ↦ subst (λ k. script.line_of_words (k ∷ []) ≡ Whole Bad) (sym (is_word w (codes "words") is)) refl
-  | inr other ↦ absurd (clash (line_of_words (w ∷ [])) l (rw other refl) e)
+  | inr words ↦ elim (cases_Bool (bytes_eq w (codes "ran"))) [
+    | inl is ↦ subst (λ k. script.line_of_words (k ∷ []) ≡ Whole Bad) (sym (is_word w (codes "ran") is)) refl
+    | inr ran ↦ elim (cases_Bool (bytes_eq w (codes "begin"))) [
+      | inl is ↦ subst (λ k. script.line_of_words (k ∷ []) ≡ Whole Bad) (sym (is_word w (codes "begin") is)) refl
+      | inr begin ↦ absurd (clash (line_of_words (w ∷ [])) l (rw (words, ran, begin) refl) e)
+    ]
+  ]
 ]
 
 two_words : (w a : List ℕ) (l : Line) → line_of_words (w ∷ a ∷ []) ≡ Some l → script.line_of_words (w ∷ a ∷ []) ≡ Whole Bad
 two_words w a l e = elim (cases_Bool (bytes_eq w (codes "try"))) [
-  | inl is ↦ subst (λ k. script.line_of_words (k ∷ a ∷ []) ≡ Whole Bad) (sym (is_word w (codes "try") is)) (try_is_bad a)
-  | inr other ↦ absurd (clash (line_of_words (w ∷ a ∷ [])) l (rw other refl) e)
+  | inl is ↦ subst (λ k. script.line_of_words (k ∷ a ∷ []) ≡ Whole Bad) (sym (is_word w (codes "try") is)) (try_is_bad (number_word a))
+  | inr try ↦ elim (cases_Bool (bytes_eq w (codes "reads"))) [
+    | inl is ↦ subst (λ k. script.line_of_words (k ∷ a ∷ []) ≡ Whole Bad) (sym (is_word w (codes "reads") is)) (reads_are_bad (number_word a))
+    | inr reads ↦ absurd (clash (line_of_words (w ∷ a ∷ [])) l (rw (try, reads) refl) e)
+  ]
 ]
 
 three_words : (w a b : List ℕ) (l : Line) → line_of_words (w ∷ a ∷ b ∷ []) ≡ Some l → script.line_of_words (w ∷ a ∷ b ∷ []) ≡ Whole Bad

@@ -1,8 +1,11 @@
 pub mod Carried
 pub mod Ended
+pub mod Gathered
 pub mod Indexes
 pub mod Laws
 pub mod Lines
+pub mod Loops
 pub mod Parts
 pub mod Plainly
 pub mod Raws
+pub mod Runs

@@ -1,21 +1,25 @@
 -- What the commands of a desk may answer, and the notebook and the meter after each.
-use Rattle.std.specs.Prelude.{◌≡◌, ℕ, ◌⊎◌, IsTrue, is_ok, List, ◌++◌, length, codes, decimal, Some, Result, Ok, Err}
+use Rattle.std.specs.Prelude.{◌≡◌, ℕ, ◌+◌, ◌⊎◌, IsTrue, is_ok, List, ◌++◌, length, codes, decimal, Option, Some, None, Result, Ok, Err}
 use Rattle.std.specs.List.{flat_map}
 use Rattle.nd_model.specs.Arrays.View.{item_size}
 use Rattle.nd_model.specs.Formats.Format.{format_text}
 use Rattle.nd_model.specs.Cells.InputName.{is_input_name}
 use Rattle.nd_model.specs.Cells.Running.{Source, Npy, Buffer}
 use Rattle.nd_model.specs.Cells.Fault.{Fault}
-use Rattle.nd_model.specs.Text.FaultText.{fault_text}
+use Rattle.nd_model.specs.Text.FaultText.{edit_fault_text, fault_text}
 use Rattle.nd_model.specs.Cells.Cell.{Saved}
 use Rattle.nd_model.specs.Book.Renaming.{Shown, ShownInt, ShownTruth, ShownScalar, ShownArray, ShownRow}
-use Rattle.nd_model.specs.Book.Book.{SetInput, EditFault, QueryFault, CellResult, value_at, saved_at}
+use Rattle.nd_model.specs.Book.Book.{Book, Edit, SetInput, EditFault, QueryFault, CellResult, edits, value_at, saved_at}
+use Rattle.nd_model.specs.Book.Stale.{CountsStale}
 use Rattle.nd_model.specs.Book.Script.{Edits, shape_text, shown_text, value_answer, ok_or_refused, edit_answer, query_answer, refused_line, with_text}
-use Rattle.nd_script.specs.Lines.Counts.{Tally, CountedAnswer}
+use Rattle.nd_schedule.specs.Schedule.Ran.{AreStale}
+use Rattle.nd_notebook.specs.Readers.{BlockRead, CellReads, TellsReads}
+use Rattle.nd_notebook.specs.Together.{Refused, first_refused}
 use Rattle.nd_notebook.specs.Tried.{tried, TellsTried, CountsTried}
+use Rattle.nd_commands.specs.Noted.{Noted, NotedAnswer}
 use Rattle.nd_script.specs.Lines.Language.{Language}
 use Rattle.nd_desk.specs.Parts.{part_of}
-use Rattle.nd_desk.specs.Words.{Command, Plain, AsksWords, AsksType, AsksPart, Tries, SetsFile, SetsRaw, SavesFile, Stage, step, left_open}
+use Rattle.nd_desk.specs.Words.{Command, Plain, AsksWords, AsksRan, AsksReads, AsksType, AsksPart, Tries, SetsFile, SetsRaw, SavesFile, Together, Stage, step, left_open}
 
 -- ---- answers
 
@@ -81,9 +85,9 @@ abbrev pub IsUnhad : (tried text : List ℕ) → Type 0
 IsUnhad tried text = ((cause : FileCause) × (text ≡ refused_line (tried ++ cause_text cause))) ⊎ (text ≡ out_of_memory)
 
 -- an input of the bytes of some file was set, or under a good name it was not to be had
-abbrev pub SetsSome : (input : List ℕ → Source) → (name : List ℕ) → Tally → (text : List ℕ) → Tally → Type 0
+abbrev pub SetsSome : (input : List ℕ → Source) → (name : List ℕ) → Noted → (text : List ℕ) → Noted → Type 0
 SetsSome input name old text new =
-    ((bytes : List ℕ) × CountedAnswer (Edits (SetInput name (input bytes))) old text new)
+    ((bytes : List ℕ) × NotedAnswer (Edits (SetInput name (input bytes))) old text new)
     ⊎ (IsTrue (is_input_name name) × IsUnhad (codes "Unread ") text × (new ≡ old))
 
 -- a file that is there was written or not, and one that is not there is refused
@@ -91,19 +95,74 @@ abbrev pub SavesSome : Result (List ℕ) QueryFault → (text : List ℕ) → Ty
 SavesSome (Ok file) text = (text ≡ codes "ok\n") ⊎ IsUnhad (codes "Unwritten ") text
 SavesSome (Err f) text = text ≡ query_answer (Err f)
 
--- WHAT A COMMAND MAY ANSWER, with the notebook and the meter after it
-abbrev pub Gives : Command → Tally → (text : List ℕ) → Tally → Type 0
-Gives (Plain c) old text new = CountedAnswer c old text new
-Gives AsksWords old text new = (text ≡ codes "words file part raw save try type\n") × (new ≡ old)
-Gives (AsksType at name) old text new = TellsValue type_answer (value_at old.book at name) text × (new ≡ old)
-Gives (AsksPart at name index) old text new = TellsValue (λ v. part_answer (part_of index v)) (value_at old.book at name) text × (new ≡ old)
+-- ---- runs and reads
+
+abbrev pub place_words : List ℕ → List ℕ
+place_words places = flat_map (λ p. codes " " ++ decimal p) places
+
+-- how many cells ran in the last edit that was done, and their places
+abbrev pub ran_answer : List ℕ → List ℕ
+ran_answer places = codes "ran " ++ decimal (length places) ++ place_words places ++ codes "\n"
+
+-- a dash where no cell is told
+abbrev pub cell_text : Option ℕ → List ℕ
+cell_text None = codes "-"
+cell_text (Some at) = decimal at
+
+abbrev pub name_lines : List (List ℕ × Option ℕ) → List ℕ
+name_lines names = flat_map (λ (n : List ℕ × Option ℕ). codes "name " ++ n.0 ++ codes " " ++ cell_text n.1 ++ codes "\n") names
+
+abbrev pub input_lines : List (List ℕ) → List ℕ
+input_lines names = flat_map (λ n. codes "input " ++ n ++ codes "\n") names
+
+abbrev pub block_lines : List BlockRead → List ℕ
+block_lines blocks = flat_map (λ (b : BlockRead). codes "block " ++ cell_text b.maker ++ codes " " ++ decimal b.number ++ codes " " ++ cell_text b.writer ++ codes "\n") blocks
+
+-- how many lines there are, and a line for each name, input and base
+abbrev pub reads_answer : CellReads → List ℕ
+reads_answer r =
+    codes "reads " ++ decimal (length r.names + length r.inputs + length r.blocks) ++ codes "\n"
+    ++ name_lines r.names ++ input_lines r.inputs ++ block_lines r.blocks
+
+abbrev pub TellsSomeReads : Book → (at : ℕ) → (text : List ℕ) → Type 0
+TellsSomeReads b at text = (r : Result CellReads QueryFault) × TellsReads b at r × (text ≡ query_answer (with_text reads_answer r))
+
+-- ---- edits that are made as one
+
+-- the number of the edit that is refused, and why it is
+abbrev pub refused_answer : Refused → List ℕ
+refused_answer r = refused_line (decimal r.number ++ codes " " ++ edit_fault_text r.fault)
+
+-- all of them were made, or memory was wanted and none was; stale cells alone ran
+abbrev pub MakesTogether : List Edit → Noted → (text : List ℕ) → Noted → Type 0
+MakesTogether es old text new =
+    CountsStale old.tally.book (edits es old.tally.book) old.tally.count new.tally.count
+    × (((text ≡ codes "ok\n") × (new.tally.book ≡ edits es old.tally.book) × AreStale old.tally.book new.tally.book new.ran)
+    ⊎ ((text ≡ out_of_memory) × (new.tally.book ≡ old.tally.book) × (new.ran ≡ old.ran)))
+
+-- where one of them is refused, none is made
+abbrev pub TogetherGives : Option Refused → List Edit → Noted → (text : List ℕ) → Noted → Type 0
+TogetherGives None es old text new = MakesTogether es old text new
+TogetherGives (Some r) es old text new = (text ≡ refused_answer r) × (new ≡ old)
+
+-- ---- commands
+
+-- WHAT A COMMAND MAY ANSWER, with the notebook, the meter and the cells that ran after it
+abbrev pub Gives : Command → Noted → (text : List ℕ) → Noted → Type 0
+Gives (Plain c) old text new = NotedAnswer c old text new
+Gives AsksWords old text new = (text ≡ codes "words begin end file part ran raw reads save try type\n") × (new ≡ old)
+Gives AsksRan old text new = (text ≡ ran_answer old.ran) × (new ≡ old)
+Gives (AsksReads at) old text new = TellsSomeReads old.tally.book at text × (new ≡ old)
+Gives (AsksType at name) old text new = TellsValue type_answer (value_at old.tally.book at name) text × (new ≡ old)
+Gives (AsksPart at name index) old text new = TellsValue (λ v. part_answer (part_of index v)) (value_at old.tally.book at name) text × (new ≡ old)
 Gives (Tries at source) old text new =
-    (outcome : Result CellResult EditFault) × TellsTried outcome (tried at source old.book) × CountsTried outcome old.count new.count
-    × (text ≡ tried_answer outcome) × (new.book ≡ old.book)
+    (outcome : Result CellResult EditFault) × TellsTried outcome (tried at source old.tally.book) × CountsTried outcome old.tally.count new.tally.count
+    × (text ≡ tried_answer outcome) × (new.tally.book ≡ old.tally.book) × (new.ran ≡ old.ran)
 Gives (SetsFile name path) old text new = SetsSome Npy name old text new
 Gives (SetsRaw name path format itemsize shape strides offset) old text new = SetsSome (Buffer format itemsize shape strides offset) name old text new
-Gives (SavesFile at name path) old text new = SavesSome (saved_at old.book at name) text × (new ≡ old)
+Gives (SavesFile at name path) old text new = SavesSome (saved_at old.tally.book at name) text × (new ≡ old)
+Gives (Together es) old text new = TogetherGives (first_refused 0 es old.tally.book) es old text new
 
--- THE LANGUAGE OF A DESK: the commands of every script and words for front ends, counted on the meter
+-- THE LANGUAGE OF A DESK: the commands of every script and words for front ends, counted on the meter, with the cells that ran
 abbrev pub desk : Language
-desk = record { Command = Command; Stage = Stage; State = Tally; step = step; left_open = left_open; gives = Gives }
+desk = record { Command = Command; Stage = Stage; State = Noted; step = step; left_open = left_open; gives = Gives }

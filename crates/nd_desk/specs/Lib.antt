@@ -2,6 +2,7 @@ pub mod Answers
 pub mod Carry
 pub mod Chosen
 pub mod Files
+pub mod Gather
 pub mod Laws
 pub mod Lines
 pub mod Parts

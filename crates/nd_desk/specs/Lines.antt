@@ -10,9 +10,9 @@ use Rattle.nd_desk.specs.declared.form.FileForm.{FileForm}
 use Rattle.nd_desk.specs.declared.form.FileForm.TheVariants as forms
 use Rattle.nd_desk.specs.declared.raw.RawWords.{RawWords}
 use Rattle.nd_desk.specs.declared.word.DeskLine.{DeskLine}
-use Rattle.nd_desk.specs.declared.word.DeskLine.TheVariants.{Try, Word}
+use Rattle.nd_desk.specs.declared.word.DeskLine.TheVariants.{Try, Begin, Word}
 use Rattle.nd_desk.specs.declared.word.DeskWord.{DeskWord}
-use Rattle.nd_desk.specs.declared.word.DeskWord.TheVariants.{Words, Dtype, Part, SetFile, SaveFile}
+use Rattle.nd_desk.specs.declared.word.DeskWord.TheVariants.{Words, Ran, Reads, Dtype, Part, SetFile, SaveFile}
 
 -- ---- lists that stay as they are written
 
@@ -61,6 +61,8 @@ sets name path (forms.Raw format itemsize shape strides offset) =
 
 abbrev pub command_of : DeskWord → words.Command
 command_of Words = words.AsksWords
+command_of Ran = words.AsksRan
+command_of (Reads at) = words.AsksReads at
 command_of (Dtype at name) = words.AsksType at name.now
 command_of (Part at name index) = words.AsksPart at name.now (items_in index.now)
 command_of (SetFile name path form) = sets name.now path.now form
@@ -68,4 +70,5 @@ command_of (SaveFile at name path) = words.SavesFile at name.now path.now
 
 abbrev pub line_of : DeskLine → words.Line
 line_of (Try at) = words.Opens at
+line_of Begin = words.Begins
 line_of (Word w) = words.Whole (command_of w)

@@ -1,8 +1,9 @@
 -- Scripts with words for front ends: what their lines say.
-use Rattle.std.specs.Prelude.{ℕ, ℤ, ◌==◌, ◌&&◌, bytes_eq, if◌then◌else◌, List, [], ◌∷◌, ◌++◌, map, option_map, codes, Option, Some, None}
+use Rattle.std.specs.Prelude.{ℕ, ℤ, Bool, ◌==◌, ◌&&◌, bytes_eq, if◌then◌else◌, List, [], ◌∷◌, ◌++◌, map, option_map, codes, Option, Some, None}
 use Rattle.std.specs.Str.{is_utf8}
 use Rattle.std.specs.List.{join_with_byte, slice_split}
 use Rattle.nd_model.specs.Indexing.Selecting.{Item, At, Slice}
+use Rattle.nd_model.specs.Book.Book.{Edit}
 use Rattle.nd_model.specs.Book.Script as script
 use Rattle.nd_model.specs.Book.Script.{number_word, integer_word, list_word, every, words_of, source_of, is_dot}
 
@@ -12,17 +13,24 @@ pub data Command : Type 0 where
   -- a command of every script
   Plain : script.Command → Command
   AsksWords : Command
+  AsksRan : Command
+  AsksReads : (at : ℕ) → Command
   AsksType : (at : ℕ) → (name : List ℕ) → Command
   AsksPart : (at : ℕ) → (name : List ℕ) → (index : List Item) → Command
   Tries : (at : ℕ) → (source : List ℕ) → Command
   SetsFile : (name path : List ℕ) → Command
   SetsRaw : (name path format : List ℕ) → (itemsize : ℕ) → (shape : List ℕ) → (strides : List ℤ) → (offset : ℕ) → Command
   SavesFile : (at : ℕ) → (name path : List ℕ) → Command
+  -- edits that are made as one
+  Together : List Edit → Command
 
--- where a script stands: as every script, or in the text of a cell that is to be tried
+-- where a script stands: as every script, in the text of a cell that is to be tried, or behind edits that are to be made as one, in
+-- the text of the next of them perhaps
 pub data Stage : Type 0 where
   Plainly : script.Stage → Stage
   Trying : (at : ℕ) → (before : List (List ℕ)) → Stage
+  Gathering : List Edit → Stage
+  GatheringText : List Edit → script.Opening → (before : List (List ℕ)) → Stage
 
 -- ---- indexes
 
@@ -56,6 +64,7 @@ index_word word = every item_word (slice_split (λ c. c == 44) word)
 pub data Line : Type 0 where
   Whole : Command → Line
   Opens : (at : ℕ) → Line
+  Begins : Line
 
 abbrev pub placed : Option ℕ → (ℕ → Option Line) → Option Line
 placed None line = None
@@ -63,6 +72,22 @@ placed (Some at) line = line at
 
 abbrev pub try_line : ℕ → Option Line
 try_line at = Some (Opens at)
+
+abbrev pub reads_line : ℕ → Option Line
+reads_line at = Some (Whole (AsksReads at))
+
+abbrev pub lone_line : List ℕ → Option Line
+lone_line word =
+    if bytes_eq word (codes "words") then Some (Whole AsksWords)
+    else if bytes_eq word (codes "ran") then Some (Whole AsksRan)
+    else if bytes_eq word (codes "begin") then Some Begins
+    else None
+
+abbrev pub place_line : (word place : List ℕ) → Option Line
+place_line word place =
+    if bytes_eq word (codes "try") then placed (number_word place) try_line
+    else if bytes_eq word (codes "reads") then placed (number_word place) reads_line
+    else None
 
 -- a name is any word but the empty one
 abbrev pub type_line : List ℕ → ℕ → Option Line
@@ -111,8 +136,8 @@ long_line word a b words =
 
 abbrev pub line_of_words : List (List ℕ) → Option Line
 line_of_words [] = None
-line_of_words (word ∷ []) = if bytes_eq word (codes "words") then Some (Whole AsksWords) else None
-line_of_words (word ∷ a ∷ []) = if bytes_eq word (codes "try") then placed (number_word a) try_line else None
+line_of_words (word ∷ []) = lone_line word
+line_of_words (word ∷ a ∷ []) = place_line word a
 line_of_words (word ∷ a ∷ b ∷ []) = if bytes_eq word (codes "type") then placed (number_word a) (type_line b) else None
 line_of_words (word ∷ a ∷ b ∷ c ∷ more) = long_line word a b (c ∷ more)
 
@@ -130,18 +155,38 @@ abbrev pub step_of_word : List ℕ → Option Line → List Command × Stage
 step_of_word line None = plainly (script.step script.Between line)
 step_of_word line (Some (Whole c)) = (c ∷ [], Plainly script.Between)
 step_of_word line (Some (Opens at)) = ([], Trying at [])
+step_of_word line (Some Begins) = ([], Gathering [])
 
 -- the command of a text that is tried, once its lines are there
 abbrev pub closed_try : (at : ℕ) → List (List ℕ) → Command
 closed_try at ls = if is_utf8 (source_of ls) then Tries at (source_of ls) else Plain script.Bad
+
+-- the line that ends edits which are made as one
+abbrev pub is_end : List ℕ → Bool
+is_end l = bytes_eq l (codes "end")
+
+-- a command behind edits that are to be made as one: an edit is one of them, and a question or a word has no place there
+abbrev pub gathered : List Edit → script.Command → List Command × Stage
+gathered es (script.Edits e) = ([], Gathering (es ++ e ∷ []))
+gathered es (script.Asks q) = (Plain script.Bad ∷ [], Gathering es)
+gathered es script.Silent = ([], Gathering es)
+gathered es script.Bad = (Plain script.Bad ∷ [], Gathering es)
+
+abbrev pub gathered_line : List Edit → script.Line → List Command × Stage
+gathered_line es (script.Whole c) = gathered es c
+gathered_line es (script.Opens o) = ([], GatheringText es o [])
 
 -- THE COMMANDS THAT A LINE COMPLETES, and where the script stands behind it
 abbrev pub step : Stage → List ℕ → List Command × Stage
 step (Plainly script.Between) l = step_of_word l (read_word l)
 step (Plainly (script.Within o before)) l = plainly (script.step (script.Within o before) l)
 step (Trying at before) l = if is_dot l then (closed_try at before ∷ [], Plainly script.Between) else ([], Trying at (before ++ l ∷ []))
+step (Gathering es) l = if is_end l then (Together es ∷ [], Plainly script.Between) else gathered_line es (script.read_line l)
+step (GatheringText es o before) l = if is_dot l then gathered es (script.closed o before) else ([], GatheringText es o (before ++ l ∷ []))
 
--- a text without its end is no command
+-- a text without its end is no command, and edits without their end are made in no part
 abbrev pub left_open : Stage → List Command
 left_open (Plainly s) = map Plain (script.left_open s)
 left_open (Trying at before) = Plain script.Bad ∷ []
+left_open (Gathering es) = Plain script.Bad ∷ []
+left_open (GatheringText es o before) = Plain script.Bad ∷ []

@@ -1,7 +1,13 @@
 //! `push_trial` and the others: the answers to words for front ends.
 
 ghost use Rattle.std.specs.Prelude.{◌≡◌, OnErr, OnOk, codes};
-ghost use Rattle.nd_desk.specs.Answers.{file_lines, trial_answer, type_answer, type_text};
+ghost use Rattle.nd_desk.specs.Answers.{
+  file_lines,
+  ran_answer,
+  trial_answer,
+  type_answer,
+  type_text,
+};
 ghost use Rattle.nd_commands.specs.Value.{array_of, row_of};
 ghost use Rattle.nd_desk.specs.Carry.{PushesAnswer};
 ghost use Rattle.nd_notebook.specs.Queries.{bound_of, result_of, shown_of};
@@ -13,15 +19,18 @@ use nd_commands::{push_layout, push_refusal, push_shown};
 use nd_notebook::{BoundValue, CellResult, Shown, ShownElements};
 use nd_npy::pep3118::write_format;
 use nd_script::lines::AnswerWrite;
-use nd_script::words::{push_count_line, push_shape, push_text};
+use nd_script::words::{push_count_line, push_number, push_shape, push_text};
 use std::alloc::{AllocError, Global};
 
 /// Appends the words that a script of a desk has beside those of every script.
 pub fn push_words<O: AnswerWrite>(out: &mut O)
-    ensures { Pushes (O.state out.old) (codes "words file part raw save try type\n")
-        (O.state out.new) }
+    ensures { Pushes (O.state out.old)
+        (codes "words begin end file part ran raw reads save try type\n") (O.state out.new) }
 {
-    push_text(out, "words file part raw save try type\n");
+    push_text(
+        out,
+        "words begin end file part ran raw reads save try type\n",
+    );
 }
 
 /// Appends what a cell gives that was tried: its text, its refusal, and its files with their bytes.
@@ -108,4 +117,17 @@ fn push_row_type<O: AnswerWrite>(
     push_text(out, "row ");
     push_layout(out, format.as_str(), view.elem());
     Ok(())
+}
+
+/// Appends how many cells ran in the last edit that was done, and their places.
+pub fn push_ran<O: AnswerWrite>(out: &mut O, ran: &[usize])
+    ensures { Pushes (O.state out.old) (ran_answer ran.now) (O.state out.new) }
+{
+    push_text(out, "ran ");
+    push_number(out, ran.len() as u64);
+    for place in ran {
+        push_text(out, " ");
+        push_number(out, *place as u64);
+    }
+    push_text(out, "\n");
 }

@@ -1,6 +1,6 @@
 //! `DeskAnswerer`: answers the lines of a script with words for front ends.
 
-ghost use Rattle.nd_commands.specs.Run.{tally_of};
+ghost use Rattle.nd_commands.specs.Noted.{noted_of};
 ghost use Rattle.nd_desk.specs.Answers.{desk};
 ghost use Rattle.nd_desk.specs.Single.{desk_one_by_one};
 ghost use Rattle.nd_desk.specs.Source.{stage_of};
@@ -17,10 +17,12 @@ pub struct DeskAnswerer<'a> {
     pub rt: &'a HostRuntime,
     pub meter: &'a mut Meter,
     pub notebook: &'a mut Notebook,
-    /// The text that is open, if any.
+    /// What is open, if anything: a text, or edits that are to be made as one.
     pub source: &'a mut Option<DeskSource>,
     /// Room for the next text.
     pub room: &'a mut Vec<u8>,
+    /// The places of the cells that ran in the last edit that was done.
+    pub ran: &'a mut Vec<usize>,
 }
 
 impl Answerer for DeskAnswerer<'_> {
@@ -28,7 +30,7 @@ impl Answerer for DeskAnswerer<'_> {
 
     ghost stage = { λ s. stage_of s.source.now };
 
-    ghost state = { λ s. tally_of s.notebook.now s.meter.now };
+    ghost state = { λ s. noted_of s.notebook.now s.meter.now s.ran.now.items };
 
     ghost reference = { λ s. s.notebook.ghost_name };
 
@@ -46,6 +48,7 @@ impl Answerer for DeskAnswerer<'_> {
             out,
             self.meter,
             self.notebook,
+            self.ran,
         )?;
         Ok(())
     }

@@ -1,15 +1,17 @@
 //! `try_cell` and the others: words for front ends, carried out and answered.
 
-ghost use Rattle.nd_commands.specs.Run.{tally_of};
+ghost use Rattle.std.specs.Prelude.{◌≡◌, ℕ, List};
+ghost use Rattle.nd_commands.specs.Noted.{noted_of};
 ghost use Rattle.nd_script.specs.Lines.Answers.{Pushes};
-ghost use Rattle.nd_desk.specs.Carry.{Asked, CarriedOut};
+ghost use Rattle.nd_desk.specs.Carry.{Asked, CarriedOut, places_after};
 ghost use Rattle.nd_desk.specs.Files.{unhad_text};
 ghost use Rattle.nd_desk.specs.Lines.{sets};
-ghost use Rattle.nd_desk.specs.Words.{AsksType, SavesFile, Tries};
+ghost use Rattle.nd_desk.specs.Words.{AsksReads, AsksType, SavesFile, Tries};
 
 use crate::answer::{push_trial, push_type};
 use crate::file::{FileCause, replace_file};
 use crate::form::FileForm;
+use crate::reads::push_reads;
 use nd_commands::{push_edit_answer, push_edit_refusal, push_query_refusal};
 use nd_notebook::{EditFault, Meter, Notebook, is_input_name};
 use nd_script::lines::AnswerWrite;
@@ -25,8 +27,9 @@ pub fn try_cell<O: AnswerWrite>(
     at: usize,
     source: &str,
 )
-    ensures { CarriedOut (Tries at source.now) (tally_of notebook.now meter.old)
-        (O.state out.old) (O.state out.new) (tally_of notebook.now meter.new) }
+    ensures { (held : List ℕ) → CarriedOut (Tries at source.now)
+        (noted_of notebook.now meter.old held) (O.state out.old) (O.state out.new)
+        (noted_of notebook.now meter.new held) }
 {
     match notebook.try_cell(meter, at, source) {
         Ok(tried) => {
@@ -34,6 +37,19 @@ pub fn try_cell<O: AnswerWrite>(
             drop(tried);
         }
         Err(fault) => push_edit_refusal(out, "", fault),
+    }
+}
+
+/// Tells what a cell read, and of which cells.
+pub fn show_reads<O: AnswerWrite>(out: &mut O, notebook: &Notebook, at: usize)
+    ensures { Asked (AsksReads at) notebook.now (O.state out.old) (O.state out.new) }
+{
+    match notebook.reads(at) {
+        Ok(reads) => {
+            push_reads(out, &reads);
+            drop(reads);
+        }
+        Err(fault) => push_query_refusal(out, "", fault),
     }
 }
 
@@ -69,19 +85,30 @@ fn push_cause<O: AnswerWrite>(out: &mut O, tried: &str, kind: ErrorKind)
     push_text(out, "\n");
 }
 
+// Keeps the places of the cells that an edit ran, where it was done.
+fn note_ran(ran: &mut Vec<usize>, done: Result<Vec<usize>, EditFault>)
+    ensures { ran.new.items ≡ places_after done ran.old.items }
+{
+    if let Ok(places) = done {
+        *ran = places;
+    }
+}
+
 /// Sets an input to the file at a path, in a form. A name that no input may have is refused before
-/// the file is opened.
+/// the file is opened. Where it is set, `ran` is the places of the cells that ran.
 pub fn set_file<O: AnswerWrite>(
     rt: &HostRuntime,
     out: &mut O,
     meter: &mut Meter,
     notebook: &mut Notebook,
+    ran: &mut Vec<usize>,
     name: &str,
     path: &str,
     form: FileForm<'_>,
 )
-    ensures { CarriedOut (sets name.now path.now form.entry) (tally_of notebook.old meter.old)
-        (O.state out.old) (O.state out.new) (tally_of notebook.new meter.new) }
+    ensures { CarriedOut (sets name.now path.now form.entry)
+        (noted_of notebook.old meter.old ran.old.items) (O.state out.old) (O.state out.new)
+        (noted_of notebook.new meter.new ran.new.items) }
 {
     if !is_input_name(name) {
         push_edit_refusal(out, name, EditFault::BadInputName);
@@ -91,6 +118,7 @@ pub fn set_file<O: AnswerWrite>(
         Ok(input) => {
             let done = notebook.set_input(meter, name, input);
             push_edit_answer(out, name, &done);
+            note_ran(ran, done);
         }
         Err(error) => push_cause(out, "Unread ", error.kind()),
     }

@@ -9,11 +9,13 @@ mod answerer;
 mod carry;
 mod file;
 mod form;
+mod gather;
 mod index;
 mod line;
 mod part;
 mod program;
 mod raw;
+mod reads;
 mod runner;
 mod word;
 

@@ -1,11 +1,11 @@
 //! `run_desk`: runs a script with words for front ends, from a reader to a writer.
 
-ghost use Rattle.std.specs.Prelude.{◌≡◌, ◌^◌, ◌⊎◌, IfErr, OnOk};
+ghost use Rattle.std.specs.Prelude.{◌≡◌, ℕ, ◌^◌, ◌⊎◌, [], IfErr, List, OnOk};
 ghost use Rattle.nd_model.specs.Book.Script.{Between};
 ghost use Rattle.nd_script.specs.Lines.Ends.{counted_on};
 ghost use Rattle.nd_script.specs.Lines.Language.{RanToEndIn, StoppedAtIn};
 ghost use Rattle.nd_script.specs.Lines.Run.{run_fault_of};
-ghost use Rattle.nd_commands.specs.Run.{tally_of};
+ghost use Rattle.nd_commands.specs.Noted.{noted_of};
 ghost use Rattle.nd_desk.specs.Answers.{desk};
 ghost use Rattle.nd_desk.specs.Words.{Plainly};
 
@@ -27,14 +27,14 @@ pub fn run_desk<R: CountedRead, W: CountedWrite>(
     meter: &mut Meter,
     notebook: &mut Notebook,
 ) -> Result<(), RunFault>
-    ensures to_end { OnOk result (RanToEndIn desk (Plainly Between)
+    ensures to_end { OnOk result ((ran : List ℕ) × RanToEndIn desk (Plainly Between)
         (R.remaining reader.old) (R.remaining reader.new)
-        (tally_of notebook.old meter.old) (W.contents writer.old)
-        (W.contents writer.new) (tally_of notebook.new meter.new)) }
-    ensures stopped { IfErr result (λ f. StoppedAtIn desk (Plainly Between) (run_fault_of f)
-        (R.remaining reader.old) (R.remaining reader.new)
-        (tally_of notebook.old meter.old) (W.contents writer.old)
-        (W.contents writer.new) (tally_of notebook.new meter.new)) }
+        (noted_of notebook.old meter.old []) (W.contents writer.old)
+        (W.contents writer.new) (noted_of notebook.new meter.new ran)) }
+    ensures stopped { IfErr result (λ f. (ran : List ℕ) × StoppedAtIn desk (Plainly Between)
+        (run_fault_of f) (R.remaining reader.old) (R.remaining reader.new)
+        (noted_of notebook.old meter.old []) (W.contents writer.old)
+        (W.contents writer.new) (noted_of notebook.new meter.new ran)) }
     ensures read { IfErr result (λ f. f ≡ RunFault.ReadFault →
         (R.failures reader.new ≡ counted_on (R.failures reader.old) 1)
         ⊎ (R.reads reader.new ≡ counted_on (R.reads reader.old) (2 ^ 32))) }
@@ -45,12 +45,14 @@ pub fn run_desk<R: CountedRead, W: CountedWrite>(
 {
     let mut source = None;
     let mut room = room_for_sources(rt.alloc());
+    let mut ran = Vec::new(rt.alloc());
     let mut answerer = DeskAnswerer {
         rt,
         meter,
         notebook,
         source: &mut source,
         room: &mut room,
+        ran: &mut ran,
     };
     run_lines(rt.alloc(), reader, writer, &mut answerer, MOST_TURNS)
 }

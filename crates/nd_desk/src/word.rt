@@ -22,6 +22,8 @@ use nd_script::words::{number_of, split_word};
 pub enum DeskLine<'a> {
     /// The text of a cell to be tried follows, line by line.
     Try(usize),
+    /// Edits follow that are to be made as one.
+    Begin,
     Word(DeskWord<'a>),
 }
 
@@ -30,6 +32,10 @@ pub enum DeskLine<'a> {
 pub enum DeskWord<'a> {
     /// Which words there are.
     Words,
+    /// Which cells ran in the last edit that was done.
+    Ran,
+    /// What a cell read, and of which cells.
+    Reads(usize),
     /// The dtype and the shape of a name's value after a cell.
     Dtype {
         at: usize,
@@ -90,6 +96,8 @@ fn lone_word<'a>(word: &str) -> Option<DeskLine<'a>>
 {
     match word {
         "words" => Some(DeskLine::Word(DeskWord::Words)),
+        "ran" => Some(DeskLine::Word(DeskWord::Ran)),
+        "begin" => Some(DeskLine::Begin),
         _ => None,
     }
 }
@@ -100,6 +108,7 @@ fn place_line<'a>(word: &str, place: &str) -> Option<DeskLine<'a>>
 {
     match word {
         "try" => Some(DeskLine::Try(number_of(place)?)),
+        "reads" => Some(DeskLine::Word(DeskWord::Reads(number_of(place)?))),
         _ => None,
     }
 }

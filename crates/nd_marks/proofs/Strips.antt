@@ -22,6 +22,10 @@ or_comm true false = refl
 or_comm false true = refl
 or_comm false false = refl
 
+and_false : (b : Bool) → (b && false) ≡ false
+and_false true = refl
+and_false false = refl
+
 pub or_assoc : (a b c : Bool) → (a || (b || c)) ≡ ((a || b) || c)
 or_assoc true b c = refl
 or_assoc false b c = refl
@@ -158,6 +162,38 @@ stretched f w s n a p q some wide is le from to =
     divided f w s n (q - f) q some wide refl (omega arith)
     ∙ ap₂ (λ x y. nat_lt x n && nat_lt y w) quot rest
 
+-- no row has a place from one behind a row to the next row
+pub between : (f w s n p q : ℕ) → 0 < s → w ≤ s → f ≤ p → w ≤ (p - f) % s → p ≤ q → q < f + ((p - f) / s + 1) * s → in_rows f w s n q ≡ false
+between f w s n p q some wide le out from to =
+    let a : ℕ = p - f in
+    let whole : a / s * s + a % s ≡ a = div-add-mod' a s in
+    let less : a % s < s = mod-lt a some in
+    let more : (a / s + 1) * s ≡ a / s * s + s = omega arith in
+    let no : nat_lt (a % s + (q - p)) w ≡ false = grind (arith, nat_tests) in
+    stretched f w s n a p q some wide refl le from (omega arith) ∙ ap (λ b. nat_lt (a / s) n && b) no ∙ and_false (nat_lt (a / s) n)
+
+-- no row has a place from one behind all rows on
+pub none_from : (f w s n p q : ℕ) → w ≤ s → f ≤ p → n ≤ (p - f) / s → p ≤ q → in_rows f w s n q ≡ false
+none_from f w s n p q wide le most from =
+    let a : ℕ = p - f in
+    let whole : a / s * s + a % s ≡ a = div-add-mod' a s in
+    let up : n * s ≤ a / s * s = mul-le-mul_right s most in
+    past f w s n q wide (omega arith)
+
+-- the next row begins behind a place
+pub next_behind : (f s p : ℕ) → 0 < s → f ≤ p → p ≤ f + ((p - f) / s + 1) * s
+next_behind f s p some le =
+    let a : ℕ = p - f in
+    let whole : a / s * s + a % s ≡ a = div-add-mod' a s in
+    let less : a % s < s = mod-lt a some in
+    let more : (a / s + 1) * s ≡ a / s * s + s = omega arith in
+    omega arith
+
+-- rows without bytes
+pub no_bytes : (f s n p : ℕ) → in_rows f 0 s n p ≡ false
+no_bytes f s zero p = refl
+no_bytes f s (suc n) p = rw (no_bytes f s n p) (grind (arith, nat_tests))
+
 -- one row over all rows of others
 pub covered : (f w s m g v t n p : ℕ) → m ≡ 1 → 0 < n → v ≤ t → f ≤ g → g + n * t - (t - v) ≤ f + w → (in_rows f w s m p || in_rows g v t n p) ≡ in_rows f w s m p
 covered f w s m g v t n p one some wide from to = elim (cases_lt p g) [
@@ -259,10 +295,6 @@ fitted a b r s is = ap (λ t. t || r) is ∙ turn b s r
     turn false true false = refl
     turn false false true = refl
     turn false false false = refl
-
-and_false : (b : Bool) → (b && false) ≡ false
-and_false true = refl
-and_false false = refl
 
 -- a stretch of which all is excepted
 pub all_excepted : (o e : Bool) (p from at end : ℕ) → from ≤ at → at ≤ end → (at ≤ p → p < end → e ≡ true)

@@ -353,6 +353,13 @@ impl KeptBytes {
         Ok(KeptBytes { marks, bytes })
     }
 
+    /// Returns the byte offsets of the bytes that are kept.
+    pub fn offsets(&self) -> &Marks
+        ensures { result.now ≡ self.now.marks }
+    {
+        &self.marks
+    }
+
     /// Returns true only where both keep bytes at the same byte offsets.
     pub fn has_offsets_of(&self, other: &KeptBytes) -> bool
         ensures { IsTrue result → (p : ℕ) → is_some (kept_at self.now p)

@@ -243,6 +243,32 @@ impl Strip {
         behind / self.step < self.count && behind % self.step < self.width
     }
 
+    /// Returns whether a byte offset of `from..to` is in a row: one division.
+    pub(crate) fn meets(&self, from: u128, to: u128) -> bool
+        ensures none { result ≡ false → (p : ℕ) → from ≤ p → p < to
+            → in_strip self.now p ≡ false }
+        ensures some { IsTrue result
+            → ((p : ℕ) × (from ≤ p) × (p < to) × IsTrue (in_strip self.now p)) }
+    {
+        if self.count == 0 || self.width == 0 || to <= from {
+            return false;
+        }
+        let first = u128::from(self.first);
+        if from <= first {
+            return first < to;
+        }
+        let behind = from - first;
+        let row = behind / u128::from(self.step);
+        if row >= u128::from(self.count) {
+            return false;
+        }
+        if behind % u128::from(self.step) < u128::from(self.width) {
+            return true;
+        }
+        let next = row as u64 + 1;
+        next < self.count && self.start(next) < to
+    }
+
     /// Returns how far all byte offsets from `place` on, or none of them, are in rows.
     pub(crate) fn stretch(&self, place: u64) -> Stretch
         ensures more { place < result.end }

@@ -26,9 +26,9 @@ impl ByteRange {
 
 /// Bits of a word that are set, from one on, before another.
 #[derive(Clone, Copy)]
-struct SetBits {
-    from: u64,
-    to: u64,
+pub(crate) struct SetBits {
+    pub(crate) from: u64,
+    pub(crate) to: u64,
 }
 
 /// A walk over the byte offsets of a set: over its rows, and then over the bits that are set. A
@@ -71,8 +71,8 @@ fn next_row(rows: &Strip, row: &mut u64) -> Option<ByteRange>
     })
 }
 
-/// The next set bits of a word, from bit `bit` on. At the end of the word there are none.
-fn next_set(word: u64, bit: u64) -> SetBits
+/// Returns the next set bits of a word, from bit `bit` on. At the end of the word there are none.
+pub(crate) fn next_set(word: u64, bit: u64) -> SetBits
     requires { bit < 64 }
     ensures order { (bit ≤ result.from) × ((result.from ≤ result.to) × ((result.to ≤ 64)
         × (bit < result.to))) }

@@ -7,6 +7,7 @@ ghost use Rattle.nd_model.specs.Arrays.Tuple.{count_up};
 ghost use Rattle.nd_marks.specs.Marks.{has_bit, in_word, in_strip, in_strips};
 
 use crate::strip::Strip;
+use crate::walk::next_set;
 use std::alloc::AllocError;
 
 /// The word of the lowest `count` bits.
@@ -46,15 +47,21 @@ pub(crate) fn is_set(words: &[u64], place: u64) -> bool
     (word_of(words, (place / 64) as usize) >> (place % 64)) & 1 == 1
 }
 
-/// Returns whether a bit of `from..to` is set.
+/// Returns whether a bit of `from..to` is set. A word without set bits is passed over at once.
 pub(crate) fn any_set(words: &[u64], from: u128, to: u128) -> bool
-    ensures { result ≡ false → (p : ℕ) → from ≤ p → p < to → has_bit words.now p ≡ false }
+    ensures none { result ≡ false → (p : ℕ) → from ≤ p → p < to → has_bit words.now p ≡ false }
+    ensures some { IsTrue result
+        → ((p : ℕ) × (from ≤ p) × (p < to) × IsTrue (has_bit words.now p)) }
 {
     let end = to.min(words.len() as u128 * 64);
-    for place in from..end {
-        if (words[(place / 64) as usize] >> (place % 64) as u64) & 1 == 1 {
-            return true;
+    let mut at = from;
+    while at < end {
+        let low = at / 64 * 64;
+        let set = next_set(words[(at / 64) as usize], (at % 64) as u64);
+        if set.from < set.to {
+            return low + u128::from(set.from) < end;
         }
+        at = low + u128::from(set.to);
     }
     false
 }

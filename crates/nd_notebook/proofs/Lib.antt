@@ -1,5 +1,12 @@
 pub mod Answered
 pub mod Asked
+pub mod Entries
+pub mod Gathering
+pub mod LastPlaces
+pub mod Looking
+pub mod Noted
+pub mod ReadsTold
 pub mod Sessions
+pub mod Setters
 pub mod Tried
 pub mod Worlds

@@ -1,5 +1,10 @@
 pub mod Edits
+pub mod Noted
 pub mod Queries
+pub mod Readers
+pub mod ReadsShown
+pub mod SoFar
+pub mod Together
 pub mod Tried
 pub use Rattle.nd_types.specs.Kinds
 pub use Rattle.nd_types.specs.Fields

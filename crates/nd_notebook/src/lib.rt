@@ -6,6 +6,8 @@ mod edit;
 mod kernel;
 mod notebook;
 mod query;
+mod reading;
+mod together;
 mod trying;
 mod world;
 
@@ -18,4 +20,6 @@ pub use nd_session::session::{CellRule, Input, OutOfMemory, is_input_name};
 pub use nd_types::{Elem, ElemType, Field, Kind, RecType};
 pub use notebook::Notebook;
 pub use query::{BoundValue, QueryFault, Shown, ShownElements};
+pub use reading::{BlockRead, CellReads, NameRead};
+pub use together::{OwnedEdit, Refused};
 pub use trying::TriedCell;

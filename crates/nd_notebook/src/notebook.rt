@@ -6,6 +6,7 @@ ghost use Rattle.nd_model.specs.Book.Notebook.{Answers, CountsRuns, no_sheet};
 ghost use Rattle.nd_input.specs.Sources.{source_of};
 ghost use Rattle.nd_session.specs.Inputs.Values.{rule_of};
 ghost use Rattle.nd_notebook.specs.Edits.{IsRefusalOf, RanFor, outcome_of};
+ghost use Rattle.nd_notebook.specs.SoFar.{fault_of};
 
 use crate::edit::{Edit, EditFault};
 use crate::kernel::SessionRunner;
@@ -21,7 +22,7 @@ use std::alloc::Global;
 use std::marker::Model;
 
 /// The most cells of a notebook.
-const MOST_CELLS: usize = 10_000;
+pub(crate) const MOST_CELLS: usize = 10_000;
 
 /// The most bytes of a cell's text.
 pub(crate) const MOST_SOURCE: usize = 65_536;
@@ -30,8 +31,10 @@ pub(crate) const MOST_SOURCE: usize = 65_536;
 const MOST_INPUT: u128 = 67_108_864;
 
 /// Refuses an input that no notebook takes under a name. Want of memory is none of its refusals.
-fn check_input(name: &str, input: &Input) -> Result<(), EditFault>
-    ensures { IsRefusalOf (model.SetInput name.now (source_of input.now)) result }
+pub(crate) fn check_input(name: &str, input: &Input) -> Result<(), EditFault>
+    ensures refusal { IsRefusalOf (model.SetInput name.now (source_of input.now)) result }
+    ensures fault { fault_of (model.SetInput name.now (source_of input.now)) result
+        ≡ model.under_name name.now (model.fit_input (source_of input.now)) }
 {
     if !is_input_name(name) {
         return Err(EditFault::BadInputName);
@@ -63,7 +66,7 @@ fn without_places(answer: Result<Vec<usize>, EditFault>) -> Result<(), EditFault
 #[derive(Drop)]
 pub struct Notebook {
     pub(crate) schedule: Schedule<SessionRunner>,
-    alloc: Global,
+    pub(crate) alloc: Global,
 }
 
 impl Model for Notebook {

@@ -12,3 +12,6 @@ mod Turning
 mod Stretches
 mod Runs
 mod Tried
+mod Coming
+mod Drafting
+mod Joining

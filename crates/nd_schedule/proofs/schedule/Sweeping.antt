@@ -70,14 +70,18 @@ module _ (old new : Book) where
       either (Some was) e h = let is : record_at old.world was ≡ r = some_is (record_at old.world was) r e in
           h (λ key read. some_found _ _ (sym (read_there old.world was key read) ∙ ap (λ (x : Record). x.values key) is ∙ holds.same key (subst (λ (x : Record). IsTrue (x.read key)) is read)))
 
-  -- one cell more was run, for want of a record that holds
-  pub counts_run : (k before mid after : ℕ) → k < length new.cells → AreDistinct (labels_of old.cells) → AreDistinct (labels_of new.cells)
-      → IfSome (kept_of old (entry_at new k).cell) (λ r. ¬ StillHolds r (session_before new k) new.world) → CountsFront old new k before mid → after ≡ min (mid + 1) (2 ^ 64 - 1) → CountsFront old new (k + 1) before after
-  counts_run k before mid after lt d e fails h more = (
+  -- one cell more was run, which is stale
+  pub counts_more : (k before mid after : ℕ) → k < length new.cells → IsStale old new (entry_at new k) → CountsFront old new k before mid → after ≡ min (mid + 1) (2 ^ 64 - 1) → CountsFront old new (k + 1) before after
+  counts_more k before mid after lt stale h more = (
     suc h.0,
-    subst (AtLeast (suc h.0) (IsStale old new)) (sym (take-entries_of new k lt)) (at_least-push h.0 (IsStale old new) (take k (entries_of new)) (entry_at new k) h.1 (stale_there k lt d e fails)),
+    subst (AtLeast (suc h.0) (IsStale old new)) (sym (take-entries_of new k lt)) (at_least-push h.0 (IsStale old new) (take k (entries_of new)) (entry_at new k) h.1 stale),
     more ∙ ap (λ m. min (m + 1) (2 ^ 64 - 1)) h.2 ∙ sym (counted-suc h.0 before),
   )
+
+  -- for want of a record that holds
+  pub counts_run : (k before mid after : ℕ) → k < length new.cells → AreDistinct (labels_of old.cells) → AreDistinct (labels_of new.cells)
+      → IfSome (kept_of old (entry_at new k).cell) (λ r. ¬ StillHolds r (session_before new k) new.world) → CountsFront old new k before mid → after ≡ min (mid + 1) (2 ^ 64 - 1) → CountsFront old new (k + 1) before after
+  counts_run k before mid after lt d e fails h more = counts_more k before mid after lt (stale_there k lt d e fails) h more
 
 -- the record of a cell is that of a run over the session before it
 pub runs_over : (b : Book) (k : ℕ) → k < length b.cells → AreDistinct (labels_of b.cells) → IsRunOver (record_at b.world (entry_at b k)) (session_before b k) b.world

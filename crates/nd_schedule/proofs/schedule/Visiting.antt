@@ -84,7 +84,7 @@ module _ (old new : Book) (i j : ℕ) (cs : List Cell) (rs : List Record) (given
   fails_now x is out = Sweeping.fails_now old new i j lt frame.run.distinct frame.beside
       (Sweeping.not_fits old new i j lt frame.run.distinct frame.beside c s since at (λ f. out (subst (Fits c) (sym is) f)))
 
-  stale_now : (x : Record) → x ≡ was → ¬ Fits c x → IsStale old new (entry_at new j)
+  pub stale_now : (x : Record) → x ≡ was → ¬ Fits c x → IsStale old new (entry_at new j)
   stale_now x is out = Sweeping.stale_there old new j less frame.run.distinct frame.beside.distinct (fails_now x is out)
 
   -- the cell is run

@@ -4,7 +4,7 @@ ghost use Rattle.std.specs.Prelude.{◌≡◌, ◌<◌, ◌≤◌, ◌+◌, Some
 ghost use Rattle.nd_model.specs.Cells.Session.{lookup};
 ghost use Rattle.nd_model.specs.Book.Renaming.{AreDistinct};
 ghost use Rattle.nd_model.specs.Book.Book.{labels_of, no_cell, told_book};
-ghost use Rattle.nd_model.specs.Book.Entries.{session_before};
+ghost use Rattle.nd_model.specs.Book.Entries.{entry_at, record_at, session_before};
 ghost use Rattle.nd_model.specs.Book.Scheduler.{told_of};
 ghost use Rattle.nd_model.specs.Book.Notebook.{book_of};
 
@@ -52,8 +52,10 @@ impl<C: CellRunner> Schedule<C> {
     /// What the run of the cell at the place gave. It takes no memory.
     pub fn record_at(&self, at: usize) -> &C::Record
         requires { at < length self.now.cells }
-        ensures { slice_get (told_book (book_of self.now)) at
+        ensures told { slice_get (told_book (book_of self.now)) at
             ≡ Some (told_of (C.recorded result.now) (session_before (book_of self.now) (at + 1))) }
+        ensures recorded { C.recorded result.now
+            ≡ record_at (book_of self.now).world (entry_at (book_of self.now) at) }
     {
         &self.records[at]
     }

@@ -118,6 +118,20 @@ base_at f [] i e at = none_some e at
 base_at {V} f (d ∷ es) zero e at = ap (λ (d : Base × V). Some (base_of d.0, f d.1)) (some_same d e at)
 base_at f (d ∷ es) (suc i) e at = base_at f es i e at
 
+pub length-by_text : {V A : Type 0} (f : V → A) (es : List (String Global × V)) → length (by_text f es) ≡ length es
+length-by_text f [] = refl
+length-by_text f (e ∷ es) = ap suc (length-by_text f es)
+
+pub text_at : {V A : Type 0} (f : V → A) (es : List (String Global × V)) (i : ℕ) (e : String Global × V) → slice_get es i ≡ Some e → slice_get (by_text f es) i ≡ Some (string_bytes e.0, f e.1)
+text_at f [] i e at = none_some e at
+text_at {V} f (d ∷ es) zero e at = ap (λ (d : String Global × V). Some (string_bytes d.0, f d.1)) (some_same d e at)
+text_at f (d ∷ es) (suc i) e at = text_at f es i e at
+
+-- what is there stays there
+pub is_some-map : {A B : Type 0} (f : A → B) (o : Option A) → is_some (option_map f o) ≡ is_some o
+is_some-map f None = refl
+is_some-map f (Some a) = refl
+
 -- nothing stands by a base that has no entry
 pub base_lacks : {V A : Type 0} (f : V → A) (b : Base) (es : List (Base × V)) → is_some (find (base_eq b) es) ≡ false → lookup_base (base_of b) (by_base f es) ≡ None
 base_lacks f b es out = base_found f b es ∙ ap (option_map f) (gone (find (base_eq b) es) out)

@@ -104,6 +104,24 @@ impl FoundBytes {
         }
     }
 
+    /// Returns the byte offsets of the bytes that were found.
+    pub(crate) fn offsets(&self) -> &Marks
+        ensures { (p : ℕ) → holds result.now p ≡ is_some (found_at (bytes_of self.now) p) }
+    {
+        match self {
+            FoundBytes::Kept(kept) => kept.offsets(),
+            FoundBytes::Shared(marks, _) => marks,
+        }
+    }
+
+    /// Returns whether some byte offset is in both.
+    pub(crate) fn meets(&self, other: &FoundBytes) -> bool
+        ensures { IsTrue result ↔ ((p : ℕ) × IsTrue (is_some (found_at (bytes_of self.now) p))
+            × IsTrue (is_some (found_at (bytes_of other.now) p))) }
+    {
+        self.offsets().meets(other.offsets())
+    }
+
     /// Returns true only where both have the same byte offsets.
     pub(crate) fn has_offsets_of(&self, part: &KeptBytes) -> bool
         ensures { IsTrue result → (p : ℕ) → is_some (kept_at part.now p)

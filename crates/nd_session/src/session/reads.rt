@@ -18,6 +18,7 @@ ghost use Rattle.nd_heap.specs.Values.{base_of};
 ghost use Rattle.nd_session.specs.Inputs.Values.{inputs_of, rule_of, world_of};
 
 use crate::inputs::{CellRule, Input, Inputs, are_same_inputs, find_input};
+use crate::session::changes::Changes;
 use crate::session::found::{FoundByBase, note_bytes};
 use crate::session::session::Session;
 use crate::session::version::Version;
@@ -240,6 +241,21 @@ fn have_same_bytes(reads: &FoundByBase, session: &Session) -> bool
     true
 }
 
+/// Whether a byte of a block was found in both.
+fn meets_at(reads: &FoundByBase, others: &FoundByBase, base: Base) -> bool
+    ensures { IsTrue result
+        ↔ ((p : ℕ) × IsTrue (is_some (byte_found reads.now.entries (base_of base) p))
+        × IsTrue (is_some (byte_found others.now.entries (base_of base) p))) }
+{
+    let Some(read) = reads.get(&base) else {
+        return false;
+    };
+    let Some(other) = others.get(&base) else {
+        return false;
+    };
+    read.meets(other)
+}
+
 /// The rule as a cell has read it: none where it was not refused.
 fn read_rule(rule: CellRule, is_refused: bool) -> Option<CellRule>
     ensures { option_map rule_of result ≡ (if is_refused then Some (rule_of rule) else None) }
@@ -329,5 +345,105 @@ impl Reads {
             return false;
         }
         have_same_bytes(&self.bytes, session)
+    }
+}
+
+impl Reads {
+    ghost use Rattle.std.specs.Prelude.{◌<◌, slice_get};
+    ghost use Rattle.nd_model.specs.Cells.Running.{Byte, Length};
+    ghost use Rattle.nd_session.specs.Session.Changes.{writes_in};
+
+    /// Returns the number of names that were read, bound or not.
+    pub fn name_count(&self) -> usize
+        ensures { result ≡ length self.now.names }
+    {
+        self.names.len()
+    }
+
+    /// Returns one of the names that were read, in the order of their first reads.
+    pub fn name_at(&self, place: usize) -> &str
+        requires { place < length self.now.names }
+        ensures { option_map (λ e. e.0) (slice_get self.now.names place) ≡ Some result.now }
+    {
+        let Some((name, _)) = self.names.get_index(place) else {
+            unreachable!();
+        };
+        name.as_str()
+    }
+
+    /// Returns the number of inputs that were read, there or not.
+    pub fn input_count(&self) -> usize
+        ensures { result ≡ length self.now.inputs }
+    {
+        self.inputs.len()
+    }
+
+    /// Returns one of the names of inputs that were read, in the order of their first reads.
+    pub fn input_at(&self, place: usize) -> &str
+        requires { place < length self.now.inputs }
+        ensures { option_map (λ e. e.0) (slice_get self.now.inputs place) ≡ Some result.now }
+    {
+        let Some((name, _)) = self.inputs.get_index(place) else {
+            unreachable!();
+        };
+        name.as_str()
+    }
+
+    /// Returns the number of blocks whose length was read.
+    pub fn length_count(&self) -> usize
+        ensures { result ≡ length self.now.lengths }
+    {
+        self.lengths.len()
+    }
+
+    /// Returns one of the blocks whose length was read.
+    pub fn length_at(&self, place: usize) -> Base
+        requires { place < length self.now.lengths }
+        ensures { option_map (λ e. e.0) (slice_get self.now.lengths place) ≡ Some (base_of result) }
+    {
+        let Some((base, _)) = self.lengths.get_index(place) else {
+            unreachable!();
+        };
+        *base
+    }
+
+    /// Returns the number of blocks of which bytes were noted, be they none.
+    pub fn block_count(&self) -> usize
+        ensures { result ≡ length self.now.bytes }
+    {
+        self.bytes.len()
+    }
+
+    /// Returns one of the blocks of which bytes were noted, in the order of their first reads.
+    pub fn block_at(&self, place: usize) -> Base
+        requires { place < length self.now.bytes }
+        ensures { option_map (λ e. e.0) (slice_get self.now.bytes place) ≡ Some (base_of result) }
+    {
+        let Some((base, _)) = self.bytes.get_index(place) else {
+            unreachable!();
+        };
+        *base
+    }
+
+    /// Returns whether the length of a block was read.
+    pub fn reads_length(&self, base: Base) -> bool
+        ensures { result ≡ keys_of self.now (Length (base_of base)) }
+    {
+        self.lengths.contains_key(&base)
+    }
+
+    /// Returns whether a byte of a block was read. It takes no memory.
+    pub fn reads_bytes(&self, base: Base) -> bool
+        ensures { IsTrue result ↔ ((p : ℕ) × IsTrue (keys_of self.now (Byte (base_of base) p))) }
+    {
+        meets_at(&self.bytes, &self.bytes, base)
+    }
+
+    /// Returns whether a byte of a block was read that some changes wrote. It takes no memory.
+    pub fn reads_written(&self, changes: &Changes, base: Base) -> bool
+        ensures { IsTrue result ↔ ((p : ℕ) × IsTrue (keys_of self.now (Byte (base_of base) p))
+            × IsTrue (is_some (writes_in changes.now (base_of base) p))) }
+    {
+        meets_at(&self.bytes, &changes.written, base)
     }
 }

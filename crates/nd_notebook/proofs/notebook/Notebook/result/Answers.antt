@@ -13,4 +13,4 @@ returns-then-count-at c =
 pub returns : goal.returns
 returns c =
     result_told c.args.self.now c.self.inside.schedule c.args.at c.record_at.result.now (session_before (book_of c.self.inside.schedule) (c.args.at + 1)) c.result.result.now
-    c.self.view_is c.record_at.ensures c.result.ensures.text c.result.ensures.refusal c.result.ensures.saves
+    c.self.view_is c.record_at.ensures.told c.result.ensures.text c.result.ensures.refusal c.result.ensures.saves

@@ -3,9 +3,9 @@ use Rattle.std.proofs.lemmas.Result.{err_from_is_err_and}
 use Rattle.nd_notebook.proofs.notebook.Notebook.set_copy.Goals as goal
 
 pub returns-in-Err-clause-answered : goal.returns-in-Err-clause-answered
-returns-in-Err-clause-answered c = (c.in-Err.ensures c.args.self.now c.args.meter.now).0
+returns-in-Err-clause-answered c = (c.in-Err.ensures.refusal c.args.self.now c.args.meter.now).0
 
 pub returns-in_err-copy-clause-answered : goal.returns-in_err-copy-clause-answered
 returns-in_err-copy-clause-answered c =
     let p = err_from_is_err_and c.from_residual.result c.from_residual.ensures.1 in
-    rw (p.1, p.2) (c.in_default.ensures c.args.self.now, refl)
+    rw (p.1, p.2) (c.in_default.ensures.refusal c.args.self.now, refl)

@@ -1,0 +1,16 @@
+use Rattle.std.proofs.Common.{◌≡◌, length, length-set, set, sym, ap, ◌∙◌, arith}
+use Rattle.nd_model.specs.Book.Book.{Move, edited_cells}
+use Rattle.nd_schedule.proofs.schedule.Drafting.{cells_moved, long, moved}
+use Rattle.nd_schedule.proofs.schedule.draft.Draft.move_cell.Goals as goal
+
+pub invariant_of-self : goal.invariant_of-self
+invariant_of-self c =
+    let inside : length c.self.inside.cells.items ≡ length c.args.self.now = sym (long c.self.inside.cells.items) ∙ ap length c.self.view_is in
+    let d = c.self.invariant in
+    moved c.self.inside.cells.items (set c.self.inside.hints.items c.args.from c.as_moved.result) c.self.inside.least (d.0, length-set c.self.inside.hints.items c.args.from c.as_moved.result ∙ d.1, d.2)
+    c.move_item-2.new.list.items c.move_item.new.list.items c.args.from c.args.to (omega (arith, inside, c.requires.from)) (omega (arith, inside, c.requires.to)) c.move_item-2.ensures c.move_item.ensures
+
+pub returns : goal.returns
+returns c =
+    let inside : length c.self.inside.cells.items ≡ length c.args.self.now = sym (long c.self.inside.cells.items) ∙ ap length c.self.view_is in
+    cells_moved c.self.inside.cells.items c.move_item-2.new.list.items c.args.from c.args.to (omega (arith, inside, c.requires.from)) c.move_item-2.ensures ∙ ap (edited_cells (Move c.args.from c.args.to)) c.self.view_is

@@ -55,7 +55,7 @@ UNBOUND = ["del x", "del y", "del z", "del a", "del b", "x = y", "z = x", "a = x
 REFUSED = ["x[9] = 1", "y[-7] = 1", "print(x[6])", "print(q)", "w = q", "del q", "a[0] = 1", "x[0, 0] = 1",
            "x[0] = z", "x[0] = 9223372036854775808", "a = 18446744073709551616", "y = x.T",
            "x = np.zeros(3)"]
-CHOSEN = ["x[y] = 1", "x[y] += 1", "print(x[y])"]
+CHOSEN = ["x[y] = 1", "x[y] += 1", "print(x[y])", "z = x[y]", "x[y] = z", "z[y] -= x", "x[9] += y[9]"]
 UNREAD = ["x = 1 +", "y = 1 < 2 < 3", "x = $", "print(x", "frob(x)"]
 SILENT = ["", "# a remark", "import numpy as np"]
 LOADED = ["x = np.load('f')", "y = np.load('g')", "z = np.load('none')", "x = buffer('b')", "y = buffer('f')"]
@@ -444,14 +444,7 @@ def wrong_reads(lines: List[str], now: Pass) -> Optional[str]:
 
 def wrong_runs(told: List[str], steps: List[Step], has: Has) -> Optional[Fault]:
     """The first edit that ran other cells than those that it made stale, or behind which a cell is told to have read
-    what it has not. Of cells that `stale_cells` cannot run nothing is said."""
-    try:
-        return compared_runs(told, steps, has)
-    except NotImplementedError:
-        return None
-
-
-def compared_runs(told: List[str], steps: List[Step], has: Has) -> Optional[Fault]:
+    what it has not."""
     ran, last = "ran 0", Pass()
     for at, step in enumerate(steps):
         first, *lines = told[PARTS * at + 1].split("\n")

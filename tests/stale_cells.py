@@ -3,12 +3,13 @@
 A cell is stale where it is new, has another text, or where its last run read something that is another now: what a
 name is bound to, the length of the memory of an array that it came to by a name, an element that the cell did not make
 or write itself, or an input. A cell that was refused is stale where the rule is another. All cells are run here from
-nothing over arrays with one axis; a run keeps what it read. Texts are read as Python's own syntax tree; a call or an
-index of another form raises NotImplementedError.
+nothing over arrays with one axis; a run keeps what it read. Texts are read as Python's own syntax tree; a call of
+another form, or an index that is a text, raises NotImplementedError.
 """
 import ast
 import operator
 from dataclasses import dataclass, field
+from enum import Enum
 from typing import Any, Callable, Dict, List, Optional, Set, Tuple, Union
 
 INT64 = 1 << 63
@@ -35,18 +36,21 @@ class Scalar:
 
 @dataclass(frozen=True)
 class Array:
-    """Elements of a base: the first, the step and the count."""
+    """Elements of a base, by their places."""
     base: BaseKey
-    start: int
-    step: int
-    count: int
+    places: Tuple[int, ...]
     kind: str = "int64"
-
-    def places(self) -> List[int]:
-        return [self.start + self.step * i for i in range(self.count)]
 
 
 Value = Union[int, bool, Scalar, Array]
+Item = Union[slice, Tuple[Value, ...], Value]
+
+
+class Form(Enum):
+    """What an index gives: the chosen elements themselves, new ones, or a number."""
+    VIEW = 1
+    COPY = 2
+    NUMBER = 3
 
 
 def same(one: Optional[Value], other: Optional[Value]) -> bool:
@@ -127,10 +131,10 @@ class Run:
         return number
 
     def numbers(self, value: Array) -> List[int]:
-        return [self.element(value.base, place) for place in value.places()]
+        return [self.element(value.base, place) for place in value.places]
 
     def write(self, array: Array, numbers: List[int]) -> None:
-        for place, number in zip(array.places(), numbers):
+        for place, number in zip(array.places, numbers):
             self.own.add((array.base, place))
             self.session.bases[array.base][place] = number
 
@@ -138,7 +142,7 @@ class Run:
         base = (self.label, self.made)
         self.made += 1
         self.session.bases[base] = list(numbers)
-        return Array(base, 0, 1, len(numbers), kind)
+        return Array(base, tuple(range(len(numbers))), kind)
 
     def statement(self, node: ast.stmt) -> None:
         if isinstance(node, ast.Assign):
@@ -158,8 +162,7 @@ class Run:
         """A call that prints or saves: its arguments are evaluated first, and then read."""
         used = node.args[1:] if isinstance(node.func, ast.Attribute) else node.args
         for value in [self.value(argument) for argument in used]:
-            if isinstance(value, Array):
-                self.numbers(value)
+            self.use(value)
 
     def value(self, node: ast.expr) -> Value:
         if isinstance(node, ast.Constant):
@@ -171,10 +174,7 @@ class Run:
         if isinstance(node, ast.Name):
             return self.name(node.id)
         if isinstance(node, ast.Subscript):
-            chosen = self.choose(node)
-            if isinstance(chosen, Array) and isinstance(node.slice, ast.Slice):
-                return chosen
-            return Scalar(self.element(chosen.base, chosen.start), chosen.kind)
+            return self.taken(*self.choose(self.value(node.value), self.item(node.slice)))
         if isinstance(node, ast.Attribute):
             if node.attr != "T":
                 raise NotImplementedError(node.attr)
@@ -202,112 +202,106 @@ class Run:
             raise Refused
         return self.fresh(found.elements, found.element_kind)
 
-    def position(self, node: ast.expr) -> int:
-        value = self.value(node)
-        if isinstance(value, Array):
-            raise NotImplementedError("an index that is an array")
-        if isinstance(value, bool) or not isinstance(value, (int, Scalar)):
-            raise Refused
-        return value.number if isinstance(value, Scalar) else value
+    def item(self, node: ast.expr) -> Item:
+        """What stands in an index."""
+        if isinstance(node, ast.Slice):
+            return slice(*(part and self.value(part) for part in (node.lower, node.upper, node.step)))
+        if isinstance(node, ast.Tuple):
+            return tuple(self.value(part) for part in node.elts)
+        if isinstance(node, ast.Constant) and not isinstance(node.value, int):
+            raise NotImplementedError(ast.dump(node))
+        return self.value(node)
 
-    def choose(self, node: ast.Subscript) -> Array:
-        """The elements that an index chooses: a slice, or one position."""
-        array = self.value(node.value)
-        if isinstance(node.slice, ast.Tuple):
+    def choose(self, array: Value, item: Item) -> Tuple[Array, Form]:
+        """The elements that an item chooses. An array that is an item is read first."""
+        self.use(item)
+        if not isinstance(array, Array) or isinstance(item, (tuple, bool)):
             raise Refused
-        if isinstance(node.slice, ast.Constant) and not isinstance(node.slice.value, int):
-            raise NotImplementedError(ast.dump(node.slice))
-        if isinstance(node.slice, ast.Slice):
-            bounds = [None if part is None else self.position(part)
-                      for part in (node.slice.lower, node.slice.upper, node.slice.step)]
-            if not isinstance(array, Array):
-                raise Refused
-            chosen = range(array.count)[slice(*bounds)]
-            start = array.start + array.step * chosen.start
-            return Array(array.base, start, array.step * chosen.step, len(chosen), array.kind)
-        at = self.position(node.slice)
-        if not isinstance(array, Array) or not -array.count <= at < array.count:
-            raise Refused
-        return Array(array.base, array.start + array.step * (at % array.count), array.step, 1, array.kind)
+        if isinstance(item, slice):
+            return Array(array.base, array.places[item], array.kind), Form.VIEW
+        positions = self.numbers(item) if isinstance(item, Array) else [getattr(item, "number", item)]
+        try:
+            places = tuple(array.places[at] for at in positions)
+        except IndexError:
+            raise Refused from None
+        return Array(array.base, places, array.kind), Form.COPY if isinstance(item, Array) else Form.NUMBER
 
-    def spread(self, value: Value, count: int, kind: str) -> List[int]:
-        """The numbers of a value as `count` elements of a kind."""
-        if isinstance(value, Array):
-            if value.count not in (1, count):
-                raise Refused
-            numbers = self.numbers(value)
-            return [fitted(number, kind) for number in (numbers * count if value.count == 1 else numbers)]
-        if isinstance(value, Scalar):
-            return [fitted(value.number, kind)] * count
-        if not isinstance(value, bool) and fitted(value, kind) != value:
-            raise Refused
-        return [int(value)] * count
+    def taken(self, chosen: Array, form: Form) -> Value:
+        """What an index gives of the elements that it chose."""
+        if form is Form.VIEW:
+            return chosen
+        numbers = self.numbers(chosen)
+        return self.fresh(numbers, chosen.kind) if form is Form.COPY else Scalar(numbers[0], chosen.kind)
 
-    def use(self, value: Value) -> None:
+    def use(self, value: Item) -> None:
         """Reads the elements of a value, as a statement does that is refused behind it."""
         if isinstance(value, Array):
             self.numbers(value)
 
-    def evaluate(self, target: ast.Subscript) -> None:
-        """Looks up the names of a target and of its index, before the index is looked at."""
-        self.value(target.value)
-        for part in ast.walk(target.slice):
-            if isinstance(part, ast.Name):
-                self.name(part.id)
-
     def assign(self, target: ast.Subscript, value: Value) -> None:
-        self.evaluate(target)
+        array, item = self.value(target.value), self.item(target.slice)
         self.use(value)
-        chosen = self.choose(target)
-        if isinstance(value, Array) and not isinstance(target.slice, ast.Slice):
-            raise Refused
-        self.write(chosen, self.spread(value, chosen.count, chosen.kind))
+        self.put(self.choose(array, item)[0], value)
+
+    def put(self, chosen: Array, value: Value) -> None:
+        """Writes a value to the elements that an index chose."""
+        self.write(chosen, [fitted(number, chosen.kind) for number in self.operand(value, chosen)])
 
     def augment(self, node: ast.AugAssign) -> None:
         work = OPERATORS[type(node.op)]
         if isinstance(node.target, ast.Name):
-            old = self.name(node.target.id)
-            value = self.value(node.value)
+            old, value = self.name(node.target.id), self.value(node.value)
             if isinstance(old, Array):
                 self.in_place(old, work, value)
             else:
                 self.bind(node.target.id, self.computed(work, old, value))
             return
-        self.evaluate(node.target)
-        try:
-            chosen = self.choose(node.target)
-        except Refused:
-            self.use(self.value(node.value))
-            raise
-        self.use(chosen)
-        value = self.value(node.value)
-        self.use(value)
-        if isinstance(value, Array) and not isinstance(node.target.slice, ast.Slice):
-            raise Refused
-        self.in_place(chosen, work, value)
+        chosen, form = self.choose(self.value(node.target.value), self.item(node.target.slice))
+        old, value = self.taken(chosen, form), self.value(node.value)
+        if isinstance(old, Array):
+            self.in_place(old, work, value)
+        else:
+            old = self.computed(work, old, value)
+        if form is not Form.VIEW:
+            self.put(chosen, old)
 
     def in_place(self, target: Array, work: Any, value: Value) -> None:
         self.use(target)
         self.use(value)
-        if isinstance(value, Array) and value.count not in (1, target.count):
-            raise Refused
-        right = self.spread(value, target.count, "int64")
-        left = self.numbers(target)
-        self.write(target, [fitted(work(a, b), target.kind) for a, b in zip(left, right)])
+        right = self.operand(value, target)
+        self.write(target, [fitted(work(a, b), target.kind) for a, b in zip(self.numbers(target), right)])
+
+    def operand(self, value: Value, target: Array) -> List[int]:
+        """The numbers of a value, one for each element of a target."""
+        count = len(target.places)
+        if isinstance(value, Array):
+            if len(value.places) not in (1, count):
+                raise Refused
+            return self.numbers(value) * (count if len(value.places) == 1 else 1)
+        return [value.number if isinstance(value, Scalar) else weak(value, target.kind)] * count
 
     def computed(self, work: Any, one: Value, other: Value) -> Value:
         """A number, or a new array."""
+        self.use(other)
+        kinds = {value.kind for value in (one, other) if isinstance(value, (Scalar, Array))}
+        if not kinds:
+            result = work(one, other)
+            if not -INT64 <= result < 2 * INT64:
+                raise Refused
+            return result
+        kind = "int64" if "int64" in kinds else "int8"
+        left = one.number if isinstance(one, Scalar) else weak(one, kind)
         if isinstance(other, Array):
-            right = self.numbers(other)
-            left, kind = (one.number, "int64") if isinstance(one, Scalar) else (int(one), other.kind)
-            return self.fresh([fitted(work(left, b), kind) for b in right], kind)
-        plain = [v.number if isinstance(v, Scalar) else v for v in (one, other)]
-        result = work(*plain)
-        if isinstance(one, Scalar) or isinstance(other, Scalar):
-            return Scalar(wrapped(int(result)))
-        if not -INT64 <= result < 2 * INT64:
-            raise Refused
-        return result
+            return self.fresh([fitted(work(left, number), kind) for number in self.numbers(other)], kind)
+        right = other.number if isinstance(other, Scalar) else weak(other, kind)
+        return Scalar(fitted(work(left, right), kind), kind)
+
+
+def weak(number: int, kind: str) -> int:
+    """A number of Python beside elements of a kind, which takes their kind where it fits."""
+    if fitted(number, kind) != number:
+        raise Refused
+    return int(number)
 
 
 def fitted(number: int, kind: str) -> int:

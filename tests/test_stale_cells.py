@@ -95,6 +95,25 @@ class WhoReadsWhom(unittest.TestCase):
     def test_what_a_cell_made_or_bound_itself_is_not_read(self) -> None:
         self.assertEqual(self.told(["x = np.arange(3)", "x = np.arange(2)\nprint(x)"]), Told({}, set(), set()))
 
+    def test_elements_of_a_view_are_read_behind_the_value(self) -> None:
+        texts = ["x = np.arange(6)", "x[0] = 7", "x[:2] ^= q"]
+        self.assertEqual(self.told(texts), Told({"x": 0, "q": None}, set(), {(0, 0)}))
+        self.assertEqual(self.told([*texts[:2], "q = 1", texts[2]]).arrays, {(0, 1)})
+
+    def test_an_element_is_read_before_the_value(self) -> None:
+        self.assertEqual(self.told(["x = np.arange(6)", "x[0] = 7", "x[0] += q"]).arrays, {(0, 1)})
+
+    def test_a_place_that_is_not_there_is_refused_before_the_value(self) -> None:
+        self.assertEqual(self.told(["x = np.arange(6)", "x[9] += q"]).names, {"x": 0})
+        self.assertEqual(self.told(["x = np.arange(6)", "x[9] = q"]).names, {"q": None})
+
+    def test_an_index_is_read_whole_and_its_elements_where_they_are_copied(self) -> None:
+        texts = ["x = np.arange(6)", "y = np.arange(2)", "x[1] = 7", "x[5] = 7", "y[0] = 1"]
+        self.assertEqual(self.told([*texts, "x[y] = 3"]).arrays, {(0, 0), (1, 4)})
+        self.assertEqual(self.told([*texts, "print(x[y])"]).arrays, {(0, 2), (1, 4)})
+        self.assertEqual(self.told([*texts, "x[y] += q"]).arrays, {(0, 2), (1, 4)})
+        self.assertEqual(self.told([*texts, "a = 3", "a[y] = x"]).arrays, {(0, 3), (1, 4)})
+
     def test_inputs(self) -> None:
         self.assertEqual(self.told(["x = np.load('none')"]), Told({}, {"none"}, set()))
 

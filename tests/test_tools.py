@@ -12,6 +12,7 @@ TOOLS = os.path.join(os.path.dirname(os.path.dirname(os.path.realpath(__file__))
 sys.path.insert(0, TOOLS)
 
 import edits  # noqa: E402
+import opening  # noqa: E402
 import statements  # noqa: E402
 import toolchain  # noqa: E402
 
@@ -420,7 +421,8 @@ class Bench(unittest.TestCase):
         measured = [statements.Measured(one, 1.0, it) for it in (2.0, 1.0, 0.2)]
         measured.append(statements.Measured(one, refusal="E"))
         figures = bench.Figures(["Commit `c`; a machine."], {1000: measured},
-                                {10: [], 10_000: [costs("independent", 0.0002), costs("star", 0.25)]}, [])
+                                {10: [], 10_000: [costs("independent", 0.0002), costs("star", 0.25)]}, [],
+                                opening.Opening(0.1, 0.2, 0.3))
         lines = bench.short_report(figures)
         self.assertTrue(lines[0].startswith("Commit `c`; a machine."))
         self.assertEqual(lines[4:], [

@@ -46,6 +46,15 @@ class Browsing(unittest.TestCase):
         self.addCleanup(folder.cleanup)
         self.book = Path(folder.name) / 'book.py'
         self.book.write_text(self.text)
+        self.bring_files()
+        self.open()
+
+    def bring_files(self):
+        """Writes what the book reads."""
+
+    def open(self):
+        """Opens the book, and waits until the page has all texts; gives the seconds that this took."""
+        began = time.monotonic()
         self.process = subprocess.Popen(
             [sys.executable, '-m', 'ndnote', 'live', str(self.book), '--no-browser'], stdout=subprocess.PIPE, text=True,
             env={**os.environ, 'PYTHONPATH': str(TOP / 'python')})
@@ -53,6 +62,7 @@ class Browsing(unittest.TestCase):
         self.url = self.process.stdout.readline().strip()
         self.page.get(self.url)
         self.wait(lambda: self.texts() == self.outputs)
+        return time.monotonic() - began
 
     def end(self):
         self.process.kill()

@@ -350,7 +350,7 @@ impl Reads {
 
 impl Reads {
     ghost use Rattle.std.specs.Prelude.{◌<◌, slice_get};
-    ghost use Rattle.nd_model.specs.Cells.Running.{Byte, Length};
+    ghost use Rattle.nd_model.specs.Cells.Running.{Byte};
     ghost use Rattle.nd_session.specs.Session.Changes.{writes_in};
 
     /// Returns the number of names that were read, bound or not.
@@ -423,13 +423,6 @@ impl Reads {
             unreachable!();
         };
         *base
-    }
-
-    /// Returns whether the length of a block was read.
-    pub fn reads_length(&self, base: Base) -> bool
-        ensures { result ≡ keys_of self.now (Length (base_of base)) }
-    {
-        self.lengths.contains_key(&base)
     }
 
     /// Returns whether a byte of a block was read. It takes no memory.

@@ -39,6 +39,12 @@ def readers(count: int) -> list[str]:
     return ['v0 = np.arange(4)', *(f'v{k} = v0 + {k}' for k in range(1, count))]
 
 
+def array_of(name: str, axes: int) -> str:
+    """Makes an array of so many axes, of which each of the last ten has two elements."""
+    lengths = ['1'] * max(axes - 10, 0) + ['2'] * min(axes, 10)
+    return f"{name} = np.arange({2 ** min(axes, 10)}).reshape({', '.join(lengths)})"
+
+
 def scattered_reads(count: int) -> str:
     """Statements that each read ten positions of an array of this many elements."""
     return '\n'.join([f'y = x[[0, 3, 8, 15, 24, 35, 48, 51, 60, {count - 1}]]'] * STATEMENTS)
@@ -94,6 +100,27 @@ class Costs(unittest.TestCase):
                         for count in (64, 2**20))
         self.assertGreater(small, STATEMENTS)
         self.assertLess(large - small, STATEMENTS)
+
+    def in_place(self, axes: int, other: int, statement: str) -> int:
+        """How many allocations a cell takes of such statements, on arrays x and y of so many axes."""
+        made = [array_of('x', axes), array_of('y', other)]
+        return self.cost(made, 'insert 2', '\n'.join([statement] * STATEMENTS), '.')
+
+    def test_an_operator_in_place_takes_no_memory_but_for_the_lookups(self) -> None:
+        """Above eight axes a look-up of an array takes two allocations, for its shape and its strides."""
+        few = self.in_place(1, 1, 'x += y')
+        for axes, each in ((8, 0), (9, 2), (32, 2)):
+            for statement, lookups in (('x += y', 2), ('x += x', 2), ('x += 1', 1)):
+                with self.subTest(axes=axes, statement=statement):
+                    more = self.in_place(axes, axes, statement) - few
+                    self.assertLess(more, each * lookups * STATEMENTS + STATEMENTS // 2)
+
+    def test_an_operator_in_place_broadcasts_without_memory(self) -> None:
+        """Of the other array the look-up takes none at one axis."""
+        few = self.in_place(1, 1, 'x += y')
+        for axes, other, each in ((8, 1, 0), (9, 1, 2), (32, 24, 4)):
+            with self.subTest(axes=axes):
+                self.assertLess(self.in_place(axes, other, 'x += y') - few, each * STATEMENTS + STATEMENTS // 2)
 
     def test_changes_that_have_become_many_are_put_over_few_snapshots(self) -> None:
         """The 33rd and 34th edit in front of the snapshots: were the 33 changes put over each of them, it would take

@@ -1,9 +1,13 @@
 pub mod Alone
 pub mod Any
 pub mod Augmented
+pub mod Besides
 pub mod Common
+pub mod Directed
+pub mod Gapless
 pub mod Given
 pub mod KeptOff
 pub mod Mapped
 pub mod Overwritten
+pub mod Spreads
 pub mod Standing

@@ -4,8 +4,10 @@ pub mod Stretched
 pub mod KeptOff
 pub mod Beside
 pub mod Replaced
+pub mod Spread
 pub mod Made
 pub mod Prepared
+pub mod Directness
 pub mod KeptLength
 pub mod WaysDirect
 pub mod WaysInPlace

@@ -11,6 +11,7 @@ mod own;
 mod powers;
 mod replacing;
 mod results;
+mod spread;
 mod stretched;
 
 pub use argument::Argument;

@@ -23,5 +23,6 @@ pub use kernel::Side;
 pub use laid_out::LaidOut;
 pub use lent::Lent;
 pub use pairs::apply_sides;
+pub(crate) use reading::numbers_are_valid;
 pub use reading::side_of;
 pub use repeated::Repeated;

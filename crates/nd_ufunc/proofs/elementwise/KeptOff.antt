@@ -1,5 +1,6 @@
 -- Elements that keep off what is written: they are read as they stood there.
-use Rattle.std.proofs.Common.{◌≡◌, ℕ, ℤ, pos, zero, suc, ◌+◌, ◌-◌, ◌*◌, ◌<◌, ◌≤◌, ◌+ℤ◌, neg_ℤ, negsuc, List, [], ◌∷◌, ◌++◌, map, length, take, drop, get_or, refl, sym, ap, ap₂, ◌∙◌, subst, inl, inr, arith}
+use Rattle.std.proofs.Common.{◌≡◌, ℕ, ℤ, pos, zero, suc, ◌+◌, ◌-◌, ◌*◌, ◌<◌, ◌≤◌, ◌+ℤ◌, neg_ℤ, negsuc, List, [], ◌∷◌, ◌++◌, map, length, take, drop, get_or, refl, sym, ap, ap₂, ◌∙◌, subst, inl, inr, arith, ◌⊎◌}
+use Rattle.std.specs.List.{All}
 use Rattle.std.proofs.lemmas.Bool.{cases_lt}
 use Rattle.std.proofs.lemmas.Int.{ints}
 use Rattle.std.proofs.lemmas.List.{drop-drop, drop-take, drop_all, take-append-drop, length-take-le}
@@ -36,6 +37,23 @@ module _ (size first step : ℕ) where
         λ lt. subst (λ n. first + n * step ≤ q) here (each 0 (omega arith) lt),
         keeps_each (at + 1) qs (λ k less lt. let same : at + suc k ≡ at + 1 + k = omega arith in subst (λ n. first + n * step ≤ get_or qs k 0) same (each (suc k) (omega arith) lt)),
       )
+
+  pub keeps_front : (at : ℕ) (ps qs : List ℕ) → KeepsOff size first step at (ps ++ qs) → KeepsOff size first step at ps
+  keeps_front at [] qs a = tt
+  keeps_front at (p ∷ ps) qs a = (a.0, keeps_front (at + 1) ps qs a.1)
+
+  pub keeps_at : (at : ℕ) (qs : List ℕ) → KeepsOff size first step at qs → (k : ℕ) → k < length qs → first < get_or qs k 0 + size → first + (at + k) * step ≤ get_or qs k 0
+  keeps_at at [] a k lt over = absurd (omega arith)
+  keeps_at at (q ∷ qs) a zero lt over = let here : at + 0 ≡ at = omega arith in subst (λ n. first + n * step ≤ q) (sym here) (a.0 over)
+  keeps_at at (q ∷ qs) a (suc k) lt over =
+      let same : at + 1 + k ≡ at + suc k = omega arith in subst (λ n. first + n * step ≤ get_or qs k 0) same (keeps_at (at + 1) qs a.1 k (omega arith) over)
+
+  -- elements that lie outside the target keep off it
+  pub keeps_outside : (at : ℕ) (qs : List ℕ) → All (λ q. (q + size ≤ first) ⊎ (first + (at + length qs) * step ≤ q)) qs → KeepsOff size first step at qs
+  keeps_outside at qs outside = keeps_each at qs (λ k lt over. elim (outside k 0 lt) [
+    | inl before ↦ absurd (omega (arith, before, over))
+    | inr behind ↦ let far : (at + k) * step ≤ (at + length qs) * step = mul-le-mul_right step (omega (arith, lt)) in omega (arith, far, behind)
+  ])
 
 -- ---- what is read
 
@@ -140,4 +158,6 @@ same_target e old new run first at gapless before behind =
 pub same_beside : (w : LeftBeside) (old new : List ℕ) (first step at : ℕ) → take first new ≡ take first old → drop (first + at * step) new ≡ drop (first + at * step) old
     → StaysBeside w first step at → left_beside w new ≡ left_beside w old
 same_beside (left.Fixed f) old new first step at before behind stays = refl
+same_beside (left.FixedSpread o) old new first step at before behind stays = refl
 same_beside (left.Own o) old new first step at before behind stays = same_numbers o.elem old new first step at before behind at o.walk (omega arith) stays
+same_beside (left.OwnSpread o) old new first step at before behind stays = same_numbers o.elem old new first step at before behind at o.walk (omega arith) stays

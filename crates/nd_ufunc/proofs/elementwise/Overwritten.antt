@@ -47,7 +47,7 @@ all_again xs =
     get_or-map (λ n. get_or xs n 0) (count_up 0 (length xs)) k 0 d in_order
     ∙ ap (λ n. get_or xs n 0) (get_or-count_up 0 (length xs) k 0 few ∙ omega arith) ∙ any_default xs k 0 d few)
 
-places_again : (g : Geo) → length g.places ≡ elements_of g.shape → (broadcast_view g g.shape).places ≡ g.places
+pub places_again : (g : Geo) → length g.places ≡ elements_of g.shape → (broadcast_view g g.shape).places ≡ g.places
 places_again g count =
     same_indexes (λ t. get_or g.places (number g.shape (own_tuple g.shape t)) 0) (λ t. get_or g.places (number g.shape t) 0) g.shape
     (λ t is. ap (λ u. get_or g.places (number g.shape u) 0) (own_itself g.shape t is))

@@ -1,5 +1,5 @@
 -- What a clause sees of a target that is written as it is read, and what is known of it.
-use Rattle.std.specs.Prelude.{◌≡◌, ◌≢◌, ℕ, List, length, slice_index}
+use Rattle.std.specs.Prelude.{◌≡◌, ◌≢◌, ℕ, List, length, slice_index, IfSome}
 use Rattle.nd_model.specs.Arrays.Element.{size_of}
 use Rattle.nd_model.specs.Cells.Sound.{LiesIn}
 use Rattle.nd_model.specs.Grammar.Syntax.{Divide}
@@ -16,14 +16,13 @@ abbrev pub direct_of : Inside → DirectInPlace
 direct_of d = record { kind = kind_of d.kind; op = binary_op d.op; target = d.target.now; right = d.right; len = d.len }
 
 -- the target's elements lie side by side, and what stands beside them keeps off them
-pub record IsDirect (d : Inside) : Type 0 where
+pub record WritesDirectly (d : Inside) : Type 0 where
   pub op : binary_op d.op ≢ Divide
   pub element : d.target.now.element ≡ One d.elem
   pub lies : LiesIn d.len d.target.now
-  pub run : d.run ≡ d.target.now.places
-  pub gapless : d.run ≡ side_by_side (size_of d.elem.kind) (slice_index d.run 0) (length d.run)
-  pub places : d.places ≡ side_by_side (size_of (kind_of d.kind)) 0 8192
+  pub gapless : d.target.now.places ≡ side_by_side (size_of d.elem.kind) (slice_index d.target.now.places 0) (length d.target.now.places)
+  pub places : IfSome d.places (λ run. run ≡ side_by_side (size_of (kind_of d.kind)) 0 8192)
   pub fixed : IsFixedHeld d.beside
   pub held : IsBeside d.beside d.len
-  pub stays : KeepsOffTarget d.beside (slice_index d.run 0) (size_of d.elem.kind)
-  pub beside : (block : List ℕ) → length block ≡ d.len → beside_numbers d.beside (length d.run) block ≡ numbers_beside (right_operand d.right block) d.target.now.shape
+  pub stays : KeepsOffTarget d.beside (slice_index d.target.now.places 0) (size_of d.elem.kind)
+  pub beside : (block : List ℕ) → length block ≡ d.len → beside_numbers d.beside (length d.target.now.places) block ≡ numbers_beside (right_operand d.right block) d.target.now.shape

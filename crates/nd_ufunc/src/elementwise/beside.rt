@@ -1,40 +1,50 @@
 //! `Beside`: the right operand of an operator whose target is written while operands are read.
-ghost use Rattle.std.specs.Prelude.{◌≡◌, ◌≢◌, ℕ, List, ◌+◌, ◌*◌, ◌<◌, ◌≤◌, ◌++◌, length, drop, None, true, IfOk, IsTrue};
-ghost use Rattle.nd_model.specs.Arrays.Broadcast.{broadcasts_to};
+ghost use Rattle.std.specs.Prelude.{◌≡◌, ◌≢◌, ℕ, List, ◌+◌, ◌*◌, ◌<◌, ◌≤◌, ◌++◌, length, drop, None, true, IfSome, IsTrue, ◌↔◌};
+ghost use Rattle.nd_model.specs.Arrays.Broadcast.{broadcast_view, broadcasts_to};
 ghost use Rattle.nd_model.specs.Arrays.Element as element;
 ghost use Rattle.nd_model.specs.Making.Elementwise.{operand_sort};
 ghost use Rattle.nd_model.specs.Making.Operand as operand;
 ghost use Rattle.nd_model.specs.Arrays.Strides.{IsInLimits};
 ghost use Rattle.nd_model.specs.Arrays.Tuple.{elements_of};
+ghost use Rattle.nd_model.specs.Arrays.View.{One};
 ghost use Rattle.nd_ufunc.specs.Elementwise.Arguments.{numbers_beside};
 ghost use Rattle.nd_ufunc.specs.Elementwise.Beside.{HeldBeside, IsBeside, IsFixedHeld, KeepsOffTarget, StaysBeside};
+ghost use Rattle.nd_ufunc.specs.Elementwise.Beside.{IsOtherBeside, IsOwnBeside, KeepsOffBroadcast};
 ghost use Rattle.nd_ufunc.specs.Elementwise.Beside.{beside_numbers, left_beside, size_beside};
 ghost use Rattle.nd_ufunc.specs.Elementwise.Prepared.{IsRightSide, right_operand};
 ghost use Rattle.nd_ufunc.specs.Loops.Sides.{HasNumbers, numbers_on};
 
-use crate::elementwise::apart::view_keeps_off;
-use crate::elementwise::argument::Argument;
+use crate::elementwise::apart::{spread_keeps_off, view_keeps_off};
 use crate::elementwise::in_place::RightSide;
 use crate::elementwise::own::OwnElements;
-use crate::elementwise::stretched::{Stretched, side_kind, stretch, stretch_view};
+use crate::elementwise::spread::{OtherSpread, Spread, SpreadElements};
+use crate::elementwise::stretched::{Stretched, side_kind, stretch_view};
 use crate::loops::{CHUNK, Feed, ROOM, Side};
+use crate::scalar::whole_number;
 use nd_types::{Elem, ElemType, Kind};
-use nd_view::View;
-use std::alloc::{AllocError, Global};
+use nd_view::{View, element_count};
+use std::alloc::Global;
 
 /// The right operand, broadcast to the target's shape: numbers that no write to the target changes,
-/// or elements of the target's own block.
+/// or elements of the target's own block. A view of the target's shape is borrowed, and one of many
+/// axes is walked in the target's shape.
 #[derive(Drop)]
 pub(crate) enum Beside<'v> {
     Fixed(Stretched<'v>),
+    FixedAlike(&'v View, Elem, &'v [u8]),
+    FixedSpread(&'v View, &'v [u64], Elem, &'v [u8]),
     Own(View, Elem),
+    OwnAlike(&'v View, Elem),
+    OwnSpread(&'v View, &'v [u64], Elem),
 }
 
 /// What is left to read of the right operand.
 #[derive(Drop)]
 pub(crate) enum LeftBeside<'v> {
     Fixed(Feed<'v>),
+    FixedSpread(OtherSpread<'v>),
     Own(OwnElements<'v>),
+    OwnSpread(SpreadElements<'v>),
 }
 
 impl<'v> LeftBeside<'v> {
@@ -63,7 +73,9 @@ impl<'v> LeftBeside<'v> {
     {
         match self {
             LeftBeside::Fixed(feed) => feed.take(buffer, count),
+            LeftBeside::FixedSpread(elements) => elements.take(buffer, count),
             LeftBeside::Own(elements) => elements.take(buffer, block, count),
+            LeftBeside::OwnSpread(elements) => elements.take(buffer, block, count),
         }
     }
     /// Returns the itemsize of the converted numbers: 1 for a scalar, which takes no room in the
@@ -74,7 +86,9 @@ impl<'v> LeftBeside<'v> {
     {
         match self {
             LeftBeside::Fixed(feed) => feed.size(),
+            LeftBeside::FixedSpread(elements) => elements.size(),
             LeftBeside::Own(elements) => elements.size(),
+            LeftBeside::OwnSpread(elements) => elements.size(),
         }
     }
 }
@@ -97,9 +111,26 @@ impl<'v> Beside<'v> {
     {
         match self {
             Beside::Fixed(numbers) => LeftBeside::Fixed(numbers.begin(kind, count, room)),
+            Beside::FixedAlike(view, elem, bytes) => {
+                let kind = side_kind(kind, elem.kind());
+                LeftBeside::Fixed(Feed::of_view(view, bytes, *elem, kind, room))
+            }
+            Beside::FixedSpread(view, shape, elem, bytes) => {
+                let kind = side_kind(kind, elem.kind());
+                let elements = SpreadElements::new(view, shape, *elem, kind);
+                LeftBeside::FixedSpread(OtherSpread::new(elements, bytes))
+            }
             Beside::Own(view, elem) => {
                 let kind = side_kind(kind, elem.kind());
                 LeftBeside::Own(OwnElements::new(view, *elem, kind))
+            }
+            Beside::OwnAlike(view, elem) => {
+                let kind = side_kind(kind, elem.kind());
+                LeftBeside::Own(OwnElements::new(view, *elem, kind))
+            }
+            Beside::OwnSpread(view, shape, elem) => {
+                let kind = side_kind(kind, elem.kind());
+                LeftBeside::OwnSpread(SpreadElements::new(view, shape, *elem, kind))
             }
         }
     }
@@ -108,12 +139,19 @@ impl<'v> Beside<'v> {
     /// still to be read. The target begins at byte offset `first`, its elements lie `step` bytes
     /// apart.
     pub(crate) fn keeps_off(&self, first: u64, step: u64) -> bool
-        requires { step ≤ 8 }
-        ensures { IsTrue result → KeepsOffTarget self.now first step }
+        requires fixed { IsFixedHeld self.now }
+        requires step { step ≤ 8 }
+        ensures { IsTrue result ↔ KeepsOffTarget self.now first step }
     {
         match self {
-            Beside::Fixed(_) => true,
+            Beside::Fixed(_) | Beside::FixedAlike(_, _, _) | Beside::FixedSpread(_, _, _, _) =>
+                true,
             Beside::Own(view, elem) => view_keeps_off(view, elem.size(), first, step),
+            Beside::OwnAlike(view, elem) => view_keeps_off(view, elem.size(), first, step),
+            Beside::OwnSpread(view, shape, elem) => {
+                let mut places = Spread::new(view, shape);
+                spread_keeps_off(&mut places, element_count(shape), elem.size(), first, step)
+            }
         }
     }
 
@@ -121,43 +159,102 @@ impl<'v> Beside<'v> {
     pub(crate) fn kind(&self) -> Option<Kind> {
         match self {
             Beside::Fixed(numbers) => numbers.kind(),
+            Beside::FixedAlike(_, elem, _) | Beside::OwnAlike(_, elem) => Some(elem.kind()),
+            Beside::FixedSpread(_, _, elem, _) | Beside::OwnSpread(_, _, elem) => Some(elem.kind()),
             Beside::Own(_, elem) => Some(elem.kind()),
         }
     }
 }
 
-/// Returns the right operand, broadcast to the target's shape, which is known to be possible.
-pub(crate) fn stretch_beside<'v>(
+// The most axes of a view whose shape and strides lie in the view itself.
+const FEW_AXES: usize = 8;
+
+// The view in another shape, or `None` where it would take memory, or memory is refused.
+fn small_broadcast(alloc: Global, view: &View, elem: Elem, shape: &[u64]) -> Option<View>
+    requires element { view.now.element ≡ One elem }
+    requires limits { (k : element.Kind) → IsInLimits (element.size_of k) shape.now }
+    requires fits { broadcasts_to view.now.shape shape.now ≡ true }
+    ensures { IfSome result (λ v. v ≡ broadcast_view view.now shape.now) }
+{
+    if shape.len() > FEW_AXES {
+        return None;
+    }
+    match stretch_view(alloc, view, elem, shape) {
+        Ok(stretched) => Some(stretched),
+        Err(_) => None,
+    }
+}
+
+// Elements of the target's block, broadcast to the target's shape, which is known to be possible.
+fn own_beside<'v>(alloc: Global, view: &'v View, elem: Elem, shape: &'v [u64]) -> Beside<'v>
+    requires element { view.now.element ≡ One elem }
+    requires count { length view.now.places ≡ elements_of view.now.shape }
+    requires limits { (k : element.Kind) → IsInLimits (element.size_of k) shape.now }
+    requires fits { broadcasts_to view.now.shape shape.now ≡ true }
+    ensures { IsOwnBeside result elem (broadcast_view view.now shape.now).places }
+{
+    if view.shape() == shape {
+        return Beside::OwnAlike(view, elem);
+    }
+    match small_broadcast(alloc, view, elem, shape) {
+        Some(stretched) => Beside::Own(stretched, elem),
+        None => Beside::OwnSpread(view, shape, elem),
+    }
+}
+
+// Elements of another block, broadcast to the target's shape, which is known to be possible.
+fn other_beside<'v>(
+    alloc: Global,
+    view: &'v View,
+    elem: Elem,
+    bytes: &'v [u8],
+    shape: &'v [u64],
+) -> Beside<'v>
+    requires element { view.now.element ≡ One elem }
+    requires count { length view.now.places ≡ elements_of view.now.shape }
+    requires limits { (k : element.Kind) → IsInLimits (element.size_of k) shape.now }
+    requires fits { broadcasts_to view.now.shape shape.now ≡ true }
+    ensures { IsOtherBeside result elem bytes.now (broadcast_view view.now shape.now).places }
+{
+    if view.shape() == shape {
+        return Beside::FixedAlike(view, elem, bytes);
+    }
+    match small_broadcast(alloc, view, elem, shape) {
+        Some(stretched) => Beside::Fixed(Stretched::Elements(stretched, elem, bytes)),
+        None => Beside::FixedSpread(view, shape, elem, bytes),
+    }
+}
+
+/// Returns the right operand, broadcast to the target's shape, which is known to be possible. No
+/// memory is needed.
+pub(crate) fn beside_of<'v>(
     alloc: Global,
     right: RightSide<'v>,
-    shape: &[u64],
+    shape: &'v [u64],
     block: &[u8],
-) -> Result<Beside<'v>, AllocError>
+) -> Beside<'v>
     requires right { IsRightSide (length block.now) right }
     requires numbers { operand_sort (right_operand right block.now) ≢ None }
     requires limits { (k : element.Kind) → IsInLimits (element.size_of k) shape.now }
     requires fits { broadcasts_to (operand.shape_of (right_operand right block.now)) shape.now
         ≡ true }
-    ensures numbers { IfOk result (λ b. (bytes : List ℕ) → length bytes ≡ length block.now
-        → beside_numbers b (elements_of shape.now) bytes
-        ≡ numbers_beside (right_operand right.entry bytes) shape.now) }
-    ensures fixed { IfOk result IsFixedHeld }
-    ensures held { IfOk result (λ b. IsBeside b (length block.now)) }
+    ensures numbers { (bytes : List ℕ) → length bytes ≡ length block.now
+        → beside_numbers result (elements_of shape.now) bytes
+        ≡ numbers_beside (right_operand right.entry bytes) shape.now }
+    ensures fixed { IsFixedHeld result }
+    ensures held { IsBeside result (length block.now) }
+    ensures off { (first step : ℕ) → KeepsOffBroadcast right.entry shape.now first step
+        → KeepsOffTarget result first step }
 {
     match right {
-        RightSide::Number(number) => {
-            let numbers = stretch(alloc, Argument::Number(number), shape)?;
-            Ok(Beside::Fixed(numbers))
-        }
+        RightSide::Number(number) => Beside::Fixed(Stretched::Number(whole_number(number))),
         RightSide::Own(view) => match view.elem() {
-            ElemType::One(elem) => {
-                Ok(Beside::Own(stretch_view(alloc, view, *elem, shape)?, *elem))
-            }
+            ElemType::One(elem) => own_beside(alloc, view, *elem, shape),
             ElemType::Rec(_) => unreachable!(),
         },
-        RightSide::Other(view, bytes) => {
-            let numbers = stretch(alloc, Argument::Elements(view, bytes), shape)?;
-            Ok(Beside::Fixed(numbers))
-        }
+        RightSide::Other(view, bytes) => match view.elem() {
+            ElemType::One(elem) => other_beside(alloc, view, *elem, bytes, shape),
+            ElemType::Rec(_) => unreachable!(),
+        },
     }
 }

@@ -1,17 +1,23 @@
 //! `Direct`: an operator in place that writes results as they are worked out, without a temporary
 //! array.
-ghost use Rattle.std.specs.Prelude.{◌≡◌, Ok, length, IfOk, IfSome};
+ghost use Rattle.std.specs.Prelude.{◌≡◌, ℕ, List, Ok, length, slice_index, IfSome, IsSome};
 ghost use Rattle.nd_model.specs.Making.Augmenting as augmenting;
 ghost use Rattle.nd_model.specs.Arrays.Element.{size_of};
+ghost use Rattle.nd_model.specs.Arrays.Tuple.{elements_of};
+ghost use Rattle.nd_model.specs.Arrays.View.{item_size};
 ghost use Rattle.nd_model.specs.Making.Operators as operators;
 ghost use Rattle.nd_model.specs.Cells.Sound.{LiesIn};
 ghost use Rattle.nd_syntax.specs.Trees.Syntax.{binary_op};
 ghost use Rattle.nd_types.specs.Kinds.{kind_of};
 ghost use Rattle.nd_view.specs.SideBySide.{side_by_side};
-ghost use Rattle.nd_ufunc.specs.Elementwise.Prepared.{IsRightSide, right_operand, with_results, written_directly};
+ghost use Rattle.nd_ufunc.specs.Elementwise.Arguments.{numbers_beside};
+ghost use Rattle.nd_ufunc.specs.Elementwise.Beside.{IsBeside, IsFixedHeld, KeepsOffTarget, beside_numbers};
+ghost use Rattle.nd_ufunc.specs.Elementwise.Directness.{IsGapless};
+ghost use Rattle.nd_ufunc.specs.Elementwise.Prepared.{right_operand, with_results, written_directly};
 ghost use Rattle.nd_ufunc.specs.Loops.Results.{binary_result};
 
-use crate::elementwise::beside::{Beside, stretch_beside};
+use crate::elementwise::apart::is_gapless;
+use crate::elementwise::beside::Beside;
 use crate::elementwise::in_place::RightSide;
 use crate::elementwise::replacing::replace_numbers;
 use crate::elementwise::results::operand_kind;
@@ -21,7 +27,7 @@ use nd_block::RawBlock;
 use nd_syntax::trees::BinaryOp;
 use nd_types::{Elem, ElemType, Kind};
 use nd_view::{Run, View};
-use std::alloc::{AllocError, Global};
+use std::alloc::Global;
 use std::marker::Model;
 
 /// An operator in place whose target is written while operands are read.
@@ -34,13 +40,12 @@ pub(crate) struct Direct<'v> {
     right: RightSide<'v>,
     // how many bytes the block has
     len: usize,
-    // the target's dtype, and the byte offsets of its contiguous elements
+    // the target's dtype
     elem: Elem,
-    run: Run,
     // the right operand, broadcast to the target's shape
     beside: Beside<'v>,
-    // the byte offsets of results in a buffer
-    places: Run,
+    // the byte offsets of results in a buffer, where they are known
+    places: Option<Run>,
 }
 
 impl<'v> Model for Direct<'v> {
@@ -48,11 +53,11 @@ impl<'v> Model for Direct<'v> {
 
     ghost Value = { DirectInPlace };
 
-    ghost use Rattle.nd_ufunc.specs.Elementwise.WaysDirect.{direct_of, IsDirect};
+    ghost use Rattle.nd_ufunc.specs.Elementwise.WaysDirect.{direct_of, WritesDirectly};
 
     ghost view = { direct_of };
 
-    ghost invariant = { IsDirect };
+    ghost invariant = { WritesDirectly };
 }
 
 impl<'v> Direct<'v> {
@@ -65,13 +70,13 @@ impl<'v> Direct<'v> {
             self.now.right bytes.old }
     {
         let kind = operand_kind::<O>(self.kind, Some(self.elem.kind()), self.beside.kind());
-        let count = self.run.count() as usize;
+        let count = self.target.count();
         let mut room = [0; ROOM];
         let mut beside = self.beside.begin(kind, count, &mut room);
         replace_numbers::<O>(
             bytes,
             self.elem,
-            &self.run,
+            self.target,
             self.kind,
             kind,
             &mut beside,
@@ -118,60 +123,66 @@ impl<'v> Direct<'v> {
     }
 }
 
-// The byte offsets of results of a kind in a buffer, which are contiguous.
-fn buffer_places(alloc: Global, kind: Kind) -> Result<Option<Run>, AllocError>
-    ensures { IfOk result (λ found. IfSome found (λ run. run
-        ≡ side_by_side (size_of (kind_of kind)) 0 8192)) }
+/// Returns the byte offsets of results of a kind in a buffer, which are contiguous, or `None` where
+/// memory for them is refused.
+pub(crate) fn buffer_places(alloc: Global, kind: Kind) -> Option<Run>
+    ensures { IfSome result (λ run. run ≡ side_by_side (size_of (kind_of kind)) 0 8192) }
 {
     let elem = Elem::little(kind);
-    let view = View::contiguous(alloc, ElemType::One(elem), &[CHUNK as u64])?;
-    Ok(view.contiguous_run(elem.size()))
+    match View::contiguous(alloc, ElemType::One(elem), &[CHUNK as u64]) {
+        Ok(view) => view.contiguous_run(elem.size()),
+        Err(_) => None,
+    }
 }
 
-/// Prepares an operator in place, or gives `None` where a temporary array is needed. The target
-/// must be contiguous, and no operand may be overwritten before it is read.
-pub(crate) fn prepare_directly<'v>(
-    alloc: Global,
+/// Returns an operator in place that writes results as they are worked out, or `None` where a
+/// temporary array is needed. The target must be contiguous, and no operand may be overwritten
+/// before it is read. It takes no memory.
+pub(crate) fn make_direct<'v>(
     op: BinaryOp,
     kind: Kind,
     target: &'v View,
     block: &[u8],
     right: RightSide<'v>,
-) -> Result<Option<Direct<'v>>, AllocError>
+    beside: Beside<'v>,
+    places: Option<Run>,
+) -> Option<Direct<'v>>
     requires target { LiesIn (length block.now) target.now }
-    requires right { IsRightSide (length block.now) right }
     requires kind { augmenting.in_place_kind (binary_op op) target.now
         (right_operand right block.now) ≡ Ok (kind_of kind) }
-    ensures { IfOk result (λ found. IfSome found (λ d. d ≡ record {
+    requires numbers { (bytes : List ℕ) → length bytes ≡ length block.now
+        → beside_numbers beside (elements_of target.now.shape) bytes
+        ≡ numbers_beside (right_operand right bytes) target.now.shape }
+    requires fixed { IsFixedHeld beside }
+    requires held { IsBeside beside (length block.now) }
+    requires places { IfSome places (λ run. run ≡ side_by_side (size_of (kind_of kind)) 0 8192) }
+    ensures value { IfSome result (λ d. d ≡ record {
       kind = kind_of kind;
       op = binary_op op;
       target = target.now;
       right = right.entry;
       len = length block.now;
-    })) }
+    }) }
+    ensures direct { IsGapless target.now → KeepsOffTarget beside.entry
+        (slice_index target.now.places 0) (item_size target.now.element) → IsSome result }
 {
     let ElemType::One(elem) = target.elem() else {
-        return Ok(None);
+        return None;
     };
-    let Some(run) = target.contiguous_run(elem.size()) else {
-        return Ok(None);
-    };
-    let Some(places) = buffer_places(alloc, kind)? else {
-        return Ok(None);
-    };
-    let beside = stretch_beside(alloc, right, target.shape(), block)?;
-    if !beside.keeps_off(run.start(), elem.size()) {
-        return Ok(None);
+    if !is_gapless(target, elem.size()) {
+        return None;
     }
-    Ok(Some(Direct {
+    if !beside.keeps_off(target.offset(), elem.size()) {
+        return None;
+    }
+    Some(Direct {
         op,
         kind,
         target,
         right,
         len: block.len(),
         elem: *elem,
-        run,
         beside,
         places,
-    }))
+    })
 }

@@ -1,6 +1,6 @@
 //! `prepare_in_place`: augmented assignments such as `x += y`, prepared so that the write cannot
 //! fail.
-ghost use Rattle.std.specs.Prelude.{◌≡◌, ◌≢◌, ◌^◌, ◌≤◌, None, Ok, true, false, length, IfOk};
+ghost use Rattle.std.specs.Prelude.{◌≡◌, ◌≢◌, ◌^◌, ◌≤◌, None, Ok, true, false, length, IfOk, IfSome, IsOk, IsSome};
 ghost use Rattle.nd_model.specs.Arrays.Broadcast as broadcasting;
 ghost use Rattle.nd_model.specs.Arrays.Element as element;
 ghost use Rattle.nd_model.specs.Arrays.Strides.{IsInLimits};
@@ -20,6 +20,7 @@ ghost use Rattle.nd_types.specs.Types.{type_of};
 ghost use Rattle.nd_ufunc.specs.Scalar.Ufuncs.{ufunc_of};
 ghost use Rattle.nd_ufunc.specs.Elementwise.Arguments.{LiesInBlock, argument_of, contents_over};
 ghost use Rattle.nd_ufunc.specs.Elementwise.Arguments.{numbers_beside};
+ghost use Rattle.nd_ufunc.specs.Elementwise.Directness.{IsDirect};
 ghost use Rattle.nd_ufunc.specs.Elementwise.Faults.{Makes};
 ghost use Rattle.nd_ufunc.specs.Elementwise.Prepared.{IsRightSide, right_operand, with_results};
 ghost use Rattle.nd_ufunc.specs.Elementwise.Prepared.{written_in_place};
@@ -28,9 +29,10 @@ ghost use Rattle.nd_ufunc.specs.Elementwise.Stretched.{HasCount, IsHeld, stretch
 ghost use Rattle.nd_ufunc.specs.Loops.Results.{binary_result, result_bytes};
 
 use crate::elementwise::argument::{Argument, argument_sort, binary_kind, element_sort, shape_of};
-use crate::elementwise::direct::{Direct, prepare_directly};
+use crate::elementwise::beside::beside_of;
+use crate::elementwise::direct::{Direct, buffer_places, make_direct};
 use crate::elementwise::fault::MapFault;
-use crate::elementwise::powers::has_power_below;
+use crate::elementwise::powers::{has_power_below, is_power};
 use crate::elementwise::results::binary_results;
 use crate::elementwise::stretched::{Stretched, stretch};
 use crate::scalar::{BinaryUfunc, UfuncFault};
@@ -132,6 +134,9 @@ fn is_any_exponent_below(
     ensures { IfOk result (λ below. below ≡ elementwise.has_power_below (ufunc_of ufunc)
         (argument_of right.entry) target.now.shape) }
 {
+    if !is_power(ufunc) {
+        return Ok(false);
+    }
     let exponents = stretch(alloc, right, target.shape())?;
     Ok(has_power_below(ufunc, &exponents, target.count()))
 }
@@ -278,10 +283,39 @@ fn find_all<'v>(
     Ok(Assignment::of_block(target, found.0, found.1, block.len()))
 }
 
+// Prepares an operator in place that takes no temporary array, or gives `None` where one is needed.
+fn prepare_directly<'v>(
+    alloc: Global,
+    op: BinaryOp,
+    kind: Kind,
+    target: &'v View,
+    block: &[u8],
+    right: RightSide<'v>,
+) -> Option<Direct<'v>>
+    requires target { LiesIn (length block.now) target.now }
+    requires right { IsRightSide (length block.now) right }
+    requires kind { augmenting.in_place_kind (binary_op op) target.now
+        (right_operand right block.now) ≡ Ok (kind_of kind) }
+    ensures value { IfSome result (λ d. d ≡ record {
+      kind = kind_of kind;
+      op = binary_op op;
+      target = target.now;
+      right = right.entry;
+      len = length block.now;
+    }) }
+    ensures direct { IsDirect target.now right.entry → IsSome result }
+{
+    let beside = beside_of(alloc, right, target.shape(), block);
+    let places = buffer_places(alloc, kind);
+    make_direct(op, kind, target, block, right, beside, places)
+}
+
 /// Prepares the results of `target op= right` for blocks as long as `block`, which is the target's.
 ///
 /// The results are those of reading both operands before any write, also where they overlap:
-/// `x[1:] += x[:-1]` makes `[1 3 5]` of `[1 2 3]`. An error means want of memory.
+/// `x[1:] += x[:-1]` makes `[1 3 5]` of `[1 2 3]`. An error means want of memory. There is none for
+/// a contiguous target and a right operand that, broadcast to the target's shape, overlaps it nowhere
+/// or has its byte offsets.
 pub fn prepare_in_place<'v>(
     alloc: Global,
     op: BinaryOp,
@@ -294,10 +328,11 @@ pub fn prepare_in_place<'v>(
     requires right { IsRightSide (length block.now) right }
     requires kind { augmenting.in_place_kind (binary_op op) target.now
         (right_operand right block.now) ≡ Ok (kind_of kind) }
-    ensures { IfOk result (λ p. written_in_place p block.now
+    ensures results { IfOk result (λ p. written_in_place p block.now
         ≡ with_results (kind_of kind) (binary_op op) target.now right.entry block.now) }
+    ensures memory { IsDirect target.now right.entry → IsOk result }
 {
-    if let Some(direct) = prepare_directly(alloc, op, kind, target, block, right)? {
+    if let Some(direct) = prepare_directly(alloc, op, kind, target, block, right) {
         return Ok(InPlace {
             way: Way::Directly(direct),
         });

@@ -51,7 +51,8 @@ fn is_any_negative(numbers: &Stretched<'_>, count: usize) -> bool
     }
 }
 
-fn is_power(ufunc: BinaryUfunc) -> bool
+/// Returns whether a function is the power.
+pub(crate) fn is_power(ufunc: BinaryUfunc) -> bool
     ensures { (z : ℤ) → operators.is_power_below (ufunc_of ufunc) z
         ≡ (result && operators.is_negative z) }
 {

@@ -45,7 +45,7 @@ returns-then-eq c =
     let p = c.in_ok-results.results in
     let own : r.bytes b ≡ bytes = ap r.bytes (sym (equal_bases (base_of c.args.source.now.base) b (sym c.eq.ensures ∙ c.if-eq.true))) in
     let written : written_in_place p (r.bytes b) ≡ put (results_in_place k op g (contents_over g (r.bytes b)) (elements_over false s (r.bytes b))) (r.bytes b) =
-    subst (λ (block : List ℕ). written_in_place p block ≡ put (results_in_place k op g (contents_over g block) (elements_over false s block)) block) c.bytes-block.ensures c.in_ok-results.ensures in
+    subst (λ (block : List ℕ). written_in_place p block ≡ put (results_in_place k op g (contents_over g block) (elements_over false s block)) block) c.bytes-block.ensures c.in_ok-results.ensures.results in
     subst (λ (t : Running). OnOk c.write_results.result (live c.write_results.new.session ≡ t))
     (updated_in_parts r b g (written_in_place p (r.bytes b)) k op y c.requires.target.count c.requires.kind
     (written ∙ ap (λ bytes. put (results_in_place k op g (contents_over g (r.bytes b)) (elements_over false s bytes)) (r.bytes b)) own)) c.write_results.ensures
@@ -66,7 +66,7 @@ returns c =
       | in-None w ↦ ap (λ (x : Bor (List ℕ)). x.now) w.bytes-is ∙ ap bytes_in (sym w.in-None.is) ∙ c.in_ok-shared.ensures
     ] in
     let written : written_in_place p (r.bytes b) ≡ put (results_in_place k op g (contents_over g (r.bytes b)) (elements_over false s c.match-shared.bytes.now)) (r.bytes b) =
-    subst (λ (block : List ℕ). written_in_place p block ≡ put (results_in_place k op g (contents_over g block) (elements_over false s c.match-shared.bytes.now)) block) c.bytes-block.ensures c.in_ok-results-2.ensures in
+    subst (λ (block : List ℕ). written_in_place p block ≡ put (results_in_place k op g (contents_over g block) (elements_over false s c.match-shared.bytes.now)) block) c.bytes-block.ensures c.in_ok-results-2.ensures.results in
     subst (λ (t : Running). OnOk c.write_results-2.result (live c.write_results-2.new.session ≡ t))
     (updated_in_parts r b g (written_in_place p (r.bytes b)) k op y c.requires.target.count c.requires.kind
     (written ∙ ap (λ bytes. put (results_in_place k op g (contents_over g (r.bytes b)) (elements_over false s bytes)) (r.bytes b)) lent)) c.write_results-2.ensures

@@ -23,6 +23,6 @@ returns c =
     let y = Plain (num_of c.args.number) in
     let p = c.in_ok-results.results in
     let written : written_in_place p (r.bytes b) ≡ put (results_in_place k op g (contents_over g (r.bytes b)) y) (r.bytes b) =
-    subst (λ (block : List ℕ). written_in_place p block ≡ put (results_in_place k op g (contents_over g block) y) block) c.bytes-block.ensures c.in_ok-results.ensures in
+    subst (λ (block : List ℕ). written_in_place p block ≡ put (results_in_place k op g (contents_over g block) y) block) c.bytes-block.ensures c.in_ok-results.ensures.results in
     subst (λ (s : Running). OnOk c.write_results.result (live c.write_results.new.session ≡ s))
     (updated_in_parts r b g (written_in_place p (r.bytes b)) k op y c.requires.target.count c.requires.kind written) c.write_results.ensures

@@ -7,6 +7,7 @@ abbrev pub invariant-loop-run : goal.invariant-loop-run
 invariant-loop-run l = record {
   many : l.at + length (concat l.runs) ≡ length l.view.places;
   left : KeepsOff l.size l.first l.step l.at (concat l.runs) → KeepsOff l.size l.first l.step 0 l.view.places;
+  part : KeepsOff l.size l.first l.step 0 l.view.places → KeepsOff l.size l.first l.step l.at (concat l.runs);
 }
 
 abbrev pub decreases-loop-run : goal.decreases-loop-run

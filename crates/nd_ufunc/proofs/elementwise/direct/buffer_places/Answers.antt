@@ -20,9 +20,9 @@ laid e n =
     ap (λ m. map (λ k. k * size_of e.kind) (count_up 0 m)) many
     ∙ map_same (λ k. k * size_of e.kind) (λ k. 0 + k * size_of e.kind) (λ k. omega arith) (count_up 0 n)
 
-pub returns : goal.returns
-returns c =
+pub returns-in-Ok : goal.returns-in-Ok
+returns-in-Ok c =
     let e : Element = little (kind_of c.args.kind) in
-    let view_is : c.in_ok-view.view ≡ contiguous (One e) (8192 ∷ []) = c.in_ok-view.ensures ∙ (λ i. contiguous (One (c.little-elem.ensures i)) (8192 ∷ [])) in
+    let view_is : c.in-Ok.view ≡ contiguous (One e) (8192 ∷ []) = c.in-Ok.ensures ∙ (λ i. contiguous (One (c.little-elem.ensures i)) (8192 ∷ [])) in
     of_some c.contiguous_run.result _ (λ run. run ≡ side_by_side (size_of e.kind) 0 8192)
     (λ run is. is.0 ∙ ap (λ (v : Geo). v.places) view_is ∙ laid e 8192) c.contiguous_run.ensures

@@ -12,9 +12,9 @@ written_to d block same =
     let test : (length block == d.len) ≡ true = grind (arith, nat_tests) in
     ap (λ b. if b then with_results d.kind d.op d.target d.right block else block) test
 
-pub returns-in-Some : goal.returns-in-Some
-returns-in-Some c =
+pub returns-in-Some-clause-results : goal.returns-in-Some-clause-results
+returns-in-Some-clause-results c =
     let a = c.args in let block : List ℕ = a.block.now in
     let ready : DirectInPlace = record { kind = kind_of a.kind; op = binary_op a.op; target = a.target.now; right = a.right; len = length block } in
-    let is : c.in-Some.direct ≡ ready = subst (λ o. IfSome o (λ d. d ≡ ready)) c.in-Some.is c.in_ok-direct.ensures in
+    let is : c.in-Some.direct ≡ ready = subst (λ o. IfSome o (λ d. d ≡ ready)) c.in-Some.is c.prepare_directly.ensures.value in
     ap (λ d. written_directly d block) is ∙ written_to ready block refl

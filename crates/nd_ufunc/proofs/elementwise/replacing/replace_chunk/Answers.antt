@@ -5,13 +5,9 @@ use Rattle.std.proofs.lemmas.List.{length-map, length-take-le}
 use Rattle.nd_model.specs.Arrays.Content.{number_at}
 use Rattle.nd_model.specs.Arrays.Element.{Element, Kind, size_of, wrap, with_bytes}
 use Rattle.nd_model.specs.Making.Elementwise.{little}
-use Rattle.nd_model.specs.Arrays.Tuple.{count_up}
-use Rattle.nd_model.proofs.Puts.{take-count_up}
 use Rattle.nd_types.specs.Kinds.{kind_of}
-use Rattle.nd_view.specs.SideBySide.{side_by_side}
 use Rattle.nd_assign.proofs.Bytewise.{put_bytes}
 use Rattle.nd_element.specs.Elements.{numbers_at}
-use Rattle.nd_view.proofs.Tuples.{length-count_up}
 use Rattle.nd_ufunc.specs.Elementwise.Beside.{left_beside}
 use Rattle.nd_ufunc.specs.Elementwise.Replaced.{replaced}
 use Rattle.nd_ufunc.specs.Loops.Results.{result_bytes}
@@ -43,14 +39,6 @@ overflow_add-end g c =
     let wide : c.count-count.result * c.size-2.result ≡ length c.args.part.now * size_of c.args.plan.now.kinds.elem.kind = λ i. c.count-count.ensures.value i * c.size-2.ensures.value i in
     omega (arith, wide, c.start-start.ensures, c.requires.room)
 
-pub part-places-requires-clause-inside : goal.part-places-requires-clause-inside
-part-places-requires-clause-inside g c =
-    let k : Kind = kind_of c.args.plan.now.kinds.results in let n = c.count-count.result in
-    let bytes : n * c.size.result ≡ length c.args.part.now * size_of k = λ i. c.count-count.ensures.value i * c.size.ensures.value i in
-    let fits : n ≤ 8192 = in_buffer n c.size.result (omega (arith, bytes, c.requires.results)) (omega (arith, c.size.ensures.range)) in
-    let all : length c.args.plan.now.places.now ≡ 8192 = ap length c.requires.places ∙ length-map (count_up 0 8192) (λ j. 0 + j * size_of k) ∙ length-count_up 0 8192 in
-    omega (arith, fits, all)
-
 pub slice_bounds-write_numbers-end : goal.slice_bounds-write_numbers-end
 slice_bounds-write_numbers-end g c =
     let wide : c.count-count.result * c.size-2.result ≡ length c.args.part.now * size_of c.args.plan.now.kinds.elem.kind = λ i. c.count-count.ensures.value i * c.size-2.ensures.value i in
@@ -59,36 +47,25 @@ slice_bounds-write_numbers-end g c =
 pub write_numbers-requires-clause-out : goal.write_numbers-requires-clause-out
 write_numbers-requires-clause-out g c =
     let a = c.args in let s = size_of a.plan.now.kinds.elem.kind in let n = c.count-count.result in let bytes : List ℕ = a.bytes.now in
-    let k : Kind = kind_of a.plan.now.kinds.results in
     let wide : n * c.size-2.result ≡ length a.part.now * s = λ i. c.count-count.ensures.value i * c.size-2.ensures.value i in
     let start : ℕ = c.start-start.result in
     let m : ℕ = start + n * c.size-2.result - start in
     let many : m ≡ length a.part.now * s = omega (arith, wide) in
-    let narrow : n * c.size.result ≡ length a.part.now * size_of k = λ i. c.count-count.ensures.value i * c.size.ensures.value i in
-    let fits : n ≤ 8192 = in_buffer n c.size.result (omega (arith, narrow, c.requires.results)) (omega (arith, c.size.ensures.range)) in
-    let all : length a.plan.now.places.now ≡ 8192 = ap length c.requires.places ∙ length-map (count_up 0 8192) (λ j. 0 + j * size_of k) ∙ length-count_up 0 8192 in
-    let counted : length c.part-places.result ≡ n = ap length c.part-places.ensures ∙ length-take-le n (drop 0 a.plan.now.places.now) (omega (arith, length-drop 0 a.plan.now.places.now, all, fits)) in
-    length-take-le m (drop start bytes) (omega (arith, length-drop start bytes, many, c.start-start.ensures, c.requires.room)) ∙ many ∙ ap (λ j. j * s) (sym (counted ∙ c.count-count.ensures.value))
+    length-take-le m (drop start bytes) (omega (arith, length-drop start bytes, many, c.start-start.ensures, c.requires.room)) ∙ many ∙ ap (λ j. j * s) (sym c.count-count.ensures.value)
 
 pub write_numbers-requires-clause-results : goal.write_numbers-requires-clause-results
 write_numbers-requires-clause-results g c =
     let a = c.args in let k : Kind = kind_of a.plan.now.kinds.results in let n = c.count-count.result in let len : ℕ = n * c.size.result in
     let buffer = a.buffer.now in let results : List ℕ = c.find_results.new.out in
     let narrow : len ≡ length a.part.now * size_of k = λ i. c.count-count.ensures.value i * c.size.ensures.value i in
-    let fits : n ≤ 8192 = in_buffer n c.size.result (omega (arith, narrow, c.requires.results)) (omega (arith, c.size.ensures.range)) in
     let long : length results ≡ len = c.find_results.auto.out ∙ length-take-le len buffer (omega (arith, narrow, c.requires.results)) in
-    let all : length a.plan.now.places.now ≡ 8192 = ap length c.requires.places ∙ length-map (count_up 0 8192) (λ j. 0 + j * size_of k) ∙ length-count_up 0 8192 in
-    let counted : length c.part-places.result ≡ n = ap length c.part-places.ensures ∙ length-take-le n (drop 0 a.plan.now.places.now) (omega (arith, length-drop 0 a.plan.now.places.now, all, fits)) in
-    length-take-le len (results ++ drop len buffer) (omega (arith, length-append results (drop len buffer), long)) ∙ (λ i. sym counted i * c.size.ensures.value i)
+    length-take-le len (results ++ drop len buffer) (omega (arith, length-append results (drop len buffer), long)) ∙ (λ i. n * c.size.ensures.value i)
 
-pub write_numbers-requires-clause-places : goal.write_numbers-requires-clause-places
-write_numbers-requires-clause-places g c =
-    let k : Kind = kind_of c.args.plan.now.kinds.results in let s = size_of k in let n = c.count-count.result in
-    let narrow : n * c.size.result ≡ length c.args.part.now * s = λ i. c.count-count.ensures.value i * c.size.ensures.value i in
-    let few : n ≤ 8192 = in_buffer n c.size.result (omega (arith, narrow, c.requires.results)) (omega (arith, c.size.ensures.range)) in
-    let is : c.part-places.result ≡ side_by_side s 0 n = c.part-places.ensures ∙ ap (take n) c.requires.places ∙ take-count_up (λ k. 0 + k * s) 0 8192 n few in
-    let long : length c.part-places.result ≡ n = ap length is ∙ length-map (count_up 0 n) (λ k. 0 + k * s) ∙ length-count_up 0 n in
-    is ∙ ap (side_by_side s 0) (sym long)
+pub write_numbers-requires-clause-few : goal.write_numbers-requires-clause-few
+write_numbers-requires-clause-few g c =
+    let k : Kind = kind_of c.args.plan.now.kinds.results in
+    let narrow : c.count-count.result * size_of k ≡ length c.args.part.now * size_of k = ap (λ j. j * size_of k) c.count-count.ensures.value in
+    omega (arith, narrow, c.requires.results)
 
 pub returns-clause-bytes : goal.returns-clause-bytes
 returns-clause-bytes g c =
@@ -99,18 +76,15 @@ returns-clause-bytes g c =
     let buffer = a.buffer.now in let results : List ℕ = c.find_results.new.out in let zs : List ℤ = given f X Y in
     let narrow : len ≡ length part * size_of k = λ i. c.count-count.ensures.value i * c.size.ensures.value i in
     let wide : n * c.size-2.result ≡ length part * s = λ i. c.count-count.ensures.value i * c.size-2.ensures.value i in
-    let fits : n ≤ 8192 = in_buffer n c.size.result (omega (arith, narrow, c.requires.results)) (omega (arith, c.size.ensures.range)) in
     let X_long : length X ≡ length part = length-map part (number_at e bytes) in
     let Y_long : length Y ≡ length part = length-take-le (length part) (left_beside a.beside.now bytes) c.requires.enough in
     let found : results ≡ result_bytes (little k) f X Y = c.find_results.ensures.out in
     let long : length results ≡ len = ap length found ∙ length-result (little k) f X Y (X_long ∙ sym Y_long) ∙ ap (λ j. j * size_of k) X_long ∙ sym narrow in
     let pushed : take len (results ++ drop len buffer) ≡ results = ap (λ j. take j (results ++ drop len buffer)) (sym long) ∙ take-append_seam results (drop len buffer) in
-    let all : length a.plan.now.places.now ≡ 8192 = ap length c.requires.places ∙ length-map (count_up 0 8192) (λ j. 0 + j * size_of k) ∙ length-count_up 0 8192 in
-    let counted : length c.part-places.result ≡ n = ap length c.part-places.ensures ∙ length-take-le n (drop 0 a.plan.now.places.now) (omega (arith, length-drop 0 a.plan.now.places.now, all, fits)) in
-    let places : length zs ≡ length c.part-places.result = length-given f X Y (X_long ∙ sym Y_long) ∙ X_long ∙ sym (counted ∙ c.count-count.ensures.value) in
+    let many : length zs ≡ n = length-given f X Y (X_long ∙ sym Y_long) ∙ X_long ∙ sym c.count-count.ensures.value in
     let W : List ℕ = c.write_numbers.new.out in
     let W_is : W ≡ replaced e f X Y
-    = c.write_numbers.ensures zs (given_values f k X Y c.requires.wraps) places (pushed ∙ found ∙ given_bytes f (little k) X Y) ∙ given_written f e X Y in
+    = c.write_numbers.ensures zs (given_values f k X Y c.requires.wraps) many (pushed ∙ found ∙ given_bytes f (little k) X Y) ∙ given_written f e X Y in
     let start : ℕ = c.start-start.result in
     let m : ℕ = start + n * c.size-2.result - start in
     let W_long : length W ≡ m

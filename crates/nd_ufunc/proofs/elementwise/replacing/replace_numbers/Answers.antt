@@ -1,8 +1,8 @@
-use Rattle.std.proofs.Common.{◌≡◌, ℕ, ℤ, ◌+◌, ◌-◌, ◌*◌, ◌<◌, ◌≤◌, List, ◌++◌, length, take, drop, get_or, sym, ap, ◌∙◌, subst, arith, append_assoc, append-nil, take_all, refl, length-drop}
+use Rattle.std.proofs.Common.{◌≡◌, ℕ, ℤ, ◌+◌, ◌*◌, ◌<◌, ◌≤◌, List, ◌++◌, length, take, drop, get_or, sym, ap, ◌∙◌, subst, arith, append_assoc, append-nil, take_all, refl, length-drop, length-append}
 use Rattle.std.specs.List.{All}
 use Rattle.std.proofs.Math.Nat.{mul-le-mul_right}
 use Rattle.std.proofs.Math.Seq.{take-add}
-use Rattle.std.proofs.lemmas.List.{get_or-drop, get_or-map, get_or-take, take-append-drop, take-take, take_at, drop-drop, take-map, drop-map, length-map, length-take-le}
+use Rattle.std.proofs.lemmas.List.{get_or-drop, get_or-map, get_or-take, take-append-drop, take-take, take_at, drop_at, drop-drop, take-map, drop-map, length-map, length-take-le}
 use borrow.Rule.Slice.PartMut.{put_mid}
 use Rattle.std.proofs.lemmas.Slice.{take-put_mid, drop-put_mid}
 use Rattle.nd_model.specs.Arrays.Content.{number_at}
@@ -41,6 +41,16 @@ held_part P at n ps held =
     in_run P (take n (drop at ps)) (drop n (drop at ps)) (drop at ps) (sym (take-append-drop n (drop at ps)))
     (behind_run P (take at ps) (drop at ps) ps (sym (take-append-drop at ps)) held)
 
+-- what a walk takes is the next part, and no more than there is
+part_of : (run walk part rest : List ℕ) (at : ℕ) → walk ≡ drop at run → walk ≡ part ++ rest → at ≤ length run
+    → (part ≡ take (length part) (drop at run)) × (at + length part ≤ length run) × (rest ≡ drop (at + length part) run)
+part_of run walk part rest at is split le =
+    let both : drop at run ≡ part ++ rest = sym is ∙ split in (
+      sym (take_at part rest (length part) refl) ∙ ap (take (length part)) (sym both),
+      omega (arith, ap length both, length-drop at run, length-append part rest, le),
+      sym (drop_at part rest (length part) refl) ∙ ap (drop (length part)) (sym both) ∙ drop-drop (length part) at run,
+    )
+
 -- where a part begins
 part_start : (ps : List ℕ) (first s at n : ℕ) → ps ≡ side_by_side s first (length ps) → at < length ps → 0 < n → get_or (take n (drop at ps)) 0 0 ≡ first + at * s
 part_start ps first s at n gapless lt some =
@@ -51,10 +61,11 @@ part_start ps first s at n gapless lt some =
 
 pub loop-at-init : goal.loop-at-init
 loop-at-init g c =
-    let a = c.args in let first = get_or a.run.now 0 0 in
+    let a = c.args in let first = get_or a.target.now.places 0 0 in
     let none : first + 0 * size_of a.elem.kind ≡ first = omega arith in
     record {
       within = omega arith;
+      walk = c.new-walk.ensures;
       size = refl;
       len = refl;
       front = ap (λ m. take m a.bytes.now) none ∙ sym (append-nil (take first a.bytes.now));
@@ -64,28 +75,33 @@ loop-at-init g c =
       stays = c.requires.stays;
     }
 
-pub part-requires-clause-inside : goal.part-requires-clause-inside
-part-requires-clause-inside g c = omega (arith, c.min-some.ensures, c.loop-at-test.true, c.count-in-loop-at.ensures.value)
+pub next-part-requires-clause-left : goal.next-part-requires-clause-left
+next-part-requires-clause-left g c =
+    let run : List ℕ = c.args.target.now.places in
+    omega (arith, ap length c.loop-at.invariant.walk, length-drop c.loop-at.at run, c.loop-at-test.true, c.count-count.ensures.value)
 
 pub replace_chunk-requires-clause-held : goal.replace_chunk-requires-clause-held
 replace_chunk-requires-clause-held g c =
-    let a = c.args in let bytes : List ℕ = c.loop-at.bytes in let s = size_of a.elem.kind in
-    subst (All (λ p. p + s ≤ length bytes)) (sym c.part.ensures)
-    (subst (λ len. All (λ p. p + s ≤ len) (take c.min-some.result (drop c.loop-at.at a.run.now))) (sym c.loop-at.invariant.len)
-    (held_part (λ p. p + s ≤ length a.bytes.now) c.loop-at.at c.min-some.result a.run.now c.requires.held))
+    let a = c.args in let bytes : List ℕ = c.loop-at.bytes in let s = size_of a.elem.kind in let run : List ℕ = a.target.now.places in let at = c.loop-at.at in
+    let part : List ℕ = c.next-part.result in
+    let is = part_of run c.loop-at.walk part c.next-part.new.self at c.loop-at.invariant.walk c.next-part.ensures.split c.loop-at.invariant.within in
+    subst (All (λ p. p + s ≤ length bytes)) (sym is.0)
+    (subst (λ len. All (λ p. p + s ≤ len) (take (length part) (drop at run))) (sym c.loop-at.invariant.len)
+    (held_part (λ p. p + s ≤ length a.bytes.now) at (length part) run c.requires.held))
 
 pub replace_chunk-requires-clause-enough : goal.replace_chunk-requires-clause-enough
 replace_chunk-requires-clause-enough g c =
     let a = c.args in let is = c.loop-at.invariant in let e : Element = a.elem in let s = size_of e.kind in let f : ℤ → ℤ → ℤ = g.O.Operation.gives (kind_of a.to) in
-    let old : List ℕ = a.bytes.now in let bytes : List ℕ = c.loop-at.bytes in let run : List ℕ = a.run.now in let first = get_or run 0 0 in
-    let at = c.loop-at.at in let n = c.min-some.result in
+    let old : List ℕ = a.bytes.now in let bytes : List ℕ = c.loop-at.bytes in let run : List ℕ = a.target.now.places in let first = get_or run 0 0 in
+    let at = c.loop-at.at in let n = length c.next-part.result in
     let X : List ℤ = numbers_at e old run in let Y : List ℤ = left_beside a.beside.now old in
-    let few : at + n ≤ length run = omega (arith, c.min-some.ensures, c.loop-at-test.true, c.count-in-loop-at.ensures.value) in
-    let some : 0 < length run = omega (arith, c.count-in-loop-at.ensures.value, c.count-in-loop-at.ensures.some) in
+    let taken = part_of run c.loop-at.walk c.next-part.result c.next-part.new.self at c.loop-at.invariant.walk c.next-part.ensures.split c.loop-at.invariant.within in
+    let few : at + n ≤ length run = taken.1 in
+    let some : 0 < length run = omega (arith, c.count-count.ensures.value, c.loop-at-test.true) in
     let end = end_held run s first (length old) some c.requires.gapless c.requires.held in
     let before : take first bytes ≡ take first old = in_front bytes old (replaced e f (take at X) (take at Y)) first (first + at * s) (omega arith) (omega (arith, end)) is.front in
     let rights : left_beside c.loop-at.beside bytes ≡ drop at Y = same_beside c.loop-at.beside old bytes first s at before is.behind is.stays ∙ is.beside in
-    let counted : length c.part.result ≡ n = ap length c.part.ensures ∙ length-take-le n (drop at run) (omega (arith, length-drop at run, few)) in
+    let counted : length c.next-part.result ≡ n = refl in
     omega (arith, counted, ap length rights, length-drop at Y, c.requires.beside, few)
 
 pub replace_chunk-requires-clause-beside_held : goal.replace_chunk-requires-clause-beside_held
@@ -96,66 +112,71 @@ replace_chunk-requires-clause-keeps g c = subst (λ (j : Kind). Keeps j (kind_of
 
 pub replace_chunk-requires-clause-results : goal.replace_chunk-requires-clause-results
 replace_chunk-requires-clause-results g c =
-    let a = c.args in let run : List ℕ = a.run.now in let at = c.loop-at.at in let n = c.min-some.result in
-    let few : at + n ≤ length run = omega (arith, c.min-some.ensures, c.loop-at-test.true, c.count-in-loop-at.ensures.value) in
-    let counted : length c.part.result ≡ n = ap length c.part.ensures ∙ length-take-le n (drop at run) (omega (arith, length-drop at run, few)) in
+    let a = c.args in let run : List ℕ = a.target.now.places in let at = c.loop-at.at in let n = length c.next-part.result in
+    let taken = part_of run c.loop-at.walk c.next-part.result c.next-part.new.self at c.loop-at.invariant.walk c.next-part.ensures.split c.loop-at.invariant.within in
+    let few : at + n ≤ length run = taken.1 in
+    let counted : length c.next-part.result ≡ n = refl in
     let w = c.size.result in
-    let most : n * w ≤ c.chunk_of-chunk.result * w = mul-le-mul_right w (omega (arith, c.min-some.ensures)) in
-    let bytes : length c.part.result * size_of (kind_of c.args.to) ≡ n * w = λ i. counted i * sym c.size.ensures.value i in
+    let most : n * w ≤ c.chunk_of-chunk.result * w = mul-le-mul_right w (omega (arith, c.next-part.ensures.few)) in
+    let bytes : length c.next-part.result * size_of (kind_of c.args.to) ≡ n * w = λ i. counted i * sym c.size.ensures.value i in
     omega (arith, most, bytes, c.chunk_of-chunk.ensures.size)
 
 pub replace_chunk-requires-clause-left : goal.replace_chunk-requires-clause-left
 replace_chunk-requires-clause-left g c =
-    let a = c.args in let run : List ℕ = a.run.now in let at = c.loop-at.at in let n = c.min-some.result in
-    let few : at + n ≤ length run = omega (arith, c.min-some.ensures, c.loop-at-test.true, c.count-in-loop-at.ensures.value) in
-    let counted : length c.part.result ≡ n = ap length c.part.ensures ∙ length-take-le n (drop at run) (omega (arith, length-drop at run, few)) in
+    let a = c.args in let run : List ℕ = a.target.now.places in let at = c.loop-at.at in let n = length c.next-part.result in
+    let taken = part_of run c.loop-at.walk c.next-part.result c.next-part.new.self at c.loop-at.invariant.walk c.next-part.ensures.split c.loop-at.invariant.within in
+    let few : at + n ≤ length run = taken.1 in
+    let counted : length c.next-part.result ≡ n = refl in
     let w = c.size-2.result in
-    let most : n * w ≤ c.chunk_of-chunk.result * w = mul-le-mul_right w (omega (arith, c.min-some.ensures)) in
-    let bytes : length c.part.result * size_of (kind_of c.side_kind-own.result) ≡ n * w = λ i. counted i * sym c.size-2.ensures.value i in
+    let most : n * w ≤ c.chunk_of-chunk.result * w = mul-le-mul_right w (omega (arith, c.next-part.ensures.few)) in
+    let bytes : length c.next-part.result * size_of (kind_of c.side_kind-own.result) ≡ n * w = λ i. counted i * sym c.size-2.ensures.value i in
     omega (arith, most, bytes, c.chunk_of-chunk.ensures.left)
 
 pub replace_chunk-requires-clause-right : goal.replace_chunk-requires-clause-right
 replace_chunk-requires-clause-right g c =
-    let a = c.args in let run : List ℕ = a.run.now in let at = c.loop-at.at in let n = c.min-some.result in
-    let few : at + n ≤ length run = omega (arith, c.min-some.ensures, c.loop-at-test.true, c.count-in-loop-at.ensures.value) in
-    let counted : length c.part.result ≡ n = ap length c.part.ensures ∙ length-take-le n (drop at run) (omega (arith, length-drop at run, few)) in
+    let a = c.args in let run : List ℕ = a.target.now.places in let at = c.loop-at.at in let n = length c.next-part.result in
+    let taken = part_of run c.loop-at.walk c.next-part.result c.next-part.new.self at c.loop-at.invariant.walk c.next-part.ensures.split c.loop-at.invariant.within in
+    let few : at + n ≤ length run = taken.1 in
+    let counted : length c.next-part.result ≡ n = refl in
     let w = c.size-3.result in
-    let most : n * w ≤ c.chunk_of-chunk.result * w = mul-le-mul_right w (omega (arith, c.min-some.ensures)) in
-    let bytes : length c.part.result * size_beside c.loop-at.beside ≡ n * w = λ i. counted i * (c.loop-at.invariant.size ∙ sym c.size-3.ensures.value) i in
+    let most : n * w ≤ c.chunk_of-chunk.result * w = mul-le-mul_right w (omega (arith, c.next-part.ensures.few)) in
+    let bytes : length c.next-part.result * size_beside c.loop-at.beside ≡ n * w = λ i. counted i * (c.loop-at.invariant.size ∙ sym c.size-3.ensures.value) i in
     omega (arith, most, bytes, c.chunk_of-chunk.ensures.right)
 
 pub replace_chunk-requires-clause-room : goal.replace_chunk-requires-clause-room
 replace_chunk-requires-clause-room g c =
-    let a = c.args in let run : List ℕ = a.run.now in let at = c.loop-at.at in let n = c.min-some.result in
-    let few : at + n ≤ length run = omega (arith, c.min-some.ensures, c.loop-at-test.true, c.count-in-loop-at.ensures.value) in
-    let counted : length c.part.result ≡ n = ap length c.part.ensures ∙ length-take-le n (drop at run) (omega (arith, length-drop at run, few)) in
+    let a = c.args in let run : List ℕ = a.target.now.places in let at = c.loop-at.at in let n = length c.next-part.result in
+    let taken = part_of run c.loop-at.walk c.next-part.result c.next-part.new.self at c.loop-at.invariant.walk c.next-part.ensures.split c.loop-at.invariant.within in
+    let few : at + n ≤ length run = taken.1 in
+    let counted : length c.next-part.result ≡ n = refl in
     let s = size_of a.elem.kind in let first = get_or run 0 0 in
-    let some : 0 < length run = omega (arith, c.count-in-loop-at.ensures.value, c.count-in-loop-at.ensures.some) in
+    let some : 0 < length run = omega (arith, c.count-count.ensures.value, c.loop-at-test.true) in
     let end = end_held run s first (length a.bytes.now) some c.requires.gapless c.requires.held in
     let room = part_held at n (length run) s first (length a.bytes.now) few end in
-    let next : 0 < n = omega (arith, c.min-some.ensures, c.loop-at-test.true, c.count-in-loop-at.ensures.value, c.chunk_of-chunk.ensures.some) in
-    let begin : get_or c.part.result 0 0 ≡ first + at * s = ap (λ l. get_or l 0 0) c.part.ensures ∙ part_start run first s at n c.requires.gapless (omega (arith, few, next)) next in
-    let wide : length c.part.result * s ≡ n * s = ap (λ j. j * s) counted in
+    let next : 0 < n = omega (arith, c.count-some.ensures.value, c.count-some.ensures.some) in
+    let begin : get_or c.next-part.result 0 0 ≡ first + at * s = ap (λ l. get_or l 0 0) taken.0 ∙ part_start run first s at n c.requires.gapless (omega (arith, few, next)) next in
+    let wide : length c.next-part.result * s ≡ n * s = ap (λ j. j * s) counted in
     omega (arith, begin, wide, room.1, c.loop-at.invariant.len)
 
 pub loop-at-preserved : goal.loop-at-preserved
 loop-at-preserved g c =
     let a = c.args in let is = c.loop-at.invariant in let e : Element = a.elem in let s = size_of e.kind in let k : Kind = kind_of a.to in
     let f : ℤ → ℤ → ℤ = g.O.Operation.gives k in
-    let old : List ℕ = a.bytes.now in let bytes : List ℕ = c.loop-at.bytes in let run : List ℕ = a.run.now in let first = get_or run 0 0 in
-    let at = c.loop-at.at in let n = c.min-some.result in
+    let old : List ℕ = a.bytes.now in let bytes : List ℕ = c.loop-at.bytes in let run : List ℕ = a.target.now.places in let first = get_or run 0 0 in
+    let at = c.loop-at.at in let n = c.count-some.result in
     let X : List ℤ = numbers_at e old run in let Y : List ℤ = left_beside a.beside.now old in
-    let few : at + n ≤ length run = omega (arith, c.min-some.ensures, c.loop-at-test.true, c.count-in-loop-at.ensures.value) in
-    let some : 0 < length run = omega (arith, c.count-in-loop-at.ensures.value, c.count-in-loop-at.ensures.some) in
+    let taken = part_of run c.loop-at.walk c.next-part.result c.next-part.new.self at c.loop-at.invariant.walk c.next-part.ensures.split c.loop-at.invariant.within in
+    let few : at + n ≤ length run = omega (arith, taken.1, c.count-some.ensures.value) in
+    let some : 0 < length run = omega (arith, c.count-count.ensures.value, c.loop-at-test.true) in
     let end = end_held run s first (length old) some c.requires.gapless c.requires.held in
     let room = part_held at n (length run) s first (length old) few end in
-    let next_some : 0 < n = omega (arith, c.min-some.ensures, c.loop-at-test.true, c.count-in-loop-at.ensures.value, c.chunk_of-chunk.ensures.some) in
+    let next_some : 0 < n = c.count-some.ensures.some in
     let start : ℕ = first + at * s in let m : ℕ = n * s in
     let inside : start + m ≤ length bytes = omega (arith, room.1, is.len) in
-    let part : List ℕ = c.part.result in
-    let part_is : part ≡ take n (drop at run) = c.part.ensures in
+    let part : List ℕ = c.next-part.result in
+    let counted : length part ≡ n = sym c.count-some.ensures.value in
+    let part_is : part ≡ take n (drop at run) = taken.0 ∙ ap (λ j. take j (drop at run)) counted in
     let begin : get_or part 0 0 ≡ start = ap (λ l. get_or l 0 0) part_is ∙ part_start run first s at n c.requires.gapless (omega (arith, few, next_some)) next_some in
-    let counted : length part ≡ n = ap length part_is ∙ length-take-le n (drop at run) (omega (arith, length-drop at run, few)) in
     let front : take start bytes ≡ take first old ++ replaced e f (take at X) (take at Y) = is.front in
     let before : take first bytes ≡ take first old = in_front bytes old (replaced e f (take at X) (take at Y)) first start (omega arith) (omega (arith, end)) front in
     let lefts : numbers_at e bytes (drop at run) ≡ drop at X
@@ -176,6 +197,7 @@ loop-at-preserved g c =
     let Y_long : length (take at Y) ≡ at = length-take-le at Y (omega (arith, c.requires.beside, few)) in
     record {
       within = few;
+      walk = taken.2 ∙ ap (λ j. drop (at + j) run) counted;
       size = c.replace_chunk.ensures.size ∙ is.size;
       len = ap length made ∙ length-put_mid start m bytes W inside W_long ∙ is.len;
       front = ap (take (first + (at + n) * s)) made ∙ take-put_mid start m bytes W (first + (at + n) * s) next (omega (arith, inside))
@@ -194,9 +216,9 @@ loop-at-preserved g c =
 pub returns : goal.returns
 returns g c =
     let a = c.args in let is = c.loop-at.invariant in let e : Element = a.elem in let s = size_of e.kind in let k : Kind = kind_of a.to in let f : ℤ → ℤ → ℤ = g.O.Operation.gives k in
-    let old : List ℕ = a.bytes.now in let bytes : List ℕ = c.loop-at.bytes in let run : List ℕ = a.run.now in let first = get_or run 0 0 in let at = c.loop-at.at in
+    let old : List ℕ = a.bytes.now in let bytes : List ℕ = c.loop-at.bytes in let run : List ℕ = a.target.now.places in let first = get_or run 0 0 in let at = c.loop-at.at in
     let X : List ℤ = numbers_at e old run in let Y : List ℤ = left_beside a.beside.now old in
-    let done : at ≡ length run = omega (arith, is.within, c.loop-at-test.false, c.count.ensures.value) in
+    let done : at ≡ length run = omega (arith, is.within, c.loop-at-test.false, c.count-count.ensures.value) in
     let all_X : length X ≡ length run = length-map run (number_at e old) in
     let xs : take at X ≡ X = take_all at X (omega (arith, all_X, done)) in
     let ys : take at Y ≡ Y = take_all at Y (omega (arith, c.requires.beside, done)) in

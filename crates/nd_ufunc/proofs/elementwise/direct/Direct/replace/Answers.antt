@@ -1,4 +1,4 @@
-use Rattle.std.proofs.Common.{◌≡◌, ℕ, ℤ, ◌+◌, ◌*◌, ◌<◌, ◌≤◌, List, length, get_or, sym, ap, ◌∙◌, subst, arith}
+use Rattle.std.proofs.Common.{◌≡◌, ℕ, ℤ, ◌+◌, ◌*◌, ◌≤◌, List, [], ◌∷◌, length, get_or, sym, ap, ◌∙◌, subst, arith}
 use Rattle.std.specs.List.{All}
 use Rattle.nd_model.specs.Arrays.Element.{Element, IsValue, Kind, size_of, with_bytes}
 use Rattle.nd_model.specs.Making.Operand.{Operand}
@@ -21,13 +21,18 @@ use Rattle.nd_ufunc.proofs.elementwise.Mapped.{length-beside}
 use Rattle.nd_ufunc.proofs.elementwise.Overwritten.{written_over}
 use Rattle.nd_ufunc.proofs.elementwise.direct.Direct.replace.Goals as goal
 
+-- where elements without gaps end
+held_end : (ps : List ℕ) (s len : ℕ) → ps ≡ side_by_side s (get_or ps 0 0) (length ps) → All (λ p. p + s ≤ len) ps → get_or ps 0 0 + length ps * s ≤ len
+held_end [] s len is held = omega arith
+held_end (p ∷ ps) s len is held = end_held (p ∷ ps) s p len (omega arith) is held
+
 pub replace_numbers-requires-clause-beside : goal.replace_numbers-requires-clause-beside
 replace_numbers-requires-clause-beside g c =
     let d = c.self.inside in let is = c.self.invariant in let bytes : List ℕ = c.args.bytes.now in let y : Operand = right_operand d.right bytes in
     let len : length bytes ≡ d.len = c.requires.len ∙ sym (ap (λ (r : DirectInPlace). r.len) c.self.view_is) in
     let numbers : left_beside c.begin-beside.result bytes ≡ numbers_beside y d.target.now.shape
     = c.begin-beside.ensures.numbers bytes ∙ ap (λ n. beside_numbers d.beside n bytes) c.count-count.ensures.value ∙ is.beside bytes len in
-    ap length numbers ∙ length-beside y d.target.now.shape ∙ sym is.lies.count ∙ ap length (sym is.run)
+    ap length numbers ∙ length-beside y d.target.now.shape ∙ sym is.lies.count
 
 pub replace_numbers-requires-clause-wraps : goal.replace_numbers-requires-clause-wraps
 replace_numbers-requires-clause-wraps g c = λ x y.
@@ -40,7 +45,7 @@ pub returns : goal.returns
 returns g c =
     let d = c.self.inside in let is = c.self.invariant in let k : Kind = kind_of d.kind in let op : BinaryOp = binary_op d.op in let e : Element = d.elem in
     let bytes : List ℕ = c.args.bytes.now in let target : Geo = d.target.now in let y : Operand = right_operand d.right bytes in
-    let run : List ℕ = d.run in let first = get_or run 0 0 in
+    let run : List ℕ = target.places in let first = get_or run 0 0 in
     let len : length bytes ≡ d.len = c.requires.len ∙ sym (ap (λ (r : DirectInPlace). r.len) c.self.view_is) in
     let gives : g.O.Operation.gives k ≡ binary_result (Operator op) k
     = subst (λ (r : DirectInPlace). g.O.Operation.gives r.kind ≡ binary_result (Operator r.op) r.kind) (sym c.self.view_is) c.requires.gives in
@@ -48,13 +53,8 @@ returns g c =
     = c.begin-beside.ensures.numbers bytes ∙ ap (λ n. beside_numbers d.beside n bytes) c.count-count.ensures.value ∙ is.beside bytes len in
     let lies : LiesIn (length bytes) target = subst (λ n. LiesIn n target) (sym len) is.lies in
     let inside : All (λ p. p + size_of e.kind ≤ length bytes) target.places = subst (λ (t : ElementType). All (λ p. p + item_size t ≤ length bytes) target.places) is.element lies.inside in
-    let held : All (λ p. p + size_of e.kind ≤ length bytes) run = subst (All (λ p. p + size_of e.kind ≤ length bytes)) (sym is.run) inside in
-    let some : 0 < length run = omega (arith, c.count-count.ensures.value, c.count-count.ensures.some) in
-    let end = end_held run (size_of e.kind) first (length bytes) some is.gapless held in
-    let many : length run ≡ length target.places = ap length is.run in
-    let room : first + length target.places * size_of e.kind ≤ length bytes = subst (λ n. first + n * size_of e.kind ≤ length bytes) many end in
-    let gapless : target.places ≡ side_by_side (size_of e.kind) first (length target.places) = sym is.run ∙ is.gapless ∙ ap (side_by_side (size_of e.kind) first) many in
+    let room : first + length run * size_of e.kind ≤ length bytes = held_end run (size_of e.kind) (length bytes) is.gapless inside in
     c.replace_numbers.ensures
-    ∙ (λ i. with_bytes bytes first (replaced e (gives i) (numbers_at e bytes (is.run i)) (numbers i)))
-    ∙ written_over k op target e y bytes first is.element lies gapless room
+    ∙ (λ i. with_bytes bytes first (replaced e (gives i) (numbers_at e bytes run) (numbers i)))
+    ∙ written_over k op target e y bytes first is.element lies is.gapless room
     ∙ ap (λ (r : DirectInPlace). with_results r.kind r.op r.target r.right bytes) c.self.view_is

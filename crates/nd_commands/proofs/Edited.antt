@@ -14,7 +14,6 @@ use Rattle.nd_notebook.specs.declared.edit.EditFault.TheVariants as edits
 use Rattle.nd_notebook.specs.Edits.{RanFor, edit_fault_of, name_in, outcome_of}
 use Rattle.nd_schedule.specs.Schedule.Ran.{AreStale}
 use Rattle.nd_commands.specs.Answer.{edit_answer_of}
-use Rattle.nd_commands.specs.Carry.{Carried}
 use Rattle.nd_commands.specs.Noted.{CarriedNoted, NotesRan, noted_of}
 
 answered : {X : Type 0} (e : Edit) (old new : Sheet) (r : Result X EditFault) → Answers e old (outcome_of e r) new
@@ -27,10 +26,6 @@ answered e old new (Err edits.BadInputName) h = inl (ap edit_answer (sym h.0), r
 answered e old new (Err edits.InputTooLarge) h = inl (ap edit_answer (sym h.0), rw h.0 (ap book_of h.1))
 answered e old new (Err edits.NoInputNamed) h = inl (ap edit_answer (sym h.0), rw h.0 (ap book_of h.1))
 answered e old new (Err (edits.Memory m)) h = inr (ap is_none h.0, refl, ap book_of h.1)
-
-pub carried_edit : {X : Type 0} (e : Edit) (old new : Sheet) (r : Result X EditFault) (was now : AnswerState)
-    → Answers e old (outcome_of e r) new → Pushes was (edit_answer_of (name_in e) r) now → Carried (Edits e) (book_of old) was now (book_of new)
-carried_edit e old new r was now h pushed = (edit_answer_of (name_in e) r, answered e old new r h, pushed)
 
 -- ---- what they count
 
@@ -46,7 +41,7 @@ counts_stale e old before after is given =
     let P : Book → Type 0 = λ b. CountsStale (book_of old) b before after in
     counts_none (model.refusal e (book_of old)) (book_of old) (edited e (book_of old)) before after is (subst P (edits_book e old) given)
 
-pub counts_edit : {X : Type 0} (e : Edit) (old new : Sheet) (r : Result X EditFault) (before after : ℕ) → Answers e old (outcome_of e r) new
+counts_edit : {X : Type 0} (e : Edit) (old new : Sheet) (r : Result X EditFault) (before after : ℕ) → Answers e old (outcome_of e r) new
     → CountsRuns e old (outcome_of e r) before after → CountsCommand (Edits e) (book_of old) before after
 counts_edit e old new (Ok done) before after h given = counts_stale e old before after h.0 given
 counts_edit e old new (Err (edits.NoCell at count)) before after h given = counts_some _ _ _ _ before after h.0 given
@@ -60,7 +55,7 @@ counts_edit e old new (Err (edits.Memory m)) before after h given = counts_stale
 -- ---- what they note
 
 -- a refusal is another answer
-refused_is_not_ok : (f : model.EditFault) → edit_answer (Some f) ≡ edit_answer None → ⊥
+pub refused_is_not_ok : (f : model.EditFault) → edit_answer (Some f) ≡ edit_answer None → ⊥
 refused_is_not_ok f same =
     let first : 114 ≡ 111 = ap (λ text. get_or text 0 0) same in
     absurd (omega (arith, first))

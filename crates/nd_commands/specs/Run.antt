@@ -15,7 +15,7 @@ RanFromNothing unread left was now = (new : Book) × RanToEnd unread left (book_
 abbrev pub StoppedFromNothing : RunFault → (unread left was now : Option (List ℕ)) → Type 0
 StoppedFromNothing f unread left was now = (new : Book) × StoppedAt f unread left (book_of no_sheet) was now new
 
--- the same, counted on a meter that shows so much before and after
+-- counted on a meter, by what it shows before and after
 abbrev pub CountedFromNothing : (unread left was now : Option (List ℕ)) → (before after : ℕ) → Type 0
 CountedFromNothing unread left was now before after = (new : Book) × CountedToEnd unread left (tally_of no_sheet before) was now (record { book = new; count = after })
 

@@ -54,8 +54,8 @@ pub fn make_edit<O: AnswerWrite>(
     answer_edit(out, ran, edit.input_name(), done);
 }
 
-/// Sets an input, which the notebook keeps. Where it is set, `ran` becomes the places of the cells
-/// that ran.
+/// Sets an input, which the notebook keeps, and answers that. Where it is set, `ran` becomes the
+/// places of the cells that ran.
 pub fn set_input<O: AnswerWrite>(
     out: &mut O,
     meter: &mut Meter,

@@ -13,9 +13,8 @@ mod runner;
 mod source;
 mod value;
 
-pub use answer::{
-    push_edit_answer, push_edit_fault, push_edit_refusal, push_query_refusal, push_refusal,
-};
+pub use answer::{push_edit_fault, push_edit_refusal, push_query_refusal, push_refusal};
+pub use carry::set_input;
 pub use fault::push_cell_fault;
 pub use line::answer_line;
 pub use nd_script::lines::{CountedRead, CountedWrite, RunFault, ScriptReader, ScriptWriter};

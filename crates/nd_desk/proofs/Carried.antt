@@ -1,42 +1,36 @@
 -- Words for front ends that are carried out.
-use Rattle.std.proofs.Common.{◌≡◌, ℕ, true, false, List, [], ◌++◌, Option, Some, None, append-nil, Result, Ok, Err, ◌⊎◌, refl, sym, ap, subst, ◌∙◌, inl, inr}
-use Rattle.std.specs.Prelude.{IfOk, IsUtf8, is_none, is_ok, codes}
-use Rattle.std.specs.Global.{Vec}
+use Rattle.std.proofs.Common.{◌≡◌, ℕ, true, false, List, [], ◌++◌, Option, Some, append-nil, Result, Ok, Err, ◌⊎◌, refl, sym, ap, subst, inl, inr}
+use Rattle.std.specs.Prelude.{IsUtf8, is_ok, codes}
 use Rattle.std.specs.Str.{is_utf8}
 use Rattle.std.proofs.lemmas.Bool.{false_from_ne_true}
 use Rattle.std.proofs.lemmas.Str.{IsUtf8-from_is_utf8, is_utf8-from_IsUtf8}
 use Rattle.std.specs.declared.io.ErrorKind.{ErrorKind}
 use Rattle.std.specs.declared.io.ErrorKind.TheVariants as kind
-use Rattle.nd_model.specs.Book.Book.{Book, Edit, BadInputName, CellResult, EditFault, QueryFault, SetInput, value_at, saved_at}
+use Rattle.nd_model.specs.Book.Book.{BadInputName, EditFault, QueryFault, SetInput, value_at, saved_at}
 use Rattle.nd_model.specs.Book.Book as model
-use Rattle.nd_model.specs.Book.Notebook.{Sheet, Answers, CountsRuns, Tells, book_of}
+use Rattle.nd_model.specs.Book.Notebook.{Sheet, Tells, book_of}
 use Rattle.nd_model.specs.Book.Renaming.{Shown}
 use Rattle.nd_model.specs.Book.Script as script
-use Rattle.nd_model.specs.Book.Script.{Answer, Edits, edit_answer, query_answer, refused_line, source_of, with_text}
+use Rattle.nd_model.specs.Book.Script.{Edits, edit_answer, query_answer, refused_line, source_of, with_text}
 use Rattle.nd_model.specs.Cells.InputName.{is_input_name}
 use Rattle.nd_model.specs.Cells.Running.{Source}
 use Rattle.nd_model.specs.Indexing.Selecting.{Item}
 use Rattle.nd_model.specs.Text.FaultText.{query_fault_text}
-use Rattle.nd_model.proofs.EditBooks.{edits_book}
 use Rattle.nd_script.specs.Lines.Answers.{AnswerState, Pushes}
 use Rattle.nd_script.specs.Lines.Language.{AnswersIn}
 use Rattle.nd_script.specs.Lines.Run.{Answered}
-use Rattle.nd_schedule.specs.Schedule.Ran.{AreStale}
 use Rattle.nd_notebook.specs.declared.edit.EditFault as declared
-use Rattle.nd_notebook.specs.declared.edit.EditFault.TheVariants as faults
 use Rattle.nd_notebook.specs.declared.query.QueryFault as asked
 use Rattle.nd_notebook.specs.declared.reading.CellReads.{CellReads}
 use Rattle.nd_notebook.specs.declared.trying.TriedCell.{TriedCell}
-use Rattle.nd_notebook.specs.Edits.{RanFor, edit_fault_of, name_in, outcome_of}
 use Rattle.nd_notebook.specs.Queries.{query_fault_of}
 use Rattle.nd_notebook.specs.Readers.{TellsReads}
 use Rattle.nd_notebook.specs.ReadsShown.{reads_told}
 use Rattle.nd_notebook.specs.Tried.{tried, tried_of, TellsTried, CountsTried}
-use Rattle.nd_commands.specs.Answer.{edit_answer_of}
-use Rattle.nd_commands.specs.Noted.{Noted, NotedAnswer, NotesRan, noted_of}
-use Rattle.nd_commands.proofs.Edited.{counts_edit}
+use Rattle.nd_commands.specs.Noted.{CarriedNoted, Noted, NotedAnswer, NotesRan, noted_of}
+use Rattle.nd_commands.proofs.Edited.{refused_is_not_ok}
 use Rattle.nd_desk.specs.Answers.{desk, Gives, tried_answer, type_answer, part_answer, reads_answer, cause_text, out_of_memory, TellsValue, SavesSome, SetsSome, IsUnhad}
-use Rattle.nd_desk.specs.Carry.{Asked, CarriedOut, PushesAnswer, places_after}
+use Rattle.nd_desk.specs.Carry.{Asked, CarriedOut, PushesAnswer}
 use Rattle.nd_desk.specs.Files.{cause_of_kind, unhad_text}
 use Rattle.nd_desk.specs.Lines.{IsOfForm, input_of, sets}
 use Rattle.nd_desk.specs.Parts.{part_of}
@@ -111,35 +105,6 @@ untold_part sheet at name index f was now told pushed =
     let refused = refused_value (λ w. part_answer (part_of index w)) (value_at (book_of sheet) at name) (query_fault_of name f) told in
     λ count ran. (refused_line (query_fault_text (query_fault_of name f)), (refused, refl), pushed)
 
--- ---- edits
-
-answered_edit : {X : Type 0} (e : Edit) (old new : Sheet) (r : Result X declared.EditFault) → Answers e old (outcome_of e r) new
-    → Answer (Edits e) (book_of old) (edit_answer_of (name_in e) r) (book_of new)
-answered_edit e old new (Ok done) h = inl (ap edit_answer (sym h.0), rw h.0 (ap book_of h.1 ∙ edits_book e old))
-answered_edit e old new (Err (faults.NoCell at count)) h = inl (ap edit_answer (sym h.0), rw h.0 (ap book_of h.1))
-answered_edit e old new (Err faults.TooManyCells) h = inl (ap edit_answer (sym h.0), rw h.0 (ap book_of h.1))
-answered_edit e old new (Err faults.CellTooLong) h = inl (ap edit_answer (sym h.0), rw h.0 (ap book_of h.1))
-answered_edit e old new (Err faults.BadInputName) h = inl (ap edit_answer (sym h.0), rw h.0 (ap book_of h.1))
-answered_edit e old new (Err faults.InputTooLarge) h = inl (ap edit_answer (sym h.0), rw h.0 (ap book_of h.1))
-answered_edit e old new (Err faults.NoInputNamed) h = inl (ap edit_answer (sym h.0), rw h.0 (ap book_of h.1))
-answered_edit e old new (Err (faults.Memory m)) h = inr (ap is_none h.0, refl, ap book_of h.1)
-
--- a refusal is not the answer to an edit that is done
-refusal_is_other : (f : EditFault) → edit_answer (Some f) ≡ edit_answer None → ⊥
-refusal_is_other f same = cc
-
-notes_edit : (e : Edit) (old new : Sheet) (before after : ℕ) (r : Result (Vec ℕ) declared.EditFault) (held : List ℕ) → Answers e old (outcome_of e r) new → IfOk r (λ v. RanFor e old v.items)
-    → NotesRan (Edits e) (edit_answer_of (name_in e) r) (noted_of old before held) (noted_of new after (places_after r held))
-notes_edit e old new before after (Ok v) held h ran = (λ same. subst (λ s. AreStale (book_of old) (book_of s) v.items) (sym h.1) ran, λ other. absurd (other refl))
-notes_edit e old new before after (Err f) held h ran = (λ same. absurd (refusal_is_other (edit_fault_of (name_in e) f) same), λ other. refl)
-
--- an edit that was made, with the places of the cells that it ran
-pub edit_out : (e : Edit) (old new : Sheet) (before after : ℕ) (r : Result (Vec ℕ) declared.EditFault) (held ran : List ℕ) → Answers e old (outcome_of e r) new
-    → CountsRuns e old (outcome_of e r) before after → IfOk r (λ v. RanFor e old v.items) → ran ≡ places_after r held
-    → NotedAnswer (Edits e) (noted_of old before held) (edit_answer_of (name_in e) r) (noted_of new after ran)
-edit_out e old new before after r held ran answered counts places is =
-    ((answered_edit e old new r answered, counts_edit e old new r before after answered counts), rw is (notes_edit e old new before after r held answered places))
-
 -- ---- files
 
 -- each kind of an error is a cause, or want of memory
@@ -156,10 +121,10 @@ by_form : (form : FileForm) (name path : List ℕ) (old : Noted) (text : List �
 by_form forms.Npy name path old text new given = given
 by_form (forms.Raw format itemsize shape strides offset) name path old text new given = given
 
-pub set_some : (form : FileForm) (name path : List ℕ) (source : Source) (text : List ℕ) (old new : Noted) (was now : AnswerState) → IsOfForm form source
-    → NotedAnswer (Edits (SetInput name source)) old text new → Pushes was text now → CarriedOut (sets name path form) old was now new
-set_some form name path source text old new was now is given pushed =
-    (text, by_form form name path old text new (inl (is.0, subst (λ s. NotedAnswer (Edits (SetInput name s)) old text new) is.1 given)), pushed)
+pub set_some : (form : FileForm) (name path : List ℕ) (source : Source) (old new : Noted) (was now : AnswerState) → IsOfForm form source
+    → CarriedNoted (Edits (SetInput name source)) old was now new → CarriedOut (sets name path form) old was now new
+set_some form name path source old new was now is given =
+    (given.0, by_form form name path old given.0 new (inl (is.0, subst (λ s. NotedAnswer (Edits (SetInput name s)) old given.0 new) is.1 given.1)), given.2)
 
 -- under a name that no input may have nothing is read
 pub bad_name : (form : FileForm) (name path : List ℕ) (old : Noted) (was now : AnswerState) → is_input_name name ≡ false → Pushes was (edit_answer (Some BadInputName)) now
@@ -167,7 +132,7 @@ pub bad_name : (form : FileForm) (name path : List ℕ) (old : Noted) (was now :
 bad_name form name path old was now bad pushed =
     let text = edit_answer (Some BadInputName) in
     let refused : model.refusal (SetInput name (input_of form [])) old.tally.book ≡ Some BadInputName = rw bad refl in
-    let notes : NotesRan (Edits (SetInput name (input_of form []))) text old old = (λ same. absurd (refusal_is_other BadInputName same), λ other. refl) in
+    let notes : NotesRan (Edits (SetInput name (input_of form []))) text old old = (λ same. absurd (refused_is_not_ok BadInputName same), λ other. refl) in
     (text, by_form form name path old text old (inl ([], ((inl (rw refused refl, rw refused refl), rw refused refl), notes))), pushed)
 
 pub unread : (form : FileForm) (name path : List ℕ) (k : ErrorKind) (old : Noted) (was now : AnswerState) → is_input_name name ≡ true

@@ -15,7 +15,7 @@ use Rattle.nd_script.specs.Lines.Language.{AnswersIn}
 use Rattle.nd_script.specs.Lines.Run.{Answered}
 use Rattle.nd_script.proofs.lines.Answers.{pushes_none}
 use Rattle.nd_script.proofs.lines.Progress.{one_answer}
-use Rattle.nd_notebook.specs.Together.{Refused, edited_all, first_refused, refused_or}
+use Rattle.nd_notebook.specs.Together.{RefusedEdit, edited_all, first_refused, refused_or}
 use Rattle.nd_commands.specs.Noted.{Noted, noted_of}
 use Rattle.nd_desk.specs.Answers.{desk, MakesTogether, TogetherGives, out_of_memory, refused_answer}
 use Rattle.nd_desk.specs.Carry.{CarriedOut}
@@ -30,7 +30,7 @@ never : {X : Type 0} (x : X) → Some x ≡ None → ⊥
 never x is = cc
 
 -- the first of these is not refused, and then none behind it
-first_stands : (o : Option EditFault) (number : ℕ) (behind : Option Refused) → refused_or o number behind ≡ None → (o ≡ None) × (behind ≡ None)
+first_stands : (o : Option EditFault) (number : ℕ) (behind : Option RefusedEdit) → refused_or o number behind ≡ None → (o ≡ None) × (behind ≡ None)
 first_stands None number behind none = (refl, none)
 first_stands (Some f) number behind none = absurd (never (record { number = number; fault = f }) none)
 
@@ -43,8 +43,8 @@ edited_books (e ∷ es) number s none =
 
 -- ---- the end of edits
 
-no_refused : (o : Option Refused) (es : List Edit) (old : Noted) (text : List ℕ) (new : Noted) → o ≡ None → MakesTogether es old text new → TogetherGives o es old text new
-no_refused o es old text new none given = subst (λ (o : Option Refused). TogetherGives o es old text new) (sym none) given
+no_refused : (o : Option RefusedEdit) (es : List Edit) (old : Noted) (text : List ℕ) (new : Noted) → o ≡ None → MakesTogether es old text new → TogetherGives o es old text new
+no_refused o es old text new none given = subst (λ (o : Option RefusedEdit). TogetherGives o es old text new) (sym none) given
 
 counts_edits : (es : List Edit) (old : Sheet) (before after : ℕ) → first_refused 0 es (book_of old) ≡ None
     → CountsStale (book_of old) (book_of (edited_all es old)) before after → CountsStale (book_of old) (edits es (book_of old)) before after
@@ -75,14 +75,14 @@ unmade_together es old new before after held was now none is counts pushed = (
 )
 
 -- one of them is refused, and none is made
-pub refused_together : (es : List Edit) (r : Refused) (old : Sheet) (count : ℕ) (held : List ℕ) (was now : AnswerState) → first_refused 0 es (book_of old) ≡ Some r
+pub refused_together : (es : List Edit) (r : RefusedEdit) (old : Sheet) (count : ℕ) (held : List ℕ) (was now : AnswerState) → first_refused 0 es (book_of old) ≡ Some r
     → Pushes was (refused_answer r) now → CarriedOut (Together es) (noted_of old count held) was now (noted_of old count held)
 refused_together es r old count held was now is pushed =
     let same = noted_of old count held in
-    (refused_answer r, subst (λ (o : Option Refused). TogetherGives o es same (refused_answer r) same) (sym is) (refl, refl), pushed)
+    (refused_answer r, subst (λ (o : Option RefusedEdit). TogetherGives o es same (refused_answer r) same) (sym is) (refl, refl), pushed)
 
 -- the words of a refusal, one behind the other
-pub refused_words : (r : Refused) → (((codes "refused " ++ decimal r.number) ++ codes " ") ++ edit_fault_text r.fault) ++ codes "\n" ≡ refused_answer r
+pub refused_words : (r : RefusedEdit) → (((codes "refused " ++ decimal r.number) ++ codes " ") ++ edit_fault_text r.fault) ++ codes "\n" ≡ refused_answer r
 refused_words r =
     let number = decimal r.number in
     let fault = edit_fault_text r.fault in
@@ -111,7 +111,7 @@ gathers_badly t was now pushed held = (codes "bad command\n", (refl, one_answer 
 pub gathers_to : (s t : Stage) (was : AnswerState) → s ≡ t → Gathers ([], t) was s was
 gathers_to s t was is = subst (λ (s : Stage). Gathers ([], t) was s was) (sym is) (gathers_quietly t was)
 
--- the same, where memory may be wanted
+-- a line for which memory may be wanted
 pub gathers_by : {E : Type 0} (r : Result DeskSource E) (t : Stage) (was : AnswerState) → IfOk r (λ x. stage_of (Some x) ≡ t) → IfOk r (λ x. Gathers ([], t) was (stage_of (Some x)) was)
 gathers_by r t was given = IfOk-weaker r (λ x. stage_of (Some x) ≡ t) (λ x. Gathers ([], t) was (stage_of (Some x)) was) (λ x is. gathers_to (stage_of (Some x)) t was is) given
 

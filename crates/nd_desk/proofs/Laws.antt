@@ -1,5 +1,5 @@
 -- Each word for front ends is a bad command of every other script.
-use Rattle.std.proofs.Common.{◌≡◌, ℕ, Bool, true, false, List, [], ◌∷◌, Option, Some, None, refl, sym, ap, subst, ◌∙◌, inl, inr, bytes_eq, codes}
+use Rattle.std.proofs.Common.{◌≡◌, ℕ, Bool, true, false, cond, List, [], ◌∷◌, Option, Some, None, refl, sym, ap, subst, ◌∙◌, inl, inr, bytes_eq, codes}
 use Rattle.std.specs.Prelude.{◌==◌, ◌&&◌}
 use Rattle.std.specs.Str.{is_utf8}
 use Rattle.std.specs.List.{onto_first}
@@ -10,8 +10,8 @@ use Rattle.nd_model.specs.Book.Script as script
 use Rattle.nd_model.specs.Book.Script.{Whole, Bad, number_word, words_of, read_line, with_number, placed_line, input_line, input_of_words}
 use Rattle.nd_script.proofs.words.InputWords.{no_kind}
 use Rattle.nd_script.proofs.words.Words.{parts_are_some}
-use Rattle.nd_desk.specs.Words.{Line, line_of_words, long_line, read_word}
-use Rattle.nd_desk.specs.Laws.{WordsWereBad}
+use Rattle.nd_desk.specs.Words.{Line, is_end, line_of_words, long_line, read_word}
+use Rattle.nd_desk.specs.Laws.{IsBadElsewhere, WordsWereBad}
 
 clash : {X : Type 0} (o : Option X) (x : X) → o ≡ None → o ≡ Some x → ⊥
 clash None x none some = cc
@@ -127,12 +127,23 @@ at_text c cs l text e = elim (cases_Bool (c == 35)) [
   | inr other ↦ rw (other, text) (by_words (words_of (c ∷ cs)) l e)
 ]
 
-pub words_were_bad : WordsWereBad
-words_were_bad [] l e = elim (cases_Bool (is_utf8 [])) [
+word_was_bad : (line : List ℕ) (l : Line) → read_word line ≡ Some l → IsBadElsewhere line
+word_was_bad [] l e = elim (cases_Bool (is_utf8 [])) [
   | inl text ↦ absurd (clash (line_of_words (words_of [])) l refl (worded [] l text e))
   | inr not ↦ absurd (clash (read_word []) l (rw not refl) e)
 ]
-words_were_bad (c ∷ cs) l e = elim (cases_Bool (is_utf8 (c ∷ cs))) [
+word_was_bad (c ∷ cs) l e = elim (cases_Bool (is_utf8 (c ∷ cs))) [
   | inl text ↦ at_text c cs l text (worded (c ∷ cs) l text e)
   | inr not ↦ absurd (clash (read_word (c ∷ cs)) l (rw not refl) e)
 ]
+
+-- whether a text is UTF-8 makes no difference to it
+either_way : (b : Bool) → cond b (Whole Bad) (Whole Bad) ≡ Whole Bad
+either_way true = refl
+either_way false = refl
+
+end_was_bad : (line : List ℕ) → is_end line ≡ true → IsBadElsewhere line
+end_was_bad line is = subst IsBadElsewhere (sym (is_word line (codes "end") is)) (either_way (is_utf8 (codes "end")))
+
+pub words_were_bad : WordsWereBad
+words_were_bad = record { words = word_was_bad; ends = end_was_bad }

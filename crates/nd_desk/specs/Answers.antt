@@ -14,7 +14,7 @@ use Rattle.nd_model.specs.Book.Stale.{CountsStale}
 use Rattle.nd_model.specs.Book.Script.{Edits, shape_text, shown_text, value_answer, ok_or_refused, edit_answer, query_answer, refused_line, with_text}
 use Rattle.nd_schedule.specs.Schedule.Ran.{AreStale}
 use Rattle.nd_notebook.specs.Readers.{BlockRead, CellReads, TellsReads}
-use Rattle.nd_notebook.specs.Together.{Refused, first_refused}
+use Rattle.nd_notebook.specs.Together.{RefusedEdit, first_refused}
 use Rattle.nd_notebook.specs.Tried.{tried, TellsTried, CountsTried}
 use Rattle.nd_commands.specs.Noted.{Noted, NotedAnswer}
 use Rattle.nd_script.specs.Lines.Language.{Language}
@@ -130,7 +130,7 @@ TellsSomeReads b at text = (r : Result CellReads QueryFault) × TellsReads b at 
 -- ---- edits that are made as one
 
 -- the number of the edit that is refused, and why it is
-abbrev pub refused_answer : Refused → List ℕ
+abbrev pub refused_answer : RefusedEdit → List ℕ
 refused_answer r = refused_line (decimal r.number ++ codes " " ++ edit_fault_text r.fault)
 
 -- all of them were made, or memory was wanted and none was; stale cells alone ran
@@ -141,7 +141,7 @@ MakesTogether es old text new =
     ⊎ ((text ≡ out_of_memory) × (new.tally.book ≡ old.tally.book) × (new.ran ≡ old.ran)))
 
 -- where one of them is refused, none is made
-abbrev pub TogetherGives : Option Refused → List Edit → Noted → (text : List ℕ) → Noted → Type 0
+abbrev pub TogetherGives : Option RefusedEdit → List Edit → Noted → (text : List ℕ) → Noted → Type 0
 TogetherGives None es old text new = MakesTogether es old text new
 TogetherGives (Some r) es old text new = (text ≡ refused_answer r) × (new ≡ old)
 

@@ -1,9 +1,7 @@
 -- Words for front ends that are carried out.
-use Rattle.std.specs.Prelude.{ℕ, ◌⊎◌, List, Result, Ok, Err}
-use Rattle.std.specs.Global.{Vec}
+use Rattle.std.specs.Prelude.{ℕ, ◌⊎◌, List}
 use Rattle.nd_script.specs.Lines.Answers.{AnswerState, Pushes}
 use Rattle.nd_model.specs.Book.Notebook.{Sheet}
-use Rattle.nd_notebook.specs.declared.edit.EditFault.{EditFault}
 use Rattle.nd_commands.specs.Noted.{Noted, noted_of}
 use Rattle.nd_desk.specs.Words.{Command}
 use Rattle.nd_desk.specs.Answers.{Gives, out_of_memory}
@@ -15,11 +13,6 @@ CarriedOut c old was now new = (text : List ℕ) × Gives c old text new × Push
 -- The command was answered, whatever the meter shows and whichever cells ran, and it changed nothing.
 abbrev pub Asked : Command → Sheet → (was now : AnswerState) → Type 0
 Asked c sheet was now = (count : ℕ) (ran : List ℕ) → CarriedOut c (noted_of sheet count ran) was now (noted_of sheet count ran)
-
--- the places of the cells that ran: those of an edit that was done, or those of the edit before it
-abbrev pub places_after : Result (Vec ℕ) EditFault → (held : List ℕ) → List ℕ
-places_after (Ok places) held = places.items
-places_after (Err f) held = held
 
 -- the answer was appended, or that memory is wanted
 abbrev pub PushesAnswer : (text : List ℕ) → (was now : AnswerState) → Type 0

@@ -24,8 +24,8 @@ pub data Command : Type 0 where
   -- edits that are made as one
   Together : List Edit → Command
 
--- where a script stands: as every script, in the text of a cell that is to be tried, or behind edits that are to be made as one, in
--- the text of the next of them perhaps
+-- Where a script stands: as every script, or in the text of a cell that is to be tried. Behind edits that are to be made as one it
+-- may stand in the text of the next.
 pub data Stage : Type 0 where
   Plainly : script.Stage → Stage
   Trying : (at : ℕ) → (before : List (List ℕ)) → Stage

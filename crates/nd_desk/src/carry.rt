@@ -1,9 +1,9 @@
 //! `try_cell` and the others: words for front ends, carried out and answered.
 
-ghost use Rattle.std.specs.Prelude.{◌≡◌, ℕ, List};
+ghost use Rattle.std.specs.Prelude.{ℕ, List};
 ghost use Rattle.nd_commands.specs.Noted.{noted_of};
 ghost use Rattle.nd_script.specs.Lines.Answers.{Pushes};
-ghost use Rattle.nd_desk.specs.Carry.{Asked, CarriedOut, places_after};
+ghost use Rattle.nd_desk.specs.Carry.{Asked, CarriedOut};
 ghost use Rattle.nd_desk.specs.Files.{unhad_text};
 ghost use Rattle.nd_desk.specs.Lines.{sets};
 ghost use Rattle.nd_desk.specs.Words.{AsksReads, AsksType, SavesFile, Tries};
@@ -12,7 +12,7 @@ use crate::answer::{push_trial, push_type};
 use crate::file::{FileCause, replace_file};
 use crate::form::FileForm;
 use crate::reads::push_reads;
-use nd_commands::{push_edit_answer, push_edit_refusal, push_query_refusal};
+use nd_commands::{push_edit_refusal, push_query_refusal, set_input};
 use nd_notebook::{EditFault, Meter, Notebook, is_input_name};
 use nd_script::lines::AnswerWrite;
 use nd_script::words::push_text;
@@ -85,15 +85,6 @@ fn push_cause<O: AnswerWrite>(out: &mut O, tried: &str, kind: ErrorKind)
     push_text(out, "\n");
 }
 
-// Keeps the places of the cells that an edit ran, where it was done.
-fn note_ran(ran: &mut Vec<usize>, done: Result<Vec<usize>, EditFault>)
-    ensures { ran.new.items ≡ places_after done ran.old.items }
-{
-    if let Ok(places) = done {
-        *ran = places;
-    }
-}
-
 /// Sets an input to the file at a path, in a form. A name that no input may have is refused before
 /// the file is opened. Where it is set, `ran` is the places of the cells that ran.
 pub fn set_file<O: AnswerWrite>(
@@ -115,11 +106,7 @@ pub fn set_file<O: AnswerWrite>(
         return;
     }
     match form.read(rt, path) {
-        Ok(input) => {
-            let done = notebook.set_input(meter, name, input);
-            push_edit_answer(out, name, &done);
-            note_ran(ran, done);
-        }
+        Ok(input) => set_input(out, meter, notebook, ran, name, input),
         Err(error) => push_cause(out, "Unread ", error.kind()),
     }
 }

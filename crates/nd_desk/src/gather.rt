@@ -27,7 +27,7 @@ ghost use Rattle.nd_desk.specs.Words.{
 
 use crate::line::DeskSource;
 use nd_commands::{OpenText, Opening, push_edit_fault};
-use nd_notebook::{CellRule, Input, Meter, Notebook, OwnedEdit, Refused};
+use nd_notebook::{CellRule, Input, Meter, Notebook, OwnedEdit, RefusedEdit};
 use nd_script::lines::AnswerWrite;
 use nd_script::words::{LineCommand, command_of, is_end_of_source, push_number, push_text};
 use std::alloc::{AllocError, Global};
@@ -96,7 +96,7 @@ fn make_together<O: AnswerWrite>(
 }
 
 // Appends the number of an edit that is refused, and why it is.
-fn push_refused<O: AnswerWrite>(out: &mut O, edits: &[OwnedEdit], refused: Refused)
+fn push_refused<O: AnswerWrite>(out: &mut O, edits: &[OwnedEdit], refused: RefusedEdit)
     ensures { Pushes (O.state out.old) (refused_answer (refused_of edits.now refused))
         (O.state out.new) }
 {

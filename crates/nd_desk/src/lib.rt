@@ -22,7 +22,8 @@ mod word;
 pub use program::status;
 pub use runner::run_desk;
 
-/// No command of a script is another one here: each word for front ends is a bad command elsewhere.
+/// No command of a script is another one here: each word for front ends is a bad command elsewhere, and
+/// so is the line that ends edits.
 pub fn words_were_bad()
     ensures { WordsWereBad }
 {}

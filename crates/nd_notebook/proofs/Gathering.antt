@@ -8,7 +8,7 @@ use Rattle.nd_model.proofs.EditBooks.{edits_book}
 use Rattle.nd_schedule.specs.Cells.Source.{sheet}
 use Rattle.nd_session.specs.Inputs.Values.{given_of}
 use Rattle.nd_notebook.specs.SoFar.{setting_of}
-use Rattle.nd_notebook.specs.Together.{Refused, edited_all, first_refused, owned_edit_of, refused_or}
+use Rattle.nd_notebook.specs.Together.{RefusedEdit, edited_all, first_refused, owned_edit_of, refused_or}
 use Rattle.nd_notebook.specs.declared.together.OwnedEdit.{OwnedEdit}
 use Rattle.nd_notebook.specs.declared.world.World.{World}
 
@@ -16,7 +16,7 @@ use Rattle.nd_notebook.specs.declared.world.World.{World}
 abbrev pub NoneRefused : List model.Edit → Sheet → Type 0
 NoneRefused es s = (n : ℕ) × (first_refused n es (book_of s) ≡ None)
 
-none_behind : (o : Option model.EditFault) (n : ℕ) (behind : Option Refused) → refused_or o n behind ≡ None → behind ≡ None
+none_behind : (o : Option model.EditFault) (n : ℕ) (behind : Option RefusedEdit) → refused_or o n behind ≡ None → behind ≡ None
 none_behind None n behind h = h
 none_behind (Some f) n behind h = none_some (record { number = n; fault = f }) (sym h)
 

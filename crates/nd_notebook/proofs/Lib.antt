@@ -3,8 +3,8 @@ pub mod Asked
 pub mod Entries
 pub mod Gathering
 pub mod LastPlaces
+pub mod Listing
 pub mod Looking
-pub mod Noted
 pub mod ReadsTold
 pub mod Sessions
 pub mod Setters

@@ -1,14 +1,17 @@
 -- Edits that are looked at one after another, before any is made.
-use Rattle.std.proofs.Common.{◌≡◌, ℕ, suc, ◌+◌, ◌<◌, Bool, true, false, not, ◌&&◌, ◌||◌, cond, bytes_eq, List, [], ◌∷◌, ◌++◌, length, map, take, drop, get_or, Option, Some, None, is_none, Err, refl, sym, ap, ap₂, ◌∙◌, add-one, drop-cons}
-use Rattle.std.proofs.lemmas.List.{map_more}
+use Rattle.std.proofs.Common.{◌≡◌, ℕ, suc, ◌+◌, ◌<◌, Bool, true, false, not, bytes_eq, List, [], ◌∷◌, ◌++◌, length, map, take, drop, get_or, Option, Some, None, is_none, Err, refl, sym, ap, ap₂, subst, ◌∙◌, inl, inr, arith, ◌-◌, add-one, drop-cons}
+use Rattle.std.specs.Bool.{then_some}
+use Rattle.std.proofs.lemmas.Bool.{cases_Bool, cond-false, cond-true}
+use Rattle.std.proofs.lemmas.List.{map_more, take_all}
 use Rattle.std.proofs.lemmas.Option.{slice_get_read}
-use Rattle.nd_model.specs.Cells.Session.{lookup, bind, unbind}
+use Rattle.nd_model.specs.Cells.Running.{Source}
+use Rattle.nd_model.specs.Cells.Session.{lookup}
 use Rattle.nd_model.specs.Book.Book as model
 use Rattle.nd_model.specs.Book.Notebook.{Sheet, book_of, edited_sheet}
 use Rattle.nd_model.proofs.EditBooks.{edits_book}
 use Rattle.nd_model.proofs.Lists.{lookup-bind, lookup-unbind}
 use Rattle.nd_notebook.specs.Edits.{edit_fault_of}
-use Rattle.nd_notebook.specs.SoFar.{IsChecked}
+use Rattle.nd_notebook.specs.SoFar.{IsChecked, LeavesInput}
 use Rattle.nd_notebook.specs.Together.{edited_all, first_refused, name_in_owned, owned_edit_of, refused_of, refused_or}
 use Rattle.nd_notebook.specs.declared.edit.EditFault.{EditFault}
 use Rattle.nd_notebook.specs.declared.together.OwnedEdit.{OwnedEdit}
@@ -62,24 +65,47 @@ module _ (es : List OwnedEdit) (k : ℕ) (d : OwnedEdit) (s : Sheet) (lt : k < l
       ∙ sym (stopped k (owned_edit_of d) (map owned_edit_of (drop (k + 1) es)) front _ refused)
       ∙ ap (λ l. first_refused k l (book_of front)) (sym here)
 
--- ---- inputs that stand after an edit
+-- ---- an input after an edit
 
-set_case : {A : Type 0} (same had : Bool) (v : A) (o : Option A) → is_none o ≡ not had → is_none (cond same (Some v) o) ≡ not (had || same)
-set_case true true v o h = refl
-set_case true false v o h = refl
-set_case false true v o h = h
-set_case false false v o h = h
+pub set_leaves : (name set : List ℕ) (v : Source) (o : Option Bool) → o ≡ then_some (bytes_eq name set) true → LeavesInput name (model.SetInput set v) o
+set_leaves name set v o is = elim (cases_Bool (bytes_eq name set)) [
+  | inl same ↦
+      let some : o ≡ Some true = is ∙ ap (λ b. then_some b true) same in
+      subst (LeavesInput name (model.SetInput set v)) (sym some) (λ given. ap is_none (lookup-bind name set v given.inputs ∙ cond-true (bytes_eq name set) (Some v) (lookup name given.inputs) same))
+  | inr other ↦
+      let none : o ≡ None = is ∙ ap (λ b. then_some b true) other in
+      subst (LeavesInput name (model.SetInput set v)) (sym none) (λ given. lookup-bind name set v given.inputs ∙ cond-false (bytes_eq name set) (Some v) (lookup name given.inputs) other)
+]
 
-drop_case : {A : Type 0} (same had : Bool) (o : Option A) → is_none o ≡ not had → is_none (cond same None o) ≡ not (had && not same)
-drop_case true true o h = refl
-drop_case true false o h = refl
-drop_case false true o h = h
-drop_case false false o h = h
+pub drop_leaves : (name dropped : List ℕ) (o : Option Bool) → o ≡ then_some (bytes_eq name dropped) false → LeavesInput name (model.DropInput dropped) o
+drop_leaves name dropped o is = elim (cases_Bool (bytes_eq name dropped)) [
+  | inl same ↦
+      let some : o ≡ Some false = is ∙ ap (λ b. then_some b false) same in
+      subst (LeavesInput name (model.DropInput dropped)) (sym some) (λ given. ap is_none (lookup-unbind name dropped given.inputs ∙ cond-true (bytes_eq name dropped) None (lookup name given.inputs) same))
+  | inr other ↦
+      let none : o ≡ None = is ∙ ap (λ b. then_some b false) other in
+      subst (LeavesInput name (model.DropInput dropped)) (sym none) (λ given. lookup-unbind name dropped given.inputs ∙ cond-false (bytes_eq name dropped) None (lookup name given.inputs) other)
+]
 
-pub set_leaves : {A : Type 0} (name set : List ℕ) (v : A) (inputs : List (List ℕ × A)) (had : Bool) → is_none (lookup name inputs) ≡ not had
-    → is_none (lookup name (bind set v inputs)) ≡ not (had || bytes_eq name set)
-set_leaves name set v inputs had h = ap is_none (lookup-bind name set v inputs) ∙ set_case (bytes_eq name set) had v (lookup name inputs) h
+-- ---- an input after the first of some edits
 
-pub drop_leaves : {A : Type 0} (name dropped : List ℕ) (inputs : List (List ℕ × A)) (had : Bool) → is_none (lookup name inputs) ≡ not had
-    → is_none (lookup name (unbind dropped inputs)) ≡ not (had && not (bytes_eq name dropped))
-drop_leaves name dropped inputs had h = ap is_none (lookup-unbind name dropped inputs) ∙ drop_case (bytes_eq name dropped) had (lookup name inputs) h
+module _ (name : List ℕ) (es : List OwnedEdit) (s : Sheet) where
+  abbrev pub lacks_after : (many : ℕ) → Bool
+  lacks_after many = is_none (lookup name (edited_all (map owned_edit_of (take many es)) s).given.inputs)
+
+  pub lacks_after_all : is_none (lookup name (edited_all (map owned_edit_of es) s).given.inputs) ≡ lacks_after (length es)
+  lacks_after_all = ap (λ l. is_none (lookup name (edited_all (map owned_edit_of l) s).given.inputs)) (sym (take_all (length es) es (omega arith)))
+
+  -- the edit in front of a place is not of the name
+  pub lacks_before : (i : ℕ) (d : OwnedEdit) → 0 < i → i - 1 < length es → d ≡ get_or es (i - 1) d → LeavesInput name (owned_edit_of d) None → lacks_after i ≡ lacks_after (i - 1)
+  lacks_before i d gt lt is leaves =
+      let one : i ≡ (i - 1) + 1 = omega arith in
+      ap lacks_after one ∙ ap (λ (t : Sheet). is_none (lookup name t.given.inputs)) (front-more es (i - 1) d s lt is)
+      ∙ ap is_none (leaves (edited_all (map owned_edit_of (take (i - 1) es)) s).given)
+
+  -- the edit in front of a place is of the name, and so decides
+  pub lacks_here : (i : ℕ) (d : OwnedEdit) (has : Bool) → 0 < i → i - 1 < length es → d ≡ get_or es (i - 1) d → LeavesInput name (owned_edit_of d) (Some has) → lacks_after i ≡ not has
+  lacks_here i d has gt lt is leaves =
+      let one : i ≡ (i - 1) + 1 = omega arith in
+      ap lacks_after one ∙ ap (λ (t : Sheet). is_none (lookup name t.given.inputs)) (front-more es (i - 1) d s lt is)
+      ∙ leaves (edited_all (map owned_edit_of (take (i - 1) es)) s).given

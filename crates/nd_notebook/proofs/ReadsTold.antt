@@ -17,8 +17,7 @@ use Rattle.nd_session.specs.Session.Found.{Found, byte_at, lookup_base}
 use Rattle.nd_session.specs.Session.Changes.{ChangesData, writes_in}
 use Rattle.nd_session.specs.Session.Reads.{ReadsData, keys_of}
 use Rattle.nd_model.specs.Cells.Session.{lookup}
-use Rattle.nd_notebook.specs.Noted.{AreAll}
-use Rattle.nd_notebook.specs.Readers.{IsBlockRead, IsLast, IsNameRead, ReadsBase, SetsName, TellsReads, WritesFor, run_at}
+use Rattle.nd_notebook.specs.Readers.{AreAll, IsBlockRead, IsLast, IsNameRead, ReadsBase, SetsName, TellsReads, WritesFor, run_at}
 use Rattle.nd_notebook.specs.Readers as readers
 use Rattle.nd_notebook.specs.ReadsShown.{block_of, name_of, reads_told}
 use Rattle.nd_notebook.specs.declared.query.QueryFault as declared
@@ -28,7 +27,7 @@ use Rattle.nd_notebook.specs.declared.reading.CellReads.{CellReads}
 use Rattle.nd_notebook.specs.declared.reading.NameRead.{NameRead}
 use Rattle.nd_notebook.proofs.Entries.{base_entry, byte_base, entry_base, entry_name, is_some-map, name_entry}
 use Rattle.nd_notebook.proofs.LastPlaces.{last_is_one}
-use Rattle.nd_notebook.proofs.Noted.{Adds, Notes, adds_more, all_added, all_added_twice, noted, notes_nothing}
+use Rattle.nd_notebook.proofs.Listing.{Adds, adds_more, all_added, all_added_twice, noted, notes_nothing}
 
 -- ---- who wrote what was read
 

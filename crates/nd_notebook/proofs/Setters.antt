@@ -1,75 +1,53 @@
 -- Whether a run bound or unbound a name, by what it last did to it.
-use Rattle.std.proofs.Common.{◌≡◌, ℕ, Bool, true, false, cond, bytes_eq, ◌||◌, IsTrue, ◌↔◌, List, [], ◌∷◌, Option, Some, None, is_some, unwrap_or, refl, sym, ap, ◌∙◌, inl, inr}
-use Rattle.std.proofs.lemmas.Bool.{cases_Bool, both_ways, cond-true, cond-false, false≢true, true≢false, or_cases, or_parts}
-use Rattle.std.specs.List.{list_any}
-use Rattle.nd_model.specs.Arrays.Value.{Value, Truth}
-use Rattle.nd_model.specs.Cells.Session.{Names, bind, unbind}
-use Rattle.nd_model.specs.Cells.Running.{Event, Binds, Unbinds}
+use Rattle.std.proofs.Common.{◌≡◌, ℕ, Bool, true, false, ◌||◌, bytes_eq, IsTrue, ◌↔◌, List, [], ◌∷◌, Option, Some, None, is_some, unwrap_or, refl, sym, ap, ◌∙◌, inl, inr}
+use Rattle.std.proofs.lemmas.Bool.{cases_Bool, both_ways, cond-true, false≢true, true≢false, or_cases}
+use Rattle.nd_model.specs.Arrays.Value.{Truth}
+use Rattle.nd_model.specs.Cells.Session.{Names, lookup, bind, unbind}
+use Rattle.nd_model.specs.Cells.Running.{Event, Binds, Unbinds, is_touched}
 use Rattle.nd_model.specs.Cells.Footprint.{replayed}
 use Rattle.nd_model.proofs.Lists.{lookup-bind, lookup-unbind}
+use Rattle.nd_model.proofs.Sessions.{untouched_lookup}
 use Rattle.nd_heap.proofs.Same.{bytes_same}
 use Rattle.nd_session.specs.Session.Changes.{is_bound}
-use Rattle.nd_notebook.specs.Readers.{is_of}
 
--- whether a name is bound after events, by whether it was bound before them
-abbrev bound_after : List ℕ → List Event → Bool → Bool
-bound_after n [] before = before
-bound_after n (Binds m v ∷ es) before = bound_after n es (cond (bytes_eq n m) true before)
-bound_after n (Unbinds m ∷ es) before = bound_after n es (cond (bytes_eq n m) false before)
+first_is : (first rest : Bool) → (first || rest) ≡ true → rest ≡ false → first ≡ true
+first_is first rest h other = elim (or_cases first rest h) [ inl is ↦ is | inr is ↦ absurd (both_ways rest other is) ]
 
-bound-bind : (n m : List ℕ) (v : Value) (names : Names) → is_bound n (bind m v names) ≡ cond (bytes_eq n m) true (is_bound n names)
-bound-bind n m v names = ap is_some (lookup-bind n m v names) ∙ elim (cases_Bool (bytes_eq n m)) [ inl is ↦ rw is refl | inr other ↦ rw other refl ]
-
-bound-unbind : (n m : List ℕ) (names : Names) → is_bound n (unbind m names) ≡ cond (bytes_eq n m) false (is_bound n names)
-bound-unbind n m names = ap is_some (lookup-unbind n m names) ∙ elim (cases_Bool (bytes_eq n m)) [ inl is ↦ rw is refl | inr other ↦ rw other refl ]
-
-bound-replayed : (n : List ℕ) (es : List Event) (names : Names) → is_bound n (replayed es names) ≡ bound_after n es (is_bound n names)
-bound-replayed n [] names = refl
-bound-replayed n (Binds m v ∷ es) names = bound-replayed n es (bind m v names) ∙ ap (bound_after n es) (bound-bind n m v names)
-bound-replayed n (Unbinds m ∷ es) names = bound-replayed n es (unbind m names) ∙ ap (bound_after n es) (bound-unbind n m names)
-
--- without an event of the name it stays as it was
-untouched : (n : List ℕ) (es : List Event) (before : Bool) → list_any (is_of n) es ≡ false → bound_after n es before ≡ before
-untouched n [] before h = refl
-untouched n (Binds m v ∷ es) before h =
-    let p = or_parts (bytes_eq n m) (list_any (is_of n) es) h in
-    ap (bound_after n es) (cond-false (bytes_eq n m) true before p.0) ∙ untouched n es before p.1
-untouched n (Unbinds m ∷ es) before h =
-    let p = or_parts (bytes_eq n m) (list_any (is_of n) es) h in
-    ap (bound_after n es) (cond-false (bytes_eq n m) false before p.0) ∙ untouched n es before p.1
-
-later : (a b : Bool) → a ≡ false → (a || b) ≡ true → b ≡ true
-later a b other h = elim (or_cases a b h) [ inl here ↦ absurd (both_ways a other here) | inr there ↦ there ]
-
--- with one it is the same, whatever it was
-touched : (n : List ℕ) (es : List Event) → list_any (is_of n) es ≡ true → bound_after n es true ≡ bound_after n es false
-touched n [] h = absurd (false≢true h)
-touched n (Binds m v ∷ es) h = elim (cases_Bool (bytes_eq n m)) [
-  | inl is ↦ ap (bound_after n es) (cond-true (bytes_eq n m) true true is ∙ sym (cond-true (bytes_eq n m) true false is))
-  | inr other ↦ ap (bound_after n es) (cond-false (bytes_eq n m) true true other) ∙ touched n es (later (bytes_eq n m) (list_any (is_of n) es) other h) ∙ sym (ap (bound_after n es) (cond-false (bytes_eq n m) true false other))
+-- a name that events touch stands after them as they leave it, over all names
+touched : (n : List ℕ) (es : List Event) (ns ms : Names) → is_touched n es ≡ true → lookup n (replayed es ns) ≡ lookup n (replayed es ms)
+touched n [] ns ms h = absurd (false≢true h)
+touched n (Binds m v ∷ es) ns ms h = elim (cases_Bool (is_touched n es)) [
+  | inl later ↦ touched n es (bind m v ns) (bind m v ms) later
+  | inr last ↦
+      let is = first_is (bytes_eq n m) (is_touched n es) h last in
+      untouched_lookup n es (bind m v ns) last ∙ lookup-bind n m v ns ∙ cond-true (bytes_eq n m) (Some v) (lookup n ns) is
+      ∙ sym (untouched_lookup n es (bind m v ms) last ∙ lookup-bind n m v ms ∙ cond-true (bytes_eq n m) (Some v) (lookup n ms) is)
 ]
-touched n (Unbinds m ∷ es) h = elim (cases_Bool (bytes_eq n m)) [
-  | inl is ↦ ap (bound_after n es) (cond-true (bytes_eq n m) false true is ∙ sym (cond-true (bytes_eq n m) false false is))
-  | inr other ↦ ap (bound_after n es) (cond-false (bytes_eq n m) false true other) ∙ touched n es (later (bytes_eq n m) (list_any (is_of n) es) other h) ∙ sym (ap (bound_after n es) (cond-false (bytes_eq n m) false false other))
+touched n (Unbinds m ∷ es) ns ms h = elim (cases_Bool (is_touched n es)) [
+  | inl later ↦ touched n es (unbind m ns) (unbind m ms) later
+  | inr last ↦
+      let is = first_is (bytes_eq n m) (is_touched n es) h last in
+      untouched_lookup n es (unbind m ns) last ∙ lookup-unbind n m ns ∙ cond-true (bytes_eq n m) None (lookup n ns) is
+      ∙ sym (untouched_lookup n es (unbind m ms) last ∙ lookup-unbind n m ms ∙ cond-true (bytes_eq n m) None (lookup n ms) is)
 ]
 
-by_last : (n : List ℕ) (es : List Event) (last : Option Bool) → bound_after n es true ≡ unwrap_or last true → bound_after n es false ≡ unwrap_or last false → is_some last ≡ list_any (is_of n) es
-by_last n es None t f = elim (cases_Bool (list_any (is_of n) es)) [
-  | inl there ↦ absurd (true≢false (sym t ∙ touched n es there ∙ f))
+-- what a run last did to a name is told by names that have it and names that lack it
+by_last : (n : List ℕ) (es : List Event) (ns ms : Names) (last : Option Bool) → is_bound n ns ≡ true → is_bound n ms ≡ false
+    → ((names : Names) → is_bound n (replayed es names) ≡ unwrap_or last (is_bound n names)) → is_some last ≡ is_touched n es
+by_last n es ns ms None has lacks h = elim (cases_Bool (is_touched n es)) [
+  | inl there ↦ absurd (true≢false (sym has ∙ sym (h ns) ∙ ap is_some (touched n es ns ms there) ∙ h ms ∙ lacks))
   | inr none ↦ sym none
 ]
-by_last n es (Some bound) t f = elim (cases_Bool (list_any (is_of n) es)) [
+by_last n es ns ms (Some bound) has lacks h = elim (cases_Bool (is_touched n es)) [
   | inl there ↦ sym there
-  | inr none ↦ absurd (true≢false (sym (untouched n es true none) ∙ t ∙ sym f ∙ untouched n es false none))
+  | inr none ↦ absurd (true≢false (sym has ∙ sym (ap is_some (untouched_lookup n es ns none)) ∙ h ns ∙ sym (h ms) ∙ ap is_some (untouched_lookup n es ms none) ∙ lacks))
 ]
 
 bound-one_name : (n : List ℕ) → is_bound n ((n, Truth true) ∷ []) ≡ true
 bound-one_name n = let same = bytes_same n in rw same refl
 
 pub sets_by : (n : List ℕ) (es : List Event) (last : Option Bool) (sets : Bool) → ((names : Names) → is_bound n (replayed es names) ≡ unwrap_or last (is_bound n names)) → sets ≡ is_some last
-    → IsTrue sets ↔ IsTrue (list_any (is_of n) es)
+    → IsTrue sets ↔ IsTrue (is_touched n es)
 sets_by n es last sets h is =
-    let bound : bound_after n es true ≡ unwrap_or last true = ap (bound_after n es) (sym (bound-one_name n)) ∙ sym (bound-replayed n es ((n, Truth true) ∷ [])) ∙ h ((n, Truth true) ∷ []) ∙ ap (unwrap_or last) (bound-one_name n) in
-    let unbound : bound_after n es false ≡ unwrap_or last false = sym (bound-replayed n es []) ∙ h [] in
-    let same : sets ≡ list_any (is_of n) es = is ∙ by_last n es last bound unbound in
+    let same : sets ≡ is_touched n es = is ∙ by_last n es ((n, Truth true) ∷ []) [] last (bound-one_name n) refl h in
     (λ s. sym same ∙ s, λ s. same ∙ s)

@@ -1,5 +1,4 @@
 pub mod Edits
-pub mod Noted
 pub mod Queries
 pub mod Readers
 pub mod ReadsShown

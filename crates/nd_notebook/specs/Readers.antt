@@ -1,8 +1,7 @@
 -- Who reads whom: what a cell read, and the cells in front of it that did what it read.
-use Rattle.std.specs.Prelude.{◌≡◌, ◌↔◌, ◌⊎◌, ℕ, ◌<◌, ◌≤◌, IsTrue, Bool, Contains, bytes_eq, is_some, List, [], ◌∷◌, Option, Some, None, Result, Ok, Err, ⊤}
-use Rattle.std.specs.List.{list_any}
+use Rattle.std.specs.Prelude.{◌≡◌, ◌↔◌, ◌⊎◌, ℕ, ◌<◌, ◌≤◌, IsTrue, Contains, is_some, List, [], ◌∷◌, Option, Some, None, Result, Ok, Err, ⊤}
 use Rattle.nd_model.specs.Arrays.Value.{Base}
-use Rattle.nd_model.specs.Cells.Running.{Event, Binds, Unbinds, Name, Input, Length, Byte}
+use Rattle.nd_model.specs.Cells.Running.{Name, Input, Length, Byte, is_touched}
 use Rattle.nd_model.specs.Book.Records.{Record}
 use Rattle.nd_model.specs.Book.Entries.{entry_at, record_at}
 use Rattle.nd_model.specs.Book.Book.{Book, QueryFault, count_of}
@@ -13,13 +12,9 @@ use Rattle.nd_model.specs.Book.Book.{Book, QueryFault, count_of}
 abbrev pub run_at : Book → ℕ → Record
 run_at b at = record_at b.world (entry_at b at)
 
-abbrev pub is_of : List ℕ → Event → Bool
-is_of name (Binds n v) = bytes_eq name n
-is_of name (Unbinds n) = bytes_eq name n
-
 -- A run bound the name, or unbound it.
 abbrev pub SetsName : List ℕ → Record → Type 0
-SetsName name r = IsTrue (list_any (is_of name) r.effects.events)
+SetsName name r = IsTrue (is_touched name r.effects.events)
 
 -- A run made the base, or wrote a byte of it that another run read.
 abbrev pub WritesFor : (reader : Record) → Base → (writer : Record) → Type 0
@@ -38,7 +33,7 @@ IsLast P at (Some k) = (k < at) × P k × ((m : ℕ) → k < m → m < at → ¬
 
 -- ---- what is told
 
--- a base is told by the cell that made it, its number among the bases of that cell, and the cell that last wrote what was read
+-- a base by the cell that made it and its number there, and the cell that last wrote what was read of it
 pub record BlockRead : Type 0 where
   pub maker : Option ℕ
   pub number : ℕ
@@ -67,14 +62,16 @@ abbrev pub AreUnlike : {X : Type 0} → List X → Type 0
 AreUnlike [] = ⊤
 AreUnlike (x ∷ xs) = ¬ Contains xs x × AreUnlike xs
 
+-- all that is P is in the list, and nothing else, each once
+pub record AreAll {X : Type 0} (P : X → Type 0) (xs : List X) : Type 0 where
+  pub all : (x : X) → Contains xs x ↔ P x
+  pub once : AreUnlike xs
+
 -- THE READS OF A CELL, by the record of its run: all of them and nothing else, each once.
 pub record AreReads (b : Book) (at : ℕ) (r : CellReads) : Type 0 where
-  pub names : (n : List ℕ × Option ℕ) → Contains r.names n ↔ IsNameRead b at n
-  pub inputs : (n : List ℕ) → Contains r.inputs n ↔ IsTrue ((run_at b at).read (Input n))
-  pub blocks : (d : BlockRead) → Contains r.blocks d ↔ IsBlockRead b at d
-  pub names_once : AreUnlike r.names
-  pub inputs_once : AreUnlike r.inputs
-  pub blocks_once : AreUnlike r.blocks
+  pub names : AreAll (IsNameRead b at) r.names
+  pub inputs : AreAll (λ n. IsTrue ((run_at b at).read (Input n))) r.inputs
+  pub blocks : AreAll (IsBlockRead b at) r.blocks
 
 -- THE ANSWER: the reads of a cell that is there. Memory may be wanted for them alone.
 abbrev pub TellsReads : Book → (at : ℕ) → Result CellReads QueryFault → Type 0

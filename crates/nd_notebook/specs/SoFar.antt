@@ -1,7 +1,8 @@
 -- Several edits that are made as one, of which some are made so far.
-use Rattle.std.specs.Prelude.{◌≡◌, ℕ, List, length, Option, Some, None, Result, Ok, Err}
+use Rattle.std.specs.Prelude.{◌≡◌, ℕ, Bool, not, List, length, is_none, Option, Some, None, Result, Ok, Err}
+use Rattle.nd_model.specs.Cells.Session.{lookup}
 use Rattle.nd_model.specs.Book.Book as model
-use Rattle.nd_model.specs.Book.Notebook.{Setting, Sheet, book_of, edited_sheet}
+use Rattle.nd_model.specs.Book.Notebook.{Setting, Sheet, book_of, edited_given, edited_sheet}
 use Rattle.nd_schedule.specs.Cells.Source.{sheet}
 use Rattle.nd_session.specs.Inputs.Values.{given_of, rule_of}
 use Rattle.nd_notebook.specs.Edits.{edit_fault_of, name_in}
@@ -18,6 +19,11 @@ fault_of e (Err f) = Some (edit_fault_of (name_in e) f)
 abbrev pub IsChecked : model.Edit → Sheet → Result ℕ EditFault → Type 0
 IsChecked e s (Ok count) = (model.refusal e (book_of s) ≡ None) × (count ≡ length (edited_sheet e s).cells)
 IsChecked e s (Err f) = model.refusal e (book_of s) ≡ Some (edit_fault_of (name_in e) f)
+
+-- whether an input has a name after an edit, where the edit decides it; else the input is what it was before
+abbrev pub LeavesInput : (name : List ℕ) → model.Edit → Option Bool → Type 0
+LeavesInput name e None = (given : Setting) → lookup name (edited_given e given).inputs ≡ lookup name given.inputs
+LeavesInput name e (Some has) = (given : Setting) → is_none (lookup name (edited_given e given).inputs) ≡ not has
 
 abbrev pub setting_of : World → Setting
 setting_of w = record { inputs = given_of w.inputs.entries; rule = rule_of w.rule }

@@ -1,26 +1,26 @@
 -- Several edits that are made as one: all of them, or none.
-use Rattle.std.specs.Prelude.{◌≡◌, ℕ, suc, ◌≤◌, List, [], ◌∷◌, map, slice_get, string_bytes, Option, Some, None, option_map}
+use Rattle.std.specs.Prelude.{ℕ, suc, List, [], ◌∷◌, slice_get, string_bytes, Option, Some, None}
 use Rattle.nd_model.specs.Book.Book as model
-use Rattle.nd_model.specs.Book.Notebook.{Sheet, book_of, edited_sheet}
+use Rattle.nd_model.specs.Book.Notebook.{Sheet, edited_sheet}
 use Rattle.nd_input.specs.Sources.{source_of}
 use Rattle.nd_session.specs.Inputs.Values.{rule_of}
 use Rattle.nd_notebook.specs.Edits.{edit_fault_of, name_in}
 use Rattle.nd_notebook.specs.declared.together.OwnedEdit.{OwnedEdit}
 use Rattle.nd_notebook.specs.declared.together.OwnedEdit.TheVariants as owned
-use Rattle.nd_notebook.specs.declared.together.Refused as declared
+use Rattle.nd_notebook.specs.declared.together.RefusedEdit as declared
 
 -- an edit that is refused, by its number from the first, which has 0, and why it is
-pub record Refused : Type 0 where
+pub record RefusedEdit : Type 0 where
   pub number : ℕ
   pub fault : model.EditFault
 
 -- what decides is the edit of this number where it is refused, and else what follows
-abbrev pub refused_or : Option model.EditFault → (number : ℕ) → Option Refused → Option Refused
+abbrev pub refused_or : Option model.EditFault → (number : ℕ) → Option RefusedEdit → Option RefusedEdit
 refused_or None number behind = behind
 refused_or (Some f) number behind = Some (record { number = number; fault = f })
 
 -- THE FIRST EDIT THAT IS REFUSED, where they are made one after the other, from this number on
-abbrev pub first_refused : (number : ℕ) → List model.Edit → model.Book → Option Refused
+abbrev pub first_refused : (number : ℕ) → List model.Edit → model.Book → Option RefusedEdit
 first_refused number [] b = None
 first_refused number (e ∷ es) b = refused_or (model.refusal e b) number (first_refused (suc number) es (model.edited e b))
 
@@ -45,5 +45,5 @@ name_in_owned None = []
 name_in_owned (Some e) = name_in (owned_edit_of e)
 
 -- an edit of these that is refused
-abbrev pub refused_of : List OwnedEdit → declared.Refused → Refused
+abbrev pub refused_of : List OwnedEdit → declared.RefusedEdit → RefusedEdit
 refused_of es r = record { number = r.number; fault = edit_fault_of (name_in_owned (slice_get es r.number)) r.fault }

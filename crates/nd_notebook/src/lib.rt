@@ -21,5 +21,5 @@ pub use nd_types::{Elem, ElemType, Field, Kind, RecType};
 pub use notebook::Notebook;
 pub use query::{BoundValue, QueryFault, Shown, ShownElements};
 pub use reading::{BlockRead, CellReads, NameRead};
-pub use together::{OwnedEdit, Refused};
+pub use together::{OwnedEdit, RefusedEdit};
 pub use trying::TriedCell;

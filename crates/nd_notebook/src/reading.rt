@@ -8,8 +8,7 @@ ghost use Rattle.nd_heap.specs.Values.{base_of};
 ghost use Rattle.nd_session.specs.Session.Changes.{writes_in};
 ghost use Rattle.nd_session.specs.Session.Reads.{keys_of};
 ghost use Rattle.nd_cell.specs.Records.{recorded};
-ghost use Rattle.nd_notebook.specs.Noted.{AreAll};
-ghost use Rattle.nd_notebook.specs.Readers.{IsBlockRead, IsLast, IsNameRead, SetsName, TellsReads, WritesFor, run_at};
+ghost use Rattle.nd_notebook.specs.Readers.{AreAll, IsBlockRead, IsLast, IsNameRead, SetsName, TellsReads, WritesFor, run_at};
 ghost use Rattle.nd_notebook.specs.ReadsShown.{block_of, name_of, reads_told};
 
 use crate::notebook::Notebook;
@@ -26,8 +25,8 @@ pub struct NameRead<'n> {
     pub cell: Option<usize>,
 }
 
-/// A block of bytes that a cell read: the cell that made it, which of that cell's blocks it is, and the
-/// last cell in front that made it or wrote a byte of it that was read.
+/// A block of bytes that a cell read: the cell that made it, and which of that cell's blocks it is. The
+/// writer is the last cell in front that made it, or wrote a byte of it that was read.
 #[derive(Clone, Copy, PartialEq, Eq, Drop)]
 pub struct BlockRead {
     pub maker: Option<usize>,
@@ -38,10 +37,10 @@ pub struct BlockRead {
 /// What a cell read, by the record of its run: names, inputs and blocks, each once.
 ///
 /// Names and inputs stand in the order of their first reads. Blocks of which a byte was read come before
-/// those whose length alone was.
+/// those whose length alone was. No clause tells this order.
 ///
-/// Behind `x = np.zeros(4)` and `x[1:] = 5` the cell `print(x[2])` has read the name `x` of cell 0, and
-/// of a block that cell 0 made what cell 1 wrote last.
+/// Behind `x = np.zeros(4)` and `x[1:] = 5` the cell `print(x[2])` has read the name `x` of cell 0. It
+/// has read a block that cell 0 made and cell 1 wrote last.
 #[derive(Drop)]
 pub struct CellReads<'n> {
     pub names: Vec<NameRead<'n>>,

@@ -3,7 +3,7 @@
 ghost use Rattle.std.specs.Prelude.{◌≡◌, IfOk, None, OnErr, OnOk, is_none, length, map, not, option_map};
 ghost use Rattle.nd_model.specs.Cells.Session.{lookup};
 ghost use Rattle.nd_model.specs.Book.Book as model;
-ghost use Rattle.nd_model.specs.Book.Notebook.{Setting, Sheet, book_of, edited_given, edited_sheet};
+ghost use Rattle.nd_model.specs.Book.Notebook.{Sheet, book_of, edited_sheet};
 ghost use Rattle.nd_model.specs.Book.Stale.{CountsStale};
 ghost use Rattle.nd_input.specs.Sources.{source_of};
 ghost use Rattle.nd_session.specs.Inputs.Values.{rule_of};
@@ -11,6 +11,7 @@ ghost use Rattle.nd_schedule.specs.Schedule.Ran.{AreStale};
 ghost use Rattle.nd_notebook.specs.Edits.{name_in};
 ghost use Rattle.nd_notebook.specs.SoFar.{
   IsChecked,
+  LeavesInput,
   fault_of,
   given_by,
   setting_of,
@@ -61,23 +62,21 @@ impl OwnedEdit {
         }
     }
 
-    /// Whether an input has the name after the edit, by whether one had it before.
-    fn leaves_input(&self, name: &str, had: bool) -> bool
-        ensures { (given : Setting) → is_none (lookup name.now given.inputs) ≡ not had
-            → is_none (lookup name.now (edited_given (owned_edit_of self.now) given).inputs)
-            ≡ not result }
+    /// Whether an input has the name after the edit. It is `None` where that is as before the edit.
+    fn leaves_input(&self, name: &str) -> Option<bool>
+        ensures { LeavesInput name.now (owned_edit_of self.now) result }
     {
         match self {
-            OwnedEdit::SetInput(set, _) => had || name == set.as_str(),
-            OwnedEdit::DropInput(dropped) => had && name != dropped.as_str(),
-            _ => had,
+            OwnedEdit::SetInput(set, _) => (name == set.as_str()).then_some(true),
+            OwnedEdit::DropInput(dropped) => (name == dropped.as_str()).then_some(false),
+            _ => None,
         }
     }
 }
 
 /// An edit of several that is refused: its number, from 0, and why it is.
 #[derive(Clone, Copy, Debug)]
-pub struct Refused {
+pub struct RefusedEdit {
     pub number: usize,
     pub fault: EditFault,
 }
@@ -137,16 +136,17 @@ fn check_remove(count: usize, at: usize) -> Result<usize, EditFault>
 }
 
 impl Notebook {
-    /// Whether an input has the name after these edits.
+    /// Whether an input has the name after these edits, by the last of them that is of the name.
     fn has_input_after(&self, front: &[OwnedEdit], name: &str) -> bool
         ensures { is_none (lookup name.now
             (edited_all (map owned_edit_of front.now) self.now).given.inputs) ≡ not result }
     {
-        let mut has = has_input(&self.schedule.world().inputs, name);
-        for edit in front {
-            has = edit.leaves_input(name, has);
+        for number in (0..front.len()).rev() {
+            if let Some(has) = front[number].leaves_input(name) {
+                return has;
+            }
         }
-        has
+        has_input(&self.schedule.world().inputs, name)
     }
 
     /// Refuses to drop an input after these edits, as no notebook does for want of memory.
@@ -197,7 +197,7 @@ impl Notebook {
     ///
     /// On a notebook without cells, of `Insert(0, "x = 1")` and `Remove(7)` it is the second, number 1,
     /// for `NoCell(7, 1)`.
-    pub fn first_refused(&self, edits: &[OwnedEdit]) -> Option<Refused>
+    pub fn first_refused(&self, edits: &[OwnedEdit]) -> Option<RefusedEdit>
         ensures { option_map (refused_of edits.now) result
             ≡ first_refused 0 (map owned_edit_of edits.now) (book_of self.now) }
     {
@@ -205,7 +205,7 @@ impl Notebook {
         for (number, edit) in edits.iter().enumerate() {
             match self.check_edit(&edits[..number], count, edit) {
                 Ok(then) => count = then,
-                Err(fault) => return Some(Refused { number, fault }),
+                Err(fault) => return Some(RefusedEdit { number, fault }),
             }
         }
         None

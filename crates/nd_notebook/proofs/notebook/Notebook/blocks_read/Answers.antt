@@ -3,7 +3,7 @@ use Rattle.nd_model.specs.Book.Notebook.{book_of}
 use Rattle.nd_heap.specs.Values.{base_of}
 use Rattle.nd_notebook.specs.ReadsShown.{block_of}
 use Rattle.nd_notebook.specs.declared.reading.BlockRead.{BlockRead}
-use Rattle.nd_notebook.proofs.Noted.{Adds, adds_nothing}
+use Rattle.nd_notebook.proofs.Listing.{Adds, adds_nothing}
 use Rattle.nd_notebook.proofs.ReadsTold.{BytesAt, LengthAt, blocks_told, bytes_more, bytes_not_read, length_more, same_blocks}
 use Rattle.nd_notebook.proofs.notebook.Notebook.blocks_read.Goals as goal
 use Rattle.nd_notebook.proofs.notebook.Notebook.blocks_read.Goals.{then-reads_bytes+in_ok-note, else-reads_bytes}

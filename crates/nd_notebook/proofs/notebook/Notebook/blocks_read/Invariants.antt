@@ -1,7 +1,7 @@
 use Rattle.std.proofs.Common.{[], map}
 use Rattle.nd_model.specs.Book.Notebook.{book_of}
 use Rattle.nd_notebook.specs.ReadsShown.{block_of}
-use Rattle.nd_notebook.proofs.Noted.{Adds}
+use Rattle.nd_notebook.proofs.Listing.{Adds}
 use Rattle.nd_notebook.proofs.ReadsTold.{BytesAt, LengthAt}
 use Rattle.nd_notebook.proofs.notebook.Notebook.blocks_read.Given as goal
 

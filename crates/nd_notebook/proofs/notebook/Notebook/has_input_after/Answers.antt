@@ -1,14 +1,26 @@
-use Rattle.std.proofs.Common.{◌<◌, length, map, take, ap, ◌∙◌}
+use Rattle.std.proofs.Common.{◌≡◌, ap, sym, ◌∙◌, arith}
 use Rattle.std.specs.Prelude.{is_none}
 use Rattle.nd_model.specs.Cells.Session.{lookup}
-use Rattle.nd_model.specs.Book.Notebook.{Sheet}
-use Rattle.nd_notebook.specs.Together.{edited_all, owned_edit_of}
-use Rattle.nd_notebook.proofs.Looking.{front-more}
+use Rattle.nd_model.specs.Book.Notebook.{Setting, Sheet}
+use Rattle.nd_notebook.proofs.Looking.{lacks_after, lacks_after_all, lacks_before, lacks_here}
 use Rattle.nd_notebook.proofs.notebook.Notebook.has_input_after.Goals as goal
 
-pub loop-edit-preserved : goal.loop-edit-preserved
-loop-edit-preserved c =
-    let es = c.args.front.now in let k = c.loop-edit.edit-index in
-    let lt : k < length es = c.loop-edit-test.true in
-    ap (λ (t : Sheet). is_none (lookup c.args.name.now t.given.inputs)) (front-more es k c.edit-item.result c.args.self.now lt c.edit-item.is)
-    ∙ c.leaves_input-has.ensures (edited_all (map owned_edit_of (take k es)) c.args.self.now).given c.loop-edit.invariant
+pub returns-in-Some : goal.returns-in-Some
+returns-in-Some c =
+    let name = c.args.name.now in let es = c.args.front.now in let s = c.args.self.now in
+    lacks_after_all name es s ∙ c.loop-number.invariant
+    ∙ lacks_here name es s c.loop-number.number c.index-front-number.result c.in-Some.has (omega arith) (omega arith) c.index-front-number.is c.in-Some.ensures
+
+pub loop-number-preserved : goal.loop-number-preserved
+loop-number-preserved c =
+    c.loop-number.invariant
+    ∙ lacks_before c.args.name.now c.args.front.now c.args.self.now c.loop-number.number c.index-front-number.result (omega arith) (omega arith) c.index-front-number.is
+    (rw c.in_default.is at c.leaves_input.ensures)
+
+pub returns : goal.returns
+returns c =
+    let name = c.args.name.now in let es = c.args.front.now in let s = c.args.self.now in
+    let first : c.loop-number.number ≡ 0 = omega arith in
+    let given = c.world.ensures ∙ ap (λ (t : Sheet). t.given) c.self.view_is in
+    lacks_after_all name es s ∙ c.loop-number.invariant ∙ ap (lacks_after name es s) first
+    ∙ ap (λ (g : Setting). is_none (lookup name g.inputs)) (sym given) ∙ c.has_input.ensures

@@ -2,7 +2,7 @@ use Rattle.std.proofs.Common.{List, ℕ, [], Bor, map, arith, subst, sym}
 use Rattle.std.proofs.lemmas.Slice.Eq.{bytes_eq-Decides}
 use Rattle.nd_model.specs.Book.Notebook.{book_of}
 use Rattle.nd_notebook.specs.Readers.{run_at}
-use Rattle.nd_notebook.proofs.Noted.{Adds, adds_nothing}
+use Rattle.nd_notebook.proofs.Listing.{Adds, adds_nothing}
 use Rattle.nd_notebook.proofs.ReadsTold.{InputAt, input_more, inputs_told}
 use Rattle.nd_notebook.proofs.notebook.Notebook.inputs_read.Goals as goal
 

@@ -1,5 +1,5 @@
 use Rattle.std.proofs.Common.{List, ℕ, [], Bor, map}
-use Rattle.nd_notebook.proofs.Noted.{Adds}
+use Rattle.nd_notebook.proofs.Listing.{Adds}
 use Rattle.nd_notebook.proofs.ReadsTold.{InputAt}
 use Rattle.nd_notebook.proofs.notebook.Notebook.inputs_read.Given as goal
 

@@ -2,7 +2,7 @@ use Rattle.std.proofs.Common.{[], List, map, arith, subst, sym}
 use Rattle.nd_model.specs.Book.Notebook.{book_of}
 use Rattle.nd_notebook.specs.ReadsShown.{name_of}
 use Rattle.nd_notebook.specs.declared.reading.NameRead.{NameRead}
-use Rattle.nd_notebook.proofs.Noted.{Adds, adds_nothing}
+use Rattle.nd_notebook.proofs.Listing.{Adds, adds_nothing}
 use Rattle.nd_notebook.proofs.ReadsTold.{NameAt, name_more, names_told, same_names}
 use Rattle.nd_notebook.proofs.notebook.Notebook.names_read.Goals as goal
 

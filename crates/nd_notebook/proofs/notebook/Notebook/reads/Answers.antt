@@ -19,11 +19,8 @@ pub returns : goal.returns
 returns c = (
   omega arith,
   record {
-    names = c.in_ok-names.ensures.all;
-    inputs = c.in_ok-inputs.ensures.all;
-    blocks = c.in_ok-blocks.ensures.all;
-    names_once = c.in_ok-names.ensures.once;
-    inputs_once = c.in_ok-inputs.ensures.once;
-    blocks_once = c.in_ok-blocks.ensures.once;
+    names = c.in_ok-names.ensures;
+    inputs = c.in_ok-inputs.ensures;
+    blocks = c.in_ok-blocks.ensures;
   },
 )

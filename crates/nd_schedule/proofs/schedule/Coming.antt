@@ -1,5 +1,5 @@
 -- The cells of another notebook, one after the other.
-use Rattle.std.proofs.Common.{◌≡◌, ℕ, ◌+◌, ◌-◌, ◌^◌, ◌<◌, ◌≤◌, min, false, true, List, length, get_or, Option, Some, None, IfOk, IfSome, OnOk, Result, Ok, Err, refl, sym, ap, subst, ◌∙◌, arith}
+use Rattle.std.proofs.Common.{◌≡◌, ℕ, ◌+◌, ◌-◌, ◌^◌, ◌<◌, ◌≤◌, min, false, true, List, length, get_or, Option, Some, None, IfSome, OnOk, Result, Ok, Err, refl, sym, ap, subst, ◌∙◌, arith}
 use Rattle.std.specs.Prelude.{MatchOption, bytes_eq}
 use Rattle.nd_model.specs.Cells.Session.{Session}
 use Rattle.nd_model.specs.Cells.Running.{World}
@@ -26,11 +26,7 @@ use Rattle.nd_schedule.specs.Schedule.Sweep.{CountsFront, IsAt, IsAtHand, IsComi
 use Rattle.nd_schedule.proofs.schedule.Sweeping.{alike_self, alike_turned, counts_more, next_alike, past_swap, runs_over, stale_there}
 use Rattle.nd_schedule.proofs.schedule.Turning.{at_hand}
 
--- what holds of a result that is one, and of its value
-pub on_made : {X E A B R : Type 0} {P Q : X → Type 0} (res : Result X E) → OnOk res A → OnOk res B → IfOk res P → IfOk res Q → (A → B → (x : X) → P x → Q x → R) → OnOk res R
-on_made (Ok x) a b p q f = f a b x p q
-on_made (Err e) a b p q f = tt
-
+-- what holds anyway, of a result that is one
 pub on_any : {X E P : Type 0} (res : Result X E) → P → OnOk res P
 on_any (Ok x) p = p
 on_any (Err e) p = tt

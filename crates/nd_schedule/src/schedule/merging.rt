@@ -123,51 +123,6 @@ fn run_there<C: CellRunner>(
     Ok(new)
 }
 
-/// Runs the cell that comes next, where it stood nowhere before, or is left or passed.
-fn run_here<C: CellRunner>(
-    alloc: Global,
-    meter: &mut Meter,
-    records: &[Rc<C::Record>],
-    source: &KeptCell,
-    world: &C::World,
-    i: usize,
-    now: usize,
-    state: &mut SweepState<C>,
-) -> Result<New<C>, AllocError>
-    requires record { i ≤ length records.now }
-    requires at { (old : Book) × (new : Book)
-        × IsNext old new i now (each_of C.recorded records.now) (cell_of source.now)
-        (world_in (C.given world.now))
-        × IsAt old new i now (C.change_of state.old.change) (C.session_of state.old.session)
-        state.old.since }
-    ensures at { OnOk result ((old new : Book)
-        → IsNext old new i now (each_of C.recorded records.now) (cell_of source.now)
-        (world_in (C.given world.now))
-        → IsAt old new i now (C.change_of state.old.change) (C.session_of state.old.session)
-        state.old.since
-        → IsAt old new i (now + 1) (C.change_of state.new.change)
-        (C.session_of state.new.session) state.new.since) }
-    ensures made { IfOk result (λ n. (old new : Book)
-        → IsNext old new i now (each_of C.recorded records.now) (cell_of source.now)
-        (world_in (C.given world.now))
-        → IsAt old new i now (C.change_of state.old.change) (C.session_of state.old.session)
-        state.old.since
-        → C.recorded n.record.value ≡ record_at new.world (entry_at new now)) }
-    ensures worded { IfOk result (λ n. IsWordOf C.covers n.word (C.recorded n.record.value)) }
-    ensures covered { OnOk result (IsWordOfChange C.covers state.new.word
-        (C.change_of state.new.change)) }
-    ensures counts { (old new : Book) (before : ℕ)
-        → IsNext old new i now (each_of C.recorded records.now) (cell_of source.now)
-        (world_in (C.given world.now))
-        → IsStale old new (entry_at new now)
-        → CountsFront old new now before meter.old
-        → CountsFront old new (now + 1) before meter.new }
-{
-    catch_up::<C>(records, &mut state.session, state.since, i)?;
-    state.since = i;
-    run_new::<C>(alloc, meter, source, world, now, state)
-}
-
 /// Goes past the cell that comes next, which stands in the notebook before with the same text: its record is kept, or it is run.
 fn pass<C: CellRunner>(
     alloc: Global,
@@ -274,6 +229,211 @@ fn settle<C: CellRunner>(
     })
 }
 
+/// Comes to a cell with the same text that is not gone past yet: those in front are left, and it is passed.
+fn come_to_kept<C: CellRunner>(
+    alloc: Global,
+    meter: &mut Meter,
+    records: &[Rc<C::Record>],
+    words: &[C::Word],
+    source: &KeptCell,
+    world: &C::World,
+    i: usize,
+    k: usize,
+    now: usize,
+    state: &mut SweepState<C>,
+) -> Result<Placed<C>, AllocError>
+    requires order { i ≤ k }
+    requires record { k < length records.now }
+    requires word { k < length words.now }
+    requires at { (old : Book) × (new : Book)
+        × IsNext old new i now (each_of C.recorded records.now) (cell_of source.now)
+        (world_in (C.given world.now)) × ((entry_at old k).cell ≡ cell_of source.now)
+        × IsAt old new i now (C.change_of state.old.change) (C.session_of state.old.session)
+        state.old.since }
+    requires words { AreWords C.covers words.now (each_of C.recorded records.now) }
+    requires covered { IsWordOfChange C.covers state.old.word (C.change_of state.old.change) }
+    ensures at { IfOk result (λ p. (old new : Book)
+        → IsNext old new i now (each_of C.recorded records.now) (cell_of source.now)
+        (world_in (C.given world.now)) → (entry_at old k).cell ≡ cell_of source.now
+        → IsAt old new i now (C.change_of state.old.change) (C.session_of state.old.session)
+        state.old.since
+        → IsAt old new p.behind (now + 1) (C.change_of state.new.change)
+        (C.session_of state.new.session) state.new.since) }
+    ensures placed { IfOk result (λ p. (old new : Book)
+        → IsNext old new i now (each_of C.recorded records.now) (cell_of source.now)
+        (world_in (C.given world.now)) → (entry_at old k).cell ≡ cell_of source.now
+        → IsAt old new i now (C.change_of state.old.change) (C.session_of state.old.session)
+        state.old.since
+        → IsPlaced old new now (C.recorded p.record.value) p.is_run) }
+    ensures worded { IfOk result (λ p. IsWordOf C.covers p.word (C.recorded p.record.value)) }
+    ensures behind { IfOk result (λ p. p.behind ≡ k + 1) }
+    ensures covered { OnOk result (IsWordOfChange C.covers state.new.word
+        (C.change_of state.new.change)) }
+    ensures counts { (old new : Book) (before : ℕ)
+        → IsNext old new i now (each_of C.recorded records.now) (cell_of source.now)
+        (world_in (C.given world.now)) → (entry_at old k).cell ≡ cell_of source.now
+        → IsAt old new i now (C.change_of state.old.change) (C.session_of state.old.session)
+        state.old.since
+        → CountsFront old new now before meter.old
+        → CountsFront old new (now + 1) before meter.new }
+{
+    leave_between::<C>(records, i, k, state)?;
+    let made = pass::<C>(alloc, meter, records, words, source, world, k, now, state)?;
+    settle::<C>(records, k, made, k + 1)
+}
+
+/// Comes to a cell with another text that is not gone past yet: those in front are left, and it is run.
+fn come_to_edited<C: CellRunner>(
+    alloc: Global,
+    meter: &mut Meter,
+    records: &[Rc<C::Record>],
+    source: &KeptCell,
+    world: &C::World,
+    i: usize,
+    k: usize,
+    now: usize,
+    state: &mut SweepState<C>,
+) -> Result<Placed<C>, AllocError>
+    requires order { i ≤ k }
+    requires record { k < length records.now }
+    requires at { (old : Book) × (new : Book)
+        × IsNext old new i now (each_of C.recorded records.now) (cell_of source.now)
+        (world_in (C.given world.now)) × IsStale old new (entry_at new now)
+        × IsAt old new i now (C.change_of state.old.change) (C.session_of state.old.session)
+        state.old.since }
+    requires covered { IsWordOfChange C.covers state.old.word (C.change_of state.old.change) }
+    ensures at { IfOk result (λ p. (old new : Book)
+        → IsNext old new i now (each_of C.recorded records.now) (cell_of source.now)
+        (world_in (C.given world.now)) → IsStale old new (entry_at new now)
+        → IsAt old new i now (C.change_of state.old.change) (C.session_of state.old.session)
+        state.old.since
+        → IsAt old new p.behind (now + 1) (C.change_of state.new.change)
+        (C.session_of state.new.session) state.new.since) }
+    ensures placed { IfOk result (λ p. (old new : Book)
+        → IsNext old new i now (each_of C.recorded records.now) (cell_of source.now)
+        (world_in (C.given world.now)) → IsStale old new (entry_at new now)
+        → IsAt old new i now (C.change_of state.old.change) (C.session_of state.old.session)
+        state.old.since
+        → IsPlaced old new now (C.recorded p.record.value) p.is_run) }
+    ensures worded { IfOk result (λ p. IsWordOf C.covers p.word (C.recorded p.record.value)) }
+    ensures behind { IfOk result (λ p. p.behind ≡ k + 1) }
+    ensures covered { OnOk result (IsWordOfChange C.covers state.new.word
+        (C.change_of state.new.change)) }
+    ensures counts { (old new : Book) (before : ℕ)
+        → IsNext old new i now (each_of C.recorded records.now) (cell_of source.now)
+        (world_in (C.given world.now)) → IsStale old new (entry_at new now)
+        → IsAt old new i now (C.change_of state.old.change) (C.session_of state.old.session)
+        state.old.since
+        → CountsFront old new now before meter.old
+        → CountsFront old new (now + 1) before meter.new }
+{
+    leave_between::<C>(records, i, k, state)?;
+    let new = run_there::<C>(alloc, meter, records, source, world, k, now, state)?;
+    settle::<C>(records, k, Some(new), k + 1)
+}
+
+/// Comes to a cell with the same text that stood elsewhere before.
+fn come_to_moved<C: CellRunner>(
+    alloc: Global,
+    meter: &mut Meter,
+    records: &[Rc<C::Record>],
+    source: &KeptCell,
+    world: &C::World,
+    i: usize,
+    k: usize,
+    now: usize,
+    state: &mut SweepState<C>,
+) -> Result<Placed<C>, AllocError>
+    requires within { i ≤ length records.now }
+    requires record { k < length records.now }
+    requires at { (old : Book) × (new : Book)
+        × IsNext old new i now (each_of C.recorded records.now) (cell_of source.now)
+        (world_in (C.given world.now)) × ((entry_at old k).cell ≡ cell_of source.now)
+        × IsAt old new i now (C.change_of state.old.change) (C.session_of state.old.session)
+        state.old.since }
+    ensures at { IfOk result (λ p. (old new : Book)
+        → IsNext old new i now (each_of C.recorded records.now) (cell_of source.now)
+        (world_in (C.given world.now)) → (entry_at old k).cell ≡ cell_of source.now
+        → IsAt old new i now (C.change_of state.old.change) (C.session_of state.old.session)
+        state.old.since
+        → IsAt old new p.behind (now + 1) (C.change_of state.new.change)
+        (C.session_of state.new.session) state.new.since) }
+    ensures placed { IfOk result (λ p. (old new : Book)
+        → IsNext old new i now (each_of C.recorded records.now) (cell_of source.now)
+        (world_in (C.given world.now)) → (entry_at old k).cell ≡ cell_of source.now
+        → IsAt old new i now (C.change_of state.old.change) (C.session_of state.old.session)
+        state.old.since
+        → IsPlaced old new now (C.recorded p.record.value) p.is_run) }
+    ensures worded { IfOk result (λ p. IsWordOf C.covers p.word (C.recorded p.record.value)) }
+    ensures behind { IfOk result (λ p. p.behind ≡ i) }
+    ensures covered { OnOk result (IsWordOfChange C.covers state.new.word
+        (C.change_of state.new.change)) }
+    ensures counts { (old new : Book) (before : ℕ)
+        → IsNext old new i now (each_of C.recorded records.now) (cell_of source.now)
+        (world_in (C.given world.now)) → (entry_at old k).cell ≡ cell_of source.now
+        → IsAt old new i now (C.change_of state.old.change) (C.session_of state.old.session)
+        state.old.since
+        → CountsFront old new now before meter.old
+        → CountsFront old new (now + 1) before meter.new }
+{
+    let made = &records[k];
+    let made = enter::<C>(alloc, meter, records, source, made, world, i, now, state)?;
+    settle::<C>(records, k, made, i)
+}
+
+/// Comes to a cell that stood nowhere before with this text, or is left or passed: it is run.
+fn come_to_new<C: CellRunner>(
+    alloc: Global,
+    meter: &mut Meter,
+    records: &[Rc<C::Record>],
+    source: &KeptCell,
+    world: &C::World,
+    i: usize,
+    now: usize,
+    state: &mut SweepState<C>,
+) -> Result<Placed<C>, AllocError>
+    requires record { i ≤ length records.now }
+    requires at { (old : Book) × (new : Book)
+        × IsNext old new i now (each_of C.recorded records.now) (cell_of source.now)
+        (world_in (C.given world.now))
+        × IsAt old new i now (C.change_of state.old.change) (C.session_of state.old.session)
+        state.old.since }
+    ensures at { IfOk result (λ p. (old new : Book)
+        → IsNext old new i now (each_of C.recorded records.now) (cell_of source.now)
+        (world_in (C.given world.now))
+        → IsAt old new i now (C.change_of state.old.change) (C.session_of state.old.session)
+        state.old.since
+        → IsAt old new p.behind (now + 1) (C.change_of state.new.change)
+        (C.session_of state.new.session) state.new.since) }
+    ensures placed { IfOk result (λ p. (old new : Book)
+        → IsNext old new i now (each_of C.recorded records.now) (cell_of source.now)
+        (world_in (C.given world.now)) → IsStale old new (entry_at new now)
+        → IsAt old new i now (C.change_of state.old.change) (C.session_of state.old.session)
+        state.old.since
+        → IsPlaced old new now (C.recorded p.record.value) p.is_run) }
+    ensures worded { IfOk result (λ p. IsWordOf C.covers p.word (C.recorded p.record.value)) }
+    ensures behind { IfOk result (λ p. p.behind ≡ i) }
+    ensures covered { OnOk result (IsWordOfChange C.covers state.new.word
+        (C.change_of state.new.change)) }
+    ensures counts { (old new : Book) (before : ℕ)
+        → IsNext old new i now (each_of C.recorded records.now) (cell_of source.now)
+        (world_in (C.given world.now))
+        → IsStale old new (entry_at new now)
+        → CountsFront old new now before meter.old
+        → CountsFront old new (now + 1) before meter.new }
+{
+    catch_up::<C>(records, &mut state.session, state.since, i)?;
+    state.since = i;
+    let New { record, word } = run_new::<C>(alloc, meter, source, world, now, state)?;
+    let is_run = true;
+    Ok(Placed {
+        record,
+        word,
+        is_run,
+        behind: i,
+    })
+}
+
 /// Comes to one cell of a draft, and leaves those before it that are gone past. Its record is kept, or it is run.
 fn merge_cell<C: CellRunner>(
     alloc: Global,
@@ -325,31 +485,13 @@ fn merge_cell<C: CellRunner>(
 {
     match find_way(cells, cell, hint, i) {
         Way::Kept(k) => {
-            leave_between::<C>(records, i, k, state)?;
-            let made = pass::<C>(alloc, meter, records, words, cell, world, k, now, state)?;
-            settle::<C>(records, k, made, k + 1)
+            come_to_kept::<C>(alloc, meter, records, words, cell, world, i, k, now, state)
         }
         Way::Edited(k) => {
-            leave_between::<C>(records, i, k, state)?;
-            let new = run_there::<C>(alloc, meter, records, cell, world, k, now, state)?;
-            settle::<C>(records, k, Some(new), k + 1)
+            come_to_edited::<C>(alloc, meter, records, cell, world, i, k, now, state)
         }
-        Way::Moved(k) => {
-            let made = &records[k];
-            let made = enter::<C>(alloc, meter, records, cell, made, world, i, now, state)?;
-            settle::<C>(records, k, made, i)
-        }
-        Way::New => {
-            let New { record, word } = run_here::<C>(
-                alloc, meter, records, cell, world, i, now, state,
-            )?;
-            Ok(Placed {
-                record,
-                word,
-                is_run: true,
-                behind: i,
-            })
-        }
+        Way::Moved(k) => come_to_moved::<C>(alloc, meter, records, cell, world, i, k, now, state),
+        Way::New => come_to_new::<C>(alloc, meter, records, cell, world, i, now, state),
     }
 }
 
@@ -375,6 +517,40 @@ fn put_behind<C: CellRunner>(
     Ok(())
 }
 
+/// What no cells have yet, with room for the records and words of `room` cells.
+fn with_room<C: CellRunner>(alloc: Global, room: usize) -> Result<Merged<C>, AllocError>
+    ensures { IfOk result (λ m. (old new : Book)
+        → AreMerged C.covers old new 0 (each_of C.recorded m.records.items)
+        m.words.items m.ran.items) }
+{
+    Ok(Merged {
+        records: Vec::with_capacity(alloc, room)?,
+        words: Vec::with_capacity(alloc, room)?,
+        ran: Vec::new(alloc),
+    })
+}
+
+/// Puts in what the first cells have, as they have it in the notebook before.
+fn copy_front<C: CellRunner>(
+    records: &[Rc<C::Record>],
+    count: usize,
+    merged: &mut Merged<C>,
+) -> Result<(), AllocError>
+    requires { count ≤ length records.now }
+    ensures { OnOk result ((old new : Book)
+        → IsRun old (each_of C.recorded records.now) → IsFront old new count
+        → AreMerged C.covers old new 0 (each_of C.recorded merged.old.records.items)
+        merged.old.words.items merged.old.ran.items
+        → AreMerged C.covers old new count (each_of C.recorded merged.new.records.items)
+        merged.new.words.items merged.new.ran.items) }
+{
+    for k in 0..count {
+        let placed = settle::<C>(records, k, None, k + 1)?;
+        put_behind::<C>(merged, placed, k)?;
+    }
+    Ok(())
+}
+
 /// What the first cells have, as they have it in the notebook before. There is room for the others.
 fn copied<C: CellRunner>(
     alloc: Global,
@@ -388,15 +564,8 @@ fn copied<C: CellRunner>(
         → AreMerged C.covers old new count (each_of C.recorded m.records.items)
         m.words.items m.ran.items) }
 {
-    let mut merged = Merged {
-        records: Vec::with_capacity(alloc, room)?,
-        words: Vec::with_capacity(alloc, room)?,
-        ran: Vec::new(alloc),
-    };
-    for k in 0..count {
-        let placed = settle::<C>(records, k, None, k + 1)?;
-        put_behind::<C>(&mut merged, placed, k)?;
-    }
+    let mut merged = with_room::<C>(alloc, room)?;
+    copy_front::<C>(records, count, &mut merged)?;
     Ok(merged)
 }
 

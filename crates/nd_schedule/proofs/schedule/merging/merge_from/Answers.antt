@@ -33,9 +33,6 @@ merge_cell-requires-clause-covered g c = c.loop-j.invariant.covered
 pub merge_cell-requires-clause-words : goal.merge_cell-requires-clause-words
 merge_cell-requires-clause-words g c = c.requires.words
 
-pub put_behind-requires : goal.put_behind-requires
-put_behind-requires g c = c.in_ok-placed.ensures.worded
-
 pub returns-in_err-placed-clause-counts : goal.returns-in_err-placed-clause-counts
 returns-in_err-placed-clause-counts g c = λ old new before merge at so_far.
     counts_stale old new (c.loop-j.j + 1) before _ (c.merge_cell.ensures.counts old new before (next_of old new (cells_of c.args.cells.now) (cells_of c.args.drafted.now) _ _ merge c.loop-j.i c.loop-j.j (omega (arith, c.loop-j.invariant.within, length-map c.args.cells.now (λ s. cell_of s.value))) (omega (arith, c.loop-j-test.true, length-map c.args.drafted.now (λ s. cell_of s.value))) (cell_of c.deref.result.now)

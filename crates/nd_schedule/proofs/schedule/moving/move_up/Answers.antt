@@ -257,19 +257,19 @@ pub overflow_add-to : goal.overflow_add-to
 overflow_add-to g c = grind (arith, common_steps)
 
 pub returns-clause-worded : goal.returns-clause-worded
-returns-clause-worded g c = grind (arith, common_steps)
+returns-clause-worded g c = c.in_ok-made.ensures.worded
 
 pub sweep-requires-2-clause-cells : goal.sweep-requires-2-clause-cells
 sweep-requires-2-clause-cells g c = grind (arith, common_steps)
 
 pub sweep-requires-2-clause-covered : goal.sweep-requires-2-clause-covered
-sweep-requires-2-clause-covered g c = grind (arith, common_steps)
+sweep-requires-2-clause-covered g c = c.in_ok-leave.ensures.covered
 
 pub sweep-requires-2-clause-fits : goal.sweep-requires-2-clause-fits
 sweep-requires-2-clause-fits g c = grind (arith, common_steps)
 
 pub sweep-requires-2-clause-kept : goal.sweep-requires-2-clause-kept
-sweep-requires-2-clause-kept g c = grind (arith, common_steps)
+sweep-requires-2-clause-kept g c = c.requires.kept
 
 pub sweep-requires-2-clause-order : goal.sweep-requires-2-clause-order
 sweep-requires-2-clause-order g c = grind (arith, common_steps)
@@ -281,19 +281,19 @@ pub sweep-requires-2-clause-records : goal.sweep-requires-2-clause-records
 sweep-requires-2-clause-records g c = grind (arith, common_steps)
 
 pub sweep-requires-2-clause-words : goal.sweep-requires-2-clause-words
-sweep-requires-2-clause-words g c = grind (arith, common_steps)
+sweep-requires-2-clause-words g c = c.requires.words
 
 pub sweep-requires-clause-cells : goal.sweep-requires-clause-cells
 sweep-requires-clause-cells g c = grind (arith, common_steps)
 
 pub sweep-requires-clause-covered : goal.sweep-requires-clause-covered
-sweep-requires-clause-covered g c = grind (arith, common_steps)
+sweep-requires-clause-covered g c = c.in_ok-made.ensures.covered
 
 pub sweep-requires-clause-fits : goal.sweep-requires-clause-fits
 sweep-requires-clause-fits g c = grind (arith, common_steps)
 
 pub sweep-requires-clause-kept : goal.sweep-requires-clause-kept
-sweep-requires-clause-kept g c = grind (arith, common_steps)
+sweep-requires-clause-kept g c = c.requires.kept
 
 pub sweep-requires-clause-order : goal.sweep-requires-clause-order
 sweep-requires-clause-order g c = grind (arith, common_steps)
@@ -305,7 +305,7 @@ pub sweep-requires-clause-records : goal.sweep-requires-clause-records
 sweep-requires-clause-records g c = grind (arith, common_steps)
 
 pub sweep-requires-clause-words : goal.sweep-requires-clause-words
-sweep-requires-clause-words g c = grind (arith, common_steps)
+sweep-requires-clause-words g c = c.requires.words
 
 pub returns-clause-stale : goal.returns-clause-stale
 returns-clause-stale g c = λ old new moving at.

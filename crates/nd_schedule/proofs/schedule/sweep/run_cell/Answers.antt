@@ -1,4 +1,4 @@
-use Rattle.std.proofs.Common.{sym, ap, subst, ◌∙◌}
+use Rattle.std.proofs.Common.{◌+◌, ◌-◌, ◌^◌, min, sym, ap, subst, ◌∙◌}
 use Rattle.nd_model.specs.Grammar.Reading.{reading}
 use Rattle.nd_model.specs.Cells.Cell.{cell, session_after}
 use Rattle.nd_model.specs.Book.Notebook.{world_in}
@@ -19,10 +19,10 @@ pub returns-clause-worded : goal.returns-clause-worded
 returns-clause-worded g c = subst (λ r. IsWordOf g.C.CellRunner.covers c.word-word.result (g.C.CellRunner.recorded r)) (sym c.in_ok-record.ensures.ok) c.word-word.ensures
 
 pub returns-clause-counted : goal.returns-clause-counted
-returns-clause-counted g c = c.run-made.ensures.counted
+returns-clause-counted g c = c.end.ensures ∙ c.run-made.ensures.counted ∙ ap (λ n. min (n + 1) (2 ^ 64 - 1)) c.begin-began.ensures
 
 pub returns-in_err-made-clause-counted : goal.returns-in_err-made-clause-counted
-returns-in_err-made-clause-counted g c = c.run-made.ensures.counted
+returns-in_err-made-clause-counted g c = c.end.ensures ∙ c.run-made.ensures.counted ∙ ap (λ n. min (n + 1) (2 ^ 64 - 1)) c.begin-began.ensures
 
 pub returns-in_err-record-clause-counted : goal.returns-in_err-record-clause-counted
-returns-in_err-record-clause-counted g c = c.run-made.ensures.counted
+returns-in_err-record-clause-counted g c = c.end.ensures ∙ c.run-made.ensures.counted ∙ ap (λ n. min (n + 1) (2 ^ 64 - 1)) c.begin-began.ensures

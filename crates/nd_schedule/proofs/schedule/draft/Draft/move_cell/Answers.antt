@@ -1,7 +1,14 @@
-use Rattle.std.proofs.Common.{◌≡◌, length, length-set, set, sym, ap, ◌∙◌, arith}
-use Rattle.nd_model.specs.Book.Book.{Move, edited_cells}
+use Rattle.std.proofs.Common.{◌≡◌, get_or, length, length-set, set, sym, ap, ◌∙◌, arith}
+use Rattle.std.specs.Prelude.{insert, remove}
+use Rattle.nd_model.specs.Book.Book.{Move, edited_cells, no_cell}
 use Rattle.nd_schedule.proofs.schedule.Drafting.{cells_moved, long, moved}
+use Rattle.nd_schedule.proofs.schedule.Turning.{turned_same}
 use Rattle.nd_schedule.proofs.schedule.draft.Draft.move_cell.Goals as goal
+
+pub returns-then-from-to : goal.returns-then-from-to
+returns-then-from-to c =
+    let cells = c.args.self.now in
+    turned_same cells c.args.from no_cell c.requires.from ∙ ap (λ n. insert (remove cells c.args.from) n (get_or cells c.args.from no_cell)) c.if-from-to.true
 
 pub invariant_of-self : goal.invariant_of-self
 invariant_of-self c =

@@ -1,4 +1,3 @@
-use Rattle.std.proofs.lemmas.Grind.{common_steps}
 use Rattle.std.proofs.Common.{◌≡◌, ◌≤◌, ◌+◌, ◌++◌, ◌||◌, ℕ, eqb, List, [], ◌∷◌, length, map, refl, sym, ap, ap₂, subst, ◌∙◌, arith}
 use Rattle.std.proofs.lemmas.Grind.{common_steps}
 use Rattle.std.specs.Prelude.{insert}
@@ -8,6 +7,7 @@ use Rattle.std.proofs.lemmas.List.Edits.{length-insert}
 use Rattle.nd_model.specs.Book.Book.{Book, Cell, is_label}
 use Rattle.nd_model.specs.Book.Book as book
 use Rattle.nd_model.specs.Book.Notebook.{Sheet, book_of}
+use Rattle.nd_model.specs.Book.Stale.{CountsStale}
 use Rattle.nd_model.proofs.EditKept.{map-insert}
 use Rattle.nd_schedule.specs.declared.cells.source.KeptCell.{KeptCell}
 use Rattle.nd_schedule.specs.Cells.Labels.{AreUsed}
@@ -19,7 +19,7 @@ use Rattle.nd_schedule.specs.Schedule.Sweep.{IsKept}
 use Rattle.nd_schedule.proofs.schedule.Runs.{ran_appended}
 use Rattle.nd_schedule.proofs.schedule.Kept.{as_many}
 use Rattle.nd_schedule.proofs.schedule.Standing.{kept_in_front, kept_lists}
-use Rattle.nd_schedule.proofs.schedule.Sweeping.{changed_none}
+use Rattle.nd_schedule.proofs.schedule.Sweeping.{changed_none, counts_stale, none_yet}
 use Rattle.nd_schedule.proofs.schedule.Inserting
 use Rattle.nd_schedule.proofs.cells.Used.{used_insert}
 use Rattle.nd_schedule.proofs.schedule.notebook.Schedule.append.Goals as goal
@@ -105,28 +105,37 @@ pub put_new-requires-clause-cells : goal.put_new-requires-clause-cells
 put_new-requires-clause-cells g c = grind (arith, common_steps)
 
 pub returns-clause-counts : goal.returns-clause-counts
-returns-clause-counts g c = grind (arith, common_steps)
+returns-clause-counts g c =
+    subst (λ (s : Sheet). CountsStale (book_of s) (book_of (sheet (insert s.cells (length s.cells) (cell_of c.args.cell.value)) s.given)) c.args.meter.now c.run_end.new.meter) c.front_end.ensures.same
+    (subst (λ (x : KeptCell). CountsStale (book_of c.front_end.new.self) (book_of (sheet (insert c.front_end.new.self.cells (length c.front_end.new.self.cells) (cell_of x)) c.front_end.new.self.given)) c.args.meter.now c.run_end.new.meter) c.deref.ensures c.run_end.ensures.counts)
 
 pub returns-clause-err : goal.returns-clause-err
-returns-clause-err g c = grind (arith, common_steps)
+returns-clause-err g c = tt
 
 pub returns-clause-ok : goal.returns-clause-ok
 returns-clause-ok g c = grind (arith, common_steps)
 
 pub returns-in_err-new-clause-counts : goal.returns-in_err-new-clause-counts
-returns-in_err-new-clause-counts g c = grind (arith, common_steps)
+returns-in_err-new-clause-counts g c =
+    subst (λ (s : Sheet). CountsStale (book_of s) (book_of (sheet (insert s.cells (length s.cells) (cell_of c.args.cell.value)) s.given)) c.args.meter.now c.run_end.new.meter) c.front_end.ensures.same
+    (subst (λ (x : KeptCell). CountsStale (book_of c.front_end.new.self) (book_of (sheet (insert c.front_end.new.self.cells (length c.front_end.new.self.cells) (cell_of x)) c.front_end.new.self.given)) c.args.meter.now c.run_end.new.meter) c.deref.ensures c.run_end.ensures.counts)
 
 pub returns-in_err-new-clause-err : goal.returns-in_err-new-clause-err
 returns-in_err-new-clause-err g c = grind (arith, common_steps)
 
 pub returns-in_err-put_new-clause-counts : goal.returns-in_err-put_new-clause-counts
-returns-in_err-put_new-clause-counts g c = grind (arith, common_steps)
+returns-in_err-put_new-clause-counts g c =
+    subst (λ (s : Sheet). CountsStale (book_of s) (book_of (sheet (insert s.cells (length s.cells) (cell_of c.args.cell.value)) s.given)) c.args.meter.now c.run_end.new.meter) c.front_end.ensures.same
+    (subst (λ (x : KeptCell). CountsStale (book_of c.front_end.new.self) (book_of (sheet (insert c.front_end.new.self.cells (length c.front_end.new.self.cells) (cell_of x)) c.front_end.new.self.given)) c.args.meter.now c.run_end.new.meter) c.deref.ensures c.run_end.ensures.counts)
 
 pub returns-in_err-put_new-clause-err : goal.returns-in_err-put_new-clause-err
 returns-in_err-put_new-clause-err g c = grind (arith, common_steps)
 
 pub returns-in_err-session-clause-counts : goal.returns-in_err-session-clause-counts
-returns-in_err-session-clause-counts g c = grind (arith, common_steps)
+returns-in_err-session-clause-counts g c =
+    let old : Book = book_of c.args.self.now in
+    let new : Book = book_of (sheet (insert c.args.self.now.cells (length c.args.self.now.cells) (cell_of c.args.cell.value)) c.args.self.now.given) in
+    counts_stale old new 0 c.args.meter.now c.args.meter.now (none_yet old new 0 c.args.meter.now)
 
 pub returns-in_err-session-clause-err : goal.returns-in_err-session-clause-err
 returns-in_err-session-clause-err g c = grind (arith, common_steps)

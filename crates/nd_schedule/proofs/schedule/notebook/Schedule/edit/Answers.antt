@@ -2,8 +2,8 @@ use Rattle.std.proofs.Common.{◌≡◌, ◌++◌, length, map, sym, ap, ap₂, 
 use Rattle.std.proofs.lemmas.Grind.{common_steps}
 use Rattle.std.specs.Prelude.{bytes_eq, slice_index_or, slice_set}
 use Rattle.std.proofs.lemmas.List.{length-map}
-use Rattle.nd_model.specs.Book.Book.{Cell, no_cell}
-use Rattle.nd_model.specs.Book.Notebook.{Sheet, book_of}
+use Rattle.nd_model.specs.Book.Book.{Book, Cell, Change, no_cell}
+use Rattle.nd_model.specs.Book.Notebook.{Sheet, book_of, edited_sheet}
 use Rattle.nd_model.specs.Book.Stale.{CountsStale}
 use Rattle.nd_schedule.specs.declared.cells.source.KeptCell.{KeptCell}
 use Rattle.nd_schedule.specs.Cells.Labels.{AreUsed}
@@ -12,6 +12,7 @@ use Rattle.nd_schedule.specs.Cells.Shared.{each_of}
 use Rattle.nd_schedule.specs.Schedule.Ran.{AreStale, shifted}
 use Rattle.nd_schedule.specs.declared.schedule.ran.Shift.TheVariants as shifts
 use Rattle.nd_schedule.specs.Schedule.Sweep.{AreFit, IsKept, change_at, fit_at}
+use Rattle.nd_schedule.proofs.schedule.Sweeping.{counts_stale, none_yet}
 use Rattle.nd_schedule.proofs.schedule.Runs.{ran_edited, ran_nothing}
 use Rattle.std.specs.List.{All}
 use Rattle.nd_schedule.specs.Schedule.Snapshot.{IsSnapshot}
@@ -87,10 +88,13 @@ pub install-requires-clause-many : goal.install-requires-clause-many
 install-requires-clause-many g c = grind (arith, common_steps)
 
 pub returns-clause-err : goal.returns-clause-err
-returns-clause-err g c = grind (arith, common_steps)
+returns-clause-err g c = tt
 
 pub returns-in_err-cell-clause-counts : goal.returns-in_err-cell-clause-counts
-returns-in_err-cell-clause-counts g c = grind (arith, common_steps)
+returns-in_err-cell-clause-counts g c =
+    let old : Book = book_of c.args.self.now in
+    let new : Book = book_of (edited_sheet (Change c.args.at c.args.text.now) c.args.self.now) in
+    counts_stale old new 0 c.args.meter.now c.args.meter.now (none_yet old new 0 c.args.meter.now)
 
 pub returns-in_err-cell-clause-err : goal.returns-in_err-cell-clause-err
 returns-in_err-cell-clause-err g c = grind (arith, common_steps)
@@ -99,10 +103,13 @@ pub returns-in_err-swept-clause-err : goal.returns-in_err-swept-clause-err
 returns-in_err-swept-clause-err g c = grind (arith, common_steps)
 
 pub returns-then-eq-clause-counts : goal.returns-then-eq-clause-counts
-returns-then-eq-clause-counts g c = grind (arith, common_steps)
+returns-then-eq-clause-counts g c =
+    let old : Book = book_of c.args.self.now in
+    let new : Book = book_of (edited_sheet (Change c.args.at c.args.text.now) c.args.self.now) in
+    counts_stale old new 0 c.args.meter.now c.args.meter.now (none_yet old new 0 c.args.meter.now)
 
 pub returns-then-eq-clause-err : goal.returns-then-eq-clause-err
-returns-then-eq-clause-err g c = grind (arith, common_steps)
+returns-then-eq-clause-err g c = tt
 
 pub swept_with-requires-clause-at : goal.swept_with-requires-clause-at
 swept_with-requires-clause-at g c = grind (arith, common_steps)

@@ -128,13 +128,13 @@ pub install-requires-clause-many : goal.install-requires-clause-many
 install-requires-clause-many g c = grind (arith, common_steps)
 
 pub returns-clause-err : goal.returns-clause-err
-returns-clause-err g c = grind (arith, common_steps)
+returns-clause-err g c = tt
 
 pub returns-in-Err-clause-err : goal.returns-in-Err-clause-err
 returns-in-Err-clause-err g c = grind (arith, common_steps)
 
 pub returns-in-Err-clause-ok : goal.returns-in-Err-clause-ok
-returns-in-Err-clause-ok g c = grind (arith, common_steps)
+returns-in-Err-clause-ok g c = tt
 
 pub returns-in_err-added-clause-err : goal.returns-in_err-added-clause-err
 returns-in_err-added-clause-err g c = grind (arith, common_steps)

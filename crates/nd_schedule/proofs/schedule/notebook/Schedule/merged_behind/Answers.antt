@@ -11,9 +11,6 @@ use Rattle.nd_schedule.proofs.schedule.Joining.{front_is}
 use Rattle.nd_schedule.proofs.schedule.Sweeping.{counts_stale, none_yet}
 use Rattle.nd_schedule.proofs.schedule.notebook.Schedule.merged_behind.Goals as goal
 
-pub front_before-requires : goal.front_before-requires
-front_before-requires g c = c.requires.within
-
 pub begin-state-requires-clause-at : goal.begin-state-requires-clause-at
 begin-state-requires-clause-at g c = c.requires.within
 

@@ -1,6 +1,5 @@
 use Rattle.std.proofs.lemmas.Grind.{common_steps}
 use Rattle.std.proofs.Common.{◌≡◌, ℕ, ◌<◌, ◌++◌, inl, inr, List, length, map, get_or, Option, refl, sym, ap, ap₂, subst, ◌∙◌, arith}
-use Rattle.std.proofs.lemmas.Grind.{common_steps}
 use Rattle.std.specs.Prelude.{insert, remove, MatchOption}
 use Rattle.std.proofs.lemmas.List.{length-map}
 use Rattle.nd_model.specs.Book.Records.{Record}
@@ -14,6 +13,7 @@ use Rattle.nd_schedule.specs.Cells.Shared.{each_of}
 use Rattle.nd_schedule.specs.Schedule.Ran.{AreStale, place_made, shifted}
 use Rattle.nd_schedule.specs.declared.schedule.ran.Shift.TheVariants as shifts
 use Rattle.std.proofs.lemmas.Bool.{cases_lt}
+use Rattle.nd_schedule.proofs.schedule.Sweeping.{counts_stale, none_yet}
 use Rattle.nd_schedule.proofs.schedule.Runs.{ran_down, ran_nothing, ran_up}
 use Rattle.nd_schedule.specs.Schedule.Sweep.{AreFit, AreMoved, Changes, IsKept, IsMoving, change_at, changed, fit_at}
 use Rattle.std.specs.List.{All}
@@ -150,28 +150,34 @@ pub put_made-requires-clause-worded : goal.put_made-requires-clause-worded
 put_made-requires-clause-worded g c = grind (arith, common_steps)
 
 pub returns-clause-counts : goal.returns-clause-counts
-returns-clause-counts g c = grind (arith, common_steps)
+returns-clause-counts g c = c.swept_moved.ensures.counts
 
 pub returns-clause-err : goal.returns-clause-err
-returns-clause-err g c = grind (arith, common_steps)
+returns-clause-err g c = tt
 
 pub returns-in_err-moved-clause-counts : goal.returns-in_err-moved-clause-counts
-returns-in_err-moved-clause-counts g c = grind (arith, common_steps)
+returns-in_err-moved-clause-counts g c = c.swept_moved.ensures.counts
 
 pub returns-in_err-moved-clause-err : goal.returns-in_err-moved-clause-err
 returns-in_err-moved-clause-err g c = grind (arith, common_steps)
 
 pub returns-in_err-session-clause-counts : goal.returns-in_err-session-clause-counts
-returns-in_err-session-clause-counts g c = grind (arith, common_steps)
+returns-in_err-session-clause-counts g c =
+    let old : Book = book_of c.args.self.now in
+    let new : Book = book_of (edited_sheet (Move c.args.from c.args.to) c.args.self.now) in
+    counts_stale old new 0 c.args.meter.now c.args.meter.now (none_yet old new 0 c.args.meter.now)
 
 pub returns-in_err-session-clause-err : goal.returns-in_err-session-clause-err
 returns-in_err-session-clause-err g c = grind (arith, common_steps)
 
 pub returns-then-from-to-clause-counts : goal.returns-then-from-to-clause-counts
-returns-then-from-to-clause-counts g c = grind (arith, common_steps)
+returns-then-from-to-clause-counts g c =
+    let old : Book = book_of c.args.self.now in
+    let new : Book = book_of (edited_sheet (Move c.args.from c.args.to) c.args.self.now) in
+    counts_stale old new 0 c.args.meter.now c.args.meter.now (none_yet old new 0 c.args.meter.now)
 
 pub returns-then-from-to-clause-err : goal.returns-then-from-to-clause-err
-returns-then-from-to-clause-err g c = grind (arith, common_steps)
+returns-then-from-to-clause-err g c = tt
 
 pub returns-then-from-to-clause-ok : goal.returns-then-from-to-clause-ok
 returns-then-from-to-clause-ok g c =

@@ -1,6 +1,5 @@
 use Rattle.std.proofs.lemmas.Grind.{common_steps}
 use Rattle.std.proofs.Common.{◌≡◌, ◌++◌, length, map, sym, ap, ap₂, subst, ◌∙◌, arith}
-use Rattle.std.proofs.lemmas.Grind.{common_steps}
 use Rattle.std.specs.Prelude.{remove, slice_index_or}
 use Rattle.std.proofs.lemmas.List.{length-map}
 use Rattle.nd_model.specs.Book.Book.{Cell, no_cell}
@@ -82,16 +81,16 @@ pub remove-word-requires : goal.remove-word-requires
 remove-word-requires g c = grind (arith, common_steps)
 
 pub returns-clause-counts : goal.returns-clause-counts
-returns-clause-counts g c = grind (arith, common_steps)
+returns-clause-counts g c = c.swept_away.ensures.counts
 
 pub returns-clause-err : goal.returns-clause-err
-returns-clause-err g c = grind (arith, common_steps)
+returns-clause-err g c = tt
 
 pub returns-clause-last : goal.returns-clause-last
 returns-clause-last g c = grind (arith, common_steps)
 
 pub returns-in_err-swept-clause-counts : goal.returns-in_err-swept-clause-counts
-returns-in_err-swept-clause-counts g c = grind (arith, common_steps)
+returns-in_err-swept-clause-counts g c = c.swept_away.ensures.counts
 
 pub returns-in_err-swept-clause-err : goal.returns-in_err-swept-clause-err
 returns-in_err-swept-clause-err g c = grind (arith, common_steps)

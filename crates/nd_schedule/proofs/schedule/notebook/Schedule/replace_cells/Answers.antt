@@ -10,6 +10,7 @@ use Rattle.nd_schedule.specs.Cells.Shared.{each_of}
 use Rattle.nd_schedule.specs.Schedule.Ran.{AreStale}
 use Rattle.nd_schedule.specs.Schedule.Snapshot.{IsBehind, IsNoted, IsSnapshot}
 use Rattle.nd_schedule.specs.Schedule.Sweep.{IsKept}
+use Rattle.nd_schedule.proofs.schedule.Sweeping.{counts_stale, none_yet}
 use Rattle.nd_schedule.proofs.schedule.Joining.{kept_merged, same_whole}
 use Rattle.nd_schedule.proofs.schedule.Runs.{ran_nothing}
 use Rattle.nd_schedule.proofs.schedule.Standing.{All-none}
@@ -74,3 +75,21 @@ returns-then-front-len-2-clause-ran g c =
     (omega (arith, c.if-front-len-2.true, c.len-then-front-len.ensures, length-map c.draft.inside.cells.items (λ s. cell_of s.value), ap length c.draft.view_is)) in
     subst (λ (cs : List Cell). AreStale (book_of c.args.self.now) (book_of (sheet cs c.args.self.now.given)) c.new.result.items) whole
     (subst (AreStale (book_of c.args.self.now) (book_of c.args.self.now)) (sym c.new.ensures.items) (ran_nothing (book_of c.args.self.now) run.run.distinct))
+
+pub returns-then-front-len-2-clause-counts : goal.returns-then-front-len-2-clause-counts
+returns-then-front-len-2-clause-counts g c =
+    let old : Book = book_of c.args.self.now in
+    let new : Book = book_of (sheet c.args.draft c.args.self.now.given) in
+    counts_stale old new 0 c.args.meter.now c.args.meter.now (none_yet old new 0 c.args.meter.now)
+
+pub returns-then-front-len-2-clause-err : goal.returns-then-front-len-2-clause-err
+returns-then-front-len-2-clause-err g c = tt
+
+pub returns-clause-counts : goal.returns-clause-counts
+returns-clause-counts g c = c.merged_behind.ensures.counts
+
+pub returns-clause-err : goal.returns-clause-err
+returns-clause-err g c = tt
+
+pub returns-in_err-merged-clause-counts : goal.returns-in_err-merged-clause-counts
+returns-in_err-merged-clause-counts g c = c.merged_behind.ensures.counts

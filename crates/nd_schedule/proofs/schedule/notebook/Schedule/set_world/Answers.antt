@@ -52,3 +52,15 @@ returns-clause-ran g c =
     c.in-Ok.ensures.places ∙ ap₂ (λ ps xs. ps ++ map (λ c'. shifted shifts.Stays c'.place) xs) c.new-ran.ensures.items c.deref.ensures.value in
     subst (AreStale (book_of c.args.self.now) (book_of (sheet c.args.self.now.cells (g.C.CellRunner.given c.args.world)))) (sym places)
     (ran_over (λ c'. change_at c'.place (g.C.CellRunner.recorded c'.record.value)) c.in_ok-changed.field-0.changed.items c.args.self.now (g.C.CellRunner.given c.args.world) c.in_ok-changed.ensures.changed)
+
+pub returns-clause-counts : goal.returns-clause-counts
+returns-clause-counts g c = c.swept_over.ensures.counts
+
+pub returns-clause-err : goal.returns-clause-err
+returns-clause-err g c = tt
+
+pub returns-in_err-changed-clause-counts : goal.returns-in_err-changed-clause-counts
+returns-in_err-changed-clause-counts g c = c.swept_over.ensures.counts
+
+pub returns-in-Err-clause-counts : goal.returns-in-Err-clause-counts
+returns-in-Err-clause-counts g c = c.swept_over.ensures.counts

@@ -1,9 +1,10 @@
-use Rattle.std.proofs.Common.{◌≡◌, ap, subst, ◌∙◌}
+use Rattle.std.proofs.Common.{◌≡◌, ◌+◌, ◌-◌, ◌^◌, min, ap, subst, ◌∙◌}
 use Rattle.nd_model.specs.Book.Book.{fresh_label}
 use Rattle.nd_model.specs.Book.Notebook.{Sheet, book_of, world_in}
 use Rattle.nd_schedule.specs.Cells.Source.{cells_of}
 use Rattle.nd_schedule.specs.Cells.Shared.{each_of}
 use Rattle.nd_schedule.specs.Schedule.Sweep.{IsKept}
+use Rattle.nd_schedule.proofs.schedule.Coming.{on_any}
 use Rattle.nd_schedule.proofs.schedule.Turning.{if_ok_more}
 use Rattle.nd_schedule.proofs.schedule.Tried.{none_tried, one_at_most, tried_record}
 use Rattle.nd_schedule.proofs.schedule.notebook.Schedule.try_cell.Goals as goal
@@ -25,4 +26,7 @@ returns-clause-made g c =
     (ap (λ (s : Sheet). world_in s.given) c.self.view_is) made)
 
 pub returns-clause-err_counts : goal.returns-clause-err_counts
-returns-clause-err_counts g c = one_at_most c.run-made.result c.args.meter.now c.run-made.new.meter c.run-made.ensures.counted
+returns-clause-err_counts g c = one_at_most c.run-made.result c.args.meter.now c.end.new.self (c.end.ensures ∙ c.run-made.ensures.counted ∙ ap (λ n. min (n + 1) (2 ^ 64 - 1)) c.begin-began.ensures)
+
+pub returns-clause-counts : goal.returns-clause-counts
+returns-clause-counts g c = on_any c.run-made.result (c.end.ensures ∙ c.run-made.ensures.counted ∙ ap (λ n. min (n + 1) (2 ^ 64 - 1)) c.begin-began.ensures)

@@ -86,11 +86,13 @@ CHOICES += ["input", "drop", "refused"]
 
 @dataclass(frozen=True)
 class Input:
-    """An input: the words of its line, and the elements that it has, if it has any."""
+    """An input: the words of its line, the elements of the block that it makes, if it makes any, and how many of them
+    the array has, where these are not all."""
     kind: str
     words: str
     elements: Optional[Tuple[int, ...]]
     element_kind: str = "int64"
+    count: Optional[int] = None
 
 
 def npy_of(numbers: List[int]) -> bytes:
@@ -104,8 +106,8 @@ def npy_of(numbers: List[int]) -> bytes:
 BYTES = [b"", b"no file", b"\x93NUMPY\x01\x00", b"\x01\x02\x03\x04"]
 INPUTS = [Input("load", "npy " + (data.hex() or "-"), None) for data in BYTES]
 INPUTS += [Input("load", "npy " + npy_of(list(numbers)).hex(), numbers) for numbers in ((1, 2), (1, 3), (4, 5, 6))]
-INPUTS += [Input("buffer", f"buffer b 1 2 1 0 {data.hex() or '-'}", tuple(data[:2]) or None, "int8")
-           for data in (b"", b"\x01\x02\x03\x04", b"\x05\x02")]
+INPUTS += [Input("buffer", f"buffer b 1 2 1 0 {data.hex() or '-'}", tuple(data) or None, "int8", 2)
+           for data in (b"", b"\x01\x02\x03\x04", b"\x05\x02", b"\x05\x02\x03")]
 
 
 @dataclass(frozen=True)

@@ -200,7 +200,8 @@ class Run:
         self.reads.inputs.setdefault(argument, found)
         if found is None or found.kind != word or found.elements is None:
             raise Refused
-        return self.fresh(found.elements, found.element_kind)
+        whole = self.fresh(found.elements, found.element_kind)
+        return Array(whole.base, whole.places[:found.count], whole.kind)
 
     def item(self, node: ast.expr) -> Item:
         """What stands in an index."""

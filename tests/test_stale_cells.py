@@ -4,7 +4,7 @@ import unittest
 from typing import List
 
 sys.dont_write_bytecode = True
-from random_edits import Book, Edit, is_read  # noqa: E402
+from random_edits import Book, Edit, Input, is_read  # noqa: E402
 from stale_cells import Pass, Told  # noqa: E402
 
 
@@ -40,6 +40,13 @@ class StaleCells(unittest.TestCase):
     def test_an_array_that_no_other_cell_reads(self) -> None:
         texts = ["x = np.arange(3)", "y = np.arange(3)", "print(x)"]
         self.assertEqual(stale_after(texts, Edit("edit", 1, text="y = np.arange(4)")), 1)
+
+    def test_a_buffer_has_more_bytes_than_its_array(self) -> None:
+        book = book_of(["x = buffer('b')", "y = x", "print(y)"])
+        for data, stale in ((b"\x05\x02", [0, 1, 2]), (b"\x05\x02\x03", [0, 1, 2]), (b"\x05\x02\x04", [0])):
+            before = pass_of(book)
+            book.make(Edit("input", name="b", input=Input("buffer", "", tuple(data), "int8", 2)))
+            self.assertEqual(before.then(book.cells, book.inputs, is_read).stale, stale)
 
     def test_the_last_cell_is_removed(self) -> None:
         self.assertEqual(stale_after(["x = np.arange(3)", "print(x)"], Edit("remove", 1)), 0)

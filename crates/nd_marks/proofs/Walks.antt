@@ -54,6 +54,24 @@ row_next s row lt =
     let m : s.first + row * s.step + s.step ≡ s.first + (row + 1) * s.step = (let d : (row + 1) * s.step ≡ row * s.step + s.step = omega arith in omega arith) in
     ap (row_places (s.first + row * s.step) s.width s.step) e ∙ ap (λ q. count_up (s.first + row * s.step) s.width ++ row_places q s.width s.step (s.count - (row + 1))) m
 
+-- some rows, and those behind them
+rows_parted : (first width step n m : ℕ) → row_places first width step (n + m) ≡ row_places first width step n ++ row_places (first + n * step) width step m
+rows_parted first width step zero m =
+    let same : first ≡ first + 0 * step = omega arith in let all : 0 + m ≡ m = omega arith in
+    ap (row_places first width step) all ∙ ap (λ p. row_places p width step m) same
+rows_parted first width step (suc n) m =
+    let all : suc n + m ≡ suc (n + m) = omega arith in
+    let behind : first + step + n * step ≡ first + suc n * step = omega arith in
+    ap (row_places first width step) all
+    ∙ ap (λ xs. count_up first width ++ xs) (rows_parted (first + step) width step n m)
+    ∙ sym (append_assoc (count_up first width) (row_places (first + step) width step n) (row_places (first + step + n * step) width step m))
+    ∙ ap (λ p. (count_up first width ++ row_places (first + step) width step n) ++ row_places p width step m) behind
+
+-- the last of some rows
+pub rows_end : (first width step n : ℕ) → row_places first width step (n + 1) ≡ row_places first width step n ++ count_up (first + n * step) width
+rows_end first width step n =
+    rows_parted first width step n 1 ∙ ap (λ xs. row_places first width step n ++ xs) (append-nil (count_up (first + n * step) width))
+
 in_row_places : (f w s n p : ℕ) → is_in p (row_places f w s n) ≡ in_rows f w s n p
 in_row_places f w s zero p = refl
 in_row_places f w s (suc n) p = is_in-append p (count_up f w) (row_places (f + s) w s n) ∙ ap₂ (λ a b. a || b) (is_in-count_up p f w) (in_row_places (f + s) w s n p) ∙ sym (front f w s n p)
@@ -305,6 +323,30 @@ row_added f s row bytes new all lt is before =
     ap (λ xs. xs ++ map f rest) is ∙ append_assoc bytes (map f here) (map f rest)
     ∙ ap (λ ys. bytes ++ ys) (sym (map-append f here rest) ∙ ap (map f) (sym (row_next s row lt)))
     ∙ before
+
+-- the values at some more rows
+pub rows_added : (f : ℕ → ℕ) (s : Strip) (row n : ℕ) (bytes new all : List ℕ) → row + n ≤ s.count → new ≡ bytes ++ map f (row_places (s.first + row * s.step) s.width s.step n)
+    → bytes ++ map f (rows_left s row) ≡ all → new ++ map f (rows_left s (row + n)) ≡ all
+rows_added f s row n bytes new all le is before =
+    let here : List ℕ = row_places (s.first + row * s.step) s.width s.step n in
+    let rest : List ℕ = rows_left s (row + n) in
+    let count : s.count - row ≡ n + (s.count - (row + n)) = omega arith in
+    let times : (row + n) * s.step ≡ row * s.step + n * s.step = omega arith in
+    let behind : s.first + row * s.step + n * s.step ≡ s.first + (row + n) * s.step = omega arith in
+    let split : rows_left s row ≡ here ++ rest
+    = ap (row_places (s.first + row * s.step) s.width s.step) count
+    ∙ rows_parted (s.first + row * s.step) s.width s.step n (s.count - (row + n))
+    ∙ ap (λ p. here ++ row_places p s.width s.step (s.count - (row + n))) behind in
+    ap (λ xs. xs ++ map f rest) is ∙ append_assoc bytes (map f here) (map f rest)
+    ∙ ap (λ ys. bytes ++ ys) (sym (map-append f here rest) ∙ ap (map f) (sym split))
+    ∙ before
+
+-- one more row is copied
+pub row_copied : (xs ys : List ℕ) (at width : ℕ) → length ys ≡ width → at + width ≤ length xs → take (at + width) (put_mid at width xs ys) ≡ take at xs ++ ys
+row_copied xs ys at width long le = ext_get_or 0 _ _ (grind (arith, places, long)) (λ k lt. grind (arith, places, long, lt))
+
+pub length-put : (xs ys : List ℕ) (at width n : ℕ) → n ≡ width → length ys ≡ width → at + width ≤ length xs → length (put_mid at n xs ys) ≡ length xs
+length-put xs ys at width n is long le = grind (arith, places, is, long, le)
 
 -- the values at one more strip
 pub strip_added : (f : ℕ → ℕ) (ss : List Strip) (i : ℕ) (s : Strip) (bytes new all : List ℕ) → i < length ss → s ≡ get_or ss i s → new ≡ bytes ++ map f (rows_left s 0)

@@ -3,11 +3,17 @@
 ghost use Rattle.std.specs.Prelude.{◌≡◌, ℕ, ◌+◌, ◌-◌, ◌*◌, ◌^◌, ◌<◌, ◌≤◌, ◌++◌, ◌&&◌, ◌↔◌, OnOk, if◌then◌else◌, IsTrue, true, nat_eq, nat_le, nat_lt, length, map, slice_index};
 ghost use Rattle.std.specs.Int.{bit_at, from_le_bytes, to_le_bytes, w16, w32, w64};
 ghost use Rattle.nd_model.specs.Arrays.Element.{bytes_at};
-ghost use Rattle.nd_marks.specs.Kept.{rows_left};
+ghost use Rattle.nd_marks.specs.Kept.{row_places, rows_left};
 ghost use Rattle.nd_marks.specs.Marks.{has_bit, in_word, in_strip, in_strips};
 
 use crate::strip::Strip;
 use std::alloc::AllocError;
+
+/// How many rows are copied to a buffer before they are appended.
+const ROWS: u64 = 64;
+
+/// How many bytes the buffer has: those of rows of the greatest itemsize.
+const BUFFER: usize = 8 * ROWS as usize;
 
 /// Returns the byte at a byte offset, 0 past the end.
 pub(crate) fn byte_at(bytes: &[u8], place: u128) -> u8
@@ -221,7 +227,42 @@ pub(crate) fn append_row(
     }
 }
 
-/// Appends the bytes of all rows of a strip of this width that lies in the block.
+/// Copies the bytes of a row. A row as wide as a usual itemsize is copied as one number.
+#[inline(always)]
+fn copy_row(target: &mut [u8], block: &[u8], from: usize, width: usize)
+    requires target { length target.old ≡ width }
+    requires inside { from + width ≤ length block.now }
+    ensures { target.new ≡ bytes_at block.now from width }
+{
+    match width {
+        1 => target[0] = block[from],
+        2 => target.copy_from_slice(&bits16(block, from).to_le_bytes()),
+        4 => target.copy_from_slice(&bits32(block, from).to_le_bytes()),
+        8 => target.copy_from_slice(&bits64(block, from).to_le_bytes()),
+        _ => target.copy_from_slice(&block[from..from + width]),
+    }
+}
+
+/// Copies the bytes of rows of a block, one row behind the other.
+#[inline(always)]
+fn copy_rows(target: &mut [u8], block: &[u8], first: usize, step: u64, count: usize, width: usize)
+    requires target { length target.old ≡ count * width }
+    requires inside { (k : ℕ) → k < count → first + k * step + width ≤ length block.now }
+    ensures { target.new ≡ map (slice_index block.now) (row_places first width step count) }
+{
+    for row in 0..count {
+        let at = row * width;
+        copy_row(
+            &mut target[at..at + width],
+            block,
+            first + row * step as usize,
+            width,
+        );
+    }
+}
+
+/// Appends the bytes of all rows of a strip of this width that lies in the block. They are copied to
+/// a buffer first, and appended as many at a time as it has room for.
 #[inline(always)]
 fn append_each(
     bytes: &mut Vec<u8>,
@@ -230,13 +271,41 @@ fn append_each(
     width: usize,
 ) -> Result<(), AllocError>
     requires width { width ≡ strip.now.width }
+    requires narrow { width ≤ 8 }
     requires inside { (k : ℕ) → k < strip.now.count
         → strip.now.first + k * strip.now.step + strip.now.width ≤ length block.now }
     ensures { OnOk result (bytes.new.items
         ≡ bytes.old.items ++ map (slice_index block.now) (rows_left strip.now 0)) }
 {
+    let mut buffer = [0; BUFFER];
+    let (step, all) = (strip.step(), strip.count());
+    let mut number = 0;
+    while number < all {
+        let count = (all - number).min(ROWS);
+        let part = &mut buffer[..count as usize * width];
+        copy_rows(
+            part,
+            block,
+            strip.offset(number),
+            step,
+            count as usize,
+            width,
+        );
+        bytes.extend_from_slice(part)?;
+        number += count;
+    }
+    Ok(())
+}
+
+/// Appends the bytes of all rows of a strip that lies in the block, one by one.
+fn append_wide(bytes: &mut Vec<u8>, block: &[u8], strip: &Strip) -> Result<(), AllocError>
+    requires { (k : ℕ) → k < strip.now.count
+        → strip.now.first + k * strip.now.step + strip.now.width ≤ length block.now }
+    ensures { OnOk result (bytes.new.items
+        ≡ bytes.old.items ++ map (slice_index block.now) (rows_left strip.now 0)) }
+{
     for number in 0..strip.count() {
-        append_row(bytes, block, strip.offset(number), width)?;
+        append_row(bytes, block, strip.offset(number), strip.width() as usize)?;
     }
     Ok(())
 }
@@ -258,7 +327,7 @@ pub(crate) fn append_rows(
         2 => append_each(bytes, block, strip, 2),
         4 => append_each(bytes, block, strip, 4),
         8 => append_each(bytes, block, strip, 8),
-        width => append_each(bytes, block, strip, width as usize),
+        _ => append_wide(bytes, block, strip),
     }
 }
 

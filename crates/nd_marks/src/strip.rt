@@ -174,6 +174,13 @@ impl Strip {
         self.width
     }
 
+    /// The bytes from one row to the next.
+    pub(crate) fn step(&self) -> u64
+        ensures { result ≡ self.now.step }
+    {
+        self.step
+    }
+
     /// The byte offset at which the row of this index begins.
     pub(crate) fn start(&self, number: u64) -> u128
         requires { number < self.now.count }

@@ -185,6 +185,11 @@ pub one_layer : (old : Names) → overridden [] old ++ [] ≡ old
 one_layer [] = refl
 one_layer (e ∷ es) = ap (λ es. e ∷ es) (one_layer es)
 
+-- the old names stand in front where none of them has a newer value
+pub old_front : (old added : Names) → take (length old) (overridden [] old ++ added) ≡ old
+old_front [] added = refl
+old_front (e ∷ es) added = ap (λ es. e ∷ es) (old_front es added)
+
 apart_there : (n : List ℕ) (es : Names) (i : ℕ) (e : Entry) → slice_get es i ≡ Some e → lookup n es ≡ None → bytes_eq e.0 n ≡ false
 apart_there n [] i e at h = none_some e at
 apart_there n (d ∷ es) zero e at h = elim (cases_Bool (bytes_eq n d.0)) [

@@ -1,6 +1,6 @@
 //! `NameTable`: names in order with their values in layers, so that a change copies few of them.
 
-ghost use Rattle.std.specs.Prelude.{◌≡◌, ◌<◌, ◌≤◌, ◌↔◌, ◌&&◌, not, [], Some, IfOk, IsFalse, IsTrue, false, OnErr, OnOk, length, option_map, slice_get};
+ghost use Rattle.std.specs.Prelude.{◌≡◌, ◌<◌, ◌≤◌, ◌↔◌, ◌&&◌, not, [], Some, IfOk, IsFalse, IsTrue, false, OnErr, OnOk, length, option_map, slice_get, take};
 ghost use Rattle.std.specs.Rc.{rc_str_bytes};
 ghost use Rattle.nd_model.specs.Cells.Session as model;
 ghost use Rattle.nd_model.specs.Book.Sessions.{IsOnce};
@@ -186,12 +186,26 @@ impl NameTable {
         Ok(())
     }
 
+    /// A map with room for all names: it has the old ones where none of them has a newer value, else none.
+    fn begin_flat(&self) -> Result<Names, OutOfMemory>
+        ensures { IfOk result (λ m. names_of m.entries ≡ take (length m.entries) self.now) }
+    {
+        if !self.newer.is_empty() {
+            return Ok(IndexMap::with_capacity(self.alloc, self.len())?);
+        }
+        let mut flat = self.shared.as_ref().clone()?;
+        flat.reserve(self.added.len())?;
+        Ok(flat)
+    }
+
     /// The names in one map.
     fn flat(&self) -> Result<Names, OutOfMemory>
         ensures { IfOk result (λ m. names_of m.entries ≡ self.now) }
     {
-        let mut flat = IndexMap::with_capacity(self.alloc, self.len())?;
-        for i in 0..self.len() {
+        // proof: no name stands twice, by the invariant.
+        let _ = &self.alloc;
+        let mut flat = self.begin_flat()?;
+        for i in flat.len()..self.len() {
             let (name, value) = self.entry(i);
             insert(&mut flat, name.clone()?, value.clone()?)?;
         }

@@ -1,6 +1,6 @@
 //! `status`: runs what the command line asks for, and gives the exit status of the program.
 
-ghost use Rattle.std.specs.Prelude.{IfOk, ◌≤◌};
+ghost use Rattle.std.specs.Prelude.{IfOk, ◌≤◌, length};
 ghost use Rattle.std.specs.Process.{exit_status};
 ghost use Rattle.nd_input.specs.Sources.{source_of};
 ghost use Rattle.nd_commands.specs.Input.{IsNpy};
@@ -249,12 +249,16 @@ fn request_of<'a>(
 
 /// Returns the bytes of a file, of a large one as many as are more than an input may take. The buffer
 /// is made for the file's length; where none is known, as of a pipe, it grows.
-pub fn read_bytes(rt: &HostRuntime, path: &str) -> io::Result<Vec<u8>> {
+pub fn read_bytes(rt: &HostRuntime, path: &str) -> io::Result<Vec<u8>>
+    ensures { IfOk result (λ v. length v.items ≤ 67108865) }
+{
     let file = fs::open(rt, path)?;
     // A byte more than the file has, so that the read that finds the end needs no more room.
     let room = file.metadata()?.len().saturating_add(1).min(MOST_READ);
     let mut bytes = Vec::with_capacity(rt.alloc(), room as usize)?;
     file.take(MOST_READ).read_to_end(&mut bytes)?;
+    // proof: no clause of the reader says that it ends there.
+    bytes.truncate(MOST_READ as usize);
     Ok(bytes)
 }
 

@@ -9,5 +9,7 @@ pub mod Given
 pub mod KeptOff
 pub mod Mapped
 pub mod Overwritten
+pub mod Rows
 pub mod Spreads
 pub mod Standing
+pub mod Taken

@@ -21,6 +21,6 @@ IsApart g (Number n) = Unit {0}
 IsApart g (Own v) = let places = (broadcast_view v.now g.shape).places in (places ≡ g.places) ⊎ All (IsOutside g (item_size v.now.element)) places
 IsApart g (Other v bytes) = Unit {0}
 
--- THE OPERATORS IN PLACE THAT TAKE NO MEMORY
+-- THE OPERATORS IN PLACE THAT NEED NO MEMORY
 abbrev pub IsDirect : (target : Geo) → RightSide → Type 0
 IsDirect g right = IsGapless g × IsApart g right

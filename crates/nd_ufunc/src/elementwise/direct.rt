@@ -1,10 +1,11 @@
 //! `Direct`: an operator in place that writes results as they are worked out, without a temporary
 //! array.
-ghost use Rattle.std.specs.Prelude.{◌≡◌, ℕ, List, Ok, length, slice_index, IfSome, IsSome};
+ghost use Rattle.std.specs.Prelude.{◌≡◌, ◌≢◌, ℕ, List, None, Ok, length, slice_index, IfSome, IsSome};
 ghost use Rattle.nd_model.specs.Making.Augmenting as augmenting;
 ghost use Rattle.nd_model.specs.Arrays.Element.{size_of};
 ghost use Rattle.nd_model.specs.Arrays.Tuple.{elements_of};
-ghost use Rattle.nd_model.specs.Arrays.View.{item_size};
+ghost use Rattle.nd_model.specs.Arrays.View.{One, item_size};
+ghost use Rattle.nd_model.specs.Making.Elementwise.{element_sort};
 ghost use Rattle.nd_model.specs.Making.Operators as operators;
 ghost use Rattle.nd_model.specs.Cells.Sound.{LiesIn};
 ghost use Rattle.nd_syntax.specs.Trees.Syntax.{binary_op};
@@ -135,6 +136,30 @@ pub(crate) fn buffer_places(alloc: Global, kind: Kind) -> Option<Run>
     }
 }
 
+// The dtype of a target that may be written while operands are read, or `None` where a temporary
+// array is needed.
+fn direct_elem(target: &View, beside: &Beside<'_>) -> Option<Elem>
+    requires number { element_sort target.now.element ≢ None }
+    requires fixed { IsFixedHeld beside.now }
+    ensures elem { IfSome result (λ elem. target.now.element ≡ One elem) }
+    ensures gapless { IsSome result → IsGapless target.now }
+    ensures off { IsSome result → KeepsOffTarget beside.now (slice_index target.now.places 0)
+        (item_size target.now.element) }
+    ensures direct { IsGapless target.now → KeepsOffTarget beside.now
+        (slice_index target.now.places 0) (item_size target.now.element) → IsSome result }
+{
+    let ElemType::One(elem) = target.elem() else {
+        return None;
+    };
+    if !is_gapless(target, elem.size()) {
+        return None;
+    }
+    if !beside.keeps_off(target.offset(), elem.size()) {
+        return None;
+    }
+    Some(*elem)
+}
+
 /// Returns an operator in place that writes results as they are worked out, or `None` where a
 /// temporary array is needed. The target must be contiguous, and no operand may be overwritten
 /// before it is read. It takes no memory.
@@ -166,22 +191,16 @@ pub(crate) fn make_direct<'v>(
     ensures direct { IsGapless target.now → KeepsOffTarget beside.entry
         (slice_index target.now.places 0) (item_size target.now.element) → IsSome result }
 {
-    let ElemType::One(elem) = target.elem() else {
+    let Some(elem) = direct_elem(target, &beside) else {
         return None;
     };
-    if !is_gapless(target, elem.size()) {
-        return None;
-    }
-    if !beside.keeps_off(target.offset(), elem.size()) {
-        return None;
-    }
     Some(Direct {
         op,
         kind,
         target,
         right,
         len: block.len(),
-        elem: *elem,
+        elem,
         beside,
         places,
     })

@@ -1,6 +1,6 @@
-//! `Spread`: the byte offsets of a view's elements in a greater shape, found one by one. It takes no
-//! memory, whatever the number of axes.
-ghost use Rattle.std.specs.Prelude.{◌≡◌, ◌+◌, ◌*◌, ◌%◌, ◌^◌, ◌<◌, ◌≤◌, ◌∷◌, ◌++◌, length, take, true};
+//! `Spread`: the byte offsets of a view's elements in a greater shape, found row by row. It takes
+//! no memory, whatever the number of axes.
+ghost use Rattle.std.specs.Prelude.{◌≡◌, ◌≢◌, ◌+◌, ◌-◌, ◌*◌, ◌%◌, ◌^◌, ◌<◌, ◌≤◌, ◌∷◌, ◌++◌, length, take, drop, slice_index, true};
 ghost use Rattle.nd_model.specs.Arrays.Broadcast.{broadcast_view, broadcasts_to, can_stretch, last_axes};
 ghost use Rattle.nd_model.specs.Arrays.Element.{size_of};
 ghost use Rattle.nd_model.specs.Arrays.Tuple.{elements_of};
@@ -9,6 +9,7 @@ ghost use Rattle.nd_types.specs.Kinds.{kind_of};
 ghost use Rattle.nd_convert.specs.Conversion.Converted.{converted_bytes};
 ghost use Rattle.nd_element.specs.Elements.{AreHeld, numbers_at};
 ghost use Rattle.nd_ufunc.specs.Elementwise.Spread as spreads;
+ghost use Rattle.nd_ufunc.specs.Elementwise.Spread.{AreRows};
 ghost use Rattle.nd_ufunc.specs.Loops.Sides.{HasNumbers, Keeps, numbers_on};
 
 use crate::loops::{Side, numbers_are_valid};
@@ -23,8 +24,20 @@ use std::marker::Model;
 pub(crate) struct Spread<'v> {
     view: &'v View,
     shape: &'v [u64],
+    row: Row,
     // how many are taken
     at: u64,
+    // the byte offset that was taken last
+    place: u64,
+    // how many are left in its row
+    more: u64,
+}
+
+// The rows of a broadcast, which lie along its last axis whose length is not 1.
+#[derive(Clone, Copy)]
+struct Row {
+    length: u64,
+    stride: i128,
 }
 
 impl<'v> Model for Spread<'v> {
@@ -81,6 +94,69 @@ fn spread_number(own: &[u64], shape: &[u64], at: u64) -> u64
     aligned_number(own, behind, at % element_count(behind))
 }
 
+// The byte offset of the element that stands at flat index `at` of a greater shape.
+#[inline(never)]
+fn spread_place(view: &View, shape: &[u64], at: u64) -> u64
+    requires fits { broadcasts_to view.now.shape shape.now ≡ true }
+    requires inside { at < elements_of shape.now }
+    requires few { elements_of shape.now ≤ 2 ^ 24 }
+    ensures { result ≡ slice_index (broadcast_view view.now shape.now).places at }
+{
+    // proof: the number of elements is bounded, by the clause of count().
+    let _count = view.count();
+    view.place_of(spread_number(view.shape(), shape, at))
+}
+
+// The number of axes up to the last one whose length is not 1.
+fn row_axes(shape: &[u64]) -> usize
+    ensures within { result ≤ length shape.now }
+    ensures ones { elements_of (drop result shape.now) ≡ 1 }
+    ensures last { 0 < result → slice_index shape.now (result - 1) ≢ 1 }
+{
+    let mut axes = shape.len();
+    while axes > 0 && shape[axes - 1] == 1 {
+        axes -= 1;
+    }
+    axes
+}
+
+// A view's stride along an axis of a greater shape: 0 where its own axis has length 1 or is
+// missing.
+fn broadcast_stride(own: &[u64], strides: &[i128], lacking: usize, axis: usize) -> i128
+    requires axes { length strides.now ≡ length own.now }
+    requires inside { axis < lacking + length own.now }
+    ensures { result ≡ spreads.broadcast_stride own.now strides.now lacking axis }
+{
+    if axis < lacking || own[axis - lacking] == 1 {
+        0
+    } else {
+        strides[axis - lacking]
+    }
+}
+
+// The rows of a view, broadcast to a shape.
+fn row_of(view: &View, shape: &[u64]) -> Row
+    requires fits { broadcasts_to view.now.shape shape.now ≡ true }
+    ensures rows { AreRows (broadcast_view view.now shape.now).places result.length result.stride }
+    ensures some { 0 < elements_of shape.now → 0 < result.length }
+{
+    // proof: an element has bytes, by the clause of size().
+    let _size = view.elem().size();
+    let strides = view.held_strides();
+    let axes = row_axes(shape);
+    if axes == 0 {
+        return Row {
+            length: 1,
+            stride: 0,
+        };
+    }
+    let own = view.shape();
+    Row {
+        length: shape[axes - 1],
+        stride: broadcast_stride(own, strides, shape.len() - own.len(), axes - 1),
+    }
+}
+
 impl<'v> Spread<'v> {
     /// Begins with all elements of a view, broadcast to a shape.
     pub(crate) fn new(view: &'v View, shape: &'v [u64]) -> Spread<'v>
@@ -88,19 +164,31 @@ impl<'v> Spread<'v> {
         requires few { elements_of shape.now ≤ 2 ^ 24 }
         ensures { result ≡ (broadcast_view view.now shape.now).places }
     {
-        Spread { view, shape, at: 0 }
+        Spread {
+            view,
+            shape,
+            row: row_of(view, shape),
+            at: 0,
+            place: 0,
+            more: 0,
+        }
     }
 
     /// Takes the next byte offset.
+    #[inline(always)]
     pub(crate) fn next(&mut self) -> u64
         requires { 0 < length self.old }
         ensures { self.old ≡ result ∷ self.new }
     {
-        // proof: the number of elements is bounded, by the clause of count().
-        let _count = self.view.count();
-        let number = spread_number(self.view.shape(), self.shape, self.at);
+        if self.more == 0 {
+            self.place = spread_place(self.view, self.shape, self.at);
+            self.more = self.row.length - self.at % self.row.length;
+        } else {
+            self.place = (i128::from(self.place) + self.row.stride) as u64;
+        }
         self.at += 1;
-        self.view.place_of(number)
+        self.more -= 1;
+        self.place
     }
 }
 

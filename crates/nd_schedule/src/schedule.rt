@@ -1,6 +1,7 @@
 //! The scheduler of a notebook, over what runs cells.
 mod draft;
 mod ending;
+mod gathering;
 mod matching;
 mod merging;
 mod moving;
@@ -12,6 +13,7 @@ mod replacing;
 mod runner;
 mod shifting;
 mod snapshots;
+mod stopping;
 mod sweep;
 mod trying;
 

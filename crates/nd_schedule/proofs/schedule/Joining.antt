@@ -9,7 +9,7 @@ use Rattle.nd_model.specs.Cells.Running.{Key, World}
 use Rattle.nd_model.specs.Book.Records.{Record}
 use Rattle.nd_model.specs.Book.Renaming.{AreDistinct}
 use Rattle.nd_model.specs.Book.Book.{Book, Cell, no_cell, labels_of}
-use Rattle.nd_model.specs.Book.Entries.{entries_of, record_at, records_of}
+use Rattle.nd_model.specs.Book.Entries.{entries_of, record_at, records_of, session_before}
 use Rattle.nd_model.proofs.Entries.{get_or-records_of}
 use Rattle.nd_model.proofs.Lazy.{length-entries, same_front}
 use Rattle.nd_model.specs.Book.Sessions.{IsOnce}
@@ -17,7 +17,8 @@ use Rattle.nd_change.specs.Change.{Change, IsOver}
 use Rattle.nd_change.specs.Steps.{IsWordOf}
 use Rattle.nd_schedule.specs.Schedule.Merge.{AreMerged, IsFront, IsMerge, IsNext, IsPlaced}
 use Rattle.nd_schedule.specs.Schedule.Ran.{AreStaleIn}
-use Rattle.nd_schedule.specs.Schedule.Sweep.{IsAt, IsKept}
+use Rattle.nd_schedule.specs.Schedule.Snapshot.{IsBehind}
+use Rattle.nd_schedule.specs.Schedule.Sweep.{IsAt, IsKept, IsPlace}
 use Rattle.nd_schedule.proofs.schedule.Stretches.{stale_append, stale_front, stale_none, stale_one}
 use Rattle.nd_schedule.proofs.schedule.Sweeping.{alike_self}
 use Rattle.nd_schedule.proofs.schedule.Turning.{same_in_front}
@@ -28,6 +29,10 @@ nothing_behind (p ∷ ps) = ap (λ qs. p ∷ qs) (nothing_behind ps)
 
 pub length-records : (b : Book) → length (records_of b) ≡ length b.cells
 length-records b = length-map (entries_of b) (record_at b.world) ∙ length-entries b.cells b.world no_session
+
+-- the places to which a merge has come
+pub place_of : (old new : Book) (cs ds : List Cell) (rs : List Record) (given : World) → IsMerge old new cs ds rs given → (i j : ℕ) → i ≤ length cs → j ≤ length ds → IsPlace old new i j
+place_of old new cs ds rs given merge i j le le' = record { before = omega (arith, le, ap length merge.cells); now = omega (arith, le', ap length merge.now); distinct = merge.distinct }
 
 -- the cell that comes next in a merge
 pub next_of : (old new : Book) (cs ds : List Cell) (rs : List Record) (given : World) → IsMerge old new cs ds rs given → (i j : ℕ) → i ≤ length cs → j < length ds → (c : Cell) → c ≡ get_or ds j no_cell → IsNext old new i j rs c given
@@ -119,6 +124,13 @@ begins_over old new e h over empty = record {
   over = over no_session;
   hand = record { behind = omega arith; enough = omega arith; session = alike_self h no_session empty; once = subst (λ u. IsOnce u.names) (sym empty) tt; kept = λ n lt. absurd (omega arith) };
 }
+
+-- any edit is one behind no cell
+pub behind_any : (old new : Book) → AreDistinct (labels_of old.cells) → AreDistinct (labels_of new.cells) → IsBehind old new 0
+behind_any old new before distinct = record { same = (refl, first); within = omega arith; before = before; distinct = distinct }
+  where
+    first : (k : ℕ) → k ≤ 0 → session_before old k ≡ session_before new k
+    first k le = let e : k ≡ 0 = omega arith in ap (session_before old) e ∙ sym (ap (session_before new) e)
 
 -- what is kept of all cells, once a merge came to its end
 pub kept_merged : {W : Type 0} (covers : W → Key → Bool) (old new : Book) (rs : List Record) (ws : List W) (ran : List ℕ) → AreDistinct (labels_of new.cells) → AreMerged covers old new (length new.cells) rs ws ran → IsKept covers new rs ws

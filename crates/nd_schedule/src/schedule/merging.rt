@@ -1,22 +1,20 @@
-//! `merge`: carries a change over the cells of a notebook, and puts those of a draft in their places one by one.
+//! `merge_cell`: carries a change over the cells of a notebook up to one of a draft, and puts that one in its place.
 
 ghost use Rattle.std.specs.Prelude.{◌≡◌, ◌<◌, ◌≤◌, ◌+◌, ℕ, IfOk, IfSome, MatchOption, OnOk, length};
-ghost use Rattle.std.specs.Result.{IsOk};
 ghost use Rattle.nd_model.specs.Book.Book.{Book};
 ghost use Rattle.nd_model.specs.Book.Entries.{entry_at, record_at};
-ghost use Rattle.nd_model.specs.Book.Stale.{CountsStale, IsStale};
-ghost use Rattle.nd_model.specs.Book.Notebook.{book_of, world_in};
+ghost use Rattle.nd_model.specs.Book.Stale.{IsStale};
+ghost use Rattle.nd_model.specs.Book.Notebook.{world_in};
 ghost use Rattle.nd_change.specs.Steps.{IsWordOf, IsWordOfChange};
-ghost use Rattle.nd_schedule.specs.Cells.Source.{cell_of, cells_of, sheet};
+ghost use Rattle.nd_schedule.specs.Cells.Source.{cell_of, cells_of};
 ghost use Rattle.nd_schedule.specs.Cells.Shared.{each_of};
-ghost use Rattle.nd_schedule.specs.Schedule.Merge.{AreMerged, IsFront, IsMerge, IsNext, IsPlaced};
+ghost use Rattle.nd_schedule.specs.Schedule.Merge.{AreMerged, IsFront, IsNext, IsPlaced};
 ghost use Rattle.nd_schedule.specs.Schedule.Sweep.{AreWords, CountsFront, IsAt, IsPlace, IsRun};
 
 use crate::cells::KeptCell;
-use crate::schedule::draft::{Draft, Hint};
+use crate::schedule::draft::Hint;
 use crate::schedule::matching::{Way, find_way};
 use crate::schedule::moving::{enter, leave};
-use crate::schedule::notebook::Schedule;
 use crate::schedule::runner::CellRunner;
 use crate::schedule::sweep::{New, SweepState, catch_up, run_cell, run_new};
 use nd_meter::Meter;
@@ -25,11 +23,11 @@ use std::rc::Rc;
 
 /// The record of a cell in its new place, with its word, whether the cell ran, and the place behind the last cell gone past.
 #[derive(Drop)]
-struct Placed<C: CellRunner> {
-    record: Rc<C::Record>,
-    word: C::Word,
-    is_run: bool,
-    behind: usize,
+pub(crate) struct Placed<C: CellRunner> {
+    pub(crate) record: Rc<C::Record>,
+    pub(crate) word: C::Word,
+    pub(crate) is_run: bool,
+    pub(crate) behind: usize,
 }
 
 /// The records of the first cells of a draft, with their words, and the places of those that ran.
@@ -435,7 +433,7 @@ fn come_to_new<C: CellRunner>(
 }
 
 /// Comes to one cell of a draft, and leaves those before it that are gone past. Its record is kept, or it is run.
-fn merge_cell<C: CellRunner>(
+pub(crate) fn merge_cell<C: CellRunner>(
     alloc: Global,
     meter: &mut Meter,
     cells: &[Rc<KeptCell>],
@@ -496,7 +494,7 @@ fn merge_cell<C: CellRunner>(
 }
 
 /// Puts what a cell has behind that of the cells in front of it.
-fn put_behind<C: CellRunner>(
+pub(crate) fn put_behind<C: CellRunner>(
     merged: &mut Merged<C>,
     placed: Placed<C>,
     now: usize,
@@ -552,7 +550,7 @@ fn copy_front<C: CellRunner>(
 }
 
 /// What the first cells have, as they have it in the notebook before. There is room for the others.
-fn copied<C: CellRunner>(
+pub(crate) fn copied<C: CellRunner>(
     alloc: Global,
     records: &[Rc<C::Record>],
     count: usize,
@@ -567,113 +565,4 @@ fn copied<C: CellRunner>(
     let mut merged = with_room::<C>(alloc, room)?;
     copy_front::<C>(records, count, &mut merged)?;
     Ok(merged)
-}
-
-/// Comes to all cells of a draft from a place on.
-fn merge_from<C: CellRunner>(
-    alloc: Global,
-    meter: &mut Meter,
-    cells: &[Rc<KeptCell>],
-    records: &[Rc<C::Record>],
-    words: &[C::Word],
-    drafted: &[Rc<KeptCell>],
-    hints: &[Hint],
-    world: &C::World,
-    from: usize,
-    state: &mut SweepState<C>,
-    merged: &mut Merged<C>,
-) -> Result<(), AllocError>
-    requires cells { length cells.now ≤ length records.now }
-    requires places { length cells.now ≤ length words.now }
-    requires hints { length hints.now ≡ length drafted.now }
-    requires within { from ≤ length cells.now }
-    requires there { from ≤ length drafted.now }
-    requires at { (old : Book) × (new : Book)
-        × IsMerge old new (cells_of cells.now) (cells_of drafted.now)
-        (each_of C.recorded records.now) (world_in (C.given world.now))
-        × IsAt old new from from (C.change_of state.old.change) (C.session_of state.old.session)
-        state.old.since }
-    requires words { AreWords C.covers words.now (each_of C.recorded records.now) }
-    requires covered { IsWordOfChange C.covers state.old.word (C.change_of state.old.change) }
-    ensures merged { OnOk result ((old new : Book)
-        → IsMerge old new (cells_of cells.now) (cells_of drafted.now)
-        (each_of C.recorded records.now) (world_in (C.given world.now))
-        → IsAt old new from from (C.change_of state.old.change) (C.session_of state.old.session)
-        state.old.since
-        → AreMerged C.covers old new from (each_of C.recorded merged.old.records.items)
-        merged.old.words.items merged.old.ran.items
-        → AreMerged C.covers old new (length new.cells)
-        (each_of C.recorded merged.new.records.items)
-        merged.new.words.items merged.new.ran.items) }
-    ensures counts { (old new : Book) (before : ℕ)
-        → IsMerge old new (cells_of cells.now) (cells_of drafted.now)
-        (each_of C.recorded records.now) (world_in (C.given world.now))
-        → IsAt old new from from (C.change_of state.old.change) (C.session_of state.old.session)
-        state.old.since
-        → CountsFront old new from before meter.old → CountsStale old new before meter.new }
-{
-    let mut i = from;
-    for j in from..drafted.len() {
-        let (cell, hint) = (&drafted[j], hints[j]);
-        let placed = merge_cell::<C>(
-            alloc, meter, cells, records, words, cell, hint, world, i, j, state,
-        )?;
-        i = placed.behind;
-        put_behind::<C>(merged, placed, j)?;
-    }
-    Ok(())
-}
-
-/// What a merge gathered, where it came to its end. The rest of its state is dropped.
-fn gathered<C: CellRunner>(
-    done: Result<(), AllocError>,
-    state: SweepState<C>,
-    merged: Merged<C>,
-) -> Result<Merged<C>, AllocError>
-    ensures { IfOk result (λ m. IsOk done × (m.records.items ≡ merged.records.items)
-        × (m.words.items ≡ merged.words.items) × (m.ran.items ≡ merged.ran.items)) }
-{
-    drop(state);
-    done?;
-    Ok(merged)
-}
-
-impl<C: CellRunner> Schedule<C> {
-    /// Comes to the cells of a draft from a place on, where those in front are as before, and gives what all have.
-    pub(crate) fn merge(
-        &self,
-        meter: &mut Meter,
-        draft: &Draft,
-        world: &C::World,
-        from: usize,
-        mut state: SweepState<C>,
-    ) -> Result<Merged<C>, AllocError>
-        requires within { from ≤ length self.now.cells }
-        requires front { IsFront (book_of self.now)
-            (book_of (sheet draft.now (C.given world.now))) from }
-        requires at { IsAt (book_of self.now) (book_of (sheet draft.now (C.given world.now)))
-            from from (C.change_of state.change) (C.session_of state.session) state.since }
-        requires covered { IsWordOfChange C.covers state.word (C.change_of state.change) }
-        ensures merged { IfOk result (λ m. AreMerged C.covers (book_of self.now)
-            (book_of (sheet draft.now (C.given world.now))) (length draft.now)
-            (each_of C.recorded m.records.items) m.words.items m.ran.items) }
-        ensures counts { CountsStale (book_of self.now)
-            (book_of (sheet draft.now (C.given world.now))) meter.old meter.new }
-    {
-        let mut merged = copied::<C>(self.alloc, &self.records, from, draft.cells.len())?;
-        let done = merge_from::<C>(
-            self.alloc,
-            meter,
-            &self.cells,
-            &self.records,
-            &self.words,
-            &draft.cells,
-            &draft.hints,
-            world,
-            from,
-            &mut state,
-            &mut merged,
-        );
-        gathered::<C>(done, state, merged)
-    }
 }

@@ -8,12 +8,14 @@ ghost use Rattle.nd_schedule.specs.Cells.Source.{sheet};
 ghost use Rattle.nd_schedule.specs.Cells.Shared.{each_of};
 ghost use Rattle.nd_schedule.specs.Schedule.Merge.{AreMerged};
 ghost use Rattle.nd_schedule.specs.Schedule.Ran.{AreStale};
-ghost use Rattle.nd_schedule.specs.Schedule.Snapshot.{IsSnapshot};
+ghost use Rattle.nd_schedule.specs.Schedule.Snapshot.{IsNoted, IsSnapshot};
 
 use crate::schedule::draft::Draft;
+use crate::schedule::gathering::Outcome;
 use crate::schedule::matching::first_other;
 use crate::schedule::merging::Merged;
 use crate::schedule::notebook::{Front, Schedule};
+use crate::schedule::noting::Noted;
 use crate::schedule::ran::Shift;
 use crate::schedule::runner::CellRunner;
 use crate::schedule::snapshots::{Snapshot, carry};
@@ -21,10 +23,11 @@ use crate::schedule::sweep::SweepState;
 use nd_meter::Meter;
 use std::alloc::AllocError;
 
-/// What the cells of a draft have, and the snapshots that were made on the way to the first that is another.
+/// What the cells of a draft have, what was noted, and the snapshots that were made on the way to the first that is another.
 #[derive(Drop)]
 struct Replaced<C: CellRunner> {
     merged: Merged<C>,
+    noted: Vec<Noted<C>>,
     fresh: Vec<Snapshot<C>>,
 }
 
@@ -42,6 +45,9 @@ impl<C: CellRunner> Schedule<C> {
         ensures merged { IfOk result (λ r. AreMerged C.covers (book_of self.now)
             (book_of (sheet draft.now self.now.given)) (length draft.now)
             (each_of C.recorded r.merged.records.items) r.merged.words.items r.merged.ran.items) }
+        ensures noted { IfOk result (λ r. All (λ n. IsNoted C.change_of C.kept_session
+            (book_of self.now) (book_of (sheet draft.now self.now.given))
+            n.place n.now n.memo) r.noted.items) }
         ensures fresh { IfOk result (λ r. All (λ s. IsSnapshot (book_of self.now) s.place
             (C.kept_session s.version) (map C.change_of s.pending.items)) r.fresh.items) }
         ensures counts { CountsStale (book_of self.now) (book_of (sheet draft.now self.now.given))
@@ -49,8 +55,12 @@ impl<C: CellRunner> Schedule<C> {
     {
         let Front { session, fresh } = self.front_before(front)?;
         let state = self.begin(front, session);
-        let merged = self.merge(meter, draft, &self.world, front, state)?;
-        Ok(Replaced { merged, fresh })
+        let Outcome { merged, noted } = self.merge(meter, draft, &self.world, front, state)?;
+        Ok(Replaced {
+            merged,
+            noted,
+            fresh,
+        })
     }
 
     /// Takes the cells of a draft in the place of the present ones, and returns the places of the cells that ran. It is refused for want
@@ -71,8 +81,11 @@ impl<C: CellRunner> Schedule<C> {
         if front == self.cells.len() && front == draft.cells.len() {
             return Ok(Vec::new(self.alloc));
         }
-        let Replaced { merged, fresh } = self.merged_behind(meter, &draft, front)?;
-        let noted = Vec::new(self.alloc);
+        let Replaced {
+            merged,
+            noted,
+            fresh,
+        } = self.merged_behind(meter, &draft, front)?;
         self.cells = draft.cells;
         self.least = draft.least;
         self.records = merged.records;
@@ -87,10 +100,13 @@ impl<C: CellRunner> Schedule<C> {
         meter: &mut Meter,
         draft: &Draft,
         world: &C::World,
-    ) -> Result<Merged<C>, AllocError>
+    ) -> Result<Outcome<C>, AllocError>
         ensures merged { IfOk result (λ m. AreMerged C.covers (book_of self.now)
             (book_of (sheet draft.now (C.given world.now))) (length draft.now)
-            (each_of C.recorded m.records.items) m.words.items m.ran.items) }
+            (each_of C.recorded m.merged.records.items) m.merged.words.items m.merged.ran.items) }
+        ensures noted { IfOk result (λ m. All (λ n. IsNoted C.change_of C.kept_session
+            (book_of self.now) (book_of (sheet draft.now (C.given world.now)))
+            n.place n.now n.memo) m.noted.items) }
         ensures counts { CountsStale (book_of self.now)
             (book_of (sheet draft.now (C.given world.now))) meter.old meter.new }
     {
@@ -123,13 +139,14 @@ impl<C: CellRunner> Schedule<C> {
         ensures ran { IfOk result (λ v. AreStale (book_of self.old)
             (book_of (sheet draft (C.given world))) v.items) }
     {
-        let merged = self.merged_over(meter, &draft, &world)?;
+        let Outcome { merged, noted } = self.merged_over(meter, &draft, &world)?;
         self.cells = draft.cells;
         self.least = draft.least;
         self.world = world;
         self.records = merged.records;
         self.words = merged.words;
-        self.snapshots = Vec::new(self.alloc);
+        let fresh = Vec::new(self.alloc);
+        carry::<C>(self.alloc, &mut self.snapshots, fresh, noted, 0);
         Ok(merged.ran)
     }
 }

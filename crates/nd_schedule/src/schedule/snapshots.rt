@@ -191,7 +191,7 @@ pub(crate) fn replay_between<C: CellRunner>(
 }
 
 /// The index of the first snapshot that is behind a place.
-fn first_behind<C: CellRunner>(snapshots: &[Snapshot<C>], place: usize) -> usize
+pub(crate) fn first_behind<C: CellRunner>(snapshots: &[Snapshot<C>], place: usize) -> usize
     ensures { result ≤ length snapshots.now }
 {
     match last_up_to::<C>(snapshots, place) {

@@ -314,7 +314,7 @@ fn sweep_between<C: CellRunner>(
 
 /// Whether one of some cells meets the change, and perhaps does not fit it, so that a session nearer to it is of use. None is looked at
 /// where the change has nothing left, or too much to be put over a session, and where the session at hand is near. No answer depends on it.
-fn may_run<C: CellRunner>(
+pub(crate) fn may_run<C: CellRunner>(
     records: &[Rc<C::Record>],
     words: &[C::Word],
     from: usize,
@@ -371,7 +371,7 @@ fn is_session_due<C: CellRunner>(
 
 /// Takes a snapshot with the change put over it as the session at hand, where that is nearer. Where it cannot be patched, and for want of
 /// memory, the session at hand stays.
-fn take_nearer<C: CellRunner>(
+pub(crate) fn take_nearer<C: CellRunner>(
     alloc: Global,
     snapshot: &Snapshot<C>,
     is_due: bool,

@@ -1,4 +1,5 @@
 use Rattle.std.proofs.Common.{◌≡◌, length, sym, ap, subst}
+use Rattle.std.specs.List.{All}
 use Rattle.nd_model.specs.Book.Book.{Book}
 use Rattle.nd_model.specs.Book.Notebook.{Setting, Sheet, book_of, world_in}
 use Rattle.nd_model.specs.Book.Stale.{CountsStale}
@@ -6,6 +7,7 @@ use Rattle.nd_model.proofs.Lazy.{same_front}
 use Rattle.nd_schedule.specs.Cells.Source.{sheet}
 use Rattle.nd_schedule.specs.Cells.Shared.{each_of}
 use Rattle.nd_schedule.specs.Schedule.Merge.{AreMerged}
+use Rattle.nd_schedule.specs.Schedule.Snapshot.{IsNoted}
 use Rattle.nd_schedule.specs.Schedule.Sweep.{IsKept}
 use Rattle.nd_schedule.proofs.schedule.Joining.{front_is}
 use Rattle.nd_schedule.proofs.schedule.Sweeping.{counts_stale, none_yet}
@@ -65,4 +67,10 @@ returns-clause-merged g c =
     let old : Book = book_of c.args.self.now in
     let given : g.C.CellRunner.given c.self.inside.world ≡ c.args.self.now.given = ap (λ (s : Sheet). s.given) c.self.view_is in
     let new : Book = book_of (sheet c.args.draft.now (g.C.CellRunner.given c.self.inside.world)) in
-    subst (λ (i : Setting). AreMerged g.C.CellRunner.covers old (book_of (sheet c.args.draft.now i)) (length c.args.draft.now) (each_of g.C.CellRunner.recorded c.in_ok-merged.merged.records.items) c.in_ok-merged.merged.words.items c.in_ok-merged.merged.ran.items) given c.in_ok-merged.ensures.merged
+    subst (λ (i : Setting). AreMerged g.C.CellRunner.covers old (book_of (sheet c.args.draft.now i)) (length c.args.draft.now) (each_of g.C.CellRunner.recorded c.in_ok-merged.field-0.merged.records.items) c.in_ok-merged.field-0.merged.words.items c.in_ok-merged.field-0.merged.ran.items) given c.in_ok-merged.ensures.merged
+
+pub returns-clause-noted : goal.returns-clause-noted
+returns-clause-noted g c =
+    let old : Book = book_of c.args.self.now in
+    let given : g.C.CellRunner.given c.self.inside.world ≡ c.args.self.now.given = ap (λ (s : Sheet). s.given) c.self.view_is in
+    subst (λ (i : Setting). All (λ n. IsNoted g.C.CellRunner.change_of g.C.CellRunner.kept_session old (book_of (sheet c.args.draft.now i)) n.place n.now n.memo) c.in_ok-merged.field-0.noted.items) given c.in_ok-merged.ensures.noted

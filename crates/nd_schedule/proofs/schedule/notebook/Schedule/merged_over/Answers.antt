@@ -44,3 +44,6 @@ returns-clause-counts g c = c.merge.ensures.counts
 
 pub returns-clause-merged : goal.returns-clause-merged
 returns-clause-merged g c = c.merge.ensures.merged
+
+pub returns-clause-noted : goal.returns-clause-noted
+returns-clause-noted g c = c.merge.ensures.noted

@@ -8,12 +8,11 @@ use Rattle.nd_model.proofs.Lazy.{same_front}
 use Rattle.nd_schedule.specs.Cells.Source.{sheet, cell_of, cells_of}
 use Rattle.nd_schedule.specs.Cells.Shared.{each_of}
 use Rattle.nd_schedule.specs.Schedule.Ran.{AreStale}
-use Rattle.nd_schedule.specs.Schedule.Snapshot.{IsBehind, IsNoted, IsSnapshot}
+use Rattle.nd_schedule.specs.Schedule.Snapshot.{IsBehind, IsSnapshot}
 use Rattle.nd_schedule.specs.Schedule.Sweep.{IsKept}
 use Rattle.nd_schedule.proofs.schedule.Sweeping.{counts_stale, none_yet}
 use Rattle.nd_schedule.proofs.schedule.Joining.{kept_merged, same_whole}
 use Rattle.nd_schedule.proofs.schedule.Runs.{ran_nothing}
-use Rattle.nd_schedule.proofs.schedule.Standing.{All-none}
 use Rattle.nd_schedule.proofs.schedule.notebook.Schedule.replace_cells.Goals as goal
 
 pub invariant_of-self : goal.invariant_of-self
@@ -37,7 +36,7 @@ invariant_of-self g c =
       subst (λ (s : Sheet). IsKept g.C.CellRunner.covers (book_of s) (each_of g.C.CellRunner.recorded c.in_ok-merged.field-0.merged.records.items) c.in_ok-merged.field-0.merged.words.items) (sym shown)
           (kept_merged g.C.CellRunner.covers old new _ _ _ distinct c.in_ok-merged.ensures.merged),
       subst (λ (s : Sheet). All (λ x. IsSnapshot (book_of s) x.place (g.C.CellRunner.kept_session x.version) (map g.C.CellRunner.change_of x.pending.items)) c.carry.new.snapshots.items) (sym shown)
-          (c.carry.ensures old new behind (All-none (λ n. IsNoted g.C.CellRunner.change_of g.C.CellRunner.kept_session old new n.place n.now n.memo) c.new-noted.result.items c.new-noted.ensures.items) c.in_ok-merged.ensures.fresh kept),
+          (c.carry.ensures old new behind c.in_ok-merged.ensures.noted c.in_ok-merged.ensures.fresh kept),
       (c.draft.invariant).2,
     )
 

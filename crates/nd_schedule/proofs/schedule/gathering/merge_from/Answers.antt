@@ -1,16 +1,17 @@
-use Rattle.std.proofs.Common.{◌≡◌, ◌+◌, length, ap, subst, arith}
+use Rattle.std.proofs.Common.{◌≡◌, ◌+◌, length, sym, ap, subst, arith}
 use Rattle.std.proofs.lemmas.List.{length-map}
 use Rattle.nd_model.specs.Book.Book.{Book}
+use Rattle.nd_change.specs.Steps.{IsWordOfChange}
 use Rattle.nd_schedule.specs.Cells.Source.{cell_of, cells_of}
 use Rattle.nd_schedule.specs.Cells.Shared.{each_of}
 use Rattle.nd_schedule.specs.Schedule.Merge.{AreMerged}
-use Rattle.nd_schedule.proofs.schedule.Joining.{next_of}
+use Rattle.nd_schedule.proofs.schedule.Joining.{next_of, place_of}
 use Rattle.nd_schedule.proofs.schedule.Sweeping.{counts_stale}
 use Rattle.nd_schedule.proofs.schedule.Visiting.{cell_there}
-use Rattle.nd_schedule.proofs.schedule.merging.merge_from.Goals as goal
+use Rattle.nd_schedule.proofs.schedule.gathering.merge_from.Goals as goal
 
 pub loop-j-init : goal.loop-j-init
-loop-j-init g c = record { within = c.requires.within; at = λ old new merge at. at; covered = c.requires.covered; merged = λ old new merge at all. all; counts = λ old new before merge at so_far. so_far }
+loop-j-init g c = record { within = c.requires.within; next = c.first_behind-next.ensures; at = λ old new merge at. at; covered = c.requires.covered; merged = λ old new merge at all. all; noted = λ old new merge at all. all; counts = λ old new before merge at so_far. so_far }
 
 pub merge_cell-requires-clause-at : goal.merge_cell-requires-clause-at
 merge_cell-requires-clause-at g c =
@@ -33,6 +34,12 @@ merge_cell-requires-clause-covered g c = c.loop-j.invariant.covered
 pub merge_cell-requires-clause-words : goal.merge_cell-requires-clause-words
 merge_cell-requires-clause-words g c = c.requires.words
 
+pub merge_cell-requires-clause-cells : goal.merge_cell-requires-clause-cells
+merge_cell-requires-clause-cells g c = c.requires.cells
+
+pub merge_cell-requires-clause-places : goal.merge_cell-requires-clause-places
+merge_cell-requires-clause-places g c = c.requires.places
+
 pub returns-in_err-placed-clause-counts : goal.returns-in_err-placed-clause-counts
 returns-in_err-placed-clause-counts g c = λ old new before merge at so_far.
     counts_stale old new (c.loop-j.j + 1) before _ (c.merge_cell.ensures.counts old new before (next_of old new (cells_of c.args.cells.now) (cells_of c.args.drafted.now) _ _ merge c.loop-j.i c.loop-j.j (omega (arith, c.loop-j.invariant.within, length-map c.args.cells.now (λ s. cell_of s.value))) (omega (arith, c.loop-j-test.true, length-map c.args.drafted.now (λ s. cell_of s.value))) (cell_of c.deref.result.now)
@@ -43,15 +50,38 @@ returns-in_err-put_behind-clause-counts g c = λ old new before merge at so_far.
     counts_stale old new (c.loop-j.j + 1) before _ (c.merge_cell.ensures.counts old new before (next_of old new (cells_of c.args.cells.now) (cells_of c.args.drafted.now) _ _ merge c.loop-j.i c.loop-j.j (omega (arith, c.loop-j.invariant.within, length-map c.args.cells.now (λ s. cell_of s.value))) (omega (arith, c.loop-j-test.true, length-map c.args.drafted.now (λ s. cell_of s.value))) (cell_of c.deref.result.now)
     (cell_there c.args.drafted.now c.loop-j.j c.index-drafted-j.result c.deref.result.now (omega (arith, c.loop-j-test.true)) c.index-drafted-j.is c.deref.ensures)) merge.cells (c.loop-j.invariant.at old new merge at) (c.loop-j.invariant.counts old new before merge at so_far))
 
+pub stop_at-next-requires-clause-cells : goal.stop_at-next-requires-clause-cells
+stop_at-next-requires-clause-cells g c = c.requires.cells
+
+pub stop_at-next-requires-clause-places : goal.stop_at-next-requires-clause-places
+stop_at-next-requires-clause-places g c = c.requires.places
+
+pub stop_at-next-requires-clause-hints : goal.stop_at-next-requires-clause-hints
+stop_at-next-requires-clause-hints g c = c.requires.hints
+
+pub stop_at-next-requires-clause-next : goal.stop_at-next-requires-clause-next
+stop_at-next-requires-clause-next g c = c.loop-j.invariant.next
+
+pub stop_at-next-requires-clause-within : goal.stop_at-next-requires-clause-within
+stop_at-next-requires-clause-within g c = c.in_ok-placed.ensures.behind
+
+pub stop_at-next-requires-clause-there : goal.stop_at-next-requires-clause-there
+stop_at-next-requires-clause-there g c = omega (arith, c.loop-j-test.true)
+
 pub loop-j-preserved : goal.loop-j-preserved
 loop-j-preserved g c = record {
   within = c.in_ok-placed.ensures.behind;
-  at = λ old new merge at. c.in_ok-placed.ensures.at old new (next_of old new (cells_of c.args.cells.now) (cells_of c.args.drafted.now) _ _ merge c.loop-j.i c.loop-j.j (omega (arith, c.loop-j.invariant.within, length-map c.args.cells.now (λ s. cell_of s.value))) (omega (arith, c.loop-j-test.true, length-map c.args.drafted.now (λ s. cell_of s.value))) (cell_of c.deref.result.now)
-      (cell_there c.args.drafted.now c.loop-j.j c.index-drafted-j.result c.deref.result.now (omega (arith, c.loop-j-test.true)) c.index-drafted-j.is c.deref.ensures)) merge.cells (c.loop-j.invariant.at old new merge at);
-  covered = c.in_ok-placed.ensures.covered;
+  next = c.stop_at-next.ensures.next;
+  at = λ old new merge at. c.stop_at-next.ensures.at old new (place_of old new (cells_of c.args.cells.now) (cells_of c.args.drafted.now) _ _ merge _ (c.loop-j.j + 1) (omega (arith, c.in_ok-placed.ensures.behind, length-map c.args.cells.now (λ s. cell_of s.value))) (omega (arith, c.loop-j-test.true, length-map c.args.drafted.now (λ s. cell_of s.value)))) (c.requires.kept old merge.run) (c.in_ok-placed.ensures.at old new (next_of old new (cells_of c.args.cells.now) (cells_of c.args.drafted.now) _ _ merge c.loop-j.i c.loop-j.j (omega (arith, c.loop-j.invariant.within, length-map c.args.cells.now (λ s. cell_of s.value))) (omega (arith, c.loop-j-test.true, length-map c.args.drafted.now (λ s. cell_of s.value))) (cell_of c.deref.result.now)
+      (cell_there c.args.drafted.now c.loop-j.j c.index-drafted-j.result c.deref.result.now (omega (arith, c.loop-j-test.true)) c.index-drafted-j.is c.deref.ensures)) merge.cells (c.loop-j.invariant.at old new merge at));
+  covered =
+      subst (λ w. IsWordOfChange g.C.CellRunner.covers w (g.C.CellRunner.change_of c.stop_at-next.new.state.change)) (sym c.stop_at-next.ensures.word)
+      (subst (λ d. IsWordOfChange g.C.CellRunner.covers c.merge_cell.new.state.word (g.C.CellRunner.change_of d)) (sym c.stop_at-next.ensures.change) c.in_ok-placed.ensures.covered);
   merged = λ old new merge at all.
       c.in_ok-put_behind.ensures old new (omega (arith, c.loop-j-test.true, length-map c.args.drafted.now (λ s. cell_of s.value), ap length merge.now)) (c.in_ok-placed.ensures.placed old new (next_of old new (cells_of c.args.cells.now) (cells_of c.args.drafted.now) _ _ merge c.loop-j.i c.loop-j.j (omega (arith, c.loop-j.invariant.within, length-map c.args.cells.now (λ s. cell_of s.value))) (omega (arith, c.loop-j-test.true, length-map c.args.drafted.now (λ s. cell_of s.value))) (cell_of c.deref.result.now)
       (cell_there c.args.drafted.now c.loop-j.j c.index-drafted-j.result c.deref.result.now (omega (arith, c.loop-j-test.true)) c.index-drafted-j.is c.deref.ensures)) merge.cells (c.loop-j.invariant.at old new merge at)) (c.loop-j.invariant.merged old new merge at all);
+  noted = λ old new merge at all. c.stop_at-next.ensures.noted old new (place_of old new (cells_of c.args.cells.now) (cells_of c.args.drafted.now) _ _ merge _ (c.loop-j.j + 1) (omega (arith, c.in_ok-placed.ensures.behind, length-map c.args.cells.now (λ s. cell_of s.value))) (omega (arith, c.loop-j-test.true, length-map c.args.drafted.now (λ s. cell_of s.value)))) (c.in_ok-placed.ensures.at old new (next_of old new (cells_of c.args.cells.now) (cells_of c.args.drafted.now) _ _ merge c.loop-j.i c.loop-j.j (omega (arith, c.loop-j.invariant.within, length-map c.args.cells.now (λ s. cell_of s.value))) (omega (arith, c.loop-j-test.true, length-map c.args.drafted.now (λ s. cell_of s.value))) (cell_of c.deref.result.now)
+      (cell_there c.args.drafted.now c.loop-j.j c.index-drafted-j.result c.deref.result.now (omega (arith, c.loop-j-test.true)) c.index-drafted-j.is c.deref.ensures)) merge.cells (c.loop-j.invariant.at old new merge at)) (c.loop-j.invariant.noted old new merge at all);
   counts = λ old new before merge at so_far. c.merge_cell.ensures.counts old new before (next_of old new (cells_of c.args.cells.now) (cells_of c.args.drafted.now) _ _ merge c.loop-j.i c.loop-j.j (omega (arith, c.loop-j.invariant.within, length-map c.args.cells.now (λ s. cell_of s.value))) (omega (arith, c.loop-j-test.true, length-map c.args.drafted.now (λ s. cell_of s.value))) (cell_of c.deref.result.now)
       (cell_there c.args.drafted.now c.loop-j.j c.index-drafted-j.result c.deref.result.now (omega (arith, c.loop-j-test.true)) c.index-drafted-j.is c.deref.ensures)) merge.cells (c.loop-j.invariant.at old new merge at) (c.loop-j.invariant.counts old new before merge at so_far);
 }
@@ -63,3 +93,6 @@ returns-clause-merged g c = λ old new merge at all.
 
 pub returns-clause-counts : goal.returns-clause-counts
 returns-clause-counts g c = λ old new before merge at so_far. counts_stale old new c.loop-j.j before _ (c.loop-j.invariant.counts old new before merge at so_far)
+
+pub returns-clause-noted : goal.returns-clause-noted
+returns-clause-noted g c = λ old new merge at all. c.loop-j.invariant.noted old new merge at all

@@ -29,6 +29,12 @@ def real_program() -> Optional[str]:
     return None
 
 
+def real_desk() -> Optional[str]:
+    """The program for front ends that is built here."""
+    path = str(TOP / 'crates/ndnote_desk/out/ndnote_desk')
+    return path if os.access(path, os.X_OK) else None
+
+
 def arrays(count: int) -> list[str]:
     """Cells of which none reads what another made."""
     return [f'v{k} = np.arange(4)' for k in range(count)]
@@ -145,6 +151,25 @@ class EditsBehindALargeChange(unittest.TestCase):
         for turn in range(self.TURNS):
             program.edit(0, f'v0 = np.arange(4) + {turn + 1}')
             times.append(program.edit(far, f'v{far} = v0 + {self.CELLS + turn}')[0])
+        self.assertLess(min(times), whole / 100)
+
+
+@unittest.skipUnless(real_desk(), 'no program: crates/ndnote_desk/out/ndnote_desk')
+class EditsBehindSeveral(unittest.TestCase):
+    """Processor times, each the least of some turns: two edits in front that are made as one, and then one far down."""
+
+    CELLS, TURNS = 2_000, 5
+
+    def test_snapshots_stay_behind_several_edits(self) -> None:
+        """Were they dropped, the edit far down would replay all records in front of it, a twenty-fifth of inserting all."""
+        program = Program(real_desk())
+        self.addCleanup(program.close)
+        whole = program.load(arrays(self.CELLS))
+        far, times = self.CELLS - 40, []
+        for turn in range(self.TURNS):
+            edits = ''.join(f'edit {at}\nv{at} = np.arange(4) + {turn + 1}\n.\n' for at in (3, 9))
+            self.assertEqual(program.command(f'begin\n{edits}end\n')[1], 'ok')
+            times.append(program.edit(far, f'v{far} = np.arange(4) + {turn + 1}')[0])
         self.assertLess(min(times), whole / 100)
 
 

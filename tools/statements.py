@@ -1,7 +1,7 @@
 """statements: the statements that `tools/bench statements` measures, in groups, and the arrays that they use.
 
-In a text, N is the number of elements, R the rows and C the columns of the table; d has N // 10 records. A statement in
-place works on a copy of its own.
+In a text, N is the number of elements, R the rows and C the columns of the table, P the rows and Q the columns of the
+picture, which has three channels; d has N // 10 records. A statement in place works on a copy of its own.
 """
 from __future__ import annotations
 
@@ -36,6 +36,7 @@ w = np.arange(3)
 d = np.zeros(N // 10, dtype=[('sensor', '<u2'), ('ok', np.bool_), ('pad', np.uint8), ('count', '<i4'), ('time', '<i8'), ('sum', '<i8')])
 d['sensor'] = np.arange(N // 10) % 50
 d['count'] = np.arange(N // 10)
+g = (np.arange(N // 3 * 3) % 251).astype('uint8').reshape(P, Q, 3)
 """
 
 GROUPS = {
@@ -213,6 +214,18 @@ d['count'].copy()
 d['ok'] & (d['count'] >= 0)
 d['time'] + 1
 """,
+    "pictures": """\
+g[:, :, 0] + 1
+g[::2] + 1
+g[::2, ::2] + 1
+g[1:-1, 1:-1] + 1
+g[1:-1, 1:-1, 0] + 1
+g[:, ::-1].copy()
+g[:, :, ::-1].copy()
+g[:-1] // 2 + g[1:] // 2
+g.sum(axis=2)
+g[g > 200]
+""",
     "new arrays": """\
 np.zeros(N, dtype='int64')
 np.ones(N, dtype='int64')
@@ -256,10 +269,13 @@ v.T[:] = t.T
 v[:] = t.T.reshape(R, C)
 v[:] = r
 q += e
+f[:, :, 0] = 0
+f[1:-1, 1:-1] += 1
+f[::2, ::2] = 255
 """,
 }
 # What a statement in place works on, by the letter that it begins with.
-COPIES = {"q": "q = x.copy()", "k": "k = a.copy()", "l": "l = i4.copy()", "v": "v = t.copy()"}
+COPIES = {"q": "q = x.copy()", "k": "k = a.copy()", "l": "l = i4.copy()", "v": "v = t.copy()", "f": "f = g.copy()"}
 # The statements that people write most.
 COMMON = (
     "x + x", "x + 1", "x * 3", "x < 100", "x == y", "x // 7", "x % 2 == 0", "x ** 2", "x[m]", "x[p]", "x.sum()",
@@ -306,12 +322,12 @@ def rows_of(size: int) -> int:
 
 
 def written(text: str, size: int) -> str:
-    """The text with numbers in place of N, R and C."""
-    rows = rows_of(size)
+    """The text with numbers in place of N, R, C, P and Q."""
+    rows, lines = rows_of(size), rows_of(size // 3)
     parts = {"N // 10": size // 10, "N // 3 * 3": size // 3 * 3, "N // 3": size // 3, "N // 2": size // 2}
     for old, new in parts.items():
         text = text.replace(old, str(new))
-    for old, new in (("N", size), ("R", rows), ("C", size // rows)):
+    for old, new in (("N", size), ("R", rows), ("C", size // rows), ("P", lines), ("Q", size // 3 // lines)):
         text = re.sub(rf"\b{old}\b", str(new), text)
     return text
 

@@ -383,7 +383,7 @@ class Bench(unittest.TestCase):
             for it in found:
                 text = statements.written(it.text, size)
                 compile(text if it.copy else "o = " + text, it.text, "exec")
-                self.assertNotRegex(text, r"\b[NRC]\b")
+                self.assertNotRegex(text, r"\b[NRCPQ]\b")
 
     def test_what_people_write_most_is_measured(self):
         self.assertEqual(len(set(statements.COMMON)), 20)

@@ -136,41 +136,34 @@ class Costs(unittest.TestCase):
         self.assertLess(many - fewer, 50 * SNAPSHOTS)
 
 
-@unittest.skipUnless(real_program(), 'no program: NDNOTE_PROGRAM, or crates/ndnote/out/ndnote')
-class EditsBehindALargeChange(unittest.TestCase):
-    """Processor times, each the least of some turns: an edit that all cells read, and then one of a cell far down."""
+class FarEdits(unittest.TestCase):
+    """Processor times, each the least of some turns: edits in front, and then one of a cell far down. Were the snapshots
+    dropped, the second would replay all records in front of it."""
 
-    CELLS, TURNS = 2_000, 5
+    CELLS, FAR, TURNS = 2_000, 1_960, 5
 
-    def test_snapshots_stay_behind_an_edit_that_all_cells_read(self) -> None:
-        """Were they dropped, the second edit would replay all records in front of it, a twentieth of inserting all."""
-        program = Program(real_program())
+    def slowdown(self, path: str, cells: list[str], front: str, far: str) -> float:
+        """The edit far down by the time of inserting all. Both texts have the number of the turn, which makes other values."""
+        program = Program(path)
         self.addCleanup(program.close)
-        whole = program.load(readers(self.CELLS))
-        far, times = self.CELLS - 40, []
-        for turn in range(self.TURNS):
-            program.edit(0, f'v0 = np.arange(4) + {turn + 1}')
-            times.append(program.edit(far, f'v{far} = v0 + {self.CELLS + turn}')[0])
-        self.assertLess(min(times), whole / 100)
+        whole, times = program.load(cells), []
+        for turn in range(1, self.TURNS + 1):
+            self.assertEqual(program.command(front.format(turn))[1], 'ok')
+            times.append(program.edit(self.FAR, far.format(turn))[0])
+        return min(times) / whole
 
+    @unittest.skipUnless(real_program(), 'no program: NDNOTE_PROGRAM, or crates/ndnote/out/ndnote')
+    def test_behind_an_edit_that_all_cells_read(self) -> None:
+        slowdown = self.slowdown(real_program(), readers(self.CELLS), 'edit 0\nv0 = np.arange(4) + {0}\n.\n',
+                                 f'v{self.FAR} = v0 + {self.CELLS} + {{0}}')
+        self.assertLess(slowdown, 1 / 100)
 
-@unittest.skipUnless(real_desk(), 'no program: crates/ndnote_desk/out/ndnote_desk')
-class EditsBehindSeveral(unittest.TestCase):
-    """Processor times, each the least of some turns: two edits in front that are made as one, and then one far down."""
-
-    CELLS, TURNS = 2_000, 5
-
-    def test_snapshots_stay_behind_several_edits(self) -> None:
-        """Were they dropped, the edit far down would replay all records in front of it, a twenty-fifth of inserting all."""
-        program = Program(real_desk())
-        self.addCleanup(program.close)
-        whole = program.load(arrays(self.CELLS))
-        far, times = self.CELLS - 40, []
-        for turn in range(self.TURNS):
-            edits = ''.join(f'edit {at}\nv{at} = np.arange(4) + {turn + 1}\n.\n' for at in (3, 9))
-            self.assertEqual(program.command(f'begin\n{edits}end\n')[1], 'ok')
-            times.append(program.edit(far, f'v{far} = np.arange(4) + {turn + 1}')[0])
-        self.assertLess(min(times), whole / 100)
+    @unittest.skipUnless(real_desk(), 'no program: crates/ndnote_desk/out/ndnote_desk')
+    def test_behind_several_edits_as_one(self) -> None:
+        edits = ''.join(f'edit {at}\nv{at} = np.arange(4) + {{0}}\n.\n' for at in (3, 9))
+        slowdown = self.slowdown(real_desk(), arrays(self.CELLS), f'begin\n{edits}end\n',
+                                 f'v{self.FAR} = np.arange(4) + {{0}}')
+        self.assertLess(slowdown, 1 / 100)
 
 
 @unittest.skipUnless(real_program(), 'no program: NDNOTE_PROGRAM, or crates/ndnote/out/ndnote')

@@ -1,5 +1,7 @@
+pub mod Along
 pub mod Bits
 pub mod Chosen
+pub mod Grids
 pub mod Listed
 pub mod Ranges
 pub mod Slices

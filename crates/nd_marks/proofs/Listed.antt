@@ -1,7 +1,11 @@
 -- The bits of listed elements.
-use Rattle.std.proofs.Common.{◌≡◌, ℕ, ◌+◌, ◌%◌, ◌<◌, ◌≤◌, ◌||◌, ◌&&◌, Bool, true, false, not, nat_eq, nat_le, nat_lt, List, [], length, get_or, refl, sym, ap, subst, ◌∙◌, inl, inr, arith}
+use Rattle.std.proofs.Common.{◌≡◌, ℕ, zero, suc, ◌+◌, ◌%◌, ◌<◌, ◌≤◌, ◌||◌, ◌&&◌, Bool, true, false, not, nat_eq, nat_le, nat_lt, List, [], ◌∷◌, ◌++◌, add-one, length, get_or, take, refl, sym, ap, ap₂, subst, ◌∙◌, inl, inr, arith}
 use Rattle.std.specs.List.{All}
-use Rattle.std.proofs.lemmas.List.{get_or-map, length-map}
+use Rattle.std.proofs.lemmas.Grind.{flat_map-append}
+use Rattle.std.proofs.lemmas.List.{append-nil, get_or-map, length-map, map-append}
+use Rattle.nd_model.specs.Arrays.Tuple.{count_up}
+use Rattle.nd_model.specs.Arrays.View.{field_places}
+use Rattle.nd_view.proofs.Tuples.{count_up-append}
 use Rattle.nd_model.specs.Arrays.Element.{size_of}
 use Rattle.nd_types.specs.Fields.{field_of, fields_of}
 use Rattle.nd_types.specs.declared.field.Field.{Field}
@@ -18,6 +22,22 @@ ends_before limit place fields i f all lt is =
     let here : get_or (fields_of fields) i (field_of f) ≡ field_of f = get_or-map field_of fields i f (field_of f) lt ∙ sym (ap field_of is) in
     let long : i < length (fields_of fields) = omega (arith, lt, length-map fields field_of) in
     subst (λ h. place + (h.at + size_of h.element.kind) ≤ limit) here (all i (field_of f) long)
+
+-- one field more that begins where those before it end
+pub packed_more : (fields : List Field) (i : ℕ) (f : Field) (q end new : ℕ) → i < length fields → f ≡ get_or fields i f → f.at ≡ end → new ≡ end + size_of f.elem.kind
+    → field_places q (fields_of (take i fields)) ≡ count_up q end → field_places q (fields_of (take (i + 1) fields)) ≡ count_up q new
+packed_more fields i f q end new lt is at more before =
+    let split : take (i + 1) fields ≡ take i fields ++ (f ∷ []) = rw add-one (last_taken fields i f lt is) in
+    ap (λ fs. field_places q (fields_of fs)) split
+    ∙ ap (field_places q) (map-append field_of (take i fields) (f ∷ []))
+    ∙ flat_map-append (λ h. count_up (q + h.at) (size_of h.element.kind)) (fields_of (take i fields)) (field_of f ∷ [])
+    ∙ ap₂ (λ xs ys. xs ++ ys) before (append-nil (count_up (q + f.at) (size_of f.elem.kind)) ∙ ap (λ a. count_up (q + a) (size_of f.elem.kind)) at)
+    ∙ sym (count_up-append q end (size_of f.elem.kind)) ∙ ap (count_up q) (sym more)
+  where
+    last_taken : (fields : List Field) (i : ℕ) (f : Field) → i < length fields → f ≡ get_or fields i f → take (suc i) fields ≡ take i fields ++ (f ∷ [])
+    last_taken [] i f lt is = elim lt [ ]
+    last_taken (h ∷ fields) zero f lt is = ap (λ h. h ∷ []) (sym is)
+    last_taken (h ∷ fields) (suc i) f lt is = ap (λ fs. h ∷ fs) (last_taken fields i f (omega arith) is)
 
 -- one place more of a range
 grown_by_one : (p first k : ℕ) → ((nat_le first p && nat_lt p (first + k)) || (nat_le (first + k) p && nat_lt p ((first + k) + 1))) ≡ (nat_le first p && nat_lt p (first + (k + 1)))

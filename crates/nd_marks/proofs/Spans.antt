@@ -4,14 +4,15 @@ use Rattle.std.specs.Int.{bit_at}
 use Rattle.std.proofs.lemmas.Bool.{cases_Bool, cases_lt, false≢true}
 use Rattle.std.proofs.lemmas.Bool.Decides.{nat_tests}
 use Rattle.std.proofs.lemmas.Nat.Bits.{bit_at_or, bit_at-lt, bit_at_ones, bit_at-zero, bit_at_set_same}
-use Rattle.nd_marks.specs.Marks.{Strip, has_bit, in_strip, in_strips, in_word}
-use Rattle.nd_marks.proofs.Strips.{before, either_way, nested, take_more}
+use Rattle.nd_marks.specs.Marks.{Grid, has_bit, in_grid, in_grids, in_word}
+use Rattle.nd_marks.proofs.Grids.{lines_before}
+use Rattle.nd_marks.proofs.Strips.{either_way, nested, take_more}
 use Rattle.nd_marks.proofs.Walks.{past_words}
 
-pub in_span : (s : Strip) (e p : ℕ) → ((q : ℕ) → e ≤ q → in_strip s q ≡ false) → in_strip s p ≡ true → (s.first ≤ p) × (p < e)
-in_span s e p none h = (
-  elim (cases_lt p s.first) [
-    | inl lt ↦ absurd (false≢true (sym (before s.first s.width s.step s.count p lt) ∙ h))
+pub in_span : (g : Grid) (e p : ℕ) → ((q : ℕ) → e ≤ q → in_grid g q ≡ false) → in_grid g p ≡ true → (g.strip.first ≤ p) × (p < e)
+in_span g e p none h = (
+  elim (cases_lt p g.strip.first) [
+    | inl lt ↦ absurd (false≢true (sym (lines_before g.strip g.jump g.lines p lt) ∙ h))
     | inr ge ↦ ge
   ],
   elim (cases_lt p e) [
@@ -57,17 +58,17 @@ bit_comes w m i h =
 pub bit_here : (w k : ℕ) → k < 64 → in_word (bit_or w (1 * 2 ^ k % 2 ^ 64)) k ≡ true
 bit_here w k lt = ap (λ b. nat_eq b 1) (bit_at_set_same w64 w k lt)
 
-pub strips_all : (ss : List Strip) (i p : ℕ) → length ss ≤ i → in_strips (take i ss) p ≡ in_strips ss p
-strips_all [] zero p le = refl
-strips_all [] (suc i) p le = refl
-strips_all (s ∷ ss) zero p le = absurd (omega arith)
-strips_all (s ∷ ss) (suc i) p le = ap (λ t. in_strip s p || t) (strips_all ss i p (omega arith))
+pub grids_all : (ss : List Grid) (i p : ℕ) → length ss ≤ i → in_grids (take i ss) p ≡ in_grids ss p
+grids_all [] zero p le = refl
+grids_all [] (suc i) p le = refl
+grids_all (s ∷ ss) zero p le = absurd (omega arith)
+grids_all (s ∷ ss) (suc i) p le = ap (λ t. in_grid s p || t) (grids_all ss i p (omega arith))
 
--- what holds of the places of the strips so far and of one more holds of those with it
-pub strip_more : {A : Type 0} (l : Strip) (ss : List Strip) (i : ℕ) (s : Strip) (p : ℕ) → i < length ss → s ≡ get_or ss i s → ((in_strip l p || in_strips (take i ss) p) ≡ true → A) → (in_strip s p ≡ true → A)
-    → (in_strip l p || in_strips (take (i + 1) ss) p) ≡ true → A
-strip_more l ss i s p lt is old one h = either_way (in_strip l p || in_strips (take i ss) p) (in_strip s p)
-    (sym (ap (λ t. in_strip l p || t) (take_more ss i s p lt is) ∙ nested (in_strip l p) (in_strips (take i ss) p) (in_strip s p)) ∙ h) old one
+-- what holds of the places of the grids so far and of one more holds of those with it
+pub grid_more : {A : Type 0} (l : Grid) (ss : List Grid) (i : ℕ) (s : Grid) (p : ℕ) → i < length ss → s ≡ get_or ss i s → ((in_grid l p || in_grids (take i ss) p) ≡ true → A) → (in_grid s p ≡ true → A)
+    → (in_grid l p || in_grids (take (i + 1) ss) p) ≡ true → A
+grid_more l ss i s p lt is old one h = either_way (in_grid l p || in_grids (take i ss) p) (in_grid s p)
+    (sym (ap (λ t. in_grid l p || t) (take_more ss i s p lt is) ∙ nested (in_grid l p) (in_grids (take i ss) p) (in_grid s p)) ∙ h) old one
 
 -- a word is added to the one of its index
 pub word_added : (ws vs us os : List ℕ) (at word : ℕ) → word ≡ slice_index os at → ((q i : ℕ) → in_word (slice_index vs q) i ≡ (in_word (slice_index ws q) i || (nat_eq q at && in_word word i)))

@@ -9,14 +9,14 @@ use Rattle.std.proofs.Math.Nat.{mod-lt, mul-le-mul_right}
 use Rattle.std.proofs.Math.Arith.{digits_div, digits_mod}
 use Rattle.nd_model.specs.Cells.Session.{is_in}
 use Rattle.nd_model.specs.Arrays.Tuple.{count_up}
-use Rattle.nd_marks.specs.Marks.{Strip, in_row, in_rows, in_strip, in_strips}
+use Rattle.nd_marks.specs.Marks.{Grid, in_grid, in_grids, in_row, in_rows}
 use Rattle.nd_marks.proofs.Ranges.{is_in-count_up, is_in-append}
 
-or_false : (b : Bool) → (b || false) ≡ b
+pub or_false : (b : Bool) → (b || false) ≡ b
 or_false true = refl
 or_false false = refl
 
-or_comm : (a b : Bool) → (a || b) ≡ (b || a)
+pub or_comm : (a b : Bool) → (a || b) ≡ (b || a)
 or_comm true true = refl
 or_comm true false = refl
 or_comm false true = refl
@@ -142,6 +142,10 @@ behind f w s (suc (suc n)) p some wide le =
     let m' : suc n * s ≡ n * s + s = omega arith in
     rw (behind f w s (suc n) p (omega arith) wide (omega arith)) (let c : nat_lt p (f + suc n * s + w) ≡ false = grind (arith, nat_tests) in grind (arith, nat_tests))
 
+pub behind_reach : (f w s n p : ℕ) → w ≤ s → f + (n * s - (s - w)) ≤ p → in_rows f w s n p ≡ false
+behind_reach f w s zero p wide le = refl
+behind_reach f w s (suc n) p wide le = behind f w s (suc n) p (omega arith) wide (let m : suc n * s ≡ n * s + s = omega arith in omega arith)
+
 pub past : (f w s n p : ℕ) → w ≤ s → f + n * s ≤ p → in_rows f w s n p ≡ false
 past f w s zero p wide le = refl
 past f w s (suc n) p wide le =
@@ -234,30 +238,30 @@ row_in f w s (suc n) k p lt from to = elim (cases_lt k n) [
       rw (here, inside) (or_true (in_rows f w s k p))
 ]
 
--- the first strips, and one more
-pub take_more : (ss : List Strip) (i : ℕ) (s : Strip) (p : ℕ) → i < length ss → s ≡ get_or ss i s → in_strips (take (i + 1) ss) p ≡ (in_strips (take i ss) p || in_strip s p)
+-- the first grids, and one more
+pub take_more : (ss : List Grid) (i : ℕ) (s : Grid) (p : ℕ) → i < length ss → s ≡ get_or ss i s → in_grids (take (i + 1) ss) p ≡ (in_grids (take i ss) p || in_grid s p)
 take_more ss i s p lt is = rw add-one (go ss i s p lt is)
   where
-    go : (ss : List Strip) (i : ℕ) (s : Strip) (p : ℕ) → i < length ss → s ≡ get_or ss i s → in_strips (take (suc i) ss) p ≡ (in_strips (take i ss) p || in_strip s p)
+    go : (ss : List Grid) (i : ℕ) (s : Grid) (p : ℕ) → i < length ss → s ≡ get_or ss i s → in_grids (take (suc i) ss) p ≡ (in_grids (take i ss) p || in_grid s p)
     go [] i s p lt is = elim lt [ ]
-    go (x ∷ xs) zero s p lt is = or_false (in_strip x p) ∙ ap (λ s. in_strip s p) (sym is)
-    go (x ∷ xs) (suc i) s p lt is = ap (λ b. in_strip x p || b) (go xs i s p (omega arith) is) ∙ or_assoc (in_strip x p) (in_strips (take i xs) p) (in_strip s p)
+    go (x ∷ xs) zero s p lt is = or_false (in_grid x p) ∙ ap (λ s. in_grid s p) (sym is)
+    go (x ∷ xs) (suc i) s p lt is = ap (λ b. in_grid x p || b) (go xs i s p (omega arith) is) ∙ or_assoc (in_grid x p) (in_grids (take i xs) p) (in_grid s p)
 
-pub among : (ss : List Strip) (i : ℕ) (s : Strip) (p : ℕ) → i < length ss → s ≡ get_or ss i s → in_strip s p ≡ true → in_strips ss p ≡ true
+pub among : (ss : List Grid) (i : ℕ) (s : Grid) (p : ℕ) → i < length ss → s ≡ get_or ss i s → in_grid s p ≡ true → in_grids ss p ≡ true
 among [] i s p lt is h = elim lt [ ]
-among (x ∷ xs) zero s p lt is h = ap (λ s. in_strip s p || in_strips xs p) (sym is) ∙ rw h refl
-among (x ∷ xs) (suc i) s p lt is h = rw (among xs i s p (omega arith) is h) (or_true (in_strip x p))
+among (x ∷ xs) zero s p lt is h = ap (λ s. in_grid s p || in_grids xs p) (sym is) ∙ rw h refl
+among (x ∷ xs) (suc i) s p lt is h = rw (among xs i s p (omega arith) is h) (or_true (in_grid x p))
 
--- one of the strips is joined with another
-pub set_joined : (ss : List Strip) (i : ℕ) (s r o d : Strip) (p : ℕ) → i < length ss → s ≡ get_or ss i d → in_strip r p ≡ (in_strip s p || in_strip o p)
-    → in_strips (slice_set ss i r) p ≡ (in_strips ss p || in_strip o p)
+-- one of the grids is joined with another
+pub set_joined : (ss : List Grid) (i : ℕ) (s r o d : Grid) (p : ℕ) → i < length ss → s ≡ get_or ss i d → in_grid r p ≡ (in_grid s p || in_grid o p)
+    → in_grids (slice_set ss i r) p ≡ (in_grids ss p || in_grid o p)
 set_joined [] i s r o d p lt is h = elim lt [ ]
-set_joined (x ∷ xs) zero s r o d p lt is h = ap (λ b. b || in_strips xs p) (h ∙ ap (λ s. in_strip s p || in_strip o p) is) ∙ turn (in_strip x p) (in_strip o p) (in_strips xs p)
+set_joined (x ∷ xs) zero s r o d p lt is h = ap (λ b. b || in_grids xs p) (h ∙ ap (λ s. in_grid s p || in_grid o p) is) ∙ turn (in_grid x p) (in_grid o p) (in_grids xs p)
   where
     turn : (a b c : Bool) → ((a || b) || c) ≡ ((a || c) || b)
     turn true b c = refl
     turn false b c = or_comm b c
-set_joined (x ∷ xs) (suc i) s r o d p lt is h = ap (λ b. in_strip x p || b) (set_joined xs i s r o d p (omega arith) is h) ∙ or_assoc (in_strip x p) (in_strips xs p) (in_strip o p)
+set_joined (x ∷ xs) (suc i) s r o d p lt is h = ap (λ b. in_grid x p || b) (set_joined xs i s r o d p (omega arith) is h) ∙ or_assoc (in_grid x p) (in_grids xs p) (in_grid o p)
 
 -- one of two writes, or both
 pub put_both : (a b : Bool) (x y : ℕ) → cond b x (cond a x y) ≡ cond (a || b) x y
@@ -270,13 +274,13 @@ pub either_way : {A : Type 0} (a b : Bool) → (a || b) ≡ true → (a ≡ true
 either_way true b h x y = x refl
 either_way false b h x y = y h
 
-pub in_strips-append : (ss : List Strip) (s : Strip) (p : ℕ) → in_strips (ss ++ s ∷ []) p ≡ (in_strips ss p || in_strip s p)
-in_strips-append [] s p = or_false (in_strip s p)
-in_strips-append (x ∷ xs) s p = ap (λ b. in_strip x p || b) (in_strips-append xs s p) ∙ or_assoc (in_strip x p) (in_strips xs p) (in_strip s p)
+pub in_grids-append : (ss : List Grid) (s : Grid) (p : ℕ) → in_grids (ss ++ s ∷ []) p ≡ (in_grids ss p || in_grid s p)
+in_grids-append [] s p = or_false (in_grid s p)
+in_grids-append (x ∷ xs) s p = ap (λ b. in_grid x p || b) (in_grids-append xs s p) ∙ or_assoc (in_grid x p) (in_grids xs p) (in_grid s p)
 
--- the last strip goes among the others, and another takes its place
-pub pushed : (ss ts : List Strip) (s r : Strip) (p : ℕ) → ts ≡ ss ++ s ∷ [] → (in_strip r p || in_strips ts p) ≡ ((in_strip s p || in_strips ss p) || in_strip r p)
-pushed ss ts s r p is = ap (λ t. in_strip r p || t) (ap (λ ts. in_strips ts p) is ∙ in_strips-append ss s p) ∙ turn (in_strip r p) (in_strips ss p) (in_strip s p)
+-- the last grid goes among the others, and another takes its place
+pub pushed : (ss ts : List Grid) (s r : Grid) (p : ℕ) → ts ≡ ss ++ s ∷ [] → (in_grid r p || in_grids ts p) ≡ ((in_grid s p || in_grids ss p) || in_grid r p)
+pushed ss ts s r p is = ap (λ t. in_grid r p || t) (ap (λ ts. in_grids ts p) is ∙ in_grids-append ss s p) ∙ turn (in_grid r p) (in_grids ss p) (in_grid s p)
   where
     turn : (r o s : Bool) → (r || (o || s)) ≡ ((s || o) || r)
     turn true o s = sym (or_true (s || o))
@@ -285,7 +289,7 @@ pushed ss ts s r p is = ap (λ t. in_strip r p || t) (ap (λ ts. in_strips ts p)
     turn false false true = refl
     turn false false false = refl
 
--- a strip fits, and the rest stays
+-- a grid fits, and the rest stays
 pub fitted : (a b r s : Bool) → a ≡ (b || s) → (a || r) ≡ ((b || r) || s)
 fitted a b r s is = ap (λ t. t || r) is ∙ turn b s r
   where
@@ -372,14 +376,14 @@ same_end p from at to le most = elim (cases_lt p from) [
   ]
 ]
 
--- one of the strips has all places of others
-pub among_covers : (l b r : Bool) (ss : List Strip) (i : ℕ) (s : Strip) (p : ℕ) → i < length ss → s ≡ get_or ss i s → (in_strip s p || r) ≡ in_strip s p
-    → (((l || in_strips ss p) || b) || r) ≡ ((l || in_strips ss p) || b)
-among_covers l b r ss i s p lt is all = elim (cases_Bool (in_strip s p)) [
+-- one of the grids has all places of others
+pub among_covers : (l b r : Bool) (ss : List Grid) (i : ℕ) (s : Grid) (p : ℕ) → i < length ss → s ≡ get_or ss i s → (in_grid s p || r) ≡ in_grid s p
+    → (((l || in_grids ss p) || b) || r) ≡ ((l || in_grids ss p) || b)
+among_covers l b r ss i s p lt is all = elim (cases_Bool (in_grid s p)) [
   | inl here ↦ rw (among ss i s p lt is here) (go (or_true l))
   | inr away ↦
       let none : r ≡ false = (let e : (false || r) ≡ false = sym (ap (λ t. t || r) away) ∙ all ∙ away in e) in
-      rw none (or_false ((l || in_strips ss p) || b))
+      rw none (or_false ((l || in_grids ss p) || b))
 ]
   where
     go : (l || true) ≡ true → (((l || true) || b) || r) ≡ ((l || true) || b)
@@ -389,7 +393,7 @@ pub not_true : (b : Bool) → not b ≡ true → b ≡ false
 not_true true h = false_true h
 not_true false h = refl
 
--- strips, the rest of them and words are put together
+-- grids, the rest of them and words are put together
 pub merged : (a r v w mw s ml ms : Bool) → v ≡ ((w || mw) || r) → (a || r) ≡ (((s || false) || ml) || ms) → (a || v) ≡ ((s || w) || ((ml || ms) || mw))
 merged a r v w mw s ml ms set is =
     ap (λ t. a || t) set ∙ aside a (w || mw) r ∙ ap (λ t. t || (w || mw)) is ∙ turn s ml ms w mw

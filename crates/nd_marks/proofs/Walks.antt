@@ -19,9 +19,10 @@ use Rattle.std.proofs.lemmas.List.Elements.{filter-append}
 use Rattle.nd_model.specs.Arrays.Tuple.{count_up}
 use Rattle.nd_model.specs.Cells.Session.{is_in}
 use Rattle.nd_view.proofs.Tuples.{count_up-append}
-use Rattle.nd_marks.specs.Kept.{row_places, rows_left, strips_places, bits_left, places_in, byte_for, byte_of, kept_at, KeptData}
-use Rattle.nd_marks.specs.Marks.{Places, Strip, has_bit, holds, in_rows, in_strip, in_strips, in_word}
+use Rattle.nd_marks.specs.Kept.{grids_places, line_places, lines_left, row_places, rows_left, bits_left, places_in, byte_for, byte_of, kept_at, KeptData}
+use Rattle.nd_marks.specs.Marks.{Grid, Places, Strip, has_bit, holds, in_grid, in_grids, in_lines, in_rows, in_strip, in_word, moved}
 use Rattle.nd_marks.proofs.Ranges.{is_in-count_up, is_in-append}
+use Rattle.nd_marks.proofs.Grids.{lines_front, moved_none, moved_twice}
 use Rattle.nd_marks.proofs.Strips.{front}
 
 -- ---- rows
@@ -80,9 +81,50 @@ in_rows_left : (s : Strip) (p : ℕ) → is_in p (rows_left s 0) ≡ in_strip s 
 in_rows_left s p = in_row_places (s.first + 0 * s.step) s.width s.step (s.count - 0) p
     ∙ (let e : s.first + 0 * s.step ≡ s.first = (let z : 0 * s.step ≡ 0 = omega arith in omega arith) in let f : s.count - 0 ≡ s.count = omega arith in ap₂ (λ a n. in_rows a s.width s.step n p) e f)
 
-in_strips_places : (ss : List Strip) (p : ℕ) → is_in p (strips_places ss) ≡ in_strips ss p
-in_strips_places [] p = refl
-in_strips_places (s ∷ ss) p = is_in-append p (rows_left s 0) (strips_places ss) ∙ ap₂ (λ a b. a || b) (in_rows_left s p) (in_strips_places ss p)
+-- ---- lines
+
+pub line_none : (g : Grid) (line : ℕ) → g.lines ≤ line → lines_left g line ≡ []
+line_none g line le = let e : g.lines - line ≡ 0 = omega arith in rw e refl
+
+pub line_next : (g : Grid) (line : ℕ) (s : Strip) → line < g.lines → s ≡ moved g.strip (line * g.jump) → lines_left g line ≡ rows_left s 0 ++ lines_left g (line + 1)
+line_next g line s lt is =
+    let e : g.lines - line ≡ suc (g.lines - (line + 1)) = omega arith in
+    let d : line * g.jump + g.jump ≡ (line + 1) * g.jump = omega arith in
+    ap (line_places (moved g.strip (line * g.jump)) g.jump) e
+    ∙ ap₂ (λ s t. rows_left s 0 ++ line_places t g.jump (g.lines - (line + 1))) (sym is) (moved_twice g.strip (line * g.jump) g.jump ∙ ap (moved g.strip) d)
+
+length-line_places : (s : Strip) (j n : ℕ) → length (line_places s j n) ≡ n * (s.count * s.width)
+length-line_places s j zero = let e : 0 * (s.count * s.width) ≡ 0 = omega arith in sym e
+length-line_places s j (suc n) =
+    let m : suc n * (s.count * s.width) ≡ s.count * s.width + n * (s.count * s.width) = omega arith in
+    length-append (rows_left s 0) (line_places (moved s j) j n) ∙ ap₂ (λ a b. a + b) (length-rows_left s) (length-line_places (moved s j) j n) ∙ sym m
+
+pub length-lines_left : (g : Grid) → length (lines_left g 0) ≡ g.lines * (g.strip.count * g.strip.width)
+length-lines_left g = length-line_places (moved g.strip (0 * g.jump)) g.jump (g.lines - 0) ∙ (let e : g.lines - 0 ≡ g.lines = omega arith in ap (λ n. n * (g.strip.count * g.strip.width)) e)
+
+-- products of numbers that are cut off
+pub saturated : (n k most : ℕ) → min (n * min k most) most ≡ min (n * k) most
+saturated zero k most = let a : 0 * min k most ≡ 0 = omega arith in let b : 0 * k ≡ 0 = omega arith in ap (λ m. min m most) (a ∙ sym b)
+saturated (suc n) k most =
+    let a : suc n * min k most ≡ n * min k most + min k most = omega arith in
+    let b : suc n * k ≡ n * k + k = omega arith in
+    let rest = saturated n k most in
+    omega arith
+
+in_line_places : (s : Strip) (j n p : ℕ) → is_in p (line_places s j n) ≡ in_lines s j n p
+in_line_places s j zero p = refl
+in_line_places s j (suc n) p =
+    is_in-append p (rows_left s 0) (line_places (moved s j) j n) ∙ ap₂ (λ a b. a || b) (in_rows_left s p) (in_line_places (moved s j) j n p) ∙ sym (lines_front s j n p)
+
+in_lines_left : (g : Grid) (p : ℕ) → is_in p (lines_left g 0) ≡ in_grid g p
+in_lines_left g p =
+    let z : 0 * g.jump ≡ 0 = omega arith in
+    let n : g.lines - 0 ≡ g.lines = omega arith in
+    in_line_places (moved g.strip (0 * g.jump)) g.jump (g.lines - 0) p ∙ ap₂ (λ s n. in_lines s g.jump n p) (moved_none g.strip (0 * g.jump) z) n
+
+in_grids_places : (gs : List Grid) (p : ℕ) → is_in p (grids_places gs) ≡ in_grids gs p
+in_grids_places [] p = refl
+in_grids_places (g ∷ gs) p = is_in-append p (lines_left g 0) (grids_places gs) ∙ ap₂ (λ a b. a || b) (in_lines_left g p) (in_grids_places gs p)
 
 -- ---- bits
 
@@ -145,9 +187,9 @@ in_bits_left ws p = in_filter (has_bit ws) (count_up 0 (length ws * 64 - 0)) p �
 
 -- THE LAW OF WALKS: the places of a walk are those of the set
 pub in_places : (m : Places) (p : ℕ) → is_in p (places_in m) ≡ holds m p
-in_places m p = is_in-append p (rows_left m.last 0) (strips_places m.strips ++ bits_left m.words 0)
-    ∙ ap₂ (λ a b. a || b) (in_rows_left m.last p) (is_in-append p (strips_places m.strips) (bits_left m.words 0) ∙ ap₂ (λ a b. a || b) (in_strips_places m.strips p) (in_bits_left m.words p))
-    ∙ either (in_strip m.last p) (in_strips m.strips p) (has_bit m.words p)
+in_places m p = is_in-append p (lines_left m.last 0) (grids_places m.grids ++ bits_left m.words 0)
+    ∙ ap₂ (λ a b. a || b) (in_lines_left m.last p) (is_in-append p (grids_places m.grids) (bits_left m.words 0) ∙ ap₂ (λ a b. a || b) (in_grids_places m.grids p) (in_bits_left m.words p))
+    ∙ either (in_grid m.last p) (in_grids m.grids p) (has_bit m.words p)
   where
     either : (a b c : Bool) → (a || (b || c)) ≡ ((a || b) || c)
     either true b c = refl
@@ -275,25 +317,25 @@ set_found ws at from to inside a b c unset set =
     (λ i lo hi. bit_of ws at i true (omega arith) (omega arith) (set (i - low) (omega arith) (omega arith)))
     ∙ ap (λ n. count_up (low + from) n ++ bits_left ws (low + to)) width
 
--- ---- strips of a walk
+-- ---- grids of a walk
 
-pub strips_more : (ss : List Strip) (i : ℕ) (s : Strip) → i < length ss → s ≡ get_or ss i s → length (strips_places (take (i + 1) ss)) ≡ length (strips_places (take i ss)) + length (rows_left s 0)
-strips_more ss i s lt is = rw add-one (go ss i s lt is)
+pub grids_more : (ss : List Grid) (i : ℕ) (s : Grid) → i < length ss → s ≡ get_or ss i s → length (grids_places (take (i + 1) ss)) ≡ length (grids_places (take i ss)) + length (lines_left s 0)
+grids_more ss i s lt is = rw add-one (go ss i s lt is)
   where
-    go : (ss : List Strip) (i : ℕ) (s : Strip) → i < length ss → s ≡ get_or ss i s → length (strips_places (take (suc i) ss)) ≡ length (strips_places (take i ss)) + length (rows_left s 0)
+    go : (ss : List Grid) (i : ℕ) (s : Grid) → i < length ss → s ≡ get_or ss i s → length (grids_places (take (suc i) ss)) ≡ length (grids_places (take i ss)) + length (lines_left s 0)
     go [] i s lt is = elim lt [ ]
-    go (x ∷ xs) zero s lt is = ap length (append-nil (rows_left x 0)) ∙ ap (λ s. length (rows_left s 0)) (sym is) ∙ (let n : ℕ = length (rows_left s 0) in let e : n ≡ 0 + n = omega arith in e)
+    go (x ∷ xs) zero s lt is = ap length (append-nil (lines_left x 0)) ∙ ap (λ s. length (lines_left s 0)) (sym is) ∙ (let n : ℕ = length (lines_left s 0) in let e : n ≡ 0 + n = omega arith in e)
     go (x ∷ xs) (suc i) s lt is =
-        length-append (rows_left x 0) (strips_places (take (suc i) xs)) ∙ ap (λ n. length (rows_left x 0) + n) (go xs i s (omega arith) is)
-        ∙ (let a : ℕ = length (rows_left x 0) in let b : ℕ = length (strips_places (take i xs)) in let d : ℕ = length (rows_left s 0) in let e : a + (b + d) ≡ a + b + d = omega arith in e)
-        ∙ ap (λ n. n + length (rows_left s 0)) (sym (length-append (rows_left x 0) (strips_places (take i xs))))
+        length-append (lines_left x 0) (grids_places (take (suc i) xs)) ∙ ap (λ n. length (lines_left x 0) + n) (go xs i s (omega arith) is)
+        ∙ (let a : ℕ = length (lines_left x 0) in let b : ℕ = length (grids_places (take i xs)) in let d : ℕ = length (lines_left s 0) in let e : a + (b + d) ≡ a + b + d = omega arith in e)
+        ∙ ap (λ n. n + length (lines_left s 0)) (sym (length-append (lines_left x 0) (grids_places (take i xs))))
 
-pub strip_next : (ss : List Strip) (i : ℕ) (s : Strip) → i < length ss → s ≡ get_or ss i s → strips_places (drop i ss) ≡ rows_left s 0 ++ strips_places (drop (i + 1) ss)
-strip_next ss i s lt is = rw add-one (go ss i s lt is)
+pub grid_next : (ss : List Grid) (i : ℕ) (s : Grid) → i < length ss → s ≡ get_or ss i s → grids_places (drop i ss) ≡ lines_left s 0 ++ grids_places (drop (i + 1) ss)
+grid_next ss i s lt is = rw add-one (go ss i s lt is)
   where
-    go : (ss : List Strip) (i : ℕ) (s : Strip) → i < length ss → s ≡ get_or ss i s → strips_places (drop i ss) ≡ rows_left s 0 ++ strips_places (drop (suc i) ss)
+    go : (ss : List Grid) (i : ℕ) (s : Grid) → i < length ss → s ≡ get_or ss i s → grids_places (drop i ss) ≡ lines_left s 0 ++ grids_places (drop (suc i) ss)
     go [] i s lt is = elim lt [ ]
-    go (x ∷ xs) zero s lt is = ap (λ s. rows_left s 0 ++ strips_places xs) (sym is)
+    go (x ∷ xs) zero s lt is = ap (λ s. lines_left s 0 ++ grids_places xs) (sym is)
     go (x ∷ xs) (suc i) s lt is = go xs i s (omega arith) is
 
 -- ---- ranges of bytes
@@ -348,13 +390,22 @@ row_copied xs ys at width long le = ext_get_or 0 _ _ (grind (arith, places, long
 pub length-put : (xs ys : List ℕ) (at width n : ℕ) → n ≡ width → length ys ≡ width → at + width ≤ length xs → length (put_mid at n xs ys) ≡ length xs
 length-put xs ys at width n is long le = grind (arith, places, is, long, le)
 
--- the values at one more strip
-pub strip_added : (f : ℕ → ℕ) (ss : List Strip) (i : ℕ) (s : Strip) (bytes new all : List ℕ) → i < length ss → s ≡ get_or ss i s → new ≡ bytes ++ map f (rows_left s 0)
-    → bytes ++ map f (strips_places (drop i ss)) ≡ all → new ++ map f (strips_places (drop (i + 1) ss)) ≡ all
-strip_added f ss i s bytes new all lt here is before =
-    let rest : List ℕ = strips_places (drop (i + 1) ss) in
+-- the values at one more line
+pub line_added : (f : ℕ → ℕ) (g : Grid) (line : ℕ) (s : Strip) (bytes new all : List ℕ) → line < g.lines → s ≡ moved g.strip (line * g.jump) → new ≡ bytes ++ map f (rows_left s 0)
+    → bytes ++ map f (lines_left g line) ≡ all → new ++ map f (lines_left g (line + 1)) ≡ all
+line_added f g line s bytes new all lt here is before =
+    let rest : List ℕ = lines_left g (line + 1) in
     ap (λ xs. xs ++ map f rest) is ∙ append_assoc bytes (map f (rows_left s 0)) (map f rest)
-    ∙ ap (λ ys. bytes ++ ys) (sym (map-append f (rows_left s 0) rest) ∙ ap (map f) (sym (strip_next ss i s lt here)))
+    ∙ ap (λ ys. bytes ++ ys) (sym (map-append f (rows_left s 0) rest) ∙ ap (map f) (sym (line_next g line s lt here)))
+    ∙ before
+
+-- the values at one more grid
+pub grid_added : (f : ℕ → ℕ) (ss : List Grid) (i : ℕ) (s : Grid) (bytes new all : List ℕ) → i < length ss → s ≡ get_or ss i s → new ≡ bytes ++ map f (lines_left s 0)
+    → bytes ++ map f (grids_places (drop i ss)) ≡ all → new ++ map f (grids_places (drop (i + 1) ss)) ≡ all
+grid_added f ss i s bytes new all lt here is before =
+    let rest : List ℕ = grids_places (drop (i + 1) ss) in
+    ap (λ xs. xs ++ map f rest) is ∙ append_assoc bytes (map f (lines_left s 0)) (map f rest)
+    ∙ ap (λ ys. bytes ++ ys) (sym (map-append f (lines_left s 0) rest) ∙ ap (map f) (sym (grid_next ss i s lt here)))
     ∙ before
 
 -- a part is compared with bytes

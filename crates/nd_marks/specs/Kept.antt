@@ -1,7 +1,7 @@
 -- The places of a set in the order of a walk over them, and the bytes that are kept of these.
 use Rattle.std.specs.Prelude.{◌≡◌, ℕ, zero, suc, ◌+◌, ◌-◌, ◌*◌, ◌^◌, ◌<◌, ◌≤◌, List, [], ◌∷◌, ◌++◌, Option, Some, None, filter, drop, length, map, nat_eq, nat_le, Bool, ◌&&◌, if◌then◌else◌}
 use Rattle.nd_model.specs.Arrays.Tuple.{count_up}
-use Rattle.nd_marks.specs.Marks.{Places, Strip, has_bit, holds}
+use Rattle.nd_marks.specs.Marks.{Grid, Places, Strip, has_bit, holds, moved}
 use Rattle.nd_marks.specs.declared.walk.Walk.TheInside as walk
 use Rattle.nd_marks.specs.declared.kept.KeptBytes.TheInside as kept
 
@@ -14,18 +14,27 @@ row_places first width step (suc n) = count_up first width ++ row_places (first 
 abbrev pub rows_left : Strip → ℕ → List ℕ
 rows_left s row = row_places (s.first + row * s.step) s.width s.step (s.count - row)
 
-abbrev pub strips_places : List Strip → List ℕ
-strips_places [] = []
-strips_places (s ∷ ss) = rows_left s 0 ++ strips_places ss
+-- the places of lines
+abbrev pub line_places : Strip → ℕ → ℕ → List ℕ
+line_places s jump zero = []
+line_places s jump (suc n) = rows_left s 0 ++ line_places (moved s jump) jump n
 
--- the rows of strips
-abbrev pub rows_in : List Strip → ℕ
+-- the places of a grid from the line of this number on
+abbrev pub lines_left : Grid → ℕ → List ℕ
+lines_left g line = line_places (moved g.strip (line * g.jump)) g.jump (g.lines - line)
+
+abbrev pub grids_places : List Grid → List ℕ
+grids_places [] = []
+grids_places (g ∷ gs) = lines_left g 0 ++ grids_places gs
+
+-- the rows of grids
+abbrev pub rows_in : List Grid → ℕ
 rows_in [] = 0
-rows_in (s ∷ ss) = s.count + rows_in ss
+rows_in (g ∷ gs) = g.lines * g.strip.count + rows_in gs
 
 -- there are no bits, and at most so many rows
 abbrev pub is_few : Places → ℕ → Bool
-is_few m most = nat_eq (length m.words) 0 && nat_le (m.last.count + rows_in m.strips) most
+is_few m most = nat_eq (length m.words) 0 && nat_le (m.last.lines * m.last.strip.count + rows_in m.grids) most
 
 -- the places of bits from one on
 abbrev pub bits_left : List ℕ → ℕ → List ℕ
@@ -33,11 +42,11 @@ bits_left words at = filter (has_bit words) (count_up at (length words * 64 - at
 
 -- all places of a set
 abbrev pub places_in : Places → List ℕ
-places_in m = rows_left m.last 0 ++ (strips_places m.strips ++ bits_left m.words 0)
+places_in m = lines_left m.last 0 ++ (grids_places m.grids ++ bits_left m.words 0)
 
 -- the places that a walk has before it
 abbrev pub left_of : walk.Inside → List ℕ
-left_of w = rows_left w.rows w.row ++ (strips_places (drop w.strip w.strips.now) ++ bits_left w.words.now w.bit)
+left_of w = rows_left w.rows w.row ++ (lines_left w.grid w.line ++ (grids_places (drop w.next w.grids.now) ++ bits_left w.words.now w.bit))
 
 -- the next places of a walk are a range
 pub record IsNext (old : List ℕ) (from width : ℕ) (new : List ℕ) : Type 0 where

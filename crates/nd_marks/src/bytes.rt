@@ -1,11 +1,12 @@
-//! `is_same_strips` and `patch_strips`: compares and copies the bytes of blocks at marked byte
+//! `is_same_grids` and `patch_grids`: compares and copies the bytes of blocks at marked byte
 //! offsets, row by row and word by word.
 ghost use Rattle.std.specs.Prelude.{◌≡◌, ℕ, ◌+◌, ◌-◌, ◌*◌, ◌^◌, ◌<◌, ◌≤◌, ◌++◌, ◌&&◌, ◌↔◌, OnOk, if◌then◌else◌, IsTrue, true, nat_eq, nat_le, nat_lt, length, map, slice_index};
 ghost use Rattle.std.specs.Int.{bit_at, from_le_bytes, to_le_bytes, w16, w32, w64};
 ghost use Rattle.nd_model.specs.Arrays.Element.{bytes_at};
 ghost use Rattle.nd_marks.specs.Kept.{row_places, rows_left};
-ghost use Rattle.nd_marks.specs.Marks.{has_bit, in_word, in_strip, in_strips};
+ghost use Rattle.nd_marks.specs.Marks.{has_bit, in_grid, in_grids, in_strip, in_word};
 
+use crate::grid::Grid;
 use crate::strip::Strip;
 use std::alloc::AllocError;
 
@@ -325,6 +326,7 @@ pub(crate) fn append_rows(
     match strip.width() {
         1 => append_each(bytes, block, strip, 1),
         2 => append_each(bytes, block, strip, 2),
+        3 => append_each(bytes, block, strip, 3),
         4 => append_each(bytes, block, strip, 4),
         8 => append_each(bytes, block, strip, 8),
         _ => append_wide(bytes, block, strip),
@@ -342,6 +344,7 @@ fn is_same_row(a: &[u8], b: &[u8], from: usize, width: usize) -> bool
     match width {
         1 => a[from] == b[from],
         2 => bits16(a, from) == bits16(b, from),
+        3 => is_same_inside(a, b, from, from + 3),
         4 => bits32(a, from) == bits32(b, from),
         8 => bits64(a, from) == bits64(b, from),
         _ => is_same_inside(a, b, from, from + width),
@@ -366,8 +369,8 @@ fn is_same_rows(a: &[u8], b: &[u8], strip: &Strip) -> bool
     true
 }
 
-/// Returns whether both have equal bytes in all rows of a strip.
-pub(crate) fn is_same_strip(a: &[u8], b: &[u8], strip: &Strip) -> bool
+/// Whether both have equal bytes in all rows of a strip.
+fn is_same_strip(a: &[u8], b: &[u8], strip: &Strip) -> bool
     ensures { IsTrue result ↔ ((p : ℕ) → in_strip strip.now p ≡ true
         → slice_index a.now p ≡ slice_index b.now p) }
 {
@@ -384,13 +387,26 @@ pub(crate) fn is_same_strip(a: &[u8], b: &[u8], strip: &Strip) -> bool
     true
 }
 
-/// Returns whether both have equal bytes in all rows of all strips.
-pub(crate) fn is_same_strips(a: &[u8], b: &[u8], strips: &[Strip]) -> bool
-    ensures { IsTrue result ↔ ((p : ℕ) → in_strips strips.now p ≡ true
+/// Returns whether both have equal bytes in all rows of a grid.
+pub(crate) fn is_same_grid(a: &[u8], b: &[u8], grid: &Grid) -> bool
+    ensures { IsTrue result ↔ ((p : ℕ) → in_grid grid.now p ≡ true
         → slice_index a.now p ≡ slice_index b.now p) }
 {
-    for strip in strips {
-        if !is_same_strip(a, b, strip) {
+    for number in 0..grid.lines() {
+        if !is_same_strip(a, b, &grid.line(number)) {
+            return false;
+        }
+    }
+    true
+}
+
+/// Returns whether both have equal bytes in all rows of all grids.
+pub(crate) fn is_same_grids(a: &[u8], b: &[u8], grids: &[Grid]) -> bool
+    ensures { IsTrue result ↔ ((p : ℕ) → in_grids grids.now p ≡ true
+        → slice_index a.now p ≡ slice_index b.now p) }
+{
+    for grid in grids {
+        if !is_same_grid(a, b, grid) {
             return false;
         }
     }
@@ -410,6 +426,7 @@ fn patch_row(target: &mut [u8], source: &[u8], from: usize, width: usize)
     match width {
         1 => patch_inside(target, source, from, from + 1),
         2 => patch_inside(target, source, from, from + 2),
+        3 => patch_inside(target, source, from, from + 3),
         4 => patch_inside(target, source, from, from + 4),
         8 => patch_inside(target, source, from, from + 8),
         _ => patch_inside(target, source, from, from + width),
@@ -434,7 +451,7 @@ fn patch_rows(target: &mut [u8], source: &[u8], strip: &Strip)
 }
 
 /// Copies the bytes of all rows of a strip.
-pub(crate) fn patch_strip(target: &mut [u8], source: &[u8], strip: &Strip)
+fn patch_strip(target: &mut [u8], source: &[u8], strip: &Strip)
     ensures len { length target.new ≡ length target.old }
     ensures bytes { (p : ℕ) → p < length target.old
         → slice_index target.new p ≡ (if in_strip strip.now p
@@ -451,14 +468,26 @@ pub(crate) fn patch_strip(target: &mut [u8], source: &[u8], strip: &Strip)
     }
 }
 
-/// Copies the bytes of all rows of all strips.
-pub(crate) fn patch_strips(target: &mut [u8], source: &[u8], strips: &[Strip])
+/// Copies the bytes of all rows of a grid.
+pub(crate) fn patch_grid(target: &mut [u8], source: &[u8], grid: &Grid)
     ensures len { length target.new ≡ length target.old }
     ensures bytes { (p : ℕ) → p < length target.old
-        → slice_index target.new p ≡ (if in_strips strips.now p
+        → slice_index target.new p ≡ (if in_grid grid.now p
         then slice_index source.now p else slice_index target.old p) }
 {
-    for strip in strips {
-        patch_strip(target, source, strip);
+    for number in 0..grid.lines() {
+        patch_strip(target, source, &grid.line(number));
+    }
+}
+
+/// Copies the bytes of all rows of all grids.
+pub(crate) fn patch_grids(target: &mut [u8], source: &[u8], grids: &[Grid])
+    ensures len { length target.new ≡ length target.old }
+    ensures bytes { (p : ℕ) → p < length target.old
+        → slice_index target.new p ≡ (if in_grids grids.now p
+        then slice_index source.now p else slice_index target.old p) }
+{
+    for grid in grids {
+        patch_grid(target, source, grid);
     }
 }

@@ -1,11 +1,12 @@
 //! `KeptBytes`: bytes of a block at marked byte offsets, kept without the block.
 
 ghost use Rattle.std.specs.Prelude.{◌≡◌, ℕ, ◌+◌, ◌-◌, ◌^◌, ◌<◌, ◌≤◌, ◌++◌, ◌&&◌, ◌↔◌, if◌then◌else◌, ◌/◌, ◌%◌, false, is_some, IfOk, IsTrue, MatchOption, None, OnOk, Option, Some, length, map, nat_le, nat_lt, slice_index, unwrap_or};
-ghost use Rattle.nd_marks.specs.Kept.{byte_for, is_few, kept_at, places_in, rows_left, strips_places};
+ghost use Rattle.nd_marks.specs.Kept.{byte_for, grids_places, is_few, kept_at, lines_left, places_in, rows_left};
 ghost use Rattle.nd_marks.specs.Marks.{holds, in_word};
 ghost use Rattle.nd_model.specs.Arrays.Tuple.{count_up};
 
 use crate::bytes::{append_row, append_rows, byte_at};
+use crate::grid::Grid;
 use crate::marks::Marks;
 use crate::strip::Strip;
 use std::alloc::{AllocError, Global};
@@ -76,25 +77,36 @@ fn append_strip(bytes: &mut Vec<u8>, block: &[u8], strip: &Strip) -> Result<(), 
     Ok(())
 }
 
-/// Appends the bytes of all rows of all strips.
-fn append_strips(bytes: &mut Vec<u8>, block: &[u8], strips: &[Strip]) -> Result<(), AllocError>
+/// Appends the bytes of all rows of a grid.
+fn append_grid(bytes: &mut Vec<u8>, block: &[u8], grid: &Grid) -> Result<(), AllocError>
     ensures { OnOk result (bytes.new.items
-        ≡ bytes.old.items ++ map (slice_index block.now) (strips_places strips.now)) }
+        ≡ bytes.old.items ++ map (slice_index block.now) (lines_left grid.now 0)) }
 {
-    for strip in strips {
-        append_strip(bytes, block, strip)?;
+    for number in 0..grid.lines() {
+        append_strip(bytes, block, &grid.line(number))?;
     }
     Ok(())
 }
 
-/// The bytes of a block at the byte offsets of a walk over a set. The rows of strips are appended by
+/// Appends the bytes of all rows of all grids.
+fn append_grids(bytes: &mut Vec<u8>, block: &[u8], grids: &[Grid]) -> Result<(), AllocError>
+    ensures { OnOk result (bytes.new.items
+        ≡ bytes.old.items ++ map (slice_index block.now) (grids_places grids.now)) }
+{
+    for grid in grids {
+        append_grid(bytes, block, grid)?;
+    }
+    Ok(())
+}
+
+/// The bytes of a block at the byte offsets of a walk over a set. The rows of grids are appended by
 /// a loop of their own, and what bits mark by the walk.
 fn gather(alloc: Global, marks: &Marks, block: &[u8], count: usize) -> Result<Vec<u8>, AllocError>
     ensures { IfOk result (λ v. v.items ≡ map (slice_index block.now) (places_in marks.now)) }
 {
     let mut bytes = Vec::with_capacity(alloc, count)?;
-    append_strip(&mut bytes, block, marks.last())?;
-    append_strips(&mut bytes, block, marks.strips())?;
+    append_grid(&mut bytes, block, marks.last())?;
+    append_grids(&mut bytes, block, marks.grids())?;
     let mut walk = marks.bits();
     while let Some(range) = walk.next() {
         append_range(&mut bytes, block, range.from, range.width)?;

@@ -1,14 +1,17 @@
 //! `Strip`: rows of bytes at one step, such as every second element of an array, or a
 //! column of a table.
-ghost use Rattle.std.specs.Prelude.{◌≡◌, ℕ, ◌+◌, ◌*◌, ◌^◌, ◌<◌, ◌≤◌, ◌||◌, ◌/◌, ◌%◌, ◌⊎◌, true, false, IsTrue, IfSome, length, slice_index};
+ghost use Rattle.std.specs.Prelude.{◌≡◌, ℕ, ◌+◌, ◌-◌, ◌*◌, ◌^◌, ◌<◌, ◌≤◌, ◌||◌, ◌/◌, ◌%◌, ◌⊎◌, [], true, false, IsTrue, IfSome, length, slice_index};
 ghost use Rattle.std.specs.List.{flat_map};
 ghost use Rattle.nd_model.specs.Cells.Session.{is_in};
 ghost use Rattle.nd_model.specs.Arrays.Tuple.{count_up};
 ghost use Rattle.nd_marks.specs.Kept.{rows_left};
-ghost use Rattle.nd_marks.specs.Marks.{in_row, in_rows, in_strip, in_word};
+ghost use Rattle.nd_marks.specs.Marks.{in_row, in_rows, in_strip, in_word, moved};
 
 use nd_view::Run;
 use std::marker::Model;
+
+/// All rows of a strip, with the step behind the last, end here at the latest.
+pub(crate) const NEAR: u128 = 1 << 65;
 
 // A span of this many bytes or more has all granules.
 const MOST_GRANULAR: u128 = 4096;
@@ -115,7 +118,7 @@ impl Span {
     }
 
     /// Returns the bits of its granules of 64 bytes: bit `p / 64 % 64` for each byte offset `p`.
-    fn granules(self) -> u64
+    pub(crate) fn granules(self) -> u64
         ensures { (p : ℕ) → self.from ≤ p → p < self.to → in_word result (p / 64 % 64) ≡ true }
     {
         if self.to <= self.from {
@@ -136,7 +139,8 @@ impl Span {
 impl Strip {
     /// Returns a strip without rows.
     pub(crate) fn empty() -> Strip
-        ensures { (p : ℕ) → in_strip result p ≡ false }
+        ensures places { (p : ℕ) → in_strip result p ≡ false }
+        ensures walk { rows_left result 0 ≡ [] }
     {
         Strip {
             first: 0,
@@ -158,6 +162,13 @@ impl Strip {
             step: width,
             count: 1,
         }
+    }
+
+    /// The byte offset of the first row.
+    pub(crate) fn first(&self) -> u64
+        ensures { result ≡ self.now.first }
+    {
+        self.first
     }
 
     /// The count of rows.
@@ -190,6 +201,16 @@ impl Strip {
         u128::from(self.first) + u128::from(number) * u128::from(self.step)
     }
 
+    /// The bytes from the first row to the end of the last.
+    pub(crate) fn reach(&self) -> u128
+        ensures value { result
+            ≡ self.now.count * self.now.step - (self.now.step - self.now.width) }
+        ensures wide { self.now.width ≤ self.now.step }
+    {
+        let rows = u128::from(self.count) * u128::from(self.step);
+        rows.saturating_sub(u128::from(self.step - self.width))
+    }
+
     /// The byte offset behind the last row.
     pub(crate) fn end(&self) -> u128
         ensures past { (p : ℕ) → result ≤ p → in_strip self.now p ≡ false }
@@ -197,29 +218,46 @@ impl Strip {
             → self.now.first + n * self.now.step + self.now.width ≤ result }
         ensures near { result ≤ 2 ^ 65 }
     {
-        let rows = u128::from(self.first) + u128::from(self.count) * u128::from(self.step);
-        if self.count == 0 {
-            return rows;
-        }
-        rows - u128::from(self.step - self.width)
+        u128::from(self.first) + self.reach()
     }
 
-    /// The byte offsets from the first row to the end of the last.
-    pub(crate) fn span(&self) -> Span
-        ensures { (p : ℕ) → in_strip self.now p ≡ true → (result.from ≤ p) × (p < result.to) }
+    /// The strip that begins `by` bytes behind this one.
+    pub(crate) fn shift_by(&self, by: u64) -> Strip
+        requires first { self.now.first + by < 2 ^ 64 }
+        requires end { self.now.first + by + self.now.count * self.now.step ≤ 2 ^ 65 }
+        ensures { result ≡ moved self.now by }
     {
-        Span {
-            from: u128::from(self.first),
-            to: self.end(),
+        Strip {
+            first: self.first + by,
+            width: self.width,
+            step: self.step,
+            count: self.count,
         }
     }
 
-    /// Returns the bits of the granules that its rows may touch. A strip over 4,096 bytes or more
-    /// may touch each.
-    pub(crate) fn granules(&self) -> u64
-        ensures { (p : ℕ) → in_strip self.now p ≡ true → in_word result (p / 64 % 64) ≡ true }
+    /// Returns the strip with other rows of the same width, if they do not overlap and end in time.
+    pub(crate) fn with_rows(&self, step: u64, count: u64) -> Option<Strip>
+        ensures { IfSome result (λ r. r ≡ record self.now { step = step; count = count }) }
     {
-        self.span().granules()
+        let end = u128::from(self.first) + u128::from(count) * u128::from(step);
+        if step == 0 || self.width > step || end > NEAR {
+            return None;
+        }
+        Some(Strip {
+            first: self.first,
+            width: self.width,
+            step,
+            count,
+        })
+    }
+
+    /// Returns true only where one row contains all byte offsets of a span.
+    pub(crate) fn is_over(&self, span: Span) -> bool
+        ensures { IsTrue result → (p : ℕ) → span.from ≤ p → p < span.to
+            → in_strip self.now p ≡ true }
+    {
+        let first = u128::from(self.first);
+        self.count == 1 && first <= span.from && span.to <= first + u128::from(self.width)
     }
 
     /// Returns true only where all rows lie in a block of this length.

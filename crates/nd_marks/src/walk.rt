@@ -1,9 +1,10 @@
 //! `Walk`: a walk over the byte offsets of a set, a range at a time.
 
-ghost use Rattle.std.specs.Prelude.{◌≡◌, ℕ, ◌+◌, ◌-◌, ◌*◌, ◌^◌, ◌<◌, ◌≤◌, ◌&&◌, [], false, true, length, min, nat_le, nat_lt, MatchOption};
-ghost use Rattle.nd_marks.specs.Kept.{IsNext, bits_left, places_in, rows_left, strips_places};
+ghost use Rattle.std.specs.Prelude.{◌≡◌, ℕ, ◌+◌, ◌-◌, ◌*◌, ◌^◌, ◌<◌, ◌≤◌, ◌&&◌, ◌++◌, [], false, true, length, min, nat_le, nat_lt, IfSome, MatchOption};
+ghost use Rattle.nd_marks.specs.Kept.{IsNext, bits_left, grids_places, lines_left, places_in, rows_left};
 ghost use Rattle.nd_marks.specs.Marks.{in_word, Places};
 
+use crate::grid::Grid;
 use crate::strip::Strip;
 use std::marker::Model;
 
@@ -35,11 +36,14 @@ pub(crate) struct SetBits {
 /// clause sees the list of those that are left. It takes no memory.
 #[derive(Drop)]
 pub(crate) struct Walk<'m> {
-    // the rows of one strip, with the number of the next row, and the number of the next strip
+    // the rows of one line, with the number of the next row
     rows: Strip,
     row: u64,
-    strips: &'m [Strip],
-    strip: usize,
+    // the lines of one grid, with the number of the next line, and the number of the next grid
+    grid: Grid,
+    line: u64,
+    grids: &'m [Grid],
+    next: usize,
     // the bits from number `bit` on
     words: &'m [u64],
     bit: u128,
@@ -112,20 +116,21 @@ fn next_bits(words: &[u64], at: &mut u128) -> Option<ByteRange>
     None
 }
 
-/// The number of byte offsets in rows, or the greatest number where there are more.
-fn count_rows(rows: &Strip) -> u64
-    ensures { result ≡ min (length (rows_left rows.now 0)) (2 ^ 64 - 1) }
+/// The number of byte offsets in a grid, or the greatest number where there are more.
+fn count_lines(grid: &Grid) -> u64
+    ensures { result ≡ min (length (lines_left grid.now 0)) (2 ^ 64 - 1) }
 {
-    rows.count().saturating_mul(rows.width())
+    let rows = grid.strip().count().saturating_mul(grid.strip().width());
+    grid.lines().saturating_mul(rows)
 }
 
-/// The number of byte offsets in strips, or `most` where there are more.
-fn count_strips(strips: &[Strip], most: u64) -> u64
-    ensures { result ≡ min (length (strips_places strips.now)) most }
+/// The number of byte offsets in grids, or `most` where there are more.
+fn count_grids(grids: &[Grid], most: u64) -> u64
+    ensures { result ≡ min (length (grids_places grids.now)) most }
 {
     let mut count = 0;
-    for rows in strips {
-        count = count_rows(rows).saturating_add(count).min(most);
+    for grid in grids {
+        count = count_lines(grid).saturating_add(count).min(most);
     }
     count
 }
@@ -146,42 +151,53 @@ fn count_bits(words: &[u64], most: u64) -> u64
 }
 
 /// The number of byte offsets in a set, or `most` where there are more.
-pub(crate) fn count_places(last: &Strip, strips: &[Strip], words: &[u64], most: u64) -> u64
+pub(crate) fn count_places(last: &Grid, grids: &[Grid], words: &[u64], most: u64) -> u64
     ensures { result ≡ min (length (places_in
-        (record { last = last.now; strips = strips.now; words = words.now }))) most }
+        (record { last = last.now; grids = grids.now; words = words.now }))) most }
 {
-    let rows = count_rows(last).saturating_add(count_strips(strips, most));
+    let rows = count_lines(last).saturating_add(count_grids(grids, most));
     rows.saturating_add(count_bits(words, most)).min(most)
 }
 
+/// The next line, of which no row has been walked, `None` where none is left.
+fn next_line(grid: &Grid, line: &mut u64) -> Option<Strip>
+    ensures rows { MatchOption result ((lines_left grid.now line.old ≡ [])
+        × (line.new ≡ line.old)) (λ s. lines_left grid.now line.old
+        ≡ rows_left s 0 ++ lines_left grid.now line.new) }
+    ensures step { IfSome result (λ s. (line.old < grid.now.lines)
+        × (line.new ≡ line.old + 1)) }
+{
+    if *line >= grid.lines() {
+        return None;
+    }
+    let rows = grid.line(*line);
+    *line += 1;
+    Some(rows)
+}
+
 impl<'m> Walk<'m> {
-    /// A walk over some strips and bits.
-    pub(crate) fn new(last: &Strip, strips: &'m [Strip], words: &'m [u64]) -> Walk<'m>
+    /// A walk over some grids and bits.
+    pub(crate) fn new(last: &Grid, grids: &'m [Grid], words: &'m [u64]) -> Walk<'m>
         ensures { result ≡ places_in
-            (record { last = last.now; strips = strips.now; words = words.now }) }
+            (record { last = last.now; grids = grids.now; words = words.now }) }
     {
         Walk {
-            rows: *last,
+            rows: Strip::empty(),
             row: 0,
-            strips,
-            strip: 0,
+            grid: *last,
+            line: 0,
+            grids,
+            next: 0,
             words,
             bit: 0,
         }
     }
 
-    /// A walk over bits alone, which stands behind all rows of a strip.
-    pub(crate) fn of_bits(last: &Strip, words: &'m [u64]) -> Walk<'m>
+    /// A walk over bits alone.
+    pub(crate) fn of_bits(words: &'m [u64]) -> Walk<'m>
         ensures { result ≡ bits_left words.now 0 }
     {
-        Walk {
-            rows: *last,
-            row: last.count(),
-            strips: &[],
-            strip: 0,
-            words,
-            bit: 0,
-        }
+        Walk::new(&Grid::empty(), &[], words)
     }
 
     /// The next range, at least one byte offset, or `None` where none is left.
@@ -193,12 +209,19 @@ impl<'m> Walk<'m> {
             if let Some(range) = next_row(&self.rows, &mut self.row) {
                 return Some(range);
             }
-            let Some(rows) = self.strips.get(self.strip) else {
+            if let Some(rows) = next_line(&self.grid, &mut self.line) {
+                self.rows = rows;
+                self.row = 0;
+                continue;
+            }
+            let Some(grid) = self.grids.get(self.next) else {
                 return next_bits(self.words, &mut self.bit);
             };
-            self.rows = *rows;
-            self.row = 0;
-            self.strip += 1;
+            // proof: the measure wants the count of lines to be below 2^64.
+            let _lines = grid.lines();
+            self.grid = *grid;
+            self.line = 0;
+            self.next += 1;
         }
     }
 }

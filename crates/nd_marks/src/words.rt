@@ -4,8 +4,9 @@ ghost use Rattle.std.specs.Int.{bit_at};
 ghost use Rattle.std.specs.List.{All, flat_map};
 ghost use Rattle.nd_model.specs.Cells.Session.{is_in};
 ghost use Rattle.nd_model.specs.Arrays.Tuple.{count_up};
-ghost use Rattle.nd_marks.specs.Marks.{has_bit, in_word, in_strip, in_strips};
+ghost use Rattle.nd_marks.specs.Marks.{HasRoom, has_bit, in_grid, in_grids, in_strip, in_word};
 
+use crate::grid::Grid;
 use crate::strip::Strip;
 use crate::walk::next_set;
 use std::alloc::AllocError;
@@ -296,15 +297,27 @@ fn put_strip(words: &mut Vec<u64>, strip: &Strip)
     }
 }
 
-/// Sets the bits of all rows of a strip.
-pub(crate) fn set_strip(words: &mut Vec<u64>, strip: &Strip) -> Result<(), AllocError>
+/// Sets the bits of all rows of a grid, for which there are words.
+fn put_grid(words: &mut Vec<u64>, grid: &Grid)
+    requires room { HasRoom (length words.old.items * 64) grid.now }
+    ensures len { length words.new.items ≡ length words.old.items }
+    ensures bits { (p : ℕ) → has_bit words.new.items p
+        ≡ (has_bit words.old.items p || in_grid grid.now p) }
+{
+    for number in 0..grid.lines() {
+        put_strip(words, &grid.line(number));
+    }
+}
+
+/// Sets the bits of all rows of a grid.
+pub(crate) fn set_grid(words: &mut Vec<u64>, grid: &Grid) -> Result<(), AllocError>
     ensures ok { OnOk result ((p : ℕ) → has_bit words.new.items p ≡ (has_bit words.old.items p
-        || in_strip strip.now p)) }
+        || in_grid grid.now p)) }
     ensures err { OnErr result ((p : ℕ)
         → has_bit words.new.items p ≡ has_bit words.old.items p) }
 {
-    grow(words, ((strip.end() + 63) / 64) as u64)?;
-    put_strip(words, strip);
+    grow(words, ((grid.end() + 63) / 64) as u64)?;
+    put_grid(words, grid);
     Ok(())
 }
 
@@ -328,44 +341,42 @@ fn add_words(words: &mut Vec<u64>, others: Vec<u64>) -> Result<(), AllocError>
     Ok(())
 }
 
-/// Makes room for the bits of all rows of these strips. The bits stay as they were.
-fn reserve_strips(words: &mut Vec<u64>, strips: &[Strip]) -> Result<(), AllocError>
+/// Makes room for the bits of all rows of these grids. The bits stay as they were.
+fn reserve_grids(words: &mut Vec<u64>, grids: &[Grid]) -> Result<(), AllocError>
     ensures same { (p : ℕ) → has_bit words.new.items p ≡ has_bit words.old.items p }
-    ensures room { OnOk result (All (λ s. (n : ℕ) → n < s.count
-        → s.first + n * s.step + s.width ≤ length words.new.items * 64) strips.now) }
+    ensures room { OnOk result (All (HasRoom (length words.new.items * 64)) grids.now) }
 {
-    for strip in strips {
-        grow(words, ((strip.end() + 63) / 64) as u64)?;
+    for grid in grids {
+        grow(words, ((grid.end() + 63) / 64) as u64)?;
     }
     Ok(())
 }
 
-/// Sets the bits of all rows of these strips, for which there are words.
-fn put_strips(words: &mut Vec<u64>, strips: &[Strip])
-    requires room { All (λ s. (n : ℕ) → n < s.count
-        → s.first + n * s.step + s.width ≤ length words.old.items * 64) strips.now }
+/// Sets the bits of all rows of these grids, for which there are words.
+fn put_grids(words: &mut Vec<u64>, grids: &[Grid])
+    requires room { All (HasRoom (length words.old.items * 64)) grids.now }
     ensures { (p : ℕ) → has_bit words.new.items p
-        ≡ (has_bit words.old.items p || in_strips strips.now p) }
+        ≡ (has_bit words.old.items p || in_grids grids.now p) }
 {
-    for strip in strips {
-        put_strip(words, strip);
+    for grid in grids {
+        put_grid(words, grid);
     }
 }
 
-/// Adds the bits of other words and of all rows of these strips. Where memory is wanted, the bits
+/// Adds the bits of other words and of all rows of these grids. Where memory is wanted, the bits
 /// stay as they were.
 pub(crate) fn add_bits(
     words: &mut Vec<u64>,
     others: Vec<u64>,
-    strips: &[Strip],
+    grids: &[Grid],
 ) -> Result<(), AllocError>
     ensures ok { OnOk result ((p : ℕ) → has_bit words.new.items p ≡ ((has_bit words.old.items p
-        || has_bit others.items p) || in_strips strips.now p)) }
+        || has_bit others.items p) || in_grids grids.now p)) }
     ensures err { OnErr result ((p : ℕ)
         → has_bit words.new.items p ≡ has_bit words.old.items p) }
 {
-    reserve_strips(words, strips)?;
+    reserve_grids(words, grids)?;
     add_words(words, others)?;
-    put_strips(words, strips);
+    put_grids(words, grids);
     Ok(())
 }

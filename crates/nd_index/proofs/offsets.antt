@@ -1,3 +1,5 @@
+pub mod Blocks
+pub mod Even
 pub mod NearWays
 pub mod Numbers
 pub mod Pushed

@@ -7,6 +7,7 @@ mod row;
 mod ways;
 
 pub use axes::Axes;
+pub(crate) use axes::Front;
 pub use near::{are_near, is_near, line_of, push_near_places, push_on_line};
 pub use placing::{place_on, places_on, push_places};
 pub use row::{KeptWays, Row};

@@ -8,13 +8,13 @@ use Rattle.nd_model.specs.Arrays.Strides.{way_to}
 use Rattle.nd_model.specs.Arrays.Tuple.{elements_of}
 use Rattle.nd_places.proofs.Fronts.{drop_one}
 
-elements_split : (a : ℕ) (shape : List ℕ) → elements_of shape ≡ elements_of (take a shape) * elements_of (drop a shape)
+pub elements_split : (a : ℕ) (shape : List ℕ) → elements_of shape ≡ elements_of (take a shape) * elements_of (drop a shape)
 elements_split zero shape = omega arith
 elements_split (suc a) [] = omega arith
 elements_split (suc a) (n ∷ shape) =
     ap (λ k. n * k) (elements_split a shape) ∙ sym (mul_assoc n (elements_of (take a shape)) (elements_of (drop a shape)))
 
-parts_few : (x y z : ℕ) → z ≡ x * y → 0 < z → ((0 < x) × (x ≤ z)) × ((0 < y) × (y ≤ z))
+pub parts_few : (x y z : ℕ) → z ≡ x * y → 0 < z → ((0 < x) × (x ≤ z)) × ((0 < y) × (y ≤ z))
 parts_few zero y z e some = absurd (omega (arith, e))
 parts_few (suc x) zero z e some = absurd (omega (arith, e))
 parts_few (suc x) (suc y) z e some = ((omega arith, omega (arith, e)), (omega arith, omega (arith, e)))

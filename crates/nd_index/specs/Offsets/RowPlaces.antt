@@ -1,9 +1,10 @@
 -- The places of rows, which begin at the ends of ways.
-use Rattle.std.specs.Prelude.{◌≡◌, ℕ, ◌^◌, ◌≤◌, ℤ, pos, ◌+ℤ◌, unsigned_abs, List, length, map, slice_index_or}
+use Rattle.std.specs.Prelude.{◌≡◌, ℕ, ◌+◌, ◌*◌, ◌/◌, ◌<◌, ℤ, pos, ◌+ℤ◌, ◌*ℤ◌, List, length, map, slice_index_or}
 use Rattle.std.specs.List.{flat_map}
 use Rattle.nd_model.specs.Indexing.Advanced as model
 use Rattle.nd_model.specs.Arrays.Strides.{way_to}
 use Rattle.nd_places.specs.Near.{IsNear, place_on}
+use Rattle.nd_index.specs.Offsets.Ways.{HasSmallStep}
 use Rattle.nd_index.specs.declared.offsets.axes.Axes.{Axes}
 use Rattle.nd_index.specs.declared.offsets.row.KeptWays.{KeptWays}
 use Rattle.nd_index.specs.declared.offsets.row.Row.{Row}
@@ -12,9 +13,17 @@ use Rattle.nd_index.specs.declared.offsets.row.Row.{Row}
 abbrev pub way_on : Axes → ℕ → ℤ
 way_on axes k = way_to (model.unravelled axes.lengths.now k) axes.strides.now
 
--- there is one axis, and each element of it is near the one before
+-- each element is a small step behind the one before, always the same
 abbrev pub HasStep : Axes → Type 0
-HasStep axes = (length axes.strides.now ≡ 1) × (unsigned_abs (slice_index_or axes.strides.now 0 (pos 0)) ≤ 2 ^ 29)
+HasStep axes = HasSmallStep axes.lengths.now axes.strides.now
+
+-- element r of each block of so many elements is r steps behind the first of the block
+abbrev pub HasBlocks : Axes → ℕ → ℤ → Type 0
+HasBlocks axes count step = (q r : ℕ) → r < count → way_on axes (q * count + r) ≡ way_on axes (q * count) +ℤ (pos r *ℤ step)
+
+-- a block of so many elements begins with this one, which is so far from the first of all
+abbrev pub IsFront : Axes → ℕ → ℕ → ℤ → Type 0
+IsFront axes count first way = (first / count * count ≡ first) × (way ≡ way_on axes first)
 
 -- rows of one element, and the first of them is near the block
 abbrev pub IsOnLine : Row → Axes → Type 0

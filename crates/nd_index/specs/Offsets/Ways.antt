@@ -1,6 +1,7 @@
 -- How far elements are from the first one.
-use Rattle.std.specs.Prelude.{ℕ, ◌-◌, ◌==◌, ◌^◌, ◌≤◌, ℤ, pos, ◌+ℤ◌, unsigned_abs, if◌then◌else◌, List, [], ◌∷◌, ◌++◌, length, map, replicate, slice_index_or}
+use Rattle.std.specs.Prelude.{ℕ, ◌≡◌, ◌-◌, ◌==◌, ◌^◌, ◌≤◌, ℤ, pos, ◌+ℤ◌, ◌*ℤ◌, unsigned_abs, if◌then◌else◌, List, [], ◌∷◌, ◌++◌, length, map, replicate, slice_index_or}
 use Rattle.std.specs.List.{All}
+use Rattle.nd_model.specs.Indexing.Advanced.{unravelled}
 use Rattle.nd_model.specs.Arrays.Strides.{way_to}
 use Rattle.nd_model.specs.Arrays.Tuple.{elements_of, indices}
 
@@ -11,6 +12,14 @@ ways shape strides = map (λ t. way_to t strides) (indices shape)
 -- a few of them may be added up
 abbrev pub AreNear : List ℤ → Type 0
 AreNear zs = All (λ z. unsigned_abs z ≤ 2 ^ 112) zs
+
+-- element k of axes with these lengths and strides is k steps behind the first one
+abbrev pub IsEvenBy : ℤ → List ℕ → List ℤ → Type 0
+IsEvenBy step shape strides = (k : ℕ) → way_to (unravelled shape k) strides ≡ pos k *ℤ step
+
+-- so they are walked by one step, which is small
+abbrev pub HasSmallStep : List ℕ → List ℤ → Type 0
+HasSmallStep shape strides = (step : ℤ) × (unsigned_abs step ≤ 2 ^ 29) × IsEvenBy step shape strides
 
 -- the strides by which a tuple of so many axes leads to the number of the element of a shape that stands there
 abbrev pub narrowed_strides : List ℕ → List ℤ

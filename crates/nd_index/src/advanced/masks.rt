@@ -11,7 +11,7 @@ ghost use Rattle.nd_index.specs.Items.Packed.{IsPacked};
 
 use crate::advanced::direct::push_row;
 use crate::items::{IndexArray, is_packed, read_at};
-use crate::offsets::{Axes, Row, line_of, push_on_line};
+use crate::offsets::{Axes, Front, Row, line_of, push_on_line};
 use nd_types::{Elem, Kind};
 use nd_view::Run;
 use std::alloc::AllocError;
@@ -71,6 +71,31 @@ fn write_true_numbers(numbers: &mut [u64], first: u64, mask: &IndexArray<'_>, ru
     }
 }
 
+// Appends the byte offsets that these flat indices select. Divisions are left to the first of those
+// in each block.
+fn push_in_blocks(
+    places: &mut Vec<u64>,
+    row: &Row<'_>,
+    axes: &Axes<'_>,
+    numbers: &[u64],
+) -> Result<(), AllocError>
+    requires { All (λ k. k ≤ 2 ^ 32) numbers.now }
+    ensures { OnOk result (places.new.items ≡ places.old.items
+        ++ chosen_places row.now axes.now numbers.now) }
+{
+    let block = axes.even_block();
+    let mut front = Front {
+        number: 0,
+        way: axes.way(0),
+    };
+    for number in numbers {
+        front = axes.front_of(block, front, *number);
+        let behind = (*number - front.number) as i64 * block.step;
+        push_row(places, row, front.way + i128::from(behind))?;
+    }
+    Ok(())
+}
+
 // Appends the byte offsets that these flat indices select.
 fn push_numbers(
     places: &mut Vec<u64>,
@@ -85,10 +110,7 @@ fn push_numbers(
     if let Some(line) = line_of(row, axes) {
         return push_on_line(places, line, numbers);
     }
-    for number in numbers {
-        push_row(places, row, axes.way(*number))?;
-    }
-    Ok(())
+    push_in_blocks(places, row, axes, numbers)
 }
 
 // Appends the byte offsets that the true elements of a run select. `first` is the index of its

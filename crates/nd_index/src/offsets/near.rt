@@ -46,14 +46,14 @@ pub fn push_near_places(places: &mut Vec<u64>, start: i64, ways: &[i128]) -> Res
     Ok(())
 }
 
-/// Returns the strided line on which the elements of one axis lie, or `None` where they are several
-/// for each index, or not near.
+/// Returns the strided line on which the elements of some axes lie in C order, as contiguous ones do.
+/// `None` where there is none, where each index selects several elements, or where they are not near.
 pub fn line_of(row: &Row<'_>, axes: &Axes<'_>) -> Option<StridedLine>
     ensures { MatchOption result (IsOnLine row.now axes.now → ⊥)
         (λ l. (k : ℕ) → row_places row.now (way_on axes.now k)
         ≡ place_on (l.start +ℤ (pos k *ℤ l.step)) ∷ []) }
 {
-    let step = axes.step()?;
+    let step = axes.step?;
     if row.ways.len() != 1 {
         return None;
     }

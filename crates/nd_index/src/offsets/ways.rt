@@ -1,16 +1,19 @@
 //! `ways_of`: the offsets of elements from the first one, by the strides of their axes.
-ghost use Rattle.std.specs.Prelude.{◌≡◌, ◌==◌, if◌then◌else◌, ◌^◌, ◌<◌, ◌≤◌, ◌++◌, pos, ◌+ℤ◌, ◌*ℤ◌, unsigned_abs, length, map, IfOk, OnOk};
+ghost use Rattle.std.specs.Prelude.{◌≡◌, ◌==◌, if◌then◌else◌, ◌^◌, ◌<◌, ◌≤◌, ◌++◌, pos, ◌+ℤ◌, ◌*ℤ◌, unsigned_abs, length, map, IfOk, OnOk, MatchOption};
 ghost use Rattle.std.specs.List.{All, flat_map};
 ghost use Rattle.nd_model.specs.Indexing.Advanced.{unravelled};
 ghost use Rattle.nd_model.specs.Arrays.Broadcast.{own_tuple};
 ghost use Rattle.nd_model.specs.Arrays.Strides.{way_to};
 ghost use Rattle.nd_model.specs.Arrays.Tuple.{count_up, elements_of, indices, number};
 ghost use Rattle.nd_index.specs.Offsets.Ways as model;
-ghost use Rattle.nd_index.specs.Offsets.Ways.{AreNear, ways};
+ghost use Rattle.nd_index.specs.Offsets.Ways.{AreNear, HasSmallStep, IsEvenBy, ways};
 
 use nd_view::element_count;
 use smallvec::SmallVec;
 use std::alloc::{AllocError, Global};
+
+// The greatest step of a line whose byte offsets are worked out in 64 bits.
+const MOST_STEP: u128 = 1 << 29;
 
 // The offset of index `by` on an axis of this stride.
 #[inline(always)]
@@ -109,6 +112,38 @@ pub(crate) fn way_of(number: u64, count: u64, lengths: &[u64], strides: &[i128])
     } else {
         way_over(number, count, lengths, strides)
     }
+}
+
+/// Returns the step from each of `count` elements to the next in C order, in bytes, where it is
+/// constant and small.
+///
+/// Lengths (2, 3) with strides (24, 8) have step 8; with strides (32, 8) they have none.
+pub(crate) fn even_step(count: u64, lengths: &[u64], strides: &[i128]) -> Option<i64>
+    requires count { count ≡ elements_of lengths.now }
+    requires some { 0 < count }
+    requires few { count ≤ 2 ^ 24 }
+    requires axes { length strides.now ≡ length lengths.now }
+    requires most { length lengths.now ≤ 64 }
+    requires range { All (λ s. unsigned_abs s < 2 ^ 64) strides.now }
+    ensures { MatchOption result (HasSmallStep lengths.now strides.now → ⊥)
+        (λ s. (unsigned_abs s ≤ 2 ^ 29) × IsEvenBy s lengths.now strides.now) }
+{
+    let step = way_of(1, count, lengths, strides);
+    if step.unsigned_abs() > MOST_STEP {
+        return None;
+    }
+    let mut each = count;
+    for (axis, length) in lengths.iter().enumerate() {
+        each /= *length;
+        // The only index of an inner axis of length 1 is 0, so its stride is never used.
+        if axis > 0 && *length == 1 {
+            continue;
+        }
+        if strides[axis] != scale(each, step) {
+            return None;
+        }
+    }
+    Some(step as i64)
 }
 
 /// Returns the offsets of the elements of these flat indices in C order, in the unit of the

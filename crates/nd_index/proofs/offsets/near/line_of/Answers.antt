@@ -16,19 +16,21 @@ pub invariant_of-result : goal.invariant_of-result
 invariant_of-result c =
     let row = c.args.row.now in
     let near : IsNear (to_z w128 (of_z w128 (to_z w128 (of_z w128 row.start) +ℤ to_z w128 (of_z w128 (get_or row.ways.now 0 (pos 0)))))) = c.if-not-is_near.ensures.0 refl in
+    let even = c.args.axes.now.even c.in_ok-step.step c.in_ok-step.was in
     record {
       start_near = omega (arith, ints, near);
-      step_near = omega (arith, ints, c.in_ok-step.ensures.0);
+      step_near = omega (arith, ints, even.0);
     }
 
 pub returns : goal.returns
 returns c = λ k.
     let row = c.args.row.now in let axes = c.args.axes.now in let first = get_or row.ways.now 0 (pos 0) in
+    let even = axes.even c.in_ok-step.step c.in_ok-step.was in
     let near : IsNear (to_z w128 (of_z w128 (to_z w128 (of_z w128 row.start) +ℤ to_z w128 (of_z w128 first)))) = c.if-not-is_near.ensures.0 refl in
     let start : to_z w64 (of_z w64 (to_z w128 (of_z w128 (to_z w128 (of_z w128 row.start) +ℤ to_z w128 (of_z w128 first))))) ≡ row.start +ℤ first
     = omega (arith, ints, near_at row.ways.now 0 row.each, row.start_near, near) in
-    let step : to_z w64 (of_z w64 c.in_ok-step.step) ≡ c.in_ok-step.step = omega (arith, ints, c.in_ok-step.ensures.0) in
-    let same : pos k *ℤ to_z w64 (of_z w64 c.in_ok-step.step) ≡ way_on axes k = ap (λ t. pos k *ℤ t) step ∙ sym (c.in_ok-step.ensures.1 k) in
+    let step : to_z w64 (of_z w64 c.in_ok-step.step) ≡ c.in_ok-step.step = omega (arith, ints, even.0) in
+    let same : pos k *ℤ to_z w64 (of_z w64 c.in_ok-step.step) ≡ way_on axes k = ap (λ t. pos k *ℤ t) step ∙ sym (even.1 k) in
     let sum : (row.start +ℤ way_on axes k) +ℤ first
     ≡ to_z w64 (of_z w64 (to_z w128 (of_z w128 (to_z w128 (of_z w128 row.start) +ℤ to_z w128 (of_z w128 first))))) +ℤ (pos k *ℤ to_z w64 (of_z w64 c.in_ok-step.step))
     = joined row.start (way_on axes k) first _ _ start same in

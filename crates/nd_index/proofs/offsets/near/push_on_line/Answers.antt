@@ -1,21 +1,12 @@
 use Rattle.std.proofs.Common.{◌≡◌, ℕ, ◌<◌, ◌≤◌, ◌^◌, ◌++◌, map, length, get_or, pos, to_z, of_z, ap, ◌∙◌, arith, take_all}
-use Rattle.std.specs.Prelude.{ℤ, ◌+ℤ◌, ◌*ℤ◌, unsigned_abs}
+use Rattle.std.specs.Prelude.{◌+ℤ◌, ◌*ℤ◌}
 use Rattle.std.specs.Int.{w64}
 use Rattle.std.proofs.lemmas.Int.{ints, fits_signed_from_abs}
 use Rattle.nd_places.specs.Near.{place_on}
 use Rattle.nd_places.proofs.Found.{near_product}
+use Rattle.nd_index.proofs.offsets.NearWays.{product, held}
 use Rattle.nd_index.proofs.offsets.Pushed.{mapped_again}
 use Rattle.nd_index.proofs.offsets.near.push_on_line.Goals as goal
-
--- the product of a step and a number, as the code has both
-product : (n : ℕ) (step : ℤ) → n ≤ 2 ^ 32 → unsigned_abs step ≤ 2 ^ 29 → to_z w64 n *ℤ to_z w64 (of_z w64 step) ≡ pos n *ℤ step
-product n step few near =
-    let whole : to_z w64 n ≡ pos n = omega (arith, ints, few) in
-    let same : to_z w64 (of_z w64 step) ≡ step = omega (arith, ints, near) in
-    λ i. whole i *ℤ same i
-
-held : (n : ℕ) (step : ℤ) → n ≤ 2 ^ 32 → unsigned_abs step ≤ 2 ^ 29 → to_z w64 (of_z w64 (to_z w64 n *ℤ to_z w64 (of_z w64 step))) ≡ pos n *ℤ step
-held n step few near = omega (arith, ints, product n step few near, near_product n step few near)
 
 pub overflow_mul-number : goal.overflow_mul-number
 overflow_mul-number c =

@@ -8,6 +8,7 @@ ghost use Rattle.nd_element.specs.Elements.{AreHeld};
 ghost use Rattle.nd_assign.specs.Copies.{with_copies};
 
 use nd_block::store_at;
+use nd_convert::conversion::is_long_contiguous;
 use nd_element::{number_of, spot};
 use nd_types::{Elem, wrap};
 use nd_view::Run;
@@ -63,7 +64,7 @@ pub(crate) fn copy_run(
     let (start, step) = (run.start(), run.step());
     let (from_start, from_step) = (from_run.start(), from_run.step());
     let (size, from_size) = (i128::from(to.size()), i128::from(from.size()));
-    let is_contiguous = run.is_contiguous(to.size());
+    let is_contiguous = is_long_contiguous(run, to.size());
     if is_contiguous && from_run.is_contiguous(from.size()) {
         copy_each(
             out, to, start, size, bytes, from, from_start, from_size, count,

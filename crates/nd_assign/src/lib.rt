@@ -16,6 +16,7 @@ mod stretch;
 mod structures;
 mod views;
 mod walk;
+mod whole_run;
 mod within;
 
 pub use assignment::Assignment;

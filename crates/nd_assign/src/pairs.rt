@@ -7,6 +7,7 @@ ghost use Rattle.nd_assign.specs.Copies.{with_copies};
 
 use crate::gapless::copy_gapless;
 use crate::kernel::copy_run;
+use nd_convert::conversion::is_long_contiguous;
 use nd_element::{is_elem, keeps_bytes};
 use nd_types::{Elem, Kind};
 use nd_view::Run;
@@ -119,7 +120,7 @@ pub(crate) fn copy_numbers(
 {
     if is_elem(to, from) {
         let size = to.size();
-        if keeps_bytes(to) && run.is_contiguous(size) && from_run.is_contiguous(size) {
+        if keeps_bytes(to) && is_long_contiguous(run, size) && from_run.is_contiguous(size) {
             copy_gapless(out, to, run, bytes, from_run);
             return;
         }

@@ -9,6 +9,7 @@ ghost use Rattle.nd_assign.specs.Copies.{with_copies};
 use crate::pairs::copy_numbers;
 use crate::structures::copy_structures;
 use crate::walk::Walk;
+use crate::whole_run::{copy_whole_run, whole_run};
 use nd_types::ElemType;
 use nd_view::{Run, View};
 
@@ -68,8 +69,8 @@ fn copy_next(
     }
 }
 
-/// Copies the elements of a view of these bytes to the target, converted, in C order.
-pub(crate) fn copy_views(out: &mut [u8], target: &View, bytes: &[u8], source: &View)
+// Copies the elements of a view to the target, run by run.
+fn copy_by_runs(out: &mut [u8], target: &View, bytes: &[u8], source: &View)
     requires types { converts source.now.element target.now.element ≡ true }
     requires counts { length source.now.places ≡ length target.now.places }
     requires out { All (λ p. p + item_size target.now.element ≤ length out.old) target.now.places }
@@ -84,4 +85,24 @@ pub(crate) fn copy_views(out: &mut [u8], target: &View, bytes: &[u8], source: &V
     while let Some(run) = runs.next() {
         copy_next(out, target.elem(), &run, bytes, source.elem(), &mut walk);
     }
+}
+
+/// Copies the elements of a view of these bytes to the target, converted, in C order.
+pub(crate) fn copy_views(out: &mut [u8], target: &View, bytes: &[u8], source: &View)
+    requires types { converts source.now.element target.now.element ≡ true }
+    requires counts { length source.now.places ≡ length target.now.places }
+    requires out { All (λ p. p + item_size target.now.element ≤ length out.old) target.now.places }
+    requires held { All (λ p. p + item_size source.now.element ≤ length bytes.now)
+        source.now.places }
+    ensures len { length out.new ≡ length out.old }
+    ensures bytes { out.new ≡ with_copies target.now.element source.now.element bytes.now
+        target.now.places source.now.places out.old }
+{
+    if let (ElemType::One(to), ElemType::One(from)) = (target.elem(), source.elem()) {
+        if let Some(run) = whole_run(source) {
+            copy_whole_run(out, *to, target, bytes, *from, &run);
+            return;
+        }
+    }
+    copy_by_runs(out, target, bytes, source);
 }

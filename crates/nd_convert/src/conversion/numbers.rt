@@ -2,19 +2,29 @@
 //! fits the nearest cache, and each byte of the block is written once.
 ghost use Rattle.std.specs.Prelude.{◌≡◌, ◌+◌, ◌*◌, ◌≤◌, ◌++◌, length, IfOk};
 ghost use Rattle.nd_model.specs.Arrays.Element.{size_of};
+ghost use Rattle.nd_model.specs.Arrays.View.{One};
 ghost use Rattle.nd_convert.specs.Conversion.Converted.{converted_bytes};
 
+use crate::conversion::held::fill_held;
 use crate::conversion::run::convert;
 use nd_block::{Filling, RawBlock};
 use nd_types::Elem;
 use nd_view::{Run, View};
 use std::alloc::{AllocError, Global};
 
-// The numbers that are converted at a time.
-const CHUNK: u64 = 1024;
+/// The numbers that are converted at a time.
+pub(crate) const CHUNK: u64 = 1024;
 
-// Appends the numbers of a run, converted. The buffer has room for a chunk.
-fn fill_run(out: &mut Filling, buffer: &mut [u8], to: Elem, bytes: &[u8], from: Elem, run: &Run)
+/// Appends the numbers of a run, converted. The buffer has room for a chunk.
+#[inline(never)]
+pub(crate) fn fill_run(
+    out: &mut Filling,
+    buffer: &mut [u8],
+    to: Elem,
+    bytes: &[u8],
+    from: Elem,
+    run: &Run,
+)
     requires buffer { length buffer.old ≡ 8192 }
     requires room { length run.now * size_of to.kind ≤ out.old.1 }
     ensures buffer { length buffer.new ≡ length buffer.old }
@@ -34,8 +44,8 @@ fn fill_run(out: &mut Filling, buffer: &mut [u8], to: Elem, bytes: &[u8], from: 
     }
 }
 
-// Appends the numbers of a view in C order, converted.
-fn fill_view(out: &mut Filling, to: Elem, bytes: &[u8], from: Elem, view: &View)
+/// Appends the numbers of a view in C order, converted. A byte past the end reads as 0.
+pub(crate) fn fill_view(out: &mut Filling, to: Elem, bytes: &[u8], from: Elem, view: &View)
     requires { length view.now.places * size_of to.kind ≡ out.old.1 }
     ensures left { out.new.1 ≡ 0 }
     ensures written { out.new.0 ≡ out.old.0
@@ -57,9 +67,14 @@ pub(crate) fn convert_view(
     from: Elem,
     view: &View,
 ) -> Result<RawBlock, AllocError>
+    requires { view.now.element ≡ One from }
     ensures { IfOk result (λ b. b ≡ converted_bytes to from bytes.now view.now.places) }
 {
     let mut out = Filling::with_room(alloc, view.count() * to.size() as usize)?;
-    fill_view(&mut out, to, bytes, from, view);
+    if view.lies_within(bytes.len() as u64) {
+        fill_held(&mut out, to, bytes, from, view);
+    } else {
+        fill_view(&mut out, to, bytes, from, view);
+    }
     Ok(out.finish())
 }

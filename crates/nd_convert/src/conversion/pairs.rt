@@ -136,9 +136,9 @@ fn reorder_kind(out: &mut [u8], to: Elem, bytes: &[u8], from: Elem, run: &Run)
     }
 }
 
-// The dtype of the signed kind of the same itemsize, which has the same bytes for each number. A
-// Boolean stays.
-fn as_signed(elem: Elem) -> Elem
+/// Returns the dtype of the signed kind of the same itemsize, which has the same bytes for each
+/// number. A Boolean stays.
+pub(crate) fn as_signed(elem: Elem) -> Elem
     ensures bytes { (z : ℤ) → bytes_of result (wrap result.kind z)
         ≡ bytes_of elem (wrap elem.kind z) }
     ensures size { size_of result.kind ≡ size_of elem.kind }

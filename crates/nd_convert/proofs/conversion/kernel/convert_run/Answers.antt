@@ -15,25 +15,25 @@ convert_each-requires-clause-held c =
     let fits : FitsSigned w128 c.from.result = search rules in
     let s : cast_signed w128 (cast_unsigned w128 c.from.result) ≡ pos size = to_z-of_z fits ∙ c.from.ensures ∙ ap pos c.size-size.ensures.value in
     contiguous_within a.run.now c.start.result c.count.result size c.size-size.result _ c.count.ensures.value c.start.ensures s c.size-size.ensures.value
-    (c.is_contiguous.ensures.0 c.if-is_contiguous.true) (length a.bytes.now) c.requires.held
+    (c.is_long_contiguous.ensures.0 c.if-is_long_contiguous.true).1 (length a.bytes.now) c.requires.held
 
-pub returns-then-is_contiguous : goal.returns-then-is_contiguous
-returns-then-is_contiguous c =
+pub returns-then-is_long_contiguous : goal.returns-then-is_long_contiguous
+returns-then-is_long_contiguous c =
     let a = c.args in let size = size_of a.from.kind in
     let fits : FitsSigned w128 c.from.result = search rules in
     let s : cast_signed w128 (cast_unsigned w128 c.from.result) ≡ pos size = to_z-of_z fits ∙ c.from.ensures ∙ ap pos c.size-size.ensures.value in
     c.convert_each.ensures
     ∙ ap (converted_bytes a.to a.from a.bytes.now)
     (contiguous_is a.run.now c.start.result c.count.result size c.size-size.result _ c.count.ensures.value c.start.ensures s c.size-size.ensures.value
-    (c.is_contiguous.ensures.0 c.if-is_contiguous.true))
+    (c.is_long_contiguous.ensures.0 c.if-is_long_contiguous.true).1)
 
-pub returns-else-is_contiguous : goal.returns-else-is_contiguous
-returns-else-is_contiguous c =
+pub returns-else-is_long_contiguous : goal.returns-else-is_long_contiguous
+returns-else-is_long_contiguous c =
     let a = c.args in let ps = a.run.now in
-    let start = c.start-else-is_contiguous.result in let step = c.step.result in
+    let start = c.start-else-is_long_contiguous.result in let step = c.step.result in
     let fits : FitsSigned w128 step = search rules in
     let s : cast_signed w128 (cast_unsigned w128 step) ≡ step = to_z-of_z fits in
     let places : (k : ℕ) → k < length ps → place_at start step k ≡ pos (get_or ps k 0)
-    = λ k lt. ap (λ f. place_at f step k) c.start-else-is_contiguous.ensures ∙ c.step.ensures.places k lt in
-    c.convert_each-else-is_contiguous.ensures
+    = λ k lt. ap (λ f. place_at f step k) c.start-else-is_long_contiguous.ensures ∙ c.step.ensures.places k lt in
+    c.convert_each-else-is_long_contiguous.ensures
     ∙ ap (converted_bytes a.to a.from a.bytes.now) ((λ i. run_places start (s i) (c.count.ensures.value i)) ∙ run_is ps start step places)

@@ -4,7 +4,7 @@ use Rattle.nd_model.specs.Arrays.View.{ElementType, item_size}
 use Rattle.nd_view.proofs.ByRuns.{in_run, behind_run}
 use Rattle.nd_assign.specs.Copies.{with_copies}
 use Rattle.nd_assign.proofs.Copied.{copies-append}
-use Rattle.nd_assign.proofs.views.copy_views.Goals as goal
+use Rattle.nd_assign.proofs.views.copy_by_runs.Goals as goal
 
 pub copy_next-requires-clause-out : goal.copy_next-requires-clause-out
 copy_next-requires-clause-out c =

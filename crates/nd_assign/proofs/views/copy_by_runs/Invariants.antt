@@ -2,7 +2,7 @@ use Rattle.std.proofs.Common.{◌≡◌, ◌+◌, ◌≤◌, length}
 use Rattle.std.specs.List.{All, concat}
 use Rattle.nd_model.specs.Arrays.View.{item_size}
 use Rattle.nd_assign.specs.Copies.{with_copies}
-use Rattle.nd_assign.proofs.views.copy_views.Given as goal
+use Rattle.nd_assign.proofs.views.copy_by_runs.Given as goal
 
 abbrev pub invariant-loop-run : goal.invariant-loop-run
 invariant-loop-run l = record {

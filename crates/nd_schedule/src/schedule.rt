@@ -15,6 +15,7 @@ mod shifting;
 mod snapshots;
 mod stopping;
 mod sweep;
+mod taking;
 mod trying;
 
 pub use draft::Draft;

@@ -1,6 +1,6 @@
 -- A cell that moves, and the sweeps around it.
 use Rattle.std.proofs.Common.{◌≡◌, ℕ, Bool, ◌+◌, ◌-◌, ◌^◌, ◌<◌, ◌≤◌, ◌⊎◌, min, List, [], ◌∷◌, zero, suc, length, map, take, get_or, Option, Some, None, Result, Ok, Err, IfOk, IfSome, refl, sym, ap, ap₂, subst, ◌∙◌, inl, inr, arith, true}
-use Rattle.std.specs.Prelude.{insert, remove, is_ok, MatchOption}
+use Rattle.std.specs.Prelude.{insert, remove, is_ok, MatchOption, OnErr}
 use Rattle.std.proofs.lemmas.Bool.{cases_lt}
 use Rattle.std.proofs.lemmas.List.{ext_get_or, get_or-map, get_or-take, length-map}
 use Rattle.std.proofs.lemmas.List.Edits.{length-insert, length-remove, get_or-insert_at, get_or-insert_below, get_or-insert_above, get_or-remove_below, get_or-remove_above}
@@ -42,6 +42,16 @@ if_ok_more (Err e) p f = tt
 pub ended : {X E : Type 0} {P : Type 0} (res : Result X E) → IfOk res (λ _. P) → is_ok res ≡ true → P
 ended (Ok x) p ok = p
 ended (Err e) p ok = absurd (cc)
+
+-- what holds of a value that is handed on once all went well
+pub from_hand_on : {A X E : Type 0} (P : X → Type 0) (res : Result X E) (done : Result A E) (x : X) → IfOk res (λ y. (is_ok done ≡ true) × (y ≡ x)) → IfOk done (λ _. P x) → IfOk res P
+from_hand_on P (Ok y) done x h all = subst P (sym h.1) (ended done all h.0)
+from_hand_on P (Err e) done x h all = tt
+
+-- a fact holds also where a result is refused
+pub at_err : {X E : Type 0} (P : Type 0) (res : Result X E) → P → OnErr res P
+at_err P (Ok x) p = tt
+at_err P (Err e) p = p
 
 pub match_more : {X : Type 0} {A B : Type 0} {P Q : X → Type 0} (o : Option X) → MatchOption o A P → (A → B) → ((x : X) → P x → Q x) → MatchOption o B Q
 match_more None h f g = f h
@@ -272,6 +282,19 @@ module _ (old new : Book) (from to : ℕ) (cs : List Cell) (rs : List Record) (g
     world = m.world;
   }
 
+  -- the places of the cell that moves, and those behind them
+  pub from_within : from ≤ length old.cells
+  from_within = let h : from < length old.cells = m.stood in omega arith
+
+  pub from_next : from + 1 ≤ length old.cells
+  from_next = let h : from < length old.cells = m.stood in omega arith
+
+  pub to_within : to ≤ length old.cells
+  to_within = let h : to < length old.cells = m.goes in omega arith
+
+  pub to_next : to + 1 ≤ length old.cells
+  to_next = let h : to < length old.cells = m.goes in omega arith
+
   pub place_at : (i j : ℕ) → i ≤ length old.cells → j ≤ length old.cells → IsPlace old new i j
   place_at i j le le' = record { before = le; now = omega (arith, many); distinct = distinct_now }
 
@@ -388,6 +411,15 @@ module _ (old new : Book) (from to : ℕ) (cs : List Cell) (rs : List Record) (g
         words = words_moved;
         many = turned_many vs from to (omega (arith, m.stood)) (omega (arith, m.goes)) w w ∙ as_many ∙ sym (turned_many us from to (omega (arith, m.stood)) (omega (arith, m.goes)) x x);
       }
+
+pub below_next : (i : ℕ) → i < i + 1
+below_next i = omega arith
+
+pub below_more : (i j : ℕ) → i < j → i < j + 1
+below_more i j lt = omega arith
+
+pub next_within : (i n : ℕ) → i < n → i + 1 ≤ n
+next_within i n lt = omega arith
 
 pub down_place : (from to : ℕ) → from < to → from + (to + 1 - (from + 1)) ≡ to
 down_place from to down = omega arith

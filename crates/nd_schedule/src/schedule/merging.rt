@@ -556,7 +556,8 @@ pub(crate) fn copied<C: CellRunner>(
     count: usize,
     room: usize,
 ) -> Result<Merged<C>, AllocError>
-    requires { count ≤ length records.now }
+    requires within { count ≤ length records.now }
+    requires room { count ≤ room }
     ensures { IfOk result (λ m. (old new : Book)
         → IsRun old (each_of C.recorded records.now) → IsFront old new count
         → AreMerged C.covers old new count (each_of C.recorded m.records.items)

@@ -40,7 +40,7 @@ use crate::schedule::snapshots::Snapshot;
 use crate::schedule::sweep::{Changed, New, SweepState, catch_up, run_new, sweep};
 use nd_meter::Meter;
 use std::alloc::{AllocError, Global};
-use std::mem::replace;
+use std::mem::swap;
 use std::rc::Rc;
 
 /// What the sweeps around a cell that moves give: the record of that cell, where it was run, and the records that are others between
@@ -68,6 +68,28 @@ fn note_made<C: CellRunner>(
 }
 
 impl<C: CellRunner> Moved<C> {
+    /// What is gathered before a cell is gone past. It takes no memory.
+    pub(crate) fn nothing(alloc: Global) -> Moved<C>
+        ensures between { result.between.items ≡ [] }
+        ensures noted { result.noted.items ≡ [] }
+    {
+        Moved {
+            made: None,
+            between: Vec::new(alloc),
+            behind: Vec::new(alloc),
+            noted: Vec::new(alloc),
+        }
+    }
+
+    /// Keeps the record of the cell that moves, where it was run.
+    fn keep_made(&mut self, made: Option<New<C>>)
+        ensures made { self.new.made ≡ made }
+        ensures between { self.new.between ≡ self.old.between }
+        ensures noted { self.new.noted ≡ self.old.noted }
+    {
+        self.made = made;
+    }
+
     /// Adds the places now of the cells that ran, around one that moved to a later place.
     fn note_down(&self, ran: &mut Vec<usize>, to: usize) -> Result<(), AllocError>
         requires between { (n : ℕ) × (n + 1 < 2 ^ 64) × AreFit C.covers n
@@ -277,7 +299,8 @@ pub(crate) fn move_down<C: CellRunner>(
     to: usize,
     snapshots: &[Snapshot<C>],
     state: &mut SweepState<C>,
-) -> Result<Moved<C>, AllocError>
+    moved: &mut Moved<C>,
+) -> Result<(), AllocError>
     requires down { from < to }
     requires to { to < length cells.now }
     requires records { length records.now ≡ length cells.now }
@@ -290,45 +313,47 @@ pub(crate) fn move_down<C: CellRunner>(
     requires words { AreWords C.covers words.now (each_of C.recorded records.now) }
     requires covered { IsWordOfChange C.covers state.old.word (C.change_of state.old.change) }
     requires changed { state.old.changed.items ≡ [] }
+    requires between { moved.old.between.items ≡ [] }
+    requires noted { moved.old.noted.items ≡ [] }
     requires kept { (b : Book) → IsRun b (each_of C.recorded records.now)
         → All (λ s. IsSnapshot b s.place (C.kept_session s.version)
         (map C.change_of s.pending.items)) snapshots.now }
-    ensures moved { IfOk result (λ m. (old new : Book)
+    ensures moved { OnOk result ((old new : Book)
         → IsMoving old new from to (cells_of cells.now) (each_of C.recorded records.now)
         (world_in (C.given world.now))
         → IsAt old new from from (C.change_of state.old.change) (C.session_of state.old.session)
         state.old.since
         → AreMoved old new from to
-        (map (λ c. change_at c.place (C.recorded c.record.value)) m.between.items)
-        (map (λ c. change_at c.place (C.recorded c.record.value)) m.behind.items)) }
-    ensures made { IfOk result (λ m. (old new : Book)
+        (map (λ c. change_at c.place (C.recorded c.record.value)) moved.new.between.items)
+        (map (λ c. change_at c.place (C.recorded c.record.value)) moved.new.behind.items)) }
+    ensures made { OnOk result ((old new : Book)
         → IsMoving old new from to (cells_of cells.now) (each_of C.recorded records.now)
         (world_in (C.given world.now))
         → IsAt old new from from (C.change_of state.old.change) (C.session_of state.old.session)
         state.old.since
-        → MatchOption m.made
+        → MatchOption moved.new.made
         (record_at old.world (entry_at old from) ≡ record_at new.world (entry_at new to))
         (λ n. C.recorded n.record.value ≡ record_at new.world (entry_at new to))) }
-    ensures stale { IfOk result (λ m. (old new : Book)
+    ensures stale { OnOk result ((old new : Book)
         → IsMoving old new from to (cells_of cells.now) (each_of C.recorded records.now)
         (world_in (C.given world.now))
         → IsAt old new from from (C.change_of state.old.change) (C.session_of state.old.session)
         state.old.since
-        → MatchOption m.made (¬ IsStale old new (entry_at new to))
+        → MatchOption moved.new.made (¬ IsStale old new (entry_at new to))
         (λ _. IsStale old new (entry_at new to))) }
-    ensures worded { IfOk result (λ m. IfSome m.made
+    ensures worded { OnOk result (IfSome moved.new.made
         (λ n. IsWordOf C.covers n.word (C.recorded n.record.value))) }
-    ensures fit_between { IfOk result (λ m. AreFit C.covers (length cells.now)
-        (map (λ c. fit_at c.place (C.recorded c.record.value) c.word) m.between.items)) }
-    ensures fit_behind { IfOk result (λ m. AreFit C.covers (length cells.now)
-        (map (λ c. fit_at c.place (C.recorded c.record.value) c.word) m.behind.items)) }
-    ensures noted { IfOk result (λ m. (old new : Book)
+    ensures fit_between { OnOk result (AreFit C.covers (length cells.now)
+        (map (λ c. fit_at c.place (C.recorded c.record.value) c.word) moved.new.between.items)) }
+    ensures fit_behind { OnOk result (AreFit C.covers (length cells.now)
+        (map (λ c. fit_at c.place (C.recorded c.record.value) c.word) moved.new.behind.items)) }
+    ensures noted { OnOk result ((old new : Book)
         → IsMoving old new from to (cells_of cells.now) (each_of C.recorded records.now)
         (world_in (C.given world.now))
         → IsAt old new from from (C.change_of state.old.change) (C.session_of state.old.session)
         state.old.since
         → All (λ n. IsNoted C.change_of C.kept_session old new n.place n.now n.memo)
-        m.noted.items) }
+        moved.new.noted.items) }
     ensures counts { (old new : Book)
         → IsMoving old new from to (cells_of cells.now) (each_of C.recorded records.now)
         (world_in (C.given world.now))
@@ -336,7 +361,6 @@ pub(crate) fn move_down<C: CellRunner>(
         state.old.since
         → CountsStale old new meter.old meter.new }
 {
-    let mut noted = Vec::new(alloc);
     leave::<C>(records, from, state)?;
     state.shift = Shift::Earlier;
     sweep::<C>(
@@ -352,9 +376,9 @@ pub(crate) fn move_down<C: CellRunner>(
         snapshots,
         true,
         state,
-        &mut noted,
+        &mut moved.noted,
     )?;
-    let between = replace(&mut state.changed, Vec::new(alloc));
+    swap(&mut moved.between, &mut state.changed);
     let made = enter::<C>(
         alloc,
         meter,
@@ -366,6 +390,7 @@ pub(crate) fn move_down<C: CellRunner>(
         to,
         state,
     )?;
+    moved.keep_made(made);
     state.shift = Shift::Stays;
     sweep::<C>(
         alloc,
@@ -380,15 +405,10 @@ pub(crate) fn move_down<C: CellRunner>(
         snapshots,
         false,
         state,
-        &mut noted,
+        &mut moved.noted,
     )?;
-    let behind = replace(&mut state.changed, Vec::new(alloc));
-    Ok(Moved {
-        made,
-        between,
-        behind,
-        noted,
-    })
+    swap(&mut moved.behind, &mut state.changed);
+    Ok(())
 }
 
 /// Sweeps over all cells from the earlier place on to which one moves.
@@ -403,7 +423,8 @@ pub(crate) fn move_up<C: CellRunner>(
     to: usize,
     snapshots: &[Snapshot<C>],
     state: &mut SweepState<C>,
-) -> Result<Moved<C>, AllocError>
+    moved: &mut Moved<C>,
+) -> Result<(), AllocError>
     requires up { to < from }
     requires from { from < length cells.now }
     requires records { length records.now ≡ length cells.now }
@@ -416,45 +437,47 @@ pub(crate) fn move_up<C: CellRunner>(
     requires words { AreWords C.covers words.now (each_of C.recorded records.now) }
     requires covered { IsWordOfChange C.covers state.old.word (C.change_of state.old.change) }
     requires changed { state.old.changed.items ≡ [] }
+    requires between { moved.old.between.items ≡ [] }
+    requires noted { moved.old.noted.items ≡ [] }
     requires kept { (b : Book) → IsRun b (each_of C.recorded records.now)
         → All (λ s. IsSnapshot b s.place (C.kept_session s.version)
         (map C.change_of s.pending.items)) snapshots.now }
-    ensures moved { IfOk result (λ m. (old new : Book)
+    ensures moved { OnOk result ((old new : Book)
         → IsMoving old new from to (cells_of cells.now) (each_of C.recorded records.now)
         (world_in (C.given world.now))
         → IsAt old new to to (C.change_of state.old.change) (C.session_of state.old.session)
         state.old.since
         → AreMoved old new from to
-        (map (λ c. change_at c.place (C.recorded c.record.value)) m.between.items)
-        (map (λ c. change_at c.place (C.recorded c.record.value)) m.behind.items)) }
-    ensures made { IfOk result (λ m. (old new : Book)
+        (map (λ c. change_at c.place (C.recorded c.record.value)) moved.new.between.items)
+        (map (λ c. change_at c.place (C.recorded c.record.value)) moved.new.behind.items)) }
+    ensures made { OnOk result ((old new : Book)
         → IsMoving old new from to (cells_of cells.now) (each_of C.recorded records.now)
         (world_in (C.given world.now))
         → IsAt old new to to (C.change_of state.old.change) (C.session_of state.old.session)
         state.old.since
-        → MatchOption m.made
+        → MatchOption moved.new.made
         (record_at old.world (entry_at old from) ≡ record_at new.world (entry_at new to))
         (λ n. C.recorded n.record.value ≡ record_at new.world (entry_at new to))) }
-    ensures stale { IfOk result (λ m. (old new : Book)
+    ensures stale { OnOk result ((old new : Book)
         → IsMoving old new from to (cells_of cells.now) (each_of C.recorded records.now)
         (world_in (C.given world.now))
         → IsAt old new to to (C.change_of state.old.change) (C.session_of state.old.session)
         state.old.since
-        → MatchOption m.made (¬ IsStale old new (entry_at new to))
+        → MatchOption moved.new.made (¬ IsStale old new (entry_at new to))
         (λ _. IsStale old new (entry_at new to))) }
-    ensures worded { IfOk result (λ m. IfSome m.made
+    ensures worded { OnOk result (IfSome moved.new.made
         (λ n. IsWordOf C.covers n.word (C.recorded n.record.value))) }
-    ensures fit_between { IfOk result (λ m. AreFit C.covers (length cells.now)
-        (map (λ c. fit_at c.place (C.recorded c.record.value) c.word) m.between.items)) }
-    ensures fit_behind { IfOk result (λ m. AreFit C.covers (length cells.now)
-        (map (λ c. fit_at c.place (C.recorded c.record.value) c.word) m.behind.items)) }
-    ensures noted { IfOk result (λ m. (old new : Book)
+    ensures fit_between { OnOk result (AreFit C.covers (length cells.now)
+        (map (λ c. fit_at c.place (C.recorded c.record.value) c.word) moved.new.between.items)) }
+    ensures fit_behind { OnOk result (AreFit C.covers (length cells.now)
+        (map (λ c. fit_at c.place (C.recorded c.record.value) c.word) moved.new.behind.items)) }
+    ensures noted { OnOk result ((old new : Book)
         → IsMoving old new from to (cells_of cells.now) (each_of C.recorded records.now)
         (world_in (C.given world.now))
         → IsAt old new to to (C.change_of state.old.change) (C.session_of state.old.session)
         state.old.since
         → All (λ n. IsNoted C.change_of C.kept_session old new n.place n.now n.memo)
-        m.noted.items) }
+        moved.new.noted.items) }
     ensures counts { (old new : Book)
         → IsMoving old new from to (cells_of cells.now) (each_of C.recorded records.now)
         (world_in (C.given world.now))
@@ -462,7 +485,6 @@ pub(crate) fn move_up<C: CellRunner>(
         state.old.since
         → CountsStale old new meter.old meter.new }
 {
-    let mut noted = Vec::new(alloc);
     let made = enter::<C>(
         alloc,
         meter,
@@ -474,6 +496,7 @@ pub(crate) fn move_up<C: CellRunner>(
         to,
         state,
     )?;
+    moved.keep_made(made);
     state.shift = Shift::Later;
     sweep::<C>(
         alloc,
@@ -488,9 +511,9 @@ pub(crate) fn move_up<C: CellRunner>(
         snapshots,
         true,
         state,
-        &mut noted,
+        &mut moved.noted,
     )?;
-    let between = replace(&mut state.changed, Vec::new(alloc));
+    swap(&mut moved.between, &mut state.changed);
     leave::<C>(records, from, state)?;
     state.shift = Shift::Stays;
     sweep::<C>(
@@ -506,13 +529,8 @@ pub(crate) fn move_up<C: CellRunner>(
         snapshots,
         false,
         state,
-        &mut noted,
+        &mut moved.noted,
     )?;
-    let behind = replace(&mut state.changed, Vec::new(alloc));
-    Ok(Moved {
-        made,
-        between,
-        behind,
-        noted,
-    })
+    swap(&mut moved.behind, &mut state.changed);
+    Ok(())
 }

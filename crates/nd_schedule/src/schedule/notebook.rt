@@ -28,6 +28,7 @@ use crate::schedule::ran::{Shift, note_places};
 use crate::schedule::runner::CellRunner;
 use crate::schedule::snapshots::{Snapshot, carry, nearest, replay_between, session_front};
 use crate::schedule::sweep::{Changed, New, SweepState, run_again, run_new, sweep};
+use crate::schedule::taking::{Edited, Swept, no_sweep, take_over, tell_places};
 use nd_meter::Meter;
 use std::alloc::{AllocError, Global};
 use std::marker::Model;
@@ -90,25 +91,11 @@ pub(crate) fn install<C: CellRunner>(
     }
 }
 
-/// What a sweep gives: the records that are others now, and what it noted for the snapshots.
-#[derive(Drop)]
-struct Swept<C: CellRunner> {
-    changed: Vec<Changed<C>>,
-    noted: Vec<Noted<C>>,
-}
-
 /// Where an edit begins: a session that is alike to the one there, and snapshots that were made on the way.
 #[derive(Drop)]
 pub(crate) struct Front<C: CellRunner> {
     pub(crate) session: C::Session,
     pub(crate) fresh: Vec<Snapshot<C>>,
-}
-
-/// What an edit takes: the sweep behind its cell, and the snapshots that were made on the way to it.
-#[derive(Drop)]
-struct Edited<C: CellRunner> {
-    swept: Swept<C>,
-    fresh: Vec<Snapshot<C>>,
 }
 
 /// What a sweep behind a new cell gives.
@@ -148,20 +135,6 @@ fn gathered<C: CellRunner>(
     })
 }
 
-/// What an edit takes behind which there is no cell. It takes no memory.
-fn no_sweep<C: CellRunner>(alloc: Global) -> Edited<C>
-    ensures changed { result.swept.changed.items ≡ [] }
-    ensures noted { result.swept.noted.items ≡ [] }
-    ensures fresh { result.fresh.items ≡ [] }
-{
-    let swept = Swept {
-        changed: Vec::new(alloc),
-        noted: Vec::new(alloc),
-    };
-    let fresh = Vec::new(alloc);
-    Edited { swept, fresh }
-}
-
 /// Makes room for a new cell at a place, with its record and its word, and adds the places of the cells that ran behind it.
 fn make_places<C: CellRunner>(
     cells: &mut Vec<Rc<KeptCell>>,
@@ -171,15 +144,15 @@ fn make_places<C: CellRunner>(
     ran: &mut Vec<usize>,
     changed: &[Changed<C>],
 ) -> Result<(), AllocError>
-    requires { (n : ℕ) × (n + 1 < 2 ^ 64) × AreFit C.covers n
-        (map (λ c. fit_at c.place (C.recorded c.record.value) c.word) changed.now) }
     ensures same_cells { cells.new.items ≡ cells.old.items }
     ensures same_records { records.new.items ≡ records.old.items }
     ensures same_words { words.new.items ≡ words.old.items }
     ensures cells { OnOk result (length cells.old.items + 1 ≤ vec_capacity cells.new) }
     ensures records { OnOk result (length records.old.items + 1 ≤ vec_capacity records.new) }
     ensures words { OnOk result (length words.old.items + 1 ≤ vec_capacity words.new) }
-    ensures places { OnOk result (ran.new.items
+    ensures places { OnOk result ((n : ℕ) → n + 1 < 2 ^ 64 → AreFit C.covers n
+        (map (λ c. fit_at c.place (C.recorded c.record.value) c.word) changed.now)
+        → ran.new.items
         ≡ ran.old.items ++ map (λ c. shifted shifts.Later c.place) changed.now) }
 {
     make_rooms::<C>(cells, records, words, at)?;
@@ -379,13 +352,15 @@ impl<C: CellRunner> Schedule<C> {
             self.now.given)) n.place n.now n.memo) e.swept.noted.items) }
         ensures fresh { IfOk result (λ e. All (λ s. IsSnapshot (book_of self.now) s.place
             (C.kept_session s.version) (map C.change_of s.pending.items)) e.fresh.items) }
+        ensures ran { IfOk result (λ e. e.ran.items ≡ []) }
         ensures counts { CountsStale (book_of self.now)
             (book_of (sheet (slice_set self.now.cells at (cell_of source.now)) self.now.given))
             meter.old meter.new }
     {
         let Front { session, fresh } = self.front_before(at)?;
         let swept = self.swept(meter, at, source, session)?;
-        Ok(Edited { swept, fresh })
+        let ran = Vec::new(self.alloc);
+        Ok(Edited { swept, fresh, ran })
     }
 
     /// Gives the cell at the place another text, and returns the places of the cells that ran. It is refused for want of memory alone.
@@ -403,23 +378,21 @@ impl<C: CellRunner> Schedule<C> {
         ensures ran { IfOk result (λ v. AreStale (book_of self.old)
             (book_of (edited_sheet (Change at text.now) self.old)) v.items) }
     {
-        let mut ran = Vec::new(self.alloc);
         if text == self.cells[at].text.as_str() {
-            return Ok(ran);
+            return Ok(Vec::new(self.alloc));
         }
         let cell = self.cell_with(at, text)?;
-        let Edited { swept, fresh } = self.swept_with(meter, at, &cell)?;
-        match note_places::<C>(&mut ran, &swept.changed, Shift::Stays) {
-            Ok(()) => {}
-            Err(refused) => {
-                drop(swept);
-                drop(fresh);
-                return Err(refused);
-            }
-        }
+        let swept = self.swept_with(meter, at, &cell)?;
+        let edited = tell_places::<C>(swept, Shift::Stays)?;
         self.cells[at] = cell;
-        install::<C>(&mut self.records, &mut self.words, swept.changed);
-        carry::<C>(self.alloc, &mut self.snapshots, fresh, swept.noted, at);
+        let ran = take_over::<C>(
+            self.alloc,
+            &mut self.records,
+            &mut self.words,
+            &mut self.snapshots,
+            edited,
+            at,
+        );
         Ok(ran)
     }
 
@@ -464,19 +437,17 @@ impl<C: CellRunner> Schedule<C> {
         ensures ran { IfOk result (λ v. AreStale (book_of self.old)
             (book_of (sheet self.old.cells (C.given world))) v.items) }
     {
-        let mut ran = Vec::new(self.alloc);
-        let Swept { changed, noted } = self.swept_over(meter, &world)?;
-        match note_places::<C>(&mut ran, &changed, Shift::Stays) {
-            Ok(()) => {}
-            Err(refused) => {
-                drop(changed);
-                drop(noted);
-                return Err(refused);
-            }
-        }
-        install::<C>(&mut self.records, &mut self.words, changed);
-        let fresh = Vec::new(self.alloc);
-        carry::<C>(self.alloc, &mut self.snapshots, fresh, noted, 0);
+        let swept = self.swept_over(meter, &world)?;
+        let (fresh, ran) = (Vec::new(self.alloc), Vec::new(self.alloc));
+        let edited = tell_places::<C>(Edited { swept, fresh, ran }, Shift::Stays)?;
+        let ran = take_over::<C>(
+            self.alloc,
+            &mut self.records,
+            &mut self.words,
+            &mut self.snapshots,
+            edited,
+            0,
+        );
         self.world = world;
         Ok(ran)
     }
@@ -531,6 +502,7 @@ impl<C: CellRunner> Schedule<C> {
             n.place n.now n.memo) s.swept.noted.items) }
         ensures fresh { IfOk result (λ f. All (λ s. IsSnapshot (book_of self.now) s.place
             (C.kept_session s.version) (map C.change_of s.pending.items)) f.fresh.items) }
+        ensures ran { IfOk result (λ e. e.ran.items ≡ []) }
         ensures last { at + 1 ≡ length self.now.cells → IsOk result }
         ensures counts { CountsStale (book_of self.now)
             (book_of (sheet (remove self.now.cells at) self.now.given)) meter.old meter.new }
@@ -540,7 +512,8 @@ impl<C: CellRunner> Schedule<C> {
         }
         let Front { session, fresh } = self.front_before(at)?;
         let swept = self.swept_without(meter, at, session)?;
-        Ok(Edited { swept, fresh })
+        let ran = Vec::new(self.alloc);
+        Ok(Edited { swept, fresh, ran })
     }
 
     /// Takes the cell at the place out, and returns the places of the cells that ran. It is refused for want of memory alone, and at the
@@ -555,22 +528,20 @@ impl<C: CellRunner> Schedule<C> {
         ensures ran { IfOk result (λ v. AreStale (book_of self.old)
             (book_of (edited_sheet (Remove at) self.old)) v.items) }
     {
-        let mut ran = Vec::new(self.alloc);
-        let Edited { swept, fresh } = self.swept_away(meter, at)?;
-        match note_places::<C>(&mut ran, &swept.changed, Shift::Earlier) {
-            Ok(()) => {}
-            Err(refused) => {
-                drop(swept);
-                drop(fresh);
-                return Err(refused);
-            }
-        }
-        install::<C>(&mut self.records, &mut self.words, swept.changed);
+        let swept = self.swept_away(meter, at)?;
+        let edited = tell_places::<C>(swept, Shift::Earlier)?;
+        let ran = take_over::<C>(
+            self.alloc,
+            &mut self.records,
+            &mut self.words,
+            &mut self.snapshots,
+            edited,
+            at,
+        );
         self.least = self.least.min(self.cells[at].label as usize);
         let _cell = self.cells.remove(at);
         let _record = self.records.remove(at);
         let _word = self.words.remove(at);
-        carry::<C>(self.alloc, &mut self.snapshots, fresh, swept.noted, at);
         Ok(ran)
     }
 

@@ -22,12 +22,11 @@ pub enum Shift {
 impl Shift {
     /// The place now of a cell that stood at another before.
     pub(crate) fn place(self, before: usize) -> usize
-        requires { before + 1 < 2 ^ 64 }
-        ensures { result ≡ shifted self before }
+        ensures { before + 1 < 2 ^ 64 → result ≡ shifted self before }
     {
         match self {
             Shift::Stays => before,
-            Shift::Later => before + 1,
+            Shift::Later => before.saturating_add(1),
             Shift::Earlier => before.saturating_sub(1),
         }
     }
@@ -39,9 +38,9 @@ pub(crate) fn note_places<C: CellRunner>(
     changed: &[Changed<C>],
     shift: Shift,
 ) -> Result<(), AllocError>
-    requires { (n : ℕ) × (n + 1 < 2 ^ 64) × AreFit C.covers n
-        (map (λ c. fit_at c.place (C.recorded c.record.value) c.word) changed.now) }
-    ensures places { OnOk result (ran.new.items
+    ensures places { OnOk result ((n : ℕ) → n + 1 < 2 ^ 64 → AreFit C.covers n
+        (map (λ c. fit_at c.place (C.recorded c.record.value) c.word) changed.now)
+        → ran.new.items
         ≡ ran.old.items ++ map (λ c. shifted shift c.place) changed.now) }
     ensures none { changed.now ≡ [] → IsOk result }
 {

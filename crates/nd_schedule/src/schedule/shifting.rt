@@ -2,6 +2,7 @@
 
 ghost use Rattle.std.specs.Prelude.{◌≡◌, ◌<◌, ◌-◌, ℕ, IfOk, IfSome, MatchOption, OnErr, OnOk};
 ghost use Rattle.std.specs.List.{All};
+ghost use Rattle.std.specs.Result.{IsOk};
 ghost use Rattle.std.specs.Prelude.{length, map, min, slice_index_or};
 ghost use Rattle.nd_model.specs.Book.Records as kept;
 ghost use Rattle.nd_model.specs.Book.Book.{Move};
@@ -19,7 +20,7 @@ use crate::schedule::moving::{Moved, move_down, move_up};
 use crate::schedule::notebook::{Front, Schedule, install};
 use crate::schedule::runner::CellRunner;
 use crate::schedule::snapshots::carry;
-use crate::schedule::sweep::New;
+use crate::schedule::sweep::{New, SweepState};
 use nd_meter::Meter;
 use std::alloc::AllocError;
 use std::rc::Rc;
@@ -50,6 +51,19 @@ fn put_made<C: CellRunner>(
         records[at] = record;
         words[at] = word;
     }
+}
+
+/// What the sweeps around a cell gathered, where they came to their end. Their state is dropped.
+fn hand_on<C: CellRunner>(
+    done: Result<(), AllocError>,
+    state: SweepState<C>,
+    moved: Moved<C>,
+) -> Result<Moved<C>, AllocError>
+    ensures { IfOk result (λ m. IsOk done × (m ≡ moved)) }
+{
+    drop(state);
+    done?;
+    Ok(moved)
 }
 
 impl<C: CellRunner> Schedule<C> {
@@ -93,8 +107,9 @@ impl<C: CellRunner> Schedule<C> {
             (book_of (edited_sheet (Move from to) self.now)) meter.old meter.new }
     {
         let mut state = self.begin(from.min(to), session);
+        let mut moved = Moved::nothing(self.alloc);
         if from < to {
-            return move_down::<C>(
+            let done = move_down::<C>(
                 self.alloc,
                 meter,
                 &self.cells,
@@ -105,9 +120,11 @@ impl<C: CellRunner> Schedule<C> {
                 to,
                 &self.snapshots,
                 &mut state,
+                &mut moved,
             );
+            return hand_on::<C>(done, state, moved);
         }
-        move_up::<C>(
+        let done = move_up::<C>(
             self.alloc,
             meter,
             &self.cells,
@@ -118,7 +135,9 @@ impl<C: CellRunner> Schedule<C> {
             to,
             &self.snapshots,
             &mut state,
-        )
+            &mut moved,
+        );
+        hand_on::<C>(done, state, moved)
     }
 
     /// Moves the cell at the first place, so that it stands at the second afterwards, and returns the places of the cells that ran. It is

@@ -1,4 +1,5 @@
-use Rattle.std.proofs.Common.{refl, ◌∙◌}
+use Rattle.std.proofs.lemmas.Grind.{common_steps}
+use Rattle.std.proofs.Common.{arith, refl, ◌∙◌}
 use Rattle.nd_model.specs.Book.Book.{Book}
 use Rattle.nd_schedule.specs.Cells.Source.{cell_of}
 use Rattle.nd_schedule.proofs.schedule.Coming.{here_at, next_counts, next_none, next_record}
@@ -34,3 +35,12 @@ returns-clause-covered g c = c.in_ok-record.ensures.word
 
 pub returns-clause-counts : goal.returns-clause-counts
 returns-clause-counts g c = λ old new before next stale so_far. next_counts old new c.args.i c.args.now _ (cell_of c.args.source.now) _ next before _ _ stale so_far c.run_new.ensures.counted
+
+pub returns-clause-behind : goal.returns-clause-behind
+returns-clause-behind g c = grind (arith, common_steps)
+
+pub catch_up-requires-clause-to : goal.catch_up-requires-clause-to
+catch_up-requires-clause-to g c = grind (arith, common_steps)
+
+pub catch_up-requires-clause-since : goal.catch_up-requires-clause-since
+catch_up-requires-clause-since g c = grind (arith, common_steps)

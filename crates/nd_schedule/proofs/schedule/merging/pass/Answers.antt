@@ -1,3 +1,4 @@
+use Rattle.std.proofs.lemmas.Grind.{common_steps}
 use Rattle.std.proofs.Common.{◌≡◌, ◌<◌, IsTrue, true, false, length, refl, sym, ap, subst, ◌∙◌, arith}
 use Rattle.nd_model.specs.Book.Entries.{entry_at, record_at}
 use Rattle.nd_change.specs.Change.{Fits}
@@ -103,3 +104,24 @@ returns-in_err-new-clause-counts g c = λ old new before next same at so_far.
     let is : g.C.CellRunner.recorded c.deref.result.now ≡ record_at old.world (entry_at old c.args.i) =
     ap g.C.CellRunner.recorded c.deref.ensures ∙ record_there (λ r. g.C.CellRunner.recorded r.value) old c.args.records.now c.index-records-i.result c.args.i next.run.records lt c.index-records-i.is in
     c.run_there.ensures.counts old new before next (Visiting.stale_now old new c.args.i c.args.now _ _ _ frame _ _ _ at (g.C.CellRunner.recorded c.deref.result.now) is (λ f. absurd (let e : false ≡ true = c.if-fits.ensures.1 f in cc))) so_far
+
+pub returns-clause-worded : goal.returns-clause-worded
+returns-clause-worded g c = grind (arith, common_steps)
+
+pub returns-clause-covered : goal.returns-clause-covered
+returns-clause-covered g c = grind (arith, common_steps)
+
+pub bounds-words-i : goal.bounds-words-i
+bounds-words-i g c = grind (arith, common_steps)
+
+pub offset_bounds-words-i : goal.offset_bounds-words-i
+offset_bounds-words-i g c = grind (arith, common_steps)
+
+pub bounds-records-i : goal.bounds-records-i
+bounds-records-i g c = grind (arith, common_steps)
+
+pub offset_bounds-records-i : goal.offset_bounds-records-i
+offset_bounds-records-i g c = grind (arith, common_steps)
+
+pub run_there-requires-clause-record : goal.run_there-requires-clause-record
+run_there-requires-clause-record g c = grind (arith, common_steps)

@@ -1,4 +1,8 @@
-use Rattle.std.proofs.Common.{◌≡◌, ◌+◌, length, map, sym, ap, subst, ◌∙◌, arith}
+use Rattle.std.specs.Prelude.{MatchOption}
+use Rattle.nd_change.specs.Steps.{IsWordOf}
+use Rattle.nd_model.specs.Book.Stale.{IsStale}
+use Rattle.std.specs.List.{All}
+use Rattle.std.proofs.Common.{◌≡◌, ◌<◌, IfSome, ◌+◌, length, map, sym, ap, subst, ◌∙◌, arith}
 use Rattle.std.proofs.lemmas.Grind.{common_steps}
 use Rattle.std.proofs.lemmas.List.{length-map}
 use Rattle.nd_model.specs.Book.Book.{Book}
@@ -8,7 +12,7 @@ use Rattle.nd_schedule.specs.Schedule.Sweep.{AreChanged, AreFit, CountsFront, Is
 use Rattle.nd_schedule.specs.Schedule.Snapshot.{IsNoted}
 use Rattle.nd_schedule.proofs.schedule.Standing.{All-none}
 use Rattle.nd_schedule.proofs.schedule.Sweeping.{changed_none, counts_stale, none_yet, record_there}
-use Rattle.nd_schedule.proofs.schedule.Turning.{coming, down_place, frame_down, frame_rest, made_there, moved_down, place_at, same_place}
+use Rattle.nd_schedule.proofs.schedule.Turning.{below_more, below_next, from_within, next_within, to_next, coming, down_place, frame_down, frame_rest, made_there, moved_down, place_at, same_place}
 use Rattle.nd_schedule.proofs.schedule.Visiting.{cell_there}
 use Rattle.nd_schedule.proofs.schedule.moving.move_down.Goals as goal
 
@@ -18,7 +22,7 @@ sweep-requires-clause-at g c =
     let new : Book = c.requires.at.1 in
     let moving = c.requires.at.2 in
     let at = c.requires.at.3 in
-    let place : IsPlace old new c.args.from c.args.from = place_at old new c.args.from c.args.to _ _ _ moving c.args.from c.args.from (omega (arith, moving.stood)) (omega (arith, moving.stood)) in
+    let place : IsPlace old new c.args.from c.args.from = place_at old new c.args.from c.args.to _ _ _ moving c.args.from c.args.from (from_within old new c.args.from c.args.to _ _ _ moving) (from_within old new c.args.from c.args.to _ _ _ moving) in
     let left : IsAt old new (c.args.from + 1) c.args.from (g.C.CellRunner.change_of c.leave.new.state.change) (g.C.CellRunner.session_of c.leave.new.state.session) c.leave.new.state.since =
     c.in_ok-leave.ensures.at old new c.args.from moving.run place at in
     let frame = frame_down old new c.args.from c.args.to _ _ _ moving c.requires.down in
@@ -26,7 +30,7 @@ sweep-requires-clause-at g c =
 
 pub returns-in_err-sweep-clause-counts : goal.returns-in_err-sweep-clause-counts
 returns-in_err-sweep-clause-counts g c = λ old new moving at.
-    let place : IsPlace old new c.args.from c.args.from = place_at old new c.args.from c.args.to _ _ _ moving c.args.from c.args.from (omega (arith, moving.stood)) (omega (arith, moving.stood)) in
+    let place : IsPlace old new c.args.from c.args.from = place_at old new c.args.from c.args.to _ _ _ moving c.args.from c.args.from (from_within old new c.args.from c.args.to _ _ _ moving) (from_within old new c.args.from c.args.to _ _ _ moving) in
     let left : IsAt old new (c.args.from + 1) c.args.from (g.C.CellRunner.change_of c.leave.new.state.change) (g.C.CellRunner.session_of c.leave.new.state.session) c.leave.new.state.since =
     c.in_ok-leave.ensures.at old new c.args.from moving.run place at in
     let frame = frame_down old new c.args.from c.args.to _ _ _ moving c.requires.down in
@@ -39,7 +43,7 @@ enter-requires-clause-at g c =
     let moving = c.requires.at.2 in
     let at = c.requires.at.3 in
     let long : length old.cells ≡ length c.args.cells.now = ap length moving.cells ∙ length-map c.args.cells.now (λ s. cell_of s.value) in
-    let place : IsPlace old new c.args.from c.args.from = place_at old new c.args.from c.args.to _ _ _ moving c.args.from c.args.from (omega (arith, moving.stood)) (omega (arith, moving.stood)) in
+    let place : IsPlace old new c.args.from c.args.from = place_at old new c.args.from c.args.to _ _ _ moving c.args.from c.args.from (from_within old new c.args.from c.args.to _ _ _ moving) (from_within old new c.args.from c.args.to _ _ _ moving) in
     let left : IsAt old new (c.args.from + 1) c.args.from (g.C.CellRunner.change_of c.leave.new.state.change) (g.C.CellRunner.session_of c.leave.new.state.session) c.leave.new.state.since =
     c.in_ok-leave.ensures.at old new c.args.from moving.run place at in
     let frame = frame_down old new c.args.from c.args.to _ _ _ moving c.requires.down in
@@ -47,15 +51,15 @@ enter-requires-clause-at g c =
     subst (λ k. IsAt old new (c.args.to + 1) k (g.C.CellRunner.change_of c.sweep.new.state.change) (g.C.CellRunner.session_of c.sweep.new.state.session) c.sweep.new.state.since) (down_place c.args.from c.args.to c.requires.down)
     (c.in_ok-sweep.ensures.at old new c.args.from frame left) in
     let come : IsComing old new c.args.from (c.args.to + 1) c.args.to _ (cell_of c.deref.result.now) (g.C.CellRunner.recorded c.deref-2.result.now) _ =
-    coming old new c.args.from c.args.to _ _ _ moving (c.args.to + 1) (omega (arith, long, c.requires)) (cell_of c.deref.result.now) (g.C.CellRunner.recorded c.deref-2.result.now)
-    (cell_there c.args.cells.now c.args.from c.index-cells-from.result c.deref.result.now (omega (arith, long, moving.stood)) c.index-cells-from.is c.deref.ensures)
+    coming old new c.args.from c.args.to _ _ _ moving (c.args.to + 1) (to_next old new c.args.from c.args.to _ _ _ moving) (cell_of c.deref.result.now) (g.C.CellRunner.recorded c.deref-2.result.now)
+    (cell_there c.args.cells.now c.args.from c.index-cells-from.result c.deref.result.now (subst (λ n. c.args.from < n) long moving.stood) c.index-cells-from.is c.deref.ensures)
     (ap g.C.CellRunner.recorded c.deref-2.ensures ∙ record_there (λ r. g.C.CellRunner.recorded r.value) old c.args.records.now c.index-records-from.result c.args.from moving.run.records moving.stood c.index-records-from.is) in
     (old, new, c.args.from, c.args.to, come, there)
 
 pub returns-in_err-made-clause-counts : goal.returns-in_err-made-clause-counts
 returns-in_err-made-clause-counts g c = λ old new moving at.
     let long : length old.cells ≡ length c.args.cells.now = ap length moving.cells ∙ length-map c.args.cells.now (λ s. cell_of s.value) in
-    let place : IsPlace old new c.args.from c.args.from = place_at old new c.args.from c.args.to _ _ _ moving c.args.from c.args.from (omega (arith, moving.stood)) (omega (arith, moving.stood)) in
+    let place : IsPlace old new c.args.from c.args.from = place_at old new c.args.from c.args.to _ _ _ moving c.args.from c.args.from (from_within old new c.args.from c.args.to _ _ _ moving) (from_within old new c.args.from c.args.to _ _ _ moving) in
     let left : IsAt old new (c.args.from + 1) c.args.from (g.C.CellRunner.change_of c.leave.new.state.change) (g.C.CellRunner.session_of c.leave.new.state.session) c.leave.new.state.since =
     c.in_ok-leave.ensures.at old new c.args.from moving.run place at in
     let frame = frame_down old new c.args.from c.args.to _ _ _ moving c.requires.down in
@@ -63,8 +67,8 @@ returns-in_err-made-clause-counts g c = λ old new moving at.
     subst (λ k. IsAt old new (c.args.to + 1) k (g.C.CellRunner.change_of c.sweep.new.state.change) (g.C.CellRunner.session_of c.sweep.new.state.session) c.sweep.new.state.since) (down_place c.args.from c.args.to c.requires.down)
     (c.in_ok-sweep.ensures.at old new c.args.from frame left) in
     let come : IsComing old new c.args.from (c.args.to + 1) c.args.to _ (cell_of c.deref.result.now) (g.C.CellRunner.recorded c.deref-2.result.now) _ =
-    coming old new c.args.from c.args.to _ _ _ moving (c.args.to + 1) (omega (arith, long, c.requires)) (cell_of c.deref.result.now) (g.C.CellRunner.recorded c.deref-2.result.now)
-    (cell_there c.args.cells.now c.args.from c.index-cells-from.result c.deref.result.now (omega (arith, long, moving.stood)) c.index-cells-from.is c.deref.ensures)
+    coming old new c.args.from c.args.to _ _ _ moving (c.args.to + 1) (to_next old new c.args.from c.args.to _ _ _ moving) (cell_of c.deref.result.now) (g.C.CellRunner.recorded c.deref-2.result.now)
+    (cell_there c.args.cells.now c.args.from c.index-cells-from.result c.deref.result.now (subst (λ n. c.args.from < n) long moving.stood) c.index-cells-from.is c.deref.ensures)
     (ap g.C.CellRunner.recorded c.deref-2.ensures ∙ record_there (λ r. g.C.CellRunner.recorded r.value) old c.args.records.now c.index-records-from.result c.args.from moving.run.records moving.stood c.index-records-from.is) in
     let so_far = subst (λ k. CountsFront old new k c.args.meter.now c.sweep.new.meter) (down_place c.args.from c.args.to c.requires.down) (c.in_ok-sweep.ensures.counted old new c.args.from c.args.meter.now frame left (none_yet old new c.args.from c.args.meter.now)) in
     let with_it = c.enter.ensures.counts old new c.args.from c.args.to c.args.meter.now come there so_far in
@@ -77,7 +81,7 @@ sweep-requires-2-clause-at g c =
     let moving = c.requires.at.2 in
     let at = c.requires.at.3 in
     let long : length old.cells ≡ length c.args.cells.now = ap length moving.cells ∙ length-map c.args.cells.now (λ s. cell_of s.value) in
-    let place : IsPlace old new c.args.from c.args.from = place_at old new c.args.from c.args.to _ _ _ moving c.args.from c.args.from (omega (arith, moving.stood)) (omega (arith, moving.stood)) in
+    let place : IsPlace old new c.args.from c.args.from = place_at old new c.args.from c.args.to _ _ _ moving c.args.from c.args.from (from_within old new c.args.from c.args.to _ _ _ moving) (from_within old new c.args.from c.args.to _ _ _ moving) in
     let left : IsAt old new (c.args.from + 1) c.args.from (g.C.CellRunner.change_of c.leave.new.state.change) (g.C.CellRunner.session_of c.leave.new.state.session) c.leave.new.state.since =
     c.in_ok-leave.ensures.at old new c.args.from moving.run place at in
     let frame = frame_down old new c.args.from c.args.to _ _ _ moving c.requires.down in
@@ -85,17 +89,17 @@ sweep-requires-2-clause-at g c =
     subst (λ k. IsAt old new (c.args.to + 1) k (g.C.CellRunner.change_of c.sweep.new.state.change) (g.C.CellRunner.session_of c.sweep.new.state.session) c.sweep.new.state.since) (down_place c.args.from c.args.to c.requires.down)
     (c.in_ok-sweep.ensures.at old new c.args.from frame left) in
     let come : IsComing old new c.args.from (c.args.to + 1) c.args.to _ (cell_of c.deref.result.now) (g.C.CellRunner.recorded c.deref-2.result.now) _ =
-    coming old new c.args.from c.args.to _ _ _ moving (c.args.to + 1) (omega (arith, long, c.requires)) (cell_of c.deref.result.now) (g.C.CellRunner.recorded c.deref-2.result.now)
-    (cell_there c.args.cells.now c.args.from c.index-cells-from.result c.deref.result.now (omega (arith, long, moving.stood)) c.index-cells-from.is c.deref.ensures)
+    coming old new c.args.from c.args.to _ _ _ moving (c.args.to + 1) (to_next old new c.args.from c.args.to _ _ _ moving) (cell_of c.deref.result.now) (g.C.CellRunner.recorded c.deref-2.result.now)
+    (cell_there c.args.cells.now c.args.from c.index-cells-from.result c.deref.result.now (subst (λ n. c.args.from < n) long moving.stood) c.index-cells-from.is c.deref.ensures)
     (ap g.C.CellRunner.recorded c.deref-2.ensures ∙ record_there (λ r. g.C.CellRunner.recorded r.value) old c.args.records.now c.index-records-from.result c.args.from moving.run.records moving.stood c.index-records-from.is) in
     let come_in = c.in_ok-made.ensures.at old new c.args.from c.args.to come there in
-    let rest = frame_rest old new c.args.from c.args.to _ _ _ moving (c.args.to + 1) (length c.args.cells.now) (omega (arith, c.requires.down)) (omega arith) (omega (arith, c.requires.to)) (sym long) in
+    let rest = frame_rest old new c.args.from c.args.to _ _ _ moving (c.args.to + 1) (length c.args.cells.now) (below_more c.args.from c.args.to c.requires.down) (below_next c.args.to) (next_within c.args.to (length c.args.cells.now) c.requires.to) (sym long) in
     (old, new, c.args.to + 1, rest, come_in)
 
 pub returns-in_err-sweep-2-clause-counts : goal.returns-in_err-sweep-2-clause-counts
 returns-in_err-sweep-2-clause-counts g c = λ old new moving at.
     let long : length old.cells ≡ length c.args.cells.now = ap length moving.cells ∙ length-map c.args.cells.now (λ s. cell_of s.value) in
-    let place : IsPlace old new c.args.from c.args.from = place_at old new c.args.from c.args.to _ _ _ moving c.args.from c.args.from (omega (arith, moving.stood)) (omega (arith, moving.stood)) in
+    let place : IsPlace old new c.args.from c.args.from = place_at old new c.args.from c.args.to _ _ _ moving c.args.from c.args.from (from_within old new c.args.from c.args.to _ _ _ moving) (from_within old new c.args.from c.args.to _ _ _ moving) in
     let left : IsAt old new (c.args.from + 1) c.args.from (g.C.CellRunner.change_of c.leave.new.state.change) (g.C.CellRunner.session_of c.leave.new.state.session) c.leave.new.state.since =
     c.in_ok-leave.ensures.at old new c.args.from moving.run place at in
     let frame = frame_down old new c.args.from c.args.to _ _ _ moving c.requires.down in
@@ -103,11 +107,11 @@ returns-in_err-sweep-2-clause-counts g c = λ old new moving at.
     subst (λ k. IsAt old new (c.args.to + 1) k (g.C.CellRunner.change_of c.sweep.new.state.change) (g.C.CellRunner.session_of c.sweep.new.state.session) c.sweep.new.state.since) (down_place c.args.from c.args.to c.requires.down)
     (c.in_ok-sweep.ensures.at old new c.args.from frame left) in
     let come : IsComing old new c.args.from (c.args.to + 1) c.args.to _ (cell_of c.deref.result.now) (g.C.CellRunner.recorded c.deref-2.result.now) _ =
-    coming old new c.args.from c.args.to _ _ _ moving (c.args.to + 1) (omega (arith, long, c.requires)) (cell_of c.deref.result.now) (g.C.CellRunner.recorded c.deref-2.result.now)
-    (cell_there c.args.cells.now c.args.from c.index-cells-from.result c.deref.result.now (omega (arith, long, moving.stood)) c.index-cells-from.is c.deref.ensures)
+    coming old new c.args.from c.args.to _ _ _ moving (c.args.to + 1) (to_next old new c.args.from c.args.to _ _ _ moving) (cell_of c.deref.result.now) (g.C.CellRunner.recorded c.deref-2.result.now)
+    (cell_there c.args.cells.now c.args.from c.index-cells-from.result c.deref.result.now (subst (λ n. c.args.from < n) long moving.stood) c.index-cells-from.is c.deref.ensures)
     (ap g.C.CellRunner.recorded c.deref-2.ensures ∙ record_there (λ r. g.C.CellRunner.recorded r.value) old c.args.records.now c.index-records-from.result c.args.from moving.run.records moving.stood c.index-records-from.is) in
     let come_in = c.in_ok-made.ensures.at old new c.args.from c.args.to come there in
-    let rest = frame_rest old new c.args.from c.args.to _ _ _ moving (c.args.to + 1) (length c.args.cells.now) (omega (arith, c.requires.down)) (omega arith) (omega (arith, c.requires.to)) (sym long) in
+    let rest = frame_rest old new c.args.from c.args.to _ _ _ moving (c.args.to + 1) (length c.args.cells.now) (below_more c.args.from c.args.to c.requires.down) (below_next c.args.to) (next_within c.args.to (length c.args.cells.now) c.requires.to) (sym long) in
     let so_far = subst (λ k. CountsFront old new k c.args.meter.now c.sweep.new.meter) (down_place c.args.from c.args.to c.requires.down) (c.in_ok-sweep.ensures.counted old new c.args.from c.args.meter.now frame left (none_yet old new c.args.from c.args.meter.now)) in
     let with_it = c.enter.ensures.counts old new c.args.from c.args.to c.args.meter.now come there so_far in
     c.sweep-2.ensures.counts old new (c.args.to + 1) _ rest come_in with_it
@@ -115,7 +119,7 @@ returns-in_err-sweep-2-clause-counts g c = λ old new moving at.
 pub returns-clause-counts : goal.returns-clause-counts
 returns-clause-counts g c = λ old new moving at.
     let long : length old.cells ≡ length c.args.cells.now = ap length moving.cells ∙ length-map c.args.cells.now (λ s. cell_of s.value) in
-    let place : IsPlace old new c.args.from c.args.from = place_at old new c.args.from c.args.to _ _ _ moving c.args.from c.args.from (omega (arith, moving.stood)) (omega (arith, moving.stood)) in
+    let place : IsPlace old new c.args.from c.args.from = place_at old new c.args.from c.args.to _ _ _ moving c.args.from c.args.from (from_within old new c.args.from c.args.to _ _ _ moving) (from_within old new c.args.from c.args.to _ _ _ moving) in
     let left : IsAt old new (c.args.from + 1) c.args.from (g.C.CellRunner.change_of c.leave.new.state.change) (g.C.CellRunner.session_of c.leave.new.state.session) c.leave.new.state.since =
     c.in_ok-leave.ensures.at old new c.args.from moving.run place at in
     let frame = frame_down old new c.args.from c.args.to _ _ _ moving c.requires.down in
@@ -123,11 +127,11 @@ returns-clause-counts g c = λ old new moving at.
     subst (λ k. IsAt old new (c.args.to + 1) k (g.C.CellRunner.change_of c.sweep.new.state.change) (g.C.CellRunner.session_of c.sweep.new.state.session) c.sweep.new.state.since) (down_place c.args.from c.args.to c.requires.down)
     (c.in_ok-sweep.ensures.at old new c.args.from frame left) in
     let come : IsComing old new c.args.from (c.args.to + 1) c.args.to _ (cell_of c.deref.result.now) (g.C.CellRunner.recorded c.deref-2.result.now) _ =
-    coming old new c.args.from c.args.to _ _ _ moving (c.args.to + 1) (omega (arith, long, c.requires)) (cell_of c.deref.result.now) (g.C.CellRunner.recorded c.deref-2.result.now)
-    (cell_there c.args.cells.now c.args.from c.index-cells-from.result c.deref.result.now (omega (arith, long, moving.stood)) c.index-cells-from.is c.deref.ensures)
+    coming old new c.args.from c.args.to _ _ _ moving (c.args.to + 1) (to_next old new c.args.from c.args.to _ _ _ moving) (cell_of c.deref.result.now) (g.C.CellRunner.recorded c.deref-2.result.now)
+    (cell_there c.args.cells.now c.args.from c.index-cells-from.result c.deref.result.now (subst (λ n. c.args.from < n) long moving.stood) c.index-cells-from.is c.deref.ensures)
     (ap g.C.CellRunner.recorded c.deref-2.ensures ∙ record_there (λ r. g.C.CellRunner.recorded r.value) old c.args.records.now c.index-records-from.result c.args.from moving.run.records moving.stood c.index-records-from.is) in
     let come_in = c.in_ok-made.ensures.at old new c.args.from c.args.to come there in
-    let rest = frame_rest old new c.args.from c.args.to _ _ _ moving (c.args.to + 1) (length c.args.cells.now) (omega (arith, c.requires.down)) (omega arith) (omega (arith, c.requires.to)) (sym long) in
+    let rest = frame_rest old new c.args.from c.args.to _ _ _ moving (c.args.to + 1) (length c.args.cells.now) (below_more c.args.from c.args.to c.requires.down) (below_next c.args.to) (next_within c.args.to (length c.args.cells.now) c.requires.to) (sym long) in
     let so_far = subst (λ k. CountsFront old new k c.args.meter.now c.sweep.new.meter) (down_place c.args.from c.args.to c.requires.down) (c.in_ok-sweep.ensures.counted old new c.args.from c.args.meter.now frame left (none_yet old new c.args.from c.args.meter.now)) in
     let with_it = c.enter.ensures.counts old new c.args.from c.args.to c.args.meter.now come there so_far in
     c.sweep-2.ensures.counts old new (c.args.to + 1) _ rest come_in with_it
@@ -135,7 +139,7 @@ returns-clause-counts g c = λ old new moving at.
 pub returns-clause-moved : goal.returns-clause-moved
 returns-clause-moved g c = λ old new moving at.
     let long : length old.cells ≡ length c.args.cells.now = ap length moving.cells ∙ length-map c.args.cells.now (λ s. cell_of s.value) in
-    let place : IsPlace old new c.args.from c.args.from = place_at old new c.args.from c.args.to _ _ _ moving c.args.from c.args.from (omega (arith, moving.stood)) (omega (arith, moving.stood)) in
+    let place : IsPlace old new c.args.from c.args.from = place_at old new c.args.from c.args.to _ _ _ moving c.args.from c.args.from (from_within old new c.args.from c.args.to _ _ _ moving) (from_within old new c.args.from c.args.to _ _ _ moving) in
     let left : IsAt old new (c.args.from + 1) c.args.from (g.C.CellRunner.change_of c.leave.new.state.change) (g.C.CellRunner.session_of c.leave.new.state.session) c.leave.new.state.since =
     c.in_ok-leave.ensures.at old new c.args.from moving.run place at in
     let frame = frame_down old new c.args.from c.args.to _ _ _ moving c.requires.down in
@@ -143,25 +147,25 @@ returns-clause-moved g c = λ old new moving at.
     subst (λ k. IsAt old new (c.args.to + 1) k (g.C.CellRunner.change_of c.sweep.new.state.change) (g.C.CellRunner.session_of c.sweep.new.state.session) c.sweep.new.state.since) (down_place c.args.from c.args.to c.requires.down)
     (c.in_ok-sweep.ensures.at old new c.args.from frame left) in
     let come : IsComing old new c.args.from (c.args.to + 1) c.args.to _ (cell_of c.deref.result.now) (g.C.CellRunner.recorded c.deref-2.result.now) _ =
-    coming old new c.args.from c.args.to _ _ _ moving (c.args.to + 1) (omega (arith, long, c.requires)) (cell_of c.deref.result.now) (g.C.CellRunner.recorded c.deref-2.result.now)
-    (cell_there c.args.cells.now c.args.from c.index-cells-from.result c.deref.result.now (omega (arith, long, moving.stood)) c.index-cells-from.is c.deref.ensures)
+    coming old new c.args.from c.args.to _ _ _ moving (c.args.to + 1) (to_next old new c.args.from c.args.to _ _ _ moving) (cell_of c.deref.result.now) (g.C.CellRunner.recorded c.deref-2.result.now)
+    (cell_there c.args.cells.now c.args.from c.index-cells-from.result c.deref.result.now (subst (λ n. c.args.from < n) long moving.stood) c.index-cells-from.is c.deref.ensures)
     (ap g.C.CellRunner.recorded c.deref-2.ensures ∙ record_there (λ r. g.C.CellRunner.recorded r.value) old c.args.records.now c.index-records-from.result c.args.from moving.run.records moving.stood c.index-records-from.is) in
     let come_in = c.in_ok-made.ensures.at old new c.args.from c.args.to come there in
-    let rest = frame_rest old new c.args.from c.args.to _ _ _ moving (c.args.to + 1) (length c.args.cells.now) (omega (arith, c.requires.down)) (omega arith) (omega (arith, c.requires.to)) (sym long) in
+    let rest = frame_rest old new c.args.from c.args.to _ _ _ moving (c.args.to + 1) (length c.args.cells.now) (below_more c.args.from c.args.to c.requires.down) (below_next c.args.to) (next_within c.args.to (length c.args.cells.now) c.requires.to) (sym long) in
     let first : AreChanged old new (c.args.from + 1) c.args.from (c.args.to + 1) (map (λ c'. change_at c'.place (g.C.CellRunner.recorded c'.record.value)) c.sweep.new.state.changed.items) =
     c.in_ok-sweep.ensures.changed old new c.args.from (c.args.from + 1) c.args.from frame left (omega arith) (same_place (c.args.from + 1) c.args.from)
     (subst (λ xs. AreChanged old new (c.args.from + 1) c.args.from (c.args.from + 1) (map (λ c'. change_at c'.place (g.C.CellRunner.recorded c'.record.value)) xs)) (sym (c.in_ok-leave.ensures.changed ∙ c.requires.changed)) (changed_none old new (c.args.from + 1) c.args.from)) in
     let second : AreChanged old new (c.args.to + 1) (c.args.to + 1) (length c.args.cells.now) (map (λ c'. change_at c'.place (g.C.CellRunner.recorded c'.record.value)) c.sweep-2.new.state.changed.items) =
     c.in_ok-sweep-2.ensures.changed old new (c.args.to + 1) (c.args.to + 1) (c.args.to + 1) rest come_in (omega arith) (same_place (c.args.to + 1) (c.args.to + 1))
-    (subst (λ xs. AreChanged old new (c.args.to + 1) (c.args.to + 1) (c.args.to + 1) (map (λ c'. change_at c'.place (g.C.CellRunner.recorded c'.record.value)) xs)) (sym (c.in_ok-made.ensures.changed ∙ ap (λ v. v.items) c.replace-between.ensures.after ∙ c.new.ensures.items)) (changed_none old new (c.args.to + 1) (c.args.to + 1))) in
-    moved_down old new c.args.from c.args.to _ _ _ moving (map (λ c'. change_at c'.place (g.C.CellRunner.recorded c'.record.value)) c.replace-between.result.items) (map (λ c'. change_at c'.place (g.C.CellRunner.recorded c'.record.value)) c.replace-behind.result.items) c.requires.down
-    (subst (λ v. AreChanged old new (c.args.from + 1) c.args.from (c.args.to + 1) (map (λ c'. change_at c'.place (g.C.CellRunner.recorded c'.record.value)) v.items)) (sym c.replace-between.ensures.value) first)
-    (subst (λ n. AreChanged old new (c.args.to + 1) (c.args.to + 1) n (map (λ c'. change_at c'.place (g.C.CellRunner.recorded c'.record.value)) c.replace-behind.result.items)) (sym long) (subst (λ v. AreChanged old new (c.args.to + 1) (c.args.to + 1) (length c.args.cells.now) (map (λ c'. change_at c'.place (g.C.CellRunner.recorded c'.record.value)) v.items)) (sym c.replace-behind.ensures.value) second))
+    (subst (λ xs. AreChanged old new (c.args.to + 1) (c.args.to + 1) (c.args.to + 1) (map (λ c'. change_at c'.place (g.C.CellRunner.recorded c'.record.value)) xs)) (sym (c.in_ok-made.ensures.changed ∙ ap (λ v. v.items) c.swap.ensures.y_after ∙ c.requires.between)) (changed_none old new (c.args.to + 1) (c.args.to + 1))) in
+    moved_down old new c.args.from c.args.to _ _ _ moving (map (λ c'. change_at c'.place (g.C.CellRunner.recorded c'.record.value)) c.keep_made.new.self.between.items) (map (λ c'. change_at c'.place (g.C.CellRunner.recorded c'.record.value)) c.swap-2.new.x.items) c.requires.down
+    (subst (λ v. AreChanged old new (c.args.from + 1) c.args.from (c.args.to + 1) (map (λ c'. change_at c'.place (g.C.CellRunner.recorded c'.record.value)) v.items)) (sym (c.keep_made.ensures.between ∙ c.swap.ensures.x_after)) first)
+    (subst (λ n. AreChanged old new (c.args.to + 1) (c.args.to + 1) n (map (λ c'. change_at c'.place (g.C.CellRunner.recorded c'.record.value)) c.swap-2.new.x.items)) (sym long) (subst (λ v. AreChanged old new (c.args.to + 1) (c.args.to + 1) (length c.args.cells.now) (map (λ c'. change_at c'.place (g.C.CellRunner.recorded c'.record.value)) v.items)) (sym c.swap-2.ensures.x_after) second))
 
 pub returns-clause-made : goal.returns-clause-made
 returns-clause-made g c = λ old new moving at.
     let long : length old.cells ≡ length c.args.cells.now = ap length moving.cells ∙ length-map c.args.cells.now (λ s. cell_of s.value) in
-    let place : IsPlace old new c.args.from c.args.from = place_at old new c.args.from c.args.to _ _ _ moving c.args.from c.args.from (omega (arith, moving.stood)) (omega (arith, moving.stood)) in
+    let place : IsPlace old new c.args.from c.args.from = place_at old new c.args.from c.args.to _ _ _ moving c.args.from c.args.from (from_within old new c.args.from c.args.to _ _ _ moving) (from_within old new c.args.from c.args.to _ _ _ moving) in
     let left : IsAt old new (c.args.from + 1) c.args.from (g.C.CellRunner.change_of c.leave.new.state.change) (g.C.CellRunner.session_of c.leave.new.state.session) c.leave.new.state.since =
     c.in_ok-leave.ensures.at old new c.args.from moving.run place at in
     let frame = frame_down old new c.args.from c.args.to _ _ _ moving c.requires.down in
@@ -169,28 +173,29 @@ returns-clause-made g c = λ old new moving at.
     subst (λ k. IsAt old new (c.args.to + 1) k (g.C.CellRunner.change_of c.sweep.new.state.change) (g.C.CellRunner.session_of c.sweep.new.state.session) c.sweep.new.state.since) (down_place c.args.from c.args.to c.requires.down)
     (c.in_ok-sweep.ensures.at old new c.args.from frame left) in
     let come : IsComing old new c.args.from (c.args.to + 1) c.args.to _ (cell_of c.deref.result.now) (g.C.CellRunner.recorded c.deref-2.result.now) _ =
-    coming old new c.args.from c.args.to _ _ _ moving (c.args.to + 1) (omega (arith, long, c.requires)) (cell_of c.deref.result.now) (g.C.CellRunner.recorded c.deref-2.result.now)
-    (cell_there c.args.cells.now c.args.from c.index-cells-from.result c.deref.result.now (omega (arith, long, moving.stood)) c.index-cells-from.is c.deref.ensures)
+    coming old new c.args.from c.args.to _ _ _ moving (c.args.to + 1) (to_next old new c.args.from c.args.to _ _ _ moving) (cell_of c.deref.result.now) (g.C.CellRunner.recorded c.deref-2.result.now)
+    (cell_there c.args.cells.now c.args.from c.index-cells-from.result c.deref.result.now (subst (λ n. c.args.from < n) long moving.stood) c.index-cells-from.is c.deref.ensures)
     (ap g.C.CellRunner.recorded c.deref-2.ensures ∙ record_there (λ r. g.C.CellRunner.recorded r.value) old c.args.records.now c.index-records-from.result c.args.from moving.run.records moving.stood c.index-records-from.is) in
-    made_there (λ n. g.C.CellRunner.recorded n.record.value) c.in_ok-made.made (g.C.CellRunner.recorded c.deref-2.result.now) (record_at old.world (entry_at old c.args.from)) (record_at new.world (entry_at new c.args.to)) come.made
-    (c.in_ok-made.ensures.made old new c.args.from c.args.to come there)
+    subst (λ o. MatchOption o (record_at old.world (entry_at old c.args.from) ≡ record_at new.world (entry_at new c.args.to)) (λ n. g.C.CellRunner.recorded n.record.value ≡ record_at new.world (entry_at new c.args.to))) (sym c.keep_made.ensures.made)
+    (made_there (λ n. g.C.CellRunner.recorded n.record.value) c.in_ok-made.made (g.C.CellRunner.recorded c.deref-2.result.now) (record_at old.world (entry_at old c.args.from)) (record_at new.world (entry_at new c.args.to)) come.made
+    (c.in_ok-made.ensures.made old new c.args.from c.args.to come there))
 
 pub returns-clause-fit_between : goal.returns-clause-fit_between
 returns-clause-fit_between g c =
-    subst (λ v. AreFit g.C.CellRunner.covers (length c.args.cells.now) (map (λ c'. fit_at c'.place (g.C.CellRunner.recorded c'.record.value) c'.word) v.items)) (sym c.replace-between.ensures.value)
+    subst (λ v. AreFit g.C.CellRunner.covers (length c.args.cells.now) (map (λ c'. fit_at c'.place (g.C.CellRunner.recorded c'.record.value) c'.word) v.items)) (sym (c.keep_made.ensures.between ∙ c.swap.ensures.x_after))
     (c.in_ok-sweep.ensures.fit (length c.args.cells.now) (omega (arith, c.requires.to))
     (subst (λ xs. AreFit g.C.CellRunner.covers (length c.args.cells.now) (map (λ c'. fit_at c'.place (g.C.CellRunner.recorded c'.record.value) c'.word) xs)) (sym (c.in_ok-leave.ensures.changed ∙ c.requires.changed)) tt))
 
 pub returns-clause-fit_behind : goal.returns-clause-fit_behind
 returns-clause-fit_behind g c =
-    subst (λ v. AreFit g.C.CellRunner.covers (length c.args.cells.now) (map (λ c'. fit_at c'.place (g.C.CellRunner.recorded c'.record.value) c'.word) v.items)) (sym c.replace-behind.ensures.value)
+    subst (λ v. AreFit g.C.CellRunner.covers (length c.args.cells.now) (map (λ c'. fit_at c'.place (g.C.CellRunner.recorded c'.record.value) c'.word) v.items)) (sym c.swap-2.ensures.x_after)
     (c.in_ok-sweep-2.ensures.fit (length c.args.cells.now) (omega arith)
-    (subst (λ xs. AreFit g.C.CellRunner.covers (length c.args.cells.now) (map (λ c'. fit_at c'.place (g.C.CellRunner.recorded c'.record.value) c'.word) xs)) (sym (c.in_ok-made.ensures.changed ∙ ap (λ v. v.items) c.replace-between.ensures.after ∙ c.new.ensures.items)) tt))
+    (subst (λ xs. AreFit g.C.CellRunner.covers (length c.args.cells.now) (map (λ c'. fit_at c'.place (g.C.CellRunner.recorded c'.record.value) c'.word) xs)) (sym (c.in_ok-made.ensures.changed ∙ ap (λ v. v.items) c.swap.ensures.y_after ∙ c.requires.between)) tt))
 
 pub returns-clause-noted : goal.returns-clause-noted
 returns-clause-noted g c = λ old new moving at.
     let long : length old.cells ≡ length c.args.cells.now = ap length moving.cells ∙ length-map c.args.cells.now (λ s. cell_of s.value) in
-    let place : IsPlace old new c.args.from c.args.from = place_at old new c.args.from c.args.to _ _ _ moving c.args.from c.args.from (omega (arith, moving.stood)) (omega (arith, moving.stood)) in
+    let place : IsPlace old new c.args.from c.args.from = place_at old new c.args.from c.args.to _ _ _ moving c.args.from c.args.from (from_within old new c.args.from c.args.to _ _ _ moving) (from_within old new c.args.from c.args.to _ _ _ moving) in
     let left : IsAt old new (c.args.from + 1) c.args.from (g.C.CellRunner.change_of c.leave.new.state.change) (g.C.CellRunner.session_of c.leave.new.state.session) c.leave.new.state.since =
     c.in_ok-leave.ensures.at old new c.args.from moving.run place at in
     let frame = frame_down old new c.args.from c.args.to _ _ _ moving c.requires.down in
@@ -198,12 +203,14 @@ returns-clause-noted g c = λ old new moving at.
     subst (λ k. IsAt old new (c.args.to + 1) k (g.C.CellRunner.change_of c.sweep.new.state.change) (g.C.CellRunner.session_of c.sweep.new.state.session) c.sweep.new.state.since) (down_place c.args.from c.args.to c.requires.down)
     (c.in_ok-sweep.ensures.at old new c.args.from frame left) in
     let come : IsComing old new c.args.from (c.args.to + 1) c.args.to _ (cell_of c.deref.result.now) (g.C.CellRunner.recorded c.deref-2.result.now) _ =
-    coming old new c.args.from c.args.to _ _ _ moving (c.args.to + 1) (omega (arith, long, c.requires)) (cell_of c.deref.result.now) (g.C.CellRunner.recorded c.deref-2.result.now)
-    (cell_there c.args.cells.now c.args.from c.index-cells-from.result c.deref.result.now (omega (arith, long, moving.stood)) c.index-cells-from.is c.deref.ensures)
+    coming old new c.args.from c.args.to _ _ _ moving (c.args.to + 1) (to_next old new c.args.from c.args.to _ _ _ moving) (cell_of c.deref.result.now) (g.C.CellRunner.recorded c.deref-2.result.now)
+    (cell_there c.args.cells.now c.args.from c.index-cells-from.result c.deref.result.now (subst (λ n. c.args.from < n) long moving.stood) c.index-cells-from.is c.deref.ensures)
     (ap g.C.CellRunner.recorded c.deref-2.ensures ∙ record_there (λ r. g.C.CellRunner.recorded r.value) old c.args.records.now c.index-records-from.result c.args.from moving.run.records moving.stood c.index-records-from.is) in
     let come_in = c.in_ok-made.ensures.at old new c.args.from c.args.to come there in
-    let rest = frame_rest old new c.args.from c.args.to _ _ _ moving (c.args.to + 1) (length c.args.cells.now) (omega (arith, c.requires.down)) (omega arith) (omega (arith, c.requires.to)) (sym long) in
-    c.in_ok-sweep-2.ensures.noted old new rest come_in (c.in_ok-sweep.ensures.noted old new frame left (All-none (λ n. IsNoted g.C.CellRunner.change_of g.C.CellRunner.kept_session old new n.place n.now n.memo) c.new-noted.result.items c.new-noted.ensures.items))
+    let rest = frame_rest old new c.args.from c.args.to _ _ _ moving (c.args.to + 1) (length c.args.cells.now) (below_more c.args.from c.args.to c.requires.down) (below_next c.args.to) (next_within c.args.to (length c.args.cells.now) c.requires.to) (sym long) in
+    c.in_ok-sweep-2.ensures.noted old new rest come_in
+    (subst (λ v. All (λ n. IsNoted g.C.CellRunner.change_of g.C.CellRunner.kept_session old new n.place n.now n.memo) v.items) (sym c.keep_made.ensures.noted)
+    (c.in_ok-sweep.ensures.noted old new frame left (All-none (λ n. IsNoted g.C.CellRunner.change_of g.C.CellRunner.kept_session old new n.place n.now n.memo) c.args.moved.now.noted.items c.requires.noted)))
 
 pub leave-requires-clause-at : goal.leave-requires-clause-at
 leave-requires-clause-at g c =
@@ -248,7 +255,7 @@ pub overflow_add-to-4 : goal.overflow_add-to-4
 overflow_add-to-4 g c = grind (arith, common_steps)
 
 pub returns-clause-worded : goal.returns-clause-worded
-returns-clause-worded g c = c.in_ok-made.ensures.worded
+returns-clause-worded g c = subst (λ o. IfSome o (λ n. IsWordOf g.C.CellRunner.covers n.word (g.C.CellRunner.recorded n.record.value))) (sym c.keep_made.ensures.made) c.in_ok-made.ensures.worded
 
 pub returns-in_err-leave-clause-counts : goal.returns-in_err-leave-clause-counts
 returns-in_err-leave-clause-counts g c = λ old new moving at. counts_stale old new 0 c.args.meter.now c.args.meter.now (none_yet old new 0 c.args.meter.now)
@@ -304,7 +311,7 @@ sweep-requires-clause-words g c = c.requires.words
 pub returns-clause-stale : goal.returns-clause-stale
 returns-clause-stale g c = λ old new moving at.
     let long : length old.cells ≡ length c.args.cells.now = ap length moving.cells ∙ length-map c.args.cells.now (λ s. cell_of s.value) in
-    let place : IsPlace old new c.args.from c.args.from = place_at old new c.args.from c.args.to _ _ _ moving c.args.from c.args.from (omega (arith, moving.stood)) (omega (arith, moving.stood)) in
+    let place : IsPlace old new c.args.from c.args.from = place_at old new c.args.from c.args.to _ _ _ moving c.args.from c.args.from (from_within old new c.args.from c.args.to _ _ _ moving) (from_within old new c.args.from c.args.to _ _ _ moving) in
     let left : IsAt old new (c.args.from + 1) c.args.from (g.C.CellRunner.change_of c.leave.new.state.change) (g.C.CellRunner.session_of c.leave.new.state.session) c.leave.new.state.since =
     c.in_ok-leave.ensures.at old new c.args.from moving.run place at in
     let frame = frame_down old new c.args.from c.args.to _ _ _ moving c.requires.down in
@@ -312,7 +319,7 @@ returns-clause-stale g c = λ old new moving at.
     subst (λ k. IsAt old new (c.args.to + 1) k (g.C.CellRunner.change_of c.sweep.new.state.change) (g.C.CellRunner.session_of c.sweep.new.state.session) c.sweep.new.state.since) (down_place c.args.from c.args.to c.requires.down)
     (c.in_ok-sweep.ensures.at old new c.args.from frame left) in
     let come : IsComing old new c.args.from (c.args.to + 1) c.args.to _ (cell_of c.deref.result.now) (g.C.CellRunner.recorded c.deref-2.result.now) _ =
-    coming old new c.args.from c.args.to _ _ _ moving (c.args.to + 1) (omega (arith, long, c.requires)) (cell_of c.deref.result.now) (g.C.CellRunner.recorded c.deref-2.result.now)
-    (cell_there c.args.cells.now c.args.from c.index-cells-from.result c.deref.result.now (omega (arith, long, moving.stood)) c.index-cells-from.is c.deref.ensures)
+    coming old new c.args.from c.args.to _ _ _ moving (c.args.to + 1) (to_next old new c.args.from c.args.to _ _ _ moving) (cell_of c.deref.result.now) (g.C.CellRunner.recorded c.deref-2.result.now)
+    (cell_there c.args.cells.now c.args.from c.index-cells-from.result c.deref.result.now (subst (λ n. c.args.from < n) long moving.stood) c.index-cells-from.is c.deref.ensures)
     (ap g.C.CellRunner.recorded c.deref-2.ensures ∙ record_there (λ r. g.C.CellRunner.recorded r.value) old c.args.records.now c.index-records-from.result c.args.from moving.run.records moving.stood c.index-records-from.is) in
-    c.in_ok-made.ensures.stale old new c.args.from c.args.to come there
+    subst (λ o. MatchOption o (¬ IsStale old new (entry_at new c.args.to)) (λ _. IsStale old new (entry_at new c.args.to))) (sym c.keep_made.ensures.made) (c.in_ok-made.ensures.stale old new c.args.from c.args.to come there)

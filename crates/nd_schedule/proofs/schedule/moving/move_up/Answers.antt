@@ -1,4 +1,7 @@
-use Rattle.std.proofs.Common.{◌≡◌, ◌+◌, length, map, sym, ap, subst, ◌∙◌, arith}
+use Rattle.std.specs.Prelude.{MatchOption}
+use Rattle.nd_change.specs.Steps.{IsWordOf}
+use Rattle.nd_model.specs.Book.Stale.{IsStale}
+use Rattle.std.proofs.Common.{◌≡◌, ◌<◌, IfSome, ◌+◌, length, map, sym, ap, subst, ◌∙◌, arith}
 use Rattle.std.proofs.lemmas.Grind.{common_steps}
 use Rattle.std.proofs.lemmas.List.{length-map}
 use Rattle.nd_model.specs.Book.Book.{Book}
@@ -8,7 +11,7 @@ use Rattle.nd_schedule.specs.Schedule.Sweep.{AreChanged, AreFit, CountsFront, Is
 use Rattle.nd_schedule.specs.Schedule.Snapshot.{IsNoted}
 use Rattle.nd_schedule.proofs.schedule.Standing.{All-none}
 use Rattle.nd_schedule.proofs.schedule.Sweeping.{changed_none, counts_stale, none_yet, record_there}
-use Rattle.nd_schedule.proofs.schedule.Turning.{coming, frame_rest, frame_up, made_there, moved_up, place_at, same_place, up_place}
+use Rattle.nd_schedule.proofs.schedule.Turning.{below_more, below_next, from_next, from_within, next_within, to_within, coming, frame_rest, frame_up, made_there, moved_up, place_at, same_place, up_place}
 use Rattle.nd_schedule.proofs.schedule.Visiting.{cell_there}
 use Rattle.nd_schedule.proofs.schedule.moving.move_up.Goals as goal
 
@@ -20,8 +23,8 @@ enter-requires-clause-at g c =
     let at = c.requires.at.3 in
     let long : length old.cells ≡ length c.args.cells.now = ap length moving.cells ∙ length-map c.args.cells.now (λ s. cell_of s.value) in
     let come : IsComing old new c.args.from (c.args.to) c.args.to _ (cell_of c.deref.result.now) (g.C.CellRunner.recorded c.deref-2.result.now) _ =
-    coming old new c.args.from c.args.to _ _ _ moving (c.args.to) (omega (arith, long, c.requires)) (cell_of c.deref.result.now) (g.C.CellRunner.recorded c.deref-2.result.now)
-    (cell_there c.args.cells.now c.args.from c.index-cells-from.result c.deref.result.now (omega (arith, long, moving.stood)) c.index-cells-from.is c.deref.ensures)
+    coming old new c.args.from c.args.to _ _ _ moving (c.args.to) (to_within old new c.args.from c.args.to _ _ _ moving) (cell_of c.deref.result.now) (g.C.CellRunner.recorded c.deref-2.result.now)
+    (cell_there c.args.cells.now c.args.from c.index-cells-from.result c.deref.result.now (subst (λ n. c.args.from < n) long moving.stood) c.index-cells-from.is c.deref.ensures)
     (ap g.C.CellRunner.recorded c.deref-2.ensures ∙ record_there (λ r. g.C.CellRunner.recorded r.value) old c.args.records.now c.index-records-from.result c.args.from moving.run.records moving.stood c.index-records-from.is) in
     (old, new, c.args.from, c.args.to, come, at)
 
@@ -29,8 +32,8 @@ pub returns-in_err-made-clause-counts : goal.returns-in_err-made-clause-counts
 returns-in_err-made-clause-counts g c = λ old new moving at.
     let long : length old.cells ≡ length c.args.cells.now = ap length moving.cells ∙ length-map c.args.cells.now (λ s. cell_of s.value) in
     let come : IsComing old new c.args.from (c.args.to) c.args.to _ (cell_of c.deref.result.now) (g.C.CellRunner.recorded c.deref-2.result.now) _ =
-    coming old new c.args.from c.args.to _ _ _ moving (c.args.to) (omega (arith, long, c.requires)) (cell_of c.deref.result.now) (g.C.CellRunner.recorded c.deref-2.result.now)
-    (cell_there c.args.cells.now c.args.from c.index-cells-from.result c.deref.result.now (omega (arith, long, moving.stood)) c.index-cells-from.is c.deref.ensures)
+    coming old new c.args.from c.args.to _ _ _ moving (c.args.to) (to_within old new c.args.from c.args.to _ _ _ moving) (cell_of c.deref.result.now) (g.C.CellRunner.recorded c.deref-2.result.now)
+    (cell_there c.args.cells.now c.args.from c.index-cells-from.result c.deref.result.now (subst (λ n. c.args.from < n) long moving.stood) c.index-cells-from.is c.deref.ensures)
     (ap g.C.CellRunner.recorded c.deref-2.ensures ∙ record_there (λ r. g.C.CellRunner.recorded r.value) old c.args.records.now c.index-records-from.result c.args.from moving.run.records moving.stood c.index-records-from.is) in
     let with_it = c.enter.ensures.counts old new c.args.from c.args.to c.args.meter.now come at (none_yet old new c.args.to c.args.meter.now) in
     counts_stale old new (c.args.to + 1) _ _ with_it
@@ -43,8 +46,8 @@ sweep-requires-clause-at g c =
     let at = c.requires.at.3 in
     let long : length old.cells ≡ length c.args.cells.now = ap length moving.cells ∙ length-map c.args.cells.now (λ s. cell_of s.value) in
     let come : IsComing old new c.args.from (c.args.to) c.args.to _ (cell_of c.deref.result.now) (g.C.CellRunner.recorded c.deref-2.result.now) _ =
-    coming old new c.args.from c.args.to _ _ _ moving (c.args.to) (omega (arith, long, c.requires)) (cell_of c.deref.result.now) (g.C.CellRunner.recorded c.deref-2.result.now)
-    (cell_there c.args.cells.now c.args.from c.index-cells-from.result c.deref.result.now (omega (arith, long, moving.stood)) c.index-cells-from.is c.deref.ensures)
+    coming old new c.args.from c.args.to _ _ _ moving (c.args.to) (to_within old new c.args.from c.args.to _ _ _ moving) (cell_of c.deref.result.now) (g.C.CellRunner.recorded c.deref-2.result.now)
+    (cell_there c.args.cells.now c.args.from c.index-cells-from.result c.deref.result.now (subst (λ n. c.args.from < n) long moving.stood) c.index-cells-from.is c.deref.ensures)
     (ap g.C.CellRunner.recorded c.deref-2.ensures ∙ record_there (λ r. g.C.CellRunner.recorded r.value) old c.args.records.now c.index-records-from.result c.args.from moving.run.records moving.stood c.index-records-from.is) in
     let come_in : IsAt old new c.args.to (c.args.to + 1) (g.C.CellRunner.change_of c.enter.new.state.change) (g.C.CellRunner.session_of c.enter.new.state.session) c.enter.new.state.since =
     c.in_ok-made.ensures.at old new c.args.from c.args.to come at in
@@ -55,8 +58,8 @@ pub returns-in_err-sweep-clause-counts : goal.returns-in_err-sweep-clause-counts
 returns-in_err-sweep-clause-counts g c = λ old new moving at.
     let long : length old.cells ≡ length c.args.cells.now = ap length moving.cells ∙ length-map c.args.cells.now (λ s. cell_of s.value) in
     let come : IsComing old new c.args.from (c.args.to) c.args.to _ (cell_of c.deref.result.now) (g.C.CellRunner.recorded c.deref-2.result.now) _ =
-    coming old new c.args.from c.args.to _ _ _ moving (c.args.to) (omega (arith, long, c.requires)) (cell_of c.deref.result.now) (g.C.CellRunner.recorded c.deref-2.result.now)
-    (cell_there c.args.cells.now c.args.from c.index-cells-from.result c.deref.result.now (omega (arith, long, moving.stood)) c.index-cells-from.is c.deref.ensures)
+    coming old new c.args.from c.args.to _ _ _ moving (c.args.to) (to_within old new c.args.from c.args.to _ _ _ moving) (cell_of c.deref.result.now) (g.C.CellRunner.recorded c.deref-2.result.now)
+    (cell_there c.args.cells.now c.args.from c.index-cells-from.result c.deref.result.now (subst (λ n. c.args.from < n) long moving.stood) c.index-cells-from.is c.deref.ensures)
     (ap g.C.CellRunner.recorded c.deref-2.ensures ∙ record_there (λ r. g.C.CellRunner.recorded r.value) old c.args.records.now c.index-records-from.result c.args.from moving.run.records moving.stood c.index-records-from.is) in
     let come_in : IsAt old new c.args.to (c.args.to + 1) (g.C.CellRunner.change_of c.enter.new.state.change) (g.C.CellRunner.session_of c.enter.new.state.session) c.enter.new.state.since =
     c.in_ok-made.ensures.at old new c.args.from c.args.to come at in
@@ -72,8 +75,8 @@ leave-requires-clause-at g c =
     let at = c.requires.at.3 in
     let long : length old.cells ≡ length c.args.cells.now = ap length moving.cells ∙ length-map c.args.cells.now (λ s. cell_of s.value) in
     let come : IsComing old new c.args.from (c.args.to) c.args.to _ (cell_of c.deref.result.now) (g.C.CellRunner.recorded c.deref-2.result.now) _ =
-    coming old new c.args.from c.args.to _ _ _ moving (c.args.to) (omega (arith, long, c.requires)) (cell_of c.deref.result.now) (g.C.CellRunner.recorded c.deref-2.result.now)
-    (cell_there c.args.cells.now c.args.from c.index-cells-from.result c.deref.result.now (omega (arith, long, moving.stood)) c.index-cells-from.is c.deref.ensures)
+    coming old new c.args.from c.args.to _ _ _ moving (c.args.to) (to_within old new c.args.from c.args.to _ _ _ moving) (cell_of c.deref.result.now) (g.C.CellRunner.recorded c.deref-2.result.now)
+    (cell_there c.args.cells.now c.args.from c.index-cells-from.result c.deref.result.now (subst (λ n. c.args.from < n) long moving.stood) c.index-cells-from.is c.deref.ensures)
     (ap g.C.CellRunner.recorded c.deref-2.ensures ∙ record_there (λ r. g.C.CellRunner.recorded r.value) old c.args.records.now c.index-records-from.result c.args.from moving.run.records moving.stood c.index-records-from.is) in
     let come_in : IsAt old new c.args.to (c.args.to + 1) (g.C.CellRunner.change_of c.enter.new.state.change) (g.C.CellRunner.session_of c.enter.new.state.session) c.enter.new.state.since =
     c.in_ok-made.ensures.at old new c.args.from c.args.to come at in
@@ -81,15 +84,15 @@ leave-requires-clause-at g c =
     let there : IsAt old new c.args.from (c.args.from + 1) (g.C.CellRunner.change_of c.sweep.new.state.change) (g.C.CellRunner.session_of c.sweep.new.state.session) c.sweep.new.state.since =
     subst (λ k. IsAt old new c.args.from k (g.C.CellRunner.change_of c.sweep.new.state.change) (g.C.CellRunner.session_of c.sweep.new.state.session) c.sweep.new.state.since) (up_place c.args.from c.args.to c.requires.up)
     (c.in_ok-sweep.ensures.at old new (c.args.to + 1) frame come_in) in
-    let place : IsPlace old new c.args.from (c.args.from + 1) = place_at old new c.args.from c.args.to _ _ _ moving c.args.from (c.args.from + 1) (omega (arith, moving.stood)) (omega (arith, moving.stood)) in
+    let place : IsPlace old new c.args.from (c.args.from + 1) = place_at old new c.args.from c.args.to _ _ _ moving c.args.from (c.args.from + 1) (from_within old new c.args.from c.args.to _ _ _ moving) (from_next old new c.args.from c.args.to _ _ _ moving) in
     (old, new, c.args.from + 1, moving.run, place, there)
 
 pub returns-in_err-leave-clause-counts : goal.returns-in_err-leave-clause-counts
 returns-in_err-leave-clause-counts g c = λ old new moving at.
     let long : length old.cells ≡ length c.args.cells.now = ap length moving.cells ∙ length-map c.args.cells.now (λ s. cell_of s.value) in
     let come : IsComing old new c.args.from (c.args.to) c.args.to _ (cell_of c.deref.result.now) (g.C.CellRunner.recorded c.deref-2.result.now) _ =
-    coming old new c.args.from c.args.to _ _ _ moving (c.args.to) (omega (arith, long, c.requires)) (cell_of c.deref.result.now) (g.C.CellRunner.recorded c.deref-2.result.now)
-    (cell_there c.args.cells.now c.args.from c.index-cells-from.result c.deref.result.now (omega (arith, long, moving.stood)) c.index-cells-from.is c.deref.ensures)
+    coming old new c.args.from c.args.to _ _ _ moving (c.args.to) (to_within old new c.args.from c.args.to _ _ _ moving) (cell_of c.deref.result.now) (g.C.CellRunner.recorded c.deref-2.result.now)
+    (cell_there c.args.cells.now c.args.from c.index-cells-from.result c.deref.result.now (subst (λ n. c.args.from < n) long moving.stood) c.index-cells-from.is c.deref.ensures)
     (ap g.C.CellRunner.recorded c.deref-2.ensures ∙ record_there (λ r. g.C.CellRunner.recorded r.value) old c.args.records.now c.index-records-from.result c.args.from moving.run.records moving.stood c.index-records-from.is) in
     let come_in : IsAt old new c.args.to (c.args.to + 1) (g.C.CellRunner.change_of c.enter.new.state.change) (g.C.CellRunner.session_of c.enter.new.state.session) c.enter.new.state.since =
     c.in_ok-made.ensures.at old new c.args.from c.args.to come at in
@@ -106,8 +109,8 @@ sweep-requires-2-clause-at g c =
     let at = c.requires.at.3 in
     let long : length old.cells ≡ length c.args.cells.now = ap length moving.cells ∙ length-map c.args.cells.now (λ s. cell_of s.value) in
     let come : IsComing old new c.args.from (c.args.to) c.args.to _ (cell_of c.deref.result.now) (g.C.CellRunner.recorded c.deref-2.result.now) _ =
-    coming old new c.args.from c.args.to _ _ _ moving (c.args.to) (omega (arith, long, c.requires)) (cell_of c.deref.result.now) (g.C.CellRunner.recorded c.deref-2.result.now)
-    (cell_there c.args.cells.now c.args.from c.index-cells-from.result c.deref.result.now (omega (arith, long, moving.stood)) c.index-cells-from.is c.deref.ensures)
+    coming old new c.args.from c.args.to _ _ _ moving (c.args.to) (to_within old new c.args.from c.args.to _ _ _ moving) (cell_of c.deref.result.now) (g.C.CellRunner.recorded c.deref-2.result.now)
+    (cell_there c.args.cells.now c.args.from c.index-cells-from.result c.deref.result.now (subst (λ n. c.args.from < n) long moving.stood) c.index-cells-from.is c.deref.ensures)
     (ap g.C.CellRunner.recorded c.deref-2.ensures ∙ record_there (λ r. g.C.CellRunner.recorded r.value) old c.args.records.now c.index-records-from.result c.args.from moving.run.records moving.stood c.index-records-from.is) in
     let come_in : IsAt old new c.args.to (c.args.to + 1) (g.C.CellRunner.change_of c.enter.new.state.change) (g.C.CellRunner.session_of c.enter.new.state.session) c.enter.new.state.since =
     c.in_ok-made.ensures.at old new c.args.from c.args.to come at in
@@ -115,17 +118,17 @@ sweep-requires-2-clause-at g c =
     let there : IsAt old new c.args.from (c.args.from + 1) (g.C.CellRunner.change_of c.sweep.new.state.change) (g.C.CellRunner.session_of c.sweep.new.state.session) c.sweep.new.state.since =
     subst (λ k. IsAt old new c.args.from k (g.C.CellRunner.change_of c.sweep.new.state.change) (g.C.CellRunner.session_of c.sweep.new.state.session) c.sweep.new.state.since) (up_place c.args.from c.args.to c.requires.up)
     (c.in_ok-sweep.ensures.at old new (c.args.to + 1) frame come_in) in
-    let place : IsPlace old new c.args.from (c.args.from + 1) = place_at old new c.args.from c.args.to _ _ _ moving c.args.from (c.args.from + 1) (omega (arith, moving.stood)) (omega (arith, moving.stood)) in
+    let place : IsPlace old new c.args.from (c.args.from + 1) = place_at old new c.args.from c.args.to _ _ _ moving c.args.from (c.args.from + 1) (from_within old new c.args.from c.args.to _ _ _ moving) (from_next old new c.args.from c.args.to _ _ _ moving) in
     let left = c.in_ok-leave.ensures.at old new (c.args.from + 1) moving.run place there in
-    let rest = frame_rest old new c.args.from c.args.to _ _ _ moving (c.args.from + 1) (length c.args.cells.now) (omega arith) (omega (arith, c.requires.up)) (omega (arith, c.requires.from)) (sym long) in
+    let rest = frame_rest old new c.args.from c.args.to _ _ _ moving (c.args.from + 1) (length c.args.cells.now) (below_next c.args.from) (below_more c.args.to c.args.from c.requires.up) (next_within c.args.from (length c.args.cells.now) c.requires.from) (sym long) in
     (old, new, c.args.from + 1, rest, left)
 
 pub returns-in_err-sweep-2-clause-counts : goal.returns-in_err-sweep-2-clause-counts
 returns-in_err-sweep-2-clause-counts g c = λ old new moving at.
     let long : length old.cells ≡ length c.args.cells.now = ap length moving.cells ∙ length-map c.args.cells.now (λ s. cell_of s.value) in
     let come : IsComing old new c.args.from (c.args.to) c.args.to _ (cell_of c.deref.result.now) (g.C.CellRunner.recorded c.deref-2.result.now) _ =
-    coming old new c.args.from c.args.to _ _ _ moving (c.args.to) (omega (arith, long, c.requires)) (cell_of c.deref.result.now) (g.C.CellRunner.recorded c.deref-2.result.now)
-    (cell_there c.args.cells.now c.args.from c.index-cells-from.result c.deref.result.now (omega (arith, long, moving.stood)) c.index-cells-from.is c.deref.ensures)
+    coming old new c.args.from c.args.to _ _ _ moving (c.args.to) (to_within old new c.args.from c.args.to _ _ _ moving) (cell_of c.deref.result.now) (g.C.CellRunner.recorded c.deref-2.result.now)
+    (cell_there c.args.cells.now c.args.from c.index-cells-from.result c.deref.result.now (subst (λ n. c.args.from < n) long moving.stood) c.index-cells-from.is c.deref.ensures)
     (ap g.C.CellRunner.recorded c.deref-2.ensures ∙ record_there (λ r. g.C.CellRunner.recorded r.value) old c.args.records.now c.index-records-from.result c.args.from moving.run.records moving.stood c.index-records-from.is) in
     let come_in : IsAt old new c.args.to (c.args.to + 1) (g.C.CellRunner.change_of c.enter.new.state.change) (g.C.CellRunner.session_of c.enter.new.state.session) c.enter.new.state.since =
     c.in_ok-made.ensures.at old new c.args.from c.args.to come at in
@@ -133,9 +136,9 @@ returns-in_err-sweep-2-clause-counts g c = λ old new moving at.
     let there : IsAt old new c.args.from (c.args.from + 1) (g.C.CellRunner.change_of c.sweep.new.state.change) (g.C.CellRunner.session_of c.sweep.new.state.session) c.sweep.new.state.since =
     subst (λ k. IsAt old new c.args.from k (g.C.CellRunner.change_of c.sweep.new.state.change) (g.C.CellRunner.session_of c.sweep.new.state.session) c.sweep.new.state.since) (up_place c.args.from c.args.to c.requires.up)
     (c.in_ok-sweep.ensures.at old new (c.args.to + 1) frame come_in) in
-    let place : IsPlace old new c.args.from (c.args.from + 1) = place_at old new c.args.from c.args.to _ _ _ moving c.args.from (c.args.from + 1) (omega (arith, moving.stood)) (omega (arith, moving.stood)) in
+    let place : IsPlace old new c.args.from (c.args.from + 1) = place_at old new c.args.from c.args.to _ _ _ moving c.args.from (c.args.from + 1) (from_within old new c.args.from c.args.to _ _ _ moving) (from_next old new c.args.from c.args.to _ _ _ moving) in
     let left = c.in_ok-leave.ensures.at old new (c.args.from + 1) moving.run place there in
-    let rest = frame_rest old new c.args.from c.args.to _ _ _ moving (c.args.from + 1) (length c.args.cells.now) (omega arith) (omega (arith, c.requires.up)) (omega (arith, c.requires.from)) (sym long) in
+    let rest = frame_rest old new c.args.from c.args.to _ _ _ moving (c.args.from + 1) (length c.args.cells.now) (below_next c.args.from) (below_more c.args.to c.args.from c.requires.up) (next_within c.args.from (length c.args.cells.now) c.requires.from) (sym long) in
     let with_it = c.enter.ensures.counts old new c.args.from c.args.to c.args.meter.now come at (none_yet old new c.args.to c.args.meter.now) in
     let so_far = subst (λ k. CountsFront old new k c.args.meter.now c.sweep.new.meter) (up_place c.args.from c.args.to c.requires.up) (c.in_ok-sweep.ensures.counted old new (c.args.to + 1) c.args.meter.now frame come_in with_it) in
     c.sweep-2.ensures.counts old new (c.args.from + 1) _ rest left so_far
@@ -144,8 +147,8 @@ pub returns-clause-counts : goal.returns-clause-counts
 returns-clause-counts g c = λ old new moving at.
     let long : length old.cells ≡ length c.args.cells.now = ap length moving.cells ∙ length-map c.args.cells.now (λ s. cell_of s.value) in
     let come : IsComing old new c.args.from (c.args.to) c.args.to _ (cell_of c.deref.result.now) (g.C.CellRunner.recorded c.deref-2.result.now) _ =
-    coming old new c.args.from c.args.to _ _ _ moving (c.args.to) (omega (arith, long, c.requires)) (cell_of c.deref.result.now) (g.C.CellRunner.recorded c.deref-2.result.now)
-    (cell_there c.args.cells.now c.args.from c.index-cells-from.result c.deref.result.now (omega (arith, long, moving.stood)) c.index-cells-from.is c.deref.ensures)
+    coming old new c.args.from c.args.to _ _ _ moving (c.args.to) (to_within old new c.args.from c.args.to _ _ _ moving) (cell_of c.deref.result.now) (g.C.CellRunner.recorded c.deref-2.result.now)
+    (cell_there c.args.cells.now c.args.from c.index-cells-from.result c.deref.result.now (subst (λ n. c.args.from < n) long moving.stood) c.index-cells-from.is c.deref.ensures)
     (ap g.C.CellRunner.recorded c.deref-2.ensures ∙ record_there (λ r. g.C.CellRunner.recorded r.value) old c.args.records.now c.index-records-from.result c.args.from moving.run.records moving.stood c.index-records-from.is) in
     let come_in : IsAt old new c.args.to (c.args.to + 1) (g.C.CellRunner.change_of c.enter.new.state.change) (g.C.CellRunner.session_of c.enter.new.state.session) c.enter.new.state.since =
     c.in_ok-made.ensures.at old new c.args.from c.args.to come at in
@@ -153,9 +156,9 @@ returns-clause-counts g c = λ old new moving at.
     let there : IsAt old new c.args.from (c.args.from + 1) (g.C.CellRunner.change_of c.sweep.new.state.change) (g.C.CellRunner.session_of c.sweep.new.state.session) c.sweep.new.state.since =
     subst (λ k. IsAt old new c.args.from k (g.C.CellRunner.change_of c.sweep.new.state.change) (g.C.CellRunner.session_of c.sweep.new.state.session) c.sweep.new.state.since) (up_place c.args.from c.args.to c.requires.up)
     (c.in_ok-sweep.ensures.at old new (c.args.to + 1) frame come_in) in
-    let place : IsPlace old new c.args.from (c.args.from + 1) = place_at old new c.args.from c.args.to _ _ _ moving c.args.from (c.args.from + 1) (omega (arith, moving.stood)) (omega (arith, moving.stood)) in
+    let place : IsPlace old new c.args.from (c.args.from + 1) = place_at old new c.args.from c.args.to _ _ _ moving c.args.from (c.args.from + 1) (from_within old new c.args.from c.args.to _ _ _ moving) (from_next old new c.args.from c.args.to _ _ _ moving) in
     let left = c.in_ok-leave.ensures.at old new (c.args.from + 1) moving.run place there in
-    let rest = frame_rest old new c.args.from c.args.to _ _ _ moving (c.args.from + 1) (length c.args.cells.now) (omega arith) (omega (arith, c.requires.up)) (omega (arith, c.requires.from)) (sym long) in
+    let rest = frame_rest old new c.args.from c.args.to _ _ _ moving (c.args.from + 1) (length c.args.cells.now) (below_next c.args.from) (below_more c.args.to c.args.from c.requires.up) (next_within c.args.from (length c.args.cells.now) c.requires.from) (sym long) in
     let with_it = c.enter.ensures.counts old new c.args.from c.args.to c.args.meter.now come at (none_yet old new c.args.to c.args.meter.now) in
     let so_far = subst (λ k. CountsFront old new k c.args.meter.now c.sweep.new.meter) (up_place c.args.from c.args.to c.requires.up) (c.in_ok-sweep.ensures.counted old new (c.args.to + 1) c.args.meter.now frame come_in with_it) in
     c.sweep-2.ensures.counts old new (c.args.from + 1) _ rest left so_far
@@ -164,8 +167,8 @@ pub returns-clause-moved : goal.returns-clause-moved
 returns-clause-moved g c = λ old new moving at.
     let long : length old.cells ≡ length c.args.cells.now = ap length moving.cells ∙ length-map c.args.cells.now (λ s. cell_of s.value) in
     let come : IsComing old new c.args.from (c.args.to) c.args.to _ (cell_of c.deref.result.now) (g.C.CellRunner.recorded c.deref-2.result.now) _ =
-    coming old new c.args.from c.args.to _ _ _ moving (c.args.to) (omega (arith, long, c.requires)) (cell_of c.deref.result.now) (g.C.CellRunner.recorded c.deref-2.result.now)
-    (cell_there c.args.cells.now c.args.from c.index-cells-from.result c.deref.result.now (omega (arith, long, moving.stood)) c.index-cells-from.is c.deref.ensures)
+    coming old new c.args.from c.args.to _ _ _ moving (c.args.to) (to_within old new c.args.from c.args.to _ _ _ moving) (cell_of c.deref.result.now) (g.C.CellRunner.recorded c.deref-2.result.now)
+    (cell_there c.args.cells.now c.args.from c.index-cells-from.result c.deref.result.now (subst (λ n. c.args.from < n) long moving.stood) c.index-cells-from.is c.deref.ensures)
     (ap g.C.CellRunner.recorded c.deref-2.ensures ∙ record_there (λ r. g.C.CellRunner.recorded r.value) old c.args.records.now c.index-records-from.result c.args.from moving.run.records moving.stood c.index-records-from.is) in
     let come_in : IsAt old new c.args.to (c.args.to + 1) (g.C.CellRunner.change_of c.enter.new.state.change) (g.C.CellRunner.session_of c.enter.new.state.session) c.enter.new.state.since =
     c.in_ok-made.ensures.at old new c.args.from c.args.to come at in
@@ -173,47 +176,48 @@ returns-clause-moved g c = λ old new moving at.
     let there : IsAt old new c.args.from (c.args.from + 1) (g.C.CellRunner.change_of c.sweep.new.state.change) (g.C.CellRunner.session_of c.sweep.new.state.session) c.sweep.new.state.since =
     subst (λ k. IsAt old new c.args.from k (g.C.CellRunner.change_of c.sweep.new.state.change) (g.C.CellRunner.session_of c.sweep.new.state.session) c.sweep.new.state.since) (up_place c.args.from c.args.to c.requires.up)
     (c.in_ok-sweep.ensures.at old new (c.args.to + 1) frame come_in) in
-    let place : IsPlace old new c.args.from (c.args.from + 1) = place_at old new c.args.from c.args.to _ _ _ moving c.args.from (c.args.from + 1) (omega (arith, moving.stood)) (omega (arith, moving.stood)) in
+    let place : IsPlace old new c.args.from (c.args.from + 1) = place_at old new c.args.from c.args.to _ _ _ moving c.args.from (c.args.from + 1) (from_within old new c.args.from c.args.to _ _ _ moving) (from_next old new c.args.from c.args.to _ _ _ moving) in
     let left = c.in_ok-leave.ensures.at old new (c.args.from + 1) moving.run place there in
-    let rest = frame_rest old new c.args.from c.args.to _ _ _ moving (c.args.from + 1) (length c.args.cells.now) (omega arith) (omega (arith, c.requires.up)) (omega (arith, c.requires.from)) (sym long) in
+    let rest = frame_rest old new c.args.from c.args.to _ _ _ moving (c.args.from + 1) (length c.args.cells.now) (below_next c.args.from) (below_more c.args.to c.args.from c.requires.up) (next_within c.args.from (length c.args.cells.now) c.requires.from) (sym long) in
     let first : AreChanged old new c.args.to (c.args.to + 1) c.args.from (map (λ c'. change_at c'.place (g.C.CellRunner.recorded c'.record.value)) c.sweep.new.state.changed.items) =
     c.in_ok-sweep.ensures.changed old new (c.args.to + 1) c.args.to (c.args.to + 1) frame come_in (omega arith) (same_place c.args.to (c.args.to + 1))
     (subst (λ xs. AreChanged old new c.args.to (c.args.to + 1) c.args.to (map (λ c'. change_at c'.place (g.C.CellRunner.recorded c'.record.value)) xs)) (sym (c.in_ok-made.ensures.changed ∙ c.requires.changed)) (changed_none old new c.args.to (c.args.to + 1))) in
     let second : AreChanged old new (c.args.from + 1) (c.args.from + 1) (length c.args.cells.now) (map (λ c'. change_at c'.place (g.C.CellRunner.recorded c'.record.value)) c.sweep-2.new.state.changed.items) =
     c.in_ok-sweep-2.ensures.changed old new (c.args.from + 1) (c.args.from + 1) (c.args.from + 1) rest left (omega arith) (same_place (c.args.from + 1) (c.args.from + 1))
-    (subst (λ xs. AreChanged old new (c.args.from + 1) (c.args.from + 1) (c.args.from + 1) (map (λ c'. change_at c'.place (g.C.CellRunner.recorded c'.record.value)) xs)) (sym (c.in_ok-leave.ensures.changed ∙ ap (λ v. v.items) c.replace-between.ensures.after ∙ c.new.ensures.items)) (changed_none old new (c.args.from + 1) (c.args.from + 1))) in
-    moved_up old new c.args.from c.args.to _ _ _ moving (map (λ c'. change_at c'.place (g.C.CellRunner.recorded c'.record.value)) c.replace-between.result.items) (map (λ c'. change_at c'.place (g.C.CellRunner.recorded c'.record.value)) c.replace-behind.result.items) c.requires.up
-    (subst (λ v. AreChanged old new c.args.to (c.args.to + 1) c.args.from (map (λ c'. change_at c'.place (g.C.CellRunner.recorded c'.record.value)) v.items)) (sym c.replace-between.ensures.value) first)
-    (subst (λ n. AreChanged old new (c.args.from + 1) (c.args.from + 1) n (map (λ c'. change_at c'.place (g.C.CellRunner.recorded c'.record.value)) c.replace-behind.result.items)) (sym long) (subst (λ v. AreChanged old new (c.args.from + 1) (c.args.from + 1) (length c.args.cells.now) (map (λ c'. change_at c'.place (g.C.CellRunner.recorded c'.record.value)) v.items)) (sym c.replace-behind.ensures.value) second))
+    (subst (λ xs. AreChanged old new (c.args.from + 1) (c.args.from + 1) (c.args.from + 1) (map (λ c'. change_at c'.place (g.C.CellRunner.recorded c'.record.value)) xs)) (sym (c.in_ok-leave.ensures.changed ∙ ap (λ v. v.items) (c.swap.ensures.y_after ∙ c.keep_made.ensures.between) ∙ c.requires.between)) (changed_none old new (c.args.from + 1) (c.args.from + 1))) in
+    moved_up old new c.args.from c.args.to _ _ _ moving (map (λ c'. change_at c'.place (g.C.CellRunner.recorded c'.record.value)) c.swap.new.x.items) (map (λ c'. change_at c'.place (g.C.CellRunner.recorded c'.record.value)) c.swap-2.new.x.items) c.requires.up
+    (subst (λ v. AreChanged old new c.args.to (c.args.to + 1) c.args.from (map (λ c'. change_at c'.place (g.C.CellRunner.recorded c'.record.value)) v.items)) (sym c.swap.ensures.x_after) first)
+    (subst (λ n. AreChanged old new (c.args.from + 1) (c.args.from + 1) n (map (λ c'. change_at c'.place (g.C.CellRunner.recorded c'.record.value)) c.swap-2.new.x.items)) (sym long) (subst (λ v. AreChanged old new (c.args.from + 1) (c.args.from + 1) (length c.args.cells.now) (map (λ c'. change_at c'.place (g.C.CellRunner.recorded c'.record.value)) v.items)) (sym c.swap-2.ensures.x_after) second))
 
 pub returns-clause-made : goal.returns-clause-made
 returns-clause-made g c = λ old new moving at.
     let long : length old.cells ≡ length c.args.cells.now = ap length moving.cells ∙ length-map c.args.cells.now (λ s. cell_of s.value) in
     let come : IsComing old new c.args.from (c.args.to) c.args.to _ (cell_of c.deref.result.now) (g.C.CellRunner.recorded c.deref-2.result.now) _ =
-    coming old new c.args.from c.args.to _ _ _ moving (c.args.to) (omega (arith, long, c.requires)) (cell_of c.deref.result.now) (g.C.CellRunner.recorded c.deref-2.result.now)
-    (cell_there c.args.cells.now c.args.from c.index-cells-from.result c.deref.result.now (omega (arith, long, moving.stood)) c.index-cells-from.is c.deref.ensures)
+    coming old new c.args.from c.args.to _ _ _ moving (c.args.to) (to_within old new c.args.from c.args.to _ _ _ moving) (cell_of c.deref.result.now) (g.C.CellRunner.recorded c.deref-2.result.now)
+    (cell_there c.args.cells.now c.args.from c.index-cells-from.result c.deref.result.now (subst (λ n. c.args.from < n) long moving.stood) c.index-cells-from.is c.deref.ensures)
     (ap g.C.CellRunner.recorded c.deref-2.ensures ∙ record_there (λ r. g.C.CellRunner.recorded r.value) old c.args.records.now c.index-records-from.result c.args.from moving.run.records moving.stood c.index-records-from.is) in
-    made_there (λ n. g.C.CellRunner.recorded n.record.value) c.in_ok-made.made (g.C.CellRunner.recorded c.deref-2.result.now) (record_at old.world (entry_at old c.args.from)) (record_at new.world (entry_at new c.args.to)) come.made
-    (c.in_ok-made.ensures.made old new c.args.from c.args.to come at)
+    subst (λ o. MatchOption o (record_at old.world (entry_at old c.args.from) ≡ record_at new.world (entry_at new c.args.to)) (λ n. g.C.CellRunner.recorded n.record.value ≡ record_at new.world (entry_at new c.args.to))) (sym c.keep_made.ensures.made)
+    (made_there (λ n. g.C.CellRunner.recorded n.record.value) c.in_ok-made.made (g.C.CellRunner.recorded c.deref-2.result.now) (record_at old.world (entry_at old c.args.from)) (record_at new.world (entry_at new c.args.to)) come.made
+    (c.in_ok-made.ensures.made old new c.args.from c.args.to come at))
 
 pub returns-clause-fit_between : goal.returns-clause-fit_between
 returns-clause-fit_between g c =
-    subst (λ v. AreFit g.C.CellRunner.covers (length c.args.cells.now) (map (λ c'. fit_at c'.place (g.C.CellRunner.recorded c'.record.value) c'.word) v.items)) (sym c.replace-between.ensures.value)
+    subst (λ v. AreFit g.C.CellRunner.covers (length c.args.cells.now) (map (λ c'. fit_at c'.place (g.C.CellRunner.recorded c'.record.value) c'.word) v.items)) (sym c.swap.ensures.x_after)
     (c.in_ok-sweep.ensures.fit (length c.args.cells.now) (omega (arith, c.requires.from))
     (subst (λ xs. AreFit g.C.CellRunner.covers (length c.args.cells.now) (map (λ c'. fit_at c'.place (g.C.CellRunner.recorded c'.record.value) c'.word) xs)) (sym (c.in_ok-made.ensures.changed ∙ c.requires.changed)) tt))
 
 pub returns-clause-fit_behind : goal.returns-clause-fit_behind
 returns-clause-fit_behind g c =
-    subst (λ v. AreFit g.C.CellRunner.covers (length c.args.cells.now) (map (λ c'. fit_at c'.place (g.C.CellRunner.recorded c'.record.value) c'.word) v.items)) (sym c.replace-behind.ensures.value)
+    subst (λ v. AreFit g.C.CellRunner.covers (length c.args.cells.now) (map (λ c'. fit_at c'.place (g.C.CellRunner.recorded c'.record.value) c'.word) v.items)) (sym c.swap-2.ensures.x_after)
     (c.in_ok-sweep-2.ensures.fit (length c.args.cells.now) (omega arith)
-    (subst (λ xs. AreFit g.C.CellRunner.covers (length c.args.cells.now) (map (λ c'. fit_at c'.place (g.C.CellRunner.recorded c'.record.value) c'.word) xs)) (sym (c.in_ok-leave.ensures.changed ∙ ap (λ v. v.items) c.replace-between.ensures.after ∙ c.new.ensures.items)) tt))
+    (subst (λ xs. AreFit g.C.CellRunner.covers (length c.args.cells.now) (map (λ c'. fit_at c'.place (g.C.CellRunner.recorded c'.record.value) c'.word) xs)) (sym (c.in_ok-leave.ensures.changed ∙ ap (λ v. v.items) (c.swap.ensures.y_after ∙ c.keep_made.ensures.between) ∙ c.requires.between)) tt))
 
 pub returns-clause-noted : goal.returns-clause-noted
 returns-clause-noted g c = λ old new moving at.
     let long : length old.cells ≡ length c.args.cells.now = ap length moving.cells ∙ length-map c.args.cells.now (λ s. cell_of s.value) in
     let come : IsComing old new c.args.from (c.args.to) c.args.to _ (cell_of c.deref.result.now) (g.C.CellRunner.recorded c.deref-2.result.now) _ =
-    coming old new c.args.from c.args.to _ _ _ moving (c.args.to) (omega (arith, long, c.requires)) (cell_of c.deref.result.now) (g.C.CellRunner.recorded c.deref-2.result.now)
-    (cell_there c.args.cells.now c.args.from c.index-cells-from.result c.deref.result.now (omega (arith, long, moving.stood)) c.index-cells-from.is c.deref.ensures)
+    coming old new c.args.from c.args.to _ _ _ moving (c.args.to) (to_within old new c.args.from c.args.to _ _ _ moving) (cell_of c.deref.result.now) (g.C.CellRunner.recorded c.deref-2.result.now)
+    (cell_there c.args.cells.now c.args.from c.index-cells-from.result c.deref.result.now (subst (λ n. c.args.from < n) long moving.stood) c.index-cells-from.is c.deref.ensures)
     (ap g.C.CellRunner.recorded c.deref-2.ensures ∙ record_there (λ r. g.C.CellRunner.recorded r.value) old c.args.records.now c.index-records-from.result c.args.from moving.run.records moving.stood c.index-records-from.is) in
     let come_in : IsAt old new c.args.to (c.args.to + 1) (g.C.CellRunner.change_of c.enter.new.state.change) (g.C.CellRunner.session_of c.enter.new.state.session) c.enter.new.state.since =
     c.in_ok-made.ensures.at old new c.args.from c.args.to come at in
@@ -221,10 +225,10 @@ returns-clause-noted g c = λ old new moving at.
     let there : IsAt old new c.args.from (c.args.from + 1) (g.C.CellRunner.change_of c.sweep.new.state.change) (g.C.CellRunner.session_of c.sweep.new.state.session) c.sweep.new.state.since =
     subst (λ k. IsAt old new c.args.from k (g.C.CellRunner.change_of c.sweep.new.state.change) (g.C.CellRunner.session_of c.sweep.new.state.session) c.sweep.new.state.since) (up_place c.args.from c.args.to c.requires.up)
     (c.in_ok-sweep.ensures.at old new (c.args.to + 1) frame come_in) in
-    let place : IsPlace old new c.args.from (c.args.from + 1) = place_at old new c.args.from c.args.to _ _ _ moving c.args.from (c.args.from + 1) (omega (arith, moving.stood)) (omega (arith, moving.stood)) in
+    let place : IsPlace old new c.args.from (c.args.from + 1) = place_at old new c.args.from c.args.to _ _ _ moving c.args.from (c.args.from + 1) (from_within old new c.args.from c.args.to _ _ _ moving) (from_next old new c.args.from c.args.to _ _ _ moving) in
     let left = c.in_ok-leave.ensures.at old new (c.args.from + 1) moving.run place there in
-    let rest = frame_rest old new c.args.from c.args.to _ _ _ moving (c.args.from + 1) (length c.args.cells.now) (omega arith) (omega (arith, c.requires.up)) (omega (arith, c.requires.from)) (sym long) in
-    c.in_ok-sweep-2.ensures.noted old new rest left (c.in_ok-sweep.ensures.noted old new frame come_in (All-none (λ n. IsNoted g.C.CellRunner.change_of g.C.CellRunner.kept_session old new n.place n.now n.memo) c.new-noted.result.items c.new-noted.ensures.items))
+    let rest = frame_rest old new c.args.from c.args.to _ _ _ moving (c.args.from + 1) (length c.args.cells.now) (below_next c.args.from) (below_more c.args.to c.args.from c.requires.up) (next_within c.args.from (length c.args.cells.now) c.requires.from) (sym long) in
+    c.in_ok-sweep-2.ensures.noted old new rest left (c.in_ok-sweep.ensures.noted old new frame come_in (All-none (λ n. IsNoted g.C.CellRunner.change_of g.C.CellRunner.kept_session old new n.place n.now n.memo) c.keep_made.new.self.noted.items (ap (λ v. v.items) c.keep_made.ensures.noted ∙ c.requires.noted)))
 
 pub bounds-cells-from : goal.bounds-cells-from
 bounds-cells-from g c = grind (arith, common_steps)
@@ -257,7 +261,7 @@ pub overflow_add-to : goal.overflow_add-to
 overflow_add-to g c = grind (arith, common_steps)
 
 pub returns-clause-worded : goal.returns-clause-worded
-returns-clause-worded g c = c.in_ok-made.ensures.worded
+returns-clause-worded g c = subst (λ o. IfSome o (λ n. IsWordOf g.C.CellRunner.covers n.word (g.C.CellRunner.recorded n.record.value))) (sym c.keep_made.ensures.made) c.in_ok-made.ensures.worded
 
 pub sweep-requires-2-clause-cells : goal.sweep-requires-2-clause-cells
 sweep-requires-2-clause-cells g c = grind (arith, common_steps)
@@ -311,7 +315,7 @@ pub returns-clause-stale : goal.returns-clause-stale
 returns-clause-stale g c = λ old new moving at.
     let long : length old.cells ≡ length c.args.cells.now = ap length moving.cells ∙ length-map c.args.cells.now (λ s. cell_of s.value) in
     let come : IsComing old new c.args.from (c.args.to) c.args.to _ (cell_of c.deref.result.now) (g.C.CellRunner.recorded c.deref-2.result.now) _ =
-    coming old new c.args.from c.args.to _ _ _ moving (c.args.to) (omega (arith, long, c.requires)) (cell_of c.deref.result.now) (g.C.CellRunner.recorded c.deref-2.result.now)
-    (cell_there c.args.cells.now c.args.from c.index-cells-from.result c.deref.result.now (omega (arith, long, moving.stood)) c.index-cells-from.is c.deref.ensures)
+    coming old new c.args.from c.args.to _ _ _ moving (c.args.to) (to_within old new c.args.from c.args.to _ _ _ moving) (cell_of c.deref.result.now) (g.C.CellRunner.recorded c.deref-2.result.now)
+    (cell_there c.args.cells.now c.args.from c.index-cells-from.result c.deref.result.now (subst (λ n. c.args.from < n) long moving.stood) c.index-cells-from.is c.deref.ensures)
     (ap g.C.CellRunner.recorded c.deref-2.ensures ∙ record_there (λ r. g.C.CellRunner.recorded r.value) old c.args.records.now c.index-records-from.result c.args.from moving.run.records moving.stood c.index-records-from.is) in
-    c.in_ok-made.ensures.stale old new c.args.from c.args.to come at
+    subst (λ o. MatchOption o (¬ IsStale old new (entry_at new c.args.to)) (λ _. IsStale old new (entry_at new c.args.to))) (sym c.keep_made.ensures.made) (c.in_ok-made.ensures.stale old new c.args.from c.args.to come at)

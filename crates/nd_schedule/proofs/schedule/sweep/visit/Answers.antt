@@ -1,4 +1,5 @@
-use Rattle.std.proofs.Common.{◌≡◌, ℕ, IsTrue, true, false, refl, sym, ap, subst, ◌∙◌}
+use Rattle.std.proofs.lemmas.Grind.{common_steps}
+use Rattle.std.proofs.Common.{arith, ◌≡◌, ℕ, IsTrue, true, false, refl, sym, ap, subst, ◌∙◌}
 use Rattle.nd_model.specs.Book.Book.{Book}
 use Rattle.nd_model.specs.Book.Entries.{entry_at, record_at}
 use Rattle.nd_change.specs.Change.{Fits}
@@ -93,3 +94,33 @@ returns-clause-counts g c = λ old new j before frame at h.
     let is : g.C.CellRunner.recorded c.deref.result.now ≡ record_at old.world (entry_at old c.args.i) =
     ap g.C.CellRunner.recorded c.deref.ensures ∙ record_there (λ r. g.C.CellRunner.recorded r.value) old c.args.records.now c.index-records-i.result c.args.i (frame.run.records) (Visiting.lt old new c.args.i j _ _ _ frame _ _ _ at) c.index-records-i.is in
     Visiting.one_more old new c.args.i j _ _ _ frame _ _ _ at (g.C.CellRunner.recorded c.deref.result.now) before _ _ is (λ f. absurd (let e : false ≡ true = c.if-fits.ensures.1 f in cc)) h c.run_again.ensures.counted
+
+pub returns-clause-covered : goal.returns-clause-covered
+returns-clause-covered g c = grind (arith, common_steps)
+
+pub returns-clause-fit : goal.returns-clause-fit
+returns-clause-fit g c = grind (arith, common_steps)
+
+pub bounds-words-i : goal.bounds-words-i
+bounds-words-i g c = grind (arith, common_steps)
+
+pub offset_bounds-words-i : goal.offset_bounds-words-i
+offset_bounds-words-i g c = grind (arith, common_steps)
+
+pub bounds-records-i : goal.bounds-records-i
+bounds-records-i g c = grind (arith, common_steps)
+
+pub offset_bounds-records-i : goal.offset_bounds-records-i
+offset_bounds-records-i g c = grind (arith, common_steps)
+
+pub bounds-cells-i : goal.bounds-cells-i
+bounds-cells-i g c = grind (arith, common_steps)
+
+pub offset_bounds-cells-i : goal.offset_bounds-cells-i
+offset_bounds-cells-i g c = grind (arith, common_steps)
+
+pub catch_up-requires-clause-to : goal.catch_up-requires-clause-to
+catch_up-requires-clause-to g c = grind (arith, common_steps)
+
+pub run_again-requires-clause-fits : goal.run_again-requires-clause-fits
+run_again-requires-clause-fits g c = grind (arith, common_steps)

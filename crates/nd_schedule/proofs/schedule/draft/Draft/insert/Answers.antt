@@ -1,3 +1,4 @@
+use Rattle.std.proofs.lemmas.Grind.{common_steps}
 use Rattle.std.proofs.Common.{◌≡◌, ◌<◌, ◌||◌, ℕ, eqb, List, length, sym, ap, ap₂, subst, ◌∙◌, arith}
 use Rattle.std.specs.Prelude.{IsTrue, insert}
 use Rattle.nd_model.specs.Book.Book.{Cell, Insert, edited_cells, fresh_label, is_label}
@@ -32,3 +33,15 @@ returns-clause-ok c =
     let is : ◌≡◌ {A = Cell} (cell_of c.in_ok-cell.cell.value) (record { label = fresh_label (cells_of c.self.inside.cells.items); source = c.args.text.now }) =
     cell_now c.in_ok-cell.cell _ _ c.args.text.now c.in_ok-cell.ensures.ok label c.in_ok-text.ensures.ok in
     ap cells_of c.in_ok-put_new.ensures.cells ∙ cells_inserted c.self.inside.cells.items c.args.at c.in_ok-cell.cell c.args.text.now is ∙ ap (edited_cells (Insert c.args.at c.args.text.now)) c.self.view_is
+
+pub returns-in_err-label-clause-err : goal.returns-in_err-label-clause-err
+returns-in_err-label-clause-err c = grind (arith, common_steps)
+
+pub returns-in_err-text-clause-err : goal.returns-in_err-text-clause-err
+returns-in_err-text-clause-err c = grind (arith, common_steps)
+
+pub returns-in_err-cell-clause-err : goal.returns-in_err-cell-clause-err
+returns-in_err-cell-clause-err c = grind (arith, common_steps)
+
+pub returns-in_err-put_new-clause-err : goal.returns-in_err-put_new-clause-err
+returns-in_err-put_new-clause-err c = grind (arith, common_steps)

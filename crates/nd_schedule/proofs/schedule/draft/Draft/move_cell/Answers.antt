@@ -1,3 +1,4 @@
+use Rattle.std.proofs.lemmas.Grind.{common_steps}
 use Rattle.std.proofs.Common.{◌≡◌, get_or, length, length-set, set, sym, ap, ◌∙◌, arith}
 use Rattle.std.specs.Prelude.{insert, remove}
 use Rattle.nd_model.specs.Book.Book.{Move, edited_cells, no_cell}
@@ -21,3 +22,21 @@ pub returns : goal.returns
 returns c =
     let inside : length c.self.inside.cells.items ≡ length c.args.self.now = sym (long c.self.inside.cells.items) ∙ ap length c.self.view_is in
     cells_moved c.self.inside.cells.items c.move_item-2.new.list.items c.args.from c.args.to (omega (arith, inside, c.requires.from)) c.move_item-2.ensures ∙ ap (edited_cells (Move c.args.from c.args.to)) c.self.view_is
+
+pub index-requires : goal.index-requires
+index-requires c = grind (arith, common_steps)
+
+pub index_mut-requires : goal.index_mut-requires
+index_mut-requires c = grind (arith, common_steps)
+
+pub move_item-requires-clause-from : goal.move_item-requires-clause-from
+move_item-requires-clause-from c = grind (arith, common_steps)
+
+pub move_item-requires-clause-to : goal.move_item-requires-clause-to
+move_item-requires-clause-to c = grind (arith, common_steps)
+
+pub move_item-requires-2-clause-from : goal.move_item-requires-2-clause-from
+move_item-requires-2-clause-from c = grind (arith, common_steps)
+
+pub move_item-requires-2-clause-to : goal.move_item-requires-2-clause-to
+move_item-requires-2-clause-to c = grind (arith, common_steps)

@@ -1,3 +1,4 @@
+use Rattle.std.proofs.lemmas.Grind.{common_steps}
 use Rattle.std.proofs.Common.{◌≡◌, length, refl, sym, ap, subst, ◌∙◌, arith}
 use Rattle.std.specs.Prelude.{remove, slice_index_or}
 use Rattle.nd_model.specs.Book.Book.{Cell, Remove, edited_cells, no_cell}
@@ -18,3 +19,12 @@ invariant_of-self c =
 
 pub returns : goal.returns
 returns c = ap cells_of c.remove-cell.ensures.items ∙ cells_without c.self.inside.cells.items c.args.at ∙ ap (edited_cells (Remove c.args.at)) c.self.view_is
+
+pub index-requires : goal.index-requires
+index-requires c = grind (arith, common_steps)
+
+pub remove-cell-requires : goal.remove-cell-requires
+remove-cell-requires c = grind (arith, common_steps)
+
+pub remove-hint-requires : goal.remove-hint-requires
+remove-hint-requires c = grind (arith, common_steps)

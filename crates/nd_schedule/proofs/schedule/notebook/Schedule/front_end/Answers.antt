@@ -44,3 +44,9 @@ returns-in_default-clause-same g c = grind (arith, common_steps)
 
 pub returns-in_default-clause-session : goal.returns-in_default-clause-session
 returns-in_default-clause-session g c = grind (arith, common_steps)
+
+pub front_before-requires : goal.front_before-requires
+front_before-requires g c = grind (arith, common_steps)
+
+pub returns-in_err-taken-clause-same : goal.returns-in_err-taken-clause-same
+returns-in_err-taken-clause-same g c = grind (arith, common_steps)

@@ -1,4 +1,5 @@
-use Rattle.std.proofs.Common.{◌≡◌, ◌<◌, ◌++◌, ◌||◌, ℕ, eqb, List, [], ◌∷◌, length, map, sym, ap, ap₂, subst, ◌∙◌, arith}
+use Rattle.nd_schedule.proofs.schedule.Turning.{at_err}
+use Rattle.std.proofs.Common.{◌≡◌, refl, ◌<◌, ◌++◌, ◌||◌, ℕ, eqb, List, [], ◌∷◌, length, map, sym, ap, ap₂, subst, ◌∙◌, arith}
 use Rattle.std.proofs.lemmas.Grind.{common_steps}
 use Rattle.std.specs.Prelude.{IsTrue, insert}
 use Rattle.std.proofs.lemmas.List.{length-map}
@@ -137,28 +138,21 @@ pub returns-in-Err-clause-ok : goal.returns-in-Err-clause-ok
 returns-in-Err-clause-ok g c = tt
 
 pub returns-in_err-added-clause-err : goal.returns-in_err-added-clause-err
-returns-in_err-added-clause-err g c = grind (arith, common_steps)
+returns-in_err-added-clause-err g c = at_err (c.args.self.now ≡ c.args.self.now) c.from_residual-in_err-added.result refl
 
 pub run_between-requires-clause-at : goal.run_between-requires-clause-at
-run_between-requires-clause-at g c = grind (arith, common_steps)
+run_between-requires-clause-at g c = c.requires.at
 
 pub run_between-requires-clause-label : goal.run_between-requires-clause-label
 run_between-requires-clause-label g c = grind (arith, common_steps)
-
-pub make_places-requires : goal.make_places-requires
-make_places-requires g c =
-    let inside : length c.self.inside.cells.items ≡ length c.args.self.now.cells = sym (length-map c.self.inside.cells.items (λ s. cell_of s.value)) ∙ ap (λ (s : Sheet). length s.cells) c.self.view_is in (
-      length c.args.self.now.cells,
-      omega (arith, inside, c.self.inside.cells.ok, c.self.inside.cells.small),
-      subst (λ xs. AreFit g.C.CellRunner.covers (length c.args.self.now.cells) (map (λ c'. fit_at c'.place (g.C.CellRunner.recorded c'.record.value) c'.word) xs)) (sym c.deref-2.ensures.value) c.in_ok-added.ensures.fit,
-    )
 
 pub returns-clause-ran : goal.returns-clause-ran
 returns-clause-ran g c =
     let run : IsKept g.C.CellRunner.covers (book_of c.args.self.now) (each_of g.C.CellRunner.recorded c.self.inside.records.items) c.self.inside.words.items =
     subst (λ (s : Sheet). IsKept g.C.CellRunner.covers (book_of s) (each_of g.C.CellRunner.recorded c.self.inside.records.items) c.self.inside.words.items) c.self.view_is (c.self.invariant).0 in
+    let inside : length c.self.inside.cells.items ≡ length c.args.self.now.cells = sym (length-map c.self.inside.cells.items (λ s. cell_of s.value)) ∙ ap (λ (s : Sheet). length s.cells) c.self.view_is in
     let places : c.make_places.new.ran.items ≡ (c.args.at ∷ []) ++ map (λ c'. shifted shifts.Later c'.place) c.in_ok-added.added.grown.swept.changed.items =
-    c.in-Ok.ensures.places ∙ ap₂ (λ ps xs. ps ++ map (λ c'. shifted shifts.Later c'.place) xs) (c.in_ok-push.ensures.items ∙ ap (λ ps. ps ++ c.args.at ∷ []) c.new-ran.ensures.items) c.deref-2.ensures.value in
+    c.in-Ok.ensures.places (length c.args.self.now.cells) (omega (arith, inside, c.self.inside.cells.ok, c.self.inside.cells.small)) (subst (λ xs. AreFit g.C.CellRunner.covers (length c.args.self.now.cells) (map (λ c'. fit_at c'.place (g.C.CellRunner.recorded c'.record.value) c'.word) xs)) (sym c.deref-2.ensures.value) c.in_ok-added.ensures.fit) ∙ ap₂ (λ ps xs. ps ++ map (λ c'. shifted shifts.Later c'.place) xs) (c.in_ok-push.ensures.items ∙ ap (λ ps. ps ++ c.args.at ∷ []) c.new-ran.ensures.items) c.deref-2.ensures.value in
     let label : (cell_of c.deref.result.now).label ≡ book.fresh_label c.args.self.now.cells = ap (λ (s : KeptCell). s.label) c.deref.ensures ∙ c.requires.label in
     subst (λ (x : Cell). AreStale (book_of c.args.self.now) (book_of (sheet (insert c.args.self.now.cells c.args.at x) c.args.self.now.given)) c.make_places.new.ran.items) (ap cell_of c.deref.ensures)
     (subst (AreStale (book_of c.args.self.now) (book_of (sheet (insert c.args.self.now.cells c.args.at (cell_of c.deref.result.now)) c.args.self.now.given))) (sym places)

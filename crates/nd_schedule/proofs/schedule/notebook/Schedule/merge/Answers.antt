@@ -15,8 +15,8 @@ use Rattle.nd_schedule.proofs.schedule.Sweeping.{counts_stale, none_yet}
 use Rattle.nd_schedule.proofs.schedule.Turning.{ended, if_ok_more}
 use Rattle.nd_schedule.proofs.schedule.notebook.Schedule.merge.Goals as goal
 
-pub copied-requires : goal.copied-requires
-copied-requires g c =
+pub copied-requires-clause-within : goal.copied-requires-clause-within
+copied-requires-clause-within g c =
     let run : IsKept g.C.CellRunner.covers (book_of c.args.self.now) (each_of g.C.CellRunner.recorded c.self.inside.records.items) c.self.inside.words.items =
     subst (λ (s : Sheet). IsKept g.C.CellRunner.covers (book_of s) (each_of g.C.CellRunner.recorded c.self.inside.records.items) c.self.inside.words.items) c.self.view_is (c.self.invariant).0 in
     let many : length c.self.inside.records.items ≡ length c.args.self.now.cells = as_many (λ r. g.C.CellRunner.recorded r.value) (book_of c.args.self.now) c.self.inside.records.items run.run.records in
@@ -143,3 +143,8 @@ merge_from-done-requires-clause-kept g c = λ b there.
     subst (λ (s : Sheet). All (λ x. IsSnapshot (book_of s) x.place (g.C.CellRunner.kept_session x.version) (map g.C.CellRunner.change_of x.pending.items)) c.self.inside.snapshots.items) c.self.view_is (c.self.invariant).1 in
     kept_lists (λ x. IsSnapshot old x.place (g.C.CellRunner.kept_session x.version) (map g.C.CellRunner.change_of x.pending.items)) (λ x. IsSnapshot b x.place (g.C.CellRunner.kept_session x.version) (map g.C.CellRunner.change_of x.pending.items)) _ _ c.deref-7.ensures.value
     (λ x h. kept_by_records old b _ run.run (record { records = ap (each_of g.C.CellRunner.recorded) (sym c.deref-3.ensures.value) ∙ there.records; distinct = there.distinct }) _ _ _ h) kept
+
+pub copied-requires-clause-room : goal.copied-requires-clause-room
+copied-requires-clause-room g c =
+    let e : length c.draft.inside.cells.items ≡ length c.args.draft.now = sym (length-map c.draft.inside.cells.items (λ s. cell_of s.value)) ∙ ap length c.draft.view_is in
+    omega (arith, e, c.len.ensures, c.requires.front.within)

@@ -19,7 +19,7 @@ use Rattle.nd_schedule.specs.Schedule.Sweep.{AreFit, AreMoved, Changes, IsKept, 
 use Rattle.std.specs.List.{All}
 use Rattle.nd_schedule.specs.Schedule.Snapshot.{IsSnapshot}
 use Rattle.nd_schedule.proofs.schedule.Kept.{as_many}
-use Rattle.nd_schedule.proofs.schedule.Turning.{behind, kept_turned, match_more, moving, turned_map, turned_same}
+use Rattle.nd_schedule.proofs.schedule.Turning.{at_err, behind, kept_turned, match_more, moving, turned_map, turned_same}
 use Rattle.nd_schedule.proofs.cells.Used.{used_moved}
 use Rattle.nd_schedule.proofs.schedule.notebook.Schedule.move_cell.Goals as goal
 
@@ -135,7 +135,7 @@ pub install-requires-2-clause-many : goal.install-requires-2-clause-many
 install-requires-2-clause-many g c = grind (arith, common_steps)
 
 pub install-requires-clause-many : goal.install-requires-clause-many
-install-requires-clause-many g c = grind (arith, common_steps)
+install-requires-clause-many g c = ((c.self.invariant).0).many ∙ length-map c.self.inside.records.items (λ r. g.C.CellRunner.recorded r.value)
 
 pub move_item-requires-clause-from : goal.move_item-requires-clause-from
 move_item-requires-clause-from g c = grind (arith, common_steps)
@@ -147,7 +147,7 @@ pub put_made-requires-clause-many : goal.put_made-requires-clause-many
 put_made-requires-clause-many g c = grind (arith, common_steps)
 
 pub put_made-requires-clause-worded : goal.put_made-requires-clause-worded
-put_made-requires-clause-worded g c = grind (arith, common_steps)
+put_made-requires-clause-worded g c = c.in_ok-moved.ensures.worded
 
 pub returns-clause-counts : goal.returns-clause-counts
 returns-clause-counts g c = c.swept_moved.ensures.counts
@@ -159,7 +159,7 @@ pub returns-in_err-moved-clause-counts : goal.returns-in_err-moved-clause-counts
 returns-in_err-moved-clause-counts g c = c.swept_moved.ensures.counts
 
 pub returns-in_err-moved-clause-err : goal.returns-in_err-moved-clause-err
-returns-in_err-moved-clause-err g c = grind (arith, common_steps)
+returns-in_err-moved-clause-err g c = at_err (c.args.self.now ≡ c.args.self.now) c.from_residual-in_err-moved.result refl
 
 pub returns-in_err-session-clause-counts : goal.returns-in_err-session-clause-counts
 returns-in_err-session-clause-counts g c =
@@ -168,7 +168,7 @@ returns-in_err-session-clause-counts g c =
     counts_stale old new 0 c.args.meter.now c.args.meter.now (none_yet old new 0 c.args.meter.now)
 
 pub returns-in_err-session-clause-err : goal.returns-in_err-session-clause-err
-returns-in_err-session-clause-err g c = grind (arith, common_steps)
+returns-in_err-session-clause-err g c = at_err (c.args.self.now ≡ c.args.self.now) c.from_residual.result refl
 
 pub returns-then-from-to-clause-counts : goal.returns-then-from-to-clause-counts
 returns-then-from-to-clause-counts g c =
@@ -184,16 +184,16 @@ returns-then-from-to-clause-ok g c =
     ap (λ cs. sheet cs c.args.self.now.given) (turned_same c.args.self.now.cells c.args.from no_cell c.requires.from ∙ ap (λ n. insert (remove c.args.self.now.cells c.args.from) n (get_or c.args.self.now.cells c.args.from no_cell)) c.if-from-to.true)
 
 pub swept_moved-requires-clause-from : goal.swept_moved-requires-clause-from
-swept_moved-requires-clause-from g c = grind (arith, common_steps)
+swept_moved-requires-clause-from g c = c.requires.from
 
 pub swept_moved-requires-clause-other : goal.swept_moved-requires-clause-other
-swept_moved-requires-clause-other g c = grind (arith, common_steps)
+swept_moved-requires-clause-other g c = c.if-from-to.false
 
 pub swept_moved-requires-clause-session : goal.swept_moved-requires-clause-session
 swept_moved-requires-clause-session g c = grind (arith, common_steps)
 
 pub swept_moved-requires-clause-to : goal.swept_moved-requires-clause-to
-swept_moved-requires-clause-to g c = grind (arith, common_steps)
+swept_moved-requires-clause-to g c = c.requires.to
 
 pub note_ran-requires-clause-between : goal.note_ran-requires-clause-between
 note_ran-requires-clause-between g c =

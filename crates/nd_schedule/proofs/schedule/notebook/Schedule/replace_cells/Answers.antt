@@ -1,3 +1,4 @@
+use Rattle.std.proofs.lemmas.Grind.{common_steps}
 use Rattle.std.proofs.Common.{◌≡◌, List, length, map, refl, take, sym, ap, ap₂, subst, ◌∙◌, arith}
 use Rattle.std.specs.List.{All}
 use Rattle.std.proofs.lemmas.List.{length-map}
@@ -92,3 +93,12 @@ returns-clause-err g c = tt
 
 pub returns-in_err-merged-clause-counts : goal.returns-in_err-merged-clause-counts
 returns-in_err-merged-clause-counts g c = c.merged_behind.ensures.counts
+
+pub returns-in_err-merged-clause-err : goal.returns-in_err-merged-clause-err
+returns-in_err-merged-clause-err g c = grind (arith, common_steps)
+
+pub merged_behind-requires-clause-within : goal.merged_behind-requires-clause-within
+merged_behind-requires-clause-within g c = grind (arith, common_steps)
+
+pub merged_behind-requires-clause-there : goal.merged_behind-requires-clause-there
+merged_behind-requires-clause-there g c = grind (arith, common_steps)

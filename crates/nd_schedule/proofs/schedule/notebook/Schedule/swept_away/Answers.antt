@@ -62,3 +62,9 @@ swept_without-requires-clause-at g c = grind (arith, common_steps)
 
 pub swept_without-requires-clause-session : goal.swept_without-requires-clause-session
 swept_without-requires-clause-session g c = grind (arith, common_steps)
+
+pub returns-clause-ran : goal.returns-clause-ran
+returns-clause-ran g c = c.new-ran.ensures.items
+
+pub returns-then-len-at-clause-ran : goal.returns-then-len-at-clause-ran
+returns-then-len-at-clause-ran g c = c.no_sweep.ensures.ran

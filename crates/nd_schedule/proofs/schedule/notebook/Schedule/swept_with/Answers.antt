@@ -34,3 +34,6 @@ swept-requires-clause-other g c = grind (arith, common_steps)
 
 pub swept-requires-clause-session : goal.swept-requires-clause-session
 swept-requires-clause-session g c = grind (arith, common_steps)
+
+pub returns-clause-ran : goal.returns-clause-ran
+returns-clause-ran g c = c.new-ran.ensures.items

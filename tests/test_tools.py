@@ -377,7 +377,7 @@ class Bench(unittest.TestCase):
 
     def test_each_statement_can_be_read(self):
         found = statements.all_statements()
-        self.assertEqual(len(found), 209)
+        self.assertEqual(len(found), 212)
         for size in (100, 10_000, 1_000_000, 10_000_000):
             compile(statements.written(statements.SETUP, size), "setup", "exec")
             for it in found:

@@ -213,6 +213,9 @@ d['count'].sum()
 d['count'].copy()
 d['ok'] & (d['count'] >= 0)
 d['time'] + 1
+d.copy()
+d[::2].copy()
+d[d['sensor'] == 7]
 """,
     "pictures": """\
 g[:, :, 0] + 1

@@ -209,5 +209,42 @@ class ManyRows(unittest.TestCase):
         self.assertLess(self.slowdown(first, "t['a'][{0}::10] += {1}"), 5)
 
 
+@unittest.skipUnless(real_program(), 'no program: NDNOTE_PROGRAM, or crates/ndnote/out/ndnote')
+class Views(unittest.TestCase):
+    """Processor times, each the least of some turns. Were what a view reads noted pixel by pixel or record by record, it
+    would take up to hundreds of times what a copy of it all does."""
+
+    FIRST = """\
+g = (np.arange(1200000) % 251).astype('uint8').reshape(800, 500, 3)
+d = np.zeros(50000, dtype=[('a', '<u2'), ('b', '<i4'), ('c', '<i8')])"""
+    TURNS = 7
+
+    def setUp(self) -> None:
+        self.program = Program(real_program())
+        self.addCleanup(self.program.close)
+        self.assertEqual(self.program.insert(0, self.FIRST)[1], 'ok')
+
+    def least(self, text: str) -> float:
+        times = []
+        for _turn in range(self.TURNS):
+            seconds, answer = self.program.insert(1, text)
+            self.assertEqual(answer, 'ok')
+            times.append(seconds)
+            self.program.remove(1)
+        return min(times)
+
+    def test_of_a_picture(self) -> None:
+        whole = self.least('h = g.copy()')
+        for text in ('h = g[:, ::-1].copy()', 'h = g[::2, ::2].copy()', 'h = g[1:-1, 1:-1, 0].copy()'):
+            with self.subTest(text):
+                self.assertLess(self.least(text), 100 * whole)
+
+    def test_of_records(self) -> None:
+        field = self.least("e = d['a'].copy()")
+        for text in ('e = d.copy()', 'e = d[::2].copy()'):
+            with self.subTest(text):
+                self.assertLess(self.least(text), 20 * field)
+
+
 if __name__ == '__main__':
     unittest.main()

@@ -1,4 +1,4 @@
-"""What edits cost in a long notebook and in a short one: no contract speaks of it."""
+"""What edits cost in a long notebook and in a short one, and what views cost to note: no contract speaks of it."""
 from __future__ import annotations
 
 import os

@@ -4,7 +4,7 @@ use Rattle.std.proofs.Math.Nat.{add-div_right, add-mul-div_right}
 use Rattle.std.proofs.lemmas.Nat.{div-mul-add, div_below, le-div}
 use Rattle.std.proofs.lemmas.Bool.{cases_Bool, cases_lt}
 use Rattle.std.proofs.lemmas.Bool.Decides.{nat_tests}
-use Rattle.std.proofs.lemmas.List.{get_or-take, get_or-drop, get_or_past, places}
+use Rattle.std.proofs.lemmas.List.{get_or-take, get_or-drop, get_or_past}
 use Rattle.nd_marks.specs.Marks.{in_word, in_trues}
 use Rattle.nd_marks.proofs.Bits.{in_either}
 
@@ -55,15 +55,6 @@ pub only_inside : (mask : List ℕ) (size x : ℕ) → 0 < size → (nat_lt x (l
 only_inside mask size x some = elim (cases_lt x (length mask * size)) [
   | inl lt ↦ let a : nat_lt x (length mask * size) ≡ true = grind (arith, nat_tests) in rw a refl
   | inr ge ↦ let a : nat_lt x (length mask * size) ≡ false = grind (arith, nat_tests) in rw a (sym (none_behind mask size x some ge))
-]
-
--- a mask without the end, in which nothing is true
-pub without_end : (mask : List ℕ) (end k : ℕ) → end ≤ length mask → ((k : ℕ) → end ≤ k → slice_index mask k ≡ 0) → slice_index (take end mask) k ≡ slice_index mask k
-without_end mask end k inside none = elim (cases_lt k end) [
-  | inl lt ↦ get_or-take end mask k 0 lt
-  | inr ge ↦
-      let past : length (take end mask) ≤ k = grind (arith, places) in
-      get_or_past (take end mask) k 0 past ∙ sym (none k ge)
 ]
 
 -- an element is set

@@ -3,6 +3,7 @@ pub mod Bits
 pub mod Chosen
 pub mod Grids
 pub mod Listed
+pub mod Paging
 pub mod Ranges
 pub mod Slices
 pub mod Sparse

@@ -337,12 +337,6 @@ none_excepted n s o e b p from at end le to step before free = elim (cases_lt p 
   ]
 ]
 
-pub nothing_from : (o : Bool) (p from : ℕ) (e : Bool) → o ≡ (o || ((nat_le from p && nat_lt p from) && not e))
-nothing_from o p from e = elim (cases_lt p from) [
-  | inl lt ↦ let a : nat_le from p ≡ false = grind (arith, nat_tests) in rw a (sym (or_false o))
-  | inr ge ↦ let a : nat_lt p from ≡ false = grind (arith, nat_tests) in rw a (rw (and_false (nat_le from p)) (sym (or_false o)))
-]
-
 pub false_true : {A : Type 0} → false ≡ true → A
 false_true h = elim (false≢true h) [ ]
 
@@ -359,10 +353,6 @@ nested = or_assoc
 pub none_left : (h e r : Bool) → (e || r) ≡ e → h ≡ (h || (r && not e))
 none_left h true r is = sym (ap (λ t. h || t) (and_false r) ∙ or_false h)
 none_left h false r is = sym (ap (λ t. h || t) (ap (λ r. r && true) is) ∙ or_false h)
-
-pub all_left : (h e r : Bool) → e ≡ false → (h || r) ≡ (h || (r && not e))
-all_left h e true is = rw is refl
-all_left h e false is = refl
 
 pub same_end : (p from at to : ℕ) → to ≤ at → at ≤ max from to → (nat_le from p && nat_lt p at) ≡ (nat_le from p && nat_lt p to)
 same_end p from at to le most = elim (cases_lt p from) [
@@ -388,6 +378,10 @@ among_covers l b r ss i s p lt is all = elim (cases_Bool (in_grid s p)) [
   where
     go : (l || true) ≡ true → (((l || true) || b) || r) ≡ ((l || true) || b)
     go h = rw h refl
+
+pub not_false : (b : Bool) → not b ≡ false → b ≡ true
+not_false true h = refl
+not_false false h = absurd (false≢true (sym h))
 
 pub not_true : (b : Bool) → not b ≡ true → b ≡ false
 not_true true h = false_true h

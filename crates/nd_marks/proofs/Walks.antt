@@ -20,7 +20,8 @@ use Rattle.nd_model.specs.Arrays.Tuple.{count_up}
 use Rattle.nd_model.specs.Cells.Session.{is_in}
 use Rattle.nd_view.proofs.Tuples.{count_up-append}
 use Rattle.nd_marks.specs.Kept.{grids_places, line_places, lines_left, row_places, rows_left, bits_left, places_in, byte_for, byte_of, kept_at, KeptData}
-use Rattle.nd_marks.specs.Marks.{Grid, Places, Strip, has_bit, holds, in_grid, in_grids, in_lines, in_rows, in_strip, in_word, moved}
+use Rattle.nd_marks.specs.Marks.{Grid, Places, Strip, has_bit, holds, in_grid, in_grids, in_lines, in_rows, in_strip, in_word, moved, word_at}
+use Rattle.nd_marks.proofs.Paging.{no_bit, no_word}
 use Rattle.nd_marks.proofs.Ranges.{is_in-count_up, is_in-append}
 use Rattle.nd_marks.proofs.Grids.{lines_front, moved_none, moved_twice}
 use Rattle.nd_marks.proofs.Strips.{front}
@@ -82,9 +83,6 @@ in_rows_left s p = in_row_places (s.first + 0 * s.step) s.width s.step (s.count 
     ∙ (let e : s.first + 0 * s.step ≡ s.first = (let z : 0 * s.step ≡ 0 = omega arith in omega arith) in let f : s.count - 0 ≡ s.count = omega arith in ap₂ (λ a n. in_rows a s.width s.step n p) e f)
 
 -- ---- lines
-
-pub line_none : (g : Grid) (line : ℕ) → g.lines ≤ line → lines_left g line ≡ []
-line_none g line le = let e : g.lines - line ≡ 0 = omega arith in rw e refl
 
 pub line_next : (g : Grid) (line : ℕ) (s : Strip) → line < g.lines → s ≡ moved g.strip (line * g.jump) → lines_left g line ≡ rows_left s 0 ++ lines_left g (line + 1)
 line_next g line s lt is =
@@ -150,8 +148,8 @@ bits_step f end at from to a b c unset set =
     ∙ filter-append f (count_up from (to - from)) (count_up to (end - to))
     ∙ ap (λ xs. xs ++ filter f (count_up to (end - to))) (all_set f from (to - from) (λ i lo hi. set i lo (omega arith))))
 
-pub bits_none : (ws : List ℕ) (at : ℕ) → length ws * 64 ≤ at → bits_left ws at ≡ []
-bits_none ws at le = let e : length ws * 64 - at ≡ 0 = omega arith in rw e refl
+pub bits_none : (ps : List (List ℕ)) (at : ℕ) → length ps * 4096 ≤ at → bits_left ps at ≡ []
+bits_none ps at le = let e : length ps * 4096 - at ≡ 0 = omega arith in rw e refl
 
 in_filter : (f : ℕ → Bool) (xs : List ℕ) (p : ℕ) → is_in p (filter f xs) ≡ (f p && is_in p xs)
 in_filter f [] p = none (f p)
@@ -167,17 +165,12 @@ in_filter f (x ∷ xs) p = more (cases_Bool (nat_eq p x)) (cases_Bool (f x)) (in
     more (inr other) (inl set) rest = rw (set, other) rest
     more (inr other) (inr unset) rest = rw (unset, other) rest
 
-pub past_words : (ws : List ℕ) (k : ℕ) → length ws ≤ k → slice_index ws k ≡ 0
-past_words [] k le = refl
-past_words (w ∷ ws) zero le = absurd (omega arith)
-past_words (w ∷ ws) (suc k) le = past_words ws k (omega arith)
-
-in_bits_left : (ws : List ℕ) (p : ℕ) → is_in p (bits_left ws 0) ≡ has_bit ws p
-in_bits_left ws p = in_filter (has_bit ws) (count_up 0 (length ws * 64 - 0)) p ∙ ap (λ t. has_bit ws p && t) (is_in-count_up p 0 (length ws * 64 - 0)) ∙ elim (cases_lt p (length ws * 64)) [
-  | inl lt ↦ let t : (nat_le 0 p && nat_lt p (0 + (length ws * 64 - 0))) ≡ true = grind (arith, nat_tests) in rw t (yes (has_bit ws p))
+in_bits_left : (ps : List (List ℕ)) (p : ℕ) → is_in p (bits_left ps 0) ≡ has_bit ps p
+in_bits_left ps p = in_filter (has_bit ps) (count_up 0 (length ps * 4096 - 0)) p ∙ ap (λ t. has_bit ps p && t) (is_in-count_up p 0 (length ps * 4096 - 0)) ∙ elim (cases_lt p (length ps * 4096)) [
+  | inl lt ↦ let t : (nat_le 0 p && nat_lt p (0 + (length ps * 4096 - 0))) ≡ true = grind (arith, nat_tests) in rw t (yes (has_bit ps p))
   | inr ge ↦
-      let k : length ws ≤ p / 64 = omega arith in
-      let none : has_bit ws p ≡ false = ap (λ w. in_word w (p % 64)) (past_words ws (p / 64) k) ∙ ap (λ b. nat_eq b 1) (bit_at-zero (p % 64)) in
+      let k : length ps ≤ p / 64 / 64 = omega arith in
+      let none : has_bit ps p ≡ false = no_bit ps p (no_word ps (p / 64) k) in
       rw none refl
 ]
   where
@@ -187,9 +180,9 @@ in_bits_left ws p = in_filter (has_bit ws) (count_up 0 (length ws * 64 - 0)) p �
 
 -- THE LAW OF WALKS: the places of a walk are those of the set
 pub in_places : (m : Places) (p : ℕ) → is_in p (places_in m) ≡ holds m p
-in_places m p = is_in-append p (lines_left m.last 0) (grids_places m.grids ++ bits_left m.words 0)
-    ∙ ap₂ (λ a b. a || b) (in_lines_left m.last p) (is_in-append p (grids_places m.grids) (bits_left m.words 0) ∙ ap₂ (λ a b. a || b) (in_grids_places m.grids p) (in_bits_left m.words p))
-    ∙ either (in_grid m.last p) (in_grids m.grids p) (has_bit m.words p)
+in_places m p = is_in-append p (lines_left m.last 0) (grids_places m.grids ++ bits_left m.pages 0)
+    ∙ ap₂ (λ a b. a || b) (in_lines_left m.last p) (is_in-append p (grids_places m.grids) (bits_left m.pages 0) ∙ ap₂ (λ a b. a || b) (in_grids_places m.grids p) (in_bits_left m.pages p))
+    ∙ either (in_grid m.last p) (in_grids m.grids p) (has_bit m.pages p)
   where
     either : (a b c : Bool) → (a || (b || c)) ≡ ((a || b) || c)
     either true b c = refl
@@ -296,26 +289,50 @@ ones_from w f o fits here is = elim (cases_lt (w / 2 ^ f + 1) (2 ^ 64)) [
             ap (λ b. nat_eq b 1) (ap (bit_at w) (sym back) ∙ sym (shifted w f (i - f)) ∙ ones (i - f) lt)
 
 -- the bits of a word among those of all
-pub bit_of : (ws : List ℕ) (at i : ℕ) (t : Bool) → at / 64 * 64 ≤ i → i < at / 64 * 64 + 64 → in_word (slice_index ws (at / 64)) (i - at / 64 * 64) ≡ t → has_bit ws i ≡ t
-bit_of ws at i t from to h =
+pub bit_of : (ps : List (List ℕ)) (at i : ℕ) (t : Bool) → at / 64 * 64 ≤ i → i < at / 64 * 64 + 64 → in_word (word_at ps (at / 64)) (i - at / 64 * 64) ≡ t → has_bit ps i ≡ t
+bit_of ps at i t from to h =
     let here : i / 64 ≡ at / 64 = omega arith in
     let low : i % 64 ≡ i - at / 64 * 64 = omega arith in
-    ap₂ (λ k j. in_word (slice_index ws k) j) here low ∙ h
+    ap₂ (λ k j. in_word (word_at ps k) j) here low ∙ h
 
 -- the next bits are found, where there are any in the word
-pub set_found : (ws : List ℕ) (at from to : ℕ) → at < length ws * 64 → at % 64 ≤ from → from ≤ to → to ≤ 64
-    → ((i : ℕ) → at % 64 ≤ i → i < from → in_word (slice_index ws (at / 64)) i ≡ false)
-    → ((i : ℕ) → from ≤ i → i < to → in_word (slice_index ws (at / 64)) i ≡ true)
-    → bits_left ws at ≡ count_up (at / 64 * 64 + from) (to - from) ++ bits_left ws (at / 64 * 64 + to)
-set_found ws at from to inside a b c unset set =
+pub set_found : (ps : List (List ℕ)) (at from to : ℕ) → at < length ps * 4096 → at % 64 ≤ from → from ≤ to → to ≤ 64
+    → ((i : ℕ) → at % 64 ≤ i → i < from → in_word (word_at ps (at / 64)) i ≡ false)
+    → ((i : ℕ) → from ≤ i → i < to → in_word (word_at ps (at / 64)) i ≡ true)
+    → bits_left ps at ≡ count_up (at / 64 * 64 + from) (to - from) ++ bits_left ps (at / 64 * 64 + to)
+set_found ps at from to inside a b c unset set =
     let low : ℕ = at / 64 * 64 in
-    let k : at / 64 < length ws = omega arith in
     let here : low + at % 64 ≡ at = omega arith in
     let width : low + to - (low + from) ≡ to - from = omega arith in
-    bits_step (has_bit ws) (length ws * 64) at (low + from) (low + to) (omega arith) (omega arith) (omega arith)
-    (λ i lo hi. bit_of ws at i false (omega arith) (omega arith) (unset (i - low) (omega arith) (omega arith)))
-    (λ i lo hi. bit_of ws at i true (omega arith) (omega arith) (set (i - low) (omega arith) (omega arith)))
-    ∙ ap (λ n. count_up (low + from) n ++ bits_left ws (low + to)) width
+    bits_step (has_bit ps) (length ps * 4096) at (low + from) (low + to) (omega arith) (omega arith) (omega arith)
+    (λ i lo hi. bit_of ps at i false (omega arith) (omega arith) (unset (i - low) (omega arith) (omega arith)))
+    (λ i lo hi. bit_of ps at i true (omega arith) (omega arith) (set (i - low) (omega arith) (omega arith)))
+    ∙ ap (λ n. count_up (low + from) n ++ bits_left ps (low + to)) width
+
+-- no bit is set from a place on up to the word of this index
+pub none_before : (ps : List (List ℕ)) (at next p : ℕ) → at / 64 < next → ((i : ℕ) → at % 64 ≤ i → i < 64 → in_word (word_at ps (at / 64)) i ≡ false)
+    → ((q : ℕ) → at / 64 < q → q < next → word_at ps q ≡ 0) → at ≤ p → p < next * 64 → has_bit ps p ≡ false
+none_before ps at next p more unset none from to = elim (cases_lt (at / 64) (p / 64)) [
+  | inl behind ↦ no_bit ps p (none (p / 64) behind (omega arith))
+  | inr here ↦ let low : ℕ = at / 64 * 64 in bit_of ps at p false (omega arith) (omega arith) (unset (p - low) (omega arith) (omega arith))
+]
+
+-- words without bits are passed over
+pub none_found : (ps : List (List ℕ)) (at next : ℕ) → at < length ps * 4096 → at / 64 < next → ((i : ℕ) → at % 64 ≤ i → i < 64 → in_word (word_at ps (at / 64)) i ≡ false)
+    → ((q : ℕ) → at / 64 < q → q < next → word_at ps q ≡ 0) → bits_left ps at ≡ bits_left ps (next * 64)
+none_found ps at next inside more unset none = elim (cases_lt (next * 64) (length ps * 4096)) [
+  | inl lt ↦
+      let nothing : next * 64 - next * 64 ≡ 0 = omega arith in
+      bits_step (has_bit ps) (length ps * 4096) at (next * 64) (next * 64) (omega arith) (omega arith) (omega arith)
+      (λ i lo hi. none_before ps at next i more unset none lo hi) (λ i lo hi. absurd (omega (arith, lo, hi)))
+      ∙ ap (λ n. count_up (next * 64) n ++ bits_left ps (next * 64)) nothing
+  | inr ge ↦
+      let n : ℕ = length ps * 4096 in
+      let nothing : n - n ≡ 0 = omega arith in
+      bits_step (has_bit ps) n at n n (omega arith) (omega arith) (omega arith)
+      (λ i lo hi. none_before ps at next i more unset none lo (omega arith)) (λ i lo hi. absurd (omega (arith, lo, hi)))
+      ∙ ap (λ m. count_up n m ++ bits_left ps n) nothing ∙ bits_none ps n (omega arith) ∙ sym (bits_none ps (next * 64) ge)
+]
 
 -- ---- grids of a walk
 

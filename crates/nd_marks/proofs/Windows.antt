@@ -1,9 +1,9 @@
 -- Windows of bytes: what is left of a walk behind a range, and bytes that are put into a part.
-use Rattle.std.proofs.Common.{◌≡◌, ℕ, ◌+◌, ◌-◌, ◌<◌, ◌≤◌, ◌&&◌, ◌⊎◌, ◌++◌, Bool, true, false, nat_le, nat_lt, List, [], append_assoc, Some, None, cond, drop, take, length, length-append, map, slice_index, unwrap_or, refl, sym, ap, ap₂, ◌∙◌, inl, inr, arith}
+use Rattle.std.proofs.Common.{◌≡◌, ℕ, ◌+◌, ◌-◌, ◌<◌, ◌≤◌, ◌&&◌, ◌⊎◌, ◌++◌, Bool, true, false, nat_le, nat_lt, List, append_assoc, Some, None, cond, drop, take, length, length-append, map, slice_index, unwrap_or, refl, sym, ap, ap₂, ◌∙◌, inl, inr, arith}
 use Rattle.std.specs.Option.{is_some}
 use Rattle.std.proofs.lemmas.Bool.{cases_Bool}
 use Rattle.std.proofs.lemmas.Bool.Decides.{nat_tests}
-use Rattle.std.proofs.lemmas.List.{ext_get_or, map-append, places, take-append-drop, take_at, drop_at}
+use Rattle.std.proofs.lemmas.List.{ext_get_or, map-append, places, take_at, drop_at}
 use borrow.Rule.Slice.PartMut.{put_mid, post_of}
 use Rattle.nd_model.specs.Arrays.Tuple.{count_up}
 use Rattle.nd_model.specs.Cells.Session.{is_in}
@@ -90,11 +90,6 @@ module _ (f : ℕ → ℕ) (h : ℕ → ℕ → ℕ) (xs ys : List ℕ) (at from
 -- all bytes are put back
 pub taken_all : (new old : List ℕ) (n : ℕ) → length new ≡ n → take n (new ++ drop (length new) old) ≡ new
 taken_all new old n long = take_at new (drop (length new) old) n long
-
--- all is put
-pub window_all : (f g : ℕ → ℕ) (xs : List ℕ) (at : ℕ) (left all : List ℕ) → left ≡ [] → take at xs ++ map g left ≡ all → drop at xs ≡ map f left → xs ≡ all
-window_all f g xs at left all none front rest =
-    sym (take-append-drop at xs) ∙ ap (λ zs. take at xs ++ zs) (rest ∙ ap (map f) none) ∙ ap (λ ps. take at xs ++ map g ps) (sym none) ∙ front
 
 -- ---- what is kept
 

@@ -1,7 +1,7 @@
 -- The places of a set in the order of a walk over them, and the bytes that are kept of these.
 use Rattle.std.specs.Prelude.{◌≡◌, ℕ, zero, suc, ◌+◌, ◌-◌, ◌*◌, ◌^◌, ◌<◌, ◌≤◌, List, [], ◌∷◌, ◌++◌, Option, Some, None, filter, drop, length, map, nat_eq, nat_le, Bool, ◌&&◌, if◌then◌else◌}
 use Rattle.nd_model.specs.Arrays.Tuple.{count_up}
-use Rattle.nd_marks.specs.Marks.{Grid, Places, Strip, has_bit, holds, moved}
+use Rattle.nd_marks.specs.Marks.{Grid, Places, Strip, has_bit, holds, moved, pages_of}
 use Rattle.nd_marks.specs.declared.walk.Walk.TheInside as walk
 use Rattle.nd_marks.specs.declared.kept.KeptBytes.TheInside as kept
 
@@ -34,19 +34,19 @@ rows_in (g ∷ gs) = g.lines * g.strip.count + rows_in gs
 
 -- there are no bits, and at most so many rows
 abbrev pub is_few : Places → ℕ → Bool
-is_few m most = nat_eq (length m.words) 0 && nat_le (m.last.lines * m.last.strip.count + rows_in m.grids) most
+is_few m most = nat_eq (length m.pages) 0 && nat_le (m.last.lines * m.last.strip.count + rows_in m.grids) most
 
 -- the places of bits from one on
-abbrev pub bits_left : List ℕ → ℕ → List ℕ
-bits_left words at = filter (has_bit words) (count_up at (length words * 64 - at))
+abbrev pub bits_left : List (List ℕ) → ℕ → List ℕ
+bits_left pages at = filter (has_bit pages) (count_up at (length pages * 4096 - at))
 
 -- all places of a set
 abbrev pub places_in : Places → List ℕ
-places_in m = lines_left m.last 0 ++ (grids_places m.grids ++ bits_left m.words 0)
+places_in m = lines_left m.last 0 ++ (grids_places m.grids ++ bits_left m.pages 0)
 
 -- the places that a walk has before it
 abbrev pub left_of : walk.Inside → List ℕ
-left_of w = rows_left w.rows w.row ++ (lines_left w.grid w.line ++ (grids_places (drop w.next w.grids.now) ++ bits_left w.words.now w.bit))
+left_of w = rows_left w.rows w.row ++ (lines_left w.grid w.line ++ (grids_places (drop w.next w.grids.now) ++ bits_left (pages_of w.pages.now) w.bit))
 
 -- the next places of a walk are a range
 pub record IsNext (old : List ℕ) (from width : ℕ) (new : List ℕ) : Type 0 where

@@ -4,9 +4,10 @@ ghost use Rattle.std.specs.Prelude.{◌≡◌, ℕ, ◌+◌, ◌-◌, ◌*◌, �
 ghost use Rattle.std.specs.Int.{bit_at, from_le_bytes, to_le_bytes, w16, w32, w64};
 ghost use Rattle.nd_model.specs.Arrays.Element.{bytes_at};
 ghost use Rattle.nd_marks.specs.Kept.{row_places, rows_left};
-ghost use Rattle.nd_marks.specs.Marks.{has_bit, in_grid, in_grids, in_strip, in_word};
+ghost use Rattle.nd_marks.specs.Marks.{has_bit, in_grid, in_grids, in_strip, in_word, pages_of};
 
 use crate::grid::Grid;
+use crate::pages::{next_index, word_of};
 use crate::strip::Strip;
 use std::alloc::AllocError;
 
@@ -67,6 +68,9 @@ fn is_same_word(a: &[u8], b: &[u8], word: u64, low: u128) -> bool
     ensures { IsTrue result ↔ ((i : ℕ) → i < 64 → in_word word i ≡ true
         → slice_index a.now (low + i) ≡ slice_index b.now (low + i)) }
 {
+    if word == 0 {
+        return true;
+    }
     if word == u64::MAX {
         return is_same_range(a, b, low, low + 64);
     }
@@ -81,15 +85,17 @@ fn is_same_word(a: &[u8], b: &[u8], word: u64, low: u128) -> bool
 }
 
 /// Returns whether both have equal bytes at all set bits.
-pub(crate) fn is_same_words(a: &[u8], b: &[u8], words: &[u64]) -> bool
-    ensures { IsTrue result ↔ ((p : ℕ) → has_bit words.now p ≡ true
+pub(crate) fn is_same_pages(a: &[u8], b: &[u8], pages: &[Vec<u64>]) -> bool
+    ensures { IsTrue result ↔ ((p : ℕ) → has_bit (pages_of pages.now) p ≡ true
         → slice_index a.now p ≡ slice_index b.now p) }
 {
-    for at in 0..words.len() {
-        let word = words[at];
-        if word != 0 && !is_same_word(a, b, word, at as u128 * 64) {
+    let end = pages.len() as u128 * 64;
+    let mut at = 0;
+    while at < end {
+        if !is_same_word(a, b, word_of(pages, at), at * 64) {
             return false;
         }
+        at = next_index(pages, at);
     }
     true
 }
@@ -145,6 +151,9 @@ fn patch_word(target: &mut [u8], source: &[u8], word: u64, low: u128)
         ≡ (if (nat_le low p && nat_lt p (low + 64)) && in_word word (p - low)
         then slice_index source.now p else slice_index target.old p) }
 {
+    if word == 0 {
+        return;
+    }
     if word == u64::MAX {
         patch_range(target, source, low, low + 64);
         return;
@@ -158,17 +167,17 @@ fn patch_word(target: &mut [u8], source: &[u8], word: u64, low: u128)
 }
 
 /// Copies the bytes at all set bits.
-pub(crate) fn patch_words(target: &mut [u8], source: &[u8], words: &[u64])
+pub(crate) fn patch_pages(target: &mut [u8], source: &[u8], pages: &[Vec<u64>])
     ensures len { length target.new ≡ length target.old }
     ensures bytes { (p : ℕ) → p < length target.old
-        → slice_index target.new p ≡ (if has_bit words.now p
+        → slice_index target.new p ≡ (if has_bit (pages_of pages.now) p
         then slice_index source.now p else slice_index target.old p) }
 {
-    for at in 0..words.len() {
-        let word = words[at];
-        if word != 0 {
-            patch_word(target, source, word, at as u128 * 64);
-        }
+    let end = pages.len() as u128 * 64;
+    let mut at = 0;
+    while at < end {
+        patch_word(target, source, word_of(pages, at), at * 64);
+        at = next_index(pages, at);
     }
 }
 

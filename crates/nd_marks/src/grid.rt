@@ -1,8 +1,8 @@
 //! `Grid`: lines of rows of bytes, such as every second pixel of every second line of a picture.
-ghost use Rattle.std.specs.Prelude.{◌≡◌, ℕ, ◌+◌, ◌*◌, ◌^◌, ◌<◌, ◌≤◌, ◌||◌, ◌/◌, ◌%◌, [], false, true, IsTrue, IfSome};
+ghost use Rattle.std.specs.Prelude.{◌≡◌, ℕ, ◌+◌, ◌-◌, ◌*◌, ◌^◌, ◌<◌, ◌≤◌, ◌||◌, ◌/◌, ◌%◌, [], false, true, IsTrue, IfSome};
 ghost use Rattle.nd_marks.specs.Axes.{repeated};
 ghost use Rattle.nd_marks.specs.Kept.{lines_left, rows_left};
-ghost use Rattle.nd_marks.specs.Marks.{HasRoom, in_grid, in_strip, in_word, moved};
+ghost use Rattle.nd_marks.specs.Marks.{in_grid, in_strip, in_word, moved};
 
 use crate::strip::{NEAR, Span, Stretch, Strip};
 use std::marker::Model;
@@ -91,9 +91,10 @@ impl Grid {
 
     /// The byte offset behind the last row.
     pub(crate) fn end(&self) -> u128
+        ensures value { result ≡ self.now.strip.first + (self.now.lines - 1) * self.now.jump
+            + (self.now.strip.count * self.now.strip.step
+            - (self.now.strip.step - self.now.strip.width)) }
         ensures past { (p : ℕ) → result ≤ p → in_grid self.now p ≡ false }
-        ensures rows { HasRoom result self.now }
-        ensures near { result ≤ 2 ^ 65 }
     {
         self.line(self.lines - 1).end()
     }

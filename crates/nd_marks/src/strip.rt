@@ -213,10 +213,11 @@ impl Strip {
 
     /// The byte offset behind the last row.
     pub(crate) fn end(&self) -> u128
+        ensures value { result ≡ self.now.first
+            + (self.now.count * self.now.step - (self.now.step - self.now.width)) }
         ensures past { (p : ℕ) → result ≤ p → in_strip self.now p ≡ false }
         ensures rows { (n : ℕ) → n < self.now.count
             → self.now.first + n * self.now.step + self.now.width ≤ result }
-        ensures near { result ≤ 2 ^ 65 }
     {
         u128::from(self.first) + self.reach()
     }

@@ -2,9 +2,10 @@
 
 ghost use Rattle.std.specs.Prelude.{◌≡◌, ℕ, ◌+◌, ◌-◌, ◌*◌, ◌^◌, ◌<◌, ◌≤◌, ◌&&◌, ◌++◌, [], false, true, length, min, nat_le, nat_lt, IfSome, MatchOption};
 ghost use Rattle.nd_marks.specs.Kept.{IsNext, bits_left, grids_places, lines_left, places_in, rows_left};
-ghost use Rattle.nd_marks.specs.Marks.{in_word, Places};
+ghost use Rattle.nd_marks.specs.Marks.{in_word, pages_of, Places};
 
 use crate::grid::Grid;
+use crate::pages::{next_index, word_of};
 use crate::strip::Strip;
 use std::marker::Model;
 
@@ -45,7 +46,7 @@ pub(crate) struct Walk<'m> {
     grids: &'m [Grid],
     next: usize,
     // the bits from number `bit` on
-    words: &'m [u64],
+    pages: &'m [Vec<u64>],
     bit: u128,
 }
 
@@ -82,6 +83,7 @@ pub(crate) fn next_set(word: u64, bit: u64) -> SetBits
         × (bit < result.to))) }
     ensures unset { (i : ℕ) → bit ≤ i → i < result.from → in_word word i ≡ false }
     ensures set { (i : ℕ) → result.from ≤ i → i < result.to → in_word word i ≡ true }
+    ensures end { result.to ≤ result.from → result.to ≡ 64 }
 {
     let rest = word >> bit;
     if rest == 0 {
@@ -96,22 +98,23 @@ pub(crate) fn next_set(word: u64, bit: u64) -> SetBits
 }
 
 /// The next bits that are set, from number `at` on, `None` where no more are set.
-fn next_bits(words: &[u64], at: &mut u128) -> Option<ByteRange>
-    ensures { MatchOption result ((bits_left words.now at.old ≡ [])
-        × (bits_left words.now at.new ≡ []))
-        (λ r. IsNext (bits_left words.now at.old) r.from r.width (bits_left words.now at.new)) }
+fn next_bits(pages: &[Vec<u64>], at: &mut u128) -> Option<ByteRange>
+    ensures { MatchOption result ((bits_left (pages_of pages.now) at.old ≡ [])
+        × (bits_left (pages_of pages.now) at.new ≡ []))
+        (λ r. IsNext (bits_left (pages_of pages.now) at.old) r.from r.width (bits_left (pages_of pages.now) at.new)) }
 {
-    let end = words.len() as u128 * 64;
+    let end = pages.len() as u128 * 4096;
     while *at < end {
-        let low = *at / 64 * 64;
-        let set = next_set(words[(*at / 64) as usize], (*at % 64) as u64);
-        *at = low + u128::from(set.to);
+        let index = *at / 64;
+        let set = next_set(word_of(pages, index), (*at % 64) as u64);
         if set.from < set.to {
+            *at = index * 64 + u128::from(set.to);
             return Some(ByteRange {
-                from: low + u128::from(set.from),
+                from: index * 64 + u128::from(set.from),
                 width: set.to - set.from,
             });
         }
+        *at = next_index(pages, index) * 64;
     }
     None
 }
@@ -136,13 +139,13 @@ fn count_grids(grids: &[Grid], most: u64) -> u64
 }
 
 /// The number of bits that are set, or `most` where there are more.
-fn count_bits(words: &[u64], most: u64) -> u64
-    ensures { result ≡ min (length (bits_left words.now 0)) most }
+fn count_bits(pages: &[Vec<u64>], most: u64) -> u64
+    ensures { result ≡ min (length (bits_left (pages_of pages.now) 0)) most }
 {
     let mut count = 0;
     let mut at = 0;
     while count < most {
-        let Some(range) = next_bits(words, &mut at) else {
+        let Some(range) = next_bits(pages, &mut at) else {
             return count;
         };
         count = range.width.saturating_add(count).min(most);
@@ -151,12 +154,12 @@ fn count_bits(words: &[u64], most: u64) -> u64
 }
 
 /// The number of byte offsets in a set, or `most` where there are more.
-pub(crate) fn count_places(last: &Grid, grids: &[Grid], words: &[u64], most: u64) -> u64
+pub(crate) fn count_places(last: &Grid, grids: &[Grid], pages: &[Vec<u64>], most: u64) -> u64
     ensures { result ≡ min (length (places_in
-        (record { last = last.now; grids = grids.now; words = words.now }))) most }
+        (record { last = last.now; grids = grids.now; pages = pages_of pages.now }))) most }
 {
     let rows = count_lines(last).saturating_add(count_grids(grids, most));
-    rows.saturating_add(count_bits(words, most)).min(most)
+    rows.saturating_add(count_bits(pages, most)).min(most)
 }
 
 /// The next line, of which no row has been walked, `None` where none is left.
@@ -177,9 +180,9 @@ fn next_line(grid: &Grid, line: &mut u64) -> Option<Strip>
 
 impl<'m> Walk<'m> {
     /// A walk over some grids and bits.
-    pub(crate) fn new(last: &Grid, grids: &'m [Grid], words: &'m [u64]) -> Walk<'m>
+    pub(crate) fn new(last: &Grid, grids: &'m [Grid], pages: &'m [Vec<u64>]) -> Walk<'m>
         ensures { result ≡ places_in
-            (record { last = last.now; grids = grids.now; words = words.now }) }
+            (record { last = last.now; grids = grids.now; pages = pages_of pages.now }) }
     {
         Walk {
             rows: Strip::empty(),
@@ -188,16 +191,16 @@ impl<'m> Walk<'m> {
             line: 0,
             grids,
             next: 0,
-            words,
+            pages,
             bit: 0,
         }
     }
 
     /// A walk over bits alone.
-    pub(crate) fn of_bits(words: &'m [u64]) -> Walk<'m>
-        ensures { result ≡ bits_left words.now 0 }
+    pub(crate) fn of_bits(pages: &'m [Vec<u64>]) -> Walk<'m>
+        ensures { result ≡ bits_left (pages_of pages.now) 0 }
     {
-        Walk::new(&Grid::empty(), &[], words)
+        Walk::new(&Grid::empty(), &[], pages)
     }
 
     /// The next range, at least one byte offset, or `None` where none is left.
@@ -215,7 +218,7 @@ impl<'m> Walk<'m> {
                 continue;
             }
             let Some(grid) = self.grids.get(self.next) else {
-                return next_bits(self.words, &mut self.bit);
+                return next_bits(self.pages, &mut self.bit);
             };
             // proof: the measure wants the count of lines to be below 2^64.
             let _lines = grid.lines();

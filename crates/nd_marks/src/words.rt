@@ -1,12 +1,13 @@
-//! `set_bits` and `is_set`: sets of byte offsets as bits in words of 64.
-ghost use Rattle.std.specs.Prelude.{◌≡◌, ℕ, ◌+◌, ◌-◌, ◌*◌, ◌^◌, ◌<◌, ◌≤◌, ◌||◌, ◌&&◌, not, nat_le, nat_lt, nat_eq, false, true, length, slice_index, IsTrue, OnErr, OnOk};
+//! `set_bits` and `is_set`: sets of byte offsets as bits in the words of pages.
+ghost use Rattle.std.specs.Prelude.{◌≡◌, ℕ, ◌+◌, ◌-◌, ◌*◌, ◌^◌, ◌<◌, ◌≤◌, ◌||◌, ◌&&◌, not, nat_le, nat_lt, nat_eq, false, true, length, slice_index, IsTrue, OnOk};
 ghost use Rattle.std.specs.Int.{bit_at};
 ghost use Rattle.std.specs.List.{All, flat_map};
 ghost use Rattle.nd_model.specs.Cells.Session.{is_in};
 ghost use Rattle.nd_model.specs.Arrays.Tuple.{count_up};
-ghost use Rattle.nd_marks.specs.Marks.{HasRoom, has_bit, in_grid, in_grids, in_strip, in_word};
+ghost use Rattle.nd_marks.specs.Marks.{has_bit, in_grid, in_grids, in_strip, in_word, pages_of, word_at};
 
 use crate::grid::Grid;
+use crate::pages::{Pages, add_word, next_index, word_of};
 use crate::strip::Strip;
 use crate::walk::next_set;
 use std::alloc::AllocError;
@@ -31,55 +32,47 @@ fn mask(from: u64, to: u64) -> u64
     ones(to) - ones(from)
 }
 
-/// The word of this index, 0 past the last.
-fn word_of(words: &[u64], at: usize) -> u64
-    ensures { result ≡ slice_index words.now at }
-{
-    match words.get(at) {
-        Some(word) => *word,
-        None => 0,
-    }
-}
-
 /// Returns whether the bit of a byte offset is set.
-pub(crate) fn is_set(words: &[u64], place: u64) -> bool
-    ensures { result ≡ has_bit words.now place }
+pub(crate) fn is_set(pages: &[Vec<u64>], place: u64) -> bool
+    ensures { result ≡ has_bit (pages_of pages.now) place }
 {
-    (word_of(words, (place / 64) as usize) >> (place % 64)) & 1 == 1
+    (word_of(pages, u128::from(place / 64)) >> (place % 64)) & 1 == 1
 }
 
-/// Returns whether a bit of `from..to` is set. A word without set bits is passed over at once.
-pub(crate) fn any_set(words: &[u64], from: u128, to: u128) -> bool
-    ensures none { result ≡ false → (p : ℕ) → from ≤ p → p < to → has_bit words.now p ≡ false }
+/// Returns whether a bit of `from..to` is set. A page that is not there is passed over at once.
+pub(crate) fn any_set(pages: &[Vec<u64>], from: u128, to: u128) -> bool
+    ensures none { result ≡ false → (p : ℕ) → from ≤ p → p < to
+        → has_bit (pages_of pages.now) p ≡ false }
     ensures some { IsTrue result
-        → ((p : ℕ) × (from ≤ p) × (p < to) × IsTrue (has_bit words.now p)) }
+        → ((p : ℕ) × (from ≤ p) × (p < to) × IsTrue (has_bit (pages_of pages.now) p)) }
 {
-    let end = to.min(words.len() as u128 * 64);
+    let end = to.min(pages.len() as u128 * 4096);
     let mut at = from;
     while at < end {
-        let low = at / 64 * 64;
-        let set = next_set(words[(at / 64) as usize], (at % 64) as u64);
+        let index = at / 64;
+        let set = next_set(word_of(pages, index), (at % 64) as u64);
         if set.from < set.to {
-            return low + u128::from(set.from) < end;
+            return index * 64 + u128::from(set.from) < end;
         }
-        at = low + u128::from(set.to);
+        at = next_index(pages, index) * 64;
     }
     false
 }
 
 /// Returns whether all bits of `from..to` are set. A whole word is compared at once.
-pub(crate) fn are_set(words: &[u64], from: u64, to: u64) -> bool
-    ensures { IsTrue result → (p : ℕ) → from ≤ p → p < to → has_bit words.now p ≡ true }
+pub(crate) fn are_set(pages: &[Vec<u64>], from: u64, to: u64) -> bool
+    ensures { IsTrue result → (p : ℕ) → from ≤ p → p < to
+        → has_bit (pages_of pages.now) p ≡ true }
 {
     let mut at = from;
     while at < to {
         if at % 64 == 0 && to - at >= 64 {
-            if word_of(words, (at / 64) as usize) != u64::MAX {
+            if word_of(pages, u128::from(at / 64)) != u64::MAX {
                 return false;
             }
             at += 64;
         } else {
-            if !is_set(words, at) {
+            if !is_set(pages, at) {
                 return false;
             }
             at += 1;
@@ -88,39 +81,32 @@ pub(crate) fn are_set(words: &[u64], from: u64, to: u64) -> bool
     true
 }
 
-/// Appends words without bits, until there are `count`.
-pub(crate) fn grow(words: &mut Vec<u64>, count: u64) -> Result<(), AllocError>
-    ensures same { (q : ℕ) → slice_index words.new.items q ≡ slice_index words.old.items q }
-    ensures more { length words.old.items ≤ length words.new.items }
-    ensures room { OnOk result (count ≤ length words.new.items) }
+/// Sets the bits `from..to` of a word, except those of `except`.
+fn set_word(pages: &mut Pages, at: u64, from: u64, to: u64, except: u64) -> Result<(), AllocError>
+    requires { (from ≤ to) × (to ≤ 64) }
+    ensures { OnOk result ((q i : ℕ) → i < 64
+        → in_word (word_at (pages_of pages.new.items) q) i
+        ≡ (in_word (word_at (pages_of pages.old.items) q) i
+        || (nat_eq q at && ((nat_le from i && nat_lt i to) && not (in_word except i))))) }
 {
-    for _ in words.len() as u64..count {
-        words.push(0)?;
-    }
+    add_word(pages, at, mask(from, to) & !except)?;
     Ok(())
 }
 
-/// Sets the bits `from..to` of a word, except those of `except`.
-fn set_word(words: &mut Vec<u64>, at: usize, from: u64, to: u64, except: u64)
-    requires { (at < length words.old.items) × (from ≤ to) × (to ≤ 64) }
-    ensures len { length words.new.items ≡ length words.old.items }
-    ensures bits { (q i : ℕ) → i < 64
-        → in_word (slice_index words.new.items q) i ≡ (in_word (slice_index words.old.items q) i
-        || (nat_eq q at && ((nat_le from i && nat_lt i to) && not (in_word except i)))) }
-{
-    words[at] = words[at] | (mask(from, to) & !except);
-}
-
-/// Sets the bits of the byte offsets `from..to`, for which there are words, except those of
-/// `except`.
-fn put_bits(words: &mut Vec<u64>, from: u128, to: u128, except: &[u64])
-    requires room { to ≤ length words.old.items * 64 }
-    ensures len { length words.new.items ≡ length words.old.items }
-    ensures bits { (p : ℕ) → has_bit words.new.items p ≡ (has_bit words.old.items p
-        || ((nat_le from p && nat_lt p to) && not (has_bit except.now p))) }
+/// Sets the bits of the byte offsets `from..to`, except those of `except`.
+pub(crate) fn set_bits(
+    pages: &mut Pages,
+    from: u128,
+    to: u128,
+    except: &[Vec<u64>],
+) -> Result<(), AllocError>
+    requires { to ≤ 2 ^ 65 }
+    ensures { OnOk result ((p : ℕ) → has_bit (pages_of pages.new.items) p
+        ≡ (has_bit (pages_of pages.old.items) p || ((nat_le from p && nat_lt p to)
+        && not (has_bit (pages_of except.now) p)))) }
 {
     if to <= from {
-        return;
+        return Ok(());
     }
     let first = (from / 64) as u64;
     let end = ((to - 1) / 64 + 1) as u64;
@@ -128,43 +114,9 @@ fn put_bits(words: &mut Vec<u64>, from: u128, to: u128, except: &[u64])
         let low = u128::from(at) * 64;
         let start = (from.max(low) - low) as u64;
         let stop = (to - low).min(64) as u64;
-        set_word(
-            words,
-            at as usize,
-            start,
-            stop,
-            word_of(except, at as usize),
-        );
+        set_word(pages, at, start, stop, word_of(except, u128::from(at)))?;
     }
-}
-
-/// Sets the bits of the byte offsets `from..to`, except those of `except`.
-pub(crate) fn set_bits(
-    words: &mut Vec<u64>,
-    from: u128,
-    to: u128,
-    except: &[u64],
-) -> Result<(), AllocError>
-    requires { to ≤ 2 ^ 65 }
-    ensures ok { OnOk result ((p : ℕ) → has_bit words.new.items p ≡ (has_bit words.old.items p
-        || ((nat_le from p && nat_lt p to) && not (has_bit except.now p)))) }
-    ensures err { OnErr result ((p : ℕ)
-        → has_bit words.new.items p ≡ has_bit words.old.items p) }
-{
-    grow(words, ((to + 63) / 64) as u64)?;
-    put_bits(words, from, to, except);
     Ok(())
-}
-
-/// Adds the bits of a word to the one of this index, by one OR.
-#[inline(always)]
-pub(crate) fn add_word(words: &mut Vec<u64>, at: usize, word: u64)
-    requires { at < length words.old.items }
-    ensures len { length words.new.items ≡ length words.old.items }
-    ensures bits { (q i : ℕ) → in_word (slice_index words.new.items q) i
-        ≡ (in_word (slice_index words.old.items q) i || (nat_eq q at && in_word word i)) }
-{
-    words[at] = words[at] | word;
 }
 
 /// The word of `size` bits from bit `start` on. Those past its end are left out.
@@ -186,65 +138,50 @@ fn second_part(start: u64, size: u64) -> u64
     ones(size) >> (64 - start)
 }
 
-/// Sets the bits of `size` byte offsets from `first` on, for which there are words: by one OR where
-/// they lie in one word.
+/// Sets the bits of `size` byte offsets from `first` on: by one OR where they lie in one word.
 #[inline(always)]
-pub(crate) fn set_run(words: &mut Vec<u64>, first: u64, size: u64)
-    requires size { size ≤ 64 }
-    requires room { first + size ≤ length words.old.items * 64 }
-    requires some { 0 < size }
-    ensures len { length words.new.items ≡ length words.old.items }
-    ensures bits { (p : ℕ) → has_bit words.new.items p ≡ (has_bit words.old.items p
-        || (nat_le first p && nat_lt p (first + size))) }
+pub(crate) fn set_run(pages: &mut Pages, first: u64, size: u64) -> Result<(), AllocError>
+    requires { (0 < size) × (size ≤ 64) }
+    ensures { OnOk result ((p : ℕ) → has_bit (pages_of pages.new.items) p
+        ≡ (has_bit (pages_of pages.old.items) p || (nat_le first p && nat_lt p (first + size)))) }
 {
-    let at = (first / 64) as usize;
+    let at = first / 64;
     let start = first % 64;
-    add_word(words, at, first_part(start, size));
+    add_word(pages, at, first_part(start, size))?;
     if start + size > 64 {
-        add_word(words, at + 1, second_part(start, size));
+        add_word(pages, at + 1, second_part(start, size))?;
     }
+    Ok(())
 }
 
-/// The greatest of the byte offsets, 0 where there are none.
-pub(crate) fn greatest(places: &[u64]) -> u64
-    ensures { All (λ p. p ≤ result) places.now }
-{
-    let mut greatest = 0_u64;
-    for place in places {
-        greatest = greatest.max(*place);
-    }
-    greatest
-}
-
-/// Sets the bits of `size` byte offsets from each of these on, for which there are words.
+/// Sets the bits of `size` byte offsets from each of these on.
 #[inline(always)]
-fn set_each(words: &mut Vec<u64>, places: &[u64], size: u64)
-    requires size { (0 < size) × (size ≤ 64) }
-    requires room { All (λ p. p + size ≤ length words.old.items * 64) places.now }
-    ensures len { length words.new.items ≡ length words.old.items }
-    ensures bits { (p : ℕ) → has_bit words.new.items p ≡ (has_bit words.old.items p
-        || is_in p (flat_map (λ q. count_up q size) places.now)) }
+fn set_each(pages: &mut Pages, places: &[u64], size: u64) -> Result<(), AllocError>
+    requires { (0 < size) × (size ≤ 64) }
+    ensures { OnOk result ((p : ℕ) → has_bit (pages_of pages.new.items) p
+        ≡ (has_bit (pages_of pages.old.items) p
+        || is_in p (flat_map (λ q. count_up q size) places.now))) }
 {
     for place in places {
-        set_run(words, *place, size);
+        set_run(pages, *place, size)?;
     }
+    Ok(())
 }
 
-/// Sets the bits of `size` byte offsets from each of these on, for which there are words. A usual
-/// itemsize has a loop of its own.
-fn put_runs(words: &mut Vec<u64>, places: &[u64], size: u64)
-    requires size { (0 < size) × (size ≤ 64) }
-    requires room { All (λ p. p + size ≤ length words.old.items * 64) places.now }
-    ensures len { length words.new.items ≡ length words.old.items }
-    ensures bits { (p : ℕ) → has_bit words.new.items p ≡ (has_bit words.old.items p
-        || is_in p (flat_map (λ q. count_up q size) places.now)) }
+/// Sets the bits of `size` byte offsets from each of these on. A usual itemsize has a loop of its
+/// own.
+fn set_runs(pages: &mut Pages, places: &[u64], size: u64) -> Result<(), AllocError>
+    requires { (0 < size) × (size ≤ 64) }
+    ensures { OnOk result ((p : ℕ) → has_bit (pages_of pages.new.items) p
+        ≡ (has_bit (pages_of pages.old.items) p
+        || is_in p (flat_map (λ q. count_up q size) places.now))) }
 {
     match size {
-        1 => set_each(words, places, 1),
-        2 => set_each(words, places, 2),
-        4 => set_each(words, places, 4),
-        8 => set_each(words, places, 8),
-        _ => set_each(words, places, size),
+        1 => set_each(pages, places, 1),
+        2 => set_each(pages, places, 2),
+        4 => set_each(pages, places, 4),
+        8 => set_each(pages, places, 8),
+        _ => set_each(pages, places, size),
     }
 }
 
@@ -262,121 +199,57 @@ pub(crate) fn are_adjacent(places: &[u64], size: u64) -> bool
     true
 }
 
-/// Sets the bits of the numbers of `size` bytes at these byte offsets, for which there are words:
-/// as one range where they are contiguous.
-pub(crate) fn put_numbers(words: &mut Vec<u64>, places: &[u64], size: u64)
+/// Sets the bits of the numbers of `size` bytes at these byte offsets: as one range where they are
+/// contiguous.
+pub(crate) fn set_numbers(pages: &mut Pages, places: &[u64], size: u64) -> Result<(), AllocError>
     requires size { (0 < size) × (size ≤ 64) }
-    requires room { All (λ p. p + size ≤ length words.old.items * 64) places.now }
-    ensures len { length words.new.items ≡ length words.old.items }
-    ensures bits { (p : ℕ) → has_bit words.new.items p ≡ (has_bit words.old.items p
-        || is_in p (flat_map (λ q. count_up q size) places.now)) }
+    requires near { All (λ p. p + size ≤ 2 ^ 64) places.now }
+    ensures { OnOk result ((p : ℕ) → has_bit (pages_of pages.new.items) p
+        ≡ (has_bit (pages_of pages.old.items) p
+        || is_in p (flat_map (λ q. count_up q size) places.now))) }
 {
     let Some(first) = places.first() else {
-        return;
+        return Ok(());
     };
     if are_adjacent(places, size) {
         let from = u128::from(*first);
         let to = from + places.len() as u128 * u128::from(size);
-        put_bits(words, from, to, &[]);
-        return;
+        set_bits(pages, from, to, &[])?;
+        return Ok(());
     }
-    put_runs(words, places, size);
+    set_runs(pages, places, size)
 }
 
-/// Sets the bits of all rows of a strip, for which there are words.
-fn put_strip(words: &mut Vec<u64>, strip: &Strip)
-    requires room { (n : ℕ) → n < strip.now.count
-        → strip.now.first + n * strip.now.step + strip.now.width ≤ length words.old.items * 64 }
-    ensures len { length words.new.items ≡ length words.old.items }
-    ensures bits { (p : ℕ) → has_bit words.new.items p
-        ≡ (has_bit words.old.items p || in_strip strip.now p) }
+/// Sets the bits of all rows of a strip.
+fn set_strip(pages: &mut Pages, strip: &Strip) -> Result<(), AllocError>
+    ensures { OnOk result ((p : ℕ) → has_bit (pages_of pages.new.items) p
+        ≡ (has_bit (pages_of pages.old.items) p || in_strip strip.now p)) }
 {
     for number in 0..strip.count() {
         let from = strip.start(number);
-        put_bits(words, from, from + u128::from(strip.width()), &[]);
+        set_bits(pages, from, from + u128::from(strip.width()), &[])?;
     }
-}
-
-/// Sets the bits of all rows of a grid, for which there are words.
-fn put_grid(words: &mut Vec<u64>, grid: &Grid)
-    requires room { HasRoom (length words.old.items * 64) grid.now }
-    ensures len { length words.new.items ≡ length words.old.items }
-    ensures bits { (p : ℕ) → has_bit words.new.items p
-        ≡ (has_bit words.old.items p || in_grid grid.now p) }
-{
-    for number in 0..grid.lines() {
-        put_strip(words, &grid.line(number));
-    }
+    Ok(())
 }
 
 /// Sets the bits of all rows of a grid.
-pub(crate) fn set_grid(words: &mut Vec<u64>, grid: &Grid) -> Result<(), AllocError>
-    ensures ok { OnOk result ((p : ℕ) → has_bit words.new.items p ≡ (has_bit words.old.items p
-        || in_grid grid.now p)) }
-    ensures err { OnErr result ((p : ℕ)
-        → has_bit words.new.items p ≡ has_bit words.old.items p) }
+pub(crate) fn set_grid(pages: &mut Pages, grid: &Grid) -> Result<(), AllocError>
+    ensures { OnOk result ((p : ℕ) → has_bit (pages_of pages.new.items) p
+        ≡ (has_bit (pages_of pages.old.items) p || in_grid grid.now p)) }
 {
-    grow(words, ((grid.end() + 63) / 64) as u64)?;
-    put_grid(words, grid);
-    Ok(())
-}
-
-/// Adds the bits of other words, each word by one OR. Where there are none yet, these take their
-/// place.
-fn add_words(words: &mut Vec<u64>, others: Vec<u64>) -> Result<(), AllocError>
-    ensures ok { OnOk result ((p : ℕ) → has_bit words.new.items p ≡ (has_bit words.old.items p
-        || has_bit others.items p)) }
-    ensures more { length words.old.items ≤ length words.new.items }
-    ensures err { OnErr result ((p : ℕ)
-        → has_bit words.new.items p ≡ has_bit words.old.items p) }
-{
-    if words.is_empty() {
-        *words = others;
-        return Ok(());
-    }
-    grow(words, others.len() as u64)?;
-    for at in 0..others.len() {
-        add_word(words, at, others[at]);
+    for number in 0..grid.lines() {
+        set_strip(pages, &grid.line(number))?;
     }
     Ok(())
 }
 
-/// Makes room for the bits of all rows of these grids. The bits stay as they were.
-fn reserve_grids(words: &mut Vec<u64>, grids: &[Grid]) -> Result<(), AllocError>
-    ensures same { (p : ℕ) → has_bit words.new.items p ≡ has_bit words.old.items p }
-    ensures room { OnOk result (All (HasRoom (length words.new.items * 64)) grids.now) }
+/// Sets the bits of all rows of these grids.
+pub(crate) fn set_grids(pages: &mut Pages, grids: &[Grid]) -> Result<(), AllocError>
+    ensures { OnOk result ((p : ℕ) → has_bit (pages_of pages.new.items) p
+        ≡ (has_bit (pages_of pages.old.items) p || in_grids grids.now p)) }
 {
     for grid in grids {
-        grow(words, ((grid.end() + 63) / 64) as u64)?;
+        set_grid(pages, grid)?;
     }
-    Ok(())
-}
-
-/// Sets the bits of all rows of these grids, for which there are words.
-fn put_grids(words: &mut Vec<u64>, grids: &[Grid])
-    requires room { All (HasRoom (length words.old.items * 64)) grids.now }
-    ensures { (p : ℕ) → has_bit words.new.items p
-        ≡ (has_bit words.old.items p || in_grids grids.now p) }
-{
-    for grid in grids {
-        put_grid(words, grid);
-    }
-}
-
-/// Adds the bits of other words and of all rows of these grids. Where memory is wanted, the bits
-/// stay as they were.
-pub(crate) fn add_bits(
-    words: &mut Vec<u64>,
-    others: Vec<u64>,
-    grids: &[Grid],
-) -> Result<(), AllocError>
-    ensures ok { OnOk result ((p : ℕ) → has_bit words.new.items p ≡ ((has_bit words.old.items p
-        || has_bit others.items p) || in_grids grids.now p)) }
-    ensures err { OnErr result ((p : ℕ)
-        → has_bit words.new.items p ≡ has_bit words.old.items p) }
-{
-    reserve_grids(words, grids)?;
-    add_words(words, others)?;
-    put_grids(words, grids);
     Ok(())
 }

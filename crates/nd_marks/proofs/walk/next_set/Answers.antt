@@ -31,3 +31,10 @@ returns-clause-set c = let fits : c.args.word < 2 ^ 64 = omega (arith, c.ranges.
     let from = c.args.bit + c.from.result in
     let before = zeros_before c.args.word c.args.bit c.from.result fits c.requires c.if-rest-eq0.false c.from.ensures in
     (ones_from c.args.word from c.from-2.result fits before.0 (c.from-2.ensures ∙ c.trailing_ones-ones.ensures)).1.1
+
+pub returns-clause-end : goal.returns-clause-end
+returns-clause-end c = λ le. let fits : c.args.word < 2 ^ 64 = omega (arith, c.ranges.word.fits) in
+    let from = c.args.bit + c.from.result in
+    let before = zeros_before c.args.word c.args.bit c.from.result fits c.requires c.if-rest-eq0.false c.from.ensures in
+    let set = ones_from c.args.word from c.from-2.result fits before.0 (c.from-2.ensures ∙ c.trailing_ones-ones.ensures) in
+    absurd (omega (arith, set.0, le))

@@ -1,11 +1,11 @@
 use Rattle.std.proofs.Common.{◌≡◌, ℕ, ◌-◌, ◌<◌, ◌≤◌, false}
-use Rattle.nd_marks.specs.Marks.{has_bit}
+use Rattle.nd_marks.specs.Marks.{has_bit, pages_of}
 use Rattle.nd_marks.proofs.words.any_set.Given as goal
 
 abbrev pub invariant-loop-at : goal.invariant-loop-at
 invariant-loop-at l = record {
   from : l.from ≤ l.at;
-  none : (p : ℕ) → l.from ≤ p → p < l.at → has_bit l.words p ≡ false;
+  none : (p : ℕ) → l.from ≤ p → p < l.at → has_bit (pages_of l.pages) p ≡ false;
 }
 
 abbrev pub decreases-loop-at : goal.decreases-loop-at

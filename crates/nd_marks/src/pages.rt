@@ -1,0 +1,212 @@
+//! `Pages`: bits of byte offsets, in words of 64 and in pages for 4,096 byte offsets each.
+ghost use Rattle.std.specs.Prelude.{◌≡◌, ℕ, ◌+◌, ◌*◌, ◌^◌, ◌<◌, ◌≤◌, ◌||◌, ◌&&◌, nat_eq, length, slice_index, IsTrue, IfOk, OnOk, OnErr};
+ghost use Rattle.nd_marks.specs.Marks.{has_bit, in_word, page_at, pages_of, word_at};
+
+use std::alloc::{AllocError, Global};
+use std::mem;
+
+/// Bits by pages. A page has 64 words once a bit of it was set, and none before.
+pub(crate) type Pages = Vec<Vec<u64>>;
+
+// The words of a page that is there.
+const WORDS: usize = 64;
+
+// The entry of a page in the list of pages takes as much memory as this many words.
+const WORDS_OF_ENTRY: usize = 3;
+
+/// The word of this index in a page, 0 past the last.
+fn word_in(words: &[u64], at: usize) -> u64
+    ensures { result ≡ slice_index words.now at }
+{
+    match words.get(at) {
+        Some(word) => *word,
+        None => 0,
+    }
+}
+
+/// The words of the page of this index, none past the last page.
+fn page_of(pages: &[Vec<u64>], page: u128) -> &[u64]
+    ensures { result.now ≡ page_at (pages_of pages.now) page }
+{
+    if page >= pages.len() as u128 {
+        return &[];
+    }
+    pages[page as usize].as_slice()
+}
+
+/// Returns the word of this index, 0 where its page is not there.
+pub(crate) fn word_of(pages: &[Vec<u64>], at: u128) -> u64
+    ensures { result ≡ word_at (pages_of pages.now) at }
+{
+    word_in(page_of(pages, at / 64), (at % 64) as usize)
+}
+
+/// Returns the index of the next word that may have bits: the next one, or where this page is not
+/// there, the first of the next page.
+pub(crate) fn next_index(pages: &[Vec<u64>], at: u128) -> u128
+    requires { at < 2 ^ 100 }
+    ensures more { at < result }
+    ensures near { result ≤ at + 64 }
+    ensures none { (q : ℕ) → at < q → q < result → word_at (pages_of pages.now) q ≡ 0 }
+{
+    if page_of(pages, at / 64).is_empty() {
+        (at / 64 + 1) * 64
+    } else {
+        at + 1
+    }
+}
+
+/// Returns the memory that pages take, in words of 8 bytes. No promise depends on it.
+pub(crate) fn size_in_words(pages: &[Vec<u64>]) -> usize {
+    let mut size: usize = 0;
+    for words in pages {
+        size = size.saturating_add(words.len().saturating_add(WORDS_OF_ENTRY));
+    }
+    size
+}
+
+/// Appends pages that are not there, until there are `count` in the list.
+fn extend_pages(pages: &mut Pages, count: u64) -> Result<(), AllocError>
+    ensures same { (k : ℕ) → page_at (pages_of pages.new.items) k
+        ≡ page_at (pages_of pages.old.items) k }
+    ensures ok { OnOk result (count ≤ length pages.new.items) }
+{
+    let alloc = *pages.allocator();
+    for _ in pages.len() as u64..count {
+        pages.push(Vec::new(alloc))?;
+    }
+    Ok(())
+}
+
+/// Appends words without bits to a page, until there are 64.
+fn fill_page(words: &mut Vec<u64>) -> Result<(), AllocError>
+    ensures same { (q : ℕ) → slice_index words.new.items q ≡ slice_index words.old.items q }
+    ensures ok { OnOk result (64 ≤ length words.new.items) }
+{
+    if words.is_empty() {
+        words.reserve_exact(WORDS)?;
+    }
+    for _ in words.len()..WORDS {
+        words.push(0)?;
+    }
+    Ok(())
+}
+
+/// Makes the page of this index. No bit is set.
+fn new_page(pages: &mut Pages, page: u64) -> Result<(), AllocError>
+    requires { page < 2 ^ 60 }
+    ensures same { (k q : ℕ) → slice_index (page_at (pages_of pages.new.items) k) q
+        ≡ slice_index (page_at (pages_of pages.old.items) k) q }
+    ensures there { OnOk result (page < length pages.new.items) }
+    ensures room { OnOk result (64 ≤ length (page_at (pages_of pages.new.items) page)) }
+{
+    extend_pages(pages, page + 1)?;
+    fill_page(&mut pages[page as usize])
+}
+
+/// Makes the page of this index, if it is not there.
+#[inline(always)]
+fn open_page(pages: &mut Pages, page: u64) -> Result<(), AllocError>
+    requires { page < 2 ^ 60 }
+    ensures same { (k q : ℕ) → slice_index (page_at (pages_of pages.new.items) k) q
+        ≡ slice_index (page_at (pages_of pages.old.items) k) q }
+    ensures there { OnOk result (page < length pages.new.items) }
+    ensures room { OnOk result (64 ≤ length (page_at (pages_of pages.new.items) page)) }
+{
+    if page_of(pages, u128::from(page)).len() >= WORDS {
+        return Ok(());
+    }
+    new_page(pages, page)
+}
+
+/// Adds the bits of a word to the one of this index in a page, by one OR.
+#[inline(always)]
+fn put_word(words: &mut Vec<u64>, at: usize, word: u64)
+    requires { at < length words.old.items }
+    ensures len { length words.new.items ≡ length words.old.items }
+    ensures bits { (q i : ℕ) → in_word (slice_index words.new.items q) i
+        ≡ (in_word (slice_index words.old.items q) i || (nat_eq q at && in_word word i)) }
+{
+    words[at] = words[at] | word;
+}
+
+/// Adds the bits of a word to the one of this index. A word without bits asks for no page.
+#[inline(always)]
+pub(crate) fn add_word(pages: &mut Pages, at: u64, word: u64) -> Result<(), AllocError>
+    ensures { OnOk result ((q i : ℕ) → in_word (word_at (pages_of pages.new.items) q) i
+        ≡ (in_word (word_at (pages_of pages.old.items) q) i || (nat_eq q at && in_word word i))) }
+{
+    if word == 0 {
+        return Ok(());
+    }
+    let page = at / 64;
+    open_page(pages, page)?;
+    put_word(&mut pages[page as usize], (at % 64) as usize, word);
+    Ok(())
+}
+
+/// Adds the bits of another page, each word by one OR. A page of fewer words changes place with the
+/// other first.
+fn add_page(words: &mut Vec<u64>, mut more: Vec<u64>)
+    ensures { (q i : ℕ) → in_word (slice_index words.new.items q) i
+        ≡ (in_word (slice_index words.old.items q) i || in_word (slice_index more.items q) i) }
+{
+    if words.len() < more.len() {
+        mem::swap(words, &mut more);
+    }
+    for at in 0..more.len() {
+        put_word(words, at, more[at]);
+    }
+}
+
+/// Adds the bits of other pages. A page that only the others have is moved. Where memory is wanted,
+/// the bits stay as they were.
+pub(crate) fn add_pages(pages: &mut Pages, mut more: Pages) -> Result<(), AllocError>
+    ensures ok { OnOk result ((p : ℕ) → has_bit (pages_of pages.new.items) p
+        ≡ (has_bit (pages_of pages.old.items) p || has_bit (pages_of more.items) p)) }
+    ensures err { OnErr result ((p : ℕ) → has_bit (pages_of pages.new.items) p
+        ≡ has_bit (pages_of pages.old.items) p) }
+{
+    if pages.is_empty() {
+        *pages = more;
+        return Ok(());
+    }
+    extend_pages(pages, more.len() as u64)?;
+    while let Some(words) = more.pop() {
+        add_page(&mut pages[more.len()], words);
+    }
+    Ok(())
+}
+
+/// Returns equal pages with memory of their own.
+pub(crate) fn copy_pages(alloc: Global, pages: &[Vec<u64>]) -> Result<Pages, AllocError>
+    ensures { IfOk result (λ copy. pages_of copy.items ≡ pages_of pages.now) }
+{
+    let mut copy = Vec::with_capacity(alloc, pages.len())?;
+    for words in pages {
+        copy.push(Vec::from_slice(alloc, words)?)?;
+    }
+    Ok(copy)
+}
+
+/// Returns true only where both are the same words.
+fn are_equal_words(words: &[u64], others: &[u64]) -> bool
+    ensures { IsTrue result → words.now ≡ others.now }
+{
+    words == others
+}
+
+/// Returns true only where both are the same pages.
+pub(crate) fn are_equal_pages(pages: &[Vec<u64>], others: &[Vec<u64>]) -> bool
+    ensures { IsTrue result → pages_of pages.now ≡ pages_of others.now }
+{
+    if pages.len() != others.len() {
+        return false;
+    }
+    for at in 0..pages.len() {
+        if !are_equal_words(&pages[at], &others[at]) {
+            return false;
+        }
+    }
+    true
+}

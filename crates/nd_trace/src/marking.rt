@@ -2,7 +2,7 @@
 
 ghost use Rattle.std.specs.Prelude.{◌≡◌, ℕ, ◌+◌, ◌≤◌, ◌^◌, ◌||◌, ◌&&◌, not, false, pos, IfOk, IfSome, OnErr, OnOk};
 ghost use Rattle.std.specs.List.{All, flat_map};
-ghost use Rattle.nd_marks.specs.Marks.{holds, room_of};
+ghost use Rattle.nd_marks.specs.Marks.{holds};
 ghost use Rattle.nd_model.specs.Cells.Session.{is_in};
 ghost use Rattle.nd_model.specs.Arrays.Value as values;
 ghost use Rattle.nd_model.specs.Arrays.Value.{same_base};
@@ -22,7 +22,7 @@ use std::alloc::{AllocError, Global};
 // How many byte offsets are worked out at a time.
 const MANY: usize = 512;
 
-// The most rows of elements that are marked in a set of their own.
+// The most rows of elements that are not marked by bits.
 const MOST_ROWS: usize = 8;
 
 /// A set of byte offsets for each block. A block without an entry has no marks.
@@ -108,28 +108,6 @@ fn marks_of_trues(
     Ok(Some(marks))
 }
 
-// Returns the bytes of the elements at these byte offsets, except those of the other set. They are
-// marked a part at a time.
-fn marks_of_parts(
-    alloc: Global,
-    elem: &ElemType,
-    places: &PlaceList,
-    except: &Marks,
-) -> Result<Marks, AllocError>
-    requires { All (λ p. p + item_size (type_of elem.now) ≤ 2 ^ 64) places.now }
-    ensures { IfOk result (λ m. (p : ℕ) → holds m p
-        ≡ (is_in p (flat_map (element_places (type_of elem.now)) places.now)
-        && not (holds except.now p))) }
-{
-    let mut marks = Marks::new(alloc);
-    let mut some = [0; MANY];
-    let mut walk = places.walk();
-    while let Some(part) = walk.next(&mut some) {
-        marks = marks.with_elements(elem, part, except)?;
-    }
-    Ok(marks)
-}
-
 // Whether the elements at these byte offsets, of `size` bytes each, are few rows without gaps. It
 // decides how they are marked, and not which bytes.
 fn are_few_rows(places: &PlaceList, size: u64) -> bool {
@@ -151,105 +129,67 @@ fn are_few_rows(places: &PlaceList, size: u64) -> bool {
     true
 }
 
-// Makes room for the bits of the elements at these byte offsets.
-fn reserve_parts(marks: &mut Marks, elem: &ElemType, places: &PlaceList) -> Result<(), AllocError>
-    ensures same { (p : ℕ) → holds marks.new p ≡ holds marks.old p }
-    ensures room { OnOk result
-        (All (λ p. p + item_size (type_of elem.now) ≤ room_of marks.new) places.now) }
+// Returns the set with the bytes of the elements at these byte offsets, except those of the other
+// set: as rows where these are few, else by bits.
+fn with_part(
+    marks: Marks,
+    elem: &ElemType,
+    part: &[u64],
+    except: &Marks,
+    is_few: bool,
+) -> Result<Marks, AllocError>
+    requires { All (λ p. p + item_size (type_of elem.now) ≤ 2 ^ 64) part.now }
+    ensures { IfOk result (λ m. (p : ℕ) → holds m p ≡ (holds marks p
+        || (is_in p (flat_map (element_places (type_of elem.now)) part.now)
+        && not (holds except.now p)))) }
 {
-    let mut some = [0; MANY];
-    let mut walk = places.walk();
-    while let Some(part) = walk.next(&mut some) {
-        marks.reserve_elements(elem, part)?;
+    if is_few {
+        marks.with_elements(elem, part, except)
+    } else {
+        marks.with_scattered(elem, part, except)
     }
-    Ok(())
 }
 
-// Adds the bytes of the elements at these byte offsets, for which there is room, except those of
-// the other set.
-fn put_parts(marks: &mut Marks, elem: &ElemType, places: &PlaceList, except: &Marks)
-    requires near { All (λ p. p + item_size (type_of elem.now) ≤ 2 ^ 64) places.now }
-    requires room { All (λ p. p + item_size (type_of elem.now) ≤ room_of marks.old) places.now }
-    ensures { (p : ℕ) → holds marks.new p ≡ (holds marks.old p
-        || (is_in p (flat_map (element_places (type_of elem.now)) places.now)
+// Returns the bytes of the elements at these byte offsets, except those of the other set. They are
+// marked a part at a time.
+fn marks_of_parts(
+    alloc: Global,
+    elem: &ElemType,
+    places: &PlaceList,
+    except: &Marks,
+) -> Result<Marks, AllocError>
+    requires { All (λ p. p + item_size (type_of elem.now) ≤ 2 ^ 64) places.now }
+    ensures { IfOk result (λ m. (p : ℕ) → holds m p
+        ≡ (is_in p (flat_map (element_places (type_of elem.now)) places.now)
         && not (holds except.now p))) }
 {
+    let is_few = are_few_rows(places, elem.size());
+    let mut marks = Marks::new(alloc);
     let mut some = [0; MANY];
     let mut walk = places.walk();
     while let Some(part) = walk.next(&mut some) {
-        marks.put_elements(elem, part, except);
+        marks = with_part(marks, elem, part, except, is_few)?;
     }
+    Ok(marks)
 }
 
-// Adds the bytes of the elements at these byte offsets, except those of the other set. Where memory
-// is wanted, none is added.
-fn add_elements(
-    marks: &mut Marks,
-    elem: &ElemType,
-    places: &PlaceList,
-    except: &Marks,
-) -> Result<(), AllocError>
-    requires { All (λ p. p + item_size (type_of elem.now) ≤ 2 ^ 64) places.now }
-    ensures ok { OnOk result ((p : ℕ) → holds marks.new p ≡ (holds marks.old p
-        || (is_in p (flat_map (element_places (type_of elem.now)) places.now)
-        && not (holds except.now p)))) }
-    ensures err { OnErr result ((p : ℕ) → holds marks.new p ≡ holds marks.old p) }
-{
-    reserve_parts(marks, elem, places)?;
-    put_parts(marks, elem, places, except);
-    Ok(())
-}
-
-// Adds the bytes of the elements at these byte offsets of a block, by bits of the block's own set.
-fn join_scattered(
-    alloc: Global,
-    marked: &mut Footprint,
-    base: Base,
-    elem: &ElemType,
-    places: &PlaceList,
-    except: &Marks,
-) -> Result<(), OutOfMemory>
-    requires { All (λ p. p + item_size (type_of elem.now) ≤ 2 ^ 64) places.now }
-    ensures ok { OnOk result ((c : values.Base) (p : ℕ)
-        → is_marked (marks_of marked.new.entries) c p
-        ≡ (is_marked (marks_of marked.old.entries) c p || (same_base (base_of base) c
-        && (is_in p (flat_map (element_places (type_of elem.now)) places.now)
-        && not (holds except.now p))))) }
-    ensures err { OnErr result ((c : values.Base) (p : ℕ)
-        → is_marked (marks_of marked.new.entries) c p
-        ≡ is_marked (marks_of marked.old.entries) c p) }
-{
-    let Some(marks) = marked.get_mut(&base) else {
-        let mut marks = Marks::new(alloc);
-        add_elements(&mut marks, elem, places, except)?;
-        marked.insert(base, marks)?;
-        return Ok(());
-    };
-    add_elements(marks, elem, places, except)?;
-    Ok(())
-}
-
-// Returns the bytes of the elements at these byte offsets as a set of their own, where that is
-// small: a mask over a contiguous line, or few rows.
+// Returns the bytes of the elements at these byte offsets as a set of their own, except those of the
+// other set.
 fn marks_of_elements(
     alloc: Global,
     elem: &ElemType,
     places: &PlaceList,
     except: &Marks,
-) -> Result<Option<Marks>, AllocError>
+) -> Result<Marks, AllocError>
     requires { All (λ p. p + item_size (type_of elem.now) ≤ 2 ^ 64) places.now }
-    ensures { IfOk result (λ o. IfSome o (λ m. (p : ℕ) → holds m p
+    ensures { IfOk result (λ m. (p : ℕ) → holds m p
         ≡ (is_in p (flat_map (element_places (type_of elem.now)) places.now)
-        && not (holds except.now p)))) }
+        && not (holds except.now p))) }
 {
     if let Some(marks) = marks_of_trues(alloc, elem, places, except)? {
-        return Ok(Some(marks));
+        return Ok(marks);
     }
-    if !are_few_rows(places, elem.size()) {
-        return Ok(None);
-    }
-    let marks = marks_of_parts(alloc, elem, places, except)?;
-    Ok(Some(marks))
+    marks_of_parts(alloc, elem, places, except)
 }
 
 /// Adds the bytes of the elements at these byte offsets of a block to those that are marked, except
@@ -272,8 +212,6 @@ pub(crate) fn join_elements(
         → is_marked (marks_of marked.new.entries) c p
         ≡ is_marked (marks_of marked.old.entries) c p) }
 {
-    match marks_of_elements(alloc, elem, places, except)? {
-        Some(marks) => join(marked, base, marks),
-        None => join_scattered(alloc, marked, base, elem, places, except),
-    }
+    let marks = marks_of_elements(alloc, elem, places, except)?;
+    join(marked, base, marks)
 }

@@ -18,7 +18,6 @@ use Rattle.nd_heap.specs.Contents.{bytes_in}
 use Rattle.nd_heap.specs.declared.value.Base.{Base}
 use Rattle.nd_heap.specs.declared.value.Value.{Value}
 use Rattle.nd_marks.specs.Kept.{KeptData, kept_at}
-use Rattle.nd_marks.specs.Marks.{has_bit}
 use Rattle.nd_model.specs.Arrays.Value as model
 use Rattle.nd_model.specs.Cells.Footprint.{Bound, Given, Number, Ruled}
 use Rattle.nd_model.specs.Cells.Running.{Key, Name, Input, Length, Byte, OfRule, is_event_of, is_touched}
@@ -31,7 +30,7 @@ use Rattle.nd_session.specs.declared.session.found.FoundBytes.{FoundBytes}
 use Rattle.nd_session.specs.declared.session.reads.Reads.TheInside as reads
 use Rattle.nd_session.specs.Session.Change.{change_of, run_in, part_at}
 use Rattle.nd_session.specs.Session.Now.{block_now, data_in, input_now, value_now, kept_in}
-use Rattle.nd_session.specs.Session.Filter.{CoversFound, CoversKept, CoversLabel, CoversLength, FilterData, StaysCovered, covers, text_bit}
+use Rattle.nd_session.specs.Session.Filter.{CoversFound, CoversKept, CoversLabel, CoversLength, FilterData, StaysCovered, covers, has_bit, text_bit}
 use Rattle.nd_session.specs.Session.Found.{Found, by_base, byte_at, bytes_of, lookup_base}
 use Rattle.nd_session.specs.Session.Reading.{by_text, length_at, reads_of, source_at, value_at}
 use Rattle.nd_session.specs.Session.Reads.{ReadsData, keys_of}

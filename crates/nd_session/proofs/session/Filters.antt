@@ -2,10 +2,10 @@
 use Rattle.std.proofs.Common.{◌≡◌, ℕ, zero, suc, ◌/◌, ◌%◌, ◌<◌, Bool, true, false, ◌||◌, ◌&&◌, nat_eq, List, [], ◌∷◌, slice_index, bit_and, bit_or, refl, ap, subst, ◌∙◌, arith}
 use Rattle.std.specs.Prelude.{IsTrue}
 use Rattle.std.proofs.lemmas.Nat.Bits.{bit_at_ones}
-use Rattle.nd_marks.specs.Marks.{has_bit, in_word}
+use Rattle.nd_marks.specs.Marks.{in_word}
 use Rattle.nd_marks.proofs.Spans.{bit_comes, bit_stays}
 use Rattle.nd_model.specs.Cells.Running.{Key, Name, Input, Length, Byte, OfRule}
-use Rattle.nd_session.specs.Session.Filter.{FilterData, StaysCovered, covers, covers_byte, text_bit}
+use Rattle.nd_session.specs.Session.Filter.{FilterData, StaysCovered, covers, covers_byte, has_bit, text_bit}
 use Rattle.nd_session.proofs.session.Agreeing.{false_true}
 use Rattle.nd_session.proofs.session.Covering.{no_bit, text_less}
 

@@ -1,7 +1,7 @@
 -- Filters of keys: sets of bits, and the bits of each key.
-use Rattle.std.specs.Prelude.{◌≡◌, ℕ, ◌+◌, ◌*◌, ◌/◌, ◌%◌, Bool, ◌||◌, ◌&&◌, IsTrue, is_some, List, [], ◌∷◌}
+use Rattle.std.specs.Prelude.{◌≡◌, ℕ, ◌+◌, ◌*◌, ◌/◌, ◌%◌, Bool, ◌||◌, ◌&&◌, IsTrue, is_some, List, [], ◌∷◌, slice_index}
 use Rattle.nd_marks.specs.Kept.{KeptData, kept_at}
-use Rattle.nd_marks.specs.Marks.{has_bit, in_word}
+use Rattle.nd_marks.specs.Marks.{in_word}
 use Rattle.nd_model.specs.Arrays.Value.{Base}
 use Rattle.nd_model.specs.Cells.Running.{Key, Name, Input, Length, Byte, OfRule}
 use Rattle.nd_session.specs.Session.Found.{Found, found_at}
@@ -13,6 +13,10 @@ pub record FilterData : Type 0 where
   pub whole : List ℕ
   pub part : ℕ
   pub granules : ℕ
+
+-- the bit of this number is set in the words
+abbrev pub has_bit : List ℕ → ℕ → Bool
+has_bit ws i = in_word (slice_index ws (i / 64)) (i % 64)
 
 -- a number below 256 for the bytes of a text
 abbrev pub text_bit : List ℕ → ℕ → ℕ

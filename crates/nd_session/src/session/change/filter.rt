@@ -2,8 +2,8 @@
 
 ghost use Rattle.std.specs.Prelude.{◌≡◌, ◌<◌, ◌/◌, ◌%◌, ◌||◌, ℕ, IsTrue, false, true};
 ghost use Rattle.nd_model.specs.Cells.Running.{Input, Key, Name, OfRule};
-ghost use Rattle.nd_marks.specs.Marks.{has_bit, in_word};
-ghost use Rattle.nd_session.specs.Session.Filter.{CoversGranules, CoversLabel, CoversLength, StaysCovered, covers, covers_byte, text_bit};
+ghost use Rattle.nd_marks.specs.Marks.{in_word};
+ghost use Rattle.nd_session.specs.Session.Filter.{CoversGranules, CoversLabel, CoversLength, StaysCovered, covers, covers_byte, has_bit, text_bit};
 
 use std::marker::Model;
 

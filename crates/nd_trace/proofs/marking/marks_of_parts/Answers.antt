@@ -8,8 +8,8 @@ use Rattle.nd_marks.specs.Marks.{holds}
 use Rattle.nd_marks.proofs.Ranges.{marked_more}
 use Rattle.nd_trace.proofs.marking.marks_of_parts.Goals as goal
 
-pub with_elements-requires : goal.with_elements-requires
-with_elements-requires c = in_run (λ p. p + item_size (type_of c.args.elem.now) ≤ 2 ^ 64) c.in-Some.part.now c.next.new.self c.loop-part.walk c.in-Some.ensures.split c.loop-part.invariant.ends
+pub with_part-requires : goal.with_part-requires
+with_part-requires c = in_run (λ p. p + item_size (type_of c.args.elem.now) ≤ 2 ^ 64) c.in-Some.part.now c.next.new.self c.loop-part.walk c.in-Some.ensures.split c.loop-part.invariant.ends
 
 pub loop-part-preserved : goal.loop-part-preserved
 loop-part-preserved c =

@@ -1,6 +1,6 @@
 use Rattle.std.proofs.Common.{◌%◌, ℕ, sym, subst}
 use Rattle.std.specs.Prelude.{IsTrue}
-use Rattle.nd_marks.specs.Marks.{has_bit}
+use Rattle.nd_session.specs.Session.Filter.{has_bit}
 use Rattle.nd_session.proofs.session.change.filter.KeyFilter.add_length.Goals as goal
 
 pub returns-clause-added : goal.returns-clause-added

@@ -1,7 +1,6 @@
 use Rattle.std.proofs.Common.{sym, subst, arith}
 use Rattle.std.specs.Prelude.{IsTrue}
-use Rattle.nd_marks.specs.Marks.{has_bit}
-use Rattle.nd_session.specs.Session.Filter.{FilterData}
+use Rattle.nd_session.specs.Session.Filter.{FilterData, has_bit}
 use Rattle.nd_session.proofs.session.Covering.{apart_all}
 use Rattle.nd_session.proofs.session.change.filter.KeyFilter.has_other_keys.Goals as goal
 

@@ -1,7 +1,7 @@
 use Rattle.std.proofs.Common.{◌%◌, bit_and, bit_or, eqb-true, slice_index, sym, subst}
 use Rattle.std.specs.Prelude.{IsTrue}
-use Rattle.nd_marks.specs.Marks.{has_bit, in_word}
-use Rattle.nd_session.specs.Session.Filter.{FilterData}
+use Rattle.nd_marks.specs.Marks.{in_word}
+use Rattle.nd_session.specs.Session.Filter.{FilterData, has_bit}
 use Rattle.nd_session.proofs.session.Filters.{part_apart}
 use Rattle.nd_session.proofs.session.change.filter.KeyFilter.has_other_part.Goals as goal
 

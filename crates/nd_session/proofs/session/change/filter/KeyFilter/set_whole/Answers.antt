@@ -1,8 +1,7 @@
 use Rattle.std.proofs.Common.{◌≡◌, ◌<◌, ◌*◌, ◌/◌, ◌%◌, ◌^◌, ℕ, bit_or, length, slice_index, slice_set, sym, subst, arith}
 use Rattle.std.specs.Prelude.{IsTrue}
 use Rattle.std.proofs.lemmas.Nat.{one_shl}
-use Rattle.nd_marks.specs.Marks.{has_bit}
-use Rattle.nd_session.specs.Session.Filter.{FilterData, covers}
+use Rattle.nd_session.specs.Session.Filter.{FilterData, covers, has_bit}
 use Rattle.nd_session.proofs.session.Covering.{bit_set, bits_stay}
 use Rattle.nd_session.proofs.session.Filters.{whole_stay, whole_set}
 use Rattle.nd_session.proofs.session.change.filter.KeyFilter.set_whole.Goals as goal

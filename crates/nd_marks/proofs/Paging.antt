@@ -39,16 +39,16 @@ page_before (w ∷ vs) v zero lt = refl
 page_before (w ∷ vs) v (suc k) lt = page_before vs v k (omega arith)
 
 -- a word past the last page has no bit
-pub no_word : (ps : List (List ℕ)) (q : ℕ) → length ps ≤ q / 64 → word_at ps q ≡ 0
-no_word ps q le = ap (λ ws. slice_index ws (q % 64)) (page_past ps (q / 64) le)
+pub no_word : (ps : List (List ℕ)) (q : ℕ) → length ps ≤ q / 512 → word_at ps q ≡ 0
+no_word ps q le = ap (λ ws. slice_index ws (q % 512)) (page_past ps (q / 512) le)
 
 pub no_bit : (ps : List (List ℕ)) (p : ℕ) → word_at ps (p / 64) ≡ 0 → has_bit ps p ≡ false
 no_bit ps p none = ap (λ w. in_word w (p % 64)) none ∙ ap (λ b. nat_eq b 1) (bit_at-zero (p % 64))
 
-pub bit_within : (ps : List (List ℕ)) (p : ℕ) → has_bit ps p ≡ true → p < length ps * 4096
-bit_within ps p h = elim (cases_lt p (length ps * 4096)) [
+pub bit_within : (ps : List (List ℕ)) (p : ℕ) → has_bit ps p ≡ true → p < length ps * 32768
+bit_within ps p h = elim (cases_lt p (length ps * 32768)) [
   | inl lt ↦ lt
-  | inr ge ↦ let k : length ps ≤ p / 64 / 64 = omega arith in
+  | inr ge ↦ let k : length ps ≤ p / 64 / 512 = omega arith in
       absurd (false≢true (sym (no_bit ps p (no_word ps (p / 64) k)) ∙ h))
 ]
 
@@ -75,21 +75,21 @@ page_alike vs k old new lt is same j q = elim (cases_Bool (nat_eq j k)) [
 ]
 
 -- a word is added to one of a page
-pub word_added : (os vs : List (Vec ℕ Global)) (at word : ℕ) (old new : Vec ℕ Global) → at / 64 < length vs → old ≡ get_or vs (at / 64) old
+pub word_added : (os vs : List (Vec ℕ Global)) (at word : ℕ) (old new : Vec ℕ Global) → at / 512 < length vs → old ≡ get_or vs (at / 512) old
     → ((k q : ℕ) → slice_index (page_at (pages_of vs) k) q ≡ slice_index (page_at (pages_of os) k) q)
-    → ((q i : ℕ) → in_word (slice_index new.items q) i ≡ (in_word (slice_index old.items q) i || (nat_eq q (at % 64) && in_word word i)))
-    → (q i : ℕ) → in_word (word_at (pages_of (slice_set vs (at / 64) new)) q) i ≡ (in_word (word_at (pages_of os) q) i || (nat_eq q at && in_word word i))
-word_added os vs at word old new lt is same set q i = elim (cases_Bool (nat_eq (q / 64) (at / 64))) [
+    → ((q i : ℕ) → in_word (slice_index new.items q) i ≡ (in_word (slice_index old.items q) i || (nat_eq q (at % 512) && in_word word i)))
+    → (q i : ℕ) → in_word (word_at (pages_of (slice_set vs (at / 512) new)) q) i ≡ (in_word (word_at (pages_of os) q) i || (nat_eq q at && in_word word i))
+word_added os vs at word old new lt is same set q i = elim (cases_Bool (nat_eq (q / 512) (at / 512))) [
   | inl here ↦
-      let e : q / 64 ≡ at / 64 = grind (arith, nat_tests) in
-      let index : nat_eq (q % 64) (at % 64) ≡ nat_eq q at = grind (arith, nat_tests, e) in
-      let before : slice_index old.items (q % 64) ≡ word_at (pages_of os) q = ap (λ (v : Vec ℕ Global). slice_index v.items (q % 64)) is ∙ ap (λ ws. slice_index ws (q % 64)) (sym (page_here vs (at / 64) old lt)) ∙ same (at / 64) (q % 64) ∙ ap (λ k. slice_index (page_at (pages_of os) k) (q % 64)) (sym e) in
-      ap (λ k. in_word (slice_index (page_at (pages_of (slice_set vs (at / 64) new)) k) (q % 64)) i) e
-      ∙ ap (λ ws. in_word (slice_index ws (q % 64)) i) (page_put vs (at / 64) new lt) ∙ set (q % 64) i
+      let e : q / 512 ≡ at / 512 = grind (arith, nat_tests) in
+      let index : nat_eq (q % 512) (at % 512) ≡ nat_eq q at = grind (arith, nat_tests, e) in
+      let before : slice_index old.items (q % 512) ≡ word_at (pages_of os) q = ap (λ (v : Vec ℕ Global). slice_index v.items (q % 512)) is ∙ ap (λ ws. slice_index ws (q % 512)) (sym (page_here vs (at / 512) old lt)) ∙ same (at / 512) (q % 512) ∙ ap (λ k. slice_index (page_at (pages_of os) k) (q % 512)) (sym e) in
+      ap (λ k. in_word (slice_index (page_at (pages_of (slice_set vs (at / 512) new)) k) (q % 512)) i) e
+      ∙ ap (λ ws. in_word (slice_index ws (q % 512)) i) (page_put vs (at / 512) new lt) ∙ set (q % 512) i
       ∙ ap₂ (λ w t. in_word w i || (t && in_word word i)) before index
   | inr other ↦
       let away : nat_eq q at ≡ false = grind (arith, nat_tests, other) in
-      ap (λ ws. in_word (slice_index ws (q % 64)) i) (page_beside vs (at / 64) (q / 64) new other) ∙ ap (λ w. in_word w i) (same (q / 64) (q % 64))
+      ap (λ ws. in_word (slice_index ws (q % 512)) i) (page_beside vs (at / 512) (q / 512) new other) ∙ ap (λ w. in_word w i) (same (q / 512) (q % 512))
       ∙ rw away (nothing (in_word (word_at (pages_of os) q) i))
 ]
   where
@@ -108,7 +108,7 @@ pub page_added : (vs us : List (Vec ℕ Global)) (k : ℕ) (w old new : Vec ℕ 
     → ((q i : ℕ) → in_word (slice_index new.items q) i ≡ (in_word (slice_index old.items q) i || in_word (slice_index w.items q) i))
     → (p : ℕ) → (has_bit (pages_of (slice_set vs k new)) p || has_bit (pages_of us) p) ≡ (has_bit (pages_of vs) p || has_bit (pages_of (us ++ w ∷ [])) p)
 page_added vs us k w old new last lt is set p =
-    let j : ℕ = p / 64 / 64 in let q : ℕ = p / 64 % 64 in let i : ℕ = p % 64 in
+    let j : ℕ = p / 64 / 512 in let q : ℕ = p / 64 % 512 in let i : ℕ = p % 64 in
     let bit : List ℕ → Bool = λ ws. in_word (slice_index ws q) i in
     elim (cases_lt j k) [
       | inl before ↦ let other : nat_eq j k ≡ false = grind (arith, nat_tests, before) in

@@ -148,8 +148,8 @@ bits_step f end at from to a b c unset set =
     ∙ filter-append f (count_up from (to - from)) (count_up to (end - to))
     ∙ ap (λ xs. xs ++ filter f (count_up to (end - to))) (all_set f from (to - from) (λ i lo hi. set i lo (omega arith))))
 
-pub bits_none : (ps : List (List ℕ)) (at : ℕ) → length ps * 4096 ≤ at → bits_left ps at ≡ []
-bits_none ps at le = let e : length ps * 4096 - at ≡ 0 = omega arith in rw e refl
+pub bits_none : (ps : List (List ℕ)) (at : ℕ) → length ps * 32768 ≤ at → bits_left ps at ≡ []
+bits_none ps at le = let e : length ps * 32768 - at ≡ 0 = omega arith in rw e refl
 
 in_filter : (f : ℕ → Bool) (xs : List ℕ) (p : ℕ) → is_in p (filter f xs) ≡ (f p && is_in p xs)
 in_filter f [] p = none (f p)
@@ -166,10 +166,10 @@ in_filter f (x ∷ xs) p = more (cases_Bool (nat_eq p x)) (cases_Bool (f x)) (in
     more (inr other) (inr unset) rest = rw (unset, other) rest
 
 in_bits_left : (ps : List (List ℕ)) (p : ℕ) → is_in p (bits_left ps 0) ≡ has_bit ps p
-in_bits_left ps p = in_filter (has_bit ps) (count_up 0 (length ps * 4096 - 0)) p ∙ ap (λ t. has_bit ps p && t) (is_in-count_up p 0 (length ps * 4096 - 0)) ∙ elim (cases_lt p (length ps * 4096)) [
-  | inl lt ↦ let t : (nat_le 0 p && nat_lt p (0 + (length ps * 4096 - 0))) ≡ true = grind (arith, nat_tests) in rw t (yes (has_bit ps p))
+in_bits_left ps p = in_filter (has_bit ps) (count_up 0 (length ps * 32768 - 0)) p ∙ ap (λ t. has_bit ps p && t) (is_in-count_up p 0 (length ps * 32768 - 0)) ∙ elim (cases_lt p (length ps * 32768)) [
+  | inl lt ↦ let t : (nat_le 0 p && nat_lt p (0 + (length ps * 32768 - 0))) ≡ true = grind (arith, nat_tests) in rw t (yes (has_bit ps p))
   | inr ge ↦
-      let k : length ps ≤ p / 64 / 64 = omega arith in
+      let k : length ps ≤ p / 64 / 512 = omega arith in
       let none : has_bit ps p ≡ false = no_bit ps p (no_word ps (p / 64) k) in
       rw none refl
 ]
@@ -296,7 +296,7 @@ bit_of ps at i t from to h =
     ap₂ (λ k j. in_word (word_at ps k) j) here low ∙ h
 
 -- the next bits are found, where there are any in the word
-pub set_found : (ps : List (List ℕ)) (at from to : ℕ) → at < length ps * 4096 → at % 64 ≤ from → from ≤ to → to ≤ 64
+pub set_found : (ps : List (List ℕ)) (at from to : ℕ) → at < length ps * 32768 → at % 64 ≤ from → from ≤ to → to ≤ 64
     → ((i : ℕ) → at % 64 ≤ i → i < from → in_word (word_at ps (at / 64)) i ≡ false)
     → ((i : ℕ) → from ≤ i → i < to → in_word (word_at ps (at / 64)) i ≡ true)
     → bits_left ps at ≡ count_up (at / 64 * 64 + from) (to - from) ++ bits_left ps (at / 64 * 64 + to)
@@ -304,7 +304,7 @@ set_found ps at from to inside a b c unset set =
     let low : ℕ = at / 64 * 64 in
     let here : low + at % 64 ≡ at = omega arith in
     let width : low + to - (low + from) ≡ to - from = omega arith in
-    bits_step (has_bit ps) (length ps * 4096) at (low + from) (low + to) (omega arith) (omega arith) (omega arith)
+    bits_step (has_bit ps) (length ps * 32768) at (low + from) (low + to) (omega arith) (omega arith) (omega arith)
     (λ i lo hi. bit_of ps at i false (omega arith) (omega arith) (unset (i - low) (omega arith) (omega arith)))
     (λ i lo hi. bit_of ps at i true (omega arith) (omega arith) (set (i - low) (omega arith) (omega arith)))
     ∙ ap (λ n. count_up (low + from) n ++ bits_left ps (low + to)) width
@@ -318,16 +318,16 @@ none_before ps at next p more unset none from to = elim (cases_lt (at / 64) (p /
 ]
 
 -- words without bits are passed over
-pub none_found : (ps : List (List ℕ)) (at next : ℕ) → at < length ps * 4096 → at / 64 < next → ((i : ℕ) → at % 64 ≤ i → i < 64 → in_word (word_at ps (at / 64)) i ≡ false)
+pub none_found : (ps : List (List ℕ)) (at next : ℕ) → at < length ps * 32768 → at / 64 < next → ((i : ℕ) → at % 64 ≤ i → i < 64 → in_word (word_at ps (at / 64)) i ≡ false)
     → ((q : ℕ) → at / 64 < q → q < next → word_at ps q ≡ 0) → bits_left ps at ≡ bits_left ps (next * 64)
-none_found ps at next inside more unset none = elim (cases_lt (next * 64) (length ps * 4096)) [
+none_found ps at next inside more unset none = elim (cases_lt (next * 64) (length ps * 32768)) [
   | inl lt ↦
       let nothing : next * 64 - next * 64 ≡ 0 = omega arith in
-      bits_step (has_bit ps) (length ps * 4096) at (next * 64) (next * 64) (omega arith) (omega arith) (omega arith)
+      bits_step (has_bit ps) (length ps * 32768) at (next * 64) (next * 64) (omega arith) (omega arith) (omega arith)
       (λ i lo hi. none_before ps at next i more unset none lo hi) (λ i lo hi. absurd (omega (arith, lo, hi)))
       ∙ ap (λ n. count_up (next * 64) n ++ bits_left ps (next * 64)) nothing
   | inr ge ↦
-      let n : ℕ = length ps * 4096 in
+      let n : ℕ = length ps * 32768 in
       let nothing : n - n ≡ 0 = omega arith in
       bits_step (has_bit ps) n at n n (omega arith) (omega arith) (omega arith)
       (λ i lo hi. none_before ps at next i more unset none lo (omega arith)) (λ i lo hi. absurd (omega (arith, lo, hi)))

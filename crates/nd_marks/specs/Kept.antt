@@ -38,7 +38,7 @@ is_few m most = nat_eq (length m.pages) 0 && nat_le (m.last.lines * m.last.strip
 
 -- the places of bits from one on
 abbrev pub bits_left : List (List ℕ) → ℕ → List ℕ
-bits_left pages at = filter (has_bit pages) (count_up at (length pages * 4096 - at))
+bits_left pages at = filter (has_bit pages) (count_up at (length pages * 32768 - at))
 
 -- all places of a set
 abbrev pub places_in : Places → List ℕ
@@ -52,7 +52,7 @@ left_of w = rows_left w.rows w.row ++ (lines_left w.grid w.line ++ (grids_places
 pub record IsNext (old : List ℕ) (from width : ℕ) (new : List ℕ) : Type 0 where
   pub split : old ≡ count_up from width ++ new
   pub some : 0 < width
-  pub near : from + width ≤ 2 ^ 72
+  pub near : from + width ≤ 2 ^ 80
 
 -- the byte of a place, of bytes in the order of the places
 abbrev pub byte_for : List ℕ → List ℕ → ℕ → ℕ

@@ -7,7 +7,7 @@ ghost use Rattle.nd_marks.specs.Kept.{row_places, rows_left};
 ghost use Rattle.nd_marks.specs.Marks.{has_bit, in_grid, in_grids, in_strip, in_word, pages_of};
 
 use crate::grid::Grid;
-use crate::pages::{next_index, word_of};
+use crate::pages::{WORDS, next_index, word_of};
 use crate::strip::Strip;
 use std::alloc::AllocError;
 
@@ -89,7 +89,7 @@ pub(crate) fn is_same_pages(a: &[u8], b: &[u8], pages: &[Vec<u64>]) -> bool
     ensures { IsTrue result ↔ ((p : ℕ) → has_bit (pages_of pages.now) p ≡ true
         → slice_index a.now p ≡ slice_index b.now p) }
 {
-    let end = pages.len() as u128 * 64;
+    let end = pages.len() as u128 * WORDS as u128;
     let mut at = 0;
     while at < end {
         if !is_same_word(a, b, word_of(pages, at), at * 64) {
@@ -173,7 +173,7 @@ pub(crate) fn patch_pages(target: &mut [u8], source: &[u8], pages: &[Vec<u64>])
         → slice_index target.new p ≡ (if has_bit (pages_of pages.now) p
         then slice_index source.now p else slice_index target.old p) }
 {
-    let end = pages.len() as u128 * 64;
+    let end = pages.len() as u128 * WORDS as u128;
     let mut at = 0;
     while at < end {
         patch_word(target, source, word_of(pages, at), at * 64);

@@ -1,15 +1,19 @@
-//! `Pages`: bits of byte offsets, in words of 64 and in pages for 4,096 byte offsets each.
+//! `Pages`: bits of byte offsets, in words of 64 and in pages of 512 words.
 ghost use Rattle.std.specs.Prelude.{◌≡◌, ℕ, ◌+◌, ◌*◌, ◌^◌, ◌<◌, ◌≤◌, ◌||◌, ◌&&◌, nat_eq, length, slice_index, IsTrue, IfOk, OnOk, OnErr};
 ghost use Rattle.nd_marks.specs.Marks.{has_bit, in_word, page_at, pages_of, word_at};
 
 use std::alloc::{AllocError, Global};
 use std::mem;
 
-/// Bits by pages. A page has 64 words once a bit of it was set, and none before.
+/// Bits by pages of 4 KB, each for 32,768 byte offsets. A page has 512 words once a bit of it was set,
+/// and none before.
 pub(crate) type Pages = Vec<Vec<u64>>;
 
-// The words of a page that is there.
-const WORDS: usize = 64;
+/// The words of a page that is there.
+pub(crate) const WORDS: usize = 512;
+
+/// The byte offsets for which a page has bits.
+pub(crate) const PLACES: u128 = 32_768;
 
 // The entry of a page in the list of pages takes as much memory as this many words.
 const WORDS_OF_ENTRY: usize = 3;
@@ -38,7 +42,10 @@ fn page_of(pages: &[Vec<u64>], page: u128) -> &[u64]
 pub(crate) fn word_of(pages: &[Vec<u64>], at: u128) -> u64
     ensures { result ≡ word_at (pages_of pages.now) at }
 {
-    word_in(page_of(pages, at / 64), (at % 64) as usize)
+    word_in(
+        page_of(pages, at / WORDS as u128),
+        (at % WORDS as u128) as usize,
+    )
 }
 
 /// Returns the index of the next word that may have bits: the next one, or where this page is not
@@ -46,11 +53,12 @@ pub(crate) fn word_of(pages: &[Vec<u64>], at: u128) -> u64
 pub(crate) fn next_index(pages: &[Vec<u64>], at: u128) -> u128
     requires { at < 2 ^ 100 }
     ensures more { at < result }
-    ensures near { result ≤ at + 64 }
+    ensures near { result ≤ at + 512 }
     ensures none { (q : ℕ) → at < q → q < result → word_at (pages_of pages.now) q ≡ 0 }
 {
-    if page_of(pages, at / 64).is_empty() {
-        (at / 64 + 1) * 64
+    let page = at / WORDS as u128;
+    if page_of(pages, page).is_empty() {
+        (page + 1) * WORDS as u128
     } else {
         at + 1
     }
@@ -72,16 +80,17 @@ fn extend_pages(pages: &mut Pages, count: u64) -> Result<(), AllocError>
     ensures ok { OnOk result (count ≤ length pages.new.items) }
 {
     let alloc = *pages.allocator();
+    pages.reserve(count.saturating_sub(pages.len() as u64) as usize)?;
     for _ in pages.len() as u64..count {
         pages.push(Vec::new(alloc))?;
     }
     Ok(())
 }
 
-/// Appends words without bits to a page, until there are 64.
+/// Appends words without bits to a page, until there are 512.
 fn fill_page(words: &mut Vec<u64>) -> Result<(), AllocError>
     ensures same { (q : ℕ) → slice_index words.new.items q ≡ slice_index words.old.items q }
-    ensures ok { OnOk result (64 ≤ length words.new.items) }
+    ensures ok { OnOk result (512 ≤ length words.new.items) }
 {
     if words.is_empty() {
         words.reserve_exact(WORDS)?;
@@ -98,7 +107,7 @@ fn new_page(pages: &mut Pages, page: u64) -> Result<(), AllocError>
     ensures same { (k q : ℕ) → slice_index (page_at (pages_of pages.new.items) k) q
         ≡ slice_index (page_at (pages_of pages.old.items) k) q }
     ensures there { OnOk result (page < length pages.new.items) }
-    ensures room { OnOk result (64 ≤ length (page_at (pages_of pages.new.items) page)) }
+    ensures room { OnOk result (512 ≤ length (page_at (pages_of pages.new.items) page)) }
 {
     extend_pages(pages, page + 1)?;
     fill_page(&mut pages[page as usize])
@@ -111,7 +120,7 @@ fn open_page(pages: &mut Pages, page: u64) -> Result<(), AllocError>
     ensures same { (k q : ℕ) → slice_index (page_at (pages_of pages.new.items) k) q
         ≡ slice_index (page_at (pages_of pages.old.items) k) q }
     ensures there { OnOk result (page < length pages.new.items) }
-    ensures room { OnOk result (64 ≤ length (page_at (pages_of pages.new.items) page)) }
+    ensures room { OnOk result (512 ≤ length (page_at (pages_of pages.new.items) page)) }
 {
     if page_of(pages, u128::from(page)).len() >= WORDS {
         return Ok(());
@@ -139,9 +148,13 @@ pub(crate) fn add_word(pages: &mut Pages, at: u64, word: u64) -> Result<(), Allo
     if word == 0 {
         return Ok(());
     }
-    let page = at / 64;
+    let page = at / WORDS as u64;
     open_page(pages, page)?;
-    put_word(&mut pages[page as usize], (at % 64) as usize, word);
+    put_word(
+        &mut pages[page as usize],
+        (at % WORDS as u64) as usize,
+        word,
+    );
     Ok(())
 }
 

@@ -5,7 +5,7 @@ ghost use Rattle.nd_marks.specs.Kept.{IsNext, bits_left, grids_places, lines_lef
 ghost use Rattle.nd_marks.specs.Marks.{in_word, pages_of, Places};
 
 use crate::grid::Grid;
-use crate::pages::{next_index, word_of};
+use crate::pages::{PLACES, next_index, word_of};
 use crate::strip::Strip;
 use std::marker::Model;
 
@@ -103,7 +103,7 @@ fn next_bits(pages: &[Vec<u64>], at: &mut u128) -> Option<ByteRange>
         × (bits_left (pages_of pages.now) at.new ≡ []))
         (λ r. IsNext (bits_left (pages_of pages.now) at.old) r.from r.width (bits_left (pages_of pages.now) at.new)) }
 {
-    let end = pages.len() as u128 * 4096;
+    let end = pages.len() as u128 * PLACES;
     while *at < end {
         let index = *at / 64;
         let set = next_set(word_of(pages, index), (*at % 64) as u64);

@@ -7,7 +7,7 @@ ghost use Rattle.nd_model.specs.Arrays.Tuple.{count_up};
 ghost use Rattle.nd_marks.specs.Marks.{has_bit, in_grid, in_grids, in_strip, in_word, pages_of, word_at};
 
 use crate::grid::Grid;
-use crate::pages::{Pages, add_word, next_index, word_of};
+use crate::pages::{PLACES, Pages, add_word, next_index, word_of};
 use crate::strip::Strip;
 use crate::walk::next_set;
 use std::alloc::AllocError;
@@ -46,7 +46,7 @@ pub(crate) fn any_set(pages: &[Vec<u64>], from: u128, to: u128) -> bool
     ensures some { IsTrue result
         → ((p : ℕ) × (from ≤ p) × (p < to) × IsTrue (has_bit (pages_of pages.now) p)) }
 {
-    let end = to.min(pages.len() as u128 * 4096);
+    let end = to.min(pages.len() as u128 * PLACES);
     let mut at = from;
     while at < end {
         let index = at / 64;

@@ -8,7 +8,7 @@ pub put_word-requires : goal.put_word-requires
 put_word-requires c =
     let vs = c.open_page.new.pages.items in
     let old = c.index_mut.result.now in
-    let same : page_at (pages_of vs) (c.args.at / 64) ≡ old.items = page_here vs (c.args.at / 64) old c.in_ok-open_page.ensures.there ∙ ap (λ (v : Vec ℕ Global). v.items) (sym c.index_mut.ensures.value) in
+    let same : page_at (pages_of vs) (c.args.at / 512) ≡ old.items = page_here vs (c.args.at / 512) old c.in_ok-open_page.ensures.there ∙ ap (λ (v : Vec ℕ Global). v.items) (sym c.index_mut.ensures.value) in
     omega (arith, c.in_ok-open_page.ensures.room, ap length same)
 
 pub returns : goal.returns

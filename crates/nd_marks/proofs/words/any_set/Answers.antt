@@ -43,5 +43,5 @@ returns-clause-none c = λ h p from to.
     let ps = pages_of c.args.pages.now in
     elim (cases_lt p c.loop-at.at) [
       | inl lt ↦ c.loop-at.invariant.none p from lt
-      | inr ge ↦ let past : length ps ≤ p / 64 / 64 = omega (arith, ge, to, c.loop-at-test.false, c.min-end.ensures, length-pages_of c.args.pages.now) in no_bit ps p (no_word ps (p / 64) past)
+      | inr ge ↦ let past : length ps ≤ p / 64 / 512 = omega (arith, ge, to, c.loop-at-test.false, c.min-end.ensures, length-pages_of c.args.pages.now) in no_bit ps p (no_word ps (p / 64) past)
     ]

@@ -210,13 +210,10 @@ class ManyRows(unittest.TestCase):
 
 
 @unittest.skipUnless(real_program(), 'no program: NDNOTE_PROGRAM, or crates/ndnote/out/ndnote')
-class Views(unittest.TestCase):
-    """Processor times, each the least of some turns. Were what a view reads noted pixel by pixel or record by record, it
-    would take up to hundreds of times what a copy of it all does."""
+class Times(unittest.TestCase):
+    """Processor times of statements behind a first cell, each the least of some turns."""
 
-    FIRST = """\
-g = (np.arange(1200000) % 251).astype('uint8').reshape(800, 500, 3)
-d = np.zeros(50000, dtype=[('a', '<u2'), ('b', '<i4'), ('c', '<i8')])"""
+    FIRST = ''
     TURNS = 7
 
     def setUp(self) -> None:
@@ -240,12 +237,32 @@ d = np.zeros(50000, dtype=[('a', '<u2'), ('b', '<i4'), ('c', '<i8')])"""
             with self.subTest(text):
                 self.assertLess(self.least(text), times * unit)
 
+
+class Views(Times):
+    """Were what a view reads noted pixel by pixel or record by record, it would take up to hundreds of times what a copy of
+    it all does."""
+
+    FIRST = """\
+g = (np.arange(1200000) % 251).astype('uint8').reshape(800, 500, 3)
+d = np.zeros(50000, dtype=[('a', '<u2'), ('b', '<i4'), ('c', '<i8')])"""
+
     def test_of_a_picture(self) -> None:
         self.check({'h = g[:, ::-1].copy()': 120, 'h = g[::2, ::2].copy()': 50, 'h = g[1:-1, 1:-1, 0].copy()': 15,
                     'h = g.T.copy()': 50}, 'h = g.copy()')
 
     def test_of_records(self) -> None:
         self.check({'e = d.copy()': 28, 'e = d[::2].copy()': 28}, "e = d['a'].copy()")
+
+
+class Scattered(Times):
+    """Were a bit for each byte of a large array cleared, ten elements of it would take hundreds of times what those of a
+    small one do."""
+
+    FIRST = 'x = np.arange(16777216)\ny = np.arange(1000)'
+
+    def test_of_a_large_array(self) -> None:
+        chosen = ', '.join(str(at * at + 31 * at) for at in range(10))
+        self.check({f'z = x[[{chosen}, 16777215]]': 40}, f'z = y[[{chosen}, 999]]')
 
 
 if __name__ == '__main__':

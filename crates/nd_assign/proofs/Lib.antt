@@ -1,7 +1,9 @@
 pub mod Assigned
 pub mod Bytewise
 pub mod Copied
+pub mod Crossed
 pub mod Fielded
+pub mod Gridded
 pub mod Limited
 pub mod Nearer
 pub mod Parted

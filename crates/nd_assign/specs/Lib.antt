@@ -1,6 +1,7 @@
 pub mod Assigned
 pub mod AssignedPlaces
 pub mod Copies
+pub mod Grids
 pub mod HeldFields
 pub mod KeptLength
 pub mod Prepared

@@ -13,9 +13,9 @@ use nd_element::{number_of, spot};
 use nd_types::{Elem, wrap};
 use nd_view::Run;
 
-// Copies `count` numbers, converted, between two strided runs.
+/// Copies `count` numbers, converted, between two strided runs.
 #[inline(always)]
-fn copy_each(
+pub(crate) fn copy_each(
     out: &mut [u8],
     to: Elem,
     start: u64,

@@ -5,7 +5,9 @@
 ghost use Rattle.nd_assign.specs.AssignedPlaces.{AssignedPlaces};
 
 mod assignment;
+mod columns;
 mod gapless;
+mod grid;
 mod kernel;
 mod moved;
 mod pairs;

@@ -2,15 +2,18 @@
 ghost use Rattle.std.specs.Prelude.{◌≡◌, ◌+◌, ◌≤◌, ◌++◌, length, take, true};
 ghost use Rattle.std.specs.List.{All};
 ghost use Rattle.nd_model.specs.Making.Conversion.{converts};
-ghost use Rattle.nd_model.specs.Arrays.View.{item_size};
+ghost use Rattle.nd_model.specs.Arrays.View.{One, item_size};
+ghost use Rattle.nd_element.specs.Elements.{AreHeld};
 ghost use Rattle.nd_types.specs.Types.{type_of};
 ghost use Rattle.nd_assign.specs.Copies.{with_copies};
 
+use crate::columns::copy_crossed;
+use crate::grid::crossed_grids;
 use crate::pairs::copy_numbers;
 use crate::structures::copy_structures;
 use crate::walk::Walk;
 use crate::whole_run::{copy_whole_run, whole_run};
-use nd_types::ElemType;
+use nd_types::{Elem, ElemType};
 use nd_view::{Run, View};
 
 // Copies the elements of a run to another one.
@@ -87,6 +90,29 @@ fn copy_by_runs(out: &mut [u8], target: &View, bytes: &[u8], source: &View)
     }
 }
 
+// Copies the numbers of a view to the target, converted, in C order: column by column where one of
+// them lies so, by one run where the source is one, and run by run otherwise.
+fn copy_view(out: &mut [u8], to: Elem, target: &View, bytes: &[u8], from: Elem, source: &View)
+    requires type_is { target.now.element ≡ One to }
+    requires from_type { source.now.element ≡ One from }
+    requires counts { length source.now.places ≡ length target.now.places }
+    requires out { AreHeld to out.old target.now.places }
+    requires held { AreHeld from bytes.now source.now.places }
+    ensures len { length out.new ≡ length out.old }
+    ensures bytes { out.new ≡ with_copies (One to) (One from) bytes.now target.now.places
+        source.now.places out.old }
+{
+    if let Some(grids) = crossed_grids(target, source, to.size()) {
+        copy_crossed(out, to, bytes, from, grids);
+        return;
+    }
+    if let Some(run) = whole_run(source) {
+        copy_whole_run(out, to, target, bytes, from, &run);
+        return;
+    }
+    copy_by_runs(out, target, bytes, source);
+}
+
 /// Copies the elements of a view of these bytes to the target, converted, in C order.
 pub(crate) fn copy_views(out: &mut [u8], target: &View, bytes: &[u8], source: &View)
     requires types { converts source.now.element target.now.element ≡ true }
@@ -99,10 +125,8 @@ pub(crate) fn copy_views(out: &mut [u8], target: &View, bytes: &[u8], source: &V
         target.now.places source.now.places out.old }
 {
     if let (ElemType::One(to), ElemType::One(from)) = (target.elem(), source.elem()) {
-        if let Some(run) = whole_run(source) {
-            copy_whole_run(out, *to, target, bytes, *from, &run);
-            return;
-        }
+        copy_view(out, *to, target, bytes, *from, source);
+    } else {
+        copy_by_runs(out, target, bytes, source);
     }
-    copy_by_runs(out, target, bytes, source);
 }

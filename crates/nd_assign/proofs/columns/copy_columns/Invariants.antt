@@ -1,0 +1,15 @@
+use Rattle.std.proofs.Common.{◌≡◌, length}
+use Rattle.nd_model.specs.Arrays.Tuple.{count_up}
+use Rattle.nd_model.specs.Arrays.View.{One}
+use Rattle.nd_assign.specs.Copies.{with_copies}
+use Rattle.nd_assign.specs.Grids.{grid_place}
+use Rattle.nd_assign.proofs.Gridded.{first_columns}
+use Rattle.nd_assign.proofs.columns.copy_columns.Given as goal
+
+abbrev pub invariant-loop-column : goal.invariant-loop-column
+invariant-loop-column l = record {
+  len : length l.out ≡ length l.fn.out;
+  done : l.out ≡ with_copies (One l.to) (One l.from) l.bytes
+      (first_columns (grid_place l.target.start l.target.across l.target.along) l.column (count_up 0 l.target.rows))
+      (first_columns (grid_place l.source.start l.source.across l.source.along) l.column (count_up 0 l.source.rows)) l.fn.out;
+}
